@@ -5,3 +5,6 @@ pub mod Written
 pub mod OtherFiles
 pub mod FaultLog
 pub mod HeldFiles
+pub mod PlannedFaults
+pub mod MemoryStore
+pub mod MemorySink

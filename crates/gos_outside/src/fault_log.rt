@@ -69,6 +69,7 @@ impl FaultLog {
     pub fn read_failed(&mut self, name: &[u8])
         requires { length name.now ≤ 255 }
         ensures counted { self.new.0 ≡ count_after self.old.0 }
+        ensures never_falls { self.old.0 ≤ self.new.0 }
         ensures last { self.new.1 ≡ ReadFault name.now }
     {
         self.failed(Call::Read, name);
@@ -78,6 +79,7 @@ impl FaultLog {
     pub fn write_failed(&mut self, name: &[u8])
         requires { length name.now ≤ 255 }
         ensures counted { self.new.0 ≡ count_after self.old.0 }
+        ensures never_falls { self.old.0 ≤ self.new.0 }
         ensures last { self.new.1 ≡ WriteFault name.now }
     {
         self.failed(Call::Write, name);
@@ -86,6 +88,7 @@ impl FaultLog {
     fn failed(&mut self, call: Call, name: &[u8])
         requires { length name.now ≤ 255 }
         ensures counted { self.new.0 ≡ count_after self.old.0 }
+        ensures never_falls { self.old.0 ≤ self.new.0 }
         ensures last { self.new.1 ≡ fault_of (Some call) name.now }
     {
         self.count = self.count.saturating_add(1);

@@ -1,8 +1,9 @@
 // The outside of the compiler: where its files lie, and where its printed lines go.
 //
 // The layers above are generic over `Store` and `Sink`, and know of them what these two traits promise.
-// Read the traits first. `SureStore` and `SureSink` keep all in memory and never fail. `FaultLog` is for
-// a store of your own: the count of its faults, and the last of them.
+// Read the traits first. `SureStore` and `SureSink` keep all in memory and never fail. `MemoryStore` and
+// `MemorySink` do too, but those of their calls fail whose numbers they are given. `FaultLog` is for a store
+// of your own: the count of its faults, and the last of them.
 //
 // The words of the clauses: specs/FileName, Files, Faults, Written. All files but a few, over several
 // writes: specs/OtherFiles and proofs/OtherFilesLemmas.
@@ -20,11 +21,16 @@ use thiserror::Error;
 mod fault_log;
 mod file_name;
 mod held_files;
+mod memory_sink;
+mod memory_store;
+mod planned_faults;
 mod sure_sink;
 mod sure_store;
 
 pub use fault_log::{Call, FaultLog};
 pub use file_name::is_file_name;
+pub use memory_sink::MemorySink;
+pub use memory_store::MemoryStore;
 pub use sure_sink::SureSink;
 pub use sure_store::SureStore;
 

@@ -1,0 +1,20 @@
+-- What a store in memory knows, and how a call changes it.
+use Rattle.std.specs.Prelude.{ℕ, List}
+use Rattle.gos_outside.specs.Files.{Files}
+use Rattle.gos_outside.specs.Faults.{LastFault, count_after}
+
+-- the files, how many calls were made, the numbers of those that are to fail, and the faults so far
+pub record StoreState : Type 0 where
+  pub files : Files
+  pub calls : ℕ
+  pub fail : List ℕ
+  pub faults : ℕ
+  pub last_fault : LastFault
+
+-- one more call was made
+abbrev pub called : StoreState → StoreState
+called state = record state { calls = count_after state.calls }
+
+-- one more call was made, and failed so; the files are as they were
+abbrev pub failed_by : LastFault → StoreState → StoreState
+failed_by fault state = record (called state) { faults = count_after state.faults; last_fault = fault }
