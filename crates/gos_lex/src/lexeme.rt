@@ -22,11 +22,10 @@ pub(crate) fn lexeme_len(text: &[u8]) -> usize
     ensures lexeme { 0 < result → IsTrue (is_lexeme (take result text.now)) }
     ensures longest { IsLongest result text.now }
 {
-    match text.first() {
-        Some(b) if begins_name(*b) => name_bytes(text),
-        Some(b) if b.is_ascii_digit() => digits(text),
-        Some(_) => sign_len(text),
-        None => 0,
+    match text {
+        [b, ..] if begins_name(*b) => name_bytes(text),
+        [b, ..] if b.is_ascii_digit() => digits(text),
+        _ => sign_len(text),
     }
 }
 

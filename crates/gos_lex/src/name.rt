@@ -1,6 +1,7 @@
 // Names, as the source language and the machine formats have them.
 
 ghost use Rattle.std.specs.Prelude.{◌≡◌, ◌&&◌, ◌↔◌, IsTrue, IfOk, IfErr};
+ghost use Rattle.std.specs.List.{list_all};
 ghost use Rattle.gos_lex.specs.Bytes.{begins_name, continues_name};
 ghost use Rattle.gos_lex.specs.Names.{spells_name, IsName, IsNameOrWord};
 
@@ -104,9 +105,16 @@ pub(crate) fn spells_name(bytes: &[u8]) -> bool
     ensures { result ≡ spells_name bytes.now }
 {
     match bytes {
-        [first, others @ ..] => begins_name(*first) && others.iter().all(|b| continues_name(*b)),
+        [first, others @ ..] => begins_name(*first) && all_continue(others),
         [] => false,
     }
+}
+
+// Whether a name may go on with each of the bytes.
+fn all_continue(bytes: &[u8]) -> bool
+    ensures { result ≡ list_all continues_name bytes.now }
+{
+    bytes.iter().all(|b| continues_name(*b))
 }
 
 // Whether a name may begin with the byte.

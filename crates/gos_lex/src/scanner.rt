@@ -52,5 +52,8 @@ fn next_token(text: &[u8], at: usize) -> Result<Option<Token>, LexFault>
     }
     let to = from + len;
     let kind = kind_of(&text[from..to], from)?;
-    Ok(Some(Token { kind, span: Span { from, to } }))
+    Ok(Some(Token {
+        kind,
+        span: Span { from, to },
+    }))
 }
