@@ -1,0 +1,5 @@
+pub mod PlaceLemmas
+pub mod RunLemmas
+pub mod NumeralLemmas
+pub mod GapLemmas
+pub mod TokenLemmas

@@ -1,0 +1,9 @@
+-- In reading order: a file uses only files above it.
+pub mod Bytes
+pub mod Words
+pub mod Names
+pub mod Numerals
+pub mod Signs
+pub mod Lexemes
+pub mod Gaps
+pub mod Tokens

@@ -1,0 +1,24 @@
+// The bytes of a text as tokens, and a cursor for texts of a fixed form.
+//
+// The source language is read with `scan`: it gives the tokens with their places, or the first fault with its place.
+// `one_reading` says that a text reads in at most one way, so that `Ok` and `Err` exclude one another.
+// The machine formats are read with `Cursor`, which takes no memory.
+// What a token is stands in specs/Tokens.antt, and the classes of bytes, names, numerals and signs in the files that it uses.
+#![tactic(auto)]
+
+pub use fault::LexFault;
+pub use name::{Name, is_name, is_name_or_word};
+pub use scanner::scan;
+pub use sign::Sign;
+pub use token::{Span, Token, TokenKind};
+pub use word::Word;
+
+mod fault;
+mod gap;
+mod lexeme;
+mod name;
+mod numeral;
+mod scanner;
+mod sign;
+mod token;
+mod word;
