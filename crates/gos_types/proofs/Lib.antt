@@ -1,0 +1,3 @@
+mod TurnLemmas
+pub mod WithinLemmas
+pub mod CountLemmas

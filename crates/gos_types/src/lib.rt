@@ -1,0 +1,22 @@
+// Types, and the handshakes of a type.
+//
+// A type says which handshakes the holder of a term has with the rest of the circuit. Every other crate takes
+// both from here: `handshakes` is the list that places, ports and parts are numbered by.
+//
+// Read `types.rt` first (what a type is), then `shakes.rt` (its handshakes), then `text.rt` (how it is printed).
+// The definitions stand in `specs`, in the order of `specs/Lib.antt`.
+#![tactic(auto)]
+
+mod fault;
+mod laws;
+mod shakes;
+#[cfg(test)]
+mod tests;
+mod text;
+mod types;
+
+pub use fault::NoMemory;
+pub use laws::turning_twice;
+pub use shakes::{Handshake, Role, Step, count, handshakes};
+pub use text::print_ty;
+pub use types::{Ty, copy, is_ground, same};
