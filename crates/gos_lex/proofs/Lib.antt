@@ -3,3 +3,5 @@ pub mod RunLemmas
 pub mod NumeralLemmas
 pub mod GapLemmas
 pub mod TokenLemmas
+pub mod ClassLemmas
+pub mod OneReadingLemmas

@@ -75,7 +75,7 @@ digit_no_sign b bytes h =
     let e42 : nat_eq b 42 ≡ false = grind arith in
     rw (e40, e41, e44, e46, e58, e59, e124, e38, e94, e43, e45, e61, e60, e33, e42) refl
 
-digit_no_name : (b : ℕ) → is_ascii_digit b ≡ true → begins_name b ≡ false
+pub digit_no_name : (b : ℕ) → is_ascii_digit b ≡ true → begins_name b ≡ false
 digit_no_name b h = grind arith
 
 -- the first byte settles the class

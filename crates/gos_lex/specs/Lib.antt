@@ -7,3 +7,4 @@ pub mod Signs
 pub mod Lexemes
 pub mod Gaps
 pub mod Tokens
+pub mod OneReading

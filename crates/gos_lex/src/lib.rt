@@ -7,6 +7,7 @@
 #![tactic(auto)]
 
 pub use fault::LexFault;
+pub use law::one_reading;
 pub use name::{Name, is_name, is_name_or_word};
 pub use scanner::scan;
 pub use sign::Sign;
@@ -15,6 +16,7 @@ pub use word::Word;
 
 mod fault;
 mod gap;
+mod law;
 mod lexeme;
 mod name;
 mod numeral;
