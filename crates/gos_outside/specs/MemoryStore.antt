@@ -1,5 +1,6 @@
 -- What a store in memory knows, and how a call changes it.
 use Rattle.std.specs.Prelude.{ℕ, List}
+use Rattle.std.specs.FinMap.{insert}
 use Rattle.gos_outside.specs.Files.{Files}
 use Rattle.gos_outside.specs.Faults.{LastFault, count_after}
 
@@ -17,4 +18,9 @@ called state = record state { calls = count_after state.calls }
 
 -- one more call was made, and failed so; the files are as they were
 abbrev pub failed_by : LastFault → StoreState → StoreState
-failed_by fault state = record (called state) { faults = count_after state.faults; last_fault = fault }
+failed_by fault state =
+    record (called state) { faults = count_after state.faults; last_fault = fault }
+
+-- one more call was made, and the file of this name now holds these bytes
+abbrev pub written_to : List ℕ → List ℕ → StoreState → StoreState
+written_to name bytes state = record (called state) { files = insert state.files name bytes }

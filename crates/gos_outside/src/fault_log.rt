@@ -14,7 +14,7 @@ pub enum Call {
     Write,
 }
 
-/// A count of faults, which stays at the largest number of a `u64` once it is there, and the last fault.
+/// A count of faults, which stays at the largest `u64` once it is there, and the last fault.
 #[derive(Drop)]
 pub struct FaultLog {
     count: u64,

@@ -1,6 +1,7 @@
 // The files that a store in memory holds.
 //
-// A list of names and bytes. The newest file stands first, and of two with one name the first counts.
+// A list of names and bytes. The newest file stands first, and of two with one name the first
+// counts.
 ghost use Rattle.std.specs.Prelude.{◌≡◌, take, OnOk, OnErr, Some};
 ghost use Rattle.std.specs.Option.{option_copied};
 ghost use Rattle.std.specs.FinMap.{get, insert};

@@ -1,15 +1,16 @@
 // The outside of the compiler: where its files lie, and where its printed lines go.
 //
-// The layers above are generic over `Store` and `Sink`, and know of them what these two traits promise.
-// Read the traits first. `SureStore` and `SureSink` keep all in memory and never fail. `MemoryStore` and
-// `MemorySink` do too, but those of their calls fail whose numbers they are given. `FaultLog` is for a store
-// of your own: the count of its faults, and the last of them.
+// The layers above are generic over `Store` and `Sink`, and know of them what these two traits
+// promise: read the traits first. `SureStore` and `SureSink` keep all in memory and never fail.
+// `MemoryStore` and `MemorySink` do too, but fail at the calls whose numbers they are given.
+// `FaultLog` is for a store of your own: the count of its faults, and the last of them.
 //
-// The words of the clauses: specs/FileName, Files, Faults, Written. All files but a few, over several
-// writes: specs/OtherFiles and proofs/OtherFilesLemmas.
+// The words of the clauses: specs/FileName, Files, Faults, Written. What several writes leave as it
+// was: specs/OtherFiles and proofs/OtherFilesLemmas.
 #![tactic(auto)]
 
-ghost use Rattle.std.specs.Prelude.{◌≡◌, ℕ, ◌≤◌, List, take, length, Option, IfOk, IfSome, OnOk, IsErrOf};
+ghost use Rattle.std.specs.Prelude.{◌≡◌, ℕ, ◌≤◌, List, take, length, Option};
+ghost use Rattle.std.specs.Prelude.{IfOk, IfSome, OnOk, IsErrOf};
 ghost use Rattle.gos_outside.specs.FileName.{IsFileName};
 ghost use Rattle.gos_outside.specs.Files.{Files, bytes_at, with_file, SameBut};
 ghost use Rattle.gos_outside.specs.Faults.{LastFault, ReadFault, WriteFault, Rose};
@@ -56,7 +57,7 @@ pub enum SinkFault {
     NoMemory,
 }
 
-/// Files by their names. `faults` is how many calls have failed, up to the largest number of a `u64`;
+/// Files by their names. `faults` is how many calls have failed, up to the largest `u64`;
 /// `last_fault` is the last call that did; `contents` are the files, where the store tells them.
 pub trait Store {
     ghost faults: { Self → ℕ };
@@ -68,14 +69,19 @@ pub trait Store {
     /// The first `n` bytes of the file `name`, or all of it where it is shorter.
     fn read_up_to(&mut self, alloc: Global, name: &[u8], n: usize) -> Result<Vec<u8>, StoreFault>
         requires { IsFileName name.now }
-        ensures bytes { IfOk result (λ bytes. IfSome (contents self.old) (λ files. bytes.items ≡ take n (bytes_at files name.now))) }
+        ensures bytes { IfOk result (λ bytes. IfSome (contents self.old) (λ files.
+            bytes.items ≡ take n (bytes_at files name.now))) }
         ensures limit { IfOk result (λ bytes. length bytes.items ≤ n) }
 
-        // A failed call is counted, and is the last fault from then on. Any other call leaves both as they were.
-        ensures failed_only { IsErrOf result StoreFault.Failed → Rose (faults self.old) (faults self.new) }
-        ensures failed_call { IsErrOf result StoreFault.Failed → last_fault self.new ≡ ReadFault name.now }
-        ensures same_count { (¬ (IsErrOf result StoreFault.Failed)) → faults self.new ≡ faults self.old }
-        ensures same_fault { (¬ (IsErrOf result StoreFault.Failed)) → last_fault self.new ≡ last_fault self.old }
+        // A failed call is counted, and is the last fault from then on. Any other changes neither.
+        ensures failed_only { IsErrOf result StoreFault.Failed →
+            Rose (faults self.old) (faults self.new) }
+        ensures failed_call { IsErrOf result StoreFault.Failed →
+            last_fault self.new ≡ ReadFault name.now }
+        ensures same_count { (¬ (IsErrOf result StoreFault.Failed)) →
+            faults self.new ≡ faults self.old }
+        ensures same_fault { (¬ (IsErrOf result StoreFault.Failed)) →
+            last_fault self.new ≡ last_fault self.old }
         ensures never_falls { faults self.old ≤ faults self.new }
 
         ensures same_files { contents self.new ≡ contents self.old };
@@ -83,22 +89,28 @@ pub trait Store {
     /// Makes the file `name` hold `bytes`. Where it fails, that one file may hold anything.
     fn write(&mut self, alloc: Global, name: &[u8], bytes: &[u8]) -> Result<(), StoreFault>
         requires { IsFileName name.now }
-        ensures written { OnOk result (contents self.new ≡ with_file name.now bytes.now (contents self.old)) }
+        ensures written { OnOk result
+            (contents self.new ≡ with_file name.now bytes.now (contents self.old)) }
 
-        // A failed call is counted, and is the last fault from then on. Any other call leaves both as they were.
-        ensures failed_only { IsErrOf result StoreFault.Failed → Rose (faults self.old) (faults self.new) }
-        ensures failed_call { IsErrOf result StoreFault.Failed → last_fault self.new ≡ WriteFault name.now }
-        ensures same_count { (¬ (IsErrOf result StoreFault.Failed)) → faults self.new ≡ faults self.old }
-        ensures same_fault { (¬ (IsErrOf result StoreFault.Failed)) → last_fault self.new ≡ last_fault self.old }
+        // A failed call is counted, and is the last fault from then on. Any other changes neither.
+        ensures failed_only { IsErrOf result StoreFault.Failed →
+            Rose (faults self.old) (faults self.new) }
+        ensures failed_call { IsErrOf result StoreFault.Failed →
+            last_fault self.new ≡ WriteFault name.now }
+        ensures same_count { (¬ (IsErrOf result StoreFault.Failed)) →
+            faults self.new ≡ faults self.old }
+        ensures same_fault { (¬ (IsErrOf result StoreFault.Failed)) →
+            last_fault self.new ≡ last_fault self.old }
         ensures never_falls { faults self.old ≤ faults self.new }
 
         // Whatever the answer, no other file is touched.
         ensures others { SameBut name.now (contents self.old) (contents self.new) }
-        ensures no_memory { IsErrOf result StoreFault.NoMemory → contents self.new ≡ contents self.old };
+        ensures no_memory { IsErrOf result StoreFault.NoMemory →
+            contents self.new ≡ contents self.old };
 }
 
-/// Where bytes go, one after another. `faults` is how many calls have failed, up to the largest number of
-/// a `u64`; `written` are the bytes so far, where the sink tells them.
+/// Where bytes go, one after another. `faults` is how many calls have failed, up to the largest
+/// `u64`; `written` are the bytes so far, where the sink tells them.
 pub trait Sink {
     ghost faults: { Self → ℕ };
 
@@ -107,12 +119,16 @@ pub trait Sink {
     /// Appends `bytes`. Where it fails, a first part of them may have been appended.
     fn write(&mut self, alloc: Global, bytes: &[u8]) -> Result<(), SinkFault>
         ensures appended { OnOk result (written self.new ≡ appended bytes.now (written self.old)) }
-        ensures no_more { IsErrOf result SinkFault.Failed → AppendsPrefix bytes.now (written self.old) (written self.new) }
-        ensures no_memory { IsErrOf result SinkFault.NoMemory → written self.new ≡ written self.old }
+        ensures no_more { IsErrOf result SinkFault.Failed →
+            AppendsPrefix bytes.now (written self.old) (written self.new) }
+        ensures no_memory { IsErrOf result SinkFault.NoMemory →
+            written self.new ≡ written self.old }
 
         // A failed call is counted, and no other is.
-        ensures failed_only { IsErrOf result SinkFault.Failed → Rose (faults self.old) (faults self.new) }
-        ensures same_count { (¬ (IsErrOf result SinkFault.Failed)) → faults self.new ≡ faults self.old }
+        ensures failed_only { IsErrOf result SinkFault.Failed →
+            Rose (faults self.old) (faults self.new) }
+        ensures same_count { (¬ (IsErrOf result SinkFault.Failed)) →
+            faults self.new ≡ faults self.old }
         ensures never_falls { faults self.old ≤ faults self.new };
 }
 

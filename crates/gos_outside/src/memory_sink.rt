@@ -1,18 +1,18 @@
 // A sink in memory some of whose calls are to fail.
 //
-// It shows what a caller does where a write fails. Beyond what the trait promises, the clauses of its calls
-// say which of them fail, and what each leaves.
+// It shows what a caller does where a write fails. Beyond what the trait promises, the clauses of
+// its calls say which of them fail, and what each leaves.
 ghost use Rattle.std.specs.Prelude.{◌≡◌, ◌≤◌, ◌↔◌, [], OnOk, IsErrOf};
-ghost use Rattle.gos_outside.specs.Faults.{count_after};
 ghost use Rattle.gos_outside.specs.PlannedFaults.{NextFails};
-ghost use Rattle.gos_outside.specs.MemorySink.{called_with};
+ghost use Rattle.gos_outside.specs.MemorySink.{called, failed, appended_to};
 
 use crate::planned_faults::PlannedFaults;
 use crate::{Sink, SinkFault};
 use std::alloc::Global;
 use std::marker::Model;
 
-/// Bytes in memory. A write fails where its number is among those that are to fail, and appends nothing then.
+/// Bytes in memory. A write fails where its number is among those that are to fail, and appends
+/// nothing then.
 #[derive(Drop)]
 pub struct MemorySink {
     held: Vec<u8>,
@@ -34,7 +34,8 @@ impl Model for MemorySink {
 }
 
 impl MemorySink {
-    /// A sink of which no call was made. `fail` are the numbers of the writes that are to fail, counted from 1.
+    /// A sink of which no call was made. `fail` are the numbers of the writes that are to fail:
+    /// writes are counted from 1, up to the largest `u64`.
     pub fn new(alloc: Global, fail: Vec<u64>) -> Self
         ensures bytes { result.bytes ≡ [] }
         ensures fail { result.fail ≡ fail.items }
@@ -71,10 +72,12 @@ impl Sink for MemorySink {
     ghost written = { λ sink. Some sink.bytes };
 
     fn write(&mut self, _alloc: Global, bytes: &[u8]) -> Result<(), SinkFault>
-        ensures written { OnOk result (self.new ≡ called_with bytes.now self.old) }
+        ensures written { OnOk result (self.new ≡ appended_to bytes.now self.old) }
         ensures fails { IsErrOf result SinkFault.Failed ↔ NextFails self.old.calls self.old.fail }
-        ensures failed { IsErrOf result SinkFault.Failed → self.new ≡ record self.old { calls = count_after self.old.calls; faults = count_after self.old.faults } }
-        ensures no_memory { IsErrOf result SinkFault.NoMemory → self.new ≡ record self.old { calls = count_after self.old.calls } }
+        ensures failed { IsErrOf result SinkFault.Failed → self.new ≡ failed self.old }
+        ensures no_memory { IsErrOf result SinkFault.NoMemory → self.new ≡ called self.old }
+
+        // As the trait has it.
         ensures never_falls { self.old.faults ≤ self.new.faults }
     {
         if self.planned.next_fails() {

@@ -1,17 +1,17 @@
 // A store in memory some of whose calls are to fail.
 //
-// It shows what a caller does where a read or a write fails. Beyond what the trait promises, the clauses of
-// its calls say which of them fail, and what each leaves.
-ghost use Rattle.std.specs.Prelude.{◌≡◌, ◌≤◌, ◌↔◌, ◌⊎◌, Some, None, take, length, IfOk, OnOk, IsErrOf};
+// It shows what a caller does where a read or a write fails. Beyond what the trait promises, the
+// clauses of its calls say which of them fail, and what each leaves.
+ghost use Rattle.std.specs.Prelude.{◌≡◌, ◌≤◌, ◌↔◌, ◌⊎◌, take, Some, None, IfOk, OnOk, IsErrOf};
 ghost use Rattle.std.specs.Option.{option_copied};
-ghost use Rattle.std.specs.FinMap.{get, insert};
+ghost use Rattle.std.specs.FinMap.{get};
 ghost use Rattle.gos_outside.specs.FileName.{IsFileName};
 ghost use Rattle.gos_outside.specs.Files.{bytes_at, SameBut};
 ghost use Rattle.gos_outside.specs.Faults.{NoFault, ReadFault, WriteFault};
 ghost use Rattle.gos_outside.specs.FaultLog.{last_fault_of};
 ghost use Rattle.gos_outside.specs.HeldFiles.{files_of};
 ghost use Rattle.gos_outside.specs.PlannedFaults.{NextFails};
-ghost use Rattle.gos_outside.specs.MemoryStore.{called, failed_by};
+ghost use Rattle.gos_outside.specs.MemoryStore.{called, failed_by, written_to};
 
 use crate::fault_log::{Call, FaultLog};
 use crate::held_files::{HeldFiles, first_bytes};
@@ -20,8 +20,8 @@ use crate::{Store, StoreFault};
 use std::alloc::Global;
 use std::marker::Model;
 
-/// Files in memory. A call fails where its number is among those that are to fail, and so does a read of a
-/// file that isn't held. A write that fails leaves all files as they were.
+/// Files in memory. A call fails where its number is among those that are to fail, and so does a
+/// read of a file that isn't held. A write that fails leaves all files as they were.
 #[derive(Drop)]
 pub struct MemoryStore {
     files: HeldFiles,
@@ -48,9 +48,9 @@ impl Model for MemoryStore {
 }
 
 impl MemoryStore {
-    /// A store of these files, names and then bytes, of which no call was made. Of two files with one name
-    /// the first counts. `fail` are the numbers of the calls that are to fail: calls are counted from 1,
-    /// reads and writes together.
+    /// A store of these files, names and then bytes, of which no call was made. Of two files with
+    /// one name the first counts. `fail` are the numbers of the calls that are to fail: calls are
+    /// counted from 1, reads and writes together, up to the largest `u64`.
     pub fn new(files: Vec<(Vec<u8>, Vec<u8>)>, fail: Vec<u64>) -> Self
         ensures files { result.files ≡ files_of files.items }
         ensures fail { result.fail ≡ fail.items }
@@ -98,11 +98,15 @@ impl Store for MemoryStore {
 
     fn read_up_to(&mut self, alloc: Global, name: &[u8], n: usize) -> Result<Vec<u8>, StoreFault>
         requires { IsFileName name.now }
-        ensures bytes { IfOk result (λ bytes. bytes.items ≡ take n (bytes_at self.old.files name.now)) }
-        ensures limit { IfOk result (λ bytes. length bytes.items ≤ n) }
-        ensures fails { IsErrOf result StoreFault.Failed ↔ (NextFails self.old.calls self.old.fail ⊎ (get self.old.files name.now ≡ None)) }
-        ensures failed { IsErrOf result StoreFault.Failed → self.new ≡ failed_by (ReadFault name.now) self.old }
+        ensures bytes { IfOk result (λ bytes.
+            bytes.items ≡ take n (bytes_at self.old.files name.now)) }
+        ensures fails { IsErrOf result StoreFault.Failed ↔
+            (NextFails self.old.calls self.old.fail ⊎ (get self.old.files name.now ≡ None)) }
+        ensures failed { IsErrOf result StoreFault.Failed →
+            self.new ≡ failed_by (ReadFault name.now) self.old }
         ensures not_failed { (¬ (IsErrOf result StoreFault.Failed)) → self.new ≡ called self.old }
+
+        // As the trait has it.
         ensures never_falls { self.old.faults ≤ self.new.faults }
     {
         let planned = self.planned.next_fails();
@@ -117,10 +121,13 @@ impl Store for MemoryStore {
 
     fn write(&mut self, alloc: Global, name: &[u8], bytes: &[u8]) -> Result<(), StoreFault>
         requires { IsFileName name.now }
-        ensures written { OnOk result (self.new ≡ record (called self.old) { files = insert self.old.files name.now bytes.now }) }
+        ensures written { OnOk result (self.new ≡ written_to name.now bytes.now self.old) }
         ensures fails { IsErrOf result StoreFault.Failed ↔ NextFails self.old.calls self.old.fail }
-        ensures failed { IsErrOf result StoreFault.Failed → self.new ≡ failed_by (WriteFault name.now) self.old }
+        ensures failed { IsErrOf result StoreFault.Failed →
+            self.new ≡ failed_by (WriteFault name.now) self.old }
         ensures no_memory { IsErrOf result StoreFault.NoMemory → self.new ≡ called self.old }
+
+        // As the trait has it.
         ensures never_falls { self.old.faults ≤ self.new.faults }
         ensures others { SameBut name.now (Some self.old.files) (Some self.new.files) }
     {

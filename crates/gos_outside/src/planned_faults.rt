@@ -1,4 +1,4 @@
-// The calls that are to fail, for a store or a sink in memory that is to show what its callers do then.
+// The calls that are to fail, for a store or a sink in memory that shows what its callers do then.
 ghost use Rattle.std.specs.Prelude.{◌≡◌, ◌↔◌, IsTrue};
 ghost use Rattle.gos_outside.specs.Faults.{count_after};
 ghost use Rattle.gos_outside.specs.PlannedFaults.{NextFails};

@@ -9,7 +9,8 @@ use crate::{Store, StoreFault};
 use std::alloc::Global;
 use std::marker::Model;
 
-/// Files in memory. No call fails but for want of memory, and a file that isn't held reads as empty.
+/// Files in memory. No call fails but for want of memory, and a file that isn't held reads as
+/// empty.
 #[derive(Drop)]
 pub struct SureStore {
     files: HeldFiles,

@@ -1,0 +1,158 @@
+// The store of the program: the files of the system.
+//
+// It tells no contents. What a file of the system holds, and what another process does to it, is not ours to say.
+ghost use Rattle.std.specs.Prelude.{◌≡◌, ◌≤◌, length, None, IfOk};
+ghost use Rattle.gos_outside.specs.Faults.{NoFault};
+
+use gos_outside::{FaultLog, Store, StoreFault};
+use std::alloc::{AllocError, Global};
+use std::io::{ErrorKind, Read, Write};
+use std::rt::Files;
+use std::{fs, io, str};
+
+/// How many bytes one read of a file asks for.
+const CHUNK: usize = 8192;
+
+/// The files of the system, by their paths. A read of a file that is missing fails.
+pub struct FileStore<'a, R: Files> {
+    rt: &'a R,
+    log: FaultLog,
+}
+
+impl<'a, R: Files> Drop for FileStore<'a, R> {
+    fn drop(self) {
+        let FileStore { rt: _, log: _ } = self;
+    }
+}
+
+impl<'a, R: Files> FileStore<'a, R> {
+    /// The files that `rt` reaches; no call has failed.
+    pub fn new(rt: &'a R) -> Self
+        ensures faults { result.log.0 ≡ 0 }
+        ensures last_fault { result.log.1 ≡ NoFault }
+    {
+        FileStore {
+            rt,
+            log: FaultLog::new(),
+        }
+    }
+
+    /// How many calls have failed.
+    pub fn faults(&self) -> u64
+        ensures { result ≡ self.now.log.0 }
+    {
+        self.log.count()
+    }
+}
+
+impl<'a, R: Files> Store for FileStore<'a, R> {
+    ghost use Rattle.std.specs.Prelude.{None};
+
+    ghost faults = { λ store. store.log.0 };
+
+    ghost last_fault = { λ store. store.log.1 };
+
+    ghost contents = { λ _. None };
+
+    fn read_up_to(&mut self, alloc: Global, name: &[u8], n: usize) -> Result<Vec<u8>, StoreFault> {
+        match read_file(self.rt, alloc, name, n) {
+            Ok(bytes) => Ok(bytes),
+            Err(Trouble::System) => {
+                self.log.read_failed(name);
+                Err(StoreFault::Failed)
+            }
+            Err(Trouble::NoMemory) => Err(StoreFault::NoMemory),
+        }
+    }
+
+    fn write(&mut self, _alloc: Global, name: &[u8], bytes: &[u8]) -> Result<(), StoreFault> {
+        match write_file(self.rt, name, bytes) {
+            Ok(()) => Ok(()),
+            Err(_) => {
+                self.log.write_failed(name);
+                Err(StoreFault::Failed)
+            }
+        }
+    }
+}
+
+/// Why a file could not be read.
+#[derive(Drop)]
+enum Trouble {
+    System,
+    NoMemory,
+}
+
+impl From<io::Error> for Trouble {
+    fn from(_e: io::Error) -> Trouble {
+        Trouble::System
+    }
+}
+
+impl From<AllocError> for Trouble {
+    fn from(_e: AllocError) -> Trouble {
+        Trouble::NoMemory
+    }
+}
+
+/// The first `n` bytes of a file, or all of it where it is shorter.
+fn read_file<R: Files>(rt: &R, alloc: Global, name: &[u8], n: usize) -> Result<Vec<u8>, Trouble>
+    ensures { IfOk result (λ bytes. length bytes.items ≤ n) }
+{
+    let mut file = fs::open(rt, path_of(name)?)?;
+    let mut bytes = Vec::new(alloc);
+    let mut chunk = [0; CHUNK];
+    let mut room = n;
+    for _ in 0..u64::MAX {
+        let want = room.min(CHUNK);
+        match file.read(&mut chunk[..want]) {
+            Ok(0) => break,
+            Ok(got) => {
+                bytes.extend_from_slice(&chunk[..got])?;
+                room -= got;
+            }
+            Err(e) if e.kind() == ErrorKind::Interrupted => {}
+            Err(e) => return Err(e.into()),
+        }
+    }
+    Ok(bytes)
+}
+
+/// Makes a file hold these bytes.
+fn write_file<R: Files>(rt: &R, name: &[u8], bytes: &[u8]) -> io::Result<()> {
+    let mut file = fs::create(rt, path_of(name)?)?;
+    file.write_all(bytes)
+}
+
+/// A file's name as a path. The bytes of a file's name are always text.
+fn path_of(name: &[u8]) -> io::Result<&str> {
+    match str::from_utf8(name) {
+        Ok(path) => Ok(path),
+        Err(_) => Err(io::Error::from(ErrorKind::InvalidInput)),
+    }
+}
+
+#[cfg(test)]
+mod tests {
+    use super::*;
+    use gos_outside::is_file_name;
+    use std::test::Fail;
+
+    #[test]
+    fn a_file_is_written_and_read_back(rt: HostRuntime) -> Result<(), Fail> {
+        let alloc = rt.alloc();
+        let mut store = FileStore::new(&rt);
+        let name = b"file_store_test.txt".as_slice();
+        assert!(rt; is_file_name(name));
+        store.write(alloc, name, b"ok weight 17\n")?;
+        let whole = store.read_up_to(alloc, name, 100)?;
+        assert_eq!(rt; whole.as_slice(), b"ok weight 17\n".as_slice());
+        let start = store.read_up_to(alloc, name, 9)?;
+        assert_eq!(rt; start.as_slice(), b"ok weight".as_slice());
+        assert_eq!(rt; store.faults(), 0);
+        fs::remove_file(&rt, "file_store_test.txt")?;
+        assert!(rt; matches!(store.read_up_to(alloc, name, 100), Err(StoreFault::Failed)));
+        assert_eq!(rt; store.faults(), 1);
+        Ok(())
+    }
+}
