@@ -1,0 +1,2 @@
+// The meaning of programs and of circuits.
+#![tactic(auto)]
