@@ -1,10 +1,11 @@
--- Runs of small netlists.
+-- The latch runs, its text is the one that is written out, and the ring of gates is a cycle.
 use Rattle.std.specs.Prelude.{◌≡◌, ℕ, zero, suc, [], ◌∷◌, ◌⊎◌, Option, Some, slice_get, length, Contains}
 use Rattle.std.proofs.Common.{arith, refl, sym, subst, inl, inr}
+use Rattle.std.specs.Fmt.{digits}
 use Rattle.gos_model.specs.Nets.{Cell, Function, Input, Or, Reg, And}
 use Rattle.gos_model.specs.Settling.{Numbers, at, shown, Settling}
 use Rattle.gos_model.specs.Cycles.{IsRegister}
-use Rattle.gos_model.specs.SmallNets.{bit, latch, LatchRuns, LoopedGates}
+use Rattle.gos_model.specs.SmallNets.{bit, latch, LatchRuns, LatchText, LoopedGates}
 
 -- the equation of a cell that is known
 settled : (regs ins v : Numbers) (n : ℕ) (a : Cell) (o : Option Cell) (x : Cell) → o ≡ Some a → o ≡ Some x
@@ -62,3 +63,7 @@ looped_gates = (
     (bit (And 1 0), bit (Or 0 2), refl, refl, no_register 1 0 (And 1 0) (inr refl), (1, omega arith, refl)),
   ),
 )
+
+pub latch_text : LatchText
+unfolding digits
+latch_text = refl

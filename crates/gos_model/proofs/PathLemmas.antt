@@ -4,6 +4,8 @@ use Rattle.std.proofs.Common.{inl, inr}
 use Rattle.gos_model.specs.Terms.{Term, Seq, Par, If, Assign, Not, Bin, Scope, Held}
 use Rattle.gos_model.specs.Reach.{Rel, Reached, Below}
 use Rattle.gos_model.specs.Paths.{ReachedAt}
+use Rattle.gos_model.specs.Steps.{Computes}
+use Rattle.gos_model.specs.Laws.{StepsHavePaths}
 
 -- the path below a place that is known to be reached
 path_of : (R : Rel) (m t : Term) → Below R m t → (path : List ℕ) × ReachedAt path R m t
@@ -27,12 +29,12 @@ path_of R (Scope l m) t (m', e, inl h) = (0 ∷ [], (m', e, h))
 path_of R (Scope l m) t (m', e, inr h) = let p = path_of R m m' h in (0 ∷ p.0, (m', e, p.1))
 path_of R m t h = absurd h
 
-pub reached_path : (R : Rel) (m t : Term) → Reached R m t → (path : List ℕ) × ReachedAt path R m t
+reached_path : (R : Rel) (m t : Term) → Reached R m t → (path : List ℕ) × ReachedAt path R m t
 reached_path R m t (inl h) = ([], h)
 reached_path R m t (inr h) = path_of R m t h
 
 -- and what a path leads to is reached
-pub path_reached : (R : Rel) (path : List ℕ) (m t : Term) → ReachedAt path R m t → Reached R m t
+path_reached : (R : Rel) (path : List ℕ) (m t : Term) → ReachedAt path R m t → Reached R m t
 path_reached R [] m t h = inl h
 path_reached R (zero ∷ path) (Seq m n) t (m', e, h) = inr (m', e, path_reached R path m m' h)
 path_reached R (zero ∷ path) (Par m n) t (m', e, h) = inr (inl (m', e, path_reached R path m m' h))
@@ -44,3 +46,6 @@ path_reached R (zero ∷ path) (Not m) t (m', e, h) = inr (m', e, path_reached R
 path_reached R (suc zero ∷ path) (Assign m n) t (n', e, h) = inr (n', e, path_reached R path n n' h)
 path_reached R (zero ∷ path) (Scope l m) t (m', e, h) = inr (m', e, path_reached R path m m' h)
 path_reached R (i ∷ path) m t h = absurd h
+
+pub steps_have_paths : StepsHavePaths
+steps_have_paths s s' m t = (reached_path (Computes s s') m t, λ h. path_reached (Computes s s') h.0 m t h.1)

@@ -1,10 +1,9 @@
--- Laws of reached places.
+-- A larger relation reaches as much.
 use Rattle.std.proofs.Common.{inl, inr}
 use Rattle.gos_model.specs.Terms.{Term, Seq, Par, If, Assign, Not, Bin, Scope, Held}
 use Rattle.gos_model.specs.Reach.{Rel, Reached, Below}
 
--- what holds below holds of a larger relation
--- a larger relation reaches as much
+-- below the whole term
 below_map : (R S : Rel) → ((a b : Term) → R a b → S a b) → (m t : Term) → Below R m t → Below S m t
 below_map R S f (Seq m n) t (m', e, inl h) = (m', e, inl (f m m' h))
 below_map R S f (Seq m n) t (m', e, inr h) = (m', e, inr (below_map R S f m m' h))

@@ -7,10 +7,45 @@ use Rattle.gos_model.specs.Reach.{Unfolds}
 use Rattle.gos_model.specs.Stores.{Entry, Store}
 use Rattle.gos_model.specs.Labels.{given, taken}
 use Rattle.gos_model.specs.Moves.{Computing, Showing, Idle, Running, Unfoldings, ActsTo}
-use Rattle.gos_model.specs.SmallPrograms.{c, d, ParEitherWay, LoopRuns, NewIsZero}
+use Rattle.gos_model.specs.SmallPrograms.{c, d, loop_once, ParEitherWay, LoopRuns, NewIsZero}
 
 abbrev entry : ℕ → ℕ → ℕ → Entry
 entry l w k = record { place = l; width = w; number = k }
+
+-- the parts of the loop, with location 0 for its variable
+abbrev test : Term
+test = Bin Eq (Deref (Loc 0)) (Lit 0 1)
+
+abbrev body : Term
+body = Seq (Assign (Loc 0) (Lit 1 1)) (Import c)
+
+abbrev loop : Term
+loop = While test body
+
+-- m is what is left of the body, and the loop comes after it
+abbrev then_loop : Term → Term
+then_loop m = Seq m loop
+
+abbrev body_then_loop : Term
+body_then_loop = then_loop body
+
+-- m is what is left of the test
+abbrev choice : Term → Term
+choice m = If m body_then_loop Skip
+
+-- the same within the block
+abbrev running : Term → Term
+running m = Scope 0 (then_loop m)
+
+abbrev chosen : Term → Term
+chosen m = Scope 0 (choice m)
+
+-- the store before the assignment, and after it
+abbrev first : Store
+first = entry 0 1 0 ∷ []
+
+abbrev again : Store
+again = entry 0 1 1 ∷ []
 
 pub either_way : ParEitherWay
 either_way = (
@@ -21,19 +56,19 @@ either_way = (
       Running (Par (Import c) (Import d)) [],
       (refl, refl),
       (
-        Running (Par (Wait c 1) (Import d)) ([]),
+        Running (Par (Wait c 1) (Import d)) [],
         (0, (Par (Import c) (Import d)), refl, (inr (inl ((Wait c 1), refl, inl (inl (inl (refl, refl, refl))))), refl)),
         (
-          Running (Par (Wait c 1) (Wait d 1)) ([]),
+          Running (Par (Wait c 1) (Wait d 1)) [],
           (0, (Par (Wait c 1) (Import d)), refl, (inr (inr ((Wait d 1), refl, inl (inl (inl (refl, refl, refl))))), refl)),
           (
-            Running (Par (Wait c 1) Skip) ([]),
+            Running (Par (Wait c 1) Skip) [],
             (0, (Par (Wait c 1) (Wait d 1)), refl, (inr (inr (Skip, refl, inl (inr (refl, refl, (refl, refl))))), refl)),
             (
-              Running (Par Skip Skip) ([]),
+              Running (Par Skip Skip) [],
               (0, (Par (Wait c 1) Skip), refl, (inr (inl (Skip, refl, inl (inr (refl, refl, (refl, refl))))), refl)),
               (
-                Running Skip ([]),
+                Running Skip [],
                 (0, (Par Skip Skip), refl, inl (refl, refl, refl, refl)),
                 (Idle, (0, Skip, refl, inl (refl, refl)), refl),
               ),
@@ -51,19 +86,19 @@ either_way = (
       Running (Par (Import c) (Import d)) [],
       (refl, refl),
       (
-        Running (Par (Import c) (Wait d 1)) ([]),
+        Running (Par (Import c) (Wait d 1)) [],
         (0, (Par (Import c) (Import d)), refl, (inr (inr ((Wait d 1), refl, inl (inl (inl (refl, refl, refl))))), refl)),
         (
-          Running (Par (Wait c 1) (Wait d 1)) ([]),
+          Running (Par (Wait c 1) (Wait d 1)) [],
           (0, (Par (Import c) (Wait d 1)), refl, (inr (inl ((Wait c 1), refl, inl (inl (inl (refl, refl, refl))))), refl)),
           (
-            Running (Par (Wait c 1) Skip) ([]),
+            Running (Par (Wait c 1) Skip) [],
             (0, (Par (Wait c 1) (Wait d 1)), refl, (inr (inr (Skip, refl, inl (inr (refl, refl, (refl, refl))))), refl)),
             (
-              Running (Par Skip Skip) ([]),
+              Running (Par Skip Skip) [],
               (0, (Par (Wait c 1) Skip), refl, (inr (inl (Skip, refl, inl (inr (refl, refl, (refl, refl))))), refl)),
               (
-                Running Skip ([]),
+                Running Skip [],
                 (0, (Par Skip Skip), refl, inl (refl, refl, refl, refl)),
                 (Idle, (0, Skip, refl, inl (refl, refl)), refl),
               ),
@@ -81,61 +116,61 @@ loop_runs = (
   Showing (given 0 0) ∷ Computing ∷ Computing ∷ Computing ∷ Computing ∷ Computing ∷ Computing ∷ Computing ∷ Computing ∷ Computing ∷ Showing (taken c 0 0) ∷ Showing (taken c 1 0) ∷ Computing ∷ Computing ∷ Computing ∷ Computing ∷ Computing ∷ Computing ∷ Computing ∷ Showing (given 1 0) ∷ [],
   Idle,
   (
-    Running (New 1 (While (Bin Eq (Deref (Bound 0)) (Lit 0 1)) (Seq (Assign (Bound 0) (Lit 1 1)) (Import c)))) [],
+    Running loop_once.body [],
     (refl, refl),
     (
-      Running (Scope 0 (While (Bin Eq (Deref (Loc 0)) (Lit 0 1)) (Seq (Assign (Loc 0) (Lit 1 1)) (Import c)))) (entry 0 1 0 ∷ []),
-      (0, (New 1 (While (Bin Eq (Deref (Bound 0)) (Lit 0 1)) (Seq (Assign (Bound 0) (Lit 1 1)) (Import c)))), refl, inl (0, refl, refl, refl)),
+      Running (Scope 0 loop) first,
+      (0, loop_once.body, refl, inl (0, refl, refl, refl)),
       (
-        Running (Scope 0 (If (Bin Eq (Deref (Loc 0)) (Lit 0 1)) (Seq (Seq (Assign (Loc 0) (Lit 1 1)) (Import c)) (While (Bin Eq (Deref (Loc 0)) (Lit 0 1)) (Seq (Assign (Loc 0) (Lit 1 1)) (Import c)))) Skip)) (entry 0 1 0 ∷ []),
-        (0, (Scope 0 (While (Bin Eq (Deref (Loc 0)) (Lit 0 1)) (Seq (Assign (Loc 0) (Lit 1 1)) (Import c)))), refl, inr ((If (Bin Eq (Deref (Loc 0)) (Lit 0 1)) (Seq (Seq (Assign (Loc 0) (Lit 1 1)) (Import c)) (While (Bin Eq (Deref (Loc 0)) (Lit 0 1)) (Seq (Assign (Loc 0) (Lit 1 1)) (Import c)))) Skip), refl, inl (refl, refl))),
+        Running (chosen test) first,
+        (0, (Scope 0 loop), refl, inr ((choice test), refl, inl (refl, refl))),
         (
-          Running (Scope 0 (If (Bin Eq (Lit 0 1) (Lit 0 1)) (Seq (Seq (Assign (Loc 0) (Lit 1 1)) (Import c)) (While (Bin Eq (Deref (Loc 0)) (Lit 0 1)) (Seq (Assign (Loc 0) (Lit 1 1)) (Import c)))) Skip)) (entry 0 1 0 ∷ []),
-          (0, (Scope 0 (If (Bin Eq (Deref (Loc 0)) (Lit 0 1)) (Seq (Seq (Assign (Loc 0) (Lit 1 1)) (Import c)) (While (Bin Eq (Deref (Loc 0)) (Lit 0 1)) (Seq (Assign (Loc 0) (Lit 1 1)) (Import c)))) Skip)), refl, inr ((If (Bin Eq (Lit 0 1) (Lit 0 1)) (Seq (Seq (Assign (Loc 0) (Lit 1 1)) (Import c)) (While (Bin Eq (Deref (Loc 0)) (Lit 0 1)) (Seq (Assign (Loc 0) (Lit 1 1)) (Import c)))) Skip), refl, inr ((Bin Eq (Lit 0 1) (Lit 0 1)), refl, inr ((Lit 0 1), refl, inl (entry 0 1 0, refl, refl, refl, refl))))),
+          Running (chosen (Bin Eq (Lit 0 1) (Lit 0 1))) first,
+          (0, (chosen test), refl, inr ((choice (Bin Eq (Lit 0 1) (Lit 0 1))), refl, inr ((Bin Eq (Lit 0 1) (Lit 0 1)), refl, inr ((Lit 0 1), refl, inl (entry 0 1 0, refl, refl, refl, refl))))),
           (
-            Running (Scope 0 (If (Held 0 Eq (Lit 0 1)) (Seq (Seq (Assign (Loc 0) (Lit 1 1)) (Import c)) (While (Bin Eq (Deref (Loc 0)) (Lit 0 1)) (Seq (Assign (Loc 0) (Lit 1 1)) (Import c)))) Skip)) (entry 0 1 0 ∷ []),
-            (0, (Scope 0 (If (Bin Eq (Lit 0 1) (Lit 0 1)) (Seq (Seq (Assign (Loc 0) (Lit 1 1)) (Import c)) (While (Bin Eq (Deref (Loc 0)) (Lit 0 1)) (Seq (Assign (Loc 0) (Lit 1 1)) (Import c)))) Skip)), refl, inr ((If (Held 0 Eq (Lit 0 1)) (Seq (Seq (Assign (Loc 0) (Lit 1 1)) (Import c)) (While (Bin Eq (Deref (Loc 0)) (Lit 0 1)) (Seq (Assign (Loc 0) (Lit 1 1)) (Import c)))) Skip), refl, inr ((Held 0 Eq (Lit 0 1)), refl, inl (0, 1, refl, refl, refl)))),
+            Running (chosen (Held 0 Eq (Lit 0 1))) first,
+            (0, (chosen (Bin Eq (Lit 0 1) (Lit 0 1))), refl, inr ((choice (Held 0 Eq (Lit 0 1))), refl, inr ((Held 0 Eq (Lit 0 1)), refl, inl (0, 1, refl, refl, refl)))),
             (
-              Running (Scope 0 (If (Lit 1 1) (Seq (Seq (Assign (Loc 0) (Lit 1 1)) (Import c)) (While (Bin Eq (Deref (Loc 0)) (Lit 0 1)) (Seq (Assign (Loc 0) (Lit 1 1)) (Import c)))) Skip)) (entry 0 1 0 ∷ []),
-              (0, (Scope 0 (If (Held 0 Eq (Lit 0 1)) (Seq (Seq (Assign (Loc 0) (Lit 1 1)) (Import c)) (While (Bin Eq (Deref (Loc 0)) (Lit 0 1)) (Seq (Assign (Loc 0) (Lit 1 1)) (Import c)))) Skip)), refl, inr ((If (Lit 1 1) (Seq (Seq (Assign (Loc 0) (Lit 1 1)) (Import c)) (While (Bin Eq (Deref (Loc 0)) (Lit 0 1)) (Seq (Assign (Loc 0) (Lit 1 1)) (Import c)))) Skip), refl, inr ((Lit 1 1), refl, inl (0, 1, refl, refl, refl)))),
+              Running (chosen (Lit 1 1)) first,
+              (0, (chosen (Held 0 Eq (Lit 0 1))), refl, inr ((choice (Lit 1 1)), refl, inr ((Lit 1 1), refl, inl (0, 1, refl, refl, refl)))),
               (
-                Running (Scope 0 (Seq (Seq (Assign (Loc 0) (Lit 1 1)) (Import c)) (While (Bin Eq (Deref (Loc 0)) (Lit 0 1)) (Seq (Assign (Loc 0) (Lit 1 1)) (Import c))))) (entry 0 1 0 ∷ []),
-                (0, (Scope 0 (If (Lit 1 1) (Seq (Seq (Assign (Loc 0) (Lit 1 1)) (Import c)) (While (Bin Eq (Deref (Loc 0)) (Lit 0 1)) (Seq (Assign (Loc 0) (Lit 1 1)) (Import c)))) Skip)), refl, inr ((Seq (Seq (Assign (Loc 0) (Lit 1 1)) (Import c)) (While (Bin Eq (Deref (Loc 0)) (Lit 0 1)) (Seq (Assign (Loc 0) (Lit 1 1)) (Import c)))), refl, inl (inl (refl, refl), refl))),
+                Running (Scope 0 body_then_loop) first,
+                (0, (chosen (Lit 1 1)), refl, inr (body_then_loop, refl, inl (inl (refl, refl), refl))),
                 (
-                  Running (Scope 0 (Seq (Seq (Put (Loc 0) 1) (Import c)) (While (Bin Eq (Deref (Loc 0)) (Lit 0 1)) (Seq (Assign (Loc 0) (Lit 1 1)) (Import c))))) (entry 0 1 0 ∷ []),
-                  (0, (Scope 0 (Seq (Seq (Assign (Loc 0) (Lit 1 1)) (Import c)) (While (Bin Eq (Deref (Loc 0)) (Lit 0 1)) (Seq (Assign (Loc 0) (Lit 1 1)) (Import c))))), refl, inr ((Seq (Seq (Put (Loc 0) 1) (Import c)) (While (Bin Eq (Deref (Loc 0)) (Lit 0 1)) (Seq (Assign (Loc 0) (Lit 1 1)) (Import c)))), refl, inr ((Seq (Put (Loc 0) 1) (Import c)), refl, inr ((Put (Loc 0) 1), refl, inl (1, 1, refl, refl, refl))))),
+                  Running (running (Seq (Put (Loc 0) 1) (Import c))) first,
+                  (0, (Scope 0 body_then_loop), refl, inr ((then_loop (Seq (Put (Loc 0) 1) (Import c))), refl, inr ((Seq (Put (Loc 0) 1) (Import c)), refl, inr ((Put (Loc 0) 1), refl, inl (1, 1, refl, refl, refl))))),
                   (
-                    Running (Scope 0 (Seq (Seq Skip (Import c)) (While (Bin Eq (Deref (Loc 0)) (Lit 0 1)) (Seq (Assign (Loc 0) (Lit 1 1)) (Import c))))) (entry 0 1 1 ∷ []),
-                    (0, (Scope 0 (Seq (Seq (Put (Loc 0) 1) (Import c)) (While (Bin Eq (Deref (Loc 0)) (Lit 0 1)) (Seq (Assign (Loc 0) (Lit 1 1)) (Import c))))), refl, inr ((Seq (Seq Skip (Import c)) (While (Bin Eq (Deref (Loc 0)) (Lit 0 1)) (Seq (Assign (Loc 0) (Lit 1 1)) (Import c)))), refl, inr ((Seq Skip (Import c)), refl, inr (Skip, refl, inl (0, refl, refl, refl))))),
+                    Running (running (Seq Skip (Import c))) again,
+                    (0, (running (Seq (Put (Loc 0) 1) (Import c))), refl, inr ((then_loop (Seq Skip (Import c))), refl, inr ((Seq Skip (Import c)), refl, inr (Skip, refl, inl (0, refl, refl, refl))))),
                     (
-                      Running (Scope 0 (Seq (Import c) (While (Bin Eq (Deref (Loc 0)) (Lit 0 1)) (Seq (Assign (Loc 0) (Lit 1 1)) (Import c))))) (entry 0 1 1 ∷ []),
-                      (0, (Scope 0 (Seq (Seq Skip (Import c)) (While (Bin Eq (Deref (Loc 0)) (Lit 0 1)) (Seq (Assign (Loc 0) (Lit 1 1)) (Import c))))), refl, inr ((Seq (Import c) (While (Bin Eq (Deref (Loc 0)) (Lit 0 1)) (Seq (Assign (Loc 0) (Lit 1 1)) (Import c)))), refl, inr ((Import c), refl, inl (refl, refl, refl)))),
+                      Running (running (Import c)) again,
+                      (0, (running (Seq Skip (Import c))), refl, inr ((then_loop (Import c)), refl, inr ((Import c), refl, inl (refl, refl, refl)))),
                       (
-                        Running (Scope 0 (Seq (Wait c 1) (While (Bin Eq (Deref (Loc 0)) (Lit 0 1)) (Seq (Assign (Loc 0) (Lit 1 1)) (Import c))))) (entry 0 1 1 ∷ []),
-                        (0, (Scope 0 (Seq (Import c) (While (Bin Eq (Deref (Loc 0)) (Lit 0 1)) (Seq (Assign (Loc 0) (Lit 1 1)) (Import c))))), refl, (inr ((Seq (Wait c 1) (While (Bin Eq (Deref (Loc 0)) (Lit 0 1)) (Seq (Assign (Loc 0) (Lit 1 1)) (Import c)))), refl, inr ((Wait c 1), refl, inl (inl (inl (refl, refl, refl))))), refl)),
+                        Running (running (Wait c 1)) again,
+                        (0, (running (Import c)), refl, (inr ((then_loop (Wait c 1)), refl, inr ((Wait c 1), refl, inl (inl (inl (refl, refl, refl))))), refl)),
                         (
-                          Running (Scope 0 (Seq Skip (While (Bin Eq (Deref (Loc 0)) (Lit 0 1)) (Seq (Assign (Loc 0) (Lit 1 1)) (Import c))))) (entry 0 1 1 ∷ []),
-                          (0, (Scope 0 (Seq (Wait c 1) (While (Bin Eq (Deref (Loc 0)) (Lit 0 1)) (Seq (Assign (Loc 0) (Lit 1 1)) (Import c))))), refl, (inr ((Seq Skip (While (Bin Eq (Deref (Loc 0)) (Lit 0 1)) (Seq (Assign (Loc 0) (Lit 1 1)) (Import c)))), refl, inr (Skip, refl, inl (inr (refl, refl, (refl, refl))))), refl)),
+                          Running (running Skip) again,
+                          (0, (running (Wait c 1)), refl, (inr ((then_loop Skip), refl, inr (Skip, refl, inl (inr (refl, refl, (refl, refl))))), refl)),
                           (
-                            Running (Scope 0 (While (Bin Eq (Deref (Loc 0)) (Lit 0 1)) (Seq (Assign (Loc 0) (Lit 1 1)) (Import c)))) (entry 0 1 1 ∷ []),
-                            (0, (Scope 0 (Seq Skip (While (Bin Eq (Deref (Loc 0)) (Lit 0 1)) (Seq (Assign (Loc 0) (Lit 1 1)) (Import c))))), refl, inr ((While (Bin Eq (Deref (Loc 0)) (Lit 0 1)) (Seq (Assign (Loc 0) (Lit 1 1)) (Import c))), refl, inl (refl, refl, refl))),
+                            Running (Scope 0 loop) again,
+                            (0, (running Skip), refl, inr (loop, refl, inl (refl, refl, refl))),
                             (
-                              Running (Scope 0 (If (Bin Eq (Deref (Loc 0)) (Lit 0 1)) (Seq (Seq (Assign (Loc 0) (Lit 1 1)) (Import c)) (While (Bin Eq (Deref (Loc 0)) (Lit 0 1)) (Seq (Assign (Loc 0) (Lit 1 1)) (Import c)))) Skip)) (entry 0 1 1 ∷ []),
-                              (0, (Scope 0 (While (Bin Eq (Deref (Loc 0)) (Lit 0 1)) (Seq (Assign (Loc 0) (Lit 1 1)) (Import c)))), refl, inr ((If (Bin Eq (Deref (Loc 0)) (Lit 0 1)) (Seq (Seq (Assign (Loc 0) (Lit 1 1)) (Import c)) (While (Bin Eq (Deref (Loc 0)) (Lit 0 1)) (Seq (Assign (Loc 0) (Lit 1 1)) (Import c)))) Skip), refl, inl (refl, refl))),
+                              Running (chosen test) again,
+                              (0, (Scope 0 loop), refl, inr ((choice test), refl, inl (refl, refl))),
                               (
-                                Running (Scope 0 (If (Bin Eq (Lit 1 1) (Lit 0 1)) (Seq (Seq (Assign (Loc 0) (Lit 1 1)) (Import c)) (While (Bin Eq (Deref (Loc 0)) (Lit 0 1)) (Seq (Assign (Loc 0) (Lit 1 1)) (Import c)))) Skip)) (entry 0 1 1 ∷ []),
-                                (0, (Scope 0 (If (Bin Eq (Deref (Loc 0)) (Lit 0 1)) (Seq (Seq (Assign (Loc 0) (Lit 1 1)) (Import c)) (While (Bin Eq (Deref (Loc 0)) (Lit 0 1)) (Seq (Assign (Loc 0) (Lit 1 1)) (Import c)))) Skip)), refl, inr ((If (Bin Eq (Lit 1 1) (Lit 0 1)) (Seq (Seq (Assign (Loc 0) (Lit 1 1)) (Import c)) (While (Bin Eq (Deref (Loc 0)) (Lit 0 1)) (Seq (Assign (Loc 0) (Lit 1 1)) (Import c)))) Skip), refl, inr ((Bin Eq (Lit 1 1) (Lit 0 1)), refl, inr ((Lit 1 1), refl, inl (entry 0 1 1, refl, refl, refl, refl))))),
+                                Running (chosen (Bin Eq (Lit 1 1) (Lit 0 1))) again,
+                                (0, (chosen test), refl, inr ((choice (Bin Eq (Lit 1 1) (Lit 0 1))), refl, inr ((Bin Eq (Lit 1 1) (Lit 0 1)), refl, inr ((Lit 1 1), refl, inl (entry 0 1 1, refl, refl, refl, refl))))),
                                 (
-                                  Running (Scope 0 (If (Held 1 Eq (Lit 0 1)) (Seq (Seq (Assign (Loc 0) (Lit 1 1)) (Import c)) (While (Bin Eq (Deref (Loc 0)) (Lit 0 1)) (Seq (Assign (Loc 0) (Lit 1 1)) (Import c)))) Skip)) (entry 0 1 1 ∷ []),
-                                  (0, (Scope 0 (If (Bin Eq (Lit 1 1) (Lit 0 1)) (Seq (Seq (Assign (Loc 0) (Lit 1 1)) (Import c)) (While (Bin Eq (Deref (Loc 0)) (Lit 0 1)) (Seq (Assign (Loc 0) (Lit 1 1)) (Import c)))) Skip)), refl, inr ((If (Held 1 Eq (Lit 0 1)) (Seq (Seq (Assign (Loc 0) (Lit 1 1)) (Import c)) (While (Bin Eq (Deref (Loc 0)) (Lit 0 1)) (Seq (Assign (Loc 0) (Lit 1 1)) (Import c)))) Skip), refl, inr ((Held 1 Eq (Lit 0 1)), refl, inl (1, 1, refl, refl, refl)))),
+                                  Running (chosen (Held 1 Eq (Lit 0 1))) again,
+                                  (0, (chosen (Bin Eq (Lit 1 1) (Lit 0 1))), refl, inr ((choice (Held 1 Eq (Lit 0 1))), refl, inr ((Held 1 Eq (Lit 0 1)), refl, inl (1, 1, refl, refl, refl)))),
                                   (
-                                    Running (Scope 0 (If (Lit 0 1) (Seq (Seq (Assign (Loc 0) (Lit 1 1)) (Import c)) (While (Bin Eq (Deref (Loc 0)) (Lit 0 1)) (Seq (Assign (Loc 0) (Lit 1 1)) (Import c)))) Skip)) (entry 0 1 1 ∷ []),
-                                    (0, (Scope 0 (If (Held 1 Eq (Lit 0 1)) (Seq (Seq (Assign (Loc 0) (Lit 1 1)) (Import c)) (While (Bin Eq (Deref (Loc 0)) (Lit 0 1)) (Seq (Assign (Loc 0) (Lit 1 1)) (Import c)))) Skip)), refl, inr ((If (Lit 0 1) (Seq (Seq (Assign (Loc 0) (Lit 1 1)) (Import c)) (While (Bin Eq (Deref (Loc 0)) (Lit 0 1)) (Seq (Assign (Loc 0) (Lit 1 1)) (Import c)))) Skip), refl, inr ((Lit 0 1), refl, inl (0, 1, refl, refl, refl)))),
+                                    Running (chosen (Lit 0 1)) again,
+                                    (0, (chosen (Held 1 Eq (Lit 0 1))), refl, inr ((choice (Lit 0 1)), refl, inr ((Lit 0 1), refl, inl (0, 1, refl, refl, refl)))),
                                     (
-                                      Running (Scope 0 Skip) (entry 0 1 1 ∷ []),
-                                      (0, (Scope 0 (If (Lit 0 1) (Seq (Seq (Assign (Loc 0) (Lit 1 1)) (Import c)) (While (Bin Eq (Deref (Loc 0)) (Lit 0 1)) (Seq (Assign (Loc 0) (Lit 1 1)) (Import c)))) Skip)), refl, inr (Skip, refl, inl (inr (refl, refl), refl))),
+                                      Running (Scope 0 Skip) again,
+                                      (0, (chosen (Lit 0 1)), refl, inr (Skip, refl, inl (inr (refl, refl), refl))),
                                       (
-                                        Running Skip ([]),
+                                        Running Skip [],
                                         (0, (Scope 0 Skip), refl, inl (inl refl, refl, refl)),
                                         (Idle, (0, Skip, refl, inl (refl, refl)), refl),
                                       ),
