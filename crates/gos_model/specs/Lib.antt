@@ -16,6 +16,7 @@ pub mod NetText
 pub mod Flattening
 pub mod Protocol
 pub mod Pace
+pub mod Seen
 pub mod SmallPrograms
 pub mod SmallModules
 pub mod SmallNets

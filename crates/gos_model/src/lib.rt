@@ -7,6 +7,7 @@
 #![tactic(auto)]
 
 mod laws;
+mod nets;
 
 pub use laws::{
     reached_places, sequences, small_modules, small_nets, small_traces, types_of_terms,
