@@ -6,16 +6,20 @@ use Rattle.std.specs.Prelude.{ℕ, List, [], ◌∷◌, ◌++◌, length, codes}
 use Rattle.std.specs.List.{flat_map}
 use Rattle.std.specs.Fmt.{decimal}
 use Rattle.gos_types.specs.TypeText.{type_text}
+use Rattle.gos_model.specs.Terms.{Name}
 use Rattle.gos_model.specs.Nets.{Function, Input, Const, Not, And, Or, Xor, Mux, Add, Sub, Eq, Less, Gate, Reg, Cell, pins, Side, Give, Take, NetPort, Netlist}
 
 -- a text as a line
 abbrev pub line : List ℕ → List ℕ
 line text = text ++ 10 ∷ []
 
+-- a number behind a space
+abbrev pub spaced_number : ℕ → List ℕ
+spaced_number n = codes " " ++ decimal n
+
 -- numbers, each behind a space
 abbrev pub spaced : List ℕ → List ℕ
-spaced [] = []
-spaced (n ∷ ns) = codes " " ++ decimal n ++ spaced ns
+spaced = flat_map spaced_number
 
 -- the word for a function
 abbrev pub word_of : Function → List ℕ
@@ -47,9 +51,13 @@ abbrev pub side_word : Side → List ℕ
 side_word Give = codes "give"
 side_word Take = codes "take"
 
+-- a side and a name, each with a space behind it
+abbrev pub port_head : Side → Name → List ℕ
+port_head side name = side_word side ++ codes " " ++ name ++ codes " "
+
 -- the line of a port: its side, its name, its type, its nets
 abbrev pub port_text : NetPort → List ℕ
-port_text p = line (side_word p.side ++ codes " " ++ p.name ++ codes " " ++ type_text p.ty ++ spaced p.nets)
+port_text p = line (port_head p.side p.name ++ type_text p.ty ++ spaced p.nets)
 
 -- a line with a count
 abbrev pub count_line : List ℕ → ℕ → List ℕ

@@ -8,7 +8,9 @@
 
 mod laws;
 mod nets;
+mod printing;
 
 pub use laws::{
     reached_places, sequences, small_modules, small_nets, small_traces, types_of_terms,
 };
+pub use printing::print_net;

@@ -2,11 +2,11 @@
 use std::marker::Model;
 
 /// A net: the index of the cell that drives it.
-#[derive(Debug, Clone, Copy, PartialEq, Eq)]
+#[derive(Debug, Clone, Copy)]
 pub struct NetId(pub u32);
 
 /// What a cell shows, from the nets that it names.
-#[derive(Debug, Clone, Copy, PartialEq, Eq)]
+#[derive(Debug, Clone, Copy)]
 pub enum Gate {
     /// The cell's input.
     Input,
@@ -37,7 +37,7 @@ pub enum Gate {
 }
 
 /// A cell.
-#[derive(Debug, Clone, Copy, PartialEq, Eq)]
+#[derive(Debug, Clone, Copy)]
 pub struct Cell {
     /// The bits of the net that it drives, 1 to 32.
     pub width: u32,
@@ -46,7 +46,7 @@ pub struct Cell {
 }
 
 /// Whether the circuit gives a port or takes it.
-#[derive(Debug, Clone, Copy, PartialEq, Eq)]
+#[derive(Debug, Clone, Copy)]
 pub enum Side {
     /// The outside asks and the circuit answers.
     Give,
@@ -55,7 +55,7 @@ pub enum Side {
 }
 
 /// The type of a port.
-#[derive(Debug, Clone, Copy, PartialEq, Eq)]
+#[derive(Debug, Clone, Copy)]
 pub enum Ground {
     /// A command, with the nets run and done.
     Com,
