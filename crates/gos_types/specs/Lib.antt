@@ -2,3 +2,4 @@ pub mod Types
 pub mod Handshakes
 pub mod TypeText
 pub mod Within
+pub mod TypeCode

@@ -1,0 +1,7 @@
+mod SequenceLemmas
+mod TraceLemmas
+mod NetLemmas
+mod ModuleLemmas
+pub mod ReachLemmas
+mod PathLemmas
+mod TypingLemmas

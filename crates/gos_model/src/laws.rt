@@ -1,0 +1,56 @@
+// What the definitions say, in small. Each theorem is the contract of a function that does nothing.
+ghost use Rattle.gos_model.specs.Laws.{NodeHasType, OneType, StepsHavePaths};
+ghost use Rattle.gos_model.specs.SmallModules.{Weights, Types, Shared, Links};
+ghost use Rattle.gos_model.specs.SmallNets.{LatchRuns, LatchText, LoopedGates};
+ghost use Rattle.gos_model.specs.SmallPrograms.{
+  SeqRuns,
+  SeqWaits,
+  SeqWeight,
+  WaitingIsStalled,
+  EmittingIsNotStalled,
+  ParEitherWay,
+  LoopRuns,
+  NewIsZero,
+};
+
+/// `c ; d` runs c and then d, and never d first. It is stalled while it waits, and not where it can run c.
+pub fn sequences()
+    ensures runs { SeqRuns }
+    ensures waits { SeqWaits }
+    ensures weight { SeqWeight }
+    ensures waiting { WaitingIsStalled }
+    ensures emitting { EmittingIsNotStalled }
+{}
+
+/// `c || d` begins with either, a loop runs c once, and a new variable is 0.
+pub fn small_traces()
+    ensures either { ParEitherWay }
+    ensures once { LoopRuns }
+    ensures zero { NewIsZero }
+{}
+
+/// A latch runs and has its text, and two gates in a ring are a combinational cycle.
+pub fn small_nets()
+    ensures latch { LatchRuns }
+    ensures text { LatchText }
+    ensures ring { LoopedGates }
+{}
+
+/// Modules have their weights and types, a name in both parts is refused, and a link puts the giver in.
+pub fn small_modules()
+    ensures weights { Weights }
+    ensures types { Types }
+    ensures shared { Shared }
+    ensures links { Links }
+{}
+
+/// A typed term has one type, and weighs by it.
+pub fn types_of_terms()
+    ensures node { NodeHasType }
+    ensures one { OneType }
+{}
+
+/// A step at a reached place is a step at a path, both ways.
+pub fn reached_places()
+    ensures { StepsHavePaths }
+{}

@@ -1,0 +1,16 @@
+// The meaning of programs and of circuits, and what it is that a circuit keeps pace with a program.
+//
+// Nearly all of this crate stands in `specs`: read it in the order of `specs/Lib.antt`. Programs come first (`Terms` to
+// `Linking`), then circuits (`Nets` to `NetText`), and what joins the two (`Flattening`, `Protocol`, `Pace`).
+//
+// `laws.rt` has the small theorems that show what the definitions say.
+#![tactic(auto)]
+
+mod laws;
+mod nets;
+mod printing;
+
+pub use laws::{
+    reached_places, sequences, small_modules, small_nets, small_traces, types_of_terms,
+};
+pub use printing::print_net;
