@@ -9,6 +9,10 @@ abbrev pub spells_name : List ℕ → Bool
 spells_name [] = false
 spells_name (b ∷ bytes) = begins_name b && list_all continues_name bytes
 
+-- spelled as a name
+abbrev pub IsSpelled : List ℕ → Type 0
+IsSpelled bytes = IsTrue (spells_name bytes)
+
 -- a name, or a word in the place of one, as the machine formats take it
 pub record IsNameOrWord (bytes : List ℕ) : Type 0 where
   pub spelled : IsTrue (spells_name bytes)

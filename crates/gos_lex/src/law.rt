@@ -8,5 +8,4 @@ pub fn one_reading()
     ensures reading { (text : List ℕ) → ReadsInOneWay text }
     ensures refusal { (text : List ℕ) → FaultsExcludeTokens text }
     ensures fault { (text : List ℕ) → HasOneFault text }
-{
-}
+{}

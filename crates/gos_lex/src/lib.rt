@@ -6,6 +6,7 @@
 // What a token is stands in specs/Tokens.antt, and the classes of bytes, names, numerals and signs in the files that it uses.
 #![tactic(auto)]
 
+pub use cursor::Cursor;
 pub use fault::LexFault;
 pub use law::one_reading;
 pub use name::{Name, is_name, is_name_or_word};
@@ -14,6 +15,8 @@ pub use sign::Sign;
 pub use token::{Span, Token, TokenKind};
 pub use word::Word;
 
+mod cursor;
+mod decimal;
 mod fault;
 mod gap;
 mod law;
