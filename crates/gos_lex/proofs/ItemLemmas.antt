@@ -3,7 +3,7 @@ use Rattle.std.proofs.Common.{◌≡◌, ◌≢◌, inl, inr, ℕ, suc, ◌+◌,
 use Rattle.std.specs.List.{slice_range}
 use Rattle.std.proofs.lemmas.Bool.{cases_lt}
 use Rattle.std.proofs.lemmas.List.{append_cancel_left, take-append-drop}
-use Rattle.gos_lex.specs.Items.{IsJust, Begins, Passes, StopsAt, Misses}
+use Rattle.gos_lex.specs.Items.{IsJust, Begins, StopsAt, Misses, BreaksOffOnce}
 use Rattle.gos_lex.proofs.PlaceLemmas.{length_slice, slice_split, slice_snoc}
 
 -- no item reaches past the place where one breaks off
@@ -55,3 +55,21 @@ stops_here IsItem text at i far after inside same begins stops =
       before = subst (Begins IsItem) (sym same) begins;
       stops = λ _ longer. stops (subst (Begins IsItem) (part_more text at i far after inside same) longer);
     }
+
+-- what stands before the place where an item breaks off begins one, and so does each part of it
+not_before : (IsItem : List ℕ → Type 0) (text : List ℕ) (at place other : ℕ) → StopsAt IsItem text at place → StopsAt IsItem text at other → other ≤ place
+not_before IsItem text at place other one two =
+    elim (cases_lt place other) [
+      | inl past ↦
+          let split = slice_split text at (place + 1) other (omega (arith, one.after)) (omega (arith, past)) in
+          let front : List ℕ = slice_range text at (place + 1) in
+          let rest : List ℕ = slice_range text (place + 1) other in
+          let whole : slice_range text at other ++ two.before.0 ≡ front ++ (rest ++ two.before.0) =
+          ap (λ part. part ++ two.before.0) split ∙ append_assoc front rest two.before.0 in
+          absurd (one.stops (omega (arith, past, two.within)) (rest ++ two.before.0, subst IsItem whole two.before.1))
+      | inr before ↦ before
+    ]
+
+pub breaks_off_once : (IsItem : List ℕ → Type 0) → BreaksOffOnce IsItem
+breaks_off_once IsItem text at place other one two =
+    omega (arith, not_before IsItem text at place other one two, not_before IsItem text at other place two one)

@@ -36,3 +36,8 @@ pub record StopsAt (IsItem : List ℕ → Type 0) (text : List ℕ) (at place : 
 pub record Misses (IsItem : List ℕ → Type 0) (text : List ℕ) (at place : ℕ) : Type 0 where
   pub stops : StopsAt IsItem text at place
   pub none : (end : ℕ) → at ≤ end → end ≤ length text → IsItem (slice_range text at end) → ⊥
+
+-- an item breaks off at one place alone
+abbrev pub BreaksOffOnce : (List ℕ → Type 0) → Type 0
+BreaksOffOnce IsItem =
+    (text : List ℕ) (at place other : ℕ) → StopsAt IsItem text at place → StopsAt IsItem text at other → place ≡ other

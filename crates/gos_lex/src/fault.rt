@@ -4,7 +4,7 @@ use std::alloc::{AllocError, AllocFailed};
 use thiserror::Error;
 
 /// Why `scan` refuses a text. Places count bytes from 0.
-#[derive(Debug, Drop, Error)]
+#[derive(Debug, Drop, Error, PartialEq, Eq)]
 pub enum LexFault {
     /// The text has `len` bytes, more than 65,536. This comes before all others.
     #[error("the text has {len} bytes")]
