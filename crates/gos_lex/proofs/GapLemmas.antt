@@ -1,5 +1,5 @@
 -- Where the blanks and comments end.
-use Rattle.std.proofs.Common.{◌≡◌, ◌≢◌, ◌⊎◌, inl, inr, ℕ, zero, suc, ◌+◌, ◌-◌, ◌<◌, ◌≤◌, Bool, true, false, List, [], ◌∷◌, length, take, drop, get_or, refl, sym, ◌∙◌, ap, subst, arith, drop-cons, length-drop}
+use Rattle.std.proofs.Common.{◌≡◌, ◌≢◌, inl, inr, ℕ, zero, suc, ◌+◌, ◌-◌, ◌<◌, ◌≤◌, Bool, true, false, List, [], ◌∷◌, length, take, drop, get_or, refl, sym, ap, subst, arith, drop-cons, length-drop}
 use Rattle.std.proofs.lemmas.List.{drop-drop}
 use Rattle.std.specs.List.{slice_range}
 use Rattle.gos_lex.specs.Bytes.{is_blank}

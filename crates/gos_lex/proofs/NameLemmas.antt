@@ -1,11 +1,11 @@
 -- Where a name breaks off: at the first byte, or at the 256th.
-use Rattle.std.proofs.Common.{◌≡◌, ℕ, suc, ◌+◌, ◌-◌, ◌<◌, ◌≤◌, Bool, true, ◌&&◌, List, [], ◌∷◌, ◌++◌, length, take, drop, codes, refl, sym, ◌∙◌, ap, subst, arith, append-nil, length-append, length-drop, IsTrue}
+use Rattle.std.proofs.Common.{◌≡◌, ℕ, ◌+◌, ◌-◌, ◌<◌, ◌≤◌, List, [], ◌∷◌, ◌++◌, length, take, drop, codes, refl, sym, ◌∙◌, subst, arith, append-nil, length-append, length-drop}
 use Rattle.std.specs.List.{slice_range, list_all}
 use Rattle.std.proofs.lemmas.Bool.{and_parts}
 use Rattle.std.proofs.lemmas.List.Folds.{list_all-append}
 use Rattle.gos_lex.specs.Bytes.{begins_name, continues_name}
-use Rattle.gos_lex.specs.Names.{spells_name, IsSpelled, IsNameOrWord}
-use Rattle.gos_lex.specs.Items.{Begins, Passes, StopsAt}
+use Rattle.gos_lex.specs.Names.{IsSpelled, IsNameOrWord}
+use Rattle.gos_lex.specs.Items.{Passes, StopsAt}
 use Rattle.gos_lex.proofs.PlaceLemmas.{rest_whole, slice_nothing, length_slice, slice_split}
 
 -- what begins a name is spelled as one

@@ -1,14 +1,13 @@
 -- A text reads in at most one way: by induction on the tokens, from what may stand next at a place.
-use Rattle.std.proofs.Common.{◌≡◌, ◌≢◌, inl, inr, ℕ, zero, suc, ◌+◌, ◌-◌, ◌<◌, ◌≤◌, Bool, true, false, cond, nat_eq, List, [], ◌∷◌, length, take, drop, refl, sym, ◌∙◌, ap, subst, arith, length-drop, IsTrue, Option, Some, None}
+use Rattle.std.proofs.Common.{◌≡◌, ◌≢◌, inl, inr, ℕ, zero, suc, ◌+◌, ◌-◌, ◌<◌, ◌≤◌, cond, nat_eq, List, [], ◌∷◌, length, take, drop, refl, sym, ◌∙◌, ap, subst, arith, length-drop, IsTrue, Option, Some, None}
 use Rattle.std.specs.List.{slice_range}
 use Rattle.std.proofs.lemmas.Bool.{eq-eqb, ne_eqb, cases_lt}
 use Rattle.gos_lex.specs.declared.token.Token.{Token}
-use Rattle.gos_lex.specs.declared.token.TokenKind.{TokenKind}
 use Rattle.gos_lex.specs.declared.fault.LexFault.{LexFault}
 use Rattle.gos_lex.specs.declared.fault.LexFault.TheVariants as faults
 use Rattle.gos_lex.specs.Lexemes.{is_lexeme, IsLongest}
 use Rattle.gos_lex.specs.Gaps.{IsSkipped}
-use Rattle.gos_lex.specs.Tokens.{HasLexeme, HasNoLexeme, IsNext, EndsWith, Reads, HasFault}
+use Rattle.gos_lex.specs.Tokens.{HasLexeme, IsNext, EndsWith, Reads, HasFault}
 use Rattle.gos_lex.specs.OneReading.{ReadsInOneWay, FaultsExcludeTokens, HasOneFault}
 use Rattle.gos_lex.proofs.GapLemmas.{skipped_once}
 use Rattle.gos_lex.proofs.ClassLemmas.{Outcome, AToken, AnEnd, class_of, class_of_kind, class_of_great, class_of_long}

@@ -1,13 +1,12 @@
 -- The longest name and the longest numeral at the front of a text are runs of bytes of one class.
-use Rattle.std.proofs.Common.{◌≡◌, ℕ, zero, suc, ◌+◌, ◌<◌, ◌≤◌, Bool, true, false, ◌&&◌, ◌||◌, cond, List, [], ◌∷◌, length, take, get_or, nat_eq, refl, sym, ◌∙◌, ap, subst, arith, IsTrue}
+use Rattle.std.proofs.Common.{◌≡◌, ℕ, zero, suc, ◌+◌, ◌<◌, ◌≤◌, Bool, true, false, ◌&&◌, ◌||◌, cond, List, [], ◌∷◌, length, take, get_or, nat_eq, refl, sym, ◌∙◌, subst, arith, IsTrue}
 use Rattle.std.specs.List.{list_all, prefix_len}
 use Rattle.std.specs.Char.{is_ascii_digit}
 use Rattle.std.proofs.lemmas.List.Sums.{prefix_len-le-length}
 use Rattle.gos_lex.specs.Bytes.{begins_name, continues_name}
 use Rattle.gos_lex.specs.Names.{spells_name}
-use Rattle.gos_lex.specs.Numerals.{is_numeral}
 use Rattle.gos_lex.specs.Signs.{is_sign}
-use Rattle.gos_lex.specs.Lexemes.{is_lexeme, IsLongest}
+use Rattle.gos_lex.specs.Lexemes.{is_lexeme}
 
 -- each byte of the run passes
 pub run_passes : (p : ℕ → Bool) (text : List ℕ) → list_all p (take (prefix_len p text) text) ≡ true

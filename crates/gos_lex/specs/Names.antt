@@ -1,5 +1,5 @@
 -- What a name is. The source language keeps its words from being names; the machine formats don't.
-use Rattle.std.specs.Prelude.{◌≡◌, ℕ, ◌≤◌, Bool, true, false, ◌&&◌, List, [], ◌∷◌, length, IsTrue}
+use Rattle.std.specs.Prelude.{◌≡◌, ℕ, ◌≤◌, Bool, false, ◌&&◌, List, [], ◌∷◌, length, IsTrue}
 use Rattle.std.specs.List.{list_all}
 use Rattle.gos_lex.specs.Bytes.{begins_name, continues_name}
 use Rattle.gos_lex.specs.Words.{is_word}

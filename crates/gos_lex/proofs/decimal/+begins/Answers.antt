@@ -1,4 +1,4 @@
-use Rattle.std.proofs.Common.{◌≡◌, ◌≤◌, false, true, nat_eq, arith}
+use Rattle.std.proofs.Common.{◌≡◌, true, nat_eq, arith}
 use Rattle.std.proofs.lemmas.Bool.{le-leb, leb-true, eq-eqb, both_ways, not-true}
 use Rattle.gos_lex.proofs.DecimalLemmas.{begins_whole, begins_longer, begins_shorter, begins_le}
 use Rattle.gos_lex.proofs.decimal.+begins.Goals as goal
