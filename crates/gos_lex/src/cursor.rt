@@ -82,7 +82,7 @@ impl<'a> Cursor<'a> {
     }
 
     /// Passes the longest name, where words are names too, and gives its place.
-    /// `Err` is the place of the first byte, where no name begins with it, or of the 256th of a name that is too long.
+    /// `Err` is the place of the cursor, where no name begins there, or of the 256th byte of a name that is too long.
     pub fn name(&mut self) -> Result<Span, usize>
         ensures text { self.new.text ≡ self.old.text }
         ensures span { IfOk result (λ span. (span.from ≡ self.old.at) × (span.to ≡ self.new.at)) }

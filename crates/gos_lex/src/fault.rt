@@ -18,7 +18,7 @@ pub enum LexFault {
     /// At `at` begins a name of more than 255 bytes.
     #[error("the name at {at} is too long")]
     Name { at: usize },
-    /// Memory was refused.
+    /// Memory was refused. This says nothing of the text.
     #[error("out of memory")]
     NoMemory,
 }

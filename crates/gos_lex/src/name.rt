@@ -101,7 +101,7 @@ pub fn is_name_or_word(bytes: &[u8]) -> bool
     bytes.len() <= MAX_NAME && spells_name(bytes)
 }
 
-// Where the longest name ends that begins at `from`, if it has at most 255 bytes, and else the first byte that can't belong to one.
+// Where the longest name at `at` ends, if it has at most 255 bytes, and else the first byte that can't belong to one.
 pub(crate) fn name_end(text: &[u8], at: usize) -> Result<usize, usize>
     requires { at ≤ length text.now }
     ensures passes { IfOk result (Passes IsSpelled text.now at) }

@@ -14,7 +14,8 @@ const MAX_TEXT: usize = 65_536;
 
 /// The tokens of the text in order, with their places.
 ///
-/// `Err` is `TooLong` where the text has more than 65,536 bytes, and else the fault that comes first in the text.
+/// `Err` is `TooLong` where the text has more than 65,536 bytes, and else the fault that comes first in the text, or want
+/// of memory.
 pub fn scan(alloc: Global, text: &[u8]) -> Result<Vec<Token>, LexFault>
     ensures length { IfOk result (λ _. length text.now ≤ 65536) }
     ensures tokens { IfOk result (λ tokens. Reads text.now 0 tokens.items None) }
