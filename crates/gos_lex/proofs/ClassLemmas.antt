@@ -1,5 +1,5 @@
 -- What a lexeme is read as is settled by its bytes.
-use Rattle.std.proofs.Common.{◌≡◌, ℕ, ◌+◌, ◌<◌, ◌≤◌, Bool, true, false, cond, ◌&&◌, List, [], ◌∷◌, length, nat_lt, refl, sym, ◌∙◌, ap, subst, arith, IsTrue, Option, Some, None}
+use Rattle.std.proofs.Common.{◌≡◌, ℕ, true, false, cond, List, [], ◌∷◌, length, nat_lt, refl, ◌∙◌, ap, arith, Option, Some}
 use Rattle.std.specs.Char.{is_ascii_digit}
 use Rattle.std.specs.List.{list_all}
 use Rattle.std.specs.Str.{bytes_eq}
@@ -36,10 +36,10 @@ sign_among bytes (sign ∷ others) = cond (bytes_eq bytes (sign_text sign)) sign
 abbrev pub class_of : ℕ → List ℕ → Outcome
 class_of from bytes =
     cond (spells_name bytes)
-      (cond (nat_lt 255 (length bytes)) (AnEnd (Some (faults.Name from))) (AToken (cond (is_word bytes) (kinds.Word (word_among bytes all_words)) kinds.Name)))
-      (cond (is_numeral bytes)
-        (cond (nat_lt 4294967295 (value_of bytes)) (AnEnd (Some (faults.Number from))) (AToken (kinds.Number (value_of bytes))))
-        (AToken (kinds.Sign (sign_among bytes all_signs))))
+    (cond (nat_lt 255 (length bytes)) (AnEnd (Some (faults.Name from))) (AToken (cond (is_word bytes) (kinds.Word (word_among bytes all_words)) kinds.Name)))
+    (cond (is_numeral bytes)
+    (cond (nat_lt 4294967295 (value_of bytes)) (AnEnd (Some (faults.Number from))) (AToken (kinds.Number (value_of bytes))))
+    (AToken (kinds.Sign (sign_among bytes all_signs))))
 
 class_of_word : (from : ℕ) (word : Word) → class_of from (word_text word) ≡ AToken (kinds.Word word)
 class_of_word from words.Import = refl

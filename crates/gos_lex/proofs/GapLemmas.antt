@@ -1,5 +1,5 @@
 -- Where the blanks and comments end.
-use Rattle.std.proofs.Common.{◌≡◌, ◌≢◌, ◌⊎◌, inl, inr, ℕ, zero, suc, ◌+◌, ◌-◌, ◌<◌, ◌≤◌, Bool, true, false, List, [], ◌∷◌, length, take, drop, get_or, refl, sym, ◌∙◌, ap, subst, arith, drop-cons, length-drop}
+use Rattle.std.proofs.Common.{◌≡◌, ◌≢◌, inl, inr, ℕ, zero, suc, ◌+◌, ◌-◌, ◌<◌, ◌≤◌, Bool, true, false, List, [], ◌∷◌, length, take, drop, get_or, refl, sym, ap, subst, arith, drop-cons, length-drop}
 use Rattle.std.proofs.lemmas.List.{drop-drop}
 use Rattle.std.specs.List.{slice_range}
 use Rattle.gos_lex.specs.Bytes.{is_blank}
@@ -74,8 +74,8 @@ skipped_once text at from other one two =
     let one_left : drop (from - at) (drop at text) ≡ drop from text = there text at from one.after in
     let two_left : drop (other - at) (drop at text) ≡ drop other text = there text at other two.after in
     let same : from - at ≡ other - at =
-      gap_once false (drop at text) (from - at) (other - at) (omega (arith, length-drop at text, one.within, one.after)) (omega (arith, length-drop at text, two.within, two.after))
-        (rw one_left one.gap) (rw one_left one.whole) (rw two_left two.gap) (rw two_left two.whole) in
+    gap_once false (drop at text) (from - at) (other - at) (omega (arith, length-drop at text, one.within, one.after)) (omega (arith, length-drop at text, two.within, two.after))
+    (rw one_left one.gap) (rw one_left one.whole) (rw two_left two.gap) (rw two_left two.whole) in
     omega (arith, same, one.after, two.after)
   where
     there : (text : List ℕ) (at from : ℕ) → at ≤ from → drop (from - at) (drop at text) ≡ drop from text

@@ -5,3 +5,6 @@ pub mod GapLemmas
 pub mod TokenLemmas
 pub mod ClassLemmas
 pub mod OneReadingLemmas
+pub mod ItemLemmas
+pub mod NameLemmas
+pub mod DecimalLemmas

@@ -1,5 +1,5 @@
 -- The value of a numeral never falls with more digits.
-use Rattle.std.proofs.Common.{◌≡◌, ℕ, suc, ◌+◌, ◌-◌, ◌*◌, ◌<◌, ◌≤◌, List, [], ◌∷◌, length, drop, get_or, sym, ◌∙◌, ap, arith, drop-cons}
+use Rattle.std.proofs.Common.{◌≡◌, ℕ, suc, ◌+◌, ◌-◌, ◌*◌, ◌<◌, ◌≤◌, List, [], ◌∷◌, length, drop, get_or, ap, arith, drop-cons}
 use Rattle.gos_lex.specs.Numerals.{value_after, value_of}
 
 value_grows : (n : ℕ) (bytes : List ℕ) → n ≤ value_after n bytes

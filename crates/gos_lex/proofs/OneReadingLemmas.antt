@@ -1,14 +1,13 @@
 -- A text reads in at most one way: by induction on the tokens, from what may stand next at a place.
-use Rattle.std.proofs.Common.{◌≡◌, ◌≢◌, inl, inr, ℕ, zero, suc, ◌+◌, ◌-◌, ◌<◌, ◌≤◌, Bool, true, false, cond, nat_eq, List, [], ◌∷◌, length, take, drop, refl, sym, ◌∙◌, ap, subst, arith, length-drop, IsTrue, Option, Some, None}
+use Rattle.std.proofs.Common.{◌≡◌, ◌≢◌, inl, inr, ℕ, zero, suc, ◌+◌, ◌-◌, ◌<◌, ◌≤◌, cond, nat_eq, List, [], ◌∷◌, length, take, drop, refl, sym, ◌∙◌, ap, subst, arith, length-drop, IsTrue, Option, Some, None}
 use Rattle.std.specs.List.{slice_range}
 use Rattle.std.proofs.lemmas.Bool.{eq-eqb, ne_eqb, cases_lt}
 use Rattle.gos_lex.specs.declared.token.Token.{Token}
-use Rattle.gos_lex.specs.declared.token.TokenKind.{TokenKind}
 use Rattle.gos_lex.specs.declared.fault.LexFault.{LexFault}
 use Rattle.gos_lex.specs.declared.fault.LexFault.TheVariants as faults
 use Rattle.gos_lex.specs.Lexemes.{is_lexeme, IsLongest}
 use Rattle.gos_lex.specs.Gaps.{IsSkipped}
-use Rattle.gos_lex.specs.Tokens.{HasLexeme, HasNoLexeme, IsNext, EndsWith, Reads, HasFault}
+use Rattle.gos_lex.specs.Tokens.{HasLexeme, IsNext, EndsWith, Reads, HasFault}
 use Rattle.gos_lex.specs.OneReading.{ReadsInOneWay, FaultsExcludeTokens, HasOneFault}
 use Rattle.gos_lex.proofs.GapLemmas.{skipped_once}
 use Rattle.gos_lex.proofs.ClassLemmas.{Outcome, AToken, AnEnd, class_of, class_of_kind, class_of_great, class_of_long}
@@ -62,7 +61,7 @@ lexeme_comes text at from to next has is =
 token_comes : (text : List ℕ) (at : ℕ) (token : Token) → IsNext text at token → Comes text at token.span.from (token.span.to - token.span.from) (AToken token.kind)
 token_comes text at token next =
     lexeme_comes text at token.span.from token.span.to (AToken token.kind) next.lexeme
-        (class_of_kind token.span.from (slice_range text token.span.from token.span.to) token.kind next.kind)
+    (class_of_kind token.span.from (slice_range text token.span.from token.span.to) token.kind next.kind)
 
 -- some place and length at which an ending comes
 abbrev ComesSomewhere : List ℕ → ℕ → Option LexFault → Type 0
@@ -70,17 +69,23 @@ ComesSomewhere text at ending = (from : ℕ) × (len : ℕ) × Comes text at fro
 
 ending_comes : (text : List ℕ) (at : ℕ) (ending : Option LexFault) → EndsWith text at ending → ComesSomewhere text at ending
 ending_comes text at None ends =
-    let here = eq-eqb (length text) (length text) refl in
-    (length text, 0, record {
-      stands = record { skipped = ends; lexeme = λ some. absurd (omega (arith, some)); within = omega arith; longest = λ n within lexeme. omega (arith, within, length-drop (length text) text) };
-      is = rw here refl
-    })
+    let here = eq-eqb (length text) (length text) refl in (
+      length text,
+      0,
+      record {
+        stands = record { skipped = ends; lexeme = λ some. absurd (omega (arith, some)); within = omega arith; longest = λ n within lexeme. omega (arith, within, length-drop (length text) text) };
+        is = rw here refl;
+      },
+    )
 ending_comes text at (Some (faults.Byte from)) ends =
-    let here = ne_eqb from (length text) (λ same. absurd (omega (arith, same, ends.within))) in
-    (from, 0, record {
-      stands = record { skipped = ends.skipped; lexeme = λ some. absurd (omega (arith, some)); within = omega arith; longest = ends.none };
-      is = rw here refl
-    })
+    let here = ne_eqb from (length text) (λ same. absurd (omega (arith, same, ends.within))) in (
+      from,
+      0,
+      record {
+        stands = record { skipped = ends.skipped; lexeme = λ some. absurd (omega (arith, some)); within = omega arith; longest = ends.none };
+        is = rw here refl;
+      },
+    )
 ending_comes text at (Some (faults.Number from)) ends =
     (from, ends.0 - from, lexeme_comes text at from ends.0 (AnEnd (Some (faults.Number from))) ends.1 (class_of_great from (slice_range text from ends.0) ends.2))
 ending_comes text at (Some (faults.Name from)) ends =
@@ -111,7 +116,7 @@ one_way text at (token ∷ tokens) [] ending other reads reads' =
     absurd (cc known)
 one_way text at (token ∷ tokens) (first ∷ others) ending other reads reads' =
     let same = comes_once text at token.span.from (token.span.to - token.span.from) first.span.from (first.span.to - first.span.from) (AToken token.kind) (AToken first.kind)
-        (token_comes text at token reads.0) (token_comes text at first reads'.0) in
+    (token_comes text at token reads.0) (token_comes text at first reads'.0) in
     let known : AToken token.kind ≡ AToken first.kind = same.2 in
     let kind : token.kind ≡ first.kind = cc known in
     let to : token.span.to ≡ first.span.to = omega (arith, same.0, same.1, reads.0.lexeme.some, reads'.0.lexeme.some) in
@@ -153,9 +158,9 @@ has_one_fault text fault other has has' apart apart' =
     elim (cases_lt 65536 (length text)) [
       | inl long ↦ long_fault text fault has apart long ∙ sym (long_fault text other has' apart' long)
       | inr short ↦
-        let one = fault_ends_reading text fault has apart short in
-        let two = fault_ends_reading text other has' apart' short in
-        let same = one_way text 0 one.0 two.0 (Some fault) (Some other) one.1 two.1 in
-        let known : Some fault ≡ Some other = same.1 in
-        cc known
+          let one = fault_ends_reading text fault has apart short in
+          let two = fault_ends_reading text other has' apart' short in
+          let same = one_way text 0 one.0 two.0 (Some fault) (Some other) one.1 two.1 in
+          let known : Some fault ≡ Some other = same.1 in
+          cc known
     ]

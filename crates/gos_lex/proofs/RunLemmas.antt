@@ -1,13 +1,12 @@
 -- The longest name and the longest numeral at the front of a text are runs of bytes of one class.
-use Rattle.std.proofs.Common.{◌≡◌, ℕ, zero, suc, ◌+◌, ◌<◌, ◌≤◌, Bool, true, false, ◌&&◌, ◌||◌, cond, List, [], ◌∷◌, length, take, get_or, nat_eq, refl, sym, ◌∙◌, ap, subst, arith, IsTrue}
+use Rattle.std.proofs.Common.{◌≡◌, ℕ, zero, suc, ◌+◌, ◌<◌, ◌≤◌, Bool, true, false, ◌&&◌, ◌||◌, cond, List, [], ◌∷◌, length, take, get_or, nat_eq, refl, sym, ◌∙◌, subst, arith, IsTrue}
 use Rattle.std.specs.List.{list_all, prefix_len}
 use Rattle.std.specs.Char.{is_ascii_digit}
 use Rattle.std.proofs.lemmas.List.Sums.{prefix_len-le-length}
 use Rattle.gos_lex.specs.Bytes.{begins_name, continues_name}
 use Rattle.gos_lex.specs.Names.{spells_name}
-use Rattle.gos_lex.specs.Numerals.{is_numeral}
 use Rattle.gos_lex.specs.Signs.{is_sign}
-use Rattle.gos_lex.specs.Lexemes.{is_lexeme, IsLongest}
+use Rattle.gos_lex.specs.Lexemes.{is_lexeme}
 
 -- each byte of the run passes
 pub run_passes : (p : ℕ → Bool) (text : List ℕ) → list_all p (take (prefix_len p text) text) ≡ true
@@ -30,9 +29,10 @@ run_longest p (b ∷ text) (suc n) within all = here (p b) (run_longest p text n
     here true bound rest = omega (arith, bound rest)
     here false bound rest = absurd (cc)
 
--- what the scanner takes at the front of a text
-abbrev pub TakesLongest : ℕ → List ℕ → Type 0
-TakesLongest len text = (len ≤ length text) × (0 < len → IsTrue (is_lexeme (take len text))) × IsLongest len text
+-- `len` bytes at the front of the text pass the test, and no more
+abbrev pub TakesLongest : (List ℕ → Bool) → ℕ → List ℕ → Type 0
+TakesLongest test len text =
+    (len ≤ length text) × (0 < len → IsTrue (test (take len text))) × ((n : ℕ) → n ≤ length text → IsTrue (test (take n text)) → n ≤ len)
 
 no_digit : (b : ℕ) → begins_name b ≡ true → is_ascii_digit b ≡ false
 no_digit b h = grind arith
@@ -95,27 +95,33 @@ numeral_lexeme b bytes h =
     other_class (begins_name b) (is_ascii_digit b) (is_sign (b ∷ bytes)) (list_all continues_name bytes) (list_all is_ascii_digit bytes)
     (digit_no_name b h) h (digit_no_sign b bytes h)
 
--- a run of one class is taken whole, where all lexemes at the front are runs of that class
-longest_run : (p : ℕ → Bool) (b : ℕ) (bytes : List ℕ) → ((rest : List ℕ) → is_lexeme (b ∷ rest) ≡ list_all p (b ∷ rest)) → TakesLongest (prefix_len p (b ∷ bytes)) (b ∷ bytes)
-longest_run p b bytes class =
+-- a run of one class is taken whole, where what passes at the front are runs of that class
+longest_run : (test : List ℕ → Bool) (p : ℕ → Bool) (b : ℕ) (bytes : List ℕ) → ((rest : List ℕ) → test (b ∷ rest) ≡ list_all p (b ∷ rest)) → TakesLongest test (prefix_len p (b ∷ bytes)) (b ∷ bytes)
+longest_run test p b bytes class =
     (prefix_len-le-length p (b ∷ bytes), λ some. front (prefix_len p (b ∷ bytes)) some ∙ run_passes p (b ∷ bytes), longest)
   where
-    front : (n : ℕ) → 0 < n → is_lexeme (take n (b ∷ bytes)) ≡ list_all p (take n (b ∷ bytes))
+    front : (n : ℕ) → 0 < n → test (take n (b ∷ bytes)) ≡ list_all p (take n (b ∷ bytes))
     front zero some = absurd (omega (arith, some))
     front (suc n) some = class (take n bytes)
 
-    longest : IsLongest (prefix_len p (b ∷ bytes)) (b ∷ bytes)
-    longest zero within lexeme = omega arith
-    longest (suc n) within lexeme = run_longest p (b ∷ bytes) (suc n) within (sym (class (take n bytes)) ∙ lexeme)
+    longest : (n : ℕ) → n ≤ length (b ∷ bytes) → IsTrue (test (take n (b ∷ bytes))) → n ≤ prefix_len p (b ∷ bytes)
+    longest zero within passes = omega arith
+    longest (suc n) within passes = run_longest p (b ∷ bytes) (suc n) within (sym (class (take n bytes)) ∙ passes)
 
-pub name_run : (text : List ℕ) (len : ℕ) → 0 < length text → begins_name (get_or text 0 0) ≡ true → len ≡ prefix_len continues_name text → TakesLongest len text
+pub name_run : (text : List ℕ) (len : ℕ) → 0 < length text → begins_name (get_or text 0 0) ≡ true → len ≡ prefix_len continues_name text → TakesLongest is_lexeme len text
 name_run [] len some first is = absurd (omega (arith, some))
 name_run (b ∷ bytes) len some first is =
-    let P : ℕ → Type 0 = λ n. TakesLongest n (b ∷ bytes) in
-    subst P (sym is) (longest_run continues_name b bytes (λ rest. name_lexeme b rest first))
+    let P : ℕ → Type 0 = λ n. TakesLongest is_lexeme n (b ∷ bytes) in
+    subst P (sym is) (longest_run is_lexeme continues_name b bytes (λ rest. name_lexeme b rest first))
 
-pub digit_run : (text : List ℕ) (len : ℕ) → 0 < length text → is_ascii_digit (get_or text 0 0) ≡ true → len ≡ prefix_len is_ascii_digit text → TakesLongest len text
+pub spelled_run : (text : List ℕ) (len : ℕ) → 0 < length text → begins_name (get_or text 0 0) ≡ true → len ≡ prefix_len continues_name text → TakesLongest spells_name len text
+spelled_run [] len some first is = absurd (omega (arith, some))
+spelled_run (b ∷ bytes) len some first is =
+    let P : ℕ → Type 0 = λ n. TakesLongest spells_name n (b ∷ bytes) in
+    subst P (sym is) (longest_run spells_name continues_name b bytes (λ rest. rw first refl))
+
+pub digit_run : (text : List ℕ) (len : ℕ) → 0 < length text → is_ascii_digit (get_or text 0 0) ≡ true → len ≡ prefix_len is_ascii_digit text → TakesLongest is_lexeme len text
 digit_run [] len some first is = absurd (omega (arith, some))
 digit_run (b ∷ bytes) len some first is =
-    let P : ℕ → Type 0 = λ n. TakesLongest n (b ∷ bytes) in
-    subst P (sym is) (longest_run is_ascii_digit b bytes (λ rest. numeral_lexeme b rest first))
+    let P : ℕ → Type 0 = λ n. TakesLongest is_lexeme n (b ∷ bytes) in
+    subst P (sym is) (longest_run is_lexeme is_ascii_digit b bytes (λ rest. numeral_lexeme b rest first))

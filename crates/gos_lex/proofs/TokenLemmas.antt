@@ -1,12 +1,14 @@
 -- From what the scanner takes at a place to what stands there.
-use Rattle.std.proofs.Common.{◌≡◌, ℕ, ◌+◌, ◌-◌, ◌<◌, ◌≤◌, List, length, take, drop, sym, ◌∙◌, ap, subst, arith, length-drop, IsTrue, Option, Some, [], ◌++◌, append-nil}
+use Rattle.std.proofs.Common.{◌≡◌, ℕ, ◌+◌, ◌-◌, ◌<◌, ◌≤◌, List, length, take, drop, sym, subst, arith, length-drop, IsTrue, Option, Some, [], ◌∷◌, ◌++◌, append-nil}
 use Rattle.std.specs.List.{slice_range}
+use Rattle.std.specs.Prelude.{All}
+use Rattle.std.proofs.lemmas.List.Elements.{All-nil, All-cons}
 use Rattle.gos_lex.specs.declared.fault.LexFault.{LexFault}
 use Rattle.gos_lex.specs.declared.fault.LexFault.TheVariants as faults
 use Rattle.gos_lex.specs.Lexemes.{is_lexeme, IsLongest}
 use Rattle.gos_lex.specs.Gaps.{IsSkipped}
 use Rattle.gos_lex.specs.declared.token.Token.{Token}
-use Rattle.gos_lex.specs.Tokens.{HasLexeme, IsTooGreat, IsTooLong, IsLexemeFault, EndsWith, Reads, HasFault}
+use Rattle.gos_lex.specs.Tokens.{HasLexeme, IsTooGreat, IsTooLong, IsLexemeFault, StandsIn, EndsWith, Reads, HasFault}
 use Rattle.gos_lex.proofs.PlaceLemmas.{rest_whole}
 
 -- the longest lexeme at the front of the rest stands in the text
@@ -51,3 +53,11 @@ fault_found text at read (faults.Number place) short onward ends = (short, read,
 fault_found text at read (faults.Name place) short onward ends = (short, read, all_read text at read (Some (faults.Name place)) onward ends)
 fault_found text at read (faults.TooLong len) short onward ends = absurd ends
 fault_found text at read faults.NoMemory short onward ends = absurd ends
+
+-- each token that is read stands in the text
+pub tokens_stand : (text : List ℕ) (at : ℕ) (tokens : List Token) (ending : Option LexFault) → Reads text at tokens ending → All (StandsIn text) tokens
+tokens_stand text at [] ending reads = All-nil (StandsIn text)
+tokens_stand text at (token ∷ tokens) ending reads =
+    All-cons (StandsIn text) token tokens
+    (record { some = reads.0.lexeme.some; within = reads.0.lexeme.within; kind = reads.0.kind })
+    (tokens_stand text token.span.to tokens ending reads.1)

@@ -4,6 +4,7 @@ use Rattle.std.specs.List.{slice_range}
 use Rattle.gos_lex.specs.Bytes.{is_blank}
 
 -- The bytes before `rest` are blanks and whole comments. The flag says that they begin inside a comment.
+-- 35 is `#`, and 10 a line feed. A comment that ends with no line feed ends with the text.
 abbrev pub IsGap : Bool → List ℕ → List ℕ → Type 0
 IsGap false [] rest = Unit {0}
 IsGap false (b ∷ gap) rest = (IsTrue (is_blank b) × IsGap false gap rest) ⊎ ((b ≡ 35) × IsGap true gap rest)

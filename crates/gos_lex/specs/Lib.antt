@@ -8,3 +8,5 @@ pub mod Lexemes
 pub mod Gaps
 pub mod Tokens
 pub mod OneReading
+pub mod Items
+pub mod Decimals

@@ -8,7 +8,7 @@ abbrev pub is_numeral : List ℕ → Bool
 is_numeral [] = false
 is_numeral (b ∷ bytes) = is_ascii_digit b && list_all is_ascii_digit bytes
 
--- the number that these digits write when they follow those of `n`
+-- the number that these digits write (48 is `0`) when they follow those of `n`
 abbrev pub value_after : ℕ → List ℕ → ℕ
 value_after n [] = n
 value_after n (b ∷ bytes) = value_after (10 * n + (b - 48)) bytes

@@ -58,6 +58,12 @@ pub record IsNext (text : List ℕ) (at : ℕ) (token : Token) : Type 0 where
   pub lexeme : HasLexeme text at token.span.from token.span.to
   pub kind : IsOfKind (slice_range text token.span.from token.span.to) token.kind
 
+-- a token of the text: its place lies within, and its bytes are of its kind
+pub record StandsIn (text : List ℕ) (token : Token) : Type 0 where
+  pub some : token.span.from < token.span.to
+  pub within : token.span.to ≤ length text
+  pub kind : IsOfKind (slice_range text token.span.from token.span.to) token.kind
+
 -- what comes in place of a token: the end of the text, or the first fault
 abbrev pub EndsWith : List ℕ → ℕ → Option LexFault → Type 0
 EndsWith text at None = IsSkipped text at (length text)

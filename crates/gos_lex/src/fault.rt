@@ -4,7 +4,7 @@ use std::alloc::{AllocError, AllocFailed};
 use thiserror::Error;
 
 /// Why `scan` refuses a text. Places count bytes from 0.
-#[derive(Debug, Drop, Error)]
+#[derive(Debug, Drop, Error, PartialEq, Eq)]
 pub enum LexFault {
     /// The text has `len` bytes, more than 65,536. This comes before all others.
     #[error("the text has {len} bytes")]
@@ -18,7 +18,7 @@ pub enum LexFault {
     /// At `at` begins a name of more than 255 bytes.
     #[error("the name at {at} is too long")]
     Name { at: usize },
-    /// Memory was refused.
+    /// Memory was refused. This says nothing of the text.
     #[error("out of memory")]
     NoMemory,
 }

@@ -10,7 +10,7 @@ ghost use Rattle.gos_lex.specs.Lexemes.{is_lexeme, IsLongest};
 ghost use Rattle.gos_lex.specs.Tokens.{IsOfKind, IsLexemeFault};
 
 use crate::fault::LexFault;
-use crate::name::{MAX_NAME, begins_name, continues_name, spells_name};
+use crate::name::{MAX_NAME, begins_name, name_bytes, spells_name};
 use crate::numeral::number_of;
 use crate::sign::{sign_len, sign_of};
 use crate::token::TokenKind;
@@ -27,13 +27,6 @@ pub(crate) fn lexeme_len(text: &[u8]) -> usize
         [b, ..] if b.is_ascii_digit() => digits(text),
         _ => sign_len(text),
     }
-}
-
-// How many bytes at the front of the text a name may go on with.
-fn name_bytes(text: &[u8]) -> usize
-    ensures { result ≡ prefix_len continues_name text.now }
-{
-    text.iter().take_while(|b| continues_name(**b)).count()
 }
 
 // How many digits stand at the front of the text.

@@ -2,18 +2,21 @@
 //
 // The source language is read with `scan`: it gives the tokens with their places, or the first fault with its place.
 // `one_reading` says that a text reads in at most one way, so that `Ok` and `Err` exclude one another.
-// The machine formats are read with `Cursor`, which takes no memory.
+// The machine formats are read with `Cursor`, which takes no memory; `one_place` says that its `Err` is one place alone.
 // What a token is stands in specs/Tokens.antt, and the classes of bytes, names, numerals and signs in the files that it uses.
 #![tactic(auto)]
 
+pub use cursor::Cursor;
 pub use fault::LexFault;
-pub use law::one_reading;
+pub use law::{one_place, one_reading};
 pub use name::{Name, is_name, is_name_or_word};
 pub use scanner::scan;
 pub use sign::Sign;
 pub use token::{Span, Token, TokenKind};
 pub use word::Word;
 
+mod cursor;
+mod decimal;
 mod fault;
 mod gap;
 mod law;
@@ -22,5 +25,7 @@ mod name;
 mod numeral;
 mod scanner;
 mod sign;
+#[cfg(test)]
+mod tests;
 mod token;
 mod word;

@@ -1,9 +1,10 @@
 // Names, as the source language and the machine formats have them.
 
-ghost use Rattle.std.specs.Prelude.{◌≡◌, ◌&&◌, ◌↔◌, IsTrue, IfOk, IfErr};
-ghost use Rattle.std.specs.List.{list_all};
+ghost use Rattle.std.specs.Prelude.{◌≡◌, ℕ, ◌-◌, ◌<◌, ◌≤◌, ◌&&◌, ◌↔◌, length, take, IsTrue, IfOk, IfErr, OnErr};
+ghost use Rattle.std.specs.List.{list_all, prefix_len, slice_range};
 ghost use Rattle.gos_lex.specs.Bytes.{begins_name, continues_name};
-ghost use Rattle.gos_lex.specs.Names.{spells_name, IsName, IsNameOrWord};
+ghost use Rattle.gos_lex.specs.Names.{spells_name, IsSpelled, IsName, IsNameOrWord};
+ghost use Rattle.gos_lex.specs.Items.{Passes, StopsAt};
 
 use crate::fault::LexFault;
 use crate::word::word_of;
@@ -98,6 +99,43 @@ pub fn is_name_or_word(bytes: &[u8]) -> bool
     ensures { IsTrue result ↔ IsNameOrWord bytes.now }
 {
     bytes.len() <= MAX_NAME && spells_name(bytes)
+}
+
+// Where the longest name at `at` ends, if it has at most 255 bytes, and else the first byte that can't belong to one.
+pub(crate) fn name_end(text: &[u8], at: usize) -> Result<usize, usize>
+    requires { at ≤ length text.now }
+    ensures passes { IfOk result (Passes IsSpelled text.now at) }
+    ensures name { IfOk result (λ to. IsNameOrWord (slice_range text.now at to)) }
+    ensures wrong { IfErr result (StopsAt IsNameOrWord text.now at) }
+    ensures none { OnErr result ((to : ℕ) → Passes IsSpelled text.now at to → 255 < to - at) }
+{
+    let len = name_len(&text[at..]);
+    if len == 0 {
+        Err(at)
+    } else if len <= MAX_NAME {
+        Ok(at + len)
+    } else {
+        Err(at + MAX_NAME)
+    }
+}
+
+// How many bytes the longest name at the front of the text has, however long it is; 0 where none begins.
+fn name_len(text: &[u8]) -> usize
+    ensures within { result ≤ length text.now }
+    ensures name { 0 < result → IsSpelled (take result text.now) }
+    ensures longest { (n : ℕ) → n ≤ length text.now → IsSpelled (take n text.now) → n ≤ result }
+{
+    match text {
+        [first, ..] if begins_name(*first) => name_bytes(text),
+        _ => 0,
+    }
+}
+
+// How many bytes at the front of the text a name may go on with.
+pub(crate) fn name_bytes(text: &[u8]) -> usize
+    ensures { result ≡ prefix_len continues_name text.now }
+{
+    text.iter().take_while(|b| continues_name(**b)).count()
 }
 
 // Whether the bytes are a letter or `_`, then letters, digits and `_`, of any length.

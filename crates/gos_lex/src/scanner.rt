@@ -1,7 +1,7 @@
 // The tokens of a text, one after another.
 
-ghost use Rattle.std.specs.Prelude.{◌≡◌, ◌≤◌, length, IfOk, IfErr, MatchOption, Some, None};
-ghost use Rattle.gos_lex.specs.Tokens.{EndsWith, IsNext, Reads, HasFault};
+ghost use Rattle.std.specs.Prelude.{◌≡◌, ◌≤◌, length, IfOk, IfErr, MatchOption, Some, None, All};
+ghost use Rattle.gos_lex.specs.Tokens.{EndsWith, IsNext, StandsIn, Reads, HasFault};
 
 use crate::fault::LexFault;
 use crate::gap::gap_end;
@@ -14,10 +14,12 @@ const MAX_TEXT: usize = 65_536;
 
 /// The tokens of the text in order, with their places.
 ///
-/// `Err` is `TooLong` where the text has more than 65,536 bytes, and else the fault that comes first in the text.
+/// `Err` is `TooLong` where the text has more than 65,536 bytes, and else the fault that comes first in the text, or want
+/// of memory.
 pub fn scan(alloc: Global, text: &[u8]) -> Result<Vec<Token>, LexFault>
     ensures length { IfOk result (λ _. length text.now ≤ 65536) }
     ensures tokens { IfOk result (λ tokens. Reads text.now 0 tokens.items None) }
+    ensures each { IfOk result (λ tokens. All (StandsIn text.now) tokens.items) }
     ensures fault { IfErr result (HasFault text.now) }
 {
     if text.len() > MAX_TEXT {

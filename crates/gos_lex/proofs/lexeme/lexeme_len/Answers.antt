@@ -1,4 +1,4 @@
-use Rattle.std.proofs.Common.{◌≡◌, ◌<◌, length, true, get_or, sym, ◌∙◌, arith}
+use Rattle.std.proofs.Common.{sym, ◌∙◌, arith}
 use Rattle.gos_lex.proofs.RunLemmas.{name_run, digit_run}
 use Rattle.gos_lex.proofs.lexeme.lexeme_len.Goals as goal
 

@@ -1,4 +1,4 @@
-use Rattle.std.proofs.Common.{◌≡◌, ◌+◌, ◌<◌, length, arith, Some}
+use Rattle.std.proofs.Common.{◌+◌, arith}
 use Rattle.std.proofs.lemmas.Result.{err_from_is_err_and}
 use Rattle.gos_lex.proofs.TokenLemmas.{lexeme_here, fault_ends}
 use Rattle.gos_lex.proofs.scanner.next_token.Goals as goal
