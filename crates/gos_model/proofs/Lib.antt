@@ -5,3 +5,4 @@ mod ModuleLemmas
 pub mod ReachLemmas
 mod PathLemmas
 mod TypingLemmas
+pub mod PassLemmas

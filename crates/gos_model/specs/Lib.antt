@@ -17,6 +17,7 @@ pub mod Flattening
 pub mod Protocol
 pub mod Pace
 pub mod Seen
+pub mod Passes
 pub mod SmallPrograms
 pub mod SmallModules
 pub mod SmallNets

@@ -8,9 +8,11 @@
 
 mod laws;
 mod nets;
+mod passes;
 mod printing;
 
 pub use laws::{
     reached_places, sequences, small_modules, small_nets, small_traces, types_of_terms,
 };
+pub use passes::{SettleFault, settle};
 pub use printing::print_net;
