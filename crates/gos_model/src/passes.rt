@@ -12,7 +12,7 @@ use thiserror::Error;
 /// Why a netlist was not settled.
 #[derive(Debug, Drop, Error)]
 pub enum SettleFault {
-    /// As many passes as there are cells, and the values still change.
+    /// After one pass more than there are cells the values still change.
     #[error("the values do not settle")]
     Unsettled,
     /// There was no memory left.
@@ -42,7 +42,8 @@ impl From<AllocError> for SettleFault {
     }
 }
 
-/// The values of all nets in a cycle with these registers and inputs, by as many passes as there are cells.
+/// The values of all nets in a cycle with these registers and inputs, by one pass more than there are cells.
+#[tactic(auto, using(crate::proofs::PassLemmas::narrow))]
 pub fn settle(
     alloc: Global,
     net: &Netlist,
@@ -51,18 +52,32 @@ pub fn settle(
 ) -> Result<Vec<u64>, SettleFault>
     requires { All (λ c. c.width ≤ 64) net.now.cells }
     ensures settled { IfOk result (λ values. Settling net.now.cells registers.now inputs.now values.items) }
-    ensures unsettled { IsErrOf result SettleFault.Unsettled → Settling net.now.cells registers.now inputs.now (after_passes (length net.now.cells) net.now.cells registers.now inputs.now) → ⊥ }
+    ensures unsettled { IsErrOf result SettleFault.Unsettled → Settling net.now.cells registers.now inputs.now (after_passes (length net.now.cells + 1) net.now.cells registers.now inputs.now) → ⊥ }
 {
-    let mut values = vec![in alloc; 0u64; net.cells.len()]?;
-    for _ in 0..net.cells.len() {
-        values = next_values(alloc, &net.cells, registers, inputs, &values)?;
-    }
+    let values = passed(alloc, &net.cells, registers, inputs)?;
     let next = next_values(alloc, &net.cells, registers, inputs, &values)?;
     if next == values {
         Ok(values)
     } else {
         Err(SettleFault::Unsettled)
     }
+}
+
+// The values after one pass more than there are cells, from all 0.
+fn passed(
+    alloc: Global,
+    cells: &[Cell],
+    registers: &[u64],
+    inputs: &[u64],
+) -> Result<Vec<u64>, NoMemory>
+    requires { All (λ c. c.width ≤ 64) cells.now }
+    ensures { IfOk result (λ values. values.items ≡ after_passes (length (map cell_of cells.now) + 1) (map cell_of cells.now) registers.now inputs.now) }
+{
+    let mut values = vec![in alloc; 0u64; cells.len()]?;
+    for _ in 0..cells.len() {
+        values = next_values(alloc, cells, registers, inputs, &values)?;
+    }
+    next_values(alloc, cells, registers, inputs, &values)
 }
 
 // What all cells show, where the nets have these values.
