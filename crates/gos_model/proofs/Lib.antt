@@ -6,3 +6,5 @@ pub mod ReachLemmas
 mod PathLemmas
 mod TypingLemmas
 pub mod PassLemmas
+pub mod RepeatLemmas
+pub mod ChangeLemmas

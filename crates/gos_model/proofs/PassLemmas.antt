@@ -76,10 +76,10 @@ settled cells regs ins next values e same =
     let equal : next ≡ values = (bytes_eq-Decides next values).0 (sym same) in
     settling_of_pass cells regs ins values (sym e ∙ equal)
 
--- and where it changed something, they are not
+-- and where it gave other values, it changed something
 pub unsettled : (cells : List Cell) (regs ins next values : Numbers) → next ≡ pass cells regs ins values → false ≡ bytes_eq next values
-    → Settling cells regs ins values → ⊥
-unsettled cells regs ins next values e differ settles =
-    let equal : bytes_eq next values ≡ true = (bytes_eq-Decides next values).1 (e ∙ pass_of_settling cells regs ins values settles) in
+    → pass cells regs ins values ≡ values → ⊥
+unsettled cells regs ins next values e differ same =
+    let equal : bytes_eq next values ≡ true = (bytes_eq-Decides next values).1 (e ∙ same) in
     let no : false ≡ true = differ ∙ equal in
     cc

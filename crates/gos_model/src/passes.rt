@@ -2,6 +2,7 @@
 ghost use Rattle.std.specs.Prelude.{◌≡◌, ◌<◌, ◌≤◌, ◌+◌, ◌-◌, ◌%◌, ◌^◌, All, IsErrOf, IfOk, map, length, nat_eq, if◌then◌else◌};
 ghost use Rattle.gos_model.specs.Seen.{cell_of, function_of, number_of};
 ghost use Rattle.gos_model.specs.Settling.{Settling, at, shown};
+ghost use Rattle.gos_model.specs.Cycles.{HasCycle};
 ghost use Rattle.gos_model.specs.Passes.{pass, after_passes};
 
 use crate::nets::{Cell, Gate, NetId, Netlist};
@@ -12,7 +13,7 @@ use thiserror::Error;
 /// Why a netlist was not settled.
 #[derive(Debug, Drop, Error)]
 pub enum SettleFault {
-    /// After one pass more than there are cells the values still change.
+    /// The values would change for ever: there is a combinational cycle.
     #[error("the values do not settle")]
     Unsettled,
     /// There was no memory left.
@@ -52,7 +53,7 @@ pub fn settle(
 ) -> Result<Vec<u64>, SettleFault>
     requires { All (λ c. c.width ≤ 64) net.now.cells }
     ensures settled { IfOk result (λ values. Settling net.now.cells registers.now inputs.now values.items) }
-    ensures unsettled { IsErrOf result SettleFault.Unsettled → Settling net.now.cells registers.now inputs.now (after_passes (length net.now.cells + 1) net.now.cells registers.now inputs.now) → ⊥ }
+    ensures unsettled { IsErrOf result SettleFault.Unsettled → HasCycle net.now.cells }
 {
     let values = passed(alloc, &net.cells, registers, inputs)?;
     let next = next_values(alloc, &net.cells, registers, inputs, &values)?;
