@@ -7,4 +7,4 @@ mod PathLemmas
 mod TypingLemmas
 pub mod PassLemmas
 pub mod RepeatLemmas
-pub mod ChangeLemmas
+pub mod SettlingLemmas

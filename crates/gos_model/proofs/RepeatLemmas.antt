@@ -111,10 +111,12 @@ cycle_or_apart cells (a ∷ ns) z chain = from_tail (cycle_or_apart cells ns z (
     tail : (ns : List ℕ) → Chain cells (a ∷ ns) z → Chain cells ns z
     tail [] chain = tt
     tail (b ∷ ns) chain = chain.1
+
     at_head : Apart (ns ++ z ∷ []) → Meeting cells a a (ns ++ z ∷ []) ⊎ Away a (ns ++ z ∷ [])
         → ((cycle : List ℕ) × CombinationalCycle cells cycle) ⊎ Apart (a ∷ ns ++ z ∷ [])
     at_head apart (inl m) = inl (a ∷ m.before, (distinct (a ∷ m.before) (m.away, m.apart), m.chain))
     at_head apart (inr away) = inr (away, apart)
+
     from_tail : ((cycle : List ℕ) × CombinationalCycle cells cycle) ⊎ Apart (ns ++ z ∷ [])
         → ((cycle : List ℕ) × CombinationalCycle cells cycle) ⊎ Apart (a ∷ ns ++ z ∷ [])
     from_tail (inl cycle) = inl cycle

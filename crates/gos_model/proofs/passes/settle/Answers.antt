@@ -4,7 +4,7 @@ use Rattle.gos_model.specs.Seen.{cell_of}
 use Rattle.gos_model.specs.Settling.{Settling}
 use Rattle.gos_model.specs.Passes.{pass, after_passes}
 use Rattle.gos_model.proofs.PassLemmas.{settled, unsettled}
-use Rattle.gos_model.proofs.ChangeLemmas.{unsettled_has_cycle}
+use Rattle.gos_model.proofs.SettlingLemmas.{unsettled_has_cycle}
 use Rattle.gos_model.proofs.passes.settle.Goals as goal
 
 pub returns-then-eq-clause-settled : goal.returns-then-eq-clause-settled
