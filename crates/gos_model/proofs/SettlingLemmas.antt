@@ -2,7 +2,7 @@
 --
 -- Take two sequences of values, each of which follows its own passes. A net in which they differ after a pass has a
 -- pin in which they differed before it. So behind a late difference stands a long chain, and in it a cycle.
-use Rattle.std.specs.Prelude.{◌≡◌, ◌≢◌, ℕ, zero, suc, ◌+◌, ◌<◌, ◌≤◌, Bool, true, false, ◌⊎◌, List, [], ◌∷◌, length, Contains, Option, Some, None, slice_get, bit_and, bit_or, bit_xor, nat_eq, nat_lt, if◌then◌else◌, ◌-◌, ◌^◌, ◌%◌}
+use Rattle.std.specs.Prelude.{◌≡◌, ◌≢◌, ℕ, zero, suc, ◌+◌, ◌<◌, ◌≤◌, Bool, true, false, ◌⊎◌, List, [], ◌∷◌, length, Contains, Some, None, slice_get, bit_and, bit_or, bit_xor, nat_eq, nat_lt, if◌then◌else◌, ◌-◌, ◌^◌, ◌%◌}
 use Rattle.std.specs.Str.{bytes_eq}
 use Rattle.std.proofs.lemmas.Slice.Eq.{bytes_eq-Decides}
 use Rattle.std.proofs.Common.{arith, refl, sym, ap, subst, inl, inr, ◌∙◌, add-one}

@@ -1,4 +1,6 @@
 // The slow programs on the latch: a circuit that shows `done` from the cycle after `run` on.
+ghost use Rattle.std.specs.Prelude.{◌≡◌, ◌≤◌, All, IfOk};
+
 use crate::laws;
 use crate::nets::{Cell, Gate, Ground, NetId, Netlist, Port, Side};
 use crate::passes::{SettleFault, settle};
@@ -12,16 +14,9 @@ fn bit(gate: Gate) -> Cell
     Cell { width: 1, gate }
 }
 
-fn cells_of_latch(alloc: Global) -> Result<Vec<Cell>, AllocError> {
-    vec![in alloc;
-        bit(Gate::Input),
-        bit(Gate::Or(NetId(0), NetId(2))),
-        bit(Gate::Reg(NetId(1))),
-        bit(Gate::Reg(NetId(1))),
-    ]
-}
-
-fn latch(alloc: Global) -> Result<Netlist, AllocError> {
+fn latch(alloc: Global) -> Result<Netlist, AllocError>
+    ensures { IfOk result (λ net. All (λ c. c.width ≤ 64) net.cells) }
+{
     let name = b"main".to_vec(alloc)?;
     let nets = vec![in alloc; NetId(0), NetId(3)]?;
     let port = Port {
@@ -31,7 +26,12 @@ fn latch(alloc: Global) -> Result<Netlist, AllocError> {
         nets,
     };
     let ports = vec![in alloc; port]?;
-    let cells = cells_of_latch(alloc)?;
+    let cells = vec![in alloc;
+        bit(Gate::Input),
+        bit(Gate::Or(NetId(0), NetId(2))),
+        bit(Gate::Reg(NetId(1))),
+        bit(Gate::Reg(NetId(1))),
+    ]?;
     Ok(Netlist { cells, ports })
 }
 

@@ -1,7 +1,4 @@
-use Rattle.std.proofs.Common.{◌≡◌, ◌+◌, map, length, ap, sym, ◌∙◌, subst, List, ℕ}
-use Rattle.gos_model.specs.Nets.{Cell}
-use Rattle.gos_model.specs.Seen.{cell_of}
-use Rattle.gos_model.specs.Settling.{Settling}
+use Rattle.std.proofs.Common.{◌≡◌, ◌+◌, length, ap, ◌∙◌, subst, List, ℕ}
 use Rattle.gos_model.specs.Passes.{pass, after_passes}
 use Rattle.gos_model.proofs.PassLemmas.{settled, unsettled}
 use Rattle.gos_model.proofs.SettlingLemmas.{unsettled_has_cycle}
