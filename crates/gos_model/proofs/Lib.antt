@@ -8,3 +8,4 @@ mod TypingLemmas
 pub mod PassLemmas
 pub mod RepeatLemmas
 pub mod SettlingLemmas
+pub mod SmallPaceLemmas

@@ -21,4 +21,5 @@ pub mod Passes
 pub mod SmallPrograms
 pub mod SmallModules
 pub mod SmallNets
+pub mod SmallPace
 pub mod Laws

@@ -2,6 +2,7 @@
 ghost use Rattle.gos_model.specs.Laws.{AcyclicSettles, AcyclicSettlesOnce, NodeHasType, OneType, StepsHavePaths};
 ghost use Rattle.gos_model.specs.SmallModules.{Weights, Types, Shared, Links};
 ghost use Rattle.gos_model.specs.SmallNets.{LatchRuns, LatchText, LoopedGates};
+ghost use Rattle.gos_model.specs.SmallPace.{SkipKeepsPace};
 ghost use Rattle.gos_model.specs.SmallPrograms.{
   SeqRuns,
   SeqWaits,
@@ -59,4 +60,9 @@ pub fn reached_places()
 pub fn settlings()
     ensures some { AcyclicSettles }
     ensures one { AcyclicSettlesOnce }
+{}
+
+/// The circuit of `skip` keeps pace with it, for every list of inputs.
+pub fn keeping_pace()
+    ensures { SkipKeepsPace }
 {}

@@ -15,7 +15,8 @@ mod printing;
 mod tests;
 
 pub use laws::{
-    reached_places, sequences, small_modules, small_nets, small_traces, types_of_terms,
+    keeping_pace, reached_places, sequences, small_modules, small_nets, small_traces,
+    types_of_terms,
 };
 pub use passes::{SettleFault, settle};
 pub use printing::print_net;

@@ -88,5 +88,6 @@ fn laws_return(rt: HostRuntime) {
     laws::types_of_terms();
     laws::reached_places();
     laws::settlings();
+    laws::keeping_pace();
     assert!(rt; true);
 }
