@@ -5,3 +5,7 @@ mod ModuleLemmas
 pub mod ReachLemmas
 mod PathLemmas
 mod TypingLemmas
+pub mod PassLemmas
+pub mod RepeatLemmas
+pub mod SettlingLemmas
+pub mod SmallPaceLemmas

@@ -1,7 +1,7 @@
 -- Traces of small programs, move by move.
 use Rattle.std.specs.Prelude.{◌≡◌, ℕ, zero, suc, [], ◌∷◌}
 use Rattle.std.proofs.Common.{arith, refl, sym, subst, inl, inr}
-use Rattle.gos_model.specs.Terms.{Term, Skip, Import, Seq, Par, Wait, Lit, New, While, If, Bin, Eq, Deref, Bound, Assign, Loc, Scope, Held, Put}
+use Rattle.gos_model.specs.Terms.{Term, Skip, Import, Seq, Par, Wait, Lit, New, While, If, Bin, Eq, Deref, Assign, Loc, Scope, Held, Put}
 use Rattle.gos_model.specs.Substitution.{instantiate}
 use Rattle.gos_model.specs.Reach.{Unfolds}
 use Rattle.gos_model.specs.Stores.{Entry, Store}

@@ -1,8 +1,8 @@
 -- A typed term has the type that weighs it, and so one type alone.
-use Rattle.std.specs.Prelude.{◌≡◌, List, ◌∷◌}
+use Rattle.std.specs.Prelude.{◌∷◌}
 use Rattle.std.proofs.Common.{sym, ap, ◌∙◌}
-use Rattle.gos_types.specs.Types.{Type', Exp, Var, Pair, Fun}
-use Rattle.gos_model.specs.Terms.{Term, Skip, Lit, Bound, Import, Lam, App, Both, Fst, Snd, Seq, Par, If, While, Assign, Deref, New, Not, Bin}
+use Rattle.gos_types.specs.Types.{Exp, Var, Pair, Fun}
+use Rattle.gos_model.specs.Terms.{Skip, Lit, Bound, Import, Lam, App, Both, Fst, Snd, Seq, Par, If, While, Assign, Deref, New, Not, Bin}
 use Rattle.gos_model.specs.Weight.{node_type, or_com, after_fun, left_of, right_of, read_of, op_type}
 use Rattle.gos_model.specs.Laws.{NodeHasType, OneType}
 

@@ -29,3 +29,7 @@ Distinct (a ∷ ns) = (Contains ns a → ⊥) × Distinct ns
 abbrev pub CombinationalCycle : List Cell → List ℕ → Type 0
 CombinationalCycle cells [] = ⊥
 CombinationalCycle cells (a ∷ ns) = Distinct (a ∷ ns) × Chain cells (a ∷ ns) a
+
+-- the cells have a combinational cycle
+abbrev pub HasCycle : List Cell → Type 0
+HasCycle cells = (nets : List ℕ) × CombinationalCycle cells nets

@@ -17,7 +17,9 @@ pub mod Flattening
 pub mod Protocol
 pub mod Pace
 pub mod Seen
+pub mod Passes
 pub mod SmallPrograms
 pub mod SmallModules
 pub mod SmallNets
+pub mod SmallPace
 pub mod Laws

@@ -1,7 +1,7 @@
 -- Small netlists: a latch and its run, its text, and a ring of gates.
 --
 -- Read first: Settling, Cycles, Flattening, NetText.
-use Rattle.std.specs.Prelude.{◌≡◌, ℕ, List, [], ◌∷◌, codes}
+use Rattle.std.specs.Prelude.{◌≡◌, List, [], ◌∷◌, codes}
 use Rattle.gos_types.specs.Types.{Com}
 use Rattle.gos_model.specs.Labels.{given}
 use Rattle.gos_model.specs.Nets.{Netlist, Cell, Function, Input, Or, Reg, And, Give}

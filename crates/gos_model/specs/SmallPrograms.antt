@@ -1,7 +1,7 @@
 -- Small programs and their traces: what the definitions of moves say of them.
 --
 -- Read first: Moves, Weight. These show that the definitions are neither empty nor too wide.
-use Rattle.std.specs.Prelude.{◌≡◌, ℕ, List, [], ◌∷◌, codes}
+use Rattle.std.specs.Prelude.{◌≡◌, ℕ, [], ◌∷◌, codes}
 use Rattle.gos_types.specs.Types.{Com}
 use Rattle.gos_model.specs.Terms.{Name, Term, Import, Seq, Par, New, While, Bin, Eq, Deref, Bound, Lit, Assign, Loc, Scope, Wait}
 use Rattle.gos_model.specs.Substitution.{instantiate}

@@ -1,7 +1,8 @@
 // What the definitions say, in small. Each theorem is the contract of a function that does nothing.
-ghost use Rattle.gos_model.specs.Laws.{NodeHasType, OneType, StepsHavePaths};
+ghost use Rattle.gos_model.specs.Laws.{AcyclicSettles, AcyclicSettlesOnce, NodeHasType, OneType, StepsHavePaths};
 ghost use Rattle.gos_model.specs.SmallModules.{Weights, Types, Shared, Links};
 ghost use Rattle.gos_model.specs.SmallNets.{LatchRuns, LatchText, LoopedGates};
+ghost use Rattle.gos_model.specs.SmallPace.{SkipKeepsPace};
 ghost use Rattle.gos_model.specs.SmallPrograms.{
   SeqRuns,
   SeqWaits,
@@ -53,4 +54,15 @@ pub fn types_of_terms()
 /// A step at a reached place is a step at a path, both ways.
 pub fn reached_places()
     ensures { StepsHavePaths }
+{}
+
+/// Cells without a combinational cycle have exactly one settling for given registers and inputs.
+pub fn settlings()
+    ensures some { AcyclicSettles }
+    ensures one { AcyclicSettlesOnce }
+{}
+
+/// The circuit of `skip` keeps pace with it, for every list of inputs.
+pub fn keeping_pace()
+    ensures { SkipKeepsPace }
 {}
