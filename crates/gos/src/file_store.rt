@@ -1,12 +1,13 @@
 // The store of the program: the files of the system.
 //
 // It tells no contents. What a file of the system holds, and what another process does to it, is not ours to say.
-ghost use Rattle.std.specs.Prelude.{◌≡◌, ◌≤◌, length, None, IfOk};
+ghost use Rattle.std.specs.Prelude.{◌≡◌, ◌≤◌, length, IfOk};
 ghost use Rattle.gos_outside.specs.Faults.{NoFault};
 
 use gos_outside::{FaultLog, Store, StoreFault};
 use std::alloc::{AllocError, Global};
 use std::io::{ErrorKind, Read, Write};
+use std::marker::Model;
 use std::rt::Files;
 use std::{fs, io, str};
 
@@ -19,6 +20,15 @@ pub struct FileStore<'a, R: Files> {
     log: FaultLog,
 }
 
+impl<'a, R: Files> Model for FileStore<'a, R> {
+    ghost use Rattle.std.specs.Prelude.{ℕ};
+    ghost use Rattle.gos_outside.specs.Faults.{LastFault};
+
+    ghost Value = { ℕ × LastFault };
+
+    ghost view = { λ store. store.log };
+}
+
 impl<'a, R: Files> Drop for FileStore<'a, R> {
     fn drop(self) {
         let FileStore { rt: _, log: _ } = self;
@@ -28,8 +38,8 @@ impl<'a, R: Files> Drop for FileStore<'a, R> {
 impl<'a, R: Files> FileStore<'a, R> {
     /// The files that `rt` reaches; no call has failed.
     pub fn new(rt: &'a R) -> Self
-        ensures faults { result.log.0 ≡ 0 }
-        ensures last_fault { result.log.1 ≡ NoFault }
+        ensures faults { result.0 ≡ 0 }
+        ensures last_fault { result.1 ≡ NoFault }
     {
         FileStore {
             rt,
@@ -39,7 +49,7 @@ impl<'a, R: Files> FileStore<'a, R> {
 
     /// How many calls have failed.
     pub fn faults(&self) -> u64
-        ensures { result ≡ self.now.log.0 }
+        ensures { result ≡ self.now.0 }
     {
         self.log.count()
     }
@@ -48,9 +58,9 @@ impl<'a, R: Files> FileStore<'a, R> {
 impl<'a, R: Files> Store for FileStore<'a, R> {
     ghost use Rattle.std.specs.Prelude.{None};
 
-    ghost faults = { λ store. store.log.0 };
+    ghost faults = { λ store. store.0 };
 
-    ghost last_fault = { λ store. store.log.1 };
+    ghost last_fault = { λ store. store.1 };
 
     ghost contents = { λ _. None };
 
