@@ -113,6 +113,7 @@ fn read_file<R: Files>(rt: &R, alloc: Global, name: &[u8], n: usize) -> Result<V
     let mut bytes = Vec::new(alloc);
     let mut chunk = [0; CHUNK];
     let mut room = n;
+    // Where no room is left, the read is of nothing, and ends the loop.
     for _ in 0..u64::MAX {
         let want = room.min(CHUNK);
         match file.read(&mut chunk[..want]) {
