@@ -2,6 +2,7 @@
 //
 // It tells no contents. What a file of the system holds, and what another process does to it, is not ours to say.
 ghost use Rattle.std.specs.Prelude.{◌≡◌, ◌≤◌, length, IfOk};
+ghost use Rattle.gos_outside.specs.FileName.{IsFileName};
 ghost use Rattle.gos_outside.specs.Faults.{NoFault};
 
 use gos_outside::{FaultLog, Store, StoreFault};
@@ -94,12 +95,22 @@ enum Trouble {
 }
 
 impl From<io::Error> for Trouble {
+    ghost use Rattle.std.specs.Prelude.{◌≡◌};
+    ghost use Rattle.gos.specs.declared.file_store.Trouble.TheVariants.{System};
+
+    ghost from_gives = { λ _ trouble. trouble ≡ System };
+
     fn from(_e: io::Error) -> Trouble {
         Trouble::System
     }
 }
 
 impl From<AllocError> for Trouble {
+    ghost use Rattle.std.specs.Prelude.{◌≡◌};
+    ghost use Rattle.gos.specs.declared.file_store.Trouble.TheVariants.{NoMemory};
+
+    ghost from_gives = { λ _ trouble. trouble ≡ NoMemory };
+
     fn from(_e: AllocError) -> Trouble {
         Trouble::NoMemory
     }
@@ -107,9 +118,10 @@ impl From<AllocError> for Trouble {
 
 /// The first `n` bytes of a file, or all of it where it is shorter.
 fn read_file<R: Files>(rt: &R, alloc: Global, name: &[u8], n: usize) -> Result<Vec<u8>, Trouble>
+    requires { IsFileName name.now }
     ensures { IfOk result (λ bytes. length bytes.items ≤ n) }
 {
-    let mut file = fs::open(rt, path_of(name)?)?;
+    let mut file = fs::open(rt, path_of(name))?;
     let mut bytes = Vec::new(alloc);
     let mut chunk = [0; CHUNK];
     let mut room = n;
@@ -130,17 +142,20 @@ fn read_file<R: Files>(rt: &R, alloc: Global, name: &[u8], n: usize) -> Result<V
 }
 
 /// Makes a file hold these bytes.
-fn write_file<R: Files>(rt: &R, name: &[u8], bytes: &[u8]) -> io::Result<()> {
-    let mut file = fs::create(rt, path_of(name)?)?;
+fn write_file<R: Files>(rt: &R, name: &[u8], bytes: &[u8]) -> io::Result<()>
+    requires { IsFileName name.now }
+{
+    let mut file = fs::create(rt, path_of(name))?;
     file.write_all(bytes)
 }
 
-/// A file's name as a path. The bytes of a file's name are always text.
-fn path_of(name: &[u8]) -> io::Result<&str> {
-    match str::from_utf8(name) {
-        Ok(path) => Ok(path),
-        Err(_) => Err(io::Error::from(ErrorKind::InvalidInput)),
-    }
+/// A file's name as a path: its bytes are always text.
+#[tactic(auto, using(crate::proofs::PathLemmas::file_name_is_text))]
+fn path_of(name: &[u8]) -> &str
+    requires { IsFileName name.now }
+    ensures { result.now ≡ name.now }
+{
+    str::from_utf8(name).unwrap()
 }
 
 #[cfg(test)]
