@@ -1,12 +1,14 @@
 // The store of the program: the files of the system.
 //
 // It tells no contents. What a file of the system holds, and what another process does to it, is not ours to say.
-ghost use Rattle.std.specs.Prelude.{◌≡◌, ◌≤◌, length, None, IfOk};
+ghost use Rattle.std.specs.Prelude.{◌≡◌, ◌≤◌, length, IfOk};
+ghost use Rattle.gos_outside.specs.FileName.{IsFileName};
 ghost use Rattle.gos_outside.specs.Faults.{NoFault};
 
 use gos_outside::{FaultLog, Store, StoreFault};
 use std::alloc::{AllocError, Global};
 use std::io::{ErrorKind, Read, Write};
+use std::marker::Model;
 use std::rt::Files;
 use std::{fs, io, str};
 
@@ -19,6 +21,15 @@ pub struct FileStore<'a, R: Files> {
     log: FaultLog,
 }
 
+impl<'a, R: Files> Model for FileStore<'a, R> {
+    ghost use Rattle.std.specs.Prelude.{ℕ};
+    ghost use Rattle.gos_outside.specs.Faults.{LastFault};
+
+    ghost Value = { ℕ × LastFault };
+
+    ghost view = { λ store. store.log };
+}
+
 impl<'a, R: Files> Drop for FileStore<'a, R> {
     fn drop(self) {
         let FileStore { rt: _, log: _ } = self;
@@ -28,8 +39,8 @@ impl<'a, R: Files> Drop for FileStore<'a, R> {
 impl<'a, R: Files> FileStore<'a, R> {
     /// The files that `rt` reaches; no call has failed.
     pub fn new(rt: &'a R) -> Self
-        ensures faults { result.log.0 ≡ 0 }
-        ensures last_fault { result.log.1 ≡ NoFault }
+        ensures faults { result.0 ≡ 0 }
+        ensures last_fault { result.1 ≡ NoFault }
     {
         FileStore {
             rt,
@@ -39,7 +50,7 @@ impl<'a, R: Files> FileStore<'a, R> {
 
     /// How many calls have failed.
     pub fn faults(&self) -> u64
-        ensures { result ≡ self.now.log.0 }
+        ensures { result ≡ self.now.0 }
     {
         self.log.count()
     }
@@ -48,9 +59,9 @@ impl<'a, R: Files> FileStore<'a, R> {
 impl<'a, R: Files> Store for FileStore<'a, R> {
     ghost use Rattle.std.specs.Prelude.{None};
 
-    ghost faults = { λ store. store.log.0 };
+    ghost faults = { λ store. store.0 };
 
-    ghost last_fault = { λ store. store.log.1 };
+    ghost last_fault = { λ store. store.1 };
 
     ghost contents = { λ _. None };
 
@@ -84,12 +95,22 @@ enum Trouble {
 }
 
 impl From<io::Error> for Trouble {
+    ghost use Rattle.std.specs.Prelude.{◌≡◌};
+    ghost use Rattle.gos.specs.declared.file_store.Trouble.TheVariants.{System};
+
+    ghost from_gives = { λ _ trouble. trouble ≡ System };
+
     fn from(_e: io::Error) -> Trouble {
         Trouble::System
     }
 }
 
 impl From<AllocError> for Trouble {
+    ghost use Rattle.std.specs.Prelude.{◌≡◌};
+    ghost use Rattle.gos.specs.declared.file_store.Trouble.TheVariants.{NoMemory};
+
+    ghost from_gives = { λ _ trouble. trouble ≡ NoMemory };
+
     fn from(_e: AllocError) -> Trouble {
         Trouble::NoMemory
     }
@@ -97,12 +118,14 @@ impl From<AllocError> for Trouble {
 
 /// The first `n` bytes of a file, or all of it where it is shorter.
 fn read_file<R: Files>(rt: &R, alloc: Global, name: &[u8], n: usize) -> Result<Vec<u8>, Trouble>
+    requires { IsFileName name.now }
     ensures { IfOk result (λ bytes. length bytes.items ≤ n) }
 {
-    let mut file = fs::open(rt, path_of(name)?)?;
+    let mut file = fs::open(rt, path_of(name))?;
     let mut bytes = Vec::new(alloc);
     let mut chunk = [0; CHUNK];
     let mut room = n;
+    // Where no room is left, the read is of nothing, and ends the loop.
     for _ in 0..u64::MAX {
         let want = room.min(CHUNK);
         match file.read(&mut chunk[..want]) {
@@ -119,17 +142,20 @@ fn read_file<R: Files>(rt: &R, alloc: Global, name: &[u8], n: usize) -> Result<V
 }
 
 /// Makes a file hold these bytes.
-fn write_file<R: Files>(rt: &R, name: &[u8], bytes: &[u8]) -> io::Result<()> {
-    let mut file = fs::create(rt, path_of(name)?)?;
+fn write_file<R: Files>(rt: &R, name: &[u8], bytes: &[u8]) -> io::Result<()>
+    requires { IsFileName name.now }
+{
+    let mut file = fs::create(rt, path_of(name))?;
     file.write_all(bytes)
 }
 
-/// A file's name as a path. The bytes of a file's name are always text.
-fn path_of(name: &[u8]) -> io::Result<&str> {
-    match str::from_utf8(name) {
-        Ok(path) => Ok(path),
-        Err(_) => Err(io::Error::from(ErrorKind::InvalidInput)),
-    }
+/// A file's name as a path: its bytes are always text.
+#[tactic(auto, using(crate::proofs::PathLemmas::file_name_is_text))]
+fn path_of(name: &[u8]) -> &str
+    requires { IsFileName name.now }
+    ensures { result.now ≡ name.now }
+{
+    str::from_utf8(name).unwrap()
 }
 
 #[cfg(test)]

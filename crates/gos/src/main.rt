@@ -7,5 +7,5 @@ mod out_sink;
 use std::process::ExitCode;
 
 fn main(_rt: HostRuntime) -> ExitCode {
-    ExitCode::from(0)
+    ExitCode::SUCCESS
 }

@@ -2,15 +2,23 @@
 //
 // It doesn't tell what was written. Where that goes is not ours to say.
 ghost use Rattle.std.specs.Prelude.{◌≡◌};
-ghost use Rattle.gos_outside.specs.Faults.{count_after};
 
 use gos_outside::{Sink, SinkFault};
 use std::alloc::Global;
+use std::marker::Model;
 
 /// Standard output. A write that the system refuses, as to a closed pipe, fails.
 pub struct OutSink<'a, R: Print> {
     rt: &'a R,
     faults: u64,
+}
+
+impl<'a, R: Print> Model for OutSink<'a, R> {
+    ghost use Rattle.std.specs.Prelude.{ℕ};
+
+    ghost Value = { ℕ };
+
+    ghost view = { λ sink. sink.faults };
 }
 
 impl<'a, R: Print> Drop for OutSink<'a, R> {
@@ -22,14 +30,14 @@ impl<'a, R: Print> Drop for OutSink<'a, R> {
 impl<'a, R: Print> OutSink<'a, R> {
     /// The output that `rt` reaches; no call has failed.
     pub fn new(rt: &'a R) -> Self
-        ensures { result.faults ≡ 0 }
+        ensures { result ≡ 0 }
     {
         OutSink { rt, faults: 0 }
     }
 
     /// How many calls have failed.
     pub fn faults(&self) -> u64
-        ensures { result ≡ self.now.faults }
+        ensures { result ≡ self.now }
     {
         self.faults
     }
@@ -38,7 +46,7 @@ impl<'a, R: Print> OutSink<'a, R> {
 impl<'a, R: Print> Sink for OutSink<'a, R> {
     ghost use Rattle.std.specs.Prelude.{None};
 
-    ghost faults = { λ sink. sink.faults };
+    ghost faults = { λ sink. sink };
 
     ghost written = { λ _. None };
 

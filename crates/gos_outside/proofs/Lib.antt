@@ -1,3 +1,4 @@
+pub mod FaultsLemmas
 pub mod FilesLemmas
 pub mod HeldFilesLemmas
 pub mod OtherFilesLemmas
