@@ -1,0 +1,22 @@
+// The syntax of the source language: its trees, the parser, and the printer.
+//
+// `parse` makes a module of the tokens of a text. Read `terms.rt` first (what a tree is), then `parser.rt`.
+// The grammar stands in specs/Grammar.antt, apart from the parser; it is over the trees of specs/Trees.antt.
+#![tactic(auto)]
+
+pub use fault::SyntaxFault;
+pub use module::{Import, Module};
+pub use parser::parse;
+pub use terms::{Form, Op, Term};
+
+mod fault;
+mod levels;
+mod limits;
+mod module;
+mod nesting;
+mod operators;
+mod parser;
+mod phrases;
+mod source;
+mod terms;
+mod types;

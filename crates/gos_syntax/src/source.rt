@@ -1,0 +1,125 @@
+// The tokens of a text, as the parser asks for them.
+
+ghost use Rattle.std.specs.Prelude.{◌≡◌, ◌≢◌, ℕ, ◌+◌, ◌-◌, ◌<◌, ◌≤◌, ◌↔◌, length, IsTrue, IfOk, IfErr, MatchOption, None};
+ghost use Rattle.gos_syntax.specs.Items.{seen, Stands, reading_at, span_of};
+ghost use Rattle.gos_syntax.specs.Grammar.{HasWord, HasSign, HasName, HasNumber};
+ghost use Rattle.gos_syntax.specs.Stops.{IsKind};
+
+use crate::fault::Stop;
+use gos_lex::{Name, Sign, Span, Token, TokenKind, Word};
+use std::alloc::Global;
+
+// A text and its tokens. A token is named by its number, counted from 0.
+#[derive(Drop)]
+pub(crate) struct Source<'a> {
+    pub text: &'a [u8],
+    pub tokens: &'a [Token],
+}
+
+impl<'a> Source<'a> {
+    // The kind of a token; `None` past the last one.
+    #[tactic(auto, using(crate::proofs::ItemLemmas::kind_there, crate::proofs::ItemLemmas::none_there))]
+
+    pub fn kind(&self, at: usize) -> Option<TokenKind>
+        ensures { MatchOption result (reading_at (seen self.now) at ≡ None) (IsKind self.now at) }
+    {
+        if at < self.tokens.len() {
+            Some(self.tokens[at].kind)
+        } else {
+            None
+        }
+    }
+
+    // Whether a token is this sign.
+    pub fn is_sign(&self, at: usize, sign: Sign) -> bool
+        ensures { IsTrue result ↔ HasSign (seen self.now) at sign }
+    {
+        match self.kind(at) {
+            Some(TokenKind::Sign(found)) => found == sign,
+            _ => false,
+        }
+    }
+
+    // Whether a token is this word.
+    pub fn is_word(&self, at: usize, word: Word) -> bool
+        ensures { IsTrue result ↔ HasWord (seen self.now) at word }
+    {
+        match self.kind(at) {
+            Some(TokenKind::Word(found)) => found == word,
+            _ => false,
+        }
+    }
+
+    // The number of the token after this sign.
+    pub fn after_sign(&self, at: usize, sign: Sign) -> Result<usize, Stop>
+        ensures next { IfOk result (λ next. next ≡ at + 1) }
+        ensures within { IfOk result (λ next. next ≤ length self.now.tokens.now) }
+        ensures sign { IfOk result (λ next. HasSign (seen self.now) at sign) }
+    {
+        match self.kind(at) {
+            Some(TokenKind::Sign(found)) if found == sign => Ok(at + 1),
+            _ => Err(Stop::At(at)),
+        }
+    }
+
+    // The number of the token after this word.
+    pub fn after_word(&self, at: usize, word: Word) -> Result<usize, Stop>
+        ensures next { IfOk result (λ next. next ≡ at + 1) }
+        ensures within { IfOk result (λ next. next ≤ length self.now.tokens.now) }
+        ensures word { IfOk result (λ next. HasWord (seen self.now) at word) }
+    {
+        match self.kind(at) {
+            Some(TokenKind::Word(found)) if found == word => Ok(at + 1),
+            _ => Err(Stop::At(at)),
+        }
+    }
+
+    // The value of the numeral at a place.
+    pub fn number(&self, at: usize) -> Result<u32, Stop>
+        ensures within { IfOk result (λ value. at < length self.now.tokens.now) }
+        ensures number { IfOk result (λ value. HasNumber (seen self.now) at value) }
+    {
+        match self.kind(at) {
+            Some(TokenKind::Number(value)) => Ok(value),
+            _ => Err(Stop::At(at)),
+        }
+    }
+
+    // The name at a place.
+    #[tactic(auto, using(crate::proofs::ItemLemmas::bytes_there, crate::proofs::ItemLemmas::name_there))]
+    pub fn name(&self, alloc: Global, at: usize) -> Result<Name, Stop>
+        requires { Stands self.now }
+        ensures within { IfOk result (λ name. at < length self.now.tokens.now) }
+        ensures name { IfOk result (λ name. HasName (seen self.now) at name) }
+    {
+        if at >= self.tokens.len() {
+            return Err(Stop::At(at));
+        }
+        let span = self.tokens[at].span;
+        match self.tokens[at].kind {
+            TokenKind::Name => Ok(Name::new(alloc, &self.text[span.from..span.to])?),
+            _ => Err(Stop::At(at)),
+        }
+    }
+
+    // The place of the tokens from one number to just before another.
+    #[tactic(auto, using(crate::proofs::ItemLemmas::from_there, crate::proofs::ItemLemmas::to_there))]
+    pub fn span(&self, from: usize, to: usize) -> Span
+        requires some { from < to }
+        requires within { to ≤ length self.now.tokens.now }
+        ensures { result ≡ span_of (seen self.now) from to }
+    {
+        Span {
+            from: self.tokens[from].span.from,
+            to: self.tokens[to - 1].span.to,
+        }
+    }
+
+    // Where a token begins; the length of the text past the last one.
+    pub fn place(&self, at: usize) -> usize {
+        match self.tokens.get(at) {
+            Some(token) => token.span.from,
+            None => self.text.len(),
+        }
+    }
+}

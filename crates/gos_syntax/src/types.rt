@@ -1,0 +1,70 @@
+// The types of a source text.
+
+ghost use Rattle.std.specs.Prelude.{ℕ, ◌<◌, ◌≤◌, length, IfOk};
+ghost use Rattle.gos_types.specs.Types.{type_of};
+ghost use Rattle.gos_syntax.specs.Items.{seen};
+ghost use Rattle.gos_syntax.specs.Grammar.{IsType, Whole, Product, Base};
+
+use crate::fault::Stop;
+use crate::source::Source;
+use gos_lex::{Sign, TokenKind, Word};
+use gos_types::Ty;
+use std::alloc::Global;
+
+// Each call gives what it read, and the number of the token after it.
+impl<'a> Source<'a> {
+    // type = prod [ "->" type ]
+    #[cycle(ty)]
+    pub(crate) fn ty(&self, alloc: Global, at: usize) -> Result<(Ty, usize), Stop>
+        ensures after { IfOk result (λ read. at < read.1) }
+        ensures within { IfOk result (λ read. read.1 ≤ length self.now.tokens.now) }
+        ensures derived { IfOk result (λ read. IsType (seen self.now) Whole at read.1 (type_of read.0)) }
+    {
+        let (argument, end) = self.product(alloc, at)?;
+        if !self.is_sign(end, Sign::Arrow) {
+            return Ok((argument, end));
+        }
+        let (outcome, end) = self.ty(alloc, end + 1)?;
+        Ok((
+            Ty::Fun(Box::new(alloc, argument)?, Box::new(alloc, outcome)?),
+            end,
+        ))
+    }
+
+    // prod = base [ "*" prod ]
+    #[cycle(ty)]
+    fn product(&self, alloc: Global, at: usize) -> Result<(Ty, usize), Stop>
+        ensures after { IfOk result (λ read. at < read.1) }
+        ensures within { IfOk result (λ read. read.1 ≤ length self.now.tokens.now) }
+        ensures derived { IfOk result (λ read. IsType (seen self.now) Product at read.1 (type_of read.0)) }
+    {
+        let (first, end) = self.base(alloc, at)?;
+        if !self.is_sign(end, Sign::Star) {
+            return Ok((first, end));
+        }
+        let (second, end) = self.product(alloc, end + 1)?;
+        Ok((
+            Ty::Pair(Box::new(alloc, first)?, Box::new(alloc, second)?),
+            end,
+        ))
+    }
+
+    // base = "com" | "exp" numeral | "var" numeral | "(" type ")"
+    #[cycle(ty)]
+    fn base(&self, alloc: Global, at: usize) -> Result<(Ty, usize), Stop>
+        ensures after { IfOk result (λ read. at < read.1) }
+        ensures within { IfOk result (λ read. read.1 ≤ length self.now.tokens.now) }
+        ensures derived { IfOk result (λ read. IsType (seen self.now) Base at read.1 (type_of read.0)) }
+    {
+        match self.kind(at) {
+            Some(TokenKind::Word(Word::Com)) => Ok((Ty::Com, at + 1)),
+            Some(TokenKind::Word(Word::Exp)) => Ok((Ty::Exp(self.number(at + 1)?), at + 2)),
+            Some(TokenKind::Word(Word::Var)) => Ok((Ty::Var(self.number(at + 1)?), at + 2)),
+            Some(TokenKind::Sign(Sign::Open)) => {
+                let (inner, end) = self.ty(alloc, at + 1)?;
+                Ok((inner, self.after_sign(end, Sign::Close)?))
+            }
+            _ => Err(Stop::At(at)),
+        }
+    }
+}
