@@ -8,7 +8,7 @@ use Rattle.gos_lex.specs.Names.{IsName, IsNameOrWord}
 use Rattle.gos_lex.specs.Tokens.{reading_of, reading_as, IsOfKind}
 use Rattle.gos_syntax.specs.Grammar.{HasName}
 use Rattle.gos_syntax.specs.declared.source.Source.{Source}
-use Rattle.gos_syntax.specs.Items.{Item, items_of, seen, Stands, reading_at, from_at, to_at}
+use Rattle.gos_syntax.specs.Items.{Item, items_of, seen, Stands, reading_at, from_at, to_at, place_of}
 use Rattle.gos_syntax.specs.Stops.{IsKind}
 
 -- an item is read as its token is
@@ -72,3 +72,16 @@ name_there source i d h is =
     let token : Token = slice_index_or source.tokens.now i d in
     let bytes : List ℕ = slice_range source.text.now token.span.from token.span.to in
     reading_there source.text.now source.tokens.now i d h ∙ ap (λ (k : TokenKind). Some (reading_as bytes k)) is
+
+-- a token's place is where it begins
+pub place_there : (text : List ℕ) (tokens : List Token) (i : ℕ) (d : Token) → i < length tokens
+    → place_of text tokens i ≡ (slice_index_or tokens i d).span.from
+place_there text [] i d h = absurd (omega arith)
+place_there text (t ∷ tokens) zero d h = refl
+place_there text (t ∷ tokens) (suc i) d h = place_there text tokens i d (omega arith)
+
+-- past the last token the place is the end of the text
+pub place_past : (text : List ℕ) (tokens : List Token) (i : ℕ) → length tokens ≤ i → place_of text tokens i ≡ length text
+place_past text [] i h = refl
+place_past text (t ∷ tokens) zero h = absurd (omega arith)
+place_past text (t ∷ tokens) (suc i) h = place_past text tokens i (omega arith)

@@ -1,1 +1,3 @@
 pub mod ItemLemmas
+pub mod NestingLemmas
+pub mod ImportLemmas

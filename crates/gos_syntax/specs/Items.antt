@@ -1,7 +1,7 @@
 -- The tokens of a text as the grammar sees them: what each is read as, and its place in the text.
 --
 -- Read first: Tokens of gos_lex. An item is named by its number, counted from 0.
-use Rattle.std.specs.Prelude.{◌≡◌, ℕ, zero, suc, ◌-◌, List, [], ◌∷◌, map, Option, Some, None, All}
+use Rattle.std.specs.Prelude.{◌≡◌, ℕ, zero, suc, ◌-◌, List, [], ◌∷◌, map, Option, Some, None, length, All}
 use Rattle.gos_lex.specs.declared.token.Span.{Span}
 use Rattle.gos_lex.specs.declared.token.Token.{Token}
 use Rattle.gos_lex.specs.Tokens.{Reading, reading_of, StandsIn}
@@ -49,3 +49,9 @@ to_at (item ∷ items) (suc i) = to_at items i
 -- the place of the items from one number to just before another
 abbrev pub span_of : List Item → ℕ → ℕ → Span
 span_of items i j = record { from = from_at items i; to = to_at items (j - 1) }
+
+-- where a token begins; the length of the text past the last one
+abbrev pub place_of : List ℕ → List Token → ℕ → ℕ
+place_of text [] n = length text
+place_of text (token ∷ tokens) zero = token.span.from
+place_of text (token ∷ tokens) (suc n) = place_of text tokens n

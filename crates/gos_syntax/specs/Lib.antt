@@ -6,6 +6,8 @@ pub mod Operators
 pub mod Grammar
 pub mod OpenTokens
 pub mod Firsts
+pub mod ParsedModules
 pub mod Nested
 pub mod Stops
 pub mod Heads
+pub mod Answers

@@ -4,7 +4,7 @@
 -- other such pair, is one item with all that is in it; each other token is one item. The list begins with the last
 -- `import` or `export`. The depth of a closed pair is 2, and the number of items in it, and the greatest depth of a
 -- closed pair among them. Open are as many tokens as there are items, and the greatest depth of a pair among them.
-use Rattle.std.specs.Prelude.{◌≡◌, ℕ, zero, suc, ◌+◌, ◌<◌, ◌≤◌, List, [], ◌∷◌, max, Bool, true, false, take, count_by}
+use Rattle.std.specs.Prelude.{◌≡◌, ℕ, zero, suc, ◌+◌, ◌<◌, ◌≤◌, List, [], ◌∷◌, max, Bool, true, false, if◌then◌else◌}
 use Rattle.gos_lex.specs.declared.word.Word.TheVariants as words
 use Rattle.gos_lex.specs.declared.sign.Sign.TheVariants as signs
 use Rattle.gos_lex.specs.Tokens.{Reading, AName, ANumber, AWord, ASign}
@@ -96,7 +96,9 @@ is_import (ASign sign) = false
 
 -- how many imports stand before the item of this number
 abbrev pub imports_before : List Item → ℕ → ℕ
-imports_before items n = count_by (λ item. is_import item.reading) (take n items)
+imports_before items zero = 0
+imports_before [] (suc n) = 0
+imports_before (item ∷ items) (suc n) = if is_import item.reading then suc (imports_before items n) else imports_before items n
 
 -- the item of this number is an import, and as many as are allowed stand before it
 abbrev pub IsExtraImport : List Item → ℕ → Type 0

@@ -1,33 +1,82 @@
 // The parser: from tokens to a module.
 
-ghost use Rattle.std.specs.Prelude.{ℕ, ◌<◌, ◌≤◌, length, All, IfOk};
+ghost use Rattle.std.specs.Prelude.{◌≡◌, ℕ, ◌+◌, ◌<◌, ◌≤◌, length, All, IfOk, IfErr};
 ghost use Rattle.gos_lex.specs.Tokens.{StandsIn};
-ghost use Rattle.gos_syntax.specs.Items.{seen, Stands};
+ghost use Rattle.gos_syntax.specs.Items.{items_of, seen, Stands};
+ghost use Rattle.gos_syntax.specs.Grammar.{HasWord};
+ghost use Rattle.gos_lex.specs.declared.word.Word.TheVariants as words;
+ghost use Rattle.gos_syntax.specs.ParsedModules.{IsImport, AreImports, IsModule, HasFault};
+ghost use Rattle.gos_syntax.specs.Answers.{IsFaultOf, IsFaultBefore};
 
 use crate::fault::{Stop, SyntaxFault};
+use crate::limits::Limit;
 use crate::module::{Import, Module};
 use crate::source::Source;
 use gos_lex::{Sign, Token, Word};
 use std::alloc::Global;
 
 /// The module that the tokens of a text are. The tokens are those that `scan` gives for the text.
+///
+/// `Err` is the fault that comes first in the text, or want of memory. At one place `Depth` comes before `TooManyImports`,
+/// and that before `Unexpected`.
 pub fn parse(alloc: Global, text: &[u8], tokens: &[Token]) -> Result<Module, SyntaxFault>
     requires { All (StandsIn text.now) tokens.now }
+    ensures module { IfOk result (IsModule (items_of text.now tokens.now)) }
+    ensures fault { IfErr result (HasFault text.now tokens.now) }
 {
     let source = Source { text, tokens };
-    match source.module(alloc) {
-        Ok(module) => Ok(module),
-        Err(Stop::At(at)) => Err(SyntaxFault::Unexpected {
-            at: source.place(at),
-        }),
-        Err(Stop::NoMemory) => Err(SyntaxFault::NoMemory),
+    match source.limit(alloc)? {
+        Limit::Nowhere => match source.module(alloc) {
+            Ok(module) => Ok(module),
+            Err(stop) => Err(source.fault(stop)),
+        },
+        Limit::Nested(end) => {
+            let at = source.place(end);
+            Err(source.fault_before(alloc, end, SyntaxFault::Depth { at }))
+        }
+        Limit::Imports(end) => {
+            let at = source.place(end);
+            Err(source.fault_before(alloc, end, SyntaxFault::TooManyImports { at }))
+        }
     }
 }
 
 impl<'a> Source<'a> {
+    // The fault of a text in which no phrase was read.
+    fn fault(&self, stop: Stop) -> SyntaxFault
+        ensures { IsFaultOf self.now.text.now self.now.tokens.now stop result }
+    {
+        match stop {
+            Stop::At(at) => SyntaxFault::Unexpected {
+                at: self.place(at),
+            },
+            Stop::NoMemory => SyntaxFault::NoMemory,
+        }
+    }
+
+    // The fault of a text that passes a limit at this token: the limit's, unless the tokens before it are none of a module.
+    fn fault_before(&self, alloc: Global, end: usize, limit: SyntaxFault) -> SyntaxFault
+        requires stands { Stands self.now }
+        requires within { end < length self.now.tokens.now }
+        ensures { IsFaultBefore self.now.text.now self.now.tokens.now end limit result }
+    {
+        let before = Source {
+            text: self.text,
+            tokens: &self.tokens[..end],
+        };
+        match before.module(alloc) {
+            Err(Stop::At(at)) if at < end => SyntaxFault::Unexpected {
+                at: self.place(at),
+            },
+            Err(Stop::NoMemory) => SyntaxFault::NoMemory,
+            _ => limit,
+        }
+    }
+
     // module = { "import" name ":" type } "export" term ":" type
     fn module(&self, alloc: Global) -> Result<Module, Stop>
         requires { Stands self.now }
+        ensures { IfOk result (IsModule (seen self.now)) }
     {
         let (imports, at) = self.imports(alloc)?;
         let body_at = self.after_word(at, Word::Export)?;
@@ -46,8 +95,10 @@ impl<'a> Source<'a> {
     }
 
     // The imports, and the number of the token after them.
+    #[tactic(auto, using(crate::proofs::ImportLemmas::imports_more))]
     fn imports(&self, alloc: Global) -> Result<(Vec<Import>, usize), Stop>
         requires { Stands self.now }
+        ensures { IfOk result (λ read. AreImports (seen self.now) 0 read.1 read.0.items) }
     {
         let mut imports = Vec::new(alloc);
         let mut at = 0;
@@ -62,8 +113,11 @@ impl<'a> Source<'a> {
     // "import" name ":" type
     fn import(&self, alloc: Global, at: usize) -> Result<(Import, usize), Stop>
         requires stands { Stands self.now }
+        requires word { HasWord (seen self.now) at words.Import }
         requires room { at < length self.now.tokens.now }
         ensures after { IfOk result (λ read. at < read.1) }
+        ensures within { IfOk result (λ read. read.1 ≤ length self.now.tokens.now) }
+        ensures import { IfOk result (λ read. IsImport (seen self.now) at read.1 read.0) }
     {
         let name = self.name(alloc, at + 1)?;
         let name_span = self.span(at + 1, at + 2);

@@ -1,7 +1,7 @@
 // The tokens of a text, as the parser asks for them.
 
 ghost use Rattle.std.specs.Prelude.{◌≡◌, ◌≢◌, ℕ, ◌+◌, ◌-◌, ◌<◌, ◌≤◌, ◌↔◌, length, IsTrue, IfOk, IfErr, MatchOption, None};
-ghost use Rattle.gos_syntax.specs.Items.{seen, Stands, reading_at, span_of};
+ghost use Rattle.gos_syntax.specs.Items.{seen, Stands, reading_at, span_of, place_of};
 ghost use Rattle.gos_syntax.specs.Grammar.{HasWord, HasSign, HasName, HasNumber};
 ghost use Rattle.gos_syntax.specs.Stops.{IsKind};
 
@@ -42,7 +42,8 @@ impl<'a> Source<'a> {
 
     // Whether a token is this word.
     pub fn is_word(&self, at: usize, word: Word) -> bool
-        ensures { IsTrue result ↔ HasWord (seen self.now) at word }
+        ensures word { IsTrue result ↔ HasWord (seen self.now) at word }
+        ensures within { IsTrue result → at < length self.now.tokens.now }
     {
         match self.kind(at) {
             Some(TokenKind::Word(found)) => found == word,
@@ -116,10 +117,14 @@ impl<'a> Source<'a> {
     }
 
     // Where a token begins; the length of the text past the last one.
-    pub fn place(&self, at: usize) -> usize {
-        match self.tokens.get(at) {
-            Some(token) => token.span.from,
-            None => self.text.len(),
+    #[tactic(auto, using(crate::proofs::ItemLemmas::place_there, crate::proofs::ItemLemmas::place_past))]
+    pub fn place(&self, at: usize) -> usize
+        ensures { result ≡ place_of self.now.text.now self.now.tokens.now at }
+    {
+        if at < self.tokens.len() {
+            self.tokens[at].span.from
+        } else {
+            self.text.len()
         }
     }
 }
