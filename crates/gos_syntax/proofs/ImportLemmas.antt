@@ -1,5 +1,5 @@
 -- One import more.
-use Rattle.std.proofs.Common.{◌≡◌, ℕ, List, [], ◌∷◌, ◌++◌, refl, sym, subst}
+use Rattle.std.proofs.Common.{ℕ, List, [], ◌∷◌, ◌++◌, refl, sym, subst}
 use Rattle.gos_syntax.specs.Items.{Item}
 use Rattle.gos_syntax.specs.Modules.{SeenImport}
 use Rattle.gos_syntax.specs.ParsedModules.{IsImport, AreImports}

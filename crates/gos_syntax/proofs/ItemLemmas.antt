@@ -1,5 +1,5 @@
 -- What the parser's questions about a token answer, said of items.
-use Rattle.std.proofs.Common.{◌≡◌, ℕ, zero, suc, ◌+◌, ◌-◌, ◌<◌, ◌≤◌, List, [], ◌∷◌, length, slice_index_or, Some, None, refl, ap, sym, ◌∙◌, subst, arith}
+use Rattle.std.proofs.Common.{◌≡◌, ℕ, zero, suc, ◌<◌, ◌≤◌, List, [], ◌∷◌, length, slice_index_or, Some, None, refl, ap, sym, ◌∙◌, subst, arith}
 use Rattle.std.specs.List.{slice_range}
 use Rattle.gos_lex.specs.declared.token.Token.{Token}
 use Rattle.gos_lex.specs.declared.token.TokenKind.{TokenKind}
@@ -8,7 +8,7 @@ use Rattle.gos_lex.specs.Names.{IsName, IsNameOrWord}
 use Rattle.gos_lex.specs.Tokens.{reading_of, reading_as, IsOfKind}
 use Rattle.gos_syntax.specs.Grammar.{HasName}
 use Rattle.gos_syntax.specs.declared.source.Source.{Source}
-use Rattle.gos_syntax.specs.Items.{Item, items_of, seen, Stands, reading_at, from_at, to_at, place_of}
+use Rattle.gos_syntax.specs.Items.{items_of, seen, Stands, reading_at, from_at, to_at, place_of}
 use Rattle.gos_syntax.specs.Stops.{IsKind}
 
 -- an item is read as its token is
@@ -45,9 +45,9 @@ kind_there source i d h =
     record {
       within = h;
       reading =
-        reading_there source.text.now source.tokens.now i d h
-        ∙ sym (ap (λ (from : ℕ). Some (reading_as (slice_range source.text.now from (to_at (seen source) i)) (slice_index_or source.tokens.now i d).kind)) (from_there source.text.now source.tokens.now i d h)
-        ∙ ap (λ (to : ℕ). Some (reading_as (slice_range source.text.now (slice_index_or source.tokens.now i d).span.from to) (slice_index_or source.tokens.now i d).kind)) (to_there source.text.now source.tokens.now i d h));
+          reading_there source.text.now source.tokens.now i d h
+          ∙ sym (ap (λ (from : ℕ). Some (reading_as (slice_range source.text.now from (to_at (seen source) i)) (slice_index_or source.tokens.now i d).kind)) (from_there source.text.now source.tokens.now i d h)
+          ∙ ap (λ (to : ℕ). Some (reading_as (slice_range source.text.now (slice_index_or source.tokens.now i d).span.from to) (slice_index_or source.tokens.now i d).kind)) (to_there source.text.now source.tokens.now i d h));
     }
 
 -- a token that is of a name's kind

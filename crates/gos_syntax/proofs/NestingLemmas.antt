@@ -1,10 +1,9 @@
 -- One token more: the levels and the imports before the next token.
-use Rattle.std.proofs.Common.{◌≡◌, ℕ, zero, suc, ◌+◌, ◌<◌, ◌≤◌, List, [], ◌∷◌, length, take, Some, None, Bool, true, false, if◌then◌else◌, refl, ap, sym, ◌∙◌, add-one, arith, count_by, slice_index_or, subst}
-use Rattle.std.specs.List.{slice_range}
+use Rattle.std.proofs.Common.{◌≡◌, ℕ, zero, suc, ◌+◌, ◌<◌, List, [], ◌∷◌, length, Some, Bool, true, false, if◌then◌else◌, refl, ap, sym, ◌∙◌, add-one, arith, slice_index_or}
 use Rattle.gos_lex.specs.declared.word.Word.TheVariants as words
 use Rattle.gos_lex.specs.declared.token.Token.{Token}
 use Rattle.gos_lex.specs.Tokens.{Reading, AWord, reading_of}
-use Rattle.gos_syntax.specs.Items.{Item, items_of, reading_at}
+use Rattle.gos_syntax.specs.Items.{Item, items_of}
 use Rattle.gos_syntax.specs.Grammar.{HasWord}
 use Rattle.gos_syntax.specs.declared.nesting.Nesting.{Nesting}
 use Rattle.gos_syntax.specs.Nested.{levels_of, IsCounted}

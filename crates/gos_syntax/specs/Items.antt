@@ -1,7 +1,7 @@
 -- The tokens of a text as the grammar sees them: what each is read as, and its place in the text.
 --
 -- Read first: Tokens of gos_lex. An item is named by its number, counted from 0.
-use Rattle.std.specs.Prelude.{◌≡◌, ℕ, zero, suc, ◌-◌, List, [], ◌∷◌, map, Option, Some, None, length, All}
+use Rattle.std.specs.Prelude.{ℕ, zero, suc, ◌-◌, List, [], ◌∷◌, map, Option, Some, None, length, All}
 use Rattle.gos_lex.specs.declared.token.Span.{Span}
 use Rattle.gos_lex.specs.declared.token.Token.{Token}
 use Rattle.gos_lex.specs.Tokens.{Reading, reading_of, StandsIn}

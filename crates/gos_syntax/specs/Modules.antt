@@ -1,5 +1,5 @@
 -- Modules and imports as clauses see them.
-use Rattle.std.specs.Prelude.{ℕ, List, map}
+use Rattle.std.specs.Prelude.{ℕ, List}
 use Rattle.gos_lex.specs.declared.token.Span.{Span}
 use Rattle.gos_types.specs.declared.types.Ty.{Ty}
 use Rattle.gos_syntax.specs.declared.terms.Term.{Term}

@@ -4,7 +4,7 @@
 -- other such pair, is one item with all that is in it; each other token is one item. The list begins with the last
 -- `import` or `export`. The depth of a closed pair is 2, and the number of items in it, and the greatest depth of a
 -- closed pair among them. Open are as many tokens as there are items, and the greatest depth of a pair among them.
-use Rattle.std.specs.Prelude.{◌≡◌, ℕ, zero, suc, ◌+◌, ◌<◌, ◌≤◌, List, [], ◌∷◌, max, Bool, true, false, if◌then◌else◌}
+use Rattle.std.specs.Prelude.{◌≡◌, ℕ, zero, suc, ◌+◌, ◌<◌, List, [], ◌∷◌, max, Bool, true, false, if◌then◌else◌}
 use Rattle.gos_lex.specs.declared.word.Word.TheVariants as words
 use Rattle.gos_lex.specs.declared.sign.Sign.TheVariants as signs
 use Rattle.gos_lex.specs.Tokens.{Reading, AName, ANumber, AWord, ASign}

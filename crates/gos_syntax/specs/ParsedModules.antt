@@ -1,9 +1,8 @@
 -- What `parse` answers: the module that the grammar derives, or a fault and its place.
 --
 -- Read first: Grammar, Firsts.
-use Rattle.std.specs.Prelude.{◌≡◌, ℕ, ◌+◌, ◌<◌, ◌≤◌, List, [], ◌∷◌, length, map, None}
+use Rattle.std.specs.Prelude.{◌≡◌, ℕ, ◌+◌, ◌<◌, ◌≤◌, List, [], ◌∷◌, None}
 use Rattle.gos_lex.specs.declared.token.Token.{Token}
-use Rattle.gos_lex.specs.declared.token.Span.{Span}
 use Rattle.gos_lex.specs.declared.word.Word.TheVariants as words
 use Rattle.gos_lex.specs.declared.sign.Sign.TheVariants as signs
 use Rattle.gos_types.specs.Types.{type_of}

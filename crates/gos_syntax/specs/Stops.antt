@@ -1,9 +1,8 @@
 -- What the parser's questions about a token answer.
 --
 -- Read first: Items.
-use Rattle.std.specs.Prelude.{◌≡◌, ℕ, ◌<◌, length, Some, List}
+use Rattle.std.specs.Prelude.{◌≡◌, ℕ, ◌<◌, length, Some}
 use Rattle.std.specs.List.{slice_range}
-use Rattle.gos_lex.specs.declared.token.Span.{Span}
 use Rattle.gos_lex.specs.declared.token.TokenKind.{TokenKind}
 use Rattle.gos_lex.specs.Tokens.{reading_as}
 use Rattle.gos_syntax.specs.declared.source.Source.{Source}

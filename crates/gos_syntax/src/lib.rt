@@ -19,4 +19,6 @@ mod parser;
 mod phrases;
 mod source;
 mod terms;
+#[cfg(test)]
+mod tests;
 mod types;

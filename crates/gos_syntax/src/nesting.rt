@@ -5,8 +5,8 @@ ghost use Rattle.gos_lex.specs.Tokens.{reading_as};
 ghost use Rattle.gos_syntax.specs.Nested.{levels_of, IsCounted};
 ghost use Rattle.gos_syntax.specs.OpenTokens.{past, at_first, with_item, with_open, with_close, one_more, nothing};
 
-use gos_lex::{Sign, TokenKind, Word};
 use crate::levels::Level;
+use gos_lex::{Sign, TokenKind, Word};
 use std::alloc::{AllocError, Global};
 
 // What stands before a token.
@@ -30,7 +30,10 @@ impl Nesting {
         ensures open { result.items + result.deepest ≤ 1024 }
     {
         Nesting {
-            inner: Level { items: 0, deepest: 0 },
+            inner: Level {
+                items: 0,
+                deepest: 0,
+            },
             outer: Vec::new(alloc),
             items: 0,
             deepest: 0,
@@ -61,7 +64,10 @@ impl Nesting {
         ensures grown { self.new.items + self.new.deepest ≤ 1026 }
     {
         self.outer.clear();
-        self.inner = Level { items: 1, deepest: 0 };
+        self.inner = Level {
+            items: 1,
+            deepest: 0,
+        };
         self.items = 1;
         self.deepest = 0;
     }
@@ -88,7 +94,10 @@ impl Nesting {
     {
         self.item();
         self.outer.push(self.inner)?;
-        self.inner = Level { items: 0, deepest: 0 };
+        self.inner = Level {
+            items: 0,
+            deepest: 0,
+        };
         Ok(())
     }
 

@@ -47,9 +47,7 @@ impl<'a> Source<'a> {
         ensures { IsFaultOf self.now.text.now self.now.tokens.now stop result }
     {
         match stop {
-            Stop::At(at) => SyntaxFault::Unexpected {
-                at: self.place(at),
-            },
+            Stop::At(at) => SyntaxFault::Unexpected { at: self.place(at) },
             Stop::NoMemory => SyntaxFault::NoMemory,
         }
     }
@@ -65,9 +63,7 @@ impl<'a> Source<'a> {
             tokens: &self.tokens[..end],
         };
         match before.module(alloc) {
-            Err(Stop::At(at)) if at < end => SyntaxFault::Unexpected {
-                at: self.place(at),
-            },
+            Err(Stop::At(at)) if at < end => SyntaxFault::Unexpected { at: self.place(at) },
             Err(Stop::NoMemory) => SyntaxFault::NoMemory,
             _ => limit,
         }
@@ -88,7 +84,7 @@ impl<'a> Source<'a> {
         }
         Ok(Module {
             imports,
-            body,
+            body: Box::into_inner(body),
             result,
             result_span: self.span(result_at, end),
         })

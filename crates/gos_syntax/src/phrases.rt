@@ -35,11 +35,11 @@ pub(crate) struct Local {
 impl<'a> Source<'a> {
     // term = "fun" name ":" type "." term | "new" name ":" numeral "in" term | par [ ";" term ]
     #[cycle(term)]
-    pub(crate) fn term(&self, alloc: Global, at: usize) -> Result<(Term, usize), Stop>
+    pub(crate) fn term(&self, alloc: Global, at: usize) -> Result<(Box<Term>, usize), Stop>
         requires { Stands self.now }
         ensures after { IfOk result (λ read. at < read.1) }
         ensures within { IfOk result (λ read. read.1 ≤ length self.now.tokens.now) }
-        ensures derived { IfOk result (λ read. Derives (seen self.now) ATerm at read.1 read.0) }
+        ensures derived { IfOk result (λ read. Derives (seen self.now) ATerm at read.1 read.0.value) }
     {
         match self.kind(at) {
             Some(TokenKind::Word(Word::Fun)) => {
@@ -49,20 +49,27 @@ impl<'a> Source<'a> {
                     name,
                     ty,
                     ty_span,
-                    body: Box::new(alloc, body)?,
+                    body,
                 };
-                Ok((self.node(at, end, form), end))
+                Ok((self.node(alloc, at, end, form)?, end))
             }
             Some(TokenKind::Word(Word::New)) => {
-                let (Local { name, width, width_span }, body_at) = self.local(alloc, at)?;
+                let (
+                    Local {
+                        name,
+                        width,
+                        width_span,
+                    },
+                    body_at,
+                ) = self.local(alloc, at)?;
                 let (body, end) = self.term(alloc, body_at)?;
                 let form = Form::New {
                     name,
                     width,
                     width_span,
-                    body: Box::new(alloc, body)?,
+                    body,
                 };
-                Ok((self.node(at, end, form), end))
+                Ok((self.node(alloc, at, end, form)?, end))
             }
             _ => {
                 let (first, end) = self.par(alloc, at)?;
@@ -70,51 +77,50 @@ impl<'a> Source<'a> {
                     return Ok((first, end));
                 }
                 let (second, end) = self.term(alloc, end + 1)?;
-                let form = Form::Seq(Box::new(alloc, first)?, Box::new(alloc, second)?);
-                Ok((self.node(at, end, form), end))
+                let form = Form::Seq(first, second);
+                Ok((self.node(alloc, at, end, form)?, end))
             }
         }
     }
 
     // par = cmd [ "||" par ]
     #[cycle(term)]
-    fn par(&self, alloc: Global, at: usize) -> Result<(Term, usize), Stop>
+    fn par(&self, alloc: Global, at: usize) -> Result<(Box<Term>, usize), Stop>
         requires { Stands self.now }
         ensures after { IfOk result (λ read. at < read.1) }
         ensures within { IfOk result (λ read. read.1 ≤ length self.now.tokens.now) }
-        ensures derived { IfOk result (λ read. Derives (seen self.now) Par at read.1 read.0) }
+        ensures derived { IfOk result (λ read. Derives (seen self.now) Par at read.1 read.0.value) }
     {
         let (left, end) = self.cmd(alloc, at)?;
         if !self.is_sign(end, Sign::Parallel) {
             return Ok((left, end));
         }
         let (right, end) = self.par(alloc, end + 1)?;
-        let form = Form::Par(Box::new(alloc, left)?, Box::new(alloc, right)?);
-        Ok((self.node(at, end, form), end))
+        let form = Form::Par(left, right);
+        Ok((self.node(alloc, at, end, form)?, end))
     }
 
     // cmd = "if" term "then" cmd "else" cmd | "while" term "do" cmd | rel [ ":=" rel ]
     #[cycle(term)]
-    fn cmd(&self, alloc: Global, at: usize) -> Result<(Term, usize), Stop>
+    fn cmd(&self, alloc: Global, at: usize) -> Result<(Box<Term>, usize), Stop>
         requires { Stands self.now }
         ensures after { IfOk result (λ read. at < read.1) }
         ensures within { IfOk result (λ read. read.1 ≤ length self.now.tokens.now) }
-        ensures derived { IfOk result (λ read. Derives (seen self.now) Cmd at read.1 read.0) }
+        ensures derived { IfOk result (λ read. Derives (seen self.now) Cmd at read.1 read.0.value) }
     {
         match self.kind(at) {
             Some(TokenKind::Word(Word::If)) => {
                 let (test, end) = self.term(alloc, at + 1)?;
                 let (yes, end) = self.cmd(alloc, self.after_word(end, Word::Then)?)?;
                 let (no, end) = self.cmd(alloc, self.after_word(end, Word::Else)?)?;
-                let test = Box::new(alloc, test)?;
-                let form = Form::If(test, Box::new(alloc, yes)?, Box::new(alloc, no)?);
-                Ok((self.node(at, end, form), end))
+                let form = Form::If(test, yes, no);
+                Ok((self.node(alloc, at, end, form)?, end))
             }
             Some(TokenKind::Word(Word::While)) => {
                 let (test, end) = self.term(alloc, at + 1)?;
                 let (body, end) = self.cmd(alloc, self.after_word(end, Word::Do)?)?;
-                let form = Form::While(Box::new(alloc, test)?, Box::new(alloc, body)?);
-                Ok((self.node(at, end, form), end))
+                let form = Form::While(test, body);
+                Ok((self.node(alloc, at, end, form)?, end))
             }
             _ => {
                 let (left, end) = self.rel(alloc, at)?;
@@ -122,26 +128,26 @@ impl<'a> Source<'a> {
                     return Ok((left, end));
                 }
                 let (right, end) = self.rel(alloc, end + 1)?;
-                let form = Form::Assign(Box::new(alloc, left)?, Box::new(alloc, right)?);
-                Ok((self.node(at, end, form), end))
+                let form = Form::Assign(left, right);
+                Ok((self.node(alloc, at, end, form)?, end))
             }
         }
     }
 
     // rel = bits [ ( "=" | "<" ) bits ]
     #[cycle(term)]
-    fn rel(&self, alloc: Global, at: usize) -> Result<(Term, usize), Stop>
+    fn rel(&self, alloc: Global, at: usize) -> Result<(Box<Term>, usize), Stop>
         requires { Stands self.now }
         ensures after { IfOk result (λ read. at < read.1) }
         ensures within { IfOk result (λ read. read.1 ≤ length self.now.tokens.now) }
-        ensures derived { IfOk result (λ read. Derives (seen self.now) Rel at read.1 read.0) }
+        ensures derived { IfOk result (λ read. Derives (seen self.now) Rel at read.1 read.0.value) }
     {
         let (left, end) = self.bits(alloc, at)?;
         match self.operator(end, Level::Comparing) {
             Some(op) => {
                 let (right, end) = self.bits(alloc, end + 1)?;
-                let form = Form::Bin(op, Box::new(alloc, left)?, Box::new(alloc, right)?);
-                Ok((self.node(at, end, form), end))
+                let form = Form::Bin(op, left, right);
+                Ok((self.node(alloc, at, end, form)?, end))
             }
             None => Ok((left, end)),
         }
@@ -149,17 +155,17 @@ impl<'a> Source<'a> {
 
     // bits = sum { ( "&" | "|" | "^" ) sum }
     #[cycle(term)]
-    fn bits(&self, alloc: Global, at: usize) -> Result<(Term, usize), Stop>
+    fn bits(&self, alloc: Global, at: usize) -> Result<(Box<Term>, usize), Stop>
         requires { Stands self.now }
         ensures after { IfOk result (λ read. at < read.1) }
         ensures within { IfOk result (λ read. read.1 ≤ length self.now.tokens.now) }
-        ensures derived { IfOk result (λ read. Derives (seen self.now) Bits at read.1 read.0) }
+        ensures derived { IfOk result (λ read. Derives (seen self.now) Bits at read.1 read.0.value) }
     {
         let (mut left, mut end) = self.sum(alloc, at)?;
         while let Some(op) = self.operator(end, Level::OnBits) {
             let (right, after) = self.sum(alloc, end + 1)?;
-            let form = Form::Bin(op, Box::new(alloc, left)?, Box::new(alloc, right)?);
-            left = self.node(at, after, form);
+            let form = Form::Bin(op, left, right);
+            left = self.node(alloc, at, after, form)?;
             end = after;
         }
         Ok((left, end))
@@ -167,17 +173,17 @@ impl<'a> Source<'a> {
 
     // sum = app { ( "+" | "-" ) app }
     #[cycle(term)]
-    fn sum(&self, alloc: Global, at: usize) -> Result<(Term, usize), Stop>
+    fn sum(&self, alloc: Global, at: usize) -> Result<(Box<Term>, usize), Stop>
         requires { Stands self.now }
         ensures after { IfOk result (λ read. at < read.1) }
         ensures within { IfOk result (λ read. read.1 ≤ length self.now.tokens.now) }
-        ensures derived { IfOk result (λ read. Derives (seen self.now) Sum at read.1 read.0) }
+        ensures derived { IfOk result (λ read. Derives (seen self.now) Sum at read.1 read.0.value) }
     {
         let (mut left, mut end) = self.app(alloc, at)?;
         while let Some(op) = self.operator(end, Level::Adding) {
             let (right, after) = self.app(alloc, end + 1)?;
-            let form = Form::Bin(op, Box::new(alloc, left)?, Box::new(alloc, right)?);
-            left = self.node(at, after, form);
+            let form = Form::Bin(op, left, right);
+            left = self.node(alloc, at, after, form)?;
             end = after;
         }
         Ok((left, end))
@@ -185,17 +191,17 @@ impl<'a> Source<'a> {
 
     // app = pre { pre }
     #[cycle(term)]
-    fn app(&self, alloc: Global, at: usize) -> Result<(Term, usize), Stop>
+    fn app(&self, alloc: Global, at: usize) -> Result<(Box<Term>, usize), Stop>
         requires { Stands self.now }
         ensures after { IfOk result (λ read. at < read.1) }
         ensures within { IfOk result (λ read. read.1 ≤ length self.now.tokens.now) }
-        ensures derived { IfOk result (λ read. Derives (seen self.now) App at read.1 read.0) }
+        ensures derived { IfOk result (λ read. Derives (seen self.now) App at read.1 read.0.value) }
     {
         let (mut function, mut end) = self.pre(alloc, at)?;
         while self.begins_operand(end) {
             let (argument, after) = self.pre(alloc, end)?;
-            let form = Form::App(Box::new(alloc, function)?, Box::new(alloc, argument)?);
-            function = self.node(at, after, form);
+            let form = Form::App(function, argument);
+            function = self.node(alloc, at, after, form)?;
             end = after;
         }
         Ok((function, end))
@@ -203,32 +209,32 @@ impl<'a> Source<'a> {
 
     // pre = ( "not" | "!" | "fst" | "snd" ) pre | atom
     #[cycle(term)]
-    fn pre(&self, alloc: Global, at: usize) -> Result<(Term, usize), Stop>
+    fn pre(&self, alloc: Global, at: usize) -> Result<(Box<Term>, usize), Stop>
         requires { Stands self.now }
         ensures after { IfOk result (λ read. at < read.1) }
         ensures within { IfOk result (λ read. read.1 ≤ length self.now.tokens.now) }
-        ensures derived { IfOk result (λ read. Derives (seen self.now) Pre at read.1 read.0) }
+        ensures derived { IfOk result (λ read. Derives (seen self.now) Pre at read.1 read.0.value) }
     {
         match self.kind(at) {
             Some(TokenKind::Word(Word::Not)) => {
                 let (operand, end) = self.pre(alloc, at + 1)?;
-                let form = Form::Not(Box::new(alloc, operand)?);
-                Ok((self.node(at, end, form), end))
+                let form = Form::Not(operand);
+                Ok((self.node(alloc, at, end, form)?, end))
             }
             Some(TokenKind::Sign(Sign::Bang)) => {
                 let (operand, end) = self.pre(alloc, at + 1)?;
-                let form = Form::Deref(Box::new(alloc, operand)?);
-                Ok((self.node(at, end, form), end))
+                let form = Form::Deref(operand);
+                Ok((self.node(alloc, at, end, form)?, end))
             }
             Some(TokenKind::Word(Word::Fst)) => {
                 let (operand, end) = self.pre(alloc, at + 1)?;
-                let form = Form::Fst(Box::new(alloc, operand)?);
-                Ok((self.node(at, end, form), end))
+                let form = Form::Fst(operand);
+                Ok((self.node(alloc, at, end, form)?, end))
             }
             Some(TokenKind::Word(Word::Snd)) => {
                 let (operand, end) = self.pre(alloc, at + 1)?;
-                let form = Form::Snd(Box::new(alloc, operand)?);
-                Ok((self.node(at, end, form), end))
+                let form = Form::Snd(operand);
+                Ok((self.node(alloc, at, end, form)?, end))
             }
             _ => self.atom(alloc, at),
         }
@@ -236,22 +242,25 @@ impl<'a> Source<'a> {
 
     // atom = "skip" | numeral ":" numeral | name | "(" term [ "," term ] ")"
     #[cycle(term)]
-    fn atom(&self, alloc: Global, at: usize) -> Result<(Term, usize), Stop>
+    fn atom(&self, alloc: Global, at: usize) -> Result<(Box<Term>, usize), Stop>
         requires { Stands self.now }
         ensures after { IfOk result (λ read. at < read.1) }
         ensures within { IfOk result (λ read. read.1 ≤ length self.now.tokens.now) }
-        ensures derived { IfOk result (λ read. Derives (seen self.now) Atom at read.1 read.0) }
+        ensures derived { IfOk result (λ read. Derives (seen self.now) Atom at read.1 read.0.value) }
     {
         match self.kind(at) {
-            Some(TokenKind::Word(Word::Skip)) => Ok((self.node(at, at + 1, Form::Skip), at + 1)),
+            Some(TokenKind::Word(Word::Skip)) => Ok((
+                self.node(alloc, at, at + 1, Form::Skip)?,
+                at + 1,
+            )),
             Some(TokenKind::Number(value)) => {
                 let width = self.number(self.after_sign(at + 1, Sign::Colon)?)?;
                 let form = Form::Lit { value, width };
-                Ok((self.node(at, at + 3, form), at + 3))
+                Ok((self.node(alloc, at, at + 3, form)?, at + 3))
             }
             Some(TokenKind::Name) => {
                 let form = Form::Name(self.name(alloc, at)?);
-                Ok((self.node(at, at + 1, form), at + 1))
+                Ok((self.node(alloc, at, at + 1, form)?, at + 1))
             }
             Some(TokenKind::Sign(Sign::Open)) => {
                 let (first, end) = self.term(alloc, at + 1)?;
@@ -260,8 +269,8 @@ impl<'a> Source<'a> {
                 }
                 let (second, end) = self.term(alloc, end + 1)?;
                 let end = self.after_sign(end, Sign::Close)?;
-                let form = Form::Pair(Box::new(alloc, first)?, Box::new(alloc, second)?);
-                Ok((self.node(at, end, form), end))
+                let form = Form::Pair(first, second);
+                Ok((self.node(alloc, at, end, form)?, end))
             }
             _ => Err(Stop::At(at)),
         }
@@ -296,19 +305,25 @@ impl<'a> Source<'a> {
         let width = self.number(width_at)?;
         let width_span = self.span(width_at, width_at + 1);
         let body_at = self.after_word(width_at + 1, Word::In)?;
-        Ok((Local { name, width, width_span }, body_at))
+        Ok((
+            Local {
+                name,
+                width,
+                width_span,
+            },
+            body_at,
+        ))
     }
 
     // The term of a form that stands from one token to just before another.
-    fn node(&self, from: usize, to: usize, form: Form) -> Term
+    #[inline(never)]
+    fn node(&self, alloc: Global, from: usize, to: usize, form: Form) -> Result<Box<Term>, Stop>
         requires some { from < to }
         requires within { to ≤ length self.now.tokens.now }
-        ensures form { result.form ≡ form }
-        ensures span { result.span ≡ span_of (seen self.now) from to }
+        ensures form { IfOk result (λ node. node.value.form ≡ form) }
+        ensures span { IfOk result (λ node. node.value.span ≡ span_of (seen self.now) from to) }
     {
-        Term {
-            span: self.span(from, to),
-            form,
-        }
+        let span = self.span(from, to);
+        Ok(Box::new(alloc, Term { span, form })?)
     }
 }

@@ -19,7 +19,6 @@ pub(crate) struct Source<'a> {
 impl<'a> Source<'a> {
     // The kind of a token; `None` past the last one.
     #[tactic(auto, using(crate::proofs::ItemLemmas::kind_there, crate::proofs::ItemLemmas::none_there))]
-
     pub fn kind(&self, at: usize) -> Option<TokenKind>
         ensures { MatchOption result (reading_at (seen self.now) at ≡ None) (IsKind self.now at) }
     {

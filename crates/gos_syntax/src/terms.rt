@@ -38,7 +38,10 @@ pub enum Form {
     /// `skip`
     Skip,
     /// `value : width`
-    Lit { value: u32, width: u32 },
+    Lit {
+        value: u32,
+        width: u32,
+    },
     /// A name, of a binder around it or of an import.
     Name(Name),
     /// `fun name : ty . body`

@@ -38,7 +38,10 @@ fn stands(term: &Term, from: usize, to: usize) -> bool {
 
 #[test]
 fn reads_imports_and_a_body(rt: HostRuntime) -> Result<(), Fail> {
-    let module = parsed(rt.alloc(), b"import c : com import d : exp 8 export c ; c : com")??;
+    let module = parsed(
+        rt.alloc(),
+        b"import c : com import d : exp 8 export c ; c : com",
+    )??;
     assert_eq!(rt; module.imports.len(), 2);
     assert_eq!(rt; module.imports[1].name.bytes(), b"d".as_slice());
     assert!(rt; module.imports[1].name_span == Span { from: 22, to: 23 });
@@ -86,9 +89,19 @@ fn names_the_place_of_a_fault(rt: HostRuntime) -> Result<(), Fail> {
 fn counts_imports_and_open_tokens(rt: HostRuntime) -> Result<(), Fail> {
     let alloc = rt.alloc();
     let many = repeated(alloc, b"", b"import c : com ", 65)?;
-    assert!(rt; is_fault(parsed(alloc, many.as_slice())?, SyntaxFault::TooManyImports { at: 960 }));
+    assert!(rt;
+        is_fault(
+            parsed(alloc, many.as_slice())?,
+            SyntaxFault::TooManyImports { at: 960 }
+        )
+    );
     let deep = repeated(alloc, b"export ", b"(", 1_100)?;
-    assert!(rt; is_fault(parsed(alloc, deep.as_slice())?, SyntaxFault::Depth { at: 1_031 }));
+    assert!(rt;
+        is_fault(
+            parsed(alloc, deep.as_slice())?,
+            SyntaxFault::Depth { at: 1_031 }
+        )
+    );
     let less = repeated(alloc, b"export ", b"not ", 1_024)?;
     assert!(rt; unexpected(parsed(alloc, less.as_slice())?) == Some(4_103));
     Ok(())

@@ -9,7 +9,7 @@ invariant-app-loop-alloc l =
     record {
       after : l.at < l.end;
       within : l.end ≤ length l.self.tokens.now;
-      derived : Derives (seen l.self) App l.at l.end l.function;
+      derived : Derives (seen l.self) App l.at l.end l.function.value;
     }
 
 abbrev pub decreases-app-loop-alloc : goal.decreases-app-loop-alloc
@@ -21,7 +21,7 @@ invariant-bits-loop-op l =
     record {
       after : l.at < l.end;
       within : l.end ≤ length l.self.tokens.now;
-      derived : Derives (seen l.self) Bits l.at l.end l.left;
+      derived : Derives (seen l.self) Bits l.at l.end l.left.value;
     }
 
 abbrev pub decreases-bits-loop-op : goal.decreases-bits-loop-op
@@ -33,7 +33,7 @@ invariant-sum-loop-op l =
     record {
       after : l.at < l.end;
       within : l.end ≤ length l.self.tokens.now;
-      derived : Derives (seen l.self) Sum l.at l.end l.left;
+      derived : Derives (seen l.self) Sum l.at l.end l.left.value;
     }
 
 abbrev pub decreases-sum-loop-op : goal.decreases-sum-loop-op
@@ -65,4 +65,3 @@ decreases-par l = 9 * (length l.self.now.tokens.now - l.at) + 7
 
 abbrev pub decreases-term : goal.decreases-term
 decreases-term l = 9 * (length l.self.now.tokens.now - l.at) + 8
-

@@ -1,4 +1,4 @@
-use Rattle.std.proofs.Common.{ℕ, ◌-◌, length}
+use Rattle.std.proofs.Common.{◌-◌, length}
 use Rattle.gos_syntax.specs.Items.{seen}
 use Rattle.gos_syntax.specs.ParsedModules.{AreImports}
 use Rattle.gos_syntax.proofs.source.Source.imports.Given as goal
