@@ -18,5 +18,6 @@ pub use laws::{
     keeping_pace, reached_places, sequences, small_modules, small_nets, small_traces,
     types_of_terms,
 };
+pub use nets::{Cell, Gate, Ground, NetId, Netlist, Port, Side};
 pub use passes::{SettleFault, settle};
 pub use printing::print_net;
