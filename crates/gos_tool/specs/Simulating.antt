@@ -1,0 +1,5 @@
+-- Numbers of at most 32 bits, of which two can be added in 64 bits.
+use Rattle.std.specs.Prelude.{ℕ, ◌<◌, ◌^◌}
+
+abbrev pub IsWord : ℕ → Type 0
+IsWord n = n < 2 ^ 32
