@@ -1,5 +1,5 @@
 -- From what the parts of a build leave to what the whole leaves.
-use Rattle.std.proofs.Common.{◌≡◌, ◌≢◌, ◌<◌, ℕ, suc, Bool, cond, List, [], ◌∷◌, Option, Some, None, length, refl, sym, ◌∙◌, ap, subst}
+use Rattle.std.proofs.Common.{◌≡◌, ◌≢◌, ◌<◌, ℕ, suc, Bool, cond, List, [], ◌∷◌, Option, Some, None, length, map, refl, sym, ◌∙◌, ap, subst}
 use Rattle.std.specs.Prelude.{IfSome, unwrap_or}
 use Rattle.std.specs.List.{AllByRecursion}
 use Rattle.std.specs.Cmp.{eq_by_cmp_equiv}
@@ -10,7 +10,7 @@ use Rattle.std.proofs.lemmas.List.Elements.{All-from_recursion}
 use Rattle.std.proofs.lemmas.Option.{slice_get_within}
 use Rattle.gos_outside.proofs.FilesLemmas.{others_keep}
 use Rattle.gos_outside.specs.Files.{Files, bytes_at, with_file, SameBut}
-use Rattle.gos_model.specs.Nets.{Netlist}
+use Rattle.gos_model.specs.Nets.{Give, Take, Netlist}
 use Rattle.gos_model.specs.NetText.{text_of}
 use Rattle.gos_tool.specs.Lines.{Word, Words, content_of}
 use Rattle.gos_tool.specs.BuildFile.{BuildFile}
@@ -20,7 +20,9 @@ use Rattle.gos_tool.specs.Circuit.{circuit_of, import_ports}
 use Rattle.gos_tool.specs.Ready.{AreKnown}
 use Rattle.gos_tool.specs.Driving.{IsDriven}
 use Rattle.gos_tool.specs.Trace.{trace_text}
-use Rattle.gos_tool.specs.Headline.{IsCircuitOf}
+use Rattle.gos_types.specs.Types.{Com}
+use Rattle.gos_tool.specs.Headline.{Face, face_of, IsCircuitOf}
+use Rattle.gos_tool.proofs.DrivableLemmas.{is_drivable}
 use Rattle.gos_tool.specs.Command.{SaysBuild, SaysModule, SaysPulses}
 use Rattle.gos_tool.specs.Built.{LeavesTrace, IsSimulated, IsCompiled, IsModuleBuilt, IsBuilt, HasCircuit, LeavesModule, LeavesFiles, IfTold}
 use Rattle.gos_tool.specs.declared.pulse_file.Entry.{Entry}
@@ -78,8 +80,19 @@ simulated (Some files) (Some now) b s net cycles entries report says left =
       weight = left.weight;
     }
 
-pub is_circuit : (root : Word) (s : Sequence) → IsWellFormed root s → IsCircuitOf (circuit_of root s) s
-is_circuit root s formed = record { acyclic = no_cycle root s; pace = keeps_pace root s formed }
+import_faces : (i : ℕ) (imports : List Word) → map face_of (import_ports i imports) ≡ map (λ x. record { name = x; side = Take; ty = Com }) imports
+import_faces i [] = refl
+import_faces i (x ∷ xs) = ap (λ (faces : List Face). record { name = x; side = Take; ty = Com } ∷ faces) (import_faces (suc i) xs)
+
+-- the circuit that is made is a circuit of the module
+pub is_circuit : (root : Word) (s : Sequence) → IsWellFormed root s → IsCircuitOf (circuit_of root s) root s
+is_circuit root s formed =
+    record {
+      ports = ap (λ (faces : List Face). record { name = root; side = Give; ty = Com } ∷ faces) (import_faces 0 s.imports);
+      drivable = is_drivable root s formed;
+      acyclic = no_cycle root s;
+      pace = keeps_pace root s formed;
+    }
 
 -- a file that another write left is still what it was
 still_says : (files all : Files) (b : BuildFile) (s : Sequence) (text : List ℕ) (cycles : ℕ) (entries : List Entry) → all ≡ insert files b.net text → b.pulses ≢ b.net → SaysPulses all b s cycles entries → SaysPulses files b s cycles entries
@@ -100,7 +113,7 @@ compiled (Some files) (Some all) (Some now) b s net text report circuit formed p
     record {
       net = net;
       net_file = same b.net trace_apart ∙ ap (λ (m : Files). get m b.net) all_is ∙ held files b.net text ∙ ap (λ (t : List ℕ). Some t) printed;
-      circuit = subst (λ (n : Netlist). IsCircuitOf n s) (sym circuit) (is_circuit b.root s formed);
+      circuit = subst (λ (n : Netlist). IsCircuitOf n b.root s) (sym circuit) (is_circuit b.root s formed);
       simulated =
           record {
             entries = h.entries;
@@ -135,7 +148,7 @@ has_circuit (Some files) (Some all) (Some now) b s net text circuit formed print
     let all_is : all ≡ insert files b.net text = cc written in (
       net,
       same b.net trace_apart ∙ ap (λ (m : Files). get m b.net) all_is ∙ held files b.net text ∙ ap (λ (t : List ℕ). Some t) printed,
-      subst (λ (n : Netlist). IsCircuitOf n s) (sym circuit) (is_circuit b.root s formed),
+      subst (λ (n : Netlist). IsCircuitOf n b.root s) (sym circuit) (is_circuit b.root s formed),
     )
 
 pub leaves_circuit : (old new : Option Files) (b : BuildFile) (s : Sequence) → IfSome old (λ files. SaysModule files b s) → IfSome old (λ files. HasCircuit new b s) → IfSome old (λ files. LeavesModule files b new)

@@ -44,7 +44,7 @@ pub record IsSimulated (files now : Files) (b : BuildFile) (s : Sequence) (net :
 pub record IsCompiled (files now : Files) (b : BuildFile) (s : Sequence) (report : Report) : Type 0 where
   pub net : Netlist
   pub net_file : get now b.net ≡ Some (text_of net)
-  pub circuit : IsCircuitOf net s
+  pub circuit : IsCircuitOf net b.root s
   pub simulated : IsSimulated files now b s net report
 
 -- all this is so for the module that the source file says
@@ -62,7 +62,7 @@ pub record IsBuilt (files now : Files) (own : Word) (report : Report) : Type 0 w
 -- the netlist file holds the text of a circuit of the module
 abbrev pub HasCircuit : Option Files → BuildFile → Sequence → Type 0
 HasCircuit None b s = ⊥
-HasCircuit (Some now) b s = (net : Netlist) × (get now b.net ≡ Some (text_of net)) × IsCircuitOf net s
+HasCircuit (Some now) b s = (net : Netlist) × (get now b.net ≡ Some (text_of net)) × IsCircuitOf net b.root s
 
 -- What a rejection leaves: the netlist where the module is right, and the files as they were where it isn't.
 abbrev pub LeavesModule : Files → BuildFile → Option Files → Type 0
