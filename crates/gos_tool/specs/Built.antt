@@ -2,18 +2,18 @@
 --
 -- Read first: Headline (what the netlist is), Driving (its run under the pulse file), Trace (the text of the run).
 -- `files` are those that the store held when the command began, `now` those that it holds when it has ended.
-use Rattle.std.specs.Prelude.{◌≡◌, ℕ, List, Option, Some, None, IfSome}
+use Rattle.std.specs.Prelude.{◌≡◌, ◌⊎◌, ℕ, List, Option, Some, None, IfSome}
 use Rattle.std.specs.FinMap.{get}
 use Rattle.gos_outside.specs.Files.{Files, with_file}
 use Rattle.gos_model.specs.Nets.{Netlist}
 use Rattle.gos_model.specs.NetText.{text_of}
 use Rattle.gos_model.specs.Settling.{Numbers}
-use Rattle.gos_outside.specs.Written.{appended}
-use Rattle.gos_tool.specs.Report.{report_line}
+use Rattle.gos_outside.specs.Written.{appended, AppendsPrefix}
+use Rattle.gos_tool.specs.Report.{report_line, fault_line}
 use Rattle.gos_tool.specs.Lines.{Word}
 use Rattle.gos_tool.specs.BuildFile.{BuildFile}
 use Rattle.gos_tool.specs.SourceFile.{Sequence}
-use Rattle.gos_tool.specs.Command.{SaysBuild, SaysModule, SaysPulses}
+use Rattle.gos_tool.specs.Command.{SaysBuild, SaysModule, SaysPulses, FirstWrong}
 use Rattle.gos_tool.specs.Program.{weight_of}
 use Rattle.gos_tool.specs.Driving.{IsDriven}
 use Rattle.gos_tool.specs.Trace.{trace_text, pulse_count}
@@ -87,3 +87,16 @@ line_of report = report_line report.weight report.cycles report.pulses report.un
 abbrev pub IsDone : Word → Option Files → Option Files → Option (List ℕ) → Option (List ℕ) → Type 0
 IsDone own old new written printed =
     (report : Report) × (printed ≡ appended (line_of report) written) × IfTold old new (λ files now. IsBuilt files now own report)
+
+-- The line could not be printed: the build is done but only a first part of its line was appended, or the same of the
+-- line of a file that was rejected.
+abbrev pub IsDoneUnsaid : Word → Option Files → Option Files → Option (List ℕ) → Option (List ℕ) → Type 0
+IsDoneUnsaid own old new written printed =
+    (report : Report) × AppendsPrefix (line_of report) written printed × IfTold old new (λ files now. IsBuilt files now own report)
+
+abbrev pub IsRejectedUnsaid : Word → Option Files → Option Files → Option (List ℕ) → Option (List ℕ) → Type 0
+IsRejectedUnsaid own old new written printed =
+    (file : Word) × AppendsPrefix (fault_line file) written printed × IfSome old (λ files. FirstWrong files own file) × IfSome old (λ files. LeavesFiles files own new)
+
+abbrev pub IsUnsaid : Word → Option Files → Option Files → Option (List ℕ) → Option (List ℕ) → Type 0
+IsUnsaid own old new written printed = IsDoneUnsaid own old new written printed ⊎ IsRejectedUnsaid own old new written printed

@@ -14,6 +14,7 @@ use Rattle.gos_tool.specs.Driving.{GivesIn, IsDriven}
 use Rattle.gos_tool.specs.Trace.{trace_text, pulse_count}
 use Rattle.gos_tool.specs.Ready.{ready_ports}
 
+-- 0 or 1
 abbrev pub IsBit : ℕ → Type 0
 IsBit n = n ≤ 1
 

@@ -17,6 +17,7 @@ ready_at Take begun = begun
 abbrev pub is_ready : List Label → NetPort → Bool
 is_ready past p = ready_at p.side (is_open past (label_port p) 0)
 
+-- the same at each port
 abbrev pub ready_ports : List Label → List NetPort → List Bool
 ready_ports past ports = map (is_ready past) ports
 

@@ -32,7 +32,7 @@ pub struct Traced {
 struct Board {
     // Whether the input of a port may be given now.
     ready: Vec<bool>,
-    // Whether it might be before the cycle's inputs were given.
+    // The same before the cycle's inputs were given.
     before: Vec<bool>,
     // The inputs of the cells, 0 or 1.
     inputs: Vec<u64>,
@@ -151,7 +151,7 @@ fn set_inputs(net: &Netlist, before: &[bool], after: &[bool], inputs: &mut [u64]
     }
 }
 
-// The input of a port that was ready before and is ready after: 1 where it was given between.
+// The input of a port: 1 where it was ready before and is not after, since it was given between, else 0.
 fn pulse(before: bool, after: bool) -> u64
     ensures input { result ≡ (if before && not after then 1 else 0) }
     ensures bit { result ≤ 1 }
@@ -211,7 +211,7 @@ fn first_ready(alloc: Global, ports: &[Port]) -> Result<Vec<bool>, AllocError>
     Ok(ready)
 }
 
-// Whether the circuit gives the port.
+// Whether the input of a port of this side may be given while no command runs.
 fn is_given(side: Side) -> bool
     ensures { result ≡ ready_at (side_of side) false }
 {

@@ -9,10 +9,10 @@
 ghost use Rattle.std.specs.Prelude.{◌≡◌, ◌⊎◌, ℕ, IfSome, MatchOption, map, List};
 ghost use Rattle.gos_outside.specs.FileName.{IsFileName};
 ghost use Rattle.gos_outside.specs.Faults.{Rose};
-ghost use Rattle.gos_outside.specs.Written.{appended};
+ghost use Rattle.gos_outside.specs.Written.{appended, AppendsPrefix};
 ghost use Rattle.gos_tool.specs.Lines.{Word};
 ghost use Rattle.gos_tool.specs.Report.{usage_line, fault_line};
-ghost use Rattle.gos_tool.specs.Built.{IsDone, LeavesFiles, line_of};
+ghost use Rattle.gos_tool.specs.Built.{IsDone, IsUnsaid, LeavesFiles, line_of};
 ghost use Rattle.gos_tool.specs.Ends.{rejected_as, IfRejected, IsSaid, NoneFailed};
 ghost use Rattle.gos_tool.specs.Command.{texts, IsCommand, file_of, AllRight, FirstWrong, IsCall, KeepsOthers};
 
@@ -67,6 +67,7 @@ fn run_build<S: Store, O: Sink>(alloc: Global, own: &[u8], store: &mut S, out: &
     ensures store_call { result ≡ Status.StoreFailed → IfSome (S.contents store.old) (λ files. IsCall files own.now (S.last_fault store.new)) }
     ensures store_line { result ≡ Status.StoreFailed → O.written out.new ≡ O.written out.old }
     ensures sink_failed { result ≡ Status.SinkFailed → Rose (O.faults out.old) (O.faults out.new) }
+    ensures unsaid { result ≡ Status.SinkFailed → IsUnsaid own.now (S.contents store.old) (S.contents store.new) (O.written out.old) (O.written out.new) }
     ensures memory_line { result ≡ Status.NoMemory → O.written out.new ≡ O.written out.old }
     ensures others { KeepsOthers own.now (S.contents store.old) (S.contents store.new) }
 {
@@ -84,6 +85,7 @@ fn report_done<O: Sink>(alloc: Global, report: Report, out: &mut O) -> Status
     ensures line { result ≡ Status.Done → O.written out.new ≡ appended (line_of report) (O.written out.old) }
     ensures memory { result ≡ Status.NoMemory → O.written out.new ≡ O.written out.old }
     ensures failed { result ≡ Status.SinkFailed → Rose (O.faults out.old) (O.faults out.new) }
+    ensures cut { result ≡ Status.SinkFailed → AppendsPrefix (line_of report) (O.written out.old) (O.written out.new) }
 {
     match report_text(alloc, report) {
         Ok(line) => say(alloc, line.as_slice(), Status::Done, out),
@@ -97,6 +99,7 @@ fn report_fault<O: Sink>(alloc: Global, file: FileName, out: &mut O) -> Status
     ensures line { result ≡ rejected_as file → O.written out.new ≡ appended (fault_line file) (O.written out.old) }
     ensures memory { result ≡ Status.NoMemory → O.written out.new ≡ O.written out.old }
     ensures failed { result ≡ Status.SinkFailed → Rose (O.faults out.old) (O.faults out.new) }
+    ensures cut { result ≡ Status.SinkFailed → AppendsPrefix (fault_line file) (O.written out.old) (O.written out.new) }
 {
     match fault_text(alloc, file.bytes()) {
         Ok(line) => say(
@@ -120,6 +123,7 @@ fn say<O: Sink>(alloc: Global, line: &[u8], status: Status, out: &mut O) -> Stat
     ensures line { result ≡ status → O.written out.new ≡ appended line.now (O.written out.old) }
     ensures memory { result ≡ Status.NoMemory → O.written out.new ≡ O.written out.old }
     ensures failed { result ≡ Status.SinkFailed → Rose (O.faults out.old) (O.faults out.new) }
+    ensures cut { result ≡ Status.SinkFailed → AppendsPrefix line.now (O.written out.old) (O.written out.new) }
 {
     match out.write(alloc, line) {
         Ok(()) => status,
@@ -158,8 +162,10 @@ pub fn run<S: Store, O: Sink>(alloc: Global, words: &[String], store: &mut S, ou
     ensures store_call { result ≡ Status.StoreFailed → IfSome (S.contents store.old) (λ files. IsCall files (file_of (texts words.now)) (S.last_fault store.new)) }
     ensures store_line { result ≡ Status.StoreFailed → O.written out.new ≡ O.written out.old }
 
-    // The sink is blamed only for the one line.
+    // The sink is blamed only for the one line, of which a first part was printed; all else is as where it was printed.
     ensures sink_failed { result ≡ Status.SinkFailed → Rose (O.faults out.old) (O.faults out.new) }
+    ensures sink_usage { result ≡ Status.SinkFailed → ¬ (IsCommand (texts words.now)) → AppendsPrefix usage_line (O.written out.old) (O.written out.new) }
+    ensures sink_line { result ≡ Status.SinkFailed → IsCommand (texts words.now) → IsUnsaid (file_of (texts words.now)) (S.contents store.old) (S.contents store.new) (O.written out.old) (O.written out.new) }
 
     // Where memory runs out nothing is printed.
     ensures memory_line { result ≡ Status.NoMemory → O.written out.new ≡ O.written out.old }
