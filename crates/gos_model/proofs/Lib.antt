@@ -9,3 +9,4 @@ pub mod PassLemmas
 pub mod RepeatLemmas
 pub mod SettlingLemmas
 pub mod SmallPaceLemmas
+mod SilentLemmas

@@ -47,7 +47,7 @@ lively a zero k = inl refl
 lively a (suc zero) k = inr (λ e. cc)
 lively a (suc (suc b)) k = absurd (omega (arith, k))
 
-only_order : (x : Label) (ys : List Label) → AnyOrder (x ∷ []) ys → ys ≡ x ∷ []
+pub only_order : (x : Label) (ys : List Label) → AnyOrder (x ∷ []) ys → ys ≡ x ∷ []
 only_order x ys ([], after, e, none) = e ∙ ap (λ zs. x ∷ zs) none
 only_order x ys (b ∷ before, after, e, none) = absurd cc
 

@@ -8,7 +8,7 @@ use Rattle.gos_model.specs.declared.nets.Cell as cells
 use Rattle.gos_model.specs.declared.nets.Side as sides
 use Rattle.gos_model.specs.declared.nets.Side.TheVariants as side
 use Rattle.gos_model.specs.declared.nets.Ground as grounds
-use Rattle.gos_model.specs.declared.nets.Ground.TheVariants as ground
+use Rattle.gos_model.specs.declared.nets.Ground.TheVariants as carried
 use Rattle.gos_model.specs.Nets.{Function, Input, Const, Not, And, Or, Xor, Mux, Add, Sub, Eq, Less, Gate, Reg, Cell, Side, Give, Take}
 
 -- the number of a net
@@ -42,6 +42,6 @@ side_of side.Take = Take
 
 -- the type of a port
 abbrev pub ground_type : grounds.Ground → Type'
-ground_type ground.Com = Com
-ground_type (ground.Exp w) = Exp w
-ground_type (ground.Var w) = Var w
+ground_type carried.Com = Com
+ground_type (carried.Exp w) = Exp w
+ground_type (carried.Var w) = Var w

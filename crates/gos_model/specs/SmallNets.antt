@@ -22,10 +22,11 @@ latch =
       ports = record { name = codes "main"; side = Give; ty = Com; nets = 0 ∷ 3 ∷ [] } ∷ [];
     }
 
--- the values of its nets, and the inputs, in three cycles
+-- the values of its nets in three cycles
 abbrev pub latch_values : List Numbers
 latch_values = (1 ∷ 1 ∷ 0 ∷ 0 ∷ []) ∷ (0 ∷ 1 ∷ 1 ∷ 1 ∷ []) ∷ (0 ∷ 1 ∷ 1 ∷ 1 ∷ []) ∷ []
 
+-- its inputs in these cycles
 abbrev pub latch_inputs : List Numbers
 latch_inputs = (1 ∷ []) ∷ (0 ∷ []) ∷ (0 ∷ []) ∷ []
 

@@ -11,12 +11,14 @@ use Rattle.gos_model.specs.Stores.{Store}
 use Rattle.gos_model.specs.Labels.{given, taken}
 use Rattle.gos_model.specs.Moves.{Program, Trace, Computing, Running, Move, Stalled}
 
+-- the names of two commands
 abbrev pub c : Name
 c = codes "c"
 
 abbrev pub d : Name
 d = codes "d"
 
+-- both as imports
 abbrev pub two_commands : Imports
 two_commands = record { name = c; ty = Com } ∷ record { name = d; ty = Com } ∷ []
 

@@ -2,7 +2,7 @@
 ghost use Rattle.gos_model.specs.Laws.{AcyclicSettles, AcyclicSettlesOnce, NodeHasType, OneType, StepsHavePaths};
 ghost use Rattle.gos_model.specs.SmallModules.{Weights, Types, Shared, Links};
 ghost use Rattle.gos_model.specs.SmallNets.{LatchRuns, LatchText, LoopedGates};
-ghost use Rattle.gos_model.specs.SmallPace.{SkipKeepsPace};
+ghost use Rattle.gos_model.specs.SmallPace.{SilentLags, SkipKeepsPace};
 ghost use Rattle.gos_model.specs.SmallPrograms.{
   SeqRuns,
   SeqWaits,
@@ -62,7 +62,8 @@ pub fn settlings()
     ensures one { AcyclicSettlesOnce }
 {}
 
-/// The circuit of `skip` keeps pace with it, for every list of inputs.
+/// The circuit of `skip` keeps pace with it, for every list of inputs, and one that never answers does not.
 pub fn keeping_pace()
-    ensures { SkipKeepsPace }
+    ensures keeps { SkipKeepsPace }
+    ensures silent { SilentLags }
 {}

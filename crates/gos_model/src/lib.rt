@@ -15,8 +15,9 @@ mod printing;
 mod tests;
 
 pub use laws::{
-    keeping_pace, reached_places, sequences, small_modules, small_nets, small_traces,
+    keeping_pace, reached_places, sequences, settlings, small_modules, small_nets, small_traces,
     types_of_terms,
 };
+pub use nets::{Cell, Gate, Ground, NetId, Netlist, Port, Side};
 pub use passes::{SettleFault, settle};
 pub use printing::print_net;

@@ -73,7 +73,7 @@ pub struct Port {
     /// Who asks at it.
     pub side: Side,
     /// What it carries.
-    pub ground: Ground,
+    pub ty: Ground,
     /// Its nets, in the order of its type.
     pub nets: Vec<NetId>,
 }
@@ -99,7 +99,7 @@ impl Model for Port {
 
     ghost use Rattle.gos_model.specs.Seen.{number_of, side_of, ground_type};
 
-    ghost view = { λ p. record { name = p.name.items; side = side_of p.side; ty = ground_type p.ground; nets = map number_of p.nets.items } };
+    ghost view = { λ p. record { name = p.name.items; side = side_of p.side; ty = ground_type p.ty; nets = map number_of p.nets.items } };
 }
 
 impl Model for Netlist {

@@ -110,7 +110,7 @@ fn add_port(alloc: Global, text: &mut Vec<u8>, port: &Port) -> Result<(), NoMemo
     ensures { OnOk result (text.new.items ≡ text.old.items ++ port_text port.now) }
 {
     add_head(text, port.side, &port.name)?;
-    add_ground(alloc, text, port.ground)?;
+    add_type(alloc, text, port.ty)?;
     add_nets(alloc, text, &port.nets)?;
     text.extend_from_slice(b"\n")?;
     Ok(())
@@ -138,10 +138,10 @@ fn side_text(side: Side) -> &'static [u8]
 }
 
 // Adds the type of a port.
-fn add_ground(alloc: Global, text: &mut Vec<u8>, ground: Ground) -> Result<(), NoMemory>
-    ensures { OnOk result (text.new.items ≡ text.old.items ++ type_text (ground_type ground)) }
+fn add_type(alloc: Global, text: &mut Vec<u8>, ty: Ground) -> Result<(), NoMemory>
+    ensures { OnOk result (text.new.items ≡ text.old.items ++ type_text (ground_type ty)) }
 {
-    match ground {
+    match ty {
         Ground::Com => {
             text.extend_from_slice(b"com")?;
             Ok(())

@@ -22,7 +22,7 @@ fn latch(alloc: Global) -> Result<Netlist, AllocError>
     let port = Port {
         name,
         side: Side::Give,
-        ground: Ground::Com,
+        ty: Ground::Com,
         nets,
     };
     let ports = vec![in alloc; port]?;

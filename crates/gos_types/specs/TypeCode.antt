@@ -44,6 +44,7 @@ nodes_give (Pair a b) rest stack =
 nodes_give (Fun a b) rest stack =
     nodes_give a (nodes_before b ((4, 0) ∷ rest)) stack ∙ nodes_give b ((4, 0) ∷ rest) (a ∷ stack)
 
+-- the code of types
 abbrev pub type_code : Coded Type'
 type_code =
     code_by (List (ℕ × ℕ)) (coded_list (coded× coded_ℕ coded_ℕ)) (λ t. nodes_before t []) (λ nodes. top_of (after_nodes nodes []))

@@ -1,0 +1,7 @@
+use Rattle.std.proofs.Common.{◌≡◌, ◌∷◌, ◌++◌, drop}
+use Rattle.gos_tool.specs.Circuit.{root_port, import_ports}
+use Rattle.gos_tool.proofs.SourceLemmas.{now_of}
+use Rattle.gos_tool.proofs.circuit.ports.Given as goal
+
+abbrev pub invariant-loop-place : goal.invariant-loop-place
+invariant-loop-place l = l.ports.items ++ import_ports l.place (now_of (drop l.place l.imports)) ≡ root_port l.root ∷ import_ports 0 (now_of l.imports)

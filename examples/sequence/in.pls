@@ -1,0 +1,5 @@
+# The root is run at once, and each command is done in the cycle in which it is run.
+cycles 20000
+next 0 main.run
+next 0 c.done
+next 0 d.done
