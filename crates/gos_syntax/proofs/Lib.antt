@@ -1,3 +1,4 @@
 pub mod ItemLemmas
 pub mod NestingLemmas
 pub mod ImportLemmas
+pub mod TreeSizes

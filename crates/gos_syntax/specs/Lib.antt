@@ -7,6 +7,7 @@ pub mod Grammar
 pub mod OpenTokens
 pub mod Firsts
 pub mod ParsedModules
+pub mod ModuleText
 pub mod Nested
 pub mod Stops
 pub mod Heads

@@ -7,6 +7,7 @@
 pub use fault::SyntaxFault;
 pub use module::{Import, Module};
 pub use parser::parse;
+pub use printer::print;
 pub use terms::{Form, Op, Term};
 
 mod fault;
@@ -17,6 +18,7 @@ mod nesting;
 mod operators;
 mod parser;
 mod phrases;
+mod printer;
 mod source;
 mod terms;
 #[cfg(test)]

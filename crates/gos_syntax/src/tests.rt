@@ -1,6 +1,6 @@
 // Each public call once, at small sources whose trees and places were written by hand.
 
-use crate::{Form, Module, Op, SyntaxFault, Term, parse};
+use crate::{Form, Module, Op, SyntaxFault, Term, parse, print};
 use gos_lex::{LexFault, Span, scan};
 use gos_types::{Ty, same};
 use std::alloc::{AllocError, Global};
@@ -71,6 +71,19 @@ fn groups_operands_by_their_rules(rt: HostRuntime) -> Result<(), Fail> {
     let (_, argument) = application(call).ok_or("an application")?;
     assert!(rt; stands(call, 11, 16));
     assert!(rt; stands(argument, 14, 15));
+    Ok(())
+}
+
+#[test]
+fn prints_what_reads_as_the_same_module(rt: HostRuntime) -> Result<(), Fail> {
+    let alloc = rt.alloc();
+    let source = b"import c : com export new x : 1 in while !x = 0:1 do (x := 1:1 ; c) : com";
+    let wanted =
+        b"import c : com\nexport new x : 1 in while ((!x) = 0:1) do ((x := 1:1) ; c) : com\n";
+    let text = print(alloc, &parsed(alloc, source)??)?;
+    assert_eq!(rt; text.as_slice(), wanted.as_slice());
+    let again = print(alloc, &parsed(alloc, text.as_slice())??)?;
+    assert_eq!(rt; again.as_slice(), wanted.as_slice());
     Ok(())
 }
 
