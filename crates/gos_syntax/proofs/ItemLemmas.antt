@@ -5,11 +5,12 @@ use Rattle.gos_lex.specs.declared.token.Token.{Token}
 use Rattle.gos_lex.specs.declared.token.TokenKind.{TokenKind}
 use Rattle.gos_lex.specs.declared.token.TokenKind.TheVariants as kinds
 use Rattle.gos_lex.specs.Names.{IsName, IsNameOrWord}
-use Rattle.gos_lex.specs.Tokens.{reading_of, reading_as, IsOfKind}
+use Rattle.gos_lex.specs.Tokens.{AName, reading_of, reading_as, IsOfKind}
 use Rattle.gos_syntax.specs.Grammar.{HasName}
 use Rattle.gos_syntax.specs.declared.source.Source.{Source}
 use Rattle.gos_syntax.specs.Items.{items_of, seen, Stands, reading_at, from_at, to_at, place_of}
 use Rattle.gos_syntax.specs.Stops.{IsKind}
+use Rattle.gos_syntax.specs.Symbols.{Fits, SomeName}
 
 -- an item is read as its token is
 pub reading_there : (text : List ℕ) (tokens : List Token) (i : ℕ) (d : Token) → i < length tokens
@@ -72,6 +73,30 @@ name_there source i d h is =
     let token : Token = slice_index_or source.tokens.now i d in
     let bytes : List ℕ = slice_range source.text.now token.span.from token.span.to in
     reading_there source.text.now source.tokens.now i d h ∙ ap (λ (k : TokenKind). Some (reading_as bytes k)) is
+
+-- only a name's token is read as a name
+only_name : (bytes name : List ℕ) (kind : TokenKind) → Some (reading_as bytes kind) ≡ Some (AName name) → kind ≡ kinds.Name
+only_name bytes name kinds.Name e = refl
+only_name bytes name (kinds.Number value) e = cc
+only_name bytes name (kinds.Word word) e = cc
+only_name bytes name (kinds.Sign sign) e = cc
+
+pub no_name_there : (source : Source) (i : ℕ) (d : Token) → i < length source.tokens.now
+    → (IsNameToken (slice_index_or source.tokens.now i d) → ⊥) → Fits (reading_at (seen source) i) SomeName → ⊥
+no_name_there source i d h is_not (name, is) =
+    let token : Token = slice_index_or source.tokens.now i d in
+    is_not (only_name (slice_range source.text.now token.span.from token.span.to) name token.kind (sym (reading_there source.text.now source.tokens.now i d h) ∙ is))
+
+pub name_kind : (source : Source) (i : ℕ) (kind : TokenKind) → IsKind source i kind → kind ≡ kinds.Name → Fits (reading_at (seen source) i) SomeName
+name_kind source i kind is e =
+    let bytes : List ℕ = slice_range source.text.now (from_at (seen source) i) (to_at (seen source) i) in
+    (bytes, is.reading ∙ ap (λ (k : TokenKind). Some (reading_as bytes k)) e)
+
+-- past the last token stands no name
+pub no_name_past : (source : Source) (i : ℕ) → length source.tokens.now ≤ i → Fits (reading_at (seen source) i) SomeName → ⊥
+no_name_past source i h (name, is) =
+    let past = none_there source.text.now source.tokens.now i h in
+    cc
 
 -- a token's place is where it begins
 pub place_there : (text : List ℕ) (tokens : List Token) (i : ℕ) (d : Token) → i < length tokens

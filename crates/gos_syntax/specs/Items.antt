@@ -1,7 +1,7 @@
 -- The tokens of a text as the grammar sees them: what each is read as, and its place in the text.
 --
 -- Read first: Tokens of gos_lex. An item is named by its number, counted from 0.
-use Rattle.std.specs.Prelude.{ℕ, zero, suc, ◌-◌, List, [], ◌∷◌, map, Option, Some, None, length, All}
+use Rattle.std.specs.Prelude.{◌≡◌, ℕ, zero, suc, ◌-◌, ◌<◌, List, [], ◌∷◌, map, Option, Some, None, length, All}
 use Rattle.gos_lex.specs.declared.token.Span.{Span}
 use Rattle.gos_lex.specs.declared.token.Token.{Token}
 use Rattle.gos_lex.specs.Tokens.{Reading, reading_of, StandsIn}
@@ -33,6 +33,10 @@ abbrev pub reading_at : List Item → ℕ → Option Reading
 reading_at [] i = None
 reading_at (item ∷ items) zero = Some item.reading
 reading_at (item ∷ items) (suc i) = reading_at items i
+
+-- the first n items are read alike; where one list ends among them, the other ends too
+abbrev pub Agree : ℕ → List Item → List Item → Type 0
+Agree n items other = (k : ℕ) → k < n → reading_at items k ≡ reading_at other k
 
 -- where the item of this number begins
 abbrev pub from_at : List Item → ℕ → ℕ

@@ -1,7 +1,7 @@
 -- The text of a module, in which every operand that is no atom stands in brackets.
 --
 -- Read first: Trees, Modules. Bodies of functions and of blocks, and what stands in brackets already, are no operands.
-use Rattle.std.specs.Prelude.{ℕ, ◌+◌, Bool, true, false, not, List, [], ◌∷◌, ◌++◌, codes}
+use Rattle.std.specs.Prelude.{ℕ, Bool, true, false, not, List, [], ◌∷◌, ◌++◌, codes}
 use Rattle.std.specs.Fmt.{decimal}
 use Rattle.gos_lex.specs.Signs.{sign_text}
 use Rattle.gos_types.specs.Types.{type_of}

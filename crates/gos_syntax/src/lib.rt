@@ -5,12 +5,14 @@
 #![tactic(auto)]
 
 pub use fault::SyntaxFault;
+pub use law::{one_answer, one_grammar, printed_module};
 pub use module::{Import, Module};
 pub use parser::parse;
 pub use printer::print;
 pub use terms::{Form, Op, Term};
 
 mod fault;
+mod law;
 mod levels;
 mod limits;
 mod module;

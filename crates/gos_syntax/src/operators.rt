@@ -1,9 +1,12 @@
 // The signs that stand between operands, and the tokens that operands begin with.
 
-ghost use Rattle.std.specs.Prelude.{◌≡◌, ◌<◌, length, MatchOption, IfSome};
-ghost use Rattle.gos_syntax.specs.Items.{seen};
+ghost use Rattle.std.specs.Prelude.{◌≡◌, ◌<◌, length, IsTrue, MatchOption, IfSome, IfNone, Some};
+ghost use Rattle.gos_lex.specs.Tokens.{AWord, ASign};
+ghost use Rattle.gos_syntax.specs.Items.{seen, reading_at};
 ghost use Rattle.gos_syntax.specs.Grammar.{HasSign};
 ghost use Rattle.gos_syntax.specs.Operators.{sign_of, level_of};
+ghost use Rattle.gos_syntax.specs.Symbols.{Fits, SomeOperator};
+ghost use Rattle.gos_syntax.specs.Spelling.{begins_operand};
 ghost use Rattle.gos_syntax.specs.declared.terms.Op.{Op};
 
 use crate::source::Source;
@@ -50,6 +53,7 @@ impl<'a> Source<'a> {
     pub(crate) fn operator(&self, at: usize, level: Level) -> Option<Op>
         ensures sign { IfSome result (λ op. HasSign (seen self.now) at (sign_of op)) }
         ensures level { IfSome result (λ op. level_of op ≡ level) }
+        ensures none { IfNone result (Fits (reading_at (seen self.now) at) (SomeOperator level) → ⊥) }
         ensures within { IfSome result (λ op. at < length self.now.tokens.now) }
     {
         match self.kind(at) {
@@ -62,7 +66,10 @@ impl<'a> Source<'a> {
     }
 
     // Whether an operand without operators begins at a place.
-    pub(crate) fn begins_operand(&self, at: usize) -> bool {
+    pub(crate) fn begins_operand(&self, at: usize) -> bool
+        ensures operand { result ≡ begins_operand (reading_at (seen self.now) at) }
+        ensures within { IsTrue result → at < length self.now.tokens.now }
+    {
         match self.kind(at) {
             Some(TokenKind::Name) | Some(TokenKind::Number(_)) => true,
             Some(TokenKind::Word(word)) => begins_with_word(word),
@@ -73,7 +80,9 @@ impl<'a> Source<'a> {
 }
 
 // Whether an operand without operators begins with a word.
-fn begins_with_word(word: Word) -> bool {
+fn begins_with_word(word: Word) -> bool
+    ensures { result ≡ begins_operand (Some (AWord word)) }
+{
     match word {
         Word::Skip | Word::Not | Word::Fst | Word::Snd => true,
         _ => false,
@@ -81,7 +90,9 @@ fn begins_with_word(word: Word) -> bool {
 }
 
 // Whether an operand without operators begins with a sign.
-fn begins_with_sign(sign: Sign) -> bool {
+fn begins_with_sign(sign: Sign) -> bool
+    ensures { result ≡ begins_operand (Some (ASign sign)) }
+{
     match sign {
         Sign::Open | Sign::Bang => true,
         _ => false,

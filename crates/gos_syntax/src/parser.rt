@@ -1,12 +1,15 @@
 // The parser: from tokens to a module.
 
-ghost use Rattle.std.specs.Prelude.{◌≡◌, ℕ, ◌+◌, ◌<◌, ◌≤◌, length, All, IfOk, IfErr};
+ghost use Rattle.std.specs.Prelude.{◌≡◌, ℕ, ◌+◌, ◌<◌, ◌≤◌, [], ◌∷◌, map, length, All, IfOk, IfErr};
 ghost use Rattle.gos_lex.specs.Tokens.{StandsIn};
 ghost use Rattle.gos_syntax.specs.Items.{items_of, seen, Stands};
 ghost use Rattle.gos_syntax.specs.Grammar.{HasWord};
 ghost use Rattle.gos_lex.specs.declared.word.Word.TheVariants as words;
-ghost use Rattle.gos_syntax.specs.ParsedModules.{IsImport, AreImports, IsModule, HasFault};
-ghost use Rattle.gos_syntax.specs.Answers.{IsFaultOf, IsFaultBefore};
+ghost use Rattle.gos_syntax.specs.ModuleTrees.{import_tree, module_tree};
+ghost use Rattle.gos_syntax.specs.Symbols.{Part, Module as AModule};
+ghost use Rattle.gos_syntax.specs.Spelling.{Leads, Stops};
+ghost use Rattle.gos_syntax.specs.ParsedModules.{IsImport, AreImports, IsModule, IsParsed, HasFault};
+ghost use Rattle.gos_syntax.specs.Answers.{IsNoModule, IsFaultOf, IsFaultBefore};
 
 use crate::fault::{Stop, SyntaxFault};
 use crate::limits::Limit;
@@ -21,7 +24,7 @@ use std::alloc::Global;
 /// and that before `Unexpected`.
 pub fn parse(alloc: Global, text: &[u8], tokens: &[Token]) -> Result<Module, SyntaxFault>
     requires { All (StandsIn text.now) tokens.now }
-    ensures module { IfOk result (IsModule (items_of text.now tokens.now)) }
+    ensures module { IfOk result (IsParsed text.now tokens.now) }
     ensures fault { IfErr result (HasFault text.now tokens.now) }
 {
     let source = Source { text, tokens };
@@ -52,7 +55,7 @@ impl<'a> Source<'a> {
         }
     }
 
-    // The fault of a text that passes a limit at this token: the limit's, unless the tokens before it are none of a module.
+    // The fault of a text that passes a limit at this token: the limit's, unless the tokens before it begin no module.
     fn fault_before(&self, alloc: Global, end: usize, limit: SyntaxFault) -> SyntaxFault
         requires stands { Stands self.now }
         requires within { end < length self.now.tokens.now }
@@ -72,7 +75,8 @@ impl<'a> Source<'a> {
     // module = { "import" name ":" type } "export" term ":" type
     fn module(&self, alloc: Global) -> Result<Module, Stop>
         requires { Stands self.now }
-        ensures { IfOk result (IsModule (seen self.now)) }
+        ensures derived { IfOk result (λ made. IsModule (seen self.now) (module_tree made)) }
+        ensures refused { IfErr result (IsNoModule (seen self.now)) }
     {
         let (imports, at) = self.imports(alloc)?;
         let body_at = self.after_word(at, Word::Export)?;
@@ -94,7 +98,11 @@ impl<'a> Source<'a> {
     #[tactic(auto, using(crate::proofs::ImportLemmas::imports_more))]
     fn imports(&self, alloc: Global) -> Result<(Vec<Import>, usize), Stop>
         requires { Stands self.now }
-        ensures { IfOk result (λ read. AreImports (seen self.now) 0 read.1 read.0.items) }
+        ensures imports { IfOk result (λ read. AreImports (seen self.now) 0 read.1 (map import_tree read.0.items)) }
+        ensures within { IfOk result (λ read. read.1 ≤ length self.now.tokens.now) }
+        ensures last { IfOk result (λ read. HasWord (seen self.now) read.1 words.Import → ⊥) }
+        ensures read { IfOk result (λ read. Leads (seen self.now) (Part AModule ∷ []) 0 (Part AModule ∷ []) read.1) }
+        ensures refused { IfErr result (Stops (seen self.now) (Part AModule ∷ []) 0) }
     {
         let mut imports = Vec::new(alloc);
         let mut at = 0;
@@ -113,7 +121,9 @@ impl<'a> Source<'a> {
         requires room { at < length self.now.tokens.now }
         ensures after { IfOk result (λ read. at < read.1) }
         ensures within { IfOk result (λ read. read.1 ≤ length self.now.tokens.now) }
-        ensures import { IfOk result (λ read. IsImport (seen self.now) at read.1 read.0) }
+        ensures import { IfOk result (λ read. IsImport (seen self.now) at read.1 (import_tree read.0)) }
+        ensures read { IfOk result (λ read. Leads (seen self.now) (Part AModule ∷ []) at (Part AModule ∷ []) read.1) }
+        ensures refused { IfErr result (Stops (seen self.now) (Part AModule ∷ []) at) }
     {
         let name = self.name(alloc, at + 1)?;
         let name_span = self.span(at + 1, at + 2);

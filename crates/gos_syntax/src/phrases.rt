@@ -1,12 +1,16 @@
 // The terms of a source text: one function for each rule of the grammar.
 //
-// Each gives the term that it read, and the number of the token after it.
+// Each gives the term that it read, and the number of the token after it. That nothing else was to be read, and that
+// none goes on past a stop, is said in the words of specs/Spelling.antt.
 
-ghost use Rattle.std.specs.Prelude.{◌≡◌, ℕ, ◌+◌, ◌<◌, ◌≤◌, length, IfOk};
+ghost use Rattle.std.specs.Prelude.{◌≡◌, ℕ, ◌+◌, ◌<◌, ◌≤◌, [], ◌∷◌, length, IfOk, IfErr};
 ghost use Rattle.gos_types.specs.Types.{type_of};
 ghost use Rattle.gos_syntax.specs.Items.{seen, Stands, span_of};
 ghost use Rattle.gos_syntax.specs.Grammar.{Derives, Term as ATerm, Par, Cmd, Rel, Bits, Sum, App, Pre, Atom};
-ghost use Rattle.gos_syntax.specs.Heads.{IsParameter, IsLocal};
+ghost use Rattle.gos_syntax.specs.Symbols as phrases;
+ghost use Rattle.gos_syntax.specs.Spelling.{Leads, IsRead, Stops};
+ghost use Rattle.gos_syntax.specs.Heads.{IsParameter, IsLocal, parameter, local};
+ghost use Rattle.gos_syntax.specs.declared.fault.Stop.TheVariants as stops;
 
 use crate::fault::Stop;
 use crate::operators::Level;
@@ -36,10 +40,13 @@ impl<'a> Source<'a> {
     // term = "fun" name ":" type "." term | "new" name ":" numeral "in" term | par [ ";" term ]
     #[cycle(term)]
     pub(crate) fn term(&self, alloc: Global, at: usize) -> Result<(Box<Term>, usize), Stop>
-        requires { Stands self.now }
+        requires stands { Stands self.now }
+        requires within { at ≤ length self.now.tokens.now }
         ensures after { IfOk result (λ read. at < read.1) }
         ensures within { IfOk result (λ read. read.1 ≤ length self.now.tokens.now) }
         ensures derived { IfOk result (λ read. Derives (seen self.now) ATerm at read.1 read.0.value) }
+        ensures read { IfOk result (λ read. IsRead (seen self.now) phrases.Term at read.1) }
+        ensures refused { IfErr result (Stops (seen self.now) (phrases.Part phrases.Term ∷ []) at) }
     {
         match self.kind(at) {
             Some(TokenKind::Word(Word::Fun)) => {
@@ -86,10 +93,13 @@ impl<'a> Source<'a> {
     // par = cmd [ "||" par ]
     #[cycle(term)]
     fn par(&self, alloc: Global, at: usize) -> Result<(Box<Term>, usize), Stop>
-        requires { Stands self.now }
+        requires stands { Stands self.now }
+        requires within { at ≤ length self.now.tokens.now }
         ensures after { IfOk result (λ read. at < read.1) }
         ensures within { IfOk result (λ read. read.1 ≤ length self.now.tokens.now) }
         ensures derived { IfOk result (λ read. Derives (seen self.now) Par at read.1 read.0.value) }
+        ensures read { IfOk result (λ read. IsRead (seen self.now) phrases.Par at read.1) }
+        ensures refused { IfErr result (Stops (seen self.now) (phrases.Part phrases.Par ∷ []) at) }
     {
         let (left, end) = self.cmd(alloc, at)?;
         if !self.is_sign(end, Sign::Parallel) {
@@ -103,10 +113,13 @@ impl<'a> Source<'a> {
     // cmd = "if" term "then" cmd "else" cmd | "while" term "do" cmd | rel [ ":=" rel ]
     #[cycle(term)]
     fn cmd(&self, alloc: Global, at: usize) -> Result<(Box<Term>, usize), Stop>
-        requires { Stands self.now }
+        requires stands { Stands self.now }
+        requires within { at ≤ length self.now.tokens.now }
         ensures after { IfOk result (λ read. at < read.1) }
         ensures within { IfOk result (λ read. read.1 ≤ length self.now.tokens.now) }
         ensures derived { IfOk result (λ read. Derives (seen self.now) Cmd at read.1 read.0.value) }
+        ensures read { IfOk result (λ read. IsRead (seen self.now) phrases.Cmd at read.1) }
+        ensures refused { IfErr result (Stops (seen self.now) (phrases.Part phrases.Cmd ∷ []) at) }
     {
         match self.kind(at) {
             Some(TokenKind::Word(Word::If)) => {
@@ -137,10 +150,13 @@ impl<'a> Source<'a> {
     // rel = bits [ ( "=" | "<" ) bits ]
     #[cycle(term)]
     fn rel(&self, alloc: Global, at: usize) -> Result<(Box<Term>, usize), Stop>
-        requires { Stands self.now }
+        requires stands { Stands self.now }
+        requires within { at ≤ length self.now.tokens.now }
         ensures after { IfOk result (λ read. at < read.1) }
         ensures within { IfOk result (λ read. read.1 ≤ length self.now.tokens.now) }
         ensures derived { IfOk result (λ read. Derives (seen self.now) Rel at read.1 read.0.value) }
+        ensures read { IfOk result (λ read. IsRead (seen self.now) phrases.Rel at read.1) }
+        ensures refused { IfErr result (Stops (seen self.now) (phrases.Part phrases.Rel ∷ []) at) }
     {
         let (left, end) = self.bits(alloc, at)?;
         match self.operator(end, Level::Comparing) {
@@ -156,10 +172,13 @@ impl<'a> Source<'a> {
     // bits = sum { ( "&" | "|" | "^" ) sum }
     #[cycle(term)]
     fn bits(&self, alloc: Global, at: usize) -> Result<(Box<Term>, usize), Stop>
-        requires { Stands self.now }
+        requires stands { Stands self.now }
+        requires within { at ≤ length self.now.tokens.now }
         ensures after { IfOk result (λ read. at < read.1) }
         ensures within { IfOk result (λ read. read.1 ≤ length self.now.tokens.now) }
         ensures derived { IfOk result (λ read. Derives (seen self.now) Bits at read.1 read.0.value) }
+        ensures read { IfOk result (λ read. IsRead (seen self.now) phrases.Bits at read.1) }
+        ensures refused { IfErr result (Stops (seen self.now) (phrases.Part phrases.Bits ∷ []) at) }
     {
         let (mut left, mut end) = self.sum(alloc, at)?;
         while let Some(op) = self.operator(end, Level::OnBits) {
@@ -174,10 +193,13 @@ impl<'a> Source<'a> {
     // sum = app { ( "+" | "-" ) app }
     #[cycle(term)]
     fn sum(&self, alloc: Global, at: usize) -> Result<(Box<Term>, usize), Stop>
-        requires { Stands self.now }
+        requires stands { Stands self.now }
+        requires within { at ≤ length self.now.tokens.now }
         ensures after { IfOk result (λ read. at < read.1) }
         ensures within { IfOk result (λ read. read.1 ≤ length self.now.tokens.now) }
         ensures derived { IfOk result (λ read. Derives (seen self.now) Sum at read.1 read.0.value) }
+        ensures read { IfOk result (λ read. IsRead (seen self.now) phrases.Sum at read.1) }
+        ensures refused { IfErr result (Stops (seen self.now) (phrases.Part phrases.Sum ∷ []) at) }
     {
         let (mut left, mut end) = self.app(alloc, at)?;
         while let Some(op) = self.operator(end, Level::Adding) {
@@ -192,10 +214,13 @@ impl<'a> Source<'a> {
     // app = pre { pre }
     #[cycle(term)]
     fn app(&self, alloc: Global, at: usize) -> Result<(Box<Term>, usize), Stop>
-        requires { Stands self.now }
+        requires stands { Stands self.now }
+        requires within { at ≤ length self.now.tokens.now }
         ensures after { IfOk result (λ read. at < read.1) }
         ensures within { IfOk result (λ read. read.1 ≤ length self.now.tokens.now) }
         ensures derived { IfOk result (λ read. Derives (seen self.now) App at read.1 read.0.value) }
+        ensures read { IfOk result (λ read. IsRead (seen self.now) phrases.App at read.1) }
+        ensures refused { IfErr result (Stops (seen self.now) (phrases.Part phrases.App ∷ []) at) }
     {
         let (mut function, mut end) = self.pre(alloc, at)?;
         while self.begins_operand(end) {
@@ -210,10 +235,13 @@ impl<'a> Source<'a> {
     // pre = ( "not" | "!" | "fst" | "snd" ) pre | atom
     #[cycle(term)]
     fn pre(&self, alloc: Global, at: usize) -> Result<(Box<Term>, usize), Stop>
-        requires { Stands self.now }
+        requires stands { Stands self.now }
+        requires within { at ≤ length self.now.tokens.now }
         ensures after { IfOk result (λ read. at < read.1) }
         ensures within { IfOk result (λ read. read.1 ≤ length self.now.tokens.now) }
         ensures derived { IfOk result (λ read. Derives (seen self.now) Pre at read.1 read.0.value) }
+        ensures read { IfOk result (λ read. IsRead (seen self.now) phrases.Pre at read.1) }
+        ensures refused { IfErr result (Stops (seen self.now) (phrases.Part phrases.Pre ∷ []) at) }
     {
         match self.kind(at) {
             Some(TokenKind::Word(Word::Not)) => {
@@ -243,10 +271,13 @@ impl<'a> Source<'a> {
     // atom = "skip" | numeral ":" numeral | name | "(" term [ "," term ] ")"
     #[cycle(term)]
     fn atom(&self, alloc: Global, at: usize) -> Result<(Box<Term>, usize), Stop>
-        requires { Stands self.now }
+        requires stands { Stands self.now }
+        requires within { at ≤ length self.now.tokens.now }
         ensures after { IfOk result (λ read. at < read.1) }
         ensures within { IfOk result (λ read. read.1 ≤ length self.now.tokens.now) }
         ensures derived { IfOk result (λ read. Derives (seen self.now) Atom at read.1 read.0.value) }
+        ensures read { IfOk result (λ read. IsRead (seen self.now) phrases.Atom at read.1) }
+        ensures refused { IfErr result (Stops (seen self.now) (phrases.Part phrases.Atom ∷ []) at) }
     {
         match self.kind(at) {
             Some(TokenKind::Word(Word::Skip)) => Ok((
@@ -283,6 +314,8 @@ impl<'a> Source<'a> {
         ensures after { IfOk result (λ read. at < read.1) }
         ensures within { IfOk result (λ read. read.1 ≤ length self.now.tokens.now) }
         ensures head { IfOk result (λ read. IsParameter (seen self.now) at read.1 read.0) }
+        ensures read { IfOk result (λ read. Leads (seen self.now) parameter (at + 1) [] read.1) }
+        ensures refused { IfErr result (Stops (seen self.now) parameter (at + 1)) }
     {
         let name = self.name(alloc, at + 1)?;
         let ty_at = self.after_sign(at + 2, Sign::Colon)?;
@@ -299,6 +332,8 @@ impl<'a> Source<'a> {
         ensures after { IfOk result (λ read. at < read.1) }
         ensures within { IfOk result (λ read. read.1 ≤ length self.now.tokens.now) }
         ensures head { IfOk result (λ read. IsLocal (seen self.now) at read.1 read.0) }
+        ensures read { IfOk result (λ read. Leads (seen self.now) local (at + 1) [] read.1) }
+        ensures refused { IfErr result (Stops (seen self.now) local (at + 1)) }
     {
         let name = self.name(alloc, at + 1)?;
         let width_at = self.after_sign(at + 2, Sign::Colon)?;
@@ -322,6 +357,7 @@ impl<'a> Source<'a> {
         requires within { to ≤ length self.now.tokens.now }
         ensures form { IfOk result (λ node. node.value.form ≡ form) }
         ensures span { IfOk result (λ node. node.value.span ≡ span_of (seen self.now) from to) }
+        ensures memory { IfErr result (λ stop. stop ≡ stops.NoMemory) }
     {
         let span = self.span(from, to);
         Ok(Box::new(alloc, Term { span, form })?)

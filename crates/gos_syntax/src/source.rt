@@ -1,9 +1,12 @@
 // The tokens of a text, as the parser asks for them.
 
-ghost use Rattle.std.specs.Prelude.{◌≡◌, ◌≢◌, ℕ, ◌+◌, ◌-◌, ◌<◌, ◌≤◌, ◌↔◌, length, IsTrue, IfOk, IfErr, MatchOption, None};
+ghost use Rattle.std.specs.Prelude.{◌≡◌, ◌≢◌, ℕ, ◌+◌, ◌-◌, ◌<◌, ◌≤◌, ◌↔◌, [], ◌∷◌, length, IsTrue, IfOk, IfErr, MatchOption, None};
 ghost use Rattle.gos_syntax.specs.Items.{seen, Stands, reading_at, span_of, place_of};
 ghost use Rattle.gos_syntax.specs.Grammar.{HasWord, HasSign, HasName, HasNumber};
+ghost use Rattle.gos_syntax.specs.Symbols as wanted;
+ghost use Rattle.gos_syntax.specs.Spelling.{Stops};
 ghost use Rattle.gos_syntax.specs.Stops.{IsKind};
+ghost use Rattle.gos_syntax.specs.declared.fault.Stop.TheVariants as stops;
 
 use crate::fault::Stop;
 use gos_lex::{Name, Sign, Span, Token, TokenKind, Word};
@@ -31,7 +34,8 @@ impl<'a> Source<'a> {
 
     // Whether a token is this sign.
     pub fn is_sign(&self, at: usize, sign: Sign) -> bool
-        ensures { IsTrue result ↔ HasSign (seen self.now) at sign }
+        ensures sign { IsTrue result ↔ HasSign (seen self.now) at sign }
+        ensures within { IsTrue result → at < length self.now.tokens.now }
     {
         match self.kind(at) {
             Some(TokenKind::Sign(found)) => found == sign,
@@ -51,33 +55,46 @@ impl<'a> Source<'a> {
     }
 
     // The number of the token after this sign.
+    #[tactic(auto, using(crate::proofs::StopLemmas::stops_at_token))]
     pub fn after_sign(&self, at: usize, sign: Sign) -> Result<usize, Stop>
+        requires { at ≤ length self.now.tokens.now }
         ensures next { IfOk result (λ next. next ≡ at + 1) }
         ensures within { IfOk result (λ next. next ≤ length self.now.tokens.now) }
         ensures sign { IfOk result (λ next. HasSign (seen self.now) at sign) }
+        ensures refused { IfErr result (Stops (seen self.now) (wanted.sign sign ∷ []) at) }
+        ensures here { IfErr result (λ stop. stop ≡ stops.At at) }
+        ensures absent { IfErr result (λ stop. HasSign (seen self.now) at sign → ⊥) }
     {
-        match self.kind(at) {
-            Some(TokenKind::Sign(found)) if found == sign => Ok(at + 1),
-            _ => Err(Stop::At(at)),
+        if self.is_sign(at, sign) {
+            Ok(at + 1)
+        } else {
+            Err(Stop::At(at))
         }
     }
 
     // The number of the token after this word.
+    #[tactic(auto, using(crate::proofs::StopLemmas::stops_at_token))]
     pub fn after_word(&self, at: usize, word: Word) -> Result<usize, Stop>
+        requires { at ≤ length self.now.tokens.now }
         ensures next { IfOk result (λ next. next ≡ at + 1) }
         ensures within { IfOk result (λ next. next ≤ length self.now.tokens.now) }
         ensures word { IfOk result (λ next. HasWord (seen self.now) at word) }
+        ensures refused { IfErr result (Stops (seen self.now) (wanted.word word ∷ []) at) }
     {
-        match self.kind(at) {
-            Some(TokenKind::Word(found)) if found == word => Ok(at + 1),
-            _ => Err(Stop::At(at)),
+        if self.is_word(at, word) {
+            Ok(at + 1)
+        } else {
+            Err(Stop::At(at))
         }
     }
 
     // The value of the numeral at a place.
+    #[tactic(auto, using(crate::proofs::StopLemmas::stops_at_token))]
     pub fn number(&self, at: usize) -> Result<u32, Stop>
+        requires { at ≤ length self.now.tokens.now }
         ensures within { IfOk result (λ value. at < length self.now.tokens.now) }
         ensures number { IfOk result (λ value. HasNumber (seen self.now) at value) }
+        ensures refused { IfErr result (Stops (seen self.now) (wanted.number ∷ []) at) }
     {
         match self.kind(at) {
             Some(TokenKind::Number(value)) => Ok(value),
@@ -88,9 +105,11 @@ impl<'a> Source<'a> {
     // The name at a place.
     #[tactic(auto, using(crate::proofs::ItemLemmas::bytes_there, crate::proofs::ItemLemmas::name_there))]
     pub fn name(&self, alloc: Global, at: usize) -> Result<Name, Stop>
-        requires { Stands self.now }
+        requires stands { Stands self.now }
+        requires within { at ≤ length self.now.tokens.now }
         ensures within { IfOk result (λ name. at < length self.now.tokens.now) }
         ensures name { IfOk result (λ name. HasName (seen self.now) at name) }
+        ensures refused { IfErr result (Stops (seen self.now) (wanted.name ∷ []) at) }
     {
         if at >= self.tokens.len() {
             return Err(Stop::At(at));

@@ -1,6 +1,8 @@
 // Each public call once, at small sources whose trees and places were written by hand.
 
-use crate::{Form, Module, Op, SyntaxFault, Term, parse, print};
+use crate::{
+    Form, Module, Op, SyntaxFault, Term, one_answer, one_grammar, parse, print, printed_module,
+};
 use gos_lex::{LexFault, Span, scan};
 use gos_types::{Ty, same};
 use std::alloc::{AllocError, Global};
@@ -117,6 +119,14 @@ fn counts_imports_and_open_tokens(rt: HostRuntime) -> Result<(), Fail> {
     );
     let less = repeated(alloc, b"export ", b"not ", 1_024)?;
     assert!(rt; unexpected(parsed(alloc, less.as_slice())?) == Some(4_103));
+    Ok(())
+}
+
+#[test]
+fn has_laws(_rt: HostRuntime) -> Result<(), Fail> {
+    one_answer();
+    one_grammar();
+    printed_module();
     Ok(())
 }
 

@@ -1,9 +1,11 @@
 // The types of a source text.
 
-ghost use Rattle.std.specs.Prelude.{ℕ, ◌<◌, ◌≤◌, length, IfOk};
+ghost use Rattle.std.specs.Prelude.{ℕ, ◌<◌, ◌≤◌, [], ◌∷◌, length, IfOk, IfErr};
 ghost use Rattle.gos_types.specs.Types.{type_of};
 ghost use Rattle.gos_syntax.specs.Items.{seen};
 ghost use Rattle.gos_syntax.specs.Grammar.{IsType, Whole, Product, Base};
+ghost use Rattle.gos_syntax.specs.Spelling.{IsRead, Stops};
+ghost use Rattle.gos_syntax.specs.Symbols as phrases;
 
 use crate::fault::Stop;
 use crate::source::Source;
@@ -11,14 +13,18 @@ use gos_lex::{Sign, TokenKind, Word};
 use gos_types::Ty;
 use std::alloc::Global;
 
-// Each call gives what it read, and the number of the token after it.
+// Each call gives what it read, and the number of the token after it. That nothing else was to be read, and that none
+// goes on past a stop, is said in the words of specs/Spelling.antt.
 impl<'a> Source<'a> {
     // type = prod [ "->" type ]
     #[cycle(ty)]
     pub(crate) fn ty(&self, alloc: Global, at: usize) -> Result<(Ty, usize), Stop>
+        requires { at ≤ length self.now.tokens.now }
         ensures after { IfOk result (λ read. at < read.1) }
         ensures within { IfOk result (λ read. read.1 ≤ length self.now.tokens.now) }
         ensures derived { IfOk result (λ read. IsType (seen self.now) Whole at read.1 (type_of read.0)) }
+        ensures read { IfOk result (λ read. IsRead (seen self.now) phrases.Whole at read.1) }
+        ensures refused { IfErr result (Stops (seen self.now) (phrases.Part phrases.Whole ∷ []) at) }
     {
         let (argument, end) = self.product(alloc, at)?;
         if !self.is_sign(end, Sign::Arrow) {
@@ -34,9 +40,12 @@ impl<'a> Source<'a> {
     // prod = base [ "*" prod ]
     #[cycle(ty)]
     fn product(&self, alloc: Global, at: usize) -> Result<(Ty, usize), Stop>
+        requires { at ≤ length self.now.tokens.now }
         ensures after { IfOk result (λ read. at < read.1) }
         ensures within { IfOk result (λ read. read.1 ≤ length self.now.tokens.now) }
         ensures derived { IfOk result (λ read. IsType (seen self.now) Product at read.1 (type_of read.0)) }
+        ensures read { IfOk result (λ read. IsRead (seen self.now) phrases.Product at read.1) }
+        ensures refused { IfErr result (Stops (seen self.now) (phrases.Part phrases.Product ∷ []) at) }
     {
         let (first, end) = self.base(alloc, at)?;
         if !self.is_sign(end, Sign::Star) {
@@ -52,9 +61,12 @@ impl<'a> Source<'a> {
     // base = "com" | "exp" numeral | "var" numeral | "(" type ")"
     #[cycle(ty)]
     fn base(&self, alloc: Global, at: usize) -> Result<(Ty, usize), Stop>
+        requires { at ≤ length self.now.tokens.now }
         ensures after { IfOk result (λ read. at < read.1) }
         ensures within { IfOk result (λ read. read.1 ≤ length self.now.tokens.now) }
         ensures derived { IfOk result (λ read. IsType (seen self.now) Base at read.1 (type_of read.0)) }
+        ensures read { IfOk result (λ read. IsRead (seen self.now) phrases.Base at read.1) }
+        ensures refused { IfErr result (Stops (seen self.now) (phrases.Part phrases.Base ∷ []) at) }
     {
         match self.kind(at) {
             Some(TokenKind::Word(Word::Com)) => Ok((Ty::Com, at + 1)),

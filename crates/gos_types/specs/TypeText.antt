@@ -37,3 +37,10 @@ text_at rule (Fun a b) = bracketed (brackets_function rule) (text_at Prod a ++ c
 -- the text of a whole type
 abbrev pub type_text : Type' → List ℕ
 type_text = text_at Whole
+
+-- the text of a type where the grammar has a prod, and where it has a base
+abbrev pub product_text : Type' → List ℕ
+product_text = text_at Prod
+
+abbrev pub base_text : Type' → List ℕ
+base_text = text_at Base

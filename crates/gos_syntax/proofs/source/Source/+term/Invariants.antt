@@ -1,6 +1,9 @@
-use Rattle.std.proofs.Common.{◌+◌, ◌-◌, ◌*◌, ◌<◌, ◌≤◌, length}
+use Rattle.std.proofs.Common.{◌+◌, ◌-◌, ◌*◌, ◌<◌, ◌≤◌, [], ◌∷◌, length}
 use Rattle.gos_syntax.specs.Items.{seen}
 use Rattle.gos_syntax.specs.Grammar.{Derives, App, Bits, Sum}
+use Rattle.gos_syntax.specs.Symbols as phrases
+use Rattle.gos_syntax.specs.Symbols.{Part}
+use Rattle.gos_syntax.specs.Spelling.{Leads}
 use Rattle.gos_syntax.proofs.source.Source.+term.Given as goal
 
 -- what was read so far is an application
@@ -10,6 +13,7 @@ invariant-app-loop-alloc l =
       after : l.at < l.end;
       within : l.end ≤ length l.self.tokens.now;
       derived : Derives (seen l.self) App l.at l.end l.function.value;
+      read : Leads (seen l.self) (Part phrases.App ∷ []) l.at (Part phrases.AppTail ∷ []) l.end;
     }
 
 abbrev pub decreases-app-loop-alloc : goal.decreases-app-loop-alloc
@@ -22,6 +26,7 @@ invariant-bits-loop-op l =
       after : l.at < l.end;
       within : l.end ≤ length l.self.tokens.now;
       derived : Derives (seen l.self) Bits l.at l.end l.left.value;
+      read : Leads (seen l.self) (Part phrases.Bits ∷ []) l.at (Part phrases.BitsTail ∷ []) l.end;
     }
 
 abbrev pub decreases-bits-loop-op : goal.decreases-bits-loop-op
@@ -34,6 +39,7 @@ invariant-sum-loop-op l =
       after : l.at < l.end;
       within : l.end ≤ length l.self.tokens.now;
       derived : Derives (seen l.self) Sum l.at l.end l.left.value;
+      read : Leads (seen l.self) (Part phrases.Sum ∷ []) l.at (Part phrases.SumTail ∷ []) l.end;
     }
 
 abbrev pub decreases-sum-loop-op : goal.decreases-sum-loop-op

@@ -1,0 +1,147 @@
+-- The ways out of the parser's functions on terms, at prefixes and atoms.
+use Rattle.std.proofs.Common.{◌≡◌, ℕ, ◌+◌, ◌≤◌, List, [], ◌∷◌, length, Result, Ok, Err, IfOk, IfErr, subst, sym, arith}
+use Rattle.gos_lex.specs.declared.word.Word.TheVariants as words
+use Rattle.gos_lex.specs.declared.sign.Sign.TheVariants as signs
+use Rattle.gos_syntax.specs.declared.fault.Stop.{Stop}
+use Rattle.gos_syntax.specs.declared.fault.Stop.TheVariants as stops
+use Rattle.gos_syntax.specs.declared.source.Source.{Source}
+use Rattle.gos_syntax.specs.Items.{Item, seen, reading_at}
+use Rattle.gos_syntax.specs.Grammar.{HasWord, HasSign, HasName, HasNumber}
+use Rattle.gos_syntax.specs.Symbols as symbols
+use Rattle.gos_syntax.specs.Symbols.{Fits, SomeName, SomeNumber, Symbol, Part, word, sign, number, IsRule, Term, Pre, Atom, AtomTail, a_negation, a_reading, a_first_part, a_second_part, an_atom, skipping, a_literal, a_use, in_brackets, one_term, two_terms}
+use Rattle.gos_syntax.specs.Spelling.{Leads, IsRead, Stops}
+use Rattle.gos_syntax.proofs.LeadsLemmas.{leads_then, leads_token, leads_token_to, leads_part, stops_after, stops_at}
+use Rattle.gos_syntax.proofs.RuleLemmas.{IsNoPrefix, Tells, leads_by}
+use Rattle.gos_syntax.proofs.StopLemmas.{stops_at_part}
+
+-- pre = ( "not" | "!" | "fst" | "snd" ) pre
+not_leads : {items : List Item} {i : ℕ} → HasWord items i words.Not → Leads items (Part Pre ∷ []) i (Part Pre ∷ []) (i + 1)
+not_leads is = leads_then (leads_by a_negation is) (leads_token is)
+
+bang_leads : {items : List Item} {i : ℕ} → HasSign items i signs.Bang → Leads items (Part Pre ∷ []) i (Part Pre ∷ []) (i + 1)
+bang_leads is = leads_then (leads_by a_reading is) (leads_token is)
+
+fst_leads : {items : List Item} {i : ℕ} → HasWord items i words.Fst → Leads items (Part Pre ∷ []) i (Part Pre ∷ []) (i + 1)
+fst_leads is = leads_then (leads_by a_first_part is) (leads_token is)
+
+snd_leads : {items : List Item} {i : ℕ} → HasWord items i words.Snd → Leads items (Part Pre ∷ []) i (Part Pre ∷ []) (i + 1)
+snd_leads is = leads_then (leads_by a_second_part is) (leads_token is)
+
+pub not_stops : {items : List Item} {i : ℕ} {stop : Stop} → HasWord items i words.Not → Stops items (Part Pre ∷ []) (i + 1) stop → Stops items (Part Pre ∷ []) i stop
+not_stops is stopped = stops_after (not_leads is) stopped
+
+pub bang_stops : {items : List Item} {i : ℕ} {stop : Stop} → HasSign items i signs.Bang → Stops items (Part Pre ∷ []) (i + 1) stop → Stops items (Part Pre ∷ []) i stop
+bang_stops is stopped = stops_after (bang_leads is) stopped
+
+pub fst_stops : {items : List Item} {i : ℕ} {stop : Stop} → HasWord items i words.Fst → Stops items (Part Pre ∷ []) (i + 1) stop → Stops items (Part Pre ∷ []) i stop
+fst_stops is stopped = stops_after (fst_leads is) stopped
+
+pub snd_stops : {items : List Item} {i : ℕ} {stop : Stop} → HasWord items i words.Snd → Stops items (Part Pre ∷ []) (i + 1) stop → Stops items (Part Pre ∷ []) i stop
+snd_stops is stopped = stops_after (snd_leads is) stopped
+
+pub not_read : {items : List Item} {i j : ℕ} → HasWord items i words.Not → IsRead items Pre (i + 1) j → IsRead items Pre i j
+not_read is operand = leads_then (not_leads is) operand
+
+pub bang_read : {items : List Item} {i j : ℕ} → HasSign items i signs.Bang → IsRead items Pre (i + 1) j → IsRead items Pre i j
+bang_read is operand = leads_then (bang_leads is) operand
+
+pub fst_read : {items : List Item} {i j : ℕ} → HasWord items i words.Fst → IsRead items Pre (i + 1) j → IsRead items Pre i j
+fst_read is operand = leads_then (fst_leads is) operand
+
+pub snd_read : {items : List Item} {i j : ℕ} → HasWord items i words.Snd → IsRead items Pre (i + 1) j → IsRead items Pre i j
+snd_read is operand = leads_then (snd_leads is) operand
+
+-- pre = atom
+pub atom_stops : {T : Type 0} (items : List Item) (i : ℕ) (result : Result T Stop) → IsNoPrefix (reading_at items i)
+    → IfErr result (Stops items (Part Atom ∷ []) i) → IfErr result (Stops items (Part Pre ∷ []) i)
+atom_stops items i (Ok read) no_prefix stopped = tt
+atom_stops items i (Err stop) no_prefix stopped = stops_after (leads_by an_atom no_prefix) stopped
+
+pub atom_read : {T : Type 0} (items : List Item) (i : ℕ) (result : Result (T × ℕ) Stop) → IsNoPrefix (reading_at items i)
+    → IfOk result (λ read. IsRead items Atom i read.1) → IfOk result (λ read. IsRead items Pre i read.1)
+atom_read items i (Ok read) no_prefix atom = leads_then (leads_by an_atom no_prefix) atom
+atom_read items i (Err stop) no_prefix atom = tt
+
+-- atom = "skip" | numeral ":" numeral | name
+pub skip_read : {items : List Item} {i : ℕ} → HasWord items i words.Skip → IsRead items Atom i (i + 1)
+skip_read is = leads_then (leads_by skipping is) (leads_token is)
+
+value_leads : {items : List Item} {i value : ℕ} → HasNumber items i value → Leads items (Part Atom ∷ []) i (sign signs.Colon ∷ number ∷ []) (i + 1)
+value_leads {value = value} is = leads_then (leads_by a_literal (value, is)) (leads_token (value, is))
+
+colon_leads : {items : List Item} {i value t : ℕ} → HasNumber items i value → HasSign items (i + 1) signs.Colon → t ≡ i + 1 + 1
+    → Leads items (Part Atom ∷ []) i (number ∷ []) t
+colon_leads is colon e = leads_then (value_leads is) (leads_token_to e colon)
+
+pub colon_stops : {items : List Item} {i value : ℕ} {stop : Stop} → HasNumber items i value → Stops items (sign signs.Colon ∷ []) (i + 1) stop → Stops items (Part Atom ∷ []) i stop
+colon_stops is stopped = stops_after (value_leads is) (stops_at stopped)
+
+pub width_stops : {items : List Item} {i value t : ℕ} {stop : Stop} → HasNumber items i value → HasSign items (i + 1) signs.Colon → t ≡ i + 1 + 1
+    → Stops items (number ∷ []) t stop → Stops items (Part Atom ∷ []) i stop
+width_stops is colon e stopped = stops_after (colon_leads is colon e) stopped
+
+pub literal_read : {items : List Item} {i value width t : ℕ} → HasNumber items i value → HasSign items (i + 1) signs.Colon → t ≡ i + 1 + 1
+    → HasNumber items t width → IsRead items Atom i (i + 3)
+literal_read {width = width} is colon e is_width = leads_then (colon_leads is colon e) (leads_token_to (omega (arith, e)) (width, is_width))
+
+pub name_stops : {items : List Item} {i : ℕ} {stop : Stop} → Fits (reading_at items i) SomeName → Stops items (symbols.name ∷ []) i stop → Stops items (Part Atom ∷ []) i stop
+name_stops is stopped = stops_after (leads_by a_use is) stopped
+
+pub name_read : {items : List Item} {i : ℕ} {bytes : List ℕ} → HasName items i bytes → IsRead items Atom i (i + 1)
+name_read {bytes = bytes} is = leads_then (leads_by a_use (bytes, is)) (leads_token (bytes, is))
+
+-- atom = "(" term [ "," term ] ")"
+open_leads : {items : List Item} {i : ℕ} → HasSign items i signs.Open → Leads items (Part Atom ∷ []) i (Part Term ∷ Part AtomTail ∷ []) (i + 1)
+open_leads opened = leads_then (leads_by in_brackets opened) (leads_token opened)
+
+first_leads : {items : List Item} {i j : ℕ} → HasSign items i signs.Open → IsRead items Term (i + 1) j → Leads items (Part Atom ∷ []) i (Part AtomTail ∷ []) j
+first_leads opened first = leads_then (open_leads opened) (leads_part first)
+
+comma_leads : {items : List Item} {i j : ℕ} → HasSign items i signs.Open → IsRead items Term (i + 1) j → HasSign items j signs.Comma
+    → Leads items (Part Atom ∷ []) i (Part Term ∷ sign signs.Close ∷ []) (j + 1)
+comma_leads opened first comma = leads_then (first_leads opened first) (leads_then (leads_by two_terms comma) (leads_token comma))
+
+second_leads : {items : List Item} {i j k : ℕ} → HasSign items i signs.Open → IsRead items Term (i + 1) j → HasSign items j signs.Comma → IsRead items Term (j + 1) k
+    → Leads items (Part Atom ∷ []) i (sign signs.Close ∷ []) k
+second_leads opened first comma second = leads_then (comma_leads opened first comma) (leads_part second)
+
+pub inner_stops : {items : List Item} {i : ℕ} {stop : Stop} → HasSign items i signs.Open → Stops items (Part Term ∷ []) (i + 1) stop → Stops items (Part Atom ∷ []) i stop
+inner_stops opened stopped = stops_after (open_leads opened) (stops_at stopped)
+
+pub inner_read : {items : List Item} {i j k : ℕ} → HasSign items i signs.Open → IsRead items Term (i + 1) j → HasSign items j signs.Close → k ≡ j + 1 → IsRead items Atom i k
+inner_read opened first close e = leads_then (first_leads opened first) (leads_then (leads_by one_term close) (leads_token_to e close))
+
+pub second_stops : {items : List Item} {i j : ℕ} {stop : Stop} → HasSign items i signs.Open → IsRead items Term (i + 1) j → HasSign items j signs.Comma
+    → Stops items (Part Term ∷ []) (j + 1) stop → Stops items (Part Atom ∷ []) i stop
+second_stops opened first comma stopped = stops_after (comma_leads opened first comma) (stops_at stopped)
+
+pub close_stops : {items : List Item} {i j k : ℕ} {stop : Stop} → HasSign items i signs.Open → IsRead items Term (i + 1) j → HasSign items j signs.Comma
+    → IsRead items Term (j + 1) k → Stops items (sign signs.Close ∷ []) k stop → Stops items (Part Atom ∷ []) i stop
+close_stops opened first comma second stopped = stops_after (second_leads opened first comma second) stopped
+
+pub pair_read : {items : List Item} {i j k l : ℕ} → HasSign items i signs.Open → IsRead items Term (i + 1) j → HasSign items j signs.Comma
+    → IsRead items Term (j + 1) k → HasSign items k signs.Close → l ≡ k + 1 → IsRead items Atom i l
+pair_read opened first comma second close e = leads_then (second_leads opened first comma second) (leads_token_to e close)
+
+-- neither a comma nor a closing bracket stands behind the first term
+pub end_stops : (source : Source) (i j : ℕ) (stop : Stop) → HasSign (seen source) i signs.Open → IsRead (seen source) Term (i + 1) j → j ≤ length source.tokens.now
+    → (HasSign (seen source) j signs.Comma → ⊥) → (HasSign (seen source) j signs.Close → ⊥) → stop ≡ stops.At j → Stops (seen source) (Part Atom ∷ []) i stop
+end_stops source i j stop opened first within no_comma no_close e =
+    subst (λ (s : Stop). Stops (seen source) (Part Atom ∷ []) i s) (sym e)
+    (stops_after (first_leads opened first) (stops_at_part source AtomTail j within none))
+  where
+    none : (body : List Symbol) (rule : IsRule AtomTail body) → Tells rule (reading_at (seen source) j) → ⊥
+    none _ one_term told = no_close told
+    none _ two_terms told = no_comma told
+
+-- no atom begins here
+pub no_atom_stops : (source : Source) (at : ℕ) → at ≤ length source.tokens.now
+    → (HasWord (seen source) at words.Skip → ⊥) → (Fits (reading_at (seen source) at) SomeNumber → ⊥) → (Fits (reading_at (seen source) at) SomeName → ⊥)
+    → (HasSign (seen source) at signs.Open → ⊥) → Stops (seen source) (Part Atom ∷ []) at (stops.At at)
+no_atom_stops source at within no_skip no_number no_name no_open = stops_at_part source Atom at within none
+  where
+    none : (body : List Symbol) (rule : IsRule Atom body) → Tells rule (reading_at (seen source) at) → ⊥
+    none _ skipping told = no_skip told
+    none _ a_literal told = no_number told
+    none _ a_use told = no_name told
+    none _ in_brackets told = no_open told
