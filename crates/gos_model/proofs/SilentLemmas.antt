@@ -9,12 +9,12 @@ use Rattle.gos_model.specs.Weight.{weight}
 use Rattle.gos_model.specs.Reach.{Unfolds}
 use Rattle.gos_model.specs.Labels.{Label, given}
 use Rattle.gos_model.specs.Moves.{Config, Idle, Running, Act, Computing, Showing, Moves, labels, Unfoldings, ActsTo, Stalled}
-use Rattle.gos_model.specs.Nets.{Input, Const, Cell}
-use Rattle.gos_model.specs.Settling.{Numbers, at, shown, Settling, RunFrom}
+use Rattle.gos_netlist.specs.Nets.{Input, Const, Cell}
+use Rattle.gos_netlist.specs.Settling.{Numbers, at, shown, Settling, RunFrom}
 use Rattle.gos_model.specs.Flattening.{Flattening, flat}
 use Rattle.gos_model.specs.Protocol.{IsInRange, InputsInRange, RunKeeps, KeepsProtocol}
 use Rattle.gos_model.specs.Pace.{pace, Turn, Follows, MovesWithin, KeepsPace}
-use Rattle.gos_model.specs.SmallNets.{bit}
+use Rattle.gos_netlist.specs.SmallNets.{bit}
 use Rattle.gos_model.specs.SmallPace.{skip, silent_circuit, SilentLags}
 use Rattle.gos_model.proofs.SmallPaceLemmas.{only_order}
 

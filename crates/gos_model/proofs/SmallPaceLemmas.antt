@@ -7,12 +7,12 @@ use Rattle.std.proofs.Common.{arith, refl, sym, ap, subst, inl, inr, ◌∙◌}
 use Rattle.gos_model.specs.Terms.{Skip}
 use Rattle.gos_model.specs.Labels.{Label, given, is_output}
 use Rattle.gos_model.specs.Moves.{Config, Idle, Running, Act, Showing, Moves, labels, Stalled}
-use Rattle.gos_model.specs.Nets.{Input, Reg}
-use Rattle.gos_model.specs.Settling.{Numbers, at, next_registers, RunFrom}
+use Rattle.gos_netlist.specs.Nets.{Input, Reg}
+use Rattle.gos_netlist.specs.Settling.{Numbers, at, next_registers, RunFrom}
 use Rattle.gos_model.specs.Flattening.{if_pulse, AnyOrder, Flattening}
 use Rattle.gos_model.specs.Protocol.{InputsInRange}
 use Rattle.gos_model.specs.Pace.{pace, Turn, Follows, config_after}
-use Rattle.gos_model.specs.SmallNets.{bit}
+use Rattle.gos_netlist.specs.SmallNets.{bit}
 use Rattle.gos_model.specs.SmallPace.{skip, skip_circuit, SkipKeepsPace}
 
 abbrev run : Label

@@ -3,9 +3,10 @@
 -- Read first: Labels, Settling. Within a cycle the outputs come before the inputs, and otherwise the order is free.
 use Rattle.std.specs.Prelude.{◌≡◌, ℕ, zero, suc, not, List, [], ◌∷◌, ◌++◌, filter, nat_eq, if◌then◌else◌}
 use Rattle.gos_model.specs.Terms.{Name}
-use Rattle.gos_model.specs.Labels.{Port, Given, Taken, Label, Event, Is, events, is_output}
-use Rattle.gos_model.specs.Nets.{Side, Give, Take, NetPort, Netlist}
-use Rattle.gos_model.specs.Settling.{Numbers, at}
+use Rattle.gos_model.specs.Labels.{Port, Given, Taken, Label, is_output}
+use Rattle.gos_netlist.specs.Events.{Event, Is, events}
+use Rattle.gos_netlist.specs.Nets.{Side, Give, Take, NetPort, Netlist}
+use Rattle.gos_netlist.specs.Settling.{Numbers, at}
 
 -- the port in a label: the given one has no name
 abbrev pub port_of : Side → Name → Port

@@ -2,7 +2,7 @@
 --
 -- Read first: Typing, Reach. The program gives one port, its result's, and takes one for each import. The given port
 -- has no name here, so a program has labels before a root is named.
-use Rattle.std.specs.Prelude.{◌≡◌, ℕ, zero, suc, ◌^◌, ◌<◌, Bool, true, false, not, ◌⊎◌, List, [], ◌∷◌, Option, Some}
+use Rattle.std.specs.Prelude.{◌≡◌, ℕ, zero, suc, ◌^◌, ◌<◌, Bool, true, false, not, ◌⊎◌, Option, Some}
 use Rattle.gos_types.specs.Types.{Type', Com, Exp, Var}
 use Rattle.gos_model.specs.Terms.{Name, Term, Skip, Lit, Import, Deref, Wait, Put}
 use Rattle.gos_model.specs.Typing.{Imports, import_type}
@@ -18,22 +18,6 @@ pub record Label : Type 0 where
   pub port : Port
   pub event : ℕ
   pub value : ℕ
-
--- whether an event begins a handshake or ends it
-pub data Direction : Type 0 where
-  Request Answer : Direction
-
--- an event: its direction, and the bits of its number
-pub data Event : Type 0 where
-  Is : (way : Direction) (bits : ℕ) → Event
-
--- The events of a port of this type, by number. `com`: run, done. `exp`: ask, ans. `var`: read, ans, write, done.
--- So requests have even numbers and answers odd ones.
-abbrev pub events : Type' → List Event
-events Com = Is Request 0 ∷ Is Answer 0 ∷ []
-events (Exp w) = Is Request 0 ∷ Is Answer w ∷ []
-events (Var w) = Is Request 0 ∷ Is Answer w ∷ Is Request w ∷ Is Answer 0 ∷ []
-events t = []
 
 -- a label of the given port
 abbrev pub given : ℕ → ℕ → Label

@@ -1,6 +1,6 @@
 -- Laws of the definitions.
 --
--- Read first: Weight, Paths, Cycles.
+-- Read first: Weight, Paths.
 use Rattle.std.specs.Prelude.{◌≡◌, ◌↔◌, ℕ, List}
 use Rattle.gos_types.specs.Types.{Type'}
 use Rattle.gos_model.specs.Terms.{Term}
@@ -9,9 +9,6 @@ use Rattle.gos_model.specs.Weight.{node_type}
 use Rattle.gos_model.specs.Stores.{Store}
 use Rattle.gos_model.specs.Steps.{Steps, Computes}
 use Rattle.gos_model.specs.Paths.{ReachedAt}
-use Rattle.gos_model.specs.Nets.{Cell}
-use Rattle.gos_model.specs.Settling.{Numbers, Settling}
-use Rattle.gos_model.specs.Cycles.{HasCycle}
 
 -- a typed term has one type
 abbrev pub OneType : Type 0
@@ -24,11 +21,3 @@ NodeHasType = (i : Imports) (g : List Type') (m : Term) (t : Type') → Typed i 
 -- a step at a reached place is a step at a path
 abbrev pub StepsHavePaths : Type 0
 StepsHavePaths = (s s' : Store) (m t : Term) → Steps s s' m t ↔ ((path : List ℕ) × ReachedAt path (Computes s s') m t)
-
--- cells without a combinational cycle have a settling, whatever registers and inputs hold
-abbrev pub AcyclicSettles : Type 0
-AcyclicSettles = (cells : List Cell) (regs ins : Numbers) → (HasCycle cells → ⊥) → (v : Numbers) × Settling cells regs ins v
-
--- and no other one
-abbrev pub AcyclicSettlesOnce : Type 0
-AcyclicSettlesOnce = (cells : List Cell) (regs ins u v : Numbers) → (HasCycle cells → ⊥) → Settling cells regs ins u → Settling cells regs ins v → u ≡ v

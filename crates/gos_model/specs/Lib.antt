@@ -9,17 +9,10 @@ pub mod Steps
 pub mod Labels
 pub mod Moves
 pub mod Linking
-pub mod Nets
-pub mod Settling
-pub mod Cycles
-pub mod NetText
 pub mod Flattening
 pub mod Protocol
 pub mod Pace
-pub mod Seen
-pub mod Passes
 pub mod SmallPrograms
 pub mod SmallModules
-pub mod SmallNets
 pub mod SmallPace
 pub mod Laws

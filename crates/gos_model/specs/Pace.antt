@@ -5,8 +5,8 @@
 use Rattle.std.specs.Prelude.{◌≡◌, ◌≢◌, ℕ, zero, suc, ◌+◌, ◌*◌, ◌<◌, ◌≤◌, ◌⊎◌, List, [], ◌∷◌, length, Some, slice_get}
 use Rattle.gos_model.specs.Labels.{Label}
 use Rattle.gos_model.specs.Moves.{Program, Config, Idle, Act, Moves, labels, Stalled}
-use Rattle.gos_model.specs.Nets.{Netlist}
-use Rattle.gos_model.specs.Settling.{Numbers, IsRun}
+use Rattle.gos_netlist.specs.Nets.{Netlist}
+use Rattle.gos_netlist.specs.Settling.{Numbers, IsRun}
 use Rattle.gos_model.specs.Flattening.{Flattening}
 use Rattle.gos_model.specs.Protocol.{InputsInRange, RunKeeps}
 

@@ -5,9 +5,10 @@ use Rattle.std.specs.Prelude.{◌≡◌, ℕ, zero, suc, ◌^◌, ◌<◌, Bool,
 use Rattle.std.specs.Str.{bytes_eq}
 use Rattle.gos_types.specs.Types.{Type'}
 use Rattle.gos_model.specs.Typing.{Imports, import_type}
-use Rattle.gos_model.specs.Labels.{Port, Given, Taken, Label, Event, Is, Answer, events, is_answer, is_output_at, is_output}
-use Rattle.gos_model.specs.Nets.{Input, Cell, Side, Give, Take, NetPort, Netlist}
-use Rattle.gos_model.specs.Settling.{Numbers, at}
+use Rattle.gos_model.specs.Labels.{Port, Given, Taken, Label, is_answer, is_output_at, is_output}
+use Rattle.gos_netlist.specs.Events.{Event, Is, Answer, events}
+use Rattle.gos_netlist.specs.Nets.{Input, Cell, Side, Give, Take, NetPort, Netlist}
+use Rattle.gos_netlist.specs.Settling.{Numbers, at}
 use Rattle.gos_model.specs.Flattening.{port_of, Flattening, flat}
 
 -- the number of an event's handshake within its port

@@ -1,14 +1,20 @@
--- A small circuit that keeps pace with its program, for every list of inputs, and one that does not.
+-- The pulses of a small circuit; one that keeps pace with its program, for every list of inputs, and one that does not.
 --
--- Read first: Pace, SmallNets. They show that keeping pace can be met and can be missed.
+-- Read first: Pace; SmallNets of gos_netlist. They show that keeping pace can be met and can be missed.
 use Rattle.std.specs.Prelude.{[], ◌∷◌, codes}
 use Rattle.gos_types.specs.Types.{Com}
 use Rattle.gos_model.specs.Terms.{Skip}
 use Rattle.gos_model.specs.Weight.{weight}
+use Rattle.gos_model.specs.Labels.{given}
 use Rattle.gos_model.specs.Moves.{Program}
-use Rattle.gos_model.specs.Nets.{Netlist, Input, Const, Reg, Give}
-use Rattle.gos_model.specs.SmallNets.{bit}
+use Rattle.gos_netlist.specs.Nets.{Netlist, Input, Const, Reg, Give}
+use Rattle.gos_netlist.specs.SmallNets.{bit, latch, latch_values}
+use Rattle.gos_model.specs.Flattening.{Flattening}
 use Rattle.gos_model.specs.Pace.{KeepsPaceAlways}
+
+-- the latch of SmallNets: run in cycle 0, done in the cycles 1 and 2
+abbrev pub LatchFlattens : Type 0
+LatchFlattens = Flattening latch latch_values ((given 0 0 ∷ []) ∷ (given 1 0 ∷ []) ∷ (given 1 0 ∷ []) ∷ [])
 
 -- `skip`
 abbrev pub skip : Program

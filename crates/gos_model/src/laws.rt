@@ -1,8 +1,7 @@
 // What the definitions say, in small. Each theorem is the contract of a function that does nothing.
-ghost use Rattle.gos_model.specs.Laws.{AcyclicSettles, AcyclicSettlesOnce, NodeHasType, OneType, StepsHavePaths};
+ghost use Rattle.gos_model.specs.Laws.{NodeHasType, OneType, StepsHavePaths};
 ghost use Rattle.gos_model.specs.SmallModules.{Weights, Types, Shared, Links};
-ghost use Rattle.gos_model.specs.SmallNets.{LatchRuns, LatchText, LoopedGates};
-ghost use Rattle.gos_model.specs.SmallPace.{SilentLags, SkipKeepsPace};
+ghost use Rattle.gos_model.specs.SmallPace.{LatchFlattens, SilentLags, SkipKeepsPace};
 ghost use Rattle.gos_model.specs.SmallPrograms.{
   SeqRuns,
   SeqWaits,
@@ -30,13 +29,6 @@ pub fn small_traces()
     ensures zero { NewIsZero }
 {}
 
-/// A latch runs and has its text, and two gates in a ring are a combinational cycle.
-pub fn small_nets()
-    ensures latch { LatchRuns }
-    ensures text { LatchText }
-    ensures ring { LoopedGates }
-{}
-
 /// Modules have their weights and types, a name in both parts is refused, and a link puts the giver in.
 pub fn small_modules()
     ensures weights { Weights }
@@ -56,10 +48,9 @@ pub fn reached_places()
     ensures { StepsHavePaths }
 {}
 
-/// Cells without a combinational cycle have exactly one settling for given registers and inputs.
-pub fn settlings()
-    ensures some { AcyclicSettles }
-    ensures one { AcyclicSettlesOnce }
+/// The pulses of a latch are run in cycle 0, and done in all later ones.
+pub fn latch_pulses()
+    ensures { LatchFlattens }
 {}
 
 /// The circuit of `skip` keeps pace with it, for every list of inputs, and one that never answers does not.

@@ -5,7 +5,7 @@ use Rattle.std.specs.FinMap.{get}
 use Rattle.gos_outside.specs.Files.{Files, bytes_at, SameBut}
 use Rattle.gos_outside.specs.OtherFiles.{OthersSame}
 use Rattle.gos_tool.specs.Files.{IsReadWhole}
-use Rattle.gos_tool.specs.Lines.{Word, all_differ}
+use Rattle.gos_lines.specs.Lines.{Word, all_differ}
 use Rattle.gos_tool.specs.BuildFile.{BuildFile, IsBuildFile, build_lines, files_of}
 use Rattle.std.specs.Str.{bytes_eq}
 use Rattle.std.proofs.lemmas.Slice.Eq.{bytes_eq-Decides}

@@ -10,9 +10,9 @@ use Rattle.std.proofs.lemmas.List.Elements.{All-from_recursion}
 use Rattle.std.proofs.lemmas.Option.{slice_get_within}
 use Rattle.gos_outside.proofs.FilesLemmas.{others_keep}
 use Rattle.gos_outside.specs.Files.{Files, bytes_at, with_file, SameBut}
-use Rattle.gos_model.specs.Nets.{Give, Take, Netlist}
-use Rattle.gos_model.specs.NetText.{text_of}
-use Rattle.gos_tool.specs.Lines.{Word, Words, content_of}
+use Rattle.gos_netlist.specs.Nets.{Give, Take, Netlist}
+use Rattle.gos_netlist.specs.NetText.{text_of}
+use Rattle.gos_lines.specs.Lines.{Word, Words, content_of}
 use Rattle.gos_tool.specs.BuildFile.{BuildFile}
 use Rattle.gos_tool.specs.SourceFile.{Sequence, IsWellFormed}
 use Rattle.gos_tool.specs.PulseFile.{IsPulseFile, AreEntries, SaysPulses as SaysLines, input_names}

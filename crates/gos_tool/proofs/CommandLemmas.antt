@@ -10,11 +10,11 @@ use Rattle.std.proofs.lemmas.Option.{slice_get_within, slice_get-get_or, get_or_
 use Rattle.std.proofs.lemmas.Slice.Eq.{bytes_eq-Decides}
 use Rattle.gos_types.specs.Types.{Type', Com}
 use Rattle.gos_model.specs.Labels.{Port, Given, Taken, Label, is_output}
-use Rattle.gos_model.specs.Nets.{Side, Give, Take, Cell, NetPort, Netlist}
-use Rattle.gos_model.specs.Settling.{Numbers, at}
+use Rattle.gos_netlist.specs.Nets.{Side, Give, Take, Cell, NetPort, Netlist}
+use Rattle.gos_netlist.specs.Settling.{Numbers, at}
 use Rattle.gos_model.specs.Flattening.{port_of, port_pulses, pulses}
 use Rattle.gos_model.specs.Protocol.{same_port}
-use Rattle.gos_tool.specs.Lines.{all_differ}
+use Rattle.gos_lines.specs.Lines.{all_differ}
 use Rattle.gos_tool.specs.Trace.{port_at, cycle_pulses}
 use Rattle.gos_tool.specs.Drivable.{AreCommandNets, IsCommandPort, GivesFirst, IsDrivable}
 use Rattle.gos_tool.specs.Commands.{output_event, input_event, label_port, event_pulse, event_pulses, AreApart}

@@ -2,9 +2,10 @@
 use Rattle.std.proofs.Common.{◌≡◌, ◌<◌, ◌≤◌, ◌^◌, ℕ, suc, Bool, true, false, not, ◌&&◌, cond, List, [], ◌∷◌, ◌++◌, refl, sym, arith, All, length, get_or, reverse, subst, ◌∙◌, pow_mono}
 use Rattle.std.proofs.lemmas.Option.{slice_get_within}
 use Rattle.gos_types.specs.Types.{Type', Com}
-use Rattle.gos_model.specs.Labels.{Port, Label, events}
-use Rattle.gos_model.specs.Nets.{Side, Give, Take, Cell, NetPort, Netlist}
-use Rattle.gos_model.specs.Settling.{Numbers, at, Settling, next_registers}
+use Rattle.gos_model.specs.Labels.{Port, Label}
+use Rattle.gos_netlist.specs.Events.{events}
+use Rattle.gos_netlist.specs.Nets.{Side, Give, Take, Cell, NetPort, Netlist}
+use Rattle.gos_netlist.specs.Settling.{Numbers, at, Settling, next_registers}
 use Rattle.gos_model.specs.Flattening.{port_of, if_pulse, outputs, inputs, AnyOrder}
 use Rattle.gos_model.specs.Protocol.{IsQuietFrom, IsQuiet, IsInRange}
 use Rattle.gos_tool.specs.declared.driver.Board.{Board}

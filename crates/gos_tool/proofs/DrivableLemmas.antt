@@ -5,9 +5,9 @@ use Rattle.std.specs.List.{AllByRecursion}
 use Rattle.std.specs.Str.{bytes_eq}
 use Rattle.std.proofs.lemmas.List.Elements.{All-from_recursion}
 use Rattle.gos_types.specs.Types.{Com}
-use Rattle.gos_model.specs.Nets.{Input, Const, Reg, Cell, pins, NetPort, Take}
-use Rattle.gos_model.specs.Cycles.{IsRegister}
-use Rattle.gos_tool.specs.Lines.{Word, Words, all_differ}
+use Rattle.gos_netlist.specs.Nets.{Input, Const, Reg, Cell, pins, NetPort, Take}
+use Rattle.gos_netlist.specs.Cycles.{IsRegister}
+use Rattle.gos_lines.specs.Lines.{Word, Words, all_differ}
 use Rattle.gos_tool.specs.SourceFile.{Sequence, IsWellFormed}
 use Rattle.gos_tool.specs.Circuit.{bit, run_net, done_net, place_in, done_of, before, after_all, import_cells, all_cells, root_port, import_ports, circuit_of}
 use Rattle.gos_tool.specs.Drivable.{IsSized, IsOrdered, IsCommandPort, IsDrivable, input_net}

@@ -1,6 +1,6 @@
 -- What a status says, where its line could be printed or not.
 use Rattle.std.proofs.Common.{sym, subst, inl, inr}
-use Rattle.gos_tool.specs.Lines.{Word}
+use Rattle.gos_lines.specs.Lines.{Word}
 use Rattle.gos_tool.specs.Ends.{rejected_as, IfRejected, IsSaid}
 use Rattle.gos_tool.specs.declared.status.Status.{Status}
 

@@ -1,6 +1,6 @@
 -- Lines that are entries one by one.
 use Rattle.std.proofs.Common.{List, [], ◌∷◌}
-use Rattle.gos_tool.specs.Lines.{Word, Words}
+use Rattle.gos_lines.specs.Lines.{Word, Words}
 use Rattle.gos_tool.specs.PulseFile.{IsEntry, AreEntries}
 use Rattle.gos_tool.specs.declared.pulse_file.Entry.{Entry}
 

@@ -6,7 +6,7 @@ use Rattle.std.proofs.lemmas.List.{append_assoc, reverse-append}
 use Rattle.gos_types.specs.Types.{Com}
 use Rattle.gos_model.specs.Typing.{Imports, import_type}
 use Rattle.gos_model.specs.Labels.{Label}
-use Rattle.gos_model.specs.Nets.{Side, Give, Take, Cell, NetPort, Netlist}
+use Rattle.gos_netlist.specs.Nets.{Side, Give, Take, Cell, NetPort, Netlist}
 use Rattle.gos_model.specs.Flattening.{port_of, AnyOrder}
 use Rattle.gos_model.specs.Protocol.{is_open, Allowed, taken_by, with_side}
 use Rattle.gos_tool.specs.declared.pulse_file.Entry.{Entry}

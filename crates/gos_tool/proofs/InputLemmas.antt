@@ -2,8 +2,8 @@
 use Rattle.std.specs.Prelude.{slice_get}
 use Rattle.std.proofs.Common.{◌≡◌, ◌≢◌, ◌<◌, ◌+◌, ℕ, Bool, false, not, ◌&&◌, cond, List, [], ◌∷◌, refl, sym, arith, length, get_or, set, Some, Option, subst, ◌∙◌, below_more, get_or-set_other, get_or-set_same}
 use Rattle.std.proofs.lemmas.Option.{slice_get_within}
-use Rattle.gos_model.specs.Nets.{Side, Give, Take, Cell, NetPort, Netlist}
-use Rattle.gos_model.specs.Settling.{Numbers, at}
+use Rattle.gos_netlist.specs.Nets.{Side, Give, Take, Cell, NetPort, Netlist}
+use Rattle.gos_netlist.specs.Settling.{Numbers, at}
 use Rattle.gos_tool.specs.Drivable.{AreCommandNets, IsCommandPort, IsDrivable, IsInputBit, IsRegisterBit, net_in}
 use Rattle.gos_tool.specs.Commands.{output_event, input_event, event_net}
 use Rattle.gos_tool.proofs.CommandLemmas.{all_at}

@@ -1,12 +1,9 @@
-mod LineLemmas
-mod NumberLemmas
 mod BuildLemmas
 mod EntryLemmas
 mod LexemeLemmas
 mod SourceLemmas
 mod FewLemmas
 mod FilesLemmas
-mod WordLemmas
 mod NameLemmas
 mod WeightLemmas
 mod CellLemmas

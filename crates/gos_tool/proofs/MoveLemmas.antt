@@ -7,7 +7,7 @@ use Rattle.gos_model.specs.Typing.{Imports, import_type}
 use Rattle.gos_model.specs.Reach.{Unfolds}
 use Rattle.gos_model.specs.Labels.{Label, given, taken, IsAnswer, is_output}
 use Rattle.gos_model.specs.Moves.{Program, Config, Idle, Running, Act, Computing, Showing, Unfoldings, ActsTo, Move, Moves, labels, Stalled}
-use Rattle.gos_tool.specs.Lines.{Word, Words}
+use Rattle.gos_lines.specs.Lines.{Word, Words}
 use Rattle.gos_tool.specs.Program.{body_from}
 use Rattle.gos_tool.proofs.WeightLemmas.{commands}
 

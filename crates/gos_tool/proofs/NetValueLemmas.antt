@@ -3,10 +3,10 @@ use Rattle.std.proofs.Common.{◌≡◌, ◌<◌, ℕ, Bool, true, false, cond, 
 use Rattle.std.specs.Prelude.{slice_get}
 use Rattle.std.specs.Str.{bytes_eq}
 use Rattle.std.proofs.lemmas.Option.{get_or_from_slice_get, slice_get-map}
-use Rattle.gos_model.specs.Nets.{Input, Const, Reg, Cell}
-use Rattle.gos_model.specs.Settling.{Numbers, at, Settling, next_of, next_registers}
+use Rattle.gos_netlist.specs.Nets.{Input, Const, Reg, Cell}
+use Rattle.gos_netlist.specs.Settling.{Numbers, at, Settling, next_of, next_registers}
 use Rattle.gos_model.specs.Protocol.{IsInRange}
-use Rattle.gos_tool.specs.Lines.{Word, Words}
+use Rattle.gos_lines.specs.Lines.{Word, Words}
 use Rattle.gos_tool.specs.Circuit.{bit, done_of, before, after_all, all_cells}
 use Rattle.gos_tool.proofs.NameLemmas.{In, Differ, test_same, test_differ, in_back}
 use Rattle.gos_tool.proofs.CellLemmas.{run_of, run_cell, done_cell}

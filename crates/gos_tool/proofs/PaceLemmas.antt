@@ -4,11 +4,11 @@ use Rattle.std.specs.Prelude.{slice_get, replicate}
 use Rattle.std.specs.Str.{bytes_eq}
 use Rattle.gos_model.specs.Labels.{Label, Given, Taken}
 use Rattle.gos_model.specs.Moves.{Program, Config, Idle, Act, Showing, Moves, labels, Stalled}
-use Rattle.gos_model.specs.Settling.{Numbers, at, Settling, RunFrom, next_registers}
+use Rattle.gos_netlist.specs.Settling.{Numbers, at, Settling, RunFrom, next_registers}
 use Rattle.gos_model.specs.Flattening.{outputs, inputs, AnyOrder, Flattening}
 use Rattle.gos_model.specs.Protocol.{is_open, IsInRange, InputsInRange}
 use Rattle.gos_model.specs.Pace.{pace, Turn, Follows, config_after, MovesWithin, KeepsPaceAlways}
-use Rattle.gos_tool.specs.Lines.{Word, Words}
+use Rattle.gos_lines.specs.Lines.{Word, Words}
 use Rattle.gos_tool.specs.SourceFile.{Sequence, IsWellFormed}
 use Rattle.gos_tool.specs.Program.{program_of, weight_of}
 use Rattle.gos_tool.specs.Circuit.{done_of, all_cells, circuit_of}

@@ -3,11 +3,11 @@ use Rattle.std.proofs.Common.{◌≡◌, true, false, List, [], ◌∷◌, ◌++
 use Rattle.std.specs.Prelude.{IsFalse}
 use Rattle.gos_model.specs.Typing.{Imports}
 use Rattle.gos_model.specs.Labels.{Label, given, taken, Given, Taken, is_output}
-use Rattle.gos_model.specs.Nets.{Netlist}
-use Rattle.gos_model.specs.Settling.{Numbers, at}
+use Rattle.gos_netlist.specs.Nets.{Netlist}
+use Rattle.gos_netlist.specs.Settling.{Numbers, at}
 use Rattle.gos_model.specs.Flattening.{outputs, inputs, AnyOrder, Flattening, flat, if_pulse}
 use Rattle.gos_model.specs.Protocol.{is_open, Allowed, KeepsAfter, taken_by}
-use Rattle.gos_tool.specs.Lines.{Word, Words}
+use Rattle.gos_lines.specs.Lines.{Word, Words}
 use Rattle.gos_tool.specs.Circuit.{done_of}
 use Rattle.gos_tool.proofs.NameLemmas.{In, Differ}
 use Rattle.gos_tool.proofs.PulseLemmas.{circuit, pulsing, inputs_are, a_pulse, Has, has_after, has_pulse, own_order, comes_first}

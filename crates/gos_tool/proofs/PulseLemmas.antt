@@ -2,10 +2,10 @@
 use Rattle.std.proofs.Common.{◌≡◌, ℕ, Bool, true, false, not, cond, List, [], ◌∷◌, ◌++◌, inl, inr, map, arith, refl, sym, ◌∙◌, ap, subst, append_assoc}
 use Rattle.std.specs.Prelude.{filter, nat_eq}
 use Rattle.gos_model.specs.Labels.{Label, given, taken, is_output}
-use Rattle.gos_model.specs.Nets.{Netlist}
-use Rattle.gos_model.specs.Settling.{Numbers, at}
+use Rattle.gos_netlist.specs.Nets.{Netlist}
+use Rattle.gos_netlist.specs.Settling.{Numbers, at}
 use Rattle.gos_model.specs.Flattening.{if_pulse, pulses, outputs, inputs, AnyOrder}
-use Rattle.gos_tool.specs.Lines.{Word, Words}
+use Rattle.gos_lines.specs.Lines.{Word, Words}
 use Rattle.gos_tool.specs.Circuit.{done_of, all_cells, root_port, import_ports}
 use Rattle.gos_tool.proofs.NameLemmas.{In, Differ}
 use Rattle.gos_tool.proofs.CellLemmas.{run_of, port_at, ports_are}

@@ -5,8 +5,8 @@ use Rattle.std.proofs.lemmas.List.{append_assoc, append-nil, reverse-append, tak
 use Rattle.std.proofs.lemmas.Grind.{flat_map-append}
 use Rattle.std.proofs.lemmas.Option.{slice_get_within, slice_get-get_or, get_or_from_slice_get}
 use Rattle.gos_model.specs.Labels.{Label, is_answer}
-use Rattle.gos_model.specs.Nets.{Side, Give, Take, NetPort, Netlist}
-use Rattle.gos_model.specs.Settling.{Numbers, at}
+use Rattle.gos_netlist.specs.Nets.{Side, Give, Take, NetPort, Netlist}
+use Rattle.gos_netlist.specs.Settling.{Numbers, at}
 use Rattle.gos_model.specs.Protocol.{same_port, shake_of}
 use Rattle.gos_tool.specs.Drivable.{IsDrivable}
 use Rattle.gos_tool.specs.Commands.{output_event, input_event, label_port, event_label, event_net, event_pulse, event_pulses, AreApart}

@@ -4,11 +4,11 @@ use Rattle.std.proofs.Common.{◌≡◌, ◌+◌, ℕ, suc, Bool, List, [], ◌�
 use Rattle.std.proofs.lemmas.List.{append_assoc, append-nil, length-append}
 use Rattle.std.proofs.lemmas.List.Sums.{sum_by-append}
 use Rattle.gos_model.specs.Labels.{Label}
-use Rattle.gos_model.specs.Nets.{Netlist}
-use Rattle.gos_model.specs.Settling.{Numbers, RunFrom}
+use Rattle.gos_netlist.specs.Nets.{Netlist}
+use Rattle.gos_netlist.specs.Settling.{Numbers, RunFrom}
 use Rattle.gos_model.specs.Flattening.{outputs}
 use Rattle.gos_model.specs.Protocol.{InputsInRange}
-use Rattle.gos_model.specs.NetText.{line, spaced}
+use Rattle.gos_netlist.specs.NetText.{line, spaced}
 use Rattle.gos_tool.specs.declared.driver.Board.{Board}
 use Rattle.gos_tool.specs.declared.driver.Traced.{Traced}
 use Rattle.gos_tool.specs.declared.pulse_file.Entry.{Entry}

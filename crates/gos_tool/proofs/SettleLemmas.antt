@@ -2,11 +2,11 @@
 use Rattle.std.specs.Prelude.{slice_get}
 use Rattle.std.proofs.Common.{◌≡◌, ◌≢◌, ◌<◌, ◌≤◌, ◌+◌, ℕ, zero, suc, List, [], ◌∷◌, ◌⊎◌, inl, inr, refl, sym, arith, All, map, length, get_or, set, Some, get_or-set_other, get_or-set_same, below_more, subst, ◌∙◌, Option}
 use Rattle.std.proofs.lemmas.List.{length-map}
-use Rattle.gos_model.specs.Nets.{Function, Input, Const, Not, And, Or, Xor, Mux, Add, Sub, Eq, Less, Gate, Reg, Cell, pins}
-use Rattle.gos_model.specs.Settling.{Numbers, at, shown}
-use Rattle.gos_model.specs.Cycles.{IsRegister}
-use Rattle.gos_model.specs.Seen.{cell_of, function_of}
-use Rattle.gos_model.specs.declared.nets.Cell as cells
+use Rattle.gos_netlist.specs.Nets.{Function, Input, Const, Not, And, Or, Xor, Mux, Add, Sub, Eq, Less, Gate, Reg, Cell, pins}
+use Rattle.gos_netlist.specs.Settling.{Numbers, at, shown}
+use Rattle.gos_netlist.specs.Cycles.{IsRegister}
+use Rattle.gos_netlist.specs.Seen.{cell_of, function_of}
+use Rattle.gos_netlist.specs.declared.nets.Cell as cells
 use Rattle.gos_tool.specs.Drivable.{IsOrdered, IsSized}
 
 -- the equations of the cells below a place are met

@@ -4,7 +4,7 @@ use Rattle.std.proofs.lemmas.List.{take_all, length-drop, drop-drop}
 use Rattle.gos_lex.specs.declared.word.Word.TheVariants.{Export}
 use Rattle.gos_lex.specs.Tokens.{Reading, AName, AWord, readings_of}
 use Rattle.gos_lex.proofs.OneReadingLemmas.{reads_in_one_way}
-use Rattle.gos_tool.specs.Lines.{Word}
+use Rattle.gos_lines.specs.Lines.{Word}
 use Rattle.gos_tool.specs.SourceFile.{Sequence, import_readings, then_readings, type_readings, sequence_readings, HasReadings}
 use Rattle.gos_tool.specs.Lexemes.{all_seen, BeginsNoImport, BeginsNoExport, BeginsNoThen}
 use Rattle.gos_tool.specs.declared.lexemes.Lexeme.{Lexeme}

@@ -4,10 +4,10 @@ use Rattle.std.specs.Str.{bytes_eq}
 use Rattle.gos_model.specs.Terms.{Skip}
 use Rattle.gos_model.specs.Labels.{Label, given, taken, Given, Taken}
 use Rattle.gos_model.specs.Moves.{Running, Computing, Showing}
-use Rattle.gos_model.specs.Settling.{Numbers, at, next_registers}
+use Rattle.gos_netlist.specs.Settling.{Numbers, at, next_registers}
 use Rattle.gos_model.specs.Flattening.{inputs, AnyOrder}
 use Rattle.gos_model.specs.Protocol.{is_open}
-use Rattle.gos_tool.specs.Lines.{Word, Words}
+use Rattle.gos_lines.specs.Lines.{Word, Words}
 use Rattle.gos_tool.specs.Program.{body_from}
 use Rattle.gos_tool.specs.Circuit.{done_of, before, after_all, all_cells}
 use Rattle.gos_tool.proofs.NameLemmas.{In, Differ, is_same_or, in_middle}

@@ -4,10 +4,10 @@ use Rattle.std.specs.Str.{bytes_eq}
 use Rattle.gos_model.specs.Terms.{Skip, Wait}
 use Rattle.gos_model.specs.Labels.{Label, given, taken, Given, Taken}
 use Rattle.gos_model.specs.Moves.{Config, Idle, Running, Act, Showing, Moves, labels}
-use Rattle.gos_model.specs.Settling.{Numbers, at, Settling}
+use Rattle.gos_netlist.specs.Settling.{Numbers, at, Settling}
 use Rattle.gos_model.specs.Flattening.{if_pulse, outputs, AnyOrder}
 use Rattle.gos_model.specs.Protocol.{is_open}
-use Rattle.gos_tool.specs.Lines.{Word, Words}
+use Rattle.gos_lines.specs.Lines.{Word, Words}
 use Rattle.gos_tool.specs.Program.{body_from}
 use Rattle.gos_tool.specs.Circuit.{all_cells}
 use Rattle.gos_tool.proofs.NameLemmas.{In, Differ, test_same, test_differ, in_middle}

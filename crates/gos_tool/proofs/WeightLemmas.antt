@@ -6,7 +6,7 @@ use Rattle.gos_types.specs.Types.{Com}
 use Rattle.gos_model.specs.Terms.{Term, Import, Seq}
 use Rattle.gos_model.specs.Typing.{Imports, import_type}
 use Rattle.gos_model.specs.Weight.{node_type, nodes_weight, count}
-use Rattle.gos_tool.specs.Lines.{Word, Words}
+use Rattle.gos_lines.specs.Lines.{Word, Words}
 use Rattle.gos_tool.specs.SourceFile.{Sequence, IsWellFormed}
 use Rattle.gos_tool.specs.Program.{imports_of, body_from, weight_of}
 use Rattle.gos_tool.proofs.NameLemmas.{In, all_in, test_same, is_same_or, test_differ}

@@ -3,7 +3,7 @@ use Rattle.std.proofs.Common.{◌≡◌, ℕ, Option, Some, None, sym, ◌∙◌
 use Rattle.std.specs.Prelude.{◌⊎◌, IfSome}
 use Rattle.gos_outside.specs.Files.{Files, bytes_at}
 use Rattle.gos_outside.specs.Faults.{Rose}
-use Rattle.gos_tool.specs.Lines.{Word}
+use Rattle.gos_lines.specs.Lines.{Word}
 use Rattle.gos_tool.specs.BuildFile.{BuildFile}
 use Rattle.gos_tool.specs.SourceFile.{Sequence, sequence_readings}
 use Rattle.gos_tool.specs.Command.{SaysModule, PulsesRight, ModuleRight, AllRight, WrongModule, FirstWrong}

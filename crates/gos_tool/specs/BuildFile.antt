@@ -3,7 +3,7 @@ use Rattle.std.specs.Prelude.{◌≡◌, ◌≤◌, ℕ, List, [], ◌∷◌, Is
 use Rattle.std.specs.List.{AllByRecursion}
 use Rattle.gos_outside.specs.FileName.{IsFileName}
 use Rattle.gos_lex.specs.Names.{IsName}
-use Rattle.gos_tool.specs.Lines.{Word, Words, all_differ, content_of}
+use Rattle.gos_lines.specs.Lines.{Word, Words, all_differ, content_of}
 use Rattle.gos_tool.specs.declared.build_file.Build.{Build}
 
 -- what a build file says: the instance, and the files

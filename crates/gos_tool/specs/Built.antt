@@ -5,12 +5,12 @@
 use Rattle.std.specs.Prelude.{◌≡◌, ◌⊎◌, ℕ, List, Option, Some, None, IfSome}
 use Rattle.std.specs.FinMap.{get}
 use Rattle.gos_outside.specs.Files.{Files, with_file}
-use Rattle.gos_model.specs.Nets.{Netlist}
-use Rattle.gos_model.specs.NetText.{text_of}
-use Rattle.gos_model.specs.Settling.{Numbers}
+use Rattle.gos_netlist.specs.Nets.{Netlist}
+use Rattle.gos_netlist.specs.NetText.{text_of}
+use Rattle.gos_netlist.specs.Settling.{Numbers}
 use Rattle.gos_outside.specs.Written.{appended, AppendsPrefix}
 use Rattle.gos_tool.specs.Report.{report_line, fault_line}
-use Rattle.gos_tool.specs.Lines.{Word}
+use Rattle.gos_lines.specs.Lines.{Word}
 use Rattle.gos_tool.specs.BuildFile.{BuildFile}
 use Rattle.gos_tool.specs.SourceFile.{Sequence}
 use Rattle.gos_tool.specs.Command.{SaysBuild, SaysModule, SaysPulses, FirstWrong}

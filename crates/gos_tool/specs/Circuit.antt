@@ -7,8 +7,8 @@
 use Rattle.std.specs.Prelude.{ℕ, suc, ◌+◌, ◌*◌, List, [], ◌∷◌, if◌then◌else◌}
 use Rattle.std.specs.Str.{bytes_eq}
 use Rattle.gos_types.specs.Types.{Com}
-use Rattle.gos_model.specs.Nets.{Function, Input, Const, Reg, Cell, NetPort, Netlist, Give, Take}
-use Rattle.gos_tool.specs.Lines.{Word}
+use Rattle.gos_netlist.specs.Nets.{Function, Input, Const, Reg, Cell, NetPort, Netlist, Give, Take}
+use Rattle.gos_lines.specs.Lines.{Word}
 use Rattle.gos_tool.specs.SourceFile.{Sequence}
 
 -- a cell of one bit

@@ -7,7 +7,7 @@ use Rattle.gos_outside.specs.FileName.{IsFileName}
 use Rattle.gos_outside.specs.Files.{Files, bytes_at}
 use Rattle.gos_outside.specs.OtherFiles.{OthersSame}
 use Rattle.gos_outside.specs.Faults.{LastFault, ReadFault, WriteFault}
-use Rattle.gos_tool.specs.Lines.{Word}
+use Rattle.gos_lines.specs.Lines.{Word}
 use Rattle.gos_tool.specs.BuildFile.{BuildFile, IsBuildFile}
 use Rattle.gos_tool.specs.SourceFile.{Sequence, IsSourceFile}
 use Rattle.gos_tool.specs.PulseFile.{IsPulseFile, input_names}

@@ -2,8 +2,8 @@
 use Rattle.std.specs.Prelude.{◌≡◌, ℕ, List, Some, get_or, slice_get, IsTrue}
 use Rattle.std.specs.List.{flat_map}
 use Rattle.gos_model.specs.Labels.{Port, Label}
-use Rattle.gos_model.specs.Nets.{Side, Give, Take, NetPort}
-use Rattle.gos_model.specs.Settling.{Numbers, at}
+use Rattle.gos_netlist.specs.Nets.{Side, Give, Take, NetPort}
+use Rattle.gos_netlist.specs.Settling.{Numbers, at}
 use Rattle.gos_model.specs.Flattening.{port_of, if_pulse}
 use Rattle.gos_model.specs.Protocol.{same_port}
 

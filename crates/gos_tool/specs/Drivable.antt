@@ -1,9 +1,9 @@
 -- Netlists that the driver runs: their cells can be settled in their order, and their ports carry commands.
 use Rattle.std.specs.Prelude.{◌≡◌, ◌<◌, ◌≤◌, ◌^◌, ℕ, List, [], ◌∷◌, ◌⊎◌, All, IsTrue, length, map, Some, slice_get}
 use Rattle.gos_types.specs.Types.{Com}
-use Rattle.gos_model.specs.Nets.{Function, Input, Const, Reg, Cell, pins, Side, Give, Take, NetPort, Netlist}
-use Rattle.gos_model.specs.Cycles.{IsRegister}
-use Rattle.gos_tool.specs.Lines.{all_differ}
+use Rattle.gos_netlist.specs.Nets.{Function, Input, Const, Reg, Cell, pins, Side, Give, Take, NetPort, Netlist}
+use Rattle.gos_netlist.specs.Cycles.{IsRegister}
+use Rattle.gos_lines.specs.Lines.{all_differ}
 
 -- each pin of a cell is a net, and one with a smaller number where the cell is no register
 abbrev pub IsOrdered : List Cell → Type 0

@@ -1,8 +1,8 @@
 -- What a run keeps between two cycles, and what one cycle does.
 use Rattle.std.specs.Prelude.{◌≡◌, ◌≤◌, ℕ, Bool, false, not, ◌&&◌, cond, List, ◌++◌, length, All, reverse, get_or, Some, slice_get}
 use Rattle.gos_model.specs.Labels.{Label}
-use Rattle.gos_model.specs.Nets.{NetPort, Netlist}
-use Rattle.gos_model.specs.Settling.{Numbers, at, Settling, next_registers}
+use Rattle.gos_netlist.specs.Nets.{NetPort, Netlist}
+use Rattle.gos_netlist.specs.Settling.{Numbers, at, Settling, next_registers}
 use Rattle.gos_model.specs.Flattening.{outputs, inputs, AnyOrder}
 use Rattle.gos_model.specs.Protocol.{IsInRange}
 use Rattle.gos_tool.specs.declared.driver.Board.{Board}

@@ -5,8 +5,8 @@
 -- inputs allows it. This is repeated until an entry is not given or none is left.
 use Rattle.std.specs.Prelude.{◌≡◌, ℕ, suc, ◌+◌, ◌≤◌, List, [], ◌∷◌, ◌++◌, length, reverse, map, Some, slice_get}
 use Rattle.gos_model.specs.Labels.{Label, given, taken}
-use Rattle.gos_model.specs.Nets.{Side, Give, Take, NetPort, Netlist}
-use Rattle.gos_model.specs.Settling.{Numbers, IsRun}
+use Rattle.gos_netlist.specs.Nets.{Side, Give, Take, NetPort, Netlist}
+use Rattle.gos_netlist.specs.Settling.{Numbers, IsRun}
 use Rattle.gos_model.specs.Flattening.{outputs, inputs, AnyOrder}
 use Rattle.gos_model.specs.Protocol.{Allowed, taken_by, InputsInRange}
 use Rattle.gos_tool.specs.declared.pulse_file.Entry.{Entry}

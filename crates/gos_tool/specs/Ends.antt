@@ -1,7 +1,7 @@
 -- How a command may end.
 use Rattle.std.specs.Prelude.{◌≡◌, ◌⊎◌, ℕ}
 use Rattle.gos_outside.specs.Faults.{Rose}
-use Rattle.gos_tool.specs.Lines.{Word}
+use Rattle.gos_lines.specs.Lines.{Word}
 use Rattle.gos_tool.specs.declared.status.Status.{Status}
 use Rattle.gos_tool.specs.declared.status.Status.TheVariants.{Rejected, SinkFailed, NoMemory}
 use Rattle.gos_tool.specs.declared.status.Cause.TheVariants.{NotBuilt}

@@ -6,10 +6,10 @@
 -- Read first: Pace of gos_model, Program, Drivable.
 use Rattle.std.specs.Prelude.{◌≡◌, ℕ, List, ◌∷◌, map}
 use Rattle.gos_types.specs.Types.{Type', Com}
-use Rattle.gos_model.specs.Nets.{Side, Give, Take, NetPort, Netlist}
-use Rattle.gos_model.specs.Cycles.{CombinationalCycle}
+use Rattle.gos_netlist.specs.Nets.{Side, Give, Take, NetPort, Netlist}
+use Rattle.gos_netlist.specs.Cycles.{CombinationalCycle}
 use Rattle.gos_model.specs.Pace.{KeepsPaceAlways}
-use Rattle.gos_tool.specs.Lines.{Word}
+use Rattle.gos_lines.specs.Lines.{Word}
 use Rattle.gos_tool.specs.SourceFile.{Sequence}
 use Rattle.gos_tool.specs.Program.{program_of, weight_of}
 use Rattle.gos_tool.specs.Drivable.{IsDrivable}

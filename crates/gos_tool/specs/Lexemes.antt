@@ -4,7 +4,7 @@ use Rattle.gos_lex.specs.declared.word.Word.TheVariants.{Import, Export, Com}
 use Rattle.gos_lex.specs.declared.sign.Sign.TheVariants.{Colon, Semicolon}
 use Rattle.gos_lex.specs.declared.token.Span.{Span}
 use Rattle.gos_lex.specs.Tokens.{Reading, AName, ANumber, AWord, ASign}
-use Rattle.gos_tool.specs.Lines.{Word}
+use Rattle.gos_lines.specs.Lines.{Word}
 use Rattle.gos_tool.specs.declared.lexemes.Lexeme.{Lexeme}
 use Rattle.gos_tool.specs.declared.lexemes.Lexeme.TheVariants as lexemes
 

@@ -1,4 +1,3 @@
-pub mod Lines
 pub mod Files
 pub mod BuildFile
 pub mod SourceFile

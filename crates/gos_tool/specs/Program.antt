@@ -5,7 +5,7 @@ use Rattle.gos_model.specs.Terms.{Term, Import, Seq}
 use Rattle.gos_model.specs.Typing.{Imports}
 use Rattle.gos_model.specs.Weight.{weight}
 use Rattle.gos_model.specs.Moves.{Program}
-use Rattle.gos_tool.specs.Lines.{Word}
+use Rattle.gos_lines.specs.Lines.{Word}
 use Rattle.gos_tool.specs.SourceFile.{Sequence}
 
 -- the imports, all commands

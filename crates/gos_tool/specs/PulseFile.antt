@@ -1,12 +1,8 @@
 -- The form of a pulse file of `next` entries without values.
-use Rattle.std.specs.Prelude.{◌≡◌, ◌≤◌, ℕ, List, [], ◌∷◌, ◌++◌, IsTrue, Some, length, map, codes, slice_get}
-use Rattle.gos_lex.specs.Numerals.{is_numeral, value_of}
-use Rattle.gos_tool.specs.Lines.{Word, Words, content_of}
+use Rattle.std.specs.Prelude.{◌≡◌, ◌≤◌, ℕ, List, [], ◌∷◌, ◌++◌, Some, length, map, codes, slice_get}
+use Rattle.gos_lines.specs.Lines.{Word, Words, content_of}
+use Rattle.gos_lines.specs.Numbers.{IsNumber}
 use Rattle.gos_tool.specs.declared.pulse_file.Entry.{Entry}
-
--- the word writes the number; leading zeros are allowed
-abbrev pub IsNumber : Word → ℕ → Type 0
-IsNumber word n = IsTrue (is_numeral word) × (value_of word ≡ n)
 
 -- how an event of a port is named
 abbrev pub event_name : Word → Word → Word

@@ -1,7 +1,7 @@
 -- Which inputs may be given now, and what is given in a cycle.
 use Rattle.std.specs.Prelude.{◌≡◌, ◌≤◌, ◌<◌, ◌+◌, ℕ, Bool, true, false, not, ◌&&◌, cond, IsTrue, List, [], ◌∷◌, ◌++◌, map, reverse, All, Some, slice_get, set}
 use Rattle.gos_model.specs.Labels.{Label}
-use Rattle.gos_model.specs.Nets.{Side, Give, Take, NetPort, Netlist}
+use Rattle.gos_netlist.specs.Nets.{Side, Give, Take, NetPort, Netlist}
 use Rattle.gos_model.specs.Flattening.{AnyOrder}
 use Rattle.gos_model.specs.Protocol.{is_open}
 use Rattle.gos_tool.specs.declared.pulse_file.Entry.{Entry}

@@ -1,7 +1,7 @@
 -- The exit status of the program, and the lines that it prints.
 use Rattle.std.specs.Prelude.{ℕ, List, [], ◌∷◌, ◌++◌, codes}
 use Rattle.std.specs.Fmt.{decimal}
-use Rattle.gos_tool.specs.Lines.{Word}
+use Rattle.gos_lines.specs.Lines.{Word}
 use Rattle.gos_tool.specs.declared.status.Status.{Status}
 use Rattle.gos_tool.specs.declared.status.Status.TheVariants as statuses
 

@@ -1,12 +1,13 @@
 -- The form of a source file of imported commands, some of which run in sequence.
 use Rattle.std.specs.Prelude.{◌≡◌, ◌≤◌, ℕ, List, [], ◌∷◌, IsTrue, None, length}
-use Rattle.std.specs.List.{list_all, list_any}
+use Rattle.std.specs.List.{AllByRecursion, list_all, list_any}
 use Rattle.std.specs.Str.{bytes_eq}
+use Rattle.gos_lex.specs.Names.{IsNameOrWord}
 use Rattle.gos_lex.specs.declared.word.Word.TheVariants.{Import, Export, Com}
 use Rattle.gos_lex.specs.declared.sign.Sign.TheVariants.{Colon, Semicolon}
 use Rattle.gos_lex.specs.declared.token.Token.{Token}
 use Rattle.gos_lex.specs.Tokens.{Reads, Reading, AName, AWord, ASign, readings_of}
-use Rattle.gos_tool.specs.Lines.{Word, all_differ}
+use Rattle.gos_lines.specs.Lines.{Word, all_differ}
 
 -- a module: its imports, all commands, and the names of those that it runs, in their order
 pub record Sequence : Type 0 where
@@ -36,6 +37,7 @@ sequence_readings s =
 -- the names are right, where the root has this name
 pub record IsWellFormed (root : Word) (s : Sequence) : Type 0 where
   pub few : length s.imports ≤ 64
+  pub names : AllByRecursion IsNameOrWord (root ∷ s.imports)
   pub differ : IsTrue (all_differ (root ∷ s.imports))
   pub once : IsTrue (all_differ (s.first ∷ s.others))
   pub imported : IsTrue (list_all (λ name. list_any (bytes_eq name) s.imports) (s.first ∷ s.others))

@@ -7,10 +7,11 @@ use Rattle.std.specs.List.{flat_map}
 use Rattle.std.specs.Option.{unwrap_or}
 use Rattle.std.specs.Fmt.{decimal}
 use Rattle.gos_types.specs.Types.{Type', Com, Exp, Var}
-use Rattle.gos_model.specs.Labels.{Port, Label, Event, Is, events}
-use Rattle.gos_model.specs.Nets.{NetPort, Netlist}
-use Rattle.gos_model.specs.NetText.{line, spaced}
-use Rattle.gos_model.specs.Settling.{Numbers}
+use Rattle.gos_model.specs.Labels.{Port, Label}
+use Rattle.gos_netlist.specs.Events.{Event, Is, events}
+use Rattle.gos_netlist.specs.Nets.{NetPort, Netlist}
+use Rattle.gos_netlist.specs.NetText.{line, spaced}
+use Rattle.gos_netlist.specs.Settling.{Numbers}
 use Rattle.gos_model.specs.Flattening.{port_of, outputs, inputs}
 use Rattle.gos_model.specs.Protocol.{same_port}
 

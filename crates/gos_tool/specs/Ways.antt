@@ -1,6 +1,6 @@
 -- Which event of a command goes one way or the other.
 use Rattle.std.specs.Prelude.{ℕ}
-use Rattle.gos_model.specs.Nets.{Side}
+use Rattle.gos_netlist.specs.Nets.{Side}
 use Rattle.gos_tool.specs.declared.tracing.Way.{Way}
 use Rattle.gos_tool.specs.declared.tracing.Way.TheVariants.{Output, Input}
 use Rattle.gos_tool.specs.Commands.{output_event, input_event}

@@ -6,13 +6,13 @@ ghost use Rattle.std.specs.Prelude.{◌≡◌, ◌∷◌, ◌≤◌, [], List, l
 ghost use Rattle.std.specs.List.{AllByRecursion};
 ghost use Rattle.gos_lex.specs.Names.{IsName};
 ghost use Rattle.gos_outside.specs.FileName.{IsFileName};
-ghost use Rattle.gos_tool.specs.Lines.{Word, Words, content_of};
+ghost use Rattle.gos_lines.specs.Lines.{Word, Words, content_of};
 ghost use Rattle.gos_tool.specs.BuildFile.{BuildFile, IsBuildFile, IsWellNamed, build_lines, build_of, files_of, head_lines, tail_lines};
 ghost use Rattle.gos_tool.specs.declared.statements.Refusal.TheVariants.{NotOfForm};
 
 use crate::statements::{Refusal, read_end, read_one, read_three};
-use crate::words::all_different;
 use gos_lex::is_name;
+use gos_lines::all_different;
 use gos_outside::is_file_name;
 use std::alloc::Global;
 

@@ -6,7 +6,7 @@ ghost use Rattle.gos_outside.specs.FileName.{IsFileName};
 ghost use Rattle.gos_outside.specs.Files.{SameBut, with_file};
 ghost use Rattle.gos_outside.specs.OtherFiles.{OthersSame};
 ghost use Rattle.gos_outside.specs.Faults.{Rose, WriteFault, ReadFault};
-ghost use Rattle.gos_tool.specs.Lines.{Word};
+ghost use Rattle.gos_lines.specs.Lines.{Word};
 ghost use Rattle.gos_tool.specs.BuildFile.{build_of, files_of};
 ghost use Rattle.gos_tool.specs.SourceFile.{Sequence, IsWellFormed};
 ghost use Rattle.gos_tool.specs.SourceFileSeen.{sequence_of};
@@ -26,7 +26,7 @@ use crate::pulse_file::{PULSES_LIMIT, Pulses, read_pulses};
 use crate::source_file::{Module, SOURCE_LIMIT, read_source};
 use crate::statements::Refusal;
 use crate::status::Report;
-use gos_model::{Netlist, print_net};
+use gos_netlist::{Netlist, print_net};
 use gos_outside::Store;
 use std::alloc::{AllocError, Global};
 

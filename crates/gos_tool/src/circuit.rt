@@ -1,14 +1,17 @@
 // The circuit of a module: a register for each output, which shows what the input before it in the sequence was.
 
 ghost use Rattle.std.specs.Prelude.{◌≡◌, ◌≤◌, ◌+◌, ◌*◌, ◌∷◌, [], List, map, length, IfOk};
+ghost use Rattle.std.specs.List.{AllByRecursion};
 ghost use Rattle.gos_types.specs.Types.{Com};
-ghost use Rattle.gos_model.specs.Seen.{cell_of, side_of};
+ghost use Rattle.gos_lex.specs.Names.{IsNameOrWord};
+ghost use Rattle.gos_netlist.specs.Seen.{cell_of, side_of};
 ghost use Rattle.gos_tool.specs.SourceFile.{IsWellFormed};
 ghost use Rattle.gos_tool.specs.SourceFileSeen.{sequence_of};
 ghost use Rattle.gos_tool.specs.Circuit.{all_cells, circuit_of, place_in, done_of, before, after_all, root_port, import_ports};
 
 use crate::source_file::{Module, with_first};
-use gos_model::{Cell, Gate, Ground, NetId, Netlist, Port, Side};
+use gos_lex::Name;
+use gos_netlist::{Cell, Gate, Ground, NetId, Netlist, Port, Side};
 use std::alloc::{AllocError, Global};
 
 /// The circuit of a module for a root of this name. The error is want of memory.
@@ -97,7 +100,8 @@ fn place_among(imports: &[&[u8]], command: &[u8]) -> u32
 }
 
 fn ports(alloc: Global, root: &[u8], imports: &[&[u8]]) -> Result<Vec<Port>, AllocError>
-    requires { length imports.now ≤ 64 }
+    requires few { length imports.now ≤ 64 }
+    requires names { AllByRecursion IsNameOrWord (root.now ∷ map (λ name. name.now) imports.now) }
     ensures { IfOk result (λ ports. ports.items ≡ root_port root.now ∷ import_ports 0 (map (λ name. name.now) imports.now)) }
 {
     let mut ports = Vec::new(alloc);
@@ -116,12 +120,16 @@ fn command_port(
     run: u32,
     done: u32,
 ) -> Result<Port, AllocError>
+    requires { IsNameOrWord name.now }
     ensures { IfOk result (λ port. port ≡ record { name = name.now; side = side_of side; ty = Com; nets = run ∷ done ∷ [] }) }
 {
+    let Ok(name) = Name::new(alloc, name) else {
+        return Err(AllocError);
+    };
     Ok(Port {
-        name: name.to_vec(alloc)?,
+        name,
         side,
-        ty: Ground::Com,
+        ground: Ground::Com,
         nets: [NetId(run), NetId(done)].to_vec(alloc)?,
     })
 }

@@ -2,9 +2,9 @@
 
 ghost use Rattle.std.specs.Prelude.{◌≡◌, ◌≤◌, ◌<◌, ◌++◌, [], List, All, IfOk, IfSome, IfNone, length, replicate, reverse, set, nat_eq, true, false, not, ◌&&◌, if◌then◌else◌};
 ghost use Rattle.gos_model.specs.Labels.{Label};
-ghost use Rattle.gos_model.specs.Nets.{Netlist as Circuit};
-ghost use Rattle.gos_model.specs.Settling.{at};
-ghost use Rattle.gos_model.specs.Seen.{side_of};
+ghost use Rattle.gos_netlist.specs.Nets.{Netlist as Circuit};
+ghost use Rattle.gos_netlist.specs.Settling.{at};
+ghost use Rattle.gos_netlist.specs.Seen.{side_of};
 ghost use Rattle.gos_tool.specs.Commands.{output_event, event_net, event_pulses};
 ghost use Rattle.gos_tool.specs.Drivable.{IsDrivable};
 ghost use Rattle.gos_tool.specs.Ready.{ready_at, ready_ports, IsGiven, IsFirstGiven, IsStuck, AreKnown};
@@ -13,7 +13,7 @@ ghost use Rattle.gos_tool.specs.Driver.{IsBit, HasInputs, IsBoardOf, IsCycle, Is
 use crate::pulse_file::{Entry, Pulses};
 use crate::simulator::{set_registers, settle};
 use crate::tracing::{Way, add_cycle, add_end, event_of, net_of};
-use gos_model::{Netlist, Port, Side};
+use gos_netlist::{Netlist, Port, Side};
 use std::alloc::{AllocError, Global};
 
 /// A run of a netlist under the entries of a pulse file.

@@ -10,7 +10,7 @@ ghost use Rattle.std.specs.Prelude.{◌≡◌, ◌⊎◌, ℕ, IfSome, MatchOpti
 ghost use Rattle.gos_outside.specs.FileName.{IsFileName};
 ghost use Rattle.gos_outside.specs.Faults.{Rose};
 ghost use Rattle.gos_outside.specs.Written.{appended, AppendsPrefix};
-ghost use Rattle.gos_tool.specs.Lines.{Word};
+ghost use Rattle.gos_lines.specs.Lines.{Word};
 ghost use Rattle.gos_tool.specs.Report.{usage_line, fault_line};
 ghost use Rattle.gos_tool.specs.Built.{IsDone, IsUnsaid, LeavesFiles, line_of};
 ghost use Rattle.gos_tool.specs.Ends.{rejected_as, IfRejected, IsSaid, NoneFailed};
@@ -22,8 +22,6 @@ mod circuit;
 mod driver;
 mod files;
 mod lexemes;
-mod lines;
-mod numbers;
 mod pulse_file;
 mod simulator;
 mod source_file;
@@ -32,7 +30,6 @@ mod status;
 #[cfg(test)]
 mod tests;
 mod tracing;
-mod words;
 
 use building::build;
 pub use files::FileName;

@@ -3,14 +3,12 @@
 // Of this form are files of `next` entries without values.
 
 ghost use Rattle.std.specs.Prelude.{◌≡◌, ◌∷◌, [], ◌≤◌, List, length, map, ℕ, IfOk, IfErr, IfSome, MatchOption, slice_get, Some};
-ghost use Rattle.gos_tool.specs.Lines.{Word, Words, content_of};
-ghost use Rattle.gos_tool.specs.PulseFile.{IsNumber, IsEntry, AreEntries, IsPulseFile, SaysPulses};
+ghost use Rattle.gos_lines.specs.Lines.{Word, Words, content_of};
+ghost use Rattle.gos_tool.specs.PulseFile.{IsEntry, AreEntries, IsPulseFile, SaysPulses};
 ghost use Rattle.gos_tool.specs.declared.statements.Refusal.TheVariants.{NotOfForm};
 
-use crate::lines::{Line, next_line};
-use crate::numbers::number;
 use crate::statements::{Refusal, read_one, three_words};
-use crate::words::place_of;
+use gos_lines::{next_line, number, place_of};
 use std::alloc::Global;
 
 /// The longest pulse file, in bytes.
@@ -47,10 +45,10 @@ pub fn read_pulses(alloc: Global, text: &[u8], inputs: &[&[u8]]) -> Result<Pulse
         return Err(Refusal::NotOfForm);
     }
     let header = read_one(alloc, text, b"cycles")?;
-    let Some(cycles) = number(header.argument, CYCLE_LIMIT) else {
+    let Some(cycles) = number(header.argument) else {
         return Err(Refusal::NotOfForm);
     };
-    if cycles == 0 {
+    if cycles == 0 || cycles > CYCLE_LIMIT {
         return Err(Refusal::NotOfForm);
     }
     let entries = read_entries(alloc, header.rest, inputs)?;
@@ -88,7 +86,10 @@ fn read_entry(words: &[&[u8]], inputs: &[&[u8]]) -> Option<Entry>
     if keyword != b"next".as_slice() {
         return None;
     }
-    let distance = number(digits, CYCLE_LIMIT)?;
+    let distance = number(digits)?;
+    if distance > CYCLE_LIMIT {
+        return None;
+    }
     let input = place_of(name, inputs)?;
     Some(Entry { distance, input })
 }

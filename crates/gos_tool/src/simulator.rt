@@ -3,13 +3,13 @@
 // The cells stand in an order in which each names only nets before it, but for registers. So one pass settles them.
 
 ghost use Rattle.std.specs.Prelude.{◌≡◌, ◌<◌, All, map, length, if◌then◌else◌};
-ghost use Rattle.gos_model.specs.Nets.{pins};
-ghost use Rattle.gos_model.specs.Settling.{shown, at, Settling, next_of, next_registers};
-ghost use Rattle.gos_model.specs.Seen.{function_of, cell_of};
+ghost use Rattle.gos_netlist.specs.Nets.{pins};
+ghost use Rattle.gos_netlist.specs.Settling.{shown, at, Settling, next_of, next_registers};
+ghost use Rattle.gos_netlist.specs.Seen.{function_of, cell_of};
 ghost use Rattle.gos_tool.specs.Drivable.{IsSized, IsOrdered};
 ghost use Rattle.gos_tool.specs.Simulating.{IsWord};
 
-use gos_model::{Cell, Gate, NetId};
+use gos_netlist::{Cell, Gate, NetId};
 
 /// Settles the cells for these registers and inputs: the values are then what their nets show. All numbers have at most
 /// 32 bits.

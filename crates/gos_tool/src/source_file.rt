@@ -3,8 +3,9 @@
 // Of this form are modules that import commands and run some of them in sequence.
 
 ghost use Rattle.std.specs.Prelude.{◌≡◌, ◌≤◌, ◌∷◌, [], List, length, map, drop, IfOk, IfErr, MatchOption, IsTrue, ◌↔◌};
-ghost use Rattle.std.specs.List.{list_all, list_any};
+ghost use Rattle.std.specs.List.{AllByRecursion, list_all, list_any};
 ghost use Rattle.std.specs.Str.{bytes_eq};
+ghost use Rattle.gos_lex.specs.Names.{IsNameOrWord};
 ghost use Rattle.gos_lex.specs.Tokens.{AName, AWord};
 ghost use Rattle.gos_tool.specs.SourceFile.{Sequence, IsSourceFile, IsWellFormed, import_readings, then_readings, type_readings, sequence_readings};
 ghost use Rattle.gos_tool.specs.SourceFileSeen.{sequence_of};
@@ -13,8 +14,8 @@ ghost use Rattle.gos_tool.specs.declared.statements.Refusal.TheVariants.{NotOfFo
 
 use crate::lexemes::{Lexeme, lexemes};
 use crate::statements::Refusal;
-use crate::words::{all_different, is_among};
-use gos_lex::{Sign, Word};
+use gos_lex::{Sign, Word, is_name_or_word};
+use gos_lines::{all_different, is_among};
 use std::alloc::{AllocError, Global};
 
 /// The longest source file, in bytes.
@@ -169,10 +170,21 @@ fn is_well_formed(alloc: Global, read: &Module, root: &[u8]) -> Result<bool, All
     let imports = with_first(alloc, root, read.imports.as_slice())?;
     let order = with_first(alloc, read.first, read.others.as_slice())?;
     Ok(
-        all_different(imports.as_slice())
+        all_names(imports.as_slice())
+            && all_different(imports.as_slice())
             && all_different(order.as_slice())
             && are_among(order.as_slice(), read.imports.as_slice()),
     )
+}
+
+/// Whether all of these are names.
+fn all_names(words: &[&[u8]]) -> bool
+    ensures { IsTrue result ↔ AllByRecursion IsNameOrWord (map (λ word. word.now) words.now) }
+{
+    match words {
+        [] => true,
+        [first, others @ ..] => is_name_or_word(first) && all_names(others),
+    }
 }
 
 /// A word and then others.

@@ -1,10 +1,10 @@
 // The statements of a file that is written by hand: lines of a keyword and its arguments.
 
 ghost use Rattle.std.specs.Prelude.{◌≡◌, ◌∷◌, [], List, map, IfOk, IfErr, MatchOption};
-ghost use Rattle.gos_tool.specs.Lines.{Word, Words, content_of, says_something};
+ghost use Rattle.gos_lines.specs.Lines.{Word, Words, content_of, says_something};
 ghost use Rattle.gos_tool.specs.declared.statements.Refusal.TheVariants.{NotOfForm, NoMemory};
 
-use crate::lines::{Line, next_line};
+use gos_lines::{Line, next_line};
 use std::alloc::{AllocError, AllocFailed, Global};
 
 /// Why a file was not read.
@@ -60,7 +60,7 @@ pub fn read_one<'a>(alloc: Global, text: &'a [u8], keyword: &[u8]) -> Result<One
     ensures refused { IfErr result (λ e. e ≡ NotOfForm → (argument : Word) (more : List Words) → content_of text.now ≡ (keyword.now ∷ argument ∷ []) ∷ more → ⊥) }
 {
     match next_line(alloc, text)? {
-        Some(Line { words, rest }) => match two_words(words.as_slice()) {
+        Some(Line { words, rest, .. }) => match two_words(words.as_slice()) {
             Some((first, argument)) if first == keyword => Ok(One { argument, rest }),
             _ => Err(Refusal::NotOfForm),
         },
@@ -74,7 +74,7 @@ pub fn read_three<'a>(alloc: Global, text: &'a [u8], keyword: &[u8]) -> Result<T
     ensures refused { IfErr result (λ e. e ≡ NotOfForm → (a b c : Word) (more : List Words) → content_of text.now ≡ (keyword.now ∷ a ∷ b ∷ c ∷ []) ∷ more → ⊥) }
 {
     match next_line(alloc, text)? {
-        Some(Line { words, rest }) => match four_words(words.as_slice()) {
+        Some(Line { words, rest, .. }) => match four_words(words.as_slice()) {
             Some((word, first, second, third)) if word == keyword => Ok(Three {
                 first,
                 second,

@@ -4,14 +4,14 @@ ghost use Rattle.std.specs.Prelude.{◌≡◌, ◌<◌, ◌≤◌, ◌+◌, ◌+
 ghost use Rattle.std.specs.List.{flat_map};
 ghost use Rattle.std.specs.Fmt.{decimal};
 ghost use Rattle.gos_types.specs.Types.{Com};
-ghost use Rattle.gos_model.specs.Seen.{side_of};
-ghost use Rattle.gos_model.specs.NetText.{line, spaced};
+ghost use Rattle.gos_netlist.specs.Seen.{side_of};
+ghost use Rattle.gos_netlist.specs.NetText.{line, spaced};
 ghost use Rattle.gos_tool.specs.Trace.{text_at, pulse_line, cycle_pulses, port_at};
 ghost use Rattle.gos_tool.specs.Drivable.{IsDrivable, IsCommandPort};
 ghost use Rattle.gos_tool.specs.Commands.{event_label, event_net, event_pulse, event_pulses, label_port};
 ghost use Rattle.gos_tool.specs.Ways.{way_event};
 
-use gos_model::{Netlist, Port, Side};
+use gos_netlist::{Netlist, Port, Side};
 use std::alloc::{AllocError, Global};
 
 /// Which way a pulse goes, as the circuit sees it.
@@ -117,7 +117,7 @@ fn add_line(
     let digits = t.to_string(alloc)?;
     text.extend_from_slice(digits.as_bytes())?;
     text.extend_from_slice(b" ")?;
-    text.extend_from_slice(&port.name)?;
+    text.extend_from_slice(port.name.bytes())?;
     text.extend_from_slice(event_word(event))?;
     Ok(())
 }

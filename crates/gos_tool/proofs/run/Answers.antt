@@ -1,6 +1,6 @@
 use Rattle.std.proofs.Common.{◌≡◌, subst}
 use Rattle.std.specs.Prelude.{IfSome, ◌⊎◌}
-use Rattle.gos_tool.specs.Lines.{Word}
+use Rattle.gos_lines.specs.Lines.{Word}
 use Rattle.gos_tool.specs.Ends.{rejected_as, IfRejected}
 use Rattle.gos_tool.specs.declared.status.Status.TheVariants.{Done, NoMemory}
 use Rattle.gos_tool.specs.Built.{LeavesFiles}

@@ -3,7 +3,7 @@ use Rattle.std.specs.Prelude.{IfSome}
 use Rattle.gos_outside.specs.Files.{bytes_at}
 use Rattle.gos_outside.specs.OtherFiles.{OthersSame}
 use Rattle.gos_tool.specs.Files.{IsReadWhole}
-use Rattle.gos_tool.specs.Lines.{Word}
+use Rattle.gos_lines.specs.Lines.{Word}
 use Rattle.gos_tool.specs.BuildFile.{build_of}
 use Rattle.gos_tool.specs.Command.{SaysBuild, ModuleRight, AllRight, WrongModule, FirstWrong, IsModuleCall, IsCall}
 use Rattle.gos_tool.specs.declared.files.Stop.{Stop}

@@ -1,6 +1,6 @@
 use Rattle.std.proofs.Common.{◌≡◌, ◌∙◌}
 use Rattle.std.specs.Prelude.{IfSome}
-use Rattle.gos_tool.specs.Lines.{Word}
+use Rattle.gos_lines.specs.Lines.{Word}
 use Rattle.gos_tool.specs.BuildFile.{build_of}
 use Rattle.gos_tool.specs.SourceFileSeen.{sequence_of}
 use Rattle.gos_tool.specs.Command.{WrongPulses}

@@ -2,7 +2,7 @@ use Rattle.std.proofs.Common.{◌≡◌, ℕ, List, inr, subst, sym}
 use Rattle.std.specs.Prelude.{IfSome}
 use Rattle.gos_outside.specs.Files.{bytes_at}
 use Rattle.gos_tool.specs.Files.{IsReadWhole}
-use Rattle.gos_tool.specs.Lines.{Word}
+use Rattle.gos_lines.specs.Lines.{Word}
 use Rattle.gos_tool.specs.BuildFile.{build_of}
 use Rattle.gos_tool.specs.SourceFileSeen.{sequence_of}
 use Rattle.gos_tool.specs.Command.{SaysModule, WrongPulses, WrongModule}

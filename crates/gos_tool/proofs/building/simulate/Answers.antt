@@ -1,5 +1,5 @@
 use Rattle.std.proofs.Common.{◌≡◌, ◌∙◌, ℕ, List, Vec, Global, Bor, ap, map, subst, sym}
-use Rattle.gos_tool.specs.Lines.{Word}
+use Rattle.gos_lines.specs.Lines.{Word}
 use Rattle.gos_tool.specs.PulseFile.{input_names}
 use Rattle.gos_outside.specs.Files.{bytes_at}
 use Rattle.gos_tool.specs.Files.{IsReadWhole}

@@ -1,5 +1,5 @@
 use Rattle.std.proofs.Common.{◌≡◌, ◌++◌, map, drop}
-use Rattle.gos_model.specs.Seen.{cell_of}
+use Rattle.gos_netlist.specs.Seen.{cell_of}
 use Rattle.gos_tool.specs.Circuit.{all_cells, import_cells}
 use Rattle.gos_tool.proofs.SourceLemmas.{now_of}
 use Rattle.gos_tool.proofs.circuit.cells.Given as goal

@@ -1,6 +1,6 @@
 use Rattle.std.proofs.Common.{◌≡◌, ◌≤◌, List, length}
 use Rattle.gos_model.specs.Labels.{Label}
-use Rattle.gos_model.specs.Nets.{Netlist}
+use Rattle.gos_netlist.specs.Nets.{Netlist}
 use Rattle.gos_tool.specs.Drivable.{IsDrivable}
 use Rattle.gos_tool.specs.Ready.{ready_ports, AreKnown}
 use Rattle.gos_tool.proofs.GiveLemmas.{Continues}

@@ -1,8 +1,8 @@
 use Rattle.std.proofs.Common.{◌≡◌, arith, map, ap, ◌∙◌}
 use Rattle.std.specs.Vec.{with_items}
 use Rattle.std.proofs.lemmas.List.{with_items_is}
-use Rattle.gos_model.specs.Nets.{Netlist}
-use Rattle.gos_model.specs.Seen.{cell_of}
+use Rattle.gos_netlist.specs.Nets.{Netlist}
+use Rattle.gos_netlist.specs.Seen.{cell_of}
 use Rattle.gos_tool.proofs.CycleLemmas.{is_cycle_of}
 use Rattle.gos_tool.proofs.driver.run_cycle.Goals as goal
 

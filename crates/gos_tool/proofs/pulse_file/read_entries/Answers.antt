@@ -1,5 +1,5 @@
 use Rattle.std.proofs.Common.{◌≡◌, ◌∷◌, [], List, map, subst, sym}
-use Rattle.gos_tool.specs.Lines.{Word, Words, content_of}
+use Rattle.gos_lines.specs.Lines.{Word, Words, content_of}
 use Rattle.gos_tool.specs.PulseFile.{AreEntries}
 use Rattle.gos_tool.proofs.EntryLemmas.{first_entry}
 use Rattle.std.proofs.lemmas.List.{append-nil}

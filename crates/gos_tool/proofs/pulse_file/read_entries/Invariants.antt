@@ -1,5 +1,5 @@
 use Rattle.std.proofs.Common.{◌≡◌, ◌≤◌, ◌+◌, ◌++◌, List, length, map}
-use Rattle.gos_tool.specs.Lines.{Word, content_of}
+use Rattle.gos_lines.specs.Lines.{Word, content_of}
 use Rattle.gos_tool.specs.PulseFile.{AreEntries}
 use Rattle.gos_tool.specs.declared.pulse_file.Entry.{Entry}
 use Rattle.gos_tool.proofs.pulse_file.read_entries.Given as goal

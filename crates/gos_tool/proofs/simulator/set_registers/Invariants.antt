@@ -1,6 +1,6 @@
 use Rattle.std.proofs.Common.{◌≡◌, ◌<◌, ℕ, map, take, get_or}
-use Rattle.gos_model.specs.Settling.{next_registers}
-use Rattle.gos_model.specs.Seen.{cell_of}
+use Rattle.gos_netlist.specs.Settling.{next_registers}
+use Rattle.gos_netlist.specs.Seen.{cell_of}
 use Rattle.gos_tool.specs.Simulating.{IsWord}
 use Rattle.gos_tool.proofs.simulator.set_registers.Given as goal
 

@@ -1,7 +1,7 @@
 use Rattle.std.proofs.Common.{◌<◌, length, arith}
 use Rattle.std.proofs.lemmas.List.{length-map}
 use Rattle.std.proofs.lemmas.Grind.{common_steps}
-use Rattle.gos_model.specs.Seen.{cell_of}
+use Rattle.gos_netlist.specs.Seen.{cell_of}
 use Rattle.gos_tool.proofs.SettleLemmas.{sized_at, pins_at, settled_more}
 use Rattle.std.proofs.lemmas.Option.{slice_get_within}
 use Rattle.gos_tool.proofs.simulator.settle.Goals as goal

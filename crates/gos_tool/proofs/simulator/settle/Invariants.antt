@@ -1,5 +1,5 @@
 use Rattle.std.proofs.Common.{All, map}
-use Rattle.gos_model.specs.Seen.{cell_of}
+use Rattle.gos_netlist.specs.Seen.{cell_of}
 use Rattle.gos_tool.specs.Simulating.{IsWord}
 use Rattle.gos_tool.proofs.SettleLemmas.{IsSettledBelow}
 use Rattle.gos_tool.proofs.simulator.settle.Given as goal

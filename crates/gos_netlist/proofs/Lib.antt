@@ -1,0 +1,20 @@
+mod NetLemmas
+pub mod PassLemmas
+pub mod RepeatLemmas
+pub mod SettlingLemmas
+pub mod SequenceLemmas
+pub mod NumberLemmas
+pub mod PassedLemmas
+pub mod WordTableLemmas
+pub mod NetsLemmas
+pub mod WordLemmas
+pub mod NameLemmas
+pub mod LinesLemmas
+pub mod CellLemmas
+pub mod OperandsLemmas
+pub mod TypeLemmas
+pub mod PortLemmas
+pub mod BreakLemmas
+pub mod SectionLemmas
+pub mod WholeLemmas
+pub mod LawLemmas

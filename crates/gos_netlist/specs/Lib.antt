@@ -1,0 +1,13 @@
+-- In reading order: a file uses only files above it.
+pub mod Nets
+pub mod Events
+pub mod Settling
+pub mod Cycles
+pub mod NetText
+pub mod Writable
+pub mod NetFaults
+pub mod NetItems
+pub mod Seen
+pub mod Passes
+pub mod SmallNets
+pub mod Laws

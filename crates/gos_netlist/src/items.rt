@@ -1,0 +1,87 @@
+// The items that lines are made of: words of a table, numbers with the byte that ends them, and nets.
+//
+// `Err` is the place of the first byte that can't go on as the item, or the end of the text. Then the cursor may have
+// moved.
+ghost use Rattle.std.specs.Prelude.{◌≡◌, ◌<◌, ◌≤◌, ◌⊎◌, [], IfOk, IfErr, length, map, get_or};
+ghost use Rattle.std.specs.Fmt.{decimal};
+ghost use Rattle.gos_lex.specs.Items.{Misses};
+ghost use Rattle.gos_netlist.specs.Seen.{number_of};
+ghost use Rattle.gos_netlist.specs.NetItems.{Passed, end_with, ended, IsAmong, IsInRange, IsNumberText, AreNets, IsNetsText, numbers_text};
+
+use crate::nets::NetId;
+use gos_lex::Cursor;
+use smallvec::SmallVec;
+use std::alloc::Global;
+
+/// The greatest number of a net, and the greatest count.
+pub const LAST_NUMBER: u64 = 4_294_967_295;
+
+/// The nets of a line: six at most.
+pub type LineNets = SmallVec<NetId, 6>;
+
+/// Passes one of these words, and gives its place among them.
+pub fn one_of(cursor: &mut Cursor, words: &[&[u8]]) -> Result<usize, usize>
+    requires { 0 < length words.now }
+    ensures inside { IfOk result (λ k. k < length words.now) }
+    ensures passed { IfOk result (λ k. Passed cursor.old cursor.new (get_or (map (λ word. word.now) words.now) k [])) }
+    ensures wrong { IfErr result (Misses (IsAmong (map (λ word. word.now) words.now)) cursor.old.text cursor.old.at) }
+{
+    let mut furthest = match cursor.word(words[0]) {
+        Ok(()) => return Ok(0),
+        Err(at) => at,
+    };
+    for k in 1..words.len() {
+        match cursor.word(words[k]) {
+            Ok(()) => return Ok(k),
+            Err(at) => furthest = further(furthest, at),
+        }
+    }
+    Err(furthest)
+}
+
+// The greater of two places.
+fn further(one: usize, other: usize) -> usize
+    ensures at_least { (one ≤ result) × (other ≤ result) }
+    ensures either { (result ≡ one) ⊎ (result ≡ other) }
+{
+    if one < other { other } else { one }
+}
+
+/// Passes a number of the range, and the byte that ends it.
+pub fn number(cursor: &mut Cursor, low: u64, high: u64, end: u8) -> Result<u64, usize>
+    requires range { low ≤ high }
+    requires no_digit { (end ≡ 10) ⊎ (end ≡ 32) }
+    ensures range { IfOk result (IsInRange low high) }
+    ensures passed { IfOk result (λ n. Passed cursor.old cursor.new (ended end (decimal n))) }
+    ensures wrong { IfErr result (Misses (IsNumberText low high end) cursor.old.text cursor.old.at) }
+{
+    let n = cursor.number(low, high)?;
+    cursor.word(&[end])?;
+    Ok(n)
+}
+
+/// Passes so many nets, with a space between each two and a line feed behind the last.
+pub fn nets(alloc: Global, cursor: &mut Cursor, count: usize) -> Result<LineNets, usize>
+    requires few { count ≤ 6 }
+    requires within { cursor.now.at ≤ length cursor.now.text }
+    ensures nets { IfOk result (λ nets. AreNets count (map number_of nets.items)) }
+    ensures passed { IfOk result (λ nets. Passed cursor.old cursor.new (numbers_text (map number_of nets.items))) }
+    ensures wrong { IfErr result (Misses (IsNetsText count) cursor.old.text cursor.old.at) }
+{
+    let mut nets = SmallVec::new(alloc);
+    let mut left = count;
+    while left > 0 {
+        left -= 1;
+        let n = number(cursor, 0, LAST_NUMBER, end_with(left))?;
+        nets.push_reserved(NetId(n as u32));
+    }
+    Ok(nets)
+}
+
+// The byte behind a number, before so many others.
+fn end_with(left: usize) -> u8
+    ensures end { result ≡ end_with left }
+    ensures no_digit { (result ≡ 10) ⊎ (result ≡ 32) }
+{
+    if left == 0 { b'\n' } else { b' ' }
+}

@@ -1,0 +1,158 @@
+// Netlists as values.
+ghost use Rattle.std.specs.Prelude.{◌≡◌, map};
+ghost use Rattle.gos_netlist.specs.Nets.{pins};
+ghost use Rattle.gos_netlist.specs.Seen.{function_of, number_of};
+
+use gos_lex::Name;
+use smallvec::SmallVec;
+use std::alloc::Global;
+use std::marker::Model;
+
+/// A net: the index of the cell that drives it.
+#[derive(Debug, Clone, Copy, Default)]
+pub struct NetId(pub u32);
+
+/// What a cell shows, from the nets that it names.
+#[derive(Debug, Clone, Copy)]
+pub enum Gate {
+    /// The cell's input.
+    Input,
+    /// A number that never changes.
+    Const(u64),
+    /// All bits turned.
+    Not(NetId),
+    /// The bits that both have.
+    And(NetId, NetId),
+    /// The bits that either has.
+    Or(NetId, NetId),
+    /// The bits that one of both has.
+    Xor(NetId, NetId),
+    /// The second where the first is 1, else the third.
+    Mux(NetId, NetId, NetId),
+    /// The sum, without its carry.
+    Add(NetId, NetId),
+    /// The difference, without its borrow.
+    Sub(NetId, NetId),
+    /// 1 where both are equal, else 0.
+    Eq(NetId, NetId),
+    /// 1 where the first is below the second, else 0.
+    Less(NetId, NetId),
+    /// The second where the first is 1, else 0.
+    Gate(NetId, NetId),
+    /// What the net was in the cycle before; 0 in the first one.
+    Reg(NetId),
+}
+
+/// A cell.
+#[derive(Debug, Clone, Copy)]
+pub struct Cell {
+    /// The bits of the net that it drives, 1 to 32.
+    pub width: u32,
+    /// What it shows there.
+    pub gate: Gate,
+}
+
+/// The nets that a cell names: three at most.
+pub type Pins = SmallVec<NetId, 3>;
+
+impl Cell {
+    /// The nets that the cell names, in written order. It takes no memory.
+    pub fn pins(&self, alloc: Global) -> Pins
+        ensures { map number_of result.items ≡ pins (function_of self.now.gate) }
+    {
+        let mut pins = SmallVec::new(alloc);
+        match self.gate {
+            Gate::Input | Gate::Const(_) => {}
+            Gate::Not(a) | Gate::Reg(a) => pins.push_reserved(a),
+            Gate::And(a, b)
+            | Gate::Or(a, b)
+            | Gate::Xor(a, b)
+            | Gate::Add(a, b)
+            | Gate::Sub(a, b)
+            | Gate::Eq(a, b)
+            | Gate::Less(a, b)
+            | Gate::Gate(a, b) => {
+                pins.push_reserved(a);
+                pins.push_reserved(b);
+            }
+            Gate::Mux(s, a, b) => {
+                pins.push_reserved(s);
+                pins.push_reserved(a);
+                pins.push_reserved(b);
+            }
+        }
+        pins
+    }
+}
+
+/// Whether the circuit gives a port or takes it.
+#[derive(Debug, Clone, Copy)]
+pub enum Side {
+    /// The outside asks and the circuit answers.
+    Give,
+    /// The circuit asks and the outside answers.
+    Take,
+}
+
+/// The type of a port.
+#[derive(Debug, Clone, Copy)]
+pub enum Ground {
+    /// A command, with the nets run and done.
+    Com,
+    /// An expression of so many bits, with the nets ask, ans and its value.
+    Exp(u32),
+    /// A variable of so many bits, with the nets read, ans and its value, write and its value, done.
+    Var(u32),
+}
+
+/// A port.
+#[derive(Debug, Drop)]
+pub struct Port {
+    /// Its name, where words are names too.
+    pub name: Name,
+    /// Who asks at it.
+    pub side: Side,
+    /// What it carries.
+    pub ground: Ground,
+    /// Its nets, in the order of its type.
+    pub nets: Vec<NetId>,
+}
+
+/// A circuit.
+#[derive(Debug, Drop)]
+pub struct Netlist {
+    /// Its cells; a cell's place is its net.
+    pub cells: Vec<Cell>,
+    /// Its ports.
+    pub ports: Vec<Port>,
+}
+
+impl Model for Port {
+    ghost use Rattle.std.specs.Prelude.{map};
+    ghost use Rattle.std.specs.Coded.{codes};
+    ghost use Rattle.gos_types.specs.TypeCode.{type_code};
+    ghost use Rattle.gos_netlist.specs.Nets.{NetPort};
+
+    ghost Value = { NetPort };
+
+    ghost coded = { Prim.hlevel (codes, type_code) };
+
+    ghost use Rattle.gos_netlist.specs.Seen.{number_of, side_of, ground_type};
+
+    ghost view = { λ p. record { name = p.name; side = side_of p.side; ty = ground_type p.ground; nets = map number_of p.nets.items } };
+}
+
+impl Model for Netlist {
+    ghost use Rattle.std.specs.Prelude.{map};
+    ghost use Rattle.std.specs.Coded.{codes};
+    ghost use Rattle.gos_types.specs.TypeCode.{type_code};
+    ghost use Rattle.gos_netlist.specs.Nets.{Netlist as Circuit};
+
+    ghost Value = { Circuit };
+
+    ghost coded = { Prim.hlevel (codes, type_code) };
+
+    ghost use Rattle.gos_netlist.specs.Seen.{cell_of};
+
+    ghost view = { λ n. record { cells = map cell_of n.cells.items; ports = n.ports.items } };
+}

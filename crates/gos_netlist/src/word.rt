@@ -1,0 +1,122 @@
+// The words of lines: of a cell's gate, and of a port's side and type. Each stands with the space behind it.
+ghost use Rattle.std.specs.Prelude.{◌≡◌, IfOk, IfErr};
+ghost use Rattle.gos_lex.specs.Items.{Misses};
+ghost use Rattle.gos_netlist.specs.Seen.{side_of};
+ghost use Rattle.gos_netlist.specs.NetText.{side_word};
+ghost use Rattle.gos_netlist.specs.NetItems.{Passed, ended, gate_text, type_word, pin_count, width_end, IsGateText, IsSideText, IsTypeWordText};
+
+use crate::items::one_of;
+use crate::nets::Side;
+use gos_lex::Cursor;
+
+/// The word of a cell's line.
+#[derive(Debug, Clone, Copy)]
+pub enum GateWord {
+    Input,
+    Const,
+    Not,
+    And,
+    Or,
+    Xor,
+    Mux,
+    Add,
+    Sub,
+    Eq,
+    Less,
+    Gate,
+    Reg,
+}
+
+/// The word of a port's type.
+#[derive(Debug, Clone, Copy)]
+pub enum TypeWord {
+    Com,
+    Exp,
+    Var,
+}
+
+impl GateWord {
+    /// How many nets a gate with this word names.
+    pub fn pin_count(self) -> usize
+        ensures { result ≡ pin_count self }
+    {
+        match self {
+            GateWord::Input | GateWord::Const => 0,
+            GateWord::Not | GateWord::Reg => 1,
+            GateWord::Mux => 3,
+            _ => 2,
+        }
+    }
+
+    /// The byte behind the width of a cell with this word.
+    pub fn width_end(self) -> u8
+        ensures { result ≡ width_end self }
+    {
+        match self {
+            GateWord::Input => b'\n',
+            _ => b' ',
+        }
+    }
+}
+
+/// Passes the word of a gate.
+pub fn gate_word(cursor: &mut Cursor) -> Result<GateWord, usize>
+    ensures passed { IfOk result (λ word. Passed cursor.old cursor.new (ended 32 (gate_text word))) }
+    ensures wrong { IfErr result (Misses IsGateText cursor.old.text cursor.old.at) }
+{
+    let words = [
+        GateWord::Input,
+        GateWord::Const,
+        GateWord::Not,
+        GateWord::And,
+        GateWord::Or,
+        GateWord::Xor,
+        GateWord::Mux,
+        GateWord::Add,
+        GateWord::Sub,
+        GateWord::Eq,
+        GateWord::Less,
+        GateWord::Gate,
+        GateWord::Reg,
+    ];
+    let texts = [
+        b"input ".as_slice(),
+        b"const ".as_slice(),
+        b"not ".as_slice(),
+        b"and ".as_slice(),
+        b"or ".as_slice(),
+        b"xor ".as_slice(),
+        b"mux ".as_slice(),
+        b"add ".as_slice(),
+        b"sub ".as_slice(),
+        b"eq ".as_slice(),
+        b"less ".as_slice(),
+        b"gate ".as_slice(),
+        b"reg ".as_slice(),
+    ];
+    let k = one_of(cursor, &texts)?;
+    Ok(words[k])
+}
+
+/// Passes the word of a side.
+pub fn side_word(cursor: &mut Cursor) -> Result<Side, usize>
+    ensures passed { IfOk result (λ side. Passed cursor.old cursor.new (ended 32 (side_word (side_of side)))) }
+    ensures wrong { IfErr result (Misses IsSideText cursor.old.text cursor.old.at) }
+{
+    let words = [Side::Give, Side::Take];
+    let k = one_of(cursor, &[b"give ".as_slice(), b"take ".as_slice()])?;
+    Ok(words[k])
+}
+
+/// Passes the word of a type.
+pub fn type_word(cursor: &mut Cursor) -> Result<TypeWord, usize>
+    ensures passed { IfOk result (λ word. Passed cursor.old cursor.new (ended 32 (type_word word))) }
+    ensures wrong { IfErr result (Misses IsTypeWordText cursor.old.text cursor.old.at) }
+{
+    let words = [TypeWord::Com, TypeWord::Exp, TypeWord::Var];
+    let k = one_of(
+        cursor,
+        &[b"com ".as_slice(), b"exp ".as_slice(), b"var ".as_slice()],
+    )?;
+    Ok(words[k])
+}
