@@ -1,0 +1,11 @@
+pub mod RuleLemmas
+pub mod CellLemmas
+pub mod TurnLemmas
+pub mod SearchLemmas
+pub mod ScheduleLemmas
+pub mod PinLemmas
+pub mod StepLemmas
+pub mod PortLemmas
+pub mod NameLemmas
+pub mod KeepLemmas
+pub mod AcceptLemmas

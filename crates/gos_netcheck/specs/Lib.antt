@@ -1,0 +1,9 @@
+-- In reading order: a file uses only files above it.
+pub mod Rules
+pub mod CellRules
+pub mod PortRules
+pub mod Schedule
+pub mod Accepted
+pub mod Turning
+pub mod Search
+pub mod PortSearch

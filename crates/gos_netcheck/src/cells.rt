@@ -1,0 +1,95 @@
+// The rules for each cell: the nets that it names are there, and widths fit.
+ghost use Rattle.std.specs.Prelude.{◌≡◌, ◌↔◌, ◌<◌, ◌≤◌, IsTrue, MatchOption, map, length};
+ghost use Rattle.gos_netlist.specs.Seen.{cell_of, function_of};
+ghost use Rattle.gos_netcheck.specs.CellRules.{PinsExist, HasRightWidths, OperandsFit, NetsExist, WidthsFit, IsFirstWithoutNet, IsFirstOfWrongWidth, width_at, widths_of};
+
+use gos_netlist::{Cell, Gate, NetId};
+
+// The first cell that names a net that isn't there.
+pub(crate) fn first_without_net(cells: &[Cell]) -> Option<usize>
+    ensures { MatchOption result (NetsExist (map cell_of cells.now)) (IsFirstWithoutNet (map cell_of cells.now)) }
+{
+    for (n, cell) in cells.iter().enumerate() {
+        if !pins_exist(cells.len(), cell) {
+            return Some(n);
+        }
+    }
+    None
+}
+
+// Whether each net that the cell names is one of so many.
+fn pins_exist(count: usize, cell: &Cell) -> bool
+    ensures { IsTrue result ↔ PinsExist count (cell_of cell.now) }
+{
+    match cell.gate {
+        Gate::Input | Gate::Const(_) => true,
+        Gate::Not(a) | Gate::Reg(a) => exists(count, a),
+        Gate::And(a, b)
+        | Gate::Or(a, b)
+        | Gate::Xor(a, b)
+        | Gate::Add(a, b)
+        | Gate::Sub(a, b)
+        | Gate::Eq(a, b)
+        | Gate::Less(a, b)
+        | Gate::Gate(a, b) => exists(count, a) && exists(count, b),
+        Gate::Mux(s, a, b) => exists(count, s) && exists(count, a) && exists(count, b),
+    }
+}
+
+// Whether the net is one of so many.
+fn exists(count: usize, net: NetId) -> bool
+    ensures { IsTrue result ↔ (net.0 < count) }
+{
+    (net.0 as usize) < count
+}
+
+// The first cell with a wrong width.
+pub(crate) fn first_of_wrong_width(cells: &[Cell]) -> Option<usize>
+    ensures { MatchOption result (WidthsFit (map cell_of cells.now)) (IsFirstOfWrongWidth (map cell_of cells.now)) }
+{
+    for (n, cell) in cells.iter().enumerate() {
+        if !has_right_widths(cells, cell) {
+            return Some(n);
+        }
+    }
+    None
+}
+
+// Whether the cell has 1 to 32 bits, and its operands fit.
+fn has_right_widths(cells: &[Cell], cell: &Cell) -> bool
+    ensures { IsTrue result ↔ HasRightWidths (widths_of (map cell_of cells.now)) (cell_of cell.now) }
+{
+    1 <= cell.width && cell.width <= 32 && operands_fit(cells, cell.width, cell.gate)
+}
+
+// Whether the operands fit a cell of so many bits.
+fn operands_fit(cells: &[Cell], width: u32, gate: Gate) -> bool
+    requires { width ≤ 32 }
+    ensures { IsTrue result ↔ OperandsFit (widths_of (map cell_of cells.now)) width (function_of gate) }
+{
+    match gate {
+        Gate::Input => true,
+        Gate::Const(k) => k < 1u64 << width,
+        Gate::Not(a) | Gate::Reg(a) => width_of(cells, a) == width,
+        Gate::And(a, b) | Gate::Or(a, b) | Gate::Xor(a, b) | Gate::Add(a, b) | Gate::Sub(a, b) => {
+            width_of(cells, a) == width && width_of(cells, b) == width
+        }
+        Gate::Mux(s, a, b) => {
+            width_of(cells, s) == 1 && width_of(cells, a) == width && width_of(cells, b) == width
+        }
+        Gate::Eq(a, b) | Gate::Less(a, b) => {
+            width_of(cells, a) == width_of(cells, b) && width == 1
+        }
+        Gate::Gate(s, a) => width_of(cells, s) == 1 && width_of(cells, a) == width,
+    }
+}
+
+// The bits of a net; 0 where there is no such net.
+fn width_of(cells: &[Cell], net: NetId) -> u32
+    ensures { result ≡ width_at (widths_of (map cell_of cells.now)) net.0 }
+{
+    match cells.get(net.0 as usize) {
+        Some(cell) => cell.width,
+        None => 0,
+    }
+}

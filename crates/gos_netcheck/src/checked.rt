@@ -1,0 +1,97 @@
+// The acceptance test, and the netlists that pass it.
+ghost use Rattle.std.specs.Prelude.{◌≡◌, ◌<◌, ◌^◌, IfOk, IfErr, map, length};
+ghost use Rattle.gos_netlist.specs.Seen.{number_of};
+ghost use Rattle.gos_netcheck.specs.Schedule.{IsSchedule};
+ghost use Rattle.gos_netcheck.specs.Accepted.{IsAccepted, HasFault};
+
+use crate::cells::{first_of_wrong_width, first_without_net};
+use crate::fault::{NetFault, Refused};
+use crate::ports::first_wrong_port;
+use crate::schedule::schedule;
+use gos_netlist::{NetId, Netlist};
+use std::alloc::Global;
+use std::marker::Model;
+
+/// A netlist that was accepted, with an order in which its nets can be evaluated.
+#[derive(Debug, Drop)]
+pub struct Checked {
+    net: Netlist,
+    order: Vec<NetId>,
+}
+
+impl Model for Checked {
+    ghost use Rattle.std.specs.Prelude.{map};
+    ghost use Rattle.std.specs.Coded.{codes};
+    ghost use Rattle.gos_types.specs.TypeCode.{type_code};
+    ghost use Rattle.gos_netlist.specs.Nets.{Netlist as Circuit};
+
+    ghost Value = { Circuit };
+
+    ghost coded = { Prim.hlevel (codes, type_code) };
+
+    ghost use Rattle.gos_netlist.specs.Seen.{number_of};
+    ghost use Rattle.gos_netcheck.specs.Schedule.{IsSchedule};
+    ghost use Rattle.gos_netcheck.specs.Accepted.{IsAccepted};
+
+    ghost view = { λ c. c.net };
+
+    ghost invariant = { λ c. IsAccepted c.net × IsSchedule c.net.cells (map number_of c.order.items) };
+}
+
+impl Checked {
+    /// The netlist.
+    pub fn netlist(&self) -> &Netlist
+        ensures value { result.now ≡ self.now }
+        ensures accepted { IsAccepted self.now }
+    {
+        &self.net
+    }
+
+    /// The netlist, taken out.
+    pub fn into_netlist(self) -> Netlist
+        ensures value { result ≡ self }
+        ensures accepted { IsAccepted self }
+    {
+        self.net
+    }
+
+    /// All nets, each behind all that feeds its cell. A register is fed by none, since it shows what its pin was before.
+    pub fn schedule(&self) -> &[NetId]
+        ensures { IsSchedule self.now.cells (map number_of result.now) }
+    {
+        self.order.as_slice()
+    }
+}
+
+/// Accepts a netlist, or hands it back with the first of its faults.
+pub fn accept(alloc: Global, net: Netlist) -> Result<Checked, Refused>
+    requires { length net.cells < 2 ^ 32 }
+    ensures ok { IfOk result (λ checked. checked ≡ net) }
+    ensures accepted { IfOk result IsAccepted }
+    ensures fault { IfErr result (λ refused. HasFault net refused.fault) }
+    ensures back { IfErr result (λ refused. refused.net ≡ net) }
+{
+    match judged(alloc, &net) {
+        Ok(order) => Ok(Checked { net, order }),
+        Err(fault) => Err(Refused { fault, net }),
+    }
+}
+
+// The schedule of a netlist that has no fault, or the first fault.
+fn judged(alloc: Global, net: &Netlist) -> Result<Vec<NetId>, NetFault>
+    requires { length net.now.cells < 2 ^ 32 }
+    ensures accepted { IfOk result (λ _. IsAccepted net.now) }
+    ensures schedule { IfOk result (λ order. IsSchedule net.now.cells (map number_of order.items)) }
+    ensures fault { IfErr result (HasFault net.now) }
+{
+    if let Some(cell) = first_without_net(&net.cells) {
+        return Err(NetFault::NoSuchNet { cell: cell as u32 });
+    }
+    if let Some(cell) = first_of_wrong_width(&net.cells) {
+        return Err(NetFault::Width { cell: cell as u32 });
+    }
+    if let Some(index) = first_wrong_port(alloc, &net.cells, &net.ports)? {
+        return Err(NetFault::Port { index });
+    }
+    schedule(alloc, &net.cells)
+}

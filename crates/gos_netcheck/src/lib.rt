@@ -1,0 +1,21 @@
+// The acceptance test of netlists.
+//
+// A netlist is accepted where each pin names a net, widths fit, the ports are right, and no nets feed each other in a
+// ring. `accept` says so exactly, and hands a refused netlist back with the first fault. Every crate that simulates
+// or prints a circuit takes a `Checked` netlist, which also has an order in which its nets can be evaluated.
+//
+// Read `checked.rt` first (the test), then `cells.rt`, `ports.rt` and `schedule.rt` (the rules, in the order in which
+// they are tested). The definitions stand in `specs`, in the order of `specs/Lib.antt`.
+#![tactic(auto)]
+
+mod cells;
+mod checked;
+mod cycle;
+mod fault;
+mod ports;
+mod schedule;
+#[cfg(test)]
+mod tests;
+
+pub use checked::{Checked, accept};
+pub use fault::{NetFault, Refused};
