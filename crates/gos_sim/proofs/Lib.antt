@@ -1,0 +1,10 @@
+pub mod PlaceLemmas
+pub mod StepLemmas
+pub mod LatchLemmas
+pub mod GiveLemmas
+pub mod SourceLemmas
+pub mod ProgramLemmas
+pub mod RegisterLemmas
+pub mod CycleLemmas
+pub mod RunLemmas
+pub mod AcceptedLemmas

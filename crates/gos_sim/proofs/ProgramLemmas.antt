@@ -1,0 +1,208 @@
+-- The steps of cells, made in an order in which these can be evaluated.
+--
+-- A step reads only sources and nets that came before it, and the net of a later step is neither.
+use Rattle.std.specs.Prelude.{◌≡◌, ◌≢◌, ℕ, zero, suc, ◌+◌, ◌<◌, ◌≤◌, Bool, true, false, IsTrue, IsFalse, if◌then◌else◌, ◌⊎◌, List, [], ◌∷◌, ◌++◌, length, map, take, get_or, All, Contains, Some, slice_get}
+use Rattle.std.specs.Option.{option_map}
+use Rattle.std.proofs.Common.{arith, refl, sym, ◌∙◌, ap, subst, inl, inr}
+use Rattle.std.proofs.lemmas.List.{append-nil, length-map, take_more, take_all}
+use Rattle.std.proofs.lemmas.List.Elements.{All-push, All-nil, All-cons, All-weaker, Contains-get_or, Contains-push, Contains-append_left, Contains-push_cases}
+use Rattle.std.proofs.lemmas.Option.{slice_get-get_or, slice_get-map, slice_get_within, get_or_from_slice_get}
+use Rattle.gos_netlist.specs.declared.nets.Cell as declared
+use Rattle.gos_netlist.specs.declared.nets.NetId.{NetId}
+use Rattle.gos_netlist.specs.Nets.{Cell, pins}
+use Rattle.gos_netlist.specs.Seen.{cell_of, function_of, number_of}
+use Rattle.gos_sim.specs.declared.program.Step.{Step}
+use Rattle.gos_netcheck.specs.Schedule.{IsDue, IsSchedule}
+use Rattle.gos_sim.specs.Program.{IsProgram, IsStepOf, IsStepWithin, HasStep, Spares, SparesEarlier, cell_of_step, is_source, reads, steps_at}
+use Rattle.gos_sim.specs.Ready.{AreCellsReady, IsCellWithin}
+use Rattle.gos_sim.proofs.PlaceLemmas.{all_at, same_element}
+use Rattle.gos_sim.proofs.SourceLemmas.{register_is_source}
+
+-- an element after one more is pushed is an earlier one or that one
+pub pushed : {A : Type 0} (xs : List A) (y z : A) (j : ℕ) → slice_get (xs ++ y ∷ []) j ≡ Some z
+    → (slice_get xs j ≡ Some z) × (j < length xs) ⊎ (j ≡ length xs) × (y ≡ z)
+pushed [] y z zero is = inr (refl, cc)
+pushed [] y z (suc j) is = absurd (cc)
+pushed (x ∷ xs) y z zero is = inl (is, omega arith)
+pushed (x ∷ xs) y z (suc j) is = further (pushed xs y z j is)
+  where
+    further : (slice_get xs j ≡ Some z) × (j < length xs) ⊎ (j ≡ length xs) × (y ≡ z)
+        → (slice_get (x ∷ xs) (suc j) ≡ Some z) × (suc j < length (x ∷ xs)) ⊎ (suc j ≡ length (x ∷ xs)) × (y ≡ z)
+    further (inl (e, l)) = inl (e, omega arith)
+    further (inr (e, same)) = inr (ap suc e, same)
+
+-- a net is a source, or came before
+abbrev pub IsKnown : List Cell → List ℕ → ℕ → Type 0
+IsKnown cells before a = ((c : Cell) × (slice_get cells a ≡ Some c) × IsTrue (is_source c.gate)) ⊎ Contains before a
+
+-- the steps that are made of the nets that came before
+pub record ArePlaced (cells : List Cell) (before : List ℕ) (steps : List Step) : Type 0 where
+  pub sound : All (IsStepOf cells) steps
+  pub whole : (n : ℕ) (c : Cell) → Contains before n → slice_get cells n ≡ Some c → IsFalse (is_source c.gate) → HasStep steps n
+  pub came : All (λ s. Contains before s.net) steps
+  pub known : All (λ s. All (IsKnown cells before) (reads s)) steps
+  pub ordered : SparesEarlier steps
+
+known_more : (cells : List Cell) (before : List ℕ) (n a : ℕ) → IsKnown cells before a → IsKnown cells (before ++ n ∷ []) a
+known_more cells before n a (inl source) = inl source
+known_more cells before n a (inr came) = inr (Contains-append_left before (n ∷ []) a came)
+
+-- what is placed stays so when one more net has come
+came_more : (cells : List Cell) (before : List ℕ) (n : ℕ) (steps : List Step) → All (λ s. Contains before s.net) steps → All (λ s. Contains (before ++ n ∷ []) s.net) steps
+came_more cells before n steps came =
+    All-weaker (λ (s : Step). Contains before s.net) (λ (s : Step). Contains (before ++ n ∷ []) s.net) (λ s h. Contains-append_left before (n ∷ []) s.net h) steps came
+
+reads_more : (cells : List Cell) (before : List ℕ) (n : ℕ) (s : Step) → All (IsKnown cells before) (reads s) → All (IsKnown cells (before ++ n ∷ [])) (reads s)
+reads_more cells before n s = All-weaker (IsKnown cells before) (IsKnown cells (before ++ n ∷ [])) (known_more cells before n) (reads s)
+
+all_reads_more : (cells : List Cell) (before : List ℕ) (n : ℕ) (steps : List Step) → All (λ s. All (IsKnown cells before) (reads s)) steps
+    → All (λ s. All (IsKnown cells (before ++ n ∷ [])) (reads s)) steps
+all_reads_more cells before n steps known =
+    All-weaker (λ (s : Step). All (IsKnown cells before) (reads s)) (λ (s : Step). All (IsKnown cells (before ++ n ∷ [])) (reads s)) (reads_more cells before n) steps known
+
+-- a source comes
+placed_source : (cells : List Cell) (before : List ℕ) (steps : List Step) (n : ℕ) (c : Cell) → slice_get cells n ≡ Some c → IsTrue (is_source c.gate)
+    → ArePlaced cells before steps → ArePlaced cells (before ++ n ∷ []) steps
+placed_source cells before steps n c is source placed =
+    record {
+      sound = placed.sound;
+      whole = λ m d came at_m inside. at_net m d at_m inside (Contains-push_cases before n m came);
+      came = came_more cells before n steps placed.came;
+      known = all_reads_more cells before n steps placed.known;
+      ordered = placed.ordered;
+    }
+  where
+    at_net : (m : ℕ) (d : Cell) → slice_get cells m ≡ Some d → IsFalse (is_source d.gate) → Contains before m ⊎ (n ≡ m) → HasStep steps m
+    at_net m d at_m inside (inl came) = placed.whole m d came at_m inside
+    at_net m d at_m inside (inr same) =
+        let one : c ≡ d = same_element cells m c d (subst (λ (k : ℕ). slice_get cells k ≡ Some c) same is) at_m in
+        let no : true ≡ false = sym source ∙ (ap (λ (e : Cell). is_source e.gate) one ∙ inside) in
+        absurd (cc)
+
+-- what is known is not the net of a step that has not come
+apart : (cells : List Cell) (before : List ℕ) (s : Step) (a : ℕ) → IsStepOf cells s → (Contains before s.net → ⊥) → IsKnown cells before a → a ≢ s.net
+apart cells before s a step new (inl (c, is, source)) = λ same.
+    let one : c ≡ cell_of_step s = same_element cells s.net c (cell_of_step s) (subst (λ (k : ℕ). slice_get cells k ≡ Some c) same is) step.0 in
+    let no : true ≡ false = sym source ∙ (ap (λ (e : Cell). is_source e.gate) one ∙ step.1) in
+    absurd (cc)
+apart cells before s a step new (inr came) = λ same. new (subst (λ (k : ℕ). Contains before k) same came)
+
+-- a step comes
+placed_step : (cells : List Cell) (before : List ℕ) (steps : List Step) (s : Step) → IsStepOf cells s → (Contains before s.net → ⊥) → All (IsKnown cells before) (reads s)
+    → ArePlaced cells before steps → ArePlaced cells (before ++ s.net ∷ []) (steps ++ s ∷ [])
+placed_step cells before steps s step new known placed =
+    record {
+      sound = All-push (IsStepOf cells) steps s placed.sound step;
+      whole = λ m d came at_m inside. at_net m d at_m inside (Contains-push_cases before s.net m came);
+      came = All-push (λ (t : Step). Contains (before ++ s.net ∷ []) t.net) steps s (came_more cells before s.net steps placed.came) (Contains-push before s.net);
+      known = All-push (λ (t : Step). All (IsKnown cells (before ++ s.net ∷ [])) (reads t)) steps s (all_reads_more cells before s.net steps placed.known) (reads_more cells before s.net s known);
+      ordered = λ j k t u at_j at_k le. at_places j k t u le (pushed steps s t j at_j) (pushed steps s u k at_k);
+    }
+  where
+    at_net : (m : ℕ) (d : Cell) → slice_get cells m ≡ Some d → IsFalse (is_source d.gate) → Contains before m ⊎ (s.net ≡ m) → HasStep (steps ++ s ∷ []) m
+    at_net m d at_m inside (inl came) =
+        let (t, has, e) = placed.whole m d came at_m inside in
+        (t, Contains-append_left steps (s ∷ []) t has, e)
+    at_net m d at_m inside (inr same) = (s, Contains-push steps s, same)
+
+    spares : (t : Step) → All (IsKnown cells before) (reads t) → Spares s (reads t)
+    spares t reads_known = All-weaker (IsKnown cells before) (λ a. a ≢ s.net) (λ a h. apart cells before s a step new h) (reads t) reads_known
+
+    at_places : (j k : ℕ) (t u : Step) → j ≤ k
+        → (slice_get steps j ≡ Some t) × (j < length steps) ⊎ (j ≡ length steps) × (s ≡ t)
+        → (slice_get steps k ≡ Some u) × (k < length steps) ⊎ (k ≡ length steps) × (s ≡ u)
+        → Spares u (reads t) × (j < k → t.net ≢ u.net)
+    at_places j k t u le (inl old) (inl other) = placed.ordered j k t u old.0 other.0 le
+    at_places j k t u le (inl old) (inr last) =
+        subst (λ (u : Step). Spares u (reads t) × (j < k → t.net ≢ u.net)) last.1 (
+          spares t (all_at (λ (t : Step). All (IsKnown cells before) (reads t)) steps j t placed.known old.0),
+          λ below same. new (subst (λ (n : ℕ). Contains before n) same (all_at (λ (t : Step). Contains before t.net) steps j t placed.came old.0)),
+        )
+    at_places j k t u le (inr last) (inl old) = absurd (omega (arith, last.0, old.1))
+    at_places j k t u le (inr last) (inr also) =
+        subst (λ (u : Step). Spares u (reads t) × (j < k → t.net ≢ u.net)) also.1
+        (subst (λ (t : Step). Spares s (reads t) × (j < k → t.net ≢ s.net)) last.1 (spares s known, λ below. absurd (omega (arith, last.0, also.0))))
+
+-- the pins of a due cell that is no source are known
+due_known : (cells : List Cell) (before : List ℕ) (n : ℕ) (c : Cell) → AreCellsReady cells → IsDue cells before n → slice_get cells n ≡ Some c
+    → IsFalse (is_source c.gate) → All (IsKnown cells before) (pins c.gate)
+due_known cells before n c ready due is inside = λ k d l. at_pin (get_or (pins c.gate) k d) ((ready n c is).pins k d l) (Contains-get_or (pins c.gate) k d l)
+  where
+    by_test : (a : ℕ) (e : Cell) (t : Bool) → slice_get cells a ≡ Some e → Contains (pins c.gate) a → is_source e.gate ≡ t → IsKnown cells before a
+    by_test a e true at_a named source = inl (e, at_a, source)
+    by_test a e false at_a named other =
+        inr (due.2 a (e, c, at_a, is, (λ register. let no : true ≡ false = sym (register_is_source e.gate register) ∙ other in absurd (cc)), named))
+
+    at_pin : (a : ℕ) → a < length cells → Contains (pins c.gate) a → IsKnown cells before a
+    at_pin a below named = by_test a (get_or cells a c) (is_source (get_or cells a c).gate) (slice_get-get_or cells a c below) named refl
+
+-- the cell behind what clauses see
+pub cell_at : (cells : List declared.Cell) (n : ℕ) (c : declared.Cell) → slice_get cells n ≡ Some c → slice_get (map cell_of cells) n ≡ Some (cell_of c)
+cell_at cells n c is = slice_get-map cell_of cells n ∙ ap (option_map cell_of) is
+
+-- the nets so far, and one more
+pub take_one : (order : List ℕ) (i n : ℕ) → slice_get order i ≡ Some n → take (i + 1) order ≡ take i order ++ n ∷ []
+take_one order i n is =
+    take_more order i n (slice_get_within order i n is) ∙ ap (λ (m : ℕ). take i order ++ m ∷ []) (get_or_from_slice_get order i n n is)
+
+-- one net more of the order
+pub placed_more : (cells : List declared.Cell) (order : List ℕ) (steps : List Step) (i n : ℕ) (c : declared.Cell) → AreCellsReady (map cell_of cells)
+    → IsSchedule (map cell_of cells) order → slice_get order i ≡ Some n → slice_get cells n ≡ Some c
+    → ArePlaced (map cell_of cells) (take i order) steps → ArePlaced (map cell_of cells) (take (i + 1) order) (steps ++ steps_at n c)
+placed_more cells order steps i n c ready schedule at_i at_n placed =
+    subst (λ (before : List ℕ). ArePlaced (map cell_of cells) before (steps ++ steps_at n c)) (sym (take_one order i n at_i)) (by_test (is_source (function_of c.gate)) refl)
+  where
+    made : Step
+    made = record { net = n; width = c.width; gate = c.gate }
+
+    by_test : (t : Bool) → is_source (function_of c.gate) ≡ t → ArePlaced (map cell_of cells) (take i order ++ n ∷ []) (steps ++ (if t then [] else made ∷ []))
+    by_test true source =
+        subst (λ (more : List Step). ArePlaced (map cell_of cells) (take i order ++ n ∷ []) more) (sym (append-nil steps))
+        (placed_source (map cell_of cells) (take i order) steps n (cell_of c) (cell_at cells n c at_n) source placed)
+    by_test false inside =
+        let due = schedule.due i n at_i in
+        placed_step (map cell_of cells) (take i order) steps made (cell_at cells n c at_n, inside) due.1
+        (due_known (map cell_of cells) (take i order) n (cell_of c) ready due (cell_at cells n c at_n) inside) placed
+
+-- nothing has come yet
+pub placed_none : (cells : List Cell) → ArePlaced cells [] []
+placed_none cells =
+    record {
+      sound = All-nil (IsStepOf cells);
+      whole = λ n c came. absurd (omega (arith, came.1));
+      came = All-nil (λ (s : Step). Contains [] s.net);
+      known = All-nil (λ (s : Step). All (IsKnown cells []) (reads s));
+      ordered = λ j k s t at_j. absurd (cc);
+    }
+
+-- all has come
+pub program_of_placed : (cells : List Cell) (order : List ℕ) (steps : List Step) (i : ℕ) → IsSchedule cells order → length order ≤ i
+    → ArePlaced cells (take i order) steps → IsProgram cells steps
+program_of_placed cells order steps i schedule end placed =
+    record {
+      sound = placed.sound;
+      whole = λ n c is inside. placed.whole n c (subst (λ (ns : List ℕ). Contains ns n) (sym (take_all i order end)) (schedule.all n (slice_get_within cells n c is))) is inside;
+      ordered = placed.ordered;
+    }
+
+-- a step of a cell that is ready is within
+pub steps_at_within : (cells : List declared.Cell) (n : ℕ) (c : declared.Cell) → AreCellsReady (map cell_of cells) → slice_get cells n ≡ Some c
+    → All (IsStepWithin (length cells)) (steps_at n c)
+steps_at_within cells n c ready at_n = by_test (is_source (function_of c.gate))
+  where
+    cell : IsCellWithin (length cells) (cell_of c)
+    cell = subst (λ (m : ℕ). IsCellWithin m (cell_of c)) (length-map cells cell_of) (ready n (cell_of c) (cell_at cells n c at_n))
+
+    by_test : (t : Bool) → All (IsStepWithin (length cells)) (if t then [] else record { net = n; width = c.width; gate = c.gate } ∷ [])
+    by_test true = All-nil (IsStepWithin (length cells))
+    by_test false =
+        All-cons (IsStepWithin (length cells)) (record { net = n; width = c.width; gate = c.gate }) []
+        (record { net = slice_get_within cells n c at_n; reads = cell.pins; width = cell.width; short = cell.short }) (All-nil (IsStepWithin (length cells)))
+
+-- the net at a place of the order
+pub order_at : (order : List NetId) (i : ℕ) (d : NetId) → i < length order → slice_get (map number_of order) i ≡ Some (number_of (get_or order i d))
+order_at order i d below = slice_get-map number_of order i ∙ ap (option_map number_of) (slice_get-get_or order i d below)
+
+-- it is a cell
+pub below_cells : (cells : List declared.Cell) (order : List ℕ) (i n : ℕ) → IsSchedule (map cell_of cells) order → slice_get order i ≡ Some n → n < length cells
+below_cells cells order i n schedule at_i = subst (λ (m : ℕ). n < m) (length-map cells cell_of) (schedule.due i n at_i).0

@@ -1,0 +1,13 @@
+use Rattle.std.proofs.Common.{All, length, map, take}
+use Rattle.gos_netlist.specs.Seen.{cell_of, number_of}
+use Rattle.gos_sim.specs.Program.{IsLatchWithin}
+use Rattle.gos_sim.proofs.RegisterLemmas.{AreMade}
+use Rattle.gos_sim.proofs.program.latches.Given as goal
+
+-- the registers of the nets so far
+abbrev pub invariant-loop-net : goal.invariant-loop-net
+invariant-loop-net l =
+    record {
+      made : AreMade (map cell_of l.cells) (take l.net-index (map number_of l.order)) l.latches.items;
+      within : All (IsLatchWithin (length l.cells)) l.latches.items;
+    }

@@ -1,0 +1,14 @@
+use Rattle.std.proofs.Common.{All}
+use Rattle.gos_sim.specs.Cycle.{IsWord}
+use Rattle.gos_sim.specs.Running.{KeepsOthers}
+use Rattle.gos_sim.proofs.LatchLemmas.{AreTakenBefore}
+use Rattle.gos_sim.proofs.running.latch.Given as goal
+
+-- the registers so far have taken over
+abbrev pub invariant-loop-latch : goal.invariant-loop-latch
+invariant-loop-latch l =
+    record {
+      taken : AreTakenBefore l.latches l.values l.latch-index l.registers;
+      others : KeepsOthers l.latches l.initial.registers l.registers;
+      held : All IsWord l.registers;
+    }

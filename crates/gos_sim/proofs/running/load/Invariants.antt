@@ -1,0 +1,14 @@
+use Rattle.std.proofs.Common.{All}
+use Rattle.gos_sim.specs.Cycle.{IsWord}
+use Rattle.gos_sim.specs.Running.{KeepsOthers}
+use Rattle.gos_sim.proofs.LatchLemmas.{AreLoadedBefore}
+use Rattle.gos_sim.proofs.running.load.Given as goal
+
+-- the registers so far are loaded
+abbrev pub invariant-loop-latch : goal.invariant-loop-latch
+invariant-loop-latch l =
+    record {
+      loaded : AreLoadedBefore l.latches l.registers l.latch-index l.values;
+      others : KeepsOthers l.latches l.initial.values l.values;
+      words : All IsWord l.values;
+    }

@@ -1,0 +1,117 @@
+// The nets at which the events of a netlist come in and go out.
+ghost use Rattle.std.specs.Prelude.{◌≡◌, ◌<◌, ◌≤◌, ◌++◌, ◌∷◌, [], All, IfOk, OnOk, filter, length, map};
+ghost use Rattle.std.specs.List.{flat_map};
+ghost use Rattle.gos_netlist.specs.Seen.{ground_type, number_of, side_of};
+ghost use Rattle.gos_sim.specs.EventNets as table;
+
+use gos_netlist::{Ground, NetId, Netlist, Port, Side};
+use gos_types::NoMemory;
+use std::alloc::Global;
+
+/// The nets of an event, by number.
+#[derive(Debug, Clone, Copy)]
+pub struct EventNets {
+    /// Whether the surroundings give it.
+    pub input: bool,
+    /// The net of its pulse.
+    pub pulse: u32,
+    /// The net of its number, where it has one.
+    pub number: Option<u32>,
+}
+
+// The events of a netlist that come in, or those that go out.
+#[tactic(auto, using(std::proofs::lemmas::List::Elements::filter_more))]
+pub fn events_of(alloc: Global, net: &Netlist, input: bool) -> Result<Vec<EventNets>, NoMemory>
+    requires { All (λ p. table.net_count p.ty ≤ length p.nets) net.now.ports }
+    ensures { IfOk result (λ events. events.items ≡ filter (table.comes_in input) (table.all_events net.now)) }
+{
+    let all = all_events(alloc, &net.ports)?;
+    let mut events = Vec::new(alloc);
+    for event in &all {
+        add_chosen(&mut events, *event, input)?;
+    }
+    Ok(events)
+}
+
+// Adds an event where it is one of those that are asked for.
+fn add_chosen(events: &mut Vec<EventNets>, event: EventNets, input: bool) -> Result<(), NoMemory>
+    ensures { OnOk result (events.new.items ≡ events.old.items ++ filter (table.comes_in input) (event ∷ [])) }
+{
+    if event.input == input {
+        events.push(event)?;
+    }
+    Ok(())
+}
+
+// All events of ports, by port and then by number.
+fn all_events(alloc: Global, ports: &[Port]) -> Result<Vec<EventNets>, NoMemory>
+    requires { All (λ p. table.net_count p.ty ≤ length p.nets) ports.now }
+    ensures { IfOk result (λ events. events.items ≡ flat_map table.port_events ports.now) }
+{
+    let mut events = Vec::new(alloc);
+    for port in ports {
+        add_events(&mut events, port.side, port.ground, &port.nets)?;
+    }
+    Ok(events)
+}
+
+// Adds the events of a port.
+fn add_events(
+    events: &mut Vec<EventNets>,
+    side: Side,
+    ground: Ground,
+    nets: &[NetId],
+) -> Result<(), NoMemory>
+    requires { table.net_count (ground_type ground) ≤ length nets.now }
+    ensures { OnOk result (events.new.items ≡ events.old.items ++ table.events_at (side_of side) (ground_type ground) (map number_of nets.now)) }
+{
+    match ground {
+        Ground::Com => {
+            events.push(request(side, net_at(nets, 0), None))?;
+            events.push(answer(side, net_at(nets, 1), None))?;
+        }
+        Ground::Exp(_) => {
+            events.push(request(side, net_at(nets, 0), None))?;
+            events.push(answer(side, net_at(nets, 1), Some(net_at(nets, 2))))?;
+        }
+        Ground::Var(_) => {
+            events.push(request(side, net_at(nets, 0), None))?;
+            events.push(answer(side, net_at(nets, 1), Some(net_at(nets, 2))))?;
+            events.push(request(side, net_at(nets, 3), Some(net_at(nets, 4))))?;
+            events.push(answer(side, net_at(nets, 5), None))?;
+        }
+    }
+    Ok(())
+}
+
+// The net at a place among those of a port.
+fn net_at(nets: &[NetId], place: usize) -> u32
+    requires { place < length nets.now }
+    ensures { result ≡ table.net_at (map number_of nets.now) place }
+{
+    nets[place].0
+}
+
+// A request of a port.
+fn request(side: Side, pulse: u32, number: Option<u32>) -> EventNets
+    ensures { result ≡ table.request (side_of side) pulse number }
+{
+    let input = matches!(side, Side::Give);
+    EventNets {
+        input,
+        pulse,
+        number,
+    }
+}
+
+// An answer of a port.
+fn answer(side: Side, pulse: u32, number: Option<u32>) -> EventNets
+    ensures { result ≡ table.answer (side_of side) pulse number }
+{
+    let input = matches!(side, Side::Take);
+    EventNets {
+        input,
+        pulse,
+        number,
+    }
+}

@@ -1,0 +1,23 @@
+// The simulator of accepted netlists.
+//
+// `Sim` in `sim.rt` runs a netlist cycle by cycle. What a cycle is stands in `specs/Cycle`: outputs and next registers
+// are those of the settling. `laws.rt` says what cycles are together: a run from reset.
+//
+// Inside, `machine.rt` has the netlist as it runs, in flat lists: its events (`event_nets.rt`), and its steps and latches
+// (`program.rt`), which `running.rt` goes through. Taking a cycle needs no memory and can't be refused.
+#![tactic(auto)]
+
+mod event_nets;
+mod laws;
+mod machine;
+mod program;
+mod pulse;
+mod running;
+mod sim;
+#[cfg(test)]
+mod tests;
+
+pub use event_nets::EventNets;
+pub use laws::runs;
+pub use pulse::Pulse;
+pub use sim::Sim;

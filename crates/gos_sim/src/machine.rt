@@ -1,0 +1,70 @@
+// A netlist as it runs: its events, its steps and its latches.
+ghost use Rattle.std.specs.Prelude.{◌≡◌, All, IfOk, length, map};
+ghost use Rattle.gos_netlist.specs.Seen.{number_of};
+ghost use Rattle.gos_sim.specs.Cycle.{IsWord};
+ghost use Rattle.gos_sim.specs.Machine.{IsMachine, IsRunnable, RunsThrough};
+ghost use Rattle.gos_netcheck.specs.Schedule.{IsSchedule};
+ghost use Rattle.gos_sim.specs.Ready.{IsReady};
+
+use crate::event_nets::{EventNets, events_of};
+use crate::program::{Latch, Step, latches, steps};
+use crate::pulse::Pulse;
+use crate::running::{evaluate, give, latch, load, show};
+use gos_netlist::{NetId, Netlist};
+use gos_types::NoMemory;
+use std::alloc::Global;
+
+/// What runs in each cycle, in flat lists.
+#[derive(Drop)]
+pub struct Machine {
+    /// The input events, in order.
+    pub inputs: Vec<EventNets>,
+    /// The output events, in order.
+    pub outputs: Vec<EventNets>,
+    /// The cells to evaluate, in order.
+    pub steps: Vec<Step>,
+    /// The registers.
+    pub latches: Vec<Latch>,
+}
+
+// The machine of a netlist, from an order in which its cells can be evaluated.
+pub fn machine_of(alloc: Global, net: &Netlist, order: &[NetId]) -> Result<Machine, NoMemory>
+    requires ready { IsReady net.now }
+    requires order { IsSchedule net.now.cells (map number_of order.now) }
+    ensures { IfOk result (IsMachine net.now) }
+{
+    Ok(Machine {
+        inputs: events_of(alloc, net, true)?,
+        outputs: events_of(alloc, net, false)?,
+        steps: steps(alloc, &net.cells, order)?,
+        latches: latches(alloc, &net.cells, order)?,
+    })
+}
+
+impl Machine {
+    // Runs a cycle: from the registers and the inputs to the values of the nets, the outputs and the next registers.
+    pub fn run(
+        &self,
+        inputs: &[Pulse],
+        outputs: &mut [Pulse],
+        registers: &mut [u64],
+        values: &mut [u64],
+    )
+        requires ready { IsRunnable (length values.old) self.now }
+        requires same { length registers.old ≡ length values.old }
+        requires inputs { length inputs.now ≡ length self.now.inputs.items }
+        requires outputs { length outputs.old ≡ length self.now.outputs.items }
+        requires numbers { All (λ p. IsWord p.value) inputs.now }
+        requires held { All IsWord registers.old }
+        requires words { All IsWord values.old }
+        ensures run { RunsThrough self.now inputs.now registers.old values.new outputs.new registers.new }
+        ensures held { All IsWord registers.new }
+        ensures words { All IsWord values.new }
+    {
+        give(&self.inputs, inputs, values);
+        load(&self.latches, registers, values);
+        evaluate(&self.steps, values);
+        show(&self.outputs, values, outputs);
+        latch(&self.latches, values, registers);
+    }
+}

@@ -1,0 +1,82 @@
+// The program that a simulator runs in each cycle, as it is made of the cells.
+ghost use Rattle.std.specs.Prelude.{◌≡◌, ◌++◌, All, IfOk, OnOk, length, map};
+ghost use Rattle.gos_netlist.specs.Seen.{cell_of, function_of, number_of};
+ghost use Rattle.gos_sim.specs.Program.{AreLatches, IsLatchWithin, IsProgram, IsStepWithin, latches_at, steps_at};
+ghost use Rattle.gos_sim.specs.Ready.{AreCellsReady};
+ghost use Rattle.gos_netcheck.specs.Schedule.{IsSchedule};
+
+use gos_netlist::{Cell, Gate, NetId};
+use gos_types::NoMemory;
+use std::alloc::Global;
+
+/// A cell to evaluate, which is neither an input nor a register.
+#[derive(Debug, Clone, Copy)]
+pub struct Step {
+    /// Its net.
+    pub net: u32,
+    /// Its bits.
+    pub width: u32,
+    /// What it shows there.
+    pub gate: Gate,
+}
+
+/// A register.
+#[derive(Debug, Clone, Copy)]
+pub struct Latch {
+    /// Its net.
+    pub net: u32,
+    /// The net whose value it takes over at the end of a cycle.
+    pub pin: u32,
+}
+
+// The cells to evaluate, in an order of all cells.
+pub fn steps(alloc: Global, cells: &[Cell], order: &[NetId]) -> Result<Vec<Step>, NoMemory>
+    requires cells { AreCellsReady (map cell_of cells.now) }
+    requires order { IsSchedule (map cell_of cells.now) (map number_of order.now) }
+    ensures program { IfOk result (λ steps. IsProgram (map cell_of cells.now) steps.items) }
+    ensures within { IfOk result (λ steps. All (IsStepWithin (length cells.now)) steps.items) }
+{
+    let mut steps = Vec::new(alloc);
+    for net in order {
+        add_step(&mut steps, net.0, cells[net.0 as usize])?;
+    }
+    Ok(steps)
+}
+
+// Adds a cell as a step, if it is one.
+fn add_step(steps: &mut Vec<Step>, net: u32, cell: Cell) -> Result<(), NoMemory>
+    ensures { OnOk result (steps.new.items ≡ steps.old.items ++ steps_at net cell) }
+{
+    match cell.gate {
+        Gate::Input | Gate::Reg(_) => Ok(()),
+        gate => {
+            let width = cell.width;
+            steps.push(Step { net, width, gate })?;
+            Ok(())
+        }
+    }
+}
+
+// The registers.
+pub fn latches(alloc: Global, cells: &[Cell], order: &[NetId]) -> Result<Vec<Latch>, NoMemory>
+    requires cells { AreCellsReady (map cell_of cells.now) }
+    requires order { IsSchedule (map cell_of cells.now) (map number_of order.now) }
+    ensures latches { IfOk result (λ latches. AreLatches (map cell_of cells.now) latches.items) }
+    ensures within { IfOk result (λ latches. All (IsLatchWithin (length cells.now)) latches.items) }
+{
+    let mut latches = Vec::new(alloc);
+    for net in order {
+        add_latch(&mut latches, net.0, cells[net.0 as usize])?;
+    }
+    Ok(latches)
+}
+
+// Adds a cell as a register, if it is one.
+fn add_latch(latches: &mut Vec<Latch>, net: u32, cell: Cell) -> Result<(), NoMemory>
+    ensures { OnOk result (latches.new.items ≡ latches.old.items ++ latches_at net (function_of cell.gate)) }
+{
+    if let Gate::Reg(pin) = cell.gate {
+        latches.push(Latch { net, pin: pin.0 })?;
+    }
+    Ok(())
+}

@@ -1,0 +1,161 @@
+// The parts of a cycle: what the values of the nets are, and what the registers are after it.
+ghost use Rattle.std.specs.Prelude.{◌≡◌, ◌<◌, All, length, map, nat_eq, if◌then◌else◌};
+ghost use Rattle.gos_netlist.specs.Seen.{function_of};
+ghost use Rattle.gos_netlist.specs.Settling.{at, shown};
+ghost use Rattle.gos_sim.specs.Cycle.{Gives, GivesAll, IsWord, pulse_shown};
+ghost use Rattle.gos_sim.specs.Program.{IsLatchWithin, IsStepWithin, SparesEarlier};
+ghost use Rattle.gos_sim.specs.Running.{AreLoaded, AreShown, AreTaken, HaveOnePin, KeepsOtherNets, KeepsOtherSteps, KeepsOthers};
+ghost use Rattle.gos_sim.specs.EventNets.{OnNets};
+ghost use Rattle.gos_sim.specs.Ready.{AreApart, AreTwo};
+
+use crate::event_nets::EventNets;
+use crate::program::{Latch, Step};
+use crate::pulse::Pulse;
+use gos_netlist::{Gate, NetId};
+
+// Gives the nets of the input events what the pulses say.
+pub fn give(events: &[EventNets], pulses: &[Pulse], values: &mut [u64])
+    requires each { length pulses.now ≡ length events.now }
+    requires nets { All (OnNets (λ a. a < length values.old)) events.now }
+    requires apart { AreApart events.now }
+    requires pulses { All (λ p. IsWord p.value) pulses.now }
+    requires words { All IsWord values.old }
+    ensures given { GivesAll events.now pulses.now values.new }
+    ensures words { All IsWord values.new }
+{
+    for (place, event) in events.iter().enumerate() {
+        give_pulse(event, pulses[place], values);
+    }
+}
+
+// Gives the nets of an event what its pulse says.
+fn give_pulse(event: &EventNets, pulse: Pulse, values: &mut [u64])
+    requires nets { OnNets (λ a. a < length values.old) event.now }
+    requires apart { AreTwo event.now }
+    requires word { IsWord pulse.value }
+    requires words { All IsWord values.old }
+    ensures given { Gives values.new event.now pulse }
+    ensures others { KeepsOtherNets event.now values.old values.new }
+    ensures words { All IsWord values.new }
+{
+    values[event.pulse as usize] = u64::from(pulse.on);
+    if let Some(number) = event.number {
+        values[number as usize] = pulse.value;
+    }
+}
+
+// Gives the nets of the registers what the registers hold.
+pub fn load(latches: &[Latch], registers: &[u64], values: &mut [u64])
+    requires registers { All (IsLatchWithin (length registers.now)) latches.now }
+    requires nets { All (IsLatchWithin (length values.old)) latches.now }
+    requires held { All IsWord registers.now }
+    requires words { All IsWord values.old }
+    ensures loaded { AreLoaded latches.now registers.now values.new }
+    ensures others { KeepsOthers latches.now values.old values.new }
+    ensures words { All IsWord values.new }
+{
+    for latch in latches {
+        values[latch.net as usize] = registers[latch.net as usize];
+    }
+}
+
+// Evaluates the steps, in their order.
+pub fn evaluate(steps: &[Step], values: &mut [u64])
+    requires steps { All (IsStepWithin (length values.old)) steps.now }
+    requires order { SparesEarlier steps.now }
+    requires words { All IsWord values.old }
+    ensures shown { AreShown steps.now values.new }
+    ensures others { KeepsOtherSteps steps.now values.old values.new }
+    ensures words { All IsWord values.new }
+{
+    for step in steps {
+        let value = value_of(step, values);
+        values[step.net as usize] = value;
+    }
+}
+
+// What a step shows, from the values of the nets. What an input or a register shows is known before, and not asked here.
+fn value_of(step: &Step, values: &[u64]) -> u64
+    requires step { IsStepWithin (length values.now) step.now }
+    requires words { All IsWord values.now }
+    ensures shown { result ≡ shown step.now.width (function_of step.now.gate) 0 0 (at values.now) }
+    ensures word { IsWord result }
+{
+    let limit = 1u64 << step.width;
+    match step.gate {
+        Gate::Input | Gate::Reg(_) => 0,
+        Gate::Const(k) => k,
+        Gate::Not(a) => (limit - 1).saturating_sub(value_at(values, a)),
+        Gate::And(a, b) => value_at(values, a) & value_at(values, b),
+        Gate::Or(a, b) => value_at(values, a) | value_at(values, b),
+        Gate::Xor(a, b) => value_at(values, a) ^ value_at(values, b),
+        Gate::Mux(s, a, b) => chosen(
+            value_at(values, s),
+            value_at(values, a),
+            value_at(values, b),
+        ),
+        Gate::Add(a, b) => (value_at(values, a) + value_at(values, b)) % limit,
+        Gate::Sub(a, b) => (value_at(values, a) + limit).saturating_sub(value_at(values, b))
+            % limit,
+        Gate::Eq(a, b) => u64::from(value_at(values, a) == value_at(values, b)),
+        Gate::Less(a, b) => u64::from(value_at(values, a) < value_at(values, b)),
+        Gate::Gate(s, a) => chosen(value_at(values, s), value_at(values, a), 0),
+    }
+}
+
+// The value of a net.
+fn value_at(values: &[u64], net: NetId) -> u64
+    requires net { net.0 < length values.now }
+    requires words { All IsWord values.now }
+    ensures value { result ≡ at values.now net.0 }
+    ensures word { IsWord result }
+{
+    values[net.0 as usize]
+}
+
+// The first value where the selector is 1, else the second.
+fn chosen(selector: u64, a: u64, b: u64) -> u64
+    ensures { result ≡ (if nat_eq selector 1 then a else b) }
+{
+    if selector == 1 { a } else { b }
+}
+
+// Shows the pulses of the output events.
+pub fn show(events: &[EventNets], values: &[u64], pulses: &mut [Pulse])
+    requires each { length pulses.old ≡ length events.now }
+    requires nets { All (OnNets (λ a. a < length values.now)) events.now }
+    ensures { pulses.new ≡ map (pulse_shown values.now) events.now }
+{
+    for (place, event) in events.iter().enumerate() {
+        pulses[place] = pulse_of(event, values);
+    }
+}
+
+// What an event shows.
+fn pulse_of(event: &EventNets, values: &[u64]) -> Pulse
+    requires { OnNets (λ a. a < length values.now) event.now }
+    ensures { result ≡ pulse_shown values.now event.now }
+{
+    let on = values[event.pulse as usize] == 1;
+    let value = match event.number {
+        Some(number) => values[number as usize],
+        None => 0,
+    };
+    Pulse { on, value }
+}
+
+// Takes the values of the pins over into the registers.
+pub fn latch(latches: &[Latch], values: &[u64], registers: &mut [u64])
+    requires pins { All (IsLatchWithin (length values.now)) latches.now }
+    requires nets { All (IsLatchWithin (length registers.old)) latches.now }
+    requires one { HaveOnePin latches.now }
+    requires words { All IsWord values.now }
+    requires held { All IsWord registers.old }
+    ensures taken { AreTaken latches.now values.now registers.new }
+    ensures others { KeepsOthers latches.now registers.old registers.new }
+    ensures held { All IsWord registers.new }
+{
+    for latch in latches {
+        registers[latch.net as usize] = values[latch.pin as usize];
+    }
+}

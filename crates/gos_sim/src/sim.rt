@@ -1,0 +1,121 @@
+// The simulator.
+ghost use Rattle.std.specs.Prelude.{◌≡◌, All, IfErr, IfOk, length, replicate};
+ghost use Rattle.gos_sim.specs.EventNets.{input_events, output_events};
+ghost use Rattle.gos_sim.specs.Cycle.{IsCycle, IsNextOutput, IsWord, at_reset};
+ghost use Rattle.gos_sim.specs.Machine.{IsMachine};
+
+use crate::machine::{Machine, machine_of};
+use crate::pulse::Pulse;
+use crate::running::show;
+use gos_netcheck::Checked;
+use gos_netlist::Netlist;
+use gos_types::NoMemory;
+use std::alloc::Global;
+use std::marker::Model;
+
+/// A netlist that runs. Clauses see it as the netlist and what its registers hold.
+#[derive(Drop)]
+pub struct Sim {
+    net: Checked,
+    machine: Machine,
+    registers: Vec<u64>,
+    values: Vec<u64>,
+}
+
+impl Model for Sim {
+    ghost use Rattle.std.specs.Coded.{codes};
+    ghost use Rattle.gos_types.specs.TypeCode.{type_code};
+    ghost use Rattle.gos_sim.specs.Cycle.{Simulator};
+
+    ghost Value = { Simulator };
+
+    ghost coded = { Prim.hlevel (codes, type_code) };
+
+    ghost view = { λ s. record { net = s.net; registers = s.registers.items } };
+
+    ghost use Rattle.gos_sim.specs.Machine.{IsBuilt};
+
+    ghost invariant = { λ s. IsBuilt s.net s.machine s.registers.items s.values.items };
+}
+
+impl Sim {
+    /// A simulator with all registers 0. `Err` is want of memory alone, and hands the netlist back.
+    pub fn new(alloc: Global, net: Checked) -> Result<Sim, Checked>
+        ensures made { IfOk result (λ sim. sim ≡ at_reset net) }
+        ensures refused { IfErr result (λ back. back ≡ net) }
+    {
+        match parts_of(alloc, &net) {
+            Ok((machine, registers, values)) => Ok(Sim {
+                net,
+                machine,
+                registers,
+                values,
+            }),
+            Err(NoMemory) => Err(net),
+        }
+    }
+
+    /// How many input events there are.
+    pub fn inputs(&self) -> usize
+        ensures { result ≡ length (input_events self.now.net) }
+    {
+        self.machine.inputs.len()
+    }
+
+    /// How many output events there are.
+    pub fn outputs(&self) -> usize
+        ensures { result ≡ length (output_events self.now.net) }
+    {
+        self.machine.outputs.len()
+    }
+
+    /// The netlist that runs.
+    pub fn netlist(&self) -> &Netlist
+        ensures { result.now ≡ self.now.net }
+    {
+        self.net.netlist()
+    }
+
+    /// Writes the outputs of the coming cycle, in event order. They come from registers, and so don't depend on its inputs.
+    pub fn peek(&self, outputs: &mut [Pulse])
+        requires { length outputs.old ≡ length (output_events self.now.net) }
+        ensures { IsNextOutput self.now outputs.new }
+    {
+        show(&self.machine.outputs, &self.registers, outputs);
+    }
+
+    /// Runs a cycle with these inputs and writes its outputs, both in event order. Where an event has no number, the
+    /// value that comes with its pulse is not read.
+    pub fn cycle(&mut self, inputs: &[Pulse], outputs: &mut [Pulse])
+        requires inputs { length inputs.now ≡ length (input_events self.old.net) }
+        requires outputs { length outputs.old ≡ length (output_events self.old.net) }
+        requires numbers { All (λ p. IsWord p.value) inputs.now }
+        ensures cycle { IsCycle self.old inputs.now outputs.new self.new }
+        ensures net { self.new.net ≡ self.old.net }
+    {
+        self.machine
+            .run(inputs, outputs, &mut self.registers, &mut self.values);
+    }
+
+    /// Sets all registers to 0.
+    pub fn reset(&mut self)
+        ensures { self.new ≡ at_reset self.old.net }
+    {
+        self.registers.fill(0);
+    }
+}
+
+// The machine of a netlist, with a register for each cell and a value for each net, all 0.
+#[tactic(auto, using(crate::proofs::AcceptedLemmas::ready_of_accepted))]
+fn parts_of(alloc: Global, net: &Checked) -> Result<(Machine, Vec<u64>, Vec<u64>), NoMemory>
+    ensures machine { IfOk result (λ parts. IsMachine net.now parts.0) }
+    ensures registers { IfOk result (λ parts. parts.1.items ≡ replicate (length net.now.cells) 0) }
+    ensures values { IfOk result (λ parts. parts.2.items ≡ replicate (length net.now.cells) 0) }
+{
+    let order = net.schedule();
+    let net = net.netlist();
+    let machine = machine_of(alloc, net, order)?;
+    let registers = vec![in alloc; 0; net.cells.len()]?;
+    let values = vec![in alloc; 0; net.cells.len()]?;
+    Ok((machine, registers, values))
+}
