@@ -1,0 +1,5 @@
+mod DotLemmas
+mod TableLemmas
+mod EntryLemmas
+mod TraceLemmas
+mod GuardLemmas
