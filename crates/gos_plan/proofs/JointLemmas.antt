@@ -1,0 +1,99 @@
+-- In which joint an end stands, where the joints of a plan are right.
+use Rattle.std.specs.Prelude.{IsTrue, None}
+use Rattle.std.proofs.Common.{◌≡◌, Bool, true, false, List, [], ◌∷◌, ◌⊎◌, Some, refl, sym, ◌∙◌, subst, inl, inr, arith}
+use Rattle.gos_types.specs.declared.shakes.Role.TheVariants.{Serve, Ask}
+use Rattle.gos_plan.specs.Kinds.{Contact}
+use Rattle.gos_plan.specs.Plans.{End, PartEnd, ImportEnd, ResultEnd, Joint, Plan, contact_at, same_end, stands_in, is_free, Fits, AreRight}
+use Rattle.gos_plan.specs.Tokens.{asking_in}
+
+-- a joint is one of these
+abbrev pub IsIn : Joint → List Joint → Type 0
+IsIn j [] = ⊥
+IsIn j (x ∷ xs) = (j ≡ x) ⊎ IsIn j xs
+
+pub same_itself : (e : End) → same_end e e ≡ true
+same_itself (PartEnd i h) = grind arith
+same_itself (ImportEnd i h) = grind arith
+same_itself (ResultEnd h) = grind arith
+
+pub same_is : (d e : End) → same_end d e ≡ true → d ≡ e
+same_is (PartEnd i h) (PartEnd j g) t = grind (arith, t)
+same_is (PartEnd i h) (ImportEnd j g) t = grind (arith, t)
+same_is (PartEnd i h) (ResultEnd g) t = grind (arith, t)
+same_is (ImportEnd i h) (PartEnd j g) t = grind (arith, t)
+same_is (ImportEnd i h) (ImportEnd j g) t = grind (arith, t)
+same_is (ImportEnd i h) (ResultEnd g) t = grind (arith, t)
+same_is (ResultEnd h) (PartEnd j g) t = grind (arith, t)
+same_is (ResultEnd h) (ImportEnd j g) t = grind (arith, t)
+same_is (ResultEnd h) (ResultEnd g) t = grind (arith, t)
+
+pub fits : (p : Plan) (before js : List Joint) (j : Joint) → AreRight p before js → IsIn j js → Fits p j
+fits p before [] j r h = absurd h
+fits p before (x ∷ xs) j r (inl e) = subst (λ (y : Joint). Fits p y) (sym e) r.0.0
+fits p before (x ∷ xs) j r (inr h) = fits p (x ∷ before) xs j r.1 h
+
+-- neither end of a later joint stands in an earlier one
+free_later : (e : End) (before : List Joint) (j : Joint) → IsIn j before → IsTrue (is_free e before) → stands_in e j ≡ true → ⊥
+free_later e [] j h f t = h
+free_later e (x ∷ xs) j (inl i) f t =
+    let u : stands_in e x ≡ true = subst (λ (y : Joint). stands_in e y ≡ true) i t in grind (arith, f, u)
+free_later e (x ∷ xs) j (inr i) f t = free_later e xs j i (grind (arith, f)) t
+
+later : (p : Plan) (before js : List Joint) (j k : Joint) (e : End) → AreRight p before js → IsIn j before → IsIn k js
+    → stands_in e j ≡ true → stands_in e k ≡ true → ⊥
+later p before [] j k e r i h t u = h
+later p before (x ∷ xs) j k e r i (inl n) t u = of_end (same_end e x.asking) refl
+  where
+    u' : stands_in e x ≡ true
+    u' = subst (λ (y : Joint). stands_in e y ≡ true) n u
+
+    of_end : (b : Bool) → same_end e x.asking ≡ b → ⊥
+    of_end true a = free_later x.asking before j i r.0.1 (subst (λ (d : End). stands_in d j ≡ true) (same_is e x.asking a) t)
+    of_end false a =
+        let s : same_end e x.serving ≡ true = grind (arith, u', a) in
+        free_later x.serving before j i r.0.2 (subst (λ (d : End). stands_in d j ≡ true) (same_is e x.serving s) t)
+later p before (x ∷ xs) j k e r i (inr h) t u = later p (x ∷ before) xs j k e r.1 (inr i) h t u
+
+-- an end stands in one joint at most
+pub one_joint : (p : Plan) (before js : List Joint) (j k : Joint) (e : End) → AreRight p before js → IsIn j js → IsIn k js
+    → stands_in e j ≡ true → stands_in e k ≡ true → j ≡ k
+one_joint p before [] j k e r h i t u = absurd h
+one_joint p before (x ∷ xs) j k e r (inl h) (inl i) t u = h ∙ sym i
+one_joint p before (x ∷ xs) j k e r (inl h) (inr i) t u = absurd (later p (x ∷ before) xs j k e r.1 (inl h) i t u)
+one_joint p before (x ∷ xs) j k e r (inr h) (inl i) t u = absurd (later p (x ∷ before) xs k j e r.1 (inl i) h u t)
+one_joint p before (x ∷ xs) j k e r (inr h) (inr i) t u = one_joint p (x ∷ before) xs j k e r.1 h i t u
+
+-- an end that has a place stands in a joint of that name
+pub record Found (js : List Joint) (e a : End) : Type 0 where
+  pub joint : Joint
+  pub is_in : IsIn joint js
+  pub named : joint.asking ≡ a
+  pub stands : stands_in e joint ≡ true
+
+pub found : (js : List Joint) (e a : End) → asking_in js e ≡ Some a → Found js e a
+found [] e a h = absurd (grind (arith, h))
+found (x ∷ xs) e a h = by_test (stands_in e x) refl (λ k. found xs e a k)
+  where
+    by_test : (b : Bool) → stands_in e x ≡ b → (asking_in xs e ≡ Some a → Found xs e a) → Found (x ∷ xs) e a
+    by_test true t further = record { joint = x; is_in = inl refl; named = grind (arith, h, t); stands = t }
+    by_test false t further =
+        let rest = further (grind (arith, h, t)) in
+        record { joint = rest.joint; is_in = inr rest.is_in; named = rest.named; stands = rest.stands }
+
+-- an end of a joint has a place
+pub has_place : (js : List Joint) (j : Joint) (e : End) → IsIn j js → stands_in e j ≡ true → asking_in js e ≡ None → ⊥
+has_place [] j e h t n = h
+has_place (x ∷ xs) j e (inl i) t n =
+    let u : stands_in e x ≡ true = subst (λ (y : Joint). stands_in e y ≡ true) i t in grind (arith, n, u)
+has_place (x ∷ xs) j e (inr i) t n = by_test (stands_in e x) refl (λ k. has_place xs j e i t k)
+  where
+    by_test : (b : Bool) → stands_in e x ≡ b → (asking_in xs e ≡ None → ⊥) → ⊥
+    by_test true u further = grind (arith, n, u)
+    by_test false u further = further (grind (arith, n, u))
+
+-- the asking end asks, and the serving end serves
+pub asking_role : (p : Plan) (j : Joint) (c : Contact) → Fits p j → contact_at p j.asking ≡ Some c → c.role ≡ Ask
+asking_role p j c f e = grind (arith, e, f.2)
+
+pub serving_role : (p : Plan) (j : Joint) (c : Contact) → Fits p j → contact_at p j.serving ≡ Some c → c.role ≡ Serve
+serving_role p j c f e = grind (arith, e, f.3)

@@ -1,0 +1,6 @@
+mod JointLemmas
+mod BalanceLemmas
+mod RowLemmas
+mod TurnLemmas
+mod SeatLemmas
+mod MakeLemmas

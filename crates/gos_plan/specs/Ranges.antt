@@ -1,0 +1,47 @@
+-- The ranges that every plan keeps: widths, literals, and how many handshakes a type has.
+use Rattle.std.specs.Prelude.{◌≤◌, ◌<◌, ◌^◌, ℕ, List, All, length}
+use Rattle.gos_types.specs.declared.types.Ty.{Ty}
+use Rattle.gos_types.specs.Types.{Type', Com, Exp, Var, Pair, Fun, type_of}
+use Rattle.gos_types.specs.Handshakes.{handshakes_of}
+use Rattle.gos_plan.specs.declared.kinds.Kind.{Kind}
+use Rattle.gos_plan.specs.declared.kinds.Kind.TheVariants as kinds
+use Rattle.gos_plan.specs.declared.plan.PlanImport.{PlanImport}
+
+-- 1 to 32 bits
+abbrev pub IsWidth : ℕ → Type 0
+IsWidth w = (1 ≤ w) × (w ≤ 32)
+
+-- each width in a type is one
+abbrev pub HasWidths : Type' → Type 0
+HasWidths Com = Unit {0}
+HasWidths (Exp w) = IsWidth w
+HasWidths (Var w) = IsWidth w
+HasWidths (Pair a b) = HasWidths a × HasWidths b
+HasWidths (Fun a b) = HasWidths a × HasWidths b
+
+-- a type has widths, and at most 64 handshakes
+abbrev pub IsSmall : Ty → Type 0
+IsSmall t = HasWidths (type_of t) × (length (handshakes_of (type_of t)) ≤ 64)
+
+-- the widths of a kind are 1 to 32, a literal has at most its bits, and a type is small
+abbrev pub IsInRange : Kind → Type 0
+IsInRange kinds.Skip = Unit {0}
+IsInRange (kinds.Lit w k) = IsWidth w × (k < 2 ^ w)
+IsInRange kinds.Seq = Unit {0}
+IsInRange (kinds.SeqExp w) = IsWidth w
+IsInRange kinds.Par = Unit {0}
+IsInRange kinds.If = Unit {0}
+IsInRange (kinds.IfExp w) = IsWidth w
+IsInRange kinds.While = Unit {0}
+IsInRange (kinds.Op op w) = IsWidth w
+IsInRange (kinds.Not w) = IsWidth w
+IsInRange (kinds.Assign w) = IsWidth w
+IsInRange (kinds.Deref w) = IsWidth w
+IsInRange (kinds.Local w v) = IsWidth w × (v ≤ 32)
+IsInRange (kinds.Share t) = IsSmall t
+
+-- the parts, imports and result of a plan are in range
+pub record AreInRange (imports : List PlanImport) (outcome : Ty) (parts : List Kind) : Type 0 where
+  pub of_imports : All (λ i. IsSmall i.ty) imports
+  pub of_result : IsSmall outcome
+  pub of_parts : All IsInRange parts
