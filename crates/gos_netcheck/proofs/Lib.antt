@@ -9,3 +9,4 @@ pub mod PortLemmas
 pub mod NameLemmas
 pub mod KeepLemmas
 pub mod AcceptLemmas
+pub mod FaultLemmas

@@ -1,7 +1,7 @@
 -- Which netlists are accepted, and why the others are not.
 --
 -- Read first: CellRules, PortRules; Cycles of gos_netlist.
-use Rattle.std.specs.Prelude.{ℕ, ◌≤◌, List, [], ◌∷◌, map}
+use Rattle.std.specs.Prelude.{◌≡◌, ℕ, ◌≤◌, List, [], ◌∷◌, map}
 use Rattle.std.specs.List.{AllByRecursion}
 use Rattle.gos_netlist.specs.Nets.{Cell, Netlist}
 use Rattle.gos_netlist.specs.Seen.{number_of}
@@ -35,3 +35,7 @@ HasFault net (faults.Port index) = NetsExist net.cells × WidthsFit net.cells ×
 HasFault net (faults.Cycle nets) =
     NetsExist net.cells × WidthsFit net.cells × PortsFit net.cells net.ports × IsCycleFromLeast net.cells (map number_of nets.items)
 HasFault net faults.NoMemory = Unit {0}
+
+-- an accepted netlist has no fault but want of memory
+abbrev pub AcceptedHasNoFault : Netlist → Type 0
+AcceptedHasNoFault net = (fault : NetFault) → IsAccepted net → HasFault net fault → fault ≡ faults.NoMemory

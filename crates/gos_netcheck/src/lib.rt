@@ -12,6 +12,7 @@ mod cells;
 mod checked;
 mod cycle;
 mod fault;
+mod law;
 mod ports;
 mod schedule;
 #[cfg(test)]
@@ -19,3 +20,4 @@ mod tests;
 
 pub use checked::{Checked, accept};
 pub use fault::{NetFault, Refused};
+pub use law::one_answer;

@@ -3,6 +3,7 @@ ghost use Rattle.std.specs.Prelude.{◌<◌, ◌^◌, length};
 
 use crate::checked::accept;
 use crate::fault::NetFault;
+use crate::law::one_answer;
 use gos_lex::{LexFault, Name};
 use gos_netlist::{Cell, Gate, Ground, NetId, Netlist, Port, Side};
 use std::alloc::{AllocError, Global};
@@ -151,4 +152,9 @@ fn ports_are_counted(rt: HostRuntime) -> Result<(), Fail> {
     let none = fault_of(alloc, &[register], Vec::new(alloc))?;
     assert!(rt; matches!(&none, Some(NetFault::Port { index: 0 })));
     Ok(())
+}
+
+#[test]
+fn the_law_returns() {
+    one_answer();
 }
