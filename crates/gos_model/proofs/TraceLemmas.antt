@@ -1,13 +1,14 @@
 -- Traces of small programs, move by move.
 use Rattle.std.specs.Prelude.{◌≡◌, ℕ, zero, suc, [], ◌∷◌}
 use Rattle.std.proofs.Common.{arith, refl, sym, subst, inl, inr}
-use Rattle.gos_model.specs.Terms.{Term, Skip, Import, Seq, Par, Wait, Lit, New, While, If, Bin, Eq, Deref, Assign, Loc, Scope, Held, Put}
+use Rattle.gos_types.specs.Types.{Exp}
+use Rattle.gos_model.specs.Terms.{Term, Skip, Bound, Import, Seq, Par, Wait, Lit, New, While, If, Bin, Add, Eq, Deref, Assign, Loc, Scope, Held, Put}
 use Rattle.gos_model.specs.Substitution.{instantiate}
 use Rattle.gos_model.specs.Reach.{Unfolds}
 use Rattle.gos_model.specs.Stores.{Entry, Store}
 use Rattle.gos_model.specs.Labels.{given, taken}
 use Rattle.gos_model.specs.Moves.{Computing, Showing, Idle, Running, Unfoldings, ActsTo}
-use Rattle.gos_model.specs.SmallPrograms.{c, d, loop_once, ParEitherWay, LoopRuns, NewIsZero}
+use Rattle.gos_model.specs.SmallPrograms.{c, d, e, loop_once, double, ParEitherWay, LoopRuns, NewIsZero, DoubleAsksTwice}
 
 abbrev entry : ℕ → ℕ → ℕ → Entry
 entry l w k = record { place = l; width = w; number = k }
@@ -208,3 +209,43 @@ starts w m t s (inr h) = absurd h
 
 pub new_is_zero : NewIsZero
 new_is_zero w m t s (n, u, us, h) = starts w m t s (subst (λ v. ActsTo [] Computing [] v (Running t s)) (sym (no_unfolding n w m u us)) h)
+
+-- the argument put in
+abbrev sum : Term
+sum = Bin Add (Import e) (Import e)
+
+pub asks_twice : DoubleAsksTwice
+asks_twice = (
+  Showing (given 0 0) ∷ Showing (taken e 0 0) ∷ Showing (taken e 1 3) ∷ Computing ∷ Showing (taken e 0 0) ∷ Showing (taken e 1 4) ∷ Computing ∷ Showing (given 1 7) ∷ [],
+  Idle,
+  (
+    Running double.body [],
+    (refl, refl),
+    (
+      Running (Bin Add (Wait e 1) (Import e)) [],
+      (1, sum, (sum, inl (inl (inl (Exp 8, Bin Add (Bound 0) (Bound 0), refl, refl))), refl), (inr (Wait e 1, refl, inl (inl (inr (8, refl, refl, refl)))), refl)),
+      (
+        Running (Bin Add (Lit 3 8) (Import e)) [],
+        (0, Bin Add (Wait e 1) (Import e), refl, (inr (Lit 3 8, refl, inl (inr (refl, refl, (omega arith, refl)))), refl)),
+        (
+          Running (Held 3 Add (Import e)) [],
+          (0, Bin Add (Lit 3 8) (Import e), refl, inl (3, 8, refl, refl, refl)),
+          (
+            Running (Held 3 Add (Wait e 1)) [],
+            (0, Held 3 Add (Import e), refl, (inr (Wait e 1, refl, inl (inl (inr (8, refl, refl, refl)))), refl)),
+            (
+              Running (Held 3 Add (Lit 4 8)) [],
+              (0, Held 3 Add (Wait e 1), refl, (inr (Lit 4 8, refl, inl (inr (refl, refl, (omega arith, refl)))), refl)),
+              (
+                Running (Lit 7 8) [],
+                (0, Held 3 Add (Lit 4 8), refl, inl (4, 8, refl, refl, refl)),
+                (Idle, (0, Lit 7 8, refl, inr (7, 8, refl, refl)), refl),
+              ),
+            ),
+          ),
+        ),
+      ),
+    ),
+  ),
+  refl,
+)

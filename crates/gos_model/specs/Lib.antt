@@ -9,6 +9,7 @@ pub mod Steps
 pub mod Labels
 pub mod Moves
 pub mod Linking
+pub mod Sources
 pub mod Flattening
 pub mod Protocol
 pub mod Pace

@@ -2,8 +2,8 @@
 --
 -- Read first: Moves, Weight. These show that the definitions are neither empty nor too wide.
 use Rattle.std.specs.Prelude.{◌≡◌, ℕ, [], ◌∷◌, codes}
-use Rattle.gos_types.specs.Types.{Com}
-use Rattle.gos_model.specs.Terms.{Name, Term, Import, Seq, Par, New, While, Bin, Eq, Deref, Bound, Lit, Assign, Loc, Scope, Wait}
+use Rattle.gos_types.specs.Types.{Com, Exp}
+use Rattle.gos_model.specs.Terms.{Name, Term, Import, Lam, App, Seq, Par, New, While, Bin, Add, Eq, Deref, Bound, Lit, Assign, Loc, Scope, Wait}
 use Rattle.gos_model.specs.Substitution.{instantiate}
 use Rattle.gos_model.specs.Typing.{Imports}
 use Rattle.gos_model.specs.Weight.{weight}
@@ -73,3 +73,16 @@ abbrev pub NewIsZero : Type 0
 NewIsZero =
     (w : ℕ) (m t : Term) (s : Store) → Move (record { imports = []; body = New w m }) Computing (Running (New w m) []) (Running t s)
     → (l : ℕ) × (t ≡ Scope l (instantiate m (Loc l))) × (s ≡ record { place = l; width = w; number = 0 } ∷ [])
+
+-- the name of an expression
+abbrev pub e : Name
+e = codes "e"
+
+-- `(fun x : exp 8 . x + x) e`
+abbrev pub double : Program
+double =
+    record { imports = record { name = e; ty = Exp 8 } ∷ []; body = App (Lam (Exp 8) (Bin Add (Bound 0) (Bound 0))) (Import e) }
+
+-- the argument is asked at each use, and both answers are added
+abbrev pub DoubleAsksTwice : Type 0
+DoubleAsksTwice = Trace double (given 0 0 ∷ taken e 0 0 ∷ taken e 1 3 ∷ taken e 0 0 ∷ taken e 1 4 ∷ given 1 7 ∷ [])

@@ -11,6 +11,7 @@ ghost use Rattle.gos_model.specs.SmallPrograms.{
   ParEitherWay,
   LoopRuns,
   NewIsZero,
+  DoubleAsksTwice,
 };
 
 /// `c ; d` runs c and then d, and never d first. It is stalled while it waits, and not where it can run c.
@@ -22,11 +23,12 @@ pub fn sequences()
     ensures emitting { EmittingIsNotStalled }
 {}
 
-/// `c || d` begins with either, a loop runs c once, and a new variable is 0.
+/// `c || d` begins with either, a loop runs c once, a new variable is 0, and an argument is asked at each use.
 pub fn small_traces()
     ensures either { ParEitherWay }
     ensures once { LoopRuns }
     ensures zero { NewIsZero }
+    ensures twice { DoubleAsksTwice }
 {}
 
 /// Modules have their weights and types, a name in both parts is refused, and a link puts the giver in.
