@@ -1,0 +1,175 @@
+// Numbered terms made of numbered parts.
+
+ghost use Rattle.std.specs.Prelude.{◌≡◌, ◌+◌, ◌++◌, ◌^◌, ◌<◌, ◌≤◌, length, IfOk, IfErr};
+ghost use Rattle.gos_types.specs.Types.{type_of, Var};
+ghost use Rattle.gos_check.specs.Nodes.{OfFun, OfNew, If};
+ghost use Rattle.gos_check.specs.Numbering.{one_form, two_form, type_in, node_seen, seen, binder_result, one_result, two_result};
+ghost use Rattle.gos_check.specs.Opens.{merged_splits, merged_names, merged_next};
+
+use crate::fault::CheckFault;
+use crate::forms::{OnePart, TwoParts, function_type};
+use crate::linear::{Node, NodeForm, Split};
+use crate::numbering::NumberedTerm;
+use crate::opens::{Closed, Merged, close, merge};
+use gos_lex::Name;
+use gos_types::{Ty, copy};
+use std::alloc::Global;
+
+// A function, whose body is numbered.
+#[tactic(auto, using(crate::proofs::TypeInLemmas::type_seen))]
+pub(crate) fn below_function(
+    alloc: Global,
+    name: &Name,
+    ty: &Ty,
+    body: NumberedTerm,
+) -> Result<NumberedTerm, CheckFault>
+    requires { body.next + 1 < 2 ^ 32 }
+    ensures node { IfOk result (λ r. node_seen r.node ≡ (binder_result OfFun name.now (type_of ty.now) (seen body)).node) }
+    ensures names { IfOk result (λ r. r.names.items ≡ (binder_result OfFun name.now (type_of ty.now) (seen body)).names) }
+    ensures next { IfOk result (λ r. r.next ≡ (binder_result OfFun name.now (type_of ty.now) (seen body)).next) }
+    ensures room { IfOk result (λ r. r.next + length r.names.items ≤ body.next + length body.names.items + 1) }
+    ensures err { IfErr result (λ e. e ≡ CheckFault.NoMemory) }
+{
+    let Closed {
+        number,
+        names,
+        next,
+    } = close(alloc, name, body.names, body.next)?;
+    let outcome = copy(alloc, &body.node.ty)?;
+    Ok(NumberedTerm {
+        node: Node {
+            ty: function_type(alloc, ty, outcome)?,
+            splits: Vec::new(alloc),
+            form: NodeForm::Fun {
+                number,
+                body: Box::new(alloc, body.node)?,
+            },
+        },
+        names,
+        next,
+    })
+}
+
+// A block with a variable, whose body is numbered.
+#[tactic(auto, using(crate::proofs::TypeInLemmas::type_seen))]
+pub(crate) fn below_block(
+    alloc: Global,
+    name: &Name,
+    width: u32,
+    body: NumberedTerm,
+) -> Result<NumberedTerm, CheckFault>
+    requires { body.next + 1 < 2 ^ 32 }
+    ensures node { IfOk result (λ r. node_seen r.node ≡ (binder_result (OfNew width) name.now (Var width) (seen body)).node) }
+    ensures names { IfOk result (λ r. r.names.items ≡ (binder_result (OfNew width) name.now (Var width) (seen body)).names) }
+    ensures next { IfOk result (λ r. r.next ≡ (binder_result (OfNew width) name.now (Var width) (seen body)).next) }
+    ensures room { IfOk result (λ r. r.next + length r.names.items ≤ body.next + length body.names.items + 1) }
+    ensures err { IfErr result (λ e. e ≡ CheckFault.NoMemory) }
+{
+    let Closed {
+        number,
+        names,
+        next,
+    } = close(alloc, name, body.names, body.next)?;
+    Ok(NumberedTerm {
+        node: Node {
+            ty: copy(alloc, &body.node.ty)?,
+            splits: Vec::new(alloc),
+            form: NodeForm::New {
+                number,
+                width,
+                body: Box::new(alloc, body.node)?,
+            },
+        },
+        names,
+        next,
+    })
+}
+
+// A form of one part.
+pub(crate) fn with_one(
+    alloc: Global,
+    rule: OnePart,
+    part: NumberedTerm,
+) -> Result<NumberedTerm, CheckFault>
+    ensures node { IfOk result (λ r. node_seen r.node ≡ (one_result (one_form rule) (seen part)).node) }
+    ensures names { IfOk result (λ r. r.names.items ≡ (one_result (one_form rule) (seen part)).names) }
+    ensures next { IfOk result (λ r. r.next ≡ (one_result (one_form rule) (seen part)).next) }
+    ensures room { IfOk result (λ r. r.next + length r.names.items ≤ part.next + length part.names.items) }
+    ensures err { IfErr result (λ e. e ≡ CheckFault.NoMemory) }
+{
+    Ok(NumberedTerm {
+        node: rule.node(alloc, part.node)?,
+        names: part.names,
+        next: part.next,
+    })
+}
+
+// A form of two parts, of which the right one was numbered last.
+pub(crate) fn with_two(
+    alloc: Global,
+    rule: TwoParts,
+    left: NumberedTerm,
+    right: NumberedTerm,
+) -> Result<NumberedTerm, CheckFault>
+    requires { right.next + length left.names.items + length right.names.items < 2 ^ 32 }
+    ensures node { IfOk result (λ r. node_seen r.node ≡ (two_result (two_form rule) (seen left) (seen right)).node) }
+    ensures names { IfOk result (λ r. r.names.items ≡ (two_result (two_form rule) (seen left) (seen right)).names) }
+    ensures next { IfOk result (λ r. r.next ≡ (two_result (two_form rule) (seen left) (seen right)).next) }
+    ensures room { IfOk result (λ r. r.next + length r.names.items ≤ right.next + length left.names.items + length right.names.items) }
+    ensures err { IfErr result (λ e. e ≡ CheckFault.NoMemory) }
+{
+    let merged = merge(alloc, left.names, right.names, right.next)?;
+    Ok(NumberedTerm {
+        node: rule.node(alloc, merged.splits, left.node, right.node)?,
+        names: merged.names,
+        next: merged.next,
+    })
+}
+
+// A choice, whose first two parts are merged already, and whose last part was numbered after that.
+pub(crate) fn with_three(
+    alloc: Global,
+    test: Node,
+    yes: Node,
+    inner: Merged,
+    no: NumberedTerm,
+) -> Result<NumberedTerm, CheckFault>
+    requires { no.next + length inner.names.items + length no.names.items < 2 ^ 32 }
+    ensures node { IfOk result (λ r. node_seen r.node ≡ If (type_in (node_seen yes)) (merged_splits inner.names.items no.names.items no.next ++ inner.splits.items) (node_seen test) (node_seen yes) (node_seen no.node)) }
+    ensures names { IfOk result (λ r. r.names.items ≡ merged_names inner.names.items no.names.items no.next) }
+    ensures next { IfOk result (λ r. r.next ≡ merged_next inner.names.items no.names.items no.next) }
+    ensures room { IfOk result (λ r. r.next + length r.names.items ≤ no.next + length inner.names.items + length no.names.items) }
+    ensures err { IfErr result (λ e. e ≡ CheckFault.NoMemory) }
+{
+    let outer = merge(alloc, inner.names, no.names, no.next)?;
+    let mut splits = outer.splits;
+    splits.extend_from_slice(inner.splits.as_slice())?;
+    Ok(NumberedTerm {
+        node: choice_node(alloc, splits, test, yes, no.node)?,
+        names: outer.names,
+        next: outer.next,
+    })
+}
+
+// The node of a choice.
+#[tactic(auto, using(crate::proofs::TypeInLemmas::type_seen))]
+fn choice_node(
+    alloc: Global,
+    splits: Vec<Split>,
+    m: Node,
+    n: Node,
+    p: Node,
+) -> Result<Node, CheckFault>
+    ensures ok { IfOk result (λ node. node_seen node ≡ If (type_in (node_seen n)) splits.items (node_seen m) (node_seen n) (node_seen p)) }
+    ensures err { IfErr result (λ e. e ≡ CheckFault.NoMemory) }
+{
+    Ok(Node {
+        ty: copy(alloc, &n.ty)?,
+        splits,
+        form: NodeForm::If(
+            Box::new(alloc, m)?,
+            Box::new(alloc, n)?,
+            Box::new(alloc, p)?,
+        ),
+    })
+}

@@ -1,0 +1,26 @@
+// Laws of the definitions. Each is the contract of a function that does nothing.
+
+ghost use Rattle.std.specs.Prelude.{ℕ, ◌≤◌, length, None};
+ghost use Rattle.gos_lex.specs.Tokens.{Reads};
+ghost use Rattle.gos_syntax.specs.ParsedModules.{IsParsed};
+ghost use Rattle.gos_check.specs.Sizes.{IsCountableModule};
+ghost use Rattle.gos_check.specs.Accepted.{FoundExactly};
+
+use gos_lex::Token;
+use gos_model::types_of_terms;
+use gos_syntax::Module;
+
+/// No fault is found exactly in a module that is typed and keeps the limits, and what is found then is its weight.
+pub fn found_exactly()
+    ensures { FoundExactly }
+{
+    types_of_terms();
+}
+
+/// The module of a text that `scan` and `parse` read may be checked.
+pub fn parsed_is_countable(text: &[u8], tokens: &[Token], program: &Module)
+    requires short { length text.now ≤ 65536 }
+    requires scanned { Reads text.now 0 tokens.now None }
+    requires parsed { IsParsed text.now tokens.now program.now }
+    ensures { IsCountableModule program.now }
+{}

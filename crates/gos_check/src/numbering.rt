@@ -1,0 +1,308 @@
+// The typed term of a module that is accepted: each occurrence has a number, and each sharing is written out as a split.
+//
+// A term is numbered from its leaves up. Each use has a new number, and where two parts of a node use one name, a new
+// number outside stands for the two numbers inside. What is left open at the root are the imports, which then change
+// their numbers for their places.
+
+ghost use Rattle.std.specs.Prelude.{◌≡◌, ◌+◌, ◌*◌, ◌^◌, ◌<◌, ◌≤◌, [], ◌∷◌, map, length, IfOk, IfErr};
+ghost use Rattle.gos_types.specs.Types.{type_of, Com, Exp, Var};
+ghost use Rattle.gos_model.specs.Terms as terms;
+ghost use Rattle.gos_model.specs.Sources.{import_of};
+ghost use Rattle.gos_model.specs.Weight.{or_com};
+ghost use Rattle.gos_check.specs.Sizes.{size};
+ghost use Rattle.gos_check.specs.Scopes.{type_at};
+ghost use Rattle.gos_check.specs.Seen.{binders_of};
+ghost use Rattle.gos_check.specs.Walked.{tree};
+ghost use Rattle.gos_check.specs.Nodes.{OfFun, OfNew, If};
+ghost use Rattle.gos_check.specs.Numbering.{one_form, two_form, node_seen, closed_result, use_result, binder_result, one_result, two_result, choice_result, inner_next, numbered, import_number, placed};
+
+use crate::fault::CheckFault;
+use crate::forms::{OnePart, TwoParts};
+use crate::joining::{below_block, below_function, with_one, with_three, with_two};
+use crate::linear::{Node, NodeForm};
+use crate::opens::{Open, merge};
+use crate::renaming::exchange;
+use crate::scope::Scope;
+use gos_lex::Name;
+use gos_syntax::{Form, Import, Module, Term};
+use gos_types::{Ty, copy};
+use std::alloc::Global;
+
+// A term that is numbered: its free names with their numbers, and the next number that is not taken.
+#[derive(Drop)]
+pub(crate) struct NumberedTerm {
+    pub node: Node,
+    pub names: Vec<Open>,
+    pub next: u32,
+}
+
+// The typed term of a module's body.
+pub(crate) fn number_module(alloc: Global, program: &Module) -> Result<Node, CheckFault>
+    requires { length program.now.imports + 2 * size (tree program.now.body) < 2 ^ 32 }
+    ensures ok { IfOk result (λ node. node_seen node ≡ placed program.now.imports (numbered (map import_of program.now.imports) [] (length program.now.imports) (tree program.now.body)).names (numbered (map import_of program.now.imports) [] (length program.now.imports) (tree program.now.body)).node) }
+    ensures err { IfErr result (λ e. e ≡ CheckFault.NoMemory) }
+{
+    let imports = program.imports.as_slice();
+    let first = imports.len() as u32;
+    let body = number(alloc, imports, &Scope::Outermost, first, &program.body)?;
+    let mut node = body.node;
+    place(imports, body.names.as_slice(), &mut node);
+    Ok(node)
+}
+
+// Gives each of these names its import's place as its number.
+fn place(imports: &[Import], names: &[Open], node: &mut Node)
+    requires { length imports.now < 2 ^ 32 }
+    ensures { node_seen node.new ≡ placed imports.now names.now (node_seen node.old) }
+{
+    for one in names {
+        if let Some(place) = import_number(imports, &one.name) {
+            exchange(one.number, place, node);
+        }
+    }
+}
+
+// The place of the first import of a name.
+fn import_number(imports: &[Import], name: &Name) -> Option<u32>
+    requires { length imports.now < 2 ^ 32 }
+    ensures { result ≡ import_number imports.now name.now }
+{
+    for (place, import) in imports.iter().enumerate() {
+        if import.name == *name {
+            return Some(place as u32);
+        }
+    }
+    None
+}
+
+// A term, from the next number on.
+#[cycle(numbering)]
+fn number(
+    alloc: Global,
+    imports: &[Import],
+    scope: &Scope,
+    next: u32,
+    term: &Term,
+) -> Result<NumberedTerm, CheckFault>
+    requires { next + 2 * size (tree term.now) < 2 ^ 32 }
+    ensures node { IfOk result (λ r. node_seen r.node ≡ (numbered (map import_of imports.now) (binders_of scope.now) next (tree term.now)).node) }
+    ensures names { IfOk result (λ r. r.names.items ≡ (numbered (map import_of imports.now) (binders_of scope.now) next (tree term.now)).names) }
+    ensures next { IfOk result (λ r. r.next ≡ (numbered (map import_of imports.now) (binders_of scope.now) next (tree term.now)).next) }
+    ensures room { IfOk result (λ r. r.next + length r.names.items ≤ next + 2 * size (tree term.now)) }
+    ensures err { IfErr result (λ e. e ≡ CheckFault.NoMemory) }
+{
+    match &term.form {
+        Form::Skip => Ok(closed(alloc, next, Ty::Com, NodeForm::Skip)),
+        Form::Lit { value, width } => Ok(closed(
+            alloc,
+            next,
+            Ty::Exp(*width),
+            NodeForm::Lit {
+                value: u64::from(*value),
+                width: *width,
+            },
+        )),
+        Form::Name(name) => number_name(alloc, imports, scope, next, name),
+        Form::Fun { name, ty, body, .. } => {
+            number_function(alloc, imports, scope, next, name, ty, body)
+        }
+        Form::New {
+            name,
+            width,
+            body,
+            ..
+        } => number_block(alloc, imports, scope, next, name, *width, body),
+        Form::App(m, n) => number_two(alloc, imports, scope, next, TwoParts::Application, m, n),
+        Form::Pair(m, n) => number_two(alloc, imports, scope, next, TwoParts::Product, m, n),
+        Form::Fst(m) => number_one(alloc, imports, scope, next, OnePart::First, m),
+        Form::Snd(m) => number_one(alloc, imports, scope, next, OnePart::Second, m),
+        Form::Seq(m, n) => number_two(alloc, imports, scope, next, TwoParts::Sequence, m, n),
+        Form::Par(m, n) => number_two(alloc, imports, scope, next, TwoParts::Parallel, m, n),
+        Form::If(m, n, p) => number_choice(alloc, imports, scope, next, m, n, p),
+        Form::While(m, n) => number_two(alloc, imports, scope, next, TwoParts::Loop, m, n),
+        Form::Assign(m, n) => number_two(alloc, imports, scope, next, TwoParts::Assignment, m, n),
+        Form::Deref(m) => number_one(alloc, imports, scope, next, OnePart::Reading, m),
+        Form::Not(m) => number_one(alloc, imports, scope, next, OnePart::Negation, m),
+        Form::Bin(op, m, n) => {
+            number_two(alloc, imports, scope, next, TwoParts::Operation(*op), m, n)
+        }
+    }
+}
+
+// A node without free names.
+fn closed(alloc: Global, next: u32, ty: Ty, form: NodeForm) -> NumberedTerm
+    ensures node { result.node.form ≡ form }
+    ensures ty { result.node.ty ≡ ty }
+    ensures splits { result.node.splits.items ≡ [] }
+    ensures names { result.names.items ≡ [] }
+    ensures next { result.next ≡ next }
+{
+    NumberedTerm {
+        node: Node {
+            ty,
+            splits: Vec::new(alloc),
+            form,
+        },
+        names: Vec::new(alloc),
+        next,
+    }
+}
+
+// A name that is used, with a new number.
+fn number_name(
+    alloc: Global,
+    imports: &[Import],
+    scope: &Scope,
+    next: u32,
+    name: &Name,
+) -> Result<NumberedTerm, CheckFault>
+    requires { next + 2 < 2 ^ 32 }
+    ensures node { IfOk result (λ r. node_seen r.node ≡ (use_result (or_com (type_at (map import_of imports.now) (binders_of scope.now) name.now)) name.now next).node) }
+    ensures names { IfOk result (λ r. r.names.items ≡ (use_result (or_com (type_at (map import_of imports.now) (binders_of scope.now) name.now)) name.now next).names) }
+    ensures next { IfOk result (λ r. r.next ≡ (use_result (or_com (type_at (map import_of imports.now) (binders_of scope.now) name.now)) name.now next).next) }
+    ensures room { IfOk result (λ r. r.next + length r.names.items ≤ next + 2) }
+    ensures err { IfErr result (λ e. e ≡ CheckFault.NoMemory) }
+{
+    let ty = match scope.find(imports, name) {
+        Some(ty) => copy(alloc, ty)?,
+        None => Ty::Com,
+    };
+    let mut names = Vec::new(alloc);
+    names.push(Open {
+        name: Name::new(alloc, name.bytes())?,
+        number: next,
+    })?;
+    Ok(NumberedTerm {
+        node: Node {
+            ty,
+            splits: Vec::new(alloc),
+            form: NodeForm::Use(next),
+        },
+        names,
+        next: next + 1,
+    })
+}
+
+// A function.
+#[cycle(numbering)]
+fn number_function(
+    alloc: Global,
+    imports: &[Import],
+    scope: &Scope,
+    next: u32,
+    name: &Name,
+    ty: &Ty,
+    body: &Term,
+) -> Result<NumberedTerm, CheckFault>
+    requires { next + 2 * size (tree body.now) + 2 < 2 ^ 32 }
+    ensures node { IfOk result (λ r. node_seen r.node ≡ (binder_result OfFun name.now (type_of ty.now) (numbered (map import_of imports.now) (record { name = name.now; ty = type_of ty.now } ∷ binders_of scope.now) next (tree body.now))).node) }
+    ensures names { IfOk result (λ r. r.names.items ≡ (binder_result OfFun name.now (type_of ty.now) (numbered (map import_of imports.now) (record { name = name.now; ty = type_of ty.now } ∷ binders_of scope.now) next (tree body.now))).names) }
+    ensures next { IfOk result (λ r. r.next ≡ (binder_result OfFun name.now (type_of ty.now) (numbered (map import_of imports.now) (record { name = name.now; ty = type_of ty.now } ∷ binders_of scope.now) next (tree body.now))).next) }
+    ensures room { IfOk result (λ r. r.next + length r.names.items ≤ next + 2 * size (tree body.now) + 1) }
+    ensures err { IfErr result (λ e. e ≡ CheckFault.NoMemory) }
+{
+    let inner = Scope::Binder {
+        name: &*name,
+        ty: &*ty,
+        outer: &*scope,
+    };
+    let body = number(alloc, imports, &inner, next, body)?;
+    below_function(alloc, &*name, &*ty, body)
+}
+
+// A block with a variable.
+#[cycle(numbering)]
+fn number_block(
+    alloc: Global,
+    imports: &[Import],
+    scope: &Scope,
+    next: u32,
+    name: &Name,
+    width: u32,
+    body: &Term,
+) -> Result<NumberedTerm, CheckFault>
+    requires { next + 2 * size (tree body.now) + 2 < 2 ^ 32 }
+    ensures node { IfOk result (λ r. node_seen r.node ≡ (binder_result (OfNew width) name.now (Var width) (numbered (map import_of imports.now) (record { name = name.now; ty = Var width } ∷ binders_of scope.now) next (tree body.now))).node) }
+    ensures names { IfOk result (λ r. r.names.items ≡ (binder_result (OfNew width) name.now (Var width) (numbered (map import_of imports.now) (record { name = name.now; ty = Var width } ∷ binders_of scope.now) next (tree body.now))).names) }
+    ensures next { IfOk result (λ r. r.next ≡ (binder_result (OfNew width) name.now (Var width) (numbered (map import_of imports.now) (record { name = name.now; ty = Var width } ∷ binders_of scope.now) next (tree body.now))).next) }
+    ensures room { IfOk result (λ r. r.next + length r.names.items ≤ next + 2 * size (tree body.now) + 1) }
+    ensures err { IfErr result (λ e. e ≡ CheckFault.NoMemory) }
+{
+    let variable = Ty::Var(width);
+    let inner = Scope::Binder {
+        name: &*name,
+        ty: &variable,
+        outer: &*scope,
+    };
+    let body = number(alloc, imports, &inner, next, body)?;
+    below_block(alloc, &*name, width, body)
+}
+
+// A form of one part.
+#[cycle(numbering)]
+fn number_one(
+    alloc: Global,
+    imports: &[Import],
+    scope: &Scope,
+    next: u32,
+    rule: OnePart,
+    m: &Term,
+) -> Result<NumberedTerm, CheckFault>
+    requires { next + 2 * size (tree m.now) < 2 ^ 32 }
+    ensures node { IfOk result (λ r. node_seen r.node ≡ (one_result (one_form rule) (numbered (map import_of imports.now) (binders_of scope.now) next (tree m.now))).node) }
+    ensures names { IfOk result (λ r. r.names.items ≡ (one_result (one_form rule) (numbered (map import_of imports.now) (binders_of scope.now) next (tree m.now))).names) }
+    ensures next { IfOk result (λ r. r.next ≡ (one_result (one_form rule) (numbered (map import_of imports.now) (binders_of scope.now) next (tree m.now))).next) }
+    ensures room { IfOk result (λ r. r.next + length r.names.items ≤ next + 2 * size (tree m.now)) }
+    ensures err { IfErr result (λ e. e ≡ CheckFault.NoMemory) }
+{
+    let part = number(alloc, imports, scope, next, m)?;
+    with_one(alloc, rule, part)
+}
+
+// A form of two parts.
+#[cycle(numbering)]
+fn number_two(
+    alloc: Global,
+    imports: &[Import],
+    scope: &Scope,
+    next: u32,
+    rule: TwoParts,
+    m: &Term,
+    n: &Term,
+) -> Result<NumberedTerm, CheckFault>
+    requires { next + 2 * (size (tree m.now) + size (tree n.now)) < 2 ^ 32 }
+    ensures node { IfOk result (λ r. node_seen r.node ≡ (two_result (two_form rule) (numbered (map import_of imports.now) (binders_of scope.now) next (tree m.now)) (numbered (map import_of imports.now) (binders_of scope.now) (numbered (map import_of imports.now) (binders_of scope.now) next (tree m.now)).next (tree n.now))).node) }
+    ensures names { IfOk result (λ r. r.names.items ≡ (two_result (two_form rule) (numbered (map import_of imports.now) (binders_of scope.now) next (tree m.now)) (numbered (map import_of imports.now) (binders_of scope.now) (numbered (map import_of imports.now) (binders_of scope.now) next (tree m.now)).next (tree n.now))).names) }
+    ensures next { IfOk result (λ r. r.next ≡ (two_result (two_form rule) (numbered (map import_of imports.now) (binders_of scope.now) next (tree m.now)) (numbered (map import_of imports.now) (binders_of scope.now) (numbered (map import_of imports.now) (binders_of scope.now) next (tree m.now)).next (tree n.now))).next) }
+    ensures room { IfOk result (λ r. r.next + length r.names.items ≤ next + 2 * (size (tree m.now) + size (tree n.now))) }
+    ensures err { IfErr result (λ e. e ≡ CheckFault.NoMemory) }
+{
+    let left = number(alloc, imports, scope, next, m)?;
+    let right = number(alloc, imports, scope, left.next, n)?;
+    with_two(alloc, rule, left, right)
+}
+
+// `if M then N else P`
+#[cycle(numbering)]
+fn number_choice(
+    alloc: Global,
+    imports: &[Import],
+    scope: &Scope,
+    next: u32,
+    m: &Term,
+    n: &Term,
+    p: &Term,
+) -> Result<NumberedTerm, CheckFault>
+    requires { next + 2 * (size (tree m.now) + size (tree n.now) + size (tree p.now)) < 2 ^ 32 }
+    ensures node { IfOk result (λ r. node_seen r.node ≡ (choice_result (numbered (map import_of imports.now) (binders_of scope.now) next (tree m.now)) (numbered (map import_of imports.now) (binders_of scope.now) (numbered (map import_of imports.now) (binders_of scope.now) next (tree m.now)).next (tree n.now)) (numbered (map import_of imports.now) (binders_of scope.now) (inner_next (numbered (map import_of imports.now) (binders_of scope.now) next (tree m.now)) (numbered (map import_of imports.now) (binders_of scope.now) (numbered (map import_of imports.now) (binders_of scope.now) next (tree m.now)).next (tree n.now))) (tree p.now))).node) }
+    ensures names { IfOk result (λ r. r.names.items ≡ (choice_result (numbered (map import_of imports.now) (binders_of scope.now) next (tree m.now)) (numbered (map import_of imports.now) (binders_of scope.now) (numbered (map import_of imports.now) (binders_of scope.now) next (tree m.now)).next (tree n.now)) (numbered (map import_of imports.now) (binders_of scope.now) (inner_next (numbered (map import_of imports.now) (binders_of scope.now) next (tree m.now)) (numbered (map import_of imports.now) (binders_of scope.now) (numbered (map import_of imports.now) (binders_of scope.now) next (tree m.now)).next (tree n.now))) (tree p.now))).names) }
+    ensures next { IfOk result (λ r. r.next ≡ (choice_result (numbered (map import_of imports.now) (binders_of scope.now) next (tree m.now)) (numbered (map import_of imports.now) (binders_of scope.now) (numbered (map import_of imports.now) (binders_of scope.now) next (tree m.now)).next (tree n.now)) (numbered (map import_of imports.now) (binders_of scope.now) (inner_next (numbered (map import_of imports.now) (binders_of scope.now) next (tree m.now)) (numbered (map import_of imports.now) (binders_of scope.now) (numbered (map import_of imports.now) (binders_of scope.now) next (tree m.now)).next (tree n.now))) (tree p.now))).next) }
+    ensures room { IfOk result (λ r. r.next + length r.names.items ≤ next + 2 * (size (tree m.now) + size (tree n.now) + size (tree p.now))) }
+    ensures err { IfErr result (λ e. e ≡ CheckFault.NoMemory) }
+{
+    let test = number(alloc, imports, scope, next, m)?;
+    let yes = number(alloc, imports, scope, test.next, n)?;
+    let inner = merge(alloc, test.names, yes.names, yes.next)?;
+    let no = number(alloc, imports, scope, inner.next, p)?;
+    with_three(alloc, test.node, yes.node, inner, no)
+}
