@@ -1,5 +1,6 @@
 // The simulator.
 ghost use Rattle.std.specs.Prelude.{◌≡◌, All, IfErr, IfOk, length, replicate};
+ghost use Rattle.gos_netcheck.specs.Accepted.{IsAccepted};
 ghost use Rattle.gos_sim.specs.EventNets.{input_events, output_events};
 ghost use Rattle.gos_sim.specs.Cycle.{IsCycle, IsNextOutput, IsWord, at_reset};
 ghost use Rattle.gos_sim.specs.Machine.{IsMachine};
@@ -71,7 +72,8 @@ impl Sim {
 
     /// The netlist that runs.
     pub fn netlist(&self) -> &Netlist
-        ensures { result.now ≡ self.now.net }
+        ensures value { result.now ≡ self.now.net }
+        ensures accepted { IsAccepted self.now.net }
     {
         self.net.netlist()
     }
