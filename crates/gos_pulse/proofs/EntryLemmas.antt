@@ -1,9 +1,12 @@
 -- How the statements of a text read on, entry by entry.
-use Rattle.std.proofs.Common.{inr, ◌≤◌, ◌≡◌, ◌≢◌, ℕ, suc, List, [], ◌∷◌, ◌++◌, length, refl, sym, subst, arith, Option, Some, None, append-nil, append_assoc, length-append}
+use Rattle.std.proofs.Common.{inr, All, zero, ◌^◌, ◌<◌, ◌≤◌, ◌≡◌, ◌≢◌, ℕ, suc, List, [], ◌∷◌, ◌++◌, length, refl, sym, subst, arith, Option, Some, None, append-nil, append_assoc, length-append}
+use Rattle.std.specs.List.{AllByRecursion}
+use Rattle.std.proofs.lemmas.List.Elements.{All-from_recursion}
 use Rattle.gos_netlist.specs.Nets.{Netlist}
 use Rattle.std.specs.Str.Lines.{lines}
-use Rattle.gos_lines.specs.Lines.{Statement, statements_of}
-use Rattle.gos_pulse.specs.Entries.{IsEntry, SaysCycles, IsRunLength}
+use Rattle.gos_lines.specs.Lines.{Words, Statement, statements_of}
+use Rattle.gos_pulse.specs.Entries.{IsEntry, IsValue, SaysCycles, IsRunLength}
+use Rattle.gos_pulse.specs.Driving.{GivesInput}
 use Rattle.gos_pulse.specs.PulseFile.{ReadsEntries, Names, IsWrongEntry, HasFirstWrong, IsRefused}
 use Rattle.gos_pulse.specs.declared.fault.PulseFault.TheVariants as faults
 use Rattle.gos_pulse.specs.Reading.{IsEntriesFault}
@@ -39,3 +42,25 @@ pub entries_refused : (net : Netlist) (text : List ℕ) (s : Statement) (others 
 entries_refused net text s others cycles fault short is says length_is wrong real =
     let found = wrong real in
     inr (short, subst (λ (ss : List Statement). HasFirstWrong net ss (length (lines text)) fault) (sym is) (inr (cycles, found.0, says, length_is, found.1)))
+
+-- a value that is right for its event has at most its bits
+value_fits : (bits : ℕ) (written : Option ℕ) (value : ℕ) → IsValue bits written value → value < 2 ^ bits
+value_fits zero None value h = omega (arith, h)
+value_fits zero (Some w) value h = absurd h
+value_fits (suc bits) None value h = absurd h
+value_fits (suc bits) (Some w) value h = subst (λ (n : ℕ). n < 2 ^ suc bits) (sym h.0) h.1
+
+gives_input : (net : Netlist) (cycles before : ℕ) (words : Words) (entry : Entry) → IsEntry net cycles before words entry → GivesInput net entry
+gives_input net cycles before words entry is =
+    record { event = is.event; there = is.input.there; input = is.input.input; fits = value_fits is.event.bits is.value entry.value is.fits }
+
+all_give : (net : Netlist) (cycles before : ℕ) (ss : List Statement) (entries : List Entry) → ReadsEntries net cycles before ss entries None → AllByRecursion (GivesInput net) entries
+all_give net cycles before [] [] h = tt
+all_give net cycles before [] (entry ∷ entries) h = absurd h
+all_give net cycles before (s ∷ ss) [] h = tt
+all_give net cycles before (s ∷ ss) (entry ∷ entries) h =
+    (gives_input net cycles before s.words entry h.0, all_give net cycles (suc before) ss entries h.1)
+
+-- entries that were read give inputs
+pub entries_give : (net : Netlist) (cycles before : ℕ) (ss : List Statement) (entries : List Entry) → ReadsEntries net cycles before ss entries None → All (GivesInput net) entries
+entries_give net cycles before ss entries h = All-from_recursion (GivesInput net) entries (all_give net cycles before ss entries h)

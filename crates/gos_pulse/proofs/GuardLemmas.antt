@@ -1,9 +1,10 @@
 -- What a pulse changes of the open handshakes, and that the guard's test is the protocol.
-use Rattle.std.proofs.Common.{◌≡◌, ℕ, zero, suc, ◌+◌, ◌^◌, ◌<◌, ◌&&◌, Bool, true, false, not, cond, List, [], ◌∷◌, ◌++◌, length, get_or, set, ◌≢◌, refl, sym, ◌∙◌, ap, subst, arith, inl, inr, ◌⊎◌, true≢false, Option, Some, None, IsTrue, take, append-nil}
+use Rattle.std.proofs.Common.{◌≡◌, ℕ, zero, suc, ◌+◌, ◌^◌, ◌<◌, ◌&&◌, Bool, true, false, not, cond, List, [], ◌∷◌, ◌++◌, length, get_or, set, ◌≢◌, refl, sym, ◌∙◌, ap, subst, arith, inl, inr, ◌⊎◌, true≢false, Option, Some, None, IsTrue, take, append-nil, map}
 use Rattle.std.specs.Prelude.{slice_get, nat_eq, ◌↔◌, replicate}
 use Rattle.std.specs.Str.{bytes_eq}
-use Rattle.std.proofs.lemmas.Option.{slice_get_within, get_or_from_slice_get}
-use Rattle.std.proofs.lemmas.List.{get_or-set_same, get_or-set_other, length-set, take_more, get_or-replicate, length-replicate}
+use Rattle.std.specs.Option.{option_map}
+use Rattle.std.proofs.lemmas.Option.{slice_get_within, get_or_from_slice_get, slice_get-get_or, slice_get-map}
+use Rattle.std.proofs.lemmas.List.{get_or-set_same, get_or-set_other, length-set, take_more, get_or-replicate, length-replicate, map-append}
 use Rattle.std.proofs.lemmas.Slice.Eq.{bytes_eq-Decides}
 use Rattle.gos_types.specs.Types.{Type', Com, Exp, Var, Pair, Fun, IsDone}
 use Rattle.gos_netlist.specs.declared.event.Event as seen
@@ -13,7 +14,7 @@ use Rattle.gos_model.specs.Typing.{import_type}
 use Rattle.gos_model.specs.Labels.{Port, Given, Taken, Label, is_answer}
 use Rattle.gos_model.specs.Flattening.{port_of}
 use Rattle.gos_model.specs.Protocol.{shake_of, same_port, is_open, event_of, FitsAnswer, Allowed, with_side, taken_by}
-use Rattle.gos_pulse.specs.Guarding.{goes, events_way, halves_of, half_of, is_second, PortsDiffer, HasPorts, IsLabel, Guards}
+use Rattle.gos_pulse.specs.Guarding.{goes, events_way, halves_of, half_of, is_second, PortsDiffer, HasPorts, IsLabel, IsValueOf, Guards}
 use Rattle.gos_pulse.specs.declared.guard.Half.{Half}
 use Rattle.gos_pulse.specs.declared.guard.Guard.{Guard}
 
@@ -53,7 +54,8 @@ port_event k side n (Is way bits ∷ es) (suc i) e h =
     let later = port_event k side (suc n) es i e h in
     record { index = suc later.index; way = later.way; port_is = later.port_is; place_is = omega (arith, later.place_is); event = later.event; input = later.input }
 
-event_from : (k : ℕ) (ports : List NetPort) (i : ℕ) (e : seen.Event) → slice_get (events_from k ports) i ≡ Some e → IsEventOf ports k e
+-- an event of ports, and what it is there
+pub event_from : (k : ℕ) (ports : List NetPort) (i : ℕ) (e : seen.Event) → slice_get (events_from k ports) i ≡ Some e → IsEventOf ports k e
 event_from k [] i e h = let wrong : None ≡ Some e = h in absurd cc
 event_from k (p ∷ ps) i e h =
     elim (of_either (port_events k p.side 0 (events p.ty)) (events_from (suc k) ps) i e h) [
@@ -67,7 +69,7 @@ event_from k (p ∷ ps) i e h =
     ]
 
 -- an event of one way is an event, and goes that way
-of_way : (inputs : Bool) (all : List seen.Event) (i : ℕ) (e : seen.Event) → slice_get (events_way inputs all) i ≡ Some e → ((j : ℕ) × (slice_get all j ≡ Some e)) × (goes inputs e ≡ true)
+pub of_way : (inputs : Bool) (all : List seen.Event) (i : ℕ) (e : seen.Event) → slice_get (events_way inputs all) i ≡ Some e → ((j : ℕ) × (slice_get all j ≡ Some e)) × (goes inputs e ≡ true)
 of_way inputs [] i e h = let wrong : None ≡ Some e = h in absurd cc
 of_way inputs (x ∷ all) i e h = by (goes inputs x) refl i h (λ j. of_way inputs all j e)
   where
@@ -78,20 +80,14 @@ of_way inputs (x ∷ all) i e h = by (goes inputs x) refl i h (λ j. of_way inpu
 
 -- the halves stand as the events do
 half_there : (inputs : Bool) (all : List seen.Event) (i : ℕ) (e : seen.Event) → slice_get (events_way inputs all) i ≡ Some e → slice_get (halves_of inputs all) i ≡ Some (half_of e)
-half_there inputs [] i e h = let wrong : None ≡ Some e = h in absurd cc
-half_there inputs (x ∷ all) i e h = by (goes inputs x) i h (λ j. half_there inputs all j e)
-  where
-    by : (b : Bool) (i : ℕ) → slice_get (cond b (x ∷ events_way inputs all) (events_way inputs all)) i ≡ Some e → ((j : ℕ) → slice_get (events_way inputs all) j ≡ Some e → slice_get (halves_of inputs all) j ≡ Some (half_of e)) → slice_get (cond b (half_of x ∷ halves_of inputs all) (halves_of inputs all)) i ≡ Some (half_of e)
-    by true zero h rest = let same : x ≡ e = cc in ap (λ (y : seen.Event). Some (half_of y)) same
-    by true (suc i) h rest = rest i h
-    by false i h rest = rest i h
+half_there inputs all i e h = slice_get-map half_of (events_way inputs all) i ∙ ap (option_map half_of) h
 
 -- the direction of an event
 abbrev direction_of : Event → Direction
 direction_of (Is way bits) = way
 
 -- the direction of the event at a place
-abbrev direction_at : Bool → Direction
+abbrev pub direction_at : Bool → Direction
 direction_at true = Answer
 direction_at false = Request
 
@@ -105,7 +101,7 @@ its_way one way bits h = let same : one ≡ Is way bits = cc in ap direction_of 
 no_event : {X : Type 0} (way : Direction) (bits : ℕ) → None ≡ Some (Is way bits) → X
 no_event way bits h = absurd cc
 
-placed : (ty : Type') (n : ℕ) (way : Direction) (bits : ℕ) → slice_get (events ty) n ≡ Some (Is way bits) → IsPlaced n way
+pub placed : (ty : Type') (n : ℕ) (way : Direction) (bits : ℕ) → slice_get (events ty) n ≡ Some (Is way bits) → IsPlaced n way
 placed Com zero way bits h = (its_way (Is Request 0) way bits h, refl)
 placed Com (suc zero) way bits h = (its_way (Is Answer 0) way bits h, refl)
 placed Com (suc (suc n)) way bits h = no_event way bits h
@@ -120,11 +116,11 @@ placed (Var w) (suc (suc (suc (suc n)))) way bits h = no_event way bits h
 placed (Pair a b) n way bits h = no_event way bits h
 placed (Fun a b) n way bits h = no_event way bits h
 
-same_port-refl : (x : Port) → same_port x x ≡ true
+pub same_port-refl : (x : Port) → same_port x x ≡ true
 same_port-refl Given = refl
 same_port-refl (Taken x) = (bytes_eq-Decides x x).1 refl
 
-same_port-is : (x y : Port) → same_port x y ≡ true → x ≡ y
+pub same_port-is : (x y : Port) → same_port x y ≡ true → x ≡ y
 same_port-is Given Given h = refl
 same_port-is Given (Taken y) h = absurd (true≢false (sym h))
 same_port-is (Taken x) Given h = absurd (true≢false (sym h))
@@ -158,20 +154,20 @@ module _ (ports : List NetPort) (past : List Label) (k i : ℕ) (p q : NetPort) 
       by false = refl
 
 -- what is known of a label of an event
-pub record IsKnown (net : Netlist) (inputs : Bool) (l : Label) (half : Half) : Type 0 where
+pub record IsKnown (net : Netlist) (inputs : Bool) (i : ℕ) (l : Label) (half : Half) : Type 0 where
   pub event : seen.Event
   pub port : NetPort
   pub way : Direction
   pub at : slice_get net.ports event.port ≡ Some port
   pub port_is : l.port ≡ port_of port.side port.name
   pub event_is : l.event ≡ event.place
-  pub fits : l.value < 2 ^ event.bits
+  pub there : slice_get (events_way inputs (events_of net)) i ≡ Some event
   pub is : slice_get (events port.ty) event.place ≡ Some (Is way event.bits)
   pub input : event.input ≡ is_input port.side way
   pub goes_its_way : goes inputs event ≡ true
   pub half_is : half ≡ half_of event
 
-known : (net : Netlist) (inputs : Bool) (i : ℕ) (l : Label) (half : Half) → IsLabel net (events_way inputs (events_of net)) i l → half ≡ get_or (halves_of inputs (events_of net)) i half → IsKnown net inputs l half
+known : (net : Netlist) (inputs : Bool) (i : ℕ) (l : Label) (half : Half) → IsLabel net (events_way inputs (events_of net)) i l → half ≡ get_or (halves_of inputs (events_of net)) i half → IsKnown net inputs i l half
 known net inputs i l half label half_is =
     let one = of_way inputs (events_of net) i label.event label.there in
     let its = event_from 0 net.ports one.0.0 label.event one.0.1 in
@@ -186,7 +182,7 @@ known net inputs i l half label half_is =
       at = label.at;
       port_is = label.port_is;
       event_is = label.event_is;
-      fits = label.fits;
+      there = label.there;
       is = subst (λ (p : NetPort). slice_get (events p.ty) label.event.place ≡ Some (Is its.way label.event.bits)) equal its.event;
       input = subst (λ (p : NetPort). label.event.input ≡ is_input p.side its.way) equal its.input;
       goes_its_way = one.1;
@@ -201,7 +197,7 @@ module _ (net : Netlist) (past : List Label) (l : Label) (inputs : Bool) (i : �
       let its_place : IsPlaced its.event.place its.way = placed its.port.ty its.event.place its.way its.event.bits its.is in
       by its (is_second its.event.place) refl its_place.1
     where
-      by : (its : IsKnown net inputs l half) (b : Bool) → is_second its.event.place ≡ b → shake_of its.event.place ≡ cond (is_second its.event.place) 1 0 → Guards net (l ∷ past) new
+      by : (its : IsKnown net inputs i l half) (b : Bool) → is_second its.event.place ≡ b → shake_of its.event.place ≡ cond (is_second its.event.place) 1 0 → Guards net (l ∷ past) new
       by its false is shake =
           let second : half.second ≡ false = ap (λ (h : Half). h.second) its.half_is ∙ is in
           let port : half.port ≡ its.event.port = ap (λ (h : Half). h.port) its.half_is in
@@ -291,19 +287,19 @@ taken_type (q ∷ ports) zero p differ at taken =
 taken_type (q ∷ ports) (suc k) p differ at taken =
     not_hidden q p ports k differ at taken q.side refl (taken_type ports k p (rest_differ q ports differ) at taken)
 
-given_way : (way : Direction) → is_input Give way ≡ true → way ≡ Request
+pub given_way : (way : Direction) → is_input Give way ≡ true → way ≡ Request
 given_way Request h = refl
 given_way Answer h = absurd (true≢false (sym h))
 
-taken_way : (way : Direction) → is_input Take way ≡ true → way ≡ Answer
+pub taken_way : (way : Direction) → is_input Take way ≡ true → way ≡ Answer
 taken_way Request h = absurd (true≢false (sym h))
 taken_way Answer h = refl
 
-no_answer : (b : Bool) → Request ≡ direction_at b → b ≡ false
+pub no_answer : (b : Bool) → Request ≡ direction_at b → b ≡ false
 no_answer true h = absurd (request_no_answer h)
 no_answer false h = refl
 
-an_answer : (b : Bool) → Answer ≡ direction_at b → b ≡ true
+pub an_answer : (b : Bool) → Answer ≡ direction_at b → b ≡ true
 an_answer true h = refl
 an_answer false h = absurd (request_no_answer (sym h))
 
@@ -316,8 +312,8 @@ module _ (net : Netlist) (past : List Label) (l : Label) (half : Half) (guard : 
   abbrev seen_open : Bool
   seen_open = cond half.second (get_or guard.flags.second.items half.port false) (get_or guard.flags.first.items half.port false)
 
-  open_is : (its : IsKnown net true l half) → Guards net past guard → shake_of its.event.place ≡ cond (is_second its.event.place) 1 0 → seen_open ≡ is_open past (port_of its.port.side its.port.name) (shake_of its.event.place)
-  open_is its guards shake = by (is_second its.event.place) refl
+  open_is : (i : ℕ) (its : IsKnown net true i l half) → Guards net past guard → shake_of its.event.place ≡ cond (is_second its.event.place) 1 0 → seen_open ≡ is_open past (port_of its.port.side its.port.name) (shake_of its.event.place)
+  open_is i its guards shake = by (is_second its.event.place) refl
     where
       by : (b : Bool) → is_second its.event.place ≡ b → seen_open ≡ is_open past (port_of its.port.side its.port.name) (shake_of its.event.place)
       by true is =
@@ -331,8 +327,8 @@ module _ (net : Netlist) (past : List Label) (l : Label) (half : Half) (guard : 
           ∙ guards.first its.event.port its.port its.at
           ∙ ap (is_open past (port_of its.port.side its.port.name)) (sym (shake ∙ ap (λ (c : Bool). cond c 1 0) is))
 
-  by_side : (result : Bool) → HasPorts net → (its : IsKnown net true l half) → IsPlaced its.event.place its.way → result ≡ cond (not (is_answer its.event.place)) (not (is_open past (port_of its.port.side its.port.name) (shake_of its.event.place))) (is_open past (port_of its.port.side its.port.name) (shake_of its.event.place)) → (s : Side) → its.port.side ≡ s → IsTrue result ↔ Allowed (taken_by net.ports) past l.port l.event l.value
-  by_side result has its its_place result_is Give side =
+  by_side : (i : ℕ) (result : Bool) → HasPorts net → (its : IsKnown net true i l half) → l.value < 2 ^ its.event.bits → IsPlaced its.event.place its.way → result ≡ cond (not (is_answer its.event.place)) (not (is_open past (port_of its.port.side its.port.name) (shake_of its.event.place))) (is_open past (port_of its.port.side its.port.name) (shake_of its.event.place)) → (s : Side) → its.port.side ≡ s → IsTrue result ↔ Allowed (taken_by net.ports) past l.port l.event l.value
+  by_side i result has its fits its_place result_is Give side =
       let way : its.way ≡ Request = given_way its.way (ap (λ (s : Side). is_input s its.way) (sym side) ∙ sym its.input ∙ its.goes_its_way) in
       let asks : is_answer its.event.place ≡ false = no_answer (is_answer its.event.place) (sym way ∙ its_place.0) in
       let first = first_request its.port.ty its.event.place its.event.bits (has.given its.event.port its.port its.at side) (its.is ∙ ap (λ (d : Direction). Some (Is d its.event.bits)) way) in
@@ -341,11 +337,11 @@ module _ (net : Netlist) (past : List Label) (l : Label) (half : Half) (guard : 
       let result_now : result ≡ not (is_open past Given 0) =
       result_is ∙ ap (λ (c : Bool). cond (not c) (not (is_open past (port_of its.port.side its.port.name) (shake_of its.event.place))) (is_open past (port_of its.port.side its.port.name) (shake_of its.event.place))) asks
       ∙ (λ j. not (is_open past (port j) (shake j))) in
-      let small : l.value < 2 ^ 0 = subst (λ (n : ℕ). l.value < 2 ^ n) first.1 its.fits in
+      let small : l.value < 2 ^ 0 = subst (λ (n : ℕ). l.value < 2 ^ n) first.1 fits in
       let none : l.value ≡ 0 = omega (arith, small) in
       subst (λ (x : Port). IsTrue result ↔ Allowed (taken_by net.ports) past x l.event l.value) (sym (its.port_is ∙ port))
       (λ yes. (its.event_is ∙ first.0, none, not_true (is_open past Given 0) (sym result_now ∙ yes)), λ allowed. result_now ∙ ap not allowed.2)
-  by_side result has its its_place result_is Take side =
+  by_side i result has its fits its_place result_is Take side =
       let way : its.way ≡ Answer = taken_way its.way (ap (λ (s : Side). is_input s its.way) (sym side) ∙ sym its.input ∙ its.goes_its_way) in
       let answers : is_answer its.event.place ≡ true = an_answer (is_answer its.event.place) (sym way ∙ its_place.0) in
       let port : port_of its.port.side its.port.name ≡ Taken its.port.name = ap (λ (s : Side). port_of s its.port.name) side in
@@ -355,36 +351,48 @@ module _ (net : Netlist) (past : List Label) (l : Label) (half : Half) (guard : 
       let found : event_of (import_type (taken_by net.ports) its.port.name) l.event ≡ Some (Is Answer its.event.bits) =
       ap (λ t. event_of t l.event) (taken_type net.ports its.event.port its.port has.differ its.at side)
       ∙ ap (slice_get (events its.port.ty)) its.event_is ∙ its.is ∙ ap (λ (d : Direction). Some (Is d its.event.bits)) way in
-      let fits : FitsAnswer (event_of (import_type (taken_by net.ports) its.port.name) l.event) l.value = subst (λ (e : Option Event). FitsAnswer e l.value) (sym found) its.fits in
+      let answers_fit : FitsAnswer (event_of (import_type (taken_by net.ports) its.port.name) l.event) l.value = subst (λ (e : Option Event). FitsAnswer e l.value) (sym found) fits in
       subst (λ (x : Port). IsTrue result ↔ Allowed (taken_by net.ports) past x l.event l.value) (sym (its.port_is ∙ port))
-      (λ yes. (fits, sym result_now ∙ yes), λ allowed. result_now ∙ allowed.1)
+      (λ yes. (answers_fit, sym result_now ∙ yes), λ allowed. result_now ∙ allowed.1)
 
   -- the guard's test is the protocol
-  pub allowed_is : (i : ℕ) (result : Bool) → HasPorts net → Guards net past guard → IsLabel net (events_way true (events_of net)) i l → half ≡ get_or (halves_of true (events_of net)) i half → result ≡ cond half.request (not seen_open) seen_open → IsTrue result ↔ Allowed (taken_by net.ports) past l.port l.event l.value
-  allowed_is i result has guards label half_is result_is =
+  pub allowed_is : (i : ℕ) (result : Bool) → HasPorts net → Guards net past guard → IsLabel net (events_way true (events_of net)) i l → IsValueOf (events_way true (events_of net)) i l.value → half ≡ get_or (halves_of true (events_of net)) i half → result ≡ cond half.request (not seen_open) seen_open → IsTrue result ↔ Allowed (taken_by net.ports) past l.port l.event l.value
+  allowed_is i result has guards label value half_is result_is =
       let its = known net true i l half label half_is in
       let its_place : IsPlaced its.event.place its.way = placed its.port.ty its.event.place its.way its.event.bits its.is in
-      let open_now : seen_open ≡ is_open past (port_of its.port.side its.port.name) (shake_of its.event.place) = open_is its guards its_place.1 in
-      by_side result has its its_place
+      let open_now : seen_open ≡ is_open past (port_of its.port.side its.port.name) (shake_of its.event.place) = open_is i its guards its_place.1 in
+      by_side i result has its (value its.event its.there) its_place
       (result_is ∙ ap (λ (h : Half). cond h.request (not seen_open) seen_open) its.half_is ∙ ap (λ (o : Bool). cond (not (is_answer its.event.place)) (not o) o) open_now)
       its.port.side refl
 
-halves_append : (inputs : Bool) (xs ys : List seen.Event) → halves_of inputs (xs ++ ys) ≡ halves_of inputs xs ++ halves_of inputs ys
-halves_append inputs [] ys = refl
-halves_append inputs (x ∷ xs) ys = by (goes inputs x) (halves_append inputs xs ys)
+-- the events of one way among two lists
+way-append : (inputs : Bool) (xs ys : List seen.Event) → events_way inputs (xs ++ ys) ≡ events_way inputs xs ++ events_way inputs ys
+way-append inputs [] ys = refl
+way-append inputs (x ∷ xs) ys = by (goes inputs x) (way-append inputs xs ys)
   where
-    by : (b : Bool) → halves_of inputs (xs ++ ys) ≡ halves_of inputs xs ++ halves_of inputs ys → cond b (half_of x ∷ halves_of inputs (xs ++ ys)) (halves_of inputs (xs ++ ys)) ≡ cond b (half_of x ∷ halves_of inputs xs) (halves_of inputs xs) ++ halves_of inputs ys
-    by true rest = ap (λ (hs : List Half). half_of x ∷ hs) rest
+    by : (b : Bool) → events_way inputs (xs ++ ys) ≡ events_way inputs xs ++ events_way inputs ys → cond b (x ∷ events_way inputs (xs ++ ys)) (events_way inputs (xs ++ ys)) ≡ cond b (x ∷ events_way inputs xs) (events_way inputs xs) ++ events_way inputs ys
+    by true rest = ap (λ (es : List seen.Event). x ∷ es) rest
     by false rest = rest
+
+-- and of one event more
+pub way_more : (inputs : Bool) (all : List seen.Event) (i : ℕ) (e : seen.Event) → slice_get all i ≡ Some e → events_way inputs (take (i + 1) all) ≡ cond (goes inputs e) (events_way inputs (take i all) ++ e ∷ []) (events_way inputs (take i all))
+way_more inputs all i e at =
+    let here : get_or all i e ≡ e = get_or_from_slice_get all i e e at in
+    ap (events_way inputs) (take_more all i e (slice_get_within all i e at)) ∙ way-append inputs (take i all) (get_or all i e ∷ [])
+    ∙ ap (λ (x : seen.Event). events_way inputs (take i all) ++ events_way inputs (x ∷ [])) here ∙ by (goes inputs e)
+  where
+    by : (b : Bool) → events_way inputs (take i all) ++ cond b (e ∷ []) [] ≡ cond b (events_way inputs (take i all) ++ e ∷ []) (events_way inputs (take i all))
+    by true = refl
+    by false = append-nil (events_way inputs (take i all))
 
 -- the halves of one event more
 pub halves_more : (inputs : Bool) (all : List seen.Event) (i : ℕ) (d : seen.Event) → i < length all → halves_of inputs (take (i + 1) all) ≡ cond (goes inputs (get_or all i d)) (halves_of inputs (take i all) ++ half_of (get_or all i d) ∷ []) (halves_of inputs (take i all))
 halves_more inputs all i d within =
-    ap (halves_of inputs) (take_more all i d within) ∙ halves_append inputs (take i all) (get_or all i d ∷ []) ∙ by (goes inputs (get_or all i d))
+    ap (map half_of) (way_more inputs all i (get_or all i d) (slice_get-get_or all i d within)) ∙ by (goes inputs (get_or all i d))
   where
-    by : (b : Bool) → halves_of inputs (take i all) ++ cond b (half_of (get_or all i d) ∷ []) [] ≡ cond b (halves_of inputs (take i all) ++ half_of (get_or all i d) ∷ []) (halves_of inputs (take i all))
-    by true = refl
-    by false = append-nil (halves_of inputs (take i all))
+    by : (b : Bool) → map half_of (cond b (events_way inputs (take i all) ++ get_or all i d ∷ []) (events_way inputs (take i all))) ≡ cond b (halves_of inputs (take i all) ++ half_of (get_or all i d) ∷ []) (halves_of inputs (take i all))
+    by true = map-append half_of (events_way inputs (take i all)) (get_or all i d ∷ [])
+    by false = refl
 
 -- before any pulse no handshake is open
 pub guard_begins : (net : Netlist) (guard : Guard) → guard.inputs.items ≡ halves_of true (events_of net) → guard.outputs.items ≡ halves_of false (events_of net) → guard.flags.first.items ≡ replicate (length net.ports) false → guard.flags.second.items ≡ replicate (length net.ports) false → Guards net [] guard

@@ -3,3 +3,17 @@ mod TableLemmas
 mod EntryLemmas
 mod TraceLemmas
 mod GuardLemmas
+mod PortLemmas
+mod OrderLemmas
+mod SlotLemmas
+mod EventLemmas
+mod ShownLemmas
+mod RangeLemmas
+mod SeeLemmas
+mod AgendaLemmas
+mod QueueLemmas
+mod LineLemmas
+mod BoardLemmas
+mod CycleLemmas
+mod RunLemmas
+mod GiveLemmas

@@ -11,6 +11,7 @@ use Rattle.gos_netlist.specs.declared.event.Event as seen
 use Rattle.gos_netlist.specs.Nets.{Netlist}
 use Rattle.gos_netlist.specs.Events.{events_of}
 use Rattle.gos_netlist.specs.NetText.{line}
+use Rattle.gos_pulse.specs.EventNames.{name_of, name_if, name_of_number}
 use Rattle.gos_pulse.specs.TraceText.{pulse_text, pulse_line}
 use Rattle.gos_pulse.specs.declared.trace.TraceLine.{TraceLine}
 use Rattle.gos_pulse.proofs.TableLemmas.{ports_known}
@@ -26,6 +27,10 @@ pub port_there : (net : Netlist) (n : ℕ) (event : seen.Event) → slice_get (e
 port_there net n event there =
     let known : (get_or (events_of net) n event).port < length net.ports = ports_known net n event (slice_get_within (events_of net) n event there) in
     subst (λ (e : seen.Event). e.port < length net.ports) (get_or_from_slice_get (events_of net) n event event there) known
+
+-- its name is the name of its number
+pub name_there : (net : Netlist) (n : ℕ) (event : seen.Event) → slice_get (events_of net) n ≡ Some event → name_of net.ports event ≡ name_of_number net n
+name_there net n event there = ap (name_if net.ports) (sym there)
 
 -- the line of one more pulse
 pub one_line_more : (net : Netlist) (pulses : List TraceLine) (i : ℕ) (d : TraceLine) (event : seen.Event) (text new : List ℕ) → i < length pulses → slice_get (events_of net) (get_or pulses i d).event ≡ Some event → text ≡ flat_map (pulse_line net) (take i pulses) → new ≡ text ++ line (decimal (get_or pulses i d).cycle ++ codes " " ++ pulse_text net.ports (Some event) (get_or pulses i d).value) → new ≡ flat_map (pulse_line net) (take (i + 1) pulses)

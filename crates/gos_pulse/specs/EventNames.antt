@@ -33,6 +33,15 @@ name_at (Some port) place = dotted port.name (event_word port.ty place)
 abbrev pub name_of : List NetPort → Event → Word
 name_of ports event = name_at (slice_get ports event.port) event.place
 
+-- the name of the event at a place of a list; none where there is no event
+abbrev pub name_if : List NetPort → Option Event → Word
+name_if ports None = []
+name_if ports (Some event) = name_of ports event
+
+-- the name of the event of this number, in event order
+abbrev pub name_of_number : Netlist → ℕ → Word
+name_of_number net number = name_if net.ports (slice_get (events_of net) number)
+
 -- the event at this place of a list is an input event of these ports, with this name
 pub record IsInputOf (ports : List NetPort) (events : List Event) (i : ℕ) (event : Event) (name : Word) : Type 0 where
   pub there : slice_get events i ≡ Some event

@@ -3,7 +3,7 @@
 -- Read first: Protocol of gos_model, Events of gos_netlist. The pulses so far are labels, newest first. Cycles don't show
 -- in them: the outputs of a cycle come before its inputs, so after an input its handshake allows no second one in that
 -- cycle.
-use Rattle.std.specs.Prelude.{◌≡◌, ℕ, zero, suc, ◌^◌, ◌<◌, Bool, true, false, not, List, Some, if◌then◌else◌, [], ◌∷◌, length, slice_get, get_or}
+use Rattle.std.specs.Prelude.{◌≡◌, ℕ, zero, suc, ◌^◌, ◌<◌, Bool, true, false, not, List, Some, if◌then◌else◌, [], ◌∷◌, length, map, slice_get, get_or}
 use Rattle.gos_netlist.specs.declared.event.Event.{Event}
 use Rattle.gos_types.specs.Types.{IsDone}
 use Rattle.gos_netlist.specs.Nets.{Give, NetPort, Netlist}
@@ -30,7 +30,7 @@ inputs_of net = events_way true (events_of net)
 abbrev pub outputs_of : Netlist → List Event
 outputs_of net = events_way false (events_of net)
 
--- a label of the i-th of these events, whose value has at most the event's bits
+-- a label of the i-th of these events
 pub record IsLabel (net : Netlist) (events : List Event) (i : ℕ) (l : Label) : Type 0 where
   pub event : Event
   pub port : NetPort
@@ -38,7 +38,10 @@ pub record IsLabel (net : Netlist) (events : List Event) (i : ℕ) (l : Label) :
   pub at : slice_get net.ports event.port ≡ Some port
   pub port_is : l.port ≡ port_of port.side port.name
   pub event_is : l.event ≡ event.place
-  pub fits : l.value < 2 ^ event.bits
+
+-- a value has at most the bits of the i-th of these events
+abbrev pub IsValueOf : List Event → ℕ → ℕ → Type 0
+IsValueOf events i value = (event : Event) → slice_get events i ≡ Some event → value < 2 ^ event.bits
 
 -- no two ports are one to a label: at most one gives, and the names of those taken differ
 abbrev pub PortsDiffer : List NetPort → Type 0
@@ -62,8 +65,7 @@ half_of event = record { port = event.port; second = is_second event.place; requ
 
 -- the halves of the events that come in, or of those that go out
 abbrev pub halves_of : Bool → List Event → List Half
-halves_of inputs [] = []
-halves_of inputs (event ∷ events) = if goes inputs event then half_of event ∷ halves_of inputs events else halves_of inputs events
+halves_of inputs events = map half_of (events_way inputs events)
 
 -- the guard knows the events of the netlist, and which handshakes are open after these labels, newest first
 pub record Guards (net : Netlist) (past : List Label) (guard : Guard) : Type 0 where

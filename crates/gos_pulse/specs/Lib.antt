@@ -7,3 +7,11 @@ pub mod EventTable
 pub mod EntryLine
 pub mod Reading
 pub mod Guarding
+pub mod Driving
+pub mod Traced
+pub mod Slots
+pub mod Board
+pub mod Agenda
+pub mod Queue
+pub mod Lines
+pub mod Running

@@ -2,11 +2,22 @@
 
 ghost use Rattle.std.specs.Prelude.{◌≡◌, ◌<◌, ◌++◌, length, IfOk, OnOk};
 ghost use Rattle.gos_netlist.specs.Seen.{ground_type};
-ghost use Rattle.gos_pulse.specs.EventNames.{event_word, name_of, dotted};
+ghost use Rattle.gos_pulse.specs.EventNames.{event_word, name_of, name_of_number, dotted};
 
-use gos_netlist::{Event, Ground, Port};
+use gos_netlist::{Event, Ground, Netlist, Port, events};
 use gos_types::NoMemory;
 use std::alloc::Global;
+
+/// The name of the event of this number, PORT.EVENT; empty where there is none.
+pub fn name_of_number(alloc: Global, net: &Netlist, number: usize) -> Result<Vec<u8>, NoMemory>
+    ensures { IfOk result (λ name. name.items ≡ name_of_number net.now number) }
+{
+    let events = events(alloc, net)?;
+    if number >= events.len() {
+        return Ok(Vec::new(alloc));
+    }
+    event_name(alloc, &net.ports, events[number])
+}
 
 /// The name of an event of these ports.
 pub(crate) fn event_name(alloc: Global, ports: &[Port], event: Event) -> Result<Vec<u8>, NoMemory>

@@ -4,7 +4,7 @@ ghost use Rattle.std.specs.Prelude.{◌≡◌, ◌<◌, ◌∷◌, ◌↔◌, []
 ghost use Rattle.gos_netlist.specs.Nets.{Netlist as Circuit};
 ghost use Rattle.gos_model.specs.Labels.{Label, is_answer};
 ghost use Rattle.gos_model.specs.Protocol.{Allowed, taken_by};
-ghost use Rattle.gos_pulse.specs.Guarding.{inputs_of, outputs_of, IsLabel, HasPorts, Guards, half_of, halves_of, goes, is_second};
+ghost use Rattle.gos_pulse.specs.Guarding.{inputs_of, outputs_of, IsLabel, IsValueOf, HasPorts, Guards, half_of, halves_of, goes, is_second};
 
 use gos_netlist::{Event, Netlist, events};
 use gos_types::NoMemory;
@@ -53,7 +53,7 @@ impl Guard {
     /// Whether this input may come now. It takes no memory.
     pub fn allows(&self, input: usize) -> bool
         requires { input < length self.now.inputs.items }
-        ensures { (net : Circuit) (past : List Label) (l : Label) → HasPorts net → Guards net past self.now → IsLabel net (inputs_of net) input l → IsTrue result ↔ Allowed (taken_by net.ports) past l.port l.event l.value }
+        ensures { (net : Circuit) (past : List Label) (l : Label) → HasPorts net → Guards net past self.now → IsLabel net (inputs_of net) input l → IsValueOf (inputs_of net) input l.value → IsTrue result ↔ Allowed (taken_by net.ports) past l.port l.event l.value }
     {
         let half = self.inputs[input];
         may_come(self.flags.get(half), half.request)

@@ -1,12 +1,13 @@
 // The reader of pulse files.
 
-ghost use Rattle.std.specs.Prelude.{◌≢◌, ◌<◌, ◌+◌, ◌^◌, ℕ, Some, None, map, length, IfOk, IfErr, MatchOption, IsTrue, ◌↔◌};
+ghost use Rattle.std.specs.Prelude.{◌≢◌, ◌<◌, ◌+◌, ◌^◌, ℕ, Some, None, All, map, length, IfOk, IfErr, MatchOption, IsTrue, ◌↔◌};
 ghost use Rattle.std.specs.Str.Lines.{lines};
 ghost use Rattle.gos_lines.specs.Lines.{statements_from};
 ghost use Rattle.gos_pulse.specs.Entries.{SaysCycles, IsRunLength, IsInTime, IsValue, IsEntry};
 ghost use Rattle.gos_pulse.specs.PulseFile.{IsPulseFile, IsRefused, IsWrongHead, IsWrongEntry, ReadsEntries, Names};
 ghost use Rattle.gos_pulse.specs.Reading.{IsEntriesFault};
 ghost use Rattle.gos_pulse.specs.EventTable.{IsTable};
+ghost use Rattle.gos_pulse.specs.Driving.{GivesInput};
 
 use crate::entries::{Entry, Pulses};
 use crate::entry_line::{Written, cycles_of, written_in};
@@ -27,6 +28,7 @@ const MAX_ENTRIES: usize = 100_000;
 /// `Limit`, `NoPort`, `Value`; it is never `Broken`.
 pub fn read_pulses(alloc: Global, text: &[u8], net: &Netlist) -> Result<Pulses, PulseFault>
     ensures read { IfOk result (λ pulses. IsPulseFile net.now text.now pulses.0 pulses.1) }
+    ensures entries { IfOk result (λ pulses. All (GivesInput net.now) pulses.1) }
     ensures fault { IfErr result (λ fault. fault ≢ PulseFault.NoMemory → IsRefused net.now text.now fault) }
 {
     if text.len() > MAX_TEXT {

@@ -1,9 +1,11 @@
-use Rattle.std.proofs.Common.{◌≡◌, ◌+◌, ◌∷◌, ℕ, arith, map, subst}
+use Rattle.std.proofs.Common.{◌≡◌, ◌+◌, ◌∷◌, ℕ, All, List, arith, map, subst, sym}
 use Rattle.std.specs.Str.Lines.{lines}
 use Rattle.std.proofs.lemmas.Result.{err_from_is_err_and}
 use Rattle.gos_lines.specs.Lines.{statements_of, statements_from}
 use Rattle.gos_pulse.specs.Entries.{SaysCycles, IsRunLength}
-use Rattle.gos_pulse.proofs.EntryLemmas.{entries_refused}
+use Rattle.gos_pulse.proofs.EntryLemmas.{entries_refused, entries_give}
+use Rattle.gos_pulse.specs.Driving.{GivesInput}
+use Rattle.gos_pulse.specs.declared.entries.Entry.{Entry}
 use Rattle.gos_pulse.proofs.reading.read_pulses.Goals as goal
 
 pub returns-in_err-entries-clause-fault : goal.returns-in_err-entries-clause-fault
@@ -19,3 +21,8 @@ returns-in_err-entries-clause-fault c =
     c.in_ok-cycles.cycles c.in_err-entries.field-0.0 (omega arith) is says.0 says.1 c.in_err-entries.ensures.fault in
     let p = err_from_is_err_and c.from_residual-in_err-entries.result c.from_residual-in_err-entries.ensures.1 in
     rw (p.1, p.2) known
+
+pub returns-clause-entries : goal.returns-clause-entries
+returns-clause-entries c =
+    subst (λ (p : ℕ × List Entry). All (GivesInput c.args.net.now) p.1) (sym c.new-2.ensures)
+    (entries_give c.args.net.now c.in_ok-cycles.cycles 0 _ c.in_ok-entries.entries.items c.in_ok-entries.ensures.read)

@@ -1,0 +1,109 @@
+-- A cycle of a driven run.
+use Rattle.std.proofs.Common.{◌≡◌, ◌≤◌, ◌^◌, ℕ, zero, suc, false, List, [], ◌∷◌, ◌++◌, All, length, reverse, get_or, sym, ap, subst, ◌∙◌, arith, Option, Some, None, pow_mono}
+use Rattle.std.specs.Prelude.{slice_get}
+use Rattle.std.proofs.lemmas.Option.{slice_get-get_or}
+use Rattle.std.proofs.lemmas.List.{length-map}
+use Rattle.gos_netlist.specs.declared.event.Event.{Event}
+use Rattle.gos_netlist.specs.Nets.{Netlist}
+use Rattle.gos_netlist.specs.Events.{events_of}
+use Rattle.gos_netlist.specs.Settling.{Numbers, Settling}
+use Rattle.gos_netlist.proofs.SettlingLemmas.{acyclic_settles}
+use Rattle.gos_netcheck.specs.Accepted.{IsAccepted}
+use Rattle.gos_model.specs.Labels.{Label}
+use Rattle.gos_model.specs.Flattening.{AnyOrder, inputs, outputs}
+use Rattle.gos_sim.specs.declared.event_nets.EventNets.{EventNets}
+use Rattle.gos_sim.specs.declared.pulse.Pulse.{Pulse}
+use Rattle.gos_sim.specs.EventNets.{input_events, output_events}
+use Rattle.gos_sim.specs.Cycle.{IsCycle, IsWord, Simulator, pulse_shown}
+use Rattle.gos_pulse.specs.declared.board.Board.{Board}
+use Rattle.gos_pulse.specs.declared.entries.Entry.{Entry}
+use Rattle.gos_pulse.specs.Guarding.{Guards, inputs_of, outputs_of}
+use Rattle.gos_pulse.specs.Driving.{BreaksAt, GivesIn, TakesAll, at_entries}
+use Rattle.gos_pulse.specs.Slots.{AreSlots, labels_of}
+use Rattle.gos_pulse.specs.Board.{AreInRange, Begins}
+use Rattle.gos_pulse.specs.Agenda.{AreTaken}
+use Rattle.gos_pulse.specs.Queue.{AreGiven}
+use Rattle.gos_pulse.specs.Running.{BreaksCycle, RunsCycle}
+use Rattle.gos_pulse.proofs.EventLemmas.{AreRows, IsNumberNet, IsRow}
+use Rattle.gos_pulse.proofs.RangeLemmas.{in_range, none_in_range}
+use Rattle.gos_pulse.proofs.ShownLemmas.{input_rows, inputs_are, outputs_are, outputs_each}
+
+bits_small : (net : Netlist) (e : Event) (number : Option ℕ) → IsAccepted net → IsNumberNet net.cells e number → e.bits ≤ 32
+bits_small net e None accepted none = omega (arith, none)
+bits_small net e (Some x) accepted fits = omega (arith, (accepted.widths x fits.0 fits.1).1, fits.2)
+
+row_at : (net : Netlist) (es : List Event) (ns : List EventNets) (k : ℕ) (e : Event) → AreRows net es ns → slice_get es k ≡ Some e → (n : EventNets) × IsRow net e n
+row_at net [] ns k e rows at = absurd (cc at)
+row_at net (x ∷ es) [] k e rows at = absurd rows
+row_at net (x ∷ es) (n ∷ ns) zero e rows at = let same : x ≡ e = cc in (n, subst (λ (y : Event). IsRow net y n) same rows.0)
+row_at net (x ∷ es) (n ∷ ns) (suc k) e rows at = row_at net es ns k e rows.1 at
+
+-- the values of inputs have at most 32 bits
+pub are_words : (net : Netlist) (given : List Pulse) → IsAccepted net → length given ≡ length (inputs_of net) → AreInRange (inputs_of net) given → All (λ p. IsWord p.value) given
+are_words net given accepted each range = λ k d less.
+    let none : Event = record { port = 0; place = 0; input = false; bits = 0 } in
+    let at_event = slice_get-get_or (inputs_of net) k none (omega (arith, less, each)) in
+    let event : Event = get_or (inputs_of net) k none in
+    let fits = (range k event (get_or given k d) at_event (slice_get-get_or given k d less)).0 in
+    let row = row_at net (inputs_of net) (input_events net) k event (input_rows net accepted) at_event in
+    let small : event.bits ≤ 32 = bits_small net event row.0.number accepted row.1.number in
+    let more : 2 ^ event.bits ≤ 2 ^ 32 = pow_mono small in
+    omega (arith, fits, more)
+
+module _ (old : Simulator) (past : List Label) (board : Board) (accepted : IsAccepted old.net) (begins : Begins old past board) where
+  -- what was seen are the outputs of every settling
+  seen_is : (ins v : Numbers) → Settling old.net.cells old.registers ins v → labels_of old.net.ports (outputs_of old.net) board.outputs.items ≡ outputs old.net v
+  seen_is ins v settles =
+      ap (labels_of old.net.ports (outputs_of old.net)) (begins.next ins v settles) ∙ sym (outputs_are old.net v accepted)
+
+  -- the run is broken
+  pub broken : (file : List Entry) (t event : ℕ) → BreaksAt old.net (reverse (labels_of old.net.ports (outputs_of old.net) board.outputs.items) ++ past) (at_entries t file) event → BreaksCycle old file past t event
+  broken file t event breaks =
+      let settles = acyclic_settles old.net.cells old.registers [] accepted.acyclic in
+      record {
+        ins = [];
+        values = settles.0;
+        settled = settles.1;
+        in_range = none_in_range old.net;
+        breaks = subst (λ (ls : List Label). BreaksAt old.net (reverse ls ++ past) (at_entries t file) event) (seen_is [] settles.0 settles.1) breaks;
+      }
+
+  -- the cycle is run
+  pub ran : (file : List Entry) (t since : ℕ) (queue : List Entry) (mid last_board : Board) (last : ℕ) (rest : List Entry) (shown : List Pulse) (new : Simulator)
+      → (taken : AreTaken old.net (reverse (labels_of old.net.ports (outputs_of old.net) board.outputs.items) ++ past) (at_entries t file) mid)
+      → AreGiven old.net (reverse (labels_of old.net.ports (outputs_of old.net) board.outputs.items) ++ past) taken.taken t since queue last rest last_board
+      → IsCycle old last_board.inputs.items shown new
+      → (end : Board) → end.guard ≡ last_board.guard → end.slots ≡ last_board.slots → end.inputs ≡ last_board.inputs → end.outputs.items ≡ shown
+      → RunsCycle old file past t since queue last rest new end
+  ran file t since queue mid last_board last rest shown new taken given cycle end guard slots ins_same outs =
+      let seen : labels_of old.net.ports (outputs_of old.net) board.outputs.items ≡ outputs old.net cycle.values = seen_is cycle.ins cycle.values cycle.settled in
+      let came : List Label = reverse (taken.taken ++ given.labels) ++ (reverse (labels_of old.net.ports (outputs_of old.net) board.outputs.items) ++ past) in
+      let are : inputs old.net cycle.values ≡ labels_of old.net.ports (inputs_of old.net) last_board.inputs.items =
+      inputs_are old.net old.registers cycle.ins cycle.values last_board.inputs.items accepted cycle.settled given.stands.rests.inputs cycle.inputs given.stands.in_range in
+      let each : length shown ≡ length (outputs_of old.net) =
+      ap length cycle.outputs ∙ length-map (output_events old.net) (pulse_shown cycle.values) ∙ sym (outputs_each old.net accepted) in
+      record {
+        ins = cycle.ins;
+        values = cycle.values;
+        came = came;
+        settled = cycle.settled;
+        in_range = in_range old.net cycle.ins last_board.inputs.items accepted given.stands.rests.inputs cycle.inputs given.stands.in_range;
+        registers = ap (λ (s : Simulator). s.registers) cycle.registers;
+        goes = record {
+          taken = taken.taken;
+          given = given.labels;
+          takes = subst (λ (ls : List Label). TakesAll old.net (reverse ls ++ past) (at_entries t file) taken.taken) seen taken.takes;
+          gives = subst (λ (ls : List Label). GivesIn old.net (reverse taken.taken ++ (reverse ls ++ past)) t since queue given.labels last rest) seen given.gives;
+          inputs = subst (AnyOrder (taken.taken ++ given.labels)) (sym are) given.stands.order;
+          after = ap (λ (ls : List Label). reverse (taken.taken ++ given.labels) ++ (reverse ls ++ past)) seen;
+        };
+        rests = record {
+          slots = subst (λ s. AreSlots (events_of old.net) s.items) (sym slots) given.stands.rests.slots;
+          guards = subst (Guards old.net came) (sym guard) given.stands.rests.guards;
+          inputs = ap (λ v. length v.items) ins_same ∙ given.stands.rests.inputs;
+          outputs = ap length outs ∙ each;
+        };
+        inputs_are = ap (λ v. labels_of old.net.ports (inputs_of old.net) v.items) ins_same ∙ sym are;
+        outputs_are = ap (labels_of old.net.ports (outputs_of old.net)) (outs ∙ cycle.outputs) ∙ sym (outputs_are old.net cycle.values accepted);
+        left = given.known;
+      }
