@@ -4,3 +4,15 @@ mod RowLemmas
 mod TurnLemmas
 mod SeatLemmas
 mod MakeLemmas
+pub mod SideLemmas
+pub mod GatesLemmas
+pub mod TextLemmas
+pub mod ItemLemmas
+pub mod TableLemmas
+pub mod WordLemmas
+pub mod TypeLemmas
+pub mod PartLemmas
+pub mod LineLemmas
+pub mod SectionLemmas
+pub mod WholeLemmas
+pub mod ObjectLemmas

@@ -1,6 +1,6 @@
 -- The joints of a plan are right one after another, and the seats of a new plan are those of its ends.
-use Rattle.std.specs.Prelude.{Option, None, MatchOption, not, IsTrue}
-use Rattle.std.proofs.Common.{◌≡◌, ℕ, zero, suc, Bool, true, false, ◌&&◌, List, [], ◌∷◌, ◌++◌, Some, slice_get, get_or, length, ◌+◌, ◌<◌, ◌≤◌, refl, sym, ap, ◌∙◌, subst, map, take, reverse}
+use Rattle.std.specs.Prelude.{Option, None, MatchOption, not}
+use Rattle.std.proofs.Common.{◌≡◌, ℕ, zero, suc, true, List, [], ◌∷◌, ◌++◌, Some, slice_get, get_or, length, ◌+◌, ◌<◌, ◌≤◌, refl, sym, ap, ◌∙◌, subst, map, take, reverse}
 use Rattle.std.proofs.lemmas.List.{append_assoc, append-nil, map-append, reverse-append, take-map, take_more, take_all}
 use Rattle.std.proofs.lemmas.Option.{get_or_from_slice_get}
 use Rattle.gos_plan.specs.Faults.{IsFirstWrong}
@@ -10,8 +10,8 @@ use Rattle.gos_plan.specs.declared.plan.Joint as declared
 use Rattle.gos_plan.specs.declared.plan.PlanImport.{PlanImport}
 use Rattle.gos_plan.specs.declared.seats.Seat.{Seat}
 use Rattle.gos_plan.specs.declared.seats.Seats.{Seats}
-use Rattle.gos_plan.specs.Kinds.{Contact, contacts_of, other_side, turned_contact, part_contacts}
-use Rattle.gos_plan.specs.Plans.{End, PartEnd, ImportEnd, ResultEnd, Joint, Plan, contact_at, contacts_of_part, contacts_of_import, turned_if, is_free, IsRightAfter, AreRight, IsRight}
+use Rattle.gos_plan.specs.Kinds.{Contact, contacts_of, other_side, part_contacts}
+use Rattle.gos_plan.specs.Plans.{PartEnd, ImportEnd, ResultEnd, Joint, Plan, contact_at, contacts_of_part, contacts_of_import, turned_if, IsRightAfter, AreRight, IsRight}
 use Rattle.gos_plan.specs.Seen.{SeenPlan, plan_of, part_of, import_of, joint_of}
 use Rattle.gos_plan.specs.Seats.{free_seat, contact_of, seat_in, seat_at, Stands, kind_seats, import_seats, AreSeats}
 

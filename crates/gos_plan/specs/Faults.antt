@@ -1,7 +1,7 @@
 -- Why values are no plan.
 --
 -- Read first: Plans, Seen.
-use Rattle.std.specs.Prelude.{◌≡◌, ℕ, List, [], ◌∷◌, Some, take, reverse, map, slice_get}
+use Rattle.std.specs.Prelude.{◌≡◌, ℕ, [], Some, take, reverse, slice_get}
 use Rattle.gos_plan.specs.declared.fault.ObjectFault.{ObjectFault}
 use Rattle.gos_plan.specs.declared.fault.ObjectFault.TheVariants as faults
 use Rattle.gos_plan.specs.Plans.{Joint, Plan, IsRightAfter, AreRight}

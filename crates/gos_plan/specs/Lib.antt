@@ -1,12 +1,25 @@
 -- In reading order: a file uses only files above it.
 pub mod Kinds
+pub mod Sides
 pub mod Firing
 pub mod Plans
 pub mod Tokens
 pub mod Turns
 pub mod Engaged
 pub mod Seen
+pub mod Fired
 pub mod Ranges
 pub mod Faults
 pub mod Seats
 pub mod Inside
+pub mod Gates
+pub mod Law
+pub mod SmallGates
+pub mod Inversion
+pub mod SkipKept
+pub mod Wires
+pub mod TextItems
+pub mod ObjectText
+pub mod ObjectItems
+pub mod ObjectFaults
+pub mod Values

@@ -1,6 +1,7 @@
 // Why something is no plan, or no text of one.
 
 use gos_types::NoMemory as OutOfMemory;
+use std::alloc::{AllocError, AllocFailed};
 use thiserror::Error;
 
 /// Why a plan was refused.
@@ -27,6 +28,28 @@ impl From<OutOfMemory> for ObjectFault {
     ghost from_gives = { λ _ e. e ≡ NoMemory };
 
     fn from(_error: OutOfMemory) -> ObjectFault {
+        ObjectFault::NoMemory
+    }
+}
+
+impl From<AllocError> for ObjectFault {
+    ghost use Rattle.std.specs.Prelude.{◌≡◌};
+    ghost use Rattle.gos_plan.specs.declared.fault.ObjectFault.TheVariants.{NoMemory};
+
+    ghost from_gives = { λ _ e. e ≡ NoMemory };
+
+    fn from(_error: AllocError) -> ObjectFault {
+        ObjectFault::NoMemory
+    }
+}
+
+impl<T: Drop> From<AllocFailed<T>> for ObjectFault {
+    ghost use Rattle.std.specs.Prelude.{◌≡◌};
+    ghost use Rattle.gos_plan.specs.declared.fault.ObjectFault.TheVariants.{NoMemory};
+
+    ghost from_gives = { λ _ e. e ≡ NoMemory };
+
+    fn from(_error: AllocFailed<T>) -> ObjectFault {
         ObjectFault::NoMemory
     }
 }

@@ -3,17 +3,45 @@
 // A plan is what a module is compiled to: parts that are known by their kind, and joints that connect their handshakes.
 // Requests and answers travel along the joints as tokens, and each part fires by the rules of its kind.
 // Read `specs/Kinds`, `specs/Firing`, `specs/Plans` and `specs/Tokens`, in this order; then `laws.rt`.
+//
+// `printing.rt` and `reading.rt` lead from a plan to its text and back: `specs/ObjectText` and `specs/ObjectFaults`. The
+// reader stands on `sections.rt` (a count and its lines), `import_line.rt`, `part_line.rt` and `joint_line.rt` (one line),
+// `types.rt`, `word.rt` and `items.rt` (what lines are made of).
+//
+// `gates.rt` has the trait for crates that lay parts out as cells: `specs/Gates`, `specs/Law`. `firing.rt` is a plain,
+// slow program that says what a part does with a token.
 #![tactic(auto)]
 
 mod fault;
+mod firing;
+#[cfg(test)]
+mod firing_tests;
+mod gates;
+#[cfg(test)]
+mod gates_tests;
+mod import_line;
+mod items;
+mod joint_line;
 mod kinds;
 mod laws;
+mod part_line;
 mod plan;
+mod printing;
+mod reading;
 mod seats;
+mod sections;
 #[cfg(test)]
 mod tests;
+#[cfg(test)]
+mod text_tests;
+mod types;
+mod word;
 
 pub use fault::ObjectFault;
+pub use firing::{Firing, Phase, Puts, Slot, State, Token, fire};
+pub use gates::{Macro, Wire};
 pub use kinds::{Kind, Op2};
-pub use laws::one_token_each;
+pub use laws::{one_answer, one_token_each, sides, small_gates};
 pub use plan::{End, Joint, Plan, PlanImport, make};
+pub use printing::print_object;
+pub use reading::read_object;

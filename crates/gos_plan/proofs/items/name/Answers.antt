@@ -1,0 +1,35 @@
+use Rattle.std.proofs.Common.{◌≡◌, ◌∷◌, [], ◌∙◌, ℕ, List, sym, subst}
+use Rattle.std.specs.List.{slice_range}
+use Rattle.gos_lex.specs.Items.{IsJust, Misses}
+use Rattle.gos_lex.specs.Names.{IsSpelled, IsNameOrWord}
+use Rattle.gos_netlist.proofs.NameLemmas.{no_name, name_not_ended}
+use Rattle.gos_plan.proofs.ItemLemmas.{name_misses, passed_then}
+use Rattle.gos_plan.proofs.items.name.Goals as goal
+
+pub returns-in-Err-clause-wrong : goal.returns-in-Err-clause-wrong
+returns-in-Err-clause-wrong c =
+    let old = c.args.cursor.now in
+    name_misses old.text old.at c.in-Err.at (no_name old.text old.at c.in-Err.at c.in-Err.ensures.wrong c.in-Err.ensures.none)
+
+pub returns-in-Ok-new-clause-read : goal.returns-in-Ok-new-clause-read
+returns-in-Ok-new-clause-read c =
+    let old = c.args.cursor.now in
+    let mid = c.name.new.self in
+    let new = c.word.new.self in
+    let from = c.in-Ok.ensures.span.0 in
+    let to = c.in-Ok.ensures.span.1 in
+    let is : slice_range old.text old.at mid.at ≡ c.in-Ok-new.name =
+    (λ i. slice_range (c.requires i) (sym from i) (sym to i)) ∙ sym c.in-Ok-new.ensures.ok in
+    record {
+      same = c.in-Ok-word.ensures.text ∙ c.in-Ok.ensures.text;
+      spans = passed_then IsSpelled old mid new c.in-Ok-new.name 32 c.in-Ok.ensures.text is c.in-Ok.ensures.passes c.in-Ok-word.ensures.passes;
+      is = subst IsNameOrWord is c.in-Ok.ensures.name;
+      keeps = tt;
+    }
+
+pub returns-in-Err-word-clause-wrong : goal.returns-in-Err-word-clause-wrong
+returns-in-Err-word-clause-wrong c =
+    let old = c.args.cursor.now in
+    let mid = c.name.new.self in
+    let missed = subst (λ (text : List ℕ). Misses (IsJust (32 ∷ [])) text mid.at c.in-Err-word.at) c.in-Ok.ensures.text c.in-Err-word.ensures.wrong in
+    name_misses old.text old.at c.in-Err-word.at (name_not_ended old.text old.at mid.at c.in-Err-word.at c.in-Ok.ensures.passes c.in-Ok.ensures.name missed)

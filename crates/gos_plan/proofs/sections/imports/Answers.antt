@@ -1,0 +1,31 @@
+use Rattle.std.proofs.Common.{map}
+use Rattle.std.specs.Prelude.{codes}
+use Rattle.std.proofs.lemmas.Result.{err_from_is_err_and}
+use Rattle.gos_plan.specs.Seen.{import_of}
+use Rattle.gos_plan.specs.ObjectItems.{import_line}
+use Rattle.gos_plan.proofs.LineLemmas.{lawful_import}
+use Rattle.gos_plan.proofs.SectionLemmas.{word_fails, count_fails, lines_fail, section_read}
+use Rattle.gos_plan.proofs.sections.imports.Goals as goal
+
+pub returns-in_err-exact-clause-wrong : goal.returns-in_err-exact-clause-wrong
+returns-in_err-exact-clause-wrong c =
+    let old = c.args.cursor.now in
+    let known = word_fails (codes "imports ") 64 import_line old.text old.at c.in_err-exact.field-0.0 c.in_err-exact.ensures.wrong in
+    let p = err_from_is_err_and c.from_residual.result c.from_residual.ensures.1 in
+    rw (p.1, p.2) known
+
+pub returns-in_err-n-clause-wrong : goal.returns-in_err-n-clause-wrong
+returns-in_err-n-clause-wrong c =
+    let known = count_fails (codes "imports ") 64 import_line lawful_import c.args.cursor.now c.exact.new.cursor c.in_ok-exact.ensures.read c.in_err-n.field-0.0 c.in_err-n.ensures.wrong in
+    let p = err_from_is_err_and c.from_residual-in_err-n.result c.from_residual-in_err-n.ensures.1 in
+    rw (p.1, p.2) known
+
+pub returns-in_err-imports-clause-wrong : goal.returns-in_err-imports-clause-wrong
+returns-in_err-imports-clause-wrong c =
+    let known = lines_fail (codes "imports ") 64 import_line c.args.cursor.now c.exact.new.cursor c.count.new.cursor c.in_ok-n.n c.in_ok-exact.ensures.read c.in_ok-n.ensures.read c.in_err-imports.field-0.0 c.in_err-imports.ensures.wrong in
+    let p = err_from_is_err_and c.from_residual-in_err-imports.result c.from_residual-in_err-imports.ensures.1 in
+    rw (p.1, p.2) known
+
+pub returns-clause-read : goal.returns-clause-read
+returns-clause-read c =
+    section_read (codes "imports ") 64 import_line c.args.cursor.now c.exact.new.cursor c.count.new.cursor c.import_lines.new.cursor c.in_ok-n.n (map import_of c.in_ok-imports.imports.items) c.in_ok-exact.ensures.read c.in_ok-n.ensures.read c.in_ok-imports.ensures.read

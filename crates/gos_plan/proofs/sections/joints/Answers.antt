@@ -1,0 +1,31 @@
+use Rattle.std.proofs.Common.{map}
+use Rattle.std.specs.Prelude.{codes}
+use Rattle.std.proofs.lemmas.Result.{err_from_is_err_and}
+use Rattle.gos_plan.specs.Seen.{joint_of}
+use Rattle.gos_plan.specs.ObjectItems.{joint_line}
+use Rattle.gos_plan.proofs.LineLemmas.{lawful_joint}
+use Rattle.gos_plan.proofs.SectionLemmas.{word_fails, count_fails, lines_fail, section_read}
+use Rattle.gos_plan.proofs.sections.joints.Goals as goal
+
+pub returns-in_err-exact-clause-wrong : goal.returns-in_err-exact-clause-wrong
+returns-in_err-exact-clause-wrong c =
+    let old = c.args.cursor.now in
+    let known = word_fails (codes "joints ") 65536 joint_line old.text old.at c.in_err-exact.field-0.0 c.in_err-exact.ensures.wrong in
+    let p = err_from_is_err_and c.from_residual.result c.from_residual.ensures.1 in
+    rw (p.1, p.2) known
+
+pub returns-in_err-n-clause-wrong : goal.returns-in_err-n-clause-wrong
+returns-in_err-n-clause-wrong c =
+    let known = count_fails (codes "joints ") 65536 joint_line lawful_joint c.args.cursor.now c.exact.new.cursor c.in_ok-exact.ensures.read c.in_err-n.field-0.0 c.in_err-n.ensures.wrong in
+    let p = err_from_is_err_and c.from_residual-in_err-n.result c.from_residual-in_err-n.ensures.1 in
+    rw (p.1, p.2) known
+
+pub returns-in_err-joints-clause-wrong : goal.returns-in_err-joints-clause-wrong
+returns-in_err-joints-clause-wrong c =
+    let known = lines_fail (codes "joints ") 65536 joint_line c.args.cursor.now c.exact.new.cursor c.count.new.cursor c.in_ok-n.n c.in_ok-exact.ensures.read c.in_ok-n.ensures.read c.in_err-joints.field-0.0 c.in_err-joints.ensures.wrong in
+    let p = err_from_is_err_and c.from_residual-in_err-joints.result c.from_residual-in_err-joints.ensures.1 in
+    rw (p.1, p.2) known
+
+pub returns-clause-read : goal.returns-clause-read
+returns-clause-read c =
+    section_read (codes "joints ") 65536 joint_line c.args.cursor.now c.exact.new.cursor c.count.new.cursor c.joint_lines.new.cursor c.in_ok-n.n (map joint_of c.in_ok-joints.joints.items) c.in_ok-exact.ensures.read c.in_ok-n.ensures.read c.in_ok-joints.ensures.read

@@ -1,0 +1,31 @@
+use Rattle.std.proofs.Common.{map}
+use Rattle.std.specs.Prelude.{codes}
+use Rattle.std.proofs.lemmas.Result.{err_from_is_err_and}
+use Rattle.gos_plan.specs.Seen.{part_of}
+use Rattle.gos_plan.specs.ObjectItems.{part_line}
+use Rattle.gos_plan.proofs.PartLemmas.{lawful_part}
+use Rattle.gos_plan.proofs.SectionLemmas.{word_fails, count_fails, lines_fail, section_read}
+use Rattle.gos_plan.proofs.sections.parts.Goals as goal
+
+pub returns-in_err-exact-clause-wrong : goal.returns-in_err-exact-clause-wrong
+returns-in_err-exact-clause-wrong c =
+    let old = c.args.cursor.now in
+    let known = word_fails (codes "parts ") 16384 part_line old.text old.at c.in_err-exact.field-0.0 c.in_err-exact.ensures.wrong in
+    let p = err_from_is_err_and c.from_residual.result c.from_residual.ensures.1 in
+    rw (p.1, p.2) known
+
+pub returns-in_err-n-clause-wrong : goal.returns-in_err-n-clause-wrong
+returns-in_err-n-clause-wrong c =
+    let known = count_fails (codes "parts ") 16384 part_line lawful_part c.args.cursor.now c.exact.new.cursor c.in_ok-exact.ensures.read c.in_err-n.field-0.0 c.in_err-n.ensures.wrong in
+    let p = err_from_is_err_and c.from_residual-in_err-n.result c.from_residual-in_err-n.ensures.1 in
+    rw (p.1, p.2) known
+
+pub returns-in_err-parts-clause-wrong : goal.returns-in_err-parts-clause-wrong
+returns-in_err-parts-clause-wrong c =
+    let known = lines_fail (codes "parts ") 16384 part_line c.args.cursor.now c.exact.new.cursor c.count.new.cursor c.in_ok-n.n c.in_ok-exact.ensures.read c.in_ok-n.ensures.read c.in_err-parts.field-0.0 c.in_err-parts.ensures.wrong in
+    let p = err_from_is_err_and c.from_residual-in_err-parts.result c.from_residual-in_err-parts.ensures.1 in
+    rw (p.1, p.2) known
+
+pub returns-clause-read : goal.returns-clause-read
+returns-clause-read c =
+    section_read (codes "parts ") 16384 part_line c.args.cursor.now c.exact.new.cursor c.count.new.cursor c.part_lines.new.cursor c.in_ok-n.n (map part_of c.in_ok-parts.parts.items) c.in_ok-exact.ensures.read c.in_ok-n.ensures.read c.in_ok-parts.ensures.read

@@ -1,0 +1,59 @@
+-- Inversion of a list of firings: by which row the first one is.
+--
+-- Read first: Law. These lemmas stand here since an `impl` of `Macro` cites lemmas of `specs` alone.
+use Rattle.std.proofs.Common.{◌≡◌, inl, inr, ◌⊎◌, ℕ, zero, suc, ◌≤◌, Bool, true, false, List, [], ◌∷◌, ◌++◌, Some, refl, sym, subst, arith}
+use Rattle.std.specs.Prelude.{bit_or}
+use Rattle.gos_plan.specs.Kinds.{Part}
+use Rattle.gos_plan.specs.Firing.{Rest, State, Slot, Req, Ans, Token, Row, at, same_slot, row_for}
+use Rattle.gos_plan.specs.Gates.{shake_of}
+use Rattle.gos_plan.specs.Law.{Asked, after_taking, after_putting, PutsWell, Fires}
+
+pub same : (a b : Slot) → same_slot a b ≡ true → a ≡ b
+same (Req h) (Req j) e = grind (arith, e)
+same (Req h) (Ans j) e = grind (arith, e)
+same (Ans h) (Req j) e = grind (arith, e)
+same (Ans h) (Ans j) e = grind (arith, e)
+
+-- the row of a token among several: the first, or one of the others
+pub first_or_later : (r w : Row) (rs : List Row) (s : Slot) → row_for s (r ∷ rs) ≡ Some w → ((r.takes ≡ s) × (r ≡ w)) ⊎ (row_for s rs ≡ Some w)
+first_or_later r w rs s e = by_test (same_slot r.takes s) refl
+  where
+    by_test : (t : Bool) → same_slot r.takes s ≡ t → ((r.takes ≡ s) × (r ≡ w)) ⊎ (row_for s rs ≡ Some w)
+    by_test true h = inl (same r.takes s h, grind (arith, h, e))
+    by_test false h = inr (grind (arith, h, e))
+
+pub no_row : (w : Row) (s : Slot) → row_for s [] ≡ Some w → ⊥
+no_row w s e = cc e
+
+-- what a first firing by this row leaves
+pub record Stepped (k : Part) (x : ℕ → ℕ) (o : Asked) (r : Row) (s : Slot) (ss : List Slot) (p : Asked) (q : State) (ts : List Token) : Type 0 where
+  pub is : s ≡ r.takes
+  pub rest : List Token
+  pub well : PutsWell (r.puts (x (shake_of r.takes))) (after_taking r.takes o)
+  pub puts : ts ≡ r.puts (x (shake_of r.takes)) ++ rest
+  pub go : Fires k x (after_putting (r.puts (x (shake_of r.takes))) (after_taking r.takes o)) (r.next (x (shake_of r.takes))) ss p q rest
+
+pub stepped : (k : Part) (x : ℕ → ℕ) (o : Asked) (r w : Row) (s : Slot) (ss : List Slot) (p : Asked) (q : State) (ts us : List Token) → r.takes ≡ s → r ≡ w
+    → PutsWell (w.puts (x (shake_of s))) (after_taking s o) → ts ≡ w.puts (x (shake_of s)) ++ us
+    → Fires k x (after_putting (w.puts (x (shake_of s))) (after_taking s o)) (w.next (x (shake_of s))) ss p q us → Stepped k x o r s ss p q ts
+stepped k x o r w s ss p q ts us a e well puts go =
+    subst (λ (c : Slot). s ≡ c → Stepped k x o r s ss p q ts) (sym a) (λ here. whole) (sym a)
+  where
+    at_slot : (c : Slot) → c ≡ s → PutsWell (r.puts (x (shake_of c))) (after_taking c o) × (ts ≡ r.puts (x (shake_of c)) ++ us)
+        × Fires k x (after_putting (r.puts (x (shake_of c))) (after_taking c o)) (r.next (x (shake_of c))) ss p q us
+    at_slot c same =
+        subst (λ (d : Slot). PutsWell (r.puts (x (shake_of d))) (after_taking d o) × (ts ≡ r.puts (x (shake_of d)) ++ us) × Fires k x (after_putting (r.puts (x (shake_of d))) (after_taking d o)) (r.next (x (shake_of d))) ss p q us) (sym same)
+        (subst (λ (z : Row). PutsWell (z.puts (x (shake_of s))) (after_taking s o) × (ts ≡ z.puts (x (shake_of s)) ++ us) × Fires k x (after_putting (z.puts (x (shake_of s))) (after_taking s o)) (z.next (x (shake_of s))) ss p q us) (sym e) (well, puts, go))
+
+    whole : Stepped k x o r s ss p q ts
+    whole = let known = at_slot r.takes a in record { is = sym a; rest = us; well = known.0; puts = known.1; go = known.2 }
+
+-- a buffer passes a pulse
+pub passes : (n : ℕ) → n ≤ 1 → bit_or n n ≡ n
+passes zero h = refl
+passes (suc zero) h = refl
+passes (suc (suc n)) h = absurd (omega (arith, h))
+
+-- a state at rest
+pub at_rest : (q : State) → q.phase ≡ Rest → q ≡ at Rest q.number
+at_rest q rests = λ i. record { phase = rests i; number = q.number }

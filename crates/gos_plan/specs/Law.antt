@@ -1,0 +1,109 @@
+-- The law of the gates of one part: in each cycle they do what the part does by its rows.
+--
+-- Read first: Firing, Gates. It speaks of one part alone, whatever netlist stands round it: of the nets that come in it
+-- asks no more than that a pulse is 0 or 1 and that a value has its bits.
+use Rattle.std.specs.Prelude.{◌≡◌, ℕ, suc, ◌^◌, ◌<◌, ◌≤◌, Bool, true, false, not, List, [], ◌∷◌, ◌++◌, Some, nat_eq, if◌then◌else◌}
+use Rattle.gos_netlist.specs.Nets.{Cell}
+use Rattle.gos_netlist.specs.Settling.{Numbers, at}
+use Rattle.gos_plan.specs.Kinds.{Part, part_contacts}
+use Rattle.gos_plan.specs.Firing.{Rest, State, Slot, Req, Ans, Token, Row, same_slot, firing, at as at_phase}
+use Rattle.gos_plan.specs.Gates.{Incoming, Outgoing, incoming_bits, Settled, HasNoInput, pulse_in, value_in, slots_of, is_among, shake_of, Shows, SameTokens, HaveNets}
+
+-- at which handshakes the part has put a request and has not taken its answer
+abbrev pub Asked : Type 0
+Asked = ℕ → Bool
+
+abbrev pub with_asked : ℕ → Bool → Asked → Asked
+with_asked h b o = λ j. if nat_eq j h then b else o j
+
+-- after a token is taken, and after one is put
+abbrev pub after_taking : Slot → Asked → Asked
+after_taking (Req h) o = o
+after_taking (Ans h) o = with_asked h false o
+
+abbrev pub after_putting : List Token → Asked → Asked
+after_putting [] o = o
+after_putting (t ∷ ts) o = after_putting ts (after_one t.slot o)
+  where
+    after_one : Slot → Asked → Asked
+    after_one (Req h) o = with_asked h true o
+    after_one (Ans h) o = o
+
+-- each request is put at a handshake at which none waits for its answer
+abbrev pub PutsWell : List Token → Asked → Type 0
+PutsWell [] o = Unit {0}
+PutsWell (t ∷ ts) o = at_one t.slot o × PutsWell ts (after_putting (t ∷ []) o)
+  where
+    at_one : Slot → Asked → Type 0
+    at_one (Req h) o = o h ≡ false
+    at_one (Ans h) o = Unit {0}
+
+-- The part fires by each of these slots, in their order, from a state to a state, and puts these tokens. Each is taken
+-- where it stands; x is the value of each handshake.
+abbrev pub Fires : Part → (ℕ → ℕ) → Asked → State → List Slot → Asked → State → List Token → Type 0
+Fires k x o q [] p r ts = (p ≡ o) × (r ≡ q) × (ts ≡ [])
+Fires k x o q (s ∷ ss) p r ts =
+    (w : Row) × (us : List Token) × (firing k q s ≡ Some w) × PutsWell (w.puts (x (shake_of s))) (after_taking s o)
+    × (ts ≡ w.puts (x (shake_of s)) ++ us)
+    × Fires k x (after_putting (w.puts (x (shake_of s))) (after_taking s o)) (w.next (x (shake_of s))) ss p r us
+
+-- how often a slot stands in a list
+abbrev pub times : Slot → List Slot → ℕ
+times s [] = 0
+times s (t ∷ ts) = if same_slot t s then suc (times s ts) else times s ts
+
+-- the pulse of a slot among these
+abbrev pub pulse_at : (ℕ → ℕ) → Slot → List Slot → ℕ
+pulse_at p s [] = 0
+pulse_at p s (t ∷ ts) = if same_slot t s then p (shake_of t) else pulse_at p s ts
+
+-- the list has exactly those of these slots that have a pulse, each once, in some order
+abbrev pub Exactly : (ℕ → ℕ) → List Slot → List Slot → Type 0
+Exactly p slots fs = (s : Slot) → times s fs ≡ pulse_at p s slots
+
+-- those of these slots that have a pulse, in this order
+abbrev pub pulsed : (ℕ → ℕ) → List Slot → List Slot
+pulsed p [] = []
+pulsed p (s ∷ ss) = if nat_eq (p (shake_of s)) 1 then s ∷ pulsed p ss else pulsed p ss
+
+-- what comes in late, that is at these handshakes, in their order; and what doesn't
+abbrev pub late_slots : Part → List ℕ → List Slot
+late_slots k late = slots_of (is_among late) 0 (part_contacts k)
+
+abbrev pub early_slots : Part → List ℕ → List Slot
+early_slots k late = slots_of (λ h. not (is_among late h)) 0 (part_contacts k)
+
+-- The firings of a cycle: those by the pulses that are not late, in some order, from q to r, put ts; and then those by the
+-- late pulses, by the numbers of their handshakes, from r to s, put us.
+pub record Fired (k : Part) (late : List ℕ) (v : Numbers) (i : Incoming) (q s : State) (ts us : List Token) : Type 0 where
+  pub before : Asked
+  pub between : Asked
+  pub behind : Asked
+  pub state : State
+  pub list : List Slot
+  pub exactly : Exactly (pulse_in v i) (early_slots k late) list
+  pub sooner : Fires k (value_in k v i) before q list between state ts
+  pub later : Fires k (value_in k v i) between state (pulsed (pulse_in v i) (late_slots k late)) behind s us
+
+-- The law. `cells` are the gates that begin at net b, joined to these nets; `outs` the nets that go out; `late` the
+-- handshakes at which what comes in is late; `pending` the tokens that registers hold, to be put out in this cycle; and
+-- `stands` says which state registers stand for. Then, where the registers stand for a state from which the part fires so:
+-- the nets that go out show what was pending and what the early firings put; what is pending next is what the late ones
+-- put; and the next registers stand for the state that is reached.
+abbrev pub GatesLaw : Part → (ℕ → Incoming → List Cell) → (ℕ → List Outgoing) → List ℕ → (ℕ → Numbers → List Token) → (ℕ → Numbers → State → Type 0) → Type 0
+GatesLaw k cells outs late pending stands =
+    (b : ℕ) (i : Incoming) (v regs after : Numbers) (q s : State) (ts us : List Token)
+    → Settled v regs after b 0 (cells b i)
+    → ((h : ℕ) → pulse_in v i h ≤ 1)
+    → ((h : ℕ) → value_in k v i h < 2 ^ incoming_bits (part_contacts k) h)
+    → stands b regs q
+    → Fired k late v i q s ts us
+    → Shows v 0 (outs b) (pending b regs ++ ts) × SameTokens (pending b after) us × stands b after s
+
+-- registers that are all 0 stand for a part at rest, and nothing is pending
+abbrev pub RestsAtZero : (ℕ → Numbers → List Token) → (ℕ → Numbers → State → Type 0) → Type 0
+RestsAtZero pending stands = (b : ℕ) (regs : Numbers) → ((n : ℕ) → at regs n ≡ 0) → stands b regs (at_phase Rest 0) × (pending b regs ≡ [])
+
+-- the outgoing nets are those of the part's handshakes, and no gate is an input of the netlist
+abbrev pub GatesFit : Part → (ℕ → Incoming → List Cell) → (ℕ → List Outgoing) → Type 0
+GatesFit k cells outs = (b : ℕ) → HaveNets (part_contacts k) (outs b) × ((i : Incoming) → HasNoInput (cells b i))

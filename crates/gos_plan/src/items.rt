@@ -1,0 +1,88 @@
+// The items that lines are made of: fixed bytes, words of a table, numbers with the byte that ends them, and names.
+ghost use Rattle.std.specs.Prelude.{◌≡◌, ◌<◌, ◌≤◌, ◌⊎◌, [], false, IfOk, IfErr, length, map, get_or};
+ghost use Rattle.std.specs.Char.{is_ascii_digit};
+ghost use Rattle.gos_lex.specs.Items.{Misses};
+ghost use Rattle.gos_netlist.specs.NetItems.{Passed, IsAmong};
+ghost use Rattle.gos_plan.specs.TextItems.{Reads, Fails, exactly, number_in, any_name};
+
+use crate::fault::ObjectFault;
+use gos_lex::{Cursor, Name};
+use std::alloc::Global;
+
+/// The greatest number of a part, an import or a handshake, and the greatest count.
+pub const LAST_NUMBER: u64 = 4_294_967_295;
+
+/// Passes one of these words, and gives its place among them. `Err` is the place where they break off.
+pub fn one_of(cursor: &mut Cursor, words: &[&[u8]]) -> Result<usize, usize>
+    requires { 0 < length words.now }
+    ensures inside { IfOk result (λ k. k < length words.now) }
+    ensures passed { IfOk result (λ k. Passed cursor.old cursor.new (get_or (map (λ word. word.now) words.now) k [])) }
+    ensures wrong { IfErr result (Misses (IsAmong (map (λ word. word.now) words.now)) cursor.old.text cursor.old.at) }
+{
+    let mut furthest = match cursor.word(words[0]) {
+        Ok(()) => return Ok(0),
+        Err(at) => at,
+    };
+    for k in 1..words.len() {
+        match cursor.word(words[k]) {
+            Ok(()) => return Ok(k),
+            Err(at) => furthest = further(furthest, at),
+        }
+    }
+    Err(furthest)
+}
+
+// The greater of two places.
+fn further(one: usize, other: usize) -> usize
+    ensures at_least { (one ≤ result) × (other ≤ result) }
+    ensures either { (result ≡ one) ⊎ (result ≡ other) }
+{
+    if one < other { other } else { one }
+}
+
+/// Passes exactly these bytes.
+pub fn exact(cursor: &mut Cursor, bytes: &[u8]) -> Result<(), ObjectFault>
+    ensures read { IfOk result (λ _. Reads (exactly bytes.now) cursor.old cursor.new tt) }
+    ensures wrong { IfErr result (Fails (exactly bytes.now) cursor.old.text cursor.old.at) }
+{
+    match cursor.word(bytes) {
+        Ok(()) => Ok(()),
+        Err(at) => Err(ObjectFault::Form { at }),
+    }
+}
+
+/// Passes a number of the range, and the byte that ends it.
+pub fn number(cursor: &mut Cursor, low: u64, high: u64, end: u8) -> Result<u64, ObjectFault>
+    requires range { low ≤ high }
+    requires no_digit { is_ascii_digit end ≡ false }
+    ensures read { IfOk result (Reads (number_in low high end) cursor.old cursor.new) }
+    ensures wrong { IfErr result (Fails (number_in low high end) cursor.old.text cursor.old.at) }
+{
+    let n = match cursor.number(low, high) {
+        Ok(n) => n,
+        Err(at) => return Err(ObjectFault::Form { at }),
+    };
+    match cursor.word(&[end]) {
+        Ok(()) => Ok(n),
+        Err(at) => Err(ObjectFault::Form { at }),
+    }
+}
+
+/// Passes a name of this text, whose cursor it is, and the space behind it.
+pub fn name(alloc: Global, text: &[u8], cursor: &mut Cursor) -> Result<Name, ObjectFault>
+    requires { cursor.now.text ≡ text.now }
+    ensures read { IfOk result (Reads any_name cursor.old cursor.new) }
+    ensures wrong { IfErr result (Fails any_name cursor.old.text cursor.old.at) }
+{
+    let span = match cursor.name() {
+        Ok(span) => span,
+        Err(at) => return Err(ObjectFault::Form { at }),
+    };
+    match cursor.word(b" ") {
+        Ok(()) => match Name::new(alloc, &text[span.from..span.to]) {
+            Ok(name) => Ok(name),
+            Err(_) => Err(ObjectFault::NoMemory),
+        },
+        Err(at) => Err(ObjectFault::Form { at }),
+    }
+}

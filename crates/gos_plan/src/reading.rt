@@ -1,0 +1,107 @@
+// Reading a plan from its text.
+ghost use Rattle.std.specs.Prelude.{◌≡◌, ℕ, ◌≤◌, All, IfOk, IfErr, length, map};
+ghost use Rattle.gos_types.specs.Types.{type_of};
+ghost use Rattle.gos_plan.specs.Ranges.{IsInRange, AreInRange};
+ghost use Rattle.gos_plan.specs.Seen.{plan_of};
+ghost use Rattle.gos_plan.specs.TextItems.{Reads, Fails};
+ghost use Rattle.gos_plan.specs.ObjectItems.{weight_line, result_line, whole};
+ghost use Rattle.gos_plan.specs.ObjectFaults.{IsShort, IsTextOfValues, IsRead, HasFault};
+ghost use Rattle.gos_plan.specs.Values.{seen_values};
+
+use crate::fault::ObjectFault;
+use crate::items::{exact, number};
+use crate::kinds::Kind;
+use crate::plan::{Joint, Plan, PlanImport, make};
+use crate::sections::{imports, joints, parts};
+use crate::types::ty;
+use gos_lex::Cursor;
+use gos_types::Ty;
+use std::alloc::Global;
+
+// The longest text, in bytes.
+const LONGEST_TEXT: usize = 4_194_304;
+
+const MOST_WEIGHT: u64 = 8_192;
+
+// What a text says, before its joints are judged.
+#[derive(Drop)]
+pub(crate) struct Values {
+    pub weight: u64,
+    pub imports: Vec<PlanImport>,
+    pub outcome: Ty,
+    pub parts: Vec<Kind>,
+    pub joints: Vec<Joint>,
+}
+
+/// The plan that this text is the text of. `print_object` is the way back.
+///
+/// `Joint` is answered only where the text is whole.
+pub fn read_object(alloc: Global, text: &[u8]) -> Result<Plan, ObjectFault>
+    ensures read { IfOk result (λ plan. IsRead text.now (plan_of plan)) }
+    ensures fault { IfErr result (HasFault text.now) }
+{
+    if text.len() > LONGEST_TEXT {
+        return Err(ObjectFault::Limit { at: LONGEST_TEXT });
+    }
+    let v = whole_text(alloc, text)?;
+    let plan = make(alloc, v.weight, v.imports, v.outcome, v.parts, v.joints)?;
+    Ok(plan)
+}
+
+// Reads a text from its beginning to its end.
+fn whole_text(alloc: Global, text: &[u8]) -> Result<Values, ObjectFault>
+    requires { IsShort text.now }
+    ensures is { IfOk result (λ v. IsTextOfValues text.now (plan_of (seen_values v))) }
+    ensures in_range { IfOk result (λ v. AreInRange v.imports.items v.outcome v.parts.items) }
+    ensures wrong { IfErr result (HasFault text.now) }
+{
+    let mut cursor = Cursor::new(text);
+    let v = sections(alloc, text, &mut cursor)?;
+    if cursor.finished() {
+        Ok(v)
+    } else {
+        Err(ObjectFault::Form { at: cursor.at() })
+    }
+}
+
+// Passes the sections of this text, whose cursor it is.
+fn sections(alloc: Global, text: &[u8], cursor: &mut Cursor) -> Result<Values, ObjectFault>
+    requires { cursor.now.text ≡ text.now }
+    ensures in_range { IfOk result (λ v. All IsInRange v.parts.items) }
+    ensures read { IfOk result (λ v. Reads whole cursor.old cursor.new (plan_of (seen_values v))) }
+    ensures wrong { IfErr result (Fails whole cursor.old.text cursor.old.at) }
+{
+    let weight = weight(cursor)?;
+    let imports = imports(alloc, text, cursor)?;
+    let outcome = outcome(alloc, cursor)?;
+    let parts = parts(alloc, cursor)?;
+    let joints = joints(alloc, cursor)?;
+    exact(cursor, b"end\n")?;
+    Ok(Values {
+        weight,
+        imports,
+        outcome,
+        parts,
+        joints,
+    })
+}
+
+// Passes the first line, and the weight.
+fn weight(cursor: &mut Cursor) -> Result<u64, ObjectFault>
+    ensures read { IfOk result (λ w. Reads weight_line cursor.old cursor.new (tt, w)) }
+    ensures wrong { IfErr result (Fails weight_line cursor.old.text cursor.old.at) }
+{
+    exact(cursor, b"gosobj 1\nweight ")?;
+    let w = number(cursor, 1, MOST_WEIGHT, b'\n')?;
+    Ok(w)
+}
+
+// Passes the type of the result.
+fn outcome(alloc: Global, cursor: &mut Cursor) -> Result<Ty, ObjectFault>
+    ensures read { IfOk result (λ t. Reads result_line cursor.old cursor.new (tt, type_of t)) }
+    ensures wrong { IfErr result (Fails result_line cursor.old.text cursor.old.at) }
+{
+    exact(cursor, b"result ")?;
+    let t = ty(alloc, cursor, b'\n', 0)?;
+    Ok(t)
+}

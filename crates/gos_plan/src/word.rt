@@ -1,0 +1,173 @@
+// The words of a plan's text, by tables.
+ghost use Rattle.std.specs.Prelude.{◌≡◌, ◌+◌, ◌≤◌, IfOk, IfErr};
+ghost use Rattle.gos_plan.specs.TextItems.{Reads, Fails, words};
+ghost use Rattle.gos_plan.specs.ObjectText.{word_text};
+ghost use Rattle.gos_plan.specs.ObjectItems.{letters, body_word_text, end_word_text};
+
+use crate::fault::ObjectFault;
+use crate::items::one_of;
+use crate::kinds::Op2;
+use gos_lex::Cursor;
+
+/// The word of a part whose line ends with it.
+#[derive(Clone, Copy)]
+pub enum BareWord {
+    Skip,
+    Seq,
+    Par,
+    If,
+    While,
+}
+
+/// The word of a part with a width behind it.
+#[derive(Clone, Copy)]
+pub enum SizedWord {
+    SeqExp,
+    IfExp,
+    Op(Op2),
+    Not,
+    Assign,
+    Deref,
+}
+
+/// The word of a part.
+#[derive(Clone, Copy)]
+pub enum PartWord {
+    Bare(BareWord),
+    Sized(SizedWord),
+    Lit,
+    Local,
+    Share,
+}
+
+/// The word of a type.
+#[derive(Clone, Copy)]
+pub enum TypeWord {
+    Com,
+    Exp,
+    Var,
+    Pair,
+    Fun,
+}
+
+/// The word of what a Local runs.
+#[derive(Clone, Copy)]
+pub enum BodyWord {
+    Com,
+    Exp,
+}
+
+/// What stands before the numbers of an end.
+#[derive(Clone, Copy)]
+pub enum EndWord {
+    Part,
+    Import,
+    Result,
+}
+
+/// Passes the word of a part, with the byte behind it.
+pub fn part_word(cursor: &mut Cursor) -> Result<PartWord, ObjectFault>
+    ensures read { IfOk result (Reads (words PartWord word_text) cursor.old cursor.new) }
+    ensures wrong { IfErr result (Fails (words PartWord word_text) cursor.old.text cursor.old.at) }
+{
+    let words = [
+        PartWord::Bare(BareWord::Skip),
+        PartWord::Bare(BareWord::Seq),
+        PartWord::Bare(BareWord::Par),
+        PartWord::Bare(BareWord::If),
+        PartWord::Bare(BareWord::While),
+        PartWord::Sized(SizedWord::SeqExp),
+        PartWord::Sized(SizedWord::IfExp),
+        PartWord::Sized(SizedWord::Op(Op2::Add)),
+        PartWord::Sized(SizedWord::Op(Op2::Sub)),
+        PartWord::Sized(SizedWord::Op(Op2::And)),
+        PartWord::Sized(SizedWord::Op(Op2::Or)),
+        PartWord::Sized(SizedWord::Op(Op2::Xor)),
+        PartWord::Sized(SizedWord::Op(Op2::Eq)),
+        PartWord::Sized(SizedWord::Op(Op2::Less)),
+        PartWord::Sized(SizedWord::Not),
+        PartWord::Sized(SizedWord::Assign),
+        PartWord::Sized(SizedWord::Deref),
+        PartWord::Lit,
+        PartWord::Local,
+        PartWord::Share,
+    ];
+    let texts = [
+        b"skip\n".as_slice(),
+        b"seq\n".as_slice(),
+        b"par\n".as_slice(),
+        b"if\n".as_slice(),
+        b"while\n".as_slice(),
+        b"seqexp ".as_slice(),
+        b"ifexp ".as_slice(),
+        b"add ".as_slice(),
+        b"sub ".as_slice(),
+        b"and ".as_slice(),
+        b"or ".as_slice(),
+        b"xor ".as_slice(),
+        b"eq ".as_slice(),
+        b"less ".as_slice(),
+        b"not ".as_slice(),
+        b"assign ".as_slice(),
+        b"deref ".as_slice(),
+        b"lit ".as_slice(),
+        b"local ".as_slice(),
+        b"share ".as_slice(),
+    ];
+    match one_of(cursor, &texts) {
+        Ok(k) => Ok(words[k]),
+        Err(at) => Err(ObjectFault::Form { at }),
+    }
+}
+
+/// Passes the letters of a type's word.
+pub fn type_letters(cursor: &mut Cursor) -> Result<TypeWord, ObjectFault>
+    ensures read { IfOk result (Reads (words TypeWord letters) cursor.old cursor.new) }
+    ensures wrong { IfErr result (Fails (words TypeWord letters) cursor.old.text cursor.old.at) }
+{
+    let words = [
+        TypeWord::Com,
+        TypeWord::Exp,
+        TypeWord::Var,
+        TypeWord::Pair,
+        TypeWord::Fun,
+    ];
+    let texts = [
+        b"com".as_slice(),
+        b"exp".as_slice(),
+        b"var".as_slice(),
+        b"pair".as_slice(),
+        b"fun".as_slice(),
+    ];
+    match one_of(cursor, &texts) {
+        Ok(k) => Ok(words[k]),
+        Err(at) => Err(ObjectFault::Form { at }),
+    }
+}
+
+/// Passes the word of what a Local runs, with the byte behind it.
+pub fn body_word(cursor: &mut Cursor) -> Result<BodyWord, ObjectFault>
+    ensures read { IfOk result (Reads (words BodyWord body_word_text) cursor.old cursor.new) }
+    ensures wrong { IfErr result (Fails (words BodyWord body_word_text) cursor.old.text cursor.old.at) }
+{
+    let words = [BodyWord::Com, BodyWord::Exp];
+    match one_of(cursor, &[b"com\n".as_slice(), b"exp ".as_slice()]) {
+        Ok(k) => Ok(words[k]),
+        Err(at) => Err(ObjectFault::Form { at }),
+    }
+}
+
+/// Passes what stands before the numbers of an end.
+pub fn end_word(cursor: &mut Cursor) -> Result<EndWord, ObjectFault>
+    ensures read { IfOk result (Reads (words EndWord end_word_text) cursor.old cursor.new) }
+    ensures wrong { IfErr result (Fails (words EndWord end_word_text) cursor.old.text cursor.old.at) }
+{
+    let words = [EndWord::Part, EndWord::Import, EndWord::Result];
+    match one_of(
+        cursor,
+        &[b"p".as_slice(), b"i".as_slice(), b"r.".as_slice()],
+    ) {
+        Ok(k) => Ok(words[k]),
+        Err(at) => Err(ObjectFault::Form { at }),
+    }
+}
