@@ -1,0 +1,140 @@
+-- The lines that commands print.
+--
+-- A fault's line is the file's name, a colon, a space and what is wrong there; a letter with a number tells the fault. Places
+-- count bytes from 0, lines count from 1.
+use Rattle.std.specs.Prelude.{◌≡◌, ℕ, List, [], ◌∷◌, ◌++◌, codes, map, Option, Some, None}
+use Rattle.std.specs.Fmt.{decimal}
+use Rattle.gos_lex.specs.declared.fault.LexFault.{LexFault}
+use Rattle.gos_lex.specs.declared.fault.LexFault.TheVariants as lex
+use Rattle.gos_syntax.specs.declared.fault.SyntaxFault.{SyntaxFault}
+use Rattle.gos_syntax.specs.declared.fault.SyntaxFault.TheVariants as syntax
+use Rattle.gos_lex.specs.declared.token.Span.{Span}
+use Rattle.gos_types.specs.Types.{type_of}
+use Rattle.gos_types.specs.TypeText.{type_text}
+use Rattle.gos_check.specs.declared.fault.Want.{Want}
+use Rattle.gos_check.specs.declared.fault.Want.TheVariants as wants
+use Rattle.gos_check.specs.declared.fault.CheckFault.{CheckFault}
+use Rattle.gos_check.specs.declared.fault.CheckFault.TheVariants as check
+use Rattle.gos_netlist.specs.declared.fault.NetTextFault.{NetTextFault}
+use Rattle.gos_netlist.specs.declared.fault.NetTextFault.TheVariants as text
+use Rattle.gos_netlist.specs.Nets.{Netlist}
+use Rattle.gos_netlist.specs.NetText.{spaced}
+use Rattle.gos_netlist.specs.Seen.{number_of}
+use Rattle.gos_netcheck.specs.declared.fault.NetFault.{NetFault}
+use Rattle.gos_netcheck.specs.declared.fault.NetFault.TheVariants as net
+use Rattle.gos_lines.specs.Lines.{Word}
+use Rattle.gos_pulse.specs.EventNames.{name_of_number}
+use Rattle.gos_pulse.specs.declared.fault.PulseFault.{PulseFault}
+use Rattle.gos_pulse.specs.declared.fault.PulseFault.TheVariants as pulse
+use Rattle.gos_command.specs.declared.status.Cause.{Cause}
+use Rattle.gos_command.specs.declared.status.Cause.TheVariants as causes
+use Rattle.gos_command.specs.declared.status.Fault.{Fault}
+use Rattle.gos_command.specs.declared.report.Counts.{Counts}
+use Rattle.gos_command.specs.declared.report.Report.{Report}
+
+-- a word and a number
+abbrev pub counted : List ℕ → ℕ → List ℕ
+counted word n = word ++ decimal n
+
+abbrev pub lex_text : LexFault → List ℕ
+lex_text (lex.TooLong len) = counted (codes "L1 length ") len
+lex_text (lex.Byte at) = counted (codes "L2 byte at ") at
+lex_text (lex.Number at) = counted (codes "L3 number at ") at
+lex_text (lex.Name at) = counted (codes "L4 name at ") at
+lex_text lex.NoMemory = []
+
+abbrev pub syntax_text : SyntaxFault → List ℕ
+syntax_text (syntax.Unexpected at) = counted (codes "S1 at ") at
+syntax_text (syntax.Depth at) = counted (codes "S2 depth at ") at
+syntax_text (syntax.TooManyImports at) = counted (codes "S3 imports at ") at
+syntax_text syntax.NoMemory = []
+
+-- a place in a text: from a byte to the one behind its last
+abbrev pub span_text : Span → List ℕ
+span_text span = decimal span.from ++ codes ".." ++ decimal span.to
+
+-- what is wanted: a type, or one of a class
+abbrev pub want_text : Want → List ℕ
+want_text (wants.Just ty) = type_text (type_of ty)
+want_text wants.AnyExp = codes "any exp"
+want_text wants.AnyVar = codes "any var"
+want_text wants.ComOrExp = codes "com or exp"
+
+-- a name with two places
+abbrev pub twice_text : List ℕ → List ℕ → Span → Span → List ℕ
+twice_text word name first second = word ++ name ++ codes " at " ++ span_text first ++ codes " and " ++ span_text second
+
+-- a place with the type that is there
+abbrev pub got_text : List ℕ → Span → List ℕ → List ℕ
+got_text word span ty = word ++ span_text span ++ codes " got " ++ ty
+
+abbrev pub check_text : CheckFault → List ℕ
+check_text (check.Unbound name span) = codes "C1 " ++ name ++ codes " at " ++ span_text span
+check_text (check.Differs span want got) =
+    codes "C2 at " ++ span_text span ++ codes " want " ++ want_text want ++ codes " got " ++ type_text (type_of got)
+check_text (check.NotFunction span got) = got_text (codes "C3 at ") span (type_text (type_of got))
+check_text (check.NotPair span got) = got_text (codes "C4 at ") span (type_text (type_of got))
+check_text (check.Shared name first second) = twice_text (codes "C5 ") name first second
+check_text (check.Width span width value) =
+    codes "C6 at " ++ span_text span ++ counted (codes " width ") width ++ counted (codes " value ") value
+check_text (check.TypeTooLarge span handshakes) = codes "C7 at " ++ span_text span ++ counted (codes " handshakes ") handshakes
+check_text (check.Repeated name first second) = twice_text (codes "C8 ") name first second
+check_text (check.TooHeavy weight) = counted (codes "C9 weight ") weight
+check_text check.NoMemory = []
+
+abbrev pub net_text : NetTextFault → List ℕ
+net_text (text.Form at) = counted (codes "N1 at ") at
+net_text (text.Limit at) = counted (codes "N2 limit at ") at
+net_text text.NoMemory = []
+
+-- a cycle is told with all its nets
+abbrev pub refusal_text : NetFault → List ℕ
+refusal_text (net.Cycle nets) = codes "K1 cycle" ++ spaced (map number_of nets.items)
+refusal_text (net.Width cell) = counted (codes "K2 cell ") cell
+refusal_text (net.NoSuchNet cell) = counted (codes "K3 cell ") cell
+refusal_text (net.Port index) = counted (codes "K4 port ") index
+refusal_text net.NoMemory = []
+
+-- the name of an event of this netlist, where there is one
+abbrev pub event_name : Option Netlist → ℕ → Word
+event_name None n = []
+event_name (Some net) n = name_of_number net n
+
+-- the event of an entry that breaks the protocol is told by its name in this netlist
+abbrev pub pulse_text : Option Netlist → PulseFault → List ℕ
+pulse_text of (pulse.Form line) = counted (codes "P1 line ") line
+pulse_text of (pulse.NoPort line) = counted (codes "P2 line ") line
+pulse_text of (pulse.Value line) = counted (codes "P3 line ") line
+pulse_text of (pulse.Limit line) = counted (codes "P4 line ") line
+pulse_text of (pulse.Broken cycle event) = codes "P5 " ++ event_name of event ++ counted (codes " at cycle ") cycle
+pulse_text of pulse.NoMemory = []
+
+abbrev pub cause_text : Option Netlist → Cause → List ℕ
+cause_text of causes.NotBuilt = codes "not built"
+cause_text of (causes.Lex fault) = lex_text fault
+cause_text of (causes.Syntax fault) = syntax_text fault
+cause_text of (causes.Check fault) = check_text fault
+cause_text of (causes.Net fault) = net_text fault
+cause_text of (causes.Refused fault) = refusal_text fault
+cause_text of (causes.Pulse fault) = pulse_text of fault
+
+-- the line of a fault, whose events are those of this netlist
+abbrev pub fault_line : Option Netlist → Fault → List ℕ
+fault_line of fault = fault.file ++ codes ": " ++ cause_text of fault.cause ++ 10 ∷ []
+
+-- the line is one of this fault, whose event, if it tells one, is named in some netlist
+abbrev pub IsLineOf : Fault → List ℕ → Type 0
+IsLineOf fault line = (of : Option Netlist) × (line ≡ fault_line of fault)
+
+abbrev pub weight_text : Option ℕ → List ℕ
+weight_text None = []
+weight_text (Some weight) = counted (codes " weight ") weight
+
+abbrev pub run_text : Option Counts → List ℕ
+run_text None = []
+run_text (Some run) =
+    counted (codes " cycles ") run.cycles ++ counted (codes " pulses ") run.pulses ++ counted (codes " unused ") run.unused
+
+-- the line of a command that is done
+abbrev pub report_line : Report → List ℕ
+report_line report = codes "ok" ++ weight_text report.weight ++ run_text report.run ++ 10 ∷ []

@@ -1,0 +1,117 @@
+// The files of a command: their names, and how they are read and written.
+
+ghost use Rattle.std.specs.Prelude.{◌≡◌, ◌≤◌, ◌<◌, ◌^◌, take, IfOk, IfErr, IfSome, OnOk, IsErrOf, Err};
+ghost use Rattle.gos_outside.specs.FileName.{IsFileName};
+ghost use Rattle.gos_outside.specs.Files.{Files, bytes_at, with_file, SameBut};
+ghost use Rattle.gos_outside.specs.Faults.{LastFault, ReadFault, WriteFault, Rose};
+ghost use Rattle.gos_command.specs.Files.{IsReadWhole};
+ghost use Rattle.gos_command.specs.Ends.{IfStopped};
+
+use crate::stop::Stop;
+use gos_outside::{Store, StoreFault};
+use std::alloc::{AllocError, Global};
+use std::marker::Model;
+
+/// The name of a file: 1 to 255 bytes of ASCII letters, digits, `_`, `.`, `-` and `/`.
+#[derive(Debug, Drop)]
+pub struct FileName {
+    bytes: Vec<u8>,
+}
+
+impl Model for FileName {
+    ghost use Rattle.std.specs.Prelude.{List, ℕ};
+    ghost use Rattle.gos_outside.specs.FileName.{IsFileName};
+
+    ghost Value = { List ℕ };
+
+    ghost view = { λ name. name.bytes.items };
+
+    ghost invariant = { λ name. IsFileName name.bytes.items };
+}
+
+impl FileName {
+    /// A copy of these bytes, which are a file name. The error is want of memory.
+    pub fn new(alloc: Global, bytes: &[u8]) -> Result<FileName, AllocError>
+        requires { IsFileName bytes.now }
+        ensures { IfOk result (λ name. name ≡ bytes.now) }
+    {
+        let bytes = bytes.to_vec(alloc)?;
+        Ok(FileName { bytes })
+    }
+
+    /// The bytes of the name.
+    pub fn bytes(&self) -> &[u8]
+        ensures name { IsFileName self.now }
+        ensures bytes { result.now ≡ self.now }
+    {
+        self.bytes.as_slice()
+    }
+}
+
+/// Reads a file of at most `limit` bytes, and one byte more of a longer one.
+#[tactic(auto, using(crate::proofs::FilesLemmas::is_read_whole))]
+pub fn read_file<S: Store>(
+    alloc: Global,
+    store: &mut S,
+    name: &[u8],
+    limit: usize,
+) -> Result<Vec<u8>, Stop>
+    requires name { IsFileName name.now }
+    requires limit { limit < 2 ^ 32 }
+    ensures read { IfOk result (λ bytes. IfSome (S.contents store.old) (λ files. IsReadWhole limit bytes.items (bytes_at files name.now))) }
+    ensures ok_count { OnOk result (S.faults store.new ≡ S.faults store.old) }
+    ensures rejects_nothing { IfErr result (λ stop. IfStopped stop (λ fault line. ⊥)) }
+    ensures failed_only { IsErrOf result Stop.StoreFailed → Rose (S.faults store.old) (S.faults store.new) }
+    ensures failed_call { IsErrOf result Stop.StoreFailed → S.last_fault store.new ≡ ReadFault name.now }
+    ensures never_falls { S.faults store.old ≤ S.faults store.new }
+    ensures same_files { S.contents store.new ≡ S.contents store.old }
+{
+    read_start(alloc, store, name, limit + 1)
+}
+
+/// Reads the first bytes of a file, so many at most.
+pub fn read_start<S: Store>(
+    alloc: Global,
+    store: &mut S,
+    name: &[u8],
+    count: usize,
+) -> Result<Vec<u8>, Stop>
+    requires name { IsFileName name.now }
+    requires count { count ≤ 2 ^ 32 }
+    ensures read { IfOk result (λ bytes. IfSome (S.contents store.old) (λ files. bytes.items ≡ take count (bytes_at files name.now))) }
+    ensures ok_count { OnOk result (S.faults store.new ≡ S.faults store.old) }
+    ensures rejects_nothing { IfErr result (λ stop. IfStopped stop (λ fault line. ⊥)) }
+    ensures failed_only { IsErrOf result Stop.StoreFailed → Rose (S.faults store.old) (S.faults store.new) }
+    ensures failed_call { IsErrOf result Stop.StoreFailed → S.last_fault store.new ≡ ReadFault name.now }
+    ensures never_falls { S.faults store.old ≤ S.faults store.new }
+    ensures same_files { S.contents store.new ≡ S.contents store.old }
+{
+    match store.read_up_to(alloc, name, count) {
+        Ok(bytes) => Ok(bytes),
+        Err(StoreFault::Failed) => Err(Stop::StoreFailed),
+        Err(StoreFault::NoMemory) => Err(Stop::NoMemory),
+    }
+}
+
+/// Writes a file.
+pub fn write_file<S: Store>(
+    alloc: Global,
+    store: &mut S,
+    name: &[u8],
+    bytes: &[u8],
+) -> Result<(), Stop>
+    requires { IsFileName name.now }
+    ensures written { OnOk result (S.contents store.new ≡ with_file name.now bytes.now (S.contents store.old)) }
+    ensures rejects_nothing { IfErr result (λ stop. IfStopped stop (λ fault line. ⊥)) }
+    ensures failed_only { IsErrOf result Stop.StoreFailed → Rose (S.faults store.old) (S.faults store.new) }
+    ensures failed_call { IsErrOf result Stop.StoreFailed → S.last_fault store.new ≡ WriteFault name.now }
+    ensures never_falls { S.faults store.old ≤ S.faults store.new }
+    ensures others { SameBut name.now (S.contents store.old) (S.contents store.new) }
+    ensures no_memory { IsErrOf result Stop.NoMemory → S.contents store.new ≡ S.contents store.old }
+{
+    match store.write(alloc, name, bytes) {
+        Ok(()) => Ok(()),
+        Err(StoreFault::Failed) => Err(Stop::StoreFailed),
+        Err(StoreFault::NoMemory) => Err(Stop::NoMemory),
+    }
+}
