@@ -1,45 +1,29 @@
 -- What the parts of a build tell of the files that the store held when the build began.
-use Rattle.std.proofs.Common.{◌≡◌, ◌≢◌, ℕ, List, [], ◌∷◌, Option, Some, None, Result, Ok, Err, false, refl, sym, ◌∙◌, ap, subst, arith}
-use Rattle.std.specs.Prelude.{IfSome, IfOk, IfErr, OnOk, IsTrue, unwrap_or}
-use Rattle.std.specs.FinMap.{get}
-use Rattle.gos_outside.specs.Files.{Files, bytes_at, SameBut}
+use Rattle.std.proofs.Common.{◌≡◌, ◌∙◌, List, ℕ, suc, [], ◌∷◌, Option, Some, None, inr, refl, sym, ap, subst}
+use Rattle.std.specs.Prelude.{IfSome, map}
+use Rattle.gos_outside.specs.Files.{Files, bytes_at, with_file}
 use Rattle.gos_outside.specs.OtherFiles.{OthersSame}
-use Rattle.gos_tool.specs.Files.{IsReadWhole}
-use Rattle.gos_lines.specs.Lines.{Word, all_differ}
-use Rattle.gos_tool.specs.BuildFile.{BuildFile, IsBuildFile, build_lines, files_of}
-use Rattle.std.specs.Str.{bytes_eq}
-use Rattle.std.proofs.lemmas.Slice.Eq.{bytes_eq-Decides}
-use Rattle.gos_tool.specs.SourceFile.{Sequence, IsSourceFile}
-use Rattle.gos_tool.specs.PulseFile.{IsPulseFile, input_names}
-use Rattle.gos_tool.specs.Command.{SaysBuild, SaysModule, SaysPulses, PulsesRight, WrongPulses, KeepsOthers}
-use Rattle.gos_tool.specs.declared.pulse_file.Entry.{Entry}
+use Rattle.gos_command.specs.Files.{IsReadWhole}
+use Rattle.gos_types.specs.Types.{Com}
+use Rattle.gos_outside.specs.Faults.{LastFault}
+use Rattle.gos_netlist.specs.Nets.{Give, Take, Netlist}
+use Rattle.gos_netlist.specs.NetText.{text_of}
+use Rattle.gos_command.specs.declared.report.Counts.{Counts}
+use Rattle.gos_command.specs.declared.report.Report.{Report}
+use Rattle.gos_command.specs.declared.status.Fault.{Fault}
+use Rattle.gos_simulate.specs.Simulation.{LeavesTrace, IsPulseFault, IsSimulationCall}
+use Rattle.gos_lines.specs.Lines.{Word}
+use Rattle.gos_tool.specs.BuildFile.{BuildFile, IsBuildFile, build_lines}
+use Rattle.gos_tool.specs.SourceFile.{Sequence, IsSourceFile, IsWellFormed}
+use Rattle.gos_tool.specs.Circuit.{circuit_of, import_ports}
+use Rattle.gos_tool.specs.Headline.{Face, face_of, IsCircuitOf}
+use Rattle.gos_tool.specs.Command.{SaysBuild, SaysModule}
+use Rattle.gos_tool.specs.Built.{with_net, IsCompiled, RejectsPulses, IsCircuitCall, KeepsUnnamed}
+use Rattle.gos_tool.specs.Program.{weight_of}
+use Rattle.gos_tool.proofs.AcceptedLemmas.{is_accepted}
+use Rattle.gos_tool.proofs.PaceLemmas.{keeps_pace}
 
--- a fact of the error that follows from another one
-pub of_error : {T E : Type 0} (P Q : E → Type 0) (r : Result T E) → ((e : E) → P e → Q e) → IfErr r P → IfErr r Q
-of_error P Q (Ok x) f h = tt
-of_error P Q (Err e) f h = f e h
-
--- a fact of the files that follows from another one
-pub of_files : (P Q : Files → Type 0) (told : Option Files) → ((files : Files) → P files → Q files) → IfSome told P → IfSome told Q
-of_files P Q None f h = tt
-of_files P Q (Some files) f h = f files h
-
--- and from two
-pub of_files_both : (P R Q : Files → Type 0) (told : Option Files) → ((files : Files) → P files → R files → Q files) → IfSome told P → IfSome told R → IfSome told Q
-of_files_both P R Q None f h k = tt
-of_files_both P R Q (Some files) f h k = f files h k
-
--- a file that was not written holds what it held
-same_bytes : (old new : Files) (name : List ℕ) → get new name ≡ get old name → bytes_at new name ≡ bytes_at old name
-same_bytes old new name e = ap (λ (held : Option (List ℕ)). unwrap_or held []) e
-
--- a fact of one file's bytes is kept where another file is written
-pub before_write : (P : List ℕ → Type 0) (name other : List ℕ) (old new : Option Files) → other ≢ name → SameBut name old new → IfSome new (λ files. P (bytes_at files other)) → IfSome old (λ files. P (bytes_at files other))
-before_write P name other None new apart same h = tt
-before_write P name other (Some old) None apart same h = absurd same
-before_write P name other (Some old) (Some new) apart same h = subst P (same_bytes old new other (same other apart)) h
-
--- the text that was read is the file's, where it is of the form of a build file, a source file, a pulse file
+-- the text that was read is the file's, where it is of the form of a build file or of a source file
 pub says_build : (files : Files) (own : Word) (b : BuildFile) (read : List ℕ) → IsReadWhole 65536 read (bytes_at files own) → IsBuildFile read own b → SaysBuild files own b
 says_build files own b read whole h = subst (λ (text : List ℕ). IsBuildFile text own b) (whole.whole h.short) h
 
@@ -52,31 +36,6 @@ lacks_build files own read whole none b h = none b (subst (λ (text : List ℕ).
 
 pub lacks_module : (files : Files) (b : BuildFile) (read : List ℕ) → IsReadWhole 65536 read (bytes_at files b.source) → ((s : Sequence) → IsSourceFile read b.root s → ⊥) → (s : Sequence) → SaysModule files b s → ⊥
 lacks_module files b read whole none s h = none s (subst (λ (text : List ℕ). IsSourceFile text b.root s) (sym (whole.short h.0.0)) h)
-
-pub lacks_pulses : (files : Files) (b : BuildFile) (s : Sequence) (read : List ℕ) (inputs : List Word) → inputs ≡ input_names b.root s.imports → IsReadWhole 16777216 read (bytes_at files b.pulses)
-    → ((cycles : ℕ) (entries : List Entry) → IsPulseFile read inputs cycles entries → ⊥) → PulsesRight files b s → ⊥
-lacks_pulses files b s read inputs names whole none h =
-    let same : bytes_at files b.pulses ≡ read = sym (whole.short h.2.short) in
-    none h.0 h.1 (subst (λ (text : List ℕ). IsPulseFile text inputs h.0 h.1) same (subst (λ (names : List Word). IsPulseFile (bytes_at files b.pulses) names h.0 h.1) (sym names) h.2))
-
-pub before_write_pulses : (name : List ℕ) (b : BuildFile) (s : Sequence) (file : Word) (old new : Option Files) → b.pulses ≢ name → SameBut name old new → IfSome new (λ files. WrongPulses files b s file) → IfSome old (λ files. WrongPulses files b s file)
-before_write_pulses name b s file old new apart same h =
-    before_write (λ text. (file ≡ b.pulses) × (((cycles : ℕ) × (entries : List Entry) × IsPulseFile text (input_names b.root s.imports) cycles entries) → ⊥)) name b.pulses old new apart same h
-
-differs : (x y : Word) → bytes_eq x y ≡ false → x ≡ y → ⊥
-differs x y off e = grind (arith, bytes_eq-Decides, off, e)
-
--- the pulse file is not the netlist
-pub files_apart : (own : Word) (b : BuildFile) → IsTrue (all_differ (own ∷ files_of b)) → b.pulses ≢ b.net
-files_apart own b differ same =
-    let apart : bytes_eq b.net b.pulses ≡ false = grind (arith, differ) in
-    differs b.net b.pulses apart (sym same)
-
--- the netlist is not the trace
-pub trace_apart : (own : Word) (b : BuildFile) → IsTrue (all_differ (own ∷ files_of b)) → b.net ≢ b.trace
-trace_apart own b differ same =
-    let apart : bytes_eq b.net b.trace ≡ false = grind (arith, differ) in
-    differs b.net b.trace apart same
 
 -- a build file says one thing
 pub same_build : (text own : List ℕ) (b d : BuildFile) → IsBuildFile text own b → IsBuildFile text own d → b ≡ d
@@ -92,24 +51,73 @@ same_build text own b d h k =
     λ i. record { root = root i; source = source i; object = object i; net = net i; verilog = verilog i; pulses = pulses i; trace = trace i }
 
 -- what a build leaves as it was, where the build file says b
-pub keeps_others : (own : Word) (b : BuildFile) (old new : Option Files) → IfSome old (λ files. SaysBuild files own b) → OthersSame (b.net ∷ b.trace ∷ []) old new → KeepsOthers own old new
-keeps_others own b None None says same = refl
-keeps_others own b None (Some new) says same = absurd same
-keeps_others own b (Some files) new says same = (
+pub keeps_unnamed : (own : Word) (b : BuildFile) (old new : Option Files) → IfSome old (λ files. SaysBuild files own b) → OthersSame (b.net ∷ b.trace ∷ []) old new → KeepsUnnamed own old new
+keeps_unnamed own b None None says same = refl
+keeps_unnamed own b None (Some new) says same = absurd same
+keeps_unnamed own b (Some files) new says same = (
   λ d says'. subst (λ (e : BuildFile). OthersSame (e.net ∷ e.trace ∷ []) (Some files) new) (same_build (bytes_at files own) own b d says says') same,
   λ none. absurd (none b says),
 )
 
-pub of_ok : {T E : Type 0} (P Q : Type 0) (r : Result T E) → (P → Q) → OnOk r P → OnOk r Q
-of_ok P Q (Ok x) f h = f h
-of_ok P Q (Err e) f h = tt
+import_faces : (i : ℕ) (imports : List Word) → map face_of (import_ports i imports) ≡ map (λ x. record { name = x; side = Take; ty = Com }) imports
+import_faces i [] = refl
+import_faces i (x ∷ xs) = ap (λ (faces : List Face). record { name = x; side = Take; ty = Com } ∷ faces) (import_faces (suc i) xs)
 
-pub says_pulses : (files : Files) (b : BuildFile) (s : Sequence) (read : List ℕ) (inputs : List Word) (cycles : ℕ) (entries : List Entry) → inputs ≡ input_names b.root s.imports
-    → IsReadWhole 16777216 read (bytes_at files b.pulses) → IsPulseFile read inputs cycles entries → SaysPulses files b s cycles entries
-says_pulses files b s read inputs cycles entries names whole h =
-    subst (λ (names : List Word). IsPulseFile (bytes_at files b.pulses) names cycles entries) names (subst (λ (text : List ℕ). IsPulseFile text inputs cycles entries) (whole.whole h.short) h)
+-- the circuit that is made is a circuit of the module
+pub is_circuit : (root : Word) (s : Sequence) → IsWellFormed root s → IsCircuitOf (circuit_of root s) root s
+is_circuit root s formed =
+    record {
+      ports = ap (λ (faces : List Face). record { name = root; side = Give; ty = Com } ∷ faces) (import_faces 0 s.imports);
+      accepted = is_accepted root s formed;
+      pace = keeps_pace root s formed;
+    }
 
--- a fact of the result that follows from another one
-pub of_result : {T E : Type 0} (P Q : T → Type 0) (r : Result T E) → ((x : T) → P x → Q x) → IfOk r P → IfOk r Q
-of_result P Q (Ok x) f h = f x h
-of_result P Q (Err e) f h = tt
+-- the files with the netlist of a circuit written
+written_net : (files : Files) (b : BuildFile) (net : Netlist) (text : List ℕ) (mid : Option Files) → text ≡ text_of net → mid ≡ with_file b.net text (Some files) → mid ≡ with_net files b net
+written_net files b net text mid printed written = written ∙ ap (λ (t : List ℕ). with_file b.net t (Some files)) printed
+
+-- the netlist of a circuit of the module was written, and then its trace
+pub compiled : (old mid new : Option Files) (b : BuildFile) (s : Sequence) (net checked : Netlist) (text : List ℕ) (counts : Counts) (report : Report)
+    → net ≡ circuit_of b.root s → IsWellFormed b.root s → checked ≡ net → text ≡ text_of net → mid ≡ with_file b.net text old
+    → LeavesTrace mid new checked b.pulses b.trace counts → report ≡ record { weight = Some (weight_of s); run = Some counts }
+    → IfSome old (λ files. IsCompiled files new b s report)
+compiled None mid new b s net checked text counts report circuit formed same printed written left tells = tt
+compiled (Some files) mid new b s net checked text counts report circuit formed same printed written left tells =
+    record {
+      net = net;
+      counts = counts;
+      circuit = subst (λ (n : Netlist). IsCircuitOf n b.root s) (sym circuit) (is_circuit b.root s formed);
+      traced =
+          subst (λ (told : Option Files). LeavesTrace told new net b.pulses b.trace counts) (written_net files b net text mid printed written)
+          (subst (λ (n : Netlist). LeavesTrace mid new n b.pulses b.trace counts) same left);
+      tells = tells;
+    }
+
+-- the pulse file was rejected after the netlist was written
+pub rejects_pulses : (old mid new : Option Files) (b : BuildFile) (s : Sequence) (net checked : Netlist) (text : List ℕ) (fault : Fault) (line : List ℕ)
+    → net ≡ circuit_of b.root s → IsWellFormed b.root s → checked ≡ net → text ≡ text_of net → mid ≡ with_file b.net text old → new ≡ mid
+    → IfSome mid (λ all. IsPulseFault all checked b.pulses fault line) → IfSome old (λ files. RejectsPulses files new b s fault line)
+rejects_pulses None mid new b s net checked text fault line circuit formed same printed written kept why = tt
+rejects_pulses (Some files) mid new b s net checked text fault line circuit formed same printed written kept why =
+    let mid_is = written_net files b net text mid printed written in
+    record {
+      net = net;
+      circuit = subst (λ (n : Netlist). IsCircuitOf n b.root s) (sym circuit) (is_circuit b.root s formed);
+      left = kept ∙ mid_is;
+      why =
+          subst (λ (told : Option Files). IfSome told (λ all. IsPulseFault all net b.pulses fault line)) mid_is
+          (subst (λ (n : Netlist). IfSome mid (λ all. IsPulseFault all n b.pulses fault line)) same why);
+    }
+
+-- a call that was made after the netlist was written
+pub later_call : (old mid : Option Files) (b : BuildFile) (s : Sequence) (net checked : Netlist) (text : List ℕ) (fault : LastFault)
+    → net ≡ circuit_of b.root s → IsWellFormed b.root s → checked ≡ net → text ≡ text_of net → mid ≡ with_file b.net text old
+    → IfSome mid (λ all. IsSimulationCall all checked b.pulses b.trace fault) → IfSome old (λ files. IsCircuitCall files b s fault)
+later_call None mid b s net checked text fault circuit formed same printed written call = tt
+later_call (Some files) mid b s net checked text fault circuit formed same printed written call =
+    inr (
+      net,
+      subst (λ (n : Netlist). IsCircuitOf n b.root s) (sym circuit) (is_circuit b.root s formed),
+      subst (λ (told : Option Files). IfSome told (λ all. IsSimulationCall all net b.pulses b.trace fault)) (written_net files b net text mid printed written)
+          (subst (λ (n : Netlist). IfSome mid (λ all. IsSimulationCall all n b.pulses b.trace fault)) same call),
+    )

@@ -14,20 +14,20 @@ twice_suc : (i : ℕ) → 2 * suc i ≡ suc (suc (2 * i))
 twice_suc i = omega arith
 
 -- the cells of the import at a place
-cell_run : (imports order xs : Words) (i : ℕ) (x : Word) → slice_get xs i ≡ Some x → slice_get (import_cells imports order xs) (2 * i) ≡ Some (bit (Reg (before imports 0 order x)))
+pub cell_run : (imports order xs : Words) (i : ℕ) (x : Word) → slice_get xs i ≡ Some x → slice_get (import_cells imports order xs) (2 * i) ≡ Some (bit (Reg (before imports 0 order x)))
 cell_run imports order [] i x h = grind (arith, h)
 cell_run imports order (y ∷ ys) zero x h = let e : y ≡ x = cc in rw e
 cell_run imports order (y ∷ ys) (suc i) x h = rw (twice_suc i) (cell_run imports order ys i x h)
 
-cell_done : (imports order xs : Words) (i : ℕ) (x : Word) → slice_get xs i ≡ Some x → slice_get (import_cells imports order xs) (suc (2 * i)) ≡ Some (bit Input)
+pub cell_done : (imports order xs : Words) (i : ℕ) (x : Word) → slice_get xs i ≡ Some x → slice_get (import_cells imports order xs) (suc (2 * i)) ≡ Some (bit Input)
 cell_done imports order [] i x h = grind (arith, h)
 cell_done imports order (y ∷ ys) zero x h = refl
 cell_done imports order (y ∷ ys) (suc i) x h = rw (twice_suc i) (cell_done imports order ys i x h)
 
-run_is : (i : ℕ) → run_net i ≡ suc (suc (suc (2 * i)))
+pub run_is : (i : ℕ) → run_net i ≡ suc (suc (suc (2 * i)))
 run_is i = omega arith
 
-done_is : (i : ℕ) → done_net i ≡ suc (suc (suc (suc (2 * i))))
+pub done_is : (i : ℕ) → done_net i ≡ suc (suc (suc (suc (2 * i))))
 done_is i = omega arith
 
 -- the net of a command's run, by its name

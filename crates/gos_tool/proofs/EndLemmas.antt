@@ -1,10 +1,115 @@
--- What a status says, where its line could be printed or not.
-use Rattle.std.proofs.Common.{sym, subst, inl, inr}
+-- How a command ends, from how its work ended and what was printed.
+use Rattle.std.proofs.Common.{◌≡◌, ◌∙◌, ◌⊎◌, inl, inr, List, [], ◌∷◌, ℕ, Option, Result, Ok, Err, arith, ap, sym, subst}
+use Rattle.std.specs.Prelude.{IfOk, IfErr, IfSome}
+use Rattle.gos_outside.specs.Files.{Files}
 use Rattle.gos_lines.specs.Lines.{Word}
-use Rattle.gos_tool.specs.Ends.{rejected_as, IfRejected, IsSaid}
-use Rattle.gos_tool.specs.declared.status.Status.{Status}
+use Rattle.gos_command.specs.Ends.{IfStopped, IfRejected, IsTold}
+use Rattle.gos_command.specs.Finish.{Finishes}
+use Rattle.gos_command.specs.declared.report.Report.{Report}
+use Rattle.gos_command.specs.declared.status.Fault.{Fault}
+use Rattle.gos_command.specs.declared.status.Status.{Status}
+use Rattle.gos_command.specs.declared.status.Status.TheVariants as statuses
+use Rattle.gos_command.specs.declared.stop.Stop.{Stop}
+use Rattle.gos_command.specs.declared.stop.Stop.TheVariants as stops
+use Rattle.gos_simulate.specs.Sim.{IsSimFault}
+use Rattle.gos_tool.specs.Command.{Command, Check, Sim, Build, Means}
+use Rattle.gos_tool.specs.Run.{IsDone, IsRejected, EndsDone, EndsRejected, IsUnsaid}
 
-pub rejected_said : (P : Word → Type 0) (status : Status) (file : Word) → IsSaid status (rejected_as file) → P file → IfRejected status P
-rejected_said P status file (inl e) h = subst (λ (s : Status). IfRejected s P) (sym e) h
-rejected_said P status file (inr (inl e)) h = subst (λ (s : Status). IfRejected s P) (sym e) tt
-rejected_said P status file (inr (inr e)) h = subst (λ (s : Status). IfRejected s P) (sym e) tt
+-- a command is done only where its work is
+pub ends_done : (words : List Word) (old new : Option Files) (written printed : Option (List ℕ)) (c : Command) (ended : Result Report Stop) (status : Status)
+    → Means words c → IfOk ended (IsDone c old new) → Finishes ended status written printed → status ≡ statuses.Done → EndsDone words old new written printed
+ends_done words old new written printed c (Ok report) status means is says done = record { command = c; report = report; means = means; line = says.whole done; done = is }
+ends_done words old new written printed c (Err (stops.Rejected rejection)) status means is says done = absurd (not_done says.only)
+  where
+    not_done : (status ≡ statuses.Rejected rejection.fault) ⊎ ((status ≡ statuses.SinkFailed) ⊎ (status ≡ statuses.NoMemory)) → ⊥
+    not_done (inl e) = cc (e, done)
+    not_done (inr (inl e)) = cc (e, done)
+    not_done (inr (inr e)) = cc (e, done)
+ends_done words old new written printed c (Err stops.StoreFailed) status means is says done = let e = says.0 in cc
+ends_done words old new written printed c (Err stops.NoMemory) status means is says done = let e = says.0 in cc
+
+-- words are one command at most: the first one tells which, and the others are its files
+abbrev first : List Word → Word
+first [] = []
+first (word ∷ words) = word
+
+abbrev others : List Word → List Word
+others [] = []
+others (word ∷ words) = words
+
+abbrev first_byte : Word → ℕ
+first_byte [] = 0
+first_byte (b ∷ bytes) = b
+
+same_meaning : (words : List Word) (c d : Command) → Means words c → Means words d → c ≡ d
+same_meaning words (Check a) (Check b) m n = ap (λ ws. Check (first (others ws))) (sym m.0 ∙ n.0)
+same_meaning words (Check a) (Sim x y z) m n = let e : 99 ≡ 115 = ap (λ ws. first_byte (first ws)) (sym m.0 ∙ n.0) in absurd (omega (arith, e))
+same_meaning words (Check a) (Build b) m n = let e : 99 ≡ 98 = ap (λ ws. first_byte (first ws)) (sym m.0 ∙ n.0) in absurd (omega (arith, e))
+same_meaning words (Sim x y z) (Check b) m n = let e : 115 ≡ 99 = ap (λ ws. first_byte (first ws)) (sym m.0 ∙ n.0) in absurd (omega (arith, e))
+same_meaning words (Sim x y z) (Sim u v w) m n = ap (λ ws. Sim (first (others ws)) (first (others (others ws))) (first (others (others (others ws))))) (sym m.0 ∙ n.0)
+same_meaning words (Sim x y z) (Build b) m n = let e : 115 ≡ 98 = ap (λ ws. first_byte (first ws)) (sym m.0 ∙ n.0) in absurd (omega (arith, e))
+same_meaning words (Build a) (Check b) m n = let e : 98 ≡ 99 = ap (λ ws. first_byte (first ws)) (sym m.0 ∙ n.0) in absurd (omega (arith, e))
+same_meaning words (Build a) (Sim x y z) m n = let e : 98 ≡ 115 = ap (λ ws. first_byte (first ws)) (sym m.0 ∙ n.0) in absurd (omega (arith, e))
+same_meaning words (Build a) (Build b) m n = ap (λ ws. Build (first (others ws))) (sym m.0 ∙ n.0)
+
+-- a command whose line could not be printed
+unsaid_as : (old new : Option Files) (written printed : Option (List ℕ)) (c : Command) (ended : Result Report Stop) (status : Status)
+    → IfOk ended (IsDone c old new) → IfErr ended (λ stop. IfStopped stop (IsRejected c old new)) → IfErr ended (λ stop. IfStopped stop IsTold) → Finishes ended status written printed → status ≡ statuses.SinkFailed → IsUnsaid c old new written printed
+unsaid_as old new written printed c (Ok report) status done rejected told says failed = inl (report, says.cut failed, done)
+unsaid_as old new written printed c (Err (stops.Rejected rejection)) status done rejected told says failed = inr (rejection.fault, rejection.line.items, told, says.cut failed, rejected)
+unsaid_as old new written printed c (Err stops.StoreFailed) status done rejected told says failed = let e = says.0 in cc
+unsaid_as old new written printed c (Err stops.NoMemory) status done rejected told says failed = let e = says.0 in cc
+
+pub unsaid : (words : List Word) (old new : Option Files) (written printed : Option (List ℕ)) (c d : Command) (ended : Result Report Stop) (status : Status)
+    → Means words c → Means words d → IfOk ended (IsDone c old new) → IfErr ended (λ stop. IfStopped stop (IsRejected c old new)) → IfErr ended (λ stop. IfStopped stop IsTold) → Finishes ended status written printed → status ≡ statuses.SinkFailed
+    → IsUnsaid d old new written printed
+unsaid words old new written printed c d ended status m n done rejected told says failed =
+    subst (λ (e : Command). IsUnsaid e old new written printed) (same_meaning words c d m n) (unsaid_as old new written printed c ended status done rejected told says failed)
+
+-- a command that rejects a file, where the line that says so was printed
+ends_rejected : (words : List Word) (old new : Option Files) (written printed : Option (List ℕ)) (c : Command) (ended : Result Report Stop) (fault : Fault)
+    → Means words c → IfErr ended (λ stop. IfStopped stop (IsRejected c old new)) → IfErr ended (λ stop. IfStopped stop IsTold) → Finishes ended (statuses.Rejected fault) written printed
+    → EndsRejected words old new written printed fault
+ends_rejected words old new written printed c (Ok report) fault means rejected told says = absurd (not_done says.only)
+  where
+    not_done : (statuses.Rejected fault ≡ statuses.Done) ⊎ ((statuses.Rejected fault ≡ statuses.SinkFailed) ⊎ (statuses.Rejected fault ≡ statuses.NoMemory)) → ⊥
+    not_done (inl e) = cc e
+    not_done (inr (inl e)) = cc e
+    not_done (inr (inr e)) = cc e
+ends_rejected words old new written printed c (Err (stops.Rejected rejection)) fault means rejected told says = by_said says.only
+  where
+    by_said : (statuses.Rejected fault ≡ statuses.Rejected rejection.fault) ⊎ ((statuses.Rejected fault ≡ statuses.SinkFailed) ⊎ (statuses.Rejected fault ≡ statuses.NoMemory)) → EndsRejected words old new written printed fault
+    by_said (inl e) =
+        let same : rejection.fault ≡ fault = cc e in
+        record {
+          command = c;
+          text = rejection.line.items;
+          means = means;
+          told = subst (λ (f : Fault). IsTold f rejection.line.items) same told;
+          line = says.whole e;
+          rejected = subst (λ (f : Fault). IsRejected c old new f rejection.line.items) same rejected;
+        }
+    by_said (inr (inl e)) = absurd (cc e)
+    by_said (inr (inr e)) = absurd (cc e)
+ends_rejected words old new written printed c (Err stops.StoreFailed) fault means rejected told says = let e = says.0 in absurd (cc e)
+ends_rejected words old new written printed c (Err stops.NoMemory) fault means rejected told says = let e = says.0 in absurd (cc e)
+
+pub if_rejected : (words : List Word) (old new : Option Files) (written printed : Option (List ℕ)) (c : Command) (ended : Result Report Stop) (status : Status)
+    → Means words c → IfErr ended (λ stop. IfStopped stop (IsRejected c old new)) → IfErr ended (λ stop. IfStopped stop IsTold) → Finishes ended status written printed
+    → IfRejected status (EndsRejected words old new written printed)
+if_rejected words old new written printed c ended (statuses.Rejected fault) means rejected told says = ends_rejected words old new written printed c ended fault means rejected told says
+if_rejected words old new written printed c ended statuses.Done means rejected told says = tt
+if_rejected words old new written printed c ended statuses.Usage means rejected told says = tt
+if_rejected words old new written printed c ended statuses.StoreFailed means rejected told says = tt
+if_rejected words old new written printed c ended statuses.SinkFailed means rejected told says = tt
+if_rejected words old new written printed c ended statuses.NoMemory means rejected told says = tt
+
+-- what is known of a rejection of `sim`, as one
+pub sim_rejected : (net pulses trace : Word) (old new : Option Files) (ended : Result Report Stop)
+    → IfErr ended (λ stop. IfStopped stop (λ fault line. new ≡ old)) → IfErr ended (λ stop. IfStopped stop (λ fault line. (fault.file ≡ net) ⊎ (fault.file ≡ pulses)))
+    → IfErr ended (λ stop. IfStopped stop (λ fault line. IfSome old (λ files. IsSimFault files net pulses fault line)))
+    → IfErr ended (λ stop. IfStopped stop (IsRejected (Sim net pulses trace) old new))
+sim_rejected net pulses trace old new (Ok report) kept file why = tt
+sim_rejected net pulses trace old new (Err (stops.Rejected rejection)) kept file why = (kept, file, why)
+sim_rejected net pulses trace old new (Err stops.StoreFailed) kept file why = tt
+sim_rejected net pulses trace old new (Err stops.NoMemory) kept file why = tt

@@ -1,102 +1,87 @@
--- What a build leaves where all is done: the netlist, the trace of its run, and the numbers of the printed line.
+-- What the command `build` leaves, why it rejects a file, and which calls it makes.
 --
--- Read first: Headline (what the netlist is), Driving (its run under the pulse file), Trace (the text of the run).
--- `files` are those that the store held when the command began, `now` those that it holds when it has ended.
-use Rattle.std.specs.Prelude.{◌≡◌, ◌⊎◌, ℕ, List, Option, Some, None, IfSome}
-use Rattle.std.specs.FinMap.{get}
+-- Read first: Headline (what the netlist is); Simulation of gos_simulate (its run under the pulse file). `files` are those
+-- that the store held when the command began. The netlist is written before the pulse file is read.
+use Rattle.std.specs.Prelude.{◌≡◌, ◌⊎◌, ℕ, List, [], ◌∷◌, Option, Some, None, IfSome}
 use Rattle.gos_outside.specs.Files.{Files, with_file}
+use Rattle.gos_outside.specs.OtherFiles.{OthersSame}
+use Rattle.gos_outside.specs.Faults.{LastFault, ReadFault, WriteFault}
+use Rattle.gos_lines.specs.Lines.{Word}
 use Rattle.gos_netlist.specs.Nets.{Netlist}
 use Rattle.gos_netlist.specs.NetText.{text_of}
-use Rattle.gos_netlist.specs.Settling.{Numbers}
-use Rattle.gos_outside.specs.Written.{appended, AppendsPrefix}
-use Rattle.gos_tool.specs.Report.{report_line, fault_line}
-use Rattle.gos_lines.specs.Lines.{Word}
+use Rattle.gos_command.specs.Lines.{fault_line}
+use Rattle.gos_command.specs.declared.report.Counts.{Counts}
+use Rattle.gos_command.specs.declared.report.Report.{Report}
+use Rattle.gos_command.specs.declared.status.Fault.{Fault}
+use Rattle.gos_command.specs.declared.status.Cause.TheVariants.{NotBuilt}
+use Rattle.gos_simulate.specs.Simulation.{LeavesTrace, IsPulseFault, IsSimulationCall}
 use Rattle.gos_tool.specs.BuildFile.{BuildFile}
 use Rattle.gos_tool.specs.SourceFile.{Sequence}
-use Rattle.gos_tool.specs.Command.{SaysBuild, SaysModule, SaysPulses, FirstWrong}
+use Rattle.gos_tool.specs.Command.{SaysBuild, SaysModule}
 use Rattle.gos_tool.specs.Program.{weight_of}
-use Rattle.gos_tool.specs.Driving.{IsDriven}
-use Rattle.gos_tool.specs.Trace.{trace_text, pulse_count}
 use Rattle.gos_tool.specs.Headline.{IsCircuitOf}
-use Rattle.gos_tool.specs.declared.pulse_file.Entry.{Entry}
-use Rattle.gos_tool.specs.declared.status.Report.{Report}
 
--- a run of this netlist under these entries was written as the trace, over the files before, and the report counts it
-pub record LeavesTrace (old new : Option Files) (trace : Word) (net : Netlist) (cycles : ℕ) (entries : List Entry) (s : Sequence) (report : Report) : Type 0 where
-  pub run : List Numbers
-  pub driven : IsDriven net cycles entries run report.unused
-  pub trace_file : new ≡ with_file trace (trace_text net run) old
-  pub same_cycles : report.cycles ≡ cycles
-  pub pulses : report.pulses ≡ pulse_count net run
-  pub weight : report.weight ≡ weight_of s
+-- the files with the netlist written
+abbrev pub with_net : Files → BuildFile → Netlist → Option Files
+with_net files b net = with_file b.net (text_of net) (Some files)
 
--- the trace file holds the trace of a run of this netlist under the pulse file, and the report counts it
-pub record IsSimulated (files now : Files) (b : BuildFile) (s : Sequence) (net : Netlist) (report : Report) : Type 0 where
-  pub entries : List Entry
-  pub run : List Numbers
-  pub says_pulses : SaysPulses files b s report.cycles entries
-  pub driven : IsDriven net report.cycles entries run report.unused
-  pub trace_file : get now b.trace ≡ Some (trace_text net run)
-  pub pulses : report.pulses ≡ pulse_count net run
-  pub weight : report.weight ≡ weight_of s
-
--- the netlist file holds the text of a circuit of the module, and this very circuit was simulated
-pub record IsCompiled (files now : Files) (b : BuildFile) (s : Sequence) (report : Report) : Type 0 where
+-- the netlist of a circuit of the module was written, and then the trace of this very circuit
+pub record IsCompiled (files : Files) (new : Option Files) (b : BuildFile) (s : Sequence) (report : Report) : Type 0 where
   pub net : Netlist
-  pub net_file : get now b.net ≡ Some (text_of net)
+  pub counts : Counts
   pub circuit : IsCircuitOf net b.root s
-  pub simulated : IsSimulated files now b s net report
+  pub traced : LeavesTrace (with_net files b net) new net b.pulses b.trace counts
+  pub tells : report ≡ record { weight = Some (weight_of s); run = Some counts }
 
 -- all this is so for the module that the source file says
-pub record IsModuleBuilt (files now : Files) (b : BuildFile) (report : Report) : Type 0 where
-  pub sequence : Sequence
-  pub says_module : SaysModule files b sequence
-  pub compiled : IsCompiled files now b sequence report
+abbrev pub IsModuleBuilt : Files → Option Files → BuildFile → Report → Type 0
+IsModuleBuilt files new b report = (s : Sequence) × SaysModule files b s × IsCompiled files new b s report
 
 -- and for the files that the build file says
-pub record IsBuilt (files now : Files) (own : Word) (report : Report) : Type 0 where
-  pub build : BuildFile
-  pub says_build : SaysBuild files own build
-  pub built : IsModuleBuilt files now build report
+abbrev pub IsBuilt : Files → Option Files → Word → Report → Type 0
+IsBuilt files new own report = (b : BuildFile) × SaysBuild files own b × IsModuleBuilt files new b report
 
--- the netlist file holds the text of a circuit of the module
-abbrev pub HasCircuit : Option Files → BuildFile → Sequence → Type 0
-HasCircuit None b s = ⊥
-HasCircuit (Some now) b s = (net : Netlist) × (get now b.net ≡ Some (text_of net)) × IsCircuitOf net b.root s
+-- a file is rejected as not built
+pub record IsNotBuilt (file : Word) (fault : Fault) (line : List ℕ) : Type 0 where
+  pub is : fault ≡ record { file = file; cause = NotBuilt }
+  pub says : line ≡ fault_line None fault
 
--- What a rejection leaves: the netlist where the module is right, and the files as they were where it isn't.
-abbrev pub LeavesModule : Files → BuildFile → Option Files → Type 0
-LeavesModule files b new =
-    ((s : Sequence) → SaysModule files b s → HasCircuit new b s) × (((s : Sequence) → SaysModule files b s → ⊥) → new ≡ Some files)
+-- The pulse file is rejected for a circuit of the module, whose netlist was written.
+pub record RejectsPulses (files : Files) (new : Option Files) (b : BuildFile) (s : Sequence) (fault : Fault) (line : List ℕ) : Type 0 where
+  pub net : Netlist
+  pub circuit : IsCircuitOf net b.root s
+  pub left : new ≡ with_net files b net
+  pub why : IfSome (with_net files b net) (λ all. IsPulseFault all net b.pulses fault line)
 
--- the same of the build file and the module
-abbrev pub LeavesFiles : Files → Word → Option Files → Type 0
-LeavesFiles files own new =
-    ((b : BuildFile) (s : Sequence) → SaysBuild files own b → SaysModule files b s → HasCircuit new b s)
-    × (((b : BuildFile) (s : Sequence) → SaysBuild files own b → SaysModule files b s → ⊥) → new ≡ Some files)
+-- the source file is rejected, which is no sequence, or the pulse file is
+abbrev pub RejectsModule : Files → Option Files → BuildFile → Fault → List ℕ → Type 0
+RejectsModule files new b fault line =
+    (((s : Sequence) → SaysModule files b s → ⊥) × (new ≡ Some files) × IsNotBuilt b.source fault line)
+    ⊎ ((s : Sequence) × SaysModule files b s × RejectsPulses files new b s fault line)
 
--- of a store's files before and after, where it tells them
-abbrev pub IfTold : Option Files → Option Files → (Files → Files → Type 0) → Type 0
-IfTold old new P = IfSome old (λ files. IfSome new (λ now. P files now))
+-- the build file is rejected, which is not of its form, or a file that it names is
+abbrev pub Rejects : Files → Option Files → Word → Fault → List ℕ → Type 0
+Rejects files new own fault line =
+    (((b : BuildFile) → SaysBuild files own b → ⊥) × (new ≡ Some files) × IsNotBuilt own fault line)
+    ⊎ ((b : BuildFile) × SaysBuild files own b × RejectsModule files new b fault line)
 
--- the printed line of a report
-abbrev pub line_of : Report → List ℕ
-line_of report = report_line report.weight report.cycles report.pulses report.unused
+-- The calls of the store, each where what is judged before it is right: those from the netlist on, then those after the
+-- build file is read, then all.
+abbrev pub IsCircuitCall : Files → BuildFile → Sequence → LastFault → Type 0
+IsCircuitCall files b s fault =
+    (fault ≡ WriteFault b.net)
+    ⊎ ((net : Netlist) × IsCircuitOf net b.root s
+    × IfSome (with_net files b net) (λ all. IsSimulationCall all net b.pulses b.trace fault))
 
--- the build of the build file `own` is done: its line was printed, and the store has what it tells
-abbrev pub IsDone : Word → Option Files → Option Files → Option (List ℕ) → Option (List ℕ) → Type 0
-IsDone own old new written printed =
-    (report : Report) × (printed ≡ appended (line_of report) written) × IfTold old new (λ files now. IsBuilt files now own report)
+abbrev pub IsModuleCall : Files → BuildFile → LastFault → Type 0
+IsModuleCall files b fault = (fault ≡ ReadFault b.source) ⊎ ((s : Sequence) × SaysModule files b s × IsCircuitCall files b s fault)
 
--- The line could not be printed: the build is done but only a first part of its line was appended, or the same of the
--- line of a file that was rejected.
-abbrev pub IsDoneUnsaid : Word → Option Files → Option Files → Option (List ℕ) → Option (List ℕ) → Type 0
-IsDoneUnsaid own old new written printed =
-    (report : Report) × AppendsPrefix (line_of report) written printed × IfTold old new (λ files now. IsBuilt files now own report)
+abbrev pub IsBuildCall : Files → Word → LastFault → Type 0
+IsBuildCall files own fault = (fault ≡ ReadFault own) ⊎ ((b : BuildFile) × SaysBuild files own b × IsModuleCall files b fault)
 
-abbrev pub IsRejectedUnsaid : Word → Option Files → Option Files → Option (List ℕ) → Option (List ℕ) → Type 0
-IsRejectedUnsaid own old new written printed =
-    (file : Word) × AppendsPrefix (fault_line file) written printed × IfSome old (λ files. FirstWrong files own file) × IfSome old (λ files. LeavesFiles files own new)
-
-abbrev pub IsUnsaid : Word → Option Files → Option Files → Option (List ℕ) → Option (List ℕ) → Type 0
-IsUnsaid own old new written printed = IsDoneUnsaid own old new written printed ⊎ IsRejectedUnsaid own old new written printed
+-- no file changes but the netlist and the trace that the build file names, and none where it names none
+abbrev pub KeepsUnnamed : Word → Option Files → Option Files → Type 0
+KeepsUnnamed own None new = new ≡ None
+KeepsUnnamed own (Some files) new =
+    ((b : BuildFile) → SaysBuild files own b → OthersSame (b.net ∷ b.trace ∷ []) (Some files) new)
+    × (((b : BuildFile) → SaysBuild files own b → ⊥) → new ≡ Some files)

@@ -1,18 +1,17 @@
 -- The headline's statement.
 --
--- The circuit of a module has the module's ports, no combinational cycle, and keeps pace with the module's program: for all
--- inputs that keep the handshake protocol and every number of cycles, each flattening of its pulses is a trace of the
--- program, which moves at least once in every K cycles unless it can only wait.
--- Read first: Pace of gos_model, Program, Drivable.
-use Rattle.std.specs.Prelude.{◌≡◌, ℕ, List, ◌∷◌, map}
+-- The circuit of a module has the module's ports, is accepted, so that it has no combinational cycle, and keeps pace with the
+-- module's program: for all inputs that keep the handshake protocol and every number of cycles, each flattening of its pulses
+-- is a trace of the program, which moves at least once in every K cycles unless it can only wait.
+-- Read first: Pace of gos_model, Accepted of gos_netcheck, Program.
+use Rattle.std.specs.Prelude.{◌≡◌, List, ◌∷◌, map}
 use Rattle.gos_types.specs.Types.{Type', Com}
 use Rattle.gos_netlist.specs.Nets.{Side, Give, Take, NetPort, Netlist}
-use Rattle.gos_netlist.specs.Cycles.{CombinationalCycle}
+use Rattle.gos_netcheck.specs.Accepted.{IsAccepted}
 use Rattle.gos_model.specs.Pace.{KeepsPaceAlways}
 use Rattle.gos_lines.specs.Lines.{Word}
 use Rattle.gos_tool.specs.SourceFile.{Sequence}
 use Rattle.gos_tool.specs.Program.{program_of, weight_of}
-use Rattle.gos_tool.specs.Drivable.{IsDrivable}
 
 -- a port without its nets
 pub record Face : Type 0 where
@@ -29,6 +28,5 @@ module_faces root s = record { name = root; side = Give; ty = Com } ∷ map (λ 
 
 pub record IsCircuitOf (net : Netlist) (root : Word) (s : Sequence) : Type 0 where
   pub ports : map face_of net.ports ≡ module_faces root s
-  pub drivable : IsDrivable net
-  pub acyclic : (nets : List ℕ) → CombinationalCycle net.cells nets → ⊥
+  pub accepted : IsAccepted net
   pub pace : KeepsPaceAlways (weight_of s) (program_of s) net

@@ -1,21 +1,13 @@
-pub mod Files
+-- In reading order: a file uses only files above it.
 pub mod BuildFile
 pub mod SourceFile
 pub mod Lexemes
-pub mod PulseFile
 pub mod SourceFileSeen
-pub mod Report
-pub mod Command
-pub mod Ends
 pub mod Program
 pub mod Circuit
-pub mod Driving
-pub mod Trace
-pub mod Drivable
-pub mod Simulating
-pub mod Commands
-pub mod Ways
-pub mod Ready
-pub mod Driver
 pub mod Headline
+pub mod Command
+pub mod CommandSeen
+pub mod Checked
 pub mod Built
+pub mod Run

@@ -1,31 +1,18 @@
-use Rattle.std.proofs.Common.{◌≡◌, subst}
-use Rattle.std.specs.Prelude.{IfSome, ◌⊎◌}
-use Rattle.gos_lines.specs.Lines.{Word}
-use Rattle.gos_tool.specs.Ends.{rejected_as, IfRejected}
-use Rattle.gos_tool.specs.declared.status.Status.TheVariants.{Done, NoMemory}
-use Rattle.gos_tool.specs.Built.{LeavesFiles}
-use Rattle.gos_tool.specs.Command.{AllRight, FirstWrong, IsCall}
-use Rattle.gos_tool.proofs.WrongLemmas.{rejected_exactly, done_exactly}
+use Rattle.gos_tool.specs.CommandSeen.{meant}
+use Rattle.gos_tool.proofs.EndLemmas.{ends_done, if_rejected, unsaid}
 use Rattle.gos_tool.proofs.run.Goals as goal
+
+pub returns-in-Some-clause-done : goal.returns-in-Some-clause-done
+returns-in-Some-clause-done g c = λ done.
+    ends_done _ (g.S.Store.contents c.args.store.now) (g.S.Store.contents c.run_command-ended.new.store) (g.O.Sink.written c.args.out.now) (g.O.Sink.written c.finish.new.out)
+    (meant c.in-Some.command) c.run_command-ended.result c.finish.result c.in-Some.ensures c.run_command-ended.ensures.done c.finish.ensures.finishes done
+
+pub returns-in-Some-clause-sink_line : goal.returns-in-Some-clause-sink_line
+returns-in-Some-clause-sink_line g c = λ failed d means.
+    unsaid _ (g.S.Store.contents c.args.store.now) (g.S.Store.contents c.run_command-ended.new.store) (g.O.Sink.written c.args.out.now) (g.O.Sink.written c.finish.new.out)
+    (meant c.in-Some.command) d c.run_command-ended.result c.finish.result c.in-Some.ensures means c.run_command-ended.ensures.done c.run_command-ended.ensures.rejected c.run_command-ended.ensures.told c.finish.ensures.finishes failed
 
 pub returns-in-Some-clause-rejected : goal.returns-in-Some-clause-rejected
 returns-in-Some-clause-rejected g c =
-    subst (λ (own : Word). IfRejected c.run_build.result (λ file. IfSome (g.S.Store.contents c.args.store.now) (λ files. FirstWrong files own file))) c.in-Some.ensures.1 c.run_build.ensures.rejected
-
-pub returns-in-Some-clause-store_call : goal.returns-in-Some-clause-store_call
-returns-in-Some-clause-store_call g c = λ failed.
-    subst (λ (own : Word). IfSome (g.S.Store.contents c.args.store.now) (λ files. IsCall files own (g.S.Store.last_fault c.run_build.new.store))) c.in-Some.ensures.1 (c.run_build.ensures.store_call failed)
-
-pub returns-in-Some-clause-rejected_exactly : goal.returns-in-Some-clause-rejected_exactly
-returns-in-Some-clause-rejected_exactly g c = λ command none.
-    subst (λ (own : Word). IfSome (g.S.Store.contents c.args.store.now) (λ files. (file : Word) → FirstWrong files own file → (c.run_build.result ≡ rejected_as file) ⊎ (c.run_build.result ≡ NoMemory))) c.in-Some.ensures.1
-    (rejected_exactly c.run_build.result (g.S.Store.contents c.args.store.now) c.in-Some.own.now _ _ _ _ c.run_build.ensures.no_usage c.run_build.ensures.done c.run_build.ensures.rejected c.run_build.ensures.store_failed c.run_build.ensures.sink_failed none)
-
-pub returns-in-Some-clause-done_exactly : goal.returns-in-Some-clause-done_exactly
-returns-in-Some-clause-done_exactly g c = λ command none.
-    subst (λ (own : Word). IfSome (g.S.Store.contents c.args.store.now) (λ files. AllRight files own → (c.run_build.result ≡ Done) ⊎ (c.run_build.result ≡ NoMemory))) c.in-Some.ensures.1
-    (done_exactly c.run_build.result (g.S.Store.contents c.args.store.now) c.in-Some.own.now _ _ _ _ c.run_build.ensures.no_usage c.run_build.ensures.rejected c.run_build.ensures.store_failed c.run_build.ensures.sink_failed none)
-
-pub returns-in-Some-clause-rejected_files : goal.returns-in-Some-clause-rejected_files
-returns-in-Some-clause-rejected_files g c =
-    subst (λ (own : Word). IfRejected c.run_build.result (λ file. IfSome (g.S.Store.contents c.args.store.now) (λ files. LeavesFiles files own (g.S.Store.contents c.run_build.new.store)))) c.in-Some.ensures.1 c.run_build.ensures.rejected_files
+    if_rejected _ (g.S.Store.contents c.args.store.now) (g.S.Store.contents c.run_command-ended.new.store) (g.O.Sink.written c.args.out.now) (g.O.Sink.written c.finish.new.out)
+    (meant c.in-Some.command) c.run_command-ended.result c.finish.result c.in-Some.ensures c.run_command-ended.ensures.rejected c.run_command-ended.ensures.told c.finish.ensures.finishes

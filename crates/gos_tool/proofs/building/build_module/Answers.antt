@@ -1,17 +1,14 @@
-use Rattle.std.proofs.Common.{◌≡◌, ℕ, List, inr, subst, sym}
+use Rattle.std.proofs.Common.{ℕ, List, inr, subst, sym}
 use Rattle.std.specs.Prelude.{IfSome}
 use Rattle.gos_outside.specs.Files.{bytes_at}
-use Rattle.gos_tool.specs.Files.{IsReadWhole}
-use Rattle.gos_lines.specs.Lines.{Word}
+use Rattle.gos_command.specs.Files.{IsReadWhole}
+use Rattle.gos_command.specs.declared.report.Report.{Report}
+use Rattle.gos_command.proofs.EndLemmas.{of_some, of_some_both, of_result, of_stop}
 use Rattle.gos_tool.specs.BuildFile.{build_of}
 use Rattle.gos_tool.specs.SourceFileSeen.{sequence_of}
-use Rattle.gos_tool.specs.Command.{SaysModule, WrongPulses, WrongModule}
-use Rattle.gos_tool.specs.declared.files.Stop.{Stop}
-use Rattle.gos_tool.specs.declared.files.Stop.TheVariants.{Rejected}
-use Rattle.gos_tool.proofs.BuildLemmas.{of_error, of_result, of_files, of_files_both, says_module}
-use Rattle.gos_tool.proofs.BuiltLemmas.{module_built, leaves_circuit}
-use Rattle.gos_tool.specs.Built.{IsCompiled, IsModuleBuilt, HasCircuit, LeavesModule, IfTold}
-use Rattle.gos_tool.specs.declared.status.Report.{Report}
+use Rattle.gos_tool.specs.Command.{SaysModule}
+use Rattle.gos_tool.specs.Built.{IsCompiled, IsModuleBuilt, RejectsPulses, RejectsModule}
+use Rattle.gos_tool.proofs.BuildLemmas.{says_module}
 use Rattle.gos_tool.proofs.building.build_module.Given.{Over}
 use Rattle.gos_tool.proofs.building.build_module.Goals as goal
 
@@ -20,41 +17,28 @@ said_by : (g : Over) (c : goal.After-drop-text g) → IfSome (g.S.Store.contents
 said_by g c =
     let b = build_of c.args.build.now in
     let s = sequence_of c.in-Ok.read in
-    of_files (λ files. IsReadWhole 65536 c.in_ok-text.text.items (bytes_at files b.source)) (λ files. SaysModule files b s) (g.S.Store.contents c.args.store.now)
+    of_some (λ files. IsReadWhole 65536 c.in_ok-text.text.items (bytes_at files b.source)) (λ files. SaysModule files b s) (g.S.Store.contents c.args.store.now)
     (λ files whole. says_module files b s c.as_slice.result.now (subst (λ (text : List ℕ). IsReadWhole 65536 text (bytes_at files b.source)) (sym c.as_slice.ensures.value) whole) c.in-Ok.ensures.read)
     c.in_ok-text.ensures.read
+
+pub returns-in-Ok-clause-done : goal.returns-in-Ok-clause-done
+returns-in-Ok-clause-done g c =
+    let b = build_of c.args.build.now in
+    let s = sequence_of c.in-Ok.read in
+    let old = g.S.Store.contents c.args.store.now in
+    let new = g.S.Store.contents c.build_circuit.new.store in
+    of_result (λ (report : Report). IfSome (g.S.Store.contents c.read_file.new.store) (λ files. IsCompiled files new b s report)) (λ (report : Report). IfSome old (λ files. IsModuleBuilt files new b report)) c.build_circuit.result
+    (λ report h. of_some_both (λ files. SaysModule files b s) (λ files. IsCompiled files new b s report) (λ files. IsModuleBuilt files new b report) old
+    (λ files said is. (s, said, is)) (said_by g c) (subst (λ told. IfSome told (λ files. IsCompiled files new b s report)) c.in_ok-text.ensures.same_files h))
+    c.build_circuit.ensures.done
 
 pub returns-in-Ok-clause-rejected : goal.returns-in-Ok-clause-rejected
 returns-in-Ok-clause-rejected g c =
     let b = build_of c.args.build.now in
     let s = sequence_of c.in-Ok.read in
     let old = g.S.Store.contents c.args.store.now in
-    of_error
-    (λ (stop : Stop). (file : Word) → stop ≡ Rejected file → IfSome (g.S.Store.contents c.read_file.new.store) (λ files. WrongPulses files b s file))
-    (λ (stop : Stop). (file : Word) → stop ≡ Rejected file → IfSome old (λ files. WrongModule files b file))
-    c.build_circuit.result
-    (λ stop h file e. of_files_both (λ files. SaysModule files b s) (λ files. WrongPulses files b s file) (λ files. WrongModule files b file) old
-    (λ files said wrong. inr (s, said, wrong)) (said_by g c) (subst (λ told. IfSome told (λ files. WrongPulses files b s file)) c.in_ok-text.ensures.same_files (h file e)))
+    let new = g.S.Store.contents c.build_circuit.new.store in
+    of_stop (λ fault line. IfSome (g.S.Store.contents c.read_file.new.store) (λ files. RejectsPulses files new b s fault line)) (λ fault line. IfSome old (λ files. RejectsModule files new b fault line)) c.build_circuit.result
+    (λ fault line h. of_some_both (λ files. SaysModule files b s) (λ files. RejectsPulses files new b s fault line) (λ files. RejectsModule files new b fault line) old
+    (λ files said wrong. inr (s, said, wrong)) (said_by g c) (subst (λ told. IfSome told (λ files. RejectsPulses files new b s fault line)) c.in_ok-text.ensures.same_files h))
     c.build_circuit.ensures.rejected
-
-pub returns-in-Ok-clause-built : goal.returns-in-Ok-clause-built
-returns-in-Ok-clause-built g c =
-    let b = build_of c.args.build.now in
-    let s = sequence_of c.in-Ok.read in
-    let old = g.S.Store.contents c.args.store.now in
-    let new = g.S.Store.contents c.build_circuit.new.store in
-    of_result (λ (report : Report). IfTold (g.S.Store.contents c.read_file.new.store) new (λ files now. IsCompiled files now b s report)) (λ (report : Report). IfTold old new (λ files now. IsModuleBuilt files now b report)) c.build_circuit.result
-    (λ report h. module_built old new b s report (said_by g c) (subst (λ told. IfTold told new (λ files now. IsCompiled files now b s report)) c.in_ok-text.ensures.same_files h))
-    c.build_circuit.ensures.compiled
-
-pub returns-in-Ok-clause-rejected_files : goal.returns-in-Ok-clause-rejected_files
-returns-in-Ok-clause-rejected_files g c =
-    let b = build_of c.args.build.now in
-    let s = sequence_of c.in-Ok.read in
-    let old = g.S.Store.contents c.args.store.now in
-    let new = g.S.Store.contents c.build_circuit.new.store in
-    of_error
-    (λ (stop : Stop). (file : Word) → stop ≡ Rejected file → IfSome (g.S.Store.contents c.read_file.new.store) (λ files. HasCircuit new b s))
-    (λ (stop : Stop). (file : Word) → stop ≡ Rejected file → IfSome old (λ files. LeavesModule files b new)) c.build_circuit.result
-    (λ stop h file e. leaves_circuit old new b s (said_by g c) (subst (λ told. IfSome told (λ files. HasCircuit new b s)) c.in_ok-text.ensures.same_files (h file e)))
-    c.build_circuit.ensures.rejected_files

@@ -1,0 +1,18 @@
+use Rattle.std.proofs.Common.{sym, subst}
+use Rattle.std.specs.Prelude.{IfErr}
+use Rattle.gos_command.specs.Ends.{IfStopped}
+use Rattle.gos_tool.specs.Run.{IsRejected, IsCall}
+use Rattle.gos_tool.specs.CommandSeen.{meant}
+use Rattle.gos_tool.proofs.EndLemmas.{sim_rejected}
+use Rattle.gos_tool.proofs.command.run_command.Goals as goal
+
+pub returns-in-Sim-clause-failed_call : goal.returns-in-Sim-clause-failed_call
+returns-in-Sim-clause-failed_call g c = λ failed.
+    subst (λ command. IsCall (meant command) (g.S.Store.contents c.args.store.now) (g.S.Store.last_fault c.sim.new.store)) (sym c.in-Sim.is) (c.sim.ensures.failed_file failed, c.sim.ensures.failed_call failed)
+
+pub returns-in-Sim-clause-rejected : goal.returns-in-Sim-clause-rejected
+returns-in-Sim-clause-rejected g c =
+    let old = g.S.Store.contents c.args.store.now in
+    let new = g.S.Store.contents c.sim.new.store in
+    subst (λ command. IfErr c.sim.result (λ stop. IfStopped stop (IsRejected (meant command) old new))) (sym c.in-Sim.is)
+    (sim_rejected c.in-Sim.net.now c.in-Sim.pulses.now c.in-Sim.trace.now old new c.sim.result c.sim.ensures.rejected_files c.sim.ensures.file c.sim.ensures.rejected)

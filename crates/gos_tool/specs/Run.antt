@@ -1,0 +1,67 @@
+-- How the tool's commands end.
+--
+-- Read first: Command, Checked, Built; Sim of gos_simulate; Lines of gos_command. `old` and `new` are the files of the store before
+-- and after, `written` and `printed` the bytes of the sink.
+use Rattle.std.specs.Prelude.{◌≡◌, ◌⊎◌, ℕ, List, Option, IfSome}
+use Rattle.gos_outside.specs.Files.{Files, SameBut}
+use Rattle.gos_outside.specs.Faults.{LastFault, ReadFault}
+use Rattle.gos_outside.specs.Written.{appended, AppendsPrefix}
+use Rattle.gos_lines.specs.Lines.{Word}
+use Rattle.gos_command.specs.Lines.{report_line}
+use Rattle.gos_command.specs.Ends.{IsTold}
+use Rattle.gos_command.specs.declared.report.Report.{Report}
+use Rattle.gos_command.specs.declared.status.Fault.{Fault}
+use Rattle.gos_simulate.specs.Sim.{IsSimDone, IsSimFault, IsSimFile, IsSimCall}
+use Rattle.gos_tool.specs.Command.{Command, Check, Sim, Build, Means}
+use Rattle.gos_tool.specs.Checked.{IsChecked, IsSourceFault}
+use Rattle.gos_tool.specs.Built.{IsBuilt, Rejects, IsBuildCall, KeepsUnnamed}
+
+-- all that the command is to do is done, with this report
+abbrev pub IsDone : Command → Option Files → Option Files → Report → Type 0
+IsDone (Check source) old new report = (new ≡ old) × IfSome old (λ files. IsChecked files source report)
+IsDone (Sim net pulses trace) old new report = IsSimDone old new net pulses trace report
+IsDone (Build own) old new report = IfSome old (λ files. IsBuilt files new own report)
+
+-- The command rejects a file for this fault, with this line: the first that it finds.
+abbrev pub IsRejected : Command → Option Files → Option Files → Fault → List ℕ → Type 0
+IsRejected (Check source) old new fault line = (new ≡ old) × (fault.file ≡ source) × IfSome old (λ files. IsSourceFault files source fault line)
+IsRejected (Sim net pulses trace) old new fault line =
+    (new ≡ old) × ((fault.file ≡ net) ⊎ (fault.file ≡ pulses)) × IfSome old (λ files. IsSimFault files net pulses fault line)
+IsRejected (Build own) old new fault line = IfSome old (λ files. Rejects files new own fault line)
+
+-- the command makes this call of the store, after all that is judged before it was right
+abbrev pub IsCall : Command → Option Files → LastFault → Type 0
+IsCall (Check source) old fault = fault ≡ ReadFault source
+IsCall (Sim net pulses trace) old fault =
+    IsSimFile net pulses trace fault × IfSome old (λ files. IsSimCall files net pulses trace fault)
+IsCall (Build own) old fault = IfSome old (λ files. IsBuildCall files own fault)
+
+-- all files but those that the command writes are as they were
+abbrev pub KeepsOthers : Command → Option Files → Option Files → Type 0
+KeepsOthers (Check source) old new = new ≡ old
+KeepsOthers (Sim net pulses trace) old new = SameBut trace old new
+KeepsOthers (Build own) old new = KeepsUnnamed own old new
+
+-- the words are a command, which is done, and the line that tells so was printed
+pub record EndsDone (words : List Word) (old new : Option Files) (written printed : Option (List ℕ)) : Type 0 where
+  pub command : Command
+  pub report : Report
+  pub means : Means words command
+  pub line : printed ≡ appended (report_line report) written
+  pub done : IsDone command old new report
+
+-- the words are a command, which rejects a file for this fault, and the line that tells so was printed
+pub record EndsRejected (words : List Word) (old new : Option Files) (written printed : Option (List ℕ)) (fault : Fault) : Type 0 where
+  pub command : Command
+  pub text : List ℕ
+  pub means : Means words command
+  pub told : IsTold fault text
+  pub line : printed ≡ appended text written
+  pub rejected : IsRejected command old new fault text
+
+-- The line could not be printed, of which a first part was: that of the command that is done, or that of a file that it
+-- rejects.
+abbrev pub IsUnsaid : Command → Option Files → Option Files → Option (List ℕ) → Option (List ℕ) → Type 0
+IsUnsaid c old new written printed =
+    ((report : Report) × AppendsPrefix (report_line report) written printed × IsDone c old new report)
+    ⊎ ((fault : Fault) × (text : List ℕ) × IsTold fault text × AppendsPrefix text written printed × IsRejected c old new fault text)

@@ -1,0 +1,102 @@
+// The commands and their words.
+
+ghost use Rattle.std.specs.Prelude.{◌∷◌, [], IfOk, IfErr, IsErrOf, MatchOption};
+ghost use Rattle.gos_outside.specs.Faults.{Rose};
+ghost use Rattle.gos_command.specs.Ends.{IfStopped, IsTold};
+ghost use Rattle.gos_tool.specs.Command.{texts, Means, MeanNothing};
+ghost use Rattle.gos_tool.specs.CommandSeen.{meant, HasFileNames};
+ghost use Rattle.gos_tool.specs.Run.{IsDone, IsRejected, IsCall, KeepsOthers};
+
+use crate::building::build;
+use crate::checking::check_source;
+use gos_command::{Report, Stop};
+use gos_outside::{Store, is_file_name};
+use gos_simulate::sim;
+use std::alloc::Global;
+
+/// A command, with the files that its words name.
+#[derive(Clone, Copy)]
+pub enum Command<'a> {
+    /// `check SRC`.
+    Check {
+        source: &'a [u8],
+    },
+    /// `sim NET PULSES TRACE`.
+    Sim {
+        net: &'a [u8],
+        pulses: &'a [u8],
+        trace: &'a [u8],
+    },
+    /// `build BUILD`.
+    Build {
+        own: &'a [u8],
+    },
+}
+
+/// The command that the words are.
+pub fn command_of(words: &[String]) -> Option<Command<'_>>
+    ensures { MatchOption result (MeanNothing (texts words.now)) (λ command. Means (texts words.now) (meant command)) }
+{
+    match words {
+        [verb, net, pulses, trace] => sim_of(
+            verb.as_bytes(),
+            net.as_bytes(),
+            pulses.as_bytes(),
+            trace.as_bytes(),
+        ),
+        [verb, file] => one_file_of(verb.as_bytes(), file.as_bytes()),
+        _ => None,
+    }
+}
+
+fn sim_of<'a>(verb: &[u8], net: &'a [u8], pulses: &'a [u8], trace: &'a [u8]) -> Option<Command<'a>>
+    ensures { MatchOption result (MeanNothing (verb.now ∷ net.now ∷ pulses.now ∷ trace.now ∷ [])) (λ command. Means (verb.now ∷ net.now ∷ pulses.now ∷ trace.now ∷ []) (meant command)) }
+{
+    if verb != b"sim".as_slice()
+        || !is_file_name(net)
+        || !is_file_name(pulses)
+        || !is_file_name(trace)
+    {
+        return None;
+    }
+    if trace == net || trace == pulses {
+        return None;
+    }
+    Some(Command::Sim { net, pulses, trace })
+}
+
+fn one_file_of<'a>(verb: &[u8], file: &'a [u8]) -> Option<Command<'a>>
+    ensures { MatchOption result (MeanNothing (verb.now ∷ file.now ∷ [])) (λ command. Means (verb.now ∷ file.now ∷ []) (meant command)) }
+{
+    if !is_file_name(file) {
+        return None;
+    }
+    if verb == b"check".as_slice() {
+        return Some(Command::Check { source: file });
+    }
+    if verb == b"build".as_slice() {
+        return Some(Command::Build { own: file });
+    }
+    None
+}
+
+/// Does what a command says.
+pub fn run_command<S: Store>(
+    alloc: Global,
+    command: Command<'_>,
+    store: &mut S,
+) -> Result<Report, Stop>
+    requires files { HasFileNames (meant command) }
+    ensures done { IfOk result (IsDone (meant command.entry) (S.contents store.old) (S.contents store.new)) }
+    ensures rejected { IfErr result (λ stop. IfStopped stop (IsRejected (meant command.entry) (S.contents store.old) (S.contents store.new))) }
+    ensures told { IfErr result (λ stop. IfStopped stop IsTold) }
+    ensures failed_only { IsErrOf result Stop.StoreFailed → Rose (S.faults store.old) (S.faults store.new) }
+    ensures failed_call { IsErrOf result Stop.StoreFailed → IsCall (meant command.entry) (S.contents store.old) (S.last_fault store.new) }
+    ensures others { KeepsOthers (meant command.entry) (S.contents store.old) (S.contents store.new) }
+{
+    match command {
+        Command::Check { source } => check_source(alloc, source, store),
+        Command::Sim { net, pulses, trace } => sim(alloc, net, pulses, trace, store),
+        Command::Build { own } => build(alloc, own, store),
+    }
+}
