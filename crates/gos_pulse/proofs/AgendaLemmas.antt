@@ -138,8 +138,8 @@ module _ (cycles : ℕ) (file : List Entry) (place : ℕ) (entry : Entry) (old :
                 subst (IsNextAt e.number file (suc k)) (sym read) (behind.next k e (later k from differ) at e_is small)
           ]
 
--- The entries of cycle t before a place were taken as these labels, and whatever comes of those from the place on comes of
--- all of them.
+-- The entries of cycle t before a place were taken as these labels, and whatever comes of those from the place on
+-- comes of all of them.
 pub record TakenTo (net : Netlist) (past : List Label) (t : ℕ) (file : List Entry) (place : ℕ) (board : Board) : Type 0 where
   pub taken : List Label
   pub stands : Stands net past taken board

@@ -98,7 +98,7 @@ IsPlaced n way = (way ≡ direction_at (is_answer n)) × (shake_of n ≡ cond (i
 its_way : (one : Event) (way : Direction) (bits : ℕ) → Some one ≡ Some (Is way bits) → way ≡ direction_of one
 its_way one way bits h = let same : one ≡ Is way bits = cc in ap direction_of (sym same)
 
-no_event : {X : Type 0} (way : Direction) (bits : ℕ) → None ≡ Some (Is way bits) → X
+pub no_event : {X : Type 0} (way : Direction) (bits : ℕ) → None ≡ Some (Is way bits) → X
 no_event way bits h = absurd cc
 
 pub placed : (ty : Type') (n : ℕ) (way : Direction) (bits : ℕ) → slice_get (events ty) n ≡ Some (Is way bits) → IsPlaced n way

@@ -17,3 +17,10 @@ mod BoardLemmas
 mod CycleLemmas
 mod RunLemmas
 mod GiveLemmas
+mod OneEventLemmas
+mod OneFileLemmas
+mod OneWayLemmas
+mod AmongLemmas
+mod OneCycleLemmas
+mod OneRunLemmas
+mod OneTraceLemmas

@@ -74,11 +74,11 @@ small cells ins n value width c is wide has less d at_d =
     let same : c.width ≡ d.width = ap (λ (x : Cell). x.width) one in
     subst (λ (k : ℕ). at ins n < 2 ^ k) (sym wide ∙ same) (subst (λ (k : ℕ). k < 2 ^ width) (sym has) less)
 
-some_of : (R : ℕ → Type 0) (b : Bool) (a : ℕ) (ns : List ℕ) → (b ≡ true → R a) → AllByRecursion R ns → AllByRecursion R (cond b (a ∷ []) [] ++ ns)
+pub some_of : (R : ℕ → Type 0) (b : Bool) (a : ℕ) (ns : List ℕ) → (b ≡ true → R a) → AllByRecursion R ns → AllByRecursion R (cond b (a ∷ []) [] ++ ns)
 some_of R true a ns h rest = (h refl, rest)
 some_of R false a ns h rest = rest
 
-all_append : (R : ℕ → Type 0) (xs ys : List ℕ) → AllByRecursion R xs → AllByRecursion R ys → AllByRecursion R (xs ++ ys)
+pub all_append : (R : ℕ → Type 0) (xs ys : List ℕ) → AllByRecursion R xs → AllByRecursion R ys → AllByRecursion R (xs ++ ys)
 all_append R [] ys h g = g
 all_append R (x ∷ xs) ys h g = (h.0, all_append R xs ys h.1 g)
 

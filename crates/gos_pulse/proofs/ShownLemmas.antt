@@ -1,5 +1,5 @@
--- The labels of a cycle's outputs are those of the pulses that it shows, and the labels of its inputs are those of the
--- pulses that it was given.
+-- The labels of a cycle's outputs are those of the pulses that it shows, and the labels of its inputs are those of
+-- the pulses that it was given.
 use Rattle.std.proofs.Common.{◌≡◌, ◌<◌, ◌^◌, ℕ, suc, Bool, true, false, not, cond, List, [], ◌∷◌, ◌++◌, length, map, refl, sym, ap, subst, ◌∙◌, arith, Option, Some, None, true≢false}
 use Rattle.std.specs.Prelude.{slice_get, filter, nat_eq}
 use Rattle.std.proofs.lemmas.List.Elements.{filter-append}
@@ -105,7 +105,7 @@ rows_length net (e ∷ es) (n ∷ ns) h = ap suc (rows_length net es ns h.1)
 pub input_rows : (net : Netlist) → IsAccepted net → AreRows net (inputs_of net) (input_events net)
 input_rows net accepted = rows_way net [] true (events_of net) (all_events net) (net_rows net accepted)
 
-output_rows : (net : Netlist) → IsAccepted net → AreRows net (outputs_of net) (output_events net)
+pub output_rows : (net : Netlist) → IsAccepted net → AreRows net (outputs_of net) (output_events net)
 output_rows net accepted = rows_way net [] false (events_of net) (all_events net) (net_rows net accepted)
 
 -- a simulator has as many inputs and outputs as the netlist has events
@@ -163,7 +163,7 @@ inputs_way (e ∷ es) = by e.input refl (inputs_way es)
     by false is rest = rest
 
 -- an input's net has what it was given
-input_shown : (cells : List Cell) (regs ins v : Numbers) (n : ℕ) (c : Cell) → Settling cells regs ins v → slice_get cells n ≡ Some c → c.gate ≡ Input → at v n ≡ at ins n
+pub input_shown : (cells : List Cell) (regs ins v : Numbers) (n : ℕ) (c : Cell) → Settling cells regs ins v → slice_get cells n ≡ Some c → c.gate ≡ Input → at v n ≡ at ins n
 input_shown cells regs ins v n c settles is gate =
     settles.1 n c is ∙ ap (λ (f : Function). shown c.width f (at regs n) (at ins n) (at v)) gate
 
@@ -171,7 +171,7 @@ bit_is : (b : Bool) → nat_eq (bit b) 1 ≡ b
 bit_is true = refl
 bit_is false = refl
 
-end_gate : (b : Bool) (f : Function) → b ≡ true → IsEnd b f → f ≡ Input
+pub end_gate : (b : Bool) (f : Function) → b ≡ true → IsEnd b f → f ≡ Input
 end_gate true f is end = end
 end_gate false f is end = absurd (true≢false (sym is))
 

@@ -11,7 +11,8 @@ use Rattle.gos_pulse.specs.Driving.{GivesInput, TakesAll, at_entries}
 use Rattle.gos_pulse.specs.Guarding.{HasPorts}
 use Rattle.gos_pulse.specs.Board.{Stands}
 
--- From place `from` on, the first `at` entry of cycle t stands at this place, or there is none and it is the number of entries.
+-- From place `from` on, the first `at` entry of cycle t stands at this place, or there is none and it is the
+-- number of entries.
 pub record IsNextAt (t : ℕ) (file : List Entry) (from place : ℕ) : Type 0 where
   pub after : from ≤ place
   pub within : place ≤ length file

@@ -1,10 +1,10 @@
 -- A run of a netlist under a pulse file.
 --
 -- Read first: Entries; Flattening and Protocol of gos_model. In each cycle the outputs are seen first. Then all `at`
--- entries of the cycle are taken, in the file's order: the run ends at the first of them that the protocol doesn't allow.
--- Then the first `next` entry that is not given yet is looked at. It is given in this cycle where its distance has passed
--- since the cycle of the `next` entry given before it, or since cycle 0, and where the protocol allows it. This is
--- repeated until an entry is not given or none is left.
+-- entries of the cycle are taken, in the file's order: the run ends at the first of them that the protocol doesn't
+-- allow. Then the first `next` entry that is not given yet is looked at. It is given in this cycle where its distance
+-- has passed since the cycle of the `next` entry given before it, or since cycle 0, and where the protocol allows it.
+-- This is repeated until an entry is not given or none is left.
 use Rattle.std.specs.Prelude.{◌≡◌, ◌≤◌, ◌<◌, ◌+◌, ◌^◌, ◌⊎◌, ℕ, suc, IsTrue, not, ◌&&◌, ◌==◌, List, [], ◌∷◌, ◌++◌, length, reverse, Some, slice_get, if◌then◌else◌}
 use Rattle.gos_netlist.specs.declared.event.Event.{Event}
 use Rattle.gos_netlist.specs.Nets.{NetPort, Netlist}
@@ -63,16 +63,16 @@ abbrev pub IsHeld : Netlist → List Label → ℕ → ℕ → List Entry → Ty
 IsHeld net past t since [] = Unit {0}
 IsHeld net past t since (entry ∷ entries) = since + entry.number ≤ t → (l : Label) → MayCome net past entry l → ⊥
 
--- In cycle t these labels are given, one after another, for the first of the `next` entries. What is left is `rest`, and
--- the last entry was given in cycle `last`.
+-- In cycle t these labels are given, one after another, for the first of the `next` entries. What is left is `rest`,
+-- and the last entry was given in cycle `last`.
 abbrev pub GivesIn : Netlist → List Label → ℕ → ℕ → List Entry → List Label → ℕ → List Entry → Type 0
 GivesIn net past t since entries [] last rest = IsHeld net past t since entries × (last ≡ since) × (rest ≡ entries)
 GivesIn net past t since [] (l ∷ labels) last rest = ⊥
 GivesIn net past t since (entry ∷ entries) (l ∷ labels) last rest =
     (since + entry.number ≤ t) × MayCome net past entry l × GivesIn net (l ∷ past) t t entries labels last rest
 
--- Cycle t, in which the nets show v, goes by the file: after the outputs these labels are taken and then given, and they
--- are the inputs. What is left of the `next` entries is `rest`, the last of them given in cycle `last`.
+-- Cycle t, in which the nets show v, goes by the file: after the outputs these labels are taken and then given, and
+-- they are the inputs. What is left of the `next` entries is `rest`, the last of them given in cycle `last`.
 pub record GoesBy (net : Netlist) (file : List Entry) (past : List Label) (t since : ℕ) (queue : List Entry) (v : Numbers) (came : List Label) (last : ℕ) (rest : List Entry) : Type 0 where
   pub taken : List Label
   pub given : List Label
@@ -95,8 +95,9 @@ IsDriven net cycles file vs unused =
     (ins : List Numbers) × InputsInRange net ins × IsRun net.cells ins vs × (length vs ≡ cycles)
     × DrivesFrom net file [] 0 0 (next_entries file) vs unused
 
--- From cycle t on, all goes by the file up to this cycle, in which the first `at` entry that breaks the protocol gives this
--- event. The outputs of a cycle don't depend on its inputs, so the values of the last cycle may be of any inputs.
+-- From cycle t on, all goes by the file up to this cycle, in which the first `at` entry that breaks the protocol
+-- gives this event. The outputs of a cycle don't depend on its inputs, so the values of the last cycle may be
+-- of any inputs.
 abbrev pub BreaksFrom : Netlist → List Entry → List Label → ℕ → ℕ → List Entry → List Numbers → ℕ → ℕ → Type 0
 BreaksFrom net file past t since queue [] cycle event = ⊥
 BreaksFrom net file past t since queue (v ∷ []) cycle event =

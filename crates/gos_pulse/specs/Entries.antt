@@ -18,7 +18,8 @@ SaysCycles words n = (digits : Word) × (words ≡ codes "cycles" ∷ digits ∷
 abbrev pub IsRunLength : ℕ → Type 0
 IsRunLength n = (1 ≤ n) × (n ≤ 1000000)
 
--- what an entry's line writes: whether its number is a cycle or a distance, the number, the name of the event, a value
+-- what an entry's line writes: whether its number is a cycle or a distance, the number, the name of the event,
+-- a value
 pub record Written : Type 0 where
   pub at : Bool
   pub number : ℕ
@@ -62,8 +63,8 @@ IsInTime cycles false number = number ≤ 1000000
 abbrev pub IsWithin : ℕ → ℕ → Written → Type 0
 IsWithin cycles before written = (before < 100000) × IsInTime cycles written.at written.number
 
--- The value of a pulse whose event has so many bits: 0 where it has none and none is written, else the one written, which
--- has at most its bits.
+-- The value of a pulse whose event has so many bits: 0 where it has none and none is written, else the one written,
+-- which has at most its bits.
 abbrev pub IsValue : ℕ → Option ℕ → ℕ → Type 0
 IsValue zero None value = value ≡ 0
 IsValue (suc bits) (Some written) value = (value ≡ written) × (written < 2 ^ suc bits)

@@ -1,8 +1,8 @@
 -- What a guard knows: which handshakes are open after the pulses seen so far.
 --
--- Read first: Protocol of gos_model, Events of gos_netlist. The pulses so far are labels, newest first. Cycles don't show
--- in them: the outputs of a cycle come before its inputs, so after an input its handshake allows no second one in that
--- cycle.
+-- Read first: Protocol of gos_model, Events of gos_netlist. The pulses so far are labels, newest first. Cycles don't
+-- show in them: the outputs of a cycle come before its inputs, so after an input its handshake allows no second one
+-- in that cycle.
 use Rattle.std.specs.Prelude.{◌≡◌, ℕ, zero, suc, ◌^◌, ◌<◌, Bool, true, false, not, List, Some, if◌then◌else◌, [], ◌∷◌, length, map, slice_get, get_or}
 use Rattle.gos_netlist.specs.declared.event.Event.{Event}
 use Rattle.gos_types.specs.Types.{IsDone}

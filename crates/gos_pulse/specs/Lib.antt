@@ -15,3 +15,4 @@ pub mod Agenda
 pub mod Queue
 pub mod Lines
 pub mod Running
+pub mod OneAnswer

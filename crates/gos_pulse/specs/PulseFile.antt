@@ -62,7 +62,8 @@ pub record IsPulseFile (net : Netlist) (text : List ℕ) (cycles : ℕ) (entries
   pub short : length text ≤ 16777216
   pub says : SaysPulses net (statements_of text) cycles entries
 
--- The first wrong line of these statements, of a text with so many lines. Without a statement it is the line after them.
+-- The first wrong line of these statements, of a text with so many lines. Without a statement it is the line
+-- after them.
 abbrev pub HasFirstWrong : Netlist → List Statement → ℕ → PulseFault → Type 0
 HasFirstWrong net [] count fault = fault ≡ faults.Form (count + 1)
 HasFirstWrong net (head ∷ rest) count fault =

@@ -31,7 +31,8 @@ pub record IsFirstHeld (net : Netlist) (past given : List Label) (t since : ℕ)
   pub held : IsHeld net (reverse given ++ past) t since entries
   pub stands : Stands net past given board
 
--- In cycle t all was given that may be given of the entries. What is left is `rest`, and the last was given in cycle `last`.
+-- In cycle t all was given that may be given of the entries. What is left is `rest`, and the last was given
+-- in cycle `last`.
 pub record AreGiven (net : Netlist) (past given : List Label) (t since : ℕ) (entries : List Entry) (last : ℕ) (rest : List Entry) (board : Board) : Type 0 where
   pub labels : List Label
   pub gives : GivesIn net (reverse given ++ past) t since entries labels last rest

@@ -29,8 +29,8 @@ pub record CanRun (sim : Simulator) (t : ℕ) (agenda : Agenda) (file : List Ent
   pub past : List Label
   pub rests : Rests sim.net past board
 
--- Cycle t goes by the file, after these labels. It takes the simulator from one state to the next, and the board has its
--- pulses.
+-- Cycle t goes by the file, after these labels. It takes the simulator from one state to the next, and the board has
+-- its pulses.
 pub record RunsCycle (old : Simulator) (file : List Entry) (past : List Label) (t since : ℕ) (queue : List Entry) (last : ℕ) (rest : List Entry) (new : Simulator) (board : Board) : Type 0 where
   pub ins : Numbers
   pub values : Numbers

@@ -1,7 +1,7 @@
 -- The text of a trace.
 --
--- Read first: EventNames. A line for each pulse, `T PORT.EVENT`, with the value behind it where its event has one. The last
--- line says how many cycles there were.
+-- Read first: EventNames. A line for each pulse, `T PORT.EVENT`, with the value behind it where its event has one.
+-- The last line says how many cycles there were.
 use Rattle.std.specs.Prelude.{ℕ, List, [], ◌++◌, codes, Option, Some, None, slice_get, nat_eq, if◌then◌else◌}
 use Rattle.std.specs.List.{flat_map}
 use Rattle.std.specs.Fmt.{decimal}

@@ -13,8 +13,8 @@ use crate::entries::Entry;
 use gos_types::NoMemory;
 use std::alloc::Global;
 
-/// For each cycle the place of its first `at` entry, and for each such entry the place of the next one of its cycle; the
-/// number of entries where there is none.
+/// For each cycle the place of its first `at` entry, and for each such entry the place of the next one of its cycle;
+/// the number of entries where there is none.
 #[derive(Drop)]
 pub(crate) struct Agenda {
     pub first: Vec<usize>,

@@ -21,8 +21,9 @@ use std::alloc::Global;
 
 /// Runs a simulator from reset under a pulse file, and hands back the pulses of the run.
 ///
-/// The error is `Broken`, at the first cycle in which an `at` entry breaks the protocol of inputs and there at the first
-/// such entry in the file's order, or `NoMemory`. After an error the simulator stands after some cycles and must be reset.
+/// The error is `Broken`, at the first cycle in which an `at` entry breaks the protocol of inputs and there at the
+/// first such entry in the file's order, or `NoMemory`. After an error the simulator stands after some cycles
+/// and must be reset.
 pub fn drive(alloc: Global, sim: &mut Sim, pulses: &Pulses) -> Result<Trace, PulseFault>
     requires reset { sim.old ≡ at_reset sim.old.net }
     requires entries { All (GivesInput sim.old.net) pulses.now.1 }
@@ -56,7 +57,8 @@ pub fn drive(alloc: Global, sim: &mut Sim, pulses: &Pulses) -> Result<Trace, Pul
     })
 }
 
-// Runs cycle `t`. The result is the queue after it, or the event of the first `at` entry that the protocol doesn't allow.
+// Runs cycle `t`. The result is the queue after it, or the event of the first `at` entry that the protocol
+// doesn't allow.
 fn run_cycle<'a>(
     sim: &mut Sim,
     t: u64,

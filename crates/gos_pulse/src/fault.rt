@@ -17,8 +17,8 @@ pub enum PulseFault {
     /// The line has a value where its event has none, or none, or one that leaves its event's bits.
     #[error("line {line} has no value of its event")]
     Value { line: u64 },
-    /// The line's number of cycles, cycle or distance is out of its range, or it is the 100,001st entry. The line is 0
-    /// where the file has more than 16,777,216 bytes.
+    /// The line's number of cycles, cycle or distance is out of its range, or it is the 100,001st entry. The line
+    /// is 0 where the file has more than 16,777,216 bytes.
     #[error("line {line} is beyond a limit")]
     Limit { line: u64 },
     /// In this cycle an `at` entry gives this event although the protocol of inputs doesn't allow it.

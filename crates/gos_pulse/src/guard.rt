@@ -79,8 +79,8 @@ impl Guard {
         self.flags.set(half);
     }
 
-    /// Goes on to the next cycle. The protocol doesn't look at cycles, so nothing changes: after an input of a handshake
-    /// none of it is allowed before an output of it.
+    /// Goes on to the next cycle. The protocol doesn't look at cycles, so nothing changes: after an input of a
+    /// handshake none of it is allowed before an output of it.
     pub fn next_cycle(&mut self)
         ensures { self.new ≡ self.old }
     {}

@@ -58,7 +58,8 @@ pub(crate) fn give_all<'a>(t: u64, first: Queue<'a>, board: &mut Board) -> Queue
     }
 }
 
-// Gives the first entry, where its distance has passed and the protocol allows it; then the result is the queue behind it.
+// Gives the first entry, where its distance has passed and the protocol allows it; then the result is the
+// queue behind it.
 fn give_first<'a>(t: u64, queue: Queue<'a>, board: &mut Board) -> Option<Queue<'a>>
     requires since { queue.since ≤ t }
     requires board { CanGiveAll queue.entries.now board.old }

@@ -1,7 +1,6 @@
 use Rattle.std.proofs.Common.{rules, ◌≡◌, ap, arith, length, get_or, List, ℕ, subst}
 use Rattle.std.specs.Prelude.{IfOk}
 use Rattle.gos_netlist.specs.declared.event.Event as seen
-use Rattle.gos_pulse.specs.EventNames.{name_of_number}
 use Rattle.gos_pulse.proofs.TraceLemmas.{event_there, port_there, name_there}
 use Rattle.gos_pulse.proofs.event_names.name_of_number.Goals as goal
 
