@@ -20,3 +20,4 @@ pub mod MergeLemmas
 pub mod NumberLemmas
 pub mod RenameLemmas
 pub mod StandLemmas
+pub mod CheckedLemmas

@@ -1,10 +1,8 @@
--- A checked module as clauses see it, and what a copy of an import keeps.
+-- What a copy of an import keeps.
 use Rattle.std.specs.Prelude.{ℕ, List}
 use Rattle.gos_lex.specs.declared.token.Span.{Span}
-use Rattle.gos_types.specs.declared.types.Ty.{Ty}
 use Rattle.gos_types.specs.Types.{Type', type_of}
 use Rattle.gos_syntax.specs.Modules.{SeenImport}
-use Rattle.gos_check.specs.declared.linear.Node.{Node}
 
 -- an import, with its type without boxes
 pub record PlainImport : Type 0 where
@@ -16,10 +14,3 @@ pub record PlainImport : Type 0 where
 -- all of an import but the boxes of its type
 abbrev pub plain_import : SeenImport → PlainImport
 plain_import i = record { name = i.name; name_span = i.name_span; ty = type_of i.ty; ty_span = i.ty_span }
-
--- a checked module
-pub record SeenLinear : Type 0 where
-  pub weight : ℕ
-  pub imports : List SeenImport
-  pub result : Ty
-  pub term : Node

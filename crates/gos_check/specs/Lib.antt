@@ -13,6 +13,7 @@ pub mod Walked
 pub mod Accepted
 pub mod Nodes
 pub mod Linearity
+pub mod Checked
 pub mod Opens
 pub mod Numbering
 pub mod Copies

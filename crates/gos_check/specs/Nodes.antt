@@ -11,6 +11,7 @@ use Rattle.gos_model.specs.Typing.{Imports}
 use Rattle.gos_model.specs.Weight.{node_type}
 use Rattle.gos_model.specs.Sources.{op_of}
 use Rattle.gos_check.specs.declared.linear.Split.{Split}
+use Rattle.gos_check.specs.declared.linear.Node.{Node}
 use Rattle.gos_check.specs.declared.linear.NodeForm.{NodeForm}
 use Rattle.gos_check.specs.declared.linear.NodeForm.TheVariants as forms
 
@@ -58,6 +59,10 @@ numbered_of t ss (forms.Assign' p a qs f q b rs g) = Two (type_of t) ss OfAssign
 numbered_of t ss (forms.Deref' p a qs f) = One (type_of t) ss OfDeref (numbered_of a qs.items f)
 numbered_of t ss (forms.Not' p a qs f) = One (type_of t) ss OfNot (numbered_of a qs.items f)
 numbered_of t ss (forms.Bin' op p a qs f q b rs g) = Two (type_of t) ss (OfBin (op_of op)) (numbered_of a qs.items f) (numbered_of b rs.items g)
+
+-- a node of the program as it is seen
+abbrev pub node_seen : Node → Numbered
+node_seen node = numbered_of node.ty node.splits.items node.form
 
 -- the argument of a function type
 abbrev pub argument_of : Type' → Type'

@@ -17,11 +17,10 @@ use Rattle.gos_check.specs.declared.forms.OnePart.TheVariants as one
 use Rattle.gos_check.specs.declared.forms.TwoParts.{TwoParts}
 use Rattle.gos_check.specs.declared.forms.TwoParts.TheVariants as two
 use Rattle.gos_check.specs.declared.linear.Split.{Split}
-use Rattle.gos_check.specs.declared.linear.Node.{Node}
 use Rattle.gos_check.specs.declared.numbering.NumberedTerm.{NumberedTerm}
 use Rattle.gos_check.specs.declared.opens.Open.{Open}
 use Rattle.gos_check.specs.Scopes.{Binders, type_at}
-use Rattle.gos_check.specs.Nodes.{Binding, OfFun, OfNew, OneForm, OfFst, OfSnd, OfDeref, OfNot, TwoForm, OfApp, OfBoth, OfSeq, OfPar, OfWhile, OfAssign, OfBin, Numbered, Closed, Use, Under, One, Two, If, numbered_of}
+use Rattle.gos_check.specs.Nodes.{Binding, OfFun, OfNew, OneForm, OfFst, OfSnd, OfDeref, OfNot, TwoForm, OfApp, OfBoth, OfSeq, OfPar, OfWhile, OfAssign, OfBin, Numbered, Closed, Use, Under, One, Two, If, node_seen}
 use Rattle.gos_check.specs.Opens.{number_in, others, merged_splits, merged_names, merged_next, binder_number, binder_next}
 
 -- the forms that the walk tells apart
@@ -69,10 +68,6 @@ type_in (Under t ss b n m) = t
 type_in (One t ss f m) = t
 type_in (Two t ss f m n) = t
 type_in (If t ss m n p) = t
-
--- a node of the program
-abbrev pub node_seen : Node → Numbered
-node_seen node = numbered_of node.ty node.splits.items node.form
 
 -- a numbered term: its node, its free names with their numbers, and the next number
 pub record Result : Type 0 where

@@ -8,7 +8,8 @@ ghost use Rattle.gos_check.specs.Faults.{Refuses};
 ghost use Rattle.gos_check.specs.Judgements.{light, module_judged};
 ghost use Rattle.gos_check.specs.Accepted.{IsAccepted, IsRefused, weighed};
 ghost use Rattle.gos_check.specs.Linearity.{StandsFor};
-ghost use Rattle.gos_check.specs.Numbering.{node_seen};
+ghost use Rattle.gos_check.specs.Checked.{program_in};
+ghost use Rattle.gos_check.specs.Nodes.{node_seen};
 ghost use Rattle.gos_check.specs.Copies.{plain_import};
 ghost use Rattle.gos_check.specs.Walked.{tree};
 
@@ -39,7 +40,8 @@ pub fn check(alloc: Global, program: &Module) -> Result<Linear, CheckFault>
     ensures accepted { IfOk result (λ _. IsAccepted program.now) }
     ensures refused { IfErr result (IsRefused program.now) }
 
-    // What is answered stands for the module.
+    // What is answered stands for the module, and has its program.
+    ensures program { IfOk result (λ linear. program_in linear ≡ program_of program.now) }
     ensures weight { IfOk result (λ linear. linear.weight ≡ weighed program.now) }
     ensures imports { IfOk result (λ linear. map plain_import linear.imports ≡ map plain_import program.now.imports) }
     ensures outcome { IfOk result (λ linear. type_of linear.result ≡ type_of program.now.result) }

@@ -1,6 +1,7 @@
 // A checked module: its typed term, in which each occurrence has a number of its own.
 
 ghost use Rattle.std.specs.Prelude.{◌≡◌};
+ghost use Rattle.gos_check.specs.Checked.{IsChecked};
 
 use gos_syntax::{Import, Op};
 use gos_types::Ty;
@@ -74,7 +75,7 @@ pub enum NodeForm {
     Bin(Op, Box<Node>, Box<Node>),
 }
 
-/// A module that `check` accepted.
+/// A module that `check` accepted. What is known of it is `IsChecked`, in `specs/Checked.antt`.
 #[derive(Debug, Drop)]
 pub struct Linear {
     pub(crate) weight: u64,
@@ -84,7 +85,7 @@ pub struct Linear {
 }
 
 impl Model for Linear {
-    ghost use Rattle.gos_check.specs.Copies.{SeenLinear};
+    ghost use Rattle.gos_check.specs.Checked.{SeenLinear, IsChecked};
     ghost use Rattle.std.specs.Coded.{codes};
     ghost use Rattle.gos_types.specs.contracts.types.Ty as a_type;
     ghost use Rattle.gos_syntax.specs.contracts.module.Import as an_import;
@@ -95,6 +96,8 @@ impl Model for Linear {
     ghost coded = { Prim.hlevel (codes, a_type.the_row.coded, an_import.the_row.coded, a_node.the_row.coded) };
 
     ghost view = { λ l. record { weight = l.weight; imports = l.imports.items; result = l.result; term = l.term } };
+
+    ghost invariant = { λ l. IsChecked (record { weight = l.weight; imports = l.imports.items; result = l.result; term = l.term }) };
 }
 
 impl Linear {
@@ -122,7 +125,8 @@ impl Linear {
 
     /// The module's body.
     pub fn term(&self) -> &Node
-        ensures { result.now ≡ self.now.term }
+        ensures value { result.now ≡ self.now.term }
+        ensures checked { IsChecked self.now }
     {
         &self.term
     }

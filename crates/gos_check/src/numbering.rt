@@ -13,8 +13,8 @@ ghost use Rattle.gos_check.specs.Sizes.{size};
 ghost use Rattle.gos_check.specs.Scopes.{type_at};
 ghost use Rattle.gos_check.specs.Seen.{binders_of};
 ghost use Rattle.gos_check.specs.Walked.{tree};
-ghost use Rattle.gos_check.specs.Nodes.{OfFun, OfNew, If};
-ghost use Rattle.gos_check.specs.Numbering.{one_form, two_form, node_seen, closed_result, use_result, binder_result, one_result, two_result, choice_result, inner_next, numbered, import_number, placed};
+ghost use Rattle.gos_check.specs.Nodes.{OfFun, OfNew, node_seen};
+ghost use Rattle.gos_check.specs.Numbering.{one_form, two_form, closed_result, use_result, binder_result, one_result, two_result, choice_result, inner_next, numbered, import_number, placed};
 
 use crate::fault::CheckFault;
 use crate::forms::{OnePart, TwoParts};

@@ -1,7 +1,8 @@
 // Two numbers of a term exchanged.
 
 ghost use Rattle.std.specs.Prelude.{◌≡◌, map};
-ghost use Rattle.gos_check.specs.Numbering.{node_seen, exchanged, renamed_split, renamed};
+ghost use Rattle.gos_check.specs.Nodes.{node_seen};
+ghost use Rattle.gos_check.specs.Numbering.{exchanged, renamed_split, renamed};
 
 use crate::linear::{Node, NodeForm, Split};
 

@@ -2,7 +2,6 @@
 --
 -- Read first: Lines.
 use Rattle.std.specs.Prelude.{◌≡◌, ◌≢◌, ◌⊎◌, ℕ, List}
-use Rattle.gos_outside.specs.Faults.{Rose}
 use Rattle.gos_lex.specs.declared.fault.LexFault.TheVariants as lex
 use Rattle.gos_syntax.specs.declared.fault.SyntaxFault.TheVariants as syntax
 use Rattle.gos_check.specs.declared.fault.CheckFault.TheVariants as check
@@ -54,7 +53,3 @@ IfStopped stop P = Unit {0}
 -- the status is this one, where its line could be printed
 abbrev pub IsSaid : Status → Status → Type 0
 IsSaid status wanted = (status ≡ wanted) ⊎ ((status ≡ statuses.SinkFailed) ⊎ (status ≡ statuses.NoMemory))
-
--- neither count of faults rose
-abbrev pub NoneFailed : ℕ → ℕ → ℕ → ℕ → Type 0
-NoneFailed store_old store_new sink_old sink_new = (Rose store_old store_new → ⊥) × (Rose sink_old sink_new → ⊥)
