@@ -6,50 +6,27 @@ use Rattle.gos_syntax.specs.declared.fault.Stop.{Stop}
 use Rattle.gos_syntax.specs.declared.fault.Stop.TheVariants as stops
 use Rattle.gos_syntax.specs.declared.source.Source.{Source}
 use Rattle.gos_syntax.specs.Items.{Item, seen, reading_at}
-use Rattle.gos_syntax.specs.Grammar.{HasWord, HasSign, HasName, HasNumber}
+use Rattle.gos_syntax.specs.Grammar.{HasWord, HasSign, HasName, HasNumber, IsTerm}
 use Rattle.gos_syntax.specs.Symbols as symbols
 use Rattle.gos_syntax.specs.Symbols.{Fits, SomeName, SomeNumber, Symbol, Part, word, sign, number, IsRule, Term, Pre, Atom, AtomTail, a_negation, a_reading, a_first_part, a_second_part, an_atom, skipping, a_literal, a_use, in_brackets, one_term, two_terms}
 use Rattle.gos_syntax.specs.Spelling.{Leads, IsRead, Stops}
-use Rattle.gos_syntax.proofs.LeadsLemmas.{leads_then, leads_token, leads_token_to, leads_part, stops_after, stops_at}
+use Rattle.gos_syntax.proofs.LeadsLemmas.{leads_then, leads_token_to, leads_part, stops_after, stops_at}
+use Rattle.gos_syntax.proofs.RuleExits.{past_token}
 use Rattle.gos_syntax.proofs.RuleLemmas.{IsNoPrefix, Tells, leads_by}
-use Rattle.gos_syntax.proofs.StopLemmas.{stops_at_part}
+use Rattle.gos_syntax.proofs.StopLemmas.{passed_on, stops_at_part}
 
 -- pre = ( "not" | "!" | "fst" | "snd" ) pre
-not_leads : {items : List Item} {i : ℕ} → HasWord items i words.Not → Leads items (Part Pre ∷ []) i (Part Pre ∷ []) (i + 1)
-not_leads is = leads_then (leads_by a_negation is) (leads_token is)
-
-bang_leads : {items : List Item} {i : ℕ} → HasSign items i signs.Bang → Leads items (Part Pre ∷ []) i (Part Pre ∷ []) (i + 1)
-bang_leads is = leads_then (leads_by a_reading is) (leads_token is)
-
-fst_leads : {items : List Item} {i : ℕ} → HasWord items i words.Fst → Leads items (Part Pre ∷ []) i (Part Pre ∷ []) (i + 1)
-fst_leads is = leads_then (leads_by a_first_part is) (leads_token is)
-
-snd_leads : {items : List Item} {i : ℕ} → HasWord items i words.Snd → Leads items (Part Pre ∷ []) i (Part Pre ∷ []) (i + 1)
-snd_leads is = leads_then (leads_by a_second_part is) (leads_token is)
-
 pub not_stops : {items : List Item} {i : ℕ} {stop : Stop} → HasWord items i words.Not → Stops items (Part Pre ∷ []) (i + 1) stop → Stops items (Part Pre ∷ []) i stop
-not_stops is stopped = stops_after (not_leads is) stopped
+not_stops is stopped = stops_after (past_token a_negation is is) stopped
 
 pub bang_stops : {items : List Item} {i : ℕ} {stop : Stop} → HasSign items i signs.Bang → Stops items (Part Pre ∷ []) (i + 1) stop → Stops items (Part Pre ∷ []) i stop
-bang_stops is stopped = stops_after (bang_leads is) stopped
+bang_stops is stopped = stops_after (past_token a_reading is is) stopped
 
 pub fst_stops : {items : List Item} {i : ℕ} {stop : Stop} → HasWord items i words.Fst → Stops items (Part Pre ∷ []) (i + 1) stop → Stops items (Part Pre ∷ []) i stop
-fst_stops is stopped = stops_after (fst_leads is) stopped
+fst_stops is stopped = stops_after (past_token a_first_part is is) stopped
 
 pub snd_stops : {items : List Item} {i : ℕ} {stop : Stop} → HasWord items i words.Snd → Stops items (Part Pre ∷ []) (i + 1) stop → Stops items (Part Pre ∷ []) i stop
-snd_stops is stopped = stops_after (snd_leads is) stopped
-
-pub not_read : {items : List Item} {i j : ℕ} → HasWord items i words.Not → IsRead items Pre (i + 1) j → IsRead items Pre i j
-not_read is operand = leads_then (not_leads is) operand
-
-pub bang_read : {items : List Item} {i j : ℕ} → HasSign items i signs.Bang → IsRead items Pre (i + 1) j → IsRead items Pre i j
-bang_read is operand = leads_then (bang_leads is) operand
-
-pub fst_read : {items : List Item} {i j : ℕ} → HasWord items i words.Fst → IsRead items Pre (i + 1) j → IsRead items Pre i j
-fst_read is operand = leads_then (fst_leads is) operand
-
-pub snd_read : {items : List Item} {i j : ℕ} → HasWord items i words.Snd → IsRead items Pre (i + 1) j → IsRead items Pre i j
-snd_read is operand = leads_then (snd_leads is) operand
+snd_stops is stopped = stops_after (past_token a_second_part is is) stopped
 
 -- pre = atom
 pub atom_stops : {T : Type 0} (items : List Item) (i : ℕ) (result : Result T Stop) → IsNoPrefix (reading_at items i)
@@ -63,11 +40,8 @@ atom_read items i (Ok read) no_prefix atom = leads_then (leads_by an_atom no_pre
 atom_read items i (Err stop) no_prefix atom = tt
 
 -- atom = "skip" | numeral ":" numeral | name
-pub skip_read : {items : List Item} {i : ℕ} → HasWord items i words.Skip → IsRead items Atom i (i + 1)
-skip_read is = leads_then (leads_by skipping is) (leads_token is)
-
 value_leads : {items : List Item} {i value : ℕ} → HasNumber items i value → Leads items (Part Atom ∷ []) i (sign signs.Colon ∷ number ∷ []) (i + 1)
-value_leads {value = value} is = leads_then (leads_by a_literal (value, is)) (leads_token (value, is))
+value_leads {value = value} is = past_token a_literal (value, is) (value, is)
 
 colon_leads : {items : List Item} {i value t : ℕ} → HasNumber items i value → HasSign items (i + 1) signs.Colon → t ≡ i + 1 + 1
     → Leads items (Part Atom ∷ []) i (number ∷ []) t
@@ -88,25 +62,22 @@ pub name_stops : {items : List Item} {i : ℕ} {stop : Stop} → Fits (reading_a
 name_stops is stopped = stops_after (leads_by a_use is) stopped
 
 pub name_read : {items : List Item} {i : ℕ} {bytes : List ℕ} → HasName items i bytes → IsRead items Atom i (i + 1)
-name_read {bytes = bytes} is = leads_then (leads_by a_use (bytes, is)) (leads_token (bytes, is))
+name_read {bytes = bytes} is = past_token a_use (bytes, is) (bytes, is)
 
 -- atom = "(" term [ "," term ] ")"
-open_leads : {items : List Item} {i : ℕ} → HasSign items i signs.Open → Leads items (Part Atom ∷ []) i (Part Term ∷ Part AtomTail ∷ []) (i + 1)
-open_leads opened = leads_then (leads_by in_brackets opened) (leads_token opened)
-
 first_leads : {items : List Item} {i j : ℕ} → HasSign items i signs.Open → IsRead items Term (i + 1) j → Leads items (Part Atom ∷ []) i (Part AtomTail ∷ []) j
-first_leads opened first = leads_then (open_leads opened) (leads_part first)
+first_leads opened first = leads_then (past_token in_brackets opened opened) (leads_part first)
 
 comma_leads : {items : List Item} {i j : ℕ} → HasSign items i signs.Open → IsRead items Term (i + 1) j → HasSign items j signs.Comma
     → Leads items (Part Atom ∷ []) i (Part Term ∷ sign signs.Close ∷ []) (j + 1)
-comma_leads opened first comma = leads_then (first_leads opened first) (leads_then (leads_by two_terms comma) (leads_token comma))
+comma_leads opened first comma = leads_then (first_leads opened first) (past_token two_terms comma comma)
 
 second_leads : {items : List Item} {i j k : ℕ} → HasSign items i signs.Open → IsRead items Term (i + 1) j → HasSign items j signs.Comma → IsRead items Term (j + 1) k
     → Leads items (Part Atom ∷ []) i (sign signs.Close ∷ []) k
 second_leads opened first comma second = leads_then (comma_leads opened first comma) (leads_part second)
 
 pub inner_stops : {items : List Item} {i : ℕ} {stop : Stop} → HasSign items i signs.Open → Stops items (Part Term ∷ []) (i + 1) stop → Stops items (Part Atom ∷ []) i stop
-inner_stops opened stopped = stops_after (open_leads opened) (stops_at stopped)
+inner_stops opened stopped = stops_after (past_token in_brackets opened opened) (stops_at stopped)
 
 pub inner_read : {items : List Item} {i j k : ℕ} → HasSign items i signs.Open → IsRead items Term (i + 1) j → HasSign items j signs.Close → k ≡ j + 1 → IsRead items Atom i k
 inner_read opened first close e = leads_then (first_leads opened first) (leads_then (leads_by one_term close) (leads_token_to e close))
@@ -145,3 +116,23 @@ no_atom_stops source at within no_skip no_number no_name no_open = stops_at_part
     none _ a_literal told = no_number told
     none _ a_use told = no_name told
     none _ in_brackets told = no_open told
+
+-- the ways out at prefixes, but for what is read
+pub ruleset prefix_exits =
+    (passed_on, not_stops, bang_stops, fst_stops, snd_stops, IsTerm.an_atom, IsTerm.a_negation, IsTerm.a_reading, IsTerm.a_first_part, IsTerm.a_second_part)
+
+-- the ways out of an atom, but for what is read
+pub ruleset atom_exits = (
+  passed_on,
+  colon_stops,
+  width_stops,
+  name_stops,
+  inner_stops,
+  second_stops,
+  close_stops,
+  IsTerm.skipping,
+  IsTerm.a_literal,
+  IsTerm.a_name,
+  IsTerm.in_brackets,
+  IsTerm.a_pair,
+)

@@ -1,5 +1,5 @@
 -- What is found of the tokens before a limit, said of all tokens.
-use Rattle.std.proofs.Common.{◌≡◌, ℕ, ◌+◌, ◌<◌, ◌≤◌, List, length, map, take, sym, subst, arith}
+use Rattle.std.proofs.Common.{ℕ, ◌+◌, ◌<◌, ◌≤◌, List, length, take, sym, subst, arith}
 use Rattle.std.proofs.lemmas.List.{length-map, take-map}
 use Rattle.gos_lex.specs.declared.token.Token.{Token}
 use Rattle.gos_syntax.specs.Items.{Item, Agree, item_of, items_of}

@@ -1,5 +1,5 @@
 -- Where a parser refuses a module, the items stop being the beginning of one.
-use Rattle.std.proofs.Common.{◌≡◌, ℕ, ◌+◌, ◌<◌, ◌≤◌, List, [], ◌∷◌, ◌++◌, length, take, None, refl, ◌∙◌, subst, arith}
+use Rattle.std.proofs.Common.{◌≡◌, ℕ, ◌+◌, ◌<◌, ◌≤◌, List, [], ◌∷◌, ◌++◌, length, take, None, refl, ◌∙◌, subst, arith, Result, Ok, Err, IsErrAnd, IfErr, sym}
 use Rattle.std.proofs.lemmas.List.{length-take-le}
 use Rattle.gos_syntax.specs.Items.{Item, Agree, reading_at}
 use Rattle.gos_syntax.specs.ModuleTrees.{ModuleTree}
@@ -60,8 +60,14 @@ refused_unexpected items n refused =
     }
 
 -- why a parser stops at a module is why there is none
-pub no_module : (items : List Item) (stop : Stop) → Stops items (Part Module ∷ []) 0 stop → IsNoModule items stop
+no_module : (items : List Item) (stop : Stop) → Stops items (Part Module ∷ []) 0 stop → IsNoModule items stop
 no_module items stop stopped = record { unexpected = λ n e. refused_unexpected items n (stopped.refused n e) }
+
+-- what a `?` of the function on modules passes on
+pub module_refused : {T : Type 0} {stop : Stop} (items : List Item) (result : Result T Stop)
+    → IsErrAnd result (λ e. e ≡ stop) → Stops items (Part Module ∷ []) 0 stop → IfErr result (IsNoModule items)
+module_refused items (Ok x) is stopped = tt
+module_refused items (Err e) is stopped = no_module items e (subst (λ (s : Stop). Stops items (Part Module ∷ []) 0 s) (sym is) stopped)
 
 -- behind a module that was read the first item left is unexpected
 pub left_unexpected : (items : List Item) (n : ℕ) → n < length items → IsRead items Module 0 n → IsUnexpected items n

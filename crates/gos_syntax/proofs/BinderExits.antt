@@ -1,26 +1,24 @@
 -- The ways out of the parser's function on terms, at a function and at a block.
-use Rattle.std.proofs.Common.{◌≡◌, ℕ, ◌+◌, List, [], ◌∷◌, ◌++◌}
+use Rattle.std.proofs.Common.{◌≡◌, ℕ, ◌+◌, List, [], ◌∷◌}
 use Rattle.gos_lex.specs.declared.word.Word.TheVariants as words
 use Rattle.gos_lex.specs.declared.sign.Sign.TheVariants as signs
 use Rattle.gos_syntax.specs.declared.fault.Stop.{Stop}
 use Rattle.gos_syntax.specs.Items.{Item}
-use Rattle.gos_syntax.specs.Grammar.{HasWord, HasSign, HasName, HasNumber}
+use Rattle.gos_syntax.specs.Grammar.{HasWord, HasSign, HasName, HasNumber, IsTerm}
 use Rattle.gos_syntax.specs.Symbols as symbols
 use Rattle.gos_syntax.specs.Symbols.{Symbol, Part, word, sign, number, Whole, Term, a_lambda, a_block}
 use Rattle.gos_syntax.specs.Spelling.{Leads, IsRead, Stops}
 use Rattle.gos_syntax.specs.Heads.{parameter, local}
 use Rattle.gos_syntax.proofs.LeadsLemmas.{leads_then, leads_token, leads_token_to, leads_part, leads_before, stops_after, stops_at, stops_before}
-use Rattle.gos_syntax.proofs.RuleLemmas.{leads_by}
+use Rattle.gos_syntax.proofs.StopLemmas.{passed_on}
+use Rattle.gos_syntax.proofs.RuleExits.{past_token}
 
 -- term = "fun" name ":" type "." term
-fun_leads : {items : List Item} {i : ℕ} → HasWord items i words.Fun → Leads items (Part Term ∷ []) i (parameter ++ Part Term ∷ []) (i + 1)
-fun_leads is = leads_then (leads_by a_lambda is) (leads_token is)
-
 parameter_leads : {items : List Item} {i j : ℕ} → HasWord items i words.Fun → Leads items parameter (i + 1) [] j → Leads items (Part Term ∷ []) i (Part Term ∷ []) j
-parameter_leads is head = leads_then (fun_leads is) (leads_before {after = []} (Part Term ∷ []) head)
+parameter_leads is head = leads_then (past_token a_lambda is is) (leads_before {after = []} (Part Term ∷ []) head)
 
 pub parameter_stops : {items : List Item} {i : ℕ} {stop : Stop} → HasWord items i words.Fun → Stops items parameter (i + 1) stop → Stops items (Part Term ∷ []) i stop
-parameter_stops is stopped = stops_after (fun_leads is) (stops_before (Part Term ∷ []) stopped)
+parameter_stops is stopped = stops_after (past_token a_lambda is is) (stops_before (Part Term ∷ []) stopped)
 
 pub function_stops : {items : List Item} {i j : ℕ} {stop : Stop} → HasWord items i words.Fun → Leads items parameter (i + 1) [] j
     → Stops items (Part Term ∷ []) j stop → Stops items (Part Term ∷ []) i stop
@@ -30,14 +28,11 @@ pub function_read : {items : List Item} {i j k : ℕ} → HasWord items i words.
 function_read is head body = leads_then (parameter_leads is head) body
 
 -- term = "new" name ":" numeral "in" term
-new_leads : {items : List Item} {i : ℕ} → HasWord items i words.New → Leads items (Part Term ∷ []) i (local ++ Part Term ∷ []) (i + 1)
-new_leads is = leads_then (leads_by a_block is) (leads_token is)
-
 local_leads : {items : List Item} {i j : ℕ} → HasWord items i words.New → Leads items local (i + 1) [] j → Leads items (Part Term ∷ []) i (Part Term ∷ []) j
-local_leads is head = leads_then (new_leads is) (leads_before {after = []} (Part Term ∷ []) head)
+local_leads is head = leads_then (past_token a_block is is) (leads_before {after = []} (Part Term ∷ []) head)
 
 pub local_stops : {items : List Item} {i : ℕ} {stop : Stop} → HasWord items i words.New → Stops items local (i + 1) stop → Stops items (Part Term ∷ []) i stop
-local_stops is stopped = stops_after (new_leads is) (stops_before (Part Term ∷ []) stopped)
+local_stops is stopped = stops_after (past_token a_block is is) (stops_before (Part Term ∷ []) stopped)
 
 pub block_stops : {items : List Item} {i j : ℕ} {stop : Stop} → HasWord items i words.New → Leads items local (i + 1) [] j
     → Stops items (Part Term ∷ []) j stop → Stops items (Part Term ∷ []) i stop
@@ -105,3 +100,12 @@ in_stops name one colon two width stopped = stops_after (local_width_leads name 
 pub local_read : {items : List Item} {i j k w l : ℕ} {bytes : List ℕ} → HasName items i bytes → j ≡ i + 1 → HasSign items j signs.Colon → k ≡ j + 1
     → HasNumber items k w → HasWord items (k + 1) words.In → l ≡ k + 1 + 1 → Leads items local i [] l
 local_read name one colon two width is three = leads_then (local_width_leads name one colon two width) (leads_token_to three is)
+
+-- the ways out at functions and blocks, but for what is read
+pub ruleset binder_exits = (passed_on, parameter_stops, local_stops, IsTerm.a_lambda, IsTerm.a_block)
+
+-- the ways out between the word `fun` and the body, but for what is read
+pub ruleset parameter_exits = (passed_on, name_stops, colon_stops, type_stops)
+
+-- the ways out between the word `new` and the body, but for what is read
+pub ruleset local_exits = (passed_on, local_name_stops, local_colon_stops, width_stops, in_stops)

@@ -4,62 +4,41 @@ use Rattle.gos_lex.specs.declared.word.Word.TheVariants as words
 use Rattle.gos_lex.specs.declared.sign.Sign.TheVariants as signs
 use Rattle.gos_syntax.specs.declared.fault.Stop.{Stop}
 use Rattle.gos_syntax.specs.Items.{Item, reading_at}
-use Rattle.gos_syntax.specs.Grammar.{HasWord, HasSign}
-use Rattle.gos_syntax.specs.Symbols.{Part, word, Term, TermTail, Par, ParTail, Cmd, CmdTail, Rel, a_sequence, a_next, no_next, a_parallel, a_branch, no_branch, a_choice, a_loop, an_assignment, a_value, no_value}
+use Rattle.gos_syntax.specs.Grammar.{HasWord, HasSign, IsTerm}
+use Rattle.gos_syntax.specs.Symbols.{Part, word, Term, Par, Cmd, Rel, a_sequence, a_next, a_parallel, a_branch, a_choice, a_loop, an_assignment, a_value}
 use Rattle.gos_syntax.specs.Spelling.{Leads, IsRead, Stops}
-use Rattle.gos_syntax.proofs.LeadsLemmas.{leads_then, leads_token, leads_token_to, leads_part, stops_after, stops_at}
-use Rattle.gos_syntax.proofs.RuleLemmas.{IsNoBinder, IsNoControl, leads_by}
+use Rattle.gos_syntax.proofs.LeadsLemmas.{leads_then, leads_token_to, leads_part, stops_after, stops_at}
+use Rattle.gos_syntax.proofs.StopLemmas.{passed_on}
+use Rattle.gos_syntax.proofs.RuleExits.{past_token, past_tail, first_refused}
+use Rattle.gos_syntax.proofs.RuleLemmas.{IsNoBinder, IsNoControl}
 
 -- term = par [ ";" term ]
-step_leads : {items : List Item} {i j : ℕ} → IsNoBinder (reading_at items i) → IsRead items Par i j → Leads items (Part Term ∷ []) i (Part TermTail ∷ []) j
-step_leads no_binder step = leads_then (leads_by a_sequence no_binder) (leads_part step)
-
-next_leads : {items : List Item} {i j : ℕ} → IsNoBinder (reading_at items i) → IsRead items Par i j → HasSign items j signs.Semicolon
-    → Leads items (Part Term ∷ []) i (Part Term ∷ []) (j + 1)
-next_leads no_binder step semicolon = leads_then (step_leads no_binder step) (leads_then (leads_by a_next semicolon) (leads_token semicolon))
-
 pub step_stops : {items : List Item} {i : ℕ} {stop : Stop} → IsNoBinder (reading_at items i) → Stops items (Part Par ∷ []) i stop → Stops items (Part Term ∷ []) i stop
-step_stops no_binder stopped = stops_after (leads_by a_sequence no_binder) (stops_at stopped)
-
-pub step_read : {items : List Item} {i j : ℕ} → IsNoBinder (reading_at items i) → IsRead items Par i j → (HasSign items j signs.Semicolon → ⊥) → IsRead items Term i j
-step_read no_binder step no_semicolon = leads_then (step_leads no_binder step) (leads_by no_next no_semicolon)
+step_stops no_binder stopped = first_refused a_sequence no_binder stopped
 
 pub next_stops : {items : List Item} {i j : ℕ} {stop : Stop} → IsNoBinder (reading_at items i) → IsRead items Par i j → HasSign items j signs.Semicolon
     → Stops items (Part Term ∷ []) (j + 1) stop → Stops items (Part Term ∷ []) i stop
-next_stops no_binder step semicolon stopped = stops_after (next_leads no_binder step semicolon) stopped
+next_stops no_binder step semicolon stopped = stops_after (past_tail a_sequence no_binder a_next semicolon semicolon step) stopped
 
 pub next_read : {items : List Item} {i j k : ℕ} → IsNoBinder (reading_at items i) → IsRead items Par i j → HasSign items j signs.Semicolon
     → IsRead items Term (j + 1) k → IsRead items Term i k
-next_read no_binder step semicolon next = leads_then (next_leads no_binder step semicolon) next
+next_read no_binder step semicolon next = leads_then (past_tail a_sequence no_binder a_next semicolon semicolon step) next
 
 -- par = cmd [ "||" par ]
-branch_leads : {items : List Item} {i j : ℕ} → IsRead items Cmd i j → Leads items (Part Par ∷ []) i (Part ParTail ∷ []) j
-branch_leads branch = leads_then (leads_by a_parallel tt) (leads_part branch)
-
-parallel_leads : {items : List Item} {i j : ℕ} → IsRead items Cmd i j → HasSign items j signs.Parallel → Leads items (Part Par ∷ []) i (Part Par ∷ []) (j + 1)
-parallel_leads branch parallel = leads_then (branch_leads branch) (leads_then (leads_by a_branch parallel) (leads_token parallel))
-
 pub branch_stops : {items : List Item} {i : ℕ} {stop : Stop} → Stops items (Part Cmd ∷ []) i stop → Stops items (Part Par ∷ []) i stop
-branch_stops stopped = stops_after (leads_by a_parallel tt) (stops_at stopped)
-
-pub branch_read : {items : List Item} {i j : ℕ} → IsRead items Cmd i j → (HasSign items j signs.Parallel → ⊥) → IsRead items Par i j
-branch_read branch no_parallel = leads_then (branch_leads branch) (leads_by no_branch no_parallel)
+branch_stops stopped = first_refused a_parallel tt stopped
 
 pub parallel_stops : {items : List Item} {i j : ℕ} {stop : Stop} → IsRead items Cmd i j → HasSign items j signs.Parallel
     → Stops items (Part Par ∷ []) (j + 1) stop → Stops items (Part Par ∷ []) i stop
-parallel_stops branch parallel stopped = stops_after (parallel_leads branch parallel) stopped
+parallel_stops branch parallel stopped = stops_after (past_tail a_parallel tt a_branch parallel parallel branch) stopped
 
 pub parallel_read : {items : List Item} {i j k : ℕ} → IsRead items Cmd i j → HasSign items j signs.Parallel → IsRead items Par (j + 1) k → IsRead items Par i k
-parallel_read branch parallel others = leads_then (parallel_leads branch parallel) others
+parallel_read branch parallel others = leads_then (past_tail a_parallel tt a_branch parallel parallel branch) others
 
 -- cmd = "if" term "then" cmd "else" cmd
-if_leads : {items : List Item} {i : ℕ} → HasWord items i words.If
-    → Leads items (Part Cmd ∷ []) i (Part Term ∷ word words.Then ∷ Part Cmd ∷ word words.Else ∷ Part Cmd ∷ []) (i + 1)
-if_leads is = leads_then (leads_by a_choice is) (leads_token is)
-
 test_leads : {items : List Item} {i j : ℕ} → HasWord items i words.If → IsRead items Term (i + 1) j
     → Leads items (Part Cmd ∷ []) i (word words.Then ∷ Part Cmd ∷ word words.Else ∷ Part Cmd ∷ []) j
-test_leads is test = leads_then (if_leads is) (leads_part test)
+test_leads is test = leads_then (past_token a_choice is is) (leads_part test)
 
 then_leads : {items : List Item} {i j k : ℕ} → HasWord items i words.If → IsRead items Term (i + 1) j → HasWord items j words.Then → k ≡ j + 1
     → Leads items (Part Cmd ∷ []) i (Part Cmd ∷ word words.Else ∷ Part Cmd ∷ []) k
@@ -74,7 +53,7 @@ else_leads : {items : List Item} {i j k l m : ℕ} → HasWord items i words.If 
 else_leads is test then_word one when_true else_word two = leads_then (when_true_leads is test then_word one when_true) (leads_token_to two else_word)
 
 pub test_stops : {items : List Item} {i : ℕ} {stop : Stop} → HasWord items i words.If → Stops items (Part Term ∷ []) (i + 1) stop → Stops items (Part Cmd ∷ []) i stop
-test_stops is stopped = stops_after (if_leads is) (stops_at stopped)
+test_stops is stopped = stops_after (past_token a_choice is is) (stops_at stopped)
 
 pub then_stops : {items : List Item} {i j : ℕ} {stop : Stop} → HasWord items i words.If → IsRead items Term (i + 1) j
     → Stops items (word words.Then ∷ []) j stop → Stops items (Part Cmd ∷ []) i stop
@@ -97,19 +76,16 @@ pub choice_read : {items : List Item} {i j k l m n : ℕ} → HasWord items i wo
 choice_read is test then_word one when_true else_word two otherwise = leads_then (else_leads is test then_word one when_true else_word two) otherwise
 
 -- cmd = "while" term "do" cmd
-while_leads : {items : List Item} {i : ℕ} → HasWord items i words.While → Leads items (Part Cmd ∷ []) i (Part Term ∷ word words.Do ∷ Part Cmd ∷ []) (i + 1)
-while_leads is = leads_then (leads_by a_loop is) (leads_token is)
-
 loop_test_leads : {items : List Item} {i j : ℕ} → HasWord items i words.While → IsRead items Term (i + 1) j
     → Leads items (Part Cmd ∷ []) i (word words.Do ∷ Part Cmd ∷ []) j
-loop_test_leads is test = leads_then (while_leads is) (leads_part test)
+loop_test_leads is test = leads_then (past_token a_loop is is) (leads_part test)
 
 do_leads : {items : List Item} {i j k : ℕ} → HasWord items i words.While → IsRead items Term (i + 1) j → HasWord items j words.Do → k ≡ j + 1
     → Leads items (Part Cmd ∷ []) i (Part Cmd ∷ []) k
 do_leads is test do_word one = leads_then (loop_test_leads is test) (leads_token_to one do_word)
 
 pub loop_test_stops : {items : List Item} {i : ℕ} {stop : Stop} → HasWord items i words.While → Stops items (Part Term ∷ []) (i + 1) stop → Stops items (Part Cmd ∷ []) i stop
-loop_test_stops is stopped = stops_after (while_leads is) (stops_at stopped)
+loop_test_stops is stopped = stops_after (past_token a_loop is is) (stops_at stopped)
 
 pub do_stops : {items : List Item} {i j : ℕ} {stop : Stop} → HasWord items i words.While → IsRead items Term (i + 1) j
     → Stops items (word words.Do ∷ []) j stop → Stops items (Part Cmd ∷ []) i stop
@@ -124,23 +100,36 @@ pub loop_read : {items : List Item} {i j k l : ℕ} → HasWord items i words.Wh
 loop_read is test do_word one body = leads_then (do_leads is test do_word one) body
 
 -- cmd = rel [ ":=" rel ]
-target_leads : {items : List Item} {i j : ℕ} → IsNoControl (reading_at items i) → IsRead items Rel i j → Leads items (Part Cmd ∷ []) i (Part CmdTail ∷ []) j
-target_leads no_control target = leads_then (leads_by an_assignment no_control) (leads_part target)
-
-assign_leads : {items : List Item} {i j : ℕ} → IsNoControl (reading_at items i) → IsRead items Rel i j → HasSign items j signs.Assign
-    → Leads items (Part Cmd ∷ []) i (Part Rel ∷ []) (j + 1)
-assign_leads no_control target assign = leads_then (target_leads no_control target) (leads_then (leads_by a_value assign) (leads_token assign))
-
 pub target_stops : {items : List Item} {i : ℕ} {stop : Stop} → IsNoControl (reading_at items i) → Stops items (Part Rel ∷ []) i stop → Stops items (Part Cmd ∷ []) i stop
-target_stops no_control stopped = stops_after (leads_by an_assignment no_control) (stops_at stopped)
-
-pub target_read : {items : List Item} {i j : ℕ} → IsNoControl (reading_at items i) → IsRead items Rel i j → (HasSign items j signs.Assign → ⊥) → IsRead items Cmd i j
-target_read no_control target no_assign = leads_then (target_leads no_control target) (leads_by no_value no_assign)
+target_stops no_control stopped = first_refused an_assignment no_control stopped
 
 pub value_stops : {items : List Item} {i j : ℕ} {stop : Stop} → IsNoControl (reading_at items i) → IsRead items Rel i j → HasSign items j signs.Assign
     → Stops items (Part Rel ∷ []) (j + 1) stop → Stops items (Part Cmd ∷ []) i stop
-value_stops no_control target assign stopped = stops_after (assign_leads no_control target assign) stopped
+value_stops no_control target assign stopped = stops_after (past_tail an_assignment no_control a_value assign assign target) stopped
 
 pub value_read : {items : List Item} {i j k : ℕ} → IsNoControl (reading_at items i) → IsRead items Rel i j → HasSign items j signs.Assign
     → IsRead items Rel (j + 1) k → IsRead items Cmd i k
-value_read no_control target assign value = leads_then (assign_leads no_control target assign) value
+value_read no_control target assign value = leads_then (past_tail an_assignment no_control a_value assign assign target) value
+
+-- the ways out at a sequence, but for what is read
+pub ruleset sequence_exits = (passed_on, step_stops, next_stops, IsTerm.a_parallel, IsTerm.a_sequence)
+
+-- the ways out at parallel commands, but for what is read
+pub ruleset parallel_exits = (passed_on, branch_stops, parallel_stops, IsTerm.a_command, IsTerm.both_commands)
+
+-- the ways out of a command, but for what is read
+pub ruleset command_exits = (
+  passed_on,
+  test_stops,
+  then_stops,
+  when_true_stops,
+  loop_test_stops,
+  do_stops,
+  body_stops,
+  target_stops,
+  value_stops,
+  IsTerm.a_relation,
+  IsTerm.an_assignment,
+  IsTerm.a_choice,
+  IsTerm.a_loop,
+)

@@ -181,42 +181,36 @@ two_bytes c d none (b ∷ rest) (suc (suc (suc n))) within lexeme =
 any : List ℕ → Type 0
 any rest = Unit {0}
 
-pub sign_lexed : (sign : Sign) (rest : List ℕ) → EndsSign sign rest → IsLexed (sign_text sign) (kinds.Sign sign) rest
+-- a byte with which no longer lexeme begins
+alone : (c : ℕ) (kind : TokenKind) (rest : List ℕ) → IsTrue (is_lexeme (c ∷ [])) → ((b : ℕ) (more : List ℕ) → is_lexeme (c ∷ b ∷ more) ≡ false)
+    → BeginsNoGap (c ∷ rest) → IsOfKind (c ∷ []) kind → IsLexed (c ∷ []) kind rest
 unfolding any
-sign_lexed signs.Open rest ends =
-    record { some = omega arith; lexeme = refl; longest = one_byte 40 any (λ b tail more _. refl) rest tt; no_gap = (refl, λ e. omega (arith, e)); of_kind = refl }
-sign_lexed signs.Close rest ends =
-    record { some = omega arith; lexeme = refl; longest = one_byte 41 any (λ b tail more _. refl) rest tt; no_gap = (refl, λ e. omega (arith, e)); of_kind = refl }
-sign_lexed signs.Comma rest ends =
-    record { some = omega arith; lexeme = refl; longest = one_byte 44 any (λ b tail more _. refl) rest tt; no_gap = (refl, λ e. omega (arith, e)); of_kind = refl }
-sign_lexed signs.Dot rest ends =
-    record { some = omega arith; lexeme = refl; longest = one_byte 46 any (λ b tail more _. refl) rest tt; no_gap = (refl, λ e. omega (arith, e)); of_kind = refl }
+alone c kind rest lexeme none no_gap of_kind =
+    record { some = omega arith; lexeme = lexeme; longest = one_byte c any (λ b tail more _. none b more) rest tt; no_gap = no_gap; of_kind = of_kind }
+
+pub sign_lexed : (sign : Sign) (rest : List ℕ) → EndsSign sign rest → IsLexed (sign_text sign) (kinds.Sign sign) rest
+sign_lexed signs.Open rest ends = alone 40 (kinds.Sign signs.Open) rest refl (λ b more. refl) (refl, λ e. omega (arith, e)) refl
+sign_lexed signs.Close rest ends = alone 41 (kinds.Sign signs.Close) rest refl (λ b more. refl) (refl, λ e. omega (arith, e)) refl
+sign_lexed signs.Comma rest ends = alone 44 (kinds.Sign signs.Comma) rest refl (λ b more. refl) (refl, λ e. omega (arith, e)) refl
+sign_lexed signs.Dot rest ends = alone 46 (kinds.Sign signs.Dot) rest refl (λ b more. refl) (refl, λ e. omega (arith, e)) refl
 sign_lexed signs.Colon rest ends =
     record { some = omega arith; lexeme = refl; longest = one_byte 58 (EndsSign signs.Colon) (λ b tail more no_more. rw no_more refl) rest ends; no_gap = (refl, λ e. omega (arith, e)); of_kind = refl }
-sign_lexed signs.Semicolon rest ends =
-    record { some = omega arith; lexeme = refl; longest = one_byte 59 any (λ b tail more _. refl) rest tt; no_gap = (refl, λ e. omega (arith, e)); of_kind = refl }
+sign_lexed signs.Semicolon rest ends = alone 59 (kinds.Sign signs.Semicolon) rest refl (λ b more. refl) (refl, λ e. omega (arith, e)) refl
 sign_lexed signs.Assign rest ends =
     record { some = omega arith; lexeme = refl; longest = two_bytes 58 61 (λ b more. refl) rest; no_gap = (refl, λ e. omega (arith, e)); of_kind = refl }
 sign_lexed signs.Parallel rest ends =
     record { some = omega arith; lexeme = refl; longest = two_bytes 124 124 (λ b more. refl) rest; no_gap = (refl, λ e. omega (arith, e)); of_kind = refl }
 sign_lexed signs.Or rest ends =
     record { some = omega arith; lexeme = refl; longest = one_byte 124 (EndsSign signs.Or) (λ b tail more no_more. rw no_more refl) rest ends; no_gap = (refl, λ e. omega (arith, e)); of_kind = refl }
-sign_lexed signs.And rest ends =
-    record { some = omega arith; lexeme = refl; longest = one_byte 38 any (λ b tail more _. refl) rest tt; no_gap = (refl, λ e. omega (arith, e)); of_kind = refl }
-sign_lexed signs.Xor rest ends =
-    record { some = omega arith; lexeme = refl; longest = one_byte 94 any (λ b tail more _. refl) rest tt; no_gap = (refl, λ e. omega (arith, e)); of_kind = refl }
-sign_lexed signs.Plus rest ends =
-    record { some = omega arith; lexeme = refl; longest = one_byte 43 any (λ b tail more _. refl) rest tt; no_gap = (refl, λ e. omega (arith, e)); of_kind = refl }
+sign_lexed signs.And rest ends = alone 38 (kinds.Sign signs.And) rest refl (λ b more. refl) (refl, λ e. omega (arith, e)) refl
+sign_lexed signs.Xor rest ends = alone 94 (kinds.Sign signs.Xor) rest refl (λ b more. refl) (refl, λ e. omega (arith, e)) refl
+sign_lexed signs.Plus rest ends = alone 43 (kinds.Sign signs.Plus) rest refl (λ b more. refl) (refl, λ e. omega (arith, e)) refl
 sign_lexed signs.Minus rest ends =
     record { some = omega arith; lexeme = refl; longest = one_byte 45 (EndsSign signs.Minus) (λ b tail more no_more. rw no_more refl) rest ends; no_gap = (refl, λ e. omega (arith, e)); of_kind = refl }
-sign_lexed signs.Equal rest ends =
-    record { some = omega arith; lexeme = refl; longest = one_byte 61 any (λ b tail more _. refl) rest tt; no_gap = (refl, λ e. omega (arith, e)); of_kind = refl }
-sign_lexed signs.Less rest ends =
-    record { some = omega arith; lexeme = refl; longest = one_byte 60 any (λ b tail more _. refl) rest tt; no_gap = (refl, λ e. omega (arith, e)); of_kind = refl }
-sign_lexed signs.Bang rest ends =
-    record { some = omega arith; lexeme = refl; longest = one_byte 33 any (λ b tail more _. refl) rest tt; no_gap = (refl, λ e. omega (arith, e)); of_kind = refl }
-sign_lexed signs.Star rest ends =
-    record { some = omega arith; lexeme = refl; longest = one_byte 42 any (λ b tail more _. refl) rest tt; no_gap = (refl, λ e. omega (arith, e)); of_kind = refl }
+sign_lexed signs.Equal rest ends = alone 61 (kinds.Sign signs.Equal) rest refl (λ b more. refl) (refl, λ e. omega (arith, e)) refl
+sign_lexed signs.Less rest ends = alone 60 (kinds.Sign signs.Less) rest refl (λ b more. refl) (refl, λ e. omega (arith, e)) refl
+sign_lexed signs.Bang rest ends = alone 33 (kinds.Sign signs.Bang) rest refl (λ b more. refl) (refl, λ e. omega (arith, e)) refl
+sign_lexed signs.Star rest ends = alone 42 (kinds.Sign signs.Star) rest refl (λ b more. refl) (refl, λ e. omega (arith, e)) refl
 sign_lexed signs.Arrow rest ends =
     record { some = omega arith; lexeme = refl; longest = two_bytes 45 62 (λ b more. refl) rest; no_gap = (refl, λ e. omega (arith, e)); of_kind = refl }
 

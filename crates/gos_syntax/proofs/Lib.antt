@@ -5,6 +5,7 @@ pub mod TreeSizes
 pub mod LeadsLemmas
 pub mod RuleLemmas
 pub mod StopLemmas
+pub mod RuleExits
 pub mod TypeExits
 pub mod BinderExits
 pub mod CommandExits

@@ -1,12 +1,11 @@
 -- The rules of a module: its next token tells whether an import comes, or what is exported.
-use Rattle.std.proofs.Common.{◌≡◌, ℕ, ◌+◌, ◌<◌, ◌≤◌, List, [], ◌∷◌, ◌++◌, Option, Some, refl, sym, ◌∙◌, subst, arith}
+use Rattle.std.proofs.Common.{◌≡◌, ℕ, ◌+◌, List, [], ◌∷◌, ◌++◌, sym, ◌∙◌, subst, arith}
 use Rattle.gos_lex.specs.declared.word.Word.TheVariants as words
 use Rattle.gos_lex.specs.declared.sign.Sign.TheVariants as signs
-use Rattle.gos_lex.specs.Tokens.{Reading, AWord, ASign}
-use Rattle.gos_syntax.specs.Items.{Item, reading_at}
+use Rattle.gos_syntax.specs.Items.{Item}
 use Rattle.gos_syntax.specs.Grammar.{HasWord, HasSign, HasName}
-use Rattle.gos_syntax.specs.Symbols.{Class, TheSign, Fits, Phrase, Symbol, Token, Part, word, sign, name, IsRule, Module, Whole, Term, an_import, an_export}
-use Rattle.gos_syntax.specs.Spelling.{Spells, by_rule, Leads, IsRead, EndsBefore, looseness}
+use Rattle.gos_syntax.specs.Symbols.{TheSign, Symbol, Part, word, sign, name, Module, Whole, Term, an_import, an_export}
+use Rattle.gos_syntax.specs.Spelling.{Spells, by_rule, Leads, IsRead, EndsBefore}
 use Rattle.gos_syntax.proofs.StepLemmas.{two}
 use Rattle.gos_syntax.proofs.LeadsLemmas.{token_spelled, leads_then, leads_token, leads_part}
 use Rattle.gos_syntax.proofs.RuleLemmas.{leads_by}

@@ -39,6 +39,7 @@ pub(crate) struct Local {
 impl<'a> Source<'a> {
     // term = "fun" name ":" type "." term | "new" name ":" numeral "in" term | par [ ";" term ]
     #[cycle(term)]
+    #[tactic(auto, using(crate::proofs::BinderExits::binder_exits, crate::proofs::CommandExits::sequence_exits))]
     pub(crate) fn term(&self, alloc: Global, at: usize) -> Result<(Box<Term>, usize), Stop>
         requires stands { Stands self.now }
         requires within { at ≤ length self.now.tokens.now }
@@ -92,6 +93,7 @@ impl<'a> Source<'a> {
 
     // par = cmd [ "||" par ]
     #[cycle(term)]
+    #[tactic(auto, using(crate::proofs::CommandExits::parallel_exits))]
     fn par(&self, alloc: Global, at: usize) -> Result<(Box<Term>, usize), Stop>
         requires stands { Stands self.now }
         requires within { at ≤ length self.now.tokens.now }
@@ -112,6 +114,7 @@ impl<'a> Source<'a> {
 
     // cmd = "if" term "then" cmd "else" cmd | "while" term "do" cmd | rel [ ":=" rel ]
     #[cycle(term)]
+    #[tactic(auto, using(crate::proofs::CommandExits::command_exits))]
     fn cmd(&self, alloc: Global, at: usize) -> Result<(Box<Term>, usize), Stop>
         requires stands { Stands self.now }
         requires within { at ≤ length self.now.tokens.now }
@@ -149,6 +152,7 @@ impl<'a> Source<'a> {
 
     // rel = bits [ ( "=" | "<" ) bits ]
     #[cycle(term)]
+    #[tactic(auto, using(crate::proofs::OperatorExits::comparison_exits))]
     fn rel(&self, alloc: Global, at: usize) -> Result<(Box<Term>, usize), Stop>
         requires stands { Stands self.now }
         requires within { at ≤ length self.now.tokens.now }
@@ -171,6 +175,7 @@ impl<'a> Source<'a> {
 
     // bits = sum { ( "&" | "|" | "^" ) sum }
     #[cycle(term)]
+    #[tactic(auto, using(crate::proofs::OperatorExits::bits_exits))]
     fn bits(&self, alloc: Global, at: usize) -> Result<(Box<Term>, usize), Stop>
         requires stands { Stands self.now }
         requires within { at ≤ length self.now.tokens.now }
@@ -192,6 +197,7 @@ impl<'a> Source<'a> {
 
     // sum = app { ( "+" | "-" ) app }
     #[cycle(term)]
+    #[tactic(auto, using(crate::proofs::OperatorExits::sum_exits))]
     fn sum(&self, alloc: Global, at: usize) -> Result<(Box<Term>, usize), Stop>
         requires stands { Stands self.now }
         requires within { at ≤ length self.now.tokens.now }
@@ -213,6 +219,7 @@ impl<'a> Source<'a> {
 
     // app = pre { pre }
     #[cycle(term)]
+    #[tactic(auto, using(crate::proofs::OperatorExits::application_exits))]
     fn app(&self, alloc: Global, at: usize) -> Result<(Box<Term>, usize), Stop>
         requires stands { Stands self.now }
         requires within { at ≤ length self.now.tokens.now }
@@ -234,6 +241,7 @@ impl<'a> Source<'a> {
 
     // pre = ( "not" | "!" | "fst" | "snd" ) pre | atom
     #[cycle(term)]
+    #[tactic(auto, using(crate::proofs::AtomExits::prefix_exits))]
     fn pre(&self, alloc: Global, at: usize) -> Result<(Box<Term>, usize), Stop>
         requires stands { Stands self.now }
         requires within { at ≤ length self.now.tokens.now }
@@ -270,6 +278,7 @@ impl<'a> Source<'a> {
 
     // atom = "skip" | numeral ":" numeral | name | "(" term [ "," term ] ")"
     #[cycle(term)]
+    #[tactic(auto, using(crate::proofs::AtomExits::atom_exits))]
     fn atom(&self, alloc: Global, at: usize) -> Result<(Box<Term>, usize), Stop>
         requires stands { Stands self.now }
         requires within { at ≤ length self.now.tokens.now }
@@ -308,6 +317,7 @@ impl<'a> Source<'a> {
     }
 
     // What stands from the word `fun` to just before the body, and the number of the body's first token.
+    #[tactic(auto, using(crate::proofs::BinderExits::parameter_exits))]
     fn parameter(&self, alloc: Global, at: usize) -> Result<(Parameter, usize), Stop>
         requires stands { Stands self.now }
         requires room { at < length self.now.tokens.now }
@@ -326,6 +336,7 @@ impl<'a> Source<'a> {
     }
 
     // What stands from the word `new` to just before the body, and the number of the body's first token.
+    #[tactic(auto, using(crate::proofs::BinderExits::local_exits))]
     fn local(&self, alloc: Global, at: usize) -> Result<(Local, usize), Stop>
         requires stands { Stands self.now }
         requires room { at < length self.now.tokens.now }

@@ -18,6 +18,7 @@ use std::alloc::Global;
 impl<'a> Source<'a> {
     // type = prod [ "->" type ]
     #[cycle(ty)]
+    #[tactic(auto, using(crate::proofs::TypeExits::type_exits))]
     pub(crate) fn ty(&self, alloc: Global, at: usize) -> Result<(Ty, usize), Stop>
         requires { at ≤ length self.now.tokens.now }
         ensures after { IfOk result (λ read. at < read.1) }
@@ -39,6 +40,7 @@ impl<'a> Source<'a> {
 
     // prod = base [ "*" prod ]
     #[cycle(ty)]
+    #[tactic(auto, using(crate::proofs::TypeExits::product_exits))]
     fn product(&self, alloc: Global, at: usize) -> Result<(Ty, usize), Stop>
         requires { at ≤ length self.now.tokens.now }
         ensures after { IfOk result (λ read. at < read.1) }
@@ -60,6 +62,7 @@ impl<'a> Source<'a> {
 
     // base = "com" | "exp" numeral | "var" numeral | "(" type ")"
     #[cycle(ty)]
+    #[tactic(auto, using(crate::proofs::TypeExits::base_exits))]
     fn base(&self, alloc: Global, at: usize) -> Result<(Ty, usize), Stop>
         requires { at ≤ length self.now.tokens.now }
         ensures after { IfOk result (λ read. at < read.1) }

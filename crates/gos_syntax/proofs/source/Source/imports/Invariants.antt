@@ -1,4 +1,4 @@
-use Rattle.std.proofs.Common.{ℕ, ◌≤◌, ◌-◌, [], ◌∷◌, map, length}
+use Rattle.std.proofs.Common.{◌≤◌, ◌-◌, [], ◌∷◌, map, length}
 use Rattle.gos_syntax.specs.Items.{seen}
 use Rattle.gos_syntax.specs.ModuleTrees.{import_tree}
 use Rattle.gos_syntax.specs.ParsedModules.{AreImports}

@@ -1,6 +1,5 @@
 use Rattle.std.proofs.Common.{◌≡◌, ℕ, ◌+◌, ◌<◌, ◌∙◌, ap, sym, subst}
 use Rattle.std.proofs.lemmas.List.{length-map}
-use Rattle.std.proofs.lemmas.Result.{err_from_is_err_and}
 use Rattle.gos_types.specs.Types.{type_of}
 use Rattle.gos_syntax.specs.Items.{item_of, seen, span_of}
 use Rattle.gos_syntax.specs.declared.terms.Term as program
@@ -8,39 +7,31 @@ use Rattle.gos_syntax.specs.Grammar.{Derives, Term, IsType, Whole}
 use Rattle.gos_syntax.proofs.ItemLemmas.{none_there}
 use Rattle.gos_syntax.proofs.LeadsLemmas.{leads_then, leads_part, stops_after, stops_at}
 use Rattle.gos_syntax.proofs.ModuleRuleLemmas.{export_rule, after_export, after_body}
-use Rattle.gos_syntax.proofs.BeginningLemmas.{no_module, left_stops}
+use Rattle.gos_syntax.proofs.BeginningLemmas.{module_refused, left_stops}
 use Rattle.gos_syntax.proofs.source.Source.module.Goals as goal
 
 pub returns-in_err-imports-clause-refused : goal.returns-in_err-imports-clause-refused
 returns-in_err-imports-clause-refused c =
-    let known = no_module (seen c.args.self.now) _ c.in_err-imports.ensures.refused in
-    let p = err_from_is_err_and c.from_residual.result c.from_residual.ensures.1 in
-    rw (p.1, p.2) known
+    module_refused (seen c.args.self.now) c.from_residual.result c.from_residual.ensures.1 c.in_err-imports.ensures.refused
 
 pub returns-in_err-body_at-clause-refused : goal.returns-in_err-body_at-clause-refused
 returns-in_err-body_at-clause-refused c =
     let leads = leads_then c.in_ok-imports.ensures.read (export_rule (seen c.args.self.now) c.in_ok-imports.at c.in_ok-imports.ensures.last) in
-    let known = no_module (seen c.args.self.now) _ (stops_after leads (stops_at c.in_err-body_at.ensures.refused)) in
-    let p = err_from_is_err_and c.from_residual-in_err-body_at.result c.from_residual-in_err-body_at.ensures.1 in
-    rw (p.1, p.2) known
+    module_refused (seen c.args.self.now) c.from_residual-in_err-body_at.result c.from_residual-in_err-body_at.ensures.1 (stops_after leads (stops_at c.in_err-body_at.ensures.refused))
 
 pub returns-in_err-body-clause-refused : goal.returns-in_err-body-clause-refused
 returns-in_err-body-clause-refused c =
     let leads =
     after_export (seen c.args.self.now) c.in_ok-imports.at c.in_ok-body_at.body_at c.in_ok-imports.ensures.read c.in_ok-imports.ensures.last
     c.in_ok-body_at.ensures.word c.in_ok-body_at.ensures.next in
-    let known = no_module (seen c.args.self.now) _ (stops_after leads (stops_at c.in_err-body.ensures.refused)) in
-    let p = err_from_is_err_and c.from_residual-in_err-body.result c.from_residual-in_err-body.ensures.1 in
-    rw (p.1, p.2) known
+    module_refused (seen c.args.self.now) c.from_residual-in_err-body.result c.from_residual-in_err-body.ensures.1 (stops_after leads (stops_at c.in_err-body.ensures.refused))
 
 pub returns-in_err-result_at-clause-refused : goal.returns-in_err-result_at-clause-refused
 returns-in_err-result_at-clause-refused c =
     let leads =
     after_export (seen c.args.self.now) c.in_ok-imports.at c.in_ok-body_at.body_at c.in_ok-imports.ensures.read c.in_ok-imports.ensures.last
     c.in_ok-body_at.ensures.word c.in_ok-body_at.ensures.next in
-    let known = no_module (seen c.args.self.now) _ (stops_after (leads_then leads (leads_part c.in_ok-body.ensures.read)) (stops_at c.in_err-result_at.ensures.refused)) in
-    let p = err_from_is_err_and c.from_residual-in_err-result_at.result c.from_residual-in_err-result_at.ensures.1 in
-    rw (p.1, p.2) known
+    module_refused (seen c.args.self.now) c.from_residual-in_err-result_at.result c.from_residual-in_err-result_at.ensures.1 (stops_after (leads_then leads (leads_part c.in_ok-body.ensures.read)) (stops_at c.in_err-result_at.ensures.refused))
 
 pub returns-in_err-result-clause-refused : goal.returns-in_err-result-clause-refused
 returns-in_err-result-clause-refused c =
@@ -48,9 +39,7 @@ returns-in_err-result-clause-refused c =
     after_export (seen c.args.self.now) c.in_ok-imports.at c.in_ok-body_at.body_at c.in_ok-imports.ensures.read c.in_ok-imports.ensures.last
     c.in_ok-body_at.ensures.word c.in_ok-body_at.ensures.next in
     let ended = after_body (seen c.args.self.now) _ _ _ leads c.in_ok-body.ensures.read c.in_ok-result_at.ensures.sign c.in_ok-result_at.ensures.next in
-    let known = no_module (seen c.args.self.now) _ (stops_after ended (stops_at c.in_err-result.ensures.refused)) in
-    let p = err_from_is_err_and c.from_residual-in_err-result.result c.from_residual-in_err-result.ensures.1 in
-    rw (p.1, p.2) known
+    module_refused (seen c.args.self.now) c.from_residual-in_err-result.result c.from_residual-in_err-result.ensures.1 (stops_after ended (stops_at c.in_err-result.ensures.refused))
 
 pub returns-then-end-self-clause-refused : goal.returns-then-end-self-clause-refused
 returns-then-end-self-clause-refused c =
