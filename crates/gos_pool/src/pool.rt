@@ -1,5 +1,5 @@
 // A pool of cells.
-ghost use Rattle.std.specs.Prelude.{◌≡◌, ◌+◌, ◌<◌, ◌≤◌, [], Some, None, length, map, take, OnOk, OnErr};
+ghost use Rattle.std.specs.Prelude.{◌≡◌, ◌+◌, ◌++◌, ◌<◌, ◌≤◌, [], Some, None, length, map, take, OnOk, OnErr};
 ghost use Rattle.gos_netlist.specs.Seen.{cell_of, number_of};
 ghost use Rattle.gos_pool.specs.Pools.{IsInOrder, KeepsClosed, with_cell, with_closed};
 ghost use Rattle.gos_pool.specs.Marks.{CanCutBack};
@@ -87,6 +87,22 @@ impl NetPool {
         self.cells.push_reserved(cell);
         self.spare -= 1;
         net
+    }
+
+    /// Places cells behind the others, in their order. It takes no memory.
+    pub fn place_all(&mut self, region: &mut Region, cells: &[Cell])
+        requires begun { self.old.begun ≡ Some region.old }
+        requires spare { length cells.now ≤ self.old.spare }
+        ensures cells { self.new.cells ≡ self.old.cells ++ map cell_of cells.now }
+        ensures spare { self.old.spare ≡ self.new.spare + length cells.now }
+        ensures begun { self.new.begun ≡ self.old.begun }
+        ensures closed { self.new.closed ≡ self.old.closed }
+        ensures region { region.new ≡ region.old }
+        ensures kept { KeepsClosed self.old self.new }
+    {
+        for cell in cells {
+            self.place(region, *cell);
+        }
     }
 
     /// Closes the region that is begun. From now on its cells never change. It takes no memory.

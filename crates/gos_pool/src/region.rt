@@ -25,8 +25,8 @@ impl Region {
         Region { start }
     }
 
-    // The number of its first cell.
-    pub(crate) fn start(&self) -> u32
+    /// The number of its first cell.
+    pub fn start(&self) -> u32
         ensures { result ≡ self.now }
     {
         self.start
