@@ -111,7 +111,7 @@ abbrev pub IsOf : Role → End → Joint → Type 0
 IsOf Ask e j = e ≡ j.asking
 IsOf Serve e j = e ≡ j.serving
 
-of_role : (p : Plan) (j : Joint) (e : End) (c : Contact) → IsRight p → IsIn j p.joints → stands_in e j ≡ true → contact_at p e ≡ Some c
+pub of_role : (p : Plan) (j : Joint) (e : End) (c : Contact) → IsRight p → IsIn j p.joints → stands_in e j ≡ true → contact_at p e ≡ Some c
     → IsOf c.role e j
 of_role p j e c r i t k = by_test (same_end e j.asking) refl
   where

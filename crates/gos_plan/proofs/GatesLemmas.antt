@@ -1,13 +1,16 @@
 -- The gates of a Share of a command keep the laws.
 use Rattle.std.proofs.Common.{◌≡◌, inl, inr, ◌⊎◌, ℕ, zero, suc, ◌+◌, ◌-◌, ◌*◌, ◌≤◌, Bool, true, false, List, [], ◌∷◌, ◌++◌, Some, refl, sym, ◌∙◌, ap, subst, arith}
+use Rattle.std.specs.List.{AllByRecursion}
 use Rattle.std.specs.Prelude.{nat_eq, if◌then◌else◌, bit_or, bit_and}
 use Rattle.gos_types.specs.Types.{Com}
 use Rattle.gos_netlist.specs.Settling.{Numbers}
 use Rattle.gos_netlist.specs.Settling as nets
-use Rattle.gos_plan.specs.Kinds.{Share}
+use Rattle.gos_netcheck.specs.CellRules.{HasRightWidths}
+use Rattle.gos_plan.specs.Kinds.{Share, part_contacts}
 use Rattle.gos_plan.specs.Firing.{Rest, State, Slot, Req, Ans, Token, Row, row, at, put, row_for, firing}
-use Rattle.gos_plan.specs.Gates.{pulse_in, value_in, due, value_due, SameTokens}
+use Rattle.gos_plan.specs.Gates.{Incoming, pulse_in, value_in, due, value_due, SameTokens, held}
 use Rattle.gos_plan.specs.Law.{Asked, after_taking, after_putting, PutsWell, Fires, times, GatesLaw}
+use Rattle.gos_plan.specs.Fit.{IsKnown, NameEarlier, BitsComeIn, HaveBits}
 use Rattle.gos_plan.specs.SmallGates.{SharedGates, shared_cells, shared_outs, shared_late, shared_pending, SharedStands}
 use Rattle.gos_plan.specs.Inversion.{first_or_later, no_row, stepped}
 
@@ -149,15 +152,12 @@ either_table (suc (suc a)) c p q = absurd (omega (arith, p))
 either_table a (suc (suc c)) p q = absurd (omega (arith, q))
 
 -- the request that is held
-abbrev held : ℕ → List Token
-held m = if nat_eq m 1 then put (Req 0) 0 ∷ [] else []
+request_due : (m : ℕ) (ts : List Token) → m ≤ 1 → (due 0 (held (Req 0) m ++ ts) ≡ m + due 0 ts) × (due 1 (held (Req 0) m ++ ts) ≡ due 1 ts) × (due 2 (held (Req 0) m ++ ts) ≡ due 2 ts)
+request_due zero ts small = (omega arith, refl, refl)
+request_due (suc zero) ts small = (omega arith, refl, refl)
+request_due (suc (suc m)) ts small = absurd (omega (arith, small))
 
-due_held : (m : ℕ) (ts : List Token) → m ≤ 1 → (due 0 (held m ++ ts) ≡ m + due 0 ts) × (due 1 (held m ++ ts) ≡ due 1 ts) × (due 2 (held m ++ ts) ≡ due 2 ts)
-due_held zero ts small = (omega arith, refl, refl)
-due_held (suc zero) ts small = (omega arith, refl, refl)
-due_held (suc (suc m)) ts small = absurd (omega (arith, small))
-
-same_held : (m n a c : ℕ) (s : State) (us : List Token) → m ≤ 1 → m ≡ bit_or a c → Passed n a c s us → SameTokens (held m) us
+same_held : (m n a c : ℕ) (s : State) (us : List Token) → m ≤ 1 → m ≡ bit_or a c → Passed n a c s us → SameTokens (held (Req 0) m) us
 same_held zero n a c s us small is passed j = by_shake (nat_eq 0 j) refl
   where
     by_shake : (t : Bool) → nat_eq 0 j ≡ t → (due j [] ≡ due j us) × (value_due j [] ≡ value_due j us)
@@ -188,31 +188,88 @@ shared_law b i v regs after q s ts us (e0, k0, (e1, k1, (e2, k2, (e3, k3, (e4, k
     let sooner = subst (λ (r : State). Fires (Share Com) x fired.before r fired.list fired.between fired.state ts) here fired.sooner in
     let answers = shared_answers x fired.before n fired.list fired.between fired.state ts stands.one (fired.exactly (Req 1)) (fired.exactly (Req 2)) sooner in
     let later = subst (λ (r : State). Fires (Share Com) x fired.between r (requests a d) fired.behind s us) answers.0 fired.later in
-    let passed = shared_requests x fired.between n a d fired.behind s us (pulses 1) (pulses 2) refl refl later in
+    let passed = shared_requests x fired.between n a d fired.behind s us (pulses 1 (omega arith)) (pulses 2 (omega arith)) refl refl later in
     let pulse : times (Ans 0) fired.list ≡ p = fired.exactly (Ans 0) in
     let branch : nets.at after (b + 3) ≡ bit_or d (bit_and n (1 - a)) = k3 ∙ (e2 ∙ ap (bit_or d) (e1 ∙ (λ j. bit_and (e3 j) (e0 j)))) in
     let kept : nets.at after (b + 6) ≡ bit_or a d = k6 ∙ e5 in
-    let table = branch_table n a d stands.one (pulses 1) (pulses 2) in
-    let shown_at = answer_table n p stands.one (pulses 0) in
-    let counts = due_held m ts stands.held in
-    let first : due 0 (held m ++ ts) ≡ m = omega (arith, counts.0, answers.1) in
-    let second : due 1 (held m ++ ts) ≡ (if nat_eq n 0 then p else 0) = counts.1 ∙ (answers.2 ∙ ap (λ (t : ℕ). if nat_eq n 0 then t else 0) pulse) in
-    let third : due 2 (held m ++ ts) ≡ (if nat_eq n 0 then 0 else p) = counts.2 ∙ (answers.3 ∙ ap (λ (t : ℕ). if nat_eq n 0 then 0 else t) pulse) in
+    let table = branch_table n a d stands.one (pulses 1 (omega arith)) (pulses 2 (omega arith)) in
+    let shown_at = answer_table n p stands.one (pulses 0 (omega arith)) in
+    let counts = request_due m ts stands.held in
+    let first : due 0 (held (Req 0) m ++ ts) ≡ m = omega (arith, counts.0, answers.1) in
+    let second : due 1 (held (Req 0) m ++ ts) ≡ (if nat_eq n 0 then p else 0) = counts.1 ∙ (answers.2 ∙ ap (λ (t : ℕ). if nat_eq n 0 then t else 0) pulse) in
+    let third : due 2 (held (Req 0) m ++ ts) ≡ (if nat_eq n 0 then 0 else p) = counts.2 ∙ (answers.3 ∙ ap (λ (t : ℕ). if nat_eq n 0 then 0 else t) pulse) in
     let fifth : nets.at v (b + 7) ≡ (if nat_eq n 0 then p else 0) = e7 ∙ (ap (bit_and p) (e4 ∙ ap (λ (t : ℕ). 1 - t) e3) ∙ shown_at.0) in
     let sixth : nets.at v (b + 8) ≡ (if nat_eq n 0 then 0 else p) = e8 ∙ (ap (bit_and p) e3 ∙ shown_at.1) in
-    let bound = either_or (nat_eq n 0) p (pulses 0) in (
+    let bound = either_or (nat_eq n 0) p (pulses 0 (omega arith)) in (
       (
         omega (arith, first, stands.held),
         e6 ∙ sym first,
         (omega (arith, second, bound.0), fifth ∙ sym second, (omega (arith, third, bound.1), sixth ∙ sym third, tt)),
       ),
-      same_held (nets.at after (b + 6)) n a d s us (omega (arith, kept, either_table a d (pulses 1) (pulses 2))) kept passed,
+      same_held (nets.at after (b + 6)) n a d s us (omega (arith, kept, either_table a d (pulses 1 (omega arith)) (pulses 2 (omega arith)))) kept passed,
       record {
         rests = ap (λ (r : State). r.phase) passed.is;
         branch = ap (λ (r : State). r.number) passed.is ∙ sym (branch ∙ table.0);
         one = omega (arith, branch, table.0, table.1);
-        held = omega (arith, kept, either_table a d (pulses 1) (pulses 2));
+        held = omega (arith, kept, either_table a d (pulses 1 (omega arith)) (pulses 2 (omega arith)));
       },
+    )
+
+-- what comes in at handshake h, an earlier cell, and a register
+abbrev Known : ℕ → Incoming → ℕ → ℕ → Type 0
+Known b i n net = IsKnown (part_contacts (Share Com)) i b (shared_cells b i) n net
+
+shared_order : (b : ℕ) (i : Incoming) → NameEarlier (part_contacts (Share Com)) i b (shared_cells b i) 0 (shared_cells b i)
+shared_order b i =
+    let zeroth : (n : ℕ) → Known b i n (i.pulse 0) = λ n. inl (0, omega arith, inl refl) in
+    let first : (n : ℕ) → Known b i n (i.pulse 1) = λ n. inl (1, omega arith, inl refl) in
+    let second : (n : ℕ) → Known b i n (i.pulse 2) = λ n. inl (2, omega arith, inl refl) in
+    let branch : (n : ℕ) → Known b i n (b + 3) = λ n. inr (3, _, refl, refl, inr (b + 2, refl)) in (
+      (first 0, tt),
+      (
+        (branch 1, (inr (0, _, refl, refl, inl (omega arith)), tt)),
+        (
+          (second 2, (inr (1, _, refl, refl, inl (omega arith)), tt)),
+          (
+            (inr (2, _, refl, refl, inl (omega arith)), tt),
+            (
+              (branch 4, tt),
+              (
+                (first 5, (second 5, tt)),
+                (
+                  (inr (5, _, refl, refl, inl (omega arith)), tt),
+                  ((zeroth 7, (inr (4, _, refl, refl, inl (omega arith)), tt)), ((zeroth 8, (branch 8, tt)), tt)),
+                ),
+              ),
+            ),
+          ),
+        ),
+      ),
+    )
+
+shared_widths : (b : ℕ) (i : Incoming) (bits : List ℕ) → BitsComeIn (part_contacts (Share Com)) i bits → HaveBits bits b 0 (shared_cells b i)
+    → AllByRecursion (HasRightWidths bits) (shared_cells b i)
+shared_widths b i bits come (w0, (w1, (w2, (w3, (w4, (w5, (w6, (w7, (w8, nothing))))))))) =
+    let zeroth = (come 0 (omega arith)).0 in
+    let first = (come 1 (omega arith)).0 in
+    let second = (come 2 (omega arith)).0 in (
+      (omega arith, omega arith, first),
+      (
+        (omega arith, omega arith, (w3, w0)),
+        (
+          (omega arith, omega arith, (second, w1)),
+          (
+            (omega arith, omega arith, w2),
+            (
+              (omega arith, omega arith, w3),
+              (
+                (omega arith, omega arith, (first, second)),
+                ((omega arith, omega arith, w5), ((omega arith, omega arith, (zeroth, w4)), ((omega arith, omega arith, (zeroth, w3)), tt))),
+              ),
+            ),
+          ),
+        ),
+      ),
     )
 
 pub shared_gates : SharedGates
@@ -221,13 +278,20 @@ shared_gates =
       law = shared_law;
       rests = λ b regs zeros. (
         record { rests = refl; branch = sym (zeros (b + 3)); one = omega (arith, zeros (b + 3)); held = omega (arith, zeros (b + 6)) },
-        ap held (zeros (b + 6)),
+        ap (held (Req 0)) (zeros (b + 6)),
       );
-      fits = λ b. (
-        (refl, (refl, (refl, tt))),
-        λ i. (
-          (λ same. cc same),
-          ((λ same. cc same), ((λ same. cc same), ((λ same. cc same), ((λ same. cc same), ((λ same. cc same), ((λ same. cc same), ((λ same. cc same), ((λ same. cc same), tt)))))))),
-        ),
-      );
+      silent = λ b i v regs after settled pulses. tt;
+      fits =
+          record {
+            outgoing = λ b i. (
+              (refl, (6, _, refl, refl, refl)),
+              ((refl, (7, _, refl, refl, refl)), ((refl, (8, _, refl, refl, refl)), tt)),
+            );
+            inner = λ b i. (
+              (λ same. cc same),
+              ((λ same. cc same), ((λ same. cc same), ((λ same. cc same), ((λ same. cc same), ((λ same. cc same), ((λ same. cc same), ((λ same. cc same), ((λ same. cc same), tt)))))))),
+            );
+            order = shared_order;
+            widths = shared_widths;
+          };
     }

@@ -4,13 +4,14 @@ use Rattle.std.specs.Prelude.{codes}
 use Rattle.std.specs.Char.{is_ascii_digit}
 use Rattle.gos_types.specs.Types.{Type'}
 use Rattle.gos_lex.specs.Items.{TextAt}
+use Rattle.gos_plan.specs.declared.fault.ObjectFault.{ObjectFault}
 use Rattle.gos_plan.specs.declared.word.EndWord.{EndWord}
 use Rattle.gos_plan.specs.declared.word.EndWord.TheVariants as ends
 use Rattle.gos_plan.specs.Plans.{End, PartEnd, ImportEnd, ResultEnd}
-use Rattle.gos_plan.specs.TextItems.{Item, Reads, both, exactly, words, any_name}
+use Rattle.gos_plan.specs.TextItems.{Item, Fails, Reads, both, exactly, words, any_name}
 use Rattle.gos_plan.specs.ObjectText.{end_text}
 use Rattle.gos_plan.specs.ObjectItems.{typed, end_word_text, end_word_of, end_numbers_text, end_numbers, any_number, two_numbers, ended_end, joint_line, import_line}
-use Rattle.gos_plan.proofs.TextLemmas.{Lawful, Via, lawful_both, lawful_exactly, via_lawful, both_read, reads_as}
+use Rattle.gos_plan.proofs.TextLemmas.{Lawful, Via, lawful_both, lawful_exactly, via_lawful, via_fails, rest_fails, both_read, reads_as}
 use Rattle.gos_plan.proofs.TableLemmas.{lawful_words}
 use Rattle.gos_plan.proofs.WordLemmas.{end_table}
 use Rattle.gos_plan.proofs.ItemLemmas.{lawful_number, lawful_name}
@@ -220,3 +221,12 @@ pub import_reads : (name : List ℕ) (ty : Type') (old mid last new : TextAt) �
 import_reads name ty old mid last new first second third =
     let whole = both_read (exactly (codes "import ")) (λ u. named_type) old mid new tt (name, ty) first (both_read any_name (λ name. typed 10 0) mid last new name ty second third) in
     reads_as import_line import_parts old new (record { name = name; ty = ty }) (tt, (name, ty)) refl (second.is, third.is) (omega (arith, third.keeps)) whole
+
+-- where the numbers behind an end's word fail, the end does
+pub numbers_fail : (last : ℕ) (w word : EndWord) (old mid : TextAt) → w ≡ word → Reads (words EndWord end_word_text) old mid w
+    → (A : Item) → Via (end_numbers last word) A → (fault : ObjectFault) → Fails A mid.text mid.at fault → Fails (ended_end last) old.text old.at fault
+numbers_fail last w word old mid is first A via fault fails =
+    via_fails (ended_end last) (end_parts last) (end_via last) old.text old.at fault
+    (rest_fails (words EndWord end_word_text) (end_numbers last) lawful_end_words old mid word
+    (subst (λ (u : EndWord). Reads (words EndWord end_word_text) old mid u) is first) fault
+    (via_fails (end_numbers last word) A via mid.text mid.at fault fails))

@@ -1,13 +1,14 @@
 -- The table of the firing rules: each row takes and puts in turn, and leaves the handshakes under way that its next phase says.
 use Rattle.std.specs.Prelude.{not}
-use Rattle.std.proofs.Common.{◌≡◌, ℕ, Bool, true, false, List, [], ◌∷◌, Some, slice_get, refl, subst, arith, nat_eq, if◌then◌else◌}
+use Rattle.std.proofs.Common.{◌≡◌, inl, inr, ℕ, Bool, true, false, List, [], ◌∷◌, Some, slice_get, refl, subst, arith, nat_eq, if◌then◌else◌}
 use Rattle.gos_types.specs.declared.shakes.Role.{Role}
 use Rattle.gos_types.specs.declared.shakes.Role.TheVariants.{Serve, Ask}
 use Rattle.gos_plan.specs.Kinds.{Part, Skip, Lit, Seq, Par, If, While, Op, Not, Assign, Deref, Local, Share, Contact, part_contacts}
-use Rattle.gos_plan.specs.Firing.{Phase, Rest, First, Second, Both, LeftOnly, RightOnly, Test, Branch, Body, Left, Right, Waiting, Value, Writing, Active, State, at, Slot, Req, Ans, Token, Row, rows, row_for, same_slot}
+use Rattle.gos_plan.specs.Firing.{Phase, Rest, First, Second, Both, LeftOnly, RightOnly, Test, Branch, Body, Left, Right, Waiting, Value, Writing, Active, State, at, Slot, Req, Ans, Token, Row, rows, row_for}
 use Rattle.gos_plan.specs.Tokens.{shake_of}
 use Rattle.gos_plan.specs.Turns.{IsUnshared}
 use Rattle.gos_plan.specs.Engaged.{is_engaged}
+use Rattle.gos_plan.specs.Inversion.{first_or_later}
 use Rattle.gos_plan.proofs.BalanceLemmas.{before_putting}
 
 -- the role of a part at the slot that it takes, and at one that it puts
@@ -40,10 +41,23 @@ RowKeeps k q v r =
     HasRole k (shake_of r.takes) (role_taking r.takes)
     × Turns k (flipped (shake_of r.takes) (is_engaged k q)) (r.puts v) (is_engaged k (r.next v))
 
--- each of these rows does
+-- each of these rows is so
+abbrev pub EachRow : (Row → Type 0) → List Row → Type 0
+EachRow P [] = Unit {0}
+EachRow P (r ∷ rs) = P r × EachRow P rs
+
+-- so is the row of a token
+pub row_with : (P : Row → Type 0) (t : Slot) (rs : List Row) (r : Row) → EachRow P rs → row_for t rs ≡ Some r → (r.takes ≡ t) × P r
+row_with P t [] r h e = absurd (grind (arith, e))
+row_with P t (x ∷ xs) r h e =
+    elim (first_or_later x r xs t e) [
+      | inl here ↦ subst (λ (y : Row). (y.takes ≡ t) × P y) here.1 (here.0, h.0)
+      | inr later ↦ row_with P t xs r h.1 later
+    ]
+
+-- each of these rows keeps turns
 abbrev pub RowsKeep : Part → State → ℕ → List Row → Type 0
-RowsKeep k q v [] = Unit {0}
-RowsKeep k q v (r ∷ rs) = RowKeeps k q v r × RowsKeep k q v rs
+RowsKeep k q v rs = EachRow (RowKeeps k q v) rs
 
 -- the rows that depend on a truth value
 choosing : (w n v : ℕ) (b : Bool) → nat_eq v 1 ≡ b → RowsKeep (If w) (at Test n) v (rows (If w) Test n)
@@ -89,21 +103,3 @@ table While Test n v u = looping n v (nat_eq v 1) refl
 table (Local w b) Active n v u = (((_, refl, refl), ((_, refl, refl), refl, λ g. grind arith)), (((_, refl, refl), ((_, refl, refl), refl, λ g. grind arith)), (((_, refl, refl), ((_, refl, refl), refl, λ g. grind arith)), tt)))
 table (Share t) p n v u = absurd (u t refl)
 table k p n v u = tt
-
--- the row of a token is one of the rows, and keeps turns where each does
-pub row_keeps : (k : Part) (q : State) (v : ℕ) (t : Slot) (rs : List Row) (r : Row) → RowsKeep k q v rs → row_for t rs ≡ Some r
-    → (r.takes ≡ t) × RowKeeps k q v r
-row_keeps k q v t [] r h e = absurd (grind (arith, e))
-row_keeps k q v t (x ∷ xs) r h e = by_test (same_slot x.takes t) refl (λ f. row_keeps k q v t xs r h.1 f)
-  where
-    same : (a b : Slot) → same_slot a b ≡ true → a ≡ b
-    same (Req h) (Req j) e = grind (arith, e)
-    same (Req h) (Ans j) e = grind (arith, e)
-    same (Ans h) (Req j) e = grind (arith, e)
-    same (Ans h) (Ans j) e = grind (arith, e)
-
-    by_test : (b : Bool) → same_slot x.takes t ≡ b → (row_for t xs ≡ Some r → (r.takes ≡ t) × RowKeeps k q v r) → (r.takes ≡ t) × RowKeeps k q v r
-    by_test true a further =
-        let is : x ≡ r = grind (arith, e, a) in
-        subst (λ (y : Row). (y.takes ≡ t) × RowKeeps k q v y) is (same x.takes t a, h.0)
-    by_test false a further = further (grind (arith, e, a))

@@ -17,7 +17,7 @@ use Rattle.gos_plan.specs.Turns.{is_turn, is_turn_at, ComesInTurn, InputsKeepTur
 use Rattle.gos_plan.specs.Engaged.{is_engaged, is_engaged_at}
 use Rattle.gos_plan.proofs.JointLemmas.{same_is, same_itself}
 use Rattle.gos_plan.proofs.BalanceLemmas.{Balanced, turned_at, before_taking, before_putting, taken, put_well, balanced_by, at_most_one}
-use Rattle.gos_plan.proofs.RowLemmas.{role_taking, role_putting, flipped, Turns, RowKeeps, table, row_keeps}
+use Rattle.gos_plan.proofs.RowLemmas.{role_taking, role_putting, flipped, Turns, RowKeeps, table, row_with}
 
 -- whether a port's end is engaged, where an input there is in turn or not
 abbrev by_role : Role → Bool → Bool
@@ -74,7 +74,7 @@ balanced_at_first p s idle j i =
     rw (none_at_first p s j.asking idle, none_at_first p s j.serving idle, idle.0 Request j.asking, idle.0 Answer j.asking) tt
 
 -- tokens put or taken leave the states of parts
-token_state : (p : Plan) (e : End) (way : Direction) (held : Option ℕ) (s : Tokens) (i : ℕ) → (with_token p e way held s).state i ≡ s.state i
+pub token_state : (p : Plan) (e : End) (way : Direction) (held : Option ℕ) (s : Tokens) (i : ℕ) → (with_token p e way held s).state i ≡ s.state i
 token_state p e way held s i = of_place (places_of p e)
   where
     of_place : (o : Option End) → (with_held way o held s).state i ≡ s.state i
@@ -86,6 +86,12 @@ puts_state p i [] s j = refl
 puts_state p i (t ∷ ts) s j =
     puts_state p i ts (with_token p (end_of i t.slot) (way_of t.slot) (Some t.value) s) j
     ∙ token_state p (end_of i t.slot) (way_of t.slot) (Some t.value) s j
+
+-- a firing changes the state of its part alone
+pub fired_state : (p : Plan) (i : ℕ) (r : Row) (v : ℕ) (s : Tokens) (j : ℕ) → (fired p i r v s).state j ≡ (if nat_eq j i then r.next v else s.state j)
+fired_state p i r v s j =
+    puts_state p i (r.puts v) (with_state i (r.next v) (with_token p (end_of i r.takes) (way_of r.takes) None s)) j
+    ∙ ap (λ (q : State). if nat_eq j i then r.next v else q) (token_state p (end_of i r.takes) (way_of r.takes) None s j)
 
 -- the handshake of a part's end
 contact_of : (p : Plan) (i h : ℕ) (k : Part) (c : Contact) → slice_get p.parts i ≡ Some k → slice_get (part_contacts k) h ≡ Some c
@@ -149,7 +155,7 @@ put_all p i k engaged inner after (t ∷ ts) s r e b same turns =
       outside = λ d n. rest.outside d n ∙ turned_outside i h d engaged n;
     }
 
-nat_eq_self : (n : ℕ) → nat_eq n n ≡ true
+pub nat_eq_self : (n : ℕ) → nat_eq n n ≡ true
 nat_eq_self n = grind arith
 
 -- what holds after an element
@@ -175,7 +181,7 @@ pub fires : (p : Plan) (past : List Element) (i : ℕ) (k : Part) (t : Slot) (v 
 fires p past i k t v r s right u b e lies fire = (put.on_empty, balanced_by p put.now (engaged_after p (Fire i t ∷ past) (fired p i r v s)) (fired p i r v s) same put.balanced)
   where
     keeps : (r.takes ≡ t) × RowKeeps k (s.state i) v r
-    keeps = row_keeps k (s.state i) v t (rows k (s.state i).phase (s.state i).number) r (table k (s.state i).phase (s.state i).number v u) fire
+    keeps = row_with (RowKeeps k (s.state i) v) t (rows k (s.state i).phase (s.state i).number) r (table k (s.state i).phase (s.state i).number v u) fire
 
     h : ℕ
     h = shake_of r.takes
@@ -210,11 +216,6 @@ fires p past i k t v r s right u b e lies fire = (put.on_empty, balanced_by p pu
     put : Put p i (turned_at (PartEnd i h) (engaged_after p past s)) (is_engaged k (r.next v)) (r.puts v) without
     put = put_all p i k (turned_at (PartEnd i h) (engaged_after p past s)) (flipped h (is_engaged k (s.state i))) (is_engaged k (r.next v)) (r.puts v) without right e emptied inner keeps.1.1
 
-    state_of : (j : ℕ) → (fired p i r v s).state j ≡ (if nat_eq j i then r.next v else s.state j)
-    state_of j =
-        puts_state p i (r.puts v) without j
-        ∙ ap (λ (q : State). if nat_eq j i then r.next v else q) (token_state p (PartEnd i h) (way_of r.takes) None s j)
-
     unmoved : (d : End) → is_of i d ≡ false → put.now d ≡ engaged_after p past s d
     unmoved d n = put.outside d n ∙ turned_outside i h d (engaged_after p past s) n
 
@@ -224,8 +225,8 @@ fires p past i k t v r s right u b e lies fire = (put.on_empty, balanced_by p pu
         by_test : (x : Bool) → nat_eq j i ≡ x → put.now (PartEnd j g) ≡ is_engaged_at (slice_get p.parts j) ((fired p i r v s).state j) g
         by_test true y =
             let is : j ≡ i = grind (arith, y) in
-            rw (state_of j, is, nat_eq_self i, e) (put.within g)
-        by_test false n = rw (state_of j, n) (unmoved (PartEnd j g) n)
+            rw (fired_state p i r v s j, is, nat_eq_self i, e) (put.within g)
+        by_test false n = rw (fired_state p i r v s j, n) (unmoved (PartEnd j g) n)
     same (ImportEnd j g) = unmoved (ImportEnd j g) refl ∙ sym (port_of_firing (contact_at p (ImportEnd j g)) (ImportEnd j g) i t past)
     same (ResultEnd g) = unmoved (ResultEnd g) refl ∙ sym (port_of_firing (contact_at p (ResultEnd g)) (ResultEnd g) i t past)
 

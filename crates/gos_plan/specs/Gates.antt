@@ -2,14 +2,15 @@
 --
 -- Read first: Firing; Settling of gos_netlist. At each handshake of a part something comes in, which is the request where
 -- the part serves and the answer where it asks, and something goes out. Either is a pulse, and a value where it has bits.
-use Rattle.std.specs.Prelude.{◌≡◌, ◌≢◌, ℕ, zero, suc, ◌+◌, ◌<◌, ◌≤◌, Bool, List, [], ◌∷◌, nat_eq, if◌then◌else◌}
+use Rattle.std.specs.Prelude.{◌≡◌, ℕ, zero, suc, ◌+◌, ◌≤◌, Bool, List, [], ◌∷◌, nat_eq, if◌then◌else◌}
 use Rattle.std.specs.List.{list_any}
 use Rattle.gos_types.specs.declared.shakes.Role.{Role}
 use Rattle.gos_types.specs.declared.shakes.Role.TheVariants.{Serve, Ask}
-use Rattle.gos_netlist.specs.Nets.{Cell, Input}
+use Rattle.gos_netlist.specs.Nets.{Cell}
 use Rattle.gos_netlist.specs.Settling.{Numbers, at, shown, next_of}
 use Rattle.gos_plan.specs.Kinds.{Part, Contact, part_contacts}
-use Rattle.gos_plan.specs.Firing.{Slot, Req, Ans, Token}
+use Rattle.gos_plan.specs.Firing.{Slot, Req, Ans, Token, put}
+use Rattle.gos_plan.specs.Tokens.{shake_of}
 
 -- the nets of the pulse and the value that come in at each handshake
 pub record Incoming : Type 0 where
@@ -49,11 +50,6 @@ Settled v regs after b n (c ∷ cs) =
     × (at after (b + n) ≡ next_of c.gate v)
     × Settled v regs after b (suc n) cs
 
--- cells that are no inputs of the netlist
-abbrev pub HasNoInput : List Cell → Type 0
-HasNoInput [] = Unit {0}
-HasNoInput (c ∷ cs) = (c.gate ≢ Input) × HasNoInput cs
-
 -- the pulse and the value that come in at a handshake; without bits the value is 0
 abbrev pub pulse_in : Numbers → Incoming → ℕ → ℕ
 pulse_in v i h = at v (i.pulse h)
@@ -61,7 +57,7 @@ pulse_in v i h = at v (i.pulse h)
 abbrev pub value_in : Part → Numbers → Incoming → ℕ → ℕ
 value_in k v i h = if nat_eq (incoming_bits (part_contacts k) h) 0 then 0 else at v (i.value h)
 
--- what comes in at each handshake, from handshake h on: at those of a list, and at the others
+-- what comes in at each of these handshakes, from handshake h on
 abbrev pub slots_of : (ℕ → Bool) → ℕ → List Contact → List Slot
 slots_of these h [] = []
 slots_of these h (c ∷ cs) = if these h then slot_in c.role h ∷ slots_of these (suc h) cs else slots_of these (suc h) cs
@@ -71,10 +67,6 @@ abbrev pub is_among : List ℕ → ℕ → Bool
 is_among numbers h = list_any (nat_eq h) numbers
 
 -- how many of these tokens go out at a handshake, and the sum of their values
-abbrev pub shake_of : Slot → ℕ
-shake_of (Req h) = h
-shake_of (Ans h) = h
-
 abbrev pub due : ℕ → List Token → ℕ
 due j [] = 0
 due j (t ∷ ts) = if nat_eq (shake_of t.slot) j then suc (due j ts) else due j ts
@@ -97,13 +89,10 @@ Shows v j (o ∷ os) ts = (due j ts ≤ 1) × NetsShow v o (due j ts) (value_due
 abbrev pub SameTokens : List Token → List Token → Type 0
 SameTokens ts us = (j : ℕ) → (due j ts ≡ due j us) × (value_due j ts ≡ value_due j us)
 
--- The outgoing nets are as many as the handshakes, and have a value where it has bits.
-abbrev pub HasNets : Contact → Outgoing → Type 0
-HasNets c (Bare p) = bits_out c.role c ≡ 0
-HasNets c (Bearing p a) = 0 < bits_out c.role c
+-- the token that a register of one bit holds: the request or answer at a handshake, without a value
+abbrev pub held : Slot → ℕ → List Token
+held s m = if nat_eq m 1 then put s 0 ∷ [] else []
 
-abbrev pub HaveNets : List Contact → List Outgoing → Type 0
-HaveNets [] [] = Unit {0}
-HaveNets [] (o ∷ os) = ⊥
-HaveNets (c ∷ cs) [] = ⊥
-HaveNets (c ∷ cs) (o ∷ os) = HasNets c o × HaveNets cs os
+-- nothing is held
+abbrev pub nothing_pending : ℕ → Numbers → List Token
+nothing_pending b regs = []

@@ -1,11 +1,11 @@
--- Inversion of a list of firings: by which row the first one is.
+-- Inversion of a list of firings: by which row the first one is, where a state has one row, two or three.
 --
 -- Read first: Law. These lemmas stand here since an `impl` of `Macro` cites lemmas of `specs` alone.
 use Rattle.std.proofs.Common.{◌≡◌, inl, inr, ◌⊎◌, ℕ, zero, suc, ◌≤◌, Bool, true, false, List, [], ◌∷◌, ◌++◌, Some, refl, sym, subst, arith}
 use Rattle.std.specs.Prelude.{bit_or}
 use Rattle.gos_plan.specs.Kinds.{Part}
-use Rattle.gos_plan.specs.Firing.{Rest, State, Slot, Req, Ans, Token, Row, at, same_slot, row_for}
-use Rattle.gos_plan.specs.Gates.{shake_of}
+use Rattle.gos_plan.specs.Firing.{Rest, State, Slot, Req, Ans, Token, Row, rows, at, same_slot, row_for}
+use Rattle.gos_plan.specs.Tokens.{shake_of}
 use Rattle.gos_plan.specs.Law.{Asked, after_taking, after_putting, PutsWell, Fires}
 
 pub same : (a b : Slot) → same_slot a b ≡ true → a ≡ b
@@ -47,6 +47,46 @@ stepped k x o r w s ss p q ts us a e well puts go =
 
     whole : Stepped k x o r s ss p q ts
     whole = let known = at_slot r.takes a in record { is = sym a; rest = us; well = known.0; puts = known.1; go = known.2 }
+
+-- the first firing of a state with one row
+pub by_one_row : (k : Part) (x : ℕ → ℕ) (o : Asked) (q : State) (a : Row) (s : Slot) (ss : List Slot) (p : Asked) (r : State) (ts : List Token)
+    → rows k q.phase q.number ≡ a ∷ [] → Fires k x o q (s ∷ ss) p r ts → Stepped k x o a s ss p r ts
+by_one_row k x o q a s ss p r ts e (w, us, f, well, puts, go) =
+    elim (first_or_later a w [] s (subst (λ (l : List Row). row_for s l ≡ Some w) e f)) [
+      | inl h ↦ stepped k x o a w s ss p r ts us h.0 h.1 well puts go
+      | inr none ↦ absurd (no_row w s none)
+    ]
+
+-- of a state with two
+pub by_two_rows : (k : Part) (x : ℕ → ℕ) (o : Asked) (q : State) (a b : Row) (s : Slot) (ss : List Slot) (p : Asked) (r : State) (ts : List Token)
+    → rows k q.phase q.number ≡ a ∷ b ∷ [] → Fires k x o q (s ∷ ss) p r ts → Stepped k x o a s ss p r ts ⊎ Stepped k x o b s ss p r ts
+by_two_rows k x o q a b s ss p r ts e (w, us, f, well, puts, go) =
+    elim (first_or_later a w (b ∷ []) s (subst (λ (l : List Row). row_for s l ≡ Some w) e f)) [
+      | inl h ↦ inl (stepped k x o a w s ss p r ts us h.0 h.1 well puts go)
+      | inr later ↦
+          elim (first_or_later b w [] s later) [
+            | inl h ↦ inr (stepped k x o b w s ss p r ts us h.0 h.1 well puts go)
+            | inr none ↦ absurd (no_row w s none)
+          ]
+    ]
+
+-- of a state with three
+pub by_three_rows : (k : Part) (x : ℕ → ℕ) (o : Asked) (q : State) (a b c : Row) (s : Slot) (ss : List Slot) (p : Asked) (r : State) (ts : List Token)
+    → rows k q.phase q.number ≡ a ∷ b ∷ c ∷ [] → Fires k x o q (s ∷ ss) p r ts
+    → Stepped k x o a s ss p r ts ⊎ (Stepped k x o b s ss p r ts ⊎ Stepped k x o c s ss p r ts)
+by_three_rows k x o q a b c s ss p r ts e (w, us, f, well, puts, go) =
+    elim (first_or_later a w (b ∷ c ∷ []) s (subst (λ (l : List Row). row_for s l ≡ Some w) e f)) [
+      | inl h ↦ inl (stepped k x o a w s ss p r ts us h.0 h.1 well puts go)
+      | inr later ↦
+          elim (first_or_later b w (c ∷ []) s later) [
+            | inl h ↦ inr (inl (stepped k x o b w s ss p r ts us h.0 h.1 well puts go))
+            | inr last ↦
+                elim (first_or_later c w [] s last) [
+                  | inl h ↦ inr (inr (stepped k x o c w s ss p r ts us h.0 h.1 well puts go))
+                  | inr none ↦ absurd (no_row w s none)
+                ]
+          ]
+    ]
 
 -- a buffer passes a pulse
 pub passes : (n : ℕ) → n ≤ 1 → bit_or n n ≡ n

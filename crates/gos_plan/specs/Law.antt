@@ -1,13 +1,14 @@
 -- The law of the gates of one part: in each cycle they do what the part does by its rows.
 --
 -- Read first: Firing, Gates. It speaks of one part alone, whatever netlist stands round it: of the nets that come in it
--- asks no more than that a pulse is 0 or 1 and that a value has its bits.
-use Rattle.std.specs.Prelude.{◌≡◌, ℕ, suc, ◌^◌, ◌<◌, ◌≤◌, Bool, true, false, not, List, [], ◌∷◌, ◌++◌, Some, nat_eq, if◌then◌else◌}
+-- asks no more than that a pulse is 0 or 1, that a value has its bits, and that the part can fire by them.
+use Rattle.std.specs.Prelude.{◌≡◌, ℕ, suc, ◌^◌, ◌<◌, ◌≤◌, Bool, true, false, not, List, [], ◌∷◌, ◌++◌, length, Some, nat_eq, if◌then◌else◌}
 use Rattle.gos_netlist.specs.Nets.{Cell}
 use Rattle.gos_netlist.specs.Settling.{Numbers, at}
 use Rattle.gos_plan.specs.Kinds.{Part, part_contacts}
 use Rattle.gos_plan.specs.Firing.{Rest, State, Slot, Req, Ans, Token, Row, same_slot, firing, at as at_phase}
-use Rattle.gos_plan.specs.Gates.{Incoming, Outgoing, incoming_bits, Settled, HasNoInput, pulse_in, value_in, slots_of, is_among, shake_of, Shows, SameTokens, HaveNets}
+use Rattle.gos_plan.specs.Tokens.{shake_of}
+use Rattle.gos_plan.specs.Gates.{Incoming, Outgoing, Bare, Bearing, incoming_bits, Settled, pulse_in, value_in, slots_of, is_among, Shows, SameTokens}
 
 -- at which handshakes the part has put a request and has not taken its answer
 abbrev pub Asked : Type 0
@@ -73,8 +74,8 @@ late_slots k late = slots_of (is_among late) 0 (part_contacts k)
 abbrev pub early_slots : Part → List ℕ → List Slot
 early_slots k late = slots_of (λ h. not (is_among late h)) 0 (part_contacts k)
 
--- The firings of a cycle: those by the pulses that are not late, in some order, from q to r, put ts; and then those by the
--- late pulses, by the numbers of their handshakes, from r to s, put us.
+-- The firings of a cycle: those by the pulses that are not late, in some order, from q to a state between, put ts; and then
+-- those by the late pulses, by the numbers of their handshakes, from there to s, put us.
 pub record Fired (k : Part) (late : List ℕ) (v : Numbers) (i : Incoming) (q s : State) (ts us : List Token) : Type 0 where
   pub before : Asked
   pub between : Asked
@@ -85,6 +86,10 @@ pub record Fired (k : Part) (late : List ℕ) (v : Numbers) (i : Incoming) (q s 
   pub sooner : Fires k (value_in k v i) before q list between state ts
   pub later : Fires k (value_in k v i) between state (pulsed (pulse_in v i) (late_slots k late)) behind s us
 
+-- what comes in at each handshake of the part is a pulse or none
+abbrev pub PulsesComeIn : Part → Numbers → Incoming → Type 0
+PulsesComeIn k v i = (h : ℕ) → h < length (part_contacts k) → pulse_in v i h ≤ 1
+
 -- The law. `cells` are the gates that begin at net b, joined to these nets; `outs` the nets that go out; `late` the
 -- handshakes at which what comes in is late; `pending` the tokens that registers hold, to be put out in this cycle; and
 -- `stands` says which state registers stand for. Then, where the registers stand for a state from which the part fires so:
@@ -94,7 +99,7 @@ abbrev pub GatesLaw : Part → (ℕ → Incoming → List Cell) → (ℕ → Lis
 GatesLaw k cells outs late pending stands =
     (b : ℕ) (i : Incoming) (v regs after : Numbers) (q s : State) (ts us : List Token)
     → Settled v regs after b 0 (cells b i)
-    → ((h : ℕ) → pulse_in v i h ≤ 1)
+    → PulsesComeIn k v i
     → ((h : ℕ) → value_in k v i h < 2 ^ incoming_bits (part_contacts k) h)
     → stands b regs q
     → Fired k late v i q s ts us
@@ -104,6 +109,15 @@ GatesLaw k cells outs late pending stands =
 abbrev pub RestsAtZero : (ℕ → Numbers → List Token) → (ℕ → Numbers → State → Type 0) → Type 0
 RestsAtZero pending stands = (b : ℕ) (regs : Numbers) → ((n : ℕ) → at regs n ≡ 0) → stands b regs (at_phase Rest 0) × (pending b regs ≡ [])
 
--- the outgoing nets are those of the part's handshakes, and no gate is an input of the netlist
-abbrev pub GatesFit : Part → (ℕ → Incoming → List Cell) → (ℕ → List Outgoing) → Type 0
-GatesFit k cells outs = (b : ℕ) → HaveNets (part_contacts k) (outs b) × ((i : Incoming) → HasNoInput (cells b i))
+-- each number that goes out is 0 where its pulse is
+abbrev pub AreSilent : Numbers → List Outgoing → Type 0
+AreSilent v [] = Unit {0}
+AreSilent v (Bare p ∷ os) = AreSilent v os
+AreSilent v (Bearing p a ∷ os) = (at v p ≡ 0 → at v a ≡ 0) × AreSilent v os
+
+-- No number goes out without its pulse, whatever numbers come in, whatever the registers are, and whether or not the part
+-- fires by its rows.
+abbrev pub StaySilent : Part → (ℕ → Incoming → List Cell) → (ℕ → List Outgoing) → Type 0
+StaySilent k cells outs =
+    (b : ℕ) (i : Incoming) (v regs after : Numbers)
+    → Settled v regs after b 0 (cells b i) → PulsesComeIn k v i → AreSilent v (outs b)

@@ -6,6 +6,7 @@ pub mod Plans
 pub mod Tokens
 pub mod Turns
 pub mod Engaged
+pub mod Orderly
 pub mod Seen
 pub mod Fired
 pub mod Ranges
@@ -14,10 +15,19 @@ pub mod Seats
 pub mod Inside
 pub mod Gates
 pub mod Law
+pub mod Fit
+pub mod Kept
+pub mod Cells
 pub mod SmallGates
 pub mod Inversion
+pub mod Passing
 pub mod SkipKept
 pub mod Wires
+pub mod Projection
+pub mod Joining
+pub mod Cycles
+pub mod AnyOrder
+pub mod SmallPlans
 pub mod TextItems
 pub mod ObjectText
 pub mod ObjectItems

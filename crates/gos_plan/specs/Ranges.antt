@@ -23,7 +23,7 @@ HasWidths (Fun a b) = HasWidths a × HasWidths b
 abbrev pub IsSmall : Ty → Type 0
 IsSmall t = HasWidths (type_of t) × (length (handshakes_of (type_of t)) ≤ 64)
 
--- the widths of a kind are 1 to 32, a literal has at most its bits, and a type is small
+-- The widths of a kind are 1 to 32, but that of a command's body is 0. A literal has at most its bits, and a type is small.
 abbrev pub IsInRange : Kind → Type 0
 IsInRange kinds.Skip = Unit {0}
 IsInRange (kinds.Lit w k) = IsWidth w × (k < 2 ^ w)

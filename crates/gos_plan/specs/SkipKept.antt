@@ -29,11 +29,18 @@ skip_gates =
           let early = subst (λ (c : State). Fires Skip (value_in Skip v i) fired.before c fired.list fired.between fired.state ts) (at_rest q stands) fired.sooner in
           let counts = skip_counts (value_in Skip v i) fired.before q.number fired.list fired.between fired.state ts early in
           let pulse = fired.exactly (Req 0) in
-          let passed = passes (pulse_in v i 0) (pulses 0) in (
-            (omega (arith, counts.0, pulse, pulses 0), settled.0 ∙ (passed ∙ sym (counts.0 ∙ pulse)), tt),
+          let passed = passes (pulse_in v i 0) (pulses 0 (omega arith)) in (
+            (omega (arith, counts.0, pulse, pulses 0 (omega arith)), settled.0 ∙ (passed ∙ sym (counts.0 ∙ pulse)), tt),
             (λ j. (sym (ap (due j) fired.later.2), sym (ap (value_due j) fired.later.2))),
             ap (λ (c : State). c.phase) fired.later.1 ∙ counts.1,
           );
       rests = λ b regs zeros. (refl, refl);
-      fits = λ b. ((refl, tt), λ i. ((λ same. cc same), tt));
+      silent = λ b i v regs after settled pulses. tt;
+      fits =
+          record {
+            outgoing = λ b i. ((refl, (0, _, refl, refl, refl)), tt);
+            inner = λ b i. ((λ same. cc same), tt);
+            order = λ b i. ((inl (0, omega arith, inl refl), (inl (0, omega arith, inl refl), tt)), tt);
+            widths = λ b i bits come own. let first = come 0 (omega arith) in ((omega arith, omega arith, (first.0, first.0)), tt);
+          };
     }

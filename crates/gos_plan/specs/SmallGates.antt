@@ -1,34 +1,22 @@
 -- Small gates that keep the law: those of Skip, and those of a Share of a command, which fires from three sides.
 --
 -- Read first: Law.
-use Rattle.std.specs.Prelude.{◌≡◌, ℕ, ◌+◌, ◌≤◌, List, [], ◌∷◌, nat_eq, if◌then◌else◌}
+use Rattle.std.specs.Prelude.{◌≡◌, ℕ, ◌+◌, ◌≤◌, List, [], ◌∷◌}
 use Rattle.gos_types.specs.Types.{Com}
-use Rattle.gos_netlist.specs.Nets.{Cell, Function, Not, And, Or, Reg}
+use Rattle.gos_netlist.specs.Nets.{Cell, Not, And, Or, Reg}
 use Rattle.gos_netlist.specs.Settling.{Numbers, at}
-use Rattle.gos_plan.specs.Kinds.{Part, Skip, Share}
-use Rattle.gos_plan.specs.Firing.{Rest, State, Req, Token, put}
-use Rattle.gos_plan.specs.Gates.{Incoming, Outgoing, Bare}
-use Rattle.gos_plan.specs.Law.{GatesLaw, RestsAtZero, GatesFit}
-
--- a cell of one bit
-abbrev pub bit : Function → Cell
-bit f = record { width = 1; gate = f }
-
--- gates that keep the laws
-pub record KeepLaws (k : Part) (cells : ℕ → Incoming → List Cell) (outs : ℕ → List Outgoing) (late : List ℕ) (pending : ℕ → Numbers → List Token) (stands : ℕ → Numbers → State → Type 0) : Type 0 where
-  pub law : GatesLaw k cells outs late pending stands
-  pub rests : RestsAtZero pending stands
-  pub fits : GatesFit k cells outs
+use Rattle.gos_plan.specs.Kinds.{Skip, Share}
+use Rattle.gos_plan.specs.Firing.{Rest, State, Req, Token}
+use Rattle.gos_plan.specs.Gates.{Incoming, Outgoing, Bare, held, nothing_pending}
+use Rattle.gos_plan.specs.Cells.{bit, buffer}
+use Rattle.gos_plan.specs.Kept.{KeepLaws}
 
 -- the request is the answer
 abbrev pub skip_cells : ℕ → Incoming → List Cell
-skip_cells b i = bit (Or (i.pulse 0) (i.pulse 0)) ∷ []
+skip_cells b i = buffer (i.pulse 0) ∷ []
 
 abbrev pub skip_outs : ℕ → List Outgoing
 skip_outs b = Bare (b + 0) ∷ []
-
-abbrev pub nothing_pending : ℕ → Numbers → List Token
-nothing_pending b regs = []
 
 abbrev pub skip_stands : ℕ → Numbers → State → Type 0
 skip_stands b regs q = q.phase ≡ Rest
@@ -56,7 +44,7 @@ abbrev pub shared_late : List ℕ
 shared_late = 1 ∷ 2 ∷ []
 
 abbrev pub shared_pending : ℕ → Numbers → List Token
-shared_pending b regs = if nat_eq (at regs (b + 6)) 1 then put (Req 0) 0 ∷ [] else []
+shared_pending b regs = held (Req 0) (at regs (b + 6))
 
 pub record SharedStands (b : ℕ) (regs : Numbers) (q : State) : Type 0 where
   pub rests : q.phase ≡ Rest

@@ -7,7 +7,7 @@ ghost use Rattle.gos_plan.specs.Kinds.{Part, part_contacts};
 ghost use Rattle.gos_plan.specs.Firing.{State, Token};
 ghost use Rattle.gos_plan.specs.Gates.{Incoming, Outgoing};
 ghost use Rattle.gos_plan.specs.Wires.{nets_in, incoming_of, HoldNets};
-ghost use Rattle.gos_plan.specs.Law.{GatesLaw, RestsAtZero, GatesFit};
+ghost use Rattle.gos_plan.specs.Kept.{KeepLaws};
 
 use gos_netlist::NetId;
 use gos_pool::{NetPool, Region};
@@ -64,6 +64,7 @@ pub trait Macro {
         requires empty { length pool.old.cells ≡ region.old }
         requires spare { length (cells self.now region.old (incoming_of wires.now)) ≤ pool.old.spare }
         requires outs { HoldNets (outs_at self.now region.old) wires.now }
+        requires numbered { region.old + length (cells self.now region.old (incoming_of wires.now)) ≤ 4294967295 }
         ensures cells { pool.new.cells ≡ pool.old.cells ++ cells self.now region.old (incoming_of wires.now) }
         ensures spare { pool.old.spare ≡ pool.new.spare + length (cells self.now region.old (incoming_of wires.now)) }
         ensures begun { pool.new.begun ≡ pool.old.begun }
@@ -71,11 +72,7 @@ pub trait Macro {
         ensures region { region.new ≡ region.old }
         ensures kept { KeepsClosed pool.old pool.new };
 
-    // In each cycle the gates do what the part does by its rows; registers that are all 0 stand for a part at rest; and
-    // the nets that go out are those of its handshakes.
-    ghost law: { (m : Self) → is_laid_out m → GatesLaw (part m) (cells m) (outs_at m) (late m) (pending m) (stands m) };
-
-    ghost rests: { (m : Self) → is_laid_out m → RestsAtZero (pending m) (stands m) };
-
-    ghost fits: { (m : Self) → is_laid_out m → GatesFit (part m) (cells m) (outs_at m) };
+    // In each cycle the gates do what the part does by its rows; registers that are all 0 stand for a part at rest; no
+    // number goes out without its pulse; and in a netlist the gates keep what is asked of an accepted one.
+    ghost law: { (m : Self) → is_laid_out m → KeepLaws (part m) (cells m) (outs_at m) (late m) (pending m) (stands m) };
 }

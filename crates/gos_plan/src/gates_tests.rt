@@ -1,7 +1,8 @@
 // The gates of Skip, placed in a pool.
 ghost use Rattle.std.specs.Prelude.{[]};
 ghost use Rattle.gos_plan.specs.Kinds.{Skip};
-ghost use Rattle.gos_plan.specs.SmallGates.{skip_cells, skip_outs, nothing_pending, skip_stands};
+ghost use Rattle.gos_plan.specs.Gates.{nothing_pending};
+ghost use Rattle.gos_plan.specs.SmallGates.{skip_cells, skip_outs, skip_stands};
 ghost use Rattle.gos_plan.specs.SkipKept.{skip_gates};
 
 use crate::gates::{Macro, Wire};
@@ -47,14 +48,10 @@ impl Macro for Buffer {
         );
     }
 
-    ghost law = { λ _ _. skip_gates.law };
-
-    ghost rests = { λ _ _. skip_gates.rests };
-
-    ghost fits = { λ _ _. skip_gates.fits };
+    ghost law = { λ _ _. skip_gates };
 }
 
-// A part in a pool of its own, with net 0 as what comes in at each handshake: the size of the pool.
+// A part in a pool of its own, with net 7 as the request that comes in.
 #[test]
 fn gates_of_a_skip_are_placed(rt: HostRuntime) -> Result<(), Fail> {
     let alloc = rt.alloc();

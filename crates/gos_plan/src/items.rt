@@ -1,4 +1,4 @@
-// The items that lines are made of: fixed bytes, words of a table, numbers with the byte that ends them, and names.
+// The items that lines are made of: fixed bytes, numbers with the byte that ends them, and names.
 ghost use Rattle.std.specs.Prelude.{◌≡◌, ◌<◌, ◌≤◌, ◌⊎◌, [], false, IfOk, IfErr, length, map, get_or};
 ghost use Rattle.std.specs.Char.{is_ascii_digit};
 ghost use Rattle.gos_lex.specs.Items.{Misses};
@@ -11,34 +11,6 @@ use std::alloc::Global;
 
 /// The greatest number of a part, an import or a handshake, and the greatest count.
 pub const LAST_NUMBER: u64 = 4_294_967_295;
-
-/// Passes one of these words, and gives its place among them. `Err` is the place where they break off.
-pub fn one_of(cursor: &mut Cursor, words: &[&[u8]]) -> Result<usize, usize>
-    requires { 0 < length words.now }
-    ensures inside { IfOk result (λ k. k < length words.now) }
-    ensures passed { IfOk result (λ k. Passed cursor.old cursor.new (get_or (map (λ word. word.now) words.now) k [])) }
-    ensures wrong { IfErr result (Misses (IsAmong (map (λ word. word.now) words.now)) cursor.old.text cursor.old.at) }
-{
-    let mut furthest = match cursor.word(words[0]) {
-        Ok(()) => return Ok(0),
-        Err(at) => at,
-    };
-    for k in 1..words.len() {
-        match cursor.word(words[k]) {
-            Ok(()) => return Ok(k),
-            Err(at) => furthest = further(furthest, at),
-        }
-    }
-    Err(furthest)
-}
-
-// The greater of two places.
-fn further(one: usize, other: usize) -> usize
-    ensures at_least { (one ≤ result) × (other ≤ result) }
-    ensures either { (result ≡ one) ⊎ (result ≡ other) }
-{
-    if one < other { other } else { one }
-}
 
 /// Passes exactly these bytes.
 pub fn exact(cursor: &mut Cursor, bytes: &[u8]) -> Result<(), ObjectFault>

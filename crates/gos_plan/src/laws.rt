@@ -2,6 +2,11 @@
 ghost use Rattle.std.specs.Prelude.{List, ℕ};
 ghost use Rattle.gos_plan.specs.Sides.{PairsJoin, FunctionsJoin, SidesTurnBack};
 ghost use Rattle.gos_plan.specs.Turns.{OneTokenEach};
+ghost use Rattle.gos_plan.specs.Orderly.{OrderlyHoldsOne};
+ghost use Rattle.gos_plan.specs.Projection.{PartsFire};
+ghost use Rattle.gos_plan.specs.Joining.{JoiningIsOne};
+ghost use Rattle.gos_plan.specs.AnyOrder.{OneOrderIsEnough};
+ghost use Rattle.gos_plan.specs.SmallPlans.{SkipRunsInOrder, HasteIsNoOrder, SkipIsListed, EagerIsNotListed, SkipIsJoined};
 ghost use Rattle.gos_plan.specs.SmallGates.{SkipGates, SharedGates};
 ghost use Rattle.gos_plan.specs.ObjectFaults.{IsOnePlan, ReadHasNoFault, HasOneFault};
 
@@ -16,6 +21,38 @@ pub fn sides()
 /// A plan without a Share holds at most one token for each joint, while its inputs keep turns.
 pub fn one_token_each()
     ensures { OneTokenEach }
+{}
+
+/// An orderly list leaves at most one token on each joint, also in a plan with a Share.
+pub fn orderly_holds_one()
+    ensures { OrderlyHoldsOne }
+{}
+
+/// In an orderly list of a plan each part fires by its own rows, and puts each request where none waits. So the law of a
+/// part's gates speaks of it.
+pub fn parts_fire()
+    ensures { PartsFire }
+{}
+
+/// Joining plans gives one plan, but for the order of its joints.
+pub fn one_joining()
+    ensures { JoiningIsOne }
+{}
+
+/// A cycle that is made with its pulses in the order of events is made with them in every order, where each has an end of
+/// its own.
+pub fn any_order()
+    ensures { OneOrderIsEnough }
+{}
+
+/// The plan of `skip` has orderly lists and others. The cycles of the circuit that answers each run in the next cycle are
+/// lists of it; those of a circuit that answers unasked are not. Joined to the plan of `fun a . a` it is itself.
+pub fn small_plans()
+    ensures order { SkipRunsInOrder }
+    ensures haste { HasteIsNoOrder }
+    ensures cycles { SkipIsListed }
+    ensures eager { EagerIsNotListed }
+    ensures joined { SkipIsJoined }
 {}
 
 /// A text is that of one plan at most, so that `read_object` and `print_object` are inverse to one another. It has one

@@ -12,6 +12,7 @@
 // slow program that says what a part does with a token.
 #![tactic(auto)]
 
+pub mod cells;
 mod fault;
 mod firing;
 #[cfg(test)]
@@ -41,7 +42,10 @@ pub use fault::ObjectFault;
 pub use firing::{Firing, Phase, Puts, Slot, State, Token, fire};
 pub use gates::{Macro, Wire};
 pub use kinds::{Kind, Op2};
-pub use laws::{one_answer, one_token_each, sides, small_gates};
+pub use laws::{
+    any_order, one_answer, one_joining, one_token_each, orderly_holds_one, parts_fire, sides,
+    small_gates, small_plans,
+};
 pub use plan::{End, Joint, Plan, PlanImport, make};
 pub use printing::print_object;
 pub use reading::read_object;

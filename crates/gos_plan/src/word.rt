@@ -5,9 +5,9 @@ ghost use Rattle.gos_plan.specs.ObjectText.{word_text};
 ghost use Rattle.gos_plan.specs.ObjectItems.{letters, body_word_text, end_word_text};
 
 use crate::fault::ObjectFault;
-use crate::items::one_of;
 use crate::kinds::Op2;
 use gos_lex::Cursor;
+use gos_netlist::one_of;
 
 /// The word of a part whose line ends with it.
 #[derive(Clone, Copy)]

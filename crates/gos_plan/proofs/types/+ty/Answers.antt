@@ -6,7 +6,8 @@ use Rattle.gos_plan.specs.declared.word.TypeWord.TheVariants as types
 use Rattle.gos_plan.specs.TextItems.{Fails, Reads, both, exactly}
 use Rattle.gos_plan.specs.ObjectItems.{shakes, word_of_type, space, typed, forks, sized_by, type_word, type_operands}
 use Rattle.gos_plan.proofs.TextLemmas.{first_fails, rest_fails, both_read, lawful_exactly, via_fails, reads_as}
-use Rattle.gos_plan.proofs.TypeLemmas.{lawful_word, lawful_typed, by_word, typed_via, text_parts, com_via, exp_via, var_via, pair_via, fun_via, some_operands}
+use Rattle.gos_plan.proofs.TypeLemmas.{lawful_word, lawful_typed, by_word, typed_via, text_parts}
+use Rattle.gos_plan.proofs.OperandLemmas.{com_via, exp_via, var_via, pair_via, fun_via, some_operands, operands_fail}
 use Rattle.gos_plan.proofs.types.+ty.Goals as goal
 
 pub fork-returns-in_err-exact-clause-wrong : goal.fork-returns-in_err-exact-clause-wrong
@@ -53,9 +54,7 @@ pub operands-returns-in_err-exact-in-Com-clause-wrong :
     goal.operands-returns-in_err-exact-in-Com-clause-wrong
 operands-returns-in_err-exact-in-Com-clause-wrong t c =
     let old = c.args.cursor.now in
-    let fault = c.in_err-exact-in-Com.field-0.0 in
-    let here = via_fails (type_operands c.args.end c.args.before types.Com) (exactly (c.args.end ∷ [])) (com_via c.args.end c.args.before) old.text old.at fault c.in_err-exact-in-Com.ensures.wrong in
-    let known = subst (λ (w : TypeWord). Fails (type_operands c.args.end c.args.before w) old.text old.at fault) (sym c.in-Com.is) here in
+    let known = operands_fail c.args.end c.args.before _ types.Com c.in-Com.is (exactly (c.args.end ∷ [])) (com_via c.args.end c.args.before) old.text old.at c.in_err-exact-in-Com.field-0.0 c.in_err-exact-in-Com.ensures.wrong in
     let p = err_from_is_err_and c.from_residual.result c.from_residual.ensures.1 in
     rw (p.1, p.2) known
 
@@ -63,9 +62,7 @@ pub operands-returns-in_err-w-in-Exp-clause-wrong :
     goal.operands-returns-in_err-w-in-Exp-clause-wrong
 operands-returns-in_err-w-in-Exp-clause-wrong t c =
     let old = c.args.cursor.now in
-    let fault = c.in_err-w-in-Exp.field-0.0 in
-    let here = via_fails (type_operands c.args.end c.args.before types.Exp) (sized_by c.args.end) (exp_via c.args.end c.args.before) old.text old.at fault c.in_err-w-in-Exp.ensures.wrong in
-    let known = subst (λ (w : TypeWord). Fails (type_operands c.args.end c.args.before w) old.text old.at fault) (sym c.in-Exp.is) here in
+    let known = operands_fail c.args.end c.args.before _ types.Exp c.in-Exp.is (sized_by c.args.end) (exp_via c.args.end c.args.before) old.text old.at c.in_err-w-in-Exp.field-0.0 c.in_err-w-in-Exp.ensures.wrong in
     let p = err_from_is_err_and c.from_residual-in_err-w-in-Exp.result c.from_residual-in_err-w-in-Exp.ensures.1 in
     rw (p.1, p.2) known
 
@@ -73,9 +70,7 @@ pub operands-returns-in_err-w-in-Var-clause-wrong :
     goal.operands-returns-in_err-w-in-Var-clause-wrong
 operands-returns-in_err-w-in-Var-clause-wrong t c =
     let old = c.args.cursor.now in
-    let fault = c.in_err-w-in-Var.field-0.0 in
-    let here = via_fails (type_operands c.args.end c.args.before types.Var) (sized_by c.args.end) (var_via c.args.end c.args.before) old.text old.at fault c.in_err-w-in-Var.ensures.wrong in
-    let known = subst (λ (w : TypeWord). Fails (type_operands c.args.end c.args.before w) old.text old.at fault) (sym c.in-Var.is) here in
+    let known = operands_fail c.args.end c.args.before _ types.Var c.in-Var.is (sized_by c.args.end) (var_via c.args.end c.args.before) old.text old.at c.in_err-w-in-Var.field-0.0 c.in_err-w-in-Var.ensures.wrong in
     let p = err_from_is_err_and c.from_residual-in_err-w-in-Var.result c.from_residual-in_err-w-in-Var.ensures.1 in
     rw (p.1, p.2) known
 
@@ -83,9 +78,7 @@ pub operands-returns-in_err-a-in-Pair-clause-wrong :
     goal.operands-returns-in_err-a-in-Pair-clause-wrong
 operands-returns-in_err-a-in-Pair-clause-wrong t c =
     let old = c.args.cursor.now in
-    let fault = c.in_err-a-in-Pair.field-0.0 in
-    let here = via_fails (type_operands c.args.end c.args.before types.Pair) (forks c.args.end c.args.before) (pair_via c.args.end c.args.before) old.text old.at fault c.in_err-a-in-Pair.ensures.wrong in
-    let known = subst (λ (w : TypeWord). Fails (type_operands c.args.end c.args.before w) old.text old.at fault) (sym c.in-Pair.is) here in
+    let known = operands_fail c.args.end c.args.before _ types.Pair c.in-Pair.is (forks c.args.end c.args.before) (pair_via c.args.end c.args.before) old.text old.at c.in_err-a-in-Pair.field-0.0 c.in_err-a-in-Pair.ensures.wrong in
     let p = err_from_is_err_and c.from_residual-in_err-a-in-Pair.result c.from_residual-in_err-a-in-Pair.ensures.1 in
     rw (p.1, p.2) known
 
@@ -93,9 +86,7 @@ pub operands-returns-in_err-a-in-Fun-clause-wrong :
     goal.operands-returns-in_err-a-in-Fun-clause-wrong
 operands-returns-in_err-a-in-Fun-clause-wrong t c =
     let old = c.args.cursor.now in
-    let fault = c.in_err-a-in-Fun.field-0.0 in
-    let here = via_fails (type_operands c.args.end c.args.before types.Fun) (forks c.args.end c.args.before) (fun_via c.args.end c.args.before) old.text old.at fault c.in_err-a-in-Fun.ensures.wrong in
-    let known = subst (λ (w : TypeWord). Fails (type_operands c.args.end c.args.before w) old.text old.at fault) (sym c.in-Fun.is) here in
+    let known = operands_fail c.args.end c.args.before _ types.Fun c.in-Fun.is (forks c.args.end c.args.before) (fun_via c.args.end c.args.before) old.text old.at c.in_err-a-in-Fun.field-0.0 c.in_err-a-in-Fun.ensures.wrong in
     let p = err_from_is_err_and c.from_residual-in_err-a-in-Fun.result c.from_residual-in_err-a-in-Fun.ensures.1 in
     rw (p.1, p.2) known
 
