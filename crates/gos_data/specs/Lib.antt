@@ -1,0 +1,20 @@
+-- In reading order: a file uses only files above it.
+pub mod Lit
+pub mod Op
+pub mod Waiting
+pub mod Not
+pub mod Assign
+pub mod Deref
+pub mod Local
+pub mod Layout
+pub mod Ranges
+pub mod Silent
+pub mod LitKept
+pub mod OpKept
+pub mod WaitingKept
+pub mod NotKept
+pub mod AssignKept
+pub mod DerefKept
+pub mod LocalKept
+pub mod LocalFit
+pub mod Kept
