@@ -2,7 +2,8 @@
 //
 // `run` is the top call. It knows the outside only as a store of files and a sink of bytes. What it promises is said in
 // specs/: Command (the words), Checked (what `check` tells), BuildFile and SourceFile (the forms of the files of `build`),
-// Headline (what a circuit of a module is), Built (what `build` leaves, rejects and calls), Run (all commands). The command `sim` is a crate of its own, gos_simulate.
+// Headline (what a circuit of a module is), Built (what `build` leaves, rejects and calls), Run (all commands). The
+// command `sim` is a crate of its own, gos_simulate.
 #![tactic(auto)]
 
 ghost use Rattle.std.specs.Prelude.{◌≡◌};
@@ -31,9 +32,10 @@ use std::alloc::Global;
 
 /// Does what the words of a command say, with the files of a store, and prints one line to a sink.
 ///
-/// `check SRC` reads a source file and tells the weight of its module. `sim NET PULSES TRACE` reads a netlist and a pulse file, runs the netlist and writes the trace. `build BUILD` reads the
-/// build file and the source file of its instance, writes the netlist, reads the pulse file, runs the netlist and writes the
-/// trace. Each status but `NoMemory` has its cause; want of memory may end a command anywhere.
+/// `check SRC` reads a source file and tells the weight of its module. `sim NET PULSES TRACE` reads a netlist and a pulse
+/// file, runs the netlist and writes the trace. `build BUILD` reads the build file and the source file of its instance,
+/// writes the netlist, reads the pulse file, runs the netlist and writes the trace. Each status but `NoMemory` has its
+/// cause; want of memory may end a command anywhere.
 pub fn run<S: Store, O: Sink>(alloc: Global, words: &[String], store: &mut S, out: &mut O) -> Status
     // Other words are answered with the usage line, and no file is touched.
     ensures usage { result ≡ Status.Usage → MeanNothing (texts words.now) }
