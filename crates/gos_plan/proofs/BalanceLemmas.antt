@@ -89,7 +89,7 @@ changed p engaged s j e way held r b i t here k h = by_test (same_end k.asking j
         subst (λ (x : Joint). Keeps (turned_at e engaged) (with_place way j.asking held s) x) (sym same) here
 
 -- the two ends of a joint differ
-ends_differ : (p : Plan) (j : Joint) → IsRight p → IsIn j p.joints → (same_end j.asking j.serving ≡ false) × (same_end j.serving j.asking ≡ false)
+pub ends_differ : (p : Plan) (j : Joint) → IsRight p → IsIn j p.joints → (same_end j.asking j.serving ≡ false) × (same_end j.serving j.asking ≡ false)
 ends_differ p j r i = (by_test (same_end j.asking j.serving) refl, by_test' (same_end j.serving j.asking) refl)
   where
     differ : j.asking ≡ j.serving → ⊥

@@ -13,11 +13,11 @@ use Rattle.gos_plan.specs.Inversion.{first_or_later}
 use Rattle.gos_plan.proofs.JointLemmas.{same_is}
 
 -- what lies in the two places of a joint, by whether its handshake is open
-abbrev Fits : Bool → Option ℕ → Option ℕ → Type 0
+abbrev pub Fits : Bool → Option ℕ → Option ℕ → Type 0
 Fits false q r = (q ≡ None) × (r ≡ None)
 Fits true q r = (q ≡ None) ⊎ (r ≡ None)
 
-abbrev AllFit : Open → Tokens → Type 0
+abbrev pub AllFit : Open → Tokens → Type 0
 AllFit o s = (a : End) → Fits (o a) (s.in_place Request a) (s.in_place Answer a)
 
 once_open : (b : Bool) (q r : Option ℕ) → Fits b q r → Fits true q r
@@ -42,7 +42,7 @@ not_two true v w (inr some) = cc some
 nothing_there : (p : Plan) (e : End) (way : Direction) (v : ℕ) (s : Tokens) → token_at p s e way ≡ Some v → places_of p e ≡ None → ⊥
 nothing_there p e way v s lies none = let no : None ≡ Some v = sym (ap (held_at s way) none) ∙ lies in cc no
 
-taken : (p : Plan) (e : End) (way : Direction) (v : ℕ) (o : Open) (s : Tokens) → token_at p s e way ≡ Some v → AllFit o s
+pub taken : (p : Plan) (e : End) (way : Direction) (v : ℕ) (o : Open) (s : Tokens) → token_at p s e way ≡ Some v → AllFit o s
     → AllFit (after_taken p e way o) (with_token p e way None s)
 taken p e Request v o s lies fit = by_place (places_of p e) refl
   where
@@ -71,7 +71,7 @@ taken p e Answer v o s lies fit = by_place (places_of p e) refl
         at_end a false t = rw t (fit a)
 
 -- a token is put
-put_well : (p : Plan) (e : End) (way : Direction) (v : ℕ) (o : Open) (s : Tokens) → ComesWell p e way o s → AllFit o s
+pub put_well : (p : Plan) (e : End) (way : Direction) (v : ℕ) (o : Open) (s : Tokens) → ComesWell p e way o s → AllFit o s
     → AllFit (after_put p e way o) (with_token p e way (Some v) s)
 put_well p e Request v o s closed fit = by_place (places_of p e) refl
   where
@@ -134,7 +134,7 @@ takes_of None q t r e = absurd (cc e)
 takes_of (Some k) q t r e = takes t (rows k q.phase q.number) r e
 
 -- so each element keeps it
-step : (p : Plan) (x : Element) (o u : Open) (s t : Tokens) → Does p x s t → ComesInOrder p x s o u → AllFit o s → AllFit u t
+pub step : (p : Plan) (x : Element) (o u : Open) (s t : Tokens) → Does p x s t → ComesInOrder p x s o u → AllFit o s → AllFit u t
 step p (Fire i slot) o u s t (v, r, lies, fire, leads) puts fit =
     let now = puts v r lies fire in
     let is = takes_of (slice_get p.parts i) (s.state i) slot r fire in
@@ -162,7 +162,7 @@ step p (In e v) o u s t does puts fit = of_contact (contact_at p e) refl
         subst (λ (w : Open). AllFit w t) (sym now.1)
         (subst (λ (w : Tokens). AllFit (after_put p e (way_put c.role) o) w) (sym passes.1) (put_well p e (way_put c.role) v o s now.0 fit))
 
-all_fit : (p : Plan) (xs : List Element) (o u : Open) (s t : Tokens) → OrderlyFrom p xs o s u t → AllFit o s → AllFit u t
+pub all_fit : (p : Plan) (xs : List Element) (o u : Open) (s t : Tokens) → OrderlyFrom p xs o s u t → AllFit o s → AllFit u t
 all_fit p [] o u s t list fit = subst (λ (w : Open). AllFit w t) (sym list.0) (subst (AllFit o) (sym list.1) fit)
 all_fit p (x ∷ xs) o u s t (m, w, does, puts, welcome, list) fit = all_fit p xs m u w t list (step p x o m s w does puts fit)
 

@@ -2,7 +2,8 @@
 use Rattle.std.proofs.Common.{◌≡◌, ◌≢◌, ◌⊎◌, ◌+◌, inl, inr, ℕ, zero, suc, List, [], ◌∷◌, Contains, Some, refl, sym, ◌∙◌, ap, subst, arith, slice_get}
 use Rattle.gos_types.specs.Types.{Type', Com, Fun}
 use Rattle.gos_plan.specs.Kinds.{Part, Contact, asks, serves, contacts_of, turned_contact}
-use Rattle.gos_plan.specs.Plans.{End, PartEnd, ImportEnd, ResultEnd, Joint, Imported, Plan, contacts_of_part, contacts_of_import, turned_if, contact_at}
+use Rattle.gos_model.specs.Typing.{Imported}
+use Rattle.gos_plan.specs.Plans.{End, PartEnd, ImportEnd, ResultEnd, Joint, Plan, contacts_of_part, contacts_of_import, turned_if, contact_at}
 use Rattle.gos_plan.specs.Joining.{place, origin, Path, Connects, JoiningIsOne}
 use Rattle.gos_plan.specs.SmallPlans.{skip_plan, same_plan, same_of_skip, SkipIsJoined}
 

@@ -1,10 +1,11 @@
 -- In which joint an end stands, where the joints of a plan are right.
-use Rattle.std.specs.Prelude.{IsTrue, None}
-use Rattle.std.proofs.Common.{◌≡◌, Bool, true, false, List, [], ◌∷◌, ◌⊎◌, Some, refl, sym, ◌∙◌, subst, inl, inr, arith}
+use Rattle.std.specs.Prelude.{IsTrue, Option, None}
+use Rattle.std.proofs.Common.{◌≡◌, ℕ, zero, suc, ap, Contains, Bool, true, false, List, [], ◌∷◌, ◌⊎◌, Some, refl, sym, ◌∙◌, subst, inl, inr, arith}
 use Rattle.gos_types.specs.declared.shakes.Role.TheVariants.{Serve, Ask}
-use Rattle.gos_plan.specs.Kinds.{Contact}
-use Rattle.gos_plan.specs.Plans.{End, PartEnd, ImportEnd, ResultEnd, Joint, Plan, contact_at, same_end, stands_in, is_free, Fits, AreRight}
-use Rattle.gos_plan.specs.Tokens.{asking_in}
+use Rattle.gos_netlist.specs.Events.{Direction, Request, Answer}
+use Rattle.gos_plan.specs.Kinds.{Contact, asks, serves}
+use Rattle.gos_plan.specs.Plans.{End, PartEnd, ImportEnd, ResultEnd, Joint, Plan, contact_at, same_end, stands_in, is_free, Fits, AreRight, IsRight}
+use Rattle.gos_plan.specs.Tokens.{asking_in, places_of, bits_of}
 
 -- a joint is one of these
 abbrev pub IsIn : Joint → List Joint → Type 0
@@ -97,3 +98,58 @@ asking_role p j c f e = grind (arith, e, f.2)
 
 pub serving_role : (p : Plan) (j : Joint) (c : Contact) → Fits p j → contact_at p j.serving ≡ Some c → c.role ≡ Serve
 serving_role p j c f e = grind (arith, e, f.3)
+
+-- An end that stands in a joint has a handshake, and so has the end that asks there. Their bits are equal.
+pub record Joined (p : Plan) (e a : End) : Type 0 where
+  pub here : Contact
+  pub asker : Contact
+  pub is_here : contact_at p e ≡ Some here
+  pub is_asker : contact_at p a ≡ Some asker
+  pub bits : (way : Direction) → bits_of here way ≡ bits_of asker way
+
+pub joined : (p : Plan) (e a : End) → IsRight p → places_of p e ≡ Some a → Joined p e a
+joined p e a right n = by_test (same_end e f.joint.asking) refl
+  where
+    f : Found p.joints e a
+    f = found p.joints e a n
+
+    same_both : (q r : ℕ) (way : Direction) → bits_of (serves q r) way ≡ bits_of (asks q r) way
+    same_both q r Request = refl
+    same_both q r Answer = refl
+
+    by_test : (b : Bool) → same_end e f.joint.asking ≡ b → Joined p e a
+    by_test true t =
+        let fit = fits p [] p.joints f.joint right f.is_in in
+        record {
+          here = asks fit.0 fit.1;
+          asker = asks fit.0 fit.1;
+          is_here = ap (contact_at p) (same_is e f.joint.asking t) ∙ fit.2;
+          is_asker = ap (contact_at p) (sym f.named) ∙ fit.2;
+          bits = λ way. refl;
+        }
+    by_test false t =
+        let fit = fits p [] p.joints f.joint right f.is_in in
+        let s : same_end e f.joint.serving ≡ true = grind (arith, f.stands, t) in
+        record {
+          here = serves fit.0 fit.1;
+          asker = asks fit.0 fit.1;
+          is_here = ap (contact_at p) (same_is e f.joint.serving s) ∙ fit.3;
+          is_asker = ap (contact_at p) (sym f.named) ∙ fit.2;
+          bits = same_both fit.0 fit.1;
+        }
+
+-- an end of a joint has its places there
+pub stands_there : (p : Plan) (j : Joint) (e : End) → IsRight p → IsIn j p.joints → stands_in e j ≡ true → places_of p e ≡ Some j.asking
+stands_there p j e right is_in stands = by_place (asking_in p.joints e) refl
+  where
+    by_place : (f : Option End) → asking_in p.joints e ≡ f → f ≡ Some j.asking
+    by_place None none = absurd (has_place p.joints j e is_in stands none)
+    by_place (Some a) named =
+        let f = found p.joints e a named in
+        let one : j ≡ f.joint = one_joint p [] p.joints j f.joint e right is_in f.is_in stands f.stands in
+        ap Some (sym f.named ∙ ap (λ (x : Joint). x.asking) (sym one))
+
+pub contained : (js : List Joint) (j : Joint) → Contains js j → IsIn j js
+contained [] j (n, within, is) = absurd (omega (arith, within))
+contained (x ∷ xs) j (zero, within, is) = inl (sym is)
+contained (x ∷ xs) j (suc n, within, is) = inr (contained xs j (n, omega (arith, within), is))

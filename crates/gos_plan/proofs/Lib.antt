@@ -1,14 +1,22 @@
-mod JointLemmas
-mod BalanceLemmas
-mod RowLemmas
+pub mod JointLemmas
+pub mod BalanceLemmas
+pub mod RowLemmas
 mod TurnLemmas
 mod HeldLemmas
+pub mod DecidedLemmas
 mod AskingLemmas
 mod ProjectionLemmas
+mod RowBitsLemmas
+pub mod TokenBitsLemmas
+mod PlaceLemmas
+mod CountLemmas
+pub mod AccountLemmas
+mod StayLemmas
 mod JoiningLemmas
-mod OrderLemmas
+pub mod OrderLemmas
 mod SmallPlanLemmas
 mod SmallCycleLemmas
+mod CallLemmas
 mod SeatLemmas
 mod MakeLemmas
 pub mod SideLemmas

@@ -1,32 +1,37 @@
--- The seats of handshakes are those of their contacts.
+-- The handshakes of types as one side sees them, and the seats of handshakes.
 use Rattle.std.specs.Prelude.{Option, None, MatchOption, not, ◌||◌}
 use Rattle.std.proofs.Common.{◌≡◌, ℕ, zero, suc, ◌&&◌, nat_eq, Bool, true, false, List, [], ◌∷◌, ◌++◌, Some, Vec, Global, slice_get, slice_set, get_or, refl, sym, ap, arith, ◌∙◌, map, append_assoc}
 use Rattle.gos_plan.specs.declared.seats.Seat.{Seat}
 use Rattle.gos_types.specs.Types.{Type'}
 use Rattle.gos_types.specs.Handshakes.{Shake, handshakes_of}
 use Rattle.gos_plan.specs.Kinds.{Contact, contact, contacts_of, other_side}
-use Rattle.gos_plan.specs.Seats.{free_seat, contact_of, as_seen, seat_for, seat_in, seat_at, taken_if, TakesEnd, Stands}
+use Rattle.gos_plan.specs.Contacts.{held_contact, as_seen, contact_for}
+use Rattle.gos_plan.specs.Seats.{free_seat, free_held, contact_of, seat_in, seat_at, taken_if, TakesEnd, Stands}
 use Rattle.gos_plan.specs.declared.seats.Seats.{Seats}
 use Rattle.gos_plan.specs.Plans.{Joint, Plan, contact_at, same_end, is_free}
 
-seats_of : (turned : Bool) (hs : List Shake) → map (seat_for turned) hs ≡ map free_seat (as_seen turned (map contact hs))
-seats_of true [] = refl
-seats_of false [] = refl
-seats_of true (h ∷ hs) = rw (seats_of true hs) refl
-seats_of false (h ∷ hs) = rw (seats_of false hs) refl
+seen_of : (turned : Bool) (hs : List Shake) → map (contact_for turned) hs ≡ map held_contact (as_seen turned (map contact hs))
+seen_of true [] = refl
+seen_of false [] = refl
+seen_of true (h ∷ hs) = rw (seen_of true hs) refl
+seen_of false (h ∷ hs) = rw (seen_of false hs) refl
 
-pub seats_seen : (turned : Bool) (t : Type') → map (seat_for turned) (handshakes_of t) ≡ map free_seat (as_seen turned (contacts_of t))
-seats_seen turned t = seats_of turned (handshakes_of t)
+pub contacts_seen : (turned : Bool) (t : Type') → map (contact_for turned) (handshakes_of t) ≡ map held_contact (as_seen turned (contacts_of t))
+contacts_seen turned t = seen_of turned (handshakes_of t)
 
-map_append : (xs ys : List Contact) → map free_seat (xs ++ ys) ≡ map free_seat xs ++ map free_seat ys
+map_append : (xs ys : List Contact) → map held_contact (xs ++ ys) ≡ map held_contact xs ++ map held_contact ys
 map_append [] ys = refl
 map_append (x ∷ xs) ys = rw (map_append xs ys) refl
 
-pub seats_shared : (t : Type') → map free_seat (other_side (contacts_of t) ++ (contacts_of t ++ contacts_of t))
-    ≡ map (seat_for true) (handshakes_of t) ++ map (seat_for false) (handshakes_of t) ++ map (seat_for false) (handshakes_of t)
-seats_shared t =
-    rw (map_append (other_side (contacts_of t)) (contacts_of t ++ contacts_of t), map_append (contacts_of t) (contacts_of t), seats_seen true t, seats_seen false t)
-    (sym (append_assoc (map free_seat (other_side (contacts_of t))) (map free_seat (contacts_of t)) (map free_seat (contacts_of t))))
+pub contacts_shared : (t : Type') → map held_contact (other_side (contacts_of t) ++ (contacts_of t ++ contacts_of t))
+    ≡ map (contact_for true) (handshakes_of t) ++ map (contact_for false) (handshakes_of t) ++ map (contact_for false) (handshakes_of t)
+contacts_shared t =
+    rw (map_append (other_side (contacts_of t)) (contacts_of t ++ contacts_of t), map_append (contacts_of t) (contacts_of t), contacts_seen true t, contacts_seen false t)
+    (sym (append_assoc (map held_contact (other_side (contacts_of t))) (map held_contact (contacts_of t)) (map held_contact (contacts_of t))))
+
+pub free_of_held : (cs : List Contact) → map free_held (map held_contact cs) ≡ map free_seat cs
+free_of_held [] = refl
+free_of_held (c ∷ cs) = rw (free_of_held cs) refl
 
 not_taken : (o : Option Seat) → o ≡ taken_if false o
 not_taken None = refl

@@ -1,4 +1,4 @@
--- A plan without a Share puts each token on an empty joint, while its inputs keep turns.
+-- A plan without a Share puts each token on an empty joint, while its inputs alternate.
 --
 -- Which ends are engaged is read off the states of the parts and, at ports, off the elements so far. At the beginning every
 -- joint is balanced (BalanceLemmas); each element keeps them so, by the table of rows (RowLemmas).
@@ -13,20 +13,20 @@ use Rattle.gos_plan.specs.Kinds.{Part, Contact, part_contacts}
 use Rattle.gos_plan.specs.Firing.{Rest, State, Slot, Req, Ans, Token, Row, rows, firing}
 use Rattle.gos_plan.specs.Plans.{End, PartEnd, ImportEnd, ResultEnd, Plan, IsRight, contact_at, same_end}
 use Rattle.gos_plan.specs.Tokens.{Tokens, Element, Fire, Out, In, shake_of, way_of, end_of, token_at, with_token, with_held, with_state, with_puts, places_of, firing_of, fired, way_taken, way_put, IsPortEnd, Passes, Does, Runs, IsIdle}
-use Rattle.gos_plan.specs.Turns.{is_turn, is_turn_at, ComesInTurn, InputsKeepTurns, IsEmptyAt, PutsOnEmpty, HoldsOne, AllHoldOne, IsUnshared, OneTokenEach}
+use Rattle.gos_plan.specs.Turns.{alternates, alternates_at, Alternates, InputsAlternate, IsEmptyAt, PutsOnEmpty, HoldsOne, AllHoldOne, IsUnshared, OneTokenEach}
 use Rattle.gos_plan.specs.Engaged.{is_engaged, is_engaged_at}
 use Rattle.gos_plan.proofs.JointLemmas.{same_is, same_itself}
 use Rattle.gos_plan.proofs.BalanceLemmas.{Balanced, turned_at, before_taking, before_putting, taken, put_well, balanced_by, at_most_one}
 use Rattle.gos_plan.proofs.RowLemmas.{role_taking, role_putting, flipped, Turns, RowKeeps, table, row_with}
 
--- whether a port's end is engaged, where an input there is in turn or not
+-- whether a port's end is engaged, where an input there alternates or not
 abbrev by_role : Role → Bool → Bool
 by_role Ask turn = not turn
 by_role Serve turn = turn
 
 abbrev port_engaged : Option Contact → End → List Element → Bool
 port_engaged None e past = false
-port_engaged (Some c) e past = by_role c.role (is_turn c.role e past)
+port_engaged (Some c) e past = by_role c.role (alternates c.role e past)
 
 -- which ends are engaged after these elements, the newest first
 abbrev engaged_after : Plan → List Element → Tokens → End → Bool
@@ -56,7 +56,7 @@ port_at_first : (o : Option Contact) (e : End) → port_engaged o e [] ≡ false
 port_at_first None e = refl
 port_at_first (Some c) e = of_role c.role
   where
-    of_role : (role : Role) → by_role role (is_turn role e []) ≡ false
+    of_role : (role : Role) → by_role role (alternates role e []) ≡ false
     of_role Ask = refl
     of_role Serve = refl
 
@@ -99,11 +99,11 @@ contact_of : (p : Plan) (i h : ℕ) (k : Part) (c : Contact) → slice_get p.par
 contact_of p i h k c e f = rw e f
 
 -- the way of a slot, by the role that takes or puts it
-way_to_take : (t : Slot) → way_of t ≡ way_taken (role_taking t)
+pub way_to_take : (t : Slot) → way_of t ≡ way_taken (role_taking t)
 way_to_take (Req h) = refl
 way_to_take (Ans h) = refl
 
-way_to_put : (t : Slot) → way_of t ≡ way_put (role_putting t)
+pub way_to_put : (t : Slot) → way_of t ≡ way_put (role_putting t)
 way_to_put (Req h) = refl
 way_to_put (Ans h) = refl
 
@@ -164,7 +164,7 @@ pub record Kept (p : Plan) (past : List Element) (x : Element) (s t : Tokens) : 
   pub balanced : Balanced p (engaged_after p (x ∷ past) t) t
 
 -- a firing is no turn of a port
-turn_of_firing : (role : Role) (e : End) (i : ℕ) (t : Slot) (past : List Element) → is_turn role e (Fire i t ∷ past) ≡ is_turn role e past
+turn_of_firing : (role : Role) (e : End) (i : ℕ) (t : Slot) (past : List Element) → alternates role e (Fire i t ∷ past) ≡ alternates role e past
 turn_of_firing Ask e i t past = refl
 turn_of_firing Serve e i t past = refl
 
@@ -247,7 +247,7 @@ apart_turned d e n = by_test (same_end e d) refl
 
 -- an element at another end is no turn of a port
 other_turn : (role : Role) (d e : End) (v : ℕ) (past : List Element) → same_end e d ≡ false
-    → (is_turn role d (In e v ∷ past) ≡ is_turn role d past) × (is_turn role d (Out e v ∷ past) ≡ is_turn role d past)
+    → (alternates role d (In e v ∷ past) ≡ alternates role d past) × (alternates role d (Out e v ∷ past) ≡ alternates role d past)
 other_turn Ask d e v past n = (rw n refl, rw n refl)
 other_turn Serve d e v past n = (rw n refl, rw n refl)
 
@@ -258,7 +258,7 @@ other_port (Some c) d e v past n =
     let t = other_turn c.role d e v past n in (ap (by_role c.role) t.0, ap (by_role c.role) t.1)
 
 -- at its own end an input is out of turn next, and an output lets one be
-own_turn : (role : Role) (e : End) (v : ℕ) (past : List Element) → (is_turn role e (In e v ∷ past) ≡ false) × (is_turn role e (Out e v ∷ past) ≡ true)
+own_turn : (role : Role) (e : End) (v : ℕ) (past : List Element) → (alternates role e (In e v ∷ past) ≡ false) × (alternates role e (Out e v ∷ past) ≡ true)
 own_turn Ask e v past = (rw (same_itself e) refl, rw (same_itself e) refl)
 own_turn Serve e v past = (rw (same_itself e) refl, rw (same_itself e) refl)
 
@@ -278,11 +278,11 @@ after_output Serve = refl
 port_element : (p : Plan) (past : List Element) (x : Element) (e : End) (c : Contact) (s t : Tokens) → contact_at p e ≡ Some c → IsPortEnd e
     → ((i : ℕ) → t.state i ≡ s.state i)
     → ((d : End) → same_end e d ≡ false → (o : Option Contact) → port_engaged o d (x ∷ past) ≡ port_engaged o d past)
-    → not (engaged_after p past s e) ≡ by_role c.role (is_turn c.role e (x ∷ past))
+    → not (engaged_after p past s e) ≡ by_role c.role (alternates c.role e (x ∷ past))
     → (d : End) → turned_at e (engaged_after p past s) d ≡ engaged_after p (x ∷ past) t d
 port_element p past x e c s t k port states others own d = by_test (same_end d e) refl
   where
-    at_port : engaged_after p (x ∷ past) t e ≡ by_role c.role (is_turn c.role e (x ∷ past))
+    at_port : engaged_after p (x ∷ past) t e ≡ by_role c.role (alternates c.role e (x ∷ past))
     at_port = engaged_at_port p (x ∷ past) t e port ∙ rw k refl
 
     elsewhere : (d : End) → same_end e d ≡ false → engaged_after p past s d ≡ engaged_after p (x ∷ past) t d
@@ -294,9 +294,9 @@ port_element p past x e c s t k port states others own d = by_test (same_end d e
     by_test false n = rw n (elsewhere d (apart_turned d e n))
     by_test true y = rw (same_is d e y, same_itself e) (own ∙ sym at_port)
 
--- an input in its turn
+-- an input that alternates
 enters : (p : Plan) (past : List Element) (e : End) (v : ℕ) (c : Contact) (s : Tokens) → IsRight p → Balanced p (engaged_after p past s) s
-    → IsPortEnd e → contact_at p e ≡ Some c → is_turn c.role e past ≡ true
+    → IsPortEnd e → contact_at p e ≡ Some c → alternates c.role e past ≡ true
     → IsEmptyAt p s e × Balanced p (engaged_after p (In e v ∷ past) (with_token p e (way_put c.role) (Some v) s)) (with_token p e (way_put c.role) (Some v) s)
 enters p past e v c s right b port k turn =
     let engaged : engaged_after p past s e ≡ before_putting c.role = engaged_at_port p past s e port ∙ (rw k (ap (by_role c.role) turn) ∙ in_turn c.role) in
@@ -325,7 +325,7 @@ unshared_at parts i k all e = subst IsUnshared (get_or_from_slice_get parts i k 
 
 -- each element keeps all joints balanced, and puts on empty ones
 step : (p : Plan) (past : List Element) (x : Element) (s t : Tokens) → IsRight p → All IsUnshared p.parts → Balanced p (engaged_after p past s) s
-    → ComesInTurn p past x → Does p x s t → Kept p past x s t
+    → Alternates p past x → Does p x s t → Kept p past x s t
 step p past (Fire i slot) s t right unshared b turn does = of_part (slice_get p.parts i) refl
   where
     of_part : (o : Option Part) → slice_get p.parts i ≡ o → Kept p past (Fire i slot) s t
@@ -344,7 +344,7 @@ step p past (In e v) s t right unshared b turn does = of_contact (contact_at p e
     of_contact None k = absurd (grind (arith, turn, k))
     of_contact (Some c) k =
         let passes = subst (λ (o : Option Contact). Passes p (In e v) o s t) k does.1 in
-        let in_its_turn = subst (λ (o : Option Contact). IsTrue (is_turn_at o e past)) k turn in
+        let in_its_turn = subst (λ (o : Option Contact). IsTrue (alternates_at o e past)) k turn in
         let go = enters p past e v c s right b does.0 k in_its_turn in
         record { one = go.0; balanced = subst (λ (u : Tokens). Balanced p (engaged_after p (In e v ∷ past) u) u) (sym passes.1) go.1 }
 step p past (Out e v) s t right unshared b turn does = of_contact (contact_at p e) refl
@@ -357,14 +357,14 @@ step p past (Out e v) s t right unshared b turn does = of_contact (contact_at p 
         record { one = tt; balanced = subst (λ (u : Tokens). Balanced p (engaged_after p (Out e v ∷ past) u) u) (sym passes.1) go }
 
 all_hold_one : (p : Plan) (past xs : List Element) (s : Tokens) → IsRight p → All IsUnshared p.parts → Balanced p (engaged_after p past s) s
-    → InputsKeepTurns p past xs → AllHoldOne p xs s
+    → InputsAlternate p past xs → AllHoldOne p xs s
 all_hold_one p past [] s right unshared b turns = tt
 all_hold_one p past (x ∷ xs) s right unshared b turns = λ t does.
     let kept = step p past x s t right unshared b turns.0 does in
     (kept.one, all_hold_one p (x ∷ past) xs t right unshared kept.balanced turns.1)
 
 balanced_at_end : (p : Plan) (past xs : List Element) (s t : Tokens) → IsRight p → All IsUnshared p.parts → Balanced p (engaged_after p past s) s
-    → InputsKeepTurns p past xs → Runs p xs s t → (engaged : End → Bool) × Balanced p engaged t
+    → InputsAlternate p past xs → Runs p xs s t → (engaged : End → Bool) × Balanced p engaged t
 balanced_at_end p past [] s t right unshared b turns runs = (engaged_after p past s, subst (λ (u : Tokens). Balanced p (engaged_after p past s) u) (sym runs) b)
 balanced_at_end p past (x ∷ xs) s t right unshared b turns runs =
     let kept = step p past x s runs.0 right unshared b turns.0 runs.1 in

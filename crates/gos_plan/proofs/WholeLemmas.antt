@@ -10,7 +10,8 @@ use Rattle.gos_plan.specs.declared.fault.ObjectFault.{ObjectFault}
 use Rattle.gos_plan.specs.declared.fault.ObjectFault.TheVariants as faults
 use Rattle.gos_plan.specs.declared.plan.PlanImport.{PlanImport}
 use Rattle.gos_plan.specs.Kinds.{Part}
-use Rattle.gos_plan.specs.Plans.{Imported, Joint, Plan}
+use Rattle.gos_model.specs.Typing.{Imported}
+use Rattle.gos_plan.specs.Plans.{Joint, Plan}
 use Rattle.gos_plan.specs.Seen.{SeenPlan, plan_of, import_of}
 use Rattle.gos_plan.specs.Ranges.{IsSmall, IsInRange, AreInRange}
 use Rattle.gos_plan.specs.TextItems.{Item, Reads, Fails, both, exactly, number_in}

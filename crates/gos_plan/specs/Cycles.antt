@@ -10,7 +10,8 @@ use Rattle.gos_model.specs.Labels.{Port, Given, Taken, Label}
 use Rattle.gos_model.specs.Flattening.{outputs, inputs, AnyOrder}
 use Rattle.gos_model.specs.Protocol.{shake_of}
 use Rattle.gos_plan.specs.Firing.{Slot}
-use Rattle.gos_plan.specs.Plans.{End, ImportEnd, ResultEnd, Imported, Plan}
+use Rattle.gos_model.specs.Typing.{Imported}
+use Rattle.gos_plan.specs.Plans.{End, ImportEnd, ResultEnd, Plan}
 use Rattle.gos_plan.specs.Tokens.{Tokens, Element, Fire, Out, In, Does, Runs, IsIdle}
 use Rattle.gos_plan.specs.Orderly.{IsOrderly}
 

@@ -5,7 +5,8 @@
 use Rattle.std.specs.Prelude.{◌≡◌, ◌≢◌, ◌↔◌, ℕ, zero, suc, ◌+◌, ◌-◌, Bool, false, ◌&&◌, ◌||◌, List, [], ◌∷◌, ◌++◌, ◌⊎◌, length, map, Option, Some, None, slice_get, nat_eq, nat_lt, if◌then◌else◌, Contains}
 use Rattle.gos_types.specs.Types.{Type'}
 use Rattle.gos_plan.specs.Kinds.{Part, Contact, asks, serves, contacts_of, turned_contact}
-use Rattle.gos_plan.specs.Plans.{End, PartEnd, ImportEnd, ResultEnd, Joint, Imported, Plan, contact_at, IsRight}
+use Rattle.gos_model.specs.Typing.{Imported}
+use Rattle.gos_plan.specs.Plans.{End, PartEnd, ImportEnd, ResultEnd, Joint, Plan, contact_at, IsRight}
 
 -- an end of one of several plans
 pub record Place : Type 0 where

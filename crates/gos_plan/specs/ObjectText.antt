@@ -18,7 +18,8 @@ use Rattle.gos_plan.specs.declared.word.PartWord.{PartWord}
 use Rattle.gos_plan.specs.declared.word.PartWord.TheVariants as parts
 use Rattle.gos_plan.specs.declared.kinds.Op2.{Op2}
 use Rattle.gos_plan.specs.Kinds.{Operation, Add, Sub, And, Or, Xor, Eq, Less, Part, Skip, Lit, Seq, Par, If, While, Op, Not, Assign, Deref, Local, Share}
-use Rattle.gos_plan.specs.Plans.{End, PartEnd, ImportEnd, ResultEnd, Joint, Imported, Plan}
+use Rattle.gos_model.specs.Typing.{Imported}
+use Rattle.gos_plan.specs.Plans.{End, PartEnd, ImportEnd, ResultEnd, Joint, Plan}
 use Rattle.gos_plan.specs.Ranges.{IsWidth, HasWidths}
 
 -- a number and the byte that ends it

@@ -3,6 +3,7 @@
 -- Read first: Kinds. A joint has two ends: one asks, the other serves.
 use Rattle.std.specs.Prelude.{◌≡◌, ℕ, Bool, true, false, not, ◌&&◌, ◌||◌, IsTrue, List, [], ◌∷◌, Option, Some, None, nat_eq, slice_get}
 use Rattle.gos_types.specs.Types.{Type'}
+use Rattle.gos_model.specs.Typing.{Imported}
 use Rattle.gos_plan.specs.Kinds.{Part, Contact, asks, serves, contacts_of, turned_contact, part_contacts}
 
 -- an end of a joint: a handshake of a part, of an import, or of the result
@@ -15,11 +16,6 @@ pub data End : Type 0 where
 pub record Joint : Type 0 where
   pub asking : End
   pub serving : End
-
--- an import: its name and its type
-pub record Imported : Type 0 where
-  pub name : List ℕ
-  pub ty : Type'
 
 -- a plan; `outcome` is the type of its result
 pub record Plan : Type 0 where

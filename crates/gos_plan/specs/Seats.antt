@@ -1,6 +1,6 @@
 -- Which ends of a plan are taken, as the program keeps them.
 --
--- Read first: Plans, Seen. Between the functions of this crate.
+-- Read first: Plans, Seen, Contacts. Between the functions of this crate.
 use Rattle.std.specs.Prelude.{◌≡◌, ℕ, Bool, true, false, not, if◌then◌else◌, List, map, Option, None, Some, MatchOption, slice_get}
 use Rattle.gos_types.specs.declared.shakes.Role.TheVariants.{Serve, Ask}
 use Rattle.gos_types.specs.declared.types.Ty.{Ty}
@@ -9,26 +9,22 @@ use Rattle.gos_plan.specs.declared.kinds.Kind.{Kind}
 use Rattle.gos_plan.specs.declared.plan.PlanImport.{PlanImport}
 use Rattle.gos_plan.specs.declared.seats.Seat.{Seat}
 use Rattle.gos_plan.specs.declared.seats.Seats.{Seats}
-use Rattle.gos_types.specs.Handshakes.{Shake}
-use Rattle.gos_plan.specs.Kinds.{Contact, contact, turned_contact, contacts_of, other_side, part_contacts}
+use Rattle.gos_plan.specs.declared.contacts.Contact as held
+use Rattle.gos_plan.specs.Kinds.{Contact, contacts_of, other_side, part_contacts}
 use Rattle.gos_plan.specs.Plans.{End, PartEnd, ImportEnd, ResultEnd, Joint, Plan, contact_at, same_end, is_free}
 use Rattle.gos_plan.specs.Seen.{part_of}
+use Rattle.gos_plan.specs.Contacts.{held_contact, contact_held}
 
 -- a seat of this handshake that no joint has taken
+abbrev pub free_held : held.Contact → Seat
+free_held c = record { contact = c; taken = false }
+
 abbrev pub free_seat : Contact → Seat
-free_seat c = record { role = c.role; ask_bits = c.ask_bits; answer_bits = c.answer_bits; taken = false }
+free_seat c = free_held (held_contact c)
 
 -- the handshake of a seat
 abbrev pub contact_of : Seat → Contact
-contact_of seat = record { role = seat.role; ask_bits = seat.ask_bits; answer_bits = seat.answer_bits }
-
--- handshakes as one side sees them, or as the other
-abbrev pub as_seen : Bool → List Contact → List Contact
-as_seen turned contacts = if turned then other_side contacts else contacts
-
--- the free seat of a handshake, as one side sees it or as the other
-abbrev pub seat_for : Bool → Shake → Seat
-seat_for turned h = free_seat (if turned then turned_contact (contact h) else contact h)
+contact_of seat = contact_held seat.contact
 
 -- the seat at an end, in lists of seats
 abbrev pub seat_in : Option (List Seat) → ℕ → Option Seat
@@ -63,10 +59,10 @@ TakesEnd e before after = (d : End) → seat_at after d ≡ taken_if (same_end d
 pub record Meet (asking serving : Seat) : Type 0 where
   pub asking_free : asking.taken ≡ false
   pub serving_free : serving.taken ≡ false
-  pub asks : asking.role ≡ Ask
-  pub serves : serving.role ≡ Serve
-  pub requests : asking.ask_bits ≡ serving.ask_bits
-  pub answers : asking.answer_bits ≡ serving.answer_bits
+  pub asks : asking.contact.role ≡ Ask
+  pub serves : serving.contact.role ≡ Serve
+  pub requests : asking.contact.ask_bits ≡ serving.contact.ask_bits
+  pub answers : asking.contact.answer_bits ≡ serving.contact.answer_bits
 
 -- the free seats of a part, and of an import
 abbrev pub kind_seats : Kind → List Seat

@@ -11,7 +11,8 @@ use Rattle.gos_plan.specs.declared.plan.End.TheVariants as ends
 use Rattle.gos_plan.specs.declared.plan.Joint as declared_joint
 use Rattle.gos_plan.specs.declared.plan.PlanImport as declared_import
 use Rattle.gos_plan.specs.Kinds.{Operation, Add, Sub, And, Or, Xor, Eq, Less, Part, Skip, Lit, Seq, Par, If, While, Op, Not, Assign, Deref, Local, Share}
-use Rattle.gos_plan.specs.Plans.{End, PartEnd, ImportEnd, ResultEnd, Joint, Imported, Plan}
+use Rattle.gos_model.specs.Typing.{Imported}
+use Rattle.gos_plan.specs.Plans.{End, PartEnd, ImportEnd, ResultEnd, Joint, Plan}
 
 -- what an operator computes
 abbrev pub operation_of : declared_operation.Op2 → Operation

@@ -1,4 +1,4 @@
--- One token for each joint: what a plan without sharing keeps while its inputs keep turns.
+-- One token for each joint: what a plan without sharing keeps while its inputs alternate with its outputs.
 --
 -- Read first: Tokens. At a port's handshake inputs and outputs alternate, and who asks begins.
 use Rattle.std.specs.Prelude.{◌≡◌, ◌≢◌, ℕ, Bool, true, false, IsTrue, List, [], ◌∷◌, Option, Some, None, All, slice_get, if◌then◌else◌}
@@ -11,30 +11,30 @@ use Rattle.gos_plan.specs.Firing.{Token, Row}
 use Rattle.gos_plan.specs.Plans.{End, Plan, IsRight, contact_at, same_end}
 use Rattle.gos_plan.specs.Tokens.{Tokens, Element, Fire, Out, In, token_at, with_token, with_state, end_of, way_of, firing_of, Does, Runs, IsIdle}
 
--- Whether an input at an end of this role comes in its turn after these elements, the newest first: after an output
+-- Whether an input at an end of this role alternates after these elements, the newest first: it comes after an output
 -- there, or, where the outside asks, as the first.
-abbrev pub is_turn : Role → End → List Element → Bool
-is_turn Ask e [] = true
-is_turn Serve e [] = false
-is_turn role e (Fire i t ∷ past) = is_turn role e past
-is_turn role e (Out d v ∷ past) = if same_end d e then true else is_turn role e past
-is_turn role e (In d v ∷ past) = if same_end d e then false else is_turn role e past
+abbrev pub alternates : Role → End → List Element → Bool
+alternates Ask e [] = true
+alternates Serve e [] = false
+alternates role e (Fire i t ∷ past) = alternates role e past
+alternates role e (Out d v ∷ past) = if same_end d e then true else alternates role e past
+alternates role e (In d v ∷ past) = if same_end d e then false else alternates role e past
 
 -- the same at an end that there is
-abbrev pub is_turn_at : Option Contact → End → List Element → Bool
-is_turn_at None e past = false
-is_turn_at (Some c) e past = is_turn c.role e past
+abbrev pub alternates_at : Option Contact → End → List Element → Bool
+alternates_at None e past = false
+alternates_at (Some c) e past = alternates c.role e past
 
--- an element comes in its turn, if it is an input
-abbrev pub ComesInTurn : Plan → List Element → Element → Type 0
-ComesInTurn p past (Fire i t) = Unit {0}
-ComesInTurn p past (Out e v) = Unit {0}
-ComesInTurn p past (In e v) = IsTrue (is_turn_at (contact_at p e) e past)
+-- an element alternates with those before it, if it is an input
+abbrev pub Alternates : Plan → List Element → Element → Type 0
+Alternates p past (Fire i t) = Unit {0}
+Alternates p past (Out e v) = Unit {0}
+Alternates p past (In e v) = IsTrue (alternates_at (contact_at p e) e past)
 
--- each input comes in its turn, after these elements
-abbrev pub InputsKeepTurns : Plan → List Element → List Element → Type 0
-InputsKeepTurns p past [] = Unit {0}
-InputsKeepTurns p past (x ∷ xs) = ComesInTurn p past x × InputsKeepTurns p (x ∷ past) xs
+-- each input does, after these elements
+abbrev pub InputsAlternate : Plan → List Element → List Element → Type 0
+InputsAlternate p past [] = Unit {0}
+InputsAlternate p past (x ∷ xs) = Alternates p past x × InputsAlternate p (x ∷ past) xs
 
 -- no token lies on the joint of an end
 abbrev pub IsEmptyAt : Plan → Tokens → End → Type 0
@@ -67,10 +67,10 @@ IsUnshared k = (t : Type') → k ≢ Share t
 abbrev pub HoldsAtMostOne : Plan → Tokens → Type 0
 HoldsAtMostOne p s = (e : End) (v w : ℕ) → token_at p s e Request ≡ Some v → token_at p s e Answer ≡ Some w → ⊥
 
--- Over every list from an idle state whose inputs keep turns, a plan without a Share holds at most one token for each joint:
--- each token is put on a joint that holds none, and at the end none holds two.
+-- Over every list from an idle state whose inputs alternate, a plan without a Share holds at most one token for each
+-- joint: each token is put on a joint that holds none, and at the end none holds two.
 abbrev pub OneTokenEach : Type 0
 OneTokenEach =
     (p : Plan) (xs : List Element) (s : Tokens)
-    → IsRight p → All IsUnshared p.parts → IsIdle p s → InputsKeepTurns p [] xs
+    → IsRight p → All IsUnshared p.parts → IsIdle p s → InputsAlternate p [] xs
     → AllHoldOne p xs s × ((t : Tokens) → Runs p xs s t → HoldsAtMostOne p t)

@@ -6,7 +6,7 @@ ghost use Rattle.gos_plan.specs.Kinds.{result_of, complement, contact};
 ghost use Rattle.gos_plan.specs.Seen.{operation_of, part_of};
 ghost use Rattle.gos_plan.specs.Ranges.{IsSmall, IsInRange};
 ghost use Rattle.gos_plan.specs.Firing.{Rest, Both, Body, Req, Ans, at, put, firing, same_slot, row_for, shared_rows, share_rows};
-ghost use Rattle.gos_plan.specs.Fired.{phase_of, state_of, slot_of, fired_of, at_value};
+ghost use Rattle.gos_plan.specs.OneFiring.{phase_of, state_of, slot_of, fired_of, at_value};
 
 use crate::kinds::{Kind, Op2};
 use gos_types::{Handshake, NoMemory, Role, Ty, handshakes};

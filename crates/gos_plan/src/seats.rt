@@ -1,23 +1,23 @@
 // The ends of a plan's joints: which handshake each has, and whether a joint has taken it already.
 
-ghost use Rattle.std.specs.Prelude.{◌≡◌, ◌↔◌, ℕ, ◌&&◌, ◌++◌, ◌∷◌, List, IsTrue, map, nat_eq, slice_get, IfOk, OnOk, IsSome};
+ghost use Rattle.std.specs.Prelude.{◌≡◌, ◌↔◌, ℕ, ◌&&◌, ◌∷◌, List, IsTrue, map, nat_eq, slice_get, IfOk, IsSome};
 ghost use Rattle.gos_types.specs.Types.{type_of};
-ghost use Rattle.gos_plan.specs.Kinds.{contacts_of, other_side, part_contacts, result_width, asks, serves};
-ghost use Rattle.gos_plan.specs.Seen.{part_of, operation_of, end_of, joint_of};
+ghost use Rattle.gos_plan.specs.Kinds.{contacts_of, part_contacts};
+ghost use Rattle.gos_plan.specs.Seen.{part_of, end_of, joint_of};
 ghost use Rattle.gos_plan.specs.Plans.{Plan as APlan, Joint as AJoint, IsRightAfter};
-ghost use Rattle.gos_plan.specs.Seats.{free_seat, as_seen, seat_for, seat_in, seat_at, taken_if, TakesEnd, Meet, Stands, AreSeats, import_seats};
+ghost use Rattle.gos_plan.specs.Contacts.{as_seen};
+ghost use Rattle.gos_plan.specs.Seats.{free_seat, free_held, seat_in, seat_at, taken_if, TakesEnd, Meet, Stands, AreSeats, import_seats};
 
-use crate::kinds::{Kind, Op2};
+use crate::contacts::{Contact, part_contacts, seen_contacts};
+use crate::kinds::Kind;
 use crate::plan::{End, Joint, PlanImport};
-use gos_types::{Handshake, NoMemory, Role, Ty, handshakes};
+use gos_types::{NoMemory, Role, Ty};
 use std::alloc::Global;
 
 // An end, and whether a joint has it.
 #[derive(Clone, Copy)]
 pub(crate) struct Seat {
-    pub role: Role,
-    pub ask_bits: u32,
-    pub answer_bits: u32,
+    pub contact: Contact,
     pub taken: bool,
 }
 
@@ -29,83 +29,27 @@ pub(crate) struct Seats {
     pub result: Vec<Seat>,
 }
 
-// A free seat that asks.
-fn asks(ask_bits: u32, answer_bits: u32) -> Seat
-    ensures { result ≡ free_seat (asks ask_bits answer_bits) }
+// The free seats of handshakes.
+fn free_seats(alloc: Global, contacts: &[Contact]) -> Result<Vec<Seat>, NoMemory>
+    ensures { IfOk result (λ seats. seats.items ≡ map free_held contacts.now) }
 {
-    Seat {
-        role: Role::Ask,
-        ask_bits,
-        answer_bits,
-        taken: false,
+    let mut seats = Vec::new(alloc);
+    for contact in contacts {
+        seats.push(Seat {
+            contact: *contact,
+            taken: false,
+        })?;
     }
-}
-
-// A free seat that serves.
-fn serves(ask_bits: u32, answer_bits: u32) -> Seat
-    ensures { result ≡ free_seat (serves ask_bits answer_bits) }
-{
-    Seat {
-        role: Role::Serve,
-        ask_bits,
-        answer_bits,
-        taken: false,
-    }
-}
-
-// The bits of an operator's result.
-fn result_bits(op: Op2, w: u32) -> u32
-    ensures { result ≡ result_width (operation_of op) w }
-{
-    match op {
-        Op2::Eq | Op2::Less => 1,
-        _ => w,
-    }
+    Ok(seats)
 }
 
 // The seats of a part, all of them free.
+#[tactic(auto, using(crate::proofs::SeatLemmas::free_of_held))]
 pub(crate) fn part_seats(alloc: Global, kind: &Kind) -> Result<Vec<Seat>, NoMemory>
     ensures { IfOk result (λ seats. seats.items ≡ map free_seat (part_contacts (part_of kind.now))) }
 {
-    let seats = match kind {
-        Kind::Skip => vec![in alloc; serves(0, 0)]?,
-        Kind::Lit { w, k: _ } => vec![in alloc; serves(0, *w)]?,
-        Kind::Seq => vec![in alloc; asks(0, 0), asks(0, 0), serves(0, 0)]?,
-        Kind::SeqExp { w } => vec![in alloc; asks(0, 0), asks(0, *w), serves(0, *w)]?,
-        Kind::Par => vec![in alloc; asks(0, 0), asks(0, 0), serves(0, 0)]?,
-        Kind::If => vec![in alloc; asks(0, 1), asks(0, 0), asks(0, 0), serves(0, 0)]?,
-        Kind::IfExp { w } => vec![in alloc; asks(0, 1), asks(0, *w), asks(0, *w), serves(0, *w)]?,
-        Kind::While => vec![in alloc; asks(0, 1), asks(0, 0), serves(0, 0)]?,
-        Kind::Op { op, w } => vec![in alloc;
-            asks(0, *w),
-            asks(0, *w),
-            serves(0, result_bits(*op, *w)),
-        ]?,
-        Kind::Not { w } => vec![in alloc; asks(0, *w), serves(0, *w)]?,
-        Kind::Assign { w } => vec![in alloc; asks(0, *w), asks(*w, 0), serves(0, 0)]?,
-        Kind::Deref { w } => vec![in alloc; asks(0, *w), serves(0, *w)]?,
-        Kind::Local { w, v } => vec![in alloc;
-            asks(0, *v),
-            serves(0, *w),
-            serves(*w, 0),
-            serves(0, *v),
-        ]?,
-        Kind::Share(ty) => share_seats(alloc, ty)?,
-    };
-    Ok(seats)
-}
-
-// The seats of a Share: the source's, which it uses, and those of two callers.
-#[tactic(auto, using(crate::proofs::SeatLemmas::seats_shared))]
-fn share_seats(alloc: Global, ty: &Ty) -> Result<Vec<Seat>, NoMemory>
-    ensures { IfOk result (λ seats. seats.items ≡ map free_seat (other_side (contacts_of (type_of ty.now)) ++ (contacts_of (type_of ty.now) ++ contacts_of (type_of ty.now)))) }
-{
-    let shakes = handshakes(alloc, ty)?;
-    let mut seats = Vec::new(alloc);
-    add_seats(&mut seats, &shakes, true)?;
-    add_seats(&mut seats, &shakes, false)?;
-    add_seats(&mut seats, &shakes, false)?;
-    Ok(seats)
+    let contacts = part_contacts(alloc, kind)?;
+    free_seats(alloc, &contacts)
 }
 
 // The seats of imports, each by itself.
@@ -120,34 +64,12 @@ fn import_lists(alloc: Global, imports: &[PlanImport]) -> Result<Vec<Vec<Seat>>,
 }
 
 // The seats of a type, as one side sees them or as the other.
-#[tactic(auto, using(crate::proofs::SeatLemmas::seats_seen))]
+#[tactic(auto, using(crate::proofs::SeatLemmas::free_of_held))]
 pub(crate) fn type_seats(alloc: Global, ty: &Ty, turned: bool) -> Result<Vec<Seat>, NoMemory>
     ensures { IfOk result (λ seats. seats.items ≡ map free_seat (as_seen turned (contacts_of (type_of ty.now)))) }
 {
-    let shakes = handshakes(alloc, ty)?;
-    let mut seats = Vec::new(alloc);
-    add_seats(&mut seats, &shakes, turned)?;
-    Ok(seats)
-}
-
-// Adds the seats of handshakes, as one side sees them or as the other.
-fn add_seats(seats: &mut Vec<Seat>, shakes: &[Handshake], turned: bool) -> Result<(), NoMemory>
-    ensures { OnOk result (seats.new.items ≡ seats.old.items ++ map (seat_for turned) shakes.now) }
-{
-    for shake in shakes {
-        seats.push(seat_of(shake, turned))?;
-    }
-    Ok(())
-}
-
-// The free seat of a handshake.
-fn seat_of(shake: &Handshake, turned: bool) -> Seat
-    ensures { result ≡ seat_for turned shake.now }
-{
-    match (shake.role, turned) {
-        (Role::Ask, false) | (Role::Serve, true) => asks(shake.ask_bits, shake.answer_bits),
-        (Role::Serve, false) | (Role::Ask, true) => serves(shake.ask_bits, shake.answer_bits),
-    }
+    let contacts = seen_contacts(alloc, ty, turned)?;
+    free_seats(alloc, &contacts)
 }
 
 impl Seats {
@@ -228,10 +150,10 @@ fn meet(asking: Seat, serving: Seat) -> bool
 {
     !asking.taken
         && !serving.taken
-        && asking.role == Role::Ask
-        && serving.role == Role::Serve
-        && asking.ask_bits == serving.ask_bits
-        && asking.answer_bits == serving.answer_bits
+        && asking.contact.role == Role::Ask
+        && serving.contact.role == Role::Serve
+        && asking.contact.ask_bits == serving.contact.ask_bits
+        && asking.contact.answer_bits == serving.contact.answer_bits
 }
 
 // Takes a seat of one of several lists.

@@ -1,7 +1,7 @@
 use Rattle.std.proofs.Common.{◌≡◌, length, map, drop}
 use Rattle.gos_plan.specs.Kinds.{contact}
 use Rattle.gos_plan.specs.Firing.{row_for, share_rows}
-use Rattle.gos_plan.specs.Fired.{slot_of, at_value}
+use Rattle.gos_plan.specs.OneFiring.{slot_of, at_value}
 use Rattle.gos_plan.proofs.firing.shared.Given as goal
 
 -- none of the rows so far takes the token

@@ -1,7 +1,7 @@
 use Rattle.std.proofs.Common.{◌≡◌, ◌-◌, ◌∷◌, ◌++◌, [], ℕ, suc, List, map, ap, subst, sym, ◌∙◌, arith}
 use Rattle.std.proofs.lemmas.List.{map-append}
 use Rattle.std.proofs.lemmas.Result.{err_from_is_err_and}
-use Rattle.gos_plan.specs.Plans.{Imported}
+use Rattle.gos_model.specs.Typing.{Imported}
 use Rattle.gos_plan.specs.Seen.{import_of}
 use Rattle.gos_plan.specs.ObjectItems.{import_line}
 use Rattle.gos_plan.proofs.TextLemmas.{SoFar, one_more, no_more, all_read}

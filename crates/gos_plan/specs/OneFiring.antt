@@ -43,16 +43,16 @@ tokens_of puts.Nothing = []
 tokens_of (puts.One t) = token_of t ∷ []
 tokens_of (puts.Two t u) = token_of t ∷ token_of u ∷ []
 
--- a firing: the state after it, and the tokens put
-pub record Fired : Type 0 where
+-- what a firing does: the state after it, and the tokens put
+pub record Effect : Type 0 where
   pub next : State
   pub tokens : List Token
 
-abbrev pub fired_of : Option declared_firing.Firing → Option Fired
+abbrev pub fired_of : Option declared_firing.Firing → Option Effect
 fired_of None = None
 fired_of (Some f) = Some record { next = state_of f.next; tokens = tokens_of f.puts }
 
 -- what a row gives for this value
-abbrev pub at_value : ℕ → Option Row → Option Fired
+abbrev pub at_value : ℕ → Option Row → Option Effect
 at_value v None = None
 at_value v (Some r) = Some record { next = r.next v; tokens = r.puts v }
