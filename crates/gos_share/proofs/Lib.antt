@@ -1,0 +1,5 @@
+pub mod SharedLemmas
+pub mod CellLemmas
+pub mod SideLemmas
+pub mod SharingLemmas
+pub mod SettlingLemmas

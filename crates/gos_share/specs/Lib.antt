@@ -1,0 +1,20 @@
+-- In reading order: a file uses only files above it.
+pub mod Blocks
+pub mod Share
+pub mod Layout
+pub mod Seen
+pub mod Rows
+pub mod Answers
+pub mod Slots
+pub mod Requests
+pub mod Shown
+pub mod Comes
+pub mod Pending
+pub mod Row
+pub mod Late
+pub mod Keeping
+pub mod Silent
+pub mod Own
+pub mod Order
+pub mod Widths
+pub mod Kept
