@@ -1,0 +1,192 @@
+-- In a cycle a token that the nets show at an end lies on the joint there, as long as none was taken there: so what
+-- the cycle does is possible.
+use Rattle.std.specs.Prelude.{Option, None}
+use Rattle.std.proofs.Common.{◌≡◌, ℕ, zero, suc, ◌+◌, ◌*◌, ◌^◌, ◌<◌, Bool, true, false, List, [], ◌∷◌, Some, slice_get, refl, sym, ◌∙◌, ap, subst, arith, nat_eq, if◌then◌else◌}
+use Rattle.gos_netlist.specs.Nets.{Netlist}
+use Rattle.gos_netlist.specs.Events.{Direction}
+use Rattle.gos_netlist.specs.Settling.{Numbers, at}
+use Rattle.gos_plan.specs.Kinds.{Part, Contact, part_contacts}
+use Rattle.gos_plan.specs.Firing.{Token}
+use Rattle.gos_plan.specs.Plans.{End, PartEnd, ImportEnd, ResultEnd, Joint, Plan, contact_at, same_end, contacts_of_part}
+use Rattle.gos_plan.specs.Tokens.{Tokens, Element, Fire, Out, In, IsPortEnd, places_of, way_taken}
+use Rattle.gos_plan.specs.Orderly.{Open, OrderlyFrom}
+use Rattle.gos_plan.specs.Gates.{pulse_in}
+use Rattle.gos_plan.specs.Projection.{TakesValues}
+use Rattle.gos_expand.specs.Starts.{bits_taken}
+use Rattle.gos_expand.specs.Laid.{known}
+use Rattle.gos_expand.specs.Facts.{Places, number_by, source, target, width, incoming_at}
+use Rattle.gos_plan.specs.Accounts.{count, number, ins_at, ins_sum, outs_at, outs_sum, put_at, sum_put, taken_at, sum_taken}
+use Rattle.gos_expand.proofs.TallyLemmas.{no_value}
+use Rattle.gos_expand.proofs.StandingLemmas.{pending_if, pending_at, pending_numbers, shown_at, shown_numbers, Lies, Now, filled, values, values_if, Taking, taking, small_count, one_token, lies_at, incoming_at_handshake}
+
+pub no_outs : (e : End) (xs : List Element) → outs_at e xs ≡ 0 → outs_sum e xs ≡ 0
+no_outs e [] h = refl
+no_outs e (Fire i t ∷ xs) h = no_outs e xs h
+no_outs e (In d v ∷ xs) h = no_outs e xs h
+no_outs e (Out d v ∷ xs) h = by_test (same_end d e) h (no_outs e xs)
+  where
+    by_test : (b : Bool) → (if b then suc (outs_at e xs) else outs_at e xs) ≡ 0 → (outs_at e xs ≡ 0 → outs_sum e xs ≡ 0)
+        → (if b then v + outs_sum e xs else outs_sum e xs) ≡ 0
+    by_test true h go = absurd (omega (arith, h))
+    by_test false h go = go h
+
+pub no_ins : (e : End) (xs : List Element) → ins_at e xs ≡ 0 → ins_sum e xs ≡ 0
+no_ins e [] h = refl
+no_ins e (Fire i t ∷ xs) h = no_ins e xs h
+no_ins e (Out d v ∷ xs) h = no_ins e xs h
+no_ins e (In d v ∷ xs) h = by_test (same_end d e) h (no_ins e xs)
+  where
+    by_test : (b : Bool) → (if b then suc (ins_at e xs) else ins_at e xs) ≡ 0 → (ins_at e xs ≡ 0 → ins_sum e xs ≡ 0)
+        → (if b then v + ins_sum e xs else ins_sum e xs) ≡ 0
+    by_test true h go = absurd (omega (arith, h))
+    by_test false h go = go h
+
+-- where nothing is taken or put, no number is
+pub nothing_taken : (x : ℕ → ℕ → ℕ) (xs : List Element) (way : Direction) (e : End) → taken_at way e xs ≡ 0 → sum_taken x way e xs ≡ 0
+nothing_taken x xs way (PartEnd i h) none = ap (λ (m : ℕ). m * x i h) none ∙ grind arith
+nothing_taken x xs way (ImportEnd i h) none = no_outs (ImportEnd i h) xs none
+nothing_taken x xs way (ResultEnd h) none = no_outs (ResultEnd h) xs none
+
+pub nothing_put : (puts : ℕ → List Token) (xs : List Element) (e : End) → put_at puts e xs ≡ 0 → sum_put puts e xs ≡ 0
+nothing_put puts xs (PartEnd i h) none = no_value h (puts i) none
+nothing_put puts xs (ImportEnd i h) none = no_ins (ImportEnd i h) xs none
+nothing_put puts xs (ResultEnd h) none = no_ins (ResultEnd h) xs none
+
+pub nothing_pending_there : (p : Plan) (n : Places) (regs : Numbers) (e : End) → pending_at p n regs e ≡ 0 → pending_numbers p n regs e ≡ 0
+nothing_pending_there p n regs (PartEnd i h) none = no_value h (pending_if (slice_get p.parts i) (n.start i) regs) none
+nothing_pending_there p n regs (ImportEnd i h) none = refl
+nothing_pending_there p n regs (ResultEnd h) none = refl
+
+-- a token that is not taken stays, and no other comes to it
+pub still_there : (p : Plan) (net : Netlist) (n : Places) (v regs after : Numbers) (o u : Open) (s t : Tokens) (xs : List Element) (x : ℕ) (j : Joint) (way : Direction)
+    → Now p net n v regs after o s → OrderlyFrom p xs o s u t → ((i : ℕ) → TakesValues p i (values p n v i) xs s) → slice_get p.joints x ≡ Some j
+    → taken_at way (target j way) xs ≡ 0 → count (s.in_place way j.asking) ≡ 1 → t.in_place way j.asking ≡ Some (number (s.in_place way j.asking))
+still_there p net n v regs after o u s t xs x j way now list takes there none one =
+    let law = filled p net n v regs after o u s t xs now list takes in
+    let counts = (law.2 x j way there).counts in
+    let numbers = (law.2 x j way there).sums in
+    let small = small_count (t.in_place way j.asking) in
+    let unput : put_at law.0 (source j way) xs ≡ 0 = omega (arith, counts, small, none, one) in
+    let is_one : count (t.in_place way j.asking) ≡ 1 = omega (arith, counts, small, none, one) in
+    let no_taken = nothing_taken (values p n v) xs way (target j way) none in
+    let no_put = nothing_put law.0 xs (source j way) unput in
+    let same : number (t.in_place way j.asking) ≡ number (s.in_place way j.asking) = omega (arith, numbers, no_taken, no_put) in
+    one_token (t.in_place way j.asking) is_one ∙ ap Some same
+
+-- the value that comes in at a handshake of a part
+pub value_shape : (p : Plan) (n : Places) (v : Numbers) (i h : ℕ) (k : Part) (c : Contact) → slice_get p.parts i ≡ Some k → contact_at p (PartEnd i h) ≡ Some c
+    → values p n v i h ≡ (if nat_eq (bits_taken (Some c)) 0 then 0 else at v (n.arrives (PartEnd i h)).number)
+value_shape p n v i h k c is there =
+    let own : slice_get (part_contacts k) h ≡ Some c = subst (λ (f : Option Part). slice_get (contacts_of_part f) h ≡ Some c) is there in
+    let bits = incoming_at_handshake (part_contacts k) h c own in
+    ap (λ (f : Option Part). values_if f v (incoming_at p n i) h) is
+    ∙ (λ l. if nat_eq (bits l) 0 then 0 else at v (known (there l) (n.arrives (PartEnd i h)).number))
+
+pub pulse_shape : (p : Plan) (n : Places) (v : Numbers) (i h : ℕ) (c : Contact) → contact_at p (PartEnd i h) ≡ Some c
+    → pulse_in v (incoming_at p n i) h ≡ at v (n.arrives (PartEnd i h)).pulse
+pulse_shape p n v i h c there = ap (λ (f : Option Contact). at v (known f (n.arrives (PartEnd i h)).pulse)) there
+
+-- a token that is shown at an end: it lies on the joint there, with this number
+pub record Due (p : Plan) (s : Tokens) (e : End) (c : Contact) (x : ℕ) : Type 0 where
+  pub at_end : Taking p e c
+  pub one : count (s.in_place (way_taken c.role) at_end.joint.asking) ≡ 1
+  pub is : number (s.in_place (way_taken c.role) at_end.joint.asking) ≡ x
+
+-- without bits it is 0
+bare : (p : Plan) (net : Netlist) (n : Places) (v regs after : Numbers) (o : Open) (s : Tokens) (e : End) (c : Contact) (t : Taking p e c)
+    → Now p net n v regs after o s → contact_at p e ≡ Some c → count (s.in_place (way_taken c.role) t.joint.asking) ≡ 1 → bits_taken (Some c) ≡ 0
+    → number (s.in_place (way_taken c.role) t.joint.asking) ≡ 0
+bare p net n v regs after o s e c t now there one none =
+    let lies = lies_at p s e c t ∙ one_token (s.in_place (way_taken c.role) t.joint.asking) one in
+    let small = now.standing.fit.0 e c (way_taken c.role) (number (s.in_place (way_taken c.role) t.joint.asking)) there lies in
+    let less : number (s.in_place (way_taken c.role) t.joint.asking) < 2 ^ 0 =
+    subst (λ (b : ℕ). number (s.in_place (way_taken c.role) t.joint.asking) < 2 ^ b) none small in
+    omega (arith, less)
+
+pub due_at_part : (p : Plan) (net : Netlist) (n : Places) (v regs after : Numbers) (o : Open) (s : Tokens) (i h : ℕ) (k : Part) (c : Contact)
+    → Now p net n v regs after o s → slice_get p.parts i ≡ Some k → contact_at p (PartEnd i h) ≡ Some c → at v (n.arrives (PartEnd i h)).pulse ≡ 1
+    → Due p s (PartEnd i h) c (values p n v i h)
+due_at_part p net n v regs after o s i h k c now is there pulse = by_place (places_of p (PartEnd i h)) refl
+  where
+    by_joint : (t : Taking p (PartEnd i h) c) → Due p s (PartEnd i h) c (values p n v i h)
+    by_joint t =
+        let way : Direction = way_taken c.role in
+        let lies : Lies p n regs s t.joint way = now.standing.joints t.index t.joint way t.there in
+        let delays = now.facts.joints t.index t.joint way t.there in
+        let shows : at regs (n.arrives (target t.joint way)).pulse ≡ 1 = sym delays.pulse ∙ (sym (ap (λ (e : End). at v (n.arrives e).pulse) t.is_target) ∙ pulse) in
+        let counts = lies.counts in
+        let small = small_count (s.in_place way t.joint.asking) in
+        let one : count (s.in_place way t.joint.asking) ≡ 1 = omega (arith, counts, small, shows) in
+        let not_pending : pending_at p n regs (source t.joint way) ≡ 0 = omega (arith, counts, small, shows) in
+        let not_shown : shown_at n regs (target t.joint way) ≡ 0 = omega (arith, counts, small, shows) in
+        let no_pending = nothing_pending_there p n regs (source t.joint way) not_pending in
+        let shape = value_shape p n v i h k c is there in
+        record { at_end = t; one = one; is = by_bits (bits_taken (Some c)) refl t one no_pending not_shown }
+      where
+        by_bits : (w : ℕ) → bits_taken (Some c) ≡ w → (t : Taking p (PartEnd i h) c) → count (s.in_place (way_taken c.role) t.joint.asking) ≡ 1
+            → pending_numbers p n regs (source t.joint (way_taken c.role)) ≡ 0 → shown_at n regs (target t.joint (way_taken c.role)) ≡ 0
+            → number (s.in_place (way_taken c.role) t.joint.asking) ≡ values p n v i h
+        by_bits zero e t one no_pending not_shown =
+            bare p net n v regs after o s (PartEnd i h) c t now there one e ∙ sym (value_shape p n v i h k c is there ∙ rw e refl)
+        by_bits (suc w) e t one no_pending not_shown =
+            let bits : 0 < width p t.joint (way_taken c.role) = subst (λ (b : ℕ). 0 < b) (sym (t.bits ∙ e)) (omega arith) in
+            let lies = now.standing.joints t.index t.joint (way_taken c.role) t.there in
+            let delays = now.facts.joints t.index t.joint (way_taken c.role) t.there in
+            let numbers = lies.numbers bits in
+            let no_shown = lies.silent_out bits not_shown in
+            let held = delays.number bits in
+            let here : at v (n.arrives (target t.joint (way_taken c.role))).number ≡ at v (n.arrives (PartEnd i h)).number =
+            sym (ap (λ (e : End). at v (n.arrives e).number) t.is_target) in
+            let same : number (s.in_place (way_taken c.role) t.joint.asking) ≡ at v (n.arrives (PartEnd i h)).number =
+            omega (arith, numbers, no_shown, no_pending, held, here) in
+            let some : nat_eq (suc w) 0 ≡ false = grind arith in
+            same ∙ sym (value_shape p n v i h k c is there ∙ rw (e, some) refl)
+
+    by_place : (f : Option End) → places_of p (PartEnd i h) ≡ f → Due p s (PartEnd i h) c (values p n v i h)
+    by_place None none = let silent = (now.facts.loose (PartEnd i h) c there none).0 in absurd (omega (arith, silent, pulse))
+    by_place (Some a) place = by_joint (taking p (PartEnd i h) a c now.right there place)
+
+pub shown_port : (n : Places) (regs : Numbers) (e : End) → IsPortEnd e → (shown_at n regs e ≡ at regs (n.shows e).pulse) × (shown_numbers n regs e ≡ at regs (n.shows e).number)
+shown_port n regs (PartEnd i h) port = absurd port
+shown_port n regs (ImportEnd i h) port = (refl, refl)
+shown_port n regs (ResultEnd h) port = (refl, refl)
+
+pub due_at_port : (p : Plan) (net : Netlist) (n : Places) (v regs after : Numbers) (o : Open) (s : Tokens) (e : End) (c : Contact)
+    → Now p net n v regs after o s → IsPortEnd e → contact_at p e ≡ Some c → at v (n.shows e).pulse ≡ 1
+    → Due p s e c (number_by v (bits_taken (Some c)) (n.shows e))
+due_at_port p net n v regs after o s e c now port there pulse = by_place (places_of p e) refl
+  where
+    held : at regs (n.shows e).pulse ≡ 1
+    held = sym (now.facts.ports e c port there).pulse ∙ pulse
+
+    by_bits : (w : ℕ) → bits_taken (Some c) ≡ w → (t : Taking p e c) → count (s.in_place (way_taken c.role) t.joint.asking) ≡ 1
+        → pending_numbers p n regs (source t.joint (way_taken c.role)) ≡ 0 → at regs (n.arrives (target t.joint (way_taken c.role))).pulse ≡ 0
+        → number (s.in_place (way_taken c.role) t.joint.asking) ≡ number_by v w (n.shows e)
+    by_bits zero is t one no_pending not_here = bare p net n v regs after o s e c t now there one is
+    by_bits (suc w) is t one no_pending not_here =
+        let bits : 0 < width p t.joint (way_taken c.role) = subst (λ (b : ℕ). 0 < b) (sym (t.bits ∙ is)) (omega arith) in
+        let some : 0 < bits_taken (Some c) = subst (λ (b : ℕ). 0 < b) (sym is) (omega arith) in
+        let lies = now.standing.joints t.index t.joint (way_taken c.role) t.there in
+        let numbers = lies.numbers bits in
+        let silent = lies.silent bits not_here in
+        let shown = (now.facts.ports e c port there).number some in
+        let here : shown_numbers n regs (target t.joint (way_taken c.role)) ≡ at regs (n.shows e).number =
+        sym (ap (shown_numbers n regs) t.is_target) ∙ (shown_port n regs e port).1 in
+        omega (arith, numbers, silent, no_pending, here, shown)
+
+    by_joint : (t : Taking p e c) → Due p s e c (number_by v (bits_taken (Some c)) (n.shows e))
+    by_joint t =
+        let way : Direction = way_taken c.role in
+        let lies : Lies p n regs s t.joint way = now.standing.joints t.index t.joint way t.there in
+        let shows : shown_at n regs (target t.joint way) ≡ 1 = sym (ap (shown_at n regs) t.is_target) ∙ ((shown_port n regs e port).0 ∙ held) in
+        let counts = lies.counts in
+        let small = small_count (s.in_place way t.joint.asking) in
+        let one : count (s.in_place way t.joint.asking) ≡ 1 = omega (arith, counts, small, shows) in
+        let not_pending : pending_at p n regs (source t.joint way) ≡ 0 = omega (arith, counts, small, shows) in
+        let not_here : at regs (n.arrives (target t.joint way)).pulse ≡ 0 = omega (arith, counts, small, shows) in
+        let no_pending = nothing_pending_there p n regs (source t.joint way) not_pending in
+        record { at_end = t; one = one; is = by_bits (bits_taken (Some c)) refl t one no_pending not_here }
+
+    by_place : (f : Option End) → places_of p e ≡ f → Due p s e c (number_by v (bits_taken (Some c)) (n.shows e))
+    by_place None none = let silent = now.standing.loose e c port there none in absurd (omega (arith, silent, held))
+    by_place (Some a) place = by_joint (taking p e a c now.right there place)

@@ -1,0 +1,126 @@
+-- What stands at an end that is there: its part or its import, and where their cells begin.
+use Rattle.std.specs.Prelude.{Option, None, Some, IsSome, All}
+use Rattle.std.proofs.Common.{get_or, ◌≡◌, ℕ, zero, suc, ◌+◌, ◌≤◌, List, [], ◌∷◌, ◌++◌, length, map, slice_index_or, refl, sym, ap, subst, arith, ◌∙◌, take, slice_get}
+use Rattle.std.proofs.lemmas.Option.{get_or_from_slice_get}
+use Rattle.gos_types.specs.Types.{type_of}
+use Rattle.gos_netlist.specs.Nets.{Take, NetPort}
+use Rattle.gos_netlist.specs.Events.{Request, Answer}
+use Rattle.gos_plan.specs.declared.kinds.Kind.{Kind}
+use Rattle.gos_plan.specs.declared.plan.PlanImport.{PlanImport}
+use Rattle.gos_plan.specs.Kinds.{Part, Contact, contacts_of, part_contacts}
+use Rattle.gos_model.specs.Typing.{Imported}
+use Rattle.gos_plan.specs.Plans.{PartEnd, ImportEnd, Plan, contacts_of_part, contacts_of_import}
+use Rattle.gos_plan.specs.Seen.{part_of, import_of}
+use Rattle.gos_expand.specs.Gates.{outs_of, part_size}
+use Rattle.gos_expand.specs.Laid.{nets_out, outs_if, request_start, answer_nets, leaves, laid_port, taken}
+use Rattle.gos_expand.specs.Blocks.{nets_from, token_size, total}
+use Rattle.gos_expand.specs.Starts.{keep_all, bits_if, ports_of, port_size, port_start, part_start, parts_start, laid_size}
+use Rattle.gos_expand.specs.Numbering.{starts}
+use Rattle.gos_expand.proofs.BlockLemmas.{start_of, total_within, take_one}
+use Rattle.gos_expand.proofs.PortLemmas.{taken_port, port_there}
+use Rattle.gos_expand.proofs.PlaceLemmas.{length_first}
+
+is_there : (o : Option Contact) → IsSome o → (c : Contact) × (o ≡ Some c)
+is_there None some = absurd (cc some)
+is_there (Some c) some = (c, refl)
+
+-- at a part's end there is a part, which has the handshake
+pub part_known : (ks : List Kind) (i h : ℕ) → IsSome (slice_get (contacts_of_part (slice_get (map part_of ks) i)) h)
+    → (k : Kind) × (c : Contact) × (slice_get ks i ≡ Some k) × (slice_get (part_contacts (part_of k)) h ≡ Some c)
+part_known [] i h some = absurd (cc some)
+part_known (k ∷ ks) zero h some = let found = is_there (slice_get (part_contacts (part_of k)) h) some in (k, found.0, refl, found.1)
+part_known (k ∷ ks) (suc i) h some = part_known ks i h some
+
+-- and so it is with imports
+pub import_known : (is : List PlanImport) (i h : ℕ) → IsSome (slice_get (contacts_of_import (slice_get (map import_of is) i)) h)
+    → (x : PlanImport) × (c : Contact) × (slice_get is i ≡ Some x) × (slice_get (contacts_of (type_of x.ty)) h ≡ Some c)
+import_known [] i h some = absurd (cc some)
+import_known (x ∷ xs) zero h some = let found = is_there (slice_get (contacts_of (type_of x.ty)) h) some in (x, found.0, refl, found.1)
+import_known (x ∷ xs) (suc i) h some = import_known xs i h some
+
+-- where the part begins
+pub part_begins : (p : Plan) (items : List ℕ) (i : ℕ) (k : Part) → items ≡ starts (λ _ k. part_size k) 0 (parts_start keep_all p) p.parts → slice_get p.parts i ≡ Some k
+    → slice_get items i ≡ Some (part_start keep_all p i)
+part_begins p items i k is there = ap (λ (ns : List ℕ). slice_get ns i) is ∙ start_of (λ _ k. part_size k) 0 (parts_start keep_all p) i p.parts k there
+
+pub part_ends_within : (p : Plan) (i : ℕ) (k : Part) → slice_get p.parts i ≡ Some k → part_start keep_all p i + part_size k ≤ laid_size keep_all p
+part_ends_within p i k there = let within = total_within (λ _ k. part_size k) 0 i p.parts k there in omega (arith, within)
+
+-- where the import begins
+pub import_begins : (p : Plan) (items : List ℕ) (i : ℕ) (x : Imported) → items ≡ starts port_size 0 0 (ports_of p) → slice_get p.imports i ≡ Some x
+    → slice_get items (i + 1) ≡ Some (port_start p (i + 1))
+import_begins p items i x is there =
+    let none : 0 + total port_size 0 (take (i + 1) (ports_of p)) ≡ port_start p (i + 1) = omega arith in
+    ap (λ (ns : List ℕ). slice_get ns (i + 1)) is
+    ∙ (start_of port_size 0 0 (i + 1) (ports_of p) (taken_port i x) (port_there p i x there) ∙ ap (λ (n : ℕ). Some n) none)
+
+pub import_ends_within : (p : Plan) (i : ℕ) (x : Imported) → slice_get p.imports i ≡ Some x → port_start p (i + 1) + port_size 0 (taken_port i x) ≤ laid_size keep_all p
+import_ends_within p i x there =
+    let within = total_within port_size 0 (i + 1) (ports_of p) (taken_port i x) (port_there p i x there) in
+    omega (arith, within)
+
+-- a fact of all elements is one of each
+pub all_there : {A : Type 0} (P : A → Type 0) (xs : List A) (i : ℕ) (x : A) → All P xs → slice_get xs i ≡ Some x → P x
+all_there P [] i x all there = absurd (cc there)
+all_there P (y ∷ ys) zero x all there = let is : y ≡ x = cc there in subst P is (all 0 y (omega arith))
+all_there P (y ∷ ys) (suc i) x all there = all_there P ys i x (λ k d within. all (suc k) d (omega (arith, within))) there
+
+-- what stands at a place of a list is found there
+pub index_there : (ns : List ℕ) (i m d : ℕ) → slice_get ns i ≡ Some m → slice_index_or ns i d ≡ m
+index_there [] i m d there = absurd (cc there)
+index_there (n ∷ ns) zero m d there = cc there
+index_there (n ∷ ns) (suc i) m d there = index_there ns i m d there
+
+-- the part, or the import, that was looked up
+pub kind_here : (ps items : List Kind) (i h : ℕ) (k : Kind) → items ≡ ps → IsSome (slice_get (contacts_of_part (slice_get (map part_of ps) i)) h) → k ≡ get_or items i k
+    → (slice_get ps i ≡ Some k) × ((c : Contact) × (slice_get (part_contacts (part_of k)) h ≡ Some c))
+kind_here ps items i h k same some is =
+    let known = part_known ps i h some in
+    let found : known.0 ≡ k = sym (is ∙ (ap (λ (ks : List Kind). get_or ks i k) same ∙ get_or_from_slice_get ps i known.0 k known.2)) in (
+      known.2 ∙ ap (λ (x : Kind). Some x) found,
+      (known.1, subst (λ (x : Kind). slice_get (part_contacts (part_of x)) h ≡ Some known.1) found known.3),
+    )
+
+pub import_here : (ps items : List PlanImport) (i h : ℕ) (x : PlanImport) → items ≡ ps → IsSome (slice_get (contacts_of_import (slice_get (map import_of ps) i)) h) → x ≡ get_or items i x
+    → (slice_get ps i ≡ Some x) × ((c : Contact) × (slice_get (contacts_of (type_of x.ty)) h ≡ Some c))
+import_here ps items i h x same some is =
+    let known = import_known ps i h some in
+    let found : known.0 ≡ x = sym (is ∙ (ap (λ (ks : List PlanImport). get_or ks i x) same ∙ get_or_from_slice_get ps i known.0 x known.2)) in (
+      known.2 ∙ ap (λ (y : PlanImport). Some y) found,
+      (known.1, subst (λ (y : PlanImport). slice_get (contacts_of (type_of y.ty)) h ≡ Some known.1) found known.3),
+    )
+
+-- what leaves there
+pub part_leaves_here : (p : Plan) (i h base : ℕ) (k : Part) → slice_get p.parts i ≡ Some k → base ≡ part_start keep_all p i
+    → nets_out (slice_get (outs_of k base) h) ≡ leaves keep_all p (PartEnd i h)
+part_leaves_here p i h base k there at =
+    ap (λ (b : ℕ). nets_out (slice_get (outs_of k b) h)) at ∙ sym (ap (λ (o : Option Part). nets_out (slice_get (outs_if o (part_start keep_all p i)) h)) there)
+
+pub import_leaves_here : (p : Plan) (i h start request size answer ask : ℕ) (x : Imported) (c : Contact) → slice_get p.imports i ≡ Some x → slice_get (contacts_of x.ty) h ≡ Some c
+    → answer ≡ c.answer_bits → ask ≡ c.ask_bits → start ≡ port_start p (i + 1) → request ≡ request_start start (contacts_of x.ty) h → size ≡ token_size ask
+    → nets_from answer (request + size) ≡ leaves keep_all p (ImportEnd i h)
+import_leaves_here p i h start request size answer ask x c there shake answers asks at is sized =
+    let up : i + 1 ≡ suc i = omega arith in
+    let first : start ≡ port_start p (suc i) = at ∙ ap (port_start p) up in
+    let begins : request ≡ request_start (port_start p (suc i)) (contacts_of x.ty) h = is ∙ ap (λ (n : ℕ). request_start n (contacts_of x.ty) h) first in
+    let bits : size ≡ token_size c.ask_bits = sized ∙ ap token_size asks in
+    rw (answers, begins, bits)
+    (ap (λ (o : Option Contact). nets_from (bits_if o Answer) (request_start (port_start p (suc i)) (contacts_of x.ty) h + token_size (bits_if o Request))) (sym shake)
+    ∙ ap (λ (o : Option Imported). answer_nets (port_start p (suc i)) (contacts_of_import o) h) (sym there))
+
+-- the ports of the first imports, with one more
+taken_end : (p : Plan) (n : ℕ) (is : List Imported) (x : Imported) → taken p n (is ++ x ∷ []) ≡ taken p n is ++ laid_port p (n + length is) x.name Take x.ty ∷ []
+taken_end p n [] x = let here : n + 0 ≡ n = omega arith in rw here refl
+taken_end p n (i ∷ is) x =
+    let shift : suc n + length is ≡ n + suc (length is) = omega arith in
+    ap (λ (ps : List NetPort). laid_port p n i.name Take i.ty ∷ ps)
+    (taken_end p (suc n) is x ∙ ap (λ (m : ℕ). taken p (suc n) is ++ laid_port p m x.name Take x.ty ∷ []) shift)
+
+pub port_added : (p : Plan) (i : ℕ) (is : List Imported) (x : Imported) (first : NetPort) (before : List NetPort) (port : NetPort) → slice_get is i ≡ Some x
+    → before ≡ first ∷ taken p 1 (take i is) → port ≡ laid_port p (i + 1) x.name Take x.ty → before ++ port ∷ [] ≡ first ∷ taken p 1 (take (i + 1) is)
+port_added p i is x first before port there so_far same =
+    let count : i + 1 ≡ 1 + length (take i is) = (let counts = length_first i is x there in omega (arith, counts)) in
+    ap (λ (ps : List NetPort). ps ++ port ∷ []) so_far
+    ∙ ap (λ (ps : List NetPort). first ∷ ps)
+    (ap (λ (q : NetPort). taken p 1 (take i is) ++ q ∷ []) (same ∙ ap (λ (m : ℕ). laid_port p m x.name Take x.ty) count)
+    ∙ (sym (taken_end p 1 (take i is) x) ∙ ap (taken p 1) (sym (take_one i is x there))))

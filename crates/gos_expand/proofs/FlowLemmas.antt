@@ -1,0 +1,253 @@
+-- What goes into the circuit at an end, and what comes in there, are nets with the bits of its handshake.
+--
+-- Read first: Laid; NetLemmas, EndLemmas.
+use Rattle.std.proofs.Common.{◌≡◌, ◌+◌, ◌≤◌, ℕ, zero, suc, List, [], ◌∷◌, Option, length, slice_get, Some, inl, inr, refl, sym, ap, subst, ◌∙◌, zero-add, arith}
+use Rattle.std.specs.Prelude.{None}
+use Rattle.std.proofs.lemmas.Option.{none-some, same_Some}
+use Rattle.gos_types.specs.declared.shakes.Role.{Role}
+use Rattle.gos_types.specs.declared.shakes.Role.TheVariants.{Serve, Ask}
+use Rattle.gos_types.specs.Types.{Type', Com, Exp, Var, Pair, Fun, IsGround, IsDone}
+use Rattle.gos_netlist.specs.Nets.{Function, Const, Cell, Give, Take}
+use Rattle.gos_netlist.specs.Events.{Request, Answer}
+use Rattle.gos_plan.specs.Kinds.{Part, Contact, contacts_of, part_contacts, turned_contact, asks, serves}
+use Rattle.gos_model.specs.Typing.{Imported}
+use Rattle.gos_plan.specs.Plans.{End, PartEnd, ImportEnd, ResultEnd, Joint, Plan, contacts_of_part, contacts_of_import, turned_if, contact_at, IsRight}
+use Rattle.gos_plan.specs.Tokens.{bits_of, way_put, way_taken}
+use Rattle.gos_plan.specs.Gates.{Outgoing, Bare, Bearing, bits_out}
+use Rattle.gos_plan.specs.Ranges.{HasWidths}
+use Rattle.gos_plan.specs.Fit.{IsOwn, GoesOut, AllGoOut, GatesFit}
+use Rattle.gos_expand.specs.Blocks.{Nets, nets_from, token_size, inputs, registers}
+use Rattle.gos_expand.specs.Gates.{layout, outs_of}
+use Rattle.gos_expand.specs.Starts.{keep_all, Outer, ports_of, taken_ports, shake_size, bits_if, bits_taken, way_size, port_start, joint_start, part_start, loose_start}
+use Rattle.gos_expand.specs.Laid.{Seat, seat_of, request_start, nets_out, outs_if, leaves, way_start, arrives_by, arrives, shake_cells, incoming, laid_cells}
+use Rattle.gos_expand.proofs.StandLemmas.{StandAt, each_left, each_right, each_block}
+use Rattle.gos_expand.proofs.GroupLemmas.{stands, token_length, shakes_length, port_stands, joint_stands, part_stands}
+use Rattle.gos_expand.proofs.NetLemmas.{IsNet, IsCut, IsAny, HasNets, token_nets}
+use Rattle.gos_expand.proofs.SeatLemmas.{joint_fits, IsSide, Seated, seat_found, loose_stands}
+
+-- what is asked of a plan, in its own words
+pub record IsSound (p : Plan) : Type 0 where
+  pub gates : (i : ℕ) (k : Part) → slice_get p.parts i ≡ Some k → GatesFit k (layout k) (outs_of k)
+  pub narrow : (e : End) (c : Contact) → contact_at p e ≡ Some c → (c.ask_bits ≤ 32) × (c.answer_bits ≤ 32)
+  pub right : IsRight p
+  pub done : IsDone p.outcome
+  pub done_widths : HasWidths p.outcome
+  pub grounds : (i : ℕ) (t : Imported) → slice_get p.imports i ≡ Some t → IsGround t.ty
+  pub ground_widths : (i : ℕ) (t : Imported) → slice_get p.imports i ≡ Some t → HasWidths t.ty
+
+-- the cells of a plan
+abbrev pub cells_of : Plan → List Cell
+cells_of p = laid_cells keep_all p
+
+moved_nets : (all : List Cell) (G : Function → Type 0) (w v m n : ℕ) → w ≡ v → m ≡ n → HasNets all G w (nets_from w m)
+    → HasNets all G v (nets_from v n)
+moved_nets all G w v m n e f h =
+    subst (λ (k : ℕ). HasNets all G v (nets_from v k)) f (subst (λ (k : ℕ). HasNets all G k (nets_from k m)) e h)
+
+-- of a part
+
+own_net : (all : List Cell) (b : ℕ) (cells : List Cell) (net bits : ℕ) → StandAt all b cells → IsOwn b cells net bits
+    → IsNet all IsAny net bits
+own_net all b cells net bits stand (k, d, e, at, width) = (d, subst (λ (n : ℕ). slice_get all n ≡ Some d) (sym e) (stand k d at), width, tt)
+
+out_nets : (all : List Cell) (b : ℕ) (cells : List Cell) (c : Contact) (o : Outgoing) → StandAt all b cells → GoesOut b cells c o
+    → HasNets all IsAny (bits_out c.role c) (nets_out (Some o))
+out_nets all b cells c (Bare q) stand out =
+    let none = out.0 in
+    record { of_pulse = own_net all b cells q 1 stand out.1; of_number = λ some. absurd (omega (arith, some, none)) }
+out_nets all b cells c (Bearing q a) stand out =
+    record {
+      of_pulse = own_net all b cells q 1 stand out.1;
+      of_number = λ some. own_net all b cells a (bits_out c.role c) stand out.2;
+    }
+
+out_at : (b : ℕ) (cells : List Cell) (cs : List Contact) (os : List Outgoing) (h : ℕ) (c : Contact) → AllGoOut b cells cs os
+    → slice_get cs h ≡ Some c
+    → (o : Outgoing) × (slice_get os h ≡ Some o) × GoesOut b cells c o
+out_at b cells [] os h c all is = absurd (none-some c is)
+out_at b cells (d ∷ cs) [] h c all is = absurd all
+out_at b cells (d ∷ cs) (o ∷ os) zero c all is = (o, refl, subst (λ (x : Contact). GoesOut b cells x o) (same_Some d c is) all.0)
+out_at b cells (d ∷ cs) (o ∷ os) (suc h) c all is = out_at b cells cs os h c all.1 is
+
+put_bits : (r : Role) (c : Contact) → bits_out r c ≡ bits_of c (way_put r)
+put_bits Serve c = refl
+put_bits Ask c = refl
+
+part_leaves : (p : Plan) → IsSound p → (i h : ℕ) (c : Contact) (o : Option Part) → slice_get p.parts i ≡ o
+    → slice_get (contacts_of_part o) h ≡ Some c
+    → HasNets (cells_of p) IsAny (bits_of c (way_put c.role)) (nets_out (slice_get (outs_if o (part_start keep_all p i)) h))
+part_leaves p sound i h c None at is = absurd (none-some c is)
+part_leaves p sound i h c (Some k) at is =
+    let b : ℕ = part_start keep_all p i in
+    let cells : List Cell = layout k b (incoming keep_all p i) in
+    let (o, found, out) = out_at b cells (part_contacts k) (outs_of k b) h c ((sound.gates i k at).outgoing b (incoming keep_all p i)) is in
+    let here = out_nets (cells_of p) b cells c o (part_stands p i k at) out in
+    let bits = subst (λ (w : ℕ). HasNets (cells_of p) IsAny w (nets_out (Some o))) (put_bits c.role c) here in
+    subst (λ (x : Option Outgoing). HasNets (cells_of p) IsAny (bits_of c (way_put c.role)) (nets_out x)) (sym found) bits
+
+-- of a port: a ground type serves at each handshake
+
+pub ground_serves : (t : Type') (h : ℕ) (c : Contact) → IsGround t → slice_get (contacts_of t) h ≡ Some c → c.role ≡ Serve
+ground_serves Com zero c g is = sym (ap (λ (x : Contact). x.role) (same_Some _ c is))
+ground_serves Com (suc h) c g is = absurd (none-some c is)
+ground_serves (Exp w) zero c g is = sym (ap (λ (x : Contact). x.role) (same_Some _ c is))
+ground_serves (Exp w) (suc h) c g is = absurd (none-some c is)
+ground_serves (Var w) zero c g is = sym (ap (λ (x : Contact). x.role) (same_Some _ c is))
+ground_serves (Var w) (suc zero) c g is = sym (ap (λ (x : Contact). x.role) (same_Some _ c is))
+ground_serves (Var w) (suc (suc h)) c g is = absurd (none-some c is)
+ground_serves (Pair a b) h c g is = absurd g
+ground_serves (Fun a b) h c g is = absurd g
+
+pub done_ground : (t : Type') → IsDone t → IsGround t
+done_ground Com d = tt
+done_ground (Exp w) d = tt
+done_ground (Var w) d = absurd d
+done_ground (Pair a b) d = absurd d
+done_ground (Fun a b) d = absurd d
+
+-- the cells of a handshake of a port
+pub shake_stands : (p : Plan) (k : ℕ) (o : Outer) (h : ℕ) (c : Contact) → slice_get (ports_of p) k ≡ Some o
+    → slice_get o.contacts h ≡ Some c
+    → StandAt (cells_of p) (request_start (port_start p k) o.contacts h) (shake_cells keep_all p o (0 + h) c)
+shake_stands p k o h c at is =
+    each_block (stands p) (shake_cells keep_all p o) shake_size (shakes_length p o) (port_start p k) 0 o.contacts h c is (port_stands p k o at)
+
+abbrev pub result_port : Plan → Outer
+result_port p = record { side = Give; contacts = contacts_of p.outcome; end_at = ResultEnd }
+
+abbrev pub import_port : ℕ → Imported → Outer
+import_port i t = record { side = Take; contacts = contacts_of t.ty; end_at = ImportEnd i }
+
+taken_at : (n : ℕ) (ts : List Imported) (i : ℕ) (t : Imported) → slice_get ts i ≡ Some t
+    → slice_get (taken_ports n ts) i ≡ Some (import_port (n + i) t)
+taken_at n [] i t is = absurd (none-some t is)
+taken_at n (u ∷ ts) zero t is =
+    let e : n ≡ n + 0 = omega arith in
+    ap (λ (m : ℕ). Some (import_port m u)) e ∙ ap (λ (x : Imported). Some (import_port (n + 0) x)) (same_Some u t is)
+taken_at n (u ∷ ts) (suc i) t is =
+    let e : suc n + i ≡ n + suc i = omega arith in taken_at (suc n) ts i t is ∙ ap (λ (m : ℕ). Some (import_port m t)) e
+
+pub import_at : (p : Plan) (i : ℕ) (t : Imported) → slice_get p.imports i ≡ Some t → slice_get (ports_of p) (suc i) ≡ Some (import_port i t)
+import_at p i t is = taken_at 0 p.imports i t is ∙ ap (λ (m : ℕ). Some (import_port m t)) (zero-add i)
+
+result_leaves : (p : Plan) → IsSound p → (h : ℕ) (c : Contact) (o : Option Contact) → slice_get (contacts_of p.outcome) h ≡ o
+    → turned_if o ≡ Some c
+    → HasNets (cells_of p) IsAny (bits_of c (way_put c.role)) (nets_from (bits_if o Request) (request_start (port_start p 0) (contacts_of p.outcome) h))
+result_leaves p sound h c None at is = absurd (none-some c is)
+result_leaves p sound h c (Some d) at is =
+    let n : ℕ = request_start (port_start p 0) (contacts_of p.outcome) h in
+    let o : Outer = result_port p in
+    let whole = shake_stands p 0 o h d refl at in
+    let request = each_left (stands p) n (inputs d.ask_bits) (registers d.answer_bits (arrives keep_all p (ResultEnd (0 + h)))) whole in
+    let here = token_nets (cells_of p) IsAny d.ask_bits n _ _ request tt tt in
+    let role = ground_serves p.outcome h d (done_ground p.outcome sound.done) at in
+    let same : turned_contact d ≡ c = same_Some (turned_contact d) c is in
+    let bits : d.ask_bits ≡ bits_of c (way_put c.role) =
+    bits_turned d role ∙ ap (λ (x : Contact). bits_of x (way_put x.role)) same in
+    subst (λ (w : ℕ). HasNets (cells_of p) IsAny w (nets_from d.ask_bits n)) bits here
+  where
+    bits_turned : (d : Contact) → d.role ≡ Serve → d.ask_bits ≡ bits_of (turned_contact d) (way_put (turned_contact d).role)
+    bits_turned d role = sym (ap (λ (r : Role). bits_of (turned_contact (record d { role = r })) (way_put (turned_contact (record d { role = r })).role)) role)
+
+import_leaves : (p : Plan) → IsSound p → (i h : ℕ) (c : Contact) (o : Option Imported) → slice_get p.imports i ≡ o
+    → slice_get (contacts_of_import o) h ≡ Some c
+    → HasNets (cells_of p) IsAny (bits_of c (way_put c.role))
+    (nets_from (bits_if (slice_get (contacts_of_import o) h) Answer)
+    (request_start (port_start p (suc i)) (contacts_of_import o) h + token_size (bits_if (slice_get (contacts_of_import o) h) Request)))
+import_leaves p sound i h c None at is = absurd (none-some c is)
+import_leaves p sound i h c (Some t) at is =
+    let n : ℕ = request_start (port_start p (suc i)) (contacts_of t.ty) h in
+    let o : Outer = import_port i t in
+    let whole = shake_stands p (suc i) o h c (import_at p i t at) is in
+    let request : List Cell = registers c.ask_bits (arrives keep_all p (ImportEnd i (0 + h))) in
+    let answer = each_right (stands p) n request (inputs c.answer_bits) whole in
+    let here = token_nets (cells_of p) IsAny c.answer_bits (n + length request) _ _ answer tt tt in
+    let role = ground_serves t.ty h c (sound.grounds i t at) is in
+    let bits : c.answer_bits ≡ bits_of c (way_put c.role) = sym (ap (λ (r : Role). bits_of c (way_put r)) role) in
+    let long : length request ≡ token_size c.ask_bits = token_length c.ask_bits _ _ in
+    let moved = subst (λ (m : ℕ). HasNets (cells_of p) IsAny c.answer_bits (nets_from c.answer_bits (n + m))) long here in
+    let width = subst (λ (w : ℕ). HasNets (cells_of p) IsAny w (nets_from c.answer_bits (n + token_size c.ask_bits))) bits moved in
+    subst (λ (x : Option Contact). HasNets (cells_of p) IsAny (bits_of c (way_put c.role)) (nets_from (bits_if x Answer) (n + token_size (bits_if x Request))))
+    (sym is) width
+
+-- what goes into the circuit at an end
+pub leaves_nets : (p : Plan) → IsSound p → (e : End) (c : Contact) → contact_at p e ≡ Some c
+    → HasNets (cells_of p) IsAny (bits_of c (way_put c.role)) (leaves keep_all p e)
+leaves_nets p sound (PartEnd i h) c is = part_leaves p sound i h c (slice_get p.parts i) refl is
+leaves_nets p sound (ImportEnd i h) c is = import_leaves p sound i h c (slice_get p.imports i) refl is
+leaves_nets p sound (ResultEnd h) c is = result_leaves p sound h c (slice_get (contacts_of p.outcome) h) refl is
+
+-- what comes in at an end
+
+-- the registers of a joint
+abbrev pub request_bits : Plan → Joint → ℕ
+request_bits p j = bits_if (contact_at p j.asking) Request
+
+abbrev pub answer_bits_of : Plan → Joint → ℕ
+answer_bits_of p j = bits_if (contact_at p j.asking) Answer
+
+request_nets_of : (p : Plan) (x : ℕ) (j : Joint) → slice_get p.joints x ≡ Some j
+    → HasNets (cells_of p) IsCut (request_bits p j) (nets_from (request_bits p j) (joint_start keep_all p x))
+request_nets_of p x j at =
+    let request : List Cell = registers (request_bits p j) (leaves keep_all p j.asking) in
+    let answer : List Cell = registers (answer_bits_of p j) (leaves keep_all p j.serving) in
+    let stand = each_left (stands p) (joint_start keep_all p x) request answer (joint_stands p x j at) in
+    token_nets (cells_of p) IsCut (request_bits p j) (joint_start keep_all p x) _ _ stand (inl (_, refl)) (inl (_, refl))
+
+answer_nets_of : (p : Plan) (x : ℕ) (j : Joint) → slice_get p.joints x ≡ Some j
+    → HasNets (cells_of p) IsCut (answer_bits_of p j) (nets_from (answer_bits_of p j) (joint_start keep_all p x + way_size keep_all p x j Request))
+answer_nets_of p x j at =
+    let request : List Cell = registers (request_bits p j) (leaves keep_all p j.asking) in
+    let answer : List Cell = registers (answer_bits_of p j) (leaves keep_all p j.serving) in
+    let stand = each_right (stands p) (joint_start keep_all p x) request answer (joint_stands p x j at) in
+    let here = token_nets (cells_of p) IsCut (answer_bits_of p j) (joint_start keep_all p x + length request) _ _ stand (inl (_, refl)) (inl (_, refl)) in
+    let long : length request ≡ token_size (request_bits p j) = token_length (request_bits p j) _ _ in
+    subst (λ (m : ℕ). HasNets (cells_of p) IsCut (answer_bits_of p j) (nets_from (answer_bits_of p j) (joint_start keep_all p x + m))) long here
+
+joint_arrives : (p : Plan) → IsSound p → (e : End) (s : Seat) → Seated 0 p.joints e s
+    → HasNets (cells_of p) IsCut (bits_taken (contact_at p e))
+    (nets_from (bits_taken (contact_at p e)) (way_start keep_all p s.joint (slice_get p.joints s.joint) s.way))
+joint_arrives p sound e s seated =
+    let j = seated.at_joint in
+    let x : ℕ = s.joint in
+    let number : seated.place ≡ x = sym (seated.number ∙ zero-add seated.place) in
+    let at : slice_get p.joints x ≡ Some j = subst (λ (n : ℕ). slice_get p.joints n ≡ Some j) number seated.found in
+    by_side j at (joint_fits p [] p.joints x j sound.right at).2 (joint_fits p [] p.joints x j sound.right at).3 seated.side
+  where
+    by_side : (j : Joint) → slice_get p.joints s.joint ≡ Some j → {q a : ℕ} → contact_at p j.asking ≡ Some (asks q a)
+        → contact_at p j.serving ≡ Some (serves q a)
+        → IsSide j e s
+        → HasNets (cells_of p) IsCut (bits_taken (contact_at p e))
+        (nets_from (bits_taken (contact_at p e)) (way_start keep_all p s.joint (slice_get p.joints s.joint) s.way))
+    by_side j at {q} {a} asking serving (inl (end, way, other)) =
+        let bits : answer_bits_of p j ≡ bits_taken (contact_at p e) =
+        ap (λ (o : Option Contact). bits_if o Answer) asking ∙ sym (ap bits_taken (ap (contact_at p) end ∙ asking)) in
+        let start : way_start keep_all p s.joint (Some j) Answer ≡ way_start keep_all p s.joint (slice_get p.joints s.joint) s.way =
+        ap (λ (o : Option Joint). way_start keep_all p s.joint o Answer) (sym at)
+        ∙ ap (way_start keep_all p s.joint (slice_get p.joints s.joint)) (sym way) in
+        moved_nets (cells_of p) IsCut _ _ _ _ bits start (answer_nets_of p s.joint j at)
+    by_side j at {q} {a} asking serving (inr (end, way, other)) =
+        let bits : request_bits p j ≡ bits_taken (contact_at p e) =
+        ap (λ (o : Option Contact). bits_if o Request) asking ∙ sym (ap bits_taken (ap (contact_at p) end ∙ serving)) in
+        let start : way_start keep_all p s.joint (Some j) Request ≡ way_start keep_all p s.joint (slice_get p.joints s.joint) s.way =
+        ap (λ (o : Option Joint). way_start keep_all p s.joint o Request) (sym at)
+        ∙ ap (way_start keep_all p s.joint (slice_get p.joints s.joint)) (sym way) in
+        moved_nets (cells_of p) IsCut _ _ _ _ bits start (request_nets_of p s.joint j at)
+
+pub arrives_nets : (p : Plan) → IsSound p → (e : End) (c : Contact) → contact_at p e ≡ Some c
+    → HasNets (cells_of p) IsCut (bits_of c (way_taken c.role)) (arrives keep_all p e)
+arrives_nets p sound e c is = by_seat (seat_of p e) refl
+  where
+    bits : bits_taken (contact_at p e) ≡ bits_of c (way_taken c.role)
+    bits = ap bits_taken is
+
+    by_seat : (o : Option Seat) → seat_of p e ≡ o → HasNets (cells_of p) IsCut (bits_of c (way_taken c.role)) (arrives_by keep_all p e o)
+    by_seat None none =
+        let n : ℕ = loose_start keep_all p e in
+        let w : ℕ = bits_taken (contact_at p e) in
+        let here = token_nets (cells_of p) IsCut w n (Const 0) (Const 0) (loose_stands p e c is none) (inr refl) (inr refl) in
+        subst (λ (v : ℕ). HasNets (cells_of p) IsCut v (nets_from w n)) bits here
+    by_seat (Some s) seat =
+        let here = joint_arrives p sound e s (seat_found 0 p.joints e s seat) in
+        let nets : Nets = nets_from (bits_taken (contact_at p e)) (way_start keep_all p s.joint (slice_get p.joints s.joint) s.way) in
+        subst (λ (v : ℕ). HasNets (cells_of p) IsCut v nets) bits here

@@ -1,0 +1,268 @@
+-- The outputs and the inputs of a plan's netlist, as elements at the ends of its ports; and inputs are silent without
+-- a pulse.
+use Rattle.std.specs.Prelude.{Option}
+use Rattle.std.proofs.Common.{◌≡◌, ℕ, zero, suc, ◌+◌, ◌<◌, ◌≤◌, Bool, true, false, not, List, [], ◌∷◌, ◌++◌, map, filter, Some, slice_get, refl, sym, ◌∙◌, ap, subst, arith, nat_eq, if◌then◌else◌}
+use Rattle.std.proofs.lemmas.List.{map-append}
+use Rattle.std.proofs.lemmas.List.Elements.{filter-append}
+use Rattle.gos_types.specs.declared.shakes.Role.TheVariants.{Serve}
+use Rattle.gos_types.specs.Types.{Type', Com, Exp, Var, Pair, Fun, IsGround, IsDone}
+use Rattle.gos_netlist.specs.Nets.{Give, Take}
+use Rattle.gos_netlist.specs.Events.{events}
+use Rattle.gos_netlist.specs.Settling.{Numbers, at}
+use Rattle.gos_model.specs.Labels.{Given, Taken, Label, is_answer, is_output}
+use Rattle.gos_model.specs.Flattening.{port_pulses, pulses, outputs, inputs}
+use Rattle.gos_model.specs.Protocol.{IsQuiet, IsQuietFrom, shake_of}
+use Rattle.gos_plan.specs.Kinds.{Contact, contacts_of}
+use Rattle.gos_model.specs.Typing.{Imported}
+use Rattle.gos_plan.specs.Plans.{End, PartEnd, ImportEnd, ResultEnd, Plan, contact_at, contacts_of_import, turned_if, same_end}
+use Rattle.gos_plan.specs.Ranges.{HasWidths}
+use Rattle.gos_plan.specs.Tokens.{Element, Out, In, IsPortEnd}
+use Rattle.gos_plan.specs.Accounts.{outs_at, ins_at}
+use Rattle.gos_plan.specs.Cycles.{end_of_label, out_of, in_of, outs_of, ins_of}
+use Rattle.gos_plan.specs.AnyOrder.{NonePasses, EndsDiffer}
+use Rattle.gos_plan.proofs.JointLemmas.{same_is, same_itself}
+use Rattle.gos_expand.specs.Blocks.{Nets, nets_on, total}
+use Rattle.gos_expand.specs.Starts.{keep_all, ports_of, taken_ports, port_start, ends_at, port_ends, bits_taken, shake_size}
+use Rattle.gos_expand.specs.Laid.{leaves, request_nets, answer_nets, laid_port, taken, laid}
+use Rattle.gos_expand.specs.Acceptance.{AreDifferent}
+use Rattle.gos_expand.specs.Facts.{bits_put, bits_out_at, bits_in_at, elements, occurs}
+use Rattle.gos_expand.proofs.FlowLemmas.{IsSound, ground_serves, done_ground}
+use Rattle.gos_expand.proofs.PulseLemmas.{elements-append}
+use Rattle.gos_expand.proofs.PossibleLemmas.{no_out_before}
+use Rattle.gos_expand.proofs.EventLemmas.{flag, no_in_before, outs_once, ins_once}
+use Rattle.gos_expand.proofs.RegisterLemmas.{shows, turned_back}
+use Rattle.gos_expand.proofs.LabelLemmas.{answers, requests}
+use Rattle.gos_expand.proofs.OnceLemmas.{each_once, all_listed, number_is, import_there}
+
+-- ports one after another
+two_lists : (keep : Label → Bool) (f : Label → Element) (make : End → ℕ → Element) (v : Numbers) (bits : End → ℕ) (nets : End → Nets) (xs ys : List Label) (ds es : List End)
+    → map f (filter keep xs) ≡ elements make v bits nets ds → map f (filter keep ys) ≡ elements make v bits nets es
+    → map f (filter keep (xs ++ ys)) ≡ elements make v bits nets (ds ++ es)
+two_lists keep f make v bits nets xs ys ds es one two =
+    ap (map f) (filter-append keep xs ys)
+    ∙ (map-append f (filter keep xs) (filter keep ys) ∙ ((λ i. one i ++ two i) ∙ sym (elements-append make v bits nets ds es)))
+
+taken_list : (p : Plan) (keep : Label → Bool) (f : Label → Element) (make : End → ℕ → Element) (v : Numbers) (bits : End → ℕ) (nets : End → Nets) (n : ℕ) (is : List Imported)
+    → ((m j : ℕ) (t : Imported) → j ≡ n + m → slice_get is m ≡ Some t
+    → map f (filter keep (port_pulses v (laid_port p (suc j) t.name Take t.ty))) ≡ elements make v bits nets (ends_at (ImportEnd j) 0 (contacts_of t.ty)))
+    → map f (filter keep (pulses (taken p (suc n) is) v)) ≡ elements make v bits nets (port_ends (taken_ports n is))
+taken_list p keep f make v bits nets n [] each = refl
+taken_list p keep f make v bits nets n (t ∷ is) each =
+    two_lists keep f make v bits nets (port_pulses v (laid_port p (suc n) t.name Take t.ty)) (pulses (taken p (suc (suc n)) is) v)
+    (ends_at (ImportEnd n) 0 (contacts_of t.ty)) (port_ends (taken_ports (suc n) is)) (each 0 n t (omega arith) refl)
+    (taken_list p keep f make v bits nets (suc n) is (λ m j x e there. each (suc m) j x (omega (arith, e)) there))
+
+all_list : (p : Plan) (root : List ℕ) (keep : Label → Bool) (f : Label → Element) (make : End → ℕ → Element) (v : Numbers) (bits : End → ℕ) (nets : End → Nets)
+    → map f (filter keep (port_pulses v (laid_port p 0 root Give p.outcome))) ≡ elements make v bits nets (ends_at ResultEnd 0 (contacts_of p.outcome))
+    → ((m j : ℕ) (t : Imported) → j ≡ 0 + m → slice_get p.imports m ≡ Some t
+    → map f (filter keep (port_pulses v (laid_port p (suc j) t.name Take t.ty))) ≡ elements make v bits nets (ends_at (ImportEnd j) 0 (contacts_of t.ty)))
+    → map f (filter keep (pulses (laid keep_all p root).ports v)) ≡ elements make v bits nets (port_ends (ports_of p))
+all_list p root keep f make v bits nets result each =
+    two_lists keep f make v bits nets (port_pulses v (laid_port p 0 root Give p.outcome)) (pulses (taken p 1 p.imports) v)
+    (ends_at ResultEnd 0 (contacts_of p.outcome)) (port_ends (taken_ports 0 p.imports)) result (taken_list p keep f make v bits nets 0 p.imports each)
+
+not_not : (b : Bool) → not (not b) ≡ b
+not_not true = refl
+not_not false = refl
+
+-- bits and nets at the ends of ports
+result_bits : (p : Plan) → IsSound p → (h : ℕ) (c : Contact) → slice_get (contacts_of p.outcome) h ≡ Some c
+    → (bits_out_at p (ResultEnd h) ≡ c.answer_bits) × (bits_in_at p (ResultEnd h) ≡ c.ask_bits)
+result_bits p sound h c is =
+    let role : c.role ≡ Serve = ground_serves p.outcome h c (done_ground p.outcome sound.done) is in (
+      ap (λ (f : Option Contact). bits_taken (turned_if f)) is ∙ rw role refl,
+      ap (λ (f : Option Contact). bits_put (turned_if f)) is ∙ rw role refl,
+    )
+
+import_bits : (p : Plan) → IsSound p → (i h : ℕ) (t : Imported) (c : Contact) → slice_get p.imports i ≡ Some t → slice_get (contacts_of t.ty) h ≡ Some c
+    → (bits_out_at p (ImportEnd i h) ≡ c.ask_bits) × (bits_in_at p (ImportEnd i h) ≡ c.answer_bits)
+import_bits p sound i h t c there is =
+    let role : c.role ≡ Serve = ground_serves t.ty h c (sound.grounds i t there) is in
+    let contact : contact_at p (ImportEnd i h) ≡ Some c = subst (λ (f : Option Imported). slice_get (contacts_of_import f) h ≡ Some c) (sym there) is in
+    (ap bits_taken contact ∙ rw role refl, ap bits_put contact ∙ rw role refl)
+
+at_place : (p : Plan) (m j : ℕ) (t : Imported) → j ≡ 0 + m → slice_get p.imports m ≡ Some t → slice_get p.imports j ≡ Some t
+at_place p m j t e there = let same : m ≡ j = omega (arith, e) in subst (λ (x : ℕ). slice_get p.imports x ≡ Some t) same there
+
+pub outs_are : (p : Plan) (root : List ℕ) (v : Numbers) → IsSound p → AreDifferent (root ∷ map (λ (x : Imported). x.name) p.imports)
+    → outs_of p (outputs (laid keep_all p root) v) ≡ elements Out v (bits_out_at p) (shows p) (port_ends (ports_of p))
+outs_are p root v sound differ =
+    all_list p root is_output (out_of p) Out v (bits_out_at p) (shows p)
+    (answers is_output (out_of p) Out Given ResultEnd v (bits_out_at p) (shows p) (port_start p 0) p.outcome
+    (record { kept = λ m x. refl; made = λ m x. refl }) (done_ground p.outcome sound.done) sound.done_widths (λ h c is. ((result_bits p sound h c is).0, refl)))
+    (λ m j t e there.
+    let here = at_place p m j t e there in
+    requests is_output (out_of p) Out (Taken t.name) (ImportEnd j) v (bits_out_at p) (shows p) (port_start p (suc j)) t.ty
+    (record { kept = λ a x. refl; made = λ a x. ap (λ (y : ℕ). Out (ImportEnd y (shake_of a)) x) (number_is root j p.imports t differ here) })
+    (sound.grounds j t here) (sound.ground_widths j t here)
+    (λ h c is. ((import_bits p sound j h t c here is).0, ap (λ (f : Option Imported). request_nets (port_start p (suc j)) (contacts_of_import f) h) here)))
+
+pub ins_are : (p : Plan) (root : List ℕ) (v : Numbers) → IsSound p → AreDifferent (root ∷ map (λ (x : Imported). x.name) p.imports)
+    → ins_of p (inputs (laid keep_all p root) v) ≡ elements In v (bits_in_at p) (leaves keep_all p) (port_ends (ports_of p))
+ins_are p root v sound differ =
+    all_list p root (λ l. not (is_output l)) (in_of p) In v (bits_in_at p) (leaves keep_all p)
+    (requests (λ l. not (is_output l)) (in_of p) In Given ResultEnd v (bits_in_at p) (leaves keep_all p) (port_start p 0) p.outcome
+    (record { kept = λ m x. refl; made = λ m x. refl }) (done_ground p.outcome sound.done) sound.done_widths (λ h c is. ((result_bits p sound h c is).1, refl)))
+    (λ m j t e there.
+    let here = at_place p m j t e there in
+    answers (λ l. not (is_output l)) (in_of p) In (Taken t.name) (ImportEnd j) v (bits_in_at p) (leaves keep_all p) (port_start p (suc j)) t.ty
+    (record { kept = λ a x. not_not (is_answer a); made = λ a x. ap (λ (y : ℕ). In (ImportEnd y (shake_of a)) x) (number_is root j p.imports t differ here) })
+    (sound.grounds j t here) (sound.ground_widths j t here)
+    (λ h c is. ((import_bits p sound j h t c here is).1, ap (λ (f : Option Imported). answer_nets (port_start p (suc j)) (contacts_of_import f) h) here)))
+
+-- no two of them pass one end
+turned_apart : (d e : End) → same_end d e ≡ false → same_end e d ≡ false
+turned_apart d e apart = by_test (same_end e d) refl
+  where
+    by_test : (b : Bool) → same_end e d ≡ b → same_end e d ≡ false
+    by_test false t = t
+    by_test true t =
+        let is : e ≡ d = same_is e d t in
+        let yes : same_end d e ≡ true = ap (λ (x : End). same_end d x) is ∙ same_itself d in
+        let no : true ≡ false = sym yes ∙ apart in absurd (cc no)
+
+none_out : (p : Plan) (e : End) (ls : List Label) → outs_at e (outs_of p ls) ≡ 0 → NonePasses p e ls
+none_out p e [] h = tt
+none_out p e (l ∷ ls) h = by_test (same_end (end_of_label p l) e) refl h (none_out p e ls)
+  where
+    by_test : (b : Bool) → same_end (end_of_label p l) e ≡ b → (if b then suc (outs_at e (outs_of p ls)) else outs_at e (outs_of p ls)) ≡ 0
+        → (outs_at e (outs_of p ls) ≡ 0 → NonePasses p e ls) → NonePasses p e (l ∷ ls)
+    by_test true t h go = absurd (omega (arith, h))
+    by_test false t h go = (turned_apart (end_of_label p l) e t, go h)
+
+none_in : (p : Plan) (e : End) (ls : List Label) → ins_at e (ins_of p ls) ≡ 0 → NonePasses p e ls
+none_in p e [] h = tt
+none_in p e (l ∷ ls) h = by_test (same_end (end_of_label p l) e) refl h (none_in p e ls)
+  where
+    by_test : (b : Bool) → same_end (end_of_label p l) e ≡ b → (if b then suc (ins_at e (ins_of p ls)) else ins_at e (ins_of p ls)) ≡ 0
+        → (ins_at e (ins_of p ls) ≡ 0 → NonePasses p e ls) → NonePasses p e (l ∷ ls)
+    by_test true t h go = absurd (omega (arith, h))
+    by_test false t h go = (turned_apart (end_of_label p l) e t, go h)
+
+outs_differ : (p : Plan) (ls : List Label) → ((e : End) → outs_at e (outs_of p ls) ≤ 1) → EndsDiffer p ls
+outs_differ p [] few = tt
+outs_differ p (l ∷ ls) few =
+    let twice : suc (outs_at (end_of_label p l) (outs_of p ls)) ≤ 1 =
+    subst (λ (b : Bool). (if b then suc (outs_at (end_of_label p l) (outs_of p ls)) else outs_at (end_of_label p l) (outs_of p ls)) ≤ 1)
+    (same_itself (end_of_label p l)) (few (end_of_label p l)) in
+    (none_out p (end_of_label p l) ls (omega (arith, twice)), outs_differ p ls (λ e. fewer e (same_end (end_of_label p l) e) (few e)))
+  where
+    fewer : (e : End) (b : Bool) → (if b then suc (outs_at e (outs_of p ls)) else outs_at e (outs_of p ls)) ≤ 1 → outs_at e (outs_of p ls) ≤ 1
+    fewer e true h = omega (arith, h)
+    fewer e false h = h
+
+ins_differ : (p : Plan) (ls : List Label) → ((e : End) → ins_at e (ins_of p ls) ≤ 1) → EndsDiffer p ls
+ins_differ p [] few = tt
+ins_differ p (l ∷ ls) few =
+    let twice : suc (ins_at (end_of_label p l) (ins_of p ls)) ≤ 1 =
+    subst (λ (b : Bool). (if b then suc (ins_at (end_of_label p l) (ins_of p ls)) else ins_at (end_of_label p l) (ins_of p ls)) ≤ 1)
+    (same_itself (end_of_label p l)) (few (end_of_label p l)) in
+    (none_in p (end_of_label p l) ls (omega (arith, twice)), ins_differ p ls (λ e. fewer e (same_end (end_of_label p l) e) (few e)))
+  where
+    fewer : (e : End) (b : Bool) → (if b then suc (ins_at e (ins_of p ls)) else ins_at e (ins_of p ls)) ≤ 1 → ins_at e (ins_of p ls) ≤ 1
+    fewer e true h = omega (arith, h)
+    fewer e false h = h
+
+flag_small : (v : Numbers) (nets : Nets) → flag v nets ≤ 1
+flag_small v nets = by_test (nat_eq (at v nets.pulse) 1)
+  where
+    by_test : (b : Bool) → (if b then 1 else 0) ≤ 1
+    by_test true = omega arith
+    by_test false = omega arith
+
+few_outs : (p : Plan) (v : Numbers) (e : End) → outs_at e (elements Out v (bits_out_at p) (shows p) (port_ends (ports_of p))) ≤ 1
+few_outs p v e = by_count (occurs e (port_ends (ports_of p))) refl
+  where
+    by_count : (m : ℕ) → occurs e (port_ends (ports_of p)) ≡ m → outs_at e (elements Out v (bits_out_at p) (shows p) (port_ends (ports_of p))) ≤ 1
+    by_count zero h = let none = no_out_before e v (bits_out_at p) (shows p) (port_ends (ports_of p)) h in omega (arith, none)
+    by_count (suc m) h =
+        let listed = all_listed p e (omega (arith, h)) in
+        let once = (outs_once e v (bits_out_at p) (shows p) (port_ends (ports_of p)) (each_once p e listed.1.0 listed.0 listed.1.1)).0 in
+        let small = flag_small v (shows p e) in
+        omega (arith, once, small)
+
+few_ins : (p : Plan) (v : Numbers) (e : End) → ins_at e (elements In v (bits_in_at p) (leaves keep_all p) (port_ends (ports_of p))) ≤ 1
+few_ins p v e = by_count (occurs e (port_ends (ports_of p))) refl
+  where
+    by_count : (m : ℕ) → occurs e (port_ends (ports_of p)) ≡ m → ins_at e (elements In v (bits_in_at p) (leaves keep_all p) (port_ends (ports_of p))) ≤ 1
+    by_count zero h = let none = no_in_before e v (bits_in_at p) (leaves keep_all p) (port_ends (ports_of p)) h in omega (arith, none)
+    by_count (suc m) h =
+        let listed = all_listed p e (omega (arith, h)) in
+        let once = (ins_once e v (bits_in_at p) (leaves keep_all p) (port_ends (ports_of p)) (each_once p e listed.1.0 listed.0 listed.1.1)).0 in
+        let small = flag_small v (leaves keep_all p e) in
+        omega (arith, once, small)
+
+pub outs_are_apart : (p : Plan) (root : List ℕ) (v : Numbers) → IsSound p → AreDifferent (root ∷ map (λ (x : Imported). x.name) p.imports)
+    → EndsDiffer p (outputs (laid keep_all p root) v)
+outs_are_apart p root v sound differ =
+    outs_differ p (outputs (laid keep_all p root) v)
+    (λ e. subst (λ (l : List Element). outs_at e l ≤ 1) (sym (outs_are p root v sound differ)) (few_outs p v e))
+
+pub ins_are_apart : (p : Plan) (root : List ℕ) (v : Numbers) → IsSound p → AreDifferent (root ∷ map (λ (x : Imported). x.name) p.imports)
+    → EndsDiffer p (inputs (laid keep_all p root) v)
+ins_are_apart p root v sound differ =
+    ins_differ p (inputs (laid keep_all p root) v)
+    (λ e. subst (λ (l : List Element). ins_at e l ≤ 1) (sym (ins_are p root v sound differ)) (few_ins p v e))
+
+-- an answer at an import has no number without its pulse
+quiet_answer : (name : List ℕ) (s h : ℕ) (t : Type') (c : Contact) (ins : Numbers) → IsGround t → HasWidths t
+    → IsQuietFrom (Taken name) 0 (events t) (nets_on s (total shake_size 0 (contacts_of t))) ins → slice_get (contacts_of t) h ≡ Some c → 0 < c.answer_bits
+    → at ins (answer_nets s (contacts_of t) h).pulse ≡ 0 → at ins (answer_nets s (contacts_of t) h).number ≡ 0
+quiet_answer name s zero Com c ins ground widths quiet is some none = absurd (grind (arith, is, some))
+quiet_answer name s (suc h) Com c ins ground widths quiet is some none = absurd (grind (arith, is))
+quiet_answer name s h (Exp zero) c ins ground widths quiet is some none = absurd (let wide = widths.0 in omega (arith, wide))
+quiet_answer name s zero (Exp (suc w)) c ins ground widths quiet is some none =
+    let first : s + 0 + 1 ≡ s + 1 = omega arith in
+    let here : at ins (s + 1) ≡ 0 = sym (ap (at ins) first) ∙ none in
+    ap (λ (m : ℕ). at ins (m + 1)) first ∙ quiet.0 refl here
+quiet_answer name s (suc h) (Exp (suc w)) c ins ground widths quiet is some none = absurd (grind (arith, is))
+quiet_answer name s h (Var zero) c ins ground widths quiet is some none = absurd (let wide = widths.0 in omega (arith, wide))
+quiet_answer name s zero (Var (suc w)) c ins ground widths quiet is some none =
+    let first : s + 0 + 1 ≡ s + 1 = omega arith in
+    let here : at ins (s + 1) ≡ 0 = sym (ap (at ins) first) ∙ none in
+    ap (λ (m : ℕ). at ins (m + 1)) first ∙ quiet.0 refl here
+quiet_answer name s (suc zero) (Var (suc w)) c ins ground widths quiet is some none = absurd (grind (arith, is, some))
+quiet_answer name s (suc (suc h)) (Var (suc w)) c ins ground widths quiet is some none = absurd (grind (arith, is))
+quiet_answer name s h (Pair a b) c ins ground widths quiet is some none = absurd ground
+quiet_answer name s h (Fun a b) c ins ground widths quiet is some none = absurd ground
+
+quiet_taken : (p : Plan) (n : ℕ) (is : List Imported) (ins : Numbers) (m j : ℕ) (t : Imported) → IsQuiet (taken p (suc n) is) ins → j ≡ n + m → slice_get is m ≡ Some t
+    → IsQuietFrom (Taken t.name) 0 (events t.ty) (nets_on (port_start p (suc j)) (total shake_size 0 (contacts_of t.ty))) ins
+quiet_taken p n [] ins m j t quiet e there = absurd (grind (arith, there))
+quiet_taken p n (x ∷ is) ins zero j t quiet e there =
+    let same : x ≡ t = cc there in
+    let here : n ≡ j = omega (arith, e) in
+    subst (λ (y : Imported). IsQuietFrom (Taken y.name) 0 (events y.ty) (nets_on (port_start p (suc j)) (total shake_size 0 (contacts_of y.ty))) ins) same
+    (subst (λ (k : ℕ). IsQuietFrom (Taken x.name) 0 (events x.ty) (nets_on (port_start p (suc k)) (total shake_size 0 (contacts_of x.ty))) ins) here quiet.0)
+quiet_taken p n (x ∷ is) ins (suc m) j t quiet e there = quiet_taken p (suc n) is ins m j t quiet.1 (omega (arith, e)) there
+
+-- a request of the result has no number at all
+no_number : (t : Type') (h : ℕ) (c : Contact) → IsDone t → slice_get (contacts_of t) h ≡ Some c → c.ask_bits ≡ 0
+no_number Com zero c done is = grind (arith, is)
+no_number Com (suc h) c done is = absurd (grind (arith, is))
+no_number (Exp w) zero c done is = grind (arith, is)
+no_number (Exp w) (suc h) c done is = absurd (grind (arith, is))
+no_number (Var w) h c done is = absurd done
+no_number (Pair a b) h c done is = absurd done
+no_number (Fun a b) h c done is = absurd done
+
+pub quiet_input : (p : Plan) (root : List ℕ) (ins : Numbers) (e : End) (c : Contact) → IsSound p → IsQuiet (laid keep_all p root).ports ins → contact_at p e ≡ Some c
+    → 0 < bits_put (Some c) → at ins (leaves keep_all p e).pulse ≡ 0 → IsPortEnd e → at ins (leaves keep_all p e).number ≡ 0
+quiet_input p root ins (PartEnd i h) c sound quiet there some none port = absurd port
+quiet_input p root ins (ResultEnd h) c sound quiet there some none port =
+    let back = turned_back (slice_get (contacts_of p.outcome) h) c there in
+    let bits = (result_bits p sound h back.0 back.1).1 in
+    let zero_bits = no_number p.outcome h back.0 sound.done back.1 in
+    let same : bits_in_at p (ResultEnd h) ≡ bits_put (Some c) = ap bits_put there in
+    absurd (omega (arith, bits, zero_bits, same, some))
+quiet_input p root ins (ImportEnd i h) c sound quiet there some none port =
+    let of_import = import_there p i h c there in
+    let t : Imported = of_import.0 in
+    let bits = (import_bits p sound i h t c of_import.1 of_import.2).1 in
+    let same : bits_in_at p (ImportEnd i h) ≡ bits_put (Some c) = ap bits_put there in
+    let wide : 0 < c.answer_bits = omega (arith, bits, same, some) in
+    let nets : leaves keep_all p (ImportEnd i h) ≡ answer_nets (port_start p (suc i)) (contacts_of t.ty) h =
+    ap (λ (f : Option Imported). answer_nets (port_start p (suc i)) (contacts_of_import f) h) of_import.1 in
+    let here = quiet_taken p 0 p.imports ins i i t quiet.1 (omega arith) of_import.1 in
+    subst (λ (y : Nets). at ins y.pulse ≡ 0 → at ins y.number ≡ 0) (sym nets)
+    (quiet_answer t.name (port_start p (suc i)) h t.ty c ins (sound.grounds i t of_import.1) (sound.ground_widths i t of_import.1) here of_import.2 wide) none

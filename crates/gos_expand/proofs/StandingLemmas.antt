@@ -1,0 +1,188 @@
+-- What stands at the beginning of a cycle: the registers hold the tokens that lie on the joints, each in one of three
+-- places.
+--
+-- A token that was put at an end is pending in a register of its part's gates, or in the register of its joint, or in
+-- the register of the output that takes it.
+use Rattle.std.specs.Prelude.{Option, None}
+use Rattle.std.proofs.Common.{◌≡◌, inl, inr, ℕ, zero, suc, ◌+◌, ◌≤◌, ◌<◌, List, [], ◌∷◌, Some, slice_get, Contains, refl, sym, ◌∙◌, ap, subst, arith}
+use Rattle.gos_types.specs.declared.shakes.Role.{Role}
+use Rattle.gos_types.specs.declared.shakes.Role.TheVariants.{Serve, Ask}
+use Rattle.gos_netlist.specs.Nets.{Netlist}
+use Rattle.gos_netlist.specs.Events.{Direction, Request, Answer}
+use Rattle.gos_netlist.specs.Settling.{Numbers, at}
+use Rattle.gos_plan.specs.Kinds.{Part, Contact, asks, serves}
+use Rattle.gos_plan.specs.Firing.{Token}
+use Rattle.gos_plan.specs.Plans.{End, PartEnd, Joint, Plan, IsRight, Fits, contact_at}
+use Rattle.gos_plan.specs.Tokens.{Tokens, Element, IsPortEnd, IsIdle, places_of, token_at, held_at, bits_of, way_taken}
+use Rattle.gos_plan.specs.TokenBits.{AllFit}
+use Rattle.gos_plan.specs.Orderly.{Open, none_open, AllWelcome, OrderlyFrom}
+use Rattle.gos_plan.specs.Gates.{Incoming, due, value_due, incoming_bits, bits_in, value_in}
+use Rattle.gos_plan.specs.Projection.{TakesValues}
+use Rattle.gos_plan.proofs.AccountLemmas.{parts_fill_places}
+use Rattle.gos_plan.proofs.JointLemmas.{IsIn, found, fits}
+use Rattle.gos_plan.proofs.BalanceLemmas.{IsOf, of_role}
+use Rattle.gos_expand.specs.Gates.{pending_of, stands_of}
+use Rattle.gos_expand.specs.Starts.{bits_taken}
+use Rattle.gos_expand.specs.Facts.{Places, source, target, width, incoming_at, CycleFacts, PlanFacts, PartFacts}
+use Rattle.gos_plan.specs.Accounts.{count, number, AddsUp, PartsPut}
+
+-- the tokens that are pending at an end, and the sum of their numbers
+abbrev pub pending_if : Option Part → ℕ → Numbers → List Token
+pending_if None b regs = []
+pending_if (Some k) b regs = pending_of k b regs
+
+abbrev pub pending_at : Plan → Places → Numbers → End → ℕ
+pending_at p n regs (PartEnd i h) = due h (pending_if (slice_get p.parts i) (n.start i) regs)
+pending_at p n regs e = 0
+
+abbrev pub pending_numbers : Plan → Places → Numbers → End → ℕ
+pending_numbers p n regs (PartEnd i h) = value_due h (pending_if (slice_get p.parts i) (n.start i) regs)
+pending_numbers p n regs e = 0
+
+-- the token that the output of a port holds
+abbrev pub shown_at : Places → Numbers → End → ℕ
+shown_at n regs (PartEnd i h) = 0
+shown_at n regs e = at regs (n.shows e).pulse
+
+abbrev pub shown_numbers : Places → Numbers → End → ℕ
+shown_numbers n regs (PartEnd i h) = 0
+shown_numbers n regs e = at regs (n.shows e).number
+
+-- where what lies in a direction of a joint is
+pub record Lies (p : Plan) (n : Places) (regs : Numbers) (s : Tokens) (j : Joint) (way : Direction) : Type 0 where
+  pub counts :
+      count (s.in_place way j.asking)
+      ≡ at regs (n.arrives (target j way)).pulse + (pending_at p n regs (source j way) + shown_at n regs (target j way))
+  pub numbers :
+      0 < width p j way
+      → number (s.in_place way j.asking)
+      ≡ at regs (n.arrives (target j way)).number + (pending_numbers p n regs (source j way) + shown_numbers n regs (target j way))
+  pub silent : 0 < width p j way → at regs (n.arrives (target j way)).pulse ≡ 0 → at regs (n.arrives (target j way)).number ≡ 0
+  pub silent_out : 0 < width p j way → shown_at n regs (target j way) ≡ 0 → shown_numbers n regs (target j way) ≡ 0
+
+-- registers and tokens at the beginning of a cycle
+pub record Standing (p : Plan) (n : Places) (regs : Numbers) (s : Tokens) : Type 0 where
+  pub welcome : AllWelcome p s
+  pub fit : AllFit p s
+  pub parts : (i : ℕ) (k : Part) → slice_get p.parts i ≡ Some k → stands_of k (n.start i) regs (s.state i)
+  pub joints : (x : ℕ) (j : Joint) (way : Direction) → slice_get p.joints x ≡ Some j → Lies p n regs s j way
+  pub loose : (e : End) (c : Contact) → IsPortEnd e → contact_at p e ≡ Some c → places_of p e ≡ None → at regs (n.shows e).pulse ≡ 0
+
+-- all that is known of a cycle at its beginning
+pub record Now (p : Plan) (net : Netlist) (n : Places) (v regs after : Numbers) (o : Open) (s : Tokens) : Type 0 where
+  pub right : IsRight p
+  pub part_facts : PartFacts p
+  pub plan_facts : PlanFacts p n
+  pub facts : CycleFacts p net n v regs after
+  pub past : List Element
+  pub first : Tokens
+  pub idle : IsIdle p first
+  pub list : OrderlyFrom p past none_open first o s
+  pub standing : Standing p n regs s
+
+-- the values that come in at a part
+abbrev pub values_if : Option Part → Numbers → Incoming → ℕ → ℕ
+values_if None v i h = 0
+values_if (Some k) v i h = value_in k v i h
+
+abbrev pub values : Plan → Places → Numbers → ℕ → ℕ → ℕ
+values p n v i = values_if (slice_get p.parts i) v (incoming_at p n i)
+
+-- a joint by its place
+pub index_of : (j : Joint) (js : List Joint) → IsIn j js → (x : ℕ) × (slice_get js x ≡ Some j)
+index_of j [] h = absurd h
+index_of j (y ∷ js) (inl e) = (0, ap Some (sym e))
+index_of j (y ∷ js) (inr h) = let rest = index_of j js h in (suc rest.0, rest.1)
+
+pub is_in_at : (x : ℕ) (js : List Joint) (j : Joint) → slice_get js x ≡ Some j → IsIn j js
+is_in_at x [] j e = absurd (grind (arith, e))
+is_in_at zero (y ∷ js) j e = inl (cc e)
+is_in_at (suc x) (y ∷ js) j e = inr (is_in_at x js j e)
+
+-- an end with a place is where the tokens of a direction are taken
+pub record Taking (p : Plan) (e : End) (c : Contact) : Type 0 where
+  pub index : ℕ
+  pub joint : Joint
+  pub there : slice_get p.joints index ≡ Some joint
+  pub is_target : e ≡ target joint (way_taken c.role)
+  pub bits : width p joint (way_taken c.role) ≡ bits_taken (Some c)
+  pub place : places_of p e ≡ Some joint.asking
+
+pub taking : (p : Plan) (e a : End) (c : Contact) → IsRight p → contact_at p e ≡ Some c → places_of p e ≡ Some a → Taking p e c
+taking p e a c right there place =
+    let f = found p.joints e a place in
+    let x = index_of f.joint p.joints f.is_in in
+    record {
+      index = x.0;
+      joint = f.joint;
+      there = x.1;
+      is_target = is_target c.role (of_role p f.joint e c right f.is_in f.stands there);
+      bits = of_bits c.role refl (of_role p f.joint e c right f.is_in f.stands there) (fits p [] p.joints f.joint right f.is_in);
+      place = place ∙ ap Some (sym f.named);
+    }
+  where
+    is_target : (role : Role) → IsOf role e (found p.joints e a place).joint → e ≡ target (found p.joints e a place).joint (way_taken role)
+    is_target Serve is = is
+    is_target Ask is = is
+
+    of_bits : (role : Role) → c.role ≡ role → IsOf role e (found p.joints e a place).joint → Fits p (found p.joints e a place).joint
+        → width p (found p.joints e a place).joint (way_taken c.role) ≡ bits_of c (way_taken c.role)
+    of_bits Serve is here fit =
+        let same : contact_at p e ≡ Some (serves fit.0 fit.1) = ap (contact_at p) here ∙ fit.3 in
+        let is_c : c ≡ serves fit.0 fit.1 = cc (there, same) in
+        rw (is, fit.2) (ap (λ (d : Contact). d.ask_bits) (sym is_c))
+    of_bits Ask is here fit =
+        let same : contact_at p e ≡ Some (asks fit.0 fit.1) = ap (contact_at p) here ∙ fit.2 in
+        let is_c : c ≡ asks fit.0 fit.1 = cc (there, same) in
+        rw (is, fit.2) (ap (λ (d : Contact). d.answer_bits) (sym is_c))
+
+contains_at : {X : Type 0} (xs : List X) (m : ℕ) (x : X) → slice_get xs m ≡ Some x → Contains xs x
+contains_at [] m x e = absurd (grind (arith, e))
+contains_at (y ∷ xs) zero x e = (0, omega arith, cc e)
+contains_at (y ∷ xs) (suc m) x e = let rest = contains_at xs m x e in let lt = rest.1 in (suc rest.0, omega (arith, lt), rest.2)
+
+-- what the parts put in a list of the cycle, and how the joints add up
+pub filled : (p : Plan) (net : Netlist) (n : Places) (v regs after : Numbers) (o u : Open) (s t : Tokens) (xs : List Element)
+    → Now p net n v regs after o s → OrderlyFrom p xs o s u t → ((i : ℕ) → TakesValues p i (values p n v i) xs s)
+    → (puts : ℕ → List Token) × PartsPut p (values p n v) puts xs o s u t
+    × ((x : ℕ) (j : Joint) (way : Direction) → slice_get p.joints x ≡ Some j
+    → AddsUp (values p n v) puts xs s t way j.asking (source j way) (target j way))
+filled p net n v regs after o u s t xs now list takes =
+    let law = parts_fill_places p (values p n v) now.past xs o u now.first s t now.right now.idle now.list list takes in
+    (law.0, law.1, λ x j way there. by_way way j (law.2 j (contains_at p.joints x j there)))
+  where
+    by_way : {puts : ℕ → List Token} (way : Direction) (j : Joint)
+        → AddsUp (values p n v) puts xs s t Request j.asking j.asking j.serving × AddsUp (values p n v) puts xs s t Answer j.asking j.serving j.asking
+        → AddsUp (values p n v) puts xs s t way j.asking (source j way) (target j way)
+    by_way Request j both = both.0
+    by_way Answer j both = both.1
+
+-- what lies in a place is one token at most
+pub small_count : (f : Option ℕ) → count f ≤ 1
+small_count None = omega arith
+small_count (Some v) = omega arith
+
+pub one_token : (f : Option ℕ) → count f ≡ 1 → f ≡ Some (number f)
+one_token None e = absurd (omega (arith, e))
+one_token (Some v) e = refl
+
+pub no_token : (f : Option ℕ) → count f ≡ 0 → number f ≡ 0
+no_token None e = refl
+no_token (Some v) e = absurd (omega (arith, e))
+
+pub counts_token : (f : Option ℕ) (v : ℕ) → f ≡ Some v → (count f ≡ 1) × (number f ≡ v)
+counts_token f v e = (ap count e, ap number e)
+
+pub lies_at : (p : Plan) (s : Tokens) (e : End) (c : Contact) (t : Taking p e c) → token_at p s e (way_taken c.role) ≡ s.in_place (way_taken c.role) t.joint.asking
+lies_at p s e c t = ap (held_at s (way_taken c.role)) t.place
+
+-- the bits of what comes in
+pub incoming_at_handshake : (cs : List Contact) (h : ℕ) (c : Contact) → slice_get cs h ≡ Some c → incoming_bits cs h ≡ bits_taken (Some c)
+incoming_at_handshake [] h c e = absurd (grind (arith, e))
+incoming_at_handshake (d ∷ cs) zero c e =
+    let is : d ≡ c = cc e in subst (λ (y : Contact). bits_in d.role d ≡ bits_taken (Some y)) is (by_role d.role)
+  where
+    by_role : (role : Role) → bits_in role d ≡ bits_of d (way_taken role)
+    by_role Serve = refl
+    by_role Ask = refl
+incoming_at_handshake (d ∷ cs) (suc h) c e = incoming_at_handshake cs h c e

@@ -1,0 +1,9 @@
+use Rattle.gos_expand.specs.Kept.{all_gates}
+use Rattle.gos_expand.proofs.FewLemmas.{gates_few}
+use Rattle.gos_expand.proofs.laws.gates_keep.Goals as goal
+
+pub returns-clause-keep : goal.returns-clause-keep
+returns-clause-keep c = all_gates
+
+pub returns-clause-few : goal.returns-clause-few
+returns-clause-few c = gates_few

@@ -1,0 +1,14 @@
+use Rattle.std.proofs.Common.{◌≡◌, ◌≤◌, ◌+◌, ◌*◌, take, map}
+use Rattle.gos_plan.specs.Seen.{part_of}
+use Rattle.gos_plan.specs.Size.{shakes_of}
+use Rattle.gos_expand.specs.Blocks.{total}
+use Rattle.gos_expand.specs.Gates.{part_size}
+use Rattle.gos_expand.specs.Numbering.{starts}
+use Rattle.gos_expand.proofs.numbering.part_starts.Given as goal
+
+-- the starts of the parts so far, and what comes behind these
+abbrev pub invariant-loop-kind : goal.invariant-loop-kind
+invariant-loop-kind l =
+    (l.starts.items ≡ starts (λ _ k. part_size k) 0 l.from (take l.kind-index (map part_of l.plan.parts)))
+    × (l.next ≡ l.from + total (λ _ k. part_size k) 0 (take l.kind-index (map part_of l.plan.parts)))
+    × (l.next ≤ l.from + 24 * (l.kind-index + shakes_of (take l.kind-index (map part_of l.plan.parts))))

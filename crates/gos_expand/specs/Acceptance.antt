@@ -1,0 +1,33 @@
+-- Which plans can be laid out, and that their netlists are accepted.
+--
+-- Read first: Laid; Accepted of gos_netcheck; Ranges of gos_plan.
+use Rattle.std.specs.Prelude.{◌≡◌, ◌≢◌, ℕ, ◌<◌, ◌≤◌, List, ◌∷◌, map, length, All, Some, slice_get}
+use Rattle.gos_types.specs.Types.{IsGround, IsDone, type_of}
+use Rattle.gos_plan.specs.Plans.{IsRight}
+use Rattle.gos_plan.specs.Ranges.{AreInRange}
+use Rattle.gos_plan.specs.Seen.{SeenPlan, plan_of}
+use Rattle.gos_plan.specs.Size.{plan_size}
+use Rattle.gos_netcheck.specs.Accepted.{IsAccepted}
+use Rattle.gos_expand.specs.Starts.{keep_all}
+use Rattle.gos_expand.specs.Laid.{laid}
+
+-- no name stands twice
+abbrev pub AreDifferent : List (List ℕ) → Type 0
+AreDifferent names = (i j : ℕ) (a b : List ℕ) → i < j → slice_get names i ≡ Some a → slice_get names j ≡ Some b → a ≢ b
+
+-- The plan is right and in range, its result is a command or an expression, its imports have ground types, and no two
+-- of its ports have one name.
+pub record CanBeLaid (p : SeenPlan) (root : List ℕ) : Type 0 where
+  pub in_range : AreInRange p.imports p.outcome p.parts
+  pub right : IsRight (plan_of p)
+  pub result : IsDone (type_of p.outcome)
+  pub ground : All (λ i. IsGround (type_of i.ty)) p.imports
+  pub names : AreDifferent (root ∷ map (λ i. i.name) p.imports)
+
+-- the netlist of such a plan, with a register in each direction of each joint, is accepted
+abbrev pub LaidIsAccepted : Type 0
+LaidIsAccepted = (p : SeenPlan) (root : List ℕ) → CanBeLaid p root → IsAccepted (laid keep_all (plan_of p) root)
+
+-- and has no more cells than the plan's size
+abbrev pub LaidIsSmall : Type 0
+LaidIsSmall = (p : SeenPlan) (root : List ℕ) → CanBeLaid p root → length (laid keep_all (plan_of p) root).cells ≤ plan_size (plan_of p)

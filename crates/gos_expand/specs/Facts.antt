@@ -1,0 +1,139 @@
+-- What the cycles of a plan's netlist show, in terms of the plan's ends, and that such cycles are lists of the plan.
+--
+-- Read first: Starts, Kept; Cycles of gos_plan. Behind these facts no numbers of nets are needed any more.
+use Rattle.std.specs.Prelude.{◌≡◌, ℕ, zero, suc, ◌^◌, ◌<◌, ◌≤◌, List, [], ◌∷◌, Option, Some, None, All, slice_get, nat_eq, if◌then◌else◌}
+use Rattle.gos_netlist.specs.Nets.{Netlist}
+use Rattle.gos_netlist.specs.Events.{Direction, Request, Answer}
+use Rattle.gos_netlist.specs.Settling.{Numbers, at}
+use Rattle.gos_model.specs.Flattening.{outputs, inputs}
+use Rattle.gos_plan.specs.Kinds.{Part, Contact}
+use Rattle.gos_plan.specs.Plans.{End, PartEnd, Joint, Plan, IsRight, contact_at, same_end}
+use Rattle.gos_plan.specs.Tokens.{Element, Out, In, IsPortEnd, places_of, bits_of, way_put}
+use Rattle.gos_plan.specs.Turns.{IsUnshared}
+use Rattle.gos_plan.specs.TokenBits.{LiteralFits}
+use Rattle.gos_plan.specs.Gates.{Incoming, Settled}
+use Rattle.gos_plan.specs.Kept.{KeepLaws}
+use Rattle.gos_plan.specs.Cycles as cycles
+use Rattle.gos_plan.specs.AnyOrder.{EndsDiffer}
+use Rattle.gos_expand.specs.Gates.{layout, outs_of, late_of, pending_of, stands_of}
+use Rattle.gos_expand.specs.Blocks.{Nets}
+use Rattle.gos_expand.specs.Starts.{bits_if, bits_taken, ports_of, port_ends}
+use Rattle.gos_expand.specs.Laid.{nets_out, known}
+
+-- By end: the nets of what goes into the circuit, of what comes in there, and of what a port shows of it. By part:
+-- where its gates begin.
+pub record Places : Type 0 where
+  pub leaves : End → Nets
+  pub arrives : End → Nets
+  pub shows : End → Nets
+  pub start : ℕ → ℕ
+
+-- the number of a token of these bits
+abbrev pub number_by : Numbers → ℕ → Nets → ℕ
+number_by v zero n = 0
+number_by v (suc w) n = at v n.number
+
+-- a token of these bits is held for a cycle on its way between these nets
+pub record Delays (w : ℕ) (v regs after : Numbers) (from to : Nets) : Type 0 where
+  pub pulse : at v to.pulse ≡ at regs to.pulse
+  pub next : at after to.pulse ≡ at v from.pulse
+  pub number : 0 < w → at v to.number ≡ at regs to.number
+  pub next_number : 0 < w → at after to.number ≡ at v from.number
+
+-- where the tokens of a direction of a joint are put, where they are taken, and their bits
+abbrev pub source : Joint → Direction → End
+source j Request = j.asking
+source j Answer = j.serving
+
+abbrev pub target : Joint → Direction → End
+target j Request = j.serving
+target j Answer = j.asking
+
+abbrev pub width : Plan → Joint → Direction → ℕ
+width p j way = bits_if (contact_at p j.asking) way
+
+-- the bits of what is put at an end
+abbrev pub bits_put : Option Contact → ℕ
+bits_put None = 0
+bits_put (Some c) = bits_of c (way_put c.role)
+
+-- the nets that come in at a part, by handshake
+abbrev pub incoming_at : Plan → Places → ℕ → Incoming
+incoming_at p n i =
+    record {
+      pulse = λ h. known (contact_at p (PartEnd i h)) (n.arrives (PartEnd i h)).pulse;
+      value = λ h. known (contact_at p (PartEnd i h)) (n.arrives (PartEnd i h)).number;
+    }
+
+-- the tokens that these nets show at these ends, as elements
+abbrev pub elements : (End → ℕ → Element) → Numbers → (End → ℕ) → (End → Nets) → List End → List Element
+elements make v bits nets [] = []
+elements make v bits nets (e ∷ es) =
+    if nat_eq (at v (nets e).pulse) 1 then make e (number_by v (bits e) (nets e)) ∷ elements make v bits nets es
+    else elements make v bits nets es
+
+abbrev pub bits_out_at : Plan → End → ℕ
+bits_out_at p e = bits_taken (contact_at p e)
+
+abbrev pub bits_in_at : Plan → End → ℕ
+bits_in_at p e = bits_put (contact_at p e)
+
+abbrev pub shown_elements : Plan → Places → Numbers → List Element
+shown_elements p n v = elements Out v (bits_out_at p) n.shows (port_ends (ports_of p))
+
+abbrev pub given_elements : Plan → Places → Numbers → List Element
+given_elements p n v = elements In v (bits_in_at p) n.leaves (port_ends (ports_of p))
+
+-- What a cycle shows, with these values of nets, registers and next registers. Each direction of a joint delays, and
+-- so does each output of a port; an end without a joint gets nothing; and what the outside gives is in range.
+pub record CycleFacts (p : Plan) (net : Netlist) (n : Places) (v regs after : Numbers) : Type 0 where
+  pub outs : cycles.outs_of p (outputs net v) ≡ shown_elements p n v
+  pub ins : cycles.ins_of p (inputs net v) ≡ given_elements p n v
+  pub outs_apart : EndsDiffer p (outputs net v)
+  pub ins_apart : EndsDiffer p (inputs net v)
+  pub parts :
+      (i : ℕ) (k : Part) → slice_get p.parts i ≡ Some k → Settled v regs after (n.start i) 0 (layout k (n.start i) (incoming_at p n i))
+  pub joints :
+      (x : ℕ) (j : Joint) (way : Direction) → slice_get p.joints x ≡ Some j
+      → Delays (width p j way) v regs after (n.leaves (source j way)) (n.arrives (target j way))
+  pub loose :
+      (e : End) (c : Contact) → contact_at p e ≡ Some c → places_of p e ≡ None
+      → (at v (n.arrives e).pulse ≡ 0) × (0 < bits_taken (Some c) → at v (n.arrives e).number ≡ 0)
+  pub ports :
+      (e : End) (c : Contact) → IsPortEnd e → contact_at p e ≡ Some c
+      → Delays (bits_taken (Some c)) v regs after (n.arrives e) (n.shows e)
+  pub given :
+      (e : End) (c : Contact) → IsPortEnd e → contact_at p e ≡ Some c
+      → (at v (n.leaves e).pulse ≤ 1)
+      × (0 < bits_put (Some c) → (at v (n.leaves e).number < 2 ^ bits_put (Some c)) × (at v (n.leaves e).pulse ≡ 0 → at v (n.leaves e).number ≡ 0))
+
+-- cycles one after another, from these registers on
+abbrev pub Follow : Plan → Netlist → Places → Numbers → List Numbers → Type 0
+Follow p net n regs [] = Unit {0}
+Follow p net n regs (v ∷ vs) = (after : Numbers) × CycleFacts p net n v regs after × Follow p net n after vs
+
+-- how often an end stands in a list
+abbrev pub occurs : End → List End → ℕ
+occurs e [] = 0
+occurs e (d ∷ ds) = if same_end d e then suc (occurs e ds) else occurs e ds
+
+-- what is the same in all cycles: each end of a port is listed once, and the nets that leave a part are those of its
+-- gates
+pub record PlanFacts (p : Plan) (n : Places) : Type 0 where
+  pub once : (e : End) (c : Contact) → IsPortEnd e → contact_at p e ≡ Some c → occurs e (port_ends (ports_of p)) ≡ 1
+  pub listed : (e : End) → 0 < occurs e (port_ends (ports_of p)) → IsPortEnd e × ((c : Contact) × (contact_at p e ≡ Some c))
+  pub leaving : (i h : ℕ) (k : Part) → slice_get p.parts i ≡ Some k → n.leaves (PartEnd i h) ≡ nets_out (slice_get (outs_of k (n.start i)) h)
+
+-- the gates of each part keep the laws, and its literal fits
+pub record PartFacts (p : Plan) : Type 0 where
+  pub gates :
+      (i : ℕ) (k : Part) → slice_get p.parts i ≡ Some k
+      → KeepLaws k (layout k) (outs_of k) (late_of k) (pending_of k) (stands_of k)
+  pub unshared : (i : ℕ) (k : Part) → slice_get p.parts i ≡ Some k → IsUnshared k
+  pub literals : All LiteralFits p.parts
+
+-- Cycles of which this is so, from registers that are all 0, are lists of the plan.
+abbrev pub FactsMakeLists : Type 0
+FactsMakeLists =
+    (p : Plan) (net : Netlist) (n : Places) (regs : Numbers) (vs : List Numbers)
+    → IsRight p → PartFacts p → PlanFacts p n → ((m : ℕ) → at regs m ≡ 0) → Follow p net n regs vs → cycles.CyclesAreLists p net vs

@@ -1,0 +1,85 @@
+// The gates of a part, whichever crate lays them out.
+ghost use Rattle.std.specs.Prelude.{◌≡◌};
+ghost use Rattle.gos_plan.specs.Ranges.{IsInRange};
+ghost use Rattle.gos_expand.specs.Dispatch.{gates_for, part_in, cells_in, outs_in, late_in, pending_in, stands_in, IsLaidOut, gates_keep};
+
+use gos_control::Control;
+use gos_data::Arith;
+use gos_netlist::NetId;
+use gos_plan::{Kind, Macro, Wire};
+use gos_pool::{NetPool, Region};
+use gos_share::Sharing;
+
+// The gates of a part: it passes control on, it computes, or two callers use one source by it.
+#[derive(Debug, Drop)]
+pub(crate) enum Gates<'a> {
+    Controls(Control),
+    Computes(Arith),
+    Shares(Sharing<'a>),
+}
+
+impl<'a> Macro for Gates<'a> {
+    ghost part = { part_in };
+
+    ghost cells = { cells_in };
+
+    ghost outs_at = { outs_in };
+
+    ghost late = { late_in };
+
+    ghost pending = { pending_in };
+
+    ghost stands = { stands_in };
+
+    ghost is_laid_out = { IsLaidOut };
+
+    fn size(&self) -> u32 {
+        match self {
+            Gates::Controls(control) => control.size(),
+            Gates::Computes(arith) => arith.size(),
+            Gates::Shares(sharing) => sharing.size(),
+        }
+    }
+
+    fn outs(&self, base: NetId, wires: &mut [Wire]) {
+        match self {
+            Gates::Controls(control) => control.outs(base, wires),
+            Gates::Computes(arith) => arith.outs(base, wires),
+            Gates::Shares(sharing) => sharing.outs(base, wires),
+        }
+    }
+
+    fn place(&self, pool: &mut NetPool, region: &mut Region, wires: &[Wire]) {
+        match self {
+            Gates::Controls(control) => control.place(pool, region, wires),
+            Gates::Computes(arith) => arith.place(pool, region, wires),
+            Gates::Shares(sharing) => sharing.place(pool, region, wires),
+        }
+    }
+
+    ghost law = { gates_keep };
+}
+
+// The gates of a part. They take no memory.
+pub(crate) fn gates_of<'a>(kind: &'a Kind) -> Gates<'a>
+    requires in_range { IsInRange kind.now }
+    ensures is { result ≡ gates_for kind.now }
+    ensures laid_out { IsLaidOut result }
+{
+    match kind {
+        Kind::Skip => Gates::Controls(Control(Kind::Skip)),
+        Kind::Lit { w, k } => Gates::Computes(Arith(Kind::Lit { w: *w, k: *k })),
+        Kind::Seq => Gates::Controls(Control(Kind::Seq)),
+        Kind::SeqExp { w } => Gates::Controls(Control(Kind::SeqExp { w: *w })),
+        Kind::Par => Gates::Controls(Control(Kind::Par)),
+        Kind::If => Gates::Controls(Control(Kind::If)),
+        Kind::IfExp { w } => Gates::Controls(Control(Kind::IfExp { w: *w })),
+        Kind::While => Gates::Controls(Control(Kind::While)),
+        Kind::Op { op, w } => Gates::Computes(Arith(Kind::Op { op: *op, w: *w })),
+        Kind::Not { w } => Gates::Computes(Arith(Kind::Not { w: *w })),
+        Kind::Assign { w } => Gates::Computes(Arith(Kind::Assign { w: *w })),
+        Kind::Deref { w } => Gates::Computes(Arith(Kind::Deref { w: *w })),
+        Kind::Local { w, v } => Gates::Computes(Arith(Kind::Local { w: *w, v: *v })),
+        Kind::Share(ty) => Gates::Shares(Sharing(ty)),
+    }
+}

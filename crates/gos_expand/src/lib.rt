@@ -1,0 +1,25 @@
+// From plans to netlists: each part as its gates, each joint as its registers, and a port for the result and for
+// each import.
+//
+// Read `specs/Laid` for the netlist that a plan is laid out as (behind `specs/Gates`, `Blocks` and `Starts`), and
+// `whole.rt` for the call. A netlist is made in two steps. `numbering.rt` tells where each block of cells begins, by
+// the table of `arrivals.rt` for what comes in at each end; `places.rt` lists the ends. Then `placing.rt` places the
+// blocks in a pool that has room for all of them; `leaves.rt` names the nets that go into the circuit at an end,
+// `gates.rt` lays parts out, `tokens.rt` has the cells of a pulse and its number, and `outside.rt` makes the ports.
+#![tactic(auto)]
+
+mod arrivals;
+mod gates;
+mod laws;
+mod leaves;
+mod numbering;
+mod outside;
+mod places;
+mod placing;
+#[cfg(test)]
+mod tests;
+mod tokens;
+mod whole;
+
+pub use laws::{cycles_are_lists, gates_keep, laid_is_accepted, lists_of_facts, small_nets};
+pub use whole::{Policy, expand};
