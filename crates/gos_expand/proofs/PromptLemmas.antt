@@ -11,7 +11,7 @@ use Rattle.gos_netlist.specs.Events.{Direction}
 use Rattle.gos_netlist.specs.Settling.{Numbers, at}
 use Rattle.gos_model.specs.Flattening.{outputs}
 use Rattle.gos_plan.specs.Kinds.{Part, Contact, part_contacts}
-use Rattle.gos_plan.specs.Firing.{Slot, Req, Ans, rows, firing}
+use Rattle.gos_plan.specs.Firing.{Slot, Req, Ans, firing}
 use Rattle.gos_plan.specs.Plans.{End, PartEnd, Joint, Plan, contact_at, contacts_of_part, same_end}
 use Rattle.gos_plan.specs.Tokens.{Tokens, Element, Fire, Out, In, IsPortEnd, IsIdle, places_of, token_at, held_at, shake_of, way_of, way_taken, end_of, firing_of, Passes, Does}
 use Rattle.gos_plan.specs.Gates.{slot_in}
@@ -20,8 +20,9 @@ use Rattle.gos_plan.specs.Projection.{firings_of}
 use Rattle.gos_plan.specs.Accounts.{number, taken_at}
 use Rattle.gos_plan.specs.Cycles.{PartFiring, Made, fires_of, state_after, IsMadeSoon}
 use Rattle.gos_plan.specs.Cycles as cycles
-use Rattle.gos_plan.proofs.JointLemmas.{same_is}
-use Rattle.gos_plan.proofs.RowLemmas.{HasRole, role_taking, RowKeeps, row_with, table}
+use Rattle.gos_plan.proofs.JointLemmas.{same_is, joined}
+use Rattle.gos_plan.proofs.RowLemmas.{HasRole, role_taking}
+use Rattle.gos_plan.proofs.AskingLemmas.{RoleIs, row_roles}
 use Rattle.gos_expand.specs.Blocks.{Nets}
 use Rattle.gos_expand.specs.Starts.{ports_of, port_ends, bits_taken}
 use Rattle.gos_expand.specs.Facts.{Places, number_by, source, target, elements, bits_out_at, occurs, shown_elements, FactsMakeLists}
@@ -192,15 +193,23 @@ fire_soon p net n v0 v1 v2 regs a0 a1 a2 s after m0 m1 m2 vs ms i t three (x, r,
         by_place k h c is own there (ap (λ (z : Role). slot_in z h) role ∙ e)
         (subst (λ (z : Role). token_at p s (PartEnd i h) (way_taken z) ≡ Some x) (sym role) token) (places_of p (PartEnd i h)) refl
 
+    -- the token lies in a place, so the end stands in a joint, and has a handshake
+    by_joint : (k : Part) → slice_get p.parts i ≡ Some k → RoleIs k (shake_of t) (role_taking t) → (f : Option End) → places_of p (end_of i t) ≡ f
+        → HasRole k (shake_of t) (role_taking t)
+    by_joint k is role None none = let no : None ≡ Some x = sym (ap (held_at s (way_of t)) none) ∙ lies in absurd (cc no)
+    by_joint k is role (Some a) place =
+        let at_end = joined p (end_of i t) a three.zeroth.now.right place in
+        let own : slice_get (part_contacts k) (shake_of t) ≡ Some at_end.here =
+        subst (λ (f : Option Part). slice_get (contacts_of_part f) (shake_of t) ≡ Some at_end.here) is at_end.is_here in
+        (at_end.here, own, role at_end.here own)
+
     by_part : (f : Option Part) → slice_get p.parts i ≡ f → Soon
     by_part None none = absurd (grind (arith, none, fires))
     by_part (Some k) is =
         let row : firing k (s.state i) t ≡ Some r = subst (λ (f : Option Part). firing_of f (s.state i) t ≡ Some r) is fires in
-        let keeps =
-        row_with (RowKeeps k (s.state i) x) t (rows k (s.state i).phase (s.state i).number) r
-        (table k (s.state i).phase (s.state i).number x (three.zeroth.now.part_facts.unshared i k is)) row in
-        let has : HasRole k (shake_of t) (role_taking t) = subst (λ (y : Slot). HasRole k (shake_of y) (role_taking y)) keeps.0 keeps.1.0 in
-        by_slot k t refl is has lies
+        let roles = row_roles k (s.state i) t r x row in
+        let role : RoleIs k (shake_of t) (role_taking t) = subst (λ (y : Slot). RoleIs k (shake_of y) (role_taking y)) roles.0 roles.1.0 in
+        by_slot k t refl is (by_joint k is role (places_of p (end_of i t)) refl) lies
 
 out_soon : (p : Plan) (net : Netlist) (n : Places) (v0 v1 v2 regs a0 a1 a2 : Numbers) (s after : Tokens) (m0 m1 m2 : Made) (vs : List Numbers) (ms : List Made) (e : End) (x : ℕ)
     → Three p net n v0 v1 v2 regs a0 a1 a2 s m0 m1 m2 → Does p (Out e x) s after

@@ -2,17 +2,15 @@
 --
 -- Read first: PromptLemmas, that the facts of cycles make lists; RegisterLemmas, OnceLemmas and OutlineLemmas, that
 -- the netlist has these facts.
-use Rattle.std.specs.Prelude.{Option, All}
+use Rattle.std.specs.Prelude.{Option}
 use Rattle.std.proofs.Common.{◌≡◌, ℕ, zero, suc, ◌^◌, ◌<◌, ◌≤◌, List, [], ◌∷◌, map, Some, slice_get, length, replicate, refl, sym, ◌∙◌, ap, subst}
-use Rattle.gos_types.specs.Types.{Type'}
 use Rattle.gos_netlist.specs.Nets.{Cell}
 use Rattle.gos_netlist.specs.Settling.{Numbers, at, next_registers, Settling, RunFrom}
 use Rattle.gos_model.specs.Protocol.{IsInRange, InputsInRange}
-use Rattle.gos_plan.specs.Kinds.{Part, Share, Contact}
+use Rattle.gos_plan.specs.Kinds.{Part, Contact}
 use Rattle.gos_model.specs.Typing.{Imported}
 use Rattle.gos_plan.specs.Plans.{End, PartEnd, ImportEnd, ResultEnd, Plan, contact_at}
 use Rattle.gos_plan.specs.Tokens.{IsPortEnd}
-use Rattle.gos_plan.specs.Turns.{IsUnshared}
 use Rattle.gos_plan.specs.Seen.{SeenPlan, plan_of, part_of}
 use Rattle.gos_plan.specs.Ranges as ranges
 use Rattle.gos_plan.specs.Kept.{KeepLaws}
@@ -86,14 +84,13 @@ follow_run p root (i ∷ ins) (v ∷ vs) regs fits differ range run = (
 )
 
 -- the parts of a plan that can be laid out
-part_facts : (p : SeenPlan) (root : List ℕ) → CanBeLaid p root → All IsUnshared (plan_of p).parts → PartFacts (plan_of p)
-part_facts p root can alone =
+part_facts : (p : SeenPlan) (root : List ℕ) → CanBeLaid p root → PartFacts (plan_of p)
+part_facts p root can =
     record {
       gates = λ i k is.
           let found = mapped_found part_of p.parts i k is in
           let keeps = all_gates found.0 (one_of_all ranges.IsInRange p.parts i found.0 can.in_range.of_parts found.1) in
           subst (λ (x : Part). KeepLaws x (layout x) (outs_of x) (late_of x) (pending_of x) (stands_of x)) found.2 keeps;
-      unshared = λ i k is. one_of_all IsUnshared (plan_of p).parts i k alone is;
       literals = literals_fit p.parts can.in_range.of_parts;
     }
 
@@ -111,11 +108,11 @@ all_zero (suc m) zero = refl
 all_zero (suc m) (suc n) = all_zero m n
 
 pub laid_makes_lists : LaidMakesLists
-laid_makes_lists p root ins vs can alone range run =
+laid_makes_lists p root ins vs can range run =
     let plan : Plan = plan_of p in
     let fits : IsSound plan = sound p root can in
     let differ : AreDifferent (root ∷ map (λ (x : Imported). x.name) plan.imports) =
     subst (λ (names : List (List ℕ)). AreDifferent (root ∷ names)) (same_names p.imports) can.names in
     let regs : Numbers = replicate (length (laid_cells keep_all plan)) 0 in
-    facts_make_lists plan (laid keep_all plan root) (places_in plan) regs vs can.right (part_facts p root can alone) (plan_facts plan)
+    facts_make_lists plan (laid keep_all plan root) (places_in plan) regs vs can.right (part_facts p root can) (plan_facts plan)
     (all_zero (length (laid_cells keep_all plan))) (follow_run plan root ins vs regs fits differ range run)

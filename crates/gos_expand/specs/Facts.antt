@@ -9,7 +9,6 @@ use Rattle.gos_model.specs.Flattening.{outputs, inputs}
 use Rattle.gos_plan.specs.Kinds.{Part, Contact}
 use Rattle.gos_plan.specs.Plans.{End, PartEnd, Joint, Plan, IsRight, contact_at, same_end}
 use Rattle.gos_plan.specs.Tokens.{Element, Out, In, IsPortEnd, places_of, bits_of, way_put}
-use Rattle.gos_plan.specs.Turns.{IsUnshared}
 use Rattle.gos_plan.specs.TokenBits.{LiteralFits}
 use Rattle.gos_plan.specs.Gates.{Incoming, Settled}
 use Rattle.gos_plan.specs.Kept.{KeepLaws}
@@ -129,7 +128,6 @@ pub record PartFacts (p : Plan) : Type 0 where
   pub gates :
       (i : ℕ) (k : Part) → slice_get p.parts i ≡ Some k
       → KeepLaws k (layout k) (outs_of k) (late_of k) (pending_of k) (stands_of k)
-  pub unshared : (i : ℕ) (k : Part) → slice_get p.parts i ≡ Some k → IsUnshared k
   pub literals : All LiteralFits p.parts
 
 -- Cycles of which this is so, from registers that are all 0, are lists of the plan.

@@ -32,8 +32,8 @@ pub fn lists_of_facts()
     ensures { FactsMakeLists }
 {}
 
-/// The cycles of the netlist of a plan without a Share that can be laid out, with a register in each direction of each
-/// joint, are lists of the plan, and prompt.
+/// The cycles of the netlist of a plan that can be laid out, with a register in each direction of each joint, are
+/// lists of the plan, and prompt.
 pub fn cycles_are_lists()
     ensures { LaidMakesLists }
 {}

@@ -7,7 +7,6 @@ ghost use Rattle.gos_plan.specs.Size.{plan_size};
 ghost use Rattle.gos_expand.specs.Starts.{keep_all};
 ghost use Rattle.gos_expand.specs.Laid.{laid};
 ghost use Rattle.gos_expand.specs.Acceptance.{AreDifferent};
-ghost use Rattle.gos_expand.specs.Numbering.{IsExpandable};
 
 use crate::numbering::number;
 use crate::outside::ports;

@@ -71,12 +71,12 @@ unshared_rows k p n v u =
     (λ r keeps. (having k (shake_of r.takes) (role_taking r.takes) keeps.0, putting k (r.puts v) _ _ keeps.1)) (table k p n v u)
 
 -- where the handshakes of a Share stand: the source's, and behind them those of each caller
-front : (xs ys : List Contact) (j : ℕ) (c : Contact) → slice_get xs j ≡ Some c → slice_get (xs ++ ys) j ≡ Some c
+pub front : (xs ys : List Contact) (j : ℕ) (c : Contact) → slice_get xs j ≡ Some c → slice_get (xs ++ ys) j ≡ Some c
 front [] ys j c e = absurd (grind (arith, e))
 front (x ∷ xs) ys zero c e = e
 front (x ∷ xs) ys (suc j) c e = front xs ys j c e
 
-behind : (xs ys : List Contact) (m n : ℕ) → n ≡ length xs + m → slice_get (xs ++ ys) n ≡ slice_get ys m
+pub behind : (xs ys : List Contact) (m n : ℕ) → n ≡ length xs + m → slice_get (xs ++ ys) n ≡ slice_get ys m
 behind [] ys m n e = let same : n ≡ m = omega (arith, e) in ap (slice_get ys) same
 behind (x ∷ xs) ys m zero e = absurd (omega (arith, e))
 behind (x ∷ xs) ys m (suc n) e = behind xs ys m n (omega (arith, e))

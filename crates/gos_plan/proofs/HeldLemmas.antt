@@ -39,7 +39,7 @@ not_two true v w (inl some) = cc some
 not_two true v w (inr some) = cc some
 
 -- a token is taken
-nothing_there : (p : Plan) (e : End) (way : Direction) (v : ℕ) (s : Tokens) → token_at p s e way ≡ Some v → places_of p e ≡ None → ⊥
+pub nothing_there : (p : Plan) (e : End) (way : Direction) (v : ℕ) (s : Tokens) → token_at p s e way ≡ Some v → places_of p e ≡ None → ⊥
 nothing_there p e way v s lies none = let no : None ≡ Some v = sym (ap (held_at s way) none) ∙ lies in cc no
 
 pub taken : (p : Plan) (e : End) (way : Direction) (v : ℕ) (o : Open) (s : Tokens) → token_at p s e way ≡ Some v → AllFit o s
@@ -129,7 +129,7 @@ takes t (x ∷ xs) r e =
       | inr later ↦ takes t xs r later
     ]
 
-takes_of : (f : Option Part) (q : State) (t : Slot) (r : Row) → firing_of f q t ≡ Some r → r.takes ≡ t
+pub takes_of : (f : Option Part) (q : State) (t : Slot) (r : Row) → firing_of f q t ≡ Some r → r.takes ≡ t
 takes_of None q t r e = absurd (cc e)
 takes_of (Some k) q t r e = takes t (rows k q.phase q.number) r e
 

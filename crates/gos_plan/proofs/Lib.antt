@@ -1,11 +1,11 @@
 pub mod JointLemmas
 pub mod BalanceLemmas
 pub mod RowLemmas
-mod TurnLemmas
-mod HeldLemmas
+pub mod TurnLemmas
+pub mod HeldLemmas
 pub mod DecidedLemmas
-mod AskingLemmas
-mod ProjectionLemmas
+pub mod AskingLemmas
+pub mod ProjectionLemmas
 mod RowBitsLemmas
 pub mod TokenBitsLemmas
 mod PlaceLemmas

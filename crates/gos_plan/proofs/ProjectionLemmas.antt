@@ -37,7 +37,7 @@ by_itself p e right asks = by_place (places_of p e) refl
             absurd (asks _ (ap (contact_at p) is ∙ fit.3) refl)
 
 -- so the names are those of its own ends
-named : (p : Plan) (i h : ℕ) (k : Part) → IsRight p → slice_get p.parts i ≡ Some k → NotServing k h → handshake_at p (PartEnd i h) ≡ PartEnd i h
+pub named : (p : Plan) (i h : ℕ) (k : Part) → IsRight p → slice_get p.parts i ≡ Some k → NotServing k h → handshake_at p (PartEnd i h) ≡ PartEnd i h
 named p i h k right is asks =
     by_itself p (PartEnd i h) right
     (λ c there serves. asks c (subst (λ (o : Option Part). slice_get (contacts_of_part o) h ≡ Some c) is there) serves)
@@ -54,7 +54,7 @@ at_port (ImportEnd j h) i g b o port = refl
 at_port (ResultEnd h) i g b o port = refl
 
 -- what a part takes and puts opens and closes its own handshakes
-taken_own : (p : Plan) (i : ℕ) (k : Part) (t : Slot) (o : Open) → IsRight p → slice_get p.parts i ≡ Some k → TakesAsking k t
+pub taken_own : (p : Plan) (i : ℕ) (k : Part) (t : Slot) (o : Open) → IsRight p → slice_get p.parts i ≡ Some k → TakesAsking k t
     → (g : ℕ) → after_taken p (end_of i t) (way_of t) o (PartEnd i g) ≡ after_taking t (asked_by i o) g
 taken_own p i k (Req h) o right is asks g = refl
 taken_own p i k (Ans h) o right is asks g =
@@ -81,7 +81,7 @@ puts_own p i k (t ∷ ts) o a s right is asks same well =
     ((first.0.0, rest.0), rest.1)
 
 -- and leaves those of other parts
-taken_other : (p : Plan) (i j : ℕ) (k : Part) (t : Slot) (o : Open) → IsRight p → slice_get p.parts j ≡ Some k → TakesAsking k t
+pub taken_other : (p : Plan) (i j : ℕ) (k : Part) (t : Slot) (o : Open) → IsRight p → slice_get p.parts j ≡ Some k → TakesAsking k t
     → nat_eq i j ≡ false → (g : ℕ) → after_taken p (end_of j t) (way_of t) o (PartEnd i g) ≡ o (PartEnd i g)
 taken_other p i j k (Req h) o right is asks apart g = refl
 taken_other p i j k (Ans h) o right is asks apart g =
@@ -93,7 +93,7 @@ put_other p i j k (Req h) o right is asks apart g =
     subst (λ (e : End). with_open e true o (PartEnd i g) ≡ o (PartEnd i g)) (sym (named p j h k right is asks)) (other i j h g true o apart)
 put_other p i j k (Ans h) o right is asks apart g = refl
 
-puts_other : (p : Plan) (i j : ℕ) (k : Part) (ts : List Token) (o : Open) → IsRight p → slice_get p.parts j ≡ Some k → PutsAsking k ts
+pub puts_other : (p : Plan) (i j : ℕ) (k : Part) (ts : List Token) (o : Open) → IsRight p → slice_get p.parts j ≡ Some k → PutsAsking k ts
     → nat_eq i j ≡ false → (g : ℕ) → after_puts p j ts o (PartEnd i g) ≡ o (PartEnd i g)
 puts_other p i j k [] o right is asks apart g = refl
 puts_other p i j k (t ∷ ts) o right is asks apart g =
@@ -106,7 +106,7 @@ port_by_itself p e c right there role =
     by_itself p e right (λ d also serves. let same : c ≡ d = cc (there, also) in
     let no : Ask ≡ Serve = sym role ∙ (ap (λ (x : Contact). x.role) same ∙ serves) in cc no)
 
-taken_port : (p : Plan) (i : ℕ) (e : End) (c : Contact) (o : Open) → IsRight p → IsPortEnd e → contact_at p e ≡ Some c
+pub taken_port : (p : Plan) (i : ℕ) (e : End) (c : Contact) (o : Open) → IsRight p → IsPortEnd e → contact_at p e ≡ Some c
     → (g : ℕ) → after_taken p e (way_taken c.role) o (PartEnd i g) ≡ o (PartEnd i g)
 taken_port p i e c o right port there g = of_role c.role refl
   where
@@ -115,7 +115,7 @@ taken_port p i e c o right port there g = of_role c.role refl
     of_role Ask is =
         subst (λ (d : End). with_open d false o (PartEnd i g) ≡ o (PartEnd i g)) (sym (port_by_itself p e c right there is)) (at_port e i g false o port)
 
-put_port : (p : Plan) (i : ℕ) (e : End) (c : Contact) (o : Open) → IsRight p → IsPortEnd e → contact_at p e ≡ Some c
+pub put_port : (p : Plan) (i : ℕ) (e : End) (c : Contact) (o : Open) → IsRight p → IsPortEnd e → contact_at p e ≡ Some c
     → (g : ℕ) → after_put p e (way_put c.role) o (PartEnd i g) ≡ o (PartEnd i g)
 put_port p i e c o right port there g = of_role c.role refl
   where
