@@ -1,0 +1,15 @@
+mod RowLemmas
+mod TableLemmas
+mod NodeLemmas
+mod WalkLemmas
+mod JoinLemmas
+mod FarLemmas
+mod CodeLemmas
+mod ContactLemmas
+mod JointLemmas
+mod PlanLemmas
+mod TallyLemmas
+mod ThinLemmas
+mod RightLemmas
+mod RangeLemmas
+mod SmallPlanLemmas

@@ -1,0 +1,27 @@
+-- Rows of points grow at their end; and how many handshakes a type has.
+use Rattle.std.specs.Prelude.{◌≡◌, ℕ, zero, suc, ◌+◌, List, [], ◌∷◌, ◌++◌}
+use Rattle.std.proofs.Common.{refl, ap, ◌∙◌, append_assoc, arith, length-append}
+use Rattle.std.proofs.lemmas.List.{length-map}
+use Rattle.gos_types.specs.Types.{Type', Pair, Fun}
+use Rattle.gos_compile.specs.declared.points.Place.{Place}
+use Rattle.gos_compile.specs.declared.points.Point.{Point}
+use Rattle.gos_compile.specs.Regular.{count}
+use Rattle.gos_compile.specs.Wiring.{point, row}
+
+row_longer : (place : Place) (h n k : ℕ) → k ≡ h + n → row place h n ++ point place k ∷ [] ≡ row place h (suc n)
+row_longer place h zero k e = ap (λ (g : ℕ). point place g ∷ []) (let f : k ≡ h = omega (arith, e) in f)
+row_longer place h (suc n) k e = ap (λ (ps : List Point). point place h ∷ ps) (row_longer place (suc h) n k (omega (arith, e)))
+
+-- one point more
+pub row_more : (place : Place) (n m : ℕ) (start points : List Point) → m ≡ n + 1 → points ≡ start ++ row place 0 n
+    → points ++ point place n ∷ [] ≡ start ++ row place 0 m
+row_more place n m start points e is =
+    let f : m ≡ suc n = omega (arith, e) in
+    rw (is, f) (append_assoc start (row place 0 n) (point place n ∷ []) ∙ ap (λ (ps : List Point). start ++ ps) (row_longer place 0 n n (omega arith)))
+
+-- a product and a function have the handshakes of both sides
+pub count_pair : (a b : Type') → count (Pair a b) ≡ count a + count b
+count_pair a b = simp (length-append, length-map) refl
+
+pub count_fun : (a b : Type') → count (Fun a b) ≡ count a + count b
+count_fun a b = simp (length-append, length-map) refl

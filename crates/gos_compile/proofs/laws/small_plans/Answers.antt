@@ -1,0 +1,11 @@
+use Rattle.gos_compile.proofs.SmallPlanLemmas.{skip_is_planned, same_is_planned, both_is_planned}
+use Rattle.gos_compile.proofs.laws.small_plans.Goals as goal
+
+pub returns-clause-skip : goal.returns-clause-skip
+returns-clause-skip c = skip_is_planned
+
+pub returns-clause-same : goal.returns-clause-same
+returns-clause-same c = same_is_planned
+
+pub returns-clause-both : goal.returns-clause-both
+returns-clause-both c = both_is_planned

@@ -1,0 +1,98 @@
+use Rattle.std.proofs.Common.{ap, sym, subst, ◌∙◌, ◌≡◌, map, List}
+use Rattle.gos_types.specs.declared.types.Ty.{Ty}
+use Rattle.gos_types.specs.Types.{type_of}
+use Rattle.gos_syntax.specs.Modules.{SeenImport}
+use Rattle.gos_model.specs.Typing.{Imports}
+use Rattle.gos_model.specs.Sources as sources
+use Rattle.gos_check.specs.Nodes.{Numbered, node_seen}
+use Rattle.gos_plan.specs.Seen.{SeenPlan, part_of, import_of, joint_of}
+use Rattle.gos_compile.specs.declared.points.Tie.{Tie}
+use Rattle.gos_compile.specs.Wiring.{all_parts, all_ties}
+use Rattle.gos_compile.specs.Found.{AreTables, all_found, bare, far_by}
+use Rattle.gos_compile.specs.Counted.{IsThin}
+use Rattle.gos_compile.proofs.ThinLemmas.{thin}
+use Rattle.gos_check.specs.Checked.{program_in}
+use Rattle.gos_compile.proofs.RangeLemmas.{in_range}
+use Rattle.gos_compile.proofs.RightLemmas.{right_joints, no_fault}
+use Rattle.gos_compile.proofs.PlanLemmas.{is_plan}
+use Rattle.gos_compile.proofs.plans.compile.Goals as goal
+
+pub tables_of-requires : goal.tables_of-requires
+tables_of-requires c =
+    let ties : c.in_ok-wires.wires.ties.items ≡ all_ties (program_in c.args.program.now).imports (node_seen c.args.program.now.term) =
+    c.in_ok-wires.ensures.ties ∙ (λ i. all_ties (map sources.import_of (c.imports.ensures i)) (node_seen (c.term.ensures.value i)))
+    in
+    subst (λ (ts : List Tie). IsThin ts) (sym (c.deref.ensures.value ∙ ties))
+    (thin (program_in c.args.program.now) (node_seen c.args.program.now.term) c.term.ensures.checked.term)
+
+pub returns-in-Ok : goal.returns-in-Ok
+returns-in-Ok c =
+    let is : Imports = map sources.import_of c.args.program.now.imports in
+    let m : Numbered = node_seen c.args.program.now.term in
+    let s : SeenPlan = c.in-Ok.plan in
+    let ts : List Tie = c.in_ok-wires.wires.ties.items in
+    let e = c.in-Ok.ensures.plan in
+    let imports : map import_of s.imports ≡ is =
+    ap (λ (p : SeenPlan). map import_of p.imports) e
+    ∙ (c.in_ok-imports.ensures ∙ ap (λ (is : List SeenImport). map sources.import_of is) c.imports-2.ensures)
+    in
+    let outcome : type_of s.outcome ≡ type_of c.args.program.now.result =
+    ap (λ (p : SeenPlan). type_of p.outcome) e ∙ (c.in_ok-outcome.ensures ∙ ap (λ (t : Ty). type_of t) c.result.ensures)
+    in
+    let weight : s.weight ≡ c.args.program.now.weight = ap (λ (p : SeenPlan). p.weight) e ∙ c.weight.ensures in
+    let parts : map part_of s.parts ≡ all_parts is m =
+    ap (λ (p : SeenPlan). map part_of p.parts) e
+    ∙ (c.in_ok-wires.ensures.parts ∙ (λ i. all_parts (map sources.import_of (c.imports.ensures i)) (node_seen (c.term.ensures.value i))))
+    in
+    let ties : ts ≡ all_ties is m =
+    c.in_ok-wires.ensures.ties ∙ (λ i. all_ties (map sources.import_of (c.imports.ensures i)) (node_seen (c.term.ensures.value i)))
+    in
+    let known : AreTables ts c.in_ok-tables.tables =
+    subst (λ (us : List Tie). AreTables us c.in_ok-tables.tables) c.deref.ensures.value c.in_ok-tables.ensures
+    in
+    let found : map joint_of s.joints ≡ all_found (bare s.imports s.outcome s.parts) (far_by c.in_ok-tables.tables) ts =
+    ap (λ (p : SeenPlan). map joint_of p.joints) e
+    ∙ (c.in_ok-joints.ensures
+    ∙ ((λ i. all_found (bare (c.deref-2.ensures.value i) c.in_ok-outcome.outcome (c.deref-3.ensures.value i)) (far_by c.in_ok-tables.tables) (c.deref-4.ensures.value i))
+    ∙ sym (ap (λ (p : SeenPlan). all_found (bare p.imports p.outcome p.parts) (far_by c.in_ok-tables.tables) ts) e)))
+    in
+    record {
+      plan = is_plan is (type_of c.args.program.now.result) c.args.program.now.weight m s ts c.in_ok-tables.tables imports outcome weight parts
+          c.in-Ok.ensures.right ties known found;
+    }
+
+pub make-requires : goal.make-requires
+make-requires c =
+    in_range c.types_of_terms.ensures.node c.args.program.now c.term.ensures.checked c.in_ok-imports.imports.items c.in_ok-outcome.outcome
+    c.in_ok-wires.wires.parts.items
+    (c.in_ok-imports.ensures ∙ ap (λ (is : List SeenImport). map sources.import_of is) c.imports-2.ensures)
+    (c.in_ok-outcome.ensures ∙ ap (λ (t : Ty). type_of t) c.result.ensures)
+    (c.in_ok-wires.ensures.parts ∙ (λ i. all_parts (map sources.import_of (c.imports.ensures i)) (node_seen (c.term.ensures.value i))))
+    c.in_ok-wires.ensures.plain
+
+pub only_memory-requires : goal.only_memory-requires
+only_memory-requires c =
+    let s : SeenPlan =
+    record {
+      weight = c.weight.result;
+      imports = c.in_ok-imports.imports.items;
+      outcome = c.in_ok-outcome.outcome;
+      parts = c.in_ok-wires.wires.parts.items;
+      joints = c.in_ok-joints.joints.items;
+    }
+    in
+    let ts : List Tie = c.in_ok-wires.wires.ties.items in
+    let ties : ts ≡ all_ties (program_in c.args.program.now).imports (node_seen c.args.program.now.term) =
+    c.in_ok-wires.ensures.ties ∙ (λ i. all_ties (map sources.import_of (c.imports.ensures i)) (node_seen (c.term.ensures.value i)))
+    in
+    let thin_ties : IsThin ts =
+    subst (λ (us : List Tie). IsThin us) (sym ties) (thin (program_in c.args.program.now) (node_seen c.args.program.now.term) c.term.ensures.checked.term)
+    in
+    let known : AreTables ts c.in_ok-tables.tables =
+    subst (λ (us : List Tie). AreTables us c.in_ok-tables.tables) c.deref.ensures.value c.in_ok-tables.ensures
+    in
+    let found : map joint_of s.joints ≡ all_found (bare s.imports s.outcome s.parts) (far_by c.in_ok-tables.tables) ts =
+    c.in_ok-joints.ensures
+    ∙ (λ i. all_found (bare (c.deref-2.ensures.value i) c.in_ok-outcome.outcome (c.deref-3.ensures.value i)) (far_by c.in_ok-tables.tables) (c.deref-4.ensures.value i))
+    in
+    no_fault s c.in-Err.fault (right_joints s ts c.in_ok-tables.tables thin_ties known found) c.in-Err.ensures.fault

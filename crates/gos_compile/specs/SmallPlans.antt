@@ -1,0 +1,54 @@
+-- Small modules and their plans.
+--
+-- Read first: Wiring, Realises.
+use Rattle.std.specs.Prelude.{List, [], ◌∷◌, codes}
+use Rattle.gos_types.specs.Types.{Com, Fun}
+use Rattle.gos_model.specs.Terms as terms
+use Rattle.gos_model.specs.Typing.{Imported}
+use Rattle.gos_check.specs.Nodes.{Numbered, Closed, Use, Under, Two, OfFun, OfSeq}
+use Rattle.gos_plan.specs.Kinds.{Skip, Seq}
+use Rattle.gos_plan.specs.Plans.{PartEnd, ImportEnd, ResultEnd, Plan}
+use Rattle.gos_compile.specs.Wiring.{joint, IsPlanOf}
+use Rattle.gos_compile.specs.Realises.{Realises}
+
+-- the plan of `skip`
+abbrev pub skip_plan : Plan
+skip_plan =
+    record { weight = 5; imports = []; outcome = Com; parts = Skip ∷ []; joints = joint (ResultEnd 0) (PartEnd 0 0) ∷ [] }
+
+abbrev pub SkipIsPlanned : Type 0
+SkipIsPlanned = IsPlanOf [] Com 5 (Closed Com [] terms.Skip) skip_plan
+
+abbrev pub SkipIsRealised : Type 0
+SkipIsRealised = Realises Com skip_plan terms.Skip
+
+-- `fun a : com . a`, and its plan: the outcome's handshake asks at the argument's
+abbrev pub same_term : Numbered
+same_term = Under (Fun Com Com) [] OfFun 0 (Use Com [] 0)
+
+abbrev pub same_plan : Plan
+same_plan =
+    record { weight = 11; imports = []; outcome = Fun Com Com; parts = []; joints = joint (ResultEnd 1) (ResultEnd 0) ∷ [] }
+
+abbrev pub SameIsPlanned : Type 0
+SameIsPlanned = IsPlanOf [] (Fun Com Com) 11 same_term same_plan
+
+-- `import c : com; import d : com; c ; d`, and its plan
+abbrev pub two_imports : List Imported
+two_imports = record { name = codes "c"; ty = Com } ∷ record { name = codes "d"; ty = Com } ∷ []
+
+abbrev pub both_term : Numbered
+both_term = Two Com [] OfSeq (Use Com [] 0) (Use Com [] 1)
+
+abbrev pub both_plan : Plan
+both_plan =
+    record {
+      weight = 17;
+      imports = two_imports;
+      outcome = Com;
+      parts = Seq 0 ∷ [];
+      joints = joint (ResultEnd 0) (PartEnd 0 2) ∷ joint (PartEnd 0 0) (ImportEnd 0 0) ∷ joint (PartEnd 0 1) (ImportEnd 1 0) ∷ [];
+    }
+
+abbrev pub BothIsPlanned : Type 0
+BothIsPlanned = IsPlanOf two_imports Com 17 both_term both_plan

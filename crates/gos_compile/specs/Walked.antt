@@ -1,0 +1,100 @@
+-- What a walk over a term has made so far, and what each step adds. What it is in the end say `wired_parts` and
+-- `wired_ties` (WalkLemmas).
+--
+-- Read first: Wiring. Between the functions of this crate.
+use Rattle.std.specs.Prelude.{ℕ, suc, Bool, true, not, nat_eq, List, [], ◌∷◌, ◌++◌, length, map}
+use Rattle.std.specs.List.{list_all}
+use Rattle.gos_model.specs.Sources.{op_of}
+use Rattle.gos_check.specs.declared.linear.Split.{Split}
+use Rattle.gos_check.specs.Nodes.{Numbered, Closed, Use, Under, One, Two, If, OneForm, OfFst, OfSnd, OfDeref, OfNot, TwoForm, OfApp, OfBoth, OfSeq, OfPar, OfWhile, OfAssign, OfBin}
+use Rattle.gos_plan.specs.Kinds as kinds
+use Rattle.gos_plan.specs.Kinds.{Part}
+use Rattle.gos_plan.specs.declared.kinds.Kind.{Kind}
+use Rattle.gos_plan.specs.declared.kinds.Kind.TheVariants as declared_kinds
+use Rattle.gos_plan.specs.Seen.{part_of}
+use Rattle.gos_compile.specs.declared.points.Place.TheVariants as places
+use Rattle.gos_compile.specs.declared.points.Point.{Point}
+use Rattle.gos_compile.specs.declared.points.Tie.{Tie}
+use Rattle.gos_compile.specs.declared.wires.Wires.{Wires}
+use Rattle.gos_compile.specs.declared.forms.OneRule.{OneRule}
+use Rattle.gos_compile.specs.declared.forms.OneRule.TheVariants as one
+use Rattle.gos_compile.specs.declared.forms.TwoRule.{TwoRule}
+use Rattle.gos_compile.specs.declared.forms.TwoRule.TheVariants as two
+use Rattle.gos_compile.specs.Regular.{count}
+use Rattle.gos_compile.specs.Wiring.{Types, point, led, share_ties, type_of_node, answer_bits, closed_part, binder_part, one_part, two_part, binder_ties, one_ties, two_ties, binder_out, one_out, first_out, second_out}
+
+-- the parts and the ties so far, how many nodes were met, and whether each sequence and each choice of expressions has bits
+pub record Wired : Type 0 where
+  pub parts : List Part
+  pub ties : List Tie
+  pub nodes : ℕ
+  pub plain : Bool
+
+-- a sequence or a choice of expressions has bits
+abbrev pub is_plain : Kind → Bool
+is_plain (declared_kinds.SeqExp w) = not (nat_eq w 0)
+is_plain (declared_kinds.IfExp w) = not (nat_eq w 0)
+is_plain k = true
+
+abbrev pub seen : Wires → Wired
+seen w =
+    record { parts = map part_of w.parts.items; ties = w.ties.items; nodes = w.nodes; plain = list_all is_plain w.parts.items }
+
+-- the forms of the program
+abbrev pub one_form : OneRule → OneForm
+one_form one.First = OfFst
+one_form one.Second = OfSnd
+one_form one.Reading = OfDeref
+one_form one.Negation = OfNot
+
+abbrev pub two_form : TwoRule → TwoForm
+two_form two.Application = OfApp
+two_form two.Product = OfBoth
+two_form two.Sequence = OfSeq
+two_form two.Parallel = OfPar
+two_form two.Loop = OfWhile
+two_form two.Assignment = OfAssign
+two_form (two.Operation op) = OfBin (op_of op)
+
+-- the number that the next part has
+abbrev pub next_part : Wired → ℕ
+next_part w = length w.parts
+
+-- after a node's own part, or none, and its ties
+abbrev pub with_own : List Part → List Tie → Wired → Wired
+with_own parts ties w = record { parts = w.parts ++ parts; ties = w.ties ++ ties; nodes = suc w.nodes; plain = w.plain }
+
+-- after the Shares of splits
+abbrev pub with_share : Types → Split → Wired → Wired
+with_share types s w =
+    record {
+      parts = w.parts ++ kinds.Share (types s.of) ∷ [];
+      ties = w.ties ++ share_ties (length w.parts) (count (types s.of)) s;
+      nodes = w.nodes;
+      plain = w.plain;
+    }
+
+abbrev pub with_shares : Types → List Split → Wired → Wired
+with_shares types [] w = w
+with_shares types (s ∷ ss) w = with_shares types ss (with_share types s w)
+
+-- after a term whose handshakes lead to `out`
+abbrev pub wired : Types → Numbered → List Point → Wired → Wired
+wired types (Closed t ss c) out w =
+    with_own (closed_part c) (led out (places.Part (next_part (with_shares types ss w))) 0) (with_shares types ss w)
+wired types (Use t ss n) out w = with_own [] (led out (places.Number n) 0) (with_shares types ss w)
+wired types (Under t ss b n m) out w =
+    wired types m (binder_out b t (next_part (with_shares types ss w)) out)
+    (with_own (binder_part b t) (binder_ties b t (next_part (with_shares types ss w)) n out) (with_shares types ss w))
+wired types (One t ss f m) out w =
+    wired types m (one_out f t (type_of_node m) (next_part (with_shares types ss w)) (with_shares types ss w).nodes out)
+    (with_own (one_part f t) (one_ties f (next_part (with_shares types ss w)) out) (with_shares types ss w))
+wired types (Two t ss f m n) out w =
+    wired types n (second_out f (type_of_node m) (type_of_node n) (next_part (with_shares types ss w)) (with_shares types ss w).nodes out)
+    (wired types m (first_out f (type_of_node m) (type_of_node n) (next_part (with_shares types ss w)) (with_shares types ss w).nodes out)
+    (with_own (two_part f t (type_of_node n)) (two_ties f (next_part (with_shares types ss w)) out) (with_shares types ss w)))
+wired types (If t ss m n p) out w =
+    wired types p (point (places.Part (next_part (with_shares types ss w))) 2 ∷ [])
+    (wired types n (point (places.Part (next_part (with_shares types ss w))) 1 ∷ [])
+    (wired types m (point (places.Part (next_part (with_shares types ss w))) 0 ∷ [])
+    (with_own (kinds.If (answer_bits t) ∷ []) (led out (places.Part (next_part (with_shares types ss w))) 3) (with_shares types ss w))))

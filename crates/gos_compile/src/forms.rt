@@ -1,0 +1,252 @@
+// The forms of one part and of two: the own part of each, and where the handshakes of its parts lead.
+
+ghost use Rattle.std.specs.Prelude.{◌≡◌, ◌∷◌, [], ◌++◌, take, drop, IsTrue, IfOk, OnOk};
+ghost use Rattle.gos_types.specs.Types.{type_of};
+ghost use Rattle.gos_plan.specs.Kinds as kinds;
+ghost use Rattle.gos_plan.specs.Seen.{part_of, operation_of};
+ghost use Rattle.gos_model.specs.Sources.{op_of};
+ghost use Rattle.gos_compile.specs.Walked.{seen, is_plain, next_part, with_own, one_form, two_form};
+ghost use Rattle.gos_compile.specs.Wiring.{point, row, answer_bits, one_part, two_part, one_ties, two_ties, one_out, first_out, second_out, operation};
+
+use crate::points::{Place, Point, add_row, answer_bits, row, shakes};
+use crate::wires::Wires;
+use gos_plan::{Kind, Op2};
+use gos_syntax::Op;
+use gos_types::{NoMemory, Ty};
+use std::alloc::Global;
+
+// A form of one part.
+#[derive(Clone, Copy)]
+pub(crate) enum OneRule {
+    First,
+    Second,
+    Reading,
+    Negation,
+}
+
+// A form of two parts.
+#[derive(Clone, Copy)]
+pub(crate) enum TwoRule {
+    Application,
+    Product,
+    Sequence,
+    Parallel,
+    Loop,
+    Assignment,
+    Operation(Op),
+}
+
+// A sequence that ends with a command, where bits is 0, or with an expression.
+fn sequence(bits: u32) -> Kind
+    ensures part { part_of result ≡ kinds.Seq bits }
+    ensures plain { IsTrue (is_plain result) }
+{
+    if bits == 0 {
+        Kind::Seq
+    } else {
+        Kind::SeqExp { w: bits }
+    }
+}
+
+// A choice of commands, where bits is 0, or of expressions.
+pub(crate) fn choice(bits: u32) -> Kind
+    ensures part { part_of result ≡ kinds.If bits }
+    ensures plain { IsTrue (is_plain result) }
+{
+    if bits == 0 {
+        Kind::If
+    } else {
+        Kind::IfExp { w: bits }
+    }
+}
+
+// What an operator computes.
+fn operation(op: Op) -> Op2
+    ensures { operation_of result ≡ operation (op_of op) }
+{
+    match op {
+        Op::Add => Op2::Add,
+        Op::Sub => Op2::Sub,
+        Op::And => Op2::And,
+        Op::Or => Op2::Or,
+        Op::Xor => Op2::Xor,
+        Op::Eq => Op2::Eq,
+        Op::Less => Op2::Less,
+    }
+}
+
+// One point.
+pub(crate) fn one_point(alloc: Global, place: Place, shake: u32) -> Result<Vec<Point>, NoMemory>
+    ensures { IfOk result (λ points. points.items ≡ point place shake ∷ []) }
+{
+    Ok(vec![in alloc; Point { place, shake }]?)
+}
+
+// Two points.
+fn two_points(alloc: Global, one: Point, other: Point) -> Result<Vec<Point>, NoMemory>
+    ensures { IfOk result (λ points. points.items ≡ one ∷ other ∷ []) }
+{
+    Ok(vec![in alloc; one, other]?)
+}
+
+// The first n points, or all of them.
+pub(crate) fn front(points: &[Point], n: u32) -> &[Point]
+    ensures { result.now ≡ take n points.now }
+{
+    let n = n as usize;
+    if n < points.len() {
+        &points[..n]
+    } else {
+        points
+    }
+}
+
+// The points behind the first n.
+pub(crate) fn rest(points: &[Point], n: u32) -> &[Point]
+    ensures { result.now ≡ drop n points.now }
+{
+    let n = n as usize;
+    if n < points.len() { &points[n..] } else { &[] }
+}
+
+// Points, and behind them so many of a place.
+fn before_row(alloc: Global, points: &[Point], place: Place, n: u32) -> Result<Vec<Point>, NoMemory>
+    ensures { IfOk result (λ all. all.items ≡ points.now ++ row place 0 n) }
+{
+    let mut all = points.to_vec(alloc)?;
+    add_row(&mut all, place, n)?;
+    Ok(all)
+}
+
+// So many points of a place, and behind them others.
+fn behind_row(alloc: Global, place: Place, n: u32, points: &[Point]) -> Result<Vec<Point>, NoMemory>
+    ensures { IfOk result (λ all. all.items ≡ row place 0 n ++ points.now) }
+{
+    let mut all = row(alloc, place, n)?;
+    all.extend_from_slice(points)?;
+    Ok(all)
+}
+
+impl OneRule {
+    // Adds the own part of a form whose node has this type.
+    pub fn own(self, ty: &Ty, out: &[Point], wires: &mut Wires) -> Result<(), NoMemory>
+        ensures { OnOk result (seen wires.new ≡ with_own (one_part (one_form self) (type_of ty.now)) (one_ties (one_form self) (next_part (seen wires.old)) out.now) (seen wires.old)) }
+    {
+        let w = answer_bits(ty);
+        match self {
+            OneRule::First | OneRule::Second => wires.pass(),
+            OneRule::Reading => wires.own(Kind::Deref { w }, out, 1),
+            OneRule::Negation => wires.own(Kind::Not { w }, out, 1),
+        }
+    }
+
+    // Where the handshakes of its part lead.
+    pub fn out(
+        self,
+        alloc: Global,
+        ty: &Ty,
+        inner: &Ty,
+        i: u32,
+        j: u32,
+        out: &[Point],
+    ) -> Result<Vec<Point>, NoMemory>
+        ensures { IfOk result (λ points. points.items ≡ one_out (one_form self) (type_of ty.now) (type_of inner.now) i j out.now) }
+    {
+        match self {
+            OneRule::First => {
+                let n = shakes(inner)?.saturating_sub(shakes(ty)?);
+                before_row(alloc, out, Place::Node(j), n)
+            }
+            OneRule::Second => {
+                let n = shakes(inner)?.saturating_sub(shakes(ty)?);
+                behind_row(alloc, Place::Node(j), n, out)
+            }
+            OneRule::Reading => two_points(
+                alloc,
+                Point {
+                    place: Place::Part(i),
+                    shake: 0,
+                },
+                Point {
+                    place: Place::Node(j),
+                    shake: 0,
+                },
+            ),
+            OneRule::Negation => one_point(alloc, Place::Part(i), 0),
+        }
+    }
+}
+
+impl TwoRule {
+    // Adds the own part of a form whose node has this type, and whose second part has the type `second`.
+    pub fn own(self, ty: &Ty, second: &Ty, out: &[Point], wires: &mut Wires) -> Result<(), NoMemory>
+        ensures { OnOk result (seen wires.new ≡ with_own (two_part (two_form self) (type_of ty.now) (type_of second.now)) (two_ties (two_form self) (next_part (seen wires.old)) out.now) (seen wires.old)) }
+    {
+        let w = answer_bits(second);
+        match self {
+            TwoRule::Application | TwoRule::Product => wires.pass(),
+            TwoRule::Sequence => wires.own(sequence(answer_bits(ty)), out, 2),
+            TwoRule::Parallel => wires.own(Kind::Par, out, 2),
+            TwoRule::Loop => wires.own(Kind::While, out, 2),
+            TwoRule::Assignment => wires.own(Kind::Assign { w }, out, 2),
+            TwoRule::Operation(op) => wires.own(
+                Kind::Op {
+                    op: operation(op),
+                    w,
+                },
+                out,
+                2,
+            ),
+        }
+    }
+
+    // Where the handshakes of its first part lead.
+    pub fn first_out(
+        self,
+        alloc: Global,
+        first: &Ty,
+        second: &Ty,
+        i: u32,
+        j: u32,
+        out: &[Point],
+    ) -> Result<Vec<Point>, NoMemory>
+        ensures { IfOk result (λ points. points.items ≡ first_out (two_form self) (type_of first.now) (type_of second.now) i j out.now) }
+    {
+        match self {
+            TwoRule::Application => behind_row(alloc, Place::Node(j), shakes(second)?, out),
+            TwoRule::Product => Ok(front(out, shakes(first)?).to_vec(alloc)?),
+            TwoRule::Assignment => two_points(
+                alloc,
+                Point {
+                    place: Place::Node(j),
+                    shake: 0,
+                },
+                Point {
+                    place: Place::Part(i),
+                    shake: 1,
+                },
+            ),
+            _ => one_point(alloc, Place::Part(i), 0),
+        }
+    }
+
+    // Where the handshakes of its second part lead.
+    pub fn second_out(
+        self,
+        alloc: Global,
+        first: &Ty,
+        second: &Ty,
+        i: u32,
+        j: u32,
+        out: &[Point],
+    ) -> Result<Vec<Point>, NoMemory>
+        ensures { IfOk result (λ points. points.items ≡ second_out (two_form self) (type_of first.now) (type_of second.now) i j out.now) }
+    {
+        match self {
+            TwoRule::Application => row(alloc, Place::Node(j), shakes(second)?),
+            TwoRule::Product => Ok(rest(out, shakes(first)?).to_vec(alloc)?),
+            TwoRule::Assignment => one_point(alloc, Place::Part(i), 0),
+            _ => one_point(alloc, Place::Part(i), 1),
+        }
+    }
+}

@@ -1,0 +1,84 @@
+// The plan of a checked module.
+
+ghost use Rattle.std.specs.Prelude.{◌≡◌, map, IfOk};
+ghost use Rattle.gos_types.specs.Types.{type_of};
+ghost use Rattle.gos_model.specs.Sources as sources;
+ghost use Rattle.gos_check.specs.Checked.{program_in};
+ghost use Rattle.gos_check.specs.Nodes.{node_seen};
+ghost use Rattle.gos_plan.specs.declared.fault.ObjectFault.TheVariants as ObjectFault;
+ghost use Rattle.gos_plan.specs.Seen as plans;
+ghost use Rattle.gos_plan.specs.Seen.{plan_of};
+ghost use Rattle.gos_compile.specs.Wiring.{IsPlanOf};
+
+use crate::joints::{joints_of, tables_of};
+use crate::modules::wires_of;
+use gos_check::Linear;
+use gos_lex::Name;
+use gos_model::types_of_terms;
+use gos_plan::{ObjectFault, Plan, PlanImport, make};
+use gos_syntax::Import;
+use gos_types::{NoMemory, copy};
+use std::alloc::Global;
+
+/// The plan of a checked module: its parts, and a joint for each two ends that its wiring connects. `Err` is want of
+/// memory alone.
+pub fn compile(alloc: Global, program: &Linear) -> Result<Plan, NoMemory>
+    ensures plan { IfOk result (λ plan. IsPlanOf (program_in program.now).imports (type_of program.now.result) program.now.weight (node_seen program.now.term) (plan_of plan)) }
+{
+    types_of_terms();
+    let wires = wires_of(alloc, program.imports(), program.term())?;
+    let tables = tables_of(alloc, &wires.ties)?;
+    let imports = plan_imports(alloc, program.imports())?;
+    let outcome = copy(alloc, program.result())?;
+    let joints = joints_of(
+        alloc,
+        &imports,
+        &outcome,
+        &wires.parts,
+        &tables,
+        &wires.ties,
+    )?;
+    match make(
+        alloc,
+        program.weight(),
+        imports,
+        outcome,
+        wires.parts,
+        joints,
+    ) {
+        Ok(plan) => Ok(plan),
+        Err(fault) => Err(only_memory(fault)),
+    }
+}
+
+// A plan that is right is refused for want of memory alone.
+fn only_memory(fault: ObjectFault) -> NoMemory
+    requires { fault ≡ ObjectFault.NoMemory }
+{
+    match fault {
+        ObjectFault::NoMemory => NoMemory,
+        _ => unreachable!(),
+    }
+}
+
+// The imports of a plan.
+fn plan_imports(alloc: Global, imports: &[Import]) -> Result<Vec<PlanImport>, NoMemory>
+    ensures { IfOk result (λ found. map plans.import_of found.items ≡ map sources.import_of imports.now) }
+{
+    let mut found = Vec::new(alloc);
+    for import in imports {
+        found.push(plan_import(alloc, import)?)?;
+    }
+    Ok(found)
+}
+
+// An import of a plan.
+fn plan_import(alloc: Global, import: &Import) -> Result<PlanImport, NoMemory>
+    ensures { IfOk result (λ found. plans.import_of found ≡ sources.import_of import.now) }
+{
+    let ty = copy(alloc, &import.ty)?;
+    match Name::new(alloc, import.name.bytes()) {
+        Ok(name) => Ok(PlanImport { name, ty }),
+        Err(_) => Err(NoMemory),
+    }
+}

@@ -1,0 +1,132 @@
+// Points of the wiring, and what is tied to what.
+
+ghost use Rattle.std.specs.Prelude.{◌≡◌, ◌+◌, ◌++◌, IfOk, OnOk};
+ghost use Rattle.gos_types.specs.Types.{type_of};
+ghost use Rattle.gos_compile.specs.Regular.{count};
+ghost use Rattle.gos_compile.specs.Wiring.{led, row, answer_bits};
+
+use gos_types::{NoMemory, Ty};
+use std::alloc::Global;
+
+/// What has handshakes: a part, an import or the result of the plan; a number of the term, or a node of it.
+#[derive(Debug, Clone, Copy, PartialEq, Eq)]
+pub enum Place {
+    Part(u32),
+    Import(u32),
+    Result,
+    Number(u32),
+    Node(u32),
+}
+
+/// A handshake of a place.
+#[derive(Debug, Clone, Copy, PartialEq, Eq)]
+pub struct Point {
+    pub place: Place,
+    pub shake: u32,
+}
+
+/// Two points that meet.
+#[derive(Debug, Clone, Copy, PartialEq, Eq)]
+pub struct Tie {
+    pub one: Point,
+    pub other: Point,
+}
+
+// The number after this one. More than 32 bits count as want of memory.
+pub(crate) fn after(number: u32) -> Result<u32, NoMemory>
+    ensures { IfOk result (λ next. next ≡ number + 1) }
+{
+    match number.checked_add(1) {
+        Some(next) => Ok(next),
+        None => Err(NoMemory),
+    }
+}
+
+// Adds so many points of a place, from its first on.
+#[tactic(auto, using(crate::proofs::RowLemmas::row_more))]
+pub(crate) fn add_row(points: &mut Vec<Point>, place: Place, n: u32) -> Result<(), NoMemory>
+    ensures { OnOk result (points.new.items ≡ points.old.items ++ row place 0 n) }
+{
+    for shake in 0..n {
+        points.push(Point { place, shake })?;
+    }
+    Ok(())
+}
+
+// So many points of a place, from its first on.
+pub(crate) fn row(alloc: Global, place: Place, n: u32) -> Result<Vec<Point>, NoMemory>
+    ensures { IfOk result (λ points. points.items ≡ row place 0 n) }
+{
+    let mut points = Vec::new(alloc);
+    add_row(&mut points, place, n)?;
+    Ok(points)
+}
+
+// Ties points to those of a place, from this handshake on.
+pub(crate) fn lead(
+    ties: &mut Vec<Tie>,
+    points: &[Point],
+    place: Place,
+    from: u32,
+) -> Result<(), NoMemory>
+    ensures { OnOk result (ties.new.items ≡ ties.old.items ++ led points.now place from) }
+{
+    let mut shake = from;
+    for one in points {
+        let other = Point { place, shake };
+        ties.push(Tie { one: *one, other })?;
+        shake = after(shake)?;
+    }
+    Ok(())
+}
+
+// Ties so many points of one place, from its first on, to those of another, from this handshake on.
+pub(crate) fn lead_row(
+    alloc: Global,
+    ties: &mut Vec<Tie>,
+    one: Place,
+    n: u32,
+    other: Place,
+    from: u32,
+) -> Result<(), NoMemory>
+    ensures { OnOk result (ties.new.items ≡ ties.old.items ++ led (row one 0 n) other from) }
+{
+    let points = row(alloc, one, n)?;
+    lead(ties, &points, other, from)
+}
+
+// The sum of two numbers. More than 32 bits count as want of memory.
+pub(crate) fn sum(a: u32, b: u32) -> Result<u32, NoMemory>
+    ensures { IfOk result (λ n. n ≡ a + b) }
+{
+    match a.checked_add(b) {
+        Some(n) => Ok(n),
+        None => Err(NoMemory),
+    }
+}
+
+// How many handshakes a type has. More than 32 bits count as want of memory.
+#[tactic(auto, using(crate::proofs::RowLemmas::count_pair, crate::proofs::RowLemmas::count_fun))]
+pub(crate) fn shakes(ty: &Ty) -> Result<u32, NoMemory>
+    ensures { IfOk result (λ n. n ≡ count (type_of ty.now)) }
+{
+    match ty {
+        Ty::Com | Ty::Exp(_) => Ok(1),
+        Ty::Var(_) => Ok(2),
+        Ty::Pair(a, b) | Ty::Fun(a, b) => {
+            let first = shakes(a)?;
+            let second = shakes(b)?;
+            sum(first, second)
+        }
+    }
+}
+
+// The bits of a command's or an expression's answer.
+pub(crate) fn answer_bits(ty: &Ty) -> u32
+    ensures { result ≡ answer_bits (type_of ty.now) }
+{
+    match ty {
+        Ty::Exp(width) => *width,
+        _ => 0,
+    }
+}

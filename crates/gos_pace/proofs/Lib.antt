@@ -1,0 +1,17 @@
+mod LabelLemmas
+mod ListedLemmas
+mod FollowLemmas
+mod PeriodLemmas
+mod StepLemmas
+mod RankLemmas
+mod QuietLemmas
+mod TieLemmas
+mod FrameLemmas
+mod LadderLemmas
+mod LadderStepLemmas
+mod HoldLemmas
+mod SharedLemmas
+mod AloneLemmas
+mod AloneStepLemmas
+mod GrowLemmas
+mod KeepingLemmas

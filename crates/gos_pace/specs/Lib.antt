@@ -1,0 +1,5 @@
+-- In reading order: a file uses only files above it.
+pub mod Ports
+pub mod Keeping
+pub mod Quiet
+pub mod Ranks
