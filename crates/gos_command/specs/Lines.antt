@@ -15,6 +15,8 @@ use Rattle.gos_check.specs.declared.fault.Want.{Want}
 use Rattle.gos_check.specs.declared.fault.Want.TheVariants as wants
 use Rattle.gos_check.specs.declared.fault.CheckFault.{CheckFault}
 use Rattle.gos_check.specs.declared.fault.CheckFault.TheVariants as check
+use Rattle.gos_plan.specs.declared.fault.ObjectFault.{ObjectFault}
+use Rattle.gos_plan.specs.declared.fault.ObjectFault.TheVariants as object
 use Rattle.gos_netlist.specs.declared.fault.NetTextFault.{NetTextFault}
 use Rattle.gos_netlist.specs.declared.fault.NetTextFault.TheVariants as text
 use Rattle.gos_netlist.specs.Nets.{Netlist}
@@ -82,6 +84,12 @@ check_text (check.Repeated name first second) = twice_text (codes "C8 ") name fi
 check_text (check.TooHeavy weight) = counted (codes "C9 weight ") weight
 check_text check.NoMemory = []
 
+abbrev pub object_text : ObjectFault → List ℕ
+object_text (object.Form at) = counted (codes "O1 at ") at
+object_text (object.Joint index) = counted (codes "O2 joint ") index
+object_text (object.Limit at) = counted (codes "O3 limit at ") at
+object_text object.NoMemory = []
+
 abbrev pub net_text : NetTextFault → List ℕ
 net_text (text.Form at) = counted (codes "N1 at ") at
 net_text (text.Limit at) = counted (codes "N2 limit at ") at
@@ -114,6 +122,7 @@ cause_text of causes.NotBuilt = codes "not built"
 cause_text of (causes.Lex fault) = lex_text fault
 cause_text of (causes.Syntax fault) = syntax_text fault
 cause_text of (causes.Check fault) = check_text fault
+cause_text of (causes.Object fault) = object_text fault
 cause_text of (causes.Net fault) = net_text fault
 cause_text of (causes.Refused fault) = refusal_text fault
 cause_text of (causes.Pulse fault) = pulse_text of fault

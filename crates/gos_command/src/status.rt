@@ -8,6 +8,7 @@ use gos_check::CheckFault;
 use gos_lex::LexFault;
 use gos_netcheck::NetFault;
 use gos_netlist::NetTextFault;
+use gos_plan::ObjectFault;
 use gos_pulse::PulseFault;
 use gos_syntax::SyntaxFault;
 
@@ -22,6 +23,8 @@ pub enum Cause {
     Syntax(SyntaxFault),
     /// The module is not typed, or passes a limit.
     Check(CheckFault),
+    /// The object file is no plan.
+    Object(ObjectFault),
     /// The netlist file is no netlist.
     Net(NetTextFault),
     /// The netlist is not accepted.
