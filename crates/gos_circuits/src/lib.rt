@@ -2,5 +2,7 @@
 #![tactic(auto)]
 
 pub use circuit::circuit;
+pub use objects::plans_in;
 
 mod circuit;
+mod objects;

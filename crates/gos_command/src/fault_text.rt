@@ -14,6 +14,7 @@ ghost use Rattle.gos_command.specs.Ends.{IsRealCause};
 ghost use Rattle.gos_command.specs.Lines.{counted, lex_text, syntax_text, object_text, net_text, refusal_text, event_name, pulse_text, cause_text, fault_line};
 
 use crate::check_text::check_text;
+use crate::link_text::link_text;
 use crate::status::Cause;
 use gos_lex::LexFault;
 use gos_netcheck::NetFault;
@@ -53,6 +54,7 @@ fn cause_text(alloc: Global, cause: &Cause, net: Option<&Netlist>) -> Result<Vec
         Cause::Syntax(fault) => syntax_text(alloc, fault),
         Cause::Check(fault) => check_text(alloc, fault),
         Cause::Object(fault) => object_text(alloc, fault),
+        Cause::Link(fault) => link_text(alloc, fault),
         Cause::Net(fault) => net_text(alloc, fault),
         Cause::Refused(fault) => refusal_text(alloc, fault),
         Cause::Pulse(fault) => pulse_text(alloc, fault, net),

@@ -3,9 +3,9 @@
 ghost use Rattle.std.specs.Prelude.{◌≡◌};
 ghost use Rattle.gos_command.specs.Ends.{code_of};
 
-use crate::files::FileName;
 use gos_check::CheckFault;
 use gos_lex::LexFault;
+use gos_link::{FileName, LinkFault};
 use gos_netcheck::NetFault;
 use gos_netlist::NetTextFault;
 use gos_plan::ObjectFault;
@@ -25,6 +25,8 @@ pub enum Cause {
     Check(CheckFault),
     /// The object file is no plan.
     Object(ObjectFault),
+    /// The build file is none, or its instances are not linked.
+    Link(LinkFault),
     /// The netlist file is no netlist.
     Net(NetTextFault),
     /// The netlist is not accepted.

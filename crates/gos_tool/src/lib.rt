@@ -24,8 +24,9 @@ mod statements;
 mod tests;
 
 use command::{command_of, run_command};
-pub use gos_command::{Cause, Fault, FileName, Status};
+pub use gos_command::{Cause, Fault, Status};
 use gos_command::{finish, say};
+pub use gos_link::FileName;
 use gos_outside::{Sink, Store};
 use std::alloc::Global;
 
