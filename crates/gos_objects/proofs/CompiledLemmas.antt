@@ -1,5 +1,5 @@
 -- From the plan of a checked module to the object file of its source.
-use Rattle.std.proofs.Common.{◌≡◌, ◌∙◌, ◌⊎◌, inr, ℕ, List, Option, Some, None, refl, ap, subst}
+use Rattle.std.proofs.Common.{◌≡◌, ◌∙◌, inr, ℕ, List, Option, Some, None, ap, subst}
 use Rattle.std.specs.Prelude.{IfSome}
 use Rattle.gos_outside.specs.Files.{Files, bytes_at, with_file}
 use Rattle.gos_outside.specs.Faults.{LastFault, WriteFault}
@@ -7,8 +7,7 @@ use Rattle.gos_lines.specs.Lines.{Word}
 use Rattle.gos_types.specs.Types.{Type', type_of}
 use Rattle.gos_model.specs.Moves.{Program}
 use Rattle.gos_model.specs.Sources.{program_of}
-use Rattle.gos_check.specs.Accepted.{weighed}
-use Rattle.gos_check.specs.Checked.{SeenLinear, program_in}
+use Rattle.gos_check.specs.Checked.{SeenLinear}
 use Rattle.gos_check.specs.Nodes.{node_seen}
 use Rattle.gos_compile.specs.Wiring.{IsPlanOf}
 use Rattle.gos_command.specs.declared.report.Report.{Report}
