@@ -41,6 +41,7 @@ pub fn compile_source<S: Store>(
     ensures failed_call { IsErrOf result Stop.StoreFailed → IfSome (S.contents store.old) (λ files. IsCompileCall files source.now object.now (S.last_fault store.new)) }
     ensures failed_read { IsErrOf result Stop.StoreFailed → S.last_fault store.new ≡ ReadFault source.now → S.contents store.new ≡ S.contents store.old }
     ensures memory_files { IsErrOf result Stop.NoMemory → S.contents store.new ≡ S.contents store.old }
+    ensures same_count { (¬ (IsErrOf result Stop.StoreFailed)) → S.faults store.new ≡ S.faults store.old }
     ensures never_falls { S.faults store.old ≤ S.faults store.new }
     ensures others { SameBut object.now (S.contents store.old) (S.contents store.new) }
 {
