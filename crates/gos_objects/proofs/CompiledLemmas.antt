@@ -1,10 +1,10 @@
 -- From the plan of a checked module to the object file of its source.
-use Rattle.std.proofs.Common.{◌≡◌, ◌∙◌, inr, ℕ, List, Option, Some, None, ap, subst}
+use Rattle.std.proofs.Common.{◌≡◌, ◌∙◌, ℕ, List, Option, Some, None, ap, subst}
 use Rattle.std.specs.Prelude.{IfSome}
 use Rattle.gos_outside.specs.Files.{Files, bytes_at, with_file}
-use Rattle.gos_outside.specs.Faults.{LastFault, WriteFault}
 use Rattle.gos_lines.specs.Lines.{Word}
 use Rattle.gos_types.specs.Types.{Type', type_of}
+use Rattle.gos_syntax.specs.Modules.{SeenModule}
 use Rattle.gos_model.specs.Moves.{Program}
 use Rattle.gos_model.specs.Sources.{program_of}
 use Rattle.gos_check.specs.Checked.{SeenLinear}
@@ -12,7 +12,8 @@ use Rattle.gos_check.specs.Nodes.{node_seen}
 use Rattle.gos_compile.specs.Wiring.{IsPlanOf}
 use Rattle.gos_command.specs.declared.report.Report.{Report}
 use Rattle.gos_command.proofs.EndLemmas.{of_some}
-use Rattle.gos_objects.specs.Compiled.{IsObjectOf, IsCompiled, IsCompileCall}
+use Rattle.gos_objects.specs.Checked.{SaysModule}
+use Rattle.gos_objects.specs.Compiled.{IsObjectOf, IsCompiled}
 use Rattle.gos_objects.specs.inner.Typed.{IsTypedAs, IsPlanText}
 
 -- the text of the plan of a checked module is that of the source's module
@@ -46,8 +47,8 @@ compiled (Some files) new source object linear text report typed plan wrote tell
     }
 
 -- the object is written where the source says a module that is accepted
-pub object_call : (told : Option Files) (source object : Word) (linear : SeenLinear) (fault : LastFault)
-    → IfSome told (λ files. IsTypedAs (bytes_at files source) linear) → fault ≡ WriteFault object → IfSome told (λ files. IsCompileCall files source object fault)
-object_call told source object linear fault typed is =
-    of_some (λ files. IsTypedAs (bytes_at files source) linear) (λ files. IsCompileCall files source object fault) told
-    (λ files t. inr (is, t.made, t.says)) typed
+pub says_one : (told : Option Files) (source : Word) (linear : SeenLinear)
+    → IfSome told (λ files. IsTypedAs (bytes_at files source) linear) → IfSome told (λ files. (m : SeenModule) × SaysModule (bytes_at files source) m)
+says_one told source linear typed =
+    of_some (λ files. IsTypedAs (bytes_at files source) linear) (λ files. (m : SeenModule) × SaysModule (bytes_at files source) m) told
+    (λ files t. (t.made, t.says)) typed

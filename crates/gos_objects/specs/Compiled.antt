@@ -1,8 +1,8 @@
 -- The command `compile SRC OBJ`.
 --
 -- Read first: Checked; Wiring of gos_compile (the plan of a module); ObjectText of gos_plan (its text).
-use Rattle.std.specs.Prelude.{◌≡◌, ◌⊎◌, ℕ, List, Option, Some, None}
-use Rattle.gos_outside.specs.Files.{Files, bytes_at, with_file}
+use Rattle.std.specs.Prelude.{◌≡◌, ◌⊎◌, ℕ, List, Option, Some, None, IfSome}
+use Rattle.gos_outside.specs.Files.{Files, bytes_at, with_file, SameBut}
 use Rattle.gos_outside.specs.Faults.{LastFault, ReadFault, WriteFault}
 use Rattle.gos_lines.specs.Lines.{Word}
 use Rattle.gos_types.specs.Types.{type_of}
@@ -35,11 +35,10 @@ pub record IsCompiled (files : Files) (new : Option Files) (source object : Word
   pub wrote : new ≡ with_file object text (Some files)
   pub tells : report ≡ record { weight = Some (weighed made); run = None }
 
--- the calls of the store, by their files
-abbrev pub IsCompileFile : Word → Word → LastFault → Type 0
-IsCompileFile source object fault = (fault ≡ ReadFault source) ⊎ (fault ≡ WriteFault object)
-
--- and when each is made: the object is written where the source says a module that is accepted
-abbrev pub IsCompileCall : Files → Word → Word → LastFault → Type 0
-IsCompileCall files source object fault =
-    (fault ≡ ReadFault source) ⊎ ((fault ≡ WriteFault object) × (m : SeenModule) × SaysModule (bytes_at files source) m)
+-- The calls of the store, each with what was written before it: the source is read, and the object is written where the
+-- source says a module that is accepted. A file whose write fails may hold anything.
+abbrev pub IsCompileCall : Option Files → Option Files → Word → Word → LastFault → Type 0
+IsCompileCall old new source object fault =
+    ((fault ≡ ReadFault source) × (new ≡ old))
+    ⊎ ((fault ≡ WriteFault object) × SameBut object old new
+    × IfSome old (λ files. (m : SeenModule) × SaysModule (bytes_at files source) m))

@@ -26,7 +26,8 @@ const SOURCE_LIMIT: usize = 65_536;
 pub fn check_source<S: Store>(alloc: Global, source: &[u8], store: &mut S) -> Result<Report, Stop>
     requires { IsFileName source.now }
     ensures done { IfOk result (λ report. IfSome (S.contents store.old) (λ files. IsChecked files source.now report)) }
-    ensures rejected { IfErr result (λ stop. IfStopped stop (λ fault line. IfSome (S.contents store.old) (λ files. IsSourceFault files source.now fault line))) }
+    ensures rejected { IfErr result (λ stop. IfStopped stop (λ fault line.
+        IfSome (S.contents store.old) (λ files. IsSourceFault files source.now fault line))) }
     ensures told { IfErr result (λ stop. IfStopped stop IsTold) }
     ensures file { IfErr result (λ stop. IfStopped stop (λ fault line. fault.file ≡ source.now)) }
     ensures failed_only { IsErrOf result Stop.StoreFailed → Rose (S.faults store.old) (S.faults store.new) }
@@ -46,7 +47,8 @@ pub fn check_source<S: Store>(alloc: Global, source: &[u8], store: &mut S) -> Re
 pub fn module_in<S: Store>(alloc: Global, source: &[u8], store: &mut S) -> Result<Linear, Stop>
     requires { IsFileName source.now }
     ensures typed { IfOk result (λ linear. IfSome (S.contents store.old) (λ files. IsTypedAs (bytes_at files source.now) linear)) }
-    ensures rejected { IfErr result (λ stop. IfStopped stop (λ fault line. IfSome (S.contents store.old) (λ files. IsSourceFault files source.now fault line))) }
+    ensures rejected { IfErr result (λ stop. IfStopped stop (λ fault line.
+        IfSome (S.contents store.old) (λ files. IsSourceFault files source.now fault line))) }
     ensures told { IfErr result (λ stop. IfStopped stop IsTold) }
     ensures file { IfErr result (λ stop. IfStopped stop (λ fault line. fault.file ≡ source.now)) }
     ensures failed_only { IsErrOf result Stop.StoreFailed → Rose (S.faults store.old) (S.faults store.new) }

@@ -3,10 +3,10 @@
 ghost use Rattle.std.specs.Prelude.{◌≡◌, ◌≤◌, IfOk, IfErr, IfSome, IsErrOf};
 ghost use Rattle.gos_outside.specs.FileName.{IsFileName};
 ghost use Rattle.gos_outside.specs.Files.{SameBut};
-ghost use Rattle.gos_outside.specs.Faults.{Rose, ReadFault};
+ghost use Rattle.gos_outside.specs.Faults.{Rose};
 ghost use Rattle.gos_command.specs.Ends.{IfStopped, IsTold};
 ghost use Rattle.gos_objects.specs.Checked.{IsSourceFault};
-ghost use Rattle.gos_objects.specs.Compiled.{IsCompiled, IsCompileFile, IsCompileCall};
+ghost use Rattle.gos_objects.specs.Compiled.{IsCompiled, IsCompileCall};
 ghost use Rattle.gos_objects.specs.inner.Typed.{IsPlanText};
 
 use crate::checking::module_in;
@@ -29,19 +29,20 @@ pub fn compile_source<S: Store>(
 ) -> Result<Report, Stop>
     requires source { IsFileName source.now }
     requires object { IsFileName object.now }
-    ensures done { IfOk result (λ report. IfSome (S.contents store.old) (λ files. IsCompiled files (S.contents store.new) source.now object.now report)) }
-    ensures rejected { IfErr result (λ stop. IfStopped stop (λ fault line. IfSome (S.contents store.old) (λ files. IsSourceFault files source.now fault line))) }
+    ensures done { IfOk result (λ report.
+        IfSome (S.contents store.old) (λ files. IsCompiled files (S.contents store.new) source.now object.now report)) }
+    ensures rejected { IfErr result (λ stop. IfStopped stop (λ fault line.
+        IfSome (S.contents store.old) (λ files. IsSourceFault files source.now fault line))) }
     ensures told { IfErr result (λ stop. IfStopped stop IsTold) }
     ensures file { IfErr result (λ stop. IfStopped stop (λ fault line. fault.file ≡ source.now)) }
     ensures rejected_files { IfErr result (λ stop. IfStopped stop (λ fault line. S.contents store.new ≡ S.contents store.old)) }
 
-    // The store is blamed only for a call that failed. A failed read has left all files as they were.
+    // The store is blamed only for a call that failed, and that the command makes then.
     ensures failed_only { IsErrOf result Stop.StoreFailed → Rose (S.faults store.old) (S.faults store.new) }
-    ensures failed_file { IsErrOf result Stop.StoreFailed → IsCompileFile source.now object.now (S.last_fault store.new) }
-    ensures failed_call { IsErrOf result Stop.StoreFailed → IfSome (S.contents store.old) (λ files. IsCompileCall files source.now object.now (S.last_fault store.new)) }
-    ensures failed_read { IsErrOf result Stop.StoreFailed → S.last_fault store.new ≡ ReadFault source.now → S.contents store.new ≡ S.contents store.old }
-    ensures memory_files { IsErrOf result Stop.NoMemory → S.contents store.new ≡ S.contents store.old }
+    ensures failed_call { IsErrOf result Stop.StoreFailed →
+        IsCompileCall (S.contents store.old) (S.contents store.new) source.now object.now (S.last_fault store.new) }
     ensures same_count { (¬ (IsErrOf result Stop.StoreFailed)) → S.faults store.new ≡ S.faults store.old }
+    ensures memory_files { IsErrOf result Stop.NoMemory → S.contents store.new ≡ S.contents store.old }
     ensures never_falls { S.faults store.old ≤ S.faults store.new }
     ensures others { SameBut object.now (S.contents store.old) (S.contents store.new) }
 {
