@@ -1,0 +1,5 @@
+-- In reading order: a file uses only files above it.
+pub mod PortNets
+pub mod Lines
+pub mod VerilogText
+pub mod inner
