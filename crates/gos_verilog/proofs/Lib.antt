@@ -1,0 +1,4 @@
+pub mod FeedLemmas
+pub mod PortNetLemmas
+pub mod PrintLemmas
+pub mod TableLemmas

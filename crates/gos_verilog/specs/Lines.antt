@@ -40,10 +40,14 @@ abbrev pub kind_word : Function → List ℕ
 kind_word (Reg a) = codes "reg"
 kind_word f = codes "wire"
 
+-- the declaration of the net of cell i
+abbrev pub cell_declaration : ℕ → Cell → List ℕ
+cell_declaration i cell = declaration (kind_word cell.gate) cell.width (cell_net i)
+
 -- the declarations of the nets of cells, of which the first has number i
 abbrev pub cell_declarations : ℕ → List Cell → List ℕ
 cell_declarations i [] = []
-cell_declarations i (cell ∷ cells) = declaration (kind_word cell.gate) cell.width (cell_net i) ++ cell_declarations (suc i) cells
+cell_declarations i (cell ∷ cells) = cell_declaration i cell ++ cell_declarations (suc i) cells
 
 -- a number of w bits
 abbrev pub literal : ℕ → ℕ → List ℕ

@@ -63,15 +63,15 @@ abbrev pub net_in_role : List ℕ → Side → ℕ → Role → ℕ → PortNet
 net_in_role name side w role cell =
     record { name = name ++ suffix role; input = is_input side (direction role); width = bits w role; cell = cell }
 
--- the nets of a port of this name and side in these roles, each with its cell
-abbrev pub nets_in_roles : List ℕ → Side → ℕ → List Role → List ℕ → List PortNet
-nets_in_roles name side w [] cells = []
-nets_in_roles name side w (role ∷ more) [] = []
-nets_in_roles name side w (role ∷ more) (cell ∷ cells) = net_in_role name side w role cell ∷ nets_in_roles name side w more cells
+-- the nets of a port of this name and side that are these cells, in these roles
+abbrev pub nets_in_roles : List ℕ → Side → ℕ → List ℕ → List Role → List PortNet
+nets_in_roles name side w [] roles = []
+nets_in_roles name side w (cell ∷ cells) [] = []
+nets_in_roles name side w (cell ∷ cells) (role ∷ more) = net_in_role name side w role cell ∷ nets_in_roles name side w cells more
 
 -- the nets of a port
 abbrev pub nets_of_port : NetPort → List PortNet
-nets_of_port p = nets_in_roles p.name p.side (number_bits p.ty) (roles p.ty) p.nets
+nets_of_port p = nets_in_roles p.name p.side (number_bits p.ty) p.nets (roles p.ty)
 
 -- the nets of ports
 abbrev pub port_nets : List NetPort → List PortNet

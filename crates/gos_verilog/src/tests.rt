@@ -8,7 +8,8 @@ use gos_netlist::{Cell, Gate, Ground, NetId, Netlist, Port, Side};
 use std::alloc::Global;
 use std::test::Fail;
 
-const LATCH: &str = "module gos_main(clk, rst, main__run, main__done);\n  input clk;\n  input rst;\n  input [0:0] main__run;\n  output [0:0] main__done;\n  wire [0:0] n0;\n  wire [0:0] n1;\n  reg [0:0] n2;\n  reg [0:0] n3;\n  assign n0 = main__run;\n  assign n1 = n0 | n2;\n  always @(posedge clk) if (rst) n2 <= 1'd0; else n2 <= n1;\n  always @(posedge clk) if (rst) n3 <= 1'd0; else n3 <= n1;\n  assign main__done = n3;\nendmodule\n";
+const LATCH: &str =
+    "module gos_main(clk, rst, main__run, main__done);\n  input clk;\n  input rst;\n  input [0:0] main__run;\n  output [0:0] main__done;\n  wire [0:0] n0;\n  wire [0:0] n1;\n  reg [0:0] n2;\n  reg [0:0] n3;\n  assign n0 = main__run;\n  assign n1 = n0 | n2;\n  always @(posedge clk) if (rst) n2 <= 1'd0; else n2 <= n1;\n  always @(posedge clk) if (rst) n3 <= 1'd0; else n3 <= n1;\n  assign main__done = n3;\nendmodule\n";
 
 fn bit(gate: Gate) -> Cell {
     Cell { width: 1, gate }

@@ -2,9 +2,10 @@
 --
 -- Read first: Lines. Between the writer and its lemmas.
 use Rattle.std.specs.Prelude.{◌≡◌, ℕ, suc, ◌<◌, Bool, true, false, List, [], ◌∷◌, ◌++◌, Option, Some, None, get_or, slice_get, length, codes}
+use Rattle.std.specs.List.{flat_map}
 use Rattle.gos_netlist.specs.Nets.{Function, Reg, Cell}
 use Rattle.gos_verilog.specs.PortNets.{PortNet}
-use Rattle.gos_verilog.specs.Lines.{cell_net, literal, driver}
+use Rattle.gos_verilog.specs.Lines.{cell_net, literal, driver, module_head, clock_declarations, port_declaration, cell_declarations, output_assignment}
 
 -- the name of the net at a place; none where there is none
 abbrev pub name_of : Option PortNet → List ℕ
@@ -34,3 +35,10 @@ FeedsAt nets k i = (net : PortNet) × (slice_get nets k ≡ Some net) × (net.in
 -- where one of the first n nets is an input and cell i, the table leads from i to such a net
 abbrev pub LeadsToFeeds : List PortNet → ℕ → List ℕ → Type 0
 LeadsToFeeds nets n table = (j i : ℕ) → j < n → i < length table → FeedsAt nets j i → FeedsAt nets (get_or table i 0) i
+
+-- the text of a module, with the table
+abbrev pub module_lines : List ℕ → List PortNet → List ℕ → List Cell → List ℕ
+module_lines name nets table cells =
+    module_head name nets ++ clock_declarations ++ flat_map port_declaration nets ++ cell_declarations 0 cells
+    ++ driven nets table 0 cells
+    ++ (flat_map output_assignment nets ++ codes "endmodule\n")
