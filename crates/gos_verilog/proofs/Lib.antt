@@ -2,3 +2,4 @@ pub mod FeedLemmas
 pub mod PortNetLemmas
 pub mod PrintLemmas
 pub mod TableLemmas
+pub mod SmallTextLemmas

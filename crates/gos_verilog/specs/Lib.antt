@@ -2,4 +2,5 @@
 pub mod PortNets
 pub mod Lines
 pub mod VerilogText
+pub mod SmallTexts
 pub mod inner

@@ -2,13 +2,16 @@
 //
 // `write_verilog` gives the one text of an accepted netlist. What such a text is stands in `specs`, in the order of
 // `specs/Lib.antt`: `PortNets` (the nets of ports, with their names), `Lines` (the lines of a module), `VerilogText` (the
-// text of a netlist). `port_net.rt` has the nets of ports, `printing.rt` the lines, `writing.rt` the whole text.
+// text of a netlist). `port_net.rt` has the nets of ports, `printing.rt` the lines, `writing.rt` the whole text, and
+// `laws.rt` small theorems on the definitions.
 #![tactic(auto)]
 
+mod laws;
 mod port_net;
 mod printing;
 #[cfg(test)]
 mod tests;
 mod writing;
 
+pub use laws::small_texts;
 pub use writing::write_verilog;

@@ -28,7 +28,8 @@ endmodule
 ";
 
 // The text of a circuit with a cell of each sort, which gives an expression and takes a variable.
-const SORTS: &str = "module gos_main(clk, rst, main__ask, main__ans, main__ansvalue, v__read, v__ans, v__ansvalue, v__write, v__writevalue, v__done);
+const SORTS: &str =
+    "module gos_main(clk, rst, main__ask, main__ans, main__ansvalue, v__read, v__ans, v__ansvalue, v__write, v__writevalue, v__done);
   input clk;
   input rst;
   input [0:0] main__ask;
@@ -121,7 +122,13 @@ fn four(gate: Gate) -> Cell {
 }
 
 // A port with these nets.
-fn port(alloc: Global, name: &[u8], side: Side, ground: Ground, nets: Vec<NetId>) -> Result<Port, LexFault>
+fn port(
+    alloc: Global,
+    name: &[u8],
+    side: Side,
+    ground: Ground,
+    nets: Vec<NetId>,
+) -> Result<Port, LexFault>
     requires { IsNameOrWord name.now }
 {
     let name = Name::new(alloc, name)?;
