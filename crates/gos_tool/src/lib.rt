@@ -36,9 +36,9 @@ use std::alloc::Global;
 ///
 /// `check SRC` reads a source file and tells the weight of its module. `compile SRC OBJ` checks it in the same way, and
 /// writes the plan of its module. `sim NET PULSES TRACE` reads a netlist and a pulse file, runs the netlist and writes the
-/// trace. `build BUILD` reads the build file and the source file of its instance,
-/// writes the netlist and its Verilog text, reads the pulse file, runs the netlist and writes the trace. Each status but `NoMemory` has its
-/// cause; want of memory may end a command anywhere.
+/// trace. `build BUILD` reads the build file and the source file of its instance, writes the netlist and its Verilog text,
+/// reads the pulse file, runs the netlist and writes the trace. Each status but `NoMemory` has its cause; want of memory may
+/// end a command anywhere.
 pub fn run<S: Store, O: Sink>(alloc: Global, words: &[String], store: &mut S, out: &mut O) -> Status
     // Other words are answered with the usage line, and no file is touched.
     ensures usage { result ≡ Status.Usage → MeanNothing (texts words.now) }
