@@ -4,12 +4,9 @@
 use Rattle.std.specs.Prelude.{◌≡◌, ℕ, ◌^◌, ◌<◌, ◌≤◌, length}
 use Rattle.std.specs.List.{AllByRecursion}
 use Rattle.gos_types.specs.Types.{Type', Com, Exp, Var}
+use Rattle.gos_types.specs.Widths.{IsWidth}
 use Rattle.gos_lex.specs.Names.{IsNameOrWord}
 use Rattle.gos_netlist.specs.Nets.{Function, Const, pins, Cell, NetPort, Netlist}
-
--- a number of bits
-abbrev pub IsWidth : ℕ → Type 0
-IsWidth w = (1 ≤ w) × (w ≤ 32)
 
 -- a net's number, or a count
 abbrev pub IsNumber : ℕ → Type 0
