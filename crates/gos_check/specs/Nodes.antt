@@ -64,6 +64,15 @@ numbered_of t ss (forms.Bin' op p a qs f q b rs g) = Two (type_of t) ss (OfBin (
 abbrev pub node_seen : Node → Numbered
 node_seen node = numbered_of node.ty node.splits.items node.form
 
+-- the type of a node
+abbrev pub type_of_node : Numbered → Type'
+type_of_node (Closed t ss c) = t
+type_of_node (Use t ss n) = t
+type_of_node (Under t ss b n m) = t
+type_of_node (One t ss f m) = t
+type_of_node (Two t ss f m n) = t
+type_of_node (If t ss m n p) = t
+
 -- the argument of a function type
 abbrev pub argument_of : Type' → Type'
 argument_of (Fun a b) = a

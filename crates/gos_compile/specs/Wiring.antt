@@ -10,6 +10,7 @@ use Rattle.gos_model.specs.Terms.{Term}
 use Rattle.gos_model.specs.Typing.{Imports}
 use Rattle.gos_check.specs.declared.linear.Split.{Split}
 use Rattle.gos_check.specs.Nodes.{Numbered, Closed, Use, Under, One, Two, If, Binding, OfFun, OfNew, OneForm, OfFst, OfSnd, OfDeref, OfNot, TwoForm, OfApp, OfBoth, OfSeq, OfPar, OfWhile, OfAssign, OfBin, argument_of, bound_type}
+pub use Rattle.gos_check.specs.Nodes.{type_of_node}
 use Rattle.gos_plan.specs.Kinds as kinds
 use Rattle.gos_plan.specs.Kinds.{Part, asks, serves, contacts_of}
 use Rattle.gos_plan.specs.Plans.{End, PartEnd, ImportEnd, ResultEnd, Joint, Plan, contact_at, IsRight}
@@ -42,15 +43,6 @@ tie a b = record { one = a; other = b }
 abbrev pub led : List Point → Place → ℕ → List Tie
 led [] place h = []
 led (a ∷ points) place h = tie a (point place h) ∷ led points place (suc h)
-
--- the type of a node
-abbrev pub type_of_node : Numbered → Type'
-type_of_node (Closed t ss c) = t
-type_of_node (Use t ss n) = t
-type_of_node (Under t ss b n m) = t
-type_of_node (One t ss f m) = t
-type_of_node (Two t ss f m n) = t
-type_of_node (If t ss m n p) = t
 
 -- the bits of a command's or an expression's answer
 abbrev pub answer_bits : Type' → ℕ
