@@ -1,4 +1,7 @@
 // Pulse files for a circuit with three ports: their faults by line, what a right one says, and the text of a trace.
+ghost use Rattle.std.specs.Prelude.{◌≡◌, true, false, length, IfOk};
+ghost use Rattle.gos_netlist.specs.Events.{events_of};
+ghost use Rattle.gos_pulse.specs.Guarding.{halves_of};
 
 use gos_lex::{LexFault, Name};
 use gos_netlist::{Ground, Netlist, Port, Side, events};
@@ -6,8 +9,11 @@ use gos_pulse::{Guard, PulseFault, Pulses, Trace, TraceLine, print_trace, read_p
 use std::alloc::Global;
 use std::test::Fail;
 
-// main.run, main.done, c.run, c.done, x.ask, x.ans of 4 bits
-fn circuit(alloc: Global) -> Result<Netlist, LexFault> {
+// main.run, main.done, c.run, c.done, x.ask, x.ans of 4 bits: three come in, and three go out.
+fn circuit(alloc: Global) -> Result<Netlist, LexFault>
+    ensures inputs { IfOk result (λ net. length (halves_of true (events_of net)) ≡ 3) }
+    ensures outputs { IfOk result (λ net. length (halves_of false (events_of net)) ≡ 3) }
+{
     let main = Port {
         name: Name::new(alloc, b"main")?,
         side: Side::Give,
