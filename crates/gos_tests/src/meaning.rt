@@ -1,7 +1,7 @@
 // The laws are functions, so they return.
 use gos_model::{
     keeping_pace, latch_pulses, reached_places, sequences, small_modules, small_traces,
-    types_of_terms,
+    types_of_terms, writes,
 };
 
 #[test]
@@ -11,6 +11,7 @@ fn laws_return(rt: HostRuntime) {
     small_modules();
     types_of_terms();
     reached_places();
+    writes();
     latch_pulses();
     keeping_pace();
     assert!(rt; true);
