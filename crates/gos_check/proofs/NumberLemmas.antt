@@ -4,7 +4,7 @@ use Rattle.std.specs.Str.{bytes_eq}
 use Rattle.std.proofs.Common.{arith, refl, sym, ap, subst, ◌∙◌, inl, inr}
 use Rattle.gos_types.specs.Types.{Type', Var, Fun}
 use Rattle.gos_model.specs.Terms as terms
-use Rattle.gos_model.specs.Terms.{Name, Term, Op}
+use Rattle.gos_model.specs.Terms.{Name, Term}
 use Rattle.gos_model.specs.Typing.{Imports}
 use Rattle.gos_model.specs.Weight.{node_type}
 use Rattle.gos_model.specs.Sources.{use_of, binder_of, bound_or_import, one_further}

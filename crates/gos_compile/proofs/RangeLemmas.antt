@@ -18,7 +18,7 @@ use Rattle.gos_model.specs.Laws.{NodeHasType}
 use Rattle.gos_model.specs.Sources as sources
 use Rattle.gos_check.proofs.TimesLemmas.{eq_true}
 use Rattle.gos_check.specs.declared.linear.Split.{Split}
-use Rattle.gos_check.specs.Accepted.{KeepsLimits, AreWritten, IsWritten}
+use Rattle.gos_check.specs.Accepted.{KeepsLimits, AreWritten}
 use Rattle.gos_check.specs.Checked.{SeenLinear, IsChecked}
 use Rattle.gos_check.specs.Nodes.{Numbered, Closed, Use, Under, One, Two, If, OfFun, OfNew, OfFst, OfSnd, OfDeref, OfNot, OfApp, OfBoth, OfSeq, OfPar, OfWhile, OfAssign, OfBin, Meaning, meaning, below, inside, HasTypes, argument_of, bound_type, node_seen}
 use Rattle.gos_plan.specs.declared.kinds.Kind.{Kind}

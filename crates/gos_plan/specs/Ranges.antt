@@ -1,5 +1,5 @@
 -- The ranges that every plan keeps: widths, literals, and how many handshakes a type has.
-use Rattle.std.specs.Prelude.{◌≤◌, ◌<◌, ◌^◌, ℕ, List, All, length}
+use Rattle.std.specs.Prelude.{◌≤◌, ◌<◌, ◌^◌, List, All, length}
 use Rattle.gos_types.specs.declared.types.Ty.{Ty}
 use Rattle.gos_types.specs.Types.{type_of}
 use Rattle.gos_types.specs.Widths.{IsWidth, HasWidths}

@@ -1,5 +1,5 @@
 -- The inputs that the pulses of a cycle give are in range.
-use Rattle.std.proofs.Common.{◌≡◌, ◌<◌, ◌^◌, inl, inr, ℕ, zero, suc, Bool, true, false, not, cond, List, [], ◌∷◌, ◌++◌, length, refl, pow_pos, sym, ap, subst, ◌∙◌, arith, Some, true≢false}
+use Rattle.std.proofs.Common.{◌≡◌, ◌<◌, ◌^◌, inl, inr, ℕ, suc, Bool, true, false, not, cond, List, [], ◌∷◌, ◌++◌, length, refl, pow_pos, sym, ap, subst, ◌∙◌, arith, Some, true≢false}
 use Rattle.std.specs.Prelude.{slice_get, filter, IsFalse, All}
 use Rattle.std.specs.List.{flat_map, AllByRecursion}
 use Rattle.std.proofs.lemmas.Bool.{cases_lt}
@@ -8,7 +8,7 @@ use Rattle.gos_netlist.specs.declared.event.Event as seen
 use Rattle.gos_netlist.specs.Nets.{Input, Cell, Side, NetPort, Netlist}
 use Rattle.gos_netlist.specs.Events.{Direction, Event, Is, is_input, events, port_events, events_from, events_of}
 use Rattle.gos_netlist.specs.Settling.{Numbers, at}
-use Rattle.gos_netcheck.specs.PortRules.{Fits, all_inputs, place}
+use Rattle.gos_netcheck.specs.PortRules.{all_inputs, place}
 use Rattle.gos_netcheck.specs.PortRules as rules
 use Rattle.gos_netcheck.specs.Accepted.{IsAccepted}
 use Rattle.gos_model.specs.Labels.{Port, is_output_at}

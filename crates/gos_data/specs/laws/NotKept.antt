@@ -4,7 +4,6 @@
 use Rattle.std.proofs.Common.{inl, inr, ℕ, List, [], refl, sym, ap, ◌∙◌, subst, arith}
 use Rattle.std.specs.Prelude.{nat_eq, if◌then◌else◌}
 use Rattle.std.specs.List.{AllByRecursion}
-use Rattle.gos_netlist.specs.Settling.{Numbers}
 use Rattle.gos_netlist.specs.Settling as nets
 use Rattle.gos_netcheck.specs.CellRules.{HasRightWidths}
 use Rattle.gos_types.specs.Widths.{IsWidth}

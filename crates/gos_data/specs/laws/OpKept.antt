@@ -5,7 +5,7 @@ use Rattle.std.proofs.Common.{◌≡◌, ◌≢◌, inl, inr, ℕ, zero, suc, �
 use Rattle.std.specs.Prelude.{nat_eq, if◌then◌else◌}
 use Rattle.std.specs.List.{AllByRecursion}
 use Rattle.gos_netlist.specs.Nets.{Input, pins}
-use Rattle.gos_netlist.specs.Settling.{Numbers, shown}
+use Rattle.gos_netlist.specs.Settling.{shown}
 use Rattle.gos_netlist.specs.Settling as nets
 use Rattle.gos_netcheck.specs.CellRules.{width_at, OperandsFit, HasRightWidths}
 use Rattle.gos_types.specs.Widths.{IsWidth}
