@@ -1,6 +1,5 @@
 mod RowLemmas
 mod TableLemmas
-mod NodeLemmas
 mod WalkLemmas
 mod JoinLemmas
 mod FarLemmas

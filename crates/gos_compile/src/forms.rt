@@ -6,7 +6,7 @@ ghost use Rattle.gos_plan.specs.Kinds as kinds;
 ghost use Rattle.gos_plan.specs.Seen.{part_of, operation_of};
 ghost use Rattle.gos_model.specs.Sources.{op_of};
 ghost use Rattle.gos_compile.specs.inner.Walked.{seen, is_plain, next_part, with_own, one_form, two_form};
-ghost use Rattle.gos_compile.specs.Wiring.{point, row, answer_bits, one_part, two_part, one_ties, two_ties, one_out, first_out, second_out, operation};
+ghost use Rattle.gos_compile.specs.Wiring.{point, row, answer_bits, one_part, two_part, one_ties, two_ties, one_out, first_out, second_out};
 
 use crate::points::{Place, Point, add_row, answer_bits, row, shakes};
 use crate::wires::Wires;
@@ -62,7 +62,7 @@ pub(crate) fn choice(bits: u32) -> Kind
 
 // What an operator computes.
 fn operation(op: Op) -> Op2
-    ensures { operation_of result ≡ operation (op_of op) }
+    ensures { operation_of result ≡ op_of op }
 {
     match op {
         Op::Add => Op2::Add,

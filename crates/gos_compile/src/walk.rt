@@ -169,7 +169,7 @@ fn wire_block(
 
 // A form of one part.
 #[cycle(walk)]
-#[tactic(auto, using(crate::proofs::NodeLemmas::type_seen))]
+#[tactic(auto, using(gos_check::proofs::NodeTypeLemmas::type_seen))]
 fn wire_one(
     alloc: Global,
     types: &[Ty],
@@ -189,7 +189,7 @@ fn wire_one(
 
 // A form of two parts.
 #[cycle(walk)]
-#[tactic(auto, using(crate::proofs::NodeLemmas::type_seen))]
+#[tactic(auto, using(gos_check::proofs::NodeTypeLemmas::type_seen))]
 fn wire_two(
     alloc: Global,
     types: &[Ty],

@@ -13,7 +13,7 @@ use Rattle.gos_compile.specs.Regular.{count}
 use Rattle.gos_compile.specs.inner.Tables.{types_at}
 use Rattle.gos_compile.specs.inner.Walked.{seen, is_plain}
 use Rattle.gos_compile.specs.Wiring.{Types, row, with_types, all_types, import_ties}
-use Rattle.gos_compile.proofs.NodeLemmas.{type_seen}
+use Rattle.gos_check.proofs.NodeTypeLemmas.{type_seen}
 use Rattle.gos_compile.proofs.WalkLemmas.{module_parts, module_ties, module_plain}
 use Rattle.gos_compile.proofs.modules.wires_of.Goals as goal
 

@@ -5,8 +5,8 @@ ghost use Rattle.gos_plan.specs.Gates.{nothing_pending};
 ghost use Rattle.gos_plan.specs.SmallGates.{skip_cells, skip_outs, skip_stands};
 ghost use Rattle.gos_plan.specs.laws.SkipKept.{skip_gates};
 
-use crate::gates::{Macro, Wire};
 use gos_netlist::{Cell, Gate, NetId};
+use gos_plan::{Macro, Wire};
 use gos_pool::{NetPool, Region};
 use std::test::Fail;
 

@@ -1,6 +1,6 @@
 // Each public call once, at texts of which the tokens were counted by hand.
 
-use crate::{
+use gos_lex::{
     Cursor, LexFault, Name, Sign, Span, Token, TokenKind, Word, is_name, is_name_or_word,
     one_place, one_reading, scan,
 };

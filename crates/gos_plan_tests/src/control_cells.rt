@@ -1,57 +1,27 @@
-// Each kind, alone in a pool with room for exactly its cells and one region.
-ghost use Rattle.std.specs.Prelude.{◌≡◌, length};
-ghost use Rattle.gos_plan.specs.Kinds.{part_contacts};
-ghost use Rattle.gos_plan.specs.Seen.{part_of};
-
-use crate::control::Control;
-use gos_netlist::{Cell, Gate, NetId};
-use gos_plan::{Kind, Macro, Wire};
-use gos_pool::NetPool;
-use gos_types::NoMemory;
-use std::alloc::Global;
+// Each kind that passes control on, alone in a pool with room for exactly its cells and one region.
+use crate::trial::{placed, wire_from};
+use gos_control::Control;
+use gos_netlist::Gate;
+use gos_plan::{Kind, Wire};
 use std::test::Fail;
-
-// The wire of a handshake at which these nets come in.
-fn wire(pulse: u32, value: u32) -> Wire {
-    Wire {
-        in_pulse: NetId(pulse),
-        in_value: NetId(value),
-        out_pulse: NetId(0),
-        out_value: NetId(0),
-    }
-}
-
-// Places a part in a pool of its own, and gives the cells.
-fn placed(alloc: Global, part: &Control, wires: &mut [Wire]) -> Result<Vec<Cell>, NoMemory>
-    requires { length wires.old ≡ length (part_contacts (part_of part.now)) }
-{
-    let size = part.size();
-    let mut pool = NetPool::new(alloc);
-    pool.reserve(size as usize + 1)?;
-    let mut region = pool.begin();
-    part.outs(NetId(region.start()), wires);
-    part.place(&mut pool, &mut region, wires);
-    pool.finish(region);
-    Ok(pool.into_cells())
-}
 
 // Nets 100 to 105 come in at three handshakes, and 100 to 107 at four.
 fn three() -> [Wire; 3] {
-    [wire(100, 101), wire(102, 103), wire(104, 105)]
+    [wire_from(100, 101), wire_from(102, 103), wire_from(104, 105)]
 }
 
 fn four() -> [Wire; 4] {
     [
-        wire(100, 101),
-        wire(102, 103),
-        wire(104, 105),
-        wire(106, 107),
+        wire_from(100, 101),
+        wire_from(102, 103),
+        wire_from(104, 105),
+        wire_from(106, 107),
     ]
 }
 
 #[test]
 fn a_skip_is_one_cell(rt: HostRuntime) -> Result<(), Fail> {
-    let mut wires = [wire(100, 101)];
+    let mut wires = [wire_from(100, 101)];
     let cells = placed(rt.alloc(), &Control(Kind::Skip), &mut wires)?;
     assert_eq!(rt; cells.len(), 1);
     assert_eq!(rt; wires[0].out_pulse.0, 0);

@@ -1,8 +1,5 @@
 // Plans of few parts, right and wrong.
-use crate::fault::ObjectFault;
-use crate::kinds::Kind;
-use crate::laws;
-use crate::plan::{End, Joint, make};
+use gos_plan::{End, Joint, Kind, ObjectFault, make, one_token_each};
 use gos_types::Ty;
 use std::alloc::{AllocError, Global};
 use std::test::Fail;
@@ -69,6 +66,6 @@ fn a_plan_shows_its_values(rt: HostRuntime) -> Result<(), Fail> {
     assert_eq!(rt; plan.parts().len(), 1);
     assert_eq!(rt; plan.joints().len(), 1);
     assert!(rt; gos_types::is_ground(plan.result()));
-    laws::one_token_each();
+    one_token_each();
     Ok(())
 }

@@ -1,9 +1,9 @@
 // Each public call once, at small sources whose trees and places were written by hand.
 
-use crate::{
+use gos_lex::{LexFault, Span, scan};
+use gos_syntax::{
     Form, Module, Op, SyntaxFault, Term, one_answer, one_grammar, parse, print, printed_module,
 };
-use gos_lex::{LexFault, Span, scan};
 use gos_types::{Ty, same};
 use std::alloc::{AllocError, Global};
 use std::test::Fail;

@@ -1,12 +1,10 @@
 // The latch, cycle by cycle: it shows `done` from the cycle after `run` on.
 ghost use Rattle.std.specs.Prelude.{◌≡◌, IfOk, length};
 
-use crate::laws;
-use crate::pulse::Pulse;
-use crate::sim::Sim;
 use gos_lex::{LexFault, Name};
 use gos_netcheck::accept;
 use gos_netlist::{Cell, Gate, Ground, NetId, Netlist, Port, Side};
+use gos_sim::{Pulse, Sim, runs};
 use std::alloc::Global;
 use std::io;
 use std::test::Fail;
@@ -94,6 +92,6 @@ fn shows_done_from_the_cycle_after_run(rt: HostRuntime) -> Result<(), Fail> {
 
 #[test]
 fn laws_return(rt: HostRuntime) {
-    laws::runs();
+    runs();
     assert!(rt; true);
 }

@@ -1,7 +1,6 @@
 // The calls of a pool, in their order.
-use crate::laws;
-use crate::pool::NetPool;
 use gos_netlist::{Cell, Gate, NetId};
+use gos_pool::{NetPool, marks_stay};
 use std::test::Fail;
 
 // A bit that is what another net was in the cycle before.
@@ -71,6 +70,6 @@ fn cuts_back_to_a_mark(rt: HostRuntime) -> Result<(), Fail> {
 
 #[test]
 fn laws_return(rt: HostRuntime) {
-    laws::marks_stay();
+    marks_stay();
     assert!(rt; true);
 }

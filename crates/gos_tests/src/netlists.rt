@@ -1,14 +1,11 @@
 // The programs on the latch: a circuit that shows `done` from the cycle after `run` on.
 ghost use Rattle.std.specs.Prelude.{◌≡◌, ◌≤◌, All, IfOk};
 
-use crate::event::{Event, events};
-use crate::fault::NetTextFault;
-use crate::laws;
-use crate::nets::{Cell, Gate, Ground, NetId, Netlist, Port, Side};
-use crate::passes::{SettleFault, settle};
-use crate::printing::print_net;
-use crate::reading::read_net;
 use gos_lex::{LexFault, Name};
+use gos_netlist::{
+    Cell, Event, Gate, Ground, NetId, NetTextFault, Netlist, Port, SettleFault, Side, events,
+    one_answer, print_net, read_net, settle, settlings, small_nets,
+};
 use std::alloc::Global;
 use std::test::Fail;
 
@@ -155,8 +152,8 @@ fn refuses_other_texts_at_their_places(rt: HostRuntime) {
 
 #[test]
 fn laws_return(rt: HostRuntime) {
-    laws::small_nets();
-    laws::settlings();
-    laws::one_answer();
+    small_nets();
+    settlings();
+    one_answer();
     assert!(rt; true);
 }

@@ -2,10 +2,10 @@
 
 ghost use Rattle.std.specs.Prelude.{◌≡◌, ◌<◌, ◌^◌, IfOk, length};
 
-use crate::{PulseFault, drive, print_trace, read_pulses};
 use gos_lex::{LexFault, Name};
 use gos_netcheck::accept;
 use gos_netlist::{Cell, Gate, Ground, NetId, Netlist, Port, Side};
+use gos_pulse::{PulseFault, drive, print_trace, read_pulses};
 use gos_sim::Sim;
 use std::alloc::{AllocError, Global};
 use std::test::Fail;

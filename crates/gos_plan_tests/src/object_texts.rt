@@ -1,8 +1,5 @@
 // Texts of plans: read, printed, and refused.
-use crate::fault::ObjectFault;
-use crate::laws;
-use crate::printing::print_object;
-use crate::reading::read_object;
+use gos_plan::{ObjectFault, one_answer, print_object, read_object};
 use std::alloc::{AllocError, Global};
 use std::test::Fail;
 
@@ -28,7 +25,7 @@ const SEQUENCE: &[u8] =
 #[test]
 fn a_sequence_reads_and_prints_back(rt: HostRuntime) -> Result<(), Fail> {
     assert!(rt; prints_back(rt.alloc(), SEQUENCE)?);
-    laws::one_answer();
+    one_answer();
     Ok(())
 }
 

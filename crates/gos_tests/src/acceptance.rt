@@ -1,10 +1,8 @@
 // The worked ring, and a netlist for each fault. The expected answers are written by hand.
 ghost use Rattle.std.specs.Prelude.{◌<◌, ◌^◌, length};
 
-use crate::checked::accept;
-use crate::fault::NetFault;
-use crate::law::one_answer;
 use gos_lex::{LexFault, Name};
+use gos_netcheck::{NetFault, accept, one_answer};
 use gos_netlist::{Cell, Gate, Ground, NetId, Netlist, Port, Side};
 use std::alloc::{AllocError, Global};
 use std::test::Fail;

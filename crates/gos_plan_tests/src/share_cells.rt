@@ -1,54 +1,25 @@
 // A Share of each sort of type, alone in a pool with room for exactly its cells and one region.
-ghost use Rattle.std.specs.Prelude.{◌≡◌, length};
-ghost use Rattle.gos_types.specs.Types.{type_of};
-ghost use Rattle.gos_plan.specs.Kinds.{Share, part_contacts};
-
-use crate::sharing::Sharing;
-use gos_netlist::{Cell, Gate, NetId};
-use gos_plan::{Macro, Wire};
-use gos_pool::NetPool;
-use gos_types::{NoMemory, Ty};
-use std::alloc::Global;
+use crate::trial::{placed, wire_from};
+use gos_netlist::{Cell, Gate};
+use gos_plan::Wire;
+use gos_share::Sharing;
+use gos_types::Ty;
 use std::test::Fail;
-
-// The wire of a handshake at which these nets come in.
-fn wire(pulse: u32, value: u32) -> Wire {
-    Wire {
-        in_pulse: NetId(pulse),
-        in_value: NetId(value),
-        out_pulse: NetId(0),
-        out_value: NetId(0),
-    }
-}
 
 // Nets 100 to 105 come in at three handshakes, and 100 to 111 at six.
 fn three() -> [Wire; 3] {
-    [wire(100, 101), wire(102, 103), wire(104, 105)]
+    [wire_from(100, 101), wire_from(102, 103), wire_from(104, 105)]
 }
 
 fn six() -> [Wire; 6] {
     [
-        wire(100, 101),
-        wire(102, 103),
-        wire(104, 105),
-        wire(106, 107),
-        wire(108, 109),
-        wire(110, 111),
+        wire_from(100, 101),
+        wire_from(102, 103),
+        wire_from(104, 105),
+        wire_from(106, 107),
+        wire_from(108, 109),
+        wire_from(110, 111),
     ]
-}
-
-// Places a Share in a pool of its own, and gives the cells.
-fn placed(alloc: Global, part: &Sharing, wires: &mut [Wire]) -> Result<Vec<Cell>, NoMemory>
-    requires { length wires.old ≡ length (part_contacts (Share (type_of part.now))) }
-{
-    let size = part.size();
-    let mut pool = NetPool::new(alloc);
-    pool.reserve(size as usize + 1)?;
-    let mut region = pool.begin();
-    part.outs(NetId(region.start()), wires);
-    part.place(&mut pool, &mut region, wires);
-    pool.finish(region);
-    Ok(pool.into_cells())
 }
 
 // How many of the cells are registers.

@@ -1,8 +1,5 @@
 // Each public function once, at types whose handshakes and texts are written out by hand.
-use crate::fault::NoMemory;
-use crate::shakes::{Role, Step, count, handshakes};
-use crate::text::print_ty;
-use crate::types::{Ty, copy, is_ground, same};
+use gos_types::{NoMemory, Role, Step, Ty, copy, count, handshakes, is_ground, print_ty, same};
 use std::alloc::Global;
 use std::test::Fail;
 

@@ -7,10 +7,9 @@ use Rattle.gos_check.specs.declared.linear.Split.{Split}
 use Rattle.gos_check.specs.declared.linear.Node.{Node}
 use Rattle.gos_check.specs.declared.linear.NodeForm.{NodeForm}
 use Rattle.gos_check.specs.declared.linear.NodeForm.TheVariants as forms
-use Rattle.gos_check.specs.Nodes.{numbered_of, node_seen}
-use Rattle.gos_check.specs.inner.Numbering.{type_in}
+use Rattle.gos_check.specs.Nodes.{numbered_of, node_seen, type_of_node}
 
-type_of_form : (t : Ty) (ss : List Split) (f : NodeForm) → type_of t ≡ type_in (numbered_of t ss f)
+type_of_form : (t : Ty) (ss : List Split) (f : NodeForm) → type_of t ≡ type_of_node (numbered_of t ss f)
 type_of_form t ss forms.Skip = refl
 type_of_form t ss (forms.Lit k w) = refl
 type_of_form t ss (forms.Use n) = refl
@@ -29,5 +28,5 @@ type_of_form t ss (forms.Deref' p a qs f) = refl
 type_of_form t ss (forms.Not' p a qs f) = refl
 type_of_form t ss (forms.Bin' op p a qs f q b rs g) = refl
 
-pub type_seen : (node : Node) → type_of node.ty ≡ type_in (node_seen node)
+pub type_seen : (node : Node) → type_of node.ty ≡ type_of_node (node_seen node)
 type_seen node = type_of_form node.ty node.splits.items node.form

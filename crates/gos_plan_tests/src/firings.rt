@@ -1,8 +1,5 @@
 // Small plans, fired step by step by the slow program.
-use crate::fault::ObjectFault;
-use crate::firing::{Firing, Phase, Puts, Slot, State, Token, fire};
-use crate::plan::{End, Plan};
-use crate::reading::read_object;
+use gos_plan::{End, Firing, ObjectFault, Phase, Plan, Puts, Slot, State, Token, fire, read_object};
 use gos_types::NoMemory;
 use std::alloc::{AllocError, Global};
 use std::test::Fail;

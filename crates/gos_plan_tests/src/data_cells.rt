@@ -1,43 +1,13 @@
-// The gates of each kind, each placed alone in a pool that has room for its cells and its region, and for no more.
-ghost use Rattle.std.specs.Prelude.{◌≡◌, ◌≤◌, length};
-ghost use Rattle.gos_plan.specs.Kinds.{part_contacts};
-ghost use Rattle.gos_plan.specs.Seen.{part_of};
-
-use crate::arith::Arith;
-use gos_netlist::{Cell, Gate, NetId};
-use gos_plan::{Kind, Macro, Op2, Wire};
-use gos_pool::NetPool;
-use gos_types::NoMemory;
-use std::alloc::Global;
+// Each kind that gives, computes, reads or writes numbers, alone in a pool with room for exactly its cells and one region.
+use crate::trial::{placed, wire_from};
+use gos_data::Arith;
+use gos_netlist::Gate;
+use gos_plan::{Kind, Op2};
 use std::test::Fail;
-
-// A wire by whose handshake these nets come in.
-fn wire(pulse: u32, value: u32) -> Wire {
-    Wire {
-        in_pulse: NetId(pulse),
-        in_value: NetId(value),
-        out_pulse: NetId(0),
-        out_value: NetId(0),
-    }
-}
-
-// The cells of a part that stands alone in a netlist.
-fn placed(alloc: Global, gates: &Arith, wires: &mut [Wire]) -> Result<Vec<Cell>, NoMemory>
-    requires wires { length wires.old ≡ length (part_contacts (part_of gates.now)) }
-    requires few { length wires.old ≤ 4 }
-{
-    let mut pool = NetPool::new(alloc);
-    pool.reserve(gates.size() as usize + 1)?;
-    let mut region = pool.begin();
-    gates.outs(NetId(0), wires);
-    gates.place(&mut pool, &mut region, wires);
-    pool.finish(region);
-    Ok(pool.into_cells())
-}
 
 #[test]
 fn literal_is_placed(rt: HostRuntime) -> Result<(), Fail> {
-    let mut wires = [wire(70, 0)];
+    let mut wires = [wire_from(70, 0)];
     let cells = placed(rt.alloc(), &Arith(Kind::Lit { w: 4, k: 9 }), &mut wires)?;
     assert_eq!(rt; cells.len(), 3);
     assert_eq!(rt; (wires[0].out_pulse.0, wires[0].out_value.0), (0, 2));
@@ -50,7 +20,7 @@ fn literal_is_placed(rt: HostRuntime) -> Result<(), Fail> {
 
 #[test]
 fn subtraction_is_placed(rt: HostRuntime) -> Result<(), Fail> {
-    let mut wires = [wire(70, 71), wire(72, 73), wire(74, 0)];
+    let mut wires = [wire_from(70, 71), wire_from(72, 73), wire_from(74, 0)];
     let cells = placed(
         rt.alloc(),
         &Arith(Kind::Op { op: Op2::Sub, w: 8 }),
@@ -67,7 +37,7 @@ fn subtraction_is_placed(rt: HostRuntime) -> Result<(), Fail> {
 
 #[test]
 fn comparison_has_one_bit(rt: HostRuntime) -> Result<(), Fail> {
-    let mut wires = [wire(70, 71), wire(72, 73), wire(74, 0)];
+    let mut wires = [wire_from(70, 71), wire_from(72, 73), wire_from(74, 0)];
     let cells = placed(
         rt.alloc(),
         &Arith(Kind::Op {
@@ -83,7 +53,7 @@ fn comparison_has_one_bit(rt: HostRuntime) -> Result<(), Fail> {
 
 #[test]
 fn complement_is_placed(rt: HostRuntime) -> Result<(), Fail> {
-    let mut wires = [wire(70, 71), wire(72, 0)];
+    let mut wires = [wire_from(70, 71), wire_from(72, 0)];
     let cells = placed(rt.alloc(), &Arith(Kind::Not { w: 32 }), &mut wires)?;
     assert_eq!(rt; cells.len(), 4);
     assert_eq!(rt; (wires[1].out_pulse.0, wires[1].out_value.0), (1, 3));
@@ -92,7 +62,7 @@ fn complement_is_placed(rt: HostRuntime) -> Result<(), Fail> {
 
 #[test]
 fn assignment_is_placed(rt: HostRuntime) -> Result<(), Fail> {
-    let mut wires = [wire(70, 71), wire(72, 0), wire(74, 0)];
+    let mut wires = [wire_from(70, 71), wire_from(72, 0), wire_from(74, 0)];
     let cells = placed(rt.alloc(), &Arith(Kind::Assign { w: 1 }), &mut wires)?;
     assert_eq!(rt; cells.len(), 4);
     assert_eq!(rt; (wires[1].out_pulse.0, wires[1].out_value.0), (1, 2));
@@ -101,7 +71,7 @@ fn assignment_is_placed(rt: HostRuntime) -> Result<(), Fail> {
 
 #[test]
 fn read_is_placed(rt: HostRuntime) -> Result<(), Fail> {
-    let mut wires = [wire(70, 71), wire(72, 0)];
+    let mut wires = [wire_from(70, 71), wire_from(72, 0)];
     let cells = placed(rt.alloc(), &Arith(Kind::Deref { w: 16 }), &mut wires)?;
     assert_eq!(rt; cells.len(), 3);
     assert_eq!(rt; (wires[1].out_pulse.0, wires[1].out_value.0), (1, 2));
@@ -110,7 +80,7 @@ fn read_is_placed(rt: HostRuntime) -> Result<(), Fail> {
 
 #[test]
 fn local_of_a_command_is_placed(rt: HostRuntime) -> Result<(), Fail> {
-    let mut wires = [wire(70, 0), wire(72, 0), wire(74, 75), wire(76, 0)];
+    let mut wires = [wire_from(70, 0), wire_from(72, 0), wire_from(74, 75), wire_from(76, 0)];
     let cells = placed(rt.alloc(), &Arith(Kind::Local { w: 8, v: 0 }), &mut wires)?;
     assert_eq!(rt; cells.len(), 9);
     assert_eq!(rt; (wires[3].out_pulse.0, wires[3].out_value.0), (8, 0));
@@ -119,7 +89,7 @@ fn local_of_a_command_is_placed(rt: HostRuntime) -> Result<(), Fail> {
 
 #[test]
 fn local_of_an_expression_is_placed(rt: HostRuntime) -> Result<(), Fail> {
-    let mut wires = [wire(70, 71), wire(72, 0), wire(74, 75), wire(76, 0)];
+    let mut wires = [wire_from(70, 71), wire_from(72, 0), wire_from(74, 75), wire_from(76, 0)];
     let cells = placed(rt.alloc(), &Arith(Kind::Local { w: 8, v: 5 }), &mut wires)?;
     assert_eq!(rt; cells.len(), 10);
     assert_eq!(rt; (wires[3].out_pulse.0, wires[3].out_value.0), (8, 9));

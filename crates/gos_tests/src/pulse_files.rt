@@ -1,13 +1,19 @@
 // Pulse files for a circuit with three ports: their faults by line, what a right one says, and the text of a trace.
+ghost use Rattle.std.specs.Prelude.{◌≡◌, true, false, length, IfOk};
+ghost use Rattle.gos_netlist.specs.Events.{events_of};
+ghost use Rattle.gos_pulse.specs.Guarding.{halves_of};
 
-use crate::{Guard, PulseFault, Pulses, Trace, TraceLine, print_trace, read_pulses};
 use gos_lex::{LexFault, Name};
 use gos_netlist::{Ground, Netlist, Port, Side, events};
+use gos_pulse::{Guard, PulseFault, Pulses, Trace, TraceLine, print_trace, read_pulses};
 use std::alloc::Global;
 use std::test::Fail;
 
-// main.run, main.done, c.run, c.done, x.ask, x.ans of 4 bits
-fn circuit(alloc: Global) -> Result<Netlist, LexFault> {
+// main.run, main.done, c.run, c.done, x.ask, x.ans of 4 bits: three come in, and three go out.
+fn circuit(alloc: Global) -> Result<Netlist, LexFault>
+    ensures inputs { IfOk result (λ net. length (halves_of true (events_of net)) ≡ 3) }
+    ensures outputs { IfOk result (λ net. length (halves_of false (events_of net)) ≡ 3) }
+{
     let main = Port {
         name: Name::new(alloc, b"main")?,
         side: Side::Give,
@@ -133,8 +139,6 @@ fn guards_each_handshake(rt: HostRuntime) -> Result<(), Fail> {
     let alloc = rt.alloc();
     let net = circuit(alloc)?;
     let mut guard = Guard::new(alloc, &net)?;
-    assert_eq!(rt; guard.inputs.len(), 3);
-    assert_eq!(rt; guard.outputs.len(), 3);
     assert!(rt; guard.allows(0) && !guard.allows(1) && !guard.allows(2));
     guard.saw_input(0);
     assert!(rt; !guard.allows(0));
