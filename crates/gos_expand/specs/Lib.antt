@@ -6,10 +6,10 @@ pub mod Blocks
 pub mod Tokens
 pub mod Starts
 pub mod Arrivals
-pub mod Numbering
 pub mod Laid
 pub mod Outers
 pub mod Facts
 pub mod Acceptance
+pub mod Numbering
 pub mod Runs
 pub mod SmallNets

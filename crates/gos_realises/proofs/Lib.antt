@@ -3,6 +3,8 @@ mod OneJointLemmas
 mod SkipLemmas
 mod NameLemmas
 mod TraceLemmas
+mod SmallLinkLemmas
+mod SmallTurnLemmas
 mod SmallLemmas
 mod RenumberLemmas
 mod RotateLemmas

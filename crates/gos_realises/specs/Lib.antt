@@ -6,6 +6,8 @@ pub mod Wirings
 pub mod Realises
 pub mod Slim
 pub mod Modules
+pub mod SmallTurns
+pub mod SmallLinks
 pub mod SmallRealisers
 pub mod OtherPlans
 pub mod Fitting

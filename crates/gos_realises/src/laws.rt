@@ -1,8 +1,31 @@
 // What the definitions give. Each theorem is the contract of a function that does nothing.
 ghost use Rattle.gos_realises.specs.Fitting.{AppliedFits, SidesFit, VariablesFit, SuppliedFits};
 ghost use Rattle.gos_realises.specs.Renumbered.{RenumberingKeeps};
+ghost use Rattle.gos_realises.specs.SmallLinks.{SameFits, NumberDoesNotFit, TwiceDoesNotFit, PartDoesNotFit, NowhereDoesNotFit, SkipIsSlim, WeightIsNeeded};
+ghost use Rattle.gos_realises.specs.SmallTurns.{SkipIsRegular, BothSidesAreNot};
 ghost use Rattle.gos_realises.specs.SmallRealisers.{SkipIsRealised, NameIsRealised, UseIsRealised, ListsAreTraces};
 ghost use Rattle.gos_realises.specs.OtherPlans.{EmptyIsNotSkip, EmptyIsNoFunction, OrderIsTold, OtherTypesAreNot, NoNumberIsDone, WildIsNot};
+
+/// The plan of `skip` keeps turns. One that asks both sides of a product at once does not.
+pub fn turns()
+    ensures skip { SkipIsRegular }
+    ensures both { BothSidesAreNot }
+{}
+
+/// Links fit where both ends are there and have one handshake from its two sides, and nothing is linked twice.
+pub fn small_links()
+    ensures same { SameFits }
+    ensures number { NumberDoesNotFit }
+    ensures twice { TwiceDoesNotFit }
+    ensures part { PartDoesNotFit }
+    ensures nowhere { NowhereDoesNotFit }
+{}
+
+/// The plan of `skip` is slim, by its weight.
+pub fn slim()
+    ensures skip { SkipIsSlim }
+    ensures weight { WeightIsNeeded }
+{}
 
 /// The plans of `skip` and of a name realise them, and that of the use of a function does, whatever stands for the
 /// function.

@@ -6,4 +6,7 @@
 
 mod laws;
 
-pub use laws::{links, lists_are_traces, others_are_refused, renumbering, small_realisers};
+pub use laws::{
+    links, lists_are_traces, others_are_refused, renumbering, slim, small_links, small_realisers,
+    turns,
+};
