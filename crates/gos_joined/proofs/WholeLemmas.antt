@@ -1,5 +1,4 @@
 -- All that realising speaks of is joined, since its links fit.
-use Rattle.gos_plan.specs.Plans.{Plan}
 use Rattle.gos_realises.specs.Regular.{count}
 use Rattle.gos_realises.specs.Wirings.{reading, writing, side, applying}
 use Rattle.gos_realises.specs.Modules.{supplying}

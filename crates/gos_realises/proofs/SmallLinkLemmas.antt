@@ -1,12 +1,11 @@
 -- Small wirings whose links fit or do not, and a small plan that is slim.
-use Rattle.std.specs.Prelude.{◌≡◌, ℕ, Some}
-use Rattle.std.proofs.Common.{refl, sym, ◌∙◌, ap, subst, arith, inl}
-use Rattle.gos_types.specs.Types.{Com, Exp}
-use Rattle.gos_plan.specs.Kinds.{Lit, Contact, asks, serves, turned_contact}
+use Rattle.std.specs.Prelude.{◌≡◌}
+use Rattle.std.proofs.Common.{refl, sym, ◌∙◌, ap, arith, inl}
+use Rattle.gos_types.specs.Types.{Com}
+use Rattle.gos_plan.specs.Kinds.{Contact, asks, serves, turned_contact}
 use Rattle.gos_plan.specs.Plans.{ResultEnd}
 use Rattle.gos_plan.specs.Joining.{place}
 use Rattle.gos_plan.specs.SmallPlans.{skip_plan, same_plan}
-use Rattle.gos_realises.specs.Wirings.{lone}
 use Rattle.gos_realises.specs.SmallLinks.{SameFits, NumberDoesNotFit, argument_link, TwiceDoesNotFit, PartDoesNotFit, NowhereDoesNotFit, SkipIsSlim, WeightIsNeeded}
 use Rattle.gos_realises.proofs.FittingLemmas.{applied_fits}
 use Rattle.gos_realises.proofs.SkipLemmas.{skip_is_realised}

@@ -1,5 +1,5 @@
 -- The plan that asks both sides of a product at once: its run, the firing of its Par, and two outputs.
-use Rattle.std.specs.Prelude.{◌≡◌, ℕ, List, [], ◌∷◌, Some, None}
+use Rattle.std.specs.Prelude.{List, [], ◌∷◌, Some, None}
 use Rattle.std.proofs.Common.{refl, arith}
 use Rattle.gos_netlist.specs.Events.{Request}
 use Rattle.gos_plan.specs.Firing.{Both, Req, Row, at, put}

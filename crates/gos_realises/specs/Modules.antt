@@ -1,7 +1,7 @@
 -- What it means that a plan realises a module: with imports of any types, whatever realises these may be put in.
 --
 -- Read first: Realises, Slim.
-use Rattle.std.specs.Prelude.{◌≡◌, ℕ, zero, suc, List, [], ◌∷◌, ◌++◌, Option, Some, None, if◌then◌else◌}
+use Rattle.std.specs.Prelude.{ℕ, zero, suc, List, [], ◌∷◌, ◌++◌, Option, Some, None, if◌then◌else◌}
 use Rattle.std.specs.Str.{bytes_eq}
 use Rattle.gos_model.specs.Terms.{Name, Term}
 use Rattle.gos_model.specs.Typing.{Imported, Typed}
