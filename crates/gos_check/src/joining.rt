@@ -135,7 +135,9 @@ pub(crate) fn with_three(
     no: NumberedTerm,
 ) -> Result<NumberedTerm, CheckFault>
     requires { no.next + length inner.names.items + length no.names.items < 2 ^ 32 }
-    ensures node { IfOk result (λ r. node_seen r.node ≡ If (type_in (node_seen yes)) (merged_splits inner.names.items no.names.items no.next ++ inner.splits.items) (node_seen test) (node_seen yes) (node_seen no.node)) }
+    ensures node { IfOk result (λ r. node_seen r.node ≡ If (type_in (node_seen yes))
+        (merged_splits inner.names.items no.names.items no.next ++ inner.splits.items) (node_seen test)
+        (node_seen yes) (node_seen no.node)) }
     ensures names { IfOk result (λ r. r.names.items ≡ merged_names inner.names.items no.names.items no.next) }
     ensures next { IfOk result (λ r. r.next ≡ merged_next inner.names.items no.names.items no.next) }
     ensures room { IfOk result (λ r. r.next + length r.names.items ≤ no.next + length inner.names.items + length no.names.items) }

@@ -62,7 +62,8 @@ impl TwoParts {
         m: Node,
         n: Node,
     ) -> Result<Node, CheckFault>
-        ensures ok { IfOk result (λ node. node_seen node ≡ Two (two_type (two_form self) (type_in (node_seen m)) (type_in (node_seen n))) splits.items (two_form self) (node_seen m) (node_seen n)) }
+        ensures ok { IfOk result (λ node. node_seen node ≡ Two (two_type (two_form self) (type_in (node_seen m))
+            (type_in (node_seen n))) splits.items (two_form self) (node_seen m) (node_seen n)) }
         ensures err { IfErr result (λ e. e ≡ CheckFault.NoMemory) }
     {
         let ty = self.node_type(alloc, &m.ty, &n.ty)?;
