@@ -8,6 +8,9 @@ mod SmallTurnLemmas
 mod SmallLemmas
 mod RenumberLemmas
 mod RotateLemmas
+mod LeftLemmas
+mod AloneLemmas
 mod UseLemmas
 pub mod FittingLemmas
 mod FunctionLemmas
+mod ModuleLemmas

@@ -17,6 +17,7 @@ use Rattle.gos_realises.specs.Links.{LinkFits, StandsIn, LinksFit, IsJoined}
 use Rattle.gos_realises.specs.Wirings.{applying, link}
 use Rattle.gos_realises.specs.SmallRealisers.{use_plan, UseIsRealised}
 use Rattle.gos_realises.specs.Renumbered.{moved, moved_if, IsRenumbered}
+use Rattle.gos_realises.proofs.LeftLemmas.{left_list, left_all, imports_left, left_at}
 use Rattle.gos_realises.proofs.RenumberLemmas.{moved_twice, tests_agree, renumbering_keeps}
 use Rattle.gos_realises.proofs.RotateLemmas.{forth, back, returns, comes, back_below, back_at, by_place, rotated, map_contains}
 use Rattle.gos_realises.proofs.SkipLemmas.{skip_is_realised}
@@ -34,32 +35,6 @@ before q =
 
 abbrev after : Plan → Wiring
 after q = applying Com Com q skip_plan
-
--- all imports of a plan that no link joins
-abbrev left_list : ℕ → ℕ → List Imported → List LeftImport
-left_list k i [] = []
-left_list k i (x ∷ xs) = record { plan = k; number = i; import = x } ∷ left_list k (suc i) xs
-
-left_all : (ls : List Link) (k : ℕ) → ((j : ℕ) → is_joined ls k j ≡ false) → (i : ℕ) (xs : List Imported) → left_in ls k i xs ≡ left_list k i xs
-left_all ls k none i [] = refl
-left_all ls k none i (x ∷ xs) =
-    let free = none i in
-    let rest = left_all ls k none (suc i) xs in rw free (ap (λ l. record { plan = k; number = i; import = x } ∷ l) rest)
-
-imports_left : (k i : ℕ) (xs : List Imported) → map (λ l. l.import) (left_list k i xs ++ []) ≡ xs
-imports_left k i [] = refl
-imports_left k i (x ∷ xs) = ap (λ l. x ∷ l) (imports_left k (suc i) xs)
-
-left_at : (k i : ℕ) (xs : List Imported) (j : ℕ) (x : Imported) → slice_get xs j ≡ Some x
-    → slice_get (left_list k i xs ++ []) j ≡ Some (record { plan = k; number = i + j; import = x })
-left_at k i [] j x there = absurd (cc there)
-left_at k i (y ∷ xs) zero x there =
-    let e : i ≡ i + 0 = omega arith in
-    let same : y ≡ x = cc there in
-    λ l. Some (record { plan = k; number = e l; import = same l })
-left_at k i (y ∷ xs) (suc j) x there =
-    left_at k (suc i) xs j x there
-    ∙ (let e : suc i + j ≡ i + suc j = omega arith in λ l. Some (record { plan = k; number = e l; import = x }))
 
 left_before : (q : Plan) → all_left (before q) ≡ left_list 1 0 q.imports ++ []
 left_before q = ap (λ l. l ++ []) (left_all (before q).links 1 (λ j. refl) 0 q.imports)

@@ -12,3 +12,4 @@ pub mod SmallRealisers
 pub mod OtherPlans
 pub mod Fitting
 pub mod Renumbered
+pub mod Alone

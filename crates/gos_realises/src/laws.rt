@@ -1,4 +1,5 @@
 // What the definitions give. Each theorem is the contract of a function that does nothing.
+ghost use Rattle.gos_realises.specs.Alone.{AloneIsItself, OrderIsFree, SkipModuleIsRealised};
 ghost use Rattle.gos_realises.specs.Fitting.{AppliedFits, SidesFit, VariablesFit, SuppliedFits};
 ghost use Rattle.gos_realises.specs.Renumbered.{RenumberingKeeps};
 ghost use Rattle.gos_realises.specs.SmallLinks.{SameFits, NumberDoesNotFit, TwiceDoesNotFit, PartDoesNotFit, NowhereDoesNotFit, SkipIsSlim, WeightIsNeeded};
@@ -57,6 +58,14 @@ pub fn links()
     ensures sides { SidesFit }
     ensures variables { VariablesFit }
     ensures supplied { SuppliedFits }
+{}
+
+/// A plan joined to nothing is itself, but for the order of its joints, which nobody sees; so the plan of `skip` realises
+/// its module.
+pub fn alone()
+    ensures itself { AloneIsItself }
+    ensures order { OrderIsFree }
+    ensures module { SkipModuleIsRealised }
 {}
 
 /// Renumbering the parts of a plan keeps it regular, and realising its program.
