@@ -5,7 +5,7 @@ use Rattle.std.proofs.lemmas.List.{length-map}
 use Rattle.gos_types.specs.Types.{Type', Pair, Fun}
 use Rattle.gos_compile.specs.declared.points.Place.{Place}
 use Rattle.gos_compile.specs.declared.points.Point.{Point}
-use Rattle.gos_compile.specs.Regular.{count}
+use Rattle.gos_realises.specs.Regular.{count}
 use Rattle.gos_compile.specs.Wiring.{point, row}
 
 row_longer : (place : Place) (h n k : ℕ) → k ≡ h + n → row place h n ++ point place k ∷ [] ≡ row place h (suc n)

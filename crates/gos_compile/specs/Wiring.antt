@@ -18,7 +18,7 @@ use Rattle.gos_compile.specs.declared.points.Place.{Place}
 use Rattle.gos_compile.specs.declared.points.Place.TheVariants as places
 use Rattle.gos_compile.specs.declared.points.Point.{Point}
 use Rattle.gos_compile.specs.declared.points.Tie.{Tie}
-use Rattle.gos_compile.specs.Regular.{count}
+use Rattle.gos_realises.specs.Regular.{count}
 
 -- a point: a handshake of a place
 abbrev pub point : Place → ℕ → Point

@@ -8,7 +8,7 @@ ghost use Rattle.std.specs.Prelude.{◌≡◌, ◌∷◌, [], take, drop, IfOk, 
 ghost use Rattle.gos_types.specs.Types.{type_of};
 ghost use Rattle.gos_plan.specs.Kinds as kinds;
 ghost use Rattle.gos_check.specs.Nodes.{node_seen, OfFun, OfNew, argument_of};
-ghost use Rattle.gos_compile.specs.Regular.{count};
+ghost use Rattle.gos_realises.specs.Regular.{count};
 ghost use Rattle.gos_compile.specs.inner.Tables.{types_at};
 ghost use Rattle.gos_compile.specs.inner.Walked.{seen, next_part, with_own, with_shares, wired, one_form, two_form};
 ghost use Rattle.gos_compile.specs.Wiring.{type_of_node, led, point, answer_bits, binder_part, binder_ties, binder_out, one_part, two_part, one_ties, two_ties, one_out, first_out, second_out};

@@ -49,7 +49,7 @@ import_ground : (p : SeenPlan) (root : List ℕ) → CanBeLaid p root → (i : �
     → IsGround t.ty × HasWidths t.ty
 import_ground p root can i t is =
     let (x, found, same) = mapped_found import_of p.imports i t is in
-    let ground = one_of_all (λ y. IsGround (type_of y.ty)) p.imports i x can.ground found in
+    let ground = one_of_all (λ y. IsGround (type_of y.ty)) p.imports i x can.ports.ground found in
     let small = one_of_all (λ y. HasWidths (type_of y.ty)) p.imports i x (λ k d low. (can.in_range.of_imports k d low).0) found in
     subst (λ (y : Imported). IsGround y.ty × HasWidths y.ty) same (ground, small)
 
@@ -88,7 +88,7 @@ sound p root can =
       gates = part_fits p root can;
       narrow = narrow p root can;
       right = can.right;
-      done = can.result;
+      done = can.ports.result;
       done_widths = can.in_range.of_result.0;
       grounds = λ i t is. (import_ground p root can i t is).0;
       ground_widths = λ i t is. (import_ground p root can i t is).1;

@@ -18,8 +18,8 @@ use Rattle.gos_model.specs.Protocol.{taken_by}
 use Rattle.gos_plan.specs.Plans.{Plan}
 use Rattle.gos_plan.specs.Tokens.{Element}
 use Rattle.gos_plan.specs.Cycles.{import_number, out_of, in_of, outs_of, ins_of}
-use Rattle.gos_compile.specs.Matched.{shows, all_shown}
-use Rattle.gos_compile.specs.Realises.{AllGround, NamesDiffer}
+use Rattle.gos_realises.specs.Matched.{shows, all_shown}
+use Rattle.gos_realises.specs.Realises.{AllGround, NamesDiffer}
 use Rattle.gos_pace.specs.Ports.{AreTaken, HasPorts}
 
 -- names

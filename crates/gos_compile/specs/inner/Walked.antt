@@ -20,7 +20,7 @@ use Rattle.gos_compile.specs.declared.forms.OneRule.{OneRule}
 use Rattle.gos_compile.specs.declared.forms.OneRule.TheVariants as one
 use Rattle.gos_compile.specs.declared.forms.TwoRule.{TwoRule}
 use Rattle.gos_compile.specs.declared.forms.TwoRule.TheVariants as two
-use Rattle.gos_compile.specs.Regular.{count}
+use Rattle.gos_realises.specs.Regular.{count}
 use Rattle.gos_compile.specs.Wiring.{Types, point, led, share_ties, type_of_node, answer_bits, closed_part, binder_part, one_part, two_part, binder_ties, one_ties, two_ties, binder_out, one_out, first_out, second_out}
 
 -- the parts and the ties so far, how many nodes were met, and whether each sequence and each choice of expressions has bits

@@ -9,7 +9,7 @@ use Rattle.gos_plan.specs.declared.kinds.Kind.{Kind}
 use Rattle.gos_plan.specs.Seen.{part_of}
 use Rattle.gos_compile.specs.declared.points.Place.TheVariants as places
 use Rattle.gos_compile.specs.declared.points.Tie.{Tie}
-use Rattle.gos_compile.specs.Regular.{count}
+use Rattle.gos_realises.specs.Regular.{count}
 use Rattle.gos_compile.specs.inner.Tables.{types_at}
 use Rattle.gos_compile.specs.inner.Walked.{seen, is_plain}
 use Rattle.gos_compile.specs.Wiring.{Types, row, with_types, all_types, import_ties}

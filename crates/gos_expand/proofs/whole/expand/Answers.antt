@@ -89,10 +89,10 @@ returns-clause-laid c =
 -- what the caller sees to, and what each plan is, are what the laws ask
 pub returns-clause-accepted : goal.returns-clause-accepted
 returns-clause-accepted c =
-    let can : CanBeLaid c.args.plan.now c.args.root.now = record { in_range = c.parts.ensures.in_range; right = c.place_joints.ensures.right; result = c.requires.result; ground = c.requires.ground; names = c.requires.names } in
+    let can : CanBeLaid c.args.plan.now c.args.root.now = record { in_range = c.parts.ensures.in_range; right = c.place_joints.ensures.right; ports = record { result = c.requires.result; ground = c.requires.ground }; names = c.requires.names } in
     subst IsAccepted (sym (returns-clause-laid c)) (laid_accepted c.args.plan.now c.args.root.now can)
 
 pub returns-clause-few : goal.returns-clause-few
 returns-clause-few c =
-    let can : CanBeLaid c.args.plan.now c.args.root.now = record { in_range = c.parts.ensures.in_range; right = c.place_joints.ensures.right; result = c.requires.result; ground = c.requires.ground; names = c.requires.names } in
+    let can : CanBeLaid c.args.plan.now c.args.root.now = record { in_range = c.parts.ensures.in_range; right = c.place_joints.ensures.right; ports = record { result = c.requires.result; ground = c.requires.ground }; names = c.requires.names } in
     subst (λ (net : Netlist). length net.cells ≤ plan_size (plan_of c.args.plan.now)) (sym (returns-clause-laid c)) (laid_small c.args.plan.now c.args.root.now can)

@@ -13,7 +13,7 @@ use Rattle.gos_model.specs.Typing.{Imported}
 use Rattle.gos_plan.specs.Plans.{End, PartEnd, ImportEnd, ResultEnd, Plan, contact_at}
 use Rattle.gos_plan.specs.Tokens.{Tokens, Element, Fire, Out, In, token_at, firing_of, Does, Runs, IsIdle, IsQuiet}
 use Rattle.gos_plan.specs.Orderly.{IsOrderly}
-use Rattle.gos_compile.specs.Regular.{way_in, way_out}
+use Rattle.gos_realises.specs.Regular.{way_in, way_out}
 
 -- the port of an import that there is; where there is none, the given one
 abbrev pub port_if : Option Imported → Port
