@@ -7,7 +7,11 @@ use std::test::Fail;
 
 // Nets 100 to 105 come in at three handshakes, and 100 to 107 at four.
 fn three() -> [Wire; 3] {
-    [wire_from(100, 101), wire_from(102, 103), wire_from(104, 105)]
+    [
+        wire_from(100, 101),
+        wire_from(102, 103),
+        wire_from(104, 105),
+    ]
 }
 
 fn four() -> [Wire; 4] {

@@ -80,7 +80,12 @@ fn read_is_placed(rt: HostRuntime) -> Result<(), Fail> {
 
 #[test]
 fn local_of_a_command_is_placed(rt: HostRuntime) -> Result<(), Fail> {
-    let mut wires = [wire_from(70, 0), wire_from(72, 0), wire_from(74, 75), wire_from(76, 0)];
+    let mut wires = [
+        wire_from(70, 0),
+        wire_from(72, 0),
+        wire_from(74, 75),
+        wire_from(76, 0),
+    ];
     let cells = placed(rt.alloc(), &Arith(Kind::Local { w: 8, v: 0 }), &mut wires)?;
     assert_eq!(rt; cells.len(), 9);
     assert_eq!(rt; (wires[3].out_pulse.0, wires[3].out_value.0), (8, 0));
@@ -89,7 +94,12 @@ fn local_of_a_command_is_placed(rt: HostRuntime) -> Result<(), Fail> {
 
 #[test]
 fn local_of_an_expression_is_placed(rt: HostRuntime) -> Result<(), Fail> {
-    let mut wires = [wire_from(70, 71), wire_from(72, 0), wire_from(74, 75), wire_from(76, 0)];
+    let mut wires = [
+        wire_from(70, 71),
+        wire_from(72, 0),
+        wire_from(74, 75),
+        wire_from(76, 0),
+    ];
     let cells = placed(rt.alloc(), &Arith(Kind::Local { w: 8, v: 5 }), &mut wires)?;
     assert_eq!(rt; cells.len(), 10);
     assert_eq!(rt; (wires[3].out_pulse.0, wires[3].out_value.0), (8, 9));

@@ -78,14 +78,14 @@ fn operators_compute(rt: HostRuntime) -> Result<(), Fail> {
     for (op, left, right, result) in rows {
         let mut wires = [wire(0), wire(1), wire(2)];
         let part = Arith(Kind::Op { op, w: 8 });
-    let cycles = [
+        let cycles = [
             row_of_four([NO, NO, PULSE, NO], [PULSE, NO, NO, NO]),
             row_of_four([Some(left), NO, NO, NO], [NO, NO, NO, NO]),
             row_of_four([NO, NO, NO, NO], [NO, PULSE, NO, NO]),
             row_of_four([NO, Some(right), NO, NO], [NO, NO, Some(result), NO]),
         ];
         let wrong = first_wrong(alloc, &part, [8, 8, 1, 1, 1, 1], &mut wires, &cycles)?;
-    assert_eq!(rt; wrong, None);
+        assert_eq!(rt; wrong, None);
     }
     Ok(())
 }

@@ -1,5 +1,7 @@
 // Small plans, fired step by step by the slow program.
-use gos_plan::{End, Firing, ObjectFault, Phase, Plan, Puts, Slot, State, Token, fire, read_object};
+use gos_plan::{
+    End, Firing, ObjectFault, Phase, Plan, Puts, Slot, State, Token, fire, read_object,
+};
 use gos_types::NoMemory;
 use std::alloc::{AllocError, Global};
 use std::test::Fail;

@@ -1,6 +1,8 @@
 // The worked examples: weights, and each fault with its places, names and numbers.
 
-use gos_check::{CheckFault, Linear, NodeForm, Split, Want, check, found_exactly, parsed_is_countable};
+use gos_check::{
+    CheckFault, Linear, NodeForm, Split, Want, check, found_exactly, parsed_is_countable,
+};
 use gos_lex::{Span, scan};
 use gos_syntax::parse;
 use gos_types::Ty;
