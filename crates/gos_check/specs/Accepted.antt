@@ -3,6 +3,7 @@
 -- Read first: Typing, Weight and Sources of gos_model; Judgements. What is accepted speaks of no order and of no fault.
 use Rattle.std.specs.Prelude.{◌≡◌, ◌≢◌, ◌↔◌, ℕ, ◌≤◌, List, [], ◌∷◌, Ok, MatchOption}
 use Rattle.gos_types.specs.Types.{Type', Var, type_of}
+use Rattle.gos_types.specs.Widths.{HasWidths}
 use Rattle.gos_syntax.specs.Modules.{SeenImport, SeenModule}
 use Rattle.gos_model.specs.Terms.{Name, Term, Skip, Lit, Bound, Import, Lam, App, Both, Fst, Snd, Seq, Par, If, While, Assign, Deref, New, Not, Bin, Loc, Scope, Wait, Held, Put}
 use Rattle.gos_model.specs.Typing.{Imports, Typed}

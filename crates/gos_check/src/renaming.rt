@@ -12,22 +12,32 @@ pub(crate) fn exchange(a: u32, b: u32, node: &mut Node)
 {
     exchange_splits(a, b, node.splits.as_mut_slice());
     match &mut node.form {
-        NodeForm::Skip | NodeForm::Lit { .. } => {}
+        NodeForm::Skip => {}
+        NodeForm::Lit { .. } => {}
         NodeForm::Use(number) => *number = exchanged(a, b, *number),
-        NodeForm::Fun { number, body } | NodeForm::New { number, body, .. } => {
+        NodeForm::Fun { number, body } => {
             *number = exchanged(a, b, *number);
             exchange(a, b, body);
         }
-        NodeForm::Fst(m) | NodeForm::Snd(m) | NodeForm::Deref(m) | NodeForm::Not(m) => {
-            exchange(a, b, m)
+        NodeForm::New { number, body, .. } => {
+            *number = exchanged(a, b, *number);
+            exchange(a, b, body);
         }
-        NodeForm::App(m, n)
-        | NodeForm::Pair(m, n)
-        | NodeForm::Seq(m, n)
-        | NodeForm::Par(m, n)
-        | NodeForm::While(m, n)
-        | NodeForm::Assign(m, n)
-        | NodeForm::Bin(_, m, n) => {
+        NodeForm::App(m, n) => {
+            exchange(a, b, m);
+            exchange(a, b, n);
+        }
+        NodeForm::Pair(m, n) => {
+            exchange(a, b, m);
+            exchange(a, b, n);
+        }
+        NodeForm::Fst(m) => exchange(a, b, m),
+        NodeForm::Snd(m) => exchange(a, b, m),
+        NodeForm::Seq(m, n) => {
+            exchange(a, b, m);
+            exchange(a, b, n);
+        }
+        NodeForm::Par(m, n) => {
             exchange(a, b, m);
             exchange(a, b, n);
         }
@@ -35,6 +45,20 @@ pub(crate) fn exchange(a: u32, b: u32, node: &mut Node)
             exchange(a, b, m);
             exchange(a, b, n);
             exchange(a, b, p);
+        }
+        NodeForm::While(m, n) => {
+            exchange(a, b, m);
+            exchange(a, b, n);
+        }
+        NodeForm::Assign(m, n) => {
+            exchange(a, b, m);
+            exchange(a, b, n);
+        }
+        NodeForm::Deref(m) => exchange(a, b, m),
+        NodeForm::Not(m) => exchange(a, b, m),
+        NodeForm::Bin(_, m, n) => {
+            exchange(a, b, m);
+            exchange(a, b, n);
         }
     }
 }

@@ -1,5 +1,5 @@
 -- The inputs that the pulses of a cycle give are in range.
-use Rattle.std.proofs.Common.{◌≡◌, ◌<◌, ◌^◌, inl, inr, ℕ, suc, Bool, true, false, not, cond, List, [], ◌∷◌, ◌++◌, length, refl, pow_pos, sym, ap, subst, ◌∙◌, arith, Some, true≢false}
+use Rattle.std.proofs.Common.{◌≡◌, ◌<◌, ◌^◌, inl, inr, ℕ, suc, Bool, true, false, not, cond, List, [], ◌∷◌, ◌++◌, length, refl, pow_pos, sym, ap, subst, ◌∙◌, arith, Some, None, true≢false}
 use Rattle.std.specs.Prelude.{slice_get, filter, IsFalse, All}
 use Rattle.std.specs.List.{flat_map, AllByRecursion}
 use Rattle.std.proofs.lemmas.Bool.{cases_lt}
