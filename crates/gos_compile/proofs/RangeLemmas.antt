@@ -139,7 +139,7 @@ NodesFit (One t ss f m) = AllByRecursion HasRange (one_part f t) × NodesFit m
 NodesFit (Two t ss f m n) = AllByRecursion HasRange (two_part f t (type_of_node n)) × NodesFit m × NodesFit n
 NodesFit (If t ss m n p) = HasRange (kinds.If (answer_bits t)) × NodesFit m × NodesFit n × NodesFit p
 
-node_typed : NodeHasType → (i : Imports) (g : List Type') (env : Meaning) (m : Numbered) (t : Type') → HasTypes i g env m
+pub node_typed : NodeHasType → (i : Imports) (g : List Type') (env : Meaning) (m : Numbered) (t : Type') → HasTypes i g env m
     → Typed i g (meaning env m) t → type_of_node m ≡ t
 node_typed law i g env (Closed u ss c) t has typed = has ∙ law i g c t typed
 node_typed law i g env (Use u ss n) t has typed = has ∙ law i g (env n) t typed

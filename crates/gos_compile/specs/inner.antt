@@ -6,3 +6,4 @@ pub mod Contacts
 pub mod Joined
 pub mod Found
 pub mod Counted
+pub mod Loads

@@ -1,6 +1,6 @@
 // The plan of a checked module.
 
-ghost use Rattle.std.specs.Prelude.{◌≡◌, map, IfOk};
+ghost use Rattle.std.specs.Prelude.{◌≡◌, ◌≤◌, length, map, IfOk};
 ghost use Rattle.gos_types.specs.Types.{type_of};
 ghost use Rattle.gos_model.specs.Sources as sources;
 ghost use Rattle.gos_check.specs.Checked.{program_in};
@@ -8,6 +8,7 @@ ghost use Rattle.gos_check.specs.Nodes.{node_seen};
 ghost use Rattle.gos_plan.specs.declared.fault.ObjectFault.TheVariants as ObjectFault;
 ghost use Rattle.gos_plan.specs.Seen as plans;
 ghost use Rattle.gos_plan.specs.Seen.{plan_of};
+ghost use Rattle.gos_compile.specs.Realises.{IsSlim};
 ghost use Rattle.gos_compile.specs.Wiring.{IsPlanOf};
 
 use crate::joints::{joints_of, tables_of};
@@ -24,6 +25,9 @@ use std::alloc::Global;
 /// memory alone.
 pub fn compile(alloc: Global, program: &Linear) -> Result<Plan, NoMemory>
     ensures plan { IfOk result (λ plan. IsPlanOf (program_in program.now).imports (type_of program.now.result) program.now.weight (node_seen program.now.term) (plan_of plan)) }
+    ensures slim { IfOk result (λ plan. IsSlim (plan_of plan)) }
+    ensures few_parts { IfOk result (λ plan. length (plan_of plan).parts ≤ 16384) }
+    ensures few_joints { IfOk result (λ plan. length (plan_of plan).joints ≤ 16384) }
 {
     types_of_terms();
     let wires = wires_of(alloc, program.imports(), program.term())?;

@@ -27,7 +27,7 @@ returns-clause-parts c =
     ∙ (c.in_ok-set_types.ensures ∙ ap (λ (types : Types). with_types m types) c.in_ok-types.ensures)
     in
     module_parts is m (types_at c.deref.result.now) c.deref-2.result.now
-    (record { parts = map part_of c.new.result.items; ties = c.tie_imports.new.ties.items; nodes = 0; plain = list_all is_plain c.new.result.items }) (seen c.wire.new.wires) known none c.in_ok-wire.ensures
+    (record { parts = map part_of c.new.result.items; ties = c.tie_imports.new.ties.items; nodes = 0; plain = list_all is_plain c.new.result.items }) (seen c.wire.new.wires) known none c.in_ok-wire.ensures.wired
 
 pub returns-clause-ties : goal.returns-clause-ties
 returns-clause-ties c =
@@ -41,8 +41,8 @@ returns-clause-ties c =
     module_ties is m (types_at c.deref.result.now) c.deref-2.result.now
     (record { parts = map part_of c.new.result.items; ties = c.tie_imports.new.ties.items; nodes = 0; plain = list_all is_plain c.new.result.items }) (seen c.wire.new.wires) known
     (c.deref-2.ensures.value
-    ∙ (c.in_ok-out.ensures ∙ ap (λ (n : ℕ). row places.Result 0 n) (c.in_ok-n.ensures ∙ ap (λ (t : Type'). count t) (type_seen c.args.node.now))))
-    none (c.in_ok-tie_imports.ensures ∙ ap (λ (ts : List Tie). ts ++ import_ties 0 is) c.new-ties.ensures.items) refl c.in_ok-wire.ensures
+    ∙ (c.in_ok-out.ensures ∙ ap (λ (n : ℕ). row places.Result 0 n) (c.shakes.ensures ∙ ap (λ (t : Type'). count t) (type_seen c.args.node.now))))
+    none (c.in_ok-tie_imports.ensures ∙ ap (λ (ts : List Tie). ts ++ import_ties 0 is) c.new-ties.ensures.items) refl c.in_ok-wire.ensures.wired
 
 pub returns-clause-plain : goal.returns-clause-plain
 returns-clause-plain c =
@@ -52,4 +52,4 @@ returns-clause-plain c =
       ties = c.tie_imports.new.ties.items;
       nodes = 0;
       plain = list_all is_plain c.new.result.items;
-    }) (seen c.wire.new.wires) (ap (λ (ks : List Kind). list_all is_plain ks) c.new.ensures.items) c.in_ok-wire.ensures
+    }) (seen c.wire.new.wires) (ap (λ (ks : List Kind). list_all is_plain ks) c.new.ensures.items) c.in_ok-wire.ensures.wired

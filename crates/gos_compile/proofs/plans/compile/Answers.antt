@@ -17,8 +17,8 @@ use Rattle.gos_compile.proofs.RightLemmas.{right_joints, no_fault}
 use Rattle.gos_compile.proofs.PlanLemmas.{is_plan}
 use Rattle.gos_compile.proofs.plans.compile.Goals as goal
 
-pub tables_of-requires : goal.tables_of-requires
-tables_of-requires c =
+pub tables_of-requires-clause-thin : goal.tables_of-requires-clause-thin
+tables_of-requires-clause-thin c =
     let ties : c.in_ok-wires.wires.ties.items ≡ all_ties (program_in c.args.program.now).imports (node_seen c.args.program.now.term) =
     c.in_ok-wires.ensures.ties ∙ (λ i. all_ties (map sources.import_of (c.imports.ensures i)) (node_seen (c.term.ensures.value i)))
     in
@@ -48,7 +48,7 @@ returns-in-Ok c =
     c.in_ok-wires.ensures.ties ∙ (λ i. all_ties (map sources.import_of (c.imports.ensures i)) (node_seen (c.term.ensures.value i)))
     in
     let known : AreTables ts c.in_ok-tables.tables =
-    subst (λ (us : List Tie). AreTables us c.in_ok-tables.tables) c.deref.ensures.value c.in_ok-tables.ensures
+    subst (λ (us : List Tie). AreTables us c.in_ok-tables.tables) c.deref.ensures.value c.in_ok-tables.ensures.tables
     in
     let found : map joint_of s.joints ≡ all_found (bare s.imports s.outcome s.parts) (far_by c.in_ok-tables.tables) ts =
     ap (λ (p : SeenPlan). map joint_of p.joints) e
@@ -89,7 +89,7 @@ only_memory-requires c =
     subst (λ (us : List Tie). IsThin us) (sym ties) (thin (program_in c.args.program.now) (node_seen c.args.program.now.term) c.term.ensures.checked.term)
     in
     let known : AreTables ts c.in_ok-tables.tables =
-    subst (λ (us : List Tie). AreTables us c.in_ok-tables.tables) c.deref.ensures.value c.in_ok-tables.ensures
+    subst (λ (us : List Tie). AreTables us c.in_ok-tables.tables) c.deref.ensures.value c.in_ok-tables.ensures.tables
     in
     let found : map joint_of s.joints ≡ all_found (bare s.imports s.outcome s.parts) (far_by c.in_ok-tables.tables) ts =
     c.in_ok-joints.ensures
