@@ -137,7 +137,7 @@ splits_agree env (s ∷ ss) types last later once before (one, bound) comes =
 
     differ : s.right ≢ s.left
     differ e =
-        let same : (if nat_eq s.left s.right then 1 else 0) ≡ 1 = rw (eq_true s.left s.right (sym e)) refl in
+        let same : 0 + (if nat_eq s.left s.right then 1 else 0) ≡ 1 = rw (eq_true s.left s.right (sym e)) refl in
         omega (arith, right_once, same)
 
     at_right : last s.right ≡ types s.of

@@ -121,12 +121,12 @@ AllBound env (If t ss m n p) = SplitsBound env ss × AllBound (inside ss env) m 
 
 none_split : (env : Meaning) (ss : List Split) → length (lost env ss) ≡ 0 → SplitsBound env ss
 none_split env [] h = tt
-none_split env (s ∷ ss) h = by (is_bound (env s.of)) refl h
+none_split env (s ∷ ss) h = by (is_bound (env s.of)) refl (none_split (inside_one s env) ss) h
   where
-    by : (b : Bool) → is_bound (env s.of) ≡ b
+    by : (b : Bool) → is_bound (env s.of) ≡ b → (length (lost (inside_one s env) ss) ≡ 0 → SplitsBound (inside_one s env) ss)
         → length (if b then lost (inside_one s env) ss else s ∷ lost (inside_one s env) ss) ≡ 0 → SplitsBound env (s ∷ ss)
-    by true e l = (e, none_split (inside_one s env) ss l)
-    by false e l = absurd (omega (arith, l))
+    by true e rest l = (e, rest l)
+    by false e rest l = absurd (omega (arith, l))
 
 pub all_bound : (env : Meaning) (m : Numbered) → length (all_lost env m) ≡ 0 → AllBound env m
 all_bound env (Closed t ss c) h = none_split env ss h

@@ -34,17 +34,18 @@ without x (y ∷ ys) = if same_end y x then ys else y ∷ without x ys
 without_one : (x : End) (ys : List End) → 0 < appears x ys
     → ((e : End) → appears e ys ≡ (if same_end x e then 1 else 0) + appears e (without x ys)) × (length ys ≡ suc (length (without x ys)))
 without_one x [] h = absurd (omega (arith, h))
-without_one x (y ∷ ys) h = by (same_end y x) refl h
+without_one x (y ∷ ys) h = by (same_end y x) refl (without_one x ys) h
   where
-    by : (b : Bool) → same_end y x ≡ b → 0 < (if b then 1 else 0) + appears x ys
+    by : (b : Bool) → same_end y x ≡ b
+        → (0 < appears x ys → ((e : End) → appears e ys ≡ (if same_end x e then 1 else 0) + appears e (without x ys)) × (length ys ≡ suc (length (without x ys))))
+        → 0 < (if b then 1 else 0) + appears x ys
         → ((e : End) → appears e (y ∷ ys) ≡ (if same_end x e then 1 else 0) + appears e (if b then ys else y ∷ without x ys))
         × (length (y ∷ ys) ≡ suc (length (if b then ys else y ∷ without x ys)))
-    by true t some =
+    by true t rest some =
         let same : y ≡ x = same_tells y x t in
         ((λ e. ap (λ (z : End). (if same_end z e then 1 else 0) + appears e ys) same), refl)
-    by false t some =
-        let (counts, size) = without_one x ys (omega (arith, some)) in
-        ((λ e. let rest = counts e in omega (arith, rest)), omega (arith, size))
+    by false t rest some =
+        let (counts, size) = rest (omega (arith, some)) in ((λ e. let one = counts e in omega (arith, one)), omega (arith, size))
 
 shorter : (xs ys : List End) → ((e : End) → appears e xs ≤ appears e ys) → length xs ≤ length ys
 shorter [] ys h = omega arith
@@ -124,8 +125,7 @@ fresh p before (j ∷ js) (((q, v, asks_there, serves_there), free_asking, free_
           omega (arith, none),
           λ h. (
             subst (λ (x : End). is_free x before ≡ true) here free_asking,
-            asks q v,
-            subst (λ (x : End). contact_at p x ≡ Some (asks q v)) here asks_there,
+            (asks q v, subst (λ (x : End). contact_at p x ≡ Some (asks q v)) here asks_there),
           ),
         )
     by false true s t known =
@@ -135,8 +135,7 @@ fresh p before (j ∷ js) (((q, v, asks_there, serves_there), free_asking, free_
           omega (arith, none),
           λ h. (
             subst (λ (x : End). is_free x before ≡ true) here free_serving,
-            serves q v,
-            subst (λ (x : End). contact_at p x ≡ Some (serves q v)) here serves_there,
+            (serves q v, subst (λ (x : End). contact_at p x ≡ Some (serves q v)) here serves_there),
           ),
         )
     by false false s t (few, known) =

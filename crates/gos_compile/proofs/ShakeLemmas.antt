@@ -109,7 +109,7 @@ one_leads n OfFst t u i j out low few =
     both_points n out (row (places.Node j) 0 (count u - count t)) low (row_below n (places.Node j) 0 (count u - count t) (omega (arith, few)))
 one_leads n OfSnd t u i j out low few =
     both_points n (row (places.Node j) 0 (count u - count t)) out (row_below n (places.Node j) 0 (count u - count t) (omega (arith, few))) low
-one_leads n OfDeref t u i j out low few = (omega (arith, few), omega (arith, few), tt)
+one_leads n OfDeref t u i j out low few = (omega (arith, few), (omega (arith, few), tt))
 one_leads n OfNot t u i j out low few = (omega (arith, few), tt)
 
 pub one_few : (f : OneForm) (t u : Type') (i j : ℕ) (out : List Point) → length (one_out f t u i j out) ≤ length out + 2 + count u
@@ -141,7 +141,7 @@ first_leads n OfBoth u v i j out low few = take_below n (count u) out low
 first_leads n OfSeq u v i j out low few = (omega (arith, few), tt)
 first_leads n OfPar u v i j out low few = (omega (arith, few), tt)
 first_leads n OfWhile u v i j out low few = (omega (arith, few), tt)
-first_leads n OfAssign u v i j out low few = (omega (arith, few), omega (arith, few), tt)
+first_leads n OfAssign u v i j out low few = (omega (arith, few), (omega (arith, few), tt))
 first_leads n (OfBin op) u v i j out low few = (omega (arith, few), tt)
 
 pub first_few : (f : TwoForm) (u v : Type') (i j : ℕ) (out : List Point) → length (first_out f u v i j out) ≤ length out + 2 + count v

@@ -1,9 +1,10 @@
 -- The plan of a checked module is slim.
 --
 -- Read first: LoadLemmas, EndLemmas.
-use Rattle.std.specs.Prelude.{◌≡◌, ℕ, ◌+◌, ◌*◌, ◌≤◌, List, [], ◌∷◌, ◌++◌, length, map, sum_by}
+use Rattle.std.specs.Prelude.{◌≡◌, ℕ, ◌+◌, ◌*◌, ◌≤◌, List, [], ◌∷◌, ◌++◌, All, length, map, sum_by}
 use Rattle.std.proofs.Common.{refl, ap, sym, ◌∙◌, subst, arith, length-append}
 use Rattle.std.proofs.lemmas.List.{length-map}
+use Rattle.std.proofs.lemmas.List.Elements.{All-nil, All-cons}
 use Rattle.std.proofs.lemmas.List.Sums.{sum_by-cons}
 use Rattle.gos_types.specs.Types.{Type', Com, Exp, Var, Pair, Fun, type_of}
 use Rattle.gos_syntax.specs.Modules.{SeenImport}
@@ -23,11 +24,12 @@ use Rattle.gos_compile.specs.Regular.{count}
 use Rattle.gos_compile.specs.Realises.{all_shakes, IsSlim}
 use Rattle.gos_compile.specs.Wiring.{type_of_node, all_parts, all_types, all_ties, IsPlanOf}
 use Rattle.gos_compile.specs.inner.Found.{ShakesBelow}
-use Rattle.gos_compile.specs.inner.Loads.{load}
+use Rattle.gos_compile.specs.inner.Loads.{load, HasFewShakes}
 use Rattle.gos_compile.proofs.BoundLemmas.{same_count}
 use Rattle.gos_compile.proofs.EndLemmas.{imports_shakes, few_joints}
 use Rattle.gos_compile.proofs.LoadLemmas.{counters, few_ends}
 use Rattle.gos_compile.proofs.RangeLemmas.{node_typed}
+use Rattle.gos_compile.proofs.RowLemmas.{count_pair, count_fun}
 use Rattle.gos_compile.proofs.ShakeLemmas.{CountsBelow, module_below}
 
 -- each import has a handshake, which is in the weight
@@ -35,8 +37,8 @@ some_shake : (t : Type') → 1 ≤ count t
 some_shake Com = omega arith
 some_shake (Exp w) = omega arith
 some_shake (Var w) = omega arith
-some_shake (Pair a b) = let one = some_shake a in simp (length-append, length-map) (omega (arith, one))
-some_shake (Fun a b) = let one = some_shake a in simp (length-append, length-map) (omega (arith, one))
+some_shake (Pair a b) = let one = some_shake a in let all = count_pair a b in omega (arith, one, all)
+some_shake (Fun a b) = let one = some_shake a in let all = count_fun a b in omega (arith, one, all)
 
 imports_weigh : (is : Imports) → (length is ≤ imports_shakes is) × (imports_shakes is ≡ sum_by (λ (x : Imported). weights.count x.ty) is)
 imports_weigh [] = (omega arith, refl)
@@ -109,3 +111,17 @@ small_imports (i ∷ is) (written, h) = let small = written.1 in let same = same
 
 pub shakes_small : (l : SeenLinear) → IsChecked l → ShakesBelow 65536 (all_ties (program_in l).imports (node_seen l.term))
 shakes_small l c = module_below 65536 (program_in l).imports (node_seen l.term) (small_imports l.imports c.imports) (counters l c)
+
+-- what the walk asks of the imports
+pub all_small : (is : List SeenImport) → AreWritten is → All HasFewShakes is
+all_small [] h = All-nil HasFewShakes
+all_small (i ∷ is) (written, h) =
+    let small = written.1 in let same = same_count (type_of i.ty) in All-cons HasFewShakes i is (omega (arith, small, same)) (all_small is h)
+
+pub few_imports : (l : SeenLinear) → IsChecked l → length l.imports ≤ 65536
+few_imports l c =
+    let ends = few_ends l c in
+    let (few, weigh) = imports_weigh (program_in l).imports in
+    let same : length (program_in l).imports ≡ length l.imports = simp length-map refl in
+    let limit = c.light in
+    omega (arith, ends, few, weigh, same, limit)

@@ -73,6 +73,7 @@ pub(crate) fn lead(
 }
 
 // Ties so many points of one place, from its first on, to those of another, from this handshake on.
+#[tactic(auto, using(crate::proofs::TallyLemmas::row_length))]
 pub(crate) fn lead_row(
     alloc: Global,
     ties: &mut Vec<Tie>,

@@ -25,6 +25,7 @@ use std::alloc::Global;
 
 // A term, whose handshakes lead to these points.
 #[cycle(walk)]
+#[tactic(auto, using(crate::proofs::NodeLemmas::splits_seen))]
 pub(crate) fn wire(
     alloc: Global,
     types: &[Ty],

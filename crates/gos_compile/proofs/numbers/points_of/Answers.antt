@@ -18,8 +18,8 @@ loop-k-preserved c =
     let t : Tie = slice_index_or c.args.ties.now (k - 1) none in
     let here : drop (k - 1) c.args.ties.now ≡ t ∷ drop (suc (k - 1)) c.args.ties.now = drop-cons c.args.ties.now (k - 1) none within in
     let before : k ≡ suc (k - 1) = omega (arith, positive) in
-    let one : c.code.result ≡ code c.args.stride t.one = c.code.ensures.value in
-    let other : c.code-2.result ≡ code c.args.stride t.other = c.code-2.ensures.value in
+    let one : c.code-one.result ≡ code c.args.stride t.one = c.code-one.ensures.value in
+    let other : c.code-other.result ≡ code c.args.stride t.other = c.code-other.ensures.value in
     let shakes : ShakesBelow c.args.stride (t ∷ drop (suc (k - 1)) c.args.ties.now) =
     subst (λ (ts : List Tie). ShakesBelow c.args.stride ts) here (shakes_part c.args.stride c.args.ties.now (k - 1) c.requires.shakes)
     in
