@@ -2,23 +2,19 @@
 -- use has the type of its number.
 --
 -- Read first: BoundLemmas. Each number is made once, and what is bound is made before.
-use Rattle.std.specs.Prelude.{◌≡◌, ◌≢◌, ℕ, zero, suc, ◌+◌, ◌≤◌, ◌<◌, ◌⊎◌, ◌||◌, Bool, true, false, List, [], ◌∷◌, ◌++◌, length, map, Option, Some, nat_eq, if◌then◌else◌}
-use Rattle.std.specs.Str.{bytes_eq}
+use Rattle.std.specs.Prelude.{◌≡◌, ◌≢◌, ℕ, ◌+◌, ◌≤◌, ◌<◌, ◌⊎◌, ◌||◌, Bool, true, false, List, [], ◌∷◌, ◌++◌, nat_eq, if◌then◌else◌}
 use Rattle.std.proofs.Common.{refl, ap, sym, ◌∙◌, subst, arith, inl, inr, true≢false}
-use Rattle.gos_types.specs.Types.{Type', Com, type_of}
-use Rattle.gos_syntax.specs.Modules.{SeenImport}
+use Rattle.gos_types.specs.Types.{Type'}
 use Rattle.gos_model.specs.Terms as terms
 use Rattle.gos_model.specs.Terms.{Name, Term}
-use Rattle.gos_model.specs.Typing.{Imports, import_type}
-use Rattle.gos_model.specs.Weight.{node_type, or_com}
-use Rattle.gos_model.specs.Sources.{import_of}
+use Rattle.gos_model.specs.Typing.{Imports}
+use Rattle.gos_model.specs.Weight.{node_type}
 use Rattle.gos_check.proofs.TimesLemmas.{number_cases, eq_true, eq_false, times_none, times-append}
 use Rattle.gos_check.specs.declared.linear.Split.{Split}
-use Rattle.gos_check.specs.Accepted.{IsNew, NamesDiffer}
-use Rattle.gos_check.specs.Linearity.{times, sides, made, import_at}
+use Rattle.gos_check.specs.Linearity.{times, sides, made}
 use Rattle.gos_check.specs.Nodes.{Numbered, Closed, Use, Under, One, Two, If, Meaning, below, shifted, inside, inside_one, HasTypes, bound_type}
-use Rattle.gos_compile.specs.Wiring.{Types, with_type, with_sides, with_types, import_types}
-use Rattle.gos_compile.proofs.KnownLemmas.{is_bound, UsesBound, kept, lost, sides_counted, side_bound, inside_bound}
+use Rattle.gos_compile.specs.Wiring.{Types, with_type, with_sides, with_types}
+use Rattle.gos_compile.proofs.KnownLemmas.{is_bound, UsesBound, sides_counted, side_bound, inside_bound}
 use Rattle.gos_compile.proofs.BoundLemmas.{SplitsBound, AllBound}
 
 -- both sides of splits have the type of what is split
@@ -170,21 +166,20 @@ agree : (m : Numbered) (env : Meaning) (types last : Types) (later : List ℕ) �
     → Comes later (with_types m types) last → Agree last m
 agree (Closed t ss c) env types last later once before bound comes = splits_agree env ss types last later once before bound comes
 agree (Use t ss n) env types last later once before bound comes = splits_agree env ss types last later once before bound comes
-agree (Under t ss b n m) env types last later once before (bound, rest) comes =
-    (
-      splits_agree env ss types last behind
-          (λ k. let all = once k in let one = parted k in let other = late k in omega (arith, all, one, other))
-          (λ k h. let none = before k h in let one = parted k in let other = late k in omega (arith, none, one, other)) bound
-          (λ k none. let other = late k in
-          let own : times k (n ∷ made m) ≡ 0 = omega (arith, none, other) in
-          let (apart, gone) = times_none k n (made m) own in
-          comes k (omega (arith, none, other)) ∙ (types_keep k m types' gone ∙ type_elsewhere n (bound_type b t) (with_sides ss types) k apart)),
-      comes n (omega (arith, n_once)) ∙ (types_keep n m types' (omega (arith, n_once)) ∙ type_there n (bound_type b t) (with_sides ss types)),
-      agree m (below n (inside ss env)) types' last later
-          (λ k. let all = once k in let one = parted k in omega (arith, all, one))
-          (before_below n (inside ss env) (made m) later (λ k. let all = once k in let one = parted k in omega (arith, all, one))
-          (before_inside ss env (n ∷ made m) later (made (Under t ss b n m)) once before parted)) rest comes,
-    )
+agree (Under t ss b n m) env types last later once before (bound, rest) comes = (
+  splits_agree env ss types last behind
+      (λ k. let all = once k in let one = parted k in let other = late k in omega (arith, all, one, other))
+      (λ k h. let none = before k h in let one = parted k in let other = late k in omega (arith, none, one, other)) bound
+      (λ k none. let other = late k in
+      let own : times k (n ∷ made m) ≡ 0 = omega (arith, none, other) in
+      let (apart, gone) = times_none k n (made m) own in
+      comes k (omega (arith, none, other)) ∙ (types_keep k m types' gone ∙ type_elsewhere n (bound_type b t) (with_sides ss types) k apart)),
+  comes n (omega (arith, n_once)) ∙ (types_keep n m types' (omega (arith, n_once)) ∙ type_there n (bound_type b t) (with_sides ss types)),
+  agree m (below n (inside ss env)) types' last later
+      (λ k. let all = once k in let one = parted k in omega (arith, all, one))
+      (before_below n (inside ss env) (made m) later (λ k. let all = once k in let one = parted k in omega (arith, all, one))
+      (before_inside ss env (n ∷ made m) later (made (Under t ss b n m)) once before parted)) rest comes,
+)
   where
     types' : Types
     types' = with_type n (bound_type b t) (with_sides ss types)
@@ -204,16 +199,15 @@ agree (Under t ss b n m) env types last later once before (bound, rest) comes =
         let one = parted n in
         let there : times n (n ∷ made m) ≡ 1 + times n (made m) = rw (eq_true n n refl) refl in
         omega (arith, all, one, there)
-agree (One t ss f m) env types last later once before (bound, rest) comes =
-    (
-      splits_agree env ss types last behind
-          (λ k. let all = once k in let one = parted k in let other = late k in omega (arith, all, one, other))
-          (λ k h. let none = before k h in let one = parted k in let other = late k in omega (arith, none, one, other)) bound
-          (λ k none. let other = late k in
-          comes k (omega (arith, none, other)) ∙ types_keep k m (with_sides ss types) (omega (arith, none, other))),
-      agree m (inside ss env) (with_sides ss types) last later (λ k. let all = once k in let one = parted k in omega (arith, all, one))
-          (before_inside ss env (made m) later (made (One t ss f m)) once before parted) rest comes,
-    )
+agree (One t ss f m) env types last later once before (bound, rest) comes = (
+  splits_agree env ss types last behind
+      (λ k. let all = once k in let one = parted k in let other = late k in omega (arith, all, one, other))
+      (λ k h. let none = before k h in let one = parted k in let other = late k in omega (arith, none, one, other)) bound
+      (λ k none. let other = late k in
+      comes k (omega (arith, none, other)) ∙ types_keep k m (with_sides ss types) (omega (arith, none, other))),
+  agree m (inside ss env) (with_sides ss types) last later (λ k. let all = once k in let one = parted k in omega (arith, all, one))
+      (before_inside ss env (made m) later (made (One t ss f m)) once before parted) rest comes,
+)
   where
     behind : List ℕ
     behind = made m ++ later
@@ -223,25 +217,24 @@ agree (One t ss f m) env types last later once before (bound, rest) comes =
 
     late : (k : ℕ) → times k behind ≡ times k (made m) + times k later
     late k = times-append k (made m) later
-agree (Two t ss f m n) env types last later once before (bound, rest, restn) comes =
-    (
-      splits_agree env ss types last behind
-          (λ k. let all = once k in let one = parted k in let two = parted_two k in let other = late k in omega (arith, all, one, two, other))
-          (λ k h. let none = before k h in let one = parted k in let two = parted_two k in let other = late k in omega (arith, none, one, two, other)) bound
-          (λ k none. let other = late k in
-          let two = parted_two k in
-          comes k (omega (arith, none, two, other))
-          ∙ (types_keep k n (with_types m (with_sides ss types)) (omega (arith, none, two, other))
-          ∙ types_keep k m (with_sides ss types) (omega (arith, none, two, other)))),
-      agree m (inside ss env) (with_sides ss types) last late_first
-          (λ k. let all = once k in let one = parted k in let two = parted_two k in let other = later_first k in omega (arith, all, one, two, other))
-          (λ k h. let none = inner k h in let two = parted_two k in let other = later_first k in omega (arith, none, two, other)) rest
-          (λ k none. let other = later_first k in
-          comes k (omega (arith, none, other)) ∙ types_keep k n (with_types m (with_sides ss types)) (omega (arith, none, other))),
-      agree n (inside ss env) (with_types m (with_sides ss types)) last later
-          (λ k. let all = once k in let one = parted k in let two = parted_two k in omega (arith, all, one, two))
-          (λ k h. let none = inner k h in let two = parted_two k in omega (arith, none, two)) restn comes,
-    )
+agree (Two t ss f m n) env types last later once before (bound, rest, restn) comes = (
+  splits_agree env ss types last behind
+      (λ k. let all = once k in let one = parted k in let two = parted_two k in let other = late k in omega (arith, all, one, two, other))
+      (λ k h. let none = before k h in let one = parted k in let two = parted_two k in let other = late k in omega (arith, none, one, two, other)) bound
+      (λ k none. let other = late k in
+      let two = parted_two k in
+      comes k (omega (arith, none, two, other))
+      ∙ (types_keep k n (with_types m (with_sides ss types)) (omega (arith, none, two, other))
+      ∙ types_keep k m (with_sides ss types) (omega (arith, none, two, other)))),
+  agree m (inside ss env) (with_sides ss types) last late_first
+      (λ k. let all = once k in let one = parted k in let two = parted_two k in let other = later_first k in omega (arith, all, one, two, other))
+      (λ k h. let none = inner k h in let two = parted_two k in let other = later_first k in omega (arith, none, two, other)) rest
+      (λ k none. let other = later_first k in
+      comes k (omega (arith, none, other)) ∙ types_keep k n (with_types m (with_sides ss types)) (omega (arith, none, other))),
+  agree n (inside ss env) (with_types m (with_sides ss types)) last later
+      (λ k. let all = once k in let one = parted k in let two = parted_two k in omega (arith, all, one, two))
+      (λ k h. let none = inner k h in let two = parted_two k in omega (arith, none, two)) restn comes,
+)
   where
     behind : List ℕ
     behind = (made m ++ made n) ++ later
@@ -263,41 +256,40 @@ agree (Two t ss f m n) env types last later once before (bound, rest, restn) com
 
     inner : Before (inside ss env) (made m ++ made n) later
     inner = before_inside ss env (made m ++ made n) later (made (Two t ss f m n)) once before parted
-agree (If t ss m n p) env types last later once before (bound, rest, restn, restp) comes =
-    (
-      splits_agree env ss types last behind
-          (λ k. let all = once k in let one = parted k in let other = late k in omega (arith, all, one, other))
-          (λ k h. let none = before k h in let one = parted k in let other = late k in omega (arith, none, one, other)) bound
-          (λ k none. let other = late k in
-          let three = parted_three k in
-          let two = parted_two k in
-          comes k (omega (arith, none, other))
-          ∙ (types_keep k p (with_types n (with_types m (with_sides ss types))) (omega (arith, none, three, two, other))
-          ∙ (types_keep k n (with_types m (with_sides ss types)) (omega (arith, none, three, two, other))
-          ∙ types_keep k m (with_sides ss types) (omega (arith, none, three, other))))),
-      agree m (inside ss env) (with_sides ss types) last late_first
-          (λ k. let all = once k in let one = parted k in let three = parted_three k in let other = later_first k in omega (arith, all, one, three, other))
-          (λ k h. let none = inner k h in let three = parted_three k in let other = later_first k in omega (arith, none, three, other)) rest
-          (λ k none. let other = later_first k in
-          let two = parted_two k in
-          comes k (omega (arith, none, other))
-          ∙ (types_keep k p (with_types n (with_types m (with_sides ss types))) (omega (arith, none, two, other))
-          ∙ types_keep k n (with_types m (with_sides ss types)) (omega (arith, none, two, other)))),
-      agree n (inside ss env) (with_types m (with_sides ss types)) last late_second
-          (λ k. let all = once k in
-          let one = parted k in
-          let three = parted_three k in
-          let two = parted_two k in
-          let other = later_second k in
-          omega (arith, all, one, three, two, other))
-          (λ k h. let none = inner k h in let three = parted_three k in let two = parted_two k in let other = later_second k in omega (arith, none, three, two, other))
-          restn
-          (λ k none. let other = later_second k in
-          comes k (omega (arith, none, other)) ∙ types_keep k p (with_types n (with_types m (with_sides ss types))) (omega (arith, none, other))),
-      agree p (inside ss env) (with_types n (with_types m (with_sides ss types))) last later
-          (λ k. let all = once k in let one = parted k in let three = parted_three k in let two = parted_two k in omega (arith, all, one, three, two))
-          (λ k h. let none = inner k h in let three = parted_three k in let two = parted_two k in omega (arith, none, three, two)) restp comes,
-    )
+agree (If t ss m n p) env types last later once before (bound, rest, restn, restp) comes = (
+  splits_agree env ss types last behind
+      (λ k. let all = once k in let one = parted k in let other = late k in omega (arith, all, one, other))
+      (λ k h. let none = before k h in let one = parted k in let other = late k in omega (arith, none, one, other)) bound
+      (λ k none. let other = late k in
+      let three = parted_three k in
+      let two = parted_two k in
+      comes k (omega (arith, none, other))
+      ∙ (types_keep k p (with_types n (with_types m (with_sides ss types))) (omega (arith, none, three, two, other))
+      ∙ (types_keep k n (with_types m (with_sides ss types)) (omega (arith, none, three, two, other))
+      ∙ types_keep k m (with_sides ss types) (omega (arith, none, three, other))))),
+  agree m (inside ss env) (with_sides ss types) last late_first
+      (λ k. let all = once k in let one = parted k in let three = parted_three k in let other = later_first k in omega (arith, all, one, three, other))
+      (λ k h. let none = inner k h in let three = parted_three k in let other = later_first k in omega (arith, none, three, other)) rest
+      (λ k none. let other = later_first k in
+      let two = parted_two k in
+      comes k (omega (arith, none, other))
+      ∙ (types_keep k p (with_types n (with_types m (with_sides ss types))) (omega (arith, none, two, other))
+      ∙ types_keep k n (with_types m (with_sides ss types)) (omega (arith, none, two, other)))),
+  agree n (inside ss env) (with_types m (with_sides ss types)) last late_second
+      (λ k. let all = once k in
+      let one = parted k in
+      let three = parted_three k in
+      let two = parted_two k in
+      let other = later_second k in
+      omega (arith, all, one, three, two, other))
+      (λ k h. let none = inner k h in let three = parted_three k in let two = parted_two k in let other = later_second k in omega (arith, none, three, two, other))
+      restn
+      (λ k none. let other = later_second k in
+      comes k (omega (arith, none, other)) ∙ types_keep k p (with_types n (with_types m (with_sides ss types))) (omega (arith, none, other))),
+  agree p (inside ss env) (with_types n (with_types m (with_sides ss types))) last later
+      (λ k. let all = once k in let one = parted k in let three = parted_three k in let two = parted_two k in omega (arith, all, one, three, two))
+      (λ k h. let none = inner k h in let three = parted_three k in let two = parted_two k in omega (arith, none, three, two)) restp comes,
+)
   where
     behind : List ℕ
     behind = (made m ++ (made n ++ made p)) ++ later

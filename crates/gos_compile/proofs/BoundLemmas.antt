@@ -3,7 +3,7 @@
 --
 -- Read first: KnownLemmas.
 use Rattle.std.specs.Prelude.{◌≡◌, ℕ, zero, suc, ◌+◌, ◌≤◌, ◌||◌, Bool, true, false, List, [], ◌∷◌, ◌++◌, length, nat_eq, if◌then◌else◌}
-use Rattle.std.proofs.Common.{refl, ap, sym, ◌∙◌, subst, arith, true≢false, length-append}
+use Rattle.std.proofs.Common.{refl, ap, sym, ◌∙◌, arith, true≢false, length-append}
 use Rattle.std.proofs.lemmas.List.{length-map}
 use Rattle.gos_types.specs.Types.{Type', Com, Exp, Var, Pair, Fun}
 use Rattle.gos_model.specs.Terms as terms
@@ -12,7 +12,7 @@ use Rattle.gos_model.specs.Typing.{Imports, Typed}
 use Rattle.gos_model.specs.Weight as weights
 use Rattle.gos_model.specs.Weight.{node_type, nodes_weight}
 use Rattle.gos_check.specs.declared.linear.Split.{Split}
-use Rattle.gos_check.specs.Nodes.{Numbered, Closed, Use, Under, One, Two, If, OfFun, OfNew, OfFst, OfSnd, OfDeref, OfNot, OfApp, OfBoth, OfSeq, OfPar, OfWhile, OfAssign, OfBin, Meaning, meaning, below, shifted, inside, inside_one, HasTypes, argument_of, bound_type}
+use Rattle.gos_check.specs.Nodes.{Numbered, Closed, Use, Under, One, Two, If, OfFun, OfNew, OfFst, OfSnd, OfDeref, OfNot, OfApp, OfBoth, OfSeq, OfPar, OfWhile, OfAssign, OfBin, Meaning, meaning, below, shifted, inside, inside_one, HasTypes, argument_of}
 use Rattle.gos_check.specs.Linearity.{import_at}
 use Rattle.gos_compile.specs.Regular.{count}
 use Rattle.gos_compile.proofs.KnownLemmas.{is_bound, UsesBound, lost, all_lost}

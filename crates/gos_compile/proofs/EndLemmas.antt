@@ -1,12 +1,10 @@
 -- The joints of a plan that is right are at most half of its ends: no end stands in two of them.
-use Rattle.std.specs.Prelude.{◌≡◌, ℕ, zero, suc, ◌+◌, ◌*◌, ◌≤◌, ◌<◌, Bool, true, false, not, ◌&&◌, ◌||◌, IsTrue, List, [], ◌∷◌, ◌++◌, Option, Some, None, length, slice_get, nat_eq, if◌then◌else◌}
+use Rattle.std.specs.Prelude.{◌≡◌, ℕ, zero, suc, ◌+◌, ◌*◌, ◌≤◌, ◌<◌, Bool, true, false, not, ◌&&◌, ◌||◌, List, [], ◌∷◌, ◌++◌, Option, Some, length, slice_get, if◌then◌else◌}
 use Rattle.std.proofs.Common.{refl, ap, sym, ◌∙◌, subst, arith, true≢false, length-append}
-use Rattle.std.proofs.lemmas.List.{length-map}
-use Rattle.gos_types.specs.Types.{Type'}
-use Rattle.gos_model.specs.Typing.{Imported, Imports}
+use Rattle.gos_model.specs.Typing.{Imports}
 use Rattle.gos_check.proofs.TimesLemmas.{eq_true}
-use Rattle.gos_plan.specs.Kinds.{Part, Contact, asks, serves, contacts_of, part_contacts, turned_contact}
-use Rattle.gos_plan.specs.Plans.{End, PartEnd, ImportEnd, ResultEnd, Joint, Plan, contact_at, contacts_of_part, contacts_of_import, turned_if, same_end, stands_in, is_free, AreRight, IsRight}
+use Rattle.gos_plan.specs.Kinds.{Part, Contact, asks, serves, contacts_of, part_contacts}
+use Rattle.gos_plan.specs.Plans.{End, PartEnd, ImportEnd, ResultEnd, Joint, Plan, contact_at, contacts_of_part, contacts_of_import, turned_if, same_end, is_free, AreRight, IsRight}
 use Rattle.gos_compile.specs.Regular.{count}
 use Rattle.gos_compile.specs.Realises.{all_shakes}
 use Rattle.gos_compile.proofs.JointLemmas.{ask_serve, role_or}
@@ -120,8 +118,7 @@ fresh p before (j ∷ js) (((q, v, asks_there, serves_there), free_asking, free_
     by true true s t known = absurd (not_both (same_tells j.asking e s) (same_tells j.serving e t))
     by true false s t known =
         let none = gone (turned j.asking s) known in
-        let here : j.asking ≡ e = same_tells j.asking e s in
-        (
+        let here : j.asking ≡ e = same_tells j.asking e s in (
           omega (arith, none),
           λ h. (
             subst (λ (x : End). is_free x before ≡ true) here free_asking,
@@ -130,21 +127,19 @@ fresh p before (j ∷ js) (((q, v, asks_there, serves_there), free_asking, free_
         )
     by false true s t known =
         let none = gone_serving (turned j.serving t) known in
-        let here : j.serving ≡ e = same_tells j.serving e t in
-        (
+        let here : j.serving ≡ e = same_tells j.serving e t in (
           omega (arith, none),
           λ h. (
             subst (λ (x : End). is_free x before ≡ true) here free_serving,
             (serves q v, subst (λ (x : End). contact_at p x ≡ Some (serves q v)) here serves_there),
           ),
         )
-    by false false s t (few, known) =
-        (
-          omega (arith, few),
-          λ h. (let (free, there) = known (omega (arith, h)) in
+    by false false s t (few, known) = (
+      omega (arith, few),
+      λ h. (let (free, there) = known (omega (arith, h)) in
           let (other, more, left) = free_parts (same_end e j.asking) (same_end e j.serving) (is_free e before) free in
           (left, there)),
-        )
+    )
 
 -- all ends of a plan
 abbrev end_row : (ℕ → End) → ℕ → ℕ → List End

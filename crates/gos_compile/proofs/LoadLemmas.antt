@@ -2,16 +2,14 @@
 -- handshakes of splits than of uses, and each use is a node.
 --
 -- Read first: AgreeLemmas; Loads.
-use Rattle.std.specs.Prelude.{◌≡◌, ◌≢◌, ℕ, zero, suc, ◌+◌, ◌*◌, ◌≤◌, ◌<◌, List, [], ◌∷◌, ◌++◌, length, map, sum_by, if◌then◌else◌, Option, Bool, true, false}
-use Rattle.std.specs.Str.{bytes_eq}
-use Rattle.std.proofs.Common.{refl, ap, sym, ◌∙◌, subst, arith, length-append, true≢false}
+use Rattle.std.specs.Prelude.{◌≡◌, ◌≢◌, ℕ, zero, suc, ◌+◌, ◌*◌, ◌≤◌, ◌<◌, List, [], ◌∷◌, ◌++◌, length, map, sum_by, true}
+use Rattle.std.proofs.Common.{refl, ap, sym, ◌∙◌, arith, length-append, true≢false}
 use Rattle.std.proofs.lemmas.List.{length-map}
-use Rattle.std.proofs.lemmas.List.Sums.{sum_by-cons}
-use Rattle.gos_types.specs.Types.{Type', Com, Exp, Var, Pair, Fun, type_of}
+use Rattle.gos_types.specs.Types.{Type', type_of}
 use Rattle.gos_syntax.specs.Modules.{SeenImport}
 use Rattle.gos_model.specs.Terms as terms
 use Rattle.gos_model.specs.Terms.{Name, Term}
-use Rattle.gos_model.specs.Typing.{Imports, Imported, Typed, import_type}
+use Rattle.gos_model.specs.Typing.{Imports, Imported}
 use Rattle.gos_model.specs.Weight as weights
 use Rattle.gos_model.specs.Weight.{node_type, nodes_weight, weight, or_com}
 use Rattle.gos_model.specs.Sources.{import_of}
@@ -21,7 +19,7 @@ use Rattle.gos_check.specs.declared.linear.Split.{Split}
 use Rattle.gos_check.specs.Accepted.{IsNew, NamesDiffer}
 use Rattle.gos_check.specs.Checked.{SeenLinear, IsChecked, program_in}
 use Rattle.gos_check.specs.Linearity.{times, split_in, sides, used, made, all_sides, import_at}
-use Rattle.gos_check.specs.Nodes.{Numbered, Closed, Use, Under, One, Two, If, OfFun, OfNew, OfFst, OfSnd, OfDeref, OfNot, OfApp, OfBoth, OfSeq, OfPar, OfWhile, OfAssign, OfBin, Binding, OneForm, TwoForm, Meaning, meaning, node_seen}
+use Rattle.gos_check.specs.Nodes.{Numbered, Closed, Use, Under, One, Two, If, OfFun, OfNew, OfFst, OfSnd, OfDeref, OfNot, OfApp, OfBoth, OfSeq, OfPar, OfWhile, OfAssign, OfBin, Binding, OneForm, TwoForm, Meaning, node_seen}
 use Rattle.gos_plan.specs.Kinds as kinds
 use Rattle.gos_plan.specs.Kinds.{Part, part_contacts, contacts_of, other_side}
 use Rattle.gos_compile.specs.Regular.{count}

@@ -1,8 +1,8 @@
 -- The plan of a checked module is slim.
 --
 -- Read first: LoadLemmas, EndLemmas.
-use Rattle.std.specs.Prelude.{◌≡◌, ℕ, ◌+◌, ◌*◌, ◌≤◌, List, [], ◌∷◌, ◌++◌, All, length, map, sum_by}
-use Rattle.std.proofs.Common.{refl, ap, sym, ◌∙◌, subst, arith, length-append}
+use Rattle.std.specs.Prelude.{◌≡◌, ◌≤◌, List, [], ◌∷◌, ◌++◌, All, length, map, sum_by}
+use Rattle.std.proofs.Common.{refl, ap, sym, ◌∙◌, arith, length-append}
 use Rattle.std.proofs.lemmas.List.{length-map}
 use Rattle.std.proofs.lemmas.List.Elements.{All-nil, All-cons}
 use Rattle.std.proofs.lemmas.List.Sums.{sum_by-cons}
@@ -19,12 +19,11 @@ use Rattle.gos_check.specs.Nodes.{Numbered, node_seen}
 use Rattle.gos_plan.specs.Kinds as kinds
 use Rattle.gos_plan.specs.Kinds.{Part, part_contacts, contacts_of, other_side}
 use Rattle.gos_plan.specs.Plans.{Plan}
-use Rattle.gos_compile.specs.declared.points.Tie.{Tie}
 use Rattle.gos_compile.specs.Regular.{count}
 use Rattle.gos_compile.specs.Realises.{all_shakes, IsSlim}
-use Rattle.gos_compile.specs.Wiring.{type_of_node, all_parts, all_types, all_ties, IsPlanOf}
+use Rattle.gos_compile.specs.Wiring.{type_of_node, all_parts, all_ties, IsPlanOf}
 use Rattle.gos_compile.specs.inner.Found.{ShakesBelow}
-use Rattle.gos_compile.specs.inner.Loads.{load, HasFewShakes}
+use Rattle.gos_compile.specs.inner.Loads.{HasFewShakes}
 use Rattle.gos_compile.proofs.BoundLemmas.{same_count}
 use Rattle.gos_compile.proofs.EndLemmas.{imports_shakes, few_joints}
 use Rattle.gos_compile.proofs.LoadLemmas.{counters, few_ends}

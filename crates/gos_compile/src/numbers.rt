@@ -132,12 +132,7 @@ pub(crate) fn end_at(point: Point) -> Option<End>
 }
 
 // The far point of a point.
-pub(crate) fn far_point(
-    stride: usize,
-    far: &[usize],
-    points: &[Point],
-    point: Point,
-) -> Point
+pub(crate) fn far_point(stride: usize, far: &[usize], points: &[Point], point: Point) -> Point
     requires { stride ≤ most }
     ensures { result ≡ far_point stride far.now points.now point }
 {

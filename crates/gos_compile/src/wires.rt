@@ -105,13 +105,7 @@ impl Wires {
     }
 
     // Ties a Share of n handshakes: its source is what is split, and its callers are the sides.
-    fn share_ties(
-        &mut self,
-        alloc: Global,
-        split: Split,
-        i: u32,
-        n: u32,
-    ) -> Result<(), NoMemory>
+    fn share_ties(&mut self, alloc: Global, split: Split, i: u32, n: u32) -> Result<(), NoMemory>
         requires { 3 * n ≤ most }
         ensures parts { OnOk result (self.new.parts ≡ self.old.parts) }
         ensures nodes { OnOk result (self.new.nodes ≡ self.old.nodes) }

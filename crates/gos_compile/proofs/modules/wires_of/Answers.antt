@@ -16,7 +16,7 @@ use Rattle.gos_compile.specs.inner.Walked.{seen, is_plain}
 use Rattle.gos_compile.specs.Wiring.{Types, type_of_node, row, with_types, all_types, import_ties}
 use Rattle.gos_compile.proofs.NodeLemmas.{type_seen}
 use Rattle.gos_compile.proofs.WalkLemmas.{module_parts, module_ties, module_plain}
-use Rattle.gos_compile.specs.inner.Loads.{load, most}
+use Rattle.gos_compile.specs.inner.Loads.{load}
 use Rattle.gos_compile.proofs.TallyLemmas.{row_length}
 use Rattle.gos_compile.proofs.modules.wires_of.Goals as goal
 
