@@ -5,8 +5,8 @@ ghost use Rattle.gos_types.specs.Types.{type_of};
 ghost use Rattle.gos_plan.specs.Kinds as kinds;
 ghost use Rattle.gos_plan.specs.Seen.{part_of, operation_of};
 ghost use Rattle.gos_model.specs.Sources.{op_of};
-ghost use Rattle.gos_compile.specs.inner.Walked.{seen, is_plain, next_part, with_own, one_form, two_form};
-ghost use Rattle.gos_compile.specs.Wiring.{point, row, answer_bits, one_part, two_part, one_ties, two_ties, one_out, first_out, second_out, operation};
+ghost use Rattle.gos_compile.specs.inner.Walked.{seen, is_plain, with_one_own, with_two_own, one_form, two_form};
+ghost use Rattle.gos_compile.specs.Wiring.{point, row, answer_bits, one_out, first_out, second_out, operation};
 ghost use Rattle.gos_compile.specs.Regular.{count};
 ghost use Rattle.gos_compile.specs.inner.Loads.{most, spent};
 
@@ -133,7 +133,7 @@ impl OneRule {
     // Adds the own part of a form whose node has this type.
     pub fn own(self, ty: &Ty, out: &[Point], wires: &mut Wires) -> Result<(), NoMemory>
         requires { spent wires.old + length out.now + 1 ≤ most }
-        ensures own { OnOk result (seen wires.new ≡ with_own (one_part (one_form self) (type_of ty.now)) (one_ties (one_form self) (next_part (seen wires.old)) out.now) (seen wires.old)) }
+        ensures own { OnOk result (seen wires.new ≡ with_one_own (one_form self) (type_of ty.now) out.now (seen wires.old)) }
         ensures spent { OnOk result (spent wires.new ≤ spent wires.old + 2) }
     {
         let w = answer_bits(ty);
@@ -190,7 +190,7 @@ impl TwoRule {
     // Adds the own part of a form whose node has this type, and whose second part has the type `second`.
     pub fn own(self, ty: &Ty, second: &Ty, out: &[Point], wires: &mut Wires) -> Result<(), NoMemory>
         requires { spent wires.old + length out.now + 2 ≤ most }
-        ensures own { OnOk result (seen wires.new ≡ with_own (two_part (two_form self) (type_of ty.now) (type_of second.now)) (two_ties (two_form self) (next_part (seen wires.old)) out.now) (seen wires.old)) }
+        ensures own { OnOk result (seen wires.new ≡ with_two_own (two_form self) (type_of ty.now) (type_of second.now) out.now (seen wires.old)) }
         ensures spent { OnOk result (spent wires.new ≤ spent wires.old + 2) }
     {
         let w = answer_bits(second);

@@ -4,15 +4,13 @@
 // before; that it gives the parts and the ties of `specs/Wiring` say `wired_parts` and `wired_ties`, in
 // proofs/WalkLemmas.
 
-ghost use Rattle.std.specs.Prelude.{◌≡◌, ◌≤◌, ◌+◌, ◌∷◌, [], length, take, drop, OnOk};
+ghost use Rattle.std.specs.Prelude.{◌≡◌, ◌≤◌, ◌+◌, length, OnOk};
 ghost use Rattle.gos_types.specs.Types.{type_of};
-ghost use Rattle.gos_plan.specs.Kinds as kinds;
-ghost use Rattle.gos_check.specs.Nodes.{node_seen, OfFun, OfNew, argument_of};
+ghost use Rattle.gos_check.specs.Nodes.{node_seen, OfFun, OfNew};
 ghost use Rattle.gos_compile.specs.Regular.{count};
 ghost use Rattle.gos_compile.specs.inner.Tables.{types_at};
-ghost use Rattle.gos_compile.specs.inner.Walked.{seen, next_part, with_own, with_shares, wired, one_form, two_form};
-ghost use Rattle.gos_compile.specs.Wiring.{type_of_node, led, point, answer_bits, binder_part, binder_ties, binder_out, one_part, two_part, one_ties, two_ties, one_out, first_out, second_out};
-ghost use Rattle.gos_compile.specs.inner.Loads.{load, most, spent};
+ghost use Rattle.gos_compile.specs.inner.Walked.{seen, wired, with_binder, with_one, with_two, with_choice, one_form, two_form};
+ghost use Rattle.gos_compile.specs.inner.Loads.{loaded, part_loaded, most, spent};
 
 use crate::forms::{OneRule, TwoRule, choice, front, one_point, rest};
 use crate::points::{Place, Point, answer_bits, shakes};
@@ -33,9 +31,9 @@ pub(crate) fn wire(
     out: &[Point],
     wires: &mut Wires,
 ) -> Result<(), NoMemory>
-    requires { spent wires.old + length out.now + load (types_at types.now) (node_seen node.now) ≤ most }
+    requires { spent wires.old + length out.now + loaded types.now node.now ≤ most }
     ensures wired { OnOk result (seen wires.new ≡ wired (types_at types.now) (node_seen node.now) out.now (seen wires.old)) }
-    ensures spent { OnOk result (spent wires.new ≤ spent wires.old + load (types_at types.now) (node_seen node.now)) }
+    ensures spent { OnOk result (spent wires.new ≤ spent wires.old + loaded types.now node.now) }
 {
     wires.shares(alloc, types, &node.splits)?;
     match &node.form {
@@ -144,9 +142,9 @@ fn wire_function(
     out: &[Point],
     wires: &mut Wires,
 ) -> Result<(), NoMemory>
-    requires { spent wires.old + length out.now + (5 + count (type_of ty.now) + load (types_at types.now) (node_seen body.now)) ≤ most }
-    ensures wired { OnOk result (seen wires.new ≡ wired (types_at types.now) (node_seen body.now) (drop (count (argument_of (type_of ty.now))) out.now) (with_own [] (led (take (count (argument_of (type_of ty.now))) out.now) (Place.Number number) 0) (seen wires.old))) }
-    ensures spent { OnOk result (spent wires.new ≤ spent wires.old + (5 + load (types_at types.now) (node_seen body.now))) }
+    requires { spent wires.old + length out.now + (5 + count (type_of ty.now) + loaded types.now body.now) ≤ most }
+    ensures wired { OnOk result (seen wires.new ≡ with_binder (types_at types.now) OfFun (type_of ty.now) number (node_seen body.now) out.now (seen wires.old)) }
+    ensures spent { OnOk result (spent wires.new ≤ spent wires.old + (5 + loaded types.now body.now)) }
 {
     let argument = argument(alloc, ty)?;
     let n = shakes(&argument);
@@ -166,9 +164,9 @@ fn wire_block(
     out: &[Point],
     wires: &mut Wires,
 ) -> Result<(), NoMemory>
-    requires { spent wires.old + length out.now + (5 + load (types_at types.now) (node_seen body.now)) ≤ most }
-    ensures wired { OnOk result (seen wires.new ≡ wired (types_at types.now) (node_seen body.now) (binder_out (OfNew width) (type_of ty.now) (next_part (seen wires.old)) out.now) (with_own (binder_part (OfNew width) (type_of ty.now)) (binder_ties (OfNew width) (type_of ty.now) (next_part (seen wires.old)) number out.now) (seen wires.old))) }
-    ensures spent { OnOk result (spent wires.new ≤ spent wires.old + (5 + load (types_at types.now) (node_seen body.now))) }
+    requires { spent wires.old + length out.now + (5 + loaded types.now body.now) ≤ most }
+    ensures wired { OnOk result (seen wires.new ≡ with_binder (types_at types.now) (OfNew width) (type_of ty.now) number (node_seen body.now) out.now (seen wires.old)) }
+    ensures spent { OnOk result (spent wires.new ≤ spent wires.old + (5 + loaded types.now body.now)) }
 {
     let i = wires.next();
     wires.local(alloc, number, width, answer_bits(ty), out)?;
@@ -188,9 +186,9 @@ fn wire_one(
     out: &[Point],
     wires: &mut Wires,
 ) -> Result<(), NoMemory>
-    requires { spent wires.old + length out.now + (5 + count (type_of ty.now) + (count (type_of_node (node_seen m.now)) + load (types_at types.now) (node_seen m.now))) ≤ most }
-    ensures wired { OnOk result (seen wires.new ≡ wired (types_at types.now) (node_seen m.now) (one_out (one_form rule) (type_of ty.now) (type_of_node (node_seen m.now)) (next_part (seen wires.old)) wires.old.nodes out.now) (with_own (one_part (one_form rule) (type_of ty.now)) (one_ties (one_form rule) (next_part (seen wires.old)) out.now) (seen wires.old))) }
-    ensures spent { OnOk result (spent wires.new ≤ spent wires.old + (5 + load (types_at types.now) (node_seen m.now))) }
+    requires { spent wires.old + length out.now + (5 + count (type_of ty.now) + (part_loaded types.now m.now)) ≤ most }
+    ensures wired { OnOk result (seen wires.new ≡ with_one (types_at types.now) (one_form rule) (type_of ty.now) (node_seen m.now) out.now (seen wires.old)) }
+    ensures spent { OnOk result (spent wires.new ≤ spent wires.old + (5 + loaded types.now m.now)) }
 {
     let i = wires.next();
     let inner = rule.out(alloc, ty, &m.ty, i, wires.nodes, out)?;
@@ -211,9 +209,9 @@ fn wire_two(
     out: &[Point],
     wires: &mut Wires,
 ) -> Result<(), NoMemory>
-    requires { spent wires.old + length out.now + (5 + (count (type_of_node (node_seen m.now)) + load (types_at types.now) (node_seen m.now) + (count (type_of_node (node_seen n.now)) + load (types_at types.now) (node_seen n.now)))) ≤ most }
-    ensures wired { OnOk result (seen wires.new ≡ wired (types_at types.now) (node_seen n.now) (second_out (two_form rule) (type_of_node (node_seen m.now)) (type_of_node (node_seen n.now)) (next_part (seen wires.old)) wires.old.nodes out.now) (wired (types_at types.now) (node_seen m.now) (first_out (two_form rule) (type_of_node (node_seen m.now)) (type_of_node (node_seen n.now)) (next_part (seen wires.old)) wires.old.nodes out.now) (with_own (two_part (two_form rule) (type_of ty.now) (type_of_node (node_seen n.now))) (two_ties (two_form rule) (next_part (seen wires.old)) out.now) (seen wires.old)))) }
-    ensures spent { OnOk result (spent wires.new ≤ spent wires.old + (5 + (load (types_at types.now) (node_seen m.now) + load (types_at types.now) (node_seen n.now)))) }
+    requires { spent wires.old + length out.now + (5 + (part_loaded types.now m.now + (part_loaded types.now n.now))) ≤ most }
+    ensures wired { OnOk result (seen wires.new ≡ with_two (types_at types.now) (two_form rule) (type_of ty.now) (node_seen m.now) (node_seen n.now) out.now (seen wires.old)) }
+    ensures spent { OnOk result (spent wires.new ≤ spent wires.old + (5 + (loaded types.now m.now + loaded types.now n.now))) }
 {
     let i = wires.next();
     let first = rule.first_out(alloc, &m.ty, &n.ty, i, wires.nodes, out)?;
@@ -235,9 +233,9 @@ fn wire_choice(
     out: &[Point],
     wires: &mut Wires,
 ) -> Result<(), NoMemory>
-    requires { spent wires.old + length out.now + (5 + (load (types_at types.now) (node_seen m.now) + (load (types_at types.now) (node_seen n.now) + load (types_at types.now) (node_seen p.now)))) ≤ most }
-    ensures wired { OnOk result (seen wires.new ≡ wired (types_at types.now) (node_seen p.now) (point (Place.Part (next_part (seen wires.old))) 2 ∷ []) (wired (types_at types.now) (node_seen n.now) (point (Place.Part (next_part (seen wires.old))) 1 ∷ []) (wired (types_at types.now) (node_seen m.now) (point (Place.Part (next_part (seen wires.old))) 0 ∷ []) (with_own (kinds.If (answer_bits (type_of ty.now)) ∷ []) (led out.now (Place.Part (next_part (seen wires.old))) 3) (seen wires.old))))) }
-    ensures spent { OnOk result (spent wires.new ≤ spent wires.old + (5 + (load (types_at types.now) (node_seen m.now) + (load (types_at types.now) (node_seen n.now) + load (types_at types.now) (node_seen p.now))))) }
+    requires { spent wires.old + length out.now + (5 + (loaded types.now m.now + (loaded types.now n.now + loaded types.now p.now))) ≤ most }
+    ensures wired { OnOk result (seen wires.new ≡ with_choice (types_at types.now) (type_of ty.now) (node_seen m.now) (node_seen n.now) (node_seen p.now) out.now (seen wires.old)) }
+    ensures spent { OnOk result (spent wires.new ≤ spent wires.old + (5 + (loaded types.now m.now + (loaded types.now n.now + loaded types.now p.now)))) }
 {
     let i = wires.next();
     let test = one_point(alloc, Place::Part(i), 0)?;

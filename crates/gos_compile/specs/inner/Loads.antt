@@ -3,13 +3,16 @@
 -- Read first: Wiring. Between the functions of this crate. Of a checked module it is at most 8 times its weight, say
 -- proofs/LoadLemmas, so that no counter of the walk overflows.
 use Rattle.std.specs.Prelude.{ℕ, ◌+◌, ◌*◌, ◌≤◌, List, [], ◌∷◌, length}
+use Rattle.gos_types.specs.declared.types.Ty.{Ty}
 use Rattle.gos_types.specs.Types.{type_of}
 use Rattle.gos_syntax.specs.Modules.{SeenImport}
 use Rattle.gos_check.specs.declared.linear.Split.{Split}
-use Rattle.gos_check.specs.Nodes.{Numbered, Closed, Use, Under, One, Two, If}
+use Rattle.gos_check.specs.declared.linear.Node.{Node}
+use Rattle.gos_check.specs.Nodes.{Numbered, Closed, Use, Under, One, Two, If, node_seen}
 use Rattle.gos_compile.specs.declared.wires.Wires.{Wires}
 use Rattle.gos_compile.specs.Regular.{count}
 use Rattle.gos_compile.specs.Wiring.{Types, type_of_node}
+use Rattle.gos_compile.specs.inner.Tables.{types_at}
 
 -- a Share for each split, with three handshakes for each of what is split
 abbrev pub share_load : Types → ℕ → ℕ
@@ -29,6 +32,13 @@ load types (One t ss f m) = splits_load ss types + (5 + count t + (count (type_o
 load types (Two t ss f m n) =
     splits_load ss types + (5 + count t + (count (type_of_node m) + load types m + (count (type_of_node n) + load types n)))
 load types (If t ss m n p) = splits_load ss types + (5 + count t + (load types m + (load types n + load types p)))
+
+-- the same of a node of the program; and with the handshakes of its type, which may lead to the node around it
+abbrev pub loaded : List Ty → Node → ℕ
+loaded types node = load (types_at types) (node_seen node)
+
+abbrev pub part_loaded : List Ty → Node → ℕ
+part_loaded types node = count (type_of_node (node_seen node)) + loaded types node
 
 -- the parts and the nodes so far
 abbrev pub spent : Wires → ℕ

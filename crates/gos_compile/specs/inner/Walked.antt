@@ -4,9 +4,10 @@
 -- Read first: Wiring. Between the functions of this crate.
 use Rattle.std.specs.Prelude.{ℕ, suc, Bool, true, not, nat_eq, List, [], ◌∷◌, ◌++◌, length, map}
 use Rattle.std.specs.List.{list_all}
+use Rattle.gos_types.specs.Types.{Type'}
 use Rattle.gos_model.specs.Sources.{op_of}
 use Rattle.gos_check.specs.declared.linear.Split.{Split}
-use Rattle.gos_check.specs.Nodes.{Numbered, Closed, Use, Under, One, Two, If, OneForm, OfFst, OfSnd, OfDeref, OfNot, TwoForm, OfApp, OfBoth, OfSeq, OfPar, OfWhile, OfAssign, OfBin}
+use Rattle.gos_check.specs.Nodes.{Numbered, Closed, Use, Under, One, Two, If, Binding, OneForm, OfFst, OfSnd, OfDeref, OfNot, TwoForm, OfApp, OfBoth, OfSeq, OfPar, OfWhile, OfAssign, OfBin}
 use Rattle.gos_plan.specs.Kinds as kinds
 use Rattle.gos_plan.specs.Kinds.{Part}
 use Rattle.gos_plan.specs.declared.kinds.Kind.{Kind}
@@ -64,6 +65,13 @@ next_part w = length w.parts
 abbrev pub with_own : List Part → List Tie → Wired → Wired
 with_own parts ties w = record { parts = w.parts ++ parts; ties = w.ties ++ ties; nodes = suc w.nodes; plain = w.plain }
 
+-- after the own part of a form of one part, and of two, of which the second has type u
+abbrev pub with_one_own : OneForm → Type' → List Point → Wired → Wired
+with_one_own f t out w = with_own (one_part f t) (one_ties f (next_part w) out) w
+
+abbrev pub with_two_own : TwoForm → Type' → Type' → List Point → Wired → Wired
+with_two_own f t u out w = with_own (two_part f t u) (two_ties f (next_part w) out) w
+
 -- after the Shares of splits
 abbrev pub with_share : Types → Split → Wired → Wired
 with_share types s w =
@@ -98,3 +106,23 @@ wired types (If t ss m n p) out w =
     (wired types n (point (places.Part (next_part (with_shares types ss w))) 1 ∷ [])
     (wired types m (point (places.Part (next_part (with_shares types ss w))) 0 ∷ [])
     (with_own (kinds.If (answer_bits t) ∷ []) (led out (places.Part (next_part (with_shares types ss w))) 3) (with_shares types ss w))))
+
+-- after a binder, a form of one part, a form of two parts, and a choice, behind their splits
+abbrev pub with_binder : Types → Binding → Type' → ℕ → Numbered → List Point → Wired → Wired
+with_binder types b t n m out w =
+    wired types m (binder_out b t (next_part w) out) (with_own (binder_part b t) (binder_ties b t (next_part w) n out) w)
+
+abbrev pub with_one : Types → OneForm → Type' → Numbered → List Point → Wired → Wired
+with_one types f t m out w = wired types m (one_out f t (type_of_node m) (next_part w) w.nodes out) (with_one_own f t out w)
+
+abbrev pub with_two : Types → TwoForm → Type' → Numbered → Numbered → List Point → Wired → Wired
+with_two types f t m n out w =
+    wired types n (second_out f (type_of_node m) (type_of_node n) (next_part w) w.nodes out)
+    (wired types m (first_out f (type_of_node m) (type_of_node n) (next_part w) w.nodes out) (with_two_own f t (type_of_node n) out w))
+
+abbrev pub with_choice : Types → Type' → Numbered → Numbered → Numbered → List Point → Wired → Wired
+with_choice types t m n p out w =
+    wired types p (point (places.Part (next_part w)) 2 ∷ [])
+    (wired types n (point (places.Part (next_part w)) 1 ∷ [])
+    (wired types m (point (places.Part (next_part w)) 0 ∷ [])
+    (with_own (kinds.If (answer_bits t) ∷ []) (led out (places.Part (next_part w)) 3) w)))
