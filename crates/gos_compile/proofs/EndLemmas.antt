@@ -195,7 +195,7 @@ row_has f from (suc h) (suc n) low =
     let rest : 0 < appears (f (from + suc h)) (end_row f (suc from) n) = subst (λ (x : End). 0 < appears x (end_row f (suc from) n)) same there in
     omega (arith, rest)
 
-short : (cs : List Contact) (h : ℕ) (c : Contact) → slice_get cs h ≡ Some c → h < length cs
+pub short : (cs : List Contact) (h : ℕ) (c : Contact) → slice_get cs h ≡ Some c → h < length cs
 short [] h c e = cc
 short (d ∷ cs) zero c e = omega arith
 short (d ∷ cs) (suc h) c e = let rest = short cs h c e in omega (arith, rest)
@@ -254,7 +254,7 @@ import_has from (k ∷ ks) (suc i) h c e =
     let parted = appears-append (ImportEnd (from + suc i) h) (end_row (ImportEnd from) 0 (length (contacts_of k.ty))) (imports_ends (suc from) ks) in
     omega (arith, here, parted)
 
-turned_some : (cs : List Contact) (h : ℕ) (c : Contact) → turned_if (slice_get cs h) ≡ Some c → h < length cs
+pub turned_some : (cs : List Contact) (h : ℕ) (c : Contact) → turned_if (slice_get cs h) ≡ Some c → h < length cs
 turned_some [] h c e = cc
 turned_some (d ∷ cs) zero c e = omega arith
 turned_some (d ∷ cs) (suc h) c e = let rest = turned_some cs h c e in omega (arith, rest)

@@ -163,7 +163,7 @@ pub shakes-append : (ks ls : List Part) → all_shakes (ks ++ ls) ≡ all_shakes
 shakes-append [] ls = omega arith
 shakes-append (k ∷ ks) ls = let rest = shakes-append ks ls in omega (arith, rest)
 
-share_shakes : (t : Type') → length (part_contacts (kinds.Share t)) ≡ 3 * count t
+pub share_shakes : (t : Type') → length (part_contacts (kinds.Share t)) ≡ 3 * count t
 share_shakes t =
     let one = length-append (other_side (contacts_of t)) (contacts_of t ++ contacts_of t) in
     let two = length-append (contacts_of t) (contacts_of t) in
@@ -365,3 +365,15 @@ few_ends l c =
     let few = light.splits in
     let weighs = light.weighs in
     omega (arith, all, few, weighs)
+
+-- a module weighs something
+some_burden : (m : Numbered) → 1 ≤ burden m
+some_burden (Closed t ss c) = omega arith
+some_burden (Use t ss n) = omega arith
+some_burden (Under t ss b n m) = omega arith
+some_burden (One t ss f m) = omega arith
+some_burden (Two t ss f m n) = omega arith
+some_burden (If t ss m n p) = omega arith
+
+pub some_weight : (l : SeenLinear) → IsChecked l → 1 ≤ l.weight
+some_weight l c = let light = is_light l c in let weighs = light.weighs in let some = some_burden (node_seen l.term) in omega (arith, weighs, some)

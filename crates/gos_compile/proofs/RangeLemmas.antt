@@ -33,11 +33,11 @@ use Rattle.gos_compile.specs.Wiring.{Types, type_of_node, answer_bits, with_type
 use Rattle.gos_compile.specs.inner.Walked.{is_plain}
 
 -- a type with widths and few handshakes
-abbrev IsFine : Type' → Type 0
+abbrev pub IsFine : Type' → Type 0
 IsFine t = HasWidths t × (length (handshakes_of t) ≤ 64)
 
 -- The range of a part. What a sequence or a choice ends with has a width, or no bits.
-abbrev HasRange : Part → Type 0
+abbrev pub HasRange : Part → Type 0
 HasRange kinds.Skip = Unit {0}
 HasRange (kinds.Lit w k) = IsWidth w × (k < 2 ^ w)
 HasRange (kinds.Seq v) = (v ≡ 0) ⊎ IsWidth v
@@ -59,7 +59,7 @@ widths_same (Pair a b) h = (widths_same a h.0, widths_same b h.1)
 widths_same (Fun a b) h = (widths_same a h.0, widths_same b h.1)
 
 -- each type of imports, and each of binders, has widths
-abbrev ImportsFine : Imports → Type 0
+abbrev pub ImportsFine : Imports → Type 0
 ImportsFine [] = Unit {0}
 ImportsFine (i ∷ is) = IsFine i.ty × ImportsFine is
 
@@ -311,7 +311,7 @@ kinds_range (k ∷ ks) p (r, h) =
     All-cons IsInRange k ks (kind_range k one r) (kinds_range ks rest h)
 
 -- the program's imports
-written_fine : (is : List SeenImport) → AreWritten is → ImportsFine (map sources.import_of is)
+pub written_fine : (is : List SeenImport) → AreWritten is → ImportsFine (map sources.import_of is)
 written_fine [] h = tt
 written_fine (i ∷ is) (w, h) = ((widths_same (type_of i.ty) w.0, w.1), written_fine is h)
 
@@ -320,7 +320,7 @@ imports_range [] h = All-nil (λ (i : PlanImport). IsSmall i.ty)
 imports_range (i ∷ is) (fine, h) = All-cons (λ (i : PlanImport). IsSmall i.ty) i is fine (imports_range is h)
 
 -- the parts of a checked module are in range
-checked_range : NodeHasType → (l : SeenLinear) → IsChecked l → AllByRecursion HasRange (all_parts (map sources.import_of l.imports) (node_seen l.term))
+pub checked_range : NodeHasType → (l : SeenLinear) → IsChecked l → AllByRecursion HasRange (all_parts (map sources.import_of l.imports) (node_seen l.term))
 checked_range law l c =
     let is : Imports = map sources.import_of l.imports in
     let m : Numbered = node_seen l.term in

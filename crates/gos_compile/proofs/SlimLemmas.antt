@@ -39,7 +39,7 @@ some_shake (Var w) = omega arith
 some_shake (Pair a b) = let one = some_shake a in let all = count_pair a b in omega (arith, one, all)
 some_shake (Fun a b) = let one = some_shake a in let all = count_fun a b in omega (arith, one, all)
 
-imports_weigh : (is : Imports) → (length is ≤ imports_shakes is) × (imports_shakes is ≡ sum_by (λ (x : Imported). weights.count x.ty) is)
+pub imports_weigh : (is : Imports) → (length is ≤ imports_shakes is) × (imports_shakes is ≡ sum_by (λ (x : Imported). weights.count x.ty) is)
 imports_weigh [] = (omega arith, refl)
 imports_weigh (i ∷ is) =
     let one = some_shake i.ty in

@@ -9,7 +9,7 @@ ghost use Rattle.gos_types.specs.Types.{type_of};
 ghost use Rattle.gos_check.specs.Nodes.{node_seen, OfFun, OfNew};
 ghost use Rattle.gos_compile.specs.Regular.{count};
 ghost use Rattle.gos_compile.specs.inner.Tables.{types_at};
-ghost use Rattle.gos_compile.specs.inner.Walked.{seen, wired, with_binder, with_one, with_two, with_choice, one_form, two_form};
+ghost use Rattle.gos_compile.specs.inner.Walked.{seen, wired, with_binder, with_one, with_two, with_choice};
 ghost use Rattle.gos_compile.specs.inner.Loads.{loaded, part_loaded, most, spent};
 
 use crate::forms::{OneRule, TwoRule, choice, front, one_point, rest};
@@ -143,7 +143,7 @@ fn wire_function(
     wires: &mut Wires,
 ) -> Result<(), NoMemory>
     requires { spent wires.old + length out.now + (5 + count (type_of ty.now) + loaded types.now body.now) ≤ most }
-    ensures wired { OnOk result (seen wires.new ≡ with_binder (types_at types.now) OfFun (type_of ty.now) number (node_seen body.now) out.now (seen wires.old)) }
+    ensures wired { OnOk result (seen wires.new ≡ with_binder types.now OfFun ty.now number body.now out.now (seen wires.old)) }
     ensures spent { OnOk result (spent wires.new ≤ spent wires.old + (5 + loaded types.now body.now)) }
 {
     let argument = argument(alloc, ty)?;
@@ -165,7 +165,7 @@ fn wire_block(
     wires: &mut Wires,
 ) -> Result<(), NoMemory>
     requires { spent wires.old + length out.now + (5 + loaded types.now body.now) ≤ most }
-    ensures wired { OnOk result (seen wires.new ≡ with_binder (types_at types.now) (OfNew width) (type_of ty.now) number (node_seen body.now) out.now (seen wires.old)) }
+    ensures wired { OnOk result (seen wires.new ≡ with_binder types.now (OfNew width) ty.now number body.now out.now (seen wires.old)) }
     ensures spent { OnOk result (spent wires.new ≤ spent wires.old + (5 + loaded types.now body.now)) }
 {
     let i = wires.next();
@@ -186,8 +186,8 @@ fn wire_one(
     out: &[Point],
     wires: &mut Wires,
 ) -> Result<(), NoMemory>
-    requires { spent wires.old + length out.now + (5 + count (type_of ty.now) + (part_loaded types.now m.now)) ≤ most }
-    ensures wired { OnOk result (seen wires.new ≡ with_one (types_at types.now) (one_form rule) (type_of ty.now) (node_seen m.now) out.now (seen wires.old)) }
+    requires { spent wires.old + length out.now + (5 + count (type_of ty.now) + part_loaded types.now m.now) ≤ most }
+    ensures wired { OnOk result (seen wires.new ≡ with_one types.now rule ty.now m.now out.now (seen wires.old)) }
     ensures spent { OnOk result (spent wires.new ≤ spent wires.old + (5 + loaded types.now m.now)) }
 {
     let i = wires.next();
@@ -209,8 +209,8 @@ fn wire_two(
     out: &[Point],
     wires: &mut Wires,
 ) -> Result<(), NoMemory>
-    requires { spent wires.old + length out.now + (5 + (part_loaded types.now m.now + (part_loaded types.now n.now))) ≤ most }
-    ensures wired { OnOk result (seen wires.new ≡ with_two (types_at types.now) (two_form rule) (type_of ty.now) (node_seen m.now) (node_seen n.now) out.now (seen wires.old)) }
+    requires { spent wires.old + length out.now + (5 + (part_loaded types.now m.now + part_loaded types.now n.now)) ≤ most }
+    ensures wired { OnOk result (seen wires.new ≡ with_two types.now rule ty.now m.now n.now out.now (seen wires.old)) }
     ensures spent { OnOk result (spent wires.new ≤ spent wires.old + (5 + (loaded types.now m.now + loaded types.now n.now))) }
 {
     let i = wires.next();
@@ -234,7 +234,7 @@ fn wire_choice(
     wires: &mut Wires,
 ) -> Result<(), NoMemory>
     requires { spent wires.old + length out.now + (5 + (loaded types.now m.now + (loaded types.now n.now + loaded types.now p.now))) ≤ most }
-    ensures wired { OnOk result (seen wires.new ≡ with_choice (types_at types.now) (type_of ty.now) (node_seen m.now) (node_seen n.now) (node_seen p.now) out.now (seen wires.old)) }
+    ensures wired { OnOk result (seen wires.new ≡ with_choice types.now ty.now m.now n.now p.now out.now (seen wires.old)) }
     ensures spent { OnOk result (spent wires.new ≤ spent wires.old + (5 + (loaded types.now m.now + (loaded types.now n.now + loaded types.now p.now)))) }
 {
     let i = wires.next();
