@@ -20,3 +20,5 @@ mod AgreeLemmas
 mod LoadLemmas
 mod EndLemmas
 mod SlimLemmas
+mod TextLemmas
+mod ReadLemmas

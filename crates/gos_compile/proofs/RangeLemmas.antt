@@ -51,7 +51,7 @@ HasRange (kinds.Deref w) = IsWidth w
 HasRange (kinds.Local w v) = IsWidth w × (v ≤ 32)
 HasRange (kinds.Share t) = IsFine t
 
-widths_same : (t : Type') → accepted.HasWidths t → HasWidths t
+pub widths_same : (t : Type') → accepted.HasWidths t → HasWidths t
 widths_same Com h = tt
 widths_same (Exp w) h = h
 widths_same (Var w) h = h

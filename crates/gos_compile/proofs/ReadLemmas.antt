@@ -1,32 +1,29 @@
 -- The plan of a checked module has a text that is read back.
 --
 -- Read first: SlimLemmas, TextLemmas; ObjectText and ObjectFaults of gos_plan.
-use Rattle.std.specs.Prelude.{◌≡◌, ℕ, zero, suc, ◌+◌, ◌*◌, ◌≤◌, ◌<◌, ◌⊎◌, List, [], ◌∷◌, ◌++◌, Option, Some, None, length, map, slice_get, sum_by}
+use Rattle.std.specs.Prelude.{◌≡◌, ℕ, zero, suc, ◌+◌, ◌≤◌, ◌<◌, ◌⊎◌, List, [], ◌∷◌, ◌++◌, Some, length, map, slice_get}
 use Rattle.std.specs.List.{AllByRecursion}
 use Rattle.std.proofs.Common.{refl, ap, sym, ◌∙◌, subst, arith, inl, inr}
 use Rattle.std.proofs.lemmas.List.{length-map}
 use Rattle.gos_lex.specs.Names.{IsNameOrWord}
 use Rattle.gos_types.specs.Types.{Type', type_of}
-use Rattle.gos_model.specs.Typing.{Imported, Imports}
-use Rattle.gos_model.specs.Weight as weights
+use Rattle.gos_model.specs.Typing.{Imports}
 use Rattle.gos_model.specs.Laws.{NodeHasType}
-use Rattle.gos_model.specs.Sources as sources
 use Rattle.gos_check.specs.Checked.{SeenLinear, IsChecked, program_in}
 use Rattle.gos_check.specs.Linearity.{import_at}
-use Rattle.gos_check.specs.Nodes.{Numbered, Closed, Use, Under, One, Two, If, node_seen}
+use Rattle.gos_check.specs.Nodes.{node_seen}
 use Rattle.gos_plan.specs.declared.plan.PlanImport.{PlanImport}
 use Rattle.gos_plan.specs.Kinds as kinds
 use Rattle.gos_plan.specs.Kinds.{Part, Contact, contacts_of, part_contacts}
 use Rattle.gos_plan.specs.Plans.{End, PartEnd, ImportEnd, ResultEnd, Joint, Plan, contact_at, contacts_of_part, contacts_of_import, AreRight}
 use Rattle.gos_plan.specs.Ranges.{IsWidth}
 use Rattle.gos_plan.specs.Seen.{import_of}
-use Rattle.gos_plan.specs.ObjectText.{text_of, IsNumber, IsWritablePart, IsWritableImport, IsWritableEnd, IsWritableJoint, IsWritable, IsSmallType, IsSmallPart, IsSmallPlan}
+use Rattle.gos_plan.specs.ObjectText.{text_of, IsWritablePart, IsWritableImport, IsWritableEnd, IsWritableJoint, IsWritable, IsSmallType, IsSmallPart, IsSmallPlan}
 use Rattle.gos_plan.specs.ObjectFaults.{IsRead}
 use Rattle.gos_compile.specs.Regular.{count}
 use Rattle.gos_compile.specs.Realises.{all_shakes, IsSlim}
-use Rattle.gos_compile.specs.Wiring.{type_of_node, all_parts, all_types, IsPlanOf}
+use Rattle.gos_compile.specs.Wiring.{type_of_node, all_parts, IsPlanOf}
 use Rattle.gos_compile.specs.inner.Named.{HaveNames}
-use Rattle.gos_compile.proofs.BoundLemmas.{same_count, burden}
 use Rattle.gos_compile.proofs.EndLemmas.{imports_shakes, short, turned_some}
 use Rattle.gos_compile.proofs.LoadLemmas.{few_ends, some_weight}
 use Rattle.gos_compile.proofs.RangeLemmas.{HasRange, IsFine, ImportsFine, widths_same, written_fine, checked_range, node_typed}
@@ -86,7 +83,7 @@ end_writable p few (ResultEnd h) c e = let low = turned_some (contacts_of p.outc
 
 joints_writable : (p : Plan) → IsFew p → (before js : List Joint) → AreRight p before js → AllByRecursion IsWritableJoint js
 joints_writable p few before [] right = tt
-joints_writable p few before (j ∷ js) (((q, v, asks, serves), free), rest) = (
+joints_writable p few before (j ∷ js) (((q, v, asks, serves), free_asking, free_serving), rest) = (
   (end_writable p few j.asking _ asks, end_writable p few j.serving _ serves),
   joints_writable p few (j ∷ before) js rest,
 )
@@ -161,3 +158,8 @@ reads_back law l c p imports plan slim seen names many = (
           parts = (limits.0, (parts_writable p.parts ranges).1);
           joints = (let other = limits.1 in omega (arith, other));
         }
+
+-- one import more
+pub names_more : (is : List PlanImport) (i : PlanImport) → HaveNames is → IsNameOrWord i.name → HaveNames (is ++ i ∷ [])
+names_more [] i names name = (name, tt)
+names_more (j ∷ is) i (other, names) name = (other, names_more is i names name)

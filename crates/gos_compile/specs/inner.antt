@@ -7,3 +7,4 @@ pub mod Joined
 pub mod Found
 pub mod Counted
 pub mod Loads
+pub mod Named

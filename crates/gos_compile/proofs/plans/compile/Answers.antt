@@ -18,6 +18,7 @@ use Rattle.gos_compile.proofs.ThinLemmas.{thin}
 use Rattle.gos_check.specs.Checked.{program_in}
 use Rattle.gos_compile.proofs.LoadLemmas.{counters}
 use Rattle.gos_compile.proofs.SlimLemmas.{is_slim, few_parts, few_imports, all_small, shakes_small}
+use Rattle.gos_compile.proofs.ReadLemmas.{reads_back}
 use Rattle.gos_compile.proofs.RangeLemmas.{in_range}
 use Rattle.gos_compile.proofs.RightLemmas.{right_joints, no_fault}
 use Rattle.gos_compile.proofs.PlanLemmas.{is_plan}
@@ -64,7 +65,7 @@ returns-in-Ok c =
     let e = c.in-Ok.ensures.plan in
     let imports : map import_of s.imports ≡ is =
     ap (λ (p : SeenPlan). map import_of p.imports) e
-    ∙ (c.in_ok-imports.ensures ∙ ap (λ (is : List SeenImport). map sources.import_of is) c.imports-2.ensures)
+    ∙ (c.in_ok-imports.ensures.imports ∙ ap (λ (is : List SeenImport). map sources.import_of is) c.imports-2.ensures)
     in
     let outcome : type_of s.outcome ≡ type_of c.args.program.now.result =
     ap (λ (p : SeenPlan). type_of p.outcome) e ∙ (c.in_ok-outcome.ensures ∙ ap (λ (t : Ty). type_of t) c.result.ensures)
@@ -92,13 +93,20 @@ returns-in-Ok c =
     in
     let slim : IsSlim (plan_of s) = is_slim c.types_of_terms.ensures.node c.args.program.now c.term.ensures.checked (plan_of s) plan in
     let (few, joined) = few_parts c.args.program.now c.term.ensures.checked (plan_of s) plan.weight slim in
-    record { plan = plan; slim = slim; few_parts = few; few_joints = joined }
+    record {
+      plan = plan;
+      slim = slim;
+      few_parts = few;
+      few_joints = joined;
+      read_back = reads_back c.types_of_terms.ensures.node c.args.program.now c.term.ensures.checked (plan_of s) c.in_ok-imports.imports.items plan slim
+          (ap (λ (p : SeenPlan). map import_of p.imports) e) c.in_ok-imports.ensures.names;
+    }
 
 pub make-requires : goal.make-requires
 make-requires c =
     in_range c.types_of_terms.ensures.node c.args.program.now c.term.ensures.checked c.in_ok-imports.imports.items c.in_ok-outcome.outcome
     c.in_ok-wires.wires.parts.items
-    (c.in_ok-imports.ensures ∙ ap (λ (is : List SeenImport). map sources.import_of is) c.imports-2.ensures)
+    (c.in_ok-imports.ensures.imports ∙ ap (λ (is : List SeenImport). map sources.import_of is) c.imports-2.ensures)
     (c.in_ok-outcome.ensures ∙ ap (λ (t : Ty). type_of t) c.result.ensures)
     (c.in_ok-wires.ensures.parts ∙ (λ i. all_parts (map sources.import_of (c.imports.ensures i)) (node_seen (c.term.ensures.value i))))
     c.in_ok-wires.ensures.plain
