@@ -33,11 +33,11 @@ use Rattle.gos_compile.specs.Wiring.{Types, type_of_node, answer_bits, with_type
 use Rattle.gos_compile.specs.inner.Walked.{is_plain}
 
 -- a type with widths and few handshakes
-abbrev IsFine : Type' → Type 0
+abbrev pub IsFine : Type' → Type 0
 IsFine t = HasWidths t × (length (handshakes_of t) ≤ 64)
 
 -- The range of a part. What a sequence or a choice ends with has a width, or no bits.
-abbrev HasRange : Part → Type 0
+abbrev pub HasRange : Part → Type 0
 HasRange kinds.Skip = Unit {0}
 HasRange (kinds.Lit w k) = IsWidth w × (k < 2 ^ w)
 HasRange (kinds.Seq v) = (v ≡ 0) ⊎ IsWidth v
@@ -52,7 +52,7 @@ HasRange (kinds.Local w v) = IsWidth w × (v ≤ 32)
 HasRange (kinds.Share t) = IsFine t
 
 -- each type of imports, and each of binders, has widths
-abbrev ImportsFine : Imports → Type 0
+abbrev pub ImportsFine : Imports → Type 0
 ImportsFine [] = Unit {0}
 ImportsFine (i ∷ is) = IsFine i.ty × ImportsFine is
 
@@ -132,7 +132,7 @@ NodesFit (One t ss f m) = AllByRecursion HasRange (one_part f t) × NodesFit m
 NodesFit (Two t ss f m n) = AllByRecursion HasRange (two_part f t (type_of_node n)) × NodesFit m × NodesFit n
 NodesFit (If t ss m n p) = HasRange (kinds.If (answer_bits t)) × NodesFit m × NodesFit n × NodesFit p
 
-node_typed : NodeHasType → (i : Imports) (g : List Type') (env : Meaning) (m : Numbered) (t : Type') → HasTypes i g env m
+pub node_typed : NodeHasType → (i : Imports) (g : List Type') (env : Meaning) (m : Numbered) (t : Type') → HasTypes i g env m
     → Typed i g (meaning env m) t → type_of_node m ≡ t
 node_typed law i g env (Closed u ss c) t has typed = has ∙ law i g c t typed
 node_typed law i g env (Use u ss n) t has typed = has ∙ law i g (env n) t typed
@@ -304,7 +304,7 @@ kinds_range (k ∷ ks) p (r, h) =
     All-cons IsInRange k ks (kind_range k one r) (kinds_range ks rest h)
 
 -- the program's imports
-written_fine : (is : List SeenImport) → AreWritten is → ImportsFine (map sources.import_of is)
+pub written_fine : (is : List SeenImport) → AreWritten is → ImportsFine (map sources.import_of is)
 written_fine [] h = tt
 written_fine (i ∷ is) (w, h) = (w, written_fine is h)
 
@@ -313,7 +313,7 @@ imports_range [] h = All-nil (λ (i : PlanImport). IsSmall i.ty)
 imports_range (i ∷ is) (fine, h) = All-cons (λ (i : PlanImport). IsSmall i.ty) i is fine (imports_range is h)
 
 -- the parts of a checked module are in range
-checked_range : NodeHasType → (l : SeenLinear) → IsChecked l → AllByRecursion HasRange (all_parts (map sources.import_of l.imports) (node_seen l.term))
+pub checked_range : NodeHasType → (l : SeenLinear) → IsChecked l → AllByRecursion HasRange (all_parts (map sources.import_of l.imports) (node_seen l.term))
 checked_range law l c =
     let is : Imports = map sources.import_of l.imports in
     let m : Numbered = node_seen l.term in
