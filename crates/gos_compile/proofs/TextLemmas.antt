@@ -9,7 +9,9 @@ use Rattle.std.proofs.Math.Pow.{pow_mono}
 use Rattle.gos_types.specs.Types.{Type', Com, Exp, Var, Pair, Fun}
 use Rattle.gos_model.specs.Typing.{Imported}
 use Rattle.gos_plan.specs.Kinds as kinds
-use Rattle.gos_plan.specs.Kinds.{Operation, Part, part_contacts}
+use Rattle.gos_model.specs.Terms as terms
+use Rattle.gos_model.specs.Terms.{Op as Operation}
+use Rattle.gos_plan.specs.Kinds.{Part, part_contacts}
 use Rattle.gos_plan.specs.Plans.{End, PartEnd, ImportEnd, ResultEnd, Joint, Plan}
 use Rattle.gos_types.specs.Widths.{HasWidths}
 use Rattle.gos_plan.specs.ObjectText.{number_text, type_text, bits_text, body_text, word_text, word_of, operands_text, part_text, import_text, end_text, joint_text, section_text, imports_text, parts_text, joints_text, text_of, IsNumber, IsWritablePart, IsWritableImport, IsWritableEnd, IsWritableJoint, IsWritable, IsSmallType, IsSmallPlan}
@@ -63,13 +65,13 @@ body_length (suc v) is =
     let all = length-append (codes "exp ") (number_text 10 (suc v)) in let digits = bits_length 10 (suc v) is in omega (arith, all, digits)
 
 operator_length : (op : Operation) (w : ℕ) → length (word_text (word_of (kinds.Op op w))) ≤ 7
-operator_length kinds.Add w = omega arith
-operator_length kinds.Sub w = omega arith
-operator_length kinds.And w = omega arith
-operator_length kinds.Or w = omega arith
-operator_length kinds.Xor w = omega arith
-operator_length kinds.Eq w = omega arith
-operator_length kinds.Less w = omega arith
+operator_length terms.Add w = omega arith
+operator_length terms.Sub w = omega arith
+operator_length terms.And w = omega arith
+operator_length terms.Or w = omega arith
+operator_length terms.Xor w = omega arith
+operator_length terms.Eq w = omega arith
+operator_length terms.Less w = omega arith
 
 word_length : (k : Part) → length (word_text (word_of k)) ≤ 7
 word_length kinds.Skip = omega arith
