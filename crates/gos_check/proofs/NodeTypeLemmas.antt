@@ -1,6 +1,6 @@
--- The type of a node as it is seen is the node's own, and so are its splits.
-use Rattle.std.specs.Prelude.{◌≡◌, ◌≤◌, List}
-use Rattle.std.proofs.Common.{refl, arith}
+-- The type of a node as it is seen is the node's own.
+use Rattle.std.specs.Prelude.{◌≡◌, List}
+use Rattle.std.proofs.Common.{refl}
 use Rattle.gos_types.specs.declared.types.Ty.{Ty}
 use Rattle.gos_types.specs.Types.{type_of}
 use Rattle.gos_check.specs.declared.linear.Split.{Split}
@@ -30,26 +30,3 @@ type_of_form t ss (forms.Bin' op p a qs f q b rs g) = refl
 
 pub type_seen : (node : Node) → type_of node.ty ≡ type_of_node (node_seen node)
 type_seen node = type_of_form node.ty node.splits.items node.form
-
-splits_of_form : (types : Types) (t : Ty) (ss : List Split) (f : NodeForm) → splits_load ss types ≤ load types (numbered_of t ss f)
-splits_of_form types t ss forms.Skip = omega arith
-splits_of_form types t ss (forms.Lit k w) = omega arith
-splits_of_form types t ss (forms.Use n) = omega arith
-splits_of_form types t ss (forms.Fun' n p a qs f) = omega arith
-splits_of_form types t ss (forms.New' n w p a qs f) = omega arith
-splits_of_form types t ss (forms.App' p a qs f q b rs g) = omega arith
-splits_of_form types t ss (forms.Pair' p a qs f q b rs g) = omega arith
-splits_of_form types t ss (forms.Fst' p a qs f) = omega arith
-splits_of_form types t ss (forms.Snd' p a qs f) = omega arith
-splits_of_form types t ss (forms.Seq' p a qs f q b rs g) = omega arith
-splits_of_form types t ss (forms.Par' p a qs f q b rs g) = omega arith
-splits_of_form types t ss (forms.If' p a qs f q b rs g r c us h) = omega arith
-splits_of_form types t ss (forms.While' p a qs f q b rs g) = omega arith
-splits_of_form types t ss (forms.Assign' p a qs f q b rs g) = omega arith
-splits_of_form types t ss (forms.Deref' p a qs f) = omega arith
-splits_of_form types t ss (forms.Not' p a qs f) = omega arith
-splits_of_form types t ss (forms.Bin' op p a qs f q b rs g) = omega arith
-
--- there is room for a node's Shares where there is room for the node
-pub splits_seen : (types : Types) (node : Node) → splits_load node.splits.items types ≤ load types (node_seen node)
-splits_seen types node = splits_of_form types node.ty node.splits.items node.form
