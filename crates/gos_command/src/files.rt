@@ -1,6 +1,6 @@
 // The files of a command: their names, and how they are read and written.
 
-ghost use Rattle.std.specs.Prelude.{◌≡◌, ◌≤◌, ◌<◌, ◌^◌, take, IfOk, IfErr, IfSome, OnOk, IsErrOf, Err};
+ghost use Rattle.std.specs.Prelude.{◌≡◌, ◌+◌, ◌≤◌, ◌<◌, ◌^◌, take, length, IfOk, IfErr, IfSome, OnOk, IsErrOf, Err};
 ghost use Rattle.gos_outside.specs.FileName.{IsFileName};
 ghost use Rattle.gos_outside.specs.Files.{Files, bytes_at, with_file, SameBut};
 ghost use Rattle.gos_outside.specs.Faults.{LastFault, ReadFault, WriteFault, Rose};
@@ -59,10 +59,11 @@ pub fn read_file<S: Store>(
     requires name { IsFileName name.now }
     requires limit { limit < 2 ^ 32 }
     ensures read { IfOk result (λ bytes. IfSome (S.contents store.old) (λ files. IsReadWhole limit bytes.items (bytes_at files name.now))) }
-    ensures ok_count { OnOk result (S.faults store.new ≡ S.faults store.old) }
+    ensures one_more { IfOk result (λ bytes. length bytes.items ≤ limit + 1) }
     ensures rejects_nothing { IfErr result (λ stop. IfStopped stop (λ fault line. ⊥)) }
     ensures failed_only { IsErrOf result Stop.StoreFailed → Rose (S.faults store.old) (S.faults store.new) }
     ensures failed_call { IsErrOf result Stop.StoreFailed → S.last_fault store.new ≡ ReadFault name.now }
+    ensures same_count { (¬ (IsErrOf result Stop.StoreFailed)) → S.faults store.new ≡ S.faults store.old }
     ensures never_falls { S.faults store.old ≤ S.faults store.new }
     ensures same_files { S.contents store.new ≡ S.contents store.old }
 {
@@ -79,10 +80,11 @@ pub fn read_start<S: Store>(
     requires name { IsFileName name.now }
     requires count { count ≤ 2 ^ 32 }
     ensures read { IfOk result (λ bytes. IfSome (S.contents store.old) (λ files. bytes.items ≡ take count (bytes_at files name.now))) }
-    ensures ok_count { OnOk result (S.faults store.new ≡ S.faults store.old) }
+    ensures limit { IfOk result (λ bytes. length bytes.items ≤ count) }
     ensures rejects_nothing { IfErr result (λ stop. IfStopped stop (λ fault line. ⊥)) }
     ensures failed_only { IsErrOf result Stop.StoreFailed → Rose (S.faults store.old) (S.faults store.new) }
     ensures failed_call { IsErrOf result Stop.StoreFailed → S.last_fault store.new ≡ ReadFault name.now }
+    ensures same_count { (¬ (IsErrOf result Stop.StoreFailed)) → S.faults store.new ≡ S.faults store.old }
     ensures never_falls { S.faults store.old ≤ S.faults store.new }
     ensures same_files { S.contents store.new ≡ S.contents store.old }
 {
@@ -105,6 +107,7 @@ pub fn write_file<S: Store>(
     ensures rejects_nothing { IfErr result (λ stop. IfStopped stop (λ fault line. ⊥)) }
     ensures failed_only { IsErrOf result Stop.StoreFailed → Rose (S.faults store.old) (S.faults store.new) }
     ensures failed_call { IsErrOf result Stop.StoreFailed → S.last_fault store.new ≡ WriteFault name.now }
+    ensures same_count { (¬ (IsErrOf result Stop.StoreFailed)) → S.faults store.new ≡ S.faults store.old }
     ensures never_falls { S.faults store.old ≤ S.faults store.new }
     ensures others { SameBut name.now (S.contents store.old) (S.contents store.new) }
     ensures no_memory { IsErrOf result Stop.NoMemory → S.contents store.new ≡ S.contents store.old }

@@ -1,5 +1,5 @@
 -- How a command ends, from how its work ended and what was printed.
-use Rattle.std.proofs.Common.{◌≡◌, ◌∙◌, ◌⊎◌, inl, inr, List, [], ◌∷◌, ℕ, Option, Result, Ok, Err, arith, ap, sym, subst}
+use Rattle.std.proofs.Common.{◌≡◌, ◌∙◌, ◌⊎◌, inl, inr, refl, List, [], ◌∷◌, ℕ, Option, Result, Ok, Err, arith, ap, sym, subst}
 use Rattle.std.specs.Prelude.{IfOk, IfErr, IfSome}
 use Rattle.gos_outside.specs.Files.{Files}
 use Rattle.gos_lines.specs.Lines.{Word}
@@ -13,7 +13,7 @@ use Rattle.gos_command.specs.declared.stop.Stop.{Stop}
 use Rattle.gos_command.specs.declared.stop.Stop.TheVariants as stops
 use Rattle.gos_simulate.specs.Sim.{IsSimFault}
 use Rattle.gos_tool.specs.Command.{Command, Check, Sim, Build, Means}
-use Rattle.gos_tool.specs.Run.{IsDone, IsRejected, EndsDone, EndsRejected, IsUnsaid}
+use Rattle.gos_tool.specs.Run.{IsDone, IsRejected, IsCutShort, EndsDone, EndsRejected, IsUnsaid, IsUntold}
 
 -- a command is done only where its work is
 pub ends_done : (words : List Word) (old new : Option Files) (written printed : Option (List ℕ)) (c : Command) (ended : Result Report Stop) (status : Status)
@@ -65,6 +65,21 @@ pub unsaid : (words : List Word) (old new : Option Files) (written printed : Opt
     → IsUnsaid d old new written printed
 unsaid words old new written printed c d ended status m n done rejected told says failed =
     subst (λ (e : Command). IsUnsaid e old new written printed) (same_meaning words c d m n) (unsaid_as old new written printed c ended status done rejected told says failed)
+
+-- a command at whose end memory runs out
+untold_as : (old new : Option Files) (written printed : Option (List ℕ)) (c : Command) (ended : Result Report Stop) (status : Status)
+    → IfOk ended (IsDone c old new) → IfErr ended (λ stop. IfStopped stop (IsRejected c old new)) → (ended ≡ Err stops.NoMemory → IsCutShort c old new)
+    → Finishes ended status written printed → status ≡ statuses.NoMemory → IsUntold c old new
+untold_as old new written printed c (Ok report) status done rejected short says failed = inl (report, done)
+untold_as old new written printed c (Err (stops.Rejected rejection)) status done rejected short says failed = inr (inl (rejection.fault, rejection.line.items, rejected))
+untold_as old new written printed c (Err stops.StoreFailed) status done rejected short says failed = let e = says.0 in cc
+untold_as old new written printed c (Err stops.NoMemory) status done rejected short says failed = inr (inr (short refl))
+
+pub untold : (words : List Word) (old new : Option Files) (written printed : Option (List ℕ)) (c d : Command) (ended : Result Report Stop) (status : Status)
+    → Means words c → Means words d → IfOk ended (IsDone c old new) → IfErr ended (λ stop. IfStopped stop (IsRejected c old new)) → (ended ≡ Err stops.NoMemory → IsCutShort c old new)
+    → Finishes ended status written printed → status ≡ statuses.NoMemory → IsUntold d old new
+untold words old new written printed c d ended status m n done rejected short says failed =
+    subst (λ (e : Command). IsUntold e old new) (same_meaning words c d m n) (untold_as old new written printed c ended status done rejected short says failed)
 
 -- a command that rejects a file, where the line that says so was printed
 ends_rejected : (words : List Word) (old new : Option Files) (written printed : Option (List ℕ)) (c : Command) (ended : Result Report Stop) (fault : Fault)

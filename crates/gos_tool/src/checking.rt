@@ -21,11 +21,13 @@ use std::alloc::Global;
 pub fn check_source<S: Store>(alloc: Global, source: &[u8], store: &mut S) -> Result<Report, Stop>
     requires { IsFileName source.now }
     ensures done { IfOk result (λ report. IfSome (S.contents store.old) (λ files. IsChecked files source.now report)) }
-    ensures rejected { IfErr result (λ stop. IfStopped stop (λ fault line. IfSome (S.contents store.old) (λ files. IsSourceFault files source.now fault line))) }
+    ensures rejected { IfErr result (λ stop. IfStopped stop (λ fault line.
+        IfSome (S.contents store.old) (λ files. IsSourceFault files source.now fault line))) }
     ensures told { IfErr result (λ stop. IfStopped stop IsTold) }
     ensures file { IfErr result (λ stop. IfStopped stop (λ fault line. fault.file ≡ source.now)) }
     ensures failed_only { IsErrOf result Stop.StoreFailed → Rose (S.faults store.old) (S.faults store.new) }
     ensures failed_call { IsErrOf result Stop.StoreFailed → S.last_fault store.new ≡ ReadFault source.now }
+    ensures same_count { (¬ (IsErrOf result Stop.StoreFailed)) → S.faults store.new ≡ S.faults store.old }
     ensures same_files { S.contents store.new ≡ S.contents store.old }
 {
     let text = read_start(alloc, store, source, SOURCE_LIMIT + 1)?;

@@ -1,11 +1,11 @@
 // The commands and their words.
 
-ghost use Rattle.std.specs.Prelude.{◌∷◌, [], IfOk, IfErr, IsErrOf, MatchOption};
+ghost use Rattle.std.specs.Prelude.{◌≡◌, ◌∷◌, [], IfOk, IfErr, IsErrOf, MatchOption};
 ghost use Rattle.gos_outside.specs.Faults.{Rose};
 ghost use Rattle.gos_command.specs.Ends.{IfStopped, IsTold};
 ghost use Rattle.gos_tool.specs.Command.{texts, Means, MeanNothing};
 ghost use Rattle.gos_tool.specs.inner.CommandSeen.{meant, HasFileNames};
-ghost use Rattle.gos_tool.specs.Run.{IsDone, IsRejected, IsCall, KeepsOthers};
+ghost use Rattle.gos_tool.specs.Run.{IsDone, IsRejected, IsCall, IsCutShort, KeepsOthers};
 
 use crate::building::build;
 use crate::checking::check_source;
@@ -50,7 +50,8 @@ pub fn command_of(words: &[String]) -> Option<Command<'_>>
 }
 
 fn sim_of<'a>(verb: &[u8], net: &'a [u8], pulses: &'a [u8], trace: &'a [u8]) -> Option<Command<'a>>
-    ensures { MatchOption result (MeanNothing (verb.now ∷ net.now ∷ pulses.now ∷ trace.now ∷ [])) (λ command. Means (verb.now ∷ net.now ∷ pulses.now ∷ trace.now ∷ []) (meant command)) }
+    ensures { MatchOption result (MeanNothing (verb.now ∷ net.now ∷ pulses.now ∷ trace.now ∷ [])) (λ command.
+        Means (verb.now ∷ net.now ∷ pulses.now ∷ trace.now ∷ []) (meant command)) }
 {
     if verb != b"sim".as_slice()
         || !is_file_name(net)
@@ -91,7 +92,10 @@ pub fn run_command<S: Store>(
     ensures rejected { IfErr result (λ stop. IfStopped stop (IsRejected (meant command.entry) (S.contents store.old) (S.contents store.new))) }
     ensures told { IfErr result (λ stop. IfStopped stop IsTold) }
     ensures failed_only { IsErrOf result Stop.StoreFailed → Rose (S.faults store.old) (S.faults store.new) }
-    ensures failed_call { IsErrOf result Stop.StoreFailed → IsCall (meant command.entry) (S.contents store.old) (S.last_fault store.new) }
+    ensures failed_call { IsErrOf result Stop.StoreFailed →
+        IsCall (meant command.entry) (S.contents store.old) (S.contents store.new) (S.last_fault store.new) }
+    ensures same_count { (¬ (IsErrOf result Stop.StoreFailed)) → S.faults store.new ≡ S.faults store.old }
+    ensures memory_files { IsErrOf result Stop.NoMemory → IsCutShort (meant command.entry) (S.contents store.old) (S.contents store.new) }
     ensures others { KeepsOthers (meant command.entry) (S.contents store.old) (S.contents store.new) }
 {
     match command {

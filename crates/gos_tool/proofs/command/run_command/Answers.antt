@@ -8,7 +8,7 @@ use Rattle.gos_tool.proofs.command.run_command.Goals as goal
 
 pub returns-in-Sim-clause-failed_call : goal.returns-in-Sim-clause-failed_call
 returns-in-Sim-clause-failed_call g c = λ failed.
-    subst (λ command. IsCall (meant command) (g.S.Store.contents c.args.store.now) (g.S.Store.last_fault c.sim.new.store)) (sym c.in-Sim.is) (c.sim.ensures.failed_file failed, c.sim.ensures.failed_call failed)
+    subst (λ command. IsCall (meant command) (g.S.Store.contents c.args.store.now) (g.S.Store.contents c.sim.new.store) (g.S.Store.last_fault c.sim.new.store)) (sym c.in-Sim.is) (c.sim.ensures.failed_call failed)
 
 pub returns-in-Sim-clause-rejected : goal.returns-in-Sim-clause-rejected
 returns-in-Sim-clause-rejected g c =
