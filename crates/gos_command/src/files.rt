@@ -1,4 +1,4 @@
-// The files of a command: their names, and how they are read and written.
+// The files of a command, and how they are read and written.
 
 ghost use Rattle.std.specs.Prelude.{◌≡◌, ◌+◌, ◌≤◌, ◌<◌, ◌^◌, take, length, IfOk, IfErr, IfSome, OnOk, IsErrOf, Err};
 ghost use Rattle.gos_outside.specs.FileName.{IsFileName};
@@ -9,44 +9,7 @@ ghost use Rattle.gos_command.specs.Ends.{IfStopped};
 
 use crate::stop::Stop;
 use gos_outside::{Store, StoreFault};
-use std::alloc::{AllocError, Global};
-use std::marker::Model;
-
-/// The name of a file: 1 to 255 bytes of ASCII letters, digits, `_`, `.`, `-` and `/`.
-#[derive(Debug, Drop)]
-pub struct FileName {
-    bytes: Vec<u8>,
-}
-
-impl Model for FileName {
-    ghost use Rattle.std.specs.Prelude.{List, ℕ};
-    ghost use Rattle.gos_outside.specs.FileName.{IsFileName};
-
-    ghost Value = { List ℕ };
-
-    ghost view = { λ name. name.bytes.items };
-
-    ghost invariant = { λ name. IsFileName name.bytes.items };
-}
-
-impl FileName {
-    /// A copy of these bytes, which are a file name. The error is want of memory.
-    pub fn new(alloc: Global, bytes: &[u8]) -> Result<FileName, AllocError>
-        requires { IsFileName bytes.now }
-        ensures { IfOk result (λ name. name ≡ bytes.now) }
-    {
-        let bytes = bytes.to_vec(alloc)?;
-        Ok(FileName { bytes })
-    }
-
-    /// The bytes of the name.
-    pub fn bytes(&self) -> &[u8]
-        ensures name { IsFileName self.now }
-        ensures bytes { result.now ≡ self.now }
-    {
-        self.bytes.as_slice()
-    }
-}
+use std::alloc::Global;
 
 /// Reads a file of at most `limit` bytes, and one byte more of a longer one.
 #[tactic(auto, using(crate::proofs::FilesLemmas::is_read_whole))]

@@ -7,8 +7,8 @@ ghost use Rattle.gos_command.specs.Ends.{IfStopped, IsRealCause, IsTold};
 ghost use Rattle.gos_command.specs.Lines.{fault_line};
 
 use crate::fault_text::fault_text;
-use crate::files::FileName;
 use crate::status::{Cause, Fault};
+use gos_link::FileName;
 use gos_netlist::Netlist;
 use gos_types::NoMemory;
 use std::alloc::{AllocError, Global};

@@ -1,9 +1,9 @@
 // The tool: from the words of a command to its files, its line and its status.
 //
 // `run` is the top call. It knows the outside only as a store of files and a sink of bytes. What it promises is said in
-// specs/: Command (the words), Checked (what `check` tells), BuildFile and SourceFile (the forms of the files of `build`),
-// Headline (what a circuit of a module is), Built (what `build` leaves, rejects and calls), Run (all commands). The
-// command `sim` is a crate of its own, gos_simulate.
+// specs/: Command (the words), BuildFile and SourceFile (the forms of the files of `build`), Headline (what a circuit of a
+// module is), Built (what `build` leaves, rejects and calls), Run (all commands). The other commands are crates of their
+// own: `check` and `compile` gos_objects, `sim` gos_simulate.
 #![tactic(auto)]
 
 ghost use Rattle.std.specs.Prelude.{◌≡◌, ◌≢◌};
@@ -15,7 +15,6 @@ ghost use Rattle.gos_tool.specs.Run.{IsCall, KeepsOthers, EndsDone, EndsRejected
 
 mod build_file;
 mod building;
-mod checking;
 mod circuit;
 mod command;
 mod lexemes;
@@ -27,15 +26,17 @@ mod statements;
 mod tests;
 
 use command::{command_of, run_command};
-pub use gos_command::{Cause, Fault, FileName, Status};
+pub use gos_command::{Cause, Fault, Status};
 use gos_command::{finish, say};
+pub use gos_link::FileName;
 use gos_outside::{Sink, Store};
 use std::alloc::Global;
 
 /// Does what the words of a command say, with the files of a store, and prints one line to a sink.
 ///
-/// `check SRC` reads a source file and tells the weight of its module. `sim NET PULSES TRACE` reads a netlist and a pulse
-/// file, runs the netlist and writes the trace. `build BUILD` reads the build file and the source file of its instance,
+/// `check SRC` reads a source file and tells the weight of its module. `compile SRC OBJ` checks it in the same way, and
+/// writes the plan of its module. `sim NET PULSES TRACE` reads a netlist and a pulse file, runs the netlist and writes the
+/// trace. `build BUILD` reads the build file and the source file of its instance,
 /// writes the netlist, reads the pulse file, runs the netlist and writes the trace. Each status but `NoMemory` has its
 /// cause; want of memory may end a command anywhere.
 pub fn run<S: Store, O: Sink>(alloc: Global, words: &[String], store: &mut S, out: &mut O) -> Status
@@ -84,7 +85,7 @@ pub fn run<S: Store, O: Sink>(alloc: Global, words: &[String], store: &mut S, ou
         }
         None => say(
             alloc,
-            b"usage: gos check SRC | sim NET PULSES TRACE | build BUILD\n",
+            b"usage: gos check SRC | compile SRC OBJ | sim NET PULSES TRACE | build BUILD\n",
             Status::Usage,
             out,
         ),

@@ -31,11 +31,15 @@ pub record IsSource (text : List ℕ) (m : SeenModule) : Type 0 where
   pub scanned : HasTokens text tokens
   pub parsed : parsing.IsParsed text tokens m
 
+-- the text is that of this module, which is accepted
+pub record SaysModule (text : List ℕ) (m : SeenModule) : Type 0 where
+  pub source : IsSource text m
+  pub accepted : IsAccepted m
+
 -- the source file says a module that is accepted, and the report has its weight
 pub record IsChecked (files : Files) (source : Word) (report : Report) : Type 0 where
   pub made : SeenModule
-  pub says : IsSource (bytes_at files source) made
-  pub accepted : IsAccepted made
+  pub says : SaysModule (bytes_at files source) made
   pub tells : report ≡ record { weight = Some (weighed made); run = None }
 
 -- Why a source is rejected: it has no tokens, they are no module, or the module has a first fault.
