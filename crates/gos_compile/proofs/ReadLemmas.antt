@@ -26,7 +26,7 @@ use Rattle.gos_compile.specs.Wiring.{type_of_node, all_parts, IsPlanOf}
 use Rattle.gos_compile.specs.inner.Named.{HaveNames}
 use Rattle.gos_compile.proofs.EndLemmas.{imports_shakes, short, turned_some}
 use Rattle.gos_compile.proofs.LoadLemmas.{few_ends, some_weight}
-use Rattle.gos_compile.proofs.RangeLemmas.{HasRange, IsFine, ImportsFine, widths_same, written_fine, checked_range, node_typed}
+use Rattle.gos_compile.proofs.RangeLemmas.{HasRange, IsFine, ImportsFine, written_fine, checked_range, node_typed}
 use Rattle.gos_compile.proofs.SlimLemmas.{imports_weigh, few_parts}
 use Rattle.gos_compile.proofs.TextLemmas.{text_length}
 
@@ -112,7 +112,7 @@ reads_back law l c p imports plan slim seen names many = (
     fine = subst (λ (js : Imports). ImportsFine js) (sym plan.imports ∙ seen) (written_fine l.imports c.imports)
 
     result : IsFine p.outcome
-    result = subst (λ (t : Type'). IsFine t) (sym plan.outcome) (widths_same (type_of l.result) c.result.0, c.result.1)
+    result = subst (λ (t : Type'). IsFine t) (sym plan.outcome) c.result
 
     ranges : AllByRecursion HasRange p.parts
     ranges = subst (λ (ks : List Part). AllByRecursion HasRange ks) (sym plan.parts) (checked_range law l c)
