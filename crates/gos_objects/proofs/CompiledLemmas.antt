@@ -4,15 +4,12 @@ use Rattle.std.specs.Prelude.{IfSome}
 use Rattle.gos_outside.specs.Files.{Files, bytes_at, with_file}
 use Rattle.gos_lines.specs.Lines.{Word}
 use Rattle.gos_types.specs.Types.{Type', type_of}
-use Rattle.gos_syntax.specs.Modules.{SeenModule}
 use Rattle.gos_model.specs.Moves.{Program}
 use Rattle.gos_model.specs.Sources.{program_of}
 use Rattle.gos_check.specs.Checked.{SeenLinear}
 use Rattle.gos_check.specs.Nodes.{node_seen}
 use Rattle.gos_compile.specs.Wiring.{IsPlanOf}
 use Rattle.gos_command.specs.declared.report.Report.{Report}
-use Rattle.gos_command.proofs.EndLemmas.{of_some}
-use Rattle.gos_objects.specs.Checked.{SaysModule}
 use Rattle.gos_objects.specs.Compiled.{IsObjectOf, IsCompiled}
 use Rattle.gos_objects.specs.inner.Typed.{IsTypedAs, IsPlanText}
 
@@ -45,10 +42,3 @@ compiled (Some files) new source object linear text report typed plan wrote tell
       wrote = wrote;
       tells = tells ∙ ap (λ (n : ℕ). record { weight = Some n; run = None }) typed.weight;
     }
-
--- the object is written where the source says a module that is accepted
-pub says_one : (told : Option Files) (source : Word) (linear : SeenLinear)
-    → IfSome told (λ files. IsTypedAs (bytes_at files source) linear) → IfSome told (λ files. (m : SeenModule) × SaysModule (bytes_at files source) m)
-says_one told source linear typed =
-    of_some (λ files. IsTypedAs (bytes_at files source) linear) (λ files. (m : SeenModule) × SaysModule (bytes_at files source) m) told
-    (λ files t. (t.made, t.says)) typed

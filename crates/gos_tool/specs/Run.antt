@@ -1,7 +1,7 @@
 -- How the tool's commands end.
 --
--- Read first: Command, Built; Checked and Compiled of gos_objects; Sim of gos_simulate; Lines of gos_command. `old` and `new` are the files of the
--- store before and after, `written` and `printed` the bytes of the sink.
+-- Read first: Command, Built; Checked and Compiled of gos_objects; Sim of gos_simulate; Lines of gos_command. `old` and `new`
+-- are the files of the store before and after, `written` and `printed` the bytes of the sink.
 use Rattle.std.specs.Prelude.{◌≡◌, ◌⊎◌, ℕ, List, Option, IfSome}
 use Rattle.gos_outside.specs.Files.{Files, SameBut}
 use Rattle.gos_outside.specs.Faults.{LastFault, ReadFault}

@@ -1,4 +1,4 @@
-// Worked rows of the commands `check` and `sim`: files, and what is printed.
+// Worked rows of the commands `check`, `compile` and `sim`: files, and what is printed.
 use crate::run;
 use gos_outside::{SureSink, SureStore};
 use std::alloc::{AllocError, Global};
@@ -16,6 +16,10 @@ const TRACE: &[u8] = b"0 main.run\n1 main.done\n2 main.done\ncycles 3\n";
 
 /// The trace under a second run in the second cycle.
 const TRACE_OF_TWO: &[u8] = b"0 main.run\n1 main.done\n1 main.run\n2 main.done\ncycles 3\n";
+
+/// The object file of `export skip : com`.
+const SKIP_OBJECT: &[u8] =
+    b"gosobj 1\nweight 5\nimports 0\nresult com\nparts 1\nskip\njoints 1\nr.0 p0.0\nend\n";
 
 // What a command leaves: its exit status, what it printed, and the files.
 #[derive(Drop)]
@@ -118,6 +122,29 @@ fn sources_are_rejected(rt: HostRuntime) -> Result<(), Fail> {
         assert!(rt; left.out.bytes() == line.as_bytes());
         assert_eq!(rt; left.code, 2);
     }
+    Ok(())
+}
+
+// Runs `compile` over this source.
+fn compiled(alloc: Global, source: &[u8]) -> Result<Left, AllocError> {
+    ran(
+        alloc,
+        &["compile", "main.gos", "main.obj"],
+        &[(b"main.gos".as_slice(), source)],
+    )
+}
+
+#[test]
+fn sources_are_compiled(rt: HostRuntime) -> Result<(), Fail> {
+    let alloc = rt.alloc();
+    let skip = compiled(alloc, b"export skip : com")?;
+    assert_eq!(rt; skip.code, 0);
+    assert!(rt; skip.out.bytes() == b"ok weight 5\n".as_slice());
+    assert!(rt; skip.store.get(b"main.obj").unwrap_or(b"") == SKIP_OBJECT);
+    let shared = compiled(alloc, b"import c : com export c || c : com")?;
+    assert_eq!(rt; shared.code, 2);
+    assert!(rt; shared.out.bytes() == b"main.gos: C5 c at 22..23 and 27..28\n".as_slice());
+    assert!(rt; shared.store.get(b"main.obj").is_none());
     Ok(())
 }
 
@@ -269,5 +296,7 @@ fn words_that_are_no_command(rt: HostRuntime) -> Result<(), Fail> {
     assert_eq!(rt; ran(alloc, &["check"], &[])?.code, 1);
     assert_eq!(rt; ran(alloc, &["sim", "a", "b", "a"], &[])?.code, 1);
     assert_eq!(rt; ran(alloc, &["check", "a", "b"], &[])?.code, 1);
+    assert_eq!(rt; ran(alloc, &["compile", "a"], &[])?.code, 1);
+    assert_eq!(rt; ran(alloc, &["compile", "a", "a"], &[])?.code, 1);
     Ok(())
 }

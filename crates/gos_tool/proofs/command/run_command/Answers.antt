@@ -19,7 +19,7 @@ returns-in-Sim-clause-rejected g c =
 
 pub returns-in-Compile-clause-failed_call : goal.returns-in-Compile-clause-failed_call
 returns-in-Compile-clause-failed_call g c = λ failed.
-    subst (λ command. IsCall (meant command) (g.S.Store.contents c.args.store.now) (g.S.Store.last_fault c.compile_source.new.store)) (sym c.in-Compile.is) (c.compile_source.ensures.failed_file failed, c.compile_source.ensures.failed_call failed)
+    subst (λ command. IsCall (meant command) (g.S.Store.contents c.args.store.now) (g.S.Store.contents c.compile_source.new.store) (g.S.Store.last_fault c.compile_source.new.store)) (sym c.in-Compile.is) (c.compile_source.ensures.failed_call failed)
 
 pub returns-in-Compile-clause-rejected : goal.returns-in-Compile-clause-rejected
 returns-in-Compile-clause-rejected g c =
