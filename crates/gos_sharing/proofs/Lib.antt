@@ -8,3 +8,4 @@ mod SeenKept
 mod SeenElements
 mod SeenRuns
 mod SeenQuiet
+mod SmallSharingLemmas
