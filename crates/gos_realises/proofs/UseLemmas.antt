@@ -93,7 +93,7 @@ right_moved f g returns r q same past (j ∷ js) (((a, b, asked, served), one, o
 )
 
 -- paths of any length
-abbrev Reach : Wiring → Place → Place → Type 0
+abbrev pub Reach : Wiring → Place → Place → Type 0
 Reach w a b = (n : ℕ) × Path w n a b
 
 stay : (w : Wiring) (a b : Place) → a ≡ b → Reach w a b

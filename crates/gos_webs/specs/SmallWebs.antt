@@ -6,7 +6,7 @@ use Rattle.gos_types.specs.Types.{Com}
 use Rattle.gos_plan.specs.Kinds.{Skip, Seq}
 use Rattle.gos_plan.specs.Firing.{Req, Ans}
 use Rattle.gos_plan.specs.Plans.{End, PartEnd, ImportEnd, ResultEnd, Plan}
-use Rattle.gos_plan.specs.Tokens.{Element, Fire, Out, In}
+use Rattle.gos_plan.specs.Tokens.{Element, Fire, In}
 use Rattle.gos_plan.specs.SmallPlans.{skip_plan, at_first, once}
 use Rattle.gos_webs.specs.Webs.{joint, IsOfWeb, own_web}
 use Rattle.gos_webs.specs.Renumbering.{Renumber, IsRenumbered}
