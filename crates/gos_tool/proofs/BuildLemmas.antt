@@ -1,5 +1,5 @@
 -- What the parts of a build tell of the files that the store held when the build began.
-use Rattle.std.proofs.Common.{◌≡◌, ◌∙◌, List, ℕ, suc, [], ◌∷◌, Option, Some, None, inr, refl, sym, ap, subst}
+use Rattle.std.proofs.Common.{◌≡◌, ◌∙◌, ◌⊎◌, List, ℕ, suc, [], ◌∷◌, Option, Some, None, inl, inr, refl, sym, ap, subst}
 use Rattle.std.specs.Prelude.{IfSome, map}
 use Rattle.gos_outside.specs.Files.{Files, bytes_at, with_file}
 use Rattle.gos_outside.specs.OtherFiles.{OthersSame}
@@ -18,7 +18,7 @@ use Rattle.gos_tool.specs.SourceFile.{Sequence, IsSourceFile, IsWellFormed}
 use Rattle.gos_tool.specs.inner.Circuit.{circuit_of, import_ports}
 use Rattle.gos_tool.specs.Headline.{Face, face_of, IsCircuitOf}
 use Rattle.gos_tool.specs.Command.{SaysBuild, SaysModule}
-use Rattle.gos_tool.specs.Built.{with_net, IsCompiled, RejectsPulses, IsCircuitCall, KeepsUnnamed}
+use Rattle.gos_tool.specs.Built.{with_net, IsCompiled, RejectsPulses, IsCircuitCall, HasNet, IsModuleCutShort, KeepsUnnamed}
 use Rattle.gos_tool.specs.Program.{weight_of}
 use Rattle.gos_tool.proofs.AcceptedLemmas.{is_accepted}
 use Rattle.gos_tool.proofs.PaceLemmas.{keeps_pace}
@@ -110,14 +110,28 @@ rejects_pulses (Some files) mid new b s net checked text fault line circuit form
     }
 
 -- a call that was made after the netlist was written
-pub later_call : (old mid : Option Files) (b : BuildFile) (s : Sequence) (net checked : Netlist) (text : List ℕ) (fault : LastFault)
+pub later_call : (old mid new : Option Files) (b : BuildFile) (s : Sequence) (net checked : Netlist) (text : List ℕ) (fault : LastFault)
     → net ≡ circuit_of b.root s → IsWellFormed b.root s → checked ≡ net → text ≡ text_of net → mid ≡ with_file b.net text old
-    → IfSome mid (λ all. IsSimulationCall all checked b.pulses b.trace fault) → IfSome old (λ files. IsCircuitCall files b s fault)
-later_call None mid b s net checked text fault circuit formed same printed written call = tt
-later_call (Some files) mid b s net checked text fault circuit formed same printed written call =
+    → IsSimulationCall mid new checked b.pulses b.trace fault → IsCircuitCall old new b s fault
+later_call old mid new b s net checked text fault circuit formed same printed written call =
     inr (
       net,
       subst (λ (n : Netlist). IsCircuitOf n b.root s) (sym circuit) (is_circuit b.root s formed),
-      subst (λ (told : Option Files). IfSome told (λ all. IsSimulationCall all net b.pulses b.trace fault)) (written_net files b net text mid printed written)
-          (subst (λ (n : Netlist). IfSome mid (λ all. IsSimulationCall all n b.pulses b.trace fault)) same call),
+      subst (λ (told : Option Files). IsSimulationCall told new net b.pulses b.trace fault) (written ∙ ap (λ (t : List ℕ). with_file b.net t old) printed)
+          (subst (λ (n : Netlist). IsSimulationCall mid new n b.pulses b.trace fault) same call),
     )
+
+-- the netlist of a circuit of the module was written, and nothing after it
+pub has_net : (old mid new : Option Files) (b : BuildFile) (s : Sequence) (net : Netlist) (text : List ℕ)
+    → net ≡ circuit_of b.root s → IsWellFormed b.root s → text ≡ text_of net → mid ≡ with_file b.net text old → new ≡ mid → HasNet old new b s
+has_net old mid new b s net text circuit formed printed written kept = (
+  net,
+  subst (λ (n : Netlist). IsCircuitOf n b.root s) (sym circuit) (is_circuit b.root s formed),
+  kept ∙ written ∙ ap (λ (t : List ℕ). with_file b.net t old) printed,
+)
+
+-- a build of this module that ran out of memory
+pub module_cut_short : (old mid new : Option Files) (b : BuildFile) (s : Sequence) → mid ≡ old → IfSome old (λ files. SaysModule files b s)
+    → (new ≡ mid) ⊎ HasNet mid new b s → IsModuleCutShort old new b
+module_cut_short old mid new b s same says (inl kept) = inl (kept ∙ same)
+module_cut_short old mid new b s same says (inr has) = inr (s, says, subst (λ (told : Option Files). HasNet told new b s) same has)

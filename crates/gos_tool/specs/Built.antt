@@ -3,7 +3,7 @@
 -- Read first: Headline (what the netlist is); Simulation of gos_simulate (its run under the pulse file). `files` are those
 -- that the store held when the command began. The netlist is written before the pulse file is read.
 use Rattle.std.specs.Prelude.{◌≡◌, ◌⊎◌, ℕ, List, [], ◌∷◌, Option, Some, None, IfSome}
-use Rattle.gos_outside.specs.Files.{Files, with_file}
+use Rattle.gos_outside.specs.Files.{Files, with_file, SameBut}
 use Rattle.gos_outside.specs.OtherFiles.{OthersSame}
 use Rattle.gos_outside.specs.Faults.{LastFault, ReadFault, WriteFault}
 use Rattle.gos_lines.specs.Lines.{Word}
@@ -65,19 +65,32 @@ Rejects files new own fault line =
     (((b : BuildFile) → SaysBuild files own b → ⊥) × (new ≡ Some files) × IsNotBuilt own fault line)
     ⊎ ((b : BuildFile) × SaysBuild files own b × RejectsModule files new b fault line)
 
--- The calls of the store, each where what is judged before it is right: those from the netlist on, then those after the
--- build file is read, then all.
-abbrev pub IsCircuitCall : Files → BuildFile → Sequence → LastFault → Type 0
-IsCircuitCall files b s fault =
-    (fault ≡ WriteFault b.net)
-    ⊎ ((net : Netlist) × IsCircuitOf net b.root s
-    × IfSome (with_net files b net) (λ all. IsSimulationCall all net b.pulses b.trace fault))
+-- The calls of the store, each where what is judged before it is right, with what was written before it: those from the
+-- netlist on, then those after the build file is read, then all. A file whose write fails may hold anything.
+abbrev pub IsCircuitCall : Option Files → Option Files → BuildFile → Sequence → LastFault → Type 0
+IsCircuitCall old new b s fault =
+    ((fault ≡ WriteFault b.net) × SameBut b.net old new)
+    ⊎ ((net : Netlist) × IsCircuitOf net b.root s × IsSimulationCall (with_file b.net (text_of net) old) new net b.pulses b.trace fault)
 
-abbrev pub IsModuleCall : Files → BuildFile → LastFault → Type 0
-IsModuleCall files b fault = (fault ≡ ReadFault b.source) ⊎ ((s : Sequence) × SaysModule files b s × IsCircuitCall files b s fault)
+abbrev pub IsModuleCall : Option Files → Option Files → BuildFile → LastFault → Type 0
+IsModuleCall old new b fault =
+    ((fault ≡ ReadFault b.source) × (new ≡ old))
+    ⊎ ((s : Sequence) × IfSome old (λ files. SaysModule files b s) × IsCircuitCall old new b s fault)
 
-abbrev pub IsBuildCall : Files → Word → LastFault → Type 0
-IsBuildCall files own fault = (fault ≡ ReadFault own) ⊎ ((b : BuildFile) × SaysBuild files own b × IsModuleCall files b fault)
+abbrev pub IsBuildCall : Option Files → Option Files → Word → LastFault → Type 0
+IsBuildCall old new own fault =
+    ((fault ≡ ReadFault own) × (new ≡ old))
+    ⊎ ((b : BuildFile) × IfSome old (λ files. SaysBuild files own b) × IsModuleCall old new b fault)
+
+-- What a build leaves that runs out of memory: the files before, or these with the netlist of a circuit of the module written.
+abbrev pub HasNet : Option Files → Option Files → BuildFile → Sequence → Type 0
+HasNet old new b s = (net : Netlist) × IsCircuitOf net b.root s × (new ≡ with_file b.net (text_of net) old)
+
+abbrev pub IsModuleCutShort : Option Files → Option Files → BuildFile → Type 0
+IsModuleCutShort old new b = (new ≡ old) ⊎ ((s : Sequence) × IfSome old (λ files. SaysModule files b s) × HasNet old new b s)
+
+abbrev pub IsBuildCutShort : Option Files → Option Files → Word → Type 0
+IsBuildCutShort old new own = (new ≡ old) ⊎ ((b : BuildFile) × IfSome old (λ files. SaysBuild files own b) × IsModuleCutShort old new b)
 
 -- no file changes but the netlist and the trace that the build file names, and none where it names none
 abbrev pub KeepsUnnamed : Word → Option Files → Option Files → Type 0

@@ -1,6 +1,6 @@
 // The command `build`: the files are read and judged in their order, and the netlist and the trace are written.
 
-ghost use Rattle.std.specs.Prelude.{◌≡◌, ◌≤◌, ◌+◌, ◌*◌, ◌∷◌, [], None, length, IfOk, IfErr, IfSome, IsErrOf};
+ghost use Rattle.std.specs.Prelude.{◌≡◌, ◌≤◌, ◌⊎◌, ◌+◌, ◌*◌, ◌∷◌, [], None, length, IfOk, IfErr, IfSome, IsErrOf};
 ghost use Rattle.std.specs.List.{AllByRecursion};
 ghost use Rattle.gos_outside.specs.FileName.{IsFileName};
 ghost use Rattle.gos_outside.specs.OtherFiles.{OthersSame};
@@ -10,7 +10,22 @@ ghost use Rattle.gos_command.specs.Ends.{IfStopped, IsTold};
 ghost use Rattle.gos_tool.specs.BuildFile.{build_of, files_of};
 ghost use Rattle.gos_tool.specs.SourceFile.{IsWellFormed};
 ghost use Rattle.gos_tool.specs.inner.SourceFileSeen.{sequence_of};
-ghost use Rattle.gos_tool.specs.Built.{IsCompiled, IsModuleBuilt, IsBuilt, IsNotBuilt, RejectsPulses, RejectsModule, Rejects, IsCircuitCall, IsModuleCall, IsBuildCall, KeepsUnnamed};
+ghost use Rattle.gos_tool.specs.Built.{
+  IsCompiled,
+  IsModuleBuilt,
+  IsBuilt,
+  IsNotBuilt,
+  RejectsPulses,
+  RejectsModule,
+  Rejects,
+  IsCircuitCall,
+  IsModuleCall,
+  IsBuildCall,
+  HasNet,
+  IsModuleCutShort,
+  IsBuildCutShort,
+  KeepsUnnamed,
+};
 ghost use Rattle.gos_tool.specs.declared.statements.Refusal.TheVariants.{NotOfForm};
 
 use crate::build_file::{BUILD_LIMIT, Build, read_build};
@@ -29,10 +44,13 @@ use std::alloc::Global;
 pub fn build<S: Store>(alloc: Global, own: &[u8], store: &mut S) -> Result<Report, Stop>
     requires { IsFileName own.now }
     ensures done { IfOk result (λ report. IfSome (S.contents store.old) (λ files. IsBuilt files (S.contents store.new) own.now report)) }
-    ensures rejected { IfErr result (λ stop. IfStopped stop (λ fault line. IfSome (S.contents store.old) (λ files. Rejects files (S.contents store.new) own.now fault line))) }
+    ensures rejected { IfErr result (λ stop. IfStopped stop (λ fault line.
+        IfSome (S.contents store.old) (λ files. Rejects files (S.contents store.new) own.now fault line))) }
     ensures told { IfErr result (λ stop. IfStopped stop IsTold) }
     ensures failed_only { IsErrOf result Stop.StoreFailed → Rose (S.faults store.old) (S.faults store.new) }
-    ensures failed_call { IsErrOf result Stop.StoreFailed → IfSome (S.contents store.old) (λ files. IsBuildCall files own.now (S.last_fault store.new)) }
+    ensures failed_call { IsErrOf result Stop.StoreFailed → IsBuildCall (S.contents store.old) (S.contents store.new) own.now (S.last_fault store.new) }
+    ensures same_count { (¬ (IsErrOf result Stop.StoreFailed)) → S.faults store.new ≡ S.faults store.old }
+    ensures memory_files { IsErrOf result Stop.NoMemory → IsBuildCutShort (S.contents store.old) (S.contents store.new) own.now }
     ensures others { KeepsUnnamed own.now (S.contents store.old) (S.contents store.new) }
 {
     let text = read_file(alloc, store, own, BUILD_LIMIT)?;
@@ -46,10 +64,14 @@ pub fn build<S: Store>(alloc: Global, own: &[u8], store: &mut S) -> Result<Repor
 fn build_module<S: Store>(alloc: Global, build: &Build, store: &mut S) -> Result<Report, Stop>
     requires files { AllByRecursion IsFileName (files_of (build_of build.now)) }
     ensures done { IfOk result (λ report. IfSome (S.contents store.old) (λ files. IsModuleBuilt files (S.contents store.new) (build_of build.now) report)) }
-    ensures rejected { IfErr result (λ stop. IfStopped stop (λ fault line. IfSome (S.contents store.old) (λ files. RejectsModule files (S.contents store.new) (build_of build.now) fault line))) }
+    ensures rejected { IfErr result (λ stop. IfStopped stop (λ fault line.
+        IfSome (S.contents store.old) (λ files. RejectsModule files (S.contents store.new) (build_of build.now) fault line))) }
     ensures told { IfErr result (λ stop. IfStopped stop IsTold) }
     ensures failed_only { IsErrOf result Stop.StoreFailed → Rose (S.faults store.old) (S.faults store.new) }
-    ensures failed_call { IsErrOf result Stop.StoreFailed → IfSome (S.contents store.old) (λ files. IsModuleCall files (build_of build.now) (S.last_fault store.new)) }
+    ensures failed_call { IsErrOf result Stop.StoreFailed → IsModuleCall (S.contents store.old) (S.contents store.new)
+        (build_of build.now) (S.last_fault store.new) }
+    ensures same_count { (¬ (IsErrOf result Stop.StoreFailed)) → S.faults store.new ≡ S.faults store.old }
+    ensures memory_files { IsErrOf result Stop.NoMemory → IsModuleCutShort (S.contents store.old) (S.contents store.new) (build_of build.now) }
     ensures never_falls { S.faults store.old ≤ S.faults store.new }
     ensures others { OthersSame (build.now.net.now ∷ build.now.trace.now ∷ []) (S.contents store.old) (S.contents store.new) }
 {
@@ -71,11 +93,18 @@ fn build_circuit<S: Store>(
     requires net { IsFileName build.now.net.now }
     requires pulses { IsFileName build.now.pulses.now }
     requires trace { IsFileName build.now.trace.now }
-    ensures done { IfOk result (λ report. IfSome (S.contents store.old) (λ files. IsCompiled files (S.contents store.new) (build_of build.now) (sequence_of read.now) report)) }
-    ensures rejected { IfErr result (λ stop. IfStopped stop (λ fault line. IfSome (S.contents store.old) (λ files. RejectsPulses files (S.contents store.new) (build_of build.now) (sequence_of read.now) fault line))) }
+    ensures done { IfOk result (λ report. IfSome (S.contents store.old) (λ files.
+        IsCompiled files (S.contents store.new) (build_of build.now) (sequence_of read.now) report)) }
+    ensures rejected { IfErr result (λ stop. IfStopped stop (λ fault line.
+        IfSome (S.contents store.old) (λ files. RejectsPulses files (S.contents store.new) (build_of build.now)
+        (sequence_of read.now) fault line))) }
     ensures told { IfErr result (λ stop. IfStopped stop IsTold) }
     ensures failed_only { IsErrOf result Stop.StoreFailed → Rose (S.faults store.old) (S.faults store.new) }
-    ensures failed_call { IsErrOf result Stop.StoreFailed → IfSome (S.contents store.old) (λ files. IsCircuitCall files (build_of build.now) (sequence_of read.now) (S.last_fault store.new)) }
+    ensures failed_call { IsErrOf result Stop.StoreFailed → IsCircuitCall (S.contents store.old) (S.contents store.new)
+        (build_of build.now) (sequence_of read.now) (S.last_fault store.new) }
+    ensures same_count { (¬ (IsErrOf result Stop.StoreFailed)) → S.faults store.new ≡ S.faults store.old }
+    ensures memory_files { IsErrOf result Stop.NoMemory → (S.contents store.new ≡ S.contents store.old)
+        ⊎ HasNet (S.contents store.old) (S.contents store.new) (build_of build.now) (sequence_of read.now) }
     ensures never_falls { S.faults store.old ≤ S.faults store.new }
     ensures others { OthersSame (build.now.net.now ∷ build.now.trace.now ∷ []) (S.contents store.old) (S.contents store.new) }
 {

@@ -175,7 +175,8 @@ fn no_words_are_answered_with_the_usage(rt: HostRuntime) -> Result<(), Fail> {
     let status = run(alloc, &[], &mut store, &mut out);
     assert_eq!(rt; status.code(), 1);
     assert!(rt;
-        out.bytes() == b"usage: gos check SRC | sim NET PULSES TRACE | build BUILD\n".as_slice()
+        out.bytes()
+            == b"usage: gos check SRC | compile SRC OBJ | sim NET PULSES TRACE | build BUILD\n".as_slice()
     );
     Ok(())
 }

@@ -1,11 +1,12 @@
-use Rattle.std.proofs.Common.{◌≡◌, ◌∙◌, ◌∷◌, ℕ, Some, Err, length, ap, sym, subst, arith}
+use Rattle.std.proofs.Common.{◌≡◌, ◌∙◌, List, [], ◌∷◌, ℕ, Some, Err, length, refl, ap, sym, subst, arith, inr}
 use Rattle.std.specs.Prelude.{IfSome}
 use Rattle.std.proofs.lemmas.List.{length-map}
 use Rattle.std.proofs.lemmas.Result.{err_from_is_err_and}
+use Rattle.gos_outside.proofs.OtherFilesLemmas.{none_yet, one_more}
 use Rattle.gos_netlist.specs.Nets.{Netlist}
 use Rattle.gos_netcheck.specs.Accepted.{IsAccepted}
 use Rattle.gos_command.proofs.EndLemmas.{of_stopped_both}
-use Rattle.gos_command.specs.declared.stop.Stop.TheVariants.{StoreFailed}
+use Rattle.gos_command.specs.declared.stop.Stop.TheVariants.{StoreFailed, NoMemory}
 use Rattle.gos_tool.specs.BuildFile.{build_of}
 use Rattle.gos_tool.specs.inner.SourceFileSeen.{sequence_of}
 use Rattle.gos_tool.specs.Program.{weight_of}
@@ -13,7 +14,7 @@ use Rattle.gos_tool.specs.Built.{RejectsPulses}
 use Rattle.gos_tool.proofs.FewLemmas.{has_few}
 use Rattle.gos_tool.proofs.WeightLemmas.{weight_is}
 use Rattle.gos_tool.proofs.AcceptedLemmas.{cell_count, is_accepted}
-use Rattle.gos_tool.proofs.BuildLemmas.{compiled, rejects_pulses, later_call}
+use Rattle.gos_tool.proofs.BuildLemmas.{compiled, rejects_pulses, later_call, has_net}
 use Rattle.gos_tool.proofs.building.build_circuit.Goals as goal
 
 pub accepted-requires-clause-few : goal.accepted-requires-clause-few
@@ -64,7 +65,33 @@ pub returns-in_err-counts-clause-failed_call : goal.returns-in_err-counts-clause
 returns-in_err-counts-clause-failed_call g c =
     let p = err_from_is_err_and c.from_residual-in_err-counts.result c.from_residual-in_err-counts.ensures.1 in
     rw (p.1, p.2)
-    (λ failed. let at : c.in_err-counts.field-0.0 ≡ StoreFailed = cc in later_call (g.S.Store.contents c.args.store.now) (g.S.Store.contents c.write_file.new.store) (build_of c.args.build.now) (sequence_of c.args.read.now)
+    (λ failed. let at : c.in_err-counts.field-0.0 ≡ StoreFailed = cc in later_call (g.S.Store.contents c.args.store.now) (g.S.Store.contents c.write_file.new.store) (g.S.Store.contents c.simulate.new.store)
+    (build_of c.args.build.now) (sequence_of c.args.read.now)
     c.in_ok-net.net c.in_ok-checked.checked c.as_slice.result.now _
     c.in_ok-net.ensures c.requires.module c.in_ok-checked.ensures (c.as_slice.ensures.value ∙ c.in_ok-text.ensures) c.in_ok-write_file.ensures.written
     (c.in_err-counts.ensures.failed_call (ap Err at)))
+
+pub returns-in_err-counts-clause-memory_files : goal.returns-in_err-counts-clause-memory_files
+returns-in_err-counts-clause-memory_files g c =
+    let p = err_from_is_err_and c.from_residual-in_err-counts.result c.from_residual-in_err-counts.ensures.1 in
+    rw (p.1, p.2)
+    (λ failed. let at : c.in_err-counts.field-0.0 ≡ NoMemory = cc in inr (has_net (g.S.Store.contents c.args.store.now) (g.S.Store.contents c.write_file.new.store) (g.S.Store.contents c.simulate.new.store)
+    (build_of c.args.build.now) (sequence_of c.args.read.now) c.in_ok-net.net c.as_slice.result.now
+    c.in_ok-net.ensures c.requires.module (c.as_slice.ensures.value ∙ c.in_ok-text.ensures) c.in_ok-write_file.ensures.written
+    (c.in_err-counts.ensures.memory_files (ap Err at))))
+
+pub returns-in_err-checked-clause-memory_files : goal.returns-in_err-checked-clause-memory_files
+returns-in_err-checked-clause-memory_files g c = λ failed.
+    inr (has_net (g.S.Store.contents c.args.store.now) (g.S.Store.contents c.write_file.new.store) (g.S.Store.contents c.write_file.new.store)
+    (build_of c.args.build.now) (sequence_of c.args.read.now) c.in_ok-net.net c.as_slice.result.now
+    c.in_ok-net.ensures c.requires.module (c.as_slice.ensures.value ∙ c.in_ok-text.ensures) c.in_ok-write_file.ensures.written refl)
+
+pub returns-in_err-counts-clause-others : goal.returns-in_err-counts-clause-others
+returns-in_err-counts-clause-others g c =
+    let net = c.args.build.now.net.now in
+    let trace = c.args.build.now.trace.now in
+    let names : List (List ℕ) = net ∷ trace ∷ [] in
+    let old = g.S.Store.contents c.args.store.now in
+    let mid = g.S.Store.contents c.write_file.new.store in
+    one_more trace names old mid (g.S.Store.contents c.simulate.new.store) (λ other apart. apart.1.0)
+    (one_more net names old old mid (λ other apart. apart.0) (none_yet names old) c.in_ok-write_file.ensures.others) c.in_err-counts.ensures.others

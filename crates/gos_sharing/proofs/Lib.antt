@@ -1,0 +1,10 @@
+mod SeenLemmas
+mod SeenPlaces
+mod SeenTokens
+mod SeenFill
+mod SeenFire
+mod ShareRows
+mod SeenKept
+mod SeenElements
+mod SeenRuns
+mod SeenQuiet

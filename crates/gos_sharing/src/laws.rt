@@ -1,0 +1,10 @@
+// What the definitions give. Each theorem is the contract of a function that does nothing.
+ghost use Rattle.gos_sharing.specs.Sharing.{IdleIsSeen, RunsAreSeen, QuietIsSeen};
+
+/// Where a list uses a Share for one caller alone, plain joints in its place have the list too. Where the plan with the
+/// Share is quiet then, so is the other. An idle state is seen as an idle one.
+pub fn lists_are_seen()
+    ensures idle { IdleIsSeen }
+    ensures runs { RunsAreSeen }
+    ensures quiet { QuietIsSeen }
+{}

@@ -1,0 +1,4 @@
+pub mod IdleLemmas
+pub mod WebLemmas
+pub mod MovedLemmas
+mod CutLemmas
