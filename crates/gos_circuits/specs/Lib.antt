@@ -1,3 +1,0 @@
--- In reading order: a file uses only files above it.
-pub mod Circuit
-pub mod Objects
