@@ -1,2 +1,4 @@
 mod SaidLemmas
 mod ItemLemmas
+mod NumberLemmas
+mod TopLemmas

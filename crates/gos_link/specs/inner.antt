@@ -1,2 +1,6 @@
 -- Between the functions of this crate.
 pub mod Noting
+pub mod Tops
+pub mod Opens
+pub mod Wired
+pub mod Copies

@@ -1,0 +1,122 @@
+// The joining of plans along services.
+
+ghost use Rattle.std.specs.Prelude.{◌≡◌, ◌++◌, ◌<◌, ◌+◌, ◌*◌, All, ℕ, length, map, IfOk, OnOk};
+ghost use Rattle.gos_types.specs.Types.{type_of};
+ghost use Rattle.gos_plan.specs.Seen.{part_of, import_of, plan_of};
+ghost use Rattle.gos_plan.specs.Kinds as kinds;
+ghost use Rattle.gos_plan.specs.Ranges.{IsInRange};
+ghost use Rattle.gos_plan.specs.Joining.{IsJoining, all_parts, all_weight};
+ghost use Rattle.gos_plan.specs.Size.{shakes_of, plan_size};
+ghost use Rattle.gos_link.specs.Linked.{wiring_of};
+ghost use Rattle.gos_link.specs.inner.Opens.{open_seen, opens_among};
+
+use crate::opens::Open;
+use crate::services::{Service, copy_name};
+use crate::ties::ties_of;
+use gos_plan::{Kind, ObjectFault, Plan, PlanImport, make, part_contacts};
+use gos_ties::joints;
+use gos_types::{NoMemory, copy};
+use std::alloc::Global;
+
+// A copy of a kind. `Err` is want of memory alone.
+fn copy_kind(alloc: Global, kind: &Kind) -> Result<Kind, NoMemory>
+    ensures same { IfOk result (λ copy. part_of copy ≡ part_of kind.now) }
+    ensures in_range { IfOk result (λ copy. IsInRange kind.now → IsInRange copy) }
+{
+    Ok(match kind {
+        Kind::Skip => Kind::Skip,
+        Kind::Lit { w, k } => Kind::Lit { w: *w, k: *k },
+        Kind::Seq => Kind::Seq,
+        Kind::SeqExp { w } => Kind::SeqExp { w: *w },
+        Kind::Par => Kind::Par,
+        Kind::If => Kind::If,
+        Kind::IfExp { w } => Kind::IfExp { w: *w },
+        Kind::While => Kind::While,
+        Kind::Op { op, w } => Kind::Op { op: *op, w: *w },
+        Kind::Not { w } => Kind::Not { w: *w },
+        Kind::Assign { w } => Kind::Assign { w: *w },
+        Kind::Deref { w } => Kind::Deref { w: *w },
+        Kind::Local { w, v } => Kind::Local { w: *w, v: *v },
+        Kind::Share(ty) => Kind::Share(copy(alloc, ty)?),
+    })
+}
+
+// Adds copies of parts.
+fn add_parts(alloc: Global, parts: &mut Vec<Kind>, more: &[Kind]) -> Result<(), NoMemory>
+    ensures same { OnOk result (map part_of parts.new.items ≡ map part_of parts.old.items ++ map part_of more.now) }
+    ensures in_range { OnOk result (All IsInRange parts.old.items → All IsInRange more.now → All IsInRange parts.new.items) }
+{
+    for kind in more {
+        parts.push(copy_kind(alloc, kind)?)?;
+    }
+    Ok(())
+}
+
+// Copies of the parts of all plans.
+fn parts_of(alloc: Global, plans: &[Plan]) -> Result<Vec<Kind>, NoMemory>
+    ensures same { IfOk result (λ parts. map part_of parts.items ≡ all_parts (map plan_of plans.now)) }
+    ensures in_range { IfOk result (λ parts. All IsInRange parts.items) }
+{
+    let mut parts = Vec::new(alloc);
+    for plan in plans {
+        add_parts(alloc, &mut parts, plan.parts())?;
+    }
+    Ok(parts)
+}
+
+// A copy of an import. `Err` is want of memory alone.
+fn copy_import(alloc: Global, import: &PlanImport) -> Result<PlanImport, NoMemory>
+    ensures { IfOk result (λ copy. import_of copy ≡ import_of import.now) }
+{
+    let name = copy_name(alloc, &import.name)?;
+    let ty = copy(alloc, &import.ty)?;
+    Ok(PlanImport { name, ty })
+}
+
+// Copies of the imports that stay.
+fn imports_of(alloc: Global, opens: &[Open]) -> Result<Vec<PlanImport>, NoMemory>
+    ensures { IfOk result (λ imports. map import_of imports.items ≡ map (λ l. l.import) (map open_seen opens.now)) }
+{
+    let mut imports = Vec::new(alloc);
+    for open in opens {
+        imports.push(copy_import(alloc, open.import)?)?;
+    }
+    Ok(imports)
+}
+
+// What all plans weigh. More than 64 bits count as want of memory.
+pub(crate) fn weight_of(plans: &[Plan]) -> Result<u64, NoMemory>
+    ensures { IfOk result (λ weight. weight ≡ all_weight (map plan_of plans.now)) }
+{
+    let mut weight: u64 = 0;
+    for plan in plans {
+        match weight.checked_add(plan.weight()) {
+            Some(sum) => weight = sum,
+            None => return Err(NoMemory),
+        }
+    }
+    Ok(weight)
+}
+
+/// The joining of plans along services; the imports that stay are given. `Err` is want of memory alone.
+pub(crate) fn join(
+    alloc: Global,
+    plans: &[Plan],
+    services: &[Service],
+    root: usize,
+    opens: &[Open],
+    weight: u64,
+) -> Result<Plan, NoMemory>
+    requires root { root < length plans.now }
+    ensures { IfOk result (λ plan. IsJoining (wiring_of plans.now services.now root) (plan_of plan)) }
+{
+    let imports = imports_of(alloc, opens)?;
+    let outcome = copy(alloc, plans[root].result())?;
+    let parts = parts_of(alloc, plans)?;
+    let ties = ties_of(alloc, plans, services, root)?;
+    let joints = joints(alloc, &imports, &outcome, &parts, &ties)?;
+    match make(alloc, weight, imports, outcome, parts, joints) {
+        Ok(plan) => Ok(plan),
+        Err(_) => Err(NoMemory),
+    }
+}
