@@ -3,8 +3,8 @@
 ghost use Rattle.std.specs.Prelude.{◌≡◌, ◌+◌, ◌++◌, ◌^◌, ◌<◌, ◌≤◌, length, IfOk, IfErr};
 ghost use Rattle.gos_types.specs.Types.{type_of, Var};
 ghost use Rattle.gos_check.specs.Nodes.{OfFun, OfNew, If, node_seen};
-ghost use Rattle.gos_check.specs.Numbering.{one_form, two_form, type_in, seen, binder_result, one_result, two_result};
-ghost use Rattle.gos_check.specs.Opens.{merged_splits, merged_names, merged_next};
+ghost use Rattle.gos_check.specs.inner.Numbering.{one_form, two_form, type_in, seen, binder_result, one_result, two_result};
+ghost use Rattle.gos_check.specs.inner.Opens.{merged_splits, merged_names, merged_next};
 
 use crate::fault::CheckFault;
 use crate::forms::{OnePart, TwoParts, function_type};

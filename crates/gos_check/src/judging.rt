@@ -16,9 +16,9 @@ ghost use Rattle.gos_check.specs.Scopes.{type_at, used};
 ghost use Rattle.gos_check.specs.Free.{free, joined, without};
 ghost use Rattle.gos_check.specs.Demands.{done, choice};
 ghost use Rattle.gos_check.specs.Judging.{place_of, of_two, of_three, judged};
-ghost use Rattle.gos_check.specs.Seen.{binders_of};
-ghost use Rattle.gos_check.specs.Rules.{rule_of_one, ruled};
-ghost use Rattle.gos_check.specs.Walked.{tree, BindCountable, weight_of, parts_weight};
+ghost use Rattle.gos_check.specs.inner.Seen.{binders_of};
+ghost use Rattle.gos_check.specs.inner.Rules.{rule_of_one, ruled};
+ghost use Rattle.gos_check.specs.inner.Walked.{tree, BindCountable, weight_of, parts_weight};
 
 use crate::demands::{choice, done};
 use crate::fault::CheckFault;

@@ -11,10 +11,10 @@ ghost use Rattle.gos_model.specs.Sources.{import_of};
 ghost use Rattle.gos_model.specs.Weight.{or_com};
 ghost use Rattle.gos_check.specs.Sizes.{size};
 ghost use Rattle.gos_check.specs.Scopes.{type_at};
-ghost use Rattle.gos_check.specs.Seen.{binders_of};
-ghost use Rattle.gos_check.specs.Walked.{tree};
+ghost use Rattle.gos_check.specs.inner.Seen.{binders_of};
+ghost use Rattle.gos_check.specs.inner.Walked.{tree};
 ghost use Rattle.gos_check.specs.Nodes.{OfFun, OfNew, node_seen};
-ghost use Rattle.gos_check.specs.Numbering.{one_form, two_form, closed_result, use_result, binder_result, one_result, two_result, choice_result, inner_next, numbered, import_number, placed};
+ghost use Rattle.gos_check.specs.inner.Numbering.{one_form, two_form, closed_result, use_result, binder_result, one_result, two_result, choice_result, inner_next, numbered, import_number, placed};
 
 use crate::fault::CheckFault;
 use crate::forms::{OnePart, TwoParts};

@@ -5,7 +5,7 @@ ghost use Rattle.gos_types.specs.Types.{type_of};
 ghost use Rattle.gos_model.specs.Typing.{import_type};
 ghost use Rattle.gos_model.specs.Sources.{import_of};
 ghost use Rattle.gos_check.specs.Scopes.{type_at};
-ghost use Rattle.gos_check.specs.Seen.{binders_of};
+ghost use Rattle.gos_check.specs.inner.Seen.{binders_of};
 
 use gos_lex::Name;
 use gos_syntax::Import;

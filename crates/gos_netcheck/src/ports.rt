@@ -7,7 +7,7 @@ ghost use Rattle.gos_netlist.specs.Seen.{cell_of, function_of, number_of, side_o
 ghost use Rattle.gos_netlist.specs.Events.{Request, Answer, is_input};
 ghost use Rattle.gos_netcheck.specs.PortRules.{HasSide, Fits, IsEnd, AllFit, AreNew, PortsFit, IsFirstWrongPort, IsLoose, IsRightPort, inputs_among, all_inputs};
 ghost use Rattle.gos_netcheck.specs.PortRules as rules;
-ghost use Rattle.gos_netcheck.specs.PortSearch.{has_name, HasNames, AreTaken};
+ghost use Rattle.gos_netcheck.specs.inner.PortSearch.{has_name, HasNames, AreTaken};
 
 use gos_netlist::{Cell, Gate, Ground, NetId, Port, Side};
 use gos_types::NoMemory;

@@ -10,7 +10,7 @@ ghost use Rattle.gos_netlist.specs.Cycles.{IsRegister, Feeds};
 ghost use Rattle.gos_netcheck.specs.Rules.{Kept};
 ghost use Rattle.gos_netcheck.specs.CellRules.{NetsExist};
 ghost use Rattle.gos_netcheck.specs.Schedule.{IsSchedule};
-ghost use Rattle.gos_netcheck.specs.Search.{Stands, IsLater, IsBegun, IsDone, IsUndone, IsWaiting, IsReady, IsCycleFault, steps_left};
+ghost use Rattle.gos_netcheck.specs.inner.Search.{Stands, IsLater, IsBegun, IsDone, IsUndone, IsWaiting, IsReady, IsCycleFault, steps_left};
 
 use crate::cycle::cycle_at;
 use crate::fault::NetFault;

@@ -7,8 +7,8 @@ ghost use Rattle.gos_model.specs.Labels.{Label};
 ghost use Rattle.gos_netcheck.specs.Accepted.{IsAccepted};
 ghost use Rattle.gos_pulse.specs.Guarding.{Guards, HasPorts, outputs_of};
 ghost use Rattle.gos_pulse.specs.Driving.{GivesInput};
-ghost use Rattle.gos_pulse.specs.Slots.{label_if, labels_of};
-ghost use Rattle.gos_pulse.specs.Board.{Begins, CanTry, IsTried, Rests, Stands};
+ghost use Rattle.gos_pulse.specs.inner.Slots.{label_if, labels_of};
+ghost use Rattle.gos_pulse.specs.inner.Board.{Begins, CanTry, IsTried, Rests, Stands};
 
 use crate::entries::Entry;
 use crate::guard::Guard;

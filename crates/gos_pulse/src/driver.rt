@@ -6,8 +6,8 @@ ghost use Rattle.gos_model.specs.Labels.{Label};
 ghost use Rattle.gos_sim.specs.Cycle.{at_reset};
 ghost use Rattle.gos_pulse.specs.Driving.{GivesInput, BreaksAs};
 ghost use Rattle.gos_pulse.specs.Traced.{IsTraced};
-ghost use Rattle.gos_pulse.specs.Board.{Rests};
-ghost use Rattle.gos_pulse.specs.Running.{BreaksCycle, CanRun, RunsCycle};
+ghost use Rattle.gos_pulse.specs.inner.Board.{Rests};
+ghost use Rattle.gos_pulse.specs.inner.Running.{BreaksCycle, CanRun, RunsCycle};
 
 use crate::agenda::Agenda;
 use crate::board::Board;

@@ -4,7 +4,7 @@ ghost use Rattle.std.specs.Prelude.{◌≡◌, ◌<◌, ◌∷◌, [], ℕ, Bool
 ghost use Rattle.std.specs.Option.{option_map};
 ghost use Rattle.gos_lines.specs.Lines.{Word};
 ghost use Rattle.gos_pulse.specs.Entries.{SaysCycles, SaysEntry, Written as Said, WritesValue, IsDotted, keyword, last_word};
-ghost use Rattle.gos_pulse.specs.EntryLine.{said, HasNames, IsFirstDot};
+ghost use Rattle.gos_pulse.specs.inner.EntryLine.{said, HasNames, IsFirstDot};
 
 use gos_lex::is_name_or_word;
 use gos_lines::number;

@@ -3,7 +3,7 @@
 ghost use Rattle.std.specs.Prelude.{◌≡◌, ◌<◌, List, ℕ, Some, None, length, IfOk, OnOk, MatchOption};
 ghost use Rattle.gos_netlist.specs.declared.event.Event as seen;
 ghost use Rattle.gos_pulse.specs.EventNames.{IsInput};
-ghost use Rattle.gos_pulse.specs.EventTable.{IsTable, IsTableOf, HasPorts, number_at, added};
+ghost use Rattle.gos_pulse.specs.inner.EventTable.{IsTable, IsTableOf, HasPorts, number_at, added};
 
 use crate::event_names::event_name;
 use gos_netlist::{Event, Netlist, Port, events};

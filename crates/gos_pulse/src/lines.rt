@@ -4,8 +4,8 @@ ghost use Rattle.std.specs.Prelude.{◌≡◌, ◌<◌, ◌++◌, true, false, S
 ghost use Rattle.gos_netlist.specs.Nets.{Netlist as Circuit};
 ghost use Rattle.gos_pulse.specs.Guarding.{events_way, inputs_of, outputs_of};
 ghost use Rattle.gos_netlist.specs.Events.{events_of};
-ghost use Rattle.gos_pulse.specs.Slots.{labels_of};
-ghost use Rattle.gos_pulse.specs.Lines.{AddsLines, HavePulses, line_if};
+ghost use Rattle.gos_pulse.specs.inner.Slots.{labels_of};
+ghost use Rattle.gos_pulse.specs.inner.Lines.{AddsLines, HavePulses, line_if};
 
 use crate::board::Board;
 use crate::slots::Slot;

@@ -5,8 +5,8 @@ ghost use Rattle.gos_netlist.specs.Nets.{Netlist as Circuit};
 ghost use Rattle.gos_model.specs.Labels.{Label};
 ghost use Rattle.gos_pulse.specs.Guarding.{HasPorts};
 ghost use Rattle.gos_pulse.specs.Driving.{GivesInput, next_entries};
-ghost use Rattle.gos_pulse.specs.Board.{Stands};
-ghost use Rattle.gos_pulse.specs.Queue.{AreGiven, CanGiveAll, IsFirstGiven, IsFirstHeld};
+ghost use Rattle.gos_pulse.specs.inner.Board.{Stands};
+ghost use Rattle.gos_pulse.specs.inner.Queue.{AreGiven, CanGiveAll, IsFirstGiven, IsFirstHeld};
 
 use crate::board::Board;
 use crate::entries::Entry;

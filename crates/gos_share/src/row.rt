@@ -7,7 +7,7 @@ ghost use Rattle.gos_plan.specs.Cells.{bit};
 ghost use Rattle.gos_plan.specs.Wires.{incoming_of};
 ghost use Rattle.gos_share.specs.Blocks.{block_cells, block_size, kept_net};
 ghost use Rattle.gos_share.specs.Share.{row_cells, share_cells};
-ghost use Rattle.gos_share.specs.Seen.{all_of, blocks_size, Places};
+ghost use Rattle.gos_share.specs.inner.Seen.{all_of, blocks_size, Places};
 
 use crate::cells;
 use crate::shared::{Shared, answered_size, asked_size, blocks, next, sent_size, told_size};

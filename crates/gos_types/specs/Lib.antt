@@ -1,5 +1,4 @@
 pub mod Types
 pub mod Handshakes
 pub mod TypeText
-pub mod Within
-pub mod TypeCode
+pub mod inner

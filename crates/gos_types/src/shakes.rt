@@ -2,7 +2,7 @@
 ghost use Rattle.std.specs.Prelude.{◌≡◌, ◌<◌, ◌++◌, ◌∷◌, [], ◌^◌, length, map, IfOk, OnOk};
 ghost use Rattle.gos_types.specs.Types.{type_of, size};
 ghost use Rattle.gos_types.specs.Handshakes.{handshakes_of, turned};
-ghost use Rattle.gos_types.specs.Within.{within};
+ghost use Rattle.gos_types.specs.inner.Within.{within};
 
 use crate::fault::NoMemory;
 use crate::types::Ty;
