@@ -134,7 +134,7 @@ fn joints_of(
 
 /// The joints that ties make in a plan of these imports, this result and these parts: one for each two ends that a path of
 /// ties connects, of which the one asks and the other serves. They are right. `Err` is want of memory alone.
-pub fn joints(
+pub fn tied_joints(
     alloc: Global,
     imports: &[PlanImport],
     outcome: &Ty,
@@ -146,5 +146,6 @@ pub fn joints(
     ensures right { IfOk result (λ joints. (weight : ℕ) → IsRight (plan_of (record { weight = weight; imports = imports.now; outcome = outcome.now; parts = parts.now; joints = joints.items }))) }
 {
     let tables = tables_of(alloc, ties)?;
-    joints_of(alloc, imports, outcome, parts, &tables, ties)
+    let joints = joints_of(alloc, imports, outcome, parts, &tables, ties)?;
+    Ok(joints)
 }
