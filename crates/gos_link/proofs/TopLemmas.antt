@@ -112,7 +112,7 @@ module _ (n : ℕ) (ss : List Service) (tops : List ℕ) (known : AreTops n ss t
   moved_at giver top low k =
       number_cases k giver
       (λ e b.
-      let within : k < length (map (moved giver top) tops) = (let size = length-map (moved giver top) tops in omega (arith, size, known.each, e, low)) in
+      let within : k < length (map (moved giver top) tops) = (let size = length-map tops (moved giver top) in omega (arith, size, known.each, e, low)) in
       default_free (map (moved giver top) tops) k k (moved giver top k) within ∙ at_map (moved giver top) tops k k)
       (λ e b. let still : moved giver top k ≡ k = rw b refl in
       ap (λ (d : ℕ). unwrap_or (slice_get (map (moved giver top) tops) k) d) (sym still) ∙ at_map (moved giver top) tops k k)
@@ -122,7 +122,7 @@ module _ (n : ℕ) (ss : List Service) (tops : List ℕ) (known : AreTops n ss t
       → after ≡ map (moved t.giver (top_at tops t.user)) tops → AreTops n (ss ++ t ∷ []) after
   tops_more t after user giver unused ringless is =
       subst (λ (list : List ℕ). AreTops n (ss ++ t ∷ []) list) (sym is)
-      (record { each = length-map f tops ∙ known.each; below = below; same = same; leads = leads; own = own; last = last; ringless = still_ringless })
+      (record { each = length-map tops f ∙ known.each; below = below; same = same; leads = leads; own = own; last = last; ringless = still_ringless })
     where
       f : ℕ → ℕ
       f = moved t.giver (top_at tops t.user)
@@ -191,3 +191,20 @@ module _ (n : ℕ) (ss : List Service) (tops : List ℕ) (known : AreTops n ss t
 
       still_ringless : HasRing (ss ++ t ∷ []) → ⊥
       still_ringless (k, ring) = ringless (k, gives_more (t ∷ ss) (ss ++ t ∷ []) (λ s h. has_either ss t s h) k k ring)
+
+-- with no service each is its own top
+no_gives : (a b : ℕ) → Gives [] a b → ⊥
+no_gives a b (once s h) = h
+no_gives a b (on _ c _ g h) = no_gives a c g
+
+pub tops_begin : (n : ℕ) (tops : List ℕ) → length tops ≡ n → ((k : ℕ) → top_at tops k ≡ k) → AreTops n [] tops
+tops_begin n tops size own =
+    record {
+      each = size;
+      below = λ k low. subst (λ (j : ℕ). j < n) (sym (own k)) low;
+      same = λ s h. absurd h;
+      leads = λ k. subst (λ (j : ℕ). Leads [] k j) (sym (own k)) (stays k);
+      own = λ k none. own k;
+      last = λ k. refl;
+      ringless = λ ring. no_gives ring.0 ring.0 ring.1;
+    }

@@ -2,13 +2,12 @@
 --
 -- Read first: Services; Joining of gos_plan. The linked plan is the joining of the instances' plans along the imports that
 -- are served.
-use Rattle.std.specs.Prelude.{◌≡◌, ◌≢◌, ◌<◌, ◌≤◌, ◌+◌, ◌⊎◌, ℕ, zero, suc, Bool, true, false, List, [], ◌∷◌, ◌++◌, Option, Some, None, All, length, map, slice_get, nat_eq, if◌then◌else◌}
-use Rattle.gos_types.specs.Types.{Type', Com, Exp, Var, Pair, Fun, IsGround, type_of}
+use Rattle.std.specs.Prelude.{◌≡◌, ◌≢◌, ◌<◌, ◌≤◌, ◌+◌, ◌⊎◌, ◌||◌, ℕ, zero, suc, Bool, true, false, List, [], ◌∷◌, ◌++◌, Option, Some, None, length, map, slice_get, nat_eq, if◌then◌else◌}
+use Rattle.gos_types.specs.Types.{Type', Com, Exp, Var, Pair, Fun, IsGround}
 use Rattle.gos_lines.specs.Lines.{Word}
-use Rattle.gos_plan.specs.declared.plan.PlanImport.{PlanImport}
-use Rattle.gos_plan.specs.Kinds.{contacts_of}
-use Rattle.gos_plan.specs.Plans.{ImportEnd, ResultEnd, Plan}
-use Rattle.gos_plan.specs.Seen.{SeenPlan, plan_of, import_of}
+use Rattle.gos_model.specs.Typing.{Imported}
+use Rattle.gos_plan.specs.Plans.{ImportEnd, ResultEnd, Plan, contacts_of_import}
+use Rattle.gos_plan.specs.Seen.{SeenPlan, plan_of}
 use Rattle.gos_plan.specs.Size.{plan_size}
 use Rattle.gos_plan.specs.Joining.{Link, place, Wiring, LeftImport, all_left, all_weight, IsJoining}
 use Rattle.gos_link.specs.declared.build.Instance.{Instance}
@@ -18,34 +17,43 @@ use Rattle.gos_link.specs.declared.fault.LinkFault.{LinkFault}
 use Rattle.gos_link.specs.declared.fault.LinkFault.TheVariants as faults
 use Rattle.gos_link.specs.Services.{instance_named, first_used, BindsOn}
 
--- the imports of a plan that there is, or of none; and how many handshakes an import has that there is, or none
-abbrev pub imports_of : Option SeenPlan → List PlanImport
+-- the imports of a plan that there is, or of none
+abbrev pub imports_of : Option Plan → List Imported
 imports_of None = []
 imports_of (Some p) = p.imports
 
-abbrev pub shakes_of : Option PlanImport → ℕ
-shakes_of None = 0
-shakes_of (Some x) = length (contacts_of (type_of x.ty))
+-- how many handshakes a served import has
+abbrev pub shakes_at : List Plan → Service → ℕ
+shakes_at ps s = length (contacts_of_import (slice_get (imports_of (slice_get ps s.user)) s.import))
 
--- the first n handshakes of a served import, from h on, are those of the giver's result
+-- n handshakes of a served import, from h on, are those of the giver's result
+abbrev pub link_at : Service → ℕ → Link
+link_at s h = record { one = place s.user (ImportEnd s.import h); other = place s.giver (ResultEnd h) }
+
 abbrev pub links_from : Service → ℕ → ℕ → List Link
 links_from s h zero = []
-links_from s h (suc n) =
-    record { one = place s.user (ImportEnd s.import h); other = place s.giver (ResultEnd h) } ∷ links_from s (suc h) n
+links_from s h (suc n) = link_at s h ∷ links_from s (suc h) n
 
-abbrev pub links_of : List SeenPlan → List Service → List Link
+abbrev pub links_of : List Plan → List Service → List Link
 links_of ps [] = []
-links_of ps (s ∷ ss) = links_from s 0 (shakes_of (slice_get (imports_of (slice_get ps s.user)) s.import)) ++ links_of ps ss
+links_of ps (s ∷ ss) = links_from s 0 (shakes_at ps s) ++ links_of ps ss
 
 -- the type of the result of a plan that there is, or a command
-abbrev pub outcome_of : Option SeenPlan → Type'
+abbrev pub outcome_of : Option Plan → Type'
 outcome_of None = Com
-outcome_of (Some p) = type_of p.outcome
+outcome_of (Some p) = p.outcome
 
 -- plans that are joined along the services; the result is that of plan `root`
-abbrev pub wiring_of : List SeenPlan → List Service → ℕ → Wiring
+abbrev pub wiring_of : List Plan → List Service → ℕ → Wiring
 wiring_of ps ss root =
-    record { plans = map plan_of ps; links = links_of ps ss; giver = root; skipped = 0; outcome = outcome_of (slice_get ps root) }
+    record { plans = ps; links = links_of ps ss; giver = root; skipped = 0; outcome = outcome_of (slice_get ps root) }
+
+-- the plans of instances, and how they are joined
+abbrev pub plans_of : List SeenPlan → List Plan
+plans_of ps = map plan_of ps
+
+abbrev pub whole_of : List SeenPlan → List Service → ℕ → Wiring
+whole_of ps ss root = wiring_of (plans_of ps) ss root
 
 -- the instances that the imports which stay belong to, and their names: the ports besides the root's
 pub record Port : Type 0 where
@@ -62,28 +70,20 @@ port_of is l = record { name = l.import.name; instance = name_of (slice_get is l
 abbrev pub ports_of : Build → Wiring → List Port
 ports_of b w = record { name = b.root; instance = b.root } ∷ map (port_of b.instances.items) (all_left w)
 
--- no port in a list has this name, and no two have one
-abbrev pub IsNew : Word → List Port → Type 0
-IsNew name [] = Unit {0}
-IsNew name (p ∷ ps) = (p.name ≢ name) × IsNew name ps
+-- the first n ports have different names
+abbrev pub AreDifferent : ℕ → List Port → Type 0
+AreDifferent n ports =
+    (i j : ℕ) (p q : Port) → i < j → j < n → slice_get ports i ≡ Some p → slice_get ports j ≡ Some q → p.name ≢ q.name
 
-abbrev pub AreDifferent : List Port → Type 0
-AreDifferent [] = Unit {0}
-AreDifferent (p ∷ ps) = IsNew p.name ps × AreDifferent ps
-
--- one of the ports
-abbrev pub HasPort : List Port → Port → Type 0
-HasPort [] p = ⊥
-HasPort (q ∷ qs) p = (q ≡ p) ⊎ HasPort qs p
-
--- the first port whose name one before it has is this one, and that one is the other
+-- the first port whose name one before it has is the other, and that one is the one
 pub record IsSecond (ports : List Port) (one other : Port) : Type 0 where
-  pub before : List Port
-  pub after : List Port
-  pub whole : ports ≡ before ++ other ∷ after
-  pub different : AreDifferent before
-  pub first : HasPort before one
+  pub first : ℕ
+  pub second : ℕ
+  pub before : first < second
+  pub at_first : slice_get ports first ≡ Some one
+  pub at_second : slice_get ports second ≡ Some other
   pub same : one.name ≡ other.name
+  pub different : AreDifferent second ports
 
 -- a result that the outside may use: a command or an expression
 abbrev pub IsDone : Type' → Type 0
@@ -93,42 +93,47 @@ IsDone (Var w) = ⊥
 IsDone (Pair a b) = ⊥
 IsDone (Fun a b) = ⊥
 
+-- the types of the first n imports are ground
+abbrev pub AreGround : ℕ → List LeftImport → Type 0
+AreGround n imports = (i : ℕ) (l : LeftImport) → i < n → slice_get imports i ≡ Some l → IsGround l.import.ty
+
 -- the first import whose type isn't ground
 pub record IsFirstHigher (imports : List LeftImport) (l : LeftImport) : Type 0 where
-  pub before : List LeftImport
-  pub after : List LeftImport
-  pub whole : imports ≡ before ++ l ∷ after
-  pub ground : All (λ k. IsGround k.import.ty) before
+  pub number : ℕ
+  pub at : slice_get imports number ≡ Some l
+  pub ground : AreGround number imports
   pub higher : IsGround l.import.ty → ⊥
 
--- Whether an instance is the root or serves an import; and the name of the first, from number k on, that doesn't.
+-- whether an instance is the root or serves an import
 abbrev pub is_used : Option ℕ → Bool
 is_used None = false
 is_used (Some line) = true
 
+abbrev pub is_placed : ℕ → List Service → ℕ → Bool
+is_placed root ss k = nat_eq k root || is_used (first_used ss k)
+
+-- the name of the first, of which the first has number k, that does neither
 abbrev pub first_unplaced : ℕ → List Service → ℕ → List Instance → Option Word
 first_unplaced root ss k [] = None
-first_unplaced root ss k (i ∷ is) =
-    if nat_eq k root then first_unplaced root ss (suc k) is
-    else (if is_used (first_used ss k) then first_unplaced root ss (suc k) is else Some i.name)
+first_unplaced root ss k (i ∷ is) = if is_placed root ss k then first_unplaced root ss (k + 1) is else Some i.name
 
 -- what stands behind the lines, in the order in which it is asked for
 pub record IsPlaced (b : Build) (ss : List Service) (root : ℕ) : Type 0 where
-  pub root : instance_named b.instances.items b.root ≡ Some root
+  pub finds_root : instance_named b.instances.items b.root ≡ Some root
   pub placed : first_unplaced root ss 0 b.instances.items ≡ None
 
 pub record IsNamed (b : Build) (ps : List SeenPlan) (ss : List Service) (root : ℕ) : Type 0 where
   pub placed : IsPlaced b ss root
-  pub names : AreDifferent (ports_of b (wiring_of ps ss root))
+  pub names : AreDifferent (length (ports_of b (whole_of ps ss root))) (ports_of b (whole_of ps ss root))
 
 pub record IsGrounded (b : Build) (ps : List SeenPlan) (ss : List Service) (root : ℕ) : Type 0 where
   pub named : IsNamed b ps ss root
-  pub result : IsDone (outcome_of (slice_get ps root))
-  pub imports : All (λ l. IsGround l.import.ty) (all_left (wiring_of ps ss root))
+  pub result : IsDone (outcome_of (slice_get (plans_of ps) root))
+  pub imports : AreGround (length (all_left (whole_of ps ss root))) (all_left (whole_of ps ss root))
 
 pub record IsLight (b : Build) (ps : List SeenPlan) (ss : List Service) (root : ℕ) : Type 0 where
   pub grounded : IsGrounded b ps ss root
-  pub weight : all_weight (map plan_of ps) ≤ 32768
+  pub weight : all_weight (plans_of ps) ≤ 32768
 
 -- how many ports a plan has: one for the result, and one for each import
 abbrev pub count_ports : Plan → ℕ
@@ -140,7 +145,7 @@ pub record IsLinked (b : Build) (ps : List SeenPlan) (p : Plan) : Type 0 where
   pub root : ℕ
   pub binds : BindsOn b.instances.items ps [] b.binds.items services None
   pub light : IsLight b ps services root
-  pub joining : IsJoining (wiring_of ps services root) p
+  pub joining : IsJoining (whole_of ps services root) p
   pub small : plan_size p ≤ 5000000
   pub few : count_ports p ≤ 65536
 
@@ -151,16 +156,16 @@ IsWrongWhole b ps ss (faults.NoInstance line name) =
 IsWrongWhole b ps ss (faults.Unplaced name) =
     (root : ℕ) × (instance_named b.instances.items b.root ≡ Some root) × (first_unplaced root ss 0 b.instances.items ≡ Some name)
 IsWrongWhole b ps ss (faults.OpenTwice name first second) =
-    (root : ℕ) × (one other : Port) × IsPlaced b ss root × IsSecond (ports_of b (wiring_of ps ss root)) one other
+    (root : ℕ) × (one other : Port) × IsPlaced b ss root × IsSecond (ports_of b (whole_of ps ss root)) one other
     × (name ≡ other.name) × (first ≡ one.instance) × (second ≡ other.instance)
 IsWrongWhole b ps ss (faults.NotGround name) =
     (root : ℕ) × IsNamed b ps ss root
-    × (((IsDone (outcome_of (slice_get ps root)) → ⊥) × (name ≡ b.root))
-    ⊎ (IsDone (outcome_of (slice_get ps root)) × (l : LeftImport) × IsFirstHigher (all_left (wiring_of ps ss root)) l × (name ≡ l.import.name)))
+    × (((IsDone (outcome_of (slice_get (plans_of ps) root)) → ⊥) × (name ≡ b.root))
+    ⊎ (IsDone (outcome_of (slice_get (plans_of ps) root)) × (l : LeftImport) × IsFirstHigher (all_left (whole_of ps ss root)) l × (name ≡ l.import.name)))
 IsWrongWhole b ps ss (faults.TooHeavy weight) =
-    (root : ℕ) × IsGrounded b ps ss root × (weight ≡ all_weight (map plan_of ps)) × (32768 < weight)
+    (root : ℕ) × IsGrounded b ps ss root × (weight ≡ all_weight (plans_of ps)) × (32768 < weight)
 IsWrongWhole b ps ss (faults.TooLarge size ports) =
-    (root : ℕ) × (p : Plan) × IsLight b ps ss root × IsJoining (wiring_of ps ss root) p × (size ≡ plan_size p) × (ports ≡ count_ports p)
+    (root : ℕ) × (p : Plan) × IsLight b ps ss root × IsJoining (whole_of ps ss root) p × (size ≡ plan_size p) × (ports ≡ count_ports p)
     × ((5000000 < size) ⊎ (65536 < ports))
 IsWrongWhole b ps ss fault = ⊥
 

@@ -23,8 +23,8 @@ import_named imports name = position (λ i. bytes_eq i.name name) imports
 
 -- the line names a user and a giver that there are, of these numbers and with these plans
 pub record NamesBoth (is : List Instance) (ps : List SeenPlan) (b : Bind) (user giver : ℕ) (p q : SeenPlan) : Type 0 where
-  pub user : instance_named is b.user ≡ Some user
-  pub giver : instance_named is b.giver ≡ Some giver
+  pub finds_user : instance_named is b.user ≡ Some user
+  pub finds_giver : instance_named is b.giver ≡ Some giver
   pub of_user : slice_get ps user ≡ Some p
   pub of_giver : slice_get ps giver ≡ Some q
 

@@ -2,5 +2,4 @@
 pub mod Noting
 pub mod Tops
 pub mod Opens
-pub mod Wired
-pub mod Copies
+pub mod Ports

@@ -1,6 +1,7 @@
 // The imports that no other instance serves.
 
 ghost use Rattle.std.specs.Prelude.{◌≡◌, ◌++◌, map, IfOk, OnOk};
+ghost use Rattle.gos_plan.specs.Seen.{import_of, plan_of};
 ghost use Rattle.gos_link.specs.inner.Opens.{open_seen, opens_in, opens_among, number_bound};
 
 use crate::services::Service;
@@ -32,7 +33,7 @@ fn add_opens<'a>(
     plan: usize,
     imports: &'a [PlanImport],
 ) -> Result<(), NoMemory>
-    ensures { OnOk result (map open_seen opens.new.items ≡ map open_seen opens.old.items ++ opens_in services.now plan 0 imports.now) }
+    ensures { OnOk result (map open_seen opens.new.items ≡ map open_seen opens.old.items ++ opens_in services.now plan 0 (map import_of imports.now)) }
 {
     for (number, import) in imports.iter().enumerate() {
         if number_bound(services, plan, number).is_none() {
@@ -52,7 +53,7 @@ pub(crate) fn opens_of<'a>(
     plans: &'a [Plan],
     services: &[Service],
 ) -> Result<Vec<Open<'a>>, NoMemory>
-    ensures { IfOk result (λ opens. map open_seen opens.items ≡ opens_among services.now 0 plans.now) }
+    ensures { IfOk result (λ opens. map open_seen opens.items ≡ opens_among services.now 0 (map plan_of plans.now)) }
 {
     let mut opens = Vec::new(alloc);
     for (number, plan) in plans.iter().enumerate() {

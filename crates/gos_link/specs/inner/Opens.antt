@@ -1,7 +1,8 @@
 -- The imports that stay, as the program finds them.
-use Rattle.std.specs.Prelude.{ℕ, suc, ◌&&◌, List, [], ◌∷◌, ◌++◌, Option, Some, None, position, nat_eq}
-use Rattle.gos_plan.specs.declared.plan.PlanImport.{PlanImport}
-use Rattle.gos_plan.specs.Seen.{SeenPlan, import_of}
+use Rattle.std.specs.Prelude.{ℕ, ◌+◌, ◌&&◌, List, [], ◌∷◌, ◌++◌, Option, Some, None, position, nat_eq}
+use Rattle.gos_model.specs.Typing.{Imported}
+use Rattle.gos_plan.specs.Plans.{Plan}
+use Rattle.gos_plan.specs.Seen.{import_of}
 use Rattle.gos_plan.specs.Joining.{LeftImport}
 use Rattle.gos_link.specs.declared.services.Service.{Service}
 use Rattle.gos_link.specs.declared.opens.Open.{Open}
@@ -19,10 +20,10 @@ if_open None l ls = l ∷ ls
 if_open (Some t) l ls = ls
 
 -- the imports that stay, of plan k from number i on, and of all plans from number k on
-abbrev pub opens_in : List Service → ℕ → ℕ → List PlanImport → List LeftImport
+abbrev pub opens_in : List Service → ℕ → ℕ → List Imported → List LeftImport
 opens_in ss k i [] = []
-opens_in ss k i (x ∷ xs) = if_open (number_bound ss k i) (record { plan = k; number = i; import = import_of x }) (opens_in ss k (suc i) xs)
+opens_in ss k i (x ∷ xs) = if_open (number_bound ss k i) (record { plan = k; number = i; import = x }) (opens_in ss k (i + 1) xs)
 
-abbrev pub opens_among : List Service → ℕ → List SeenPlan → List LeftImport
+abbrev pub opens_among : List Service → ℕ → List Plan → List LeftImport
 opens_among ss k [] = []
-opens_among ss k (p ∷ ps) = opens_in ss k 0 p.imports ++ opens_among ss (suc k) ps
+opens_among ss k (p ∷ ps) = opens_in ss k 0 p.imports ++ opens_among ss (k + 1) ps
