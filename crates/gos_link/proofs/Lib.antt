@@ -6,3 +6,9 @@ mod TopLemmas
 mod BindLemmas
 mod EntryLemmas
 mod PortLemmas
+mod PlaceLemmas
+mod ServiceLemmas
+mod PointLemmas
+mod PathLemmas
+mod WalkLemmas
+mod CountLemmas

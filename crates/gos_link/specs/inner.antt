@@ -3,3 +3,4 @@ pub mod Noting
 pub mod Tops
 pub mod Opens
 pub mod Ports
+pub mod Wired

@@ -4,15 +4,16 @@ ghost use Rattle.std.specs.Prelude.{◌≡◌, ◌≢◌, ◌<◌, ◌≤◌, �
 ghost use Rattle.gos_types.specs.Types.{IsGround, type_of};
 ghost use Rattle.gos_plan.specs.Seen.{SeenPlan};
 ghost use Rattle.gos_plan.specs.Joining.{LeftImport};
-ghost use Rattle.gos_link.specs.Linked.{Port as APort, AreDifferent, AreGround, IsDone, IsFirstHigher, IsPlaced, IsSecond, IsWrongWhole, first_unplaced, is_placed, port_of};
+ghost use Rattle.gos_link.specs.Linked.{AreDifferent, AreGround, IsDone, IsFirstHigher, IsPlaced, IsSecond, IsWrongWhole, first_unplaced, is_placed, port_of};
 ghost use Rattle.gos_link.specs.inner.Opens.{open_seen};
-ghost use Rattle.gos_link.specs.inner.Ports.{added, number_at, port_seen, IsClash, IsTable};
+ghost use Rattle.gos_link.specs.inner.Ports.{added, number_at, port_seen, AllDiffer, IsOpenTwice};
 
 use crate::build::{Build, Instance};
 use crate::fault::LinkFault;
 use crate::opens::Open;
 use crate::services::{Service, copy_name, first_used, instance_named, no_instance};
 use gos_lex::Name;
+use gos_plan::PlanImport;
 use gos_types::{NoMemory, Ty, is_ground};
 use indexmap::IndexMap;
 use std::alloc::Global;
@@ -118,28 +119,46 @@ impl Numbers {
     }
 }
 
-// The first port whose name one before it has, and the first of that name.
+// A port whose name one before it has, and that one.
 #[derive(Clone, Copy)]
-struct Clash {
-    first: usize,
-    second: usize,
+struct Clash<'a> {
+    one: Port<'a>,
+    other: Port<'a>,
 }
 
 // The first two ports of one name.
-fn clash_of(alloc: Global, ports: &[Port]) -> Result<Option<Clash>, NoMemory>
-    ensures { IfOk result (λ clash. MatchOption clash (AreDifferent (length ports.now) (map port_seen ports.now)) (IsClash (map port_seen ports.now))) }
+fn clash_of<'a>(alloc: Global, ports: &[Port<'a>]) -> Result<Option<Clash<'a>>, NoMemory>
+    ensures { IfOk result (λ clash. MatchOption clash (AreDifferent (length ports.now) (map port_seen ports.now)) (λ c. IsSecond (map port_seen ports.now) (port_seen c.one) (port_seen c.other))) }
 {
     let mut numbers = Numbers {
         by_name: IndexMap::new(alloc),
     };
-    for (second, port) in ports.iter().enumerate() {
-        if let Some(first) = numbers.get(port.name.bytes()) {
-            return Ok(Some(Clash { first, second }));
+    for (number, port) in ports.iter().enumerate() {
+        let bytes = port.name.bytes();
+        if let Some(first) = numbers.get(bytes) {
+            return Ok(Some(Clash {
+                one: ports[first],
+                other: *port,
+            }));
         }
-        let name = port.name.bytes().to_vec(alloc)?;
-        numbers.add(name, second)?;
+        let name = bytes.to_vec(alloc)?;
+        numbers.add(name, number)?;
     }
     Ok(None)
+}
+
+// That two ports have one name.
+fn open_twice(alloc: Global, clash: Clash) -> Result<LinkFault, NoMemory>
+    ensures { IfOk result (λ fault. fault ≡ LinkFault.OpenTwice clash.entry.other.name.now clash.entry.one.instance.now clash.entry.other.instance.now) }
+{
+    let name = copy_name(alloc, clash.other.name)?;
+    let first = copy_name(alloc, clash.one.instance)?;
+    let second = copy_name(alloc, clash.other.instance)?;
+    Ok(LinkFault::OpenTwice {
+        name,
+        first,
+        second,
+    })
 }
 
 /// Finds that no two ports have one name.
@@ -150,23 +169,14 @@ pub(crate) fn check_names(
     opens: &[Open],
 ) -> Result<(), LinkFault>
     requires { (k : ℕ) (l : LeftImport) → slice_get (map open_seen opens.now) k ≡ Some l → l.plan < length instances.now }
-    ensures different { IfOk result (λ _. let ports = (record { name = root.now; instance = root.now }) ∷ map (port_of instances.now) (map open_seen opens.now) in AreDifferent (length ports) ports) }
-    ensures fault { IfErr result (λ fault. fault ≢ LinkFault.NoMemory → (one : APort) × (other : APort) × IsSecond ((record { name = root.now; instance = root.now }) ∷ map (port_of instances.now) (map open_seen opens.now)) one other × (fault ≡ LinkFault.OpenTwice other.name one.instance other.instance)) }
+    ensures different { IfOk result (λ _. AllDiffer ((record { name = root.now; instance = root.now }) ∷ map (port_of instances.now) (map open_seen opens.now))) }
+    ensures fault { IfErr result (λ fault. fault ≢ LinkFault.NoMemory → IsOpenTwice ((record { name = root.now; instance = root.now }) ∷ map (port_of instances.now) (map open_seen opens.now)) fault) }
 {
     let ports = ports_of(alloc, instances, root, opens)?;
-    let Some(clash) = clash_of(alloc, &ports)? else {
-        return Ok(());
-    };
-    let one = ports[clash.first];
-    let other = ports[clash.second];
-    let name = copy_name(alloc, other.name)?;
-    let first = copy_name(alloc, one.instance)?;
-    let second = copy_name(alloc, other.instance)?;
-    Err(LinkFault::OpenTwice {
-        name,
-        first,
-        second,
-    })
+    match clash_of(alloc, &ports)? {
+        Some(clash) => Err(open_twice(alloc, clash)?),
+        None => Ok(()),
+    }
 }
 
 // Whether the outside may use a result of this type.
@@ -189,13 +199,13 @@ pub(crate) fn check_result(alloc: Global, root: &Name, outcome: &Ty) -> Result<(
 }
 
 // The first import whose type isn't ground.
-fn first_higher(opens: &[Open]) -> Option<usize>
-    ensures none { result ≡ None → AreGround (length opens.now) (map open_seen opens.now) }
-    ensures higher { (k : ℕ) → result ≡ Some k → (l : LeftImport) × IsFirstHigher (map open_seen opens.now) l × (slice_get (map open_seen opens.now) k ≡ Some l) × (k < length opens.now) }
+fn first_higher<'a>(opens: &[Open<'a>]) -> Option<&'a PlanImport>
+    ensures { MatchOption result (AreGround (length opens.now) (map open_seen opens.now)) (λ import. (l : LeftImport) × IsFirstHigher (map open_seen opens.now) l × (l.import.name ≡ import.now.name)) }
 {
-    for (number, open) in opens.iter().enumerate() {
-        if !is_ground(&open.import.ty) {
-            return Some(number);
+    for open in opens {
+        let import = open.import;
+        if !is_ground(&import.ty) {
+            return Some(import);
         }
     }
     None
@@ -207,8 +217,7 @@ pub(crate) fn check_imports(alloc: Global, opens: &[Open]) -> Result<(), LinkFau
     ensures fault { IfErr result (λ fault. fault ≢ LinkFault.NoMemory → (l : LeftImport) × IsFirstHigher (map open_seen opens.now) l × (fault ≡ LinkFault.NotGround l.import.name)) }
 {
     match first_higher(opens) {
-        Some(number) => {
-            let import = opens[number].import;
+        Some(import) => {
             let name = copy_name(alloc, &import.name)?;
             Err(LinkFault::NotGround { name })
         }

@@ -5,8 +5,9 @@ use Rattle.indexmap.specs.IndexMap.{get_by}
 use Rattle.gos_lines.specs.Lines.{Word}
 use Rattle.gos_link.specs.declared.whole.Port as declared_port
 use Rattle.gos_link.specs.declared.whole.Numbers.{Numbers}
-use Rattle.gos_link.specs.declared.whole.Clash.{Clash}
-use Rattle.gos_link.specs.Linked.{Port, AreDifferent}
+use Rattle.gos_link.specs.declared.fault.LinkFault.{LinkFault}
+use Rattle.gos_link.specs.declared.fault.LinkFault.TheVariants as faults
+use Rattle.gos_link.specs.Linked.{Port, AreDifferent, IsSecond}
 
 abbrev pub port_seen : declared_port.Port → Port
 port_seen p = record { name = p.name.now; instance = p.instance.now }
@@ -24,12 +25,10 @@ pub record IsTable (ports : List Port) (n : ℕ) (numbers : Numbers) : Type 0 wh
   pub sound : (name : Word) (i : ℕ) → number_at numbers name ≡ Some i → (p : Port) × (i < n) × (slice_get ports i ≡ Some p) × (p.name ≡ name)
   pub complete : (i : ℕ) (p : Port) → i < n → slice_get ports i ≡ Some p → number_at numbers p.name ≡ None → ⊥
 
--- the first two ports of one name
-pub record IsClash (ports : List Port) (c : Clash) : Type 0 where
-  pub one : Port
-  pub other : Port
-  pub before : c.first < c.second
-  pub at_first : slice_get ports c.first ≡ Some one
-  pub at_second : slice_get ports c.second ≡ Some other
-  pub same : one.name ≡ other.name
-  pub different : AreDifferent c.second ports
+-- all have different names
+abbrev pub AllDiffer : List Port → Type 0
+AllDiffer ports = AreDifferent (length ports) ports
+
+-- the fault tells the first port whose name one before it has
+abbrev pub IsOpenTwice : List Port → LinkFault → Type 0
+IsOpenTwice ports fault = (one other : Port) × IsSecond ports one other × (fault ≡ faults.OpenTwice other.name one.instance other.instance)
