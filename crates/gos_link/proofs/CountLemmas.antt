@@ -16,11 +16,11 @@ use Rattle.gos_ties.specs.declared.points.Tie.{Tie}
 use Rattle.gos_ties.specs.Ties.{point, end_at, end_of_place}
 use Rattle.gos_ties.specs.Counted.{place_once, once, meetings, IsThin}
 use Rattle.gos_link.specs.declared.services.Service.{Service}
-use Rattle.gos_link.specs.inner.Wired.{rank, parts_before, stays_before, point_in, point_of, ties_in, ties_from, AreJoinable}
+use Rattle.gos_link.specs.inner.Wired.{rank, parts_before, stays_before, point_in, point_of, ties_in, ties_from, AllRight, AreJoinable}
 use Rattle.gos_link.proofs.NumberLemmas.{eq_true, eq_false, number_cases}
 use Rattle.gos_link.proofs.ServiceLemmas.{In}
 use Rattle.gos_link.proofs.PointLemmas.{contact_in, IsThere, spot_of, back, back_at, of_service, back_tells}
-use Rattle.gos_link.proofs.PathLemmas.{AllRight, right_fits}
+use Rattle.gos_link.proofs.PathLemmas.{right_fits}
 
 -- 1 where ends are one
 abbrev one_if : Bool → ℕ

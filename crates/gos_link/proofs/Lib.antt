@@ -12,3 +12,6 @@ mod PointLemmas
 mod PathLemmas
 mod WalkLemmas
 mod CountLemmas
+mod BoundLemmas
+mod JoinedLemmas
+mod TieLemmas

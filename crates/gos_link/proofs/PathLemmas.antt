@@ -10,7 +10,7 @@ use Rattle.gos_ties.specs.Ties.{tie, Meet}
 use Rattle.gos_ties.specs.Ties as tied
 use Rattle.gos_link.specs.declared.services.Service.{Service}
 use Rattle.gos_link.specs.Linked.{wiring_of}
-use Rattle.gos_link.specs.inner.Wired.{rank, parts_before, stays_before, point_in, point_of, ties_in, ties_from, AreJoinable}
+use Rattle.gos_link.specs.inner.Wired.{rank, parts_before, stays_before, point_in, point_of, ties_in, ties_from, AllRight, AreJoinable}
 use Rattle.gos_link.proofs.ServiceLemmas.{In, in_contained, contains_in}
 use Rattle.gos_link.proofs.PointLemmas.{contact_in, contact_of, IsThere, spot_of, one_point, linked_point}
 
@@ -121,10 +121,6 @@ pub right_fits : (p : Plan) (before js : List Joint) (j : Joint) → AreRight p 
 right_fits p before [] j r h = absurd h
 right_fits p before (x ∷ xs) j r (inl e) = subst (λ (y : Joint). Fits p y) e r.0.0
 right_fits p before (x ∷ xs) j r (inr h) = right_fits p (x ∷ before) xs j r.1 h
-
--- plans that are right
-abbrev pub AllRight : List Plan → Type 0
-AllRight ps = (n : ℕ) (p : Plan) → slice_get ps n ≡ Some p → IsRight p
 
 path_then : (w : Wiring) (n : ℕ) (a b c : Place) → Path w n a b → (JoinedWithin w b c ⊎ Linked w b c) → Path w (suc n) a c
 path_then w zero a b c e s = (c, subst (λ (x : Place). JoinedWithin w x c ⊎ Linked w x c) (sym e) s, refl)

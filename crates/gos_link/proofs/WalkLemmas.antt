@@ -15,10 +15,9 @@ use Rattle.gos_plan.proofs.JointLemmas as joints
 use Rattle.gos_link.specs.declared.services.Service.{Service}
 use Rattle.gos_link.specs.Linked.{link_at, links_of, wiring_of}
 use Rattle.gos_link.specs.inner.Opens.{number_bound}
-use Rattle.gos_link.specs.inner.Wired.{number_used, AreJoinable}
+use Rattle.gos_link.specs.inner.Wired.{number_used, AllRight, AreJoinable}
 use Rattle.gos_link.proofs.ServiceLemmas.{in_contained, link_tells}
 use Rattle.gos_link.proofs.PointLemmas.{contact_in, contact_of}
-use Rattle.gos_link.proofs.PathLemmas.{AllRight}
 
 -- the ends of a joint
 abbrev Ends : Joint → End → End → Type 0

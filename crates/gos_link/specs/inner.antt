@@ -4,3 +4,4 @@ pub mod Tops
 pub mod Opens
 pub mod Ports
 pub mod Wired
+pub mod Judged

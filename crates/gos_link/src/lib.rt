@@ -7,6 +7,8 @@
 mod build;
 mod fault;
 mod file_name;
+mod joining;
+mod linking;
 mod noting;
 mod opens;
 mod reading;
@@ -14,9 +16,12 @@ mod reading;
 mod reading_tests;
 mod said;
 mod services;
+mod size;
+mod ties;
 mod whole;
 
 pub use build::{Bind, Build, Instance};
 pub use fault::LinkFault;
 pub use file_name::FileName;
+pub use linking::link;
 pub use reading::read_build;

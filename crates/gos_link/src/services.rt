@@ -208,6 +208,7 @@ pub(crate) fn services_of(
 ) -> Result<Vec<Service>, LinkFault>
     requires { length plans.now ≡ length instances.now }
     ensures right { IfOk result (λ services. BindsOn instances.now plans.now [] binds.now services.items None) }
+    ensures tops { IfOk result (λ services. (tops : List ℕ) × AreTops (length instances.now) services.items tops) }
     ensures fault { IfErr result (λ fault. fault ≢ LinkFault.NoMemory → (services : List Service) × BindsOn instances.now plans.now [] binds.now services (Some fault)) }
 {
     let mut services = Vec::new(alloc);

@@ -4,7 +4,7 @@
 -- stay. A served import and the result of the instance that serves it are one place.
 use Rattle.std.specs.Prelude.{◌≡◌, ℕ, zero, suc, ◌+◌, List, [], ◌∷◌, ◌++◌, Option, Some, None, length, nat_eq, position, slice_get, if◌then◌else◌}
 use Rattle.gos_model.specs.Typing.{Imported}
-use Rattle.gos_plan.specs.Plans.{End, PartEnd, ImportEnd, ResultEnd, Joint, Plan}
+use Rattle.gos_plan.specs.Plans.{End, PartEnd, ImportEnd, ResultEnd, Joint, Plan, IsRight}
 use Rattle.gos_ties.specs.declared.points.Place.{Place}
 use Rattle.gos_ties.specs.declared.points.Place.TheVariants as places
 use Rattle.gos_ties.specs.declared.points.Point.{Point}
@@ -86,3 +86,11 @@ pub record AreJoinable (ps : List Plan) (ss : List Service) (root : ℕ) : Type 
   pub used : (t : ℕ) (s : Service) → slice_get ss t ≡ Some s → number_used ss s.giver ≡ Some t
   pub unused : number_used ss root ≡ None
   pub some_root : (p : Plan) × (slice_get ps root ≡ Some p)
+
+-- the places of a plan's imports, of which those that stay are numbered from this on
+abbrev pub PlacesAre : List Service → ℕ → ℕ → List Place → Type 0
+PlacesAre ss k from each = (i : ℕ) (p : Place) → slice_get each i ≡ Some p → p ≡ place_of_import ss k from i
+
+-- each of plans is right
+abbrev pub AllRight : List Plan → Type 0
+AllRight ps = (n : ℕ) (p : Plan) → slice_get ps n ≡ Some p → IsRight p

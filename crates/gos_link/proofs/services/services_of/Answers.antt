@@ -41,3 +41,6 @@ pub returns-clause-right : goal.returns-clause-right
 returns-clause-right c =
     let ends : drop c.loop-bind.bind-index c.args.binds.now ≡ [] = drop_all c.loop-bind.bind-index c.args.binds.now (omega arith) in
     all_meant c.args.instances.now c.args.plans.now c.args.binds.now c.loop-bind.services.items (drop c.loop-bind.bind-index c.args.binds.now) c.loop-bind.invariant.0 ends
+
+pub returns-clause-tops : goal.returns-clause-tops
+returns-clause-tops c = (c.loop-bind.tops.items, c.loop-bind.invariant.1)

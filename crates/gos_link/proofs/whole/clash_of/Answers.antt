@@ -38,9 +38,9 @@ loop-number-preserved c =
     let copied : c.in_ok-name.name.items ≡ c.bytes-bytes.result.now = search rules in
     let named : c.in_ok-name.name.items ≡ (port_seen q).name = copied ∙ c.bytes-bytes.ensures.value in
     let adds : (other : Word) → number_at c.add.new.self other ≡ added (port_seen q).name c.loop-number.number (number_at c.loop-number.numbers other) other =
-        (λ other. c.in_ok-add.ensures other ∙ ap (λ (name : Word). added name c.loop-number.number (number_at c.loop-number.numbers other) other) named) in
+    (λ other. c.in_ok-add.ensures other ∙ ap (λ (name : Word). added name c.loop-number.number (number_at c.loop-number.numbers other) other) named) in
     let gone : number_at c.loop-number.numbers (port_seen q).name ≡ None =
-        ap (number_at c.loop-number.numbers) (sym c.bytes-bytes.ensures.value) ∙ (sym c.get.ensures ∙ c.in_default.is) in (
+    ap (number_at c.loop-number.numbers) (sym c.bytes-bytes.ensures.value) ∙ (sym c.get.ensures ∙ c.in_default.is) in (
       table_grows (map port_seen ports) c.loop-number.number (port_seen q) c.loop-number.numbers c.add.new.self c.loop-number.invariant.0 at adds,
       different_more (map port_seen ports) c.loop-number.number (port_seen q) c.loop-number.numbers c.loop-number.invariant.1 c.loop-number.invariant.0 at gone,
     )

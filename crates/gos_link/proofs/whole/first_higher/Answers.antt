@@ -9,8 +9,7 @@ use Rattle.gos_link.proofs.whole.first_higher.Goals as goal
 pub returns-then-not-is_ground : goal.returns-then-not-is_ground
 returns-then-not-is_ground c =
     let o : Open = c.open-item.result in
-    let at : slice_get c.args.opens.now c.loop-open.open-index ≡ Some o = slice_get_read c.args.opens.now (length c.args.opens.now) c.loop-open.open-index o refl c.loop-open-test.true c.open-item.is in
-    (
+    let at : slice_get c.args.opens.now c.loop-open.open-index ≡ Some o = slice_get_read c.args.opens.now (length c.args.opens.now) c.loop-open.open-index o refl c.loop-open-test.true c.open-item.is in (
       open_seen o,
       record {
         number = c.loop-open.open-index;
