@@ -15,3 +15,4 @@ mod CountLemmas
 mod BoundLemmas
 mod JoinedLemmas
 mod TieLemmas
+mod JudgeLemmas
