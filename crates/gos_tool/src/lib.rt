@@ -36,9 +36,9 @@ use std::alloc::Global;
 ///
 /// `check SRC` reads a source file and tells the weight of its module. `compile SRC OBJ` checks it in the same way, and
 /// writes the plan of its module. `sim NET PULSES TRACE` reads a netlist and a pulse file, runs the netlist and writes the
-/// trace. `build BUILD` reads the build file and the source file of its instance,
-/// writes the netlist, reads the pulse file, runs the netlist and writes the trace. Each status but `NoMemory` has its
-/// cause; want of memory may end a command anywhere.
+/// trace. `build BUILD` reads the build file and the source file of its instance, writes the netlist and its Verilog text,
+/// reads the pulse file, runs the netlist and writes the trace. Each status but `NoMemory` has its cause; want of memory may
+/// end a command anywhere.
 pub fn run<S: Store, O: Sink>(alloc: Global, words: &[String], store: &mut S, out: &mut O) -> Status
     // Other words are answered with the usage line, and no file is touched.
     ensures usage { result ≡ Status.Usage → MeanNothing (texts words.now) }
@@ -47,7 +47,8 @@ pub fn run<S: Store, O: Sink>(alloc: Global, words: &[String], store: &mut S, ou
     ensures usage_files { MeanNothing (texts words.now) → S.contents store.new ≡ S.contents store.old }
 
     // Where all is done, the files are there and the line tells it. Of `build`: the netlist file holds the text of a circuit
-    // that keeps pace with the program of the source file, and the trace file holds its run under the pulse file.
+    // that keeps pace with the program of the source file, the Verilog file holds its Verilog text, and the trace file its run
+    // under the pulse file.
     ensures done { result ≡ Status.Done → EndsDone (texts words.now) (S.contents store.old) (S.contents store.new) (O.written out.old) (O.written out.new) }
 
     // A file is rejected only for the first fault that is found, and its line is printed.

@@ -60,4 +60,4 @@ returns-in-Ok-clause-others g c =
     let b = build_of c.in-Ok.build in
     let old = g.S.Store.contents c.args.store.now in
     let new = g.S.Store.contents c.build_module.new.store in
-    keeps_unnamed c.args.own.now b old new (said_by g c) (subst (λ told. OthersSame (b.net ∷ b.trace ∷ []) told new) c.in_ok-text.ensures.same_files c.build_module.ensures.others)
+    keeps_unnamed c.args.own.now b old new (said_by g c) (subst (λ told. OthersSame (b.net ∷ b.verilog ∷ b.trace ∷ []) told new) c.in_ok-text.ensures.same_files c.build_module.ensures.others)
