@@ -101,7 +101,10 @@ splits_agree : (env : Meaning) (ss : List Split) (types last : Types) (later : L
     → SplitsBound env ss → Comes later (with_sides ss types) last → SplitsAgree ss last
 splits_agree env [] types last later once before bound comes = tt
 splits_agree env (s ∷ ss) types last later once before (one, bound) comes =
-    (at_left ∙ sym at_of, at_right ∙ sym at_of, splits_agree (inside_one s env) ss types' last later once_rest (before_one s ss env later once before) bound comes)
+    let rest : SplitsAgree ss last =
+    splits_agree (inside_one s env) ss types' last later once_rest (before_one s ss env later once before) bound comes
+    in
+    (at_left ∙ sym at_of, at_right ∙ sym at_of, rest)
   where
     types' : Types
     types' = with_type s.left (types s.of) (with_type s.right (types s.of) types)
@@ -282,7 +285,11 @@ agree (If t ss m n p) env types last later once before (bound, rest, restn, rest
       let two = parted_two k in
       let other = later_second k in
       omega (arith, all, one, three, two, other))
-      (λ k h. let none = inner k h in let three = parted_three k in let two = parted_two k in let other = later_second k in omega (arith, none, three, two, other))
+      (λ k h. let none = inner k h in
+      let three = parted_three k in
+      let two = parted_two k in
+      let other = later_second k in
+      omega (arith, none, three, two, other))
       restn
       (λ k none. let other = later_second k in
       comes k (omega (arith, none, other)) ∙ types_keep k p (with_types n (with_types m (with_sides ss types))) (omega (arith, none, other))),

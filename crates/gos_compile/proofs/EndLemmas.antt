@@ -35,7 +35,8 @@ without_one x [] h = absurd (omega (arith, h))
 without_one x (y ∷ ys) h = by (same_end y x) refl (without_one x ys) h
   where
     by : (b : Bool) → same_end y x ≡ b
-        → (0 < appears x ys → ((e : End) → appears e ys ≡ (if same_end x e then 1 else 0) + appears e (without x ys)) × (length ys ≡ suc (length (without x ys))))
+        → (0 < appears x ys
+        → ((e : End) → appears e ys ≡ (if same_end x e then 1 else 0) + appears e (without x ys)) × (length ys ≡ suc (length (without x ys))))
         → 0 < (if b then 1 else 0) + appears x ys
         → ((e : End) → appears e (y ∷ ys) ≡ (if same_end x e then 1 else 0) + appears e (if b then ys else y ∷ without x ys))
         × (length (y ∷ ys) ≡ suc (length (if b then ys else y ∷ without x ys)))

@@ -1,6 +1,6 @@
 -- How long the text of a slim plan is: at most 21 bytes a part and 4 for each of its handshakes, 46 a joint and 1,031 an
 -- import.
-use Rattle.std.specs.Prelude.{ℕ, zero, suc, ◌+◌, ◌*◌, ◌^◌, ◌<◌, ◌≤◌, List, [], ◌∷◌, ◌++◌, length, codes}
+use Rattle.std.specs.Prelude.{◌≡◌, ℕ, zero, suc, ◌+◌, ◌*◌, ◌^◌, ◌<◌, ◌≤◌, List, [], ◌∷◌, ◌++◌, length, codes}
 use Rattle.std.specs.Fmt.{decimal}
 use Rattle.std.specs.List.{AllByRecursion, flat_map}
 use Rattle.std.proofs.Common.{arith, length-append}
@@ -174,9 +174,20 @@ joints_length (j ∷ js) is =
     let rest = joints_length js is.1 in
     omega (arith, all, both, one, other, rest)
 
--- the whole text
-pub text_length : (p : Plan) → IsSlim p → IsWritable p → IsSmallPlan p → length (text_of p) ≤ 4194304
-text_length p slim is small =
+-- the sections, and the whole text
+section_length : (V : Type 0) (text : V → List ℕ) (head : List ℕ) (vs : List V) → IsNumber (length vs)
+    → length (head ++ section_text V text vs) ≤ length head + 11 + length (flat_map text vs)
+section_length V text head vs is =
+    let all = length-append head (section_text V text vs) in
+    let lines = length-append (number_text 10 (length vs)) (flat_map text vs) in
+    let many = big_length 10 (length vs) is in
+    omega (arith, all, lines, many)
+
+-- the lines behind the one of the weight
+sections_length : (p : Plan) → length (text_of p)
+    ≡ 16 + length (number_text 10 p.weight) + length (imports_text p.imports) + 7 + length (type_text 10 p.outcome) + length (parts_text p.parts)
+    + length (joints_text p.joints) + 4
+sections_length p =
     let weight : List ℕ = number_text 10 p.weight in
     let imports : List ℕ = imports_text p.imports in
     let result : List ℕ = type_text 10 p.outcome in
@@ -184,31 +195,34 @@ text_length p slim is small =
     let joints : List ℕ = joints_text p.joints in
     let last : List ℕ = codes "end\n" in
     let result_line : List ℕ = codes "result " ++ (result ++ (parts ++ (joints ++ last))) in
+    let first = length-append (codes "gosobj 1\nweight ") (weight ++ (imports ++ result_line)) in
+    let second = length-append weight (imports ++ result_line) in
+    let third = length-append imports result_line in
+    let fourth = length-append (codes "result ") (result ++ (parts ++ (joints ++ last))) in
+    let fifth = length-append result (parts ++ (joints ++ last)) in
+    let sixth = length-append parts (joints ++ last) in
+    let seventh = length-append joints last in
+    omega (arith, first, second, third, fourth, fifth, sixth, seventh)
+
+pub text_length : (p : Plan) → IsSlim p → IsWritable p → IsSmallPlan p → length (text_of p) ≤ 4194304
+text_length p slim is small =
     let heavy = is.weight.1 in
-    let split = length-append (codes "gosobj 1\nweight ") (weight ++ (imports ++ result_line)) in
-    let split_weight = length-append weight (imports ++ result_line) in
-    let split_imports = length-append imports result_line in
-    let split_word = length-append (codes "result ") (result ++ (parts ++ (joints ++ last))) in
-    let split_result = length-append result (parts ++ (joints ++ last)) in
-    let split_parts = length-append parts (joints ++ last) in
-    let split_joints = length-append joints last in
-    let of_weight = big_length 10 p.weight (omega (arith, heavy)) in
-    let head_imports = length-append (codes "imports ") (section_text Imported import_text p.imports) in
-    let count_imports = length-append (number_text 10 (length p.imports)) (flat_map import_text p.imports) in
-    let many_imports = big_length 10 (length p.imports) is.imports.0 in
+    let all = sections_length p in
+    let weight = big_length 10 p.weight (omega (arith, heavy)) in
+    let imports = section_length Imported import_text (codes "imports ") p.imports is.imports.0 in
     let of_imports = imports_length p.imports is.imports.1 small.imports.1 in
-    let few_imports = small.imports.0 in
-    let of_result = type_length 10 p.outcome is.outcome in
+    let few = small.imports.0 in
+    let result = type_length 10 p.outcome is.outcome in
     let small_result = small.outcome in
     let same = same_count p.outcome in
-    let head_parts = length-append (codes "parts ") (section_text Part part_text p.parts) in
-    let count_parts = length-append (number_text 10 (length p.parts)) (flat_map part_text p.parts) in
-    let many_parts = big_length 10 (length p.parts) is.parts.0 in
+    let parts = section_length Part part_text (codes "parts ") p.parts is.parts.0 in
     let of_parts = parts_length p.parts is.parts.1 in
-    let head_joints = length-append (codes "joints ") (section_text Joint joint_text p.joints) in
-    let count_joints = length-append (number_text 10 (length p.joints)) (flat_map joint_text p.joints) in
-    let many_joints = big_length 10 (length p.joints) is.joints.0 in
+    let joints = section_length Joint joint_text (codes "joints ") p.joints is.joints.0 in
     let of_joints = joints_length p.joints is.joints.1 in
-    let slim_ends = slim.ends in
-    let slim_joints = slim.joints in
-    omega (arith, heavy, split, split_weight, split_imports, split_word, split_result, split_parts, split_joints, of_weight, head_imports, count_imports, many_imports, of_imports, few_imports, of_result, small_result, same, head_parts, count_parts, many_parts, of_parts, head_joints, count_joints, many_joints, of_joints, slim_ends, slim_joints)
+    let ends = slim.ends in
+    let joined = slim.joints in
+    let of_parts_few : length (parts_text p.parts) ≤ 688145 = omega (arith, heavy, parts, of_parts, ends) in
+    let of_joints_few : length (joints_text p.joints) ≤ 753682 = omega (arith, heavy, joints, of_joints, joined) in
+    let of_imports_few : length (imports_text p.imports) ≤ 66003 = omega (arith, imports, of_imports, few) in
+    let of_result_few : length (type_text 10 p.outcome) ≤ 768 = omega (arith, result, small_result, same) in
+    omega (arith, all, weight, of_parts_few, of_joints_few, of_imports_few, of_result_few)

@@ -1,11 +1,11 @@
 -- The joining of one plan without links is that plan, but for the order of its joints.
 --
 -- A path in a plan whose joints are right goes to and fro along one joint (`short`).
-use Rattle.std.specs.Prelude.{◌≡◌, ℕ, zero, suc, ◌+◌, ◌<◌, Bool, true, false, List, [], ◌∷◌, ◌++◌, ◌⊎◌, length, map, Option, Some, None, Contains, slice_get, nat_lt}
+use Rattle.std.specs.Prelude.{◌≡◌, ◌↔◌, ℕ, zero, suc, ◌+◌, Bool, true, false, List, [], ◌∷◌, ◌++◌, ◌⊎◌, length, map, Option, Some, None, Contains, slice_get, nat_lt}
 use Rattle.std.proofs.Common.{refl, sym, ◌∙◌, ap, subst, arith, inl, inr}
 use Rattle.std.proofs.lemmas.Bool.Decides.{nat_tests}
 use Rattle.std.proofs.lemmas.List.{append-nil}
-use Rattle.std.proofs.lemmas.Option.{slice_get_past, slice_get_within, none-some}
+use Rattle.std.proofs.lemmas.Option.{slice_get_past, none-some}
 use Rattle.gos_types.specs.declared.shakes.Role.{Role}
 use Rattle.gos_types.specs.declared.shakes.Role.TheVariants.{Serve, Ask}
 use Rattle.gos_types.specs.Types.{Type'}
@@ -13,7 +13,7 @@ use Rattle.gos_model.specs.Typing.{Imported}
 use Rattle.gos_plan.specs.Kinds.{Part, Contact, asks, serves, contacts_of}
 use Rattle.gos_plan.specs.Plans.{End, PartEnd, ImportEnd, ResultEnd, Joint, Plan, contact_at, contacts_of_part, contacts_of_import, turned_if, same_end, stands_in, Fits, IsRight}
 use Rattle.gos_plan.specs.Tokens.{places_of}
-use Rattle.gos_plan.specs.Joining.{Place, place, Link, Wiring, JoinedWithin, Linked, Path, Connects, all_left, left_place, origin, IsJoining, IsSameButOrder}
+use Rattle.gos_plan.specs.Joining.{Place, place, Wiring, JoinedWithin, Linked, Path, Connects, all_left, left_place, origin, IsJoining, IsSameButOrder}
 use Rattle.gos_plan.proofs.JointLemmas as joints
 use Rattle.gos_plan.proofs.JointLemmas.{IsIn, same_itself, one_joint, contained, stands_there, found, Found}
 use Rattle.gos_realises.specs.Wirings.{side}
@@ -23,7 +23,7 @@ use Rattle.gos_realises.proofs.LeftLemmas.{left_list, left_all, imports_left, le
 use Rattle.gos_realises.proofs.RenumberLemmas.{renumbering_keeps}
 
 -- the two ways of a joint
-abbrev Ends : End → End → Joint → Type 0
+abbrev pub Ends : End → End → Joint → Type 0
 Ends a b j = ((a ≡ j.asking) × (b ≡ j.serving)) ⊎ ((a ≡ j.serving) × (b ≡ j.asking))
 
 first_stands : (a b : End) (j : Joint) → Ends a b j → stands_in a j ≡ true
@@ -44,7 +44,7 @@ role_or (Some c) = c.role
 asks_is_not_serves : Ask ≡ Serve → ⊥
 asks_is_not_serves e = cc
 
-apart : (q v x y : ℕ) → Some (asks q v) ≡ Some (serves x y) → ⊥
+pub apart : (q v x y : ℕ) → Some (asks q v) ≡ Some (serves x y) → ⊥
 apart q v x y e = asks_is_not_serves (ap role_or e)
 
 not_one : (p : Plan) (j : Joint) → Fits p j → j.asking ≡ j.serving → ⊥
@@ -63,10 +63,10 @@ module _ (p : Plan) (right : IsRight p) where
   alone = side 0 p.outcome p
 
   -- a joint of the plan has these ends
-  abbrev Joins : End → End → Type 0
+  abbrev pub Joins : End → End → Type 0
   Joins a b = (j : Joint) × Contains p.joints j × Ends a b j
 
-  joint_fits : (j : Joint) → Contains p.joints j → Fits p j
+  pub joint_fits : (j : Joint) → Contains p.joints j → Fits p j
   joint_fits j has = joints.fits p [] p.joints j right (contained p.joints j has)
 
   to_and_fro : (a c b : End) → Joins a c → Joins c b → a ≡ b
@@ -87,7 +87,7 @@ module _ (p : Plan) (right : IsRight p) where
   no_link : (a b : Place) → Linked alone a b → ⊥
   no_link a b (l, (n, within, e), ways) = omega (arith, within)
 
-  one_more : (a c b : End) → Joins a c → (c ≡ b) ⊎ Joins c b → (a ≡ b) ⊎ Joins a b
+  pub one_more : (a c b : End) → Joins a c → (c ≡ b) ⊎ Joins c b → (a ≡ b) ⊎ Joins a b
   one_more a c b one (inl e) = inr (subst (Joins a) e one)
   one_more a c b one (inr other) = inl (to_and_fro a c b one other)
 
@@ -184,7 +184,9 @@ alone_is_itself p r right join =
     }
 
 -- places by the joints alone
-module _ (p r : Plan) (right : IsRight p) (also_right : IsRight r) (same : IsSameButOrder r p) where
+module _
+    (p r : Plan) (right : IsRight p) (also_right : IsRight r) (parts : r.parts ≡ p.parts) (imports : r.imports ≡ p.imports)
+    (outcome : r.outcome ≡ p.outcome) (joints_same : (j : Joint) → Contains r.joints j ↔ Contains p.joints j) where
   listed : (js : List Joint) (j : Joint) → IsIn j js → Contains js j
   listed [] j h = absurd h
   listed (x ∷ xs) j (inl e) = (zero, omega arith, sym e)
@@ -197,14 +199,14 @@ module _ (p r : Plan) (right : IsRight p) (also_right : IsRight r) (same : IsSam
       none_there None none there = refl
       none_there (Some a) none there =
           let f = found r.joints e a there in
-          let has = contained p.joints f.joint ((same.joints f.joint).0 (listed r.joints f.joint f.is_in)) in
+          let has = contained p.joints f.joint ((joints_same f.joint).0 (listed r.joints f.joint f.is_in)) in
           absurd (none-some f.joint.asking (sym none ∙ stands_there p f.joint e right has f.stands))
 
       by_place : (o : Option End) → places_of p e ≡ o → o ≡ places_of r e
       by_place None none = none_there (places_of r e) none refl
       by_place (Some a) there =
           let f = found p.joints e a there in
-          let has = contained r.joints f.joint ((same.joints f.joint).1 (listed p.joints f.joint f.is_in)) in
+          let has = contained r.joints f.joint ((joints_same f.joint).1 (listed p.joints f.joint f.is_in)) in
           sym (stands_there r f.joint e also_right has f.stands ∙ ap Some f.named)
 
   itself : (e : End) → moved (λ i. i) e ≡ e
@@ -216,16 +218,16 @@ module _ (p r : Plan) (right : IsRight p) (also_right : IsRight r) (same : IsSam
   itself_if None = refl
   itself_if (Some e) = ap Some (itself e)
 
-  in_place : IsRenumbered (λ i. i) (λ i. i) r p
+  pub in_place : IsRenumbered (λ i. i) (λ i. i) r p
   in_place =
       record {
         returns = λ i. refl;
         comes = λ i. refl;
-        parts = λ i. ap (λ (ks : List Part). slice_get ks i) (sym same.parts);
-        imports = sym same.imports;
-        outcome = sym same.outcome;
+        parts = λ i. ap (λ (ks : List Part). slice_get ks i) (sym parts);
+        imports = sym imports;
+        outcome = sym outcome;
         places = λ e. ap (places_of p) (itself e) ∙ (same_place e ∙ sym (itself_if (places_of r e)));
       }
 
 pub order_is_free : OrderIsFree
-order_is_free p r right also_right same = renumbering_keeps (λ i. i) (λ i. i) r p (in_place p r right also_right same)
+order_is_free p r right also_right same = renumbering_keeps (λ i. i) (λ i. i) r p (in_place p r right also_right same.parts same.imports same.outcome same.joints)

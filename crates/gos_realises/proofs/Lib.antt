@@ -14,3 +14,6 @@ mod UseLemmas
 pub mod FittingLemmas
 mod FunctionLemmas
 mod ModuleLemmas
+mod HeadLemmas
+mod SameLemmas
+mod SameTurnLemmas

@@ -21,7 +21,7 @@ use Rattle.gos_realises.specs.Matched.{label_at, shows, GoesOn, Agrees, program_
 use Rattle.gos_realises.specs.SmallRealisers.{NameIsRealised}
 use Rattle.gos_realises.proofs.OneJointLemmas.{Lies, rests_alone, is_idle, with_request, with_answer, not_both}
 use Rattle.gos_realises.proofs.SkipLemmas.{run_is_no_output, running_is_not_idle}
-use Rattle.gos_realises.proofs.RingLemmas.{after, told_open, OutputTurns, MayCome, IsRing, IsFirst, ring_is_regular, ring_realises}
+use Rattle.gos_realises.proofs.RingLemmas.{after, told_open, OutputTurns, MayCome, IsCircle, IsRing, IsFirst, circle_is_regular, ring_realises}
 
 data Stage : Type 0 where
   Resting Asked Away Back : Stage
@@ -51,10 +51,10 @@ config Away = Running (Wait c 1) []
 config Back = Running terms.Skip []
 
 abbrev At : Stage → Tokens → Type 0
-At Resting s = Lies None None s
-At Asked s = Lies (Some 0) None s
-At Away s = Lies None None s
-At Back s = Lies None (Some 0) s
+At Resting s = Lies (ResultEnd 0) None None s
+At Asked s = Lies (ResultEnd 0) (Some 0) None s
+At Away s = Lies (ResultEnd 0) None None s
+At Back s = Lies (ResultEnd 0) None (Some 0) s
 
 abbrev OpenAt : Stage → Open → Type 0
 OpenAt Resting o = o (ResultEnd 0) ≡ false
@@ -97,15 +97,15 @@ in_of (ResultEnd zero) v s w does = let small : v < 1 = does.1.0 in (inl refl, o
 in_of (ResultEnd (suc h)) v s w does = absurd does.1
 
 leads : (q : Stage) (s w : Tokens) → At q s → Does call_plan (next q) s w → At (succ q) w
-leads Resting s w here does = subst (λ x. Lies (Some 0) None x) (sym does.1.1) (with_request None None (Some 0) s here)
-leads Asked s w here does = subst (λ x. Lies None None x) (sym does.1.1) (with_request (Some 0) None None s here)
-leads Away s w here does = subst (λ x. Lies None (Some 0) x) (sym does.1.1) (with_answer None None (Some 0) s here)
-leads Back s w here does = subst (λ x. Lies None None x) (sym does.1.1) (with_answer None (Some 0) None s here)
+leads Resting s w here does = subst (λ x. Lies (ResultEnd 0) (Some 0) None x) (sym does.1.1) (with_request (ResultEnd 0) None None (Some 0) s here)
+leads Asked s w here does = subst (λ x. Lies (ResultEnd 0) None None x) (sym does.1.1) (with_request (ResultEnd 0) (Some 0) None None s here)
+leads Away s w here does = subst (λ x. Lies (ResultEnd 0) None (Some 0) x) (sym does.1.1) (with_answer (ResultEnd 0) None None (Some 0) s here)
+leads Back s w here does = subst (λ x. Lies (ResultEnd 0) None None x) (sym does.1.1) (with_answer (ResultEnd 0) None (Some 0) None s here)
 
 fires : (q : Stage) (i : ℕ) (t : Slot) (s w : Tokens) → At q s → Does call_plan (Fire i t) s w → Fire i t ≡ next q
 fires q i t s w here does = absurd (fires_none i t s w does)
 
-no_answer : (a : Option ℕ) (e : End) (v : ℕ) (s w : Tokens) → Lies a None s → Does call_plan (Out e v) s w
+no_answer : (a : Option ℕ) (e : End) (v : ℕ) (s w : Tokens) → Lies (ResultEnd 0) a None s → Does call_plan (Out e v) s w
     → (e ≡ ImportEnd 0 0) × (a ≡ Some v)
 no_answer a e v s w here does =
     elim (out_of e v s w does) [
@@ -256,7 +256,7 @@ away_is_stalled = (
     from n u a e us h = subst (λ v. ActsTo call_plan.imports a [] v e) (sym (waiting n u us)) h
 
 agrees : (q : Stage) (s : Tokens) → At q s → Agrees call_plan program s (config q)
-agrees Resting s here = (λ quiet. idle_is_stalled, λ e. is_idle call_plan s here)
+agrees Resting s here = (λ quiet. idle_is_stalled, λ e. is_idle (ResultEnd 0) call_plan s here)
 agrees Asked s here = (
   λ quiet. absurd (quiet.1 (ImportEnd 0 0) 0 (with_token call_plan (ImportEnd 0 0) Request None s) (tt, (here.request, refl))),
   λ e. absurd (running_is_not_idle (Import c) e),
@@ -285,28 +285,34 @@ goes_on Asked s here = tt
 goes_on Away s here = tt
 goes_on Back s here = tt
 
-ring : IsRing call_plan program Stage next succ acts config At OpenAt Opened
-ring =
+circle : IsCircle call_plan Stage next succ At OpenAt Opened
+circle =
     record {
       leads = leads;
       fires = fires;
       puts_out = puts_out;
       in_turn = in_turn;
-      allowed = allowed;
       passed = passed;
-      told = told;
       turns = turns;
       comes = comes;
       welcome = welcome;
+    }
+
+ring : IsRing call_plan program Stage next succ acts config At OpenAt Opened
+ring =
+    record {
+      circle = circle;
+      allowed = allowed;
+      told = told;
       agrees = agrees;
       moves = moves;
       shown = shown;
       goes_on = goes_on;
     }
 
-first : IsFirst call_plan Stage config At OpenAt Opened Resting
+first : IsFirst call_plan Stage At OpenAt Opened Resting
 first =
-    record { idle = refl; rests = λ s idle. rests_alone call_plan s idle; none = refl; closed = (refl, refl); silent = (refl, refl) }
+    record { rests = λ s idle. rests_alone (ResultEnd 0) call_plan s idle; none = refl; closed = (refl, refl); silent = (refl, refl) }
 
 none_after : (j : Imported) → Contains [] j → ⊥
 none_after j (k, l, e) = omega (arith, l)
@@ -321,7 +327,7 @@ name_is_realised =
             all_ground = (tt, tt);
             names = (λ j there. absurd (none_after j there), tt);
             typed = refl;
-            regular = ring_is_regular call_plan program Stage next succ acts config At OpenAt Opened ring Resting first;
+            regular = circle_is_regular call_plan Stage next succ At OpenAt Opened circle Resting first;
           };
-      means = ring_realises call_plan (Import c) Stage next succ acts config At OpenAt Opened ring Resting first;
+      means = ring_realises call_plan (Import c) Stage next succ acts config At OpenAt Opened ring Resting refl first;
     }

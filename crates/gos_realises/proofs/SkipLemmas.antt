@@ -17,7 +17,7 @@ use Rattle.gos_realises.specs.Regular.{Pass, way_in, is_open, ComesInTurn}
 use Rattle.gos_realises.specs.Matched.{label_at, shows, GoesOn, Agrees, program_of}
 use Rattle.gos_realises.specs.SmallRealisers.{SkipIsRealised}
 use Rattle.gos_realises.proofs.OneJointLemmas.{Lies, rests_alone, is_idle, with_request, with_answer, not_both}
-use Rattle.gos_realises.proofs.RingLemmas.{after, told_open, OutputTurns, MayCome, IsRing, IsFirst, ring_is_regular, ring_realises}
+use Rattle.gos_realises.proofs.RingLemmas.{after, told_open, OutputTurns, MayCome, IsCircle, IsRing, IsFirst, circle_is_regular, ring_realises}
 
 data Stage : Type 0 where
   Resting Asked Answered : Stage
@@ -43,9 +43,9 @@ config Asked = Running terms.Skip []
 config Answered = Running terms.Skip []
 
 abbrev At : Stage → Tokens → Type 0
-At Resting s = Lies None None s
-At Asked s = Lies (Some 0) None s
-At Answered s = Lies None (Some 0) s
+At Resting s = Lies (ResultEnd 0) None None s
+At Asked s = Lies (ResultEnd 0) (Some 0) None s
+At Answered s = Lies (ResultEnd 0) None (Some 0) s
 
 abbrev OpenAt : Stage → Open → Type 0
 OpenAt Resting o = o (ResultEnd 0) ≡ false
@@ -72,13 +72,13 @@ the_row s r rest fires =
     cc same
 
 -- a part fires where a request lies
-fires_asked : (i : ℕ) (t : Slot) (s w : Tokens) (b : Option ℕ) → Lies (Some 0) b s → Does skip_plan (Fire i t) s w → Fire i t ≡ Fire 0 (Req 0)
+fires_asked : (i : ℕ) (t : Slot) (s w : Tokens) (b : Option ℕ) → Lies (ResultEnd 0) (Some 0) b s → Does skip_plan (Fire i t) s w → Fire i t ≡ Fire 0 (Req 0)
 fires_asked zero (Req zero) s w b here does = refl
 fires_asked zero (Req (suc h)) s w b here (v, r, lies, fires, leads) = let rest = here.rests 0 in absurd (grind (arith, fires, rest))
 fires_asked zero (Ans h) s w b here (v, r, lies, fires, leads) = let rest = here.rests 0 in absurd (grind (arith, fires, rest))
 fires_asked (suc i) t s w b here (v, r, lies, fires, leads) = absurd (grind (arith, fires))
 
-fires_not : (i : ℕ) (t : Slot) (s w : Tokens) (b : Option ℕ) → Lies None b s → Does skip_plan (Fire i t) s w → ⊥
+fires_not : (i : ℕ) (t : Slot) (s w : Tokens) (b : Option ℕ) → Lies (ResultEnd 0) None b s → Does skip_plan (Fire i t) s w → ⊥
 fires_not zero (Req zero) s w b here (v, r, lies, fires, leads) = not_both (s.in_place Request (ResultEnd 0)) v here.request lies
 fires_not zero (Req (suc h)) s w b here (v, r, lies, fires, leads) = let rest = here.rests 0 in grind (arith, fires, rest)
 fires_not zero (Ans h) s w b here (v, r, lies, fires, leads) = let rest = here.rests 0 in grind (arith, fires, rest)
@@ -98,20 +98,20 @@ in_request (ResultEnd zero) v s w does = let small : v < 1 = does.1.0 in (refl, 
 in_request (ResultEnd (suc h)) v s w does = absurd (grind (arith, does.1))
 
 leads : (q : Stage) (s w : Tokens) → At q s → Does skip_plan (next q) s w → At (succ q) w
-leads Resting s w here does = subst (λ x. Lies (Some 0) None x) (sym does.1.1) (with_request None None (Some 0) s here)
-leads Answered s w here does = subst (λ x. Lies None None x) (sym does.1.1) (with_answer None (Some 0) None s here)
+leads Resting s w here does = subst (λ x. Lies (ResultEnd 0) (Some 0) None x) (sym does.1.1) (with_request (ResultEnd 0) None None (Some 0) s here)
+leads Answered s w here does = subst (λ x. Lies (ResultEnd 0) None None x) (sym does.1.1) (with_answer (ResultEnd 0) None (Some 0) None s here)
 leads Asked s w here (v, r, lies, fires, to) =
     let is = the_row s r (here.rests 0) fires in
-    subst (λ x. Lies None (Some 0) x) (sym (to ∙ ap (λ x. fired skip_plan 0 x v s) (sym is))) made
+    subst (λ x. Lies (ResultEnd 0) None (Some 0) x) (sym (to ∙ ap (λ x. fired skip_plan 0 x v s) (sym is))) made
   where
     states : (i : ℕ) → ((with_state 0 (at Rest (s.state 0).number) (with_place Request (ResultEnd 0) None s)).state i).phase ≡ Rest
     states zero = refl
     states (suc i) = let rest = here.rests (suc i) in grind (arith, rest)
 
-    made : Lies None (Some 0) (fired skip_plan 0 (answers (s.state 0).number) v s)
+    made : Lies (ResultEnd 0) None (Some 0) (fired skip_plan 0 (answers (s.state 0).number) v s)
     made =
-        let taken = with_request (Some 0) None None s here in
-        with_answer None None (Some 0) (with_state 0 (at Rest (s.state 0).number) (with_place Request (ResultEnd 0) None s))
+        let taken = with_request (ResultEnd 0) (Some 0) None None s here in
+        with_answer (ResultEnd 0) None None (Some 0) (with_state 0 (at Rest (s.state 0).number) (with_place Request (ResultEnd 0) None s))
         (record { request = taken.request; answer = taken.answer; no_other = taken.no_other; rests = states })
 
 fires : (q : Stage) (i : ℕ) (t : Slot) (s w : Tokens) → At q s → Does skip_plan (Fire i t) s w → Fire i t ≡ next q
@@ -218,7 +218,7 @@ pub running_is_not_idle : (m : Term) → Running m [] ≡ Idle → ⊥
 running_is_not_idle m e = cc e
 
 agrees : (q : Stage) (s : Tokens) → At q s → Agrees skip_plan program s (config q)
-agrees Resting s here = (λ quiet. idle_is_stalled, λ e. is_idle skip_plan s here)
+agrees Resting s here = (λ quiet. idle_is_stalled, λ e. is_idle (ResultEnd 0) skip_plan s here)
 agrees Asked s here = (
   λ quiet. absurd (quiet.0 0 (Req 0) (fired skip_plan 0 (answers (s.state 0).number) 0 s)
       (0, answers (s.state 0).number, here.request, let rest = here.rests 0 in rw rest refl, refl)),
@@ -244,27 +244,33 @@ goes_on Resting s here = tt
 goes_on Asked s here = tt
 goes_on Answered s here = tt
 
-ring : IsRing skip_plan program Stage next succ acts config At OpenAt Opened
-ring =
+circle : IsCircle skip_plan Stage next succ At OpenAt Opened
+circle =
     record {
       leads = leads;
       fires = fires;
       puts_out = puts_out;
       in_turn = in_turn;
-      allowed = allowed;
       passed = passed;
-      told = told;
       turns = turns;
       comes = comes;
       welcome = welcome;
+    }
+
+ring : IsRing skip_plan program Stage next succ acts config At OpenAt Opened
+ring =
+    record {
+      circle = circle;
+      allowed = allowed;
+      told = told;
       agrees = agrees;
       moves = moves;
       shown = shown;
       goes_on = goes_on;
     }
 
-first : IsFirst skip_plan Stage config At OpenAt Opened Resting
-first = record { idle = refl; rests = λ s idle. rests_alone skip_plan s idle; none = refl; closed = refl; silent = refl }
+first : IsFirst skip_plan Stage At OpenAt Opened Resting
+first = record { rests = λ s idle. rests_alone (ResultEnd 0) skip_plan s idle; none = refl; closed = refl; silent = refl }
 
 pub skip_is_realised : SkipIsRealised
 skip_is_realised =
@@ -276,7 +282,7 @@ skip_is_realised =
             all_ground = tt;
             names = tt;
             typed = refl;
-            regular = ring_is_regular skip_plan program Stage next succ acts config At OpenAt Opened ring Resting first;
+            regular = circle_is_regular skip_plan Stage next succ At OpenAt Opened circle Resting first;
           };
-      means = ring_realises skip_plan terms.Skip Stage next succ acts config At OpenAt Opened ring Resting first;
+      means = ring_realises skip_plan terms.Skip Stage next succ acts config At OpenAt Opened ring Resting refl first;
     }

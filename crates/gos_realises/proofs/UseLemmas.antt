@@ -11,7 +11,7 @@ use Rattle.gos_model.specs.Typing.{Imported}
 use Rattle.gos_plan.specs.Kinds.{Part, Skip, Contact, asks, serves, contacts_of, turned_contact}
 use Rattle.gos_plan.specs.Plans.{End, PartEnd, ImportEnd, ResultEnd, Joint, Plan, contact_at, contacts_of_part, contacts_of_import, turned_if, same_end, stands_in, is_free, AreRight, IsRight}
 use Rattle.gos_plan.specs.Tokens.{asking_in}
-use Rattle.gos_plan.specs.Joining.{Place, place, Link, Wiring, LeftImport, is_joined, left_in, all_left, origin, JoinedWithin, Linked, Path, Connects, IsJoining, left_place, all_parts, all_weight}
+use Rattle.gos_plan.specs.Joining.{Place, place, Link, Wiring, all_left, origin, JoinedWithin, Linked, Path, Connects, IsJoining, left_place, all_parts, all_weight}
 use Rattle.gos_plan.specs.SmallPlans.{skip_plan}
 use Rattle.gos_realises.specs.Links.{LinkFits, StandsIn, LinksFit, IsJoined}
 use Rattle.gos_realises.specs.Wirings.{applying, link}
@@ -93,7 +93,7 @@ right_moved f g returns r q same past (j ∷ js) (((a, b, asked, served), one, o
 )
 
 -- paths of any length
-abbrev Reach : Wiring → Place → Place → Type 0
+abbrev pub Reach : Wiring → Place → Place → Type 0
 Reach w a b = (n : ℕ) × Path w n a b
 
 stay : (w : Wiring) (a b : Place) → a ≡ b → Reach w a b

@@ -1,8 +1,6 @@
 -- A plan alone: joined to nothing it is itself, but for the order of its joints, which nobody sees.
 --
 -- Read first: Modules. So a plan without imports realises a module where it realises its term.
-use Rattle.std.specs.Prelude.{◌≡◌, []}
-use Rattle.gos_types.specs.Types.{Com}
 use Rattle.gos_model.specs.Terms as terms
 use Rattle.gos_model.specs.Terms.{Term}
 use Rattle.gos_plan.specs.Plans.{Plan, IsRight}

@@ -13,3 +13,4 @@ pub mod OtherPlans
 pub mod Fitting
 pub mod Renumbered
 pub mod Alone
+pub mod Functions

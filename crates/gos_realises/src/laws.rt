@@ -1,5 +1,6 @@
 // What the definitions give. Each theorem is the contract of a function that does nothing.
 ghost use Rattle.gos_realises.specs.Alone.{AloneIsItself, OrderIsFree, SkipModuleIsRealised};
+ghost use Rattle.gos_realises.specs.Functions.{HeadsAreRealised, SameIsRealised};
 ghost use Rattle.gos_realises.specs.Fitting.{AppliedFits, SidesFit, VariablesFit, SuppliedFits};
 ghost use Rattle.gos_realises.specs.Renumbered.{RenumberingKeeps};
 ghost use Rattle.gos_realises.specs.SmallLinks.{SameFits, NumberDoesNotFit, TwiceDoesNotFit, PartDoesNotFit, NowhereDoesNotFit, SkipIsSlim, WeightIsNeeded};
@@ -66,6 +67,12 @@ pub fn alone()
     ensures itself { AloneIsItself }
     ensures order { OrderIsFree }
     ensures module { SkipModuleIsRealised }
+{}
+
+/// Unfolding a head changes nothing that is seen; and the plan of `fun a : com . a` realises it.
+pub fn functions()
+    ensures heads { HeadsAreRealised }
+    ensures same { SameIsRealised }
 {}
 
 /// Renumbering the parts of a plan keeps it regular, and realising its program.

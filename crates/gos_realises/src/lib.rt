@@ -7,6 +7,6 @@
 mod laws;
 
 pub use laws::{
-    alone, links, lists_are_traces, others_are_refused, renumbering, slim, small_links,
+    alone, functions, links, lists_are_traces, others_are_refused, renumbering, slim, small_links,
     small_realisers, turns,
 };

@@ -5,4 +5,4 @@
 
 mod laws;
 
-pub use laws::lists_are_seen;
+pub use laws::{lists_are_seen, small_sharing};

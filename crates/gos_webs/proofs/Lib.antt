@@ -2,3 +2,4 @@ pub mod IdleLemmas
 pub mod WebLemmas
 pub mod MovedLemmas
 mod CutLemmas
+mod SmallWebLemmas

@@ -2,3 +2,4 @@
 pub mod Webs
 pub mod Renumbering
 pub mod Cutting
+pub mod SmallWebs

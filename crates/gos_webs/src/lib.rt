@@ -5,4 +5,4 @@
 
 mod laws;
 
-pub use laws::{lists_are_cut, lists_are_renumbered, plans_of_webs, renumbered_back};
+pub use laws::{lists_are_cut, lists_are_renumbered, plans_of_webs, renumbered_back, small_webs};

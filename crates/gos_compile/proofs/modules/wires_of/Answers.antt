@@ -22,7 +22,8 @@ use Rattle.gos_compile.proofs.modules.wires_of.Goals as goal
 
 pub shakes-n-requires : goal.shakes-n-requires
 shakes-n-requires c =
-    let same : count (type_of c.args.node.now.ty) ≡ count (type_of_node (node_seen c.args.node.now)) = ap (λ (t : Type'). count t) (type_seen c.args.node.now) in
+    let m : Numbered = node_seen c.args.node.now in
+    let same : count (type_of c.args.node.now.ty) ≡ count (type_of_node m) = ap (λ (t : Type'). count t) (type_seen c.args.node.now) in
     omega (arith, same, c.requires.room)
 
 pub wire-requires : goal.wire-requires

@@ -20,6 +20,7 @@ loop-bond-preserved c =
     let few = c.above-bound.ensures.least (2 ^ 63) low low_one in (
       c.above-bound-in-loop-bond.ensures.least (2 ^ 63) few low_other,
       subst (λ (j : ℕ). AreBelow (2 ^ 63) (drop j c.args.bonds.now)) (sym next) behind,
-      λ n high rest. known n (omega (arith, first, second, high))
-          (subst (λ (ts : List Bond). AreBelow n ts) (sym here) (omega (arith, one, second, high), omega (arith, other, high), subst (λ (j : ℕ). AreBelow n (drop j c.args.bonds.now)) next rest)),
+      λ n high rest. (let beyond : AreBelow n (drop (suc i) c.args.bonds.now) = subst (λ (j : ℕ). AreBelow n (drop j c.args.bonds.now)) next rest in
+          known n (omega (arith, first, second, high))
+          (subst (λ (ts : List Bond). AreBelow n ts) (sym here) (omega (arith, one, second, high), omega (arith, other, high), beyond))),
     )

@@ -24,6 +24,7 @@ loop-tie-preserved c =
     let few = c.above-bound.ensures.least most low low_one in (
       c.above-bound-in-loop-tie.ensures.least most few low_other,
       subst (λ (j : ℕ). ShakesBelow most (drop j c.args.ties.now)) (sym next) behind,
-      λ n high rest. known n (omega (arith, first, second, high))
-          (subst (λ (ts : List Tie). ShakesBelow n ts) (sym here) (omega (arith, one, second, high), omega (arith, other, high), subst (λ (j : ℕ). ShakesBelow n (drop j c.args.ties.now)) next rest)),
+      λ n high rest. (let beyond : ShakesBelow n (drop (suc i) c.args.ties.now) = subst (λ (j : ℕ). ShakesBelow n (drop j c.args.ties.now)) next rest in
+          known n (omega (arith, first, second, high))
+          (subst (λ (ts : List Tie). ShakesBelow n ts) (sym here) (omega (arith, one, second, high), omega (arith, other, high), beyond))),
     )

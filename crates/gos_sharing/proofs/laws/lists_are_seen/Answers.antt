@@ -1,6 +1,6 @@
-use Rattle.gos_sharing.proofs.SeenLemmas.{idle_is_seen}
-use Rattle.gos_sharing.proofs.SeenQuiet.{quiet_is_seen}
-use Rattle.gos_sharing.proofs.SeenRuns.{runs_are_seen}
+use Rattle.gos_sharing.proofs.SeenIdleLemmas.{idle_is_seen}
+use Rattle.gos_sharing.proofs.SeenQuietLemmas.{quiet_is_seen}
+use Rattle.gos_sharing.proofs.SeenRunLemmas.{runs_are_seen}
 use Rattle.gos_sharing.proofs.laws.lists_are_seen.Goals as goal
 
 pub returns-clause-idle : goal.returns-clause-idle

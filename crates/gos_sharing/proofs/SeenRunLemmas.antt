@@ -13,10 +13,10 @@ use Rattle.gos_plan.proofs.HeldLemmas.{step}
 use Rattle.gos_webs.specs.Webs.{joint}
 use Rattle.gos_webs.specs.Cutting.{asks_in}
 use Rattle.gos_sharing.specs.Sharing.{IsOfPart, IsSeenThrough, seen_tokens, without, WorksFor, RunsAreSeen}
-use Rattle.gos_sharing.proofs.SeenTokens.{next, of_part, one_server, place_asking, place_serving}
-use Rattle.gos_sharing.proofs.ShareRows.{Pair, pair_through, into_pair, served_there, asked_there, differ, Passed, IsRequestPassed, IsAnswerPassed, share_passes, share_seen}
-use Rattle.gos_sharing.proofs.SeenKept.{Kept, fit_none, not_both_so, all_clear, Side, side, stays_empty, held_stays, still_open, way_is}
-use Rattle.gos_sharing.proofs.SeenElements.{fire_too, out_too, in_too}
+use Rattle.gos_sharing.proofs.SeenTokenLemmas.{next, of_part, one_server, place_asking, place_serving}
+use Rattle.gos_sharing.proofs.ShareRowLemmas.{Pair, pair_through, into_pair, served_there, asked_there, differ, Passed, IsRequestPassed, IsAnswerPassed, share_passes, share_seen}
+use Rattle.gos_sharing.proofs.SeenKeptLemmas.{Kept, fit_none, not_both_so, all_clear, Side, side, stays_empty, held_stays, still_open, way_is}
+use Rattle.gos_sharing.proofs.SeenElementLemmas.{fire_too, out_too, in_too}
 
 -- two joints that the Share joins are one in the plan without it
 seen_joint : (i : ℕ) (t : Type') (c : ℕ) (r q : Plan) → IsSeenThrough i t c r q → (h g : ℕ) → Pair i t c r h g → (a b : End) → IsIn (joint a (PartEnd i h)) r.joints

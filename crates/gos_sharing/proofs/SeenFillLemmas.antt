@@ -9,7 +9,7 @@ use Rattle.gos_plan.specs.Tokens.{Tokens, places_of, same_way, with_place, with_
 use Rattle.gos_plan.proofs.JointLemmas.{same_itself, same_is}
 use Rattle.gos_webs.specs.Cutting.{asks_in}
 use Rattle.gos_sharing.specs.Sharing.{IsOfPart, IsSeenThrough, held_or, held_if, seen_tokens}
-use Rattle.gos_sharing.proofs.SeenTokens.{next, Owns, one_owner, seen_at, lost_at, follows, asking_at, outside_at}
+use Rattle.gos_sharing.proofs.SeenTokenLemmas.{next, Owns, one_owner, seen_at, lost_at, follows, asking_at, outside_at}
 
 -- the other place of the joint is empty
 abbrev pub IsClear : ℕ → Type' → ℕ → Plan → Tokens → Direction → End → End → Type 0

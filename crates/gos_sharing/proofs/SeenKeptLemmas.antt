@@ -16,8 +16,8 @@ use Rattle.gos_webs.specs.Webs.{joint}
 use Rattle.gos_webs.specs.Cutting.{asks_in}
 use Rattle.gos_sharing.specs.Sharing.{IsOfPart, IsSeenThrough, passed_on, held_if}
 use Rattle.gos_webs.proofs.MovedLemmas.{listed}
-use Rattle.gos_sharing.proofs.SeenTokens.{next, asking_at, follows, of_part, either_end, one_server, place_asking, place_serving}
-use Rattle.gos_sharing.proofs.ShareRows.{AllClear, differ}
+use Rattle.gos_sharing.proofs.SeenTokenLemmas.{next, asking_at, follows, of_part, either_end, one_server, place_asking, place_serving}
+use Rattle.gos_sharing.proofs.ShareRowLemmas.{AllClear, differ}
 
 pub record Kept (i : ℕ) (t : Type') (c : ℕ) (r q : Plan) (o : Open) (s : Tokens) : Type 0 where
   pub fit : AllFit o s

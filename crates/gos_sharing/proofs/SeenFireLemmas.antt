@@ -12,8 +12,8 @@ use Rattle.gos_plan.proofs.HeldLemmas.{takes_of}
 use Rattle.gos_webs.specs.Cutting.{asks_in}
 use Rattle.gos_sharing.specs.Sharing.{other_end}
 use Rattle.gos_sharing.specs.Sharing.{IsOfPart, IsSeenThrough, follower, held_or, held_if, seen_tokens}
-use Rattle.gos_sharing.proofs.SeenTokens.{Owns}
-use Rattle.gos_sharing.proofs.SeenFill.{IsClear, ClearAt, place_filled, unseen_filled, token_filled, token_seen}
+use Rattle.gos_sharing.proofs.SeenTokenLemmas.{Owns}
+use Rattle.gos_sharing.proofs.SeenFillLemmas.{IsClear, ClearAt, place_filled, unseen_filled, token_filled, token_seen}
 
 -- states
 other_state : (i c k j : ℕ) (x y : State) → (k ≡ i → ⊥)

@@ -10,7 +10,7 @@ use Rattle.gos_webs.specs.Cutting.{asks_in}
 use Rattle.gos_sharing.specs.Sharing.{other_end}
 use Rattle.gos_sharing.specs.Sharing.{IsOfPart, IsSeenThrough, passed_on, follower}
 use Rattle.gos_webs.proofs.WebLemmas.{asks_there, serves_there}
-use Rattle.gos_sharing.proofs.SeenPlaces.{Plain, Through, asker, asks_so, asking_of}
+use Rattle.gos_sharing.proofs.SeenPlaceLemmas.{Plain, Through, asker, asks_so, asking_of}
 
 abbrev pub next : ℕ → Type' → ℕ → Plan → End → Option End
 next i t c r a = follower i t c (other_end r.joints a)

@@ -14,10 +14,10 @@ use Rattle.gos_plan.proofs.AskingLemmas.{RoleIs, PutsInRole, row_roles}
 use Rattle.gos_plan.proofs.TurnLemmas.{way_to_take, way_to_put}
 use Rattle.gos_webs.specs.Webs.{joint}
 use Rattle.gos_sharing.specs.Sharing.{IsOfPart, IsSeenThrough, held_if, seen_tokens}
-use Rattle.gos_sharing.proofs.SeenTokens.{next, Owns, Seen, seen_at, asking_at, follows, of_part, one_server}
-use Rattle.gos_sharing.proofs.SeenFill.{ClearAt}
-use Rattle.gos_sharing.proofs.SeenFire.{PutsClear, fire_seen, out_seen, in_seen, port_outside}
-use Rattle.gos_sharing.proofs.SeenKept.{Kept, fit_none, not_both_so, all_clear, Side, side, PutsSo, two_ways, kept_taken, kept_put}
+use Rattle.gos_sharing.proofs.SeenTokenLemmas.{next, Owns, Seen, seen_at, asking_at, follows, of_part, one_server}
+use Rattle.gos_sharing.proofs.SeenFillLemmas.{ClearAt}
+use Rattle.gos_sharing.proofs.SeenFireLemmas.{PutsClear, fire_seen, out_seen, in_seen, port_outside}
+use Rattle.gos_sharing.proofs.SeenKeptLemmas.{Kept, fit_none, not_both_so, all_clear, Side, side, PutsSo, two_ways, kept_taken, kept_put}
 
 pub kept_state : (i : ℕ) (t : Type') (c : ℕ) (r q : Plan) (k : ℕ) (x : State) (o : Open) (s : Tokens) → Kept i t c r q o s → Kept i t c r q o (with_state k x s)
 kept_state i t c r q k x o s kept =

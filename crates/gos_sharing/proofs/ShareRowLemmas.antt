@@ -19,10 +19,10 @@ use Rattle.gos_webs.specs.Cutting.{asks_in}
 use Rattle.gos_sharing.specs.Sharing.{IsSeenThrough, passed_on, follower, seen_tokens, IsForCaller, LeadsThrough, way_into, way_out_of}
 use Rattle.gos_webs.proofs.MovedLemmas.{listed}
 use Rattle.gos_webs.proofs.WebLemmas.{serves_there}
-use Rattle.gos_sharing.proofs.SeenPlaces.{to_caller, to_source, other_in, followed}
-use Rattle.gos_sharing.proofs.SeenTokens.{next, Owns, asking_at, outside_at, follows, of_part, either_end, place_asking, place_serving}
-use Rattle.gos_sharing.proofs.SeenFill.{IsClear}
-use Rattle.gos_sharing.proofs.SeenFire.{passed_seen, passed_unseen}
+use Rattle.gos_sharing.proofs.SeenPlaceLemmas.{to_caller, to_source, other_in, followed}
+use Rattle.gos_sharing.proofs.SeenTokenLemmas.{next, Owns, asking_at, outside_at, follows, of_part, either_end, place_asking, place_serving}
+use Rattle.gos_sharing.proofs.SeenFillLemmas.{IsClear}
+use Rattle.gos_sharing.proofs.SeenFireLemmas.{passed_seen, passed_unseen}
 
 -- where requests of handshake j come in and go out, by its role
 abbrev pub in_number : ℕ → ℕ → ℕ → Role → ℕ

@@ -1,4 +1,4 @@
--- Seeing through a Share.
+-- An idle state is seen as an idle one.
 use Rattle.std.specs.Prelude.{None, nat_eq}
 use Rattle.std.proofs.Common.{◌≡◌, ℕ, Bool, true, false, Option, Some, refl, if◌then◌else◌}
 use Rattle.gos_netlist.specs.Events.{Direction}

@@ -17,12 +17,12 @@ use Rattle.gos_webs.specs.Webs.{joint}
 use Rattle.gos_webs.specs.Cutting.{asks_in}
 use Rattle.gos_sharing.specs.Sharing.{IsOfPart, IsSeenThrough, LeadsThrough, passed_on, held_or, held_if, way_out_of, seen_tokens, QuietIsSeen}
 use Rattle.gos_webs.proofs.MovedLemmas.{listed}
-use Rattle.gos_sharing.proofs.SeenPlaces.{Through}
-use Rattle.gos_sharing.proofs.SeenTokens.{next, Owns, seen_at, asking_at, follows, of_part, either_end, one_server, place_asking, place_serving}
-use Rattle.gos_sharing.proofs.SeenFire.{contact_seen, port_outside}
-use Rattle.gos_sharing.proofs.SeenKept.{Side, side, not_both_so}
-use Rattle.gos_sharing.proofs.SeenElements.{takes_so, one_contact}
-use Rattle.gos_sharing.proofs.SeenRuns.{nothing_held}
+use Rattle.gos_sharing.proofs.SeenPlaceLemmas.{Through}
+use Rattle.gos_sharing.proofs.SeenTokenLemmas.{next, Owns, seen_at, asking_at, follows, of_part, either_end, one_server, place_asking, place_serving}
+use Rattle.gos_sharing.proofs.SeenFireLemmas.{contact_seen, port_outside}
+use Rattle.gos_sharing.proofs.SeenKeptLemmas.{Side, side, not_both_so}
+use Rattle.gos_sharing.proofs.SeenElementLemmas.{takes_so, one_contact}
+use Rattle.gos_sharing.proofs.SeenRunLemmas.{nothing_held}
 
 welcome_after : (r : Plan) (xs : List Element) (o v : Open) (s w : Tokens) → OrderlyFrom r xs o s v w → AllWelcome r s → AllWelcome r w
 welcome_after r [] o v s w list welcome = subst (λ (y : Tokens). AllWelcome r y) (sym list.1) welcome
