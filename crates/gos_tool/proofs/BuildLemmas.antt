@@ -153,7 +153,7 @@ circuit_files net verilog old mid new first second =
 
 pub no_trace : (net verilog trace : Word) (old mid : Option Files) → OthersSame (net ∷ verilog ∷ []) old mid → OthersSame (net ∷ verilog ∷ trace ∷ []) old mid
 no_trace net verilog trace old mid same =
-    more_names (net ∷ verilog ∷ []) (net ∷ verilog ∷ trace ∷ []) old mid (λ other apart. (apart.0, apart.1.0, tt)) same
+    more_names (net ∷ verilog ∷ []) (net ∷ verilog ∷ trace ∷ []) old mid (λ other apart. (apart.0, (apart.1.0, tt))) same
 
 pub with_trace : (net verilog trace : Word) (old mid new : Option Files) → OthersSame (net ∷ verilog ∷ []) old mid → SameBut trace mid new
     → OthersSame (net ∷ verilog ∷ trace ∷ []) old new

@@ -69,3 +69,8 @@ pub returns-in_err-checked-clause-others : goal.returns-in_err-checked-clause-ot
 returns-in_err-checked-clause-others g c =
     no_trace c.args.build.now.net.now c.args.build.now.verilog.now c.args.build.now.trace.now (g.S.Store.contents c.args.store.now)
     (g.S.Store.contents c.write_circuit.new.store) c.in_err-checked.ensures.others
+
+pub returns-clause-others : goal.returns-clause-others
+returns-clause-others g c =
+    with_trace c.args.build.now.net.now c.args.build.now.verilog.now c.args.build.now.trace.now (g.S.Store.contents c.args.store.now)
+    (g.S.Store.contents c.write_circuit.new.store) (g.S.Store.contents c.simulate.new.store) c.in_ok-checked.ensures.others c.in_ok-counts.ensures.others
