@@ -8,6 +8,8 @@ mod build;
 mod fault;
 mod file_name;
 mod joining;
+#[cfg(test)]
+mod link_tests;
 mod linking;
 mod noting;
 mod opens;
