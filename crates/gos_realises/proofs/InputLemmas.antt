@@ -2,22 +2,20 @@
 --
 -- Along the list what labels leave open is what passed leaves open, and the open handshakes keep turns: after an output
 -- since the plan is regular, over the list so far; after an input since it opened the result or closed an import.
-use Rattle.std.specs.Prelude.{◌≡◌, ℕ, zero, suc, ◌+◌, ◌-◌, ◌<◌, Bool, true, false, not, IsTrue, IsFalse, List, [], ◌∷◌, ◌++◌, Option, Some, None, slice_get, nat_lt, if◌then◌else◌}
-use Rattle.std.proofs.Common.{refl, sym, ◌∙◌, ap, subst, arith}
-use Rattle.std.proofs.lemmas.Bool.Decides.{nat_tests}
+use Rattle.std.specs.Prelude.{◌≡◌, ℕ, zero, suc, ◌<◌, Bool, true, false, IsFalse, List, [], ◌∷◌, ◌++◌, Option, Some, None, slice_get, if◌then◌else◌}
+use Rattle.std.proofs.Common.{refl, sym, ◌∙◌, ap, subst}
 use Rattle.std.proofs.lemmas.Option.{none-some, same_Some}
-use Rattle.gos_types.specs.declared.shakes.Role.{Role}
 use Rattle.gos_types.specs.declared.shakes.Role.TheVariants.{Serve, Ask}
 use Rattle.gos_types.specs.Types.{Type', Com, Exp, Var, Pair, Fun, IsGround, IsDone}
 use Rattle.gos_netlist.specs.Events.{Direction, Request, Answer}
 use Rattle.gos_model.specs.Typing.{Imported}
-use Rattle.gos_model.specs.Labels.{Port, Given, Taken, Label, is_output, is_output_at}
+use Rattle.gos_model.specs.Labels.{Taken, Label, is_output, is_output_at}
 use Rattle.gos_model.specs.Protocol as protocol
 use Rattle.gos_model.specs.Protocol.{Allowed, KeepsAfter}
 use Rattle.gos_plan.specs.Kinds.{Contact, contacts_of}
 use Rattle.gos_plan.specs.Plans.{End, PartEnd, ImportEnd, ResultEnd, Plan, contact_at, contacts_of_import, turned_if, same_end}
 use Rattle.gos_plan.specs.Tokens.{Tokens, Element, Fire, Out, In, IsPortEnd, Passes, way_put, Does, Runs, IsIdle}
-use Rattle.gos_realises.specs.Regular.{Pass, pass, way_in, way_out, is_request, is_open, KeepsTurnsOf, whole_type, whole_end, ComesInTurn, KeepsTurns, InputsKeepTurns, OutputsKeepTurns, IsRegular, count}
+use Rattle.gos_realises.specs.Regular.{Pass, pass, way_in, way_out, is_request, is_open, KeepsTurnsOf, whole_type, whole_end, ComesInTurn, InputsKeepTurns, OutputsKeepTurns, IsRegular}
 use Rattle.gos_realises.specs.Matched.{port_if, event_number, label_at, all_shown}
 use Rattle.gos_realises.specs.Realises.{AllGround, NamesDiffer}
 use Rattle.gos_realises.specs.Inputs.{ProtocolKeepsTurns, MatchingSuffices}

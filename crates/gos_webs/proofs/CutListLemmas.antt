@@ -1,5 +1,5 @@
 -- A possible list has one list of a region, since an element leads to one state.
-use Rattle.std.specs.Prelude.{◌≡◌, List, [], ◌∷◌, ◌++◌}
+use Rattle.std.specs.Prelude.{List, [], ◌∷◌, ◌++◌}
 use Rattle.std.proofs.Common.{refl, ◌∙◌, ap, subst}
 use Rattle.gos_plan.specs.Tokens.{Element}
 use Rattle.gos_plan.proofs.DecidedLemmas.{one_state}
