@@ -75,7 +75,7 @@ row_parted q place h (suc a) b =
     let start_same = ap (λ (n : ℕ). occurs q (row place n b)) start in
     omega (arith, rest, count_same, start_same)
 
-row_length : (place : Place) (h n : ℕ) → length (row place h n) ≡ n
+pub row_length : (place : Place) (h n : ℕ) → length (row place h n) ≡ n
 row_length place h zero = refl
 row_length place h (suc n) = ap (λ (k : ℕ). suc k) (row_length place (suc h) n)
 

@@ -12,7 +12,8 @@ use Rattle.gos_plan.specs.declared.plan.PlanImport.{PlanImport}
 use Rattle.gos_plan.specs.Kinds.{Part, Contact, contacts_of, part_contacts, turned_contact}
 use Rattle.gos_model.specs.Typing.{Imported}
 use Rattle.gos_plan.specs.Plans.{End, PartEnd, ImportEnd, ResultEnd, Plan, contacts_of_part, contacts_of_import, turned_if, contact_at}
-use Rattle.gos_plan.specs.Ranges.{HasWidths, IsInRange}
+use Rattle.gos_plan.specs.Ranges.{IsInRange}
+use Rattle.gos_types.specs.Widths.{HasWidths}
 use Rattle.gos_plan.specs.Seen.{SeenPlan, part_of, import_of, plan_of}
 use Rattle.gos_plan.specs.Fit.{GatesFit}
 use Rattle.gos_expand.specs.Gates.{layout, outs_of}

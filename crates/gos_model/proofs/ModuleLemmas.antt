@@ -2,7 +2,8 @@
 use Rattle.std.specs.Prelude.{◌≡◌, zero, suc, [], ◌∷◌, Contains}
 use Rattle.std.proofs.Common.{arith, refl, sym, ◌∙◌}
 use Rattle.gos_types.specs.Types.{Com, Fun}
-use Rattle.gos_model.specs.Typing.{Thing, Named, IsWidth}
+use Rattle.gos_model.specs.Typing.{Thing, Named}
+use Rattle.gos_types.specs.Widths.{IsWidth}
 use Rattle.gos_model.specs.SmallPrograms.{c}
 use Rattle.gos_model.specs.SmallModules.{f, v, Weights, Types, Shared, Links, LinkWeighs}
 

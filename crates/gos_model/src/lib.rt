@@ -7,8 +7,6 @@
 #![tactic(auto)]
 
 mod laws;
-#[cfg(test)]
-mod tests;
 
 pub use laws::{
     keeping_pace, latch_pulses, reached_places, sequences, small_modules, small_traces,

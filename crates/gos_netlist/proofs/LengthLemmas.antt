@@ -9,7 +9,9 @@ use Rattle.gos_types.specs.Types.{Type', Com, Exp, Var, Pair, Fun}
 use Rattle.gos_types.specs.TypeText.{type_text}
 use Rattle.gos_netlist.specs.Nets.{Function, Input, Const, Not, And, Or, Xor, Mux, Add, Sub, Eq, Less, Gate, Reg, Cell, Side, Give, Take, NetPort, Netlist}
 use Rattle.gos_netlist.specs.NetText.{line, spaced_number, spaced, word_of, operands, cell_text, side_word, port_head, port_text, count_line, text_of}
-use Rattle.gos_netlist.specs.Writable.{IsWidth, IsNumber, OperandsFit, IsWritableCell, IsPortType, net_count, IsWritablePort, IsWritable}
+use Rattle.gos_netlist.specs.Writable.{IsNumber, OperandsFit, IsWritableCell, IsPortType, IsWritablePort, IsWritable}
+use Rattle.gos_netlist.specs.Events.{net_count}
+use Rattle.gos_types.specs.Widths.{IsWidth}
 use Rattle.gos_netlist.specs.NetFaults.{PrintedIsRead}
 
 -- a number behind a space

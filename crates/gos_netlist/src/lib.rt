@@ -22,8 +22,6 @@ mod port_line;
 mod printing;
 mod reading;
 mod sections;
-#[cfg(test)]
-mod tests;
 mod word;
 
 pub use event::{Event, events};

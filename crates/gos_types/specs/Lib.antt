@@ -1,4 +1,5 @@
 pub mod Types
+pub mod Widths
 pub mod Handshakes
 pub mod Sides
 pub mod TypeText

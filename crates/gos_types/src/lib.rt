@@ -10,8 +10,6 @@
 mod fault;
 mod laws;
 mod shakes;
-#[cfg(test)]
-mod tests;
 mod text;
 mod types;
 

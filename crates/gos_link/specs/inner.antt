@@ -1,0 +1,2 @@
+-- Between the functions of this crate.
+pub mod Noting
