@@ -3,3 +3,5 @@ pub mod PortNetLemmas
 pub mod PrintLemmas
 pub mod TableLemmas
 pub mod SmallTextLemmas
+pub mod CodeLemmas
+pub mod ExpressionLemmas
