@@ -161,7 +161,22 @@ not_of : (f : Function) → sort_of f ≡ Turned → (a : ℕ) × (f ≡ Not a)
 not_of (Not a) is = (a, refl)
 not_of f is = absurd (cc is)
 
--- the sorts of two expressions with one text before the end of a line are the same: a name and another sort
+first_small : (f : Function) → AreSmall f → IsSmall (first_net f)
+first_small (And a b) is = is.0
+first_small (Or a b) is = is.0
+first_small (Xor a b) is = is.0
+first_small (Mux s a b) is = is.0
+first_small (Add a b) is = is.0
+first_small (Sub a b) is = is.0
+first_small (Eq a b) is = is.0
+first_small (Less a b) is = is.0
+first_small (Gate s a) is = is.0
+first_small Input is = omega arith
+first_small (Const k) is = omega arith
+first_small (Not a) is = omega arith
+first_small (Reg a) is = omega arith
+
+-- a name is no expression of another sort, before the end of a line
 apart_named : (w : ℕ) (s : List ℕ) (g : Function) (t x y : List ℕ) → IsSmall w → IsNetName s → AreSmall g → (sort_of g ≡ Number) ⊎ ((sort_of g ≡ Turned) ⊎ (sort_of g ≡ Paired))
     → s ++ 59 ∷ x ≡ expression w t g ++ 59 ∷ y → ⊥
 apart_named w s g t x y small name is_g (inl number) same =
@@ -185,17 +200,95 @@ apart_named w s g t x y small name is_g (inr (inr paired)) same =
     lacks a small_a [] more is = let byte : 110 ≡ 59 = ap (λ (bytes : List ℕ). get_or bytes 0 0) is in omega (arith, byte)
     lacks a small_a (b ∷ front) more is = digits_lack a 59 front more small_a refl (cc is)
 
-    first_small : (f : Function) → AreSmall f → IsSmall (first_net f)
-    first_small (And a b) is = is.0
-    first_small (Or a b) is = is.0
-    first_small (Xor a b) is = is.0
-    first_small (Mux s a b) is = is.0
-    first_small (Add a b) is = is.0
-    first_small (Sub a b) is = is.0
-    first_small (Eq a b) is = is.0
-    first_small (Less a b) is = is.0
-    first_small (Gate s a) is = is.0
-    first_small Input is = omega arith
-    first_small (Const k) is = omega arith
-    first_small (Not a) is = omega arith
-    first_small (Reg a) is = omega arith
+-- nor is a constant one of a third sort
+apart_number : (w : ℕ) (s t : List ℕ) (f g : Function) (x y : List ℕ) → IsSmall w → sort_of f ≡ Number → (sort_of g ≡ Turned) ⊎ (sort_of g ≡ Paired)
+    → expression w s f ++ 59 ∷ x ≡ expression w t g ++ 59 ∷ y → ⊥
+apart_number w s t f g x y small number other same = by other
+  where
+    text : (k : ℕ) → f ≡ Const k → expression w s f ++ 59 ∷ x ≡ decimal w ++ 39 ∷ 100 ∷ (decimal k ++ 59 ∷ x)
+    text k is =
+        ap (λ (h : Function). expression w s h ++ 59 ∷ x) is ∙ (append_assoc (decimal w ++ 39 ∷ 100 ∷ []) (decimal k) (59 ∷ x) ∙ append_assoc (decimal w) (39 ∷ 100 ∷ []) (decimal k ++ 59 ∷ x))
+
+    by : (sort_of g ≡ Turned) ⊎ (sort_of g ≡ Paired) → ⊥
+    by (inl turned) =
+        let k = const_of f number in
+        let a = not_of g turned in
+        digit_first w 126 ((110 ∷ decimal a.0) ++ 59 ∷ y) (39 ∷ 100 ∷ (decimal k.0 ++ 59 ∷ x)) small refl
+        (sym (text k.0 k.1) ∙ (same ∙ ap (λ (h : Function). expression w t h ++ 59 ∷ y) a.1))
+    by (inr paired) =
+        let k = const_of f number in
+        digit_first w 110 (decimal (first_net g) ++ 32 ∷ behind w g (59 ∷ y)) (39 ∷ 100 ∷ (decimal k.0 ++ 59 ∷ x)) small refl
+        (sym (text k.0 k.1) ∙ (same ∙ pair_text w t (59 ∷ y) g paired))
+
+-- nor is one with its bits turned a pair
+apart_turned : (w : ℕ) (s t : List ℕ) (f g : Function) (x y : List ℕ) → sort_of f ≡ Turned → sort_of g ≡ Paired → expression w s f ++ 59 ∷ x ≡ expression w t g ++ 59 ∷ y → ⊥
+apart_turned w s t f g x y turned paired same =
+    let a = not_of f turned in
+    let whole : 126 ∷ ((110 ∷ decimal a.0) ++ 59 ∷ x) ≡ 110 ∷ (decimal (first_net g) ++ 32 ∷ behind w g (59 ∷ y)) =
+    ap (λ (h : Function). expression w s h ++ 59 ∷ x) (sym a.1) ∙ (same ∙ pair_text w t (59 ∷ y) g paired) in
+    let byte = ap (λ (bytes : List ℕ). get_or bytes 0 0) whole in
+    omega (arith, byte)
+
+-- an expression before the end of a line is known by its text, and an Input cell's by the name that it reads
+pub expression_code : (w : ℕ) (s t : List ℕ) (f g : Function) (x y : List ℕ) → IsSmall w → AreSmall f → AreSmall g → (f ≡ Input → IsNetName s) → (g ≡ Input → IsNetName t)
+    → (sort_of f ≡ Clocked → ⊥) → (sort_of g ≡ Clocked → ⊥) → expression w s f ++ 59 ∷ x ≡ expression w t g ++ 59 ∷ y
+    → (f ≡ g) × (f ≡ Input → s ≡ t) × (x ≡ y)
+expression_code w s t f g x y small is_f is_g name_f name_g wire_f wire_g same = by (sort_of f) (sort_of g) refl refl
+  where
+    Known : Type 0
+    Known = (f ≡ g) × (f ≡ Input → s ≡ t) × (x ≡ y)
+
+    named_text : (u : List ℕ) (h : Function) (z : List ℕ) → h ≡ Input → expression w u h ++ 59 ∷ z ≡ u ++ 59 ∷ z
+    named_text u h z is = ap (λ (k : Function). expression w u k ++ 59 ∷ z) is
+
+    const_text : (u : List ℕ) (h : Function) (z : List ℕ) (k : ℕ) → h ≡ Const k → expression w u h ++ 59 ∷ z ≡ decimal w ++ 39 ∷ 100 ∷ (decimal k ++ 59 ∷ z)
+    const_text u h z k is =
+        ap (λ (f : Function). expression w u f ++ 59 ∷ z) is ∙ (append_assoc (decimal w ++ 39 ∷ 100 ∷ []) (decimal k) (59 ∷ z) ∙ append_assoc (decimal w) (39 ∷ 100 ∷ []) (decimal k ++ 59 ∷ z))
+
+    by : (p q : Sort) → sort_of f ≡ p → sort_of g ≡ q → Known
+    by Clocked q is_p is_q = absurd (wire_f is_p)
+    by Named Clocked is_p is_q = absurd (wire_g is_q)
+    by Number Clocked is_p is_q = absurd (wire_g is_q)
+    by Turned Clocked is_p is_q = absurd (wire_g is_q)
+    by Paired Clocked is_p is_q = absurd (wire_g is_q)
+    by Named Named is_p is_q =
+        let in_f = input_of f is_p in
+        let in_g = input_of g is_q in
+        let known = name_code s t 59 59 x y (name_f in_f).bytes (name_g in_g).bytes refl refl (sym (named_text s f x in_f) ∙ (same ∙ named_text t g y in_g)) in
+        (in_f ∙ sym in_g, (λ _. known.0), cc (known.1))
+    by Named Number is_p is_q = let in_f = input_of f is_p in absurd (apart_named w s g t x y small (name_f in_f) is_g (inl is_q) (sym (named_text s f x in_f) ∙ same))
+    by Named Turned is_p is_q = let in_f = input_of f is_p in absurd (apart_named w s g t x y small (name_f in_f) is_g (inr (inl is_q)) (sym (named_text s f x in_f) ∙ same))
+    by Named Paired is_p is_q = let in_f = input_of f is_p in absurd (apart_named w s g t x y small (name_f in_f) is_g (inr (inr is_q)) (sym (named_text s f x in_f) ∙ same))
+    by Number Named is_p is_q = let in_g = input_of g is_q in absurd (apart_named w t f s y x small (name_g in_g) is_f (inl is_p) (sym (named_text t g y in_g) ∙ sym same))
+    by Turned Named is_p is_q = let in_g = input_of g is_q in absurd (apart_named w t f s y x small (name_g in_g) is_f (inr (inl is_p)) (sym (named_text t g y in_g) ∙ sym same))
+    by Paired Named is_p is_q = let in_g = input_of g is_q in absurd (apart_named w t f s y x small (name_g in_g) is_f (inr (inr is_p)) (sym (named_text t g y in_g) ∙ sym same))
+    by Number Turned is_p is_q = absurd (apart_number w s t f g x y small is_p (inl is_q) same)
+    by Number Paired is_p is_q = absurd (apart_number w s t f g x y small is_p (inr is_q) same)
+    by Turned Number is_p is_q = absurd (apart_number w t s g f y x small is_q (inl is_p) (sym same))
+    by Paired Number is_p is_q = absurd (apart_number w t s g f y x small is_q (inr is_p) (sym same))
+    by Turned Paired is_p is_q = absurd (apart_turned w s t f g x y is_p is_q same)
+    by Paired Turned is_p is_q = absurd (apart_turned w t s g f y x is_q is_p (sym same))
+    by Number Number is_p is_q =
+        let a = const_of f is_p in
+        let b = const_of g is_q in
+        let small_a : AreSmall (Const a.0) = subst AreSmall a.1 is_f in
+        let small_b : AreSmall (Const b.0) = subst AreSmall b.1 is_g in
+        let wide : decimal w ++ 39 ∷ 100 ∷ (decimal a.0 ++ 59 ∷ x) ≡ decimal w ++ 39 ∷ 100 ∷ (decimal b.0 ++ 59 ∷ y) =
+        sym (const_text s f x a.0 a.1) ∙ (same ∙ const_text t g y b.0 b.1) in
+        let one = number_code w w 39 39 (100 ∷ (decimal a.0 ++ 59 ∷ x)) (100 ∷ (decimal b.0 ++ 59 ∷ y)) small small refl refl wide in
+        let two = one_more a.0 b.0 x y small_a small_b (cc (one.1)) in
+        (a.1 ∙ (ap Const two.0 ∙ sym b.1), (λ is. absurd (let both : Const a.0 ≡ Input = sym a.1 ∙ is in cc both)), two.1)
+    by Turned Turned is_p is_q =
+        let a = not_of f is_p in
+        let b = not_of g is_q in
+        let small_a : AreSmall (Not a.0) = subst AreSmall a.1 is_f in
+        let small_b : AreSmall (Not b.0) = subst AreSmall b.1 is_g in
+        let whole : 126 ∷ 110 ∷ (decimal a.0 ++ 59 ∷ x) ≡ 126 ∷ 110 ∷ (decimal b.0 ++ 59 ∷ y) =
+        ap (λ (k : Function). expression w s k ++ 59 ∷ x) (sym a.1) ∙ (same ∙ ap (λ (k : Function). expression w t k ++ 59 ∷ y) b.1) in
+        let two = one_more a.0 b.0 x y small_a small_b (cc whole) in
+        (a.1 ∙ (ap Not two.0 ∙ sym b.1), (λ is. absurd (let both : Not a.0 ≡ Input = sym a.1 ∙ is in cc both)), two.1)
+    by Paired Paired is_p is_q =
+        let whole = sym (pair_text w s (59 ∷ x) f is_p) ∙ (same ∙ pair_text w t (59 ∷ y) g is_q) in
+        let one = number_code (first_net f) (first_net g) 32 32 (behind w f (59 ∷ x)) (behind w g (59 ∷ y)) (first_small f is_f) (first_small g is_g) refl refl (cc whole) in
+        let two = behind_code w f g x y small is_f is_g is_p is_q one.0 (cc (one.1)) in
+        (two.0, (λ is. absurd (let both : Paired ≡ Named = sym is_p ∙ ap sort_of is in cc both)), two.1)

@@ -5,3 +5,5 @@ pub mod TableLemmas
 pub mod SmallTextLemmas
 pub mod CodeLemmas
 pub mod ExpressionLemmas
+pub mod DriverLemmas
+pub mod DeclarationLemmas
