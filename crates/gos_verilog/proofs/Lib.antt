@@ -7,3 +7,6 @@ pub mod CodeLemmas
 pub mod ExpressionLemmas
 pub mod DriverLemmas
 pub mod DeclarationLemmas
+pub mod SuffixLemmas
+pub mod InputLemmas
+pub mod PortLemmas
