@@ -10,11 +10,11 @@ use Rattle.gos_verilog.proofs.CodeLemmas.{number_code}
 use Rattle.gos_verilog.proofs.ExpressionLemmas.{IsSmall, AreSmall, Sort, Clocked, sort_of, IsNetName, expression_code}
 
 -- what stands before the expression of a cell
-abbrev front : ℕ → ℕ → Bool → List ℕ
+abbrev pub front : ℕ → ℕ → Bool → List ℕ
 front i w true = codes "  always @(posedge clk) if (rst) " ++ cell_net i ++ codes " <= " ++ literal w 0 ++ codes "; else " ++ cell_net i ++ codes " <= "
 front i w false = codes "  assign " ++ cell_net i ++ codes " = "
 
-driver_text : (i w : ℕ) (s x : List ℕ) (f : Function) → driver_of i w s f ++ x ≡ front i w (is_register f) ++ (expression w s f ++ 59 ∷ 10 ∷ x)
+pub driver_text : (i w : ℕ) (s x : List ℕ) (f : Function) → driver_of i w s f ++ x ≡ front i w (is_register f) ++ (expression w s f ++ 59 ∷ 10 ∷ x)
 driver_text i w s x (Reg a) =
     append_assoc (front i w true ++ cell_net a) (codes ";\n") x ∙ append_assoc (front i w true) (cell_net a) (codes ";\n" ++ x)
 driver_text i w s x f = append_assoc (front i w false ++ expression w s f) (codes ";\n") x ∙ append_assoc (front i w false) (expression w s f) (codes ";\n" ++ x)

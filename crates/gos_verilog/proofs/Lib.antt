@@ -10,3 +10,4 @@ pub mod DeclarationLemmas
 pub mod SuffixLemmas
 pub mod InputLemmas
 pub mod PortLemmas
+pub mod OneTextLemmas

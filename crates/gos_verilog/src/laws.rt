@@ -1,4 +1,6 @@
-// What the definitions say, in small. Each theorem is the contract of a function that does nothing.
+// What the definitions say. Each theorem is the contract of a function that does nothing.
+ghost use Rattle.std.specs.Prelude.{List, ℕ};
+ghost use Rattle.gos_verilog.specs.OneText.{IsOneNetlist};
 ghost use Rattle.gos_verilog.specs.SmallTexts.{LatchText, LongerIsNoText, UnresetIsNoText};
 
 /// The latch has its text, and neither one in which a register has no reset nor one with a blank more.
@@ -6,4 +8,9 @@ pub fn small_texts()
     ensures latch { LatchText }
     ensures reset { UnresetIsNoText }
     ensures end { LongerIsNoText }
+{}
+
+/// A text is that of one accepted netlist at most: ports, cells and their order are known by it.
+pub fn one_netlist()
+    ensures { (text : List ℕ) → IsOneNetlist text }
 {}

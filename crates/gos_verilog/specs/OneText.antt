@@ -1,0 +1,16 @@
+-- That a text is that of one netlist at most.
+--
+-- Read first: VerilogText; Writable of gos_netlist, Accepted of gos_netcheck.
+use Rattle.std.specs.Prelude.{◌≡◌, ℕ, List}
+use Rattle.gos_netlist.specs.Nets.{Netlist}
+use Rattle.gos_netlist.specs.Writable.{IsWritable}
+use Rattle.gos_netcheck.specs.Accepted.{IsAccepted}
+use Rattle.gos_verilog.specs.VerilogText.{IsVerilogOf}
+
+-- an accepted netlist, whose names are names and whose numbers are in the ranges of the format
+abbrev pub IsPrintable : Netlist → Type 0
+IsPrintable net = IsWritable net × IsAccepted net
+
+-- no two accepted netlists have this text
+abbrev pub IsOneNetlist : List ℕ → Type 0
+IsOneNetlist text = (net other : Netlist) → IsPrintable net → IsPrintable other → IsVerilogOf net text → IsVerilogOf other text → net ≡ other
