@@ -1,4 +1,4 @@
--- That a text is that of one netlist at most.
+-- That a netlist has one text at most, and a text is that of one netlist at most.
 --
 -- Read first: VerilogText; Writable of gos_netlist, Accepted of gos_netcheck.
 use Rattle.std.specs.Prelude.{◌≡◌, ℕ, List}
@@ -14,3 +14,7 @@ IsPrintable net = IsWritable net × IsAccepted net
 -- no two accepted netlists have this text
 abbrev pub IsOneNetlist : List ℕ → Type 0
 IsOneNetlist text = (net other : Netlist) → IsPrintable net → IsPrintable other → IsVerilogOf net text → IsVerilogOf other text → net ≡ other
+
+-- this accepted netlist has no two texts
+abbrev pub HasOneText : Netlist → Type 0
+HasOneText net = (text other : List ℕ) → IsAccepted net → IsVerilogOf net text → IsVerilogOf net other → text ≡ other

@@ -13,5 +13,5 @@ mod printing;
 mod tests;
 mod writing;
 
-pub use laws::{one_netlist, small_texts};
+pub use laws::{one_text, small_texts};
 pub use writing::write_verilog;
