@@ -15,7 +15,7 @@ use Rattle.gos_check.specs.Written.{is_width, first_of, bad_width, no_bad, small
 use Rattle.gos_check.specs.Scopes.{Binders, type_at, used}
 use Rattle.gos_check.specs.Demands.{application, first_side, second_side, sequence, parallel, choice, looping, assignment, reading, negation, operation, done}
 use Rattle.gos_check.specs.Judging.{place_of, separate, judged}
-use Rattle.gos_check.specs.Walked.{names_of, types_of}
+use Rattle.gos_check.specs.inner.Walked.{names_of, types_of}
 use Rattle.gos_check.specs.Accepted.{HasWidths, IsSmall, IsWritten, KeepsLimits}
 use Rattle.gos_check.proofs.FoundLemmas.{after_is, small_is, sized_is, done_is, two_is, three_is, separate_is, if_ok}
 use Rattle.gos_check.proofs.RuleLemmas.{ok_is}

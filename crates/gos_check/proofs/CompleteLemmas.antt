@@ -17,7 +17,7 @@ use Rattle.gos_check.specs.Scopes.{Binders, type_at, used}
 use Rattle.gos_check.specs.Free.{free, apart}
 use Rattle.gos_check.specs.Demands.{application, first_side, second_side, sequence, parallel, choice, looping, assignment, reading, negation, operation, demanded, done}
 use Rattle.gos_check.specs.Judging.{place_of, of_two, of_three, separate, sized, judged}
-use Rattle.gos_check.specs.Walked.{names_of, types_of}
+use Rattle.gos_check.specs.inner.Walked.{names_of, types_of}
 use Rattle.gos_check.specs.Accepted.{HasWidths, IsSmall, IsWritten, KeepsLimits}
 use Rattle.gos_check.proofs.TypeLemmas.{demanded_same}
 use Rattle.gos_check.proofs.WeightLemmas.{looked_up, type_there}

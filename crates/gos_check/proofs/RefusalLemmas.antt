@@ -12,7 +12,7 @@ use Rattle.gos_check.specs.Faults.{Fault, Found, after, Refuses, fault_of}
 use Rattle.gos_check.specs.Free.{free}
 use Rattle.gos_check.specs.Demands.{done, choice}
 use Rattle.gos_check.specs.Judging.{place_of, of_two, of_three}
-use Rattle.gos_check.specs.Rules.{rule_of_one, rule_of_two, names_of_two, ruled}
+use Rattle.gos_check.specs.inner.Rules.{rule_of_one, rule_of_two, names_of_two, ruled}
 use Rattle.gos_check.proofs.RuleLemmas.{ruled_ok, ruled_type, ruled_names}
 use Rattle.gos_check.proofs.PlaceLemmas.{place_is}
 

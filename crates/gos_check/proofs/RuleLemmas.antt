@@ -16,7 +16,7 @@ use Rattle.gos_check.specs.Demands.{demanded, done, expression, variable}
 use Rattle.gos_model.specs.Terms.{result_width}
 use Rattle.gos_model.specs.Sources.{op_of}
 use Rattle.gos_check.specs.Judging.{place_of}
-use Rattle.gos_check.specs.Rules.{rule_of_one, rule_of_two, names_of_two, ruled}
+use Rattle.gos_check.specs.inner.Rules.{rule_of_one, rule_of_two, names_of_two, ruled}
 use Rattle.gos_check.proofs.SizeLemmas.{countable_of_small, countable_pair, countable_first, countable_second, countable_outcome}
 use Rattle.gos_check.proofs.FoundLemmas.{after_is, demanded_is, done_is}
 

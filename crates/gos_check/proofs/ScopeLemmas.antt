@@ -8,7 +8,7 @@ use Rattle.gos_model.specs.Typing.{import_type}
 use Rattle.gos_model.specs.Sources.{import_of}
 use Rattle.gos_check.specs.Sizes.{IsCountable, AreCountable}
 use Rattle.gos_check.specs.Scopes.{Binders, type_at}
-use Rattle.gos_check.specs.Walked.{BindCountable}
+use Rattle.gos_check.specs.inner.Walked.{BindCountable}
 
 some_is : (t u : Type') → (let o : Option Type' = Some t in o ≡ Some u) → t ≡ u
 some_is t u h = cc

@@ -14,11 +14,11 @@ use Rattle.gos_model.specs.Weight.{or_com, node_type}
 use Rattle.gos_model.specs.Sources.{use_of, binder_of, bound_or_import, one_further, op_of, term_of, import_of, program_of}
 use Rattle.gos_check.specs.declared.opens.Open.{Open}
 use Rattle.gos_check.specs.Scopes.{Binders, type_at}
-use Rattle.gos_check.specs.Walked.{names_of, types_of}
+use Rattle.gos_check.specs.inner.Walked.{names_of, types_of}
 use Rattle.gos_check.specs.Nodes.{OfFst, OfSnd, OfDeref, OfNot, OfApp, OfBoth, OfSeq, OfPar, OfWhile, OfAssign, OfBin, Numbered, Meaning, meaning, HasTypes}
 use Rattle.gos_check.specs.Linearity.{times, used, all_sides, made, SidesApart, import_at, StandsFor}
-use Rattle.gos_check.specs.Opens.{number_in, others, next_if, outside, merged_names}
-use Rattle.gos_check.specs.Numbering.{Result, numbered, exchanged, raised, import_number, with_place, placed, inner_names, inner_next}
+use Rattle.gos_check.specs.inner.Opens.{number_in, others, next_if, outside, merged_names}
+use Rattle.gos_check.specs.inner.Numbering.{Result, numbered, exchanged, raised, import_number, with_place, placed, inner_names, inner_next}
 use Rattle.gos_check.proofs.NameLemmas.{name_cases, same_true, other_false}
 use Rattle.gos_check.proofs.TimesLemmas.{number_cases, times_same, eq_true, eq_false}
 use Rattle.gos_check.proofs.MergeLemmas.{numbers, Lacks, Differ, Gives, lacks_none, lacks_others, number_others, number_times}

@@ -8,7 +8,7 @@ use Rattle.gos_check.specs.declared.linear.Node.{Node}
 use Rattle.gos_check.specs.declared.linear.NodeForm.{NodeForm}
 use Rattle.gos_check.specs.declared.linear.NodeForm.TheVariants as forms
 use Rattle.gos_check.specs.Nodes.{numbered_of, node_seen}
-use Rattle.gos_check.specs.Numbering.{type_in}
+use Rattle.gos_check.specs.inner.Numbering.{type_in}
 
 type_of_form : (t : Ty) (ss : List Split) (f : NodeForm) → type_of t ≡ type_in (numbered_of t ss f)
 type_of_form t ss forms.Skip = refl

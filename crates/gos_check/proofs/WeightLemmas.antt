@@ -15,7 +15,7 @@ use Rattle.gos_check.specs.Written.{literal, written, written_width}
 use Rattle.gos_check.specs.Scopes.{Binder, Binders, type_at, used}
 use Rattle.gos_check.specs.Demands.{application, first_side, second_side, sequence, parallel, choice, looping, assignment, reading, negation, operation, done}
 use Rattle.gos_check.specs.Judging.{place_of, separate, judged}
-use Rattle.gos_check.specs.Walked.{names_of, types_of, weight_of, parts_weight}
+use Rattle.gos_check.specs.inner.Walked.{names_of, types_of, weight_of, parts_weight}
 use Rattle.gos_check.proofs.SizeLemmas.{size_below_count}
 use Rattle.gos_check.proofs.FoundLemmas.{after_is, sized_is, done_is, two_is, three_is, separate_is}
 use Rattle.gos_check.proofs.RuleLemmas.{ok_is}

@@ -7,13 +7,9 @@ pub mod Free
 pub mod Demands
 pub mod Judging
 pub mod Judgements
-pub mod Seen
-pub mod Rules
-pub mod Walked
 pub mod Accepted
 pub mod Nodes
 pub mod Linearity
 pub mod Checked
-pub mod Opens
-pub mod Numbering
 pub mod Copies
+pub mod inner

@@ -11,7 +11,7 @@ ghost use Rattle.gos_check.specs.Linearity.{StandsFor};
 ghost use Rattle.gos_check.specs.Checked.{program_in};
 ghost use Rattle.gos_check.specs.Nodes.{node_seen};
 ghost use Rattle.gos_check.specs.Copies.{plain_import};
-ghost use Rattle.gos_check.specs.Walked.{tree};
+ghost use Rattle.gos_check.specs.inner.Walked.{tree};
 
 use crate::demands::demanded;
 use crate::fault::CheckFault;

@@ -3,7 +3,7 @@
 ghost use Rattle.std.specs.Prelude.{◌≡◌, Ok, IfOk, IfErr};
 ghost use Rattle.gos_types.specs.Types.{type_of, Fun};
 ghost use Rattle.gos_check.specs.Faults.{Refuses};
-ghost use Rattle.gos_check.specs.Rules.{rule_of_one, rule_of_two, names_of_two};
+ghost use Rattle.gos_check.specs.inner.Rules.{rule_of_one, rule_of_two, names_of_two};
 
 use crate::demands;
 use crate::fault::CheckFault;

@@ -3,8 +3,8 @@
 ghost use Rattle.std.specs.Prelude.{◌≡◌, ◌+◌, ◌++◌, ◌^◌, ◌<◌, ◌≤◌, length, IfOk, IfErr};
 ghost use Rattle.gos_types.specs.Types.{type_of, Var};
 ghost use Rattle.gos_check.specs.Nodes.{OfFun, OfNew, If, node_seen};
-ghost use Rattle.gos_check.specs.Numbering.{one_form, two_form, type_in, seen, binder_result, one_result, two_result};
-ghost use Rattle.gos_check.specs.Opens.{merged_splits, merged_names, merged_next};
+ghost use Rattle.gos_check.specs.inner.Numbering.{one_form, two_form, type_in, seen, binder_result, one_result, two_result};
+ghost use Rattle.gos_check.specs.inner.Opens.{merged_splits, merged_names, merged_next};
 
 use crate::fault::CheckFault;
 use crate::forms::{OnePart, TwoParts, function_type};
@@ -135,7 +135,9 @@ pub(crate) fn with_three(
     no: NumberedTerm,
 ) -> Result<NumberedTerm, CheckFault>
     requires { no.next + length inner.names.items + length no.names.items < 2 ^ 32 }
-    ensures node { IfOk result (λ r. node_seen r.node ≡ If (type_in (node_seen yes)) (merged_splits inner.names.items no.names.items no.next ++ inner.splits.items) (node_seen test) (node_seen yes) (node_seen no.node)) }
+    ensures node { IfOk result (λ r. node_seen r.node ≡ If (type_in (node_seen yes))
+        (merged_splits inner.names.items no.names.items no.next ++ inner.splits.items) (node_seen test)
+        (node_seen yes) (node_seen no.node)) }
     ensures names { IfOk result (λ r. r.names.items ≡ merged_names inner.names.items no.names.items no.next) }
     ensures next { IfOk result (λ r. r.next ≡ merged_next inner.names.items no.names.items no.next) }
     ensures room { IfOk result (λ r. r.next + length r.names.items ≤ no.next + length inner.names.items + length no.names.items) }

@@ -7,7 +7,7 @@ ghost use Rattle.gos_types.specs.Types.{type_of, Pair};
 ghost use Rattle.gos_model.specs.Weight.{after_fun, left_of, right_of, read_of, op_type};
 ghost use Rattle.gos_model.specs.Sources.{op_of};
 ghost use Rattle.gos_check.specs.Nodes.{One, Two, node_seen};
-ghost use Rattle.gos_check.specs.Numbering.{one_form, two_form, one_type, two_type, type_in};
+ghost use Rattle.gos_check.specs.inner.Numbering.{one_form, two_form, one_type, two_type, type_in};
 
 use crate::demands::result_width;
 use crate::fault::CheckFault;
@@ -62,7 +62,8 @@ impl TwoParts {
         m: Node,
         n: Node,
     ) -> Result<Node, CheckFault>
-        ensures ok { IfOk result (λ node. node_seen node ≡ Two (two_type (two_form self) (type_in (node_seen m)) (type_in (node_seen n))) splits.items (two_form self) (node_seen m) (node_seen n)) }
+        ensures ok { IfOk result (λ node. node_seen node ≡ Two (two_type (two_form self) (type_in (node_seen m))
+            (type_in (node_seen n))) splits.items (two_form self) (node_seen m) (node_seen n)) }
         ensures err { IfErr result (λ e. e ≡ CheckFault.NoMemory) }
     {
         let ty = self.node_type(alloc, &m.ty, &n.ty)?;

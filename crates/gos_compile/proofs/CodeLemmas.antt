@@ -10,8 +10,8 @@ use Rattle.gos_compile.specs.declared.points.Point.{Point}
 use Rattle.gos_compile.specs.declared.points.Tie.{Tie}
 use Rattle.gos_compile.specs.declared.joining.Bond.{Bond}
 use Rattle.gos_compile.specs.Wiring.{tie, Meet, Path, here, along}
-use Rattle.gos_compile.specs.Joined.{Joins, Leads, stays, goes}
-use Rattle.gos_compile.specs.Found.{slot, code, bond_of, IsTied, ShakesBelow, AreNumbered}
+use Rattle.gos_compile.specs.inner.Joined.{Joins, Leads, stays, goes}
+use Rattle.gos_compile.specs.inner.Found.{slot, code, bond_of, IsTied, ShakesBelow, AreNumbered}
 
 -- places of one number are one
 slot_tells : (p q : Place) → slot p ≡ slot q → p ≡ q

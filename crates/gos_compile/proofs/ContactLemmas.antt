@@ -5,7 +5,7 @@ use Rattle.gos_plan.specs.Contacts.{held_contact}
 use Rattle.gos_plan.specs.Kinds as kinds
 use Rattle.gos_plan.specs.Kinds.{other_side}
 use Rattle.gos_plan.specs.Plans.{turned_if}
-use Rattle.gos_compile.specs.Contacts.{asked}
+use Rattle.gos_compile.specs.inner.Contacts.{asked}
 
 pub asked_held : (cs : List kinds.Contact) (h : ℕ) → asked (slice_get (map held_contact cs) h) ≡ slice_get cs h
 asked_held [] h = refl

@@ -1,7 +1,7 @@
 -- A list in which each number is its own, and one more.
 use Rattle.std.specs.Prelude.{◌≡◌, ℕ, zero, suc, ◌+◌, List, [], ◌∷◌, ◌++◌, length, unwrap_or, slice_get}
 use Rattle.std.proofs.Common.{refl, ap, sym, ◌∙◌, subst, arith}
-use Rattle.gos_compile.specs.Joined.{far_at}
+use Rattle.gos_compile.specs.inner.Joined.{far_at}
 
 -- the element at a place of a longer list, where the one behind the list is its own place
 own_at : (list : List ℕ) (n d p : ℕ) → n ≡ d + length list → ((q : ℕ) → unwrap_or (slice_get list q) (d + q) ≡ d + q)

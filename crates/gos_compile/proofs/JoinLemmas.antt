@@ -6,7 +6,7 @@ use Rattle.std.specs.Prelude.{◌≡◌, ◌≢◌, ℕ, zero, suc, ◌+◌, ◌
 use Rattle.std.proofs.Common.{refl, ap, sym, ◌∙◌, subst, arith, inl, inr}
 use Rattle.gos_check.proofs.TimesLemmas.{number_cases, eq_true, eq_false}
 use Rattle.gos_compile.specs.declared.joining.Bond.{Bond}
-use Rattle.gos_compile.specs.Joined.{Joins, Leads, stays, goes, touches, AreFar, AreBelow, joined}
+use Rattle.gos_compile.specs.inner.Joined.{Joins, Leads, stays, goes, touches, AreFar, AreBelow, joined}
 
 -- bonds lead on, back, and along more bonds
 leads_on : {ts : List Bond} (a b c : ℕ) → Leads ts a b → Leads ts b c → Leads ts a c

@@ -12,8 +12,8 @@ use Rattle.gos_compile.specs.declared.points.Place.TheVariants as places
 use Rattle.gos_compile.specs.declared.points.Point.{Point}
 use Rattle.gos_compile.specs.declared.points.Tie.{Tie}
 use Rattle.gos_compile.specs.Wiring.{at, point, Meet, Path, here, along, Connects, joint, Has}
-use Rattle.gos_compile.specs.Joined.{touches, AreFar, far_at}
-use Rattle.gos_compile.specs.Found.{code, bond_of, IsTied, ShakesBelow, end_of_place, end_at, asks_there, serves_there, do_fit, found_from, found, all_found, far_point, AreNumbered}
+use Rattle.gos_compile.specs.inner.Joined.{touches, AreFar, far_at}
+use Rattle.gos_compile.specs.inner.Found.{code, bond_of, IsTied, ShakesBelow, end_of_place, end_at, asks_there, serves_there, do_fit, found_from, found, all_found, far_point, AreNumbered}
 use Rattle.gos_compile.proofs.CodeLemmas.{codes_tell, shakes_tied, path_leads, leads_path}
 
 -- ends and their points

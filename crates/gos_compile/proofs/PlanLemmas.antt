@@ -9,7 +9,7 @@ use Rattle.gos_plan.specs.Seen.{SeenPlan, plan_of, part_of, import_of, joint_of}
 use Rattle.gos_compile.specs.declared.points.Tie.{Tie}
 use Rattle.gos_compile.specs.declared.joints.Tables.{Tables}
 use Rattle.gos_compile.specs.Wiring.{all_parts, all_ties, Connects, joint, Has, IsPlanOf}
-use Rattle.gos_compile.specs.Found.{AreTables, all_found, bare, far_by}
+use Rattle.gos_compile.specs.inner.Found.{AreTables, all_found, bare, far_by}
 use Rattle.gos_compile.proofs.JointLemmas.{joints_found}
 
 -- the handshakes at ends have nothing to do with joints

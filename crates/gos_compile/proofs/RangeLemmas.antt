@@ -30,7 +30,7 @@ use Rattle.gos_plan.specs.Kinds.{Part}
 use Rattle.gos_plan.specs.Ranges.{IsWidth, HasWidths, IsSmall, IsInRange, AreInRange}
 use Rattle.gos_plan.specs.Seen.{part_of, import_of}
 use Rattle.gos_compile.specs.Wiring.{Types, type_of_node, answer_bits, with_type, with_sides, with_types, shares, closed_part, binder_part, one_part, two_part, parts_of, import_types, all_types, all_parts}
-use Rattle.gos_compile.specs.Walked.{is_plain}
+use Rattle.gos_compile.specs.inner.Walked.{is_plain}
 
 -- a type with widths and few handshakes
 abbrev IsFine : Type' → Type 0

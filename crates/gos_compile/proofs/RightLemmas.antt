@@ -16,9 +16,9 @@ use Rattle.gos_compile.specs.declared.points.Point.{Point}
 use Rattle.gos_compile.specs.declared.points.Tie.{Tie}
 use Rattle.gos_compile.specs.declared.joints.Tables.{Tables}
 use Rattle.gos_compile.specs.Wiring.{at, Meet, Path, here, along, Connects, joint, Has}
-use Rattle.gos_compile.specs.Joined.{far_at}
-use Rattle.gos_compile.specs.Found.{code, IsTied, end_at, do_fit, found_from, found, all_found, far_by, bare, AreTables}
-use Rattle.gos_compile.specs.Counted.{once, meetings, IsThin}
+use Rattle.gos_compile.specs.inner.Joined.{far_at}
+use Rattle.gos_compile.specs.inner.Found.{code, IsTied, end_at, do_fit, found_from, found, all_found, far_by, bare, AreTables}
+use Rattle.gos_compile.specs.inner.Counted.{once, meetings, IsThin}
 use Rattle.gos_compile.proofs.CodeLemmas.{codes_tell, shakes_tied, path_leads}
 use Rattle.gos_compile.proofs.JointLemmas.{end_tells, at_end, from_ends, all_at, ask_serve, role_or, not_both, path_ends, joints_found}
 use Rattle.gos_compile.proofs.PlanLemmas.{bare_connects}

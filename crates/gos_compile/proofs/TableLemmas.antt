@@ -6,7 +6,7 @@ use Rattle.gos_types.specs.declared.types.Ty.TheVariants as types
 use Rattle.gos_types.specs.Types.{Type', Com, type_of}
 use Rattle.gos_syntax.specs.Modules.{SeenImport}
 use Rattle.gos_model.specs.Sources.{import_of}
-use Rattle.gos_compile.specs.Tables.{types_at}
+use Rattle.gos_compile.specs.inner.Tables.{types_at}
 use Rattle.gos_compile.specs.Wiring.{Types, import_types}
 
 abbrev head_of : List Type' → Type'

@@ -11,7 +11,7 @@ use Rattle.gos_compile.specs.declared.points.Point.{Point}
 use Rattle.gos_compile.specs.declared.points.Tie.{Tie}
 use Rattle.gos_compile.specs.Regular.{count}
 use Rattle.gos_compile.specs.Wiring.{Types, point, row, led, share_ties, shares_ties, ties_of, parts_of, type_of_node, nodes, binder_part, binder_ties, binder_out, one_part, one_ties, one_out, two_part, two_ties, first_out, second_out}
-use Rattle.gos_compile.specs.Counted.{place_once, once, meetings}
+use Rattle.gos_compile.specs.inner.Counted.{place_once, once, meetings}
 
 -- how often a point is in a list
 abbrev pub occurs : Point → List Point → ℕ

@@ -20,9 +20,9 @@ use Rattle.gos_compile.specs.declared.points.Point.{Point}
 use Rattle.gos_compile.specs.declared.points.Tie.{Tie}
 use Rattle.gos_compile.specs.Regular.{count}
 use Rattle.gos_compile.specs.Wiring.{Types, row, led, shares, closed_part, binder_part, one_part, two_part, parts_of, ties_of, type_of_node, nodes, import_ties, all_types, all_ties}
-use Rattle.gos_compile.specs.Joined.{touches}
-use Rattle.gos_compile.specs.Found.{code, bond_of, IsTied, ShakesBelow, end_of_place, end_at}
-use Rattle.gos_compile.specs.Counted.{place_once, once, meetings, IsThin}
+use Rattle.gos_compile.specs.inner.Joined.{touches}
+use Rattle.gos_compile.specs.inner.Found.{code, bond_of, IsTied, ShakesBelow, end_of_place, end_at}
+use Rattle.gos_compile.specs.inner.Counted.{place_once, once, meetings, IsThin}
 use Rattle.gos_compile.proofs.CodeLemmas.{codes_tell, shakes_tied}
 use Rattle.gos_compile.proofs.TallyLemmas.{meetings-append, led_row, row_once, shares_tally, binder_tally, one_tally, two_tally, tally, tallied}
 

@@ -3,10 +3,5 @@ pub mod Regular
 pub mod Matched
 pub mod Realises
 pub mod Wiring
-pub mod Tables
-pub mod Walked
-pub mod Contacts
-pub mod Joined
-pub mod Found
-pub mod Counted
 pub mod SmallPlans
+pub mod inner

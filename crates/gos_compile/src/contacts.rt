@@ -3,7 +3,7 @@
 ghost use Rattle.std.specs.Prelude.{◌≡◌, [], IfOk, slice_get};
 ghost use Rattle.gos_plan.specs.Plans.{contact_at};
 ghost use Rattle.gos_plan.specs.Seen.{end_of, plan_of};
-ghost use Rattle.gos_compile.specs.Contacts.{asked};
+ghost use Rattle.gos_compile.specs.inner.Contacts.{asked};
 
 use gos_plan::{Contact, End, Kind, PlanImport, part_contacts, type_contacts, user_contacts};
 use gos_types::{NoMemory, Ty};

@@ -5,7 +5,7 @@ ghost use Rattle.gos_types.specs.Types.{type_of};
 ghost use Rattle.gos_plan.specs.Kinds as kinds;
 ghost use Rattle.gos_plan.specs.Seen.{part_of, operation_of};
 ghost use Rattle.gos_model.specs.Sources.{op_of};
-ghost use Rattle.gos_compile.specs.Walked.{seen, is_plain, next_part, with_own, one_form, two_form};
+ghost use Rattle.gos_compile.specs.inner.Walked.{seen, is_plain, next_part, with_own, one_form, two_form};
 ghost use Rattle.gos_compile.specs.Wiring.{point, row, answer_bits, one_part, two_part, one_ties, two_ties, one_out, first_out, second_out, operation};
 
 use crate::points::{Place, Point, add_row, answer_bits, row, shakes};

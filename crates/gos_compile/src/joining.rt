@@ -4,7 +4,7 @@
 // bond makes one chain of two, and only their far ends change.
 
 ghost use Rattle.std.specs.Prelude.{◌≡◌, ◌≤◌, ◌<◌, ℕ, length, nat_eq, if◌then◌else◌, IfOk};
-ghost use Rattle.gos_compile.specs.Joined.{touches, AreFar, AreBelow, far_at, joined};
+ghost use Rattle.gos_compile.specs.inner.Joined.{touches, AreFar, AreBelow, far_at, joined};
 
 use gos_types::NoMemory;
 use std::alloc::Global;

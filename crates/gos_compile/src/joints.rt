@@ -1,14 +1,14 @@
 // The joints of a plan, from its ties.
 //
 // Read numbers.rt and joining.rt first. At each point of the ties that is an end its far point is looked up; where
-// the one asks and the other serves there is a joint. `specs/Found` says so, and that these joints are those of the
+// the one asks and the other serves there is a joint. `specs/inner/Found` says so, and that these joints are those of the
 // plan says `joints_found`, in proofs/JointLemmas.
 
 ghost use Rattle.std.specs.Prelude.{◌≡◌, ◌++◌, map, IfOk, OnOk};
 ghost use Rattle.gos_plan.specs.Seen.{joint_of};
-ghost use Rattle.gos_compile.specs.Contacts.{asked};
-ghost use Rattle.gos_compile.specs.Counted.{IsThin};
-ghost use Rattle.gos_compile.specs.Found.{AreTables, bare, do_fit, far_by, found, all_found, joints_seen};
+ghost use Rattle.gos_compile.specs.inner.Contacts.{asked};
+ghost use Rattle.gos_compile.specs.inner.Counted.{IsThin};
+ghost use Rattle.gos_compile.specs.inner.Found.{AreTables, bare, do_fit, far_by, found, all_found, joints_seen};
 
 use crate::contacts::contact_at;
 use crate::joining::far_ends;

@@ -8,7 +8,7 @@ ghost use Rattle.std.specs.List.{list_all};
 ghost use Rattle.gos_model.specs.Sources.{import_of};
 ghost use Rattle.gos_check.specs.Nodes.{node_seen};
 ghost use Rattle.gos_plan.specs.Seen.{part_of};
-ghost use Rattle.gos_compile.specs.Walked.{is_plain};
+ghost use Rattle.gos_compile.specs.inner.Walked.{is_plain};
 ghost use Rattle.gos_compile.specs.Wiring.{import_ties, all_parts, all_ties};
 
 use crate::points::{Place, Tie, after, lead_row, row, shakes};

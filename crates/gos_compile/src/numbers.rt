@@ -1,8 +1,8 @@
 // Numbers of points, by which tables are kept.
 
 ghost use Rattle.std.specs.Prelude.{◌≡◌, ◌≢◌, ◌≤◌, ◌<◌, ℕ, Some, map, slice_get, IfOk, OnOk};
-ghost use Rattle.gos_compile.specs.Joined.{AreBelow, far_at};
-ghost use Rattle.gos_compile.specs.Found.{slot, code, bond_of, ShakesBelow, AreNumbered, end_at, far_point, end_seen};
+ghost use Rattle.gos_compile.specs.inner.Joined.{AreBelow, far_at};
+ghost use Rattle.gos_compile.specs.inner.Found.{slot, code, bond_of, ShakesBelow, AreNumbered, end_at, far_point, end_seen};
 
 use crate::joining::{Bond, far_of};
 use crate::points::{Place, Point, Tie};

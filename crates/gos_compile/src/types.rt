@@ -4,7 +4,7 @@ ghost use Rattle.std.specs.Prelude.{◌≡◌, ◌<◌, ℕ, length, IfOk, OnOk,
 ghost use Rattle.gos_types.specs.Types.{type_of, Com, Fun};
 ghost use Rattle.gos_model.specs.Sources.{import_of};
 ghost use Rattle.gos_check.specs.Nodes.{argument_of, node_seen};
-ghost use Rattle.gos_compile.specs.Tables.{types_at};
+ghost use Rattle.gos_compile.specs.inner.Tables.{types_at};
 ghost use Rattle.gos_compile.specs.Wiring.{with_type, with_sides, with_types, import_types};
 
 use gos_check::{Node, NodeForm, Split};

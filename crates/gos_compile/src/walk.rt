@@ -1,6 +1,6 @@
 // The walk over a term: the parts of each node and its ties.
 //
-// Read points.rt, wires.rt and forms.rt first. `specs/Walked` has the same walk as a function of what was made
+// Read points.rt, wires.rt and forms.rt first. `specs/inner/Walked` has the same walk as a function of what was made
 // before; that it gives the parts and the ties of `specs/Wiring` say `wired_parts` and `wired_ties`, in
 // proofs/WalkLemmas.
 
@@ -9,8 +9,8 @@ ghost use Rattle.gos_types.specs.Types.{type_of};
 ghost use Rattle.gos_plan.specs.Kinds as kinds;
 ghost use Rattle.gos_check.specs.Nodes.{node_seen, OfFun, OfNew, argument_of};
 ghost use Rattle.gos_compile.specs.Regular.{count};
-ghost use Rattle.gos_compile.specs.Tables.{types_at};
-ghost use Rattle.gos_compile.specs.Walked.{seen, next_part, with_own, with_shares, wired, one_form, two_form};
+ghost use Rattle.gos_compile.specs.inner.Tables.{types_at};
+ghost use Rattle.gos_compile.specs.inner.Walked.{seen, next_part, with_own, with_shares, wired, one_form, two_form};
 ghost use Rattle.gos_compile.specs.Wiring.{type_of_node, led, point, answer_bits, binder_part, binder_ties, binder_out, one_part, two_part, one_ties, two_ties, one_out, first_out, second_out};
 
 use crate::forms::{OneRule, TwoRule, choice, front, one_point, rest};

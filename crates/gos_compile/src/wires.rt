@@ -3,8 +3,8 @@
 ghost use Rattle.std.specs.Prelude.{◌≡◌, ◌+◌, ◌++◌, ◌∷◌, [], IsTrue, IfOk, OnOk};
 ghost use Rattle.gos_plan.specs.Kinds as kinds;
 ghost use Rattle.gos_plan.specs.Seen.{part_of};
-ghost use Rattle.gos_compile.specs.Tables.{types_at};
-ghost use Rattle.gos_compile.specs.Walked.{seen, is_plain, next_part, with_own, with_share, with_shares};
+ghost use Rattle.gos_compile.specs.inner.Tables.{types_at};
+ghost use Rattle.gos_compile.specs.inner.Walked.{seen, is_plain, next_part, with_own, with_share, with_shares};
 ghost use Rattle.gos_compile.specs.Wiring.{led, row, share_ties};
 
 use crate::points::{Place, Point, Tie, after, lead, lead_row, shakes, sum};

@@ -2,7 +2,7 @@
 ghost use Rattle.gos_plan.specs.Seen.{part_of};
 ghost use Rattle.gos_control.specs.Layout.{layout, outs_of, late_of, pending_of, stands_of};
 ghost use Rattle.gos_control.specs.Ranges.{IsControl};
-ghost use Rattle.gos_control.specs.Kept.{control_gates};
+ghost use Rattle.gos_control.specs.laws.Kept.{control_gates};
 
 use crate::{choice, par, repeat, seq, skip};
 use gos_netlist::NetId;

@@ -2,7 +2,7 @@
 //
 // `control.rt` has the type for these parts and its `Macro`, which the layers above use. A file for each kind makes
 // its cells: `skip.rt`, `seq.rt`, `par.rt`, `choice.rt` (If), `repeat.rt` (While). The layouts are told in
-// `specs/Layout` and the files that it names. That they do what the parts do by their rows is `specs/Kept`, in the
+// `specs/Layout` and the files that it names. That they do what the parts do by their rows is `specs/laws/Kept`, in the
 // words of gos_plan.
 #![tactic(auto)]
 

@@ -8,13 +8,4 @@ pub mod Deref
 pub mod Local
 pub mod Layout
 pub mod Ranges
-pub mod Silent
-pub mod LitKept
-pub mod OpKept
-pub mod WaitingKept
-pub mod NotKept
-pub mod AssignKept
-pub mod DerefKept
-pub mod LocalKept
-pub mod LocalFit
-pub mod Kept
+pub mod laws

@@ -2,7 +2,7 @@
 ghost use Rattle.gos_plan.specs.Seen.{part_of};
 ghost use Rattle.gos_data.specs.Layout.{layout, outs_of, late_of, pending_of, stands_of};
 ghost use Rattle.gos_data.specs.Ranges.{IsArith};
-ghost use Rattle.gos_data.specs.Kept.{arith_gates};
+ghost use Rattle.gos_data.specs.laws.Kept.{arith_gates};
 
 use crate::{assign, deref, lit, local, not, op};
 use gos_netlist::NetId;

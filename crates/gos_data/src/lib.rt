@@ -2,7 +2,7 @@
 //
 // `arith.rt` has `Arith`, which the crates above use; each kind has a file of its own: `lit.rt`, `op.rt`, `not.rt`,
 // `assign.rt`, `deref.rt`, `local.rt`. Read `specs/Layout` first: it names the list of cells of each kind, which
-// `place` puts, and what its registers stand for. That these gates do what a part of the kind does is `specs/Kept`;
+// `place` puts, and what its registers stand for. That these gates do what a part of the kind does is `specs/laws/Kept`;
 // the firing rules and the law stand in gos_plan.
 #![tactic(auto)]
 

@@ -16,7 +16,7 @@ use Rattle.gos_plan.specs.Ranges.{HasWidths, IsInRange}
 use Rattle.gos_plan.specs.Seen.{SeenPlan, part_of, import_of, plan_of}
 use Rattle.gos_plan.specs.Fit.{GatesFit}
 use Rattle.gos_expand.specs.Gates.{layout, outs_of}
-use Rattle.gos_expand.specs.Kept.{all_gates}
+use Rattle.gos_expand.proofs.KeptLemmas.{all_gates}
 use Rattle.gos_expand.specs.Acceptance.{AreDifferent, CanBeLaid, LaidIsAccepted}
 use Rattle.gos_expand.proofs.NarrowLemmas.{IsNarrow, one_narrow, narrow_kind, narrow_type}
 use Rattle.gos_expand.proofs.FlowLemmas.{IsSound, cells_of}

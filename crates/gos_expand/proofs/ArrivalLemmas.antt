@@ -10,7 +10,7 @@ use Rattle.gos_plan.specs.Plans.{PartEnd, ImportEnd, ResultEnd, contacts_of_part
 use Rattle.gos_plan.specs.Seen.{SeenPlan, plan_of, part_of, import_of}
 use Rattle.gos_expand.specs.declared.arrivals.Arrival.{Arrival}
 use Rattle.gos_expand.specs.declared.arrivals.Arrivals.{Arrivals}
-use Rattle.gos_expand.specs.Arrivals.{new_arrival, arrival_in, arrival_if, AreAt, filled_if}
+use Rattle.gos_expand.specs.inner.Arrivals.{new_arrival, arrival_in, arrival_if, AreAt, filled_if}
 
 pub entries_held : (cs : List Contact) → map (λ c. new_arrival (contact_held c)) (map held_contact cs) ≡ map new_arrival cs
 entries_held [] = refl

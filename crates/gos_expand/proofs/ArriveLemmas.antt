@@ -7,7 +7,7 @@ use Rattle.gos_plan.specs.Contacts.{held_contact}
 use Rattle.gos_plan.specs.Plans.{End, PartEnd, ImportEnd, ResultEnd, Joint, Plan, contact_at, same_end}
 use Rattle.gos_expand.specs.Blocks.{nets_from, token_size, total}
 use Rattle.gos_expand.specs.Starts.{keep_all, bits_if, bits_taken, joint_size, loose_size, joints_start, joint_start, loose_start, loose_ends_start, loose_ends, parts_start, laid_size, start_among}
-use Rattle.gos_expand.specs.Arrivals.{arrival_if, or_else, some_if, start_by_joints, start_by_ends, joined_start, start_at, nets_of}
+use Rattle.gos_expand.specs.inner.Arrivals.{arrival_if, or_else, some_if, start_by_joints, start_by_ends, joined_start, start_at, nets_of}
 use Rattle.gos_expand.specs.declared.arrivals.Arrival.{Arrival}
 use Rattle.gos_expand.specs.Laid.{Seat, seat_among, seat_of, way_start, arrives_by, arrives}
 use Rattle.gos_expand.proofs.BlockLemmas.{total_suc}

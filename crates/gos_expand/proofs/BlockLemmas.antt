@@ -5,7 +5,7 @@ use Rattle.std.proofs.lemmas.List.{length-append}
 use Rattle.std.proofs.lemmas.Option.{slice_get_read}
 use Rattle.gos_netlist.specs.Nets.{Cell}
 use Rattle.gos_expand.specs.Blocks.{blocks, total}
-use Rattle.gos_expand.specs.Numbering.{starts}
+use Rattle.gos_expand.specs.inner.Numbering.{starts}
 
 up : (i : ℕ) → i + 1 ≡ suc i
 up i = omega arith

@@ -15,10 +15,10 @@ use Rattle.gos_expand.specs.declared.places.Place.TheVariants as places
 use Rattle.gos_expand.specs.Gates.{layout, part_size}
 use Rattle.gos_expand.specs.Blocks.{Nets, token_size, token_cells, blocks}
 use Rattle.gos_expand.specs.Starts.{Outer, keep_all, bits_if, bits_taken, shake_size, joint_size, loose_size}
-use Rattle.gos_expand.specs.Arrivals.{arrival_if, start_at}
-use Rattle.gos_expand.specs.Numbering.{end_at}
+use Rattle.gos_expand.specs.inner.Arrivals.{arrival_if, start_at}
+use Rattle.gos_expand.specs.inner.Numbering.{end_at}
 use Rattle.gos_expand.specs.Laid.{leaves, arrives, side_cells, shake_cells, joint_cells, loose_cells, port_cells}
-use Rattle.gos_expand.specs.Outers.{outer_at, side_at}
+use Rattle.gos_expand.specs.inner.Outers.{outer_at, side_at}
 use Rattle.gos_expand.proofs.PortLemmas.{taken_port}
 use Rattle.gos_expand.proofs.ShareLemmas.{share_length}
 

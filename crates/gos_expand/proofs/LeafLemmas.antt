@@ -11,7 +11,7 @@ use Rattle.gos_plan.specs.Fit.{AllGoOut}
 use Rattle.gos_plan.specs.Wires.{HoldNets}
 use Rattle.gos_plan.specs.Seen.{part_of}
 use Rattle.gos_expand.specs.Gates.{outs_of}
-use Rattle.gos_expand.specs.Dispatch.{gates_for, part_in, cells_in, outs_in, IsLaidOut, gates_keep}
+use Rattle.gos_expand.specs.inner.Dispatch.{gates_for, part_in, cells_in, outs_in, IsLaidOut, gates_keep}
 use Rattle.gos_expand.specs.Laid.{nets_out}
 
 -- the part and the nets of its gates, whichever crate lays them out

@@ -21,6 +21,7 @@ pub mod RingLemmas
 pub mod SpotLemmas
 pub mod RightPortLemmas
 pub mod NarrowLemmas
+pub mod KeptLemmas
 pub mod AcceptLemmas
 pub mod FewLemmas
 pub mod TallyLemmas

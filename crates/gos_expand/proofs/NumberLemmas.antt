@@ -12,11 +12,11 @@ use Rattle.gos_plan.specs.Seen.{part_of}
 use Rattle.gos_plan.specs.Gates.{Incoming}
 use Rattle.gos_expand.specs.declared.arrivals.Arrivals.{Arrivals}
 use Rattle.gos_expand.specs.Gates.{layout, part_size}
-use Rattle.gos_expand.specs.Dispatch.{gates_for, cells_in}
+use Rattle.gos_expand.specs.inner.Dispatch.{gates_for, cells_in}
 use Rattle.gos_expand.specs.Blocks.{token_size, total}
 use Rattle.gos_expand.specs.Starts.{keep_all, bits_if, joint_size, loose_size}
 use Rattle.gos_expand.proofs.BlockLemmas.{take_one}
-use Rattle.gos_expand.specs.Arrivals.{arrival_if, AreAt, or_else, some_if, filled_if, Fills, start_by, start_by_joints, start_by_ends}
+use Rattle.gos_expand.specs.inner.Arrivals.{arrival_if, AreAt, or_else, some_if, filled_if, Fills, start_by, start_by_joints, start_by_ends}
 
 or_else_assoc : (a b c : Option ℕ) → or_else (or_else a b) c ≡ or_else a (or_else b c)
 or_else_assoc None b c = refl

@@ -10,8 +10,8 @@ use Rattle.gos_model.specs.Typing.{Imported}
 use Rattle.gos_plan.specs.Plans.{End, PartEnd, ImportEnd, ResultEnd, Plan, contact_at}
 use Rattle.gos_plan.specs.Seen.{end_of}
 use Rattle.gos_expand.specs.Starts.{ports_of, taken_ports, ends_at, port_ends, part_ends}
-use Rattle.gos_expand.specs.Arrivals.{Exist}
-use Rattle.gos_expand.specs.Numbering.{ends_from}
+use Rattle.gos_expand.specs.inner.Arrivals.{Exist}
+use Rattle.gos_expand.specs.inner.Numbering.{ends_from}
 use Rattle.gos_expand.proofs.BlockLemmas.{take_one}
 
 -- one end more

@@ -5,7 +5,7 @@ use Rattle.std.proofs.lemmas.List.{length-append}
 use Rattle.gos_netlist.specs.Nets.{Cell}
 use Rattle.gos_pool.specs.Pools.{Pool, with_closed}
 use Rattle.gos_expand.specs.Blocks.{blocks}
-use Rattle.gos_expand.specs.Tokens.{Places}
+use Rattle.gos_expand.specs.inner.Tokens.{Places}
 use Rattle.gos_expand.proofs.BlockLemmas.{blocks_more, blocks_within}
 
 append_nil : (cs : List Cell) → cs ++ [] ≡ cs

@@ -12,7 +12,7 @@ use Rattle.gos_plan.specs.Gates.{Incoming}
 use Rattle.gos_plan.specs.Kinds.{Share, Contact, contact, contacts_of, part_contacts, turned_contact, other_side}
 use Rattle.gos_share.specs.Blocks.{block_cells, block_size, kept_net}
 use Rattle.gos_share.specs.Share.{row_cells, share_cells}
-use Rattle.gos_share.specs.Row.{block_length}
+use Rattle.gos_share.specs.laws.Row.{block_length}
 use Rattle.gos_expand.specs.Gates.{part_size}
 
 -- the blocks of these handshakes

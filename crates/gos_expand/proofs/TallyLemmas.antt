@@ -12,7 +12,7 @@ use Rattle.gos_plan.specs.Fit.{GoesOut, AllGoOut}
 use Rattle.gos_plan.specs.Law.{Asked, Fires, times, pulse_at, pulsed}
 use Rattle.gos_plan.specs.Cycles.{PartFiring, fires_of}
 use Rattle.gos_plan.specs.Projection.{firings_of}
-use Rattle.gos_plan.specs.Inversion.{same}
+use Rattle.gos_plan.specs.laws.Inversion.{same}
 
 -- firings in two lists, one after the other
 pub record Split (k : Part) (x : ℕ → ℕ) (xs ys : List Slot) (o p : Asked) (q r : State) (ts : List Token) : Type 0 where

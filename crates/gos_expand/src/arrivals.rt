@@ -6,8 +6,8 @@ ghost use Rattle.gos_plan.specs.Seen.{plan_of, part_of, end_of};
 ghost use Rattle.gos_plan.specs.Contacts.{contact_held};
 ghost use Rattle.gos_plan.specs.Gates.{bits_out};
 ghost use Rattle.gos_plan.specs.Tokens.{bits_of, way_taken};
-ghost use Rattle.gos_expand.specs.Arrivals.{new_arrival, arrival_in, arrival_at, AreAt, filled_if, Fills, nets_of};
-ghost use Rattle.gos_expand.specs.Tokens.{held_nets};
+ghost use Rattle.gos_expand.specs.inner.Arrivals.{new_arrival, arrival_in, arrival_at, AreAt, filled_if, Fills, nets_of};
+ghost use Rattle.gos_expand.specs.inner.Tokens.{held_nets};
 
 use crate::tokens::{Nets, nets_from};
 use gos_plan::{Contact, End, Kind, Plan, PlanImport, part_contacts, type_contacts, user_contacts};

@@ -1,7 +1,7 @@
 // The gates of a part, whichever crate lays them out.
 ghost use Rattle.std.specs.Prelude.{◌≡◌};
 ghost use Rattle.gos_plan.specs.Ranges.{IsInRange};
-ghost use Rattle.gos_expand.specs.Dispatch.{gates_for, part_in, cells_in, outs_in, late_in, pending_in, stands_in, IsLaidOut, gates_keep};
+ghost use Rattle.gos_expand.specs.inner.Dispatch.{gates_for, part_in, cells_in, outs_in, late_in, pending_in, stands_in, IsLaidOut, gates_keep};
 
 use gos_control::Control;
 use gos_data::Arith;

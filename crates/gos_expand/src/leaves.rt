@@ -9,8 +9,8 @@ ghost use Rattle.gos_plan.specs.Seen.{plan_of, part_of, end_of};
 ghost use Rattle.gos_expand.specs.Gates.{outs_of, part_size};
 ghost use Rattle.gos_expand.specs.Starts.{keep_all};
 ghost use Rattle.gos_expand.specs.Laid.{nets_out, request_start, leaves, arrives};
-ghost use Rattle.gos_expand.specs.Tokens.{held_nets};
-ghost use Rattle.gos_expand.specs.Numbering.{IsExpandable, IsNumbered};
+ghost use Rattle.gos_expand.specs.inner.Tokens.{held_nets};
+ghost use Rattle.gos_expand.specs.inner.Numbering.{IsExpandable, IsNumbered};
 
 use crate::gates::gates_of;
 use crate::numbering::Numbering;

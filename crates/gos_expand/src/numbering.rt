@@ -10,8 +10,8 @@ ghost use Rattle.gos_plan.specs.Ranges.{IsInRange};
 ghost use Rattle.gos_expand.specs.Blocks.{token_size, total};
 ghost use Rattle.gos_expand.specs.Gates.{part_size};
 ghost use Rattle.gos_expand.specs.Starts.{keep_all, shake_size, port_size, ports_of, joints_start, joint_size, loose_ends, loose_ends_start, loose_size, parts_start, laid_size, bits_if, bits_taken};
-ghost use Rattle.gos_expand.specs.Arrivals.{AreAt, Exist, or_else, start_by, start_by_joints, start_by_ends, joined_start, start_at};
-ghost use Rattle.gos_expand.specs.Numbering.{IsExpandable, IsNumbered, starts};
+ghost use Rattle.gos_expand.specs.inner.Arrivals.{AreAt, Exist, or_else, start_by, start_by_joints, start_by_ends, joined_start, start_at};
+ghost use Rattle.gos_expand.specs.inner.Numbering.{IsExpandable, IsNumbered, starts};
 
 use crate::arrivals::Arrivals;
 use crate::gates::gates_of;

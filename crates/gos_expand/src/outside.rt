@@ -8,7 +8,7 @@ ghost use Rattle.gos_plan.specs.Seen.{plan_of};
 ghost use Rattle.gos_expand.specs.Blocks.{nets_on, total};
 ghost use Rattle.gos_expand.specs.Starts.{shake_size};
 ghost use Rattle.gos_expand.specs.Laid.{laid_port, taken};
-ghost use Rattle.gos_expand.specs.Numbering.{IsExpandable, IsNumbered};
+ghost use Rattle.gos_expand.specs.inner.Numbering.{IsExpandable, IsNumbered};
 
 use crate::numbering::{Numbering, port_cells};
 use gos_lex::{LexFault, Name};

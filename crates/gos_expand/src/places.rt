@@ -5,8 +5,8 @@ ghost use Rattle.gos_plan.specs.Kinds.{part_contacts};
 ghost use Rattle.gos_plan.specs.Seen.{plan_of, part_of, end_of};
 ghost use Rattle.gos_plan.specs.Ranges.{IsInRange};
 ghost use Rattle.gos_expand.specs.Starts.{ports_of, taken_ports, port_ends, part_ends};
-ghost use Rattle.gos_expand.specs.Numbering.{IsExpandable, end_at, ends_from};
-ghost use Rattle.gos_expand.specs.Outers.{side_at};
+ghost use Rattle.gos_expand.specs.inner.Numbering.{IsExpandable, end_at, ends_from};
+ghost use Rattle.gos_expand.specs.inner.Outers.{side_at};
 
 use gos_netlist::Side;
 use gos_plan::{End, Kind, Plan};

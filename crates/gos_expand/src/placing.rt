@@ -11,9 +11,9 @@ ghost use Rattle.gos_expand.specs.Blocks.{blocks};
 ghost use Rattle.gos_expand.specs.Gates.{part_size};
 ghost use Rattle.gos_expand.specs.Starts.{keep_all, shake_size, joint_size, ports_of, taken_ports, loose_ends, port_size, part_start, parts_start};
 ghost use Rattle.gos_expand.specs.Laid.{side_cells, port_cells, joint_cells, loose_cells, part_cells, incoming};
-ghost use Rattle.gos_expand.specs.Tokens.{held_nets, Places};
-ghost use Rattle.gos_expand.specs.Numbering.{IsExpandable, IsNumbered};
-ghost use Rattle.gos_expand.specs.Outers.{outer_at, side_at};
+ghost use Rattle.gos_expand.specs.inner.Tokens.{held_nets, Places};
+ghost use Rattle.gos_expand.specs.inner.Numbering.{IsExpandable, IsNumbered};
+ghost use Rattle.gos_expand.specs.inner.Outers.{outer_at, side_at};
 
 use crate::gates::gates_of;
 use crate::leaves::{arrives, leaves, no_wires};

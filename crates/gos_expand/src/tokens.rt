@@ -2,7 +2,7 @@
 ghost use Rattle.std.specs.Prelude.{◌≡◌, ◌<◌, ◌≤◌, Some};
 ghost use Rattle.gos_netlist.specs.Seen.{function_of};
 ghost use Rattle.gos_expand.specs.Blocks.{nets_from, token_size, token_cells, inputs, registers, nothing};
-ghost use Rattle.gos_expand.specs.Tokens.{held_nets, Places};
+ghost use Rattle.gos_expand.specs.inner.Tokens.{held_nets, Places};
 
 use gos_netlist::{Gate, NetId};
 use gos_plan::cells::{bit, wide};

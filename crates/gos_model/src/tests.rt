@@ -8,6 +8,7 @@ fn laws_return(rt: HostRuntime) {
     laws::small_modules();
     laws::types_of_terms();
     laws::reached_places();
+    laws::writes();
     laws::latch_pulses();
     laws::keeping_pace();
     assert!(rt; true);

@@ -8,7 +8,7 @@ use Rattle.gos_netcheck.specs.CellRules.{NetsExist, WidthsFit}
 use Rattle.gos_netcheck.specs.PortRules.{PortsFit}
 use Rattle.gos_netcheck.specs.Schedule.{IsSchedule}
 use Rattle.gos_netcheck.specs.Accepted.{IsAccepted, HasFault}
-use Rattle.gos_netcheck.specs.Search.{IsCycleFault}
+use Rattle.gos_netcheck.specs.inner.Search.{IsCycleFault}
 use Rattle.gos_netcheck.proofs.ScheduleLemmas.{scheduled_is_acyclic}
 
 -- what follows from what a clause says of the value in an `Ok`, and in an `Err`

@@ -11,7 +11,7 @@ use Rattle.gos_netlist.specs.Seen.{number_of}
 use Rattle.gos_netcheck.specs.declared.ports.Place.{Place}
 use Rattle.gos_netcheck.specs.Rules.{KeptBefore}
 use Rattle.gos_netcheck.specs.PortRules.{HasSide, Fits, AllFit, AreNew, IsRightPort, inputs_among, inputs_of, all_inputs, places}
-use Rattle.gos_netcheck.specs.PortSearch.{AreTaken}
+use Rattle.gos_netcheck.specs.inner.PortSearch.{AreTaken}
 use Rattle.gos_netcheck.proofs.TurnLemmas.{no_net}
 
 pub is_right : (cells : List Cell) (ports : List NetPort) (k : ℕ) (seen p : NetPort) → seen ≡ p → HasSide k seen.side seen.ty

@@ -12,7 +12,7 @@ use Rattle.std.proofs.lemmas.Option.{same_Some}
 use Rattle.gos_netlist.specs.Nets.{NetPort}
 use Rattle.gos_netcheck.specs.Rules.{KeptBefore}
 use Rattle.gos_netcheck.specs.PortRules.{inputs_of, all_inputs}
-use Rattle.gos_netcheck.specs.PortSearch.{has_name, is_named, HasNames, AreTaken}
+use Rattle.gos_netcheck.specs.inner.PortSearch.{has_name, is_named, HasNames, AreTaken}
 use Rattle.gos_netcheck.proofs.TurnLemmas.{take_one_more}
 
 or_true : (x y : Bool) → (x || y) ≡ true → x ≡ false → y ≡ true

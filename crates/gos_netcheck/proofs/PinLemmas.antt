@@ -15,7 +15,7 @@ use Rattle.gos_netcheck.specs.declared.schedule.Mark.{Mark}
 use Rattle.gos_netcheck.specs.declared.schedule.Mark.TheVariants.{Placed}
 use Rattle.gos_netcheck.specs.Rules.{Kept}
 use Rattle.gos_netcheck.specs.CellRules.{NetsExist}
-use Rattle.gos_netcheck.specs.Search.{IsDone, IsUndone, IsReady, IsWaiting}
+use Rattle.gos_netcheck.specs.inner.Search.{IsDone, IsUndone, IsReady, IsWaiting}
 use Rattle.gos_netcheck.proofs.RuleLemmas.{get_mapped}
 use Rattle.gos_netcheck.proofs.TurnLemmas.{no_net}
 

@@ -11,7 +11,7 @@ use Rattle.gos_netlist.specs.Seen.{cell_of, function_of, number_of}
 use Rattle.gos_netcheck.specs.declared.ports.Place.{Place}
 use Rattle.gos_netcheck.specs.Rules.{KeptBefore, Kept}
 use Rattle.gos_netcheck.specs.PortRules.{IsEnd, Fits, FitsAt, AreNew, IsLoose, inputs_among}
-use Rattle.gos_netcheck.specs.PortSearch.{AreTaken}
+use Rattle.gos_netcheck.specs.inner.PortSearch.{AreTaken}
 use Rattle.gos_netcheck.proofs.RuleLemmas.{get_mapped, mapped_more, mapped_all}
 use Rattle.gos_netcheck.proofs.TurnLemmas.{no_net, first, head_or_later, not_in_nil, take_one_more}
 

@@ -11,7 +11,7 @@ use Rattle.gos_netlist.specs.Nets.{Cell}
 use Rattle.gos_netcheck.specs.declared.schedule.Mark.{Mark}
 use Rattle.gos_netcheck.specs.declared.schedule.Mark.TheVariants.{New, Open, Placed}
 use Rattle.gos_netcheck.specs.Schedule.{IsDue, IsSchedule}
-use Rattle.gos_netcheck.specs.Search.{Trail, IsSearch, IsReady, IsBegun, IsLater, steps_of}
+use Rattle.gos_netcheck.specs.inner.Search.{Trail, IsSearch, IsReady, IsBegun, IsLater, steps_of}
 use Rattle.gos_netcheck.proofs.TurnLemmas.{first, later, head_or_later, not_in_nil}
 
 same_by : (a b : ℕ) (t : Bool) → eqb a b ≡ t → (a ≡ b) ⊎ (a ≢ b)

@@ -12,8 +12,8 @@ use Rattle.gos_netcheck.specs.declared.schedule.Mark.TheVariants.{New, Open, Pla
 use Rattle.gos_netcheck.specs.declared.schedule.Search.{Search}
 use Rattle.gos_netcheck.specs.Accepted.{IsCycleFromLeast}
 use Rattle.gos_netcheck.specs.Schedule.{IsSchedule}
-use Rattle.gos_netcheck.specs.Turning.{IsFrontTo, IsTurned}
-use Rattle.gos_netcheck.specs.Search.{Trail, IsSearch, Stands, path_of, IsReady, IsWaiting, IsBegun, IsLater}
+use Rattle.gos_netcheck.specs.inner.Turning.{IsFrontTo, IsTurned}
+use Rattle.gos_netcheck.specs.inner.Search.{Trail, IsSearch, Stands, path_of, IsReady, IsWaiting, IsBegun, IsLater}
 use Rattle.gos_netcheck.proofs.TurnLemmas.{first, cycle_found}
 use Rattle.gos_netcheck.proofs.SearchLemmas.{set_here, goes_on, places, later_by_open, later_by_placed, search_ends}
 use Rattle.gos_netcheck.proofs.ScheduleLemmas.{place_of}

@@ -11,8 +11,8 @@ use Rattle.gos_netlist.specs.Nets.{Cell}
 use Rattle.gos_netlist.specs.Seen.{number_of}
 use Rattle.gos_netlist.specs.Cycles.{Feeds, Chain, Distinct, CombinationalCycle}
 use Rattle.gos_netcheck.specs.Accepted.{BeginsWithLeast, IsCycleFromLeast}
-use Rattle.gos_netcheck.specs.Turning.{IsFrontTo, IsTurned}
-use Rattle.gos_netcheck.specs.Search.{Trail}
+use Rattle.gos_netcheck.specs.inner.Turning.{IsFrontTo, IsTurned}
+use Rattle.gos_netcheck.specs.inner.Search.{Trail}
 use Rattle.gos_netcheck.proofs.RuleLemmas.{get_mapped}
 
 -- what a list of nets is read as past its end

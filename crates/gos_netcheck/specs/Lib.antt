@@ -4,6 +4,4 @@ pub mod CellRules
 pub mod PortRules
 pub mod Schedule
 pub mod Accepted
-pub mod Turning
-pub mod Search
-pub mod PortSearch
+pub mod inner

@@ -22,7 +22,7 @@ pub struct Checked {
 impl Model for Checked {
     ghost use Rattle.std.specs.Prelude.{map};
     ghost use Rattle.std.specs.Coded.{codes};
-    ghost use Rattle.gos_types.specs.TypeCode.{type_code};
+    ghost use Rattle.gos_types.specs.inner.TypeCode.{type_code};
     ghost use Rattle.gos_netlist.specs.Nets.{Netlist as Circuit};
 
     ghost Value = { Circuit };

@@ -1,7 +1,7 @@
 // The cycle that the search came upon, from its least net on.
 ghost use Rattle.std.specs.Prelude.{◌≡◌, ℕ, ◌<◌, ◌≤◌, List, Some, IfOk, All, map, length, reverse, vec_len, slice_get, get_or};
 ghost use Rattle.gos_netlist.specs.Seen.{number_of};
-ghost use Rattle.gos_netcheck.specs.Turning.{IsFrontTo, IsTurned};
+ghost use Rattle.gos_netcheck.specs.inner.Turning.{IsFrontTo, IsTurned};
 
 use gos_netlist::NetId;
 use gos_types::NoMemory;

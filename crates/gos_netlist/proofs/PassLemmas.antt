@@ -11,7 +11,7 @@ use Rattle.gos_netlist.specs.declared.nets.Cell as declared
 use Rattle.gos_netlist.specs.Nets.{Cell, Input}
 use Rattle.gos_netlist.specs.Seen.{cell_of}
 use Rattle.gos_netlist.specs.Settling.{Numbers, at, shown, Settling}
-use Rattle.gos_netlist.specs.Passes.{pass_from, pass}
+use Rattle.gos_netlist.specs.inner.Passes.{pass_from, pass}
 
 -- a power of two of at most 64 bits is its own remainder
 pub small_power : (k : ℕ) → k ≤ 64 → (1 * 2 ^ k % 2 ^ 128 ≡ 2 ^ k) × (0 < 2 ^ k) × (2 ^ k ≤ 2 ^ 64)

@@ -11,7 +11,7 @@ use Rattle.std.proofs.lemmas.Option.{slice_get_cases}
 use Rattle.gos_netlist.specs.Nets.{Function, Input, Const, Not, And, Or, Xor, Mux, Add, Sub, Eq, Less, Gate, Reg, Cell, pins}
 use Rattle.gos_netlist.specs.Settling.{Numbers, at, shown, Settling}
 use Rattle.gos_netlist.specs.Cycles.{IsRegister, Feeds, Chain, HasCycle}
-use Rattle.gos_netlist.specs.Passes.{pass, after_passes}
+use Rattle.gos_netlist.specs.inner.Passes.{pass, after_passes}
 use Rattle.gos_netlist.specs.Laws.{AcyclicSettles, AcyclicSettlesOnce}
 use Rattle.gos_netlist.proofs.PassLemmas.{at_pass, length-pass_from, settling_of_pass, pass_of_settling}
 use Rattle.gos_netlist.proofs.RepeatLemmas.{same_or_not, long_chain_has_cycle}

@@ -8,6 +8,6 @@ pub mod Writable
 pub mod NetFaults
 pub mod NetItems
 pub mod Seen
-pub mod Passes
 pub mod SmallNets
 pub mod Laws
+pub mod inner

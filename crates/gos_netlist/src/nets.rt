@@ -130,7 +130,7 @@ pub struct Netlist {
 impl Model for Port {
     ghost use Rattle.std.specs.Prelude.{map};
     ghost use Rattle.std.specs.Coded.{codes};
-    ghost use Rattle.gos_types.specs.TypeCode.{type_code};
+    ghost use Rattle.gos_types.specs.inner.TypeCode.{type_code};
     ghost use Rattle.gos_netlist.specs.Nets.{NetPort};
 
     ghost Value = { NetPort };
@@ -145,7 +145,7 @@ impl Model for Port {
 impl Model for Netlist {
     ghost use Rattle.std.specs.Prelude.{map};
     ghost use Rattle.std.specs.Coded.{codes};
-    ghost use Rattle.gos_types.specs.TypeCode.{type_code};
+    ghost use Rattle.gos_types.specs.inner.TypeCode.{type_code};
     ghost use Rattle.gos_netlist.specs.Nets.{Netlist as Circuit};
 
     ghost Value = { Circuit };

@@ -3,7 +3,7 @@ ghost use Rattle.std.specs.Prelude.{◌≡◌, ◌<◌, ◌≤◌, ◌+◌, ◌-
 ghost use Rattle.gos_netlist.specs.Seen.{cell_of, function_of, number_of};
 ghost use Rattle.gos_netlist.specs.Settling.{Settling, at, shown};
 ghost use Rattle.gos_netlist.specs.Cycles.{HasCycle};
-ghost use Rattle.gos_netlist.specs.Passes.{pass, after_passes};
+ghost use Rattle.gos_netlist.specs.inner.Passes.{pass, after_passes};
 
 use crate::nets::{Cell, Gate, NetId, Netlist};
 use gos_types::NoMemory;

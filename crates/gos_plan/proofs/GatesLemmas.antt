@@ -12,7 +12,7 @@ use Rattle.gos_plan.specs.Gates.{Incoming, pulse_in, value_in, due, value_due, S
 use Rattle.gos_plan.specs.Law.{Asked, after_taking, after_putting, PutsWell, Fires, times, GatesLaw}
 use Rattle.gos_plan.specs.Fit.{IsKnown, NameEarlier, BitsComeIn, HaveBits}
 use Rattle.gos_plan.specs.SmallGates.{SharedGates, shared_cells, shared_outs, shared_late, shared_pending, SharedStands}
-use Rattle.gos_plan.specs.Inversion.{first_or_later, no_row, stepped}
+use Rattle.gos_plan.specs.laws.Inversion.{first_or_later, no_row, stepped}
 
 -- A Share of a command: what is answered goes to the branch.
 abbrev to_branch : ℕ → ℕ

@@ -9,7 +9,7 @@ use Rattle.gos_plan.specs.Firing.{State, Slot, Token, Row, rows, row_for}
 use Rattle.gos_plan.specs.Plans.{End, Plan, contact_at, same_end}
 use Rattle.gos_plan.specs.Tokens.{Tokens, Element, Fire, Out, In, places_of, held_at, with_held, with_token, with_state, with_puts, token_at, end_of, way_of, way_taken, way_put, firing_of, Passes, Does}
 use Rattle.gos_plan.specs.Orderly.{Open, named_by, handshake_at, with_open, after_taken, after_put, ComesWell, AllComeWell, after_puts, ComesInOrder, OrderlyFrom, OrderlyHoldsOne}
-use Rattle.gos_plan.specs.Inversion.{first_or_later}
+use Rattle.gos_plan.specs.laws.Inversion.{first_or_later}
 use Rattle.gos_plan.proofs.JointLemmas.{same_is}
 
 -- what lies in the two places of a joint, by whether its handshake is open

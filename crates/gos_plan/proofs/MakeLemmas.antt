@@ -13,7 +13,7 @@ use Rattle.gos_plan.specs.declared.seats.Seats.{Seats}
 use Rattle.gos_plan.specs.Kinds.{Contact, contacts_of, other_side, part_contacts}
 use Rattle.gos_plan.specs.Plans.{PartEnd, ImportEnd, ResultEnd, Joint, Plan, contact_at, contacts_of_part, contacts_of_import, turned_if, IsRightAfter, AreRight, IsRight}
 use Rattle.gos_plan.specs.Seen.{SeenPlan, plan_of, part_of, import_of, joint_of}
-use Rattle.gos_plan.specs.Seats.{free_seat, contact_of, seat_in, seat_at, Stands, kind_seats, import_seats, AreSeats}
+use Rattle.gos_plan.specs.inner.Seats.{free_seat, contact_of, seat_in, seat_at, Stands, kind_seats, import_seats, AreSeats}
 
 -- one joint more
 pub right_more : (p : Plan) (before js : List Joint) (j : Joint) → AreRight p before js → IsRightAfter p (reverse js ++ before) j → AreRight p before (js ++ j ∷ [])

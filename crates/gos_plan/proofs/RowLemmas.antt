@@ -7,8 +7,8 @@ use Rattle.gos_plan.specs.Kinds.{Part, Skip, Lit, Seq, Par, If, While, Op, Not, 
 use Rattle.gos_plan.specs.Firing.{Phase, Rest, First, Second, Both, LeftOnly, RightOnly, Test, Branch, Body, Left, Right, Waiting, Value, Writing, Active, State, at, Slot, Req, Ans, Token, Row, rows, row_for}
 use Rattle.gos_plan.specs.Tokens.{shake_of}
 use Rattle.gos_plan.specs.Turns.{IsUnshared}
-use Rattle.gos_plan.specs.Engaged.{is_engaged}
-use Rattle.gos_plan.specs.Inversion.{first_or_later}
+use Rattle.gos_plan.specs.inner.Engaged.{is_engaged}
+use Rattle.gos_plan.specs.laws.Inversion.{first_or_later}
 use Rattle.gos_plan.proofs.BalanceLemmas.{before_putting}
 
 -- the role of a part at the slot that it takes, and at one that it puts

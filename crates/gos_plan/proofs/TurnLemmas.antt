@@ -14,7 +14,7 @@ use Rattle.gos_plan.specs.Firing.{Rest, State, Slot, Req, Ans, Token, Row, rows,
 use Rattle.gos_plan.specs.Plans.{End, PartEnd, ImportEnd, ResultEnd, Plan, IsRight, contact_at, same_end}
 use Rattle.gos_plan.specs.Tokens.{Tokens, Element, Fire, Out, In, shake_of, way_of, end_of, token_at, with_token, with_held, with_state, with_puts, places_of, firing_of, fired, way_taken, way_put, IsPortEnd, Passes, Does, Runs, IsIdle}
 use Rattle.gos_plan.specs.Turns.{alternates, alternates_at, Alternates, InputsAlternate, IsEmptyAt, PutsOnEmpty, HoldsOne, AllHoldOne, IsUnshared, OneTokenEach}
-use Rattle.gos_plan.specs.Engaged.{is_engaged, is_engaged_at}
+use Rattle.gos_plan.specs.inner.Engaged.{is_engaged, is_engaged_at}
 use Rattle.gos_plan.proofs.JointLemmas.{same_is, same_itself}
 use Rattle.gos_plan.proofs.BalanceLemmas.{Balanced, turned_at, before_taking, before_putting, taken, put_well, balanced_by, at_most_one}
 use Rattle.gos_plan.proofs.RowLemmas.{role_taking, role_putting, flipped, Turns, RowKeeps, table, row_with}

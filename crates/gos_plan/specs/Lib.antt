@@ -6,7 +6,6 @@ pub mod Plans
 pub mod Size
 pub mod Tokens
 pub mod Turns
-pub mod Engaged
 pub mod Orderly
 pub mod Decided
 pub mod Seen
@@ -15,17 +14,12 @@ pub mod Ranges
 pub mod TokenBits
 pub mod Faults
 pub mod Contacts
-pub mod Seats
-pub mod Inside
 pub mod Gates
 pub mod Law
 pub mod Fit
 pub mod Kept
 pub mod Cells
 pub mod SmallGates
-pub mod Inversion
-pub mod Passing
-pub mod SkipKept
 pub mod Wires
 pub mod Projection
 pub mod Accounts
@@ -39,4 +33,5 @@ pub mod TextItems
 pub mod ObjectText
 pub mod ObjectItems
 pub mod ObjectFaults
-pub mod Values
+pub mod inner
+pub mod laws

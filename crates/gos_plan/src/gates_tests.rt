@@ -3,7 +3,7 @@ ghost use Rattle.std.specs.Prelude.{[]};
 ghost use Rattle.gos_plan.specs.Kinds.{Skip};
 ghost use Rattle.gos_plan.specs.Gates.{nothing_pending};
 ghost use Rattle.gos_plan.specs.SmallGates.{skip_cells, skip_outs, skip_stands};
-ghost use Rattle.gos_plan.specs.SkipKept.{skip_gates};
+ghost use Rattle.gos_plan.specs.laws.SkipKept.{skip_gates};
 
 use crate::gates::{Macro, Wire};
 use gos_netlist::{Cell, Gate, NetId};

@@ -57,7 +57,7 @@ impl Model for Plan {
 
     ghost coded = { Prim.hlevel (codes, a_type.the_row.coded, a_kind.the_row.coded, an_import.the_row.coded) };
 
-    ghost use Rattle.gos_plan.specs.Inside.{seen_of, IsKept};
+    ghost use Rattle.gos_plan.specs.inner.Inside.{seen_of, IsKept};
 
     ghost view = { seen_of };
 

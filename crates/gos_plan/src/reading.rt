@@ -6,7 +6,7 @@ ghost use Rattle.gos_plan.specs.Seen.{plan_of};
 ghost use Rattle.gos_plan.specs.TextItems.{Reads, Fails};
 ghost use Rattle.gos_plan.specs.ObjectItems.{weight_line, result_line, whole};
 ghost use Rattle.gos_plan.specs.ObjectFaults.{IsShort, IsTextOfValues, IsRead, HasFault};
-ghost use Rattle.gos_plan.specs.Values.{seen_values};
+ghost use Rattle.gos_plan.specs.inner.Values.{seen_values};
 
 use crate::fault::ObjectFault;
 use crate::items::{exact, number};

@@ -24,7 +24,7 @@ impl Model for NetPool {
 
     ghost Value = { Pool };
 
-    ghost use Rattle.gos_pool.specs.Inside.{pool_of, IsKept};
+    ghost use Rattle.gos_pool.specs.inner.Inside.{pool_of, IsKept};
 
     ghost view = { pool_of };
 

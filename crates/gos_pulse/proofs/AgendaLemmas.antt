@@ -10,8 +10,8 @@ use Rattle.gos_pulse.specs.declared.agenda.Agenda.{Agenda}
 use Rattle.gos_pulse.specs.declared.board.Board.{Board}
 use Rattle.gos_pulse.specs.declared.entries.Entry.{Entry}
 use Rattle.gos_pulse.specs.Driving.{BreaksAt, TakesAll, at_entries}
-use Rattle.gos_pulse.specs.Board.{IsTried, Stands}
-use Rattle.gos_pulse.specs.Agenda.{AreTaken, IsAgendaFrom, IsNextAt}
+use Rattle.gos_pulse.specs.inner.Board.{IsTried, Stands}
+use Rattle.gos_pulse.specs.inner.Agenda.{AreTaken, IsAgendaFrom, IsNextAt}
 
 drop_at : (file : List Entry) (i : ℕ) (entry : Entry) → slice_get file i ≡ Some entry → drop i file ≡ entry ∷ drop (suc i) file
 drop_at [] i entry h = absurd (cc h)

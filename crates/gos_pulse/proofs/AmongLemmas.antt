@@ -6,7 +6,7 @@ use Rattle.gos_netlist.specs.Nets.{NetPort}
 use Rattle.gos_model.specs.Labels.{Label, is_output}
 use Rattle.gos_model.specs.Flattening.{AnyOrder}
 use Rattle.gos_sim.specs.declared.pulse.Pulse.{Pulse}
-use Rattle.gos_pulse.specs.Slots.{label_if, label_of, labels_of}
+use Rattle.gos_pulse.specs.inner.Slots.{label_if, label_of, labels_of}
 
 -- the label is one of these
 abbrev pub IsAmong : Label → List Label → Type 0

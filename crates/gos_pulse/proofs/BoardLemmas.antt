@@ -9,8 +9,8 @@ use Rattle.gos_model.specs.Labels.{Label}
 use Rattle.gos_sim.specs.declared.pulse.Pulse.{Pulse}
 use Rattle.gos_pulse.specs.declared.board.Board.{Board}
 use Rattle.gos_pulse.specs.Guarding.{Guards, inputs_of, outputs_of}
-use Rattle.gos_pulse.specs.Slots.{AreSlots, labels_of}
-use Rattle.gos_pulse.specs.Board.{Rests, Stands}
+use Rattle.gos_pulse.specs.inner.Slots.{AreSlots, labels_of}
+use Rattle.gos_pulse.specs.inner.Board.{Rests, Stands}
 use Rattle.gos_pulse.proofs.OrderLemmas.{labels_quiet}
 
 -- no pulse

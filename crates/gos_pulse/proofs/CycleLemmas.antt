@@ -19,11 +19,11 @@ use Rattle.gos_pulse.specs.declared.board.Board.{Board}
 use Rattle.gos_pulse.specs.declared.entries.Entry.{Entry}
 use Rattle.gos_pulse.specs.Guarding.{Guards, inputs_of, outputs_of}
 use Rattle.gos_pulse.specs.Driving.{BreaksAt, GivesIn, TakesAll, at_entries}
-use Rattle.gos_pulse.specs.Slots.{AreSlots, labels_of}
-use Rattle.gos_pulse.specs.Board.{AreInRange, Begins}
-use Rattle.gos_pulse.specs.Agenda.{AreTaken}
-use Rattle.gos_pulse.specs.Queue.{AreGiven}
-use Rattle.gos_pulse.specs.Running.{BreaksCycle, RunsCycle}
+use Rattle.gos_pulse.specs.inner.Slots.{AreSlots, labels_of}
+use Rattle.gos_pulse.specs.inner.Board.{AreInRange, Begins}
+use Rattle.gos_pulse.specs.inner.Agenda.{AreTaken}
+use Rattle.gos_pulse.specs.inner.Queue.{AreGiven}
+use Rattle.gos_pulse.specs.inner.Running.{BreaksCycle, RunsCycle}
 use Rattle.gos_pulse.proofs.EventLemmas.{AreRows, IsNumberNet, IsRow}
 use Rattle.gos_pulse.proofs.RangeLemmas.{in_range, none_in_range}
 use Rattle.gos_pulse.proofs.ShownLemmas.{input_rows, inputs_are, outputs_are, outputs_each}

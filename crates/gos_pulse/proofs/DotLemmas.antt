@@ -10,7 +10,7 @@ use Rattle.gos_lex.specs.Bytes.{begins_name, continues_name}
 use Rattle.gos_lex.specs.Names.{spells_name, IsNameOrWord}
 use Rattle.gos_lines.specs.Lines.{Word}
 use Rattle.gos_pulse.specs.Entries.{IsDotted}
-use Rattle.gos_pulse.specs.EntryLine.{HasNames, IsFirstDot}
+use Rattle.gos_pulse.specs.inner.EntryLine.{HasNames, IsFirstDot}
 
 no_dot : (bytes : Word) (k : ℕ) → list_all continues_name bytes ≡ true → k < length bytes → get_or bytes k 0 ≡ 46 → ⊥
 no_dot bytes k all within dot =

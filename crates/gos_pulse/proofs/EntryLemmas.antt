@@ -9,7 +9,7 @@ use Rattle.gos_pulse.specs.Entries.{IsEntry, IsValue, SaysCycles, IsRunLength}
 use Rattle.gos_pulse.specs.Driving.{GivesInput}
 use Rattle.gos_pulse.specs.PulseFile.{ReadsEntries, Names, IsWrongEntry, HasFirstWrong, IsRefused}
 use Rattle.gos_pulse.specs.declared.fault.PulseFault.TheVariants as faults
-use Rattle.gos_pulse.specs.Reading.{IsEntriesFault}
+use Rattle.gos_pulse.specs.inner.Reading.{IsEntriesFault}
 use Rattle.gos_pulse.specs.declared.entries.Entry.{Entry}
 use Rattle.gos_pulse.specs.declared.fault.PulseFault.{PulseFault}
 

@@ -15,7 +15,7 @@ use Rattle.gos_model.specs.Flattening.{port_of, pulses_from, port_pulses, pulses
 use Rattle.gos_sim.specs.declared.event_nets.EventNets.{EventNets}
 use Rattle.gos_sim.specs.EventNets as table
 use Rattle.gos_sim.specs.Cycle.{pulse_shown}
-use Rattle.gos_pulse.specs.Slots.{port_at, label_if, labels_of}
+use Rattle.gos_pulse.specs.inner.Slots.{port_at, label_if, labels_of}
 use Rattle.gos_pulse.proofs.GuardLemmas.{direction_at}
 
 -- the nets of events, from a list of nets: one for a pulse, and one more for its number where it has bits

@@ -15,8 +15,8 @@ use Rattle.gos_pulse.specs.declared.entries.Entry.{Entry}
 use Rattle.gos_pulse.specs.declared.slots.Slot.{Slot}
 use Rattle.gos_pulse.specs.Guarding.{inputs_of, Guards, IsLabel, IsValueOf}
 use Rattle.gos_pulse.specs.Driving.{GivesInput, IsPulse}
-use Rattle.gos_pulse.specs.Slots.{AreSlots, number_of, label_of, labels_of, port_at}
-use Rattle.gos_pulse.specs.Board.{AreInRange, AreSpent, CanTry, IsSpent, IsTried, Rests, Stands}
+use Rattle.gos_pulse.specs.inner.Slots.{AreSlots, number_of, label_of, labels_of, port_at}
+use Rattle.gos_pulse.specs.inner.Board.{AreInRange, AreSpent, CanTry, IsSpent, IsTried, Rests, Stands}
 use Rattle.gos_pulse.proofs.GuardLemmas.{event_from, of_way, placed, direction_at, given_way, taken_way, no_answer, an_answer, same_port-refl, same_port-is}
 use Rattle.gos_pulse.proofs.OrderLemmas.{OneMore, one_more, any_insert}
 use Rattle.gos_pulse.proofs.SlotLemmas.{way_there}

@@ -13,8 +13,8 @@ use Rattle.gos_pulse.specs.declared.trace.TraceLine.{TraceLine}
 use Rattle.gos_pulse.specs.Guarding.{goes, events_way}
 use Rattle.gos_pulse.specs.Driving.{IsPulse}
 use Rattle.gos_pulse.specs.Traced.{AreLines}
-use Rattle.gos_pulse.specs.Slots.{label_if, label_of, labels_of, number_of, port_at}
-use Rattle.gos_pulse.specs.Lines.{AddsLines, HavePulses, line_if}
+use Rattle.gos_pulse.specs.inner.Slots.{label_if, label_of, labels_of, number_of, port_at}
+use Rattle.gos_pulse.specs.inner.Lines.{AddsLines, HavePulses, line_if}
 use Rattle.gos_pulse.proofs.GuardLemmas.{event_from, way_more}
 use Rattle.gos_pulse.proofs.OrderLemmas.{labels_push}
 use Rattle.gos_pulse.proofs.SlotLemmas.{way_there}

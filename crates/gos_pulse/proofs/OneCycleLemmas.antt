@@ -23,7 +23,7 @@ use Rattle.gos_sim.specs.declared.pulse.Pulse.{Pulse}
 use Rattle.gos_sim.specs.EventNets as table
 use Rattle.gos_sim.specs.Cycle.{number_shown, pulse_shown}
 use Rattle.gos_pulse.specs.Guarding.{events_way, outputs_of}
-use Rattle.gos_pulse.specs.Slots.{label_of, labels_of}
+use Rattle.gos_pulse.specs.inner.Slots.{label_of, labels_of}
 use Rattle.gos_pulse.proofs.AmongLemmas.{IsAmong, IsTold, told, tells, order_has, order_had, both_ways}
 use Rattle.gos_pulse.proofs.EventLemmas.{AreRows, FitRows, FromPlace, IsNumberNet, TurnsOut, from_first, net_labels, net_rows, nets_from, inputs_from, next_place, this_place, turns_out}
 use Rattle.gos_pulse.proofs.RangeLemmas.{some_of, all_append}

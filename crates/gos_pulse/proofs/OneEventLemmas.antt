@@ -13,7 +13,7 @@ use Rattle.gos_lines.specs.Lines.{Word}
 use Rattle.gos_model.specs.Labels.{Label}
 use Rattle.gos_model.specs.Flattening.{port_of}
 use Rattle.gos_pulse.specs.EventNames.{event_word, dotted, name_of, name_at, IsInput}
-use Rattle.gos_pulse.specs.Slots.{label_of, port_at}
+use Rattle.gos_pulse.specs.inner.Slots.{label_of, port_at}
 use Rattle.gos_pulse.proofs.GuardLemmas.{IsEventOf, event_from, no_event}
 use Rattle.gos_pulse.proofs.PortLemmas.{has_ports}
 

@@ -6,7 +6,7 @@ use Rattle.gos_netlist.specs.Nets.{NetPort}
 use Rattle.gos_model.specs.Labels.{Label}
 use Rattle.gos_model.specs.Flattening.{AnyOrder}
 use Rattle.gos_sim.specs.declared.pulse.Pulse.{Pulse}
-use Rattle.gos_pulse.specs.Slots.{label_if, label_of, labels_of}
+use Rattle.gos_pulse.specs.inner.Slots.{label_if, label_of, labels_of}
 
 -- where a list is cut in two ways, the first label of the one cut stands in one part of the other
 cut : (front back before after : List Label) (x : Label) → front ++ back ≡ before ++ x ∷ after

@@ -6,8 +6,8 @@ use Rattle.gos_model.specs.Labels.{Label}
 use Rattle.gos_pulse.specs.declared.board.Board.{Board}
 use Rattle.gos_pulse.specs.declared.entries.Entry.{Entry}
 use Rattle.gos_pulse.specs.Driving.{GivesInput, GivesIn, IsHeld, next_entries}
-use Rattle.gos_pulse.specs.Board.{IsTried, Stands}
-use Rattle.gos_pulse.specs.Queue.{AreGiven, IsFirstGiven, IsFirstHeld}
+use Rattle.gos_pulse.specs.inner.Board.{IsTried, Stands}
+use Rattle.gos_pulse.specs.inner.Queue.{AreGiven, IsFirstGiven, IsFirstHeld}
 
 next-append : (xs ys : List Entry) → next_entries (xs ++ ys) ≡ next_entries xs ++ next_entries ys
 next-append [] ys = refl

@@ -20,7 +20,7 @@ use Rattle.gos_sim.specs.EventNets as table
 use Rattle.gos_sim.specs.EventNets.{input_events}
 use Rattle.gos_sim.specs.Cycle.{bit, GivesAll}
 use Rattle.gos_pulse.specs.Guarding.{events_way, inputs_of}
-use Rattle.gos_pulse.specs.Board.{AreInRange}
+use Rattle.gos_pulse.specs.inner.Board.{AreInRange}
 use Rattle.gos_pulse.proofs.EventLemmas.{AreRows, FitRows, FromPlace, TurnsOut, turns_out, nets_from, inputs_from, net_rows, from_first, next_place, this_place, port_has_rows}
 use Rattle.gos_pulse.proofs.ShownLemmas.{AreFed, IsFed, inputs_fed}
 

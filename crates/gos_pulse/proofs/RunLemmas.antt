@@ -18,10 +18,10 @@ use Rattle.gos_pulse.specs.declared.trace.TraceLine.{TraceLine}
 use Rattle.gos_pulse.specs.Driving.{BreaksFrom, DrivesFrom, GivesInput, GoesBy, IsBroken, next_entries}
 use Rattle.gos_pulse.specs.Traced.{AreLines, IsTraced, LinesFrom}
 use Rattle.gos_pulse.specs.Guarding.{inputs_of, outputs_of}
-use Rattle.gos_pulse.specs.Slots.{labels_of}
-use Rattle.gos_pulse.specs.Board.{Rests}
-use Rattle.gos_pulse.specs.Lines.{AddsLines, HavePulses}
-use Rattle.gos_pulse.specs.Running.{BreaksCycle, RunsCycle}
+use Rattle.gos_pulse.specs.inner.Slots.{labels_of}
+use Rattle.gos_pulse.specs.inner.Board.{Rests}
+use Rattle.gos_pulse.specs.inner.Lines.{AddsLines, HavePulses}
+use Rattle.gos_pulse.specs.inner.Running.{BreaksCycle, RunsCycle}
 use Rattle.gos_pulse.proofs.QueueLemmas.{next_known}
 
 -- the run up to cycle t, after which it goes on from these registers and labels, with these `next` entries left

@@ -10,7 +10,7 @@ use Rattle.gos_model.specs.Labels.{Label}
 use Rattle.gos_sim.specs.declared.pulse.Pulse.{Pulse}
 use Rattle.gos_pulse.specs.declared.guard.Guard.{Guard}
 use Rattle.gos_pulse.specs.Guarding.{outputs_of, half_of, Guards, IsLabel}
-use Rattle.gos_pulse.specs.Slots.{label_if, label_of, labels_of, port_at}
+use Rattle.gos_pulse.specs.inner.Slots.{label_if, label_of, labels_of, port_at}
 use Rattle.gos_pulse.proofs.GuardLemmas.{event_from, of_way}
 use Rattle.gos_pulse.proofs.OrderLemmas.{labels_push}
 

@@ -16,8 +16,8 @@ use Rattle.gos_sim.specs.declared.pulse.Pulse.{Pulse}
 use Rattle.gos_sim.specs.EventNets.{all_events, comes_in, input_events, output_events}
 use Rattle.gos_sim.specs.Cycle.{bit, Gives, GivesAll, HasNumber, number_shown, outputs_shown, pulse_shown}
 use Rattle.gos_pulse.specs.Guarding.{goes, events_way, inputs_of, outputs_of}
-use Rattle.gos_pulse.specs.Slots.{label_if, label_of, labels_of, port_at}
-use Rattle.gos_pulse.specs.Board.{AreInRange}
+use Rattle.gos_pulse.specs.inner.Slots.{label_if, label_of, labels_of, port_at}
+use Rattle.gos_pulse.specs.inner.Board.{AreInRange}
 use Rattle.gos_pulse.proofs.EventLemmas.{AreRows, IsRow, IsNumberNet, net_rows, net_labels}
 
 -- whether a label goes this way

@@ -4,7 +4,7 @@ use Rattle.std.specs.Prelude.{slice_get}
 use Rattle.gos_netlist.specs.declared.event.Event.{Event}
 use Rattle.gos_pulse.specs.declared.slots.Slot.{Slot}
 use Rattle.gos_pulse.specs.Guarding.{goes, events_way}
-use Rattle.gos_pulse.specs.Slots.{AreSlots, number_of}
+use Rattle.gos_pulse.specs.inner.Slots.{AreSlots, number_of}
 use Rattle.gos_pulse.proofs.GuardLemmas.{way_more}
 
 -- the slots of the first n events

@@ -13,7 +13,7 @@ use Rattle.gos_netlist.specs.Nets.{Side, NetPort, Netlist}
 use Rattle.gos_netlist.specs.Events.{Event, Is, events, port_events, events_from, events_of}
 use Rattle.gos_lines.specs.Lines.{Word}
 use Rattle.gos_pulse.specs.EventNames.{name_of, IsInputOf}
-use Rattle.gos_pulse.specs.EventTable.{number_at, added, HasPorts, IsTableOf}
+use Rattle.gos_pulse.specs.inner.EventTable.{number_at, added, HasPorts, IsTableOf}
 use Rattle.gos_pulse.specs.declared.event_table.Numbers.{Numbers}
 
 -- an entry whose key is this one, changed in place

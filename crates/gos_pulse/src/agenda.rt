@@ -5,8 +5,8 @@ ghost use Rattle.gos_netlist.specs.Nets.{Netlist as Circuit};
 ghost use Rattle.gos_model.specs.Labels.{Label};
 ghost use Rattle.gos_pulse.specs.Guarding.{HasPorts};
 ghost use Rattle.gos_pulse.specs.Driving.{GivesInput, BreaksAt, at_entries};
-ghost use Rattle.gos_pulse.specs.Board.{Stands};
-ghost use Rattle.gos_pulse.specs.Agenda.{AreTaken, CanTakeAll, IsAgenda, IsAgendaFrom};
+ghost use Rattle.gos_pulse.specs.inner.Board.{Stands};
+ghost use Rattle.gos_pulse.specs.inner.Agenda.{AreTaken, CanTakeAll, IsAgenda, IsAgendaFrom};
 
 use crate::board::Board;
 use crate::entries::Entry;
@@ -61,7 +61,9 @@ impl Agenda {
     /// protocol doesn't allow.
     pub fn take_all(&self, cycle: usize, entries: &[Entry], board: &mut Board) -> Option<usize>
         requires { CanTakeAll self.now cycle entries.now board.old }
-        ensures { (net : Circuit) (past : List Label) → HasPorts net → Stands net past [] board.old → All (GivesInput net) entries.now → MatchOption result (AreTaken net past (at_entries cycle entries.now) board.new) (BreaksAt net past (at_entries cycle entries.now)) }
+        ensures { (net : Circuit) (past : List Label) → HasPorts net → Stands net past [] board.old
+            → All (GivesInput net) entries.now → MatchOption result (AreTaken net past (at_entries cycle entries.now) board.new)
+            (BreaksAt net past (at_entries cycle entries.now)) }
     {
         let mut place = self.first[cycle];
         while place < entries.len() {

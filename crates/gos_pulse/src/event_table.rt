@@ -3,7 +3,7 @@
 ghost use Rattle.std.specs.Prelude.{◌≡◌, ◌<◌, List, ℕ, Some, None, length, IfOk, OnOk, MatchOption};
 ghost use Rattle.gos_netlist.specs.declared.event.Event as seen;
 ghost use Rattle.gos_pulse.specs.EventNames.{IsInput};
-ghost use Rattle.gos_pulse.specs.EventTable.{IsTable, IsTableOf, HasPorts, number_at, added};
+ghost use Rattle.gos_pulse.specs.inner.EventTable.{IsTable, IsTableOf, HasPorts, number_at, added};
 
 use crate::event_names::event_name;
 use gos_netlist::{Event, Netlist, Port, events};
@@ -37,7 +37,8 @@ impl EventTable {
     /// The number of the input event with this name, and the bits of its value, 0 where it has none.
     pub fn find(&self, net: &Netlist, name: &[u8]) -> Option<(usize, u32)>
         requires { IsTable net.now self.now }
-        ensures { MatchOption result ((i : ℕ) (event : seen.Event) → IsInput net.now i event name.now → ⊥) (λ found. (event : seen.Event) × IsInput net.now found.0 event name.now × (found.1 ≡ event.bits)) }
+        ensures { MatchOption result ((i : ℕ) (event : seen.Event) → IsInput net.now i event name.now → ⊥) (λ found.
+            (event : seen.Event) × IsInput net.now found.0 event name.now × (found.1 ≡ event.bits)) }
     {
         match self.numbers.get(name) {
             None => None,

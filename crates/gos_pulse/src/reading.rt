@@ -5,8 +5,8 @@ ghost use Rattle.std.specs.Str.Lines.{lines};
 ghost use Rattle.gos_lines.specs.Lines.{statements_from};
 ghost use Rattle.gos_pulse.specs.Entries.{SaysCycles, IsRunLength, IsInTime, IsValue, IsEntry};
 ghost use Rattle.gos_pulse.specs.PulseFile.{IsPulseFile, IsRefused, IsWrongHead, IsWrongEntry, ReadsEntries, Names};
-ghost use Rattle.gos_pulse.specs.Reading.{IsEntriesFault};
-ghost use Rattle.gos_pulse.specs.EventTable.{IsTable};
+ghost use Rattle.gos_pulse.specs.inner.Reading.{IsEntriesFault};
+ghost use Rattle.gos_pulse.specs.inner.EventTable.{IsTable};
 ghost use Rattle.gos_pulse.specs.Driving.{GivesInput};
 
 use crate::entries::{Entry, Pulses};

@@ -1,7 +1,7 @@
 // Where the events of a netlist stand among those of their way.
 
 ghost use Rattle.std.specs.Prelude.{◌≡◌, ◌≤◌, ◌-◌, if◌then◌else◌, IfOk};
-ghost use Rattle.gos_pulse.specs.Slots.{AreSlots};
+ghost use Rattle.gos_pulse.specs.inner.Slots.{AreSlots};
 
 use gos_netlist::Event;
 use gos_types::NoMemory;

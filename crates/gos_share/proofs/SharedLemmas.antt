@@ -7,7 +7,7 @@ use Rattle.gos_types.specs.declared.shakes.Step.TheVariants.{First, Second, Argu
 use Rattle.gos_types.specs.Types.{Type', Pair, Fun}
 use Rattle.gos_types.specs.Handshakes.{Shake, turn_all, below, handshakes_of}
 use Rattle.gos_plan.specs.Kinds.{Contact, contact, contacts_of, turned_contact, other_side}
-use Rattle.gos_share.specs.Comes.{get_left, get_right}
+use Rattle.gos_share.specs.laws.Comes.{get_left, get_right}
 
 contact_below : (step : Step) (ss : List Shake) → map contact (below step ss) ≡ map contact ss
 contact_below step [] = refl

@@ -15,10 +15,10 @@ use Rattle.gos_plan.specs.Cells.{bit}
 use Rattle.gos_plan.specs.Wires.{HoldNets}
 use Rattle.gos_share.specs.Blocks.{block_cells, block_size, kept_net, source_out, caller_out}
 use Rattle.gos_share.specs.Share.{place_behind, row_cells, share_cells, source_outs, caller_outs, share_outs}
-use Rattle.gos_share.specs.Comes.{sides}
-use Rattle.gos_share.specs.Row.{block_length}
-use Rattle.gos_share.specs.Keeping.{source_length, caller_length}
-use Rattle.gos_share.specs.Seen.{all_of, side_outs, blocks_size, Places}
+use Rattle.gos_share.specs.laws.Comes.{sides}
+use Rattle.gos_share.specs.laws.Row.{block_length}
+use Rattle.gos_share.specs.laws.Keeping.{source_length, caller_length}
+use Rattle.gos_share.specs.inner.Seen.{all_of, side_outs, blocks_size, Places}
 use Rattle.gos_share.proofs.SideLemmas.{blocks_few}
 use Rattle.gos_share.specs.declared.shared.Side.TheVariants as the
 

@@ -10,7 +10,7 @@ use Rattle.gos_plan.specs.Gates.{Outgoing}
 use Rattle.gos_plan.specs.declared.gates.Wire.{Wire}
 use Rattle.gos_plan.specs.Wires.{HoldsNets, HoldNets}
 use Rattle.gos_share.specs.Blocks.{outgoing, block_size}
-use Rattle.gos_share.specs.Seen.{contact_of, from, all_of, side_out, side_outs, blocks_size}
+use Rattle.gos_share.specs.inner.Seen.{contact_of, from, all_of, side_out, side_outs, blocks_size}
 use Rattle.gos_share.specs.declared.shared.Shared.{Shared}
 use Rattle.gos_share.specs.declared.shared.Side.{Side}
 

@@ -4,7 +4,7 @@ ghost use Rattle.gos_types.specs.Types.{type_of};
 ghost use Rattle.gos_types.specs.declared.shakes.Role.TheVariants.{Serve, Ask};
 ghost use Rattle.gos_plan.specs.Kinds.{contacts_of, turned_contact};
 ghost use Rattle.gos_share.specs.Blocks.{asked_size, answered_size, sent_size, told_size, block_size};
-ghost use Rattle.gos_share.specs.Seen.{contact_of, all_of, from, outgoing_of, side_out, blocks_size};
+ghost use Rattle.gos_share.specs.inner.Seen.{contact_of, all_of, from, outgoing_of, side_out, blocks_size};
 
 use gos_types::{Role, Ty};
 

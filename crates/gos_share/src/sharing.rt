@@ -3,7 +3,7 @@ ghost use Rattle.gos_types.specs.Types.{type_of};
 ghost use Rattle.gos_plan.specs.Kinds.{Share};
 ghost use Rattle.gos_plan.specs.Ranges.{IsSmall};
 ghost use Rattle.gos_share.specs.Layout.{layout, outs_of, late_of, pending_of, stands_of};
-ghost use Rattle.gos_share.specs.Kept.{share_gates};
+ghost use Rattle.gos_share.specs.laws.Kept.{share_gates};
 
 use crate::shared::{Side, blocks};
 use crate::{row, sides};

@@ -1,7 +1,7 @@
 // The nets that go out, filled in side by side.
 ghost use Rattle.std.specs.Prelude.{◌≡◌, ◌+◌, ◌≤◌, ◌<◌, length, map};
 ghost use Rattle.gos_plan.specs.Wires.{nets_in, HoldsNets, HoldNets};
-ghost use Rattle.gos_share.specs.Seen.{all_of, outgoing_of, side_outs, blocks_size};
+ghost use Rattle.gos_share.specs.inner.Seen.{all_of, outgoing_of, side_outs, blocks_size};
 
 use crate::shared::{Out, Side, next};
 use gos_plan::Wire;

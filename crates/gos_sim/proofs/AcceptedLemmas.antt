@@ -14,8 +14,8 @@ use Rattle.gos_netcheck.specs.PortRules.{AllFit, AreNew, Fits, IsEnd, all_inputs
 use Rattle.gos_netcheck.specs.Accepted.{IsAccepted}
 use Rattle.gos_sim.specs.declared.event_nets.EventNets.{EventNets}
 use Rattle.gos_sim.specs.EventNets.{Names, OnNets, all_events, comes_in, events_at, input_events, net_count, port_events}
-use Rattle.gos_sim.specs.Program.{IsShort}
-use Rattle.gos_sim.specs.Ready.{AreApart, AreCellsReady, AreTwo, IsReady}
+use Rattle.gos_sim.specs.inner.Program.{IsShort}
+use Rattle.gos_sim.specs.inner.Ready.{AreApart, AreCellsReady, AreTwo, IsReady}
 
 -- a constant that fits its cell has at most 32 bits
 short : (ws : List ℕ) (w : ℕ) (f : Function) → w ≤ 32 → OperandsFit ws w f → IsShort f

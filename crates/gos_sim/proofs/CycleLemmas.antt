@@ -16,10 +16,10 @@ use Rattle.gos_sim.specs.declared.program.Step.{Step}
 use Rattle.gos_sim.specs.declared.program.Latch.{Latch}
 use Rattle.gos_sim.specs.EventNets.{OnNumber, OnNets, Names, input_events, output_events}
 use Rattle.gos_sim.specs.Cycle.{GivesAll, IsCycle, IsNextOutput, IsWord, number_shown, pulse_shown}
-use Rattle.gos_sim.specs.Program.{IsStepOf, IsProgram, IsLatchOf, AreLatches, cell_of_step, is_source, latches_at}
-use Rattle.gos_sim.specs.Running.{AreShown, AreLoaded, AreTaken, HaveOnePin, KeepsOtherSteps, KeepsOthers}
-use Rattle.gos_sim.specs.Ready.{AreApart, IsInputNet, IsRegisterNet}
-use Rattle.gos_sim.specs.Machine.{HoldNothingElse, IsBuilt, IsMachine, IsRunnable, RunsThrough}
+use Rattle.gos_sim.specs.inner.Program.{IsStepOf, IsProgram, IsLatchOf, AreLatches, cell_of_step, is_source, latches_at}
+use Rattle.gos_sim.specs.inner.Running.{AreShown, AreLoaded, AreTaken, HaveOnePin, KeepsOtherSteps, KeepsOthers}
+use Rattle.gos_sim.specs.inner.Ready.{AreApart, IsInputNet, IsRegisterNet}
+use Rattle.gos_sim.specs.inner.Machine.{HoldNothingElse, IsBuilt, IsMachine, IsRunnable, RunsThrough}
 use Rattle.gos_sim.proofs.PlaceLemmas.{all_at, same_element, place_of}
 use Rattle.gos_sim.proofs.SourceLemmas.{input_or_register, shown_inside, register_or_not}
 use Rattle.gos_sim.proofs.GiveLemmas.{kept_given}

@@ -5,9 +5,9 @@ use Rattle.gos_netlist.specs.Settling.{Numbers, at}
 use Rattle.gos_sim.specs.declared.event_nets.EventNets.{EventNets}
 use Rattle.gos_sim.specs.declared.pulse.Pulse.{Pulse}
 use Rattle.gos_sim.specs.EventNets.{Names}
-use Rattle.gos_sim.specs.Running.{KeepsOtherNets}
+use Rattle.gos_sim.specs.inner.Running.{KeepsOtherNets}
 use Rattle.gos_sim.specs.Cycle.{HasNumber, Gives}
-use Rattle.gos_sim.specs.Ready.{AreApart}
+use Rattle.gos_sim.specs.inner.Ready.{AreApart}
 use Rattle.gos_sim.proofs.PlaceLemmas.{same_element}
 
 -- the nets of the events before place k have what their pulses give

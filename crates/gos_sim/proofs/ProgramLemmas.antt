@@ -13,8 +13,8 @@ use Rattle.gos_netlist.specs.Nets.{Cell, pins}
 use Rattle.gos_netlist.specs.Seen.{cell_of, function_of, number_of}
 use Rattle.gos_sim.specs.declared.program.Step.{Step}
 use Rattle.gos_netcheck.specs.Schedule.{IsDue, IsSchedule}
-use Rattle.gos_sim.specs.Program.{IsProgram, IsStepOf, IsStepWithin, HasStep, Spares, SparesEarlier, cell_of_step, is_source, reads, steps_at}
-use Rattle.gos_sim.specs.Ready.{AreCellsReady, IsCellWithin}
+use Rattle.gos_sim.specs.inner.Program.{IsProgram, IsStepOf, IsStepWithin, HasStep, Spares, SparesEarlier, cell_of_step, is_source, reads, steps_at}
+use Rattle.gos_sim.specs.inner.Ready.{AreCellsReady, IsCellWithin}
 use Rattle.gos_sim.proofs.PlaceLemmas.{all_at, same_element}
 use Rattle.gos_sim.proofs.SourceLemmas.{register_is_source}
 

@@ -11,8 +11,8 @@ use Rattle.gos_netlist.specs.Settling.{Numbers, next_of}
 use Rattle.gos_netlist.specs.Seen.{cell_of, function_of}
 use Rattle.gos_sim.specs.declared.program.Latch.{Latch}
 use Rattle.gos_netcheck.specs.Schedule.{IsSchedule}
-use Rattle.gos_sim.specs.Program.{IsLatchOf, IsLatchWithin, HasLatch, AreLatches, latches_at}
-use Rattle.gos_sim.specs.Ready.{AreCellsReady, IsCellWithin}
+use Rattle.gos_sim.specs.inner.Program.{IsLatchOf, IsLatchWithin, HasLatch, AreLatches, latches_at}
+use Rattle.gos_sim.specs.inner.Ready.{AreCellsReady, IsCellWithin}
 use Rattle.gos_sim.proofs.PlaceLemmas.{same_element}
 use Rattle.gos_sim.proofs.SourceLemmas.{register_or_not}
 use Rattle.gos_sim.proofs.ProgramLemmas.{cell_at, take_one}

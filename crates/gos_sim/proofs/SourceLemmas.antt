@@ -4,7 +4,7 @@ use Rattle.std.proofs.Common.{refl, ap, inl, inr}
 use Rattle.gos_netlist.specs.Nets.{Function, Input, Const, Not, And, Or, Xor, Mux, Add, Sub, Eq, Less, Gate, Reg}
 use Rattle.gos_netlist.specs.Settling.{Numbers, shown, next_of}
 use Rattle.gos_netlist.specs.Cycles.{IsRegister}
-use Rattle.gos_sim.specs.Program.{is_source, latches_at}
+use Rattle.gos_sim.specs.inner.Program.{is_source, latches_at}
 
 -- a source is an input or a register
 pub input_or_register : (f : Function) → IsTrue (is_source f) → (f ≡ Input) ⊎ IsRegister f

@@ -6,7 +6,7 @@ use Rattle.gos_netlist.specs.Settling.{Numbers, at, shown}
 use Rattle.gos_netlist.specs.Seen.{function_of}
 use Rattle.gos_netlist.proofs.SettlingLemmas.{same_shown}
 use Rattle.gos_sim.specs.declared.program.Step.{Step}
-use Rattle.gos_sim.specs.Program.{IsStepWithin, Spares, SparesEarlier, reads}
+use Rattle.gos_sim.specs.inner.Program.{IsStepWithin, Spares, SparesEarlier, reads}
 use Rattle.gos_sim.proofs.PlaceLemmas.{all_at, same_element}
 
 -- the steps before place k show what their cells do

@@ -2,7 +2,4 @@
 pub mod EventNets
 pub mod Cycle
 pub mod Runs
-pub mod Program
-pub mod Running
-pub mod Ready
-pub mod Machine
+pub mod inner

@@ -2,9 +2,9 @@
 ghost use Rattle.std.specs.Prelude.{◌≡◌, All, IfOk, length, map};
 ghost use Rattle.gos_netlist.specs.Seen.{number_of};
 ghost use Rattle.gos_sim.specs.Cycle.{IsWord};
-ghost use Rattle.gos_sim.specs.Machine.{IsMachine, IsRunnable, RunsThrough};
+ghost use Rattle.gos_sim.specs.inner.Machine.{IsMachine, IsRunnable, RunsThrough};
 ghost use Rattle.gos_netcheck.specs.Schedule.{IsSchedule};
-ghost use Rattle.gos_sim.specs.Ready.{IsReady};
+ghost use Rattle.gos_sim.specs.inner.Ready.{IsReady};
 
 use crate::event_nets::{EventNets, events_of};
 use crate::program::{Latch, Step, latches, steps};

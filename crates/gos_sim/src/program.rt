@@ -1,8 +1,8 @@
 // The program that a simulator runs in each cycle, as it is made of the cells.
 ghost use Rattle.std.specs.Prelude.{◌≡◌, ◌++◌, All, IfOk, OnOk, length, map};
 ghost use Rattle.gos_netlist.specs.Seen.{cell_of, function_of, number_of};
-ghost use Rattle.gos_sim.specs.Program.{AreLatches, IsLatchWithin, IsProgram, IsStepWithin, latches_at, steps_at};
-ghost use Rattle.gos_sim.specs.Ready.{AreCellsReady};
+ghost use Rattle.gos_sim.specs.inner.Program.{AreLatches, IsLatchWithin, IsProgram, IsStepWithin, latches_at, steps_at};
+ghost use Rattle.gos_sim.specs.inner.Ready.{AreCellsReady};
 ghost use Rattle.gos_netcheck.specs.Schedule.{IsSchedule};
 
 use gos_netlist::{Cell, Gate, NetId};

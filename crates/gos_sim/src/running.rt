@@ -3,10 +3,10 @@ ghost use Rattle.std.specs.Prelude.{◌≡◌, ◌<◌, All, length, map, nat_eq
 ghost use Rattle.gos_netlist.specs.Seen.{function_of};
 ghost use Rattle.gos_netlist.specs.Settling.{at, shown};
 ghost use Rattle.gos_sim.specs.Cycle.{Gives, GivesAll, IsWord, pulse_shown};
-ghost use Rattle.gos_sim.specs.Program.{IsLatchWithin, IsStepWithin, SparesEarlier};
-ghost use Rattle.gos_sim.specs.Running.{AreLoaded, AreShown, AreTaken, HaveOnePin, KeepsOtherNets, KeepsOtherSteps, KeepsOthers};
+ghost use Rattle.gos_sim.specs.inner.Program.{IsLatchWithin, IsStepWithin, SparesEarlier};
+ghost use Rattle.gos_sim.specs.inner.Running.{AreLoaded, AreShown, AreTaken, HaveOnePin, KeepsOtherNets, KeepsOtherSteps, KeepsOthers};
 ghost use Rattle.gos_sim.specs.EventNets.{OnNets};
-ghost use Rattle.gos_sim.specs.Ready.{AreApart, AreTwo};
+ghost use Rattle.gos_sim.specs.inner.Ready.{AreApart, AreTwo};
 
 use crate::event_nets::EventNets;
 use crate::program::{Latch, Step};

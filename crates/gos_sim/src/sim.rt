@@ -3,7 +3,7 @@ ghost use Rattle.std.specs.Prelude.{◌≡◌, All, IfErr, IfOk, length, replica
 ghost use Rattle.gos_netcheck.specs.Accepted.{IsAccepted};
 ghost use Rattle.gos_sim.specs.EventNets.{input_events, output_events};
 ghost use Rattle.gos_sim.specs.Cycle.{IsCycle, IsNextOutput, IsWord, at_reset};
-ghost use Rattle.gos_sim.specs.Machine.{IsMachine};
+ghost use Rattle.gos_sim.specs.inner.Machine.{IsMachine};
 
 use crate::machine::{Machine, machine_of};
 use crate::pulse::Pulse;
@@ -25,7 +25,7 @@ pub struct Sim {
 
 impl Model for Sim {
     ghost use Rattle.std.specs.Coded.{codes};
-    ghost use Rattle.gos_types.specs.TypeCode.{type_code};
+    ghost use Rattle.gos_types.specs.inner.TypeCode.{type_code};
     ghost use Rattle.gos_sim.specs.Cycle.{Simulator};
 
     ghost Value = { Simulator };
@@ -34,7 +34,7 @@ impl Model for Sim {
 
     ghost view = { λ s. record { net = s.net; registers = s.registers.items } };
 
-    ghost use Rattle.gos_sim.specs.Machine.{IsBuilt};
+    ghost use Rattle.gos_sim.specs.inner.Machine.{IsBuilt};
 
     ghost invariant = { λ s. IsBuilt s.net s.machine s.registers.items s.values.items };
 }

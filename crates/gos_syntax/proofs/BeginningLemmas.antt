@@ -6,7 +6,7 @@ use Rattle.gos_syntax.specs.ModuleTrees.{ModuleTree}
 use Rattle.gos_syntax.specs.ParsedModules.{IsModule, BeginsModule, IsUnexpected}
 use Rattle.gos_syntax.specs.declared.fault.Stop.{Stop}
 use Rattle.gos_syntax.specs.declared.fault.Stop.TheVariants as stops
-use Rattle.gos_syntax.specs.Answers.{IsNoModule}
+use Rattle.gos_syntax.specs.inner.Answers.{IsNoModule}
 use Rattle.gos_syntax.specs.Symbols.{Symbol, Part, Module}
 use Rattle.gos_syntax.specs.Spelling.{Spells, at_end, Leads, IsRead, IsRefused, Stops, IsClear, looseness}
 use Rattle.gos_syntax.proofs.AgreeLemmas.{agree_less, agree_back, agree_then, some_before, take_agrees}

@@ -8,7 +8,7 @@ use Rattle.gos_syntax.specs.Grammar.{HasWord, HasSign, HasName, HasNumber, IsTer
 use Rattle.gos_syntax.specs.Symbols as symbols
 use Rattle.gos_syntax.specs.Symbols.{Symbol, Part, word, sign, number, Whole, Term, a_lambda, a_block}
 use Rattle.gos_syntax.specs.Spelling.{Leads, IsRead, Stops}
-use Rattle.gos_syntax.specs.Heads.{parameter, local}
+use Rattle.gos_syntax.specs.inner.Heads.{parameter, local}
 use Rattle.gos_syntax.proofs.LeadsLemmas.{leads_then, leads_token, leads_token_to, leads_part, leads_before, stops_after, stops_at, stops_before}
 use Rattle.gos_syntax.proofs.StopLemmas.{passed_on}
 use Rattle.gos_syntax.proofs.RuleExits.{past_token}

@@ -9,7 +9,7 @@ use Rattle.gos_lex.specs.Tokens.{AName, reading_of, reading_as, IsOfKind}
 use Rattle.gos_syntax.specs.Grammar.{HasName}
 use Rattle.gos_syntax.specs.declared.source.Source.{Source}
 use Rattle.gos_syntax.specs.Items.{items_of, seen, Stands, reading_at, from_at, to_at, place_of}
-use Rattle.gos_syntax.specs.Stops.{IsKind}
+use Rattle.gos_syntax.specs.inner.Stops.{IsKind}
 use Rattle.gos_syntax.specs.Symbols.{Fits, SomeName}
 
 -- an item is read as its token is

@@ -6,7 +6,7 @@ use Rattle.gos_lex.specs.Tokens.{Reading, AWord, reading_of}
 use Rattle.gos_syntax.specs.Items.{Item, items_of}
 use Rattle.gos_syntax.specs.Grammar.{HasWord}
 use Rattle.gos_syntax.specs.declared.nesting.Nesting.{Nesting}
-use Rattle.gos_syntax.specs.Nested.{levels_of, IsCounted}
+use Rattle.gos_syntax.specs.inner.Nested.{levels_of, IsCounted}
 use Rattle.gos_syntax.specs.OpenTokens.{Levels, at_first, past, levels_before, items_in, deepest_in, open_before, is_import, imports_before}
 
 -- past one token more

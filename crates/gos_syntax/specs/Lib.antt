@@ -16,7 +16,4 @@ pub mod ModuleTokens
 pub mod Unplaced
 pub mod Writable
 pub mod ReadsBack
-pub mod Nested
-pub mod Stops
-pub mod Heads
-pub mod Answers
+pub mod inner

@@ -2,7 +2,7 @@
 
 ghost use Rattle.std.specs.Prelude.{◌≡◌, ℕ, List, ◌+◌, ◌≤◌, ◌<◌, ◌∷◌, [], OnOk};
 ghost use Rattle.gos_lex.specs.Tokens.{reading_as};
-ghost use Rattle.gos_syntax.specs.Nested.{levels_of, IsCounted};
+ghost use Rattle.gos_syntax.specs.inner.Nested.{levels_of, IsCounted};
 ghost use Rattle.gos_syntax.specs.OpenTokens.{past, at_first, with_item, with_open, with_close, one_more, nothing};
 
 use crate::levels::Level;

@@ -9,7 +9,7 @@ ghost use Rattle.gos_syntax.specs.ModuleTrees.{import_tree, module_tree};
 ghost use Rattle.gos_syntax.specs.Symbols.{Part, Module as AModule};
 ghost use Rattle.gos_syntax.specs.Spelling.{Leads, Stops};
 ghost use Rattle.gos_syntax.specs.ParsedModules.{IsImport, AreImports, IsModule, IsParsed, HasFault};
-ghost use Rattle.gos_syntax.specs.Answers.{IsNoModule, IsFaultOf, IsFaultBefore};
+ghost use Rattle.gos_syntax.specs.inner.Answers.{IsNoModule, IsFaultOf, IsFaultBefore};
 
 use crate::fault::{Stop, SyntaxFault};
 use crate::limits::Limit;

@@ -9,7 +9,7 @@ ghost use Rattle.gos_syntax.specs.Items.{seen, Stands, span_of};
 ghost use Rattle.gos_syntax.specs.Grammar.{Derives, Term as ATerm, Par, Cmd, Rel, Bits, Sum, App, Pre, Atom};
 ghost use Rattle.gos_syntax.specs.Symbols as phrases;
 ghost use Rattle.gos_syntax.specs.Spelling.{Leads, IsRead, Stops};
-ghost use Rattle.gos_syntax.specs.Heads.{IsParameter, IsLocal, parameter, local};
+ghost use Rattle.gos_syntax.specs.inner.Heads.{IsParameter, IsLocal, parameter, local};
 ghost use Rattle.gos_syntax.specs.declared.fault.Stop.TheVariants as stops;
 
 use crate::fault::Stop;

@@ -156,7 +156,8 @@ fn add_infix(
     between: &[u8],
     right: &Term,
 ) -> Result<(), NoMemory>
-    ensures { OnOk result (text.new.items ≡ text.old.items ++ operand_text (tree_of left.now.form left.now.span) ++ between.now ++ operand_text (tree_of right.now.form right.now.span)) }
+    ensures { OnOk result (text.new.items ≡ text.old.items ++ operand_text (tree_of left.now.form left.now.span) ++ between.now
+        ++ operand_text (tree_of right.now.form right.now.span)) }
 {
     add_operand(alloc, text, left)?;
     add(text, between)?;

@@ -5,7 +5,7 @@ ghost use Rattle.gos_syntax.specs.Items.{seen, Stands, reading_at, span_of, plac
 ghost use Rattle.gos_syntax.specs.Grammar.{HasWord, HasSign, HasName, HasNumber};
 ghost use Rattle.gos_syntax.specs.Symbols as wanted;
 ghost use Rattle.gos_syntax.specs.Spelling.{Stops};
-ghost use Rattle.gos_syntax.specs.Stops.{IsKind};
+ghost use Rattle.gos_syntax.specs.inner.Stops.{IsKind};
 ghost use Rattle.gos_syntax.specs.declared.fault.Stop.TheVariants as stops;
 
 use crate::fault::Stop;

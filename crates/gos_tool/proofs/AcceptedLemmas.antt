@@ -12,7 +12,7 @@ use Rattle.gos_netcheck.specs.CellRules.{PinsExist, HasRightWidths, widths_of, w
 use Rattle.gos_netcheck.specs.PortRules.{place, places, IsEnd, Fits, FitsAt, AllFit, all_inputs, AreNew, IsRightPort, IsLoose, PortsFit}
 use Rattle.gos_lines.specs.Lines.{Word, Words}
 use Rattle.gos_tool.specs.SourceFile.{Sequence, IsWellFormed}
-use Rattle.gos_tool.specs.Circuit.{bit, run_net, done_net, place_in, done_of, before, after_all, import_cells, all_cells, root_port, import_ports, circuit_of}
+use Rattle.gos_tool.specs.inner.Circuit.{bit, run_net, done_net, place_in, done_of, before, after_all, import_cells, all_cells, root_port, import_ports, circuit_of}
 use Rattle.gos_tool.proofs.NameLemmas.{In, Differ, differ_of, all_in, at_place, place_is}
 use Rattle.gos_tool.proofs.CellLemmas.{cell_run, cell_done, run_is, done_is, no_cycle}
 

@@ -15,7 +15,7 @@ use Rattle.gos_simulate.specs.Simulation.{LeavesTrace, IsPulseFault, IsSimulatio
 use Rattle.gos_lines.specs.Lines.{Word}
 use Rattle.gos_tool.specs.BuildFile.{BuildFile, IsBuildFile, build_lines}
 use Rattle.gos_tool.specs.SourceFile.{Sequence, IsSourceFile, IsWellFormed}
-use Rattle.gos_tool.specs.Circuit.{circuit_of, import_ports}
+use Rattle.gos_tool.specs.inner.Circuit.{circuit_of, import_ports}
 use Rattle.gos_tool.specs.Headline.{Face, face_of, IsCircuitOf}
 use Rattle.gos_tool.specs.Command.{SaysBuild, SaysModule}
 use Rattle.gos_tool.specs.Built.{with_net, IsCompiled, RejectsPulses, IsCircuitCall, KeepsUnnamed}

@@ -6,7 +6,7 @@ use Rattle.gos_netlist.specs.Nets.{Input, Const, Reg, Cell, pins, NetPort, Take}
 use Rattle.gos_netlist.specs.Cycles.{IsRegister, Feeds, Chain, CombinationalCycle}
 use Rattle.gos_lines.specs.Lines.{Word, Words}
 use Rattle.gos_tool.specs.SourceFile.{Sequence}
-use Rattle.gos_tool.specs.Circuit.{bit, run_net, done_net, place_in, done_of, before, after_all, import_cells, all_cells, import_ports, circuit_of}
+use Rattle.gos_tool.specs.inner.Circuit.{bit, run_net, done_net, place_in, done_of, before, after_all, import_cells, all_cells, import_ports, circuit_of}
 use Rattle.gos_tool.proofs.NameLemmas.{In, Differ, place_is, at_place}
 
 -- what is below twice a number

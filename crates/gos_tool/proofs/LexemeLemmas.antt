@@ -5,7 +5,7 @@ use Rattle.std.specs.List.{AllByRecursion}
 use Rattle.std.proofs.lemmas.List.Elements.{All-from_recursion}
 use Rattle.gos_lex.specs.declared.token.Token.{Token}
 use Rattle.gos_lex.specs.Tokens.{Reads}
-use Rattle.gos_tool.specs.Lexemes.{IsWithin}
+use Rattle.gos_tool.specs.inner.Lexemes.{IsWithin}
 
 by_recursion : (text : List ℕ) (at : ℕ) (tokens : List Token) → Reads text at tokens None → AllByRecursion (λ token. IsWithin text token.span) tokens
 by_recursion text at [] h = tt

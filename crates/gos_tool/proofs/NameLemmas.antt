@@ -5,7 +5,7 @@ use Rattle.std.specs.List.{list_all, list_any}
 use Rattle.std.specs.Str.{bytes_eq}
 use Rattle.std.proofs.lemmas.Slice.Eq.{bytes_eq-Decides}
 use Rattle.gos_lines.specs.Lines.{Word, Words, all_differ}
-use Rattle.gos_tool.specs.Circuit.{place_in}
+use Rattle.gos_tool.specs.inner.Circuit.{place_in}
 
 -- the word is one of these
 abbrev pub In : Word → Words → Type 0

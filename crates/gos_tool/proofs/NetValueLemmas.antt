@@ -7,7 +7,7 @@ use Rattle.gos_netlist.specs.Nets.{Input, Const, Reg, Cell}
 use Rattle.gos_netlist.specs.Settling.{Numbers, at, Settling, next_of, next_registers}
 use Rattle.gos_model.specs.Protocol.{IsInRange}
 use Rattle.gos_lines.specs.Lines.{Word, Words}
-use Rattle.gos_tool.specs.Circuit.{bit, done_of, before, after_all, all_cells}
+use Rattle.gos_tool.specs.inner.Circuit.{bit, done_of, before, after_all, all_cells}
 use Rattle.gos_tool.proofs.NameLemmas.{In, Differ, test_same, test_differ, in_back}
 use Rattle.gos_tool.proofs.CellLemmas.{run_of, run_cell, done_cell}
 use Rattle.gos_tool.proofs.PulseLemmas.{circuit}

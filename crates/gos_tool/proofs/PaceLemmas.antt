@@ -11,7 +11,7 @@ use Rattle.gos_model.specs.Pace.{pace, Turn, Follows, config_after, MovesWithin,
 use Rattle.gos_lines.specs.Lines.{Word, Words}
 use Rattle.gos_tool.specs.SourceFile.{Sequence, IsWellFormed}
 use Rattle.gos_tool.specs.Program.{program_of, weight_of}
-use Rattle.gos_tool.specs.Circuit.{done_of, all_cells, circuit_of}
+use Rattle.gos_tool.specs.inner.Circuit.{done_of, all_cells, circuit_of}
 use Rattle.gos_tool.proofs.NameLemmas.{In, differ_of, all_in, test_differ}
 use Rattle.gos_tool.proofs.CellLemmas.{run_of}
 use Rattle.gos_tool.proofs.PulseLemmas.{circuit}

@@ -8,7 +8,7 @@ use Rattle.gos_netlist.specs.Settling.{Numbers, at}
 use Rattle.gos_model.specs.Flattening.{outputs, inputs, AnyOrder, Flattening, flat, if_pulse}
 use Rattle.gos_model.specs.Protocol.{is_open, Allowed, KeepsAfter, taken_by}
 use Rattle.gos_lines.specs.Lines.{Word, Words}
-use Rattle.gos_tool.specs.Circuit.{done_of}
+use Rattle.gos_tool.specs.inner.Circuit.{done_of}
 use Rattle.gos_tool.proofs.NameLemmas.{In, Differ}
 use Rattle.gos_tool.proofs.PulseLemmas.{circuit, pulsing, inputs_are, a_pulse, Has, has_after, has_pulse, own_order, comes_first}
 

@@ -6,7 +6,7 @@ use Rattle.gos_netlist.specs.Nets.{Netlist}
 use Rattle.gos_netlist.specs.Settling.{Numbers, at}
 use Rattle.gos_model.specs.Flattening.{if_pulse, pulses, outputs, inputs, AnyOrder}
 use Rattle.gos_lines.specs.Lines.{Word, Words}
-use Rattle.gos_tool.specs.Circuit.{done_of, all_cells, root_port, import_ports}
+use Rattle.gos_tool.specs.inner.Circuit.{done_of, all_cells, root_port, import_ports}
 use Rattle.gos_tool.proofs.NameLemmas.{In, Differ}
 use Rattle.gos_tool.proofs.CellLemmas.{run_of, port_at, ports_are}
 

@@ -6,7 +6,7 @@ use Rattle.gos_lex.specs.Tokens.{Reading, AName, AWord, readings_of}
 use Rattle.gos_lex.proofs.OneReadingLemmas.{reads_in_one_way}
 use Rattle.gos_lines.specs.Lines.{Word}
 use Rattle.gos_tool.specs.SourceFile.{Sequence, import_readings, then_readings, type_readings, sequence_readings, HasReadings}
-use Rattle.gos_tool.specs.Lexemes.{all_seen, BeginsNoImport, BeginsNoExport, BeginsNoThen}
+use Rattle.gos_tool.specs.inner.Lexemes.{all_seen, BeginsNoImport, BeginsNoExport, BeginsNoThen}
 use Rattle.gos_tool.specs.declared.lexemes.Lexeme.{Lexeme}
 
 abbrev pub now_of : List (Bor Word) → List Word

@@ -9,7 +9,7 @@ use Rattle.gos_model.specs.Flattening.{inputs, AnyOrder}
 use Rattle.gos_model.specs.Protocol.{is_open}
 use Rattle.gos_lines.specs.Lines.{Word, Words}
 use Rattle.gos_tool.specs.Program.{body_from}
-use Rattle.gos_tool.specs.Circuit.{done_of, before, after_all, all_cells}
+use Rattle.gos_tool.specs.inner.Circuit.{done_of, before, after_all, all_cells}
 use Rattle.gos_tool.proofs.NameLemmas.{In, Differ, is_same_or, in_middle}
 use Rattle.gos_tool.proofs.WeightLemmas.{import_is_command}
 use Rattle.gos_tool.proofs.PulseLemmas.{circuit, inputs_are, no_pulse, a_pulse, quiet, one_pulse, order_of_none, order_of_one}

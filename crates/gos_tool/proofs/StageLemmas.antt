@@ -9,7 +9,7 @@ use Rattle.gos_model.specs.Flattening.{if_pulse, outputs, AnyOrder}
 use Rattle.gos_model.specs.Protocol.{is_open}
 use Rattle.gos_lines.specs.Lines.{Word, Words}
 use Rattle.gos_tool.specs.Program.{body_from}
-use Rattle.gos_tool.specs.Circuit.{all_cells}
+use Rattle.gos_tool.specs.inner.Circuit.{all_cells}
 use Rattle.gos_tool.proofs.NameLemmas.{In, Differ, test_same, test_differ, in_middle}
 use Rattle.gos_tool.proofs.WeightLemmas.{import_is_command}
 use Rattle.gos_tool.proofs.CellLemmas.{run_of}

@@ -9,7 +9,7 @@ ghost use Rattle.gos_netcheck.specs.Accepted.{IsAccepted};
 ghost use Rattle.gos_command.specs.Ends.{IfStopped, IsTold};
 ghost use Rattle.gos_tool.specs.BuildFile.{build_of, files_of};
 ghost use Rattle.gos_tool.specs.SourceFile.{IsWellFormed};
-ghost use Rattle.gos_tool.specs.SourceFileSeen.{sequence_of};
+ghost use Rattle.gos_tool.specs.inner.SourceFileSeen.{sequence_of};
 ghost use Rattle.gos_tool.specs.Built.{IsCompiled, IsModuleBuilt, IsBuilt, IsNotBuilt, RejectsPulses, RejectsModule, Rejects, IsCircuitCall, IsModuleCall, IsBuildCall, KeepsUnnamed};
 ghost use Rattle.gos_tool.specs.declared.statements.Refusal.TheVariants.{NotOfForm};
 

@@ -6,8 +6,8 @@ ghost use Rattle.gos_types.specs.Types.{Com};
 ghost use Rattle.gos_lex.specs.Names.{IsNameOrWord};
 ghost use Rattle.gos_netlist.specs.Seen.{cell_of, side_of};
 ghost use Rattle.gos_tool.specs.SourceFile.{IsWellFormed};
-ghost use Rattle.gos_tool.specs.SourceFileSeen.{sequence_of};
-ghost use Rattle.gos_tool.specs.Circuit.{all_cells, circuit_of, place_in, done_of, before, after_all, root_port, import_ports};
+ghost use Rattle.gos_tool.specs.inner.SourceFileSeen.{sequence_of};
+ghost use Rattle.gos_tool.specs.inner.Circuit.{all_cells, circuit_of, place_in, done_of, before, after_all, root_port, import_ports};
 
 use crate::source_file::{Module, with_first};
 use gos_lex::Name;

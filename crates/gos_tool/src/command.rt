@@ -4,7 +4,7 @@ ghost use Rattle.std.specs.Prelude.{◌∷◌, [], IfOk, IfErr, IsErrOf, MatchOp
 ghost use Rattle.gos_outside.specs.Faults.{Rose};
 ghost use Rattle.gos_command.specs.Ends.{IfStopped, IsTold};
 ghost use Rattle.gos_tool.specs.Command.{texts, Means, MeanNothing};
-ghost use Rattle.gos_tool.specs.CommandSeen.{meant, HasFileNames};
+ghost use Rattle.gos_tool.specs.inner.CommandSeen.{meant, HasFileNames};
 ghost use Rattle.gos_tool.specs.Run.{IsDone, IsRejected, IsCall, KeepsOthers};
 
 use crate::building::build;

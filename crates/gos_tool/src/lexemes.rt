@@ -3,7 +3,7 @@
 ghost use Rattle.std.specs.Prelude.{◌≡◌, ◌≢◌, ◌≤◌, ◌<◌, ◌∷◌, ◌++◌, [], List, length, IfOk, IfErr, None, All};
 ghost use Rattle.gos_lex.specs.Tokens.{Reads, reading_of, readings_of, Reading};
 ghost use Rattle.gos_tool.specs.SourceFile.{HasReadings};
-ghost use Rattle.gos_tool.specs.Lexemes.{seen, all_seen, IsWithin};
+ghost use Rattle.gos_tool.specs.inner.Lexemes.{seen, all_seen, IsWithin};
 ghost use Rattle.gos_tool.specs.declared.statements.Refusal.TheVariants.{NotOfForm};
 
 use crate::statements::Refusal;

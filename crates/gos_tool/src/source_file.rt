@@ -8,8 +8,8 @@ ghost use Rattle.std.specs.Str.{bytes_eq};
 ghost use Rattle.gos_lex.specs.Names.{IsNameOrWord};
 ghost use Rattle.gos_lex.specs.Tokens.{AName, AWord};
 ghost use Rattle.gos_tool.specs.SourceFile.{Sequence, IsSourceFile, IsWellFormed, import_readings, then_readings, type_readings, sequence_readings};
-ghost use Rattle.gos_tool.specs.SourceFileSeen.{sequence_of};
-ghost use Rattle.gos_tool.specs.Lexemes.{all_seen, BeginsNoImport, BeginsNoExport, BeginsNoThen};
+ghost use Rattle.gos_tool.specs.inner.SourceFileSeen.{sequence_of};
+ghost use Rattle.gos_tool.specs.inner.Lexemes.{all_seen, BeginsNoImport, BeginsNoExport, BeginsNoThen};
 ghost use Rattle.gos_tool.specs.declared.statements.Refusal.TheVariants.{NotOfForm};
 
 use crate::lexemes::{Lexeme, lexemes};

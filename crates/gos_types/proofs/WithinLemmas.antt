@@ -8,7 +8,7 @@ use Rattle.gos_types.specs.declared.shakes.Step.{Step}
 use Rattle.gos_types.specs.declared.shakes.Step.TheVariants.{First, Second, Argument, Outcome}
 use Rattle.gos_types.specs.Types.{Type', Pair, Fun}
 use Rattle.gos_types.specs.Handshakes.{Shake, turned, turn_all, below, handshakes_of}
-use Rattle.gos_types.specs.Within.{role_within, within}
+use Rattle.gos_types.specs.inner.Within.{role_within, within}
 
 longer : (way path : List Step) (step : Step) → way ++ (step ∷ path) ≡ (way ++ step ∷ []) ++ path
 longer way path step = sym (append_assoc way (step ∷ []) path)

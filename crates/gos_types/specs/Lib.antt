@@ -1,5 +1,5 @@
 pub mod Types
 pub mod Handshakes
+pub mod Sides
 pub mod TypeText
-pub mod Within
-pub mod TypeCode
+pub mod inner

@@ -2,7 +2,7 @@
 ghost use Rattle.std.specs.Prelude.{◌≡◌, ◌<◌, ◌++◌, ◌∷◌, [], ◌^◌, length, map, IfOk, OnOk};
 ghost use Rattle.gos_types.specs.Types.{type_of, size};
 ghost use Rattle.gos_types.specs.Handshakes.{handshakes_of, turned};
-ghost use Rattle.gos_types.specs.Within.{within};
+ghost use Rattle.gos_types.specs.inner.Within.{within};
 
 use crate::fault::NoMemory;
 use crate::types::Ty;
@@ -157,7 +157,9 @@ fn add_one(
     path: &[Step],
     shakes: &mut Vec<Handshake>,
 ) -> Result<(), NoMemory>
-    ensures { OnOk result (shakes.new.items ≡ shakes.old.items ++ record { role = role; ask_bits = ask_bits; answer_bits = answer_bits; path = path.now } ∷ []) }
+    ensures { OnOk result
+        (shakes.new.items
+        ≡ shakes.old.items ++ record { role = role; ask_bits = ask_bits; answer_bits = answer_bits; path = path.now } ∷ []) }
 {
     let path = path.to_vec(alloc)?;
     shakes.push(Handshake {

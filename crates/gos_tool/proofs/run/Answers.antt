@@ -1,4 +1,4 @@
-use Rattle.gos_tool.specs.CommandSeen.{meant}
+use Rattle.gos_tool.specs.inner.CommandSeen.{meant}
 use Rattle.gos_tool.proofs.EndLemmas.{ends_done, if_rejected, unsaid}
 use Rattle.gos_tool.proofs.run.Goals as goal
 

@@ -5,8 +5,8 @@ use Rattle.gos_types.specs.Types.{Type', type_of}
 use Rattle.gos_model.specs.Weight.{count}
 use Rattle.gos_model.specs.Sources.{import_of}
 use Rattle.gos_check.specs.Sizes.{IsCountable}
-use Rattle.gos_check.specs.Seen.{binders_of}
-use Rattle.gos_check.specs.Walked.{tree}
+use Rattle.gos_check.specs.inner.Seen.{binders_of}
+use Rattle.gos_check.specs.inner.Walked.{tree}
 use Rattle.gos_check.proofs.SizeLemmas.{countable_fun}
 use Rattle.gos_check.proofs.RuleLemmas.{one_countable, two_countable}
 use Rattle.gos_check.proofs.WeightLemmas.{judged_weight}

@@ -1,6 +1,6 @@
 use Rattle.std.proofs.Common.{◌+◌, ◌*◌}
 use Rattle.gos_check.specs.Sizes.{size}
-use Rattle.gos_check.specs.Walked.{tree}
+use Rattle.gos_check.specs.inner.Walked.{tree}
 use Rattle.gos_check.proofs.judging.+judging.Given as goal
 
 abbrev pub decreases-judge : goal.decreases-judge

@@ -1,7 +1,7 @@
 use Rattle.std.proofs.Common.{sym, subst}
 use Rattle.gos_types.specs.Types.{Type', type_of}
 use Rattle.gos_check.specs.Sizes.{IsCountable}
-use Rattle.gos_check.specs.Seen.{binders_of}
+use Rattle.gos_check.specs.inner.Seen.{binders_of}
 use Rattle.gos_check.proofs.ScopeLemmas.{type_countable}
 use Rattle.gos_check.proofs.judging.judge_name.Goals as goal
 

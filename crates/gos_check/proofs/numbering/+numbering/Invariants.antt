@@ -1,6 +1,6 @@
 use Rattle.std.proofs.Common.{◌+◌, ◌*◌}
 use Rattle.gos_check.specs.Sizes.{size}
-use Rattle.gos_check.specs.Walked.{tree}
+use Rattle.gos_check.specs.inner.Walked.{tree}
 use Rattle.gos_check.proofs.numbering.+numbering.Given as goal
 
 abbrev pub decreases-number : goal.decreases-number

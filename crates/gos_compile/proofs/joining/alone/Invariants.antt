@@ -1,5 +1,5 @@
 use Rattle.std.proofs.Common.{◌≡◌, ◌≤◌, ℕ, length}
-use Rattle.gos_compile.specs.Joined.{far_at}
+use Rattle.gos_compile.specs.inner.Joined.{far_at}
 use Rattle.gos_compile.proofs.joining.alone.Given as goal
 
 -- each number so far is its own

@@ -2,7 +2,7 @@ use Rattle.std.proofs.Common.{arith, sym, ◌∙◌, subst, ◌≡◌, ◌<◌, 
 use Rattle.std.proofs.Math.Seq.{drop-cons}
 use Rattle.std.proofs.lemmas.List.{drop_all}
 use Rattle.gos_compile.specs.declared.joining.Bond.{Bond}
-use Rattle.gos_compile.specs.Joined.{far_at, bond}
+use Rattle.gos_compile.specs.inner.Joined.{far_at, bond}
 use Rattle.gos_compile.proofs.JoinLemmas.{AreClassed, classed_alone, one_joined, far_of_classed, joined_below, below_at}
 use Rattle.gos_compile.proofs.joining.far_ends.Goals as goal
 

@@ -1,5 +1,5 @@
 use Rattle.std.proofs.Common.{◌≡◌, ◌≤◌, ◌<◌, ℕ, length, drop}
-use Rattle.gos_compile.specs.Joined.{far_at}
+use Rattle.gos_compile.specs.inner.Joined.{far_at}
 use Rattle.gos_compile.proofs.JoinLemmas.{AreClassed}
 use Rattle.gos_compile.proofs.joining.far_ends.Given as goal
 

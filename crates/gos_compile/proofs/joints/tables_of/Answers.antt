@@ -1,6 +1,6 @@
 use Rattle.std.proofs.Common.{sym, subst, ◌∙◌, ◌≤◌, ℕ, List}
 use Rattle.gos_compile.specs.declared.joining.Bond.{Bond}
-use Rattle.gos_compile.specs.Joined.{AreFar, far_at, touches}
+use Rattle.gos_compile.specs.inner.Joined.{AreFar, far_at, touches}
 use Rattle.gos_compile.proofs.ThinLemmas.{few_bonds, free_bonds}
 use Rattle.gos_compile.proofs.joints.tables_of.Goals as goal
 

@@ -10,8 +10,8 @@ use Rattle.gos_plan.specs.Seen.{part_of}
 use Rattle.gos_compile.specs.declared.points.Place.TheVariants as places
 use Rattle.gos_compile.specs.declared.points.Tie.{Tie}
 use Rattle.gos_compile.specs.Regular.{count}
-use Rattle.gos_compile.specs.Tables.{types_at}
-use Rattle.gos_compile.specs.Walked.{seen, is_plain}
+use Rattle.gos_compile.specs.inner.Tables.{types_at}
+use Rattle.gos_compile.specs.inner.Walked.{seen, is_plain}
 use Rattle.gos_compile.specs.Wiring.{Types, row, with_types, all_types, import_ties}
 use Rattle.gos_compile.proofs.NodeLemmas.{type_seen}
 use Rattle.gos_compile.proofs.WalkLemmas.{module_parts, module_ties, module_plain}

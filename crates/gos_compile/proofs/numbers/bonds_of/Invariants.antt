@@ -1,5 +1,5 @@
 use Rattle.std.proofs.Common.{◌≡◌, take, map}
-use Rattle.gos_compile.specs.Found.{bond_of}
+use Rattle.gos_compile.specs.inner.Found.{bond_of}
 use Rattle.gos_compile.proofs.numbers.bonds_of.Given as goal
 
 -- the bonds of the ties so far

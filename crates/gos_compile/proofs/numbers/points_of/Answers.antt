@@ -3,7 +3,7 @@ use Rattle.std.proofs.Math.Seq.{drop-cons}
 use Rattle.gos_compile.specs.declared.points.Place.TheVariants as places
 use Rattle.gos_compile.specs.declared.points.Point.{Point}
 use Rattle.gos_compile.specs.declared.points.Tie.{Tie}
-use Rattle.gos_compile.specs.Found.{code, ShakesBelow, AreNumbered}
+use Rattle.gos_compile.specs.inner.Found.{code, ShakesBelow, AreNumbered}
 use Rattle.gos_compile.specs.Wiring.{point, tie}
 use Rattle.gos_compile.proofs.CodeLemmas.{shakes_part, numbered_more}
 use Rattle.gos_compile.proofs.numbers.points_of.Goals as goal

@@ -1,5 +1,5 @@
 use Rattle.std.proofs.Common.{◌≤◌, length, drop}
-use Rattle.gos_compile.specs.Found.{AreNumbered}
+use Rattle.gos_compile.specs.inner.Found.{AreNumbered}
 use Rattle.gos_compile.proofs.numbers.points_of.Given as goal
 
 -- the points of the ties from k on are in the table

@@ -1,7 +1,7 @@
 use Rattle.std.proofs.Common.{arith, sym, subst, ◌≡◌, ◌<◌, ◌≤◌, ◌+◌, ℕ, suc, length, List, ◌∷◌, drop, slice_index_or}
 use Rattle.std.proofs.Math.Seq.{drop-cons}
 use Rattle.gos_compile.specs.declared.joining.Bond.{Bond}
-use Rattle.gos_compile.specs.Joined.{AreBelow, bond}
+use Rattle.gos_compile.specs.inner.Joined.{AreBelow, bond}
 use Rattle.gos_compile.proofs.numbers.size_of.Goals as goal
 
 pub loop-bond-preserved : goal.loop-bond-preserved

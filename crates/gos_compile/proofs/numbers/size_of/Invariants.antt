@@ -1,5 +1,5 @@
 use Rattle.std.proofs.Common.{◌≤◌, ℕ, drop}
-use Rattle.gos_compile.specs.Joined.{AreBelow}
+use Rattle.gos_compile.specs.inner.Joined.{AreBelow}
 use Rattle.gos_compile.proofs.numbers.size_of.Given as goal
 
 -- what is above the bound and the numbers that are left is above all

@@ -2,7 +2,7 @@ use Rattle.std.proofs.Common.{arith, sym, subst, ◌≡◌, ◌<◌, ◌≤◌, 
 use Rattle.std.proofs.Math.Seq.{drop-cons}
 use Rattle.gos_compile.specs.declared.points.Place.TheVariants as places
 use Rattle.gos_compile.specs.declared.points.Tie.{Tie}
-use Rattle.gos_compile.specs.Found.{ShakesBelow}
+use Rattle.gos_compile.specs.inner.Found.{ShakesBelow}
 use Rattle.gos_compile.specs.Wiring.{point, tie}
 use Rattle.gos_compile.proofs.numbers.stride_of.Goals as goal
 

@@ -1,5 +1,5 @@
 use Rattle.std.proofs.Common.{◌≤◌, ℕ, drop}
-use Rattle.gos_compile.specs.Found.{ShakesBelow}
+use Rattle.gos_compile.specs.inner.Found.{ShakesBelow}
 use Rattle.gos_compile.proofs.numbers.stride_of.Given as goal
 
 -- what is above the bound and the handshakes that are left is above all

@@ -8,8 +8,8 @@ use Rattle.gos_check.specs.Nodes.{Numbered, node_seen}
 use Rattle.gos_plan.specs.Seen.{SeenPlan, part_of, import_of, joint_of}
 use Rattle.gos_compile.specs.declared.points.Tie.{Tie}
 use Rattle.gos_compile.specs.Wiring.{all_parts, all_ties}
-use Rattle.gos_compile.specs.Found.{AreTables, all_found, bare, far_by}
-use Rattle.gos_compile.specs.Counted.{IsThin}
+use Rattle.gos_compile.specs.inner.Found.{AreTables, all_found, bare, far_by}
+use Rattle.gos_compile.specs.inner.Counted.{IsThin}
 use Rattle.gos_compile.proofs.ThinLemmas.{thin}
 use Rattle.gos_check.specs.Checked.{program_in}
 use Rattle.gos_compile.proofs.RangeLemmas.{in_range}

@@ -1,5 +1,5 @@
 use Rattle.std.proofs.Common.{◌≡◌, ℕ, length, ◌+◌, ◌-◌}
-use Rattle.gos_compile.specs.Tables.{types_at}
+use Rattle.gos_compile.specs.inner.Tables.{types_at}
 use Rattle.gos_compile.proofs.types.extend.Given as goal
 
 -- each number has the type that it had

@@ -1,5 +1,5 @@
 use Rattle.std.proofs.Common.{◌≡◌, drop}
-use Rattle.gos_compile.specs.Tables.{types_at}
+use Rattle.gos_compile.specs.inner.Tables.{types_at}
 use Rattle.gos_compile.specs.Wiring.{with_sides}
 use Rattle.gos_compile.proofs.types.set_sides.Given as goal
 

@@ -1,6 +1,6 @@
 use Rattle.std.proofs.Common.{◌≡◌, take, map}
 use Rattle.gos_plan.specs.Contacts.{contact_held}
-use Rattle.gos_expand.specs.Arrivals.{new_arrival}
+use Rattle.gos_expand.specs.inner.Arrivals.{new_arrival}
 use Rattle.gos_expand.proofs.arrivals.entries.Given as goal
 
 -- the entries of the handshakes so far

@@ -1,7 +1,7 @@
 use Rattle.std.proofs.Common.{◌≡◌, take, map}
 use Rattle.gos_types.specs.Types.{type_of}
 use Rattle.gos_plan.specs.Kinds.{contacts_of}
-use Rattle.gos_expand.specs.Arrivals.{new_arrival}
+use Rattle.gos_expand.specs.inner.Arrivals.{new_arrival}
 use Rattle.gos_expand.proofs.arrivals.import_lists.Given as goal
 
 -- the entries of the imports so far

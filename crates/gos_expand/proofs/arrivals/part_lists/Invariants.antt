@@ -1,7 +1,7 @@
 use Rattle.std.proofs.Common.{◌≡◌, take, map}
 use Rattle.gos_plan.specs.Kinds.{part_contacts}
 use Rattle.gos_plan.specs.Seen.{part_of}
-use Rattle.gos_expand.specs.Arrivals.{new_arrival}
+use Rattle.gos_expand.specs.inner.Arrivals.{new_arrival}
 use Rattle.gos_expand.proofs.arrivals.part_lists.Given as goal
 
 -- the entries of the parts so far

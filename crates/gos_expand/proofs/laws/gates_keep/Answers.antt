@@ -1,4 +1,4 @@
-use Rattle.gos_expand.specs.Kept.{all_gates}
+use Rattle.gos_expand.proofs.KeptLemmas.{all_gates}
 use Rattle.gos_expand.proofs.FewLemmas.{gates_few}
 use Rattle.gos_expand.proofs.laws.gates_keep.Goals as goal
 

@@ -3,7 +3,7 @@ use Rattle.gos_plan.specs.Plans.{End, Plan}
 use Rattle.gos_plan.specs.Seen.{plan_of, end_of}
 use Rattle.gos_expand.specs.declared.arrivals.Arrival.{Arrival}
 use Rattle.gos_expand.specs.Starts.{keep_all, parts_start}
-use Rattle.gos_expand.specs.Arrivals.{start_at, nets_of}
+use Rattle.gos_expand.specs.inner.Arrivals.{start_at, nets_of}
 use Rattle.gos_expand.proofs.ArriveLemmas.{entry_told, arrives_told, start_low, parts_within}
 use Rattle.gos_expand.proofs.leaves.arrives.Goals as goal
 

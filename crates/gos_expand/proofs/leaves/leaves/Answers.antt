@@ -13,7 +13,7 @@ use Rattle.gos_plan.specs.Ranges.{IsInRange}
 use Rattle.gos_plan.specs.Seen.{plan_of, part_of, import_of, end_of}
 use Rattle.gos_expand.specs.declared.arrivals.Arrival.{Arrival}
 use Rattle.gos_expand.specs.Starts.{keep_all, part_start, port_start}
-use Rattle.gos_expand.specs.Arrivals.{start_at}
+use Rattle.gos_expand.specs.inner.Arrivals.{start_at}
 use Rattle.gos_expand.specs.Laid.{leaves, request_start}
 use Rattle.gos_expand.proofs.ArriveLemmas.{entry_told}
 use Rattle.gos_expand.proofs.BlockLemmas.{there_mapped}

@@ -8,7 +8,7 @@ use Rattle.gos_plan.specs.Seen.{part_of}
 use Rattle.gos_plan.specs.Wires.{HoldNets}
 use Rattle.gos_expand.specs.declared.gates.Gates.{Gates}
 use Rattle.gos_expand.specs.Gates.{outs_of, part_size}
-use Rattle.gos_expand.specs.Dispatch.{gates_for, cells_in, outs_in, IsLaidOut}
+use Rattle.gos_expand.specs.inner.Dispatch.{gates_for, cells_in, outs_in, IsLaidOut}
 use Rattle.gos_expand.proofs.CountLemmas.{part_length}
 use Rattle.gos_expand.proofs.NumberLemmas.{cells_for}
 use Rattle.gos_expand.proofs.LeafLemmas.{outs_for, nets_go_out, out_bare, out_bearing, some_there, wire_there, found_in_front}

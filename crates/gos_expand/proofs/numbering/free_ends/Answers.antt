@@ -7,7 +7,7 @@ use Rattle.gos_plan.specs.declared.plan.End.TheVariants as ends
 use Rattle.gos_plan.specs.Plans.{End, is_free}
 use Rattle.gos_plan.specs.Seen.{end_of}
 use Rattle.gos_expand.specs.Starts.{joints_start}
-use Rattle.gos_expand.specs.Arrivals.{joined_start}
+use Rattle.gos_expand.specs.inner.Arrivals.{joined_start}
 use Rattle.gos_expand.proofs.BlockLemmas.{there_mapped}
 use Rattle.gos_expand.proofs.NumberLemmas.{free_of_joints, all_mapped}
 use Rattle.gos_expand.proofs.PlaceLemmas.{one_exists, tested_in, tested_out}

@@ -1,7 +1,7 @@
 use Rattle.std.proofs.Common.{◌≡◌, ◌≤◌, take, map, filter, length}
 use Rattle.gos_plan.specs.Plans.{Plan, is_free}
 use Rattle.gos_plan.specs.Seen.{end_of}
-use Rattle.gos_expand.specs.Arrivals.{AreAt, Exist, joined_start}
+use Rattle.gos_expand.specs.inner.Arrivals.{AreAt, Exist, joined_start}
 use Rattle.gos_expand.proofs.numbering.free_ends.Given as goal
 
 -- the ends so far that are in no joint

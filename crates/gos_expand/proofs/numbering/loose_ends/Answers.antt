@@ -2,7 +2,7 @@ use Rattle.std.proofs.Common.{◌≡◌, ◌∙◌, map, filter, length, ap, sub
 use Rattle.std.proofs.lemmas.List.{length-map}
 use Rattle.gos_plan.specs.Plans.{Plan, is_free}
 use Rattle.gos_plan.specs.Seen.{plan_of, end_of}
-use Rattle.gos_expand.specs.Arrivals.{Exist}
+use Rattle.gos_expand.specs.inner.Arrivals.{Exist}
 use Rattle.gos_expand.specs.Starts.{ports_of, port_ends, part_ends}
 use Rattle.gos_expand.proofs.PlaceLemmas.{all_exist}
 use Rattle.gos_expand.proofs.PortLemmas.{few_ends}

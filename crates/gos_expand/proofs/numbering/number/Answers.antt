@@ -6,8 +6,8 @@ use Rattle.std.proofs.lemmas.List.{length-map}
 use Rattle.gos_expand.specs.Blocks.{total}
 use Rattle.gos_expand.specs.Gates.{part_size}
 use Rattle.gos_expand.specs.Starts.{keep_all, loose_size, loose_ends, loose_ends_start, parts_start}
-use Rattle.gos_expand.specs.Arrivals.{AreAt, or_else, start_by_ends, joined_start}
-use Rattle.gos_expand.specs.Numbering.{starts}
+use Rattle.gos_expand.specs.inner.Arrivals.{AreAt, or_else, start_by_ends, joined_start}
+use Rattle.gos_expand.specs.inner.Numbering.{starts}
 use Rattle.gos_expand.proofs.numbering.number.Goals as goal
 
 pub returns : goal.returns

@@ -5,7 +5,7 @@ use Rattle.gos_plan.specs.declared.plan.End.TheVariants as ends
 use Rattle.gos_plan.specs.Plans.{Joint, Plan}
 use Rattle.gos_plan.specs.Seen.{plan_of, joint_of}
 use Rattle.gos_expand.specs.Starts.{keep_all, joint_size}
-use Rattle.gos_expand.specs.Arrivals.{AreAt, or_else, start_by, start_by_joints}
+use Rattle.gos_expand.specs.inner.Arrivals.{AreAt, or_else, start_by, start_by_joints}
 use Rattle.gos_expand.proofs.BlockLemmas.{there_mapped, total_more}
 use Rattle.gos_expand.proofs.NumberLemmas.{joints_step}
 use Rattle.gos_expand.proofs.numbering.number_joints.Goals as goal

@@ -2,7 +2,7 @@ use Rattle.std.proofs.Common.{◌≡◌, ◌≤◌, ◌+◌, ◌*◌, take, map}
 use Rattle.gos_plan.specs.Seen.{plan_of, joint_of}
 use Rattle.gos_expand.specs.Blocks.{total}
 use Rattle.gos_expand.specs.Starts.{keep_all, joint_size}
-use Rattle.gos_expand.specs.Arrivals.{AreAt, start_by_joints}
+use Rattle.gos_expand.specs.inner.Arrivals.{AreAt, start_by_joints}
 use Rattle.gos_expand.proofs.numbering.number_joints.Given as goal
 
 -- the starts by the joints so far, and what comes behind these

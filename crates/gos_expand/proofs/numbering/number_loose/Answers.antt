@@ -6,7 +6,7 @@ use Rattle.gos_plan.specs.Plans.{End, same_end}
 use Rattle.gos_plan.specs.Seen.{end_of}
 use Rattle.gos_expand.specs.Blocks.{total}
 use Rattle.gos_expand.specs.Starts.{loose_size}
-use Rattle.gos_expand.specs.Arrivals.{AreAt, or_else, some_if, start_by_ends}
+use Rattle.gos_expand.specs.inner.Arrivals.{AreAt, or_else, some_if, start_by_ends}
 use Rattle.gos_expand.proofs.BlockLemmas.{there_mapped, total_more}
 use Rattle.gos_expand.proofs.NumberLemmas.{ends_step, table_filled, all_mapped}
 use Rattle.gos_expand.proofs.numbering.number_loose.Goals as goal

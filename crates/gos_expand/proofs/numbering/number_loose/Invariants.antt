@@ -3,7 +3,7 @@ use Rattle.gos_plan.specs.Plans.{End, Plan}
 use Rattle.gos_plan.specs.Seen.{end_of}
 use Rattle.gos_expand.specs.Blocks.{total}
 use Rattle.gos_expand.specs.Starts.{loose_size}
-use Rattle.gos_expand.specs.Arrivals.{AreAt, or_else, start_by_ends}
+use Rattle.gos_expand.specs.inner.Arrivals.{AreAt, or_else, start_by_ends}
 use Rattle.gos_expand.proofs.numbering.number_loose.Given as goal
 
 -- the starts by the ends so far, and what comes behind these

@@ -3,7 +3,7 @@ use Rattle.std.proofs.lemmas.List.{length-map}
 use Rattle.gos_plan.specs.Kinds.{Part}
 use Rattle.gos_plan.specs.Seen.{part_of}
 use Rattle.gos_expand.specs.Gates.{part_size}
-use Rattle.gos_expand.specs.Numbering.{starts}
+use Rattle.gos_expand.specs.inner.Numbering.{starts}
 use Rattle.gos_expand.proofs.BlockLemmas.{item_mapped, total_more, starts_more}
 use Rattle.gos_expand.proofs.NumberLemmas.{shakes_more, shakes_within}
 use Rattle.gos_expand.proofs.numbering.part_starts.Goals as goal

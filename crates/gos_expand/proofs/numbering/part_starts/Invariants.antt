@@ -3,7 +3,7 @@ use Rattle.gos_plan.specs.Seen.{part_of}
 use Rattle.gos_plan.specs.Size.{shakes_of}
 use Rattle.gos_expand.specs.Blocks.{total}
 use Rattle.gos_expand.specs.Gates.{part_size}
-use Rattle.gos_expand.specs.Numbering.{starts}
+use Rattle.gos_expand.specs.inner.Numbering.{starts}
 use Rattle.gos_expand.proofs.numbering.part_starts.Given as goal
 
 -- the starts of the parts so far, and what comes behind these

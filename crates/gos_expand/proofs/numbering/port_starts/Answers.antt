@@ -4,7 +4,7 @@ use Rattle.gos_plan.specs.Plans.{Plan}
 use Rattle.gos_plan.specs.Seen.{plan_of, import_of}
 use Rattle.gos_expand.specs.Blocks.{total}
 use Rattle.gos_expand.specs.Starts.{ports_of, port_size}
-use Rattle.gos_expand.specs.Numbering.{starts}
+use Rattle.gos_expand.specs.inner.Numbering.{starts}
 use Rattle.gos_expand.proofs.BlockLemmas.{item_mapped, total_more, starts_more}
 use Rattle.gos_expand.proofs.PortLemmas.{port_there, all_ports, taken_port}
 use Rattle.gos_expand.proofs.numbering.port_starts.Goals as goal

@@ -2,7 +2,7 @@ use Rattle.std.proofs.Common.{◌≡◌, ◌≤◌, ◌+◌, ◌*◌, take}
 use Rattle.gos_plan.specs.Seen.{plan_of}
 use Rattle.gos_expand.specs.Blocks.{total}
 use Rattle.gos_expand.specs.Starts.{port_size, ports_of}
-use Rattle.gos_expand.specs.Numbering.{starts}
+use Rattle.gos_expand.specs.inner.Numbering.{starts}
 use Rattle.gos_expand.proofs.numbering.port_starts.Given as goal
 
 -- the starts of the ports so far, and what comes behind these

@@ -1,6 +1,6 @@
 use Rattle.std.proofs.Common.{ap, map, ◌∙◌}
 use Rattle.gos_plan.specs.Seen.{end_of}
-use Rattle.gos_expand.specs.Numbering.{end_at}
+use Rattle.gos_expand.specs.inner.Numbering.{end_at}
 use Rattle.gos_expand.proofs.PlaceLemmas.{ends_added}
 use Rattle.gos_expand.proofs.places.add_ends.Goals as goal
 

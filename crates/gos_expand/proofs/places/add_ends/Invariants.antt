@@ -1,6 +1,6 @@
 use Rattle.std.proofs.Common.{◌≡◌, ◌++◌, map}
 use Rattle.gos_plan.specs.Seen.{end_of}
-use Rattle.gos_expand.specs.Numbering.{end_at, ends_from}
+use Rattle.gos_expand.specs.inner.Numbering.{end_at, ends_from}
 use Rattle.gos_expand.proofs.places.add_ends.Given as goal
 
 -- the ends of the handshakes so far

@@ -6,7 +6,7 @@ use Rattle.gos_plan.specs.Plans.{Plan}
 use Rattle.gos_plan.specs.Seen.{plan_of, import_of}
 use Rattle.gos_expand.specs.Blocks.{blocks}
 use Rattle.gos_expand.specs.Starts.{Outer, keep_all, taken_ports}
-use Rattle.gos_expand.specs.Tokens.{Places}
+use Rattle.gos_expand.specs.inner.Tokens.{Places}
 use Rattle.gos_expand.specs.Laid.{port_cells}
 use Rattle.gos_expand.proofs.BlockLemmas.{item_mapped}
 use Rattle.gos_expand.proofs.CountLemmas.{outer_import}

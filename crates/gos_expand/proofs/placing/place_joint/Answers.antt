@@ -4,8 +4,8 @@ use Rattle.gos_plan.specs.Plans.{Joint, Plan, contact_at}
 use Rattle.gos_plan.specs.Seen.{plan_of, joint_of}
 use Rattle.gos_expand.specs.Blocks.{Nets, registers}
 use Rattle.gos_expand.specs.Starts.{keep_all, bits_if}
-use Rattle.gos_expand.specs.Tokens.{held_nets, Places}
-use Rattle.gos_expand.specs.Arrivals.{start_at}
+use Rattle.gos_expand.specs.inner.Tokens.{held_nets, Places}
+use Rattle.gos_expand.specs.inner.Arrivals.{start_at}
 use Rattle.gos_expand.specs.Laid.{leaves}
 use Rattle.gos_expand.proofs.CountLemmas.{entry_bits}
 use Rattle.gos_expand.proofs.PlacingLemmas.{places_then}

@@ -2,7 +2,7 @@ use Rattle.std.proofs.Common.{◌≡◌, take}
 use Rattle.gos_plan.specs.Seen.{plan_of}
 use Rattle.gos_expand.specs.Blocks.{blocks}
 use Rattle.gos_expand.specs.Starts.{keep_all}
-use Rattle.gos_expand.specs.Tokens.{Places}
+use Rattle.gos_expand.specs.inner.Tokens.{Places}
 use Rattle.gos_expand.specs.Laid.{joint_cells}
 use Rattle.gos_expand.proofs.placing.place_joints.Given as goal
 

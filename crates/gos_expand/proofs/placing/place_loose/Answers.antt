@@ -4,8 +4,8 @@ use Rattle.gos_plan.specs.declared.plan.End.TheVariants as ends
 use Rattle.gos_plan.specs.Plans.{End, Plan}
 use Rattle.gos_plan.specs.Seen.{plan_of, end_of}
 use Rattle.gos_expand.specs.Blocks.{nothing, blocks}
-use Rattle.gos_expand.specs.Tokens.{Places}
-use Rattle.gos_expand.specs.Arrivals.{start_at}
+use Rattle.gos_expand.specs.inner.Tokens.{Places}
+use Rattle.gos_expand.specs.inner.Arrivals.{start_at}
 use Rattle.gos_expand.specs.Laid.{loose_cells}
 use Rattle.gos_expand.proofs.CountLemmas.{indexed_mapped, loose_length}
 use Rattle.gos_expand.proofs.PlacingLemmas.{block_placed, block_fits}

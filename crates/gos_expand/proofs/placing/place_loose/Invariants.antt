@@ -1,7 +1,7 @@
 use Rattle.std.proofs.Common.{◌≡◌, take, map}
 use Rattle.gos_plan.specs.Seen.{plan_of, end_of}
 use Rattle.gos_expand.specs.Blocks.{blocks}
-use Rattle.gos_expand.specs.Tokens.{Places}
+use Rattle.gos_expand.specs.inner.Tokens.{Places}
 use Rattle.gos_expand.specs.Laid.{loose_cells}
 use Rattle.gos_expand.proofs.placing.place_loose.Given as goal
 

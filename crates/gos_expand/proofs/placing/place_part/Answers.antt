@@ -9,9 +9,9 @@ use Rattle.gos_plan.specs.Wires.{incoming_of}
 use Rattle.gos_plan.specs.Seen.{plan_of, part_of}
 use Rattle.gos_expand.specs.declared.gates.Gates.{Gates}
 use Rattle.gos_expand.specs.Gates.{layout, part_size}
-use Rattle.gos_expand.specs.Dispatch.{gates_for, cells_in}
+use Rattle.gos_expand.specs.inner.Dispatch.{gates_for, cells_in}
 use Rattle.gos_expand.specs.Starts.{keep_all}
-use Rattle.gos_expand.specs.Tokens.{Places}
+use Rattle.gos_expand.specs.inner.Tokens.{Places}
 use Rattle.gos_expand.specs.Laid.{incoming, part_cells}
 use Rattle.gos_expand.proofs.BlockLemmas.{item_mapped}
 use Rattle.gos_expand.proofs.CountLemmas.{part_length}

@@ -5,9 +5,9 @@ use Rattle.gos_plan.specs.Contacts.{contact_held}
 use Rattle.gos_plan.specs.Plans.{End, Plan}
 use Rattle.gos_plan.specs.Seen.{plan_of, end_of}
 use Rattle.gos_expand.specs.Starts.{Outer, keep_all}
-use Rattle.gos_expand.specs.Tokens.{held_nets, Places}
+use Rattle.gos_expand.specs.inner.Tokens.{held_nets, Places}
 use Rattle.gos_expand.specs.Laid.{shake_cells}
-use Rattle.gos_expand.specs.Outers.{outer_at}
+use Rattle.gos_expand.specs.inner.Outers.{outer_at}
 use Rattle.gos_expand.proofs.CountLemmas.{side_length, shake_placed}
 use Rattle.gos_expand.proofs.LeafLemmas.{some_there}
 use Rattle.gos_expand.proofs.PlacingLemmas.{block_placed, block_fits}

@@ -2,9 +2,9 @@ use Rattle.std.proofs.Common.{◌≡◌, take}
 use Rattle.gos_plan.specs.Seen.{plan_of}
 use Rattle.gos_expand.specs.Blocks.{blocks}
 use Rattle.gos_expand.specs.Starts.{keep_all}
-use Rattle.gos_expand.specs.Tokens.{Places}
+use Rattle.gos_expand.specs.inner.Tokens.{Places}
 use Rattle.gos_expand.specs.Laid.{shake_cells}
-use Rattle.gos_expand.specs.Outers.{outer_at}
+use Rattle.gos_expand.specs.inner.Outers.{outer_at}
 use Rattle.gos_expand.proofs.placing.place_port.Given as goal
 
 -- the cells of the handshakes so far

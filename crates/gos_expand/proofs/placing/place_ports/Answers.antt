@@ -7,9 +7,9 @@ use Rattle.gos_plan.specs.Seen.{plan_of}
 use Rattle.gos_expand.specs.declared.places.Place.TheVariants as places
 use Rattle.gos_expand.specs.Blocks.{blocks}
 use Rattle.gos_expand.specs.Starts.{keep_all, taken_ports}
-use Rattle.gos_expand.specs.Tokens.{Places}
+use Rattle.gos_expand.specs.inner.Tokens.{Places}
 use Rattle.gos_expand.specs.Laid.{port_cells}
-use Rattle.gos_expand.specs.Outers.{outer_at}
+use Rattle.gos_expand.specs.inner.Outers.{outer_at}
 use Rattle.gos_expand.proofs.CountLemmas.{ports_alike}
 use Rattle.gos_expand.proofs.PlacingLemmas.{places_then, region_placed}
 use Rattle.gos_expand.proofs.placing.place_ports.Goals as goal

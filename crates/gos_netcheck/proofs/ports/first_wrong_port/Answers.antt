@@ -5,7 +5,7 @@ use Rattle.std.proofs.lemmas.Option.{slice_get_read}
 use Rattle.gos_netlist.specs.Nets.{NetPort}
 use Rattle.gos_netlist.specs.Seen.{cell_of}
 use Rattle.gos_netcheck.specs.PortRules.{IsRightPort, all_inputs}
-use Rattle.gos_netcheck.specs.PortSearch.{AreTaken}
+use Rattle.gos_netcheck.specs.inner.PortSearch.{AreTaken}
 use Rattle.gos_netcheck.proofs.RuleLemmas.{kept_more, kept_all}
 use Rattle.gos_netcheck.proofs.KeepLemmas.{all_seen, is_loose, is_not}
 use Rattle.gos_netcheck.proofs.ports.first_wrong_port.Goals as goal

@@ -2,7 +2,7 @@ use Rattle.std.proofs.Common.{◌≡◌, length, map, take}
 use Rattle.gos_netlist.specs.Seen.{cell_of}
 use Rattle.gos_netcheck.specs.Rules.{KeptBefore}
 use Rattle.gos_netcheck.specs.PortRules.{IsRightPort, all_inputs}
-use Rattle.gos_netcheck.specs.PortSearch.{HasNames, AreTaken}
+use Rattle.gos_netcheck.specs.inner.PortSearch.{HasNames, AreTaken}
 use Rattle.gos_netcheck.proofs.ports.first_wrong_port.Given as goal
 
 -- all ports so far are right, and their names and inputs are known

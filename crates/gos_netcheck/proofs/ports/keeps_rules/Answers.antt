@@ -4,7 +4,7 @@ use Rattle.std.proofs.lemmas.List.{length-map}
 use Rattle.gos_netlist.specs.Nets.{Cell, NetPort}
 use Rattle.gos_netlist.specs.Seen.{cell_of, number_of, side_of, ground_type}
 use Rattle.gos_netcheck.specs.PortRules.{AreNew, IsRightPort, inputs_of, all_inputs}
-use Rattle.gos_netcheck.specs.PortSearch.{HasNames, AreTaken, has_name, is_named}
+use Rattle.gos_netcheck.specs.inner.PortSearch.{HasNames, AreTaken, has_name, is_named}
 use Rattle.gos_netcheck.proofs.NameLemmas.{not_false, not_true, unnamed_before, named_before, names_more, taken_so_far}
 use Rattle.gos_netcheck.proofs.KeepLemmas.{is_right, inputs_new, conclude, whole_after, inputs_within}
 use Rattle.gos_netcheck.proofs.ports.keeps_rules.Goals as goal

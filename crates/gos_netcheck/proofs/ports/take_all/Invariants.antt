@@ -2,7 +2,7 @@ use Rattle.std.proofs.Common.{◌≡◌, ◌++◌, List, ℕ, length, map, take}
 use Rattle.std.specs.Prelude.{Contains}
 use Rattle.gos_netlist.specs.Seen.{number_of}
 use Rattle.gos_netcheck.specs.Rules.{KeptBefore}
-use Rattle.gos_netcheck.specs.PortSearch.{AreTaken}
+use Rattle.gos_netcheck.specs.inner.PortSearch.{AreTaken}
 use Rattle.gos_netcheck.proofs.ports.take_all.Given as goal
 
 -- the nets so far are new and taken

@@ -3,7 +3,7 @@ use Rattle.std.proofs.lemmas.Option.{slice_get-get_or}
 use Rattle.gos_netlist.specs.Seen.{cell_of, number_of}
 use Rattle.std.specs.Prelude.{map}
 use Rattle.gos_netcheck.specs.declared.schedule.Mark.TheVariants.{New}
-use Rattle.gos_netcheck.specs.Search.{IsDone}
+use Rattle.gos_netcheck.specs.inner.Search.{IsDone}
 use Rattle.gos_netcheck.proofs.RuleLemmas.{get_mapped, mapped_more, mapped_all}
 use Rattle.gos_netcheck.proofs.TurnLemmas.{no_net}
 use Rattle.gos_netcheck.proofs.PinLemmas.{no_cell, is_done, is_undone}

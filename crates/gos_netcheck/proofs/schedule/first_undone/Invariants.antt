@@ -1,7 +1,7 @@
 use Rattle.std.proofs.Common.{map}
 use Rattle.gos_netlist.specs.Seen.{cell_of, number_of}
 use Rattle.gos_netcheck.specs.Rules.{KeptBefore}
-use Rattle.gos_netcheck.specs.Search.{IsDone}
+use Rattle.gos_netcheck.specs.inner.Search.{IsDone}
 use Rattle.gos_netcheck.proofs.schedule.first_undone.Given as goal
 
 -- all nets so far are registers or placed

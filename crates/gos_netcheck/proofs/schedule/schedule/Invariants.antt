@@ -1,7 +1,7 @@
 use Rattle.std.proofs.Common.{ℕ, ◌+◌, ◌-◌, ◌<◌, ◌≤◌, length, map}
 use Rattle.std.specs.Prelude.{slice_get}
 use Rattle.gos_netlist.specs.Seen.{cell_of}
-use Rattle.gos_netcheck.specs.Search.{Stands, IsBegun, steps_left}
+use Rattle.gos_netcheck.specs.inner.Search.{Stands, IsBegun, steps_left}
 use Rattle.gos_netcheck.proofs.schedule.schedule.Given as goal
 
 -- no net before the next one is new

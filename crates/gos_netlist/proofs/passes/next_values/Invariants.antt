@@ -1,6 +1,6 @@
 use Rattle.std.proofs.Common.{◌≡◌, ◌++◌, drop, map}
 use Rattle.gos_netlist.specs.Seen.{cell_of}
-use Rattle.gos_netlist.specs.Passes.{pass, pass_from}
+use Rattle.gos_netlist.specs.inner.Passes.{pass, pass_from}
 use Rattle.gos_netlist.proofs.passes.next_values.Given as goal
 
 -- what is shown so far, and what the rest will show

@@ -1,6 +1,6 @@
 use Rattle.std.proofs.Common.{◌≡◌, map}
 use Rattle.gos_netlist.specs.Seen.{cell_of}
-use Rattle.gos_netlist.specs.Passes.{after_passes}
+use Rattle.gos_netlist.specs.inner.Passes.{after_passes}
 use Rattle.gos_netlist.proofs.passes.passed.Given as goal
 
 -- the values are those after as many passes as there were turns

@@ -1,5 +1,5 @@
 use Rattle.std.proofs.Common.{◌≡◌, ◌+◌, length, ap, ◌∙◌, subst, List, ℕ}
-use Rattle.gos_netlist.specs.Passes.{pass, after_passes}
+use Rattle.gos_netlist.specs.inner.Passes.{pass, after_passes}
 use Rattle.gos_netlist.proofs.PassLemmas.{settled, unsettled}
 use Rattle.gos_netlist.proofs.SettlingLemmas.{unsettled_has_cycle}
 use Rattle.gos_netlist.proofs.passes.settle.Goals as goal

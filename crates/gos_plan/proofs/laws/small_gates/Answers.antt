@@ -1,4 +1,4 @@
-use Rattle.gos_plan.specs.SkipKept.{skip_gates}
+use Rattle.gos_plan.specs.laws.SkipKept.{skip_gates}
 use Rattle.gos_plan.proofs.GatesLemmas.{shared_gates}
 use Rattle.gos_plan.proofs.laws.small_gates.Goals as goal
 

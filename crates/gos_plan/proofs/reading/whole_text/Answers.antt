@@ -3,7 +3,7 @@ use Rattle.std.proofs.lemmas.Result.{err_from_is_err_and}
 use Rattle.gos_plan.specs.declared.fault.ObjectFault.TheVariants as faults
 use Rattle.gos_plan.specs.Seen.{plan_of}
 use Rattle.gos_plan.specs.ObjectFaults.{HasFault}
-use Rattle.gos_plan.specs.Values.{seen_values}
+use Rattle.gos_plan.specs.inner.Values.{seen_values}
 use Rattle.gos_plan.proofs.WholeLemmas.{from_start, fails_from_start, all_read, text_fails, fault_behind, in_range}
 use Rattle.gos_plan.proofs.reading.whole_text.Goals as goal
 

@@ -1,5 +1,5 @@
 use Rattle.std.proofs.Common.{◌≡◌, take, map}
-use Rattle.gos_plan.specs.Seats.{free_held}
+use Rattle.gos_plan.specs.inner.Seats.{free_held}
 use Rattle.gos_plan.proofs.seats.free_seats.Given as goal
 
 -- the seats of the handshakes so far

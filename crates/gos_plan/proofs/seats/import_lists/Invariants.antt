@@ -1,5 +1,5 @@
 use Rattle.std.proofs.Common.{◌≡◌, take, map}
-use Rattle.gos_plan.specs.Seats.{import_seats}
+use Rattle.gos_plan.specs.inner.Seats.{import_seats}
 use Rattle.gos_plan.proofs.seats.import_lists.Given as goal
 
 -- the seats of the imports so far

@@ -1,7 +1,7 @@
 use Rattle.std.proofs.Common.{rules, ◌≡◌, ◌++◌, ◌∷◌, [], Bool, true, cond, reverse, subst, sym}
 use Rattle.gos_model.specs.Labels.{Label}
 use Rattle.gos_pulse.specs.Guarding.{Guards}
-use Rattle.gos_pulse.specs.Slots.{label_of}
+use Rattle.gos_pulse.specs.inner.Slots.{label_of}
 use Rattle.gos_pulse.proofs.SeeLemmas.{output_label}
 use Rattle.gos_pulse.proofs.board.see_output.Goals as goal
 

@@ -4,7 +4,7 @@ use Rattle.std.proofs.lemmas.List.{take_all}
 use Rattle.gos_netlist.specs.declared.event.Event.{Event}
 use Rattle.gos_sim.specs.declared.pulse.Pulse.{Pulse}
 use Rattle.gos_pulse.specs.Guarding.{Guards, outputs_of}
-use Rattle.gos_pulse.specs.Slots.{labels_of}
+use Rattle.gos_pulse.specs.inner.Slots.{labels_of}
 use Rattle.gos_pulse.proofs.SeeLemmas.{outputs_each, see_more}
 use Rattle.gos_pulse.proofs.board.see_outputs.Goals as goal
 

@@ -2,7 +2,7 @@ use Rattle.std.proofs.Common.{◌≡◌, ◌++◌, List, reverse, take}
 use Rattle.gos_netlist.specs.Nets.{Netlist}
 use Rattle.gos_model.specs.Labels.{Label}
 use Rattle.gos_pulse.specs.Guarding.{Guards, HasPorts, outputs_of}
-use Rattle.gos_pulse.specs.Slots.{labels_of}
+use Rattle.gos_pulse.specs.inner.Slots.{labels_of}
 use Rattle.gos_pulse.proofs.board.see_outputs.Given as goal
 
 -- the outputs so far were seen

@@ -3,7 +3,7 @@ use Rattle.gos_netlist.specs.Nets.{Netlist}
 use Rattle.gos_pulse.specs.declared.entries.Entry.{Entry}
 use Rattle.gos_pulse.specs.declared.trace.Trace.{Trace}
 use Rattle.gos_pulse.specs.Driving.{GivesInput, IsBroken, next_entries}
-use Rattle.gos_pulse.specs.Board.{Rests}
+use Rattle.gos_pulse.specs.inner.Board.{Rests}
 use Rattle.gos_pulse.proofs.RunLemmas.{IsUnderWay, begins_run, goes_on, has_inputs, has_outputs, run_broken, trace_known, way_traced}
 use Rattle.gos_pulse.proofs.driver.drive.Goals as goal
 

@@ -7,7 +7,7 @@ use Rattle.gos_sim.specs.declared.pulse.Pulse.{Pulse}
 use Rattle.gos_sim.specs.Cycle.{IsCycle, IsWord}
 use Rattle.gos_pulse.specs.declared.board.Board.{Board}
 use Rattle.gos_pulse.specs.Guarding.{outputs_of}
-use Rattle.gos_pulse.specs.Slots.{labels_of}
+use Rattle.gos_pulse.specs.inner.Slots.{labels_of}
 use Rattle.gos_pulse.proofs.PortLemmas.{has_ports}
 use Rattle.gos_pulse.proofs.ShownLemmas.{inputs_each, outputs_each}
 use Rattle.gos_pulse.proofs.CycleLemmas.{are_words, broken, ran}

@@ -1,6 +1,6 @@
 use Rattle.std.proofs.Common.{◌<◌, ◌+◌, arith, length, subst, sym}
 use Rattle.std.proofs.lemmas.Option.{slice_get-get_or}
-use Rattle.gos_pulse.specs.EventTable.{IsTableOf}
+use Rattle.gos_pulse.specs.inner.EventTable.{IsTableOf}
 use Rattle.gos_pulse.specs.declared.event_table.Numbers.{Numbers}
 use Rattle.gos_pulse.proofs.TableLemmas.{table_passes, table_grows}
 use Rattle.gos_pulse.proofs.event_table.number_inputs.Goals as goal

@@ -1,4 +1,4 @@
-use Rattle.gos_pulse.specs.EventTable.{IsTableOf}
+use Rattle.gos_pulse.specs.inner.EventTable.{IsTableOf}
 use Rattle.gos_pulse.proofs.event_table.number_inputs.Given as goal
 
 -- the table of the events so far

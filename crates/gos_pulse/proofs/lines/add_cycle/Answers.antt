@@ -1,5 +1,5 @@
 use Rattle.gos_pulse.specs.Guarding.{inputs_of, outputs_of}
-use Rattle.gos_pulse.specs.Slots.{labels_of}
+use Rattle.gos_pulse.specs.inner.Slots.{labels_of}
 use Rattle.gos_pulse.proofs.LineLemmas.{adds_both}
 use Rattle.gos_pulse.proofs.lines.add_cycle.Goals as goal
 

@@ -2,7 +2,7 @@ use Rattle.std.proofs.Common.{rules, ◌≡◌, ◌++◌, Bool, true, false, tru
 use Rattle.std.specs.Bool.{beq}
 use Rattle.std.proofs.lemmas.Option.{slice_get-get_or}
 use Rattle.gos_pulse.specs.declared.slots.Slot.{Slot}
-use Rattle.gos_pulse.specs.Lines.{AddsLines, line_if}
+use Rattle.gos_pulse.specs.inner.Lines.{AddsLines, line_if}
 use Rattle.gos_pulse.proofs.LineLemmas.{adds_all, adds_more, adds_same, pulse_within}
 use Rattle.gos_pulse.proofs.lines.add_lines.Goals as goal
 use Rattle.gos_pulse.proofs.lines.add_lines.Goals.{then-slot-input+in_ok-add_line, else-slot-input}

@@ -2,8 +2,8 @@ use Rattle.std.proofs.Common.{take}
 use Rattle.gos_netlist.specs.Nets.{Netlist}
 use Rattle.gos_netlist.specs.Events.{events_of}
 use Rattle.gos_pulse.specs.Guarding.{events_way}
-use Rattle.gos_pulse.specs.Slots.{labels_of}
-use Rattle.gos_pulse.specs.Lines.{AddsLines, HavePulses}
+use Rattle.gos_pulse.specs.inner.Slots.{labels_of}
+use Rattle.gos_pulse.specs.inner.Lines.{AddsLines, HavePulses}
 use Rattle.gos_pulse.proofs.lines.add_lines.Given as goal
 
 -- the events so far

@@ -3,7 +3,7 @@ use Rattle.gos_netlist.specs.Nets.{Netlist}
 use Rattle.gos_model.specs.Labels.{Label}
 use Rattle.gos_pulse.specs.Guarding.{HasPorts}
 use Rattle.gos_pulse.specs.Driving.{GivesInput}
-use Rattle.gos_pulse.specs.Board.{Stands}
+use Rattle.gos_pulse.specs.inner.Board.{Stands}
 use Rattle.gos_pulse.proofs.QueueLemmas.{GivenTo}
 use Rattle.gos_pulse.proofs.queue.give_all.Given as goal
 

@@ -1,5 +1,5 @@
 use Rattle.std.proofs.Common.{rules, ◌≡◌, ◌≤◌, ◌+◌, ◌∷◌, Bool, true, false, subst, arith}
-use Rattle.gos_pulse.specs.Board.{IsTried}
+use Rattle.gos_pulse.specs.inner.Board.{IsTried}
 use Rattle.gos_pulse.proofs.QueueLemmas.{first_known, held_by}
 use Rattle.gos_pulse.proofs.queue.give_first.Goals as goal
 

@@ -1,5 +1,5 @@
 use Rattle.std.proofs.Common.{◌≡◌, ◌≤◌, true}
-use Rattle.gos_pulse.specs.Slots.{number_of}
+use Rattle.gos_pulse.specs.inner.Slots.{number_of}
 use Rattle.gos_pulse.proofs.SlotLemmas.{SlotsTo}
 use Rattle.gos_pulse.proofs.slots.slots.Given as goal
 

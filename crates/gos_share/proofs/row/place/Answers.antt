@@ -5,7 +5,7 @@ use Rattle.gos_netlist.specs.Seen.{cell_of}
 use Rattle.gos_plan.specs.Cells.{bit}
 use Rattle.gos_plan.specs.Wires.{incoming_of}
 use Rattle.gos_share.specs.Share.{row_cells}
-use Rattle.gos_share.specs.Seen.{all_of, Places}
+use Rattle.gos_share.specs.inner.Seen.{all_of, Places}
 use Rattle.gos_share.proofs.SharingLemmas.{head_placed}
 use Rattle.gos_share.proofs.row.place.Goals as goal
 

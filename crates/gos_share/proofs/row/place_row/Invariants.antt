@@ -2,7 +2,7 @@ use Rattle.std.proofs.Common.{◌≡◌, ◌+◌, ◌≤◌, ◌++◌, length}
 use Rattle.gos_pool.specs.Pools.{KeepsClosed}
 use Rattle.gos_plan.specs.Wires.{incoming_of}
 use Rattle.gos_share.specs.Share.{row_cells}
-use Rattle.gos_share.specs.Seen.{all_of, from, blocks_size}
+use Rattle.gos_share.specs.inner.Seen.{all_of, from, blocks_size}
 use Rattle.gos_share.proofs.row.place_row.Given as goal
 
 -- the cells so far and those to come are all cells, and so are their numbers

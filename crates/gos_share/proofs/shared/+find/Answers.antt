@@ -3,7 +3,7 @@ use Rattle.std.specs.Prelude.{slice_get}
 use Rattle.gos_types.specs.declared.types.Ty.{Ty}
 use Rattle.gos_types.specs.Types.{type_of}
 use Rattle.gos_plan.specs.Kinds.{contacts_of}
-use Rattle.gos_share.specs.Seen.{contact_of}
+use Rattle.gos_share.specs.inner.Seen.{contact_of}
 use Rattle.gos_share.proofs.SharedLemmas.{fun_first}
 use Rattle.gos_share.proofs.shared.+find.Goals as goal
 

@@ -1,5 +1,5 @@
 use Rattle.std.proofs.Common.{◌≡◌, ◌+◌, ◌*◌, ◌≤◌, length}
-use Rattle.gos_share.specs.Seen.{all_of, from, blocks_size}
+use Rattle.gos_share.specs.inner.Seen.{all_of, from, blocks_size}
 use Rattle.gos_share.proofs.shared.blocks.Given as goal
 
 -- the cells so far and those of the blocks to come are those of all

@@ -4,7 +4,7 @@ use Rattle.std.proofs.lemmas.List.{length-set}
 use Rattle.std.proofs.Math.Seq.{map-set_same}
 use Rattle.gos_plan.specs.Kinds.{Contact}
 use Rattle.gos_plan.specs.Wires.{nets_in}
-use Rattle.gos_share.specs.Seen.{outgoing_of, blocks_size}
+use Rattle.gos_share.specs.inner.Seen.{outgoing_of, blocks_size}
 use Rattle.gos_share.proofs.SideLemmas.{one_more, all_held}
 use Rattle.gos_share.proofs.sides.fill_side.Goals as goal
 

@@ -1,7 +1,7 @@
 use Rattle.std.proofs.Common.{◌≡◌, ◌+◌, ◌++◌, List, length, map, take}
 use Rattle.gos_plan.specs.declared.gates.Wire.{Wire}
 use Rattle.gos_plan.specs.Wires.{nets_in, HoldNets}
-use Rattle.gos_share.specs.Seen.{all_of, from, side_outs, blocks_size}
+use Rattle.gos_share.specs.inner.Seen.{all_of, from, side_outs, blocks_size}
 use Rattle.gos_share.proofs.sides.fill_side.Given as goal
 
 -- whatever holds the nets to come holds all nets, behind the wires so far

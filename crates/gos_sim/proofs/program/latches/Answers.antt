@@ -4,7 +4,7 @@ use Rattle.std.proofs.lemmas.List.Elements.{All-append}
 use Rattle.std.proofs.lemmas.Option.{slice_get-get_or}
 use Rattle.gos_netlist.specs.Seen.{cell_of, number_of}
 use Rattle.gos_sim.specs.declared.program.Latch.{Latch}
-use Rattle.gos_sim.specs.Program.{IsLatchWithin}
+use Rattle.gos_sim.specs.inner.Program.{IsLatchWithin}
 use Rattle.gos_sim.proofs.ProgramLemmas.{below_cells, order_at}
 use Rattle.gos_sim.proofs.RegisterLemmas.{AreMade, made_more, latches_of_made, latches_at_within}
 use Rattle.gos_sim.proofs.program.latches.Goals as goal

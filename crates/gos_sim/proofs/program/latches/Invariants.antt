@@ -1,6 +1,6 @@
 use Rattle.std.proofs.Common.{All, length, map, take}
 use Rattle.gos_netlist.specs.Seen.{cell_of, number_of}
-use Rattle.gos_sim.specs.Program.{IsLatchWithin}
+use Rattle.gos_sim.specs.inner.Program.{IsLatchWithin}
 use Rattle.gos_sim.proofs.RegisterLemmas.{AreMade}
 use Rattle.gos_sim.proofs.program.latches.Given as goal
 

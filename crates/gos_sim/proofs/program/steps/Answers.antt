@@ -4,7 +4,7 @@ use Rattle.std.proofs.lemmas.List.Elements.{All-append}
 use Rattle.std.proofs.lemmas.Option.{slice_get-get_or}
 use Rattle.gos_netlist.specs.Seen.{cell_of, number_of}
 use Rattle.gos_sim.specs.declared.program.Step.{Step}
-use Rattle.gos_sim.specs.Program.{IsStepWithin}
+use Rattle.gos_sim.specs.inner.Program.{IsStepWithin}
 use Rattle.gos_sim.proofs.ProgramLemmas.{ArePlaced, below_cells, order_at, placed_more, program_of_placed, steps_at_within}
 use Rattle.gos_sim.proofs.program.steps.Goals as goal
 

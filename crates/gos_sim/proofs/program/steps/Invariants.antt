@@ -1,6 +1,6 @@
 use Rattle.std.proofs.Common.{All, length, map, take}
 use Rattle.gos_netlist.specs.Seen.{cell_of, number_of}
-use Rattle.gos_sim.specs.Program.{IsStepWithin}
+use Rattle.gos_sim.specs.inner.Program.{IsStepWithin}
 use Rattle.gos_sim.proofs.ProgramLemmas.{ArePlaced}
 use Rattle.gos_sim.proofs.program.steps.Given as goal
 

@@ -1,7 +1,7 @@
 use Rattle.std.proofs.Common.{◌≡◌, ◌<◌, ◌∙◌, ℕ, All, length, arith, subst}
 use Rattle.std.proofs.lemmas.Grind.{common_steps}
 use Rattle.std.proofs.lemmas.Option.{slice_get-get_or, slice_get_within}
-use Rattle.gos_sim.specs.Program.{IsStepWithin}
+use Rattle.gos_sim.specs.inner.Program.{IsStepWithin}
 use Rattle.gos_sim.proofs.StepLemmas.{shown_more, kept_by_step}
 use Rattle.gos_sim.proofs.running.evaluate.Goals as goal
 

@@ -1,6 +1,6 @@
 use Rattle.std.proofs.Common.{All}
 use Rattle.gos_sim.specs.Cycle.{IsWord}
-use Rattle.gos_sim.specs.Running.{KeepsOtherSteps}
+use Rattle.gos_sim.specs.inner.Running.{KeepsOtherSteps}
 use Rattle.gos_sim.proofs.StepLemmas.{AreShownBefore}
 use Rattle.gos_sim.proofs.running.evaluate.Given as goal
 

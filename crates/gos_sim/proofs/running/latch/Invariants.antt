@@ -1,6 +1,6 @@
 use Rattle.std.proofs.Common.{All}
 use Rattle.gos_sim.specs.Cycle.{IsWord}
-use Rattle.gos_sim.specs.Running.{KeepsOthers}
+use Rattle.gos_sim.specs.inner.Running.{KeepsOthers}
 use Rattle.gos_sim.proofs.LatchLemmas.{AreTakenBefore}
 use Rattle.gos_sim.proofs.running.latch.Given as goal
 

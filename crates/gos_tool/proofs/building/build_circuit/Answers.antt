@@ -7,7 +7,7 @@ use Rattle.gos_netcheck.specs.Accepted.{IsAccepted}
 use Rattle.gos_command.proofs.EndLemmas.{of_stopped_both}
 use Rattle.gos_command.specs.declared.stop.Stop.TheVariants.{StoreFailed}
 use Rattle.gos_tool.specs.BuildFile.{build_of}
-use Rattle.gos_tool.specs.SourceFileSeen.{sequence_of}
+use Rattle.gos_tool.specs.inner.SourceFileSeen.{sequence_of}
 use Rattle.gos_tool.specs.Program.{weight_of}
 use Rattle.gos_tool.specs.Built.{RejectsPulses}
 use Rattle.gos_tool.proofs.FewLemmas.{has_few}

@@ -5,7 +5,7 @@ use Rattle.gos_command.specs.Files.{IsReadWhole}
 use Rattle.gos_command.specs.declared.report.Report.{Report}
 use Rattle.gos_command.proofs.EndLemmas.{of_some, of_some_both, of_result, of_stop}
 use Rattle.gos_tool.specs.BuildFile.{build_of}
-use Rattle.gos_tool.specs.SourceFileSeen.{sequence_of}
+use Rattle.gos_tool.specs.inner.SourceFileSeen.{sequence_of}
 use Rattle.gos_tool.specs.Command.{SaysModule}
 use Rattle.gos_tool.specs.Built.{IsCompiled, IsModuleBuilt, RejectsPulses, RejectsModule}
 use Rattle.gos_tool.proofs.BuildLemmas.{says_module}

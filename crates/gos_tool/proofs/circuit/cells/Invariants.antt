@@ -1,6 +1,6 @@
 use Rattle.std.proofs.Common.{◌≡◌, ◌++◌, map, drop}
 use Rattle.gos_netlist.specs.Seen.{cell_of}
-use Rattle.gos_tool.specs.Circuit.{all_cells, import_cells}
+use Rattle.gos_tool.specs.inner.Circuit.{all_cells, import_cells}
 use Rattle.gos_tool.proofs.SourceLemmas.{now_of}
 use Rattle.gos_tool.proofs.circuit.cells.Given as goal
 

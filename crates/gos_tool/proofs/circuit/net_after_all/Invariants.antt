@@ -1,5 +1,5 @@
 use Rattle.std.proofs.Common.{◌≡◌, drop}
-use Rattle.gos_tool.specs.Circuit.{after_all}
+use Rattle.gos_tool.specs.inner.Circuit.{after_all}
 use Rattle.gos_tool.proofs.SourceLemmas.{now_of}
 use Rattle.gos_tool.proofs.circuit.net_after_all.Given as goal
 

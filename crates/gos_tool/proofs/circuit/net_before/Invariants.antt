@@ -1,5 +1,5 @@
 use Rattle.std.proofs.Common.{◌≡◌, drop}
-use Rattle.gos_tool.specs.Circuit.{before}
+use Rattle.gos_tool.specs.inner.Circuit.{before}
 use Rattle.gos_tool.proofs.SourceLemmas.{now_of}
 use Rattle.gos_tool.proofs.circuit.net_before.Given as goal
 

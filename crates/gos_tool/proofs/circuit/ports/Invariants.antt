@@ -1,7 +1,7 @@
 use Rattle.std.specs.List.{AllByRecursion}
 use Rattle.gos_lex.specs.Names.{IsNameOrWord}
 use Rattle.std.proofs.Common.{◌≡◌, ◌∷◌, ◌++◌, drop}
-use Rattle.gos_tool.specs.Circuit.{root_port, import_ports}
+use Rattle.gos_tool.specs.inner.Circuit.{root_port, import_ports}
 use Rattle.gos_tool.proofs.SourceLemmas.{now_of}
 use Rattle.gos_tool.proofs.circuit.ports.Given as goal
 

@@ -1,7 +1,7 @@
 use Rattle.std.proofs.Common.{sym, subst, List, ℕ}
 use Rattle.std.specs.Prelude.{MatchOption}
 use Rattle.gos_tool.specs.Command.{Means, MeanNothing}
-use Rattle.gos_tool.specs.CommandSeen.{meant}
+use Rattle.gos_tool.specs.inner.CommandSeen.{meant}
 use Rattle.gos_tool.proofs.WordLemmas.{four_texts}
 use Rattle.gos_tool.proofs.command.command_of.Goals as goal
 

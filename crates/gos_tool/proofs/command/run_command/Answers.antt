@@ -2,7 +2,7 @@ use Rattle.std.proofs.Common.{sym, subst}
 use Rattle.std.specs.Prelude.{IfErr}
 use Rattle.gos_command.specs.Ends.{IfStopped}
 use Rattle.gos_tool.specs.Run.{IsRejected, IsCall}
-use Rattle.gos_tool.specs.CommandSeen.{meant}
+use Rattle.gos_tool.specs.inner.CommandSeen.{meant}
 use Rattle.gos_tool.proofs.EndLemmas.{sim_rejected}
 use Rattle.gos_tool.proofs.command.run_command.Goals as goal
 

@@ -2,7 +2,7 @@ use Rattle.std.proofs.Common.{List, subst, sym}
 use Rattle.std.specs.Prelude.{All}
 use Rattle.gos_lex.specs.declared.token.Token.{Token}
 use Rattle.gos_lex.proofs.OneReadingLemmas.{faults_exclude_tokens}
-use Rattle.gos_tool.specs.Lexemes.{IsWithin}
+use Rattle.gos_tool.specs.inner.Lexemes.{IsWithin}
 use Rattle.gos_tool.proofs.LexemeLemmas.{spans_within}
 use Rattle.gos_tool.proofs.lexemes.lexemes.Goals as goal
 

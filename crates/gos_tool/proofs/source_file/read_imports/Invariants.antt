@@ -1,5 +1,5 @@
 use Rattle.std.proofs.Common.{◌≡◌, ◌≤◌, ◌-◌, length, drop, map}
-use Rattle.gos_tool.specs.Lexemes.{all_seen}
+use Rattle.gos_tool.specs.inner.Lexemes.{all_seen}
 use Rattle.gos_tool.specs.SourceFile.{import_readings}
 use Rattle.gos_tool.proofs.source_file.read_imports.Given as goal
 

@@ -3,7 +3,7 @@ use Rattle.std.specs.Prelude.{IsTrue}
 use Rattle.gos_lex.specs.declared.word.Word.TheVariants.{Export}
 use Rattle.gos_lex.specs.Tokens.{Reading, AName, AWord}
 use Rattle.gos_tool.specs.SourceFile.{import_readings, then_readings, type_readings}
-use Rattle.gos_tool.specs.Lexemes.{all_seen}
+use Rattle.gos_tool.specs.inner.Lexemes.{all_seen}
 use Rattle.gos_tool.proofs.SourceLemmas.{now_of, after_export, no_export, no_type, begins_no_then, cut_is}
 use Rattle.gos_tool.proofs.source_file.read_module.Goals as goal
 

@@ -1,8 +1,8 @@
 use Rattle.std.proofs.Common.{◌≡◌, ◌∙◌, ap, sym, subst, Bool, true, false}
 use Rattle.std.proofs.lemmas.Result.{err_from_is_err_and}
 use Rattle.gos_tool.specs.SourceFile.{Sequence, IsWellFormed, sequence_readings}
-use Rattle.gos_tool.specs.SourceFileSeen.{sequence_of}
-use Rattle.gos_tool.specs.Lexemes.{all_seen}
+use Rattle.gos_tool.specs.inner.SourceFileSeen.{sequence_of}
+use Rattle.gos_tool.specs.inner.Lexemes.{all_seen}
 use Rattle.gos_tool.proofs.SourceLemmas.{has_one_list, same_sequence}
 use Rattle.gos_tool.proofs.source_file.read_source.Goals as goal
 

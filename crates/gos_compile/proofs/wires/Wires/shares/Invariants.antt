@@ -1,6 +1,6 @@
 use Rattle.std.proofs.Common.{◌≡◌, drop}
-use Rattle.gos_compile.specs.Tables.{types_at}
-use Rattle.gos_compile.specs.Walked.{seen, with_shares}
+use Rattle.gos_compile.specs.inner.Tables.{types_at}
+use Rattle.gos_compile.specs.inner.Walked.{seen, with_shares}
 use Rattle.gos_compile.proofs.wires.Wires.shares.Given as goal
 
 -- with the splits that are left it is what it is with all of them

@@ -3,7 +3,7 @@ use Rattle.std.specs.Prelude.{Some}
 use Rattle.std.proofs.lemmas.List.{length-map}
 use Rattle.gos_netlist.specs.Nets.{Cell}
 use Rattle.gos_netlist.specs.Seen.{cell_of}
-use Rattle.gos_netcheck.specs.Search.{IsBegun}
+use Rattle.gos_netcheck.specs.inner.Search.{IsBegun}
 use Rattle.gos_netcheck.proofs.StepLemmas.{step_goes_on, mark_read, begun_by_mark, alone, open_begun}
 use Rattle.gos_netcheck.proofs.schedule.Search.go_on_to_new.Goals as goal
 

@@ -4,7 +4,7 @@ use Rattle.std.proofs.lemmas.List.{length-map}
 use Rattle.gos_netlist.specs.Nets.{Cell}
 use Rattle.gos_netlist.specs.Seen.{cell_of}
 use Rattle.gos_netcheck.specs.declared.schedule.Search.{Search}
-use Rattle.gos_netcheck.specs.Search.{Stands, IsLater}
+use Rattle.gos_netcheck.specs.inner.Search.{Stands, IsLater}
 use Rattle.gos_netcheck.proofs.StepLemmas.{top_read, top_within, step_places, step_goes_on, waiting_read, waited_for_is_new, open_on_path, step_finds}
 use Rattle.gos_netcheck.proofs.schedule.Search.step.Goals as goal
 use Rattle.gos_netcheck.proofs.schedule.Search.step.Goals.{in-None+in_ok-place-in-None, in-Some+else-is_open+in_ok-go_on_to-in-Some}

@@ -1,5 +1,5 @@
 use Rattle.std.proofs.Common.{◌≡◌, take, map}
-use Rattle.gos_plan.specs.Seats.{kind_seats}
+use Rattle.gos_plan.specs.inner.Seats.{kind_seats}
 use Rattle.gos_plan.proofs.seats.Seats.new.Given as goal
 
 -- the seats of the parts so far

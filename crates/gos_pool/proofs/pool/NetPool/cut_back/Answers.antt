@@ -1,7 +1,7 @@
 use Rattle.std.proofs.Common.{rules, refl, sym, ap, ◌∙◌, subst, take, None}
 use Rattle.gos_pool.specs.Pools.{Pool, KeepsClosed}
 use Rattle.gos_pool.specs.Marks.{CanCutBack}
-use Rattle.gos_pool.specs.Inside.{pool_of}
+use Rattle.gos_pool.specs.inner.Inside.{pool_of}
 use Rattle.gos_pool.proofs.OrderLemmas.{seen_cut, order_cut, cut_keeps}
 use Rattle.gos_pool.proofs.pool.NetPool.cut_back.Goals as goal
 

@@ -2,7 +2,7 @@ use Rattle.std.proofs.Common.{rules, refl, ap, ◌∙◌, length, map, [], ◌�
 use Rattle.std.proofs.lemmas.List.{length-map}
 use Rattle.gos_netlist.specs.Seen.{cell_of}
 use Rattle.gos_pool.specs.Pools.{Pool}
-use Rattle.gos_pool.specs.Inside.{pool_of}
+use Rattle.gos_pool.specs.inner.Inside.{pool_of}
 use Rattle.gos_pool.proofs.OrderLemmas.{order_finished}
 use Rattle.gos_pool.proofs.pool.NetPool.finish.Goals as goal
 

@@ -4,7 +4,7 @@ use Rattle.gos_netlist.specs.Seen.{cell_of}
 use Rattle.gos_pool.specs.declared.region.Mark.{Mark}
 use Rattle.gos_pool.specs.Pools.{Pool}
 use Rattle.gos_pool.specs.Marks.{CanCutBack}
-use Rattle.gos_pool.specs.Inside.{pool_of}
+use Rattle.gos_pool.specs.inner.Inside.{pool_of}
 use Rattle.gos_pool.proofs.OrderLemmas.{cut_here}
 use Rattle.gos_pool.proofs.pool.NetPool.mark.Goals as goal
 

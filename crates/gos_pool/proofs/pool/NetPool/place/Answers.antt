@@ -2,7 +2,7 @@ use Rattle.std.proofs.Common.{[], ◌∷◌, ◌-◌, ap, ◌∙◌, sym, subst,
 use Rattle.std.proofs.lemmas.List.{map-append, append-nil}
 use Rattle.gos_netlist.specs.Seen.{cell_of}
 use Rattle.gos_pool.specs.Pools.{Pool, KeepsClosed}
-use Rattle.gos_pool.specs.Inside.{pool_of}
+use Rattle.gos_pool.specs.inner.Inside.{pool_of}
 use Rattle.gos_pool.proofs.RegionLemmas.{keeps_closed}
 use Rattle.gos_pool.proofs.pool.NetPool.place.Goals as goal
 

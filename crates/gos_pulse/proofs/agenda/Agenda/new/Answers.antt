@@ -1,5 +1,5 @@
 use Rattle.std.proofs.Common.{◌≡◌, ◌-◌, ℕ, suc, subst, arith}
-use Rattle.gos_pulse.specs.Agenda.{IsAgendaFrom}
+use Rattle.gos_pulse.specs.inner.Agenda.{IsAgendaFrom}
 use Rattle.gos_pulse.proofs.agenda.Agenda.new.Goals as goal
 
 pub put-requires-clause-behind : goal.put-requires-clause-behind

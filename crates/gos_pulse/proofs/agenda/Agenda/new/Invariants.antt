@@ -1,5 +1,5 @@
 use Rattle.std.proofs.Common.{◌≤◌, length}
-use Rattle.gos_pulse.specs.Agenda.{IsAgendaFrom}
+use Rattle.gos_pulse.specs.inner.Agenda.{IsAgendaFrom}
 use Rattle.gos_pulse.proofs.agenda.Agenda.new.Given as goal
 
 -- the entries from the place on are put

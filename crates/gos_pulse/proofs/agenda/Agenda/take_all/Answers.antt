@@ -1,7 +1,7 @@
 use Rattle.std.proofs.Common.{rules, ◌≡◌, true, false, Bool, get_or, subst, arith}
 use Rattle.std.proofs.lemmas.Option.{slice_get-get_or}
 use Rattle.gos_pulse.specs.declared.entries.Entry.{Entry}
-use Rattle.gos_pulse.specs.Board.{IsTried}
+use Rattle.gos_pulse.specs.inner.Board.{IsTried}
 use Rattle.gos_pulse.proofs.AgendaLemmas.{first_at, next_at, none_taken, taken_more, taken_breaks, all_taken}
 use Rattle.gos_pulse.proofs.agenda.Agenda.take_all.Goals as goal
 

@@ -5,7 +5,7 @@ use Rattle.gos_model.specs.Labels.{Label}
 use Rattle.gos_pulse.specs.declared.entries.Entry.{Entry}
 use Rattle.gos_pulse.specs.Guarding.{HasPorts}
 use Rattle.gos_pulse.specs.Driving.{GivesInput}
-use Rattle.gos_pulse.specs.Board.{Stands}
+use Rattle.gos_pulse.specs.inner.Board.{Stands}
 use Rattle.gos_pulse.proofs.AgendaLemmas.{TakenTo}
 use Rattle.gos_pulse.proofs.agenda.Agenda.take_all.Given as goal
 

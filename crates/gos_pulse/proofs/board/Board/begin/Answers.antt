@@ -4,7 +4,7 @@ use Rattle.std.proofs.lemmas.List.{with_items_is}
 use Rattle.gos_sim.specs.declared.pulse.Pulse.{Pulse}
 use Rattle.gos_sim.specs.Cycle.{IsNextOutput}
 use Rattle.gos_pulse.specs.Guarding.{Guards, outputs_of}
-use Rattle.gos_pulse.specs.Slots.{labels_of}
+use Rattle.gos_pulse.specs.inner.Slots.{labels_of}
 use Rattle.gos_pulse.proofs.BoardLemmas.{began, quiet}
 use Rattle.gos_pulse.proofs.PortLemmas.{has_ports}
 use Rattle.gos_pulse.proofs.ShownLemmas.{outputs_each}

@@ -2,7 +2,7 @@ use Rattle.std.proofs.Common.{◌≡◌, ℕ, ◌+◌, sym, subst, ◌∙◌, ap
 use Rattle.std.specs.Prelude.{length}
 use Rattle.gos_types.specs.declared.types.Ty.{Ty}
 use Rattle.gos_share.specs.Share.{share_cells}
-use Rattle.gos_share.specs.Seen.{all_of}
+use Rattle.gos_share.specs.inner.Seen.{all_of}
 use Rattle.gos_share.proofs.SharingLemmas.{cells_length}
 use Rattle.gos_share.proofs.sharing.SharingMacro.size.Goals as goal
 

@@ -3,7 +3,7 @@ use Rattle.gos_sim.specs.declared.event_nets.EventNets.{EventNets}
 use Rattle.gos_sim.specs.declared.program.Step.{Step}
 use Rattle.gos_sim.specs.declared.program.Latch.{Latch}
 use Rattle.gos_sim.specs.Cycle.{GivesAll, pulse_shown}
-use Rattle.gos_sim.specs.Running.{AreLoaded, AreShown, AreTaken, KeepsOtherSteps, KeepsOthers}
+use Rattle.gos_sim.specs.inner.Running.{AreLoaded, AreShown, AreTaken, KeepsOtherSteps, KeepsOthers}
 use Rattle.gos_sim.proofs.machine.Machine.run.Goals as goal
 
 pub returns-clause-run : goal.returns-clause-run

@@ -3,7 +3,7 @@ use Rattle.std.specs.Vec.{with_items}
 use Rattle.std.proofs.lemmas.List.{with_items_is}
 use Rattle.gos_netlist.specs.Settling.{Numbers}
 use Rattle.gos_sim.specs.Cycle.{IsCycle, Simulator}
-use Rattle.gos_sim.specs.Machine.{IsBuilt, IsRunnable, RunsThrough}
+use Rattle.gos_sim.specs.inner.Machine.{IsBuilt, IsRunnable, RunsThrough}
 use Rattle.gos_sim.proofs.CycleLemmas.{built_after, cycle_of, runnable}
 use Rattle.gos_sim.proofs.sim.Sim.cycle.Goals as goal
 

@@ -1,7 +1,7 @@
 use Rattle.std.proofs.Common.{◌≡◌, ℕ, ◌+◌, ◌<◌, ◌≤◌}
 use Rattle.gos_syntax.specs.Items.{seen}
 use Rattle.gos_syntax.specs.OpenTokens.{IsTooDeep, levels_before, at_first}
-use Rattle.gos_syntax.specs.Nested.{levels_of, IsCounted}
+use Rattle.gos_syntax.specs.inner.Nested.{levels_of, IsCounted}
 use Rattle.gos_syntax.proofs.source.Source.first_deep.Given as goal
 
 -- the levels are those before the token, and none before it is nested too deeply

@@ -1,0 +1,188 @@
+-- How a term is numbered, from its leaves up.
+--
+-- Read first: Nodes, Opens, Scopes. Between the functions of this crate: what a numbered term is for says Linearity.
+use Rattle.std.specs.Prelude.{ℕ, suc, ◌+◌, List, [], ◌∷◌, ◌++◌, map, Option, Some, None, nat_eq, if◌then◌else◌}
+use Rattle.std.specs.Str.{bytes_eq}
+use Rattle.gos_types.specs.Types.{Type', Com, Exp, Var, Pair, Fun}
+use Rattle.gos_syntax.specs.Trees as trees
+use Rattle.gos_syntax.specs.Trees.{Tree}
+use Rattle.gos_syntax.specs.Modules.{SeenImport}
+use Rattle.gos_model.specs.Terms as terms
+use Rattle.gos_model.specs.Terms.{Name, Term}
+use Rattle.gos_model.specs.Typing.{Imports}
+use Rattle.gos_model.specs.Weight.{or_com, after_fun, left_of, right_of, read_of, op_type}
+use Rattle.gos_model.specs.Sources.{op_of}
+use Rattle.gos_check.specs.declared.forms.OnePart.{OnePart}
+use Rattle.gos_check.specs.declared.forms.OnePart.TheVariants as one
+use Rattle.gos_check.specs.declared.forms.TwoParts.{TwoParts}
+use Rattle.gos_check.specs.declared.forms.TwoParts.TheVariants as two
+use Rattle.gos_check.specs.declared.linear.Split.{Split}
+use Rattle.gos_check.specs.declared.numbering.NumberedTerm.{NumberedTerm}
+use Rattle.gos_check.specs.declared.opens.Open.{Open}
+use Rattle.gos_check.specs.Scopes.{Binders, type_at}
+use Rattle.gos_check.specs.Nodes.{Binding, OfFun, OfNew, OneForm, OfFst, OfSnd, OfDeref, OfNot, TwoForm, OfApp, OfBoth, OfSeq, OfPar, OfWhile, OfAssign, OfBin, Numbered, Closed, Use, Under, One, Two, If, node_seen}
+use Rattle.gos_check.specs.inner.Opens.{number_in, others, merged_splits, merged_names, merged_next, binder_number, binder_next}
+
+-- the forms that the walk tells apart
+abbrev pub one_form : OnePart → OneForm
+one_form one.First = OfFst
+one_form one.Second = OfSnd
+one_form one.Reading = OfDeref
+one_form one.Negation = OfNot
+
+abbrev pub two_form : TwoParts → TwoForm
+two_form two.Application = OfApp
+two_form two.Product = OfBoth
+two_form two.Sequence = OfSeq
+two_form two.Parallel = OfPar
+two_form two.Loop = OfWhile
+two_form two.Assignment = OfAssign
+two_form (two.Operation op) = OfBin (op_of op)
+
+-- the types of the forms, from those of their parts
+abbrev pub one_type : OneForm → Type' → Type'
+one_type OfFst a = left_of a
+one_type OfSnd a = right_of a
+one_type OfDeref a = read_of a
+one_type OfNot a = a
+
+abbrev pub two_type : TwoForm → Type' → Type' → Type'
+two_type OfApp a b = after_fun a
+two_type OfBoth a b = Pair a b
+two_type OfSeq a b = b
+two_type OfPar a b = Com
+two_type OfWhile a b = Com
+two_type OfAssign a b = Com
+two_type (OfBin op) a b = op_type op a
+
+-- the type of a binder's node, from the type of what it binds and that of its body
+abbrev pub binder_type : Binding → Type' → Type' → Type'
+binder_type OfFun a b = Fun a b
+binder_type (OfNew w) a b = b
+
+-- the type of a node
+abbrev pub type_in : Numbered → Type'
+type_in (Closed t ss c) = t
+type_in (Use t ss n) = t
+type_in (Under t ss b n m) = t
+type_in (One t ss f m) = t
+type_in (Two t ss f m n) = t
+type_in (If t ss m n p) = t
+
+-- a numbered term: its node, its free names with their numbers, and the next number
+pub record Result : Type 0 where
+  pub node : Numbered
+  pub names : List Open
+  pub next : ℕ
+
+-- a numbered term of the program
+abbrev pub seen : NumberedTerm → Result
+seen term = record { node = node_seen term.node; names = term.names.items; next = term.next }
+
+-- a term without names
+abbrev pub closed_result : Type' → Term → ℕ → Result
+closed_result t c n = record { node = Closed t [] c; names = []; next = n }
+
+-- a name
+abbrev pub use_result : Type' → Name → ℕ → Result
+use_result t x n = record { node = Use t [] n; names = record { name = x; number = n } ∷ []; next = suc n }
+
+-- a binder of a name of type a around a term
+abbrev pub binder_result : Binding → Name → Type' → Result → Result
+binder_result b x a r =
+    record {
+      node = Under (binder_type b a (type_in r.node)) [] b (binder_number (number_in r.names x) r.next) r.node;
+      names = others x r.names;
+      next = binder_next (number_in r.names x) r.next;
+    }
+
+-- a form of one part
+abbrev pub one_result : OneForm → Result → Result
+one_result f r = record { node = One (one_type f (type_in r.node)) [] f r.node; names = r.names; next = r.next }
+
+-- a form of two parts, of which the right one was numbered last
+abbrev pub two_result : TwoForm → Result → Result → Result
+two_result f l r =
+    record {
+      node = Two (two_type f (type_in l.node) (type_in r.node)) (merged_splits l.names r.names r.next) f l.node r.node;
+      names = merged_names l.names r.names r.next;
+      next = merged_next l.names r.names r.next;
+    }
+
+-- the splits of the test and the first branch of a choice, the names that they leave open together, and the next number
+abbrev pub inner_splits : Result → Result → List Split
+inner_splits a b = merged_splits a.names b.names b.next
+
+abbrev pub inner_names : Result → Result → List Open
+inner_names a b = merged_names a.names b.names b.next
+
+abbrev pub inner_next : Result → Result → ℕ
+inner_next a b = merged_next a.names b.names b.next
+
+-- a choice, of which the second branch was numbered last
+abbrev pub choice_result : Result → Result → Result → Result
+choice_result a b c =
+    record {
+      node = If (type_in b.node) (merged_splits (inner_names a b) c.names c.next ++ inner_splits a b) a.node b.node c.node;
+      names = merged_names (inner_names a b) c.names c.next;
+      next = merged_next (inner_names a b) c.names c.next;
+    }
+
+-- a tree under imports and binders, from a number on
+abbrev pub numbered : Imports → Binders → ℕ → Tree → Result
+numbered i g n (trees.Skip s) = closed_result Com terms.Skip n
+numbered i g n (trees.Lit s k w) = closed_result (Exp w) (terms.Lit k w) n
+numbered i g n (trees.Use s x) = use_result (or_com (type_at i g x)) x n
+numbered i g n (trees.Lam s x a t m) = binder_result OfFun x a (numbered i (record { name = x; ty = a } ∷ g) n m)
+numbered i g n (trees.New s x w t m) = binder_result (OfNew w) x (Var w) (numbered i (record { name = x; ty = Var w } ∷ g) n m)
+numbered i g n (trees.App s l r) = two_result OfApp (numbered i g n l) (numbered i g (numbered i g n l).next r)
+numbered i g n (trees.Both s l r) = two_result OfBoth (numbered i g n l) (numbered i g (numbered i g n l).next r)
+numbered i g n (trees.Fst s m) = one_result OfFst (numbered i g n m)
+numbered i g n (trees.Snd s m) = one_result OfSnd (numbered i g n m)
+numbered i g n (trees.Seq s l r) = two_result OfSeq (numbered i g n l) (numbered i g (numbered i g n l).next r)
+numbered i g n (trees.Par s l r) = two_result OfPar (numbered i g n l) (numbered i g (numbered i g n l).next r)
+numbered i g n (trees.If s l r m) =
+    choice_result (numbered i g n l) (numbered i g (numbered i g n l).next r)
+    (numbered i g (inner_next (numbered i g n l) (numbered i g (numbered i g n l).next r)) m)
+numbered i g n (trees.While s l r) = two_result OfWhile (numbered i g n l) (numbered i g (numbered i g n l).next r)
+numbered i g n (trees.Assign s l r) = two_result OfAssign (numbered i g n l) (numbered i g (numbered i g n l).next r)
+numbered i g n (trees.Deref s m) = one_result OfDeref (numbered i g n m)
+numbered i g n (trees.Not s m) = one_result OfNot (numbered i g n m)
+numbered i g n (trees.Bin s op l r) = two_result (OfBin (op_of op)) (numbered i g n l) (numbered i g (numbered i g n l).next r)
+
+-- two numbers exchanged
+abbrev pub exchanged : ℕ → ℕ → ℕ → ℕ
+exchanged a b k = if nat_eq k a then b else if nat_eq k b then a else k
+
+-- a split with other numbers
+abbrev pub renamed_split : (ℕ → ℕ) → Split → Split
+renamed_split f s = record { of = f s.of; left = f s.left; right = f s.right }
+
+-- a node with other numbers
+abbrev pub renamed : (ℕ → ℕ) → Numbered → Numbered
+renamed f (Closed t ss c) = Closed t (map (renamed_split f) ss) c
+renamed f (Use t ss n) = Use t (map (renamed_split f) ss) (f n)
+renamed f (Under t ss b n m) = Under t (map (renamed_split f) ss) b (f n) (renamed f m)
+renamed f (One t ss g m) = One t (map (renamed_split f) ss) g (renamed f m)
+renamed f (Two t ss g m n) = Two t (map (renamed_split f) ss) g (renamed f m) (renamed f n)
+renamed f (If t ss m n p) = If t (map (renamed_split f) ss) (renamed f m) (renamed f n) (renamed f p)
+
+-- a number so much greater
+abbrev pub raised : ℕ → Option ℕ → Option ℕ
+raised n None = None
+raised n (Some p) = Some (n + p)
+
+-- the place of the first import of this name
+abbrev pub import_number : List SeenImport → Name → Option ℕ
+import_number [] x = None
+import_number (i ∷ is) x = if bytes_eq i.name x then Some 0 else raised 1 (import_number is x)
+
+-- a node in which a number is exchanged with an import's place
+abbrev pub with_place : Option ℕ → ℕ → Numbered → Numbered
+with_place None n node = node
+with_place (Some p) n node = renamed (exchanged n p) node
+
+-- a node in which each of these names has its import's place as its number
+abbrev pub placed : List SeenImport → List Open → Numbered → Numbered
+placed is [] node = node
+placed is (o ∷ os) node = placed is os (with_place (import_number is o.name) o.number node)

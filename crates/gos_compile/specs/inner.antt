@@ -1,0 +1,8 @@
+-- What stands between this crate's own functions and lemmas, and no public clause cites. In reading order: a file uses only
+-- files above it.
+pub mod Tables
+pub mod Walked
+pub mod Contacts
+pub mod Joined
+pub mod Found
+pub mod Counted

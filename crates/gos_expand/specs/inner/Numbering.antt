@@ -1,0 +1,47 @@
+-- Where the blocks of a plan's netlist begin, as the program keeps it.
+--
+-- Read first: Arrivals. Between the functions of this crate.
+use Rattle.std.specs.Prelude.{◌≡◌, ℕ, zero, suc, ◌+◌, ◌≤◌, List, [], ◌∷◌, map, All}
+use Rattle.gos_types.specs.Types.{type_of, IsGround, IsDone}
+use Rattle.gos_plan.specs.Seen.{SeenPlan, plan_of, end_of}
+use Rattle.gos_plan.specs.Size.{plan_size}
+use Rattle.gos_plan.specs.Plans.{End, PartEnd, ImportEnd, ResultEnd, Plan}
+use Rattle.gos_expand.specs.declared.places.Place.{Place}
+use Rattle.gos_expand.specs.declared.places.Place.TheVariants as places
+use Rattle.gos_expand.specs.declared.numbering.Numbering.{Numbering}
+use Rattle.gos_expand.specs.Gates.{part_size}
+use Rattle.gos_expand.specs.Starts.{keep_all, port_size, ports_of, loose_ends, parts_start, laid_size}
+use Rattle.gos_expand.specs.inner.Arrivals.{AreAt, start_at}
+
+-- What a plan must be to be laid out, besides what each plan is: its ports are ground, and it is small enough.
+pub record IsExpandable (p : SeenPlan) : Type 0 where
+  pub result : IsDone (type_of p.outcome)
+  pub ground : All (λ i. IsGround (type_of i.ty)) p.imports
+  pub size : plan_size (plan_of p) ≤ 5000000
+
+-- where each of these blocks begins, of which the first begins at net n
+abbrev pub starts : {A : Type 0} → (ℕ → A → ℕ) → ℕ → ℕ → List A → List ℕ
+starts {A} size k n [] = []
+starts {A} size k n (x ∷ xs) = n ∷ starts size (suc k) (n + size k x) xs
+
+-- the end of this number there
+abbrev pub end_at : Place → ℕ → End
+end_at (places.OfPart i) h = PartEnd i h
+end_at (places.OfImport i) h = ImportEnd i h
+end_at places.OfResult h = ResultEnd h
+
+-- the ends of so many handshakes, from handshake h on
+abbrev pub ends_from : (ℕ → End) → ℕ → ℕ → List End
+ends_from end h zero = []
+ends_from end h (suc n) = end h ∷ ends_from end (suc h) n
+
+-- the program's numbers are those of the plan
+pub record IsNumbered (p : Plan) (n : Numbering) : Type 0 where
+  pub of_arrivals : AreAt p (start_at p) n.arrivals
+  pub of_loose : map end_of n.loose.items ≡ loose_ends p
+  pub of_ports : n.ports.items ≡ starts port_size 0 0 (ports_of p)
+  pub of_parts : n.parts.items ≡ starts (λ _ k. part_size k) 0 (parts_start keep_all p) p.parts
+  pub first_part : n.parts_start ≡ parts_start keep_all p
+  pub whole : n.size ≡ laid_size keep_all p
+  pub room : n.size ≤ 4000000000
+  pub few : n.size ≤ plan_size p
