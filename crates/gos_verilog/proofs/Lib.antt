@@ -11,3 +11,4 @@ pub mod SuffixLemmas
 pub mod InputLemmas
 pub mod PortLemmas
 pub mod OneTextLemmas
+pub mod MeaningLemmas

@@ -4,4 +4,5 @@ pub mod Lines
 pub mod VerilogText
 pub mod SmallTexts
 pub mod OneText
+pub mod Meaning
 pub mod inner
