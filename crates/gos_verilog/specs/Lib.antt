@@ -3,4 +3,6 @@ pub mod PortNets
 pub mod Lines
 pub mod VerilogText
 pub mod SmallTexts
+pub mod OneText
+pub mod Meaning
 pub mod inner
