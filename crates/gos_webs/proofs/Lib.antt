@@ -1,0 +1,5 @@
+pub mod IdleLemmas
+pub mod WebLemmas
+pub mod MovedLemmas
+mod CutLemmas
+mod SmallWebLemmas

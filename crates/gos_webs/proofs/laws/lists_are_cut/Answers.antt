@@ -1,0 +1,12 @@
+use Rattle.gos_webs.proofs.CutLemmas.{element_is_cut, list_is_cut}
+use Rattle.gos_webs.proofs.IdleLemmas.{idle_is_cut}
+use Rattle.gos_webs.proofs.laws.lists_are_cut.Goals as goal
+
+pub returns-clause-element : goal.returns-clause-element
+returns-clause-element c = element_is_cut
+
+pub returns-clause-list : goal.returns-clause-list
+returns-clause-list c = list_is_cut
+
+pub returns-clause-idle : goal.returns-clause-idle
+returns-clause-idle c = idle_is_cut
