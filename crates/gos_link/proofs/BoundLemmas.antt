@@ -1,19 +1,16 @@
 -- The services of right bind lines: plans may be joined along them.
-use Rattle.std.specs.Prelude.{◌≡◌, ◌≢◌, ℕ, zero, suc, ◌+◌, ◌<◌, ◌≤◌, ◌&&◌, ◌||◌, Bool, true, false, List, [], ◌∷◌, ◌++◌, length, map, take, Option, Some, None, option_map, slice_get, get_or, nat_eq, nat_lt, position, if◌then◌else◌}
+use Rattle.std.specs.Prelude.{◌≡◌, ℕ, zero, suc, ◌+◌, ◌<◌, ◌&&◌, ◌||◌, Bool, true, false, List, [], ◌∷◌, ◌++◌, length, take, Option, Some, None, option_map, slice_get, get_or, nat_eq, nat_lt, position, if◌then◌else◌}
 use Rattle.std.proofs.Common.{refl, sym, ◌∙◌, ap, subst, arith, cond, append-nil, append_assoc}
 use Rattle.std.specs.List.{position_or_len}
-use Rattle.std.proofs.lemmas.List.{length-map}
 use Rattle.std.proofs.lemmas.List.Sums.{position_or_len_is}
 use Rattle.std.proofs.lemmas.Option.{slice_get-map, slice_get_within, get_or_from_slice_get}
-use Rattle.gos_types.specs.Types.{type_of}
 use Rattle.gos_model.specs.Typing.{Imported}
 use Rattle.gos_plan.specs.Plans.{Plan}
-use Rattle.gos_plan.specs.declared.plan.PlanImport.{PlanImport}
 use Rattle.gos_plan.specs.Seen.{SeenPlan, plan_of, import_of}
 use Rattle.gos_link.specs.declared.build.Instance.{Instance}
 use Rattle.gos_link.specs.declared.build.Bind.{Bind}
 use Rattle.gos_link.specs.declared.services.Service.{Service}
-use Rattle.gos_link.specs.Services.{Means, first_bound, first_used, IsRightBind, BindsOn}
+use Rattle.gos_link.specs.Services.{first_bound, first_used, IsRightBind, BindsOn}
 use Rattle.gos_link.specs.Linked.{plans_of, is_used, is_placed, first_unplaced}
 use Rattle.gos_link.specs.inner.Opens.{number_bound}
 use Rattle.gos_link.specs.inner.Tops.{AreTops, top_at}

@@ -1,26 +1,25 @@
 -- No point is in more than two ties of linked plans, and no end in more than one.
 --
 -- In its plan an end is in one joint at most; so a point is in no more ties than there are places at it.
-use Rattle.std.specs.Prelude.{◌≡◌, ◌≢◌, ℕ, zero, suc, ◌+◌, ◌≤◌, ◌<◌, ◌⊎◌, Bool, true, false, not, ◌&&◌, ◌||◌, IsTrue, List, [], ◌∷◌, ◌++◌, length, Option, Some, None, slice_get, nat_eq, if◌then◌else◌}
+use Rattle.std.specs.Prelude.{◌≡◌, ℕ, suc, ◌+◌, ◌≤◌, ◌<◌, ◌⊎◌, Bool, true, false, not, ◌&&◌, ◌||◌, IsTrue, List, [], ◌∷◌, ◌++◌, length, Option, Some, None, slice_get, nat_eq, if◌then◌else◌}
 use Rattle.std.proofs.Common.{refl, sym, ◌∙◌, ap, subst, arith, inl, inr}
 use Rattle.gos_types.specs.declared.shakes.Role.{Role}
 use Rattle.gos_types.specs.declared.shakes.Role.TheVariants.{Serve, Ask}
 use Rattle.gos_plan.specs.Kinds.{Contact, asks, serves}
-use Rattle.gos_plan.specs.Plans.{End, Joint, Plan, contact_at, same_end, stands_in, is_free, Fits, AreRight, IsRight}
-use Rattle.gos_plan.specs.Joining.{Place, place, part_place, left_place}
+use Rattle.gos_plan.specs.Plans.{End, Joint, Plan, contact_at, same_end, is_free, Fits, AreRight, IsRight}
+use Rattle.gos_plan.specs.Joining.{Place, place}
 use Rattle.gos_plan.proofs.JointLemmas.{same_itself, same_is}
 use Rattle.gos_ties.specs.declared.points.Place as spot
 use Rattle.gos_ties.specs.declared.points.Place.TheVariants as spots
 use Rattle.gos_ties.specs.declared.points.Point.{Point}
 use Rattle.gos_ties.specs.declared.points.Tie.{Tie}
-use Rattle.gos_ties.specs.Ties.{point, end_at, end_of_place}
+use Rattle.gos_ties.specs.Ties.{end_of_place}
 use Rattle.gos_ties.specs.Counted.{place_once, once, meetings, IsThin}
 use Rattle.gos_link.specs.declared.services.Service.{Service}
-use Rattle.gos_link.specs.inner.Wired.{rank, parts_before, stays_before, point_in, point_of, ties_in, ties_from, AllRight, AreJoinable}
+use Rattle.gos_link.specs.inner.Wired.{rank, parts_before, stays_before, point_of, ties_in, ties_from, AllRight, AreJoinable}
 use Rattle.gos_link.proofs.NumberLemmas.{eq_true, eq_false, number_cases}
 use Rattle.gos_link.proofs.ServiceLemmas.{In}
-use Rattle.gos_link.proofs.PointLemmas.{contact_in, IsThere, spot_of, back, back_at, of_service, back_tells}
-use Rattle.gos_link.proofs.PathLemmas.{right_fits}
+use Rattle.gos_link.proofs.PointLemmas.{contact_in, IsThere, back, back_at, of_service, back_tells}
 
 -- 1 where ends are one
 abbrev one_if : Bool → ℕ

@@ -1,12 +1,12 @@
 -- A plan of the joints that the ties make is the joining.
-use Rattle.std.specs.Prelude.{◌≡◌, ◌≢◌, ◌↔◌, ℕ, zero, suc, ◌+◌, List, [], ◌∷◌, ◌⊎◌, length, map, Option, Some, None, Contains, slice_get, unwrap_or}
+use Rattle.std.specs.Prelude.{◌≡◌, ◌≢◌, ◌↔◌, ℕ, ◌+◌, List, [], ◌∷◌, map, Option, Some, Contains, slice_get, unwrap_or}
 use Rattle.std.proofs.Common.{refl, sym, ◌∙◌, ap, subst, arith, inl, inr}
 use Rattle.gos_model.specs.Typing.{Imported}
 use Rattle.gos_types.specs.Types.{Type'}
 use Rattle.gos_plan.specs.Kinds.{Contact, Part, contacts_of, asks, serves, turned_contact}
 use Rattle.gos_plan.specs.Plans.{End, PartEnd, ImportEnd, ResultEnd, Joint, Plan, contact_at, contacts_of_part, contacts_of_import, turned_if, IsRight}
-use Rattle.gos_plan.specs.Seen.{SeenPlan, plan_of, part_of, import_of, joint_of}
-use Rattle.gos_plan.specs.Joining.{Place, place, Wiring, all_parts, all_weight, all_left, origin, Path, Connects, contacts_of_result, IsJoining}
+use Rattle.gos_plan.specs.Seen.{SeenPlan, plan_of, joint_of}
+use Rattle.gos_plan.specs.Joining.{all_parts, all_weight, all_left, origin, Path, Connects, contacts_of_result, IsJoining}
 use Rattle.gos_ties.specs.declared.points.Point.{Point}
 use Rattle.gos_ties.specs.Ties.{at, end_at, bare}
 use Rattle.gos_ties.specs.Ties as tied
@@ -14,7 +14,7 @@ use Rattle.gos_link.specs.declared.services.Service.{Service}
 use Rattle.gos_link.specs.Linked.{outcome_of, wiring_of}
 use Rattle.gos_link.specs.inner.Wired.{ties_from, AllRight, AreJoinable}
 use Rattle.gos_link.proofs.ServiceLemmas.{In, in_contained, contains_in}
-use Rattle.gos_link.proofs.PointLemmas.{IsThere, spot_of, joined, Stands, stands}
+use Rattle.gos_link.proofs.PointLemmas.{spot_of, joined, Stands, stands}
 use Rattle.gos_link.proofs.PathLemmas.{path_tied, tied_path}
 use Rattle.gos_link.proofs.WalkLemmas.{ends_turn}
 

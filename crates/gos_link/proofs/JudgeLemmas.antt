@@ -1,11 +1,9 @@
 -- What is wrong of a build behind its bind lines, from what was found of its ports.
-use Rattle.std.specs.Prelude.{◌≡◌, ◌≢◌, ℕ, zero, ◌+◌, ◌<◌, ◌⊎◌, List, [], ◌∷◌, length, map, Option, Some, None, option_map, slice_get}
+use Rattle.std.specs.Prelude.{◌≡◌, ℕ, ◌<◌, List, [], ◌∷◌, length, map, Some, None, option_map, slice_get}
 use Rattle.std.proofs.Common.{refl, sym, ◌∙◌, ap, subst, arith, inl, inr}
 use Rattle.std.proofs.lemmas.List.{length-map}
-use Rattle.std.proofs.lemmas.Option.{slice_get-map, slice_get_read}
-use Rattle.gos_types.specs.declared.types.Ty.{Ty}
-use Rattle.gos_types.specs.Types.{Type', IsGround, type_of}
-use Rattle.gos_plan.specs.Plans.{Plan}
+use Rattle.std.proofs.lemmas.Option.{slice_get-map}
+use Rattle.gos_types.specs.Types.{Type', type_of}
 use Rattle.gos_plan.specs.Seen.{SeenPlan, plan_of}
 use Rattle.gos_plan.specs.Joining.{LeftImport, all_left}
 use Rattle.gos_link.specs.declared.build.Build.{Build}
@@ -14,12 +12,11 @@ use Rattle.gos_link.specs.declared.opens.Open.{Open}
 use Rattle.gos_link.specs.declared.fault.LinkFault.{LinkFault}
 use Rattle.gos_link.specs.declared.fault.LinkFault.TheVariants as faults
 use Rattle.gos_link.specs.Services.{BindsOn}
-use Rattle.gos_link.specs.Linked.{Port, AreGround, IsDone, IsFirstHigher, IsPlaced, IsNamed, IsGrounded, IsWrongWhole, outcome_of, plans_of, port_of, ports_of, whole_of}
+use Rattle.gos_link.specs.Linked.{Port, AreGround, IsDone, IsFirstHigher, IsPlaced, IsNamed, IsWrongWhole, outcome_of, plans_of, port_of, ports_of, whole_of}
 use Rattle.gos_link.specs.inner.Judged.{IsJudged}
 use Rattle.gos_link.specs.inner.Opens.{open_seen, opens_among}
 use Rattle.gos_link.specs.inner.Ports.{AllDiffer, IsOpenTwice}
 use Rattle.gos_link.specs.inner.Tops.{AreTops}
-use Rattle.gos_link.specs.inner.Wired.{AreJoinable}
 use Rattle.gos_link.proofs.BindLemmas.{instance_low, there_is}
 use Rattle.gos_link.proofs.BoundLemmas.{joinable, root_unused}
 use Rattle.gos_link.proofs.PlaceLemmas.{within, open_at}

@@ -1,9 +1,9 @@
 -- Paths of joints and links are paths of ties.
-use Rattle.std.specs.Prelude.{◌≡◌, ℕ, zero, suc, ◌+◌, ◌⊎◌, List, [], ◌∷◌, ◌++◌, length, Option, Some, None, Contains, slice_get}
+use Rattle.std.specs.Prelude.{◌≡◌, ℕ, zero, suc, ◌+◌, ◌⊎◌, List, [], ◌∷◌, ◌++◌, length, Option, Some, Contains, slice_get}
 use Rattle.std.proofs.Common.{refl, sym, ◌∙◌, ap, subst, arith, inl, inr}
-use Rattle.gos_plan.specs.Kinds.{Contact, asks, serves}
-use Rattle.gos_plan.specs.Plans.{End, Joint, Plan, contact_at, Fits, AreRight, IsRight}
-use Rattle.gos_plan.specs.Joining.{Place, place, Link, Wiring, JoinedWithin, Linked, Path}
+use Rattle.gos_plan.specs.Kinds.{asks, serves}
+use Rattle.gos_plan.specs.Plans.{End, Joint, Plan, Fits, AreRight}
+use Rattle.gos_plan.specs.Joining.{Place, place, Wiring, JoinedWithin, Linked, Path}
 use Rattle.gos_ties.specs.declared.points.Point.{Point}
 use Rattle.gos_ties.specs.declared.points.Tie.{Tie}
 use Rattle.gos_ties.specs.Ties.{tie, Meet}
@@ -12,7 +12,7 @@ use Rattle.gos_link.specs.declared.services.Service.{Service}
 use Rattle.gos_link.specs.Linked.{wiring_of}
 use Rattle.gos_link.specs.inner.Wired.{rank, parts_before, stays_before, point_in, point_of, ties_in, ties_from, AllRight, AreJoinable}
 use Rattle.gos_link.proofs.ServiceLemmas.{In, in_contained, contains_in}
-use Rattle.gos_link.proofs.PointLemmas.{contact_in, contact_of, IsThere, spot_of, one_point, linked_point}
+use Rattle.gos_link.proofs.PointLemmas.{contact_in, IsThere, spot_of, one_point, linked_point}
 
 -- points that meet, of two lists of ties
 meet_left : (ts us : List Tie) (a b : Point) → Meet ts a b → Meet (ts ++ us) a b

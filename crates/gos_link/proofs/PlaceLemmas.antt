@@ -1,10 +1,10 @@
 -- The numbers of parts and of imports that stay: each has one, and each number that there is belongs to one.
-use Rattle.std.specs.Prelude.{◌≡◌, ℕ, zero, suc, ◌+◌, ◌-◌, ◌<◌, ◌≤◌, ◌⊎◌, Bool, true, false, List, [], ◌∷◌, ◌++◌, length, Option, Some, None, slice_get, nat_lt}
+use Rattle.std.specs.Prelude.{◌≡◌, ℕ, zero, suc, ◌+◌, ◌-◌, ◌<◌, ◌⊎◌, true, false, List, [], ◌∷◌, ◌++◌, length, Option, Some, None, slice_get, nat_lt}
 use Rattle.std.proofs.Common.{refl, sym, ◌∙◌, ap, subst, arith, inl, inr}
 use Rattle.gos_model.specs.Typing.{Imported}
 use Rattle.gos_plan.specs.Kinds.{Part}
-use Rattle.gos_plan.specs.Plans.{PartEnd, ImportEnd, Plan}
-use Rattle.gos_plan.specs.Joining.{Place, place, all_parts, LeftImport, part_place}
+use Rattle.gos_plan.specs.Plans.{PartEnd, Plan}
+use Rattle.gos_plan.specs.Joining.{place, all_parts, LeftImport, part_place}
 use Rattle.gos_link.specs.declared.services.Service.{Service}
 use Rattle.gos_link.specs.inner.Opens.{number_bound, opens_in, opens_among}
 use Rattle.gos_link.specs.inner.Wired.{rank, parts_before, stays_before}

@@ -1,21 +1,21 @@
 -- Points tell places: an end of a plan lies at its point alone, and at one point lie one place or two that are linked.
-use Rattle.std.specs.Prelude.{◌≡◌, ◌≢◌, ℕ, zero, suc, ◌+◌, ◌<◌, ◌≤◌, ◌⊎◌, Bool, true, false, List, [], ◌∷◌, length, map, Option, Some, None, Contains, slice_get, option_map, nat_eq, if◌then◌else◌}
+use Rattle.std.specs.Prelude.{◌≡◌, ◌≢◌, ℕ, ◌+◌, ◌<◌, ◌⊎◌, true, List, [], ◌∷◌, length, map, Option, Some, None, slice_get, option_map, nat_eq}
 use Rattle.std.proofs.Common.{refl, sym, ◌∙◌, ap, subst, arith, inl, inr}
 use Rattle.std.proofs.lemmas.Option.{slice_get-map}
 use Rattle.gos_model.specs.Typing.{Imported}
 use Rattle.gos_plan.specs.Kinds.{Part, Contact, contacts_of}
 use Rattle.gos_plan.specs.Plans.{End, PartEnd, ImportEnd, ResultEnd, Joint, Plan, contact_at, contacts_of_part, contacts_of_import, turned_if}
-use Rattle.gos_plan.specs.Joining.{Place, place, Link, Wiring, all_parts, all_weight, LeftImport, all_left, part_place, left_place, origin, Linked}
+use Rattle.gos_plan.specs.Joining.{Place, place, Link, all_parts, all_weight, LeftImport, all_left, part_place, left_place, origin, Linked}
 use Rattle.gos_ties.specs.declared.points.Place as spot
 use Rattle.gos_ties.specs.declared.points.Place.TheVariants as spots
 use Rattle.gos_ties.specs.declared.points.Point.{Point}
-use Rattle.gos_ties.specs.Ties.{point, at, end_at, end_of_place}
+use Rattle.gos_ties.specs.Ties.{point, at}
 use Rattle.gos_link.specs.declared.services.Service.{Service}
 use Rattle.gos_link.specs.Linked.{imports_of, shakes_at, link_at, links_of, outcome_of, wiring_of}
 use Rattle.gos_link.specs.inner.Opens.{number_bound, opens_among}
-use Rattle.gos_link.specs.inner.Wired.{number_used, rank, parts_before, stays_before, place_bound, place_used, place_of_result, place_of_import, point_in, point_of, AreJoinable}
+use Rattle.gos_link.specs.inner.Wired.{number_used, rank, stays_before, place_bound, place_used, place_of_result, point_of, AreJoinable}
 use Rattle.gos_link.proofs.NumberLemmas.{eq_true, eq_false, number_cases}
-use Rattle.gos_link.proofs.ServiceLemmas.{In, in_contained, contains_in, IsLinkOf, link_tells, link_in, bound_tells, used_tells, opens_left}
+use Rattle.gos_link.proofs.ServiceLemmas.{In, in_contained, contains_in, link_tells, link_in, bound_tells, used_tells, opens_left}
 use Rattle.gos_link.proofs.PlaceLemmas.{within, part_at, part_stands, open_at, open_stands}
 
 -- the handshake at a place, where there is one

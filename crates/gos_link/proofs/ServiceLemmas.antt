@@ -1,5 +1,5 @@
 -- Which handshakes the services link, and which imports stay.
-use Rattle.std.specs.Prelude.{◌≡◌, ◌≢◌, ℕ, zero, suc, ◌+◌, ◌<◌, ◌≤◌, ◌⊎◌, ◌&&◌, ◌||◌, Bool, true, false, List, [], ◌∷◌, ◌++◌, length, map, Option, Some, None, Contains, slice_get, get_or, nat_eq, position, if◌then◌else◌}
+use Rattle.std.specs.Prelude.{◌≡◌, ℕ, zero, suc, ◌+◌, ◌<◌, ◌≤◌, ◌⊎◌, ◌&&◌, ◌||◌, Bool, true, false, List, [], ◌∷◌, ◌++◌, length, Option, Some, None, Contains, slice_get, get_or, nat_eq}
 use Rattle.std.proofs.Common.{refl, sym, ◌∙◌, ap, subst, arith, inl, inr, length-append}
 use Rattle.std.proofs.lemmas.List.{length-map}
 use Rattle.std.proofs.lemmas.List.Quantifiers.{position-Some}
@@ -8,13 +8,13 @@ use Rattle.std.proofs.lemmas.Bool.Decides.{nat_tests}
 use Rattle.gos_types.specs.Types.{Type', Com, Exp, Var, Pair, Fun}
 use Rattle.gos_model.specs.Typing.{Imported}
 use Rattle.gos_plan.specs.Kinds.{contacts_of}
-use Rattle.gos_plan.specs.Plans.{ImportEnd, ResultEnd, Plan, contacts_of_import}
-use Rattle.gos_plan.specs.Joining.{Place, place, Link, Wiring, is_at_import, is_joined, LeftImport, left_in, left_among, all_left, Linked}
+use Rattle.gos_plan.specs.Plans.{Plan, contacts_of_import}
+use Rattle.gos_plan.specs.Joining.{Link, is_at_import, is_joined, LeftImport, left_in, left_among, all_left}
 use Rattle.gos_link.specs.declared.services.Service.{Service}
 use Rattle.gos_link.specs.Linked.{imports_of, shakes_at, link_at, links_from, links_of, wiring_of}
-use Rattle.gos_link.specs.inner.Opens.{number_bound, if_open, opens_in, opens_among}
+use Rattle.gos_link.specs.inner.Opens.{number_bound, opens_in, opens_among}
 use Rattle.gos_link.specs.inner.Wired.{number_used, AreJoinable}
-use Rattle.gos_link.proofs.NumberLemmas.{eq_true, eq_false, number_cases}
+use Rattle.gos_link.proofs.NumberLemmas.{eq_true, number_cases}
 
 -- one of a list
 abbrev pub In : {X : Type 0} → List X → X → Type 0

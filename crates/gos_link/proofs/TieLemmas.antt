@@ -1,16 +1,14 @@
 -- Lists of ties, of places and of imports that stay, one element further.
-use Rattle.std.specs.Prelude.{◌≡◌, ℕ, zero, suc, ◌+◌, ◌<◌, ◌⊎◌, List, [], ◌∷◌, ◌++◌, drop, length, map, Option, Some, None, option_map, slice_get, get_or}
+use Rattle.std.specs.Prelude.{◌≡◌, ℕ, zero, suc, ◌+◌, ◌<◌, ◌⊎◌, List, [], ◌∷◌, ◌++◌, drop, length, map, Option, Some, None, option_map, slice_get}
 use Rattle.std.proofs.Common.{refl, sym, ◌∙◌, ap, subst, arith, inl, inr, append-nil, append_assoc, length-append}
 use Rattle.std.proofs.lemmas.List.{length-map}
 use Rattle.std.proofs.lemmas.Option.{slice_get-map}
-use Rattle.gos_model.specs.Typing.{Imported}
-use Rattle.gos_plan.specs.Plans.{Joint, Plan, IsRight}
+use Rattle.gos_plan.specs.Plans.{Plan, IsRight}
 use Rattle.gos_plan.specs.declared.plan.PlanImport.{PlanImport}
 use Rattle.gos_plan.specs.declared.plan.Joint as declared_joint
 use Rattle.gos_plan.specs.Seen.{SeenPlan, plan_of, part_of, import_of, joint_of}
 use Rattle.gos_plan.specs.Joining.{LeftImport}
 use Rattle.gos_ties.specs.declared.points.Place.{Place}
-use Rattle.gos_ties.specs.declared.points.Point.{Point}
 use Rattle.gos_ties.specs.declared.points.Tie.{Tie}
 use Rattle.gos_ties.specs.Ties.{tie}
 use Rattle.gos_link.specs.declared.services.Service.{Service}

@@ -1,5 +1,5 @@
 -- A service more closes a ring exactly where its user leads to its giver; and where instances lead after it.
-use Rattle.std.specs.Prelude.{◌≡◌, ◌≢◌, ◌<◌, ◌⊎◌, ℕ, zero, suc, ◌+◌, true, false, List, [], ◌∷◌, ◌++◌, Option, None, Some, length, map, unwrap_or, slice_get, nat_eq, if◌then◌else◌}
+use Rattle.std.specs.Prelude.{◌≡◌, ◌≢◌, ◌<◌, ◌⊎◌, ℕ, zero, suc, List, [], ◌∷◌, ◌++◌, None, Some, length, map, unwrap_or, slice_get}
 use Rattle.std.proofs.Common.{refl, ap, sym, ◌∙◌, subst, arith, inl, inr}
 use Rattle.std.proofs.lemmas.List.{length-map}
 use Rattle.gos_link.specs.declared.services.Service.{Service}

@@ -1,8 +1,8 @@
 -- Two ends of linked plans that a path connects see each other from the two sides.
 --
 -- From an end that is in no link joints and links lead on in turn, and each turns the handshake.
-use Rattle.std.specs.Prelude.{◌≡◌, ◌≢◌, ℕ, zero, suc, ◌||◌, ◌⊎◌, Bool, true, false, List, [], ◌∷◌, length, Option, Some, None, Contains, slice_get}
-use Rattle.std.proofs.Common.{refl, sym, ◌∙◌, ap, subst, arith, inl, inr}
+use Rattle.std.specs.Prelude.{◌≡◌, ◌≢◌, ℕ, zero, suc, ◌||◌, ◌⊎◌, Bool, true, false, List, [], Option, Some, None, Contains, slice_get}
+use Rattle.std.proofs.Common.{refl, sym, ◌∙◌, ap, subst, inl, inr}
 use Rattle.gos_types.specs.declared.shakes.Role.{Role}
 use Rattle.gos_types.specs.declared.shakes.Role.TheVariants.{Serve, Ask}
 use Rattle.gos_types.specs.Handshakes.{turned}
@@ -13,7 +13,7 @@ use Rattle.gos_plan.specs.Joining.{Place, place, Link, Wiring, JoinedWithin, Lin
 use Rattle.gos_plan.proofs.JointLemmas.{same_itself, one_joint, contained}
 use Rattle.gos_plan.proofs.JointLemmas as joints
 use Rattle.gos_link.specs.declared.services.Service.{Service}
-use Rattle.gos_link.specs.Linked.{link_at, links_of, wiring_of}
+use Rattle.gos_link.specs.Linked.{links_of, wiring_of}
 use Rattle.gos_link.specs.inner.Opens.{number_bound}
 use Rattle.gos_link.specs.inner.Wired.{number_used, AllRight, AreJoinable}
 use Rattle.gos_link.proofs.ServiceLemmas.{in_contained, link_tells}

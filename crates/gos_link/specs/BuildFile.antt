@@ -2,7 +2,7 @@
 --
 -- A line says one thing, and its place decides whether it is right: its sort has to follow that of the line before it,
 -- and the names that it gives have to be new. `Said`, `Item` and `Build` are those of said.rt and build.rt.
-use Rattle.std.specs.Prelude.{◌≡◌, ◌≤◌, ◌<◌, ◌+◌, ◌⊎◌, ◌==◌, ◌&&◌, ◌||◌, ℕ, suc, Bool, true, false, not, IsTrue, List, [], ◌∷◌, ◌++◌, Option, Some, None, length, codes}
+use Rattle.std.specs.Prelude.{◌≡◌, ◌≤◌, ◌<◌, ◌+◌, ◌⊎◌, ◌==◌, ◌&&◌, ◌||◌, ℕ, Bool, true, false, not, IsTrue, List, [], ◌∷◌, ◌++◌, Option, Some, None, length, codes}
 use Rattle.std.specs.List.{list_any}
 use Rattle.std.specs.Str.{bytes_eq}
 use Rattle.std.specs.Str.Lines.{lines}
@@ -17,8 +17,6 @@ use Rattle.gos_link.specs.declared.said.Role.TheVariants as roles
 use Rattle.gos_link.specs.declared.said.Said.{Said}
 use Rattle.gos_link.specs.declared.said.Said.TheVariants as says
 use Rattle.gos_link.specs.declared.said.Item.{Item}
-use Rattle.gos_link.specs.declared.fault.LinkFault.{LinkFault}
-use Rattle.gos_link.specs.declared.fault.LinkFault.TheVariants as faults
 
 -- the keyword of a file of the build
 abbrev pub keyword : Role → Word

@@ -1,5 +1,4 @@
 -- What is noted of the lines of a build file while they are read.
-use Rattle.std.specs.Prelude.{ℕ, List, Option, Some, None}
 use Rattle.std.specs.Option.{option_map}
 use Rattle.gos_link.specs.declared.noting.Noted.{Noted}
 use Rattle.gos_link.specs.declared.noting.RootLine as declared_root

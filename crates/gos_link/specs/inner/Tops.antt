@@ -1,5 +1,5 @@
 -- Where instances end that serve one another: at one that serves none.
-use Rattle.std.specs.Prelude.{◌≡◌, ◌<◌, ℕ, List, None, Some, length, unwrap_or, slice_get, nat_eq, if◌then◌else◌}
+use Rattle.std.specs.Prelude.{◌≡◌, ◌<◌, ℕ, List, None, length, unwrap_or, slice_get, nat_eq, if◌then◌else◌}
 use Rattle.gos_link.specs.declared.services.Service.{Service}
 use Rattle.gos_link.specs.Services.{HasService, Gives, HasRing, first_used}
 

@@ -1,14 +1,13 @@
-use Rattle.std.proofs.Common.{◌≡◌, ◌∙◌, ◌<◌, ◌∷◌, ℕ, List, Some, ap, length, map, refl, subst, sym}
+use Rattle.std.proofs.Common.{◌≡◌, ◌∙◌, ◌<◌, ◌∷◌, ℕ, List, ap, length, map, refl, subst, sym}
 use Rattle.std.specs.Prelude.{slice_get}
 use Rattle.std.proofs.lemmas.Option.{slice_get_read}
 use Rattle.std.proofs.lemmas.Result.{err_from_is_err_and}
 use Rattle.gos_types.specs.declared.types.Ty.{Ty}
-use Rattle.gos_types.specs.Types.{Type', type_of}
-use Rattle.gos_plan.specs.Seen.{SeenPlan}
+use Rattle.gos_types.specs.Types.{type_of}
 use Rattle.gos_plan.specs.Joining.{LeftImport}
 use Rattle.gos_link.specs.declared.build.Instance.{Instance}
 use Rattle.gos_link.specs.declared.opens.Open.{Open}
-use Rattle.gos_link.specs.Linked.{IsDone, IsNamed, outcome_of, plans_of, port_of, ports_of, whole_of}
+use Rattle.gos_link.specs.Linked.{outcome_of, plans_of, port_of}
 use Rattle.gos_link.specs.inner.Opens.{open_seen}
 use Rattle.gos_link.proofs.JudgeLemmas.{plan_low, lefts, ports, root_at, wrong_names, named, wrong_result, done, wrong_import, all_ground}
 use Rattle.gos_link.proofs.linking.check_ports.Goals as goal

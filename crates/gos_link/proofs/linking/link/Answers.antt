@@ -1,4 +1,4 @@
-use Rattle.std.proofs.Common.{◌≡◌, inr, refl, subst, sym}
+use Rattle.std.proofs.Common.{inr, refl, subst, sym}
 use Rattle.std.proofs.lemmas.Result.{err_from_is_err_and}
 use Rattle.gos_plan.specs.Seen.{plan_of}
 use Rattle.gos_link.specs.declared.fault.LinkFault.{LinkFault}

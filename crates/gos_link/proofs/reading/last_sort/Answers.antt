@@ -1,5 +1,3 @@
-use Rattle.std.proofs.Common.{◌≡◌}
-use Rattle.gos_link.specs.BuildFile.{last_sort}
 use Rattle.gos_link.proofs.ItemLemmas.{sort_of_last}
 use Rattle.gos_link.proofs.reading.last_sort.Goals as goal
 

@@ -1,4 +1,4 @@
-use Rattle.std.proofs.Common.{◌≡◌, ◌++◌, ℕ, Some, get_or, map}
+use Rattle.std.proofs.Common.{◌≡◌, ℕ, Some, get_or}
 use Rattle.std.specs.Prelude.{slice_get}
 use Rattle.std.proofs.lemmas.Option.{slice_get-get_or}
 use Rattle.gos_plan.specs.declared.plan.End.TheVariants as ends

@@ -1,6 +1,5 @@
 use Rattle.std.proofs.Common.{◌≡◌, ◌∙◌, ◌+◌, ap}
 use Rattle.gos_ties.specs.declared.points.Place.{Place}
-use Rattle.gos_link.specs.inner.Opens.{number_bound}
 use Rattle.gos_link.specs.inner.Wired.{place_bound, place_of_import}
 use Rattle.gos_link.proofs.TieLemmas.{places_more, rank_more, grown}
 use Rattle.gos_link.proofs.ties.places_of.Goals as goal

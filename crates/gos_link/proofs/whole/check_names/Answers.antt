@@ -1,4 +1,4 @@
-use Rattle.std.proofs.Common.{◌≡◌, ◌∙◌, ℕ, List, length, map, subst, sym}
+use Rattle.std.proofs.Common.{List, length, map, subst}
 use Rattle.gos_link.specs.Linked.{AreDifferent}
 use Rattle.gos_link.specs.declared.whole.Port as declared_port
 use Rattle.gos_link.specs.inner.Ports.{port_seen}

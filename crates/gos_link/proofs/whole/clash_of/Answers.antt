@@ -1,4 +1,4 @@
-use Rattle.std.proofs.Common.{rules, ◌≡◌, ◌∙◌, ◌<◌, ◌+◌, ℕ, List, Some, None, ap, arith, length, map, refl, subst, sym}
+use Rattle.std.proofs.Common.{rules, ◌≡◌, ◌∙◌, ◌<◌, List, Some, None, ap, arith, length, map, refl, sym}
 use Rattle.std.specs.Prelude.{slice_get}
 use Rattle.std.proofs.lemmas.Option.{slice_get_read}
 use Rattle.std.proofs.lemmas.List.{length-map}
@@ -6,7 +6,7 @@ use Rattle.gos_lines.specs.Lines.{Word}
 use Rattle.gos_link.specs.Linked.{Port}
 use Rattle.gos_link.specs.declared.whole.Port as declared_port
 use Rattle.gos_link.specs.inner.Ports.{added, number_at, port_seen}
-use Rattle.gos_link.proofs.PortLemmas.{port_at, same_at, table_begins, table_grows, different_more}
+use Rattle.gos_link.proofs.PortLemmas.{port_at, same_at, table_grows, different_more}
 use Rattle.gos_link.proofs.whole.clash_of.Goals as goal
 
 pub returns-in-Some : goal.returns-in-Some
