@@ -1,7 +1,7 @@
 // The store of the program: the files of the system.
 //
 // It tells no contents. What a file of the system holds, and what another process does to it, is not ours to say.
-ghost use Rattle.std.specs.Prelude.{◌≡◌, ◌≤◌, length, IfOk};
+ghost use Rattle.std.specs.Prelude.{◌≡◌, ◌≤◌, length, take, IfOk, IfSome};
 ghost use Rattle.gos_outside.specs.FileName.{IsFileName};
 ghost use Rattle.gos_outside.specs.Faults.{NoFault};
 
@@ -122,23 +122,33 @@ fn read_file<R: Files>(rt: &R, alloc: Global, name: &[u8], n: usize) -> Result<V
     ensures { IfOk result (λ bytes. length bytes.items ≤ n) }
 {
     let mut file = fs::open(rt, path_of(name))?;
+    read_first(&mut file, alloc, n)
+}
+
+/// The first `n` bytes that a reader gives, in however many pieces, or all where they are fewer.
+fn read_first<F: Read>(file: &mut F, alloc: Global, n: usize) -> Result<Vec<u8>, Trouble>
+    ensures limit { IfOk result (λ bytes. length bytes.items ≤ n) }
+    // Of a reader whose bytes are known.
+    ensures bytes { IfOk result (λ bytes. IfSome (F.remaining file.old) (λ all. bytes.items ≡ take n all)) }
+{
     let mut bytes = Vec::new(alloc);
     let mut chunk = [0; CHUNK];
     let mut room = n;
     // Where no room is left, the read is of nothing, and ends the loop.
     for _ in 0..u64::MAX {
         let want = room.min(CHUNK);
-        match file.read(&mut chunk[..want]) {
-            Ok(0) => break,
+        let part = &mut chunk[..want];
+        match file.read(part) {
+            Ok(0) => return Ok(bytes),
             Ok(got) => {
-                bytes.extend_from_slice(&chunk[..got])?;
+                bytes.extend_from_slice(&part[..got])?;
                 room -= got;
             }
             Err(e) if e.kind() == ErrorKind::Interrupted => {}
             Err(e) => return Err(e.into()),
         }
     }
-    Ok(bytes)
+    Err(Trouble::System)
 }
 
 /// Makes a file hold these bytes.
@@ -179,6 +189,28 @@ mod tests {
         fs::remove_file(&rt, "file_store_test.txt")?;
         assert!(rt; matches!(store.read_up_to(alloc, name, 100), Err(StoreFault::Failed)));
         assert_eq!(rt; store.faults(), 1);
+        Ok(())
+    }
+
+    #[test]
+    fn what_the_system_refuses_has_failed(rt: HostRuntime) -> Result<(), Fail> {
+        let alloc = rt.alloc();
+        let mut store = FileStore::new(&rt);
+        let folder = b".".as_slice();
+        let full = b"/dev/full".as_slice();
+        assert!(rt; is_file_name(folder));
+        assert!(rt; is_file_name(full));
+        assert!(rt;
+            matches!(
+                store.read_up_to(alloc, folder, 100),
+                Err(StoreFault::Failed)
+            )
+        );
+        assert_eq!(rt; store.faults(), 1);
+        assert!(rt; matches!(store.write(alloc, folder, b"lost"), Err(StoreFault::Failed)));
+        assert_eq!(rt; store.faults(), 2);
+        assert!(rt; matches!(store.write(alloc, full, b"lost"), Err(StoreFault::Failed)));
+        assert_eq!(rt; store.faults(), 3);
         Ok(())
     }
 }

@@ -5,9 +5,10 @@ use Rattle.std.proofs.lemmas.Bool.Decides.{nat_tests}
 use Rattle.gos_lex.specs.declared.token.Span.{Span}
 use Rattle.gos_types.specs.Types.{Type', Com, Exp, Var, Pair, Fun, IsDone}
 use Rattle.gos_syntax.specs.Trees.{Tree, Skip, Lit, Use, Lam, New, App, Both, Fst, Snd, Seq, Par, If, While, Assign, Deref, Not, Bin}
-use Rattle.gos_model.specs.Terms.{Name, result_width}
+use Rattle.gos_model.specs.Terms.{Name}
 use Rattle.gos_model.specs.Terms as terms
-use Rattle.gos_model.specs.Typing.{Imports, IsWidth, Typed}
+use Rattle.gos_model.specs.Typing.{Imports, Typed}
+use Rattle.gos_types.specs.Widths.{IsWidth, HasWidths}
 use Rattle.gos_model.specs.Weight.{count, node_type}
 use Rattle.gos_model.specs.Sources.{term_of, binder_of, bound_or_import}
 use Rattle.gos_check.specs.Faults.{Found, Width}
@@ -16,7 +17,7 @@ use Rattle.gos_check.specs.Scopes.{Binders, type_at, used}
 use Rattle.gos_check.specs.Demands.{application, first_side, second_side, sequence, parallel, choice, looping, assignment, reading, negation, operation, done}
 use Rattle.gos_check.specs.Judging.{place_of, separate, judged}
 use Rattle.gos_check.specs.inner.Walked.{names_of, types_of}
-use Rattle.gos_check.specs.Accepted.{HasWidths, IsSmall, IsWritten, KeepsLimits}
+use Rattle.gos_check.specs.Accepted.{IsSmall, IsWritten, KeepsLimits}
 use Rattle.gos_check.proofs.FoundLemmas.{after_is, small_is, sized_is, done_is, two_is, three_is, separate_is, if_ok}
 use Rattle.gos_check.proofs.RuleLemmas.{ok_is}
 use Rattle.gos_check.proofs.DemandLemmas.{used_is, application_is, first_is, second_is, sequence_is, parallel_is, choice_is, looping_is, assignment_is, reading_is, negation_is, operation_is}

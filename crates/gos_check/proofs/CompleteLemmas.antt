@@ -7,7 +7,8 @@ use Rattle.gos_types.specs.Types.{Type', Com, Exp, Var, Pair, Fun, IsDone}
 use Rattle.gos_syntax.specs.Trees.{Tree, Skip, Lit, Use, Lam, New, App, Both, Fst, Snd, Seq, Par, If, While, Assign, Deref, Not, Bin}
 use Rattle.gos_model.specs.Terms.{Name}
 use Rattle.gos_model.specs.Terms as terms
-use Rattle.gos_model.specs.Typing.{Imports, IsWidth, Typed}
+use Rattle.gos_model.specs.Typing.{Imports, Typed}
+use Rattle.gos_types.specs.Widths.{IsWidth, HasWidths}
 use Rattle.gos_model.specs.Weight.{count, node_type}
 use Rattle.gos_model.specs.Sources.{term_of, binder_of, bound_or_import}
 use Rattle.gos_model.specs.Laws.{NodeHasType}
@@ -18,7 +19,7 @@ use Rattle.gos_check.specs.Free.{free, apart}
 use Rattle.gos_check.specs.Demands.{application, first_side, second_side, sequence, parallel, choice, looping, assignment, reading, negation, operation, demanded, done}
 use Rattle.gos_check.specs.Judging.{place_of, of_two, of_three, separate, sized, judged}
 use Rattle.gos_check.specs.inner.Walked.{names_of, types_of}
-use Rattle.gos_check.specs.Accepted.{HasWidths, IsSmall, IsWritten, KeepsLimits}
+use Rattle.gos_check.specs.Accepted.{IsSmall, IsWritten, KeepsLimits}
 use Rattle.gos_check.proofs.TypeLemmas.{demanded_same}
 use Rattle.gos_check.proofs.WeightLemmas.{looked_up, type_there}
 use Rattle.gos_check.proofs.ThingLemmas.{apart_of_model}

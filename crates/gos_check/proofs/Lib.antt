@@ -14,7 +14,7 @@ pub mod CompleteLemmas
 pub mod ModuleLemmas
 pub mod CountLemmas
 pub mod OpenLemmas
-pub mod TypeInLemmas
+pub mod NodeTypeLemmas
 pub mod TimesLemmas
 pub mod MergeLemmas
 pub mod NumberLemmas

@@ -4,7 +4,7 @@ use Rattle.std.specs.Str.{bytes_eq}
 use Rattle.std.proofs.Common.{arith, refl, sym, ap, subst, ◌∙◌, inl, inr}
 use Rattle.gos_types.specs.Types.{Type', Var, Fun}
 use Rattle.gos_model.specs.Terms as terms
-use Rattle.gos_model.specs.Terms.{Name, Term, Op}
+use Rattle.gos_model.specs.Terms.{Name, Term}
 use Rattle.gos_model.specs.Typing.{Imports}
 use Rattle.gos_model.specs.Weight.{node_type}
 use Rattle.gos_model.specs.Sources.{use_of, binder_of, bound_or_import, one_further}
@@ -12,10 +12,10 @@ use Rattle.gos_check.specs.declared.linear.Split.{Split}
 use Rattle.gos_check.specs.declared.opens.Open.{Open}
 use Rattle.gos_check.specs.Scopes.{Binders}
 use Rattle.gos_check.specs.inner.Walked.{names_of, types_of}
-use Rattle.gos_check.specs.Nodes.{Binding, OfFun, OfNew, OneForm, OfFst, OfSnd, OfDeref, OfNot, TwoForm, OfApp, OfBoth, OfSeq, OfPar, OfWhile, OfAssign, OfBin, Numbered, Meaning, shifted, below, inside, meaning, HasTypes, bound_type, binder_term, one_term, two_term}
+use Rattle.gos_check.specs.Nodes.{Binding, OfFun, OfNew, OneForm, OfFst, OfSnd, OfDeref, OfNot, TwoForm, OfApp, OfBoth, OfSeq, OfPar, OfWhile, OfAssign, OfBin, Numbered, Meaning, shifted, below, inside, meaning, HasTypes, bound_type, binder_term, one_term, two_term, type_of_node}
 use Rattle.gos_check.specs.Linearity.{times, split_in, sides, used, all_sides, made, IsOneOf, Comes, itself, by_left, by_right, IsSplitBetween, SidesApart}
 use Rattle.gos_check.specs.inner.Opens.{number_in, others, merged_splits, merged_names, merged_next, binder_number, binder_next}
-use Rattle.gos_check.specs.inner.Numbering.{one_type, two_type, binder_type, type_in, Result, closed_result, use_result, binder_result, one_result, two_result, inner_splits, inner_names, inner_next, choice_result}
+use Rattle.gos_check.specs.inner.Numbering.{one_type, two_type, binder_type, Result, closed_result, use_result, binder_result, one_result, two_result, inner_splits, inner_names, inner_next, choice_result}
 use Rattle.gos_check.proofs.NameLemmas.{name_cases, same_true}
 use Rattle.gos_check.proofs.TimesLemmas.{number_cases, times_same, times_other, times-append, split_in-append, sides-append, inside-append, inside_other, eq_true, eq_false}
 use Rattle.gos_check.proofs.MergeLemmas.{numbers, Differ, Gives, Fits, differ_others, number_others, number_times, taken, others_count, merged_differ, merged_upto, merged_fresh, merged_count, merged_gives, split_where}
@@ -86,7 +86,7 @@ pub record Good (i : Imports) (g : Binders) (n : ℕ) (m : Term) (r : Result) : 
   pub differ : Differ r.names
   pub term : (env : Meaning) → Gives (use_of (names_of g)) r.names env → meaning env r.node ≡ m
   pub types : (env : Meaning) → Gives (use_of (names_of g)) r.names env → HasTypes i (types_of g) env r.node
-  pub ty : type_in r.node ≡ node_type i (types_of g) m
+  pub ty : type_of_node r.node ≡ node_type i (types_of g) m
   pub apart : SidesApart r.node
 
 -- a number that is used lies in the interval
@@ -163,7 +163,7 @@ two_law i g (OfBin op) a b = refl
 -- a form of one part
 pub one_good : (i : Imports) (g : Binders) (n : ℕ) (f : OneForm) (a : Term) (r : Result) → Good i g n a r → Good i g n (one_term f a) (one_result f r)
 one_good i g n f a r h =
-    let ty : one_type f (type_in r.node) ≡ node_type i (types_of g) (one_term f a) = ap (one_type f) h.ty ∙ sym (one_law i (types_of g) f a) in
+    let ty : one_type f (type_of_node r.node) ≡ node_type i (types_of g) (one_term f a) = ap (one_type f) h.ty ∙ sym (one_law i (types_of g) f a) in
     record {
       upto = h.upto;
       counts = h.counts;
@@ -182,7 +182,7 @@ two_good i g n f a b l r h q =
     let inner : (env : Meaning) → Gives (use_of (names_of g)) (merged_names l.names r.names r.next) env
     → Gives (use_of (names_of g)) l.names (inside ss env) × Gives (use_of (names_of g)) r.names (inside ss env) =
     λ env e. merged_gives (use_of (names_of g)) l.names r.names r.next env h.differ q.differ (fits i g n a b l r h q) e in
-    let ty : two_type f (type_in l.node) (type_in r.node) ≡ node_type i (types_of g) (two_term f a b) =
+    let ty : two_type f (type_of_node l.node) (type_of_node r.node) ≡ node_type i (types_of g) (two_term f a b) =
     (λ j. two_type f (h.ty j) (q.ty j)) ∙ sym (two_law i (types_of g) f a b) in
     let body : (env : Meaning) → Gives (use_of (names_of g)) (merged_names l.names r.names r.next) env
     → two_term f (meaning (inside ss env) l.node) (meaning (inside ss env) r.node) ≡ two_term f a b =
@@ -269,18 +269,18 @@ binder_gives names x os n env d once old gives = looked (number_in os x) refl
 
 -- a binder
 binder_good : (i : Imports) (g : Binders) (n : ℕ) (b : Binding) (x : Name) (a : Type') (m : Term) (r : Result)
-    → bound_type b (binder_type b a (type_in r.node)) ≡ a
-    → binder_type b a (type_in r.node) ≡ node_type i (types_of g) (binder_term b (binder_type b a (type_in r.node)) m)
+    → bound_type b (binder_type b a (type_of_node r.node)) ≡ a
+    → binder_type b a (type_of_node r.node) ≡ node_type i (types_of g) (binder_term b (binder_type b a (type_of_node r.node)) m)
     → Good i (record { name = x; ty = a } ∷ g) n m r
-    → Good i g n (binder_term b (binder_type b a (type_in r.node)) m) (binder_result b x a r)
+    → Good i g n (binder_term b (binder_type b a (type_of_node r.node)) m) (binder_result b x a r)
 binder_good i g n b x a m r bound law h =
     record {
       upto = next_upto (number_in r.names x);
       counts = λ k. counted k (number_in r.names x) (others_count k x r.names h.differ) (h.counts k);
       differ = differ_others x r.names h.differ;
-      term = λ env e. ap (binder_term b (binder_type b a (type_in r.node))) (h.term _ (inner env e));
+      term = λ env e. ap (binder_term b (binder_type b a (type_of_node r.node))) (h.term _ (inner env e));
       types = λ env e. (
-        law ∙ ap (λ (t : Term). node_type i (types_of g) (binder_term b (binder_type b a (type_in r.node)) t)) (sym (h.term _ (inner env e))),
+        law ∙ ap (λ (t : Term). node_type i (types_of g) (binder_term b (binder_type b a (type_of_node r.node)) t)) (sym (h.term _ (inner env e))),
         subst (λ (t : Type'). HasTypes i (t ∷ types_of g) (below (binder_number (number_in r.names x) r.next) env) r.node) (sym bound) (h.types _ (inner env e)),
       );
       ty = law;
@@ -428,7 +428,7 @@ choice_good i g n p q t a b c h j k =
         let x = h.term _ (gives_a env e) in let y = j.term _ (gives_b env e) in let z = k.term _ (gives_c env e) in
         λ v. terms.If (x v) (y v) (z v)
 
-    ty : type_in b.node ≡ node_type i (types_of g) (terms.If p q t)
+    ty : type_of_node b.node ≡ node_type i (types_of g) (terms.If p q t)
     ty = j.ty
 
     where_inner : (s : Split) → IsOneOf s (inner_splits a b)

@@ -2,10 +2,11 @@
 --
 -- Read first: Typing, Weight and Sources of gos_model; Judgements. What is accepted speaks of no order and of no fault.
 use Rattle.std.specs.Prelude.{◌≡◌, ◌≢◌, ◌↔◌, ℕ, ◌≤◌, List, [], ◌∷◌, Ok, MatchOption}
-use Rattle.gos_types.specs.Types.{Type', Com, Exp, Var, Pair, Fun, type_of}
+use Rattle.gos_types.specs.Types.{Type', Var, type_of}
+use Rattle.gos_types.specs.Widths.{HasWidths}
 use Rattle.gos_syntax.specs.Modules.{SeenImport, SeenModule}
 use Rattle.gos_model.specs.Terms.{Name, Term, Skip, Lit, Bound, Import, Lam, App, Both, Fst, Snd, Seq, Par, If, While, Assign, Deref, New, Not, Bin, Loc, Scope, Wait, Held, Put}
-use Rattle.gos_model.specs.Typing.{Imports, IsWidth, Typed}
+use Rattle.gos_model.specs.Typing.{Imports, Typed}
 use Rattle.gos_model.specs.Weight.{count, node_type, weight}
 use Rattle.gos_model.specs.Sources.{program_of}
 use Rattle.gos_check.specs.declared.fault.CheckFault.{CheckFault}
@@ -21,14 +22,6 @@ IsNew x (i ∷ is) = (i.name ≢ x) × IsNew x is
 abbrev pub NamesDiffer : List SeenImport → Type 0
 NamesDiffer [] = Unit {0}
 NamesDiffer (i ∷ is) = IsNew i.name is × NamesDiffer is
-
--- the numbers of a type are widths
-abbrev pub HasWidths : Type' → Type 0
-HasWidths Com = Unit {0}
-HasWidths (Exp w) = IsWidth w
-HasWidths (Var w) = IsWidth w
-HasWidths (Pair a b) = HasWidths a × HasWidths b
-HasWidths (Fun a b) = HasWidths a × HasWidths b
 
 -- a type with at most 64 handshakes
 abbrev pub IsSmall : Type' → Type 0

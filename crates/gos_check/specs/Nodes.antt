@@ -6,7 +6,7 @@ use Rattle.std.specs.Prelude.{◌≡◌, ℕ, suc, List, [], ◌∷◌, ◌||◌
 use Rattle.gos_types.specs.declared.types.Ty.{Ty}
 use Rattle.gos_types.specs.Types.{Type', Var, Fun, type_of}
 use Rattle.gos_model.specs.Terms as terms
-use Rattle.gos_model.specs.Terms.{Name, Op, Term}
+use Rattle.gos_model.specs.Terms.{Op, Term}
 use Rattle.gos_model.specs.Typing.{Imports}
 use Rattle.gos_model.specs.Weight.{node_type}
 use Rattle.gos_model.specs.Sources.{op_of}
@@ -63,6 +63,15 @@ numbered_of t ss (forms.Bin' op p a qs f q b rs g) = Two (type_of t) ss (OfBin (
 -- a node of the program as it is seen
 abbrev pub node_seen : Node → Numbered
 node_seen node = numbered_of node.ty node.splits.items node.form
+
+-- the type of a node
+abbrev pub type_of_node : Numbered → Type'
+type_of_node (Closed t ss c) = t
+type_of_node (Use t ss n) = t
+type_of_node (Under t ss b n m) = t
+type_of_node (One t ss f m) = t
+type_of_node (Two t ss f m n) = t
+type_of_node (If t ss m n p) = t
 
 -- the argument of a function type
 abbrev pub argument_of : Type' → Type'

@@ -8,7 +8,25 @@ ghost use Rattle.gos_types.specs.Types.{type_of};
 ghost use Rattle.gos_model.specs.Terms.{result_width};
 ghost use Rattle.gos_model.specs.Sources.{op_of};
 ghost use Rattle.gos_check.specs.Faults.{Refuses};
-ghost use Rattle.gos_check.specs.Demands.{demanded, done, expression, variable, function, product, application, first_side, second_side, sequence, parallel, choice, looping, assignment, reading, negation, operation};
+ghost use Rattle.gos_check.specs.Demands.{
+  demanded,
+  done,
+  expression,
+  variable,
+  function,
+  product,
+  application,
+  first_side,
+  second_side,
+  sequence,
+  parallel,
+  choice,
+  looping,
+  assignment,
+  reading,
+  negation,
+  operation,
+};
 
 use crate::fault::{CheckFault, Want};
 use gos_lex::Span;

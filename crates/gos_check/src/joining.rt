@@ -2,8 +2,8 @@
 
 ghost use Rattle.std.specs.Prelude.{◌≡◌, ◌+◌, ◌++◌, ◌^◌, ◌<◌, ◌≤◌, length, IfOk, IfErr};
 ghost use Rattle.gos_types.specs.Types.{type_of, Var};
-ghost use Rattle.gos_check.specs.Nodes.{OfFun, OfNew, If, node_seen};
-ghost use Rattle.gos_check.specs.inner.Numbering.{one_form, two_form, type_in, seen, binder_result, one_result, two_result};
+ghost use Rattle.gos_check.specs.Nodes.{OfFun, OfNew, If, node_seen, type_of_node};
+ghost use Rattle.gos_check.specs.inner.Numbering.{one_form, two_form, seen, binder_result, one_result, two_result};
 ghost use Rattle.gos_check.specs.inner.Opens.{merged_splits, merged_names, merged_next};
 
 use crate::fault::CheckFault;
@@ -16,7 +16,7 @@ use gos_types::{Ty, copy};
 use std::alloc::Global;
 
 // A function, whose body is numbered.
-#[tactic(auto, using(crate::proofs::TypeInLemmas::type_seen))]
+#[tactic(auto, using(crate::proofs::NodeTypeLemmas::type_seen))]
 pub(crate) fn below_function(
     alloc: Global,
     name: &Name,
@@ -51,7 +51,7 @@ pub(crate) fn below_function(
 }
 
 // A block with a variable, whose body is numbered.
-#[tactic(auto, using(crate::proofs::TypeInLemmas::type_seen))]
+#[tactic(auto, using(crate::proofs::NodeTypeLemmas::type_seen))]
 pub(crate) fn below_block(
     alloc: Global,
     name: &Name,
@@ -135,7 +135,9 @@ pub(crate) fn with_three(
     no: NumberedTerm,
 ) -> Result<NumberedTerm, CheckFault>
     requires { no.next + length inner.names.items + length no.names.items < 2 ^ 32 }
-    ensures node { IfOk result (λ r. node_seen r.node ≡ If (type_in (node_seen yes)) (merged_splits inner.names.items no.names.items no.next ++ inner.splits.items) (node_seen test) (node_seen yes) (node_seen no.node)) }
+    ensures node { IfOk result (λ r. node_seen r.node ≡ If (type_of_node (node_seen yes))
+        (merged_splits inner.names.items no.names.items no.next ++ inner.splits.items) (node_seen test)
+        (node_seen yes) (node_seen no.node)) }
     ensures names { IfOk result (λ r. r.names.items ≡ merged_names inner.names.items no.names.items no.next) }
     ensures next { IfOk result (λ r. r.next ≡ merged_next inner.names.items no.names.items no.next) }
     ensures room { IfOk result (λ r. r.next + length r.names.items ≤ no.next + length inner.names.items + length no.names.items) }
@@ -152,7 +154,7 @@ pub(crate) fn with_three(
 }
 
 // The node of a choice.
-#[tactic(auto, using(crate::proofs::TypeInLemmas::type_seen))]
+#[tactic(auto, using(crate::proofs::NodeTypeLemmas::type_seen))]
 fn choice_node(
     alloc: Global,
     splits: Vec<Split>,
@@ -160,7 +162,7 @@ fn choice_node(
     n: Node,
     p: Node,
 ) -> Result<Node, CheckFault>
-    ensures ok { IfOk result (λ node. node_seen node ≡ If (type_in (node_seen n)) splits.items (node_seen m) (node_seen n) (node_seen p)) }
+    ensures ok { IfOk result (λ node. node_seen node ≡ If (type_of_node (node_seen n)) splits.items (node_seen m) (node_seen n) (node_seen p)) }
     ensures err { IfErr result (λ e. e ≡ CheckFault.NoMemory) }
 {
     Ok(Node {

@@ -178,12 +178,17 @@ fn judge_function(
     requires size { size (tree body.now) + 1 < 2 ^ 32 }
     requires ty { IsCountable (type_of ty.now) }
     requires types { WritesCountable (tree body.now) }
-    ensures ok { IfOk result (λ part. after (written ty_span (type_of ty.now)) (λ _. after (judged (map import_of imports.now) (record { name = name.now; ty = type_of ty.now } ∷ binders_of scope.now) (tree body.now)) (λ b. Ok (Fun (type_of ty.now) b))) ≡ Ok (type_of part.ty)) }
+    ensures ok { IfOk result (λ part. after (written ty_span (type_of ty.now)) (λ _.
+        after (judged (map import_of imports.now) (record { name = name.now; ty = type_of ty.now } ∷ binders_of scope.now)
+        (tree body.now)) (λ b. Ok (Fun (type_of ty.now) b))) ≡ Ok (type_of part.ty)) }
     ensures free { IfOk result (λ part. part.free.items ≡ without name.now (free (tree body.now))) }
     ensures countable { IfOk result (λ part. IsCountable (type_of part.ty)) }
-    ensures weight { IfOk result (λ part. part.weight ≡ weight_of (map import_of imports.now) (record { name = name.now; ty = type_of ty.now } ∷ binders_of scope.now) (tree body.now)) }
+    ensures weight { IfOk result (λ part. part.weight ≡ weight_of (map import_of imports.now)
+        (record { name = name.now; ty = type_of ty.now } ∷ binders_of scope.now) (tree body.now)) }
     ensures bound { IfOk result (λ part. part.weight ≤ 68 * size (tree body.now)) }
-    ensures err { IfErr result (λ e. Refuses (after (written ty_span (type_of ty.now)) (λ _. after (judged (map import_of imports.now) (record { name = name.now; ty = type_of ty.now } ∷ binders_of scope.now) (tree body.now)) (λ b. Ok (Fun (type_of ty.now) b)))) e) }
+    ensures err { IfErr result (λ e. Refuses (after (written ty_span (type_of ty.now)) (λ _.
+        after (judged (map import_of imports.now) (record { name = name.now; ty = type_of ty.now } ∷ binders_of scope.now)
+        (tree body.now)) (λ b. Ok (Fun (type_of ty.now) b)))) e) }
 {
     written(ty_span, ty)?;
     let inner = Scope::Binder {
@@ -215,12 +220,17 @@ fn judge_block(
     requires scope { BindCountable (binders_of scope.now) }
     requires size { size (tree body.now) + 1 < 2 ^ 32 }
     requires types { WritesCountable (tree body.now) }
-    ensures ok { IfOk result (λ part. after (written_width width_span width) (λ _. after (judged (map import_of imports.now) (record { name = name.now; ty = Var width } ∷ binders_of scope.now) (tree body.now)) (λ b. done (place_of (tree body.now)) b)) ≡ Ok (type_of part.ty)) }
+    ensures ok { IfOk result (λ part. after (written_width width_span width) (λ _.
+        after (judged (map import_of imports.now) (record { name = name.now; ty = Var width } ∷ binders_of scope.now)
+        (tree body.now)) (λ b. done (place_of (tree body.now)) b)) ≡ Ok (type_of part.ty)) }
     ensures free { IfOk result (λ part. part.free.items ≡ without name.now (free (tree body.now))) }
     ensures countable { IfOk result (λ part. IsCountable (type_of part.ty)) }
-    ensures weight { IfOk result (λ part. part.weight ≡ weight_of (map import_of imports.now) (record { name = name.now; ty = Var width } ∷ binders_of scope.now) (tree body.now)) }
+    ensures weight { IfOk result (λ part. part.weight ≡ weight_of (map import_of imports.now)
+        (record { name = name.now; ty = Var width } ∷ binders_of scope.now) (tree body.now)) }
     ensures bound { IfOk result (λ part. part.weight ≤ 68 * size (tree body.now)) }
-    ensures err { IfErr result (λ e. Refuses (after (written_width width_span width) (λ _. after (judged (map import_of imports.now) (record { name = name.now; ty = Var width } ∷ binders_of scope.now) (tree body.now)) (λ b. done (place_of (tree body.now)) b))) e) }
+    ensures err { IfErr result (λ e. Refuses (after (written_width width_span width) (λ _.
+        after (judged (map import_of imports.now) (record { name = name.now; ty = Var width } ∷ binders_of scope.now)
+        (tree body.now)) (λ b. done (place_of (tree body.now)) b))) e) }
 {
     written_width(width_span, width)?;
     let variable = Ty::Var(width);
@@ -250,12 +260,14 @@ fn judge_one(
     requires scope { BindCountable (binders_of scope.now) }
     requires size { size (tree m.now) + 1 < 2 ^ 32 }
     requires types { WritesCountable (tree m.now) }
-    ensures ok { IfOk result (λ part. after (judged (map import_of imports.now) (binders_of scope.now) (tree m.now)) (λ a. rule_of_one rule (place_of (tree m.now)) a) ≡ Ok (type_of part.ty)) }
+    ensures ok { IfOk result (λ part. after (judged (map import_of imports.now) (binders_of scope.now) (tree m.now)) (λ a.
+        rule_of_one rule (place_of (tree m.now)) a) ≡ Ok (type_of part.ty)) }
     ensures free { IfOk result (λ part. part.free.items ≡ free (tree m.now)) }
     ensures countable { IfOk result (λ part. IsCountable (type_of part.ty)) }
     ensures weight { IfOk result (λ part. part.weight ≡ weight_of (map import_of imports.now) (binders_of scope.now) (tree m.now)) }
     ensures bound { IfOk result (λ part. part.weight ≤ 68 * size (tree m.now)) }
-    ensures err { IfErr result (λ e. Refuses (after (judged (map import_of imports.now) (binders_of scope.now) (tree m.now)) (λ a. rule_of_one rule (place_of (tree m.now)) a)) e) }
+    ensures err { IfErr result (λ e. Refuses (after (judged (map import_of imports.now) (binders_of scope.now) (tree m.now)) (λ a.
+        rule_of_one rule (place_of (tree m.now)) a)) e) }
 {
     let part = judge(alloc, imports, scope, m)?;
     Ok(Judged {
@@ -280,12 +292,17 @@ fn judge_two(
     requires size { size (tree m.now) + size (tree n.now) + 1 < 2 ^ 32 }
     requires left { WritesCountable (tree m.now) }
     requires right { WritesCountable (tree n.now) }
-    ensures ok { IfOk result (λ part. of_two (judged (map import_of imports.now) (binders_of scope.now) (tree m.now)) (judged (map import_of imports.now) (binders_of scope.now) (tree n.now)) (λ a b. ruled rule (tree m.now) (tree n.now) a b) ≡ Ok (type_of part.ty)) }
+    ensures ok { IfOk result (λ part. of_two (judged (map import_of imports.now) (binders_of scope.now) (tree m.now))
+        (judged (map import_of imports.now) (binders_of scope.now) (tree n.now)) (λ a b.
+        ruled rule (tree m.now) (tree n.now) a b) ≡ Ok (type_of part.ty)) }
     ensures free { IfOk result (λ part. part.free.items ≡ joined (free (tree m.now)) (free (tree n.now))) }
     ensures countable { IfOk result (λ part. IsCountable (type_of part.ty)) }
-    ensures weight { IfOk result (λ part. part.weight ≡ weight_of (map import_of imports.now) (binders_of scope.now) (tree m.now) + weight_of (map import_of imports.now) (binders_of scope.now) (tree n.now)) }
+    ensures weight { IfOk result (λ part. part.weight ≡ weight_of (map import_of imports.now) (binders_of scope.now) (tree m.now)
+        + weight_of (map import_of imports.now) (binders_of scope.now) (tree n.now)) }
     ensures bound { IfOk result (λ part. part.weight ≤ 68 * (size (tree m.now) + size (tree n.now))) }
-    ensures err { IfErr result (λ e. Refuses (of_two (judged (map import_of imports.now) (binders_of scope.now) (tree m.now)) (judged (map import_of imports.now) (binders_of scope.now) (tree n.now)) (λ a b. ruled rule (tree m.now) (tree n.now) a b)) e) }
+    ensures err { IfErr result (λ e. Refuses (of_two (judged (map import_of imports.now) (binders_of scope.now) (tree m.now))
+        (judged (map import_of imports.now) (binders_of scope.now) (tree n.now)) (λ a b.
+        ruled rule (tree m.now) (tree n.now) a b)) e) }
 {
     let left = judge(alloc, imports, scope, m)?;
     let right = judge(alloc, imports, scope, n)?;
@@ -314,12 +331,20 @@ fn judge_choice(
     requires test { WritesCountable (tree m.now) }
     requires yes { WritesCountable (tree n.now) }
     requires no { WritesCountable (tree p.now) }
-    ensures ok { IfOk result (λ part. of_three (judged (map import_of imports.now) (binders_of scope.now) (tree m.now)) (judged (map import_of imports.now) (binders_of scope.now) (tree n.now)) (judged (map import_of imports.now) (binders_of scope.now) (tree p.now)) (λ a b c. choice (place_of (tree m.now)) a (place_of (tree n.now)) b (place_of (tree p.now)) c) ≡ Ok (type_of part.ty)) }
+    ensures ok { IfOk result (λ part. of_three (judged (map import_of imports.now) (binders_of scope.now) (tree m.now))
+        (judged (map import_of imports.now) (binders_of scope.now) (tree n.now))
+        (judged (map import_of imports.now) (binders_of scope.now) (tree p.now)) (λ a b c.
+        choice (place_of (tree m.now)) a (place_of (tree n.now)) b (place_of (tree p.now)) c) ≡ Ok (type_of part.ty)) }
     ensures free { IfOk result (λ part. part.free.items ≡ joined (joined (free (tree m.now)) (free (tree n.now))) (free (tree p.now))) }
     ensures countable { IfOk result (λ part. IsCountable (type_of part.ty)) }
-    ensures weight { IfOk result (λ part. part.weight ≡ weight_of (map import_of imports.now) (binders_of scope.now) (tree m.now) + weight_of (map import_of imports.now) (binders_of scope.now) (tree n.now) + weight_of (map import_of imports.now) (binders_of scope.now) (tree p.now)) }
+    ensures weight { IfOk result (λ part. part.weight ≡ weight_of (map import_of imports.now) (binders_of scope.now) (tree m.now)
+        + weight_of (map import_of imports.now) (binders_of scope.now) (tree n.now)
+        + weight_of (map import_of imports.now) (binders_of scope.now) (tree p.now)) }
     ensures bound { IfOk result (λ part. part.weight ≤ 68 * (size (tree m.now) + size (tree n.now) + size (tree p.now))) }
-    ensures err { IfErr result (λ e. Refuses (of_three (judged (map import_of imports.now) (binders_of scope.now) (tree m.now)) (judged (map import_of imports.now) (binders_of scope.now) (tree n.now)) (judged (map import_of imports.now) (binders_of scope.now) (tree p.now)) (λ a b c. choice (place_of (tree m.now)) a (place_of (tree n.now)) b (place_of (tree p.now)) c)) e) }
+    ensures err { IfErr result (λ e. Refuses (of_three (judged (map import_of imports.now) (binders_of scope.now) (tree m.now))
+        (judged (map import_of imports.now) (binders_of scope.now) (tree n.now))
+        (judged (map import_of imports.now) (binders_of scope.now) (tree p.now)) (λ a b c.
+        choice (place_of (tree m.now)) a (place_of (tree n.now)) b (place_of (tree p.now)) c)) e) }
 {
     let test = judge(alloc, imports, scope, m)?;
     let yes = judge(alloc, imports, scope, n)?;

@@ -26,6 +26,4 @@ mod numbering;
 mod opens;
 mod renaming;
 mod scope;
-#[cfg(test)]
-mod tests;
 mod written;

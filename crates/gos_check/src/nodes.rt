@@ -6,8 +6,8 @@ ghost use Rattle.std.specs.Prelude.{◌≡◌, [], IfOk, IfErr};
 ghost use Rattle.gos_types.specs.Types.{type_of, Pair};
 ghost use Rattle.gos_model.specs.Weight.{after_fun, left_of, right_of, read_of, op_type};
 ghost use Rattle.gos_model.specs.Sources.{op_of};
-ghost use Rattle.gos_check.specs.Nodes.{One, Two, node_seen};
-ghost use Rattle.gos_check.specs.inner.Numbering.{one_form, two_form, one_type, two_type, type_in};
+ghost use Rattle.gos_check.specs.Nodes.{One, Two, node_seen, type_of_node};
+ghost use Rattle.gos_check.specs.inner.Numbering.{one_form, two_form, one_type, two_type};
 
 use crate::demands::result_width;
 use crate::fault::CheckFault;
@@ -19,9 +19,9 @@ use std::alloc::Global;
 
 impl OnePart {
     // The node of this form.
-    #[tactic(auto, using(crate::proofs::TypeInLemmas::type_seen))]
+    #[tactic(auto, using(crate::proofs::NodeTypeLemmas::type_seen))]
     pub fn node(self, alloc: Global, m: Node) -> Result<Node, CheckFault>
-        ensures ok { IfOk result (λ node. node_seen node ≡ One (one_type (one_form self) (type_in (node_seen m))) [] (one_form self) (node_seen m)) }
+        ensures ok { IfOk result (λ node. node_seen node ≡ One (one_type (one_form self) (type_of_node (node_seen m))) [] (one_form self) (node_seen m)) }
         ensures err { IfErr result (λ e. e ≡ CheckFault.NoMemory) }
     {
         let ty = self.node_type(alloc, &m.ty)?;
@@ -54,7 +54,7 @@ impl OnePart {
 
 impl TwoParts {
     // The node of this form, with splits.
-    #[tactic(auto, using(crate::proofs::TypeInLemmas::type_seen))]
+    #[tactic(auto, using(crate::proofs::NodeTypeLemmas::type_seen))]
     pub fn node(
         self,
         alloc: Global,
@@ -62,7 +62,8 @@ impl TwoParts {
         m: Node,
         n: Node,
     ) -> Result<Node, CheckFault>
-        ensures ok { IfOk result (λ node. node_seen node ≡ Two (two_type (two_form self) (type_in (node_seen m)) (type_in (node_seen n))) splits.items (two_form self) (node_seen m) (node_seen n)) }
+        ensures ok { IfOk result (λ node. node_seen node ≡ Two (two_type (two_form self) (type_of_node (node_seen m))
+            (type_of_node (node_seen n))) splits.items (two_form self) (node_seen m) (node_seen n)) }
         ensures err { IfErr result (λ e. e ≡ CheckFault.NoMemory) }
     {
         let ty = self.node_type(alloc, &m.ty, &n.ty)?;

@@ -14,7 +14,20 @@ ghost use Rattle.gos_check.specs.Scopes.{type_at};
 ghost use Rattle.gos_check.specs.inner.Seen.{binders_of};
 ghost use Rattle.gos_check.specs.inner.Walked.{tree};
 ghost use Rattle.gos_check.specs.Nodes.{OfFun, OfNew, node_seen};
-ghost use Rattle.gos_check.specs.inner.Numbering.{one_form, two_form, closed_result, use_result, binder_result, one_result, two_result, choice_result, inner_next, numbered, import_number, placed};
+ghost use Rattle.gos_check.specs.inner.Numbering.{
+  one_form,
+  two_form,
+  closed_result,
+  use_result,
+  binder_result,
+  one_result,
+  two_result,
+  choice_result,
+  inner_next,
+  numbered,
+  import_number,
+  placed,
+};
 
 use crate::fault::CheckFault;
 use crate::forms::{OnePart, TwoParts};
@@ -39,7 +52,9 @@ pub(crate) struct NumberedTerm {
 // The typed term of a module's body.
 pub(crate) fn number_module(alloc: Global, program: &Module) -> Result<Node, CheckFault>
     requires { length program.now.imports + 2 * size (tree program.now.body) < 2 ^ 32 }
-    ensures ok { IfOk result (λ node. node_seen node ≡ placed program.now.imports (numbered (map import_of program.now.imports) [] (length program.now.imports) (tree program.now.body)).names (numbered (map import_of program.now.imports) [] (length program.now.imports) (tree program.now.body)).node) }
+    ensures ok { IfOk result (λ node. node_seen node ≡ placed program.now.imports
+        (numbered (map import_of program.now.imports) [] (length program.now.imports) (tree program.now.body)).names
+        (numbered (map import_of program.now.imports) [] (length program.now.imports) (tree program.now.body)).node) }
     ensures err { IfErr result (λ e. e ≡ CheckFault.NoMemory) }
 {
     let imports = program.imports.as_slice();
@@ -157,8 +172,12 @@ fn number_name(
     name: &Name,
 ) -> Result<NumberedTerm, CheckFault>
     requires { next + 2 < 2 ^ 32 }
-    ensures node { IfOk result (λ r. node_seen r.node ≡ (use_result (or_com (type_at (map import_of imports.now) (binders_of scope.now) name.now)) name.now next).node) }
-    ensures names { IfOk result (λ r. r.names.items ≡ (use_result (or_com (type_at (map import_of imports.now) (binders_of scope.now) name.now)) name.now next).names) }
+    ensures node { IfOk result (λ r.
+        node_seen r.node ≡ (use_result (or_com (type_at (map import_of imports.now) (binders_of scope.now)
+        name.now)) name.now next).node) }
+    ensures names { IfOk result (λ r.
+        r.names.items ≡ (use_result (or_com (type_at (map import_of imports.now) (binders_of scope.now)
+        name.now)) name.now next).names) }
     ensures next { IfOk result (λ r. r.next ≡ (use_result (or_com (type_at (map import_of imports.now) (binders_of scope.now) name.now)) name.now next).next) }
     ensures room { IfOk result (λ r. r.next + length r.names.items ≤ next + 2) }
     ensures err { IfErr result (λ e. e ≡ CheckFault.NoMemory) }
@@ -195,9 +214,15 @@ fn number_function(
     body: &Term,
 ) -> Result<NumberedTerm, CheckFault>
     requires { next + 2 * size (tree body.now) + 2 < 2 ^ 32 }
-    ensures node { IfOk result (λ r. node_seen r.node ≡ (binder_result OfFun name.now (type_of ty.now) (numbered (map import_of imports.now) (record { name = name.now; ty = type_of ty.now } ∷ binders_of scope.now) next (tree body.now))).node) }
-    ensures names { IfOk result (λ r. r.names.items ≡ (binder_result OfFun name.now (type_of ty.now) (numbered (map import_of imports.now) (record { name = name.now; ty = type_of ty.now } ∷ binders_of scope.now) next (tree body.now))).names) }
-    ensures next { IfOk result (λ r. r.next ≡ (binder_result OfFun name.now (type_of ty.now) (numbered (map import_of imports.now) (record { name = name.now; ty = type_of ty.now } ∷ binders_of scope.now) next (tree body.now))).next) }
+    ensures node { IfOk result (λ r. node_seen r.node ≡ (binder_result OfFun name.now (type_of ty.now)
+        (numbered (map import_of imports.now) (record { name = name.now; ty = type_of ty.now } ∷ binders_of scope.now)
+        next (tree body.now))).node) }
+    ensures names { IfOk result (λ r. r.names.items ≡ (binder_result OfFun name.now (type_of ty.now)
+        (numbered (map import_of imports.now) (record { name = name.now; ty = type_of ty.now } ∷ binders_of scope.now) next
+        (tree body.now))).names) }
+    ensures next { IfOk result (λ r. r.next ≡ (binder_result OfFun name.now (type_of ty.now)
+        (numbered (map import_of imports.now) (record { name = name.now; ty = type_of ty.now } ∷ binders_of scope.now)
+        next (tree body.now))).next) }
     ensures room { IfOk result (λ r. r.next + length r.names.items ≤ next + 2 * size (tree body.now) + 1) }
     ensures err { IfErr result (λ e. e ≡ CheckFault.NoMemory) }
 {
@@ -222,9 +247,15 @@ fn number_block(
     body: &Term,
 ) -> Result<NumberedTerm, CheckFault>
     requires { next + 2 * size (tree body.now) + 2 < 2 ^ 32 }
-    ensures node { IfOk result (λ r. node_seen r.node ≡ (binder_result (OfNew width) name.now (Var width) (numbered (map import_of imports.now) (record { name = name.now; ty = Var width } ∷ binders_of scope.now) next (tree body.now))).node) }
-    ensures names { IfOk result (λ r. r.names.items ≡ (binder_result (OfNew width) name.now (Var width) (numbered (map import_of imports.now) (record { name = name.now; ty = Var width } ∷ binders_of scope.now) next (tree body.now))).names) }
-    ensures next { IfOk result (λ r. r.next ≡ (binder_result (OfNew width) name.now (Var width) (numbered (map import_of imports.now) (record { name = name.now; ty = Var width } ∷ binders_of scope.now) next (tree body.now))).next) }
+    ensures node { IfOk result (λ r. node_seen r.node ≡ (binder_result (OfNew width) name.now (Var width)
+        (numbered (map import_of imports.now) (record { name = name.now; ty = Var width } ∷ binders_of scope.now)
+        next (tree body.now))).node) }
+    ensures names { IfOk result (λ r. r.names.items ≡ (binder_result (OfNew width) name.now (Var width)
+        (numbered (map import_of imports.now) (record { name = name.now; ty = Var width } ∷ binders_of scope.now) next
+        (tree body.now))).names) }
+    ensures next { IfOk result (λ r. r.next ≡ (binder_result (OfNew width) name.now (Var width)
+        (numbered (map import_of imports.now) (record { name = name.now; ty = Var width } ∷ binders_of scope.now)
+        next (tree body.now))).next) }
     ensures room { IfOk result (λ r. r.next + length r.names.items ≤ next + 2 * size (tree body.now) + 1) }
     ensures err { IfErr result (λ e. e ≡ CheckFault.NoMemory) }
 {
@@ -249,9 +280,12 @@ fn number_one(
     m: &Term,
 ) -> Result<NumberedTerm, CheckFault>
     requires { next + 2 * size (tree m.now) < 2 ^ 32 }
-    ensures node { IfOk result (λ r. node_seen r.node ≡ (one_result (one_form rule) (numbered (map import_of imports.now) (binders_of scope.now) next (tree m.now))).node) }
-    ensures names { IfOk result (λ r. r.names.items ≡ (one_result (one_form rule) (numbered (map import_of imports.now) (binders_of scope.now) next (tree m.now))).names) }
-    ensures next { IfOk result (λ r. r.next ≡ (one_result (one_form rule) (numbered (map import_of imports.now) (binders_of scope.now) next (tree m.now))).next) }
+    ensures node { IfOk result (λ r. node_seen r.node ≡ (one_result (one_form rule)
+        (numbered (map import_of imports.now) (binders_of scope.now) next (tree m.now))).node) }
+    ensures names { IfOk result (λ r. r.names.items ≡ (one_result (one_form rule)
+        (numbered (map import_of imports.now) (binders_of scope.now) next (tree m.now))).names) }
+    ensures next { IfOk result (λ r. r.next ≡ (one_result (one_form rule)
+        (numbered (map import_of imports.now) (binders_of scope.now) next (tree m.now))).next) }
     ensures room { IfOk result (λ r. r.next + length r.names.items ≤ next + 2 * size (tree m.now)) }
     ensures err { IfErr result (λ e. e ≡ CheckFault.NoMemory) }
 {
@@ -271,9 +305,18 @@ fn number_two(
     n: &Term,
 ) -> Result<NumberedTerm, CheckFault>
     requires { next + 2 * (size (tree m.now) + size (tree n.now)) < 2 ^ 32 }
-    ensures node { IfOk result (λ r. node_seen r.node ≡ (two_result (two_form rule) (numbered (map import_of imports.now) (binders_of scope.now) next (tree m.now)) (numbered (map import_of imports.now) (binders_of scope.now) (numbered (map import_of imports.now) (binders_of scope.now) next (tree m.now)).next (tree n.now))).node) }
-    ensures names { IfOk result (λ r. r.names.items ≡ (two_result (two_form rule) (numbered (map import_of imports.now) (binders_of scope.now) next (tree m.now)) (numbered (map import_of imports.now) (binders_of scope.now) (numbered (map import_of imports.now) (binders_of scope.now) next (tree m.now)).next (tree n.now))).names) }
-    ensures next { IfOk result (λ r. r.next ≡ (two_result (two_form rule) (numbered (map import_of imports.now) (binders_of scope.now) next (tree m.now)) (numbered (map import_of imports.now) (binders_of scope.now) (numbered (map import_of imports.now) (binders_of scope.now) next (tree m.now)).next (tree n.now))).next) }
+    ensures node { IfOk result (λ r. node_seen r.node ≡ (two_result (two_form rule)
+        (numbered (map import_of imports.now) (binders_of scope.now) next (tree m.now))
+        (numbered (map import_of imports.now) (binders_of scope.now)
+        (numbered (map import_of imports.now) (binders_of scope.now) next (tree m.now)).next (tree n.now))).node) }
+    ensures names { IfOk result (λ r. r.names.items ≡ (two_result (two_form rule)
+        (numbered (map import_of imports.now) (binders_of scope.now) next (tree m.now))
+        (numbered (map import_of imports.now) (binders_of scope.now)
+        (numbered (map import_of imports.now) (binders_of scope.now) next (tree m.now)).next (tree n.now))).names) }
+    ensures next { IfOk result (λ r. r.next ≡ (two_result (two_form rule)
+        (numbered (map import_of imports.now) (binders_of scope.now) next (tree m.now))
+        (numbered (map import_of imports.now) (binders_of scope.now)
+        (numbered (map import_of imports.now) (binders_of scope.now) next (tree m.now)).next (tree n.now))).next) }
     ensures room { IfOk result (λ r. r.next + length r.names.items ≤ next + 2 * (size (tree m.now) + size (tree n.now))) }
     ensures err { IfErr result (λ e. e ≡ CheckFault.NoMemory) }
 {
@@ -294,9 +337,28 @@ fn number_choice(
     p: &Term,
 ) -> Result<NumberedTerm, CheckFault>
     requires { next + 2 * (size (tree m.now) + size (tree n.now) + size (tree p.now)) < 2 ^ 32 }
-    ensures node { IfOk result (λ r. node_seen r.node ≡ (choice_result (numbered (map import_of imports.now) (binders_of scope.now) next (tree m.now)) (numbered (map import_of imports.now) (binders_of scope.now) (numbered (map import_of imports.now) (binders_of scope.now) next (tree m.now)).next (tree n.now)) (numbered (map import_of imports.now) (binders_of scope.now) (inner_next (numbered (map import_of imports.now) (binders_of scope.now) next (tree m.now)) (numbered (map import_of imports.now) (binders_of scope.now) (numbered (map import_of imports.now) (binders_of scope.now) next (tree m.now)).next (tree n.now))) (tree p.now))).node) }
-    ensures names { IfOk result (λ r. r.names.items ≡ (choice_result (numbered (map import_of imports.now) (binders_of scope.now) next (tree m.now)) (numbered (map import_of imports.now) (binders_of scope.now) (numbered (map import_of imports.now) (binders_of scope.now) next (tree m.now)).next (tree n.now)) (numbered (map import_of imports.now) (binders_of scope.now) (inner_next (numbered (map import_of imports.now) (binders_of scope.now) next (tree m.now)) (numbered (map import_of imports.now) (binders_of scope.now) (numbered (map import_of imports.now) (binders_of scope.now) next (tree m.now)).next (tree n.now))) (tree p.now))).names) }
-    ensures next { IfOk result (λ r. r.next ≡ (choice_result (numbered (map import_of imports.now) (binders_of scope.now) next (tree m.now)) (numbered (map import_of imports.now) (binders_of scope.now) (numbered (map import_of imports.now) (binders_of scope.now) next (tree m.now)).next (tree n.now)) (numbered (map import_of imports.now) (binders_of scope.now) (inner_next (numbered (map import_of imports.now) (binders_of scope.now) next (tree m.now)) (numbered (map import_of imports.now) (binders_of scope.now) (numbered (map import_of imports.now) (binders_of scope.now) next (tree m.now)).next (tree n.now))) (tree p.now))).next) }
+    ensures node { IfOk result (λ r. node_seen r.node ≡ (choice_result
+        (numbered (map import_of imports.now) (binders_of scope.now) next (tree m.now))
+        (numbered (map import_of imports.now) (binders_of scope.now)
+        (numbered (map import_of imports.now) (binders_of scope.now) next (tree m.now)).next (tree n.now))
+        (numbered (map import_of imports.now) (binders_of scope.now)
+        (inner_next (numbered (map import_of imports.now) (binders_of scope.now) next (tree m.now))
+        (numbered (map import_of imports.now) (binders_of scope.now)
+        (numbered (map import_of imports.now) (binders_of scope.now) next (tree m.now)).next (tree n.now))) (tree p.now))).node) }
+    ensures names { IfOk result (λ r. r.names.items ≡ (choice_result (numbered (map import_of imports.now) (binders_of scope.now)
+        next (tree m.now)) (numbered (map import_of imports.now) (binders_of scope.now)
+        (numbered (map import_of imports.now) (binders_of scope.now) next (tree m.now)).next (tree n.now))
+        (numbered (map import_of imports.now) (binders_of scope.now)
+        (inner_next (numbered (map import_of imports.now) (binders_of scope.now) next (tree m.now))
+        (numbered (map import_of imports.now) (binders_of scope.now)
+        (numbered (map import_of imports.now) (binders_of scope.now) next (tree m.now)).next (tree n.now))) (tree p.now))).names) }
+    ensures next { IfOk result (λ r. r.next ≡ (choice_result (numbered (map import_of imports.now) (binders_of scope.now) next
+        (tree m.now)) (numbered (map import_of imports.now) (binders_of scope.now)
+        (numbered (map import_of imports.now) (binders_of scope.now) next (tree m.now)).next (tree n.now))
+        (numbered (map import_of imports.now) (binders_of scope.now)
+        (inner_next (numbered (map import_of imports.now) (binders_of scope.now) next (tree m.now))
+        (numbered (map import_of imports.now) (binders_of scope.now)
+        (numbered (map import_of imports.now) (binders_of scope.now) next (tree m.now)).next (tree n.now))) (tree p.now))).next) }
     ensures room { IfOk result (λ r. r.next + length r.names.items ≤ next + 2 * (size (tree m.now) + size (tree n.now) + size (tree p.now))) }
     ensures err { IfErr result (λ e. e ≡ CheckFault.NoMemory) }
 {

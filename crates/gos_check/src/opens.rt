@@ -1,7 +1,18 @@
 // The free names of a term, with the numbers that they have there.
 
 ghost use Rattle.std.specs.Prelude.{◌≡◌, ◌+◌, ◌++◌, ◌∷◌, [], ◌^◌, ◌<◌, ◌≤◌, length, IfOk, IfErr};
-ghost use Rattle.gos_check.specs.inner.Opens.{number_in, others, next_if, outside, split_of, merged_splits, merged_names, merged_next, binder_number, binder_next};
+ghost use Rattle.gos_check.specs.inner.Opens.{
+  number_in,
+  others,
+  next_if,
+  outside,
+  split_of,
+  merged_splits,
+  merged_names,
+  merged_next,
+  binder_number,
+  binder_next,
+};
 
 use crate::fault::CheckFault;
 use crate::linear::Split;

@@ -25,7 +25,8 @@ pub(crate) enum Scope<'a> {
 impl<'a> Scope<'a> {
     // The type of a name: of its innermost binder, or else of the import.
     pub fn find(&self, imports: &'a [Import], name: &Name) -> Option<&'a Ty>
-        ensures { MatchOption result (type_at (map import_of imports.now) (binders_of self.now) name.now ≡ None) (λ ty. type_at (map import_of imports.now) (binders_of self.now) name.now ≡ Some (type_of ty.now)) }
+        ensures { MatchOption result (type_at (map import_of imports.now) (binders_of self.now) name.now ≡ None) (λ ty.
+            type_at (map import_of imports.now) (binders_of self.now) name.now ≡ Some (type_of ty.now)) }
     {
         match self {
             Scope::Outermost => find_import(imports, name),
@@ -46,7 +47,8 @@ impl<'a> Scope<'a> {
 
 // The type of the first import of a name.
 fn find_import<'a>(imports: &'a [Import], name: &Name) -> Option<&'a Ty>
-    ensures { MatchOption result (import_type (map import_of imports.now) name.now ≡ None) (λ ty. import_type (map import_of imports.now) name.now ≡ Some (type_of ty.now)) }
+    ensures { MatchOption result (import_type (map import_of imports.now) name.now ≡ None) (λ ty.
+        import_type (map import_of imports.now) name.now ≡ Some (type_of ty.now)) }
 {
     for import in imports {
         if import.name == *name {

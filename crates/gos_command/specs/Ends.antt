@@ -5,6 +5,8 @@ use Rattle.std.specs.Prelude.{◌≡◌, ◌≢◌, ◌⊎◌, ℕ, List}
 use Rattle.gos_lex.specs.declared.fault.LexFault.TheVariants as lex
 use Rattle.gos_syntax.specs.declared.fault.SyntaxFault.TheVariants as syntax
 use Rattle.gos_check.specs.declared.fault.CheckFault.TheVariants as check
+use Rattle.gos_plan.specs.declared.fault.ObjectFault.TheVariants as object
+use Rattle.gos_link.specs.declared.fault.LinkFault.TheVariants as link
 use Rattle.gos_netlist.specs.declared.fault.NetTextFault.TheVariants as text
 use Rattle.gos_netcheck.specs.declared.fault.NetFault.TheVariants as net
 use Rattle.gos_pulse.specs.declared.fault.PulseFault.TheVariants as pulse
@@ -32,6 +34,8 @@ IsRealCause causes.NotBuilt = Unit {0}
 IsRealCause (causes.Lex fault) = fault ≢ lex.NoMemory
 IsRealCause (causes.Syntax fault) = fault ≢ syntax.NoMemory
 IsRealCause (causes.Check fault) = fault ≢ check.NoMemory
+IsRealCause (causes.Object fault) = fault ≢ object.NoMemory
+IsRealCause (causes.Link fault) = fault ≢ link.NoMemory
 IsRealCause (causes.Net fault) = fault ≢ text.NoMemory
 IsRealCause (causes.Refused fault) = fault ≢ net.NoMemory
 IsRealCause (causes.Pulse fault) = fault ≢ pulse.NoMemory

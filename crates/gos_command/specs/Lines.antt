@@ -15,6 +15,10 @@ use Rattle.gos_check.specs.declared.fault.Want.{Want}
 use Rattle.gos_check.specs.declared.fault.Want.TheVariants as wants
 use Rattle.gos_check.specs.declared.fault.CheckFault.{CheckFault}
 use Rattle.gos_check.specs.declared.fault.CheckFault.TheVariants as check
+use Rattle.gos_plan.specs.declared.fault.ObjectFault.{ObjectFault}
+use Rattle.gos_plan.specs.declared.fault.ObjectFault.TheVariants as object
+use Rattle.gos_link.specs.declared.fault.LinkFault.{LinkFault}
+use Rattle.gos_link.specs.declared.fault.LinkFault.TheVariants as link
 use Rattle.gos_netlist.specs.declared.fault.NetTextFault.{NetTextFault}
 use Rattle.gos_netlist.specs.declared.fault.NetTextFault.TheVariants as text
 use Rattle.gos_netlist.specs.Nets.{Netlist}
@@ -82,6 +86,35 @@ check_text (check.Repeated name first second) = twice_text (codes "C8 ") name fi
 check_text (check.TooHeavy weight) = counted (codes "C9 weight ") weight
 check_text check.NoMemory = []
 
+abbrev pub object_text : ObjectFault → List ℕ
+object_text (object.Form at) = counted (codes "O1 at ") at
+object_text (object.Joint index) = counted (codes "O2 joint ") index
+object_text (object.Limit at) = counted (codes "O3 limit at ") at
+object_text object.NoMemory = []
+
+-- a line of a build file with a name, and two lines
+abbrev pub named_text : List ℕ → ℕ → Word → List ℕ
+named_text word line name = counted word line ++ codes " " ++ name
+
+abbrev pub lines_text : List ℕ → ℕ → ℕ → List ℕ
+lines_text word first second = counted word first ++ counted (codes " and ") second
+
+abbrev pub link_text : LinkFault → List ℕ
+link_text (link.Form line) = counted (codes "B1 line ") line
+link_text (link.NoInstance line name) = named_text (codes "B2 line ") line name
+link_text (link.NoImport line name) = named_text (codes "B3 line ") line name
+link_text (link.TypeDiffers line want got) =
+    counted (codes "B4 line ") line ++ codes " want " ++ type_text (type_of want) ++ codes " got " ++ type_text (type_of got)
+link_text (link.BoundTwice first second) = lines_text (codes "B5 lines ") first second
+link_text (link.UsedTwice first second) = lines_text (codes "B6 lines ") first second
+link_text (link.Loop line) = counted (codes "B7 line ") line
+link_text (link.Unplaced name) = codes "B8 " ++ name
+link_text (link.OpenTwice name first second) = codes "B9 " ++ name ++ codes " in " ++ first ++ codes " and " ++ second
+link_text (link.NotGround name) = codes "B10 " ++ name
+link_text (link.TooHeavy weight) = counted (codes "B11 weight ") weight
+link_text (link.TooLarge size ports) = counted (codes "B12 size ") size ++ counted (codes " ports ") ports
+link_text link.NoMemory = []
+
 abbrev pub net_text : NetTextFault → List ℕ
 net_text (text.Form at) = counted (codes "N1 at ") at
 net_text (text.Limit at) = counted (codes "N2 limit at ") at
@@ -114,6 +147,8 @@ cause_text of causes.NotBuilt = codes "not built"
 cause_text of (causes.Lex fault) = lex_text fault
 cause_text of (causes.Syntax fault) = syntax_text fault
 cause_text of (causes.Check fault) = check_text fault
+cause_text of (causes.Object fault) = object_text fault
+cause_text of (causes.Link fault) = link_text fault
 cause_text of (causes.Net fault) = net_text fault
 cause_text of (causes.Refused fault) = refusal_text fault
 cause_text of (causes.Pulse fault) = pulse_text of fault

@@ -50,7 +50,8 @@ fn unbound_text(alloc: Global, name: &[u8], span: Span) -> Result<Vec<u8>, NoMem
 }
 
 fn differs_text(alloc: Global, span: Span, want: &Want, got: &Ty) -> Result<Vec<u8>, NoMemory>
-    ensures { IfOk result (λ text. text.items ≡ codes "C2 at " ++ span_text span ++ codes " want " ++ want_text want.now ++ codes " got " ++ type_text (type_of got.now)) }
+    ensures { IfOk result (λ text. text.items ≡ codes "C2 at " ++ span_text span ++ codes " want " ++ want_text want.now
+        ++ codes " got " ++ type_text (type_of got.now)) }
 {
     let wanted = want_text(alloc, want)?;
     let found = print_ty(alloc, got)?;

@@ -16,6 +16,7 @@ use std::alloc::Global;
 pub fn finish<O: Sink>(alloc: Global, ended: Result<Report, Stop>, out: &mut O) -> Status
     ensures finishes { Finishes ended result (O.written out.old) (O.written out.new) }
     ensures failed { result ≡ Status.SinkFailed → Rose (O.faults out.old) (O.faults out.new) }
+    ensures same_count { result ≢ Status.SinkFailed → O.faults out.new ≡ O.faults out.old }
 {
     match ended {
         Ok(report) => report_done(alloc, report, out),
@@ -31,6 +32,7 @@ pub fn finish<O: Sink>(alloc: Global, ended: Result<Report, Stop>, out: &mut O) 
 fn report_done<O: Sink>(alloc: Global, report: Report, out: &mut O) -> Status
     ensures said { Says (report_line report) Status.Done result (O.written out.old) (O.written out.new) }
     ensures failed { result ≡ Status.SinkFailed → Rose (O.faults out.old) (O.faults out.new) }
+    ensures same_count { result ≢ Status.SinkFailed → O.faults out.new ≡ O.faults out.old }
 {
     match report_text(alloc, report) {
         Ok(line) => say(alloc, line.as_slice(), Status::Done, out),
@@ -44,6 +46,7 @@ pub fn say<O: Sink>(alloc: Global, line: &[u8], status: Status, out: &mut O) -> 
     requires memory { status ≢ Status.NoMemory }
     ensures said { Says line.now status result (O.written out.old) (O.written out.new) }
     ensures failed { result ≡ Status.SinkFailed → Rose (O.faults out.old) (O.faults out.new) }
+    ensures same_count { result ≢ Status.SinkFailed → O.faults out.new ≡ O.faults out.old }
 {
     match out.write(alloc, line) {
         Ok(()) => status,

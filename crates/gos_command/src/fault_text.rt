@@ -4,19 +4,22 @@ ghost use Rattle.std.specs.Prelude.{◌≡◌, ◌≢◌, ◌++◌, codes, map, 
 ghost use Rattle.std.specs.Option.{option_copied};
 ghost use Rattle.gos_lex.specs.declared.fault.LexFault.TheVariants as lex;
 ghost use Rattle.gos_syntax.specs.declared.fault.SyntaxFault.TheVariants as syntax;
+ghost use Rattle.gos_plan.specs.declared.fault.ObjectFault.TheVariants as object;
 ghost use Rattle.gos_netlist.specs.declared.fault.NetTextFault.TheVariants as text;
 ghost use Rattle.gos_netlist.specs.NetText.{spaced};
 ghost use Rattle.gos_netlist.specs.Seen.{number_of};
 ghost use Rattle.gos_netcheck.specs.declared.fault.NetFault.TheVariants as net;
 ghost use Rattle.gos_pulse.specs.declared.fault.PulseFault.TheVariants as pulse;
 ghost use Rattle.gos_command.specs.Ends.{IsRealCause};
-ghost use Rattle.gos_command.specs.Lines.{counted, lex_text, syntax_text, net_text, refusal_text, event_name, pulse_text, cause_text, fault_line};
+ghost use Rattle.gos_command.specs.Lines.{counted, lex_text, syntax_text, object_text, net_text, refusal_text, event_name, pulse_text, cause_text, fault_line};
 
 use crate::check_text::check_text;
+use crate::link_text::link_text;
 use crate::status::Cause;
 use gos_lex::LexFault;
 use gos_netcheck::NetFault;
 use gos_netlist::{NetId, NetTextFault, Netlist};
+use gos_plan::ObjectFault;
 use gos_pulse::{PulseFault, name_of_number};
 use gos_syntax::SyntaxFault;
 use gos_types::NoMemory;
@@ -50,6 +53,8 @@ fn cause_text(alloc: Global, cause: &Cause, net: Option<&Netlist>) -> Result<Vec
         Cause::Lex(fault) => lex_text(alloc, fault),
         Cause::Syntax(fault) => syntax_text(alloc, fault),
         Cause::Check(fault) => check_text(alloc, fault),
+        Cause::Object(fault) => object_text(alloc, fault),
+        Cause::Link(fault) => link_text(alloc, fault),
         Cause::Net(fault) => net_text(alloc, fault),
         Cause::Refused(fault) => refusal_text(alloc, fault),
         Cause::Pulse(fault) => pulse_text(alloc, fault, net),
@@ -78,6 +83,18 @@ fn syntax_text(alloc: Global, fault: &SyntaxFault) -> Result<Vec<u8>, NoMemory>
         SyntaxFault::Depth { at } => counted(alloc, b"S2 depth at ", *at as u64),
         SyntaxFault::TooManyImports { at } => counted(alloc, b"S3 imports at ", *at as u64),
         SyntaxFault::NoMemory => Err(NoMemory),
+    }
+}
+
+fn object_text(alloc: Global, fault: &ObjectFault) -> Result<Vec<u8>, NoMemory>
+    ensures cause { IfOk result (λ _. fault.now ≢ object.NoMemory) }
+    ensures text { IfOk result (λ text. text.items ≡ object_text fault.now) }
+{
+    match fault {
+        ObjectFault::Form { at } => counted(alloc, b"O1 at ", *at as u64),
+        ObjectFault::Joint { index } => counted(alloc, b"O2 joint ", *index as u64),
+        ObjectFault::Limit { at } => counted(alloc, b"O3 limit at ", *at as u64),
+        ObjectFault::NoMemory => Err(NoMemory),
     }
 }
 

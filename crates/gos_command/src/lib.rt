@@ -6,7 +6,7 @@
 #![tactic(auto)]
 
 pub use ending::{finish, say};
-pub use files::{FileName, read_file, read_start, write_file};
+pub use files::{read_file, read_start, write_file};
 pub use report::{Counts, Report};
 pub use status::{Cause, Fault, Status};
 pub use stop::{Rejection, Stop, reject};
@@ -15,6 +15,7 @@ mod check_text;
 mod ending;
 mod fault_text;
 mod files;
+mod link_text;
 mod report;
 mod status;
 mod stop;

@@ -3,11 +3,12 @@
 ghost use Rattle.std.specs.Prelude.{◌≡◌};
 ghost use Rattle.gos_command.specs.Ends.{code_of};
 
-use crate::files::FileName;
 use gos_check::CheckFault;
 use gos_lex::LexFault;
+use gos_link::{FileName, LinkFault};
 use gos_netcheck::NetFault;
 use gos_netlist::NetTextFault;
+use gos_plan::ObjectFault;
 use gos_pulse::PulseFault;
 use gos_syntax::SyntaxFault;
 
@@ -22,6 +23,10 @@ pub enum Cause {
     Syntax(SyntaxFault),
     /// The module is not typed, or passes a limit.
     Check(CheckFault),
+    /// The object file is no plan.
+    Object(ObjectFault),
+    /// The build file is none, or its instances are not linked.
+    Link(LinkFault),
     /// The netlist file is no netlist.
     Net(NetTextFault),
     /// The netlist is not accepted.

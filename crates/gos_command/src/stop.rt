@@ -7,8 +7,8 @@ ghost use Rattle.gos_command.specs.Ends.{IfStopped, IsRealCause, IsTold};
 ghost use Rattle.gos_command.specs.Lines.{fault_line};
 
 use crate::fault_text::fault_text;
-use crate::files::FileName;
 use crate::status::{Cause, Fault};
+use gos_link::FileName;
 use gos_netlist::Netlist;
 use gos_types::NoMemory;
 use std::alloc::{AllocError, Global};
@@ -59,7 +59,8 @@ impl From<NoMemory> for Stop {
 /// event in the line is one of the netlist, where one is given.
 pub fn reject(alloc: Global, file: &[u8], cause: Cause, net: Option<&Netlist>) -> Stop
     requires { IsFileName file.now }
-    ensures stopped { IfStopped result (λ fault line. (fault ≡ record { file = file.now; cause = cause }) × IsRealCause cause × (line ≡ fault_line (option_copied net.entry) fault)) }
+    ensures stopped { IfStopped result (λ fault line. (fault ≡ record { file = file.now; cause = cause }) × IsRealCause cause
+        × (line ≡ fault_line (option_copied net.entry) fault)) }
     ensures told { IfStopped result IsTold }
     ensures no_store { result ≢ Stop.StoreFailed }
 {

@@ -1,8 +1,8 @@
 -- Points of different numbers differ, and paths of ties are chains of bonds.
-use Rattle.std.specs.Prelude.{◌≡◌, ◌≢◌, ℕ, zero, suc, ◌+◌, ◌*◌, ◌/◌, ◌<◌, List, [], ◌∷◌, drop, map, Some, slice_get}
+use Rattle.std.specs.Prelude.{◌≡◌, ◌≢◌, ℕ, zero, suc, ◌+◌, ◌*◌, ◌/◌, ◌^◌, ◌<◌, ◌≤◌, List, [], ◌∷◌, drop, map, Some, slice_get}
 use Rattle.std.proofs.Common.{refl, ap, sym, ◌∙◌, subst, arith, inl, inr}
 use Rattle.std.proofs.Math.Nat.{mul_comm}
-use Rattle.std.proofs.lemmas.Nat.{div-mul-add}
+use Rattle.std.proofs.lemmas.Nat.{div-mul-add, mul-le}
 use Rattle.gos_check.proofs.TimesLemmas.{number_cases}
 use Rattle.gos_compile.specs.declared.points.Place.{Place}
 use Rattle.gos_compile.specs.declared.points.Place.TheVariants as places
@@ -126,3 +126,7 @@ leads_path stride ts s a tied x y e (goes _ z _ j l) =
     let (c, is, tied_c, meet) = joins_meet stride ts s a low z (subst (λ (n : ℕ). Joins (map (bond_of stride) ts) n z) e j) in
     let (d, ends, tied_d, path) = leads_path stride ts s c tied_c z y is l in
     (d, ends, tied_d, along a c d meet path)
+
+-- a number below the stride times one of a place is small
+pub product_small : (a b : ℕ) → a ≤ 65536 → b < 5 * 2 ^ 32 → a * b < 2 ^ 52
+product_small a b few low = let all = mul-le a b 65536 21474836480 few (omega (arith, low)) in omega (arith, all)

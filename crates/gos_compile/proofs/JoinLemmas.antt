@@ -2,7 +2,7 @@
 --
 -- For the proof numbers have classes: two numbers between which there is a bond have one class, and of one class no
 -- more than two numbers are in one bond at most.
-use Rattle.std.specs.Prelude.{◌≡◌, ◌≢◌, ℕ, zero, suc, ◌+◌, ◌≤◌, ◌<◌, ◌⊎◌, List, [], ◌∷◌, drop, nat_eq, if◌then◌else◌}
+use Rattle.std.specs.Prelude.{◌≡◌, ◌≢◌, ℕ, zero, suc, ◌+◌, ◌≤◌, ◌<◌, ◌⊎◌, List, [], ◌∷◌, ◌++◌, drop, nat_eq, if◌then◌else◌}
 use Rattle.std.proofs.Common.{refl, ap, sym, ◌∙◌, subst, arith, inl, inr}
 use Rattle.gos_check.proofs.TimesLemmas.{number_cases, eq_true, eq_false}
 use Rattle.gos_compile.specs.declared.joining.Bond.{Bond}
@@ -273,3 +273,8 @@ below_at n [] zero t us b e = cc
 below_at n [] (suc j) t us b e = cc
 below_at n (s ∷ ts) zero t us b e = let c : AreBelow n (t ∷ us) = subst (λ (vs : List Bond). AreBelow n vs) e b in (c.0, c.1)
 below_at n (s ∷ ts) (suc j) t us (a, c, b) e = below_at n ts j t us b e
+
+-- one bond more
+pub below_more : (n : ℕ) (ts : List Bond) (t : Bond) → AreBelow n ts → t.one < n → t.other < n → AreBelow n (ts ++ t ∷ [])
+below_more n [] t b one other = (one, other, tt)
+below_more n (s ∷ ts) t (a, c, b) one other = (a, c, below_more n ts t b one other)

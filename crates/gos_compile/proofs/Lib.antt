@@ -9,7 +9,16 @@ mod ContactLemmas
 mod JointLemmas
 mod PlanLemmas
 mod TallyLemmas
+mod ShakeLemmas
 mod ThinLemmas
 mod RightLemmas
 mod RangeLemmas
 mod SmallPlanLemmas
+mod KnownLemmas
+mod BoundLemmas
+mod AgreeLemmas
+mod LoadLemmas
+mod EndLemmas
+mod SlimLemmas
+mod TextLemmas
+mod ReadLemmas

@@ -18,8 +18,7 @@ use Rattle.gos_model.specs.Laws.{NodeHasType}
 use Rattle.gos_model.specs.Sources as sources
 use Rattle.gos_check.proofs.TimesLemmas.{eq_true}
 use Rattle.gos_check.specs.declared.linear.Split.{Split}
-use Rattle.gos_check.specs.Accepted as accepted
-use Rattle.gos_check.specs.Accepted.{KeepsLimits, AreWritten, IsWritten}
+use Rattle.gos_check.specs.Accepted.{KeepsLimits, AreWritten}
 use Rattle.gos_check.specs.Checked.{SeenLinear, IsChecked}
 use Rattle.gos_check.specs.Nodes.{Numbered, Closed, Use, Under, One, Two, If, OfFun, OfNew, OfFst, OfSnd, OfDeref, OfNot, OfApp, OfBoth, OfSeq, OfPar, OfWhile, OfAssign, OfBin, Meaning, meaning, below, inside, HasTypes, argument_of, bound_type, node_seen}
 use Rattle.gos_plan.specs.declared.kinds.Kind.{Kind}
@@ -27,17 +26,18 @@ use Rattle.gos_plan.specs.declared.kinds.Kind.TheVariants as declared_kinds
 use Rattle.gos_plan.specs.declared.plan.PlanImport.{PlanImport}
 use Rattle.gos_plan.specs.Kinds as kinds
 use Rattle.gos_plan.specs.Kinds.{Part}
-use Rattle.gos_plan.specs.Ranges.{IsWidth, HasWidths, IsSmall, IsInRange, AreInRange}
+use Rattle.gos_plan.specs.Ranges.{IsSmall, IsInRange, AreInRange}
+use Rattle.gos_types.specs.Widths.{IsWidth, HasWidths}
 use Rattle.gos_plan.specs.Seen.{part_of, import_of}
 use Rattle.gos_compile.specs.Wiring.{Types, type_of_node, answer_bits, with_type, with_sides, with_types, shares, closed_part, binder_part, one_part, two_part, parts_of, import_types, all_types, all_parts}
 use Rattle.gos_compile.specs.inner.Walked.{is_plain}
 
 -- a type with widths and few handshakes
-abbrev IsFine : Type' → Type 0
+abbrev pub IsFine : Type' → Type 0
 IsFine t = HasWidths t × (length (handshakes_of t) ≤ 64)
 
 -- The range of a part. What a sequence or a choice ends with has a width, or no bits.
-abbrev HasRange : Part → Type 0
+abbrev pub HasRange : Part → Type 0
 HasRange kinds.Skip = Unit {0}
 HasRange (kinds.Lit w k) = IsWidth w × (k < 2 ^ w)
 HasRange (kinds.Seq v) = (v ≡ 0) ⊎ IsWidth v
@@ -51,15 +51,8 @@ HasRange (kinds.Deref w) = IsWidth w
 HasRange (kinds.Local w v) = IsWidth w × (v ≤ 32)
 HasRange (kinds.Share t) = IsFine t
 
-widths_same : (t : Type') → accepted.HasWidths t → HasWidths t
-widths_same Com h = tt
-widths_same (Exp w) h = h
-widths_same (Var w) h = h
-widths_same (Pair a b) h = (widths_same a h.0, widths_same b h.1)
-widths_same (Fun a b) h = (widths_same a h.0, widths_same b h.1)
-
 -- each type of imports, and each of binders, has widths
-abbrev ImportsFine : Imports → Type 0
+abbrev pub ImportsFine : Imports → Type 0
 ImportsFine [] = Unit {0}
 ImportsFine (i ∷ is) = IsFine i.ty × ImportsFine is
 
@@ -96,7 +89,7 @@ typed_wide i g (terms.Lit n w) t is gs k (e, width, low) = subst (λ (u : Type')
 typed_wide i g (terms.Bound n) t is gs k h = bound_wide g n t gs h
 typed_wide i g (terms.Import x) t is gs k h = import_wide i x t is h
 typed_wide i g (terms.Lam a m) t is gs (small, written, k) (b, e, h) =
-    let wide : HasWidths a = widths_same a written.0 in
+    let wide : HasWidths a = written.0 in
     subst (λ (u : Type'). HasWidths u) (sym e) (wide, typed_wide i (a ∷ g) m b is (wide, gs) k h)
 typed_wide i g (terms.App m n) t is gs (small, k, l) (a, h, j, apart) = (typed_wide i g m (Fun a t) is gs k h).1
 typed_wide i g (terms.Both m n) t is gs (small, k, l) (a, b, e, h, j) =
@@ -139,7 +132,7 @@ NodesFit (One t ss f m) = AllByRecursion HasRange (one_part f t) × NodesFit m
 NodesFit (Two t ss f m n) = AllByRecursion HasRange (two_part f t (type_of_node n)) × NodesFit m × NodesFit n
 NodesFit (If t ss m n p) = HasRange (kinds.If (answer_bits t)) × NodesFit m × NodesFit n × NodesFit p
 
-node_typed : NodeHasType → (i : Imports) (g : List Type') (env : Meaning) (m : Numbered) (t : Type') → HasTypes i g env m
+pub node_typed : NodeHasType → (i : Imports) (g : List Type') (env : Meaning) (m : Numbered) (t : Type') → HasTypes i g env m
     → Typed i g (meaning env m) t → type_of_node m ≡ t
 node_typed law i g env (Closed u ss c) t has typed = has ∙ law i g c t typed
 node_typed law i g env (Use u ss n) t has typed = has ∙ law i g (env n) t typed
@@ -162,7 +155,7 @@ nodes_fit : NodeHasType → (i : Imports) (g : List Type') (env : Meaning) (m : 
 nodes_fit law i g env (Closed u ss c) t is gs has k h = closed_fits i g c t h
 nodes_fit law i g env (Use u ss n) t is gs has k h = tt
 nodes_fit law i g env (Under u ss OfFun n m) t is gs (e, has) (small, written, k) (b, f, h) =
-    let wide : HasWidths (argument_of u) = widths_same (argument_of u) written.0 in
+    let wide : HasWidths (argument_of u) = written.0 in
     ((wide, written.1), tt, nodes_fit law i (argument_of u ∷ g) (below n (inside ss env)) m b is (wide, gs) has k h)
 nodes_fit law i g env (Under u ss (OfNew w) n m) t is gs (e, has) (small, k) (done, width, h) =
     let body : Term = meaning (below n (inside ss env)) m in
@@ -311,16 +304,16 @@ kinds_range (k ∷ ks) p (r, h) =
     All-cons IsInRange k ks (kind_range k one r) (kinds_range ks rest h)
 
 -- the program's imports
-written_fine : (is : List SeenImport) → AreWritten is → ImportsFine (map sources.import_of is)
+pub written_fine : (is : List SeenImport) → AreWritten is → ImportsFine (map sources.import_of is)
 written_fine [] h = tt
-written_fine (i ∷ is) (w, h) = ((widths_same (type_of i.ty) w.0, w.1), written_fine is h)
+written_fine (i ∷ is) (w, h) = (w, written_fine is h)
 
 imports_range : (is : List PlanImport) → ImportsFine (map import_of is) → All (λ (i : PlanImport). IsSmall i.ty) is
 imports_range [] h = All-nil (λ (i : PlanImport). IsSmall i.ty)
 imports_range (i ∷ is) (fine, h) = All-cons (λ (i : PlanImport). IsSmall i.ty) i is fine (imports_range is h)
 
 -- the parts of a checked module are in range
-checked_range : NodeHasType → (l : SeenLinear) → IsChecked l → AllByRecursion HasRange (all_parts (map sources.import_of l.imports) (node_seen l.term))
+pub checked_range : NodeHasType → (l : SeenLinear) → IsChecked l → AllByRecursion HasRange (all_parts (map sources.import_of l.imports) (node_seen l.term))
 checked_range law l c =
     let is : Imports = map sources.import_of l.imports in
     let m : Numbered = node_seen l.term in
@@ -335,6 +328,6 @@ pub in_range : NodeHasType → (l : SeenLinear) → IsChecked l → (imports : L
 in_range law l c imports outcome parts same_imports same_outcome same_parts plain =
     record {
       of_imports = imports_range imports (subst (λ (is : Imports). ImportsFine is) (sym same_imports) (written_fine l.imports c.imports));
-      of_result = subst (λ (t : Type'). IsFine t) (sym same_outcome) (widths_same (type_of l.result) c.result.0, c.result.1);
+      of_result = subst (λ (t : Type'). IsFine t) (sym same_outcome) c.result;
       of_parts = kinds_range parts plain (subst (λ (ks : List Part). AllByRecursion HasRange ks) (sym same_parts) (checked_range law l c));
     }

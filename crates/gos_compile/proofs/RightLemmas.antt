@@ -81,7 +81,7 @@ from_cases p (Some a) (Some b) = by (do_fit (contact_at p a) (contact_at p b))
     by false = inl refl
 
 -- ends that are told to be one are one
-same_tells : (a b : End) → same_end a b ≡ true → a ≡ b
+pub same_tells : (a b : End) → same_end a b ≡ true → a ≡ b
 same_tells (PartEnd i h) (PartEnd j g) e =
     let one : i ≡ j = grind (arith, nat_tests, e) in let other : h ≡ g = grind (arith, nat_tests, e) in λ k. PartEnd (one k) (other k)
 same_tells (PartEnd i h) (ImportEnd j g) e = cc

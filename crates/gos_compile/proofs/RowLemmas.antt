@@ -1,11 +1,12 @@
 -- Rows of points grow at their end; and how many handshakes a type has.
-use Rattle.std.specs.Prelude.{◌≡◌, ℕ, zero, suc, ◌+◌, List, [], ◌∷◌, ◌++◌}
+use Rattle.std.specs.Prelude.{◌≡◌, ℕ, zero, suc, ◌+◌, ◌≤◌, List, [], ◌∷◌, ◌++◌}
 use Rattle.std.proofs.Common.{refl, ap, ◌∙◌, append_assoc, arith, length-append}
 use Rattle.std.proofs.lemmas.List.{length-map}
-use Rattle.gos_types.specs.Types.{Type', Pair, Fun}
+use Rattle.gos_types.specs.Types.{Type', Com, Exp, Var, Pair, Fun}
+use Rattle.gos_check.specs.Nodes.{argument_of}
 use Rattle.gos_compile.specs.declared.points.Place.{Place}
 use Rattle.gos_compile.specs.declared.points.Point.{Point}
-use Rattle.gos_compile.specs.Regular.{count}
+use Rattle.gos_realises.specs.Regular.{count}
 use Rattle.gos_compile.specs.Wiring.{point, row}
 
 row_longer : (place : Place) (h n k : ℕ) → k ≡ h + n → row place h n ++ point place k ∷ [] ≡ row place h (suc n)
@@ -25,3 +26,10 @@ count_pair a b = simp (length-append, length-map) refl
 
 pub count_fun : (a b : Type') → count (Fun a b) ≡ count a + count b
 count_fun a b = simp (length-append, length-map) refl
+
+pub argument_fewer : (t : Type') → count (argument_of t) ≤ count t
+argument_fewer Com = omega arith
+argument_fewer (Exp w) = omega arith
+argument_fewer (Var w) = omega arith
+argument_fewer (Pair a b) = omega arith
+argument_fewer (Fun a b) = let all = count_fun a b in omega (arith, all)

@@ -9,7 +9,7 @@ use Rattle.gos_compile.specs.declared.points.Place.{Place}
 use Rattle.gos_compile.specs.declared.points.Place.TheVariants as places
 use Rattle.gos_compile.specs.declared.points.Point.{Point}
 use Rattle.gos_compile.specs.declared.points.Tie.{Tie}
-use Rattle.gos_compile.specs.Regular.{count}
+use Rattle.gos_realises.specs.Regular.{count}
 use Rattle.gos_compile.specs.Wiring.{Types, point, row, led, share_ties, shares_ties, ties_of, parts_of, type_of_node, nodes, binder_part, binder_ties, binder_out, one_part, one_ties, one_out, two_part, two_ties, first_out, second_out}
 use Rattle.gos_compile.specs.inner.Counted.{place_once, once, meetings}
 
@@ -75,7 +75,7 @@ row_parted q place h (suc a) b =
     let start_same = ap (λ (n : ℕ). occurs q (row place n b)) start in
     omega (arith, rest, count_same, start_same)
 
-row_length : (place : Place) (h n : ℕ) → length (row place h n) ≡ n
+pub row_length : (place : Place) (h n : ℕ) → length (row place h n) ≡ n
 row_length place h zero = refl
 row_length place h (suc n) = ap (λ (k : ℕ). suc k) (row_length place (suc h) n)
 

@@ -18,7 +18,7 @@ use Rattle.gos_compile.specs.declared.points.Place.{Place}
 use Rattle.gos_compile.specs.declared.points.Place.TheVariants as places
 use Rattle.gos_compile.specs.declared.points.Point.{Point}
 use Rattle.gos_compile.specs.declared.points.Tie.{Tie}
-use Rattle.gos_compile.specs.Regular.{count}
+use Rattle.gos_realises.specs.Regular.{count}
 use Rattle.gos_compile.specs.Wiring.{Types, row, led, shares, closed_part, binder_part, one_part, two_part, parts_of, ties_of, type_of_node, nodes, import_ties, all_types, all_ties}
 use Rattle.gos_compile.specs.inner.Joined.{touches}
 use Rattle.gos_compile.specs.inner.Found.{code, bond_of, IsTied, ShakesBelow, end_of_place, end_at}

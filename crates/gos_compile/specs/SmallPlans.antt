@@ -1,6 +1,6 @@
 -- Small modules and their plans.
 --
--- Read first: Wiring, Realises.
+-- Read first: Wiring.
 use Rattle.std.specs.Prelude.{List, [], ◌∷◌, codes}
 use Rattle.gos_types.specs.Types.{Com, Fun}
 use Rattle.gos_model.specs.Terms as terms
@@ -9,7 +9,6 @@ use Rattle.gos_check.specs.Nodes.{Numbered, Closed, Use, Under, Two, OfFun, OfSe
 use Rattle.gos_plan.specs.Kinds.{Skip, Seq}
 use Rattle.gos_plan.specs.Plans.{PartEnd, ImportEnd, ResultEnd, Plan}
 use Rattle.gos_compile.specs.Wiring.{joint, IsPlanOf}
-use Rattle.gos_compile.specs.Realises.{Realises}
 
 -- the plan of `skip`
 abbrev pub skip_plan : Plan
@@ -18,9 +17,6 @@ skip_plan =
 
 abbrev pub SkipIsPlanned : Type 0
 SkipIsPlanned = IsPlanOf [] Com 5 (Closed Com [] terms.Skip) skip_plan
-
-abbrev pub SkipIsRealised : Type 0
-SkipIsRealised = Realises Com skip_plan terms.Skip
 
 -- `fun a : com . a`, and its plan: the outcome's handshake asks at the argument's
 abbrev pub same_term : Numbered

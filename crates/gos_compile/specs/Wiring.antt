@@ -6,18 +6,19 @@
 use Rattle.std.specs.Prelude.{◌≡◌, ◌↔◌, ℕ, zero, suc, ◌+◌, ◌-◌, List, [], ◌∷◌, ◌++◌, ◌⊎◌, length, take, drop, Some, nat_eq, if◌then◌else◌}
 use Rattle.gos_types.specs.Types.{Type', Com, Exp}
 use Rattle.gos_model.specs.Terms as terms
-use Rattle.gos_model.specs.Terms.{Op, Term}
+use Rattle.gos_model.specs.Terms.{Term}
 use Rattle.gos_model.specs.Typing.{Imports}
 use Rattle.gos_check.specs.declared.linear.Split.{Split}
 use Rattle.gos_check.specs.Nodes.{Numbered, Closed, Use, Under, One, Two, If, Binding, OfFun, OfNew, OneForm, OfFst, OfSnd, OfDeref, OfNot, TwoForm, OfApp, OfBoth, OfSeq, OfPar, OfWhile, OfAssign, OfBin, argument_of, bound_type}
+pub use Rattle.gos_check.specs.Nodes.{type_of_node}
 use Rattle.gos_plan.specs.Kinds as kinds
-use Rattle.gos_plan.specs.Kinds.{Part, Operation, asks, serves, contacts_of}
+use Rattle.gos_plan.specs.Kinds.{Part, asks, serves}
 use Rattle.gos_plan.specs.Plans.{End, PartEnd, ImportEnd, ResultEnd, Joint, Plan, contact_at, IsRight}
 use Rattle.gos_compile.specs.declared.points.Place.{Place}
 use Rattle.gos_compile.specs.declared.points.Place.TheVariants as places
 use Rattle.gos_compile.specs.declared.points.Point.{Point}
 use Rattle.gos_compile.specs.declared.points.Tie.{Tie}
-use Rattle.gos_compile.specs.Regular.{count}
+use Rattle.gos_realises.specs.Regular.{count}
 
 -- a point: a handshake of a place
 abbrev pub point : Place → ℕ → Point
@@ -42,15 +43,6 @@ tie a b = record { one = a; other = b }
 abbrev pub led : List Point → Place → ℕ → List Tie
 led [] place h = []
 led (a ∷ points) place h = tie a (point place h) ∷ led points place (suc h)
-
--- the type of a node
-abbrev pub type_of_node : Numbered → Type'
-type_of_node (Closed t ss c) = t
-type_of_node (Use t ss n) = t
-type_of_node (Under t ss b n m) = t
-type_of_node (One t ss f m) = t
-type_of_node (Two t ss f m n) = t
-type_of_node (If t ss m n p) = t
 
 -- the bits of a command's or an expression's answer
 abbrev pub answer_bits : Type' → ℕ
@@ -83,15 +75,6 @@ abbrev pub shares : List Split → Types → List Part
 shares [] types = []
 shares (s ∷ ss) types = kinds.Share (types s.of) ∷ shares ss types
 
-abbrev pub operation : Op → Operation
-operation terms.Add = kinds.Add
-operation terms.Sub = kinds.Sub
-operation terms.And = kinds.And
-operation terms.Or = kinds.Or
-operation terms.Xor = kinds.Xor
-operation terms.Eq = kinds.Eq
-operation terms.Less = kinds.Less
-
 -- the part of a node's own form, where it has one
 abbrev pub closed_part : Term → List Part
 closed_part (terms.Lit k w) = kinds.Lit w k ∷ []
@@ -115,7 +98,7 @@ two_part OfSeq t u = kinds.Seq (answer_bits t) ∷ []
 two_part OfPar t u = kinds.Par ∷ []
 two_part OfWhile t u = kinds.While ∷ []
 two_part OfAssign t u = kinds.Assign (answer_bits u) ∷ []
-two_part (OfBin op) t u = kinds.Op (operation op) (answer_bits u) ∷ []
+two_part (OfBin op) t u = kinds.Op op (answer_bits u) ∷ []
 
 -- The parts of a term, node by node: the Shares of its splits, its own part, and those of its parts from left to
 -- right.

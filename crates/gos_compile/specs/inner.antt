@@ -6,3 +6,5 @@ pub mod Contacts
 pub mod Joined
 pub mod Found
 pub mod Counted
+pub mod Loads
+pub mod Named

@@ -1,12 +1,14 @@
 // The forms of one part and of two: the own part of each, and where the handshakes of its parts lead.
 
-ghost use Rattle.std.specs.Prelude.{◌≡◌, ◌∷◌, [], ◌++◌, take, drop, IsTrue, IfOk, OnOk};
+ghost use Rattle.std.specs.Prelude.{◌≡◌, ◌≤◌, ◌+◌, ◌∷◌, [], ◌++◌, length, take, drop, IsTrue, IfOk, OnOk};
 ghost use Rattle.gos_types.specs.Types.{type_of};
 ghost use Rattle.gos_plan.specs.Kinds as kinds;
 ghost use Rattle.gos_plan.specs.Seen.{part_of, operation_of};
 ghost use Rattle.gos_model.specs.Sources.{op_of};
-ghost use Rattle.gos_compile.specs.inner.Walked.{seen, is_plain, next_part, with_own, one_form, two_form};
-ghost use Rattle.gos_compile.specs.Wiring.{point, row, answer_bits, one_part, two_part, one_ties, two_ties, one_out, first_out, second_out, operation};
+ghost use Rattle.gos_compile.specs.inner.Walked.{seen, is_plain, with_one_own, with_two_own, one_form, two_form};
+ghost use Rattle.gos_compile.specs.Wiring.{point, row, answer_bits, one_out, first_out, second_out};
+ghost use Rattle.gos_realises.specs.Regular.{count};
+ghost use Rattle.gos_compile.specs.inner.Loads.{most, spent};
 
 use crate::points::{Place, Point, add_row, answer_bits, row, shakes};
 use crate::wires::Wires;
@@ -62,7 +64,7 @@ pub(crate) fn choice(bits: u32) -> Kind
 
 // What an operator computes.
 fn operation(op: Op) -> Op2
-    ensures { operation_of result ≡ operation (op_of op) }
+    ensures { operation_of result ≡ op_of op }
 {
     match op {
         Op::Add => Op2::Add,
@@ -130,11 +132,16 @@ fn behind_row(alloc: Global, place: Place, n: u32, points: &[Point]) -> Result<V
 impl OneRule {
     // Adds the own part of a form whose node has this type.
     pub fn own(self, ty: &Ty, out: &[Point], wires: &mut Wires) -> Result<(), NoMemory>
-        ensures { OnOk result (seen wires.new ≡ with_own (one_part (one_form self) (type_of ty.now)) (one_ties (one_form self) (next_part (seen wires.old)) out.now) (seen wires.old)) }
+        requires { spent wires.old + length out.now + 1 ≤ most }
+        ensures own { OnOk result (seen wires.new ≡ with_one_own (one_form self) (type_of ty.now) out.now (seen wires.old)) }
+        ensures spent { OnOk result (spent wires.new ≤ spent wires.old + 2) }
     {
         let w = answer_bits(ty);
         match self {
-            OneRule::First | OneRule::Second => wires.pass(),
+            OneRule::First | OneRule::Second => {
+                wires.pass();
+                Ok(())
+            }
             OneRule::Reading => wires.own(Kind::Deref { w }, out, 1),
             OneRule::Negation => wires.own(Kind::Not { w }, out, 1),
         }
@@ -150,15 +157,17 @@ impl OneRule {
         j: u32,
         out: &[Point],
     ) -> Result<Vec<Point>, NoMemory>
+        requires whole { count (type_of ty.now) ≤ most }
+        requires part { count (type_of inner.now) ≤ most }
         ensures { IfOk result (λ points. points.items ≡ one_out (one_form self) (type_of ty.now) (type_of inner.now) i j out.now) }
     {
         match self {
             OneRule::First => {
-                let n = shakes(inner)?.saturating_sub(shakes(ty)?);
+                let n = shakes(inner).saturating_sub(shakes(ty));
                 before_row(alloc, out, Place::Node(j), n)
             }
             OneRule::Second => {
-                let n = shakes(inner)?.saturating_sub(shakes(ty)?);
+                let n = shakes(inner).saturating_sub(shakes(ty));
                 behind_row(alloc, Place::Node(j), n, out)
             }
             OneRule::Reading => two_points(
@@ -180,11 +189,16 @@ impl OneRule {
 impl TwoRule {
     // Adds the own part of a form whose node has this type, and whose second part has the type `second`.
     pub fn own(self, ty: &Ty, second: &Ty, out: &[Point], wires: &mut Wires) -> Result<(), NoMemory>
-        ensures { OnOk result (seen wires.new ≡ with_own (two_part (two_form self) (type_of ty.now) (type_of second.now)) (two_ties (two_form self) (next_part (seen wires.old)) out.now) (seen wires.old)) }
+        requires { spent wires.old + length out.now + 2 ≤ most }
+        ensures own { OnOk result (seen wires.new ≡ with_two_own (two_form self) (type_of ty.now) (type_of second.now) out.now (seen wires.old)) }
+        ensures spent { OnOk result (spent wires.new ≤ spent wires.old + 2) }
     {
         let w = answer_bits(second);
         match self {
-            TwoRule::Application | TwoRule::Product => wires.pass(),
+            TwoRule::Application | TwoRule::Product => {
+                wires.pass();
+                Ok(())
+            }
             TwoRule::Sequence => wires.own(sequence(answer_bits(ty)), out, 2),
             TwoRule::Parallel => wires.own(Kind::Par, out, 2),
             TwoRule::Loop => wires.own(Kind::While, out, 2),
@@ -210,11 +224,13 @@ impl TwoRule {
         j: u32,
         out: &[Point],
     ) -> Result<Vec<Point>, NoMemory>
+        requires left { count (type_of first.now) ≤ most }
+        requires right { count (type_of second.now) ≤ most }
         ensures { IfOk result (λ points. points.items ≡ first_out (two_form self) (type_of first.now) (type_of second.now) i j out.now) }
     {
         match self {
-            TwoRule::Application => behind_row(alloc, Place::Node(j), shakes(second)?, out),
-            TwoRule::Product => Ok(front(out, shakes(first)?).to_vec(alloc)?),
+            TwoRule::Application => behind_row(alloc, Place::Node(j), shakes(second), out),
+            TwoRule::Product => Ok(front(out, shakes(first)).to_vec(alloc)?),
             TwoRule::Assignment => two_points(
                 alloc,
                 Point {
@@ -240,11 +256,13 @@ impl TwoRule {
         j: u32,
         out: &[Point],
     ) -> Result<Vec<Point>, NoMemory>
+        requires left { count (type_of first.now) ≤ most }
+        requires right { count (type_of second.now) ≤ most }
         ensures { IfOk result (λ points. points.items ≡ second_out (two_form self) (type_of first.now) (type_of second.now) i j out.now) }
     {
         match self {
-            TwoRule::Application => row(alloc, Place::Node(j), shakes(second)?),
-            TwoRule::Product => Ok(rest(out, shakes(first)?).to_vec(alloc)?),
+            TwoRule::Application => row(alloc, Place::Node(j), shakes(second)),
+            TwoRule::Product => Ok(rest(out, shakes(first)).to_vec(alloc)?),
             TwoRule::Assignment => one_point(alloc, Place::Part(i), 0),
             _ => one_point(alloc, Place::Part(i), 1),
         }

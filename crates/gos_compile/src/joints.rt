@@ -4,11 +4,12 @@
 // the one asks and the other serves there is a joint. `specs/inner/Found` says so, and that these joints are those of the
 // plan says `joints_found`, in proofs/JointLemmas.
 
-ghost use Rattle.std.specs.Prelude.{◌≡◌, ◌++◌, map, IfOk, OnOk};
+ghost use Rattle.std.specs.Prelude.{◌≡◌, ◌≤◌, ◌++◌, map, IfOk, OnOk};
 ghost use Rattle.gos_plan.specs.Seen.{joint_of};
 ghost use Rattle.gos_compile.specs.inner.Contacts.{asked};
 ghost use Rattle.gos_compile.specs.inner.Counted.{IsThin};
-ghost use Rattle.gos_compile.specs.inner.Found.{AreTables, bare, do_fit, far_by, found, all_found, joints_seen};
+ghost use Rattle.gos_compile.specs.inner.Found.{AreTables, ShakesBelow, bare, do_fit, far_by, found, all_found, joints_seen};
+ghost use Rattle.gos_compile.specs.inner.Loads.{most};
 
 use crate::contacts::contact_at;
 use crate::joining::far_ends;
@@ -28,12 +29,14 @@ pub(crate) struct Tables {
 
 // The tables of ties.
 pub(crate) fn tables_of(alloc: Global, ties: &[Tie]) -> Result<Tables, NoMemory>
-    requires { IsThin ties.now }
-    ensures { IfOk result (AreTables ties.now) }
+    requires thin { IsThin ties.now }
+    requires shakes { ShakesBelow most ties.now }
+    ensures tables { IfOk result (AreTables ties.now) }
+    ensures small { IfOk result (λ tables. tables.stride ≤ most) }
 {
-    let stride = stride_of(ties)?;
+    let stride = stride_of(ties);
     let bonds = bonds_of(alloc, stride, ties)?;
-    let size = size_of(&bonds)?;
+    let size = size_of(&bonds);
     let far = far_ends(alloc, size, &bonds)?;
     let points = points_of(alloc, stride, ties)?;
     Ok(Tables {
@@ -67,9 +70,10 @@ fn found(
     tables: &Tables,
     point: Point,
 ) -> Result<Option<Joint>, NoMemory>
+    requires { tables.now.stride ≤ most }
     ensures { IfOk result (λ joint. joints_seen joint ≡ found (bare imports.now outcome.now parts.now) (far_by tables.now) point) }
 {
-    let far = far_point(tables.stride, &tables.far, &tables.points, point)?;
+    let far = far_point(tables.stride, &tables.far, &tables.points, point);
     match (end_at(point), end_at(far)) {
         (Some(asks), Some(serves)) => {
             let one = contact_at(alloc, imports, outcome, parts, asks)?;
@@ -94,6 +98,7 @@ fn add_found(
     point: Point,
     joints: &mut Vec<Joint>,
 ) -> Result<(), NoMemory>
+    requires { tables.now.stride ≤ most }
     ensures { OnOk result (map joint_of joints.new.items ≡ map joint_of joints.old.items ++ found (bare imports.now outcome.now parts.now) (far_by tables.now) point) }
 {
     if let Some(joint) = found(alloc, imports, outcome, parts, tables, point)? {
@@ -111,6 +116,7 @@ pub(crate) fn joints_of(
     tables: &Tables,
     ties: &[Tie],
 ) -> Result<Vec<Joint>, NoMemory>
+    requires { tables.now.stride ≤ most }
     ensures { IfOk result (λ joints. map joint_of joints.items ≡ all_found (bare imports.now outcome.now parts.now) (far_by tables.now) ties.now) }
 {
     let mut joints = Vec::new(alloc);

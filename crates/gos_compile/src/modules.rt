@@ -3,15 +3,17 @@
 // Read walk.rt first. The imports are tied to their numbers, and then the term is walked over; its handshakes lead to
 // the result's ends.
 
-ghost use Rattle.std.specs.Prelude.{◌≡◌, ◌++◌, IsTrue, map, IfOk, OnOk};
+ghost use Rattle.std.specs.Prelude.{◌≡◌, ◌≤◌, ◌+◌, ◌++◌, All, IsTrue, length, map, IfOk, OnOk};
 ghost use Rattle.std.specs.List.{list_all};
 ghost use Rattle.gos_model.specs.Sources.{import_of};
 ghost use Rattle.gos_check.specs.Nodes.{node_seen};
 ghost use Rattle.gos_plan.specs.Seen.{part_of};
 ghost use Rattle.gos_compile.specs.inner.Walked.{is_plain};
-ghost use Rattle.gos_compile.specs.Wiring.{import_ties, all_parts, all_ties};
+ghost use Rattle.gos_realises.specs.Regular.{count};
+ghost use Rattle.gos_compile.specs.Wiring.{type_of_node, import_ties, all_parts, all_ties, all_types};
+ghost use Rattle.gos_compile.specs.inner.Loads.{load, most, HasFewShakes};
 
-use crate::points::{Place, Tie, after, lead_row, row, shakes};
+use crate::points::{Place, Tie, lead_row, row, shakes};
 use crate::types::{import_list, set_types};
 use crate::walk::wire;
 use crate::wires::Wires;
@@ -22,11 +24,13 @@ use std::alloc::Global;
 
 // Ties the imports' ends to their numbers.
 fn tie_imports(alloc: Global, imports: &[Import], ties: &mut Vec<Tie>) -> Result<(), NoMemory>
+    requires few { length imports.now ≤ most }
+    requires small { All HasFewShakes imports.now }
     ensures { OnOk result (ties.new.items ≡ ties.old.items ++ import_ties 0 (map import_of imports.now)) }
 {
     let mut number = 0;
     for import in imports {
-        let n = shakes(&import.ty)?;
+        let n = shakes(&import.ty);
         lead_row(
             alloc,
             ties,
@@ -35,13 +39,16 @@ fn tie_imports(alloc: Global, imports: &[Import], ties: &mut Vec<Tie>) -> Result
             Place::Number(number),
             0,
         )?;
-        number = after(number)?;
+        number += 1;
     }
     Ok(())
 }
 
 // The parts and the ties of a module with these imports and this term.
 pub(crate) fn wires_of(alloc: Global, imports: &[Import], node: &Node) -> Result<Wires, NoMemory>
+    requires few { length imports.now ≤ most }
+    requires small { All HasFewShakes imports.now }
+    requires room { count (type_of_node (node_seen node.now)) + load (all_types (map import_of imports.now) (node_seen node.now)) (node_seen node.now) ≤ most }
     ensures parts { IfOk result (λ wires. map part_of wires.parts.items ≡ all_parts (map import_of imports.now) (node_seen node.now)) }
     ensures plain { IfOk result (λ wires. IsTrue (list_all is_plain wires.parts.items)) }
     ensures ties { IfOk result (λ wires. wires.ties.items ≡ all_ties (map import_of imports.now) (node_seen node.now)) }
@@ -55,7 +62,7 @@ pub(crate) fn wires_of(alloc: Global, imports: &[Import], node: &Node) -> Result
         ties,
         nodes: 0,
     };
-    let n = shakes(&node.ty)?;
+    let n = shakes(&node.ty);
     let out = row(alloc, Place::Result, n)?;
     wire(alloc, &types, node, &out, &mut wires)?;
     Ok(wires)

@@ -1,8 +1,9 @@
 // Numbers of points, by which tables are kept.
 
-ghost use Rattle.std.specs.Prelude.{◌≡◌, ◌≢◌, ◌≤◌, ◌<◌, ℕ, Some, map, slice_get, IfOk, OnOk};
+ghost use Rattle.std.specs.Prelude.{◌≡◌, ◌≢◌, ◌≤◌, ◌<◌, ◌*◌, ◌^◌, ℕ, Some, map, slice_get, IfOk, OnOk};
 ghost use Rattle.gos_compile.specs.inner.Joined.{AreBelow, far_at};
 ghost use Rattle.gos_compile.specs.inner.Found.{slot, code, bond_of, ShakesBelow, AreNumbered, end_at, far_point, end_seen};
+ghost use Rattle.gos_compile.specs.inner.Loads.{most};
 
 use crate::joining::{Bond, far_of};
 use crate::points::{Place, Point, Tie};
@@ -12,7 +13,8 @@ use std::alloc::Global;
 
 // The number of a place.
 fn slot(place: Place) -> usize
-    ensures { result ≡ slot place }
+    ensures value { result ≡ slot place }
+    ensures small { result < 5 * 2 ^ 32 }
 {
     match place {
         Place::Part(k) => 5 * (k as usize),
@@ -23,68 +25,66 @@ fn slot(place: Place) -> usize
     }
 }
 
-// The number of a point. More than 64 bits count as want of memory.
-pub(crate) fn code(stride: usize, point: Point) -> Result<usize, NoMemory>
-    ensures { IfOk result (λ n. n ≡ code stride point) }
+// The number of a point.
+#[tactic(auto, using(crate::proofs::CodeLemmas::product_small))]
+pub(crate) fn code(stride: usize, point: Point) -> usize
+    requires { stride ≤ most }
+    ensures value { result ≡ code stride point }
+    ensures small { result < 2 ^ 63 }
 {
-    match stride.checked_mul(slot(point.place)) {
-        Some(start) => match start.checked_add(point.shake as usize) {
-            Some(n) => Ok(n),
-            None => Err(NoMemory),
-        },
-        None => Err(NoMemory),
-    }
+    stride * slot(point.place) + point.shake as usize
 }
 
-// A number that is above another and not below a bound.
-fn above(bound: usize, number: usize) -> Result<usize, NoMemory>
-    ensures bound { IfOk result (λ n. bound ≤ n) }
-    ensures above { IfOk result (λ n. number < n) }
+// The least number that is above another and not below a bound.
+fn above(bound: usize, number: usize) -> usize
+    requires { number < 2 ^ 63 }
+    ensures bound { bound ≤ result }
+    ensures above { number < result }
+    ensures least { (n : ℕ) → bound ≤ n → number < n → result ≤ n }
 {
-    if number < bound {
-        return Ok(bound);
-    }
-    match number.checked_add(1) {
-        Some(n) => Ok(n),
-        None => Err(NoMemory),
-    }
+    bound.max(number + 1)
 }
 
 // A number above all handshakes in ties.
-pub(crate) fn stride_of(ties: &[Tie]) -> Result<usize, NoMemory>
-    ensures { IfOk result (λ n. ShakesBelow n ties.now) }
+pub(crate) fn stride_of(ties: &[Tie]) -> usize
+    requires { ShakesBelow most ties.now }
+    ensures above { ShakesBelow result ties.now }
+    ensures small { result ≤ most }
 {
     let mut bound = 0;
     for tie in ties {
-        bound = above(bound, tie.one.shake as usize)?;
-        bound = above(bound, tie.other.shake as usize)?;
+        bound = above(bound, tie.one.shake as usize);
+        bound = above(bound, tie.other.shake as usize);
     }
-    Ok(bound)
+    bound
 }
 
 // The bonds of ties.
 pub(crate) fn bonds_of(alloc: Global, stride: usize, ties: &[Tie]) -> Result<Vec<Bond>, NoMemory>
-    ensures { IfOk result (λ bonds. bonds.items ≡ map (bond_of stride) ties.now) }
+    requires { stride ≤ most }
+    ensures bonds { IfOk result (λ bonds. bonds.items ≡ map (bond_of stride) ties.now) }
+    ensures small { IfOk result (λ bonds. AreBelow (2 ^ 63) bonds.items) }
 {
     let mut bonds = Vec::new(alloc);
     for tie in ties {
-        let one = code(stride, tie.one)?;
-        let other = code(stride, tie.other)?;
+        let one = code(stride, tie.one);
+        let other = code(stride, tie.other);
         bonds.push(Bond { one, other })?;
     }
     Ok(bonds)
 }
 
 // A number above all numbers in bonds.
-pub(crate) fn size_of(bonds: &[Bond]) -> Result<usize, NoMemory>
-    ensures { IfOk result (λ n. AreBelow n bonds.now) }
+pub(crate) fn size_of(bonds: &[Bond]) -> usize
+    requires { AreBelow (2 ^ 63) bonds.now }
+    ensures { AreBelow result bonds.now }
 {
     let mut bound = 0;
     for bond in bonds {
-        bound = above(bound, bond.one)?;
-        bound = above(bound, bond.other)?;
+        bound = above(bound, bond.one);
+        bound = above(bound, bond.other);
     }
-    Ok(bound)
+    bound
 }
 
 // Puts a point into a table.
@@ -101,7 +101,8 @@ fn put(points: &mut Vec<Point>, at: usize, point: Point) -> Result<(), NoMemory>
 
 // The points of ties by number.
 pub(crate) fn points_of(alloc: Global, stride: usize, ties: &[Tie]) -> Result<Vec<Point>, NoMemory>
-    requires { ShakesBelow stride ties.now }
+    requires small { stride ≤ most }
+    requires shakes { ShakesBelow stride ties.now }
     ensures { IfOk result (λ points. AreNumbered stride ties.now points.items) }
 {
     let mut points = Vec::new(alloc);
@@ -109,9 +110,9 @@ pub(crate) fn points_of(alloc: Global, stride: usize, ties: &[Tie]) -> Result<Ve
     while k > 0 {
         k -= 1;
         let tie = ties[k];
-        let one = code(stride, tie.one)?;
+        let one = code(stride, tie.one);
         put(&mut points, one, tie.one)?;
-        let other = code(stride, tie.other)?;
+        let other = code(stride, tie.other);
         put(&mut points, other, tie.other)?;
     }
     Ok(points)
@@ -131,17 +132,13 @@ pub(crate) fn end_at(point: Point) -> Option<End>
 }
 
 // The far point of a point.
-pub(crate) fn far_point(
-    stride: usize,
-    far: &[usize],
-    points: &[Point],
-    point: Point,
-) -> Result<Point, NoMemory>
-    ensures { IfOk result (λ p. p ≡ far_point stride far.now points.now point) }
+pub(crate) fn far_point(stride: usize, far: &[usize], points: &[Point], point: Point) -> Point
+    requires { stride ≤ most }
+    ensures { result ≡ far_point stride far.now points.now point }
 {
-    let at = far_of(far, code(stride, point)?);
+    let at = far_of(far, code(stride, point));
     match points.get(at) {
-        Some(other) => Ok(*other),
-        None => Ok(point),
+        Some(other) => *other,
+        None => point,
     }
 }

@@ -1,9 +1,10 @@
 // Points of the wiring, and what is tied to what.
 
-ghost use Rattle.std.specs.Prelude.{◌≡◌, ◌+◌, ◌++◌, IfOk, OnOk};
+ghost use Rattle.std.specs.Prelude.{◌≡◌, ◌≤◌, ◌+◌, ◌++◌, length, IfOk, OnOk};
 ghost use Rattle.gos_types.specs.Types.{type_of};
-ghost use Rattle.gos_compile.specs.Regular.{count};
+ghost use Rattle.gos_realises.specs.Regular.{count};
 ghost use Rattle.gos_compile.specs.Wiring.{led, row, answer_bits};
+ghost use Rattle.gos_compile.specs.inner.Loads.{most};
 
 use gos_types::{NoMemory, Ty};
 use std::alloc::Global;
@@ -30,16 +31,6 @@ pub struct Point {
 pub struct Tie {
     pub one: Point,
     pub other: Point,
-}
-
-// The number after this one. More than 32 bits count as want of memory.
-pub(crate) fn after(number: u32) -> Result<u32, NoMemory>
-    ensures { IfOk result (λ next. next ≡ number + 1) }
-{
-    match number.checked_add(1) {
-        Some(next) => Ok(next),
-        None => Err(NoMemory),
-    }
 }
 
 // Adds so many points of a place, from its first on.
@@ -69,18 +60,20 @@ pub(crate) fn lead(
     place: Place,
     from: u32,
 ) -> Result<(), NoMemory>
+    requires { from + length points.now ≤ most }
     ensures { OnOk result (ties.new.items ≡ ties.old.items ++ led points.now place from) }
 {
     let mut shake = from;
     for one in points {
         let other = Point { place, shake };
         ties.push(Tie { one: *one, other })?;
-        shake = after(shake)?;
+        shake += 1;
     }
     Ok(())
 }
 
 // Ties so many points of one place, from its first on, to those of another, from this handshake on.
+#[tactic(auto, using(crate::proofs::TallyLemmas::row_length))]
 pub(crate) fn lead_row(
     alloc: Global,
     ties: &mut Vec<Tie>,
@@ -89,35 +82,23 @@ pub(crate) fn lead_row(
     other: Place,
     from: u32,
 ) -> Result<(), NoMemory>
+    requires { from + n ≤ most }
     ensures { OnOk result (ties.new.items ≡ ties.old.items ++ led (row one 0 n) other from) }
 {
     let points = row(alloc, one, n)?;
     lead(ties, &points, other, from)
 }
 
-// The sum of two numbers. More than 32 bits count as want of memory.
-pub(crate) fn sum(a: u32, b: u32) -> Result<u32, NoMemory>
-    ensures { IfOk result (λ n. n ≡ a + b) }
-{
-    match a.checked_add(b) {
-        Some(n) => Ok(n),
-        None => Err(NoMemory),
-    }
-}
-
-// How many handshakes a type has. More than 32 bits count as want of memory.
+// How many handshakes a type has.
 #[tactic(auto, using(crate::proofs::RowLemmas::count_pair, crate::proofs::RowLemmas::count_fun))]
-pub(crate) fn shakes(ty: &Ty) -> Result<u32, NoMemory>
-    ensures { IfOk result (λ n. n ≡ count (type_of ty.now)) }
+pub(crate) fn shakes(ty: &Ty) -> u32
+    requires { count (type_of ty.now) ≤ most }
+    ensures { result ≡ count (type_of ty.now) }
 {
     match ty {
-        Ty::Com | Ty::Exp(_) => Ok(1),
-        Ty::Var(_) => Ok(2),
-        Ty::Pair(a, b) | Ty::Fun(a, b) => {
-            let first = shakes(a)?;
-            let second = shakes(b)?;
-            sum(first, second)
-        }
+        Ty::Com | Ty::Exp(_) => 1,
+        Ty::Var(_) => 2,
+        Ty::Pair(a, b) | Ty::Fun(a, b) => shakes(a) + shakes(b),
     }
 }
 

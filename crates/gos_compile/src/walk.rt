@@ -4,14 +4,14 @@
 // before; that it gives the parts and the ties of `specs/Wiring` say `wired_parts` and `wired_ties`, in
 // proofs/WalkLemmas.
 
-ghost use Rattle.std.specs.Prelude.{◌≡◌, ◌∷◌, [], take, drop, IfOk, OnOk};
+ghost use Rattle.std.specs.Prelude.{◌≡◌, ◌≤◌, ◌+◌, length, OnOk};
 ghost use Rattle.gos_types.specs.Types.{type_of};
 ghost use Rattle.gos_plan.specs.Kinds as kinds;
 ghost use Rattle.gos_check.specs.Nodes.{node_seen, OfFun, OfNew, argument_of};
-ghost use Rattle.gos_compile.specs.Regular.{count};
+ghost use Rattle.gos_realises.specs.Regular.{count};
 ghost use Rattle.gos_compile.specs.inner.Tables.{types_at};
-ghost use Rattle.gos_compile.specs.inner.Walked.{seen, next_part, with_own, with_shares, wired, one_form, two_form};
-ghost use Rattle.gos_compile.specs.Wiring.{type_of_node, led, point, answer_bits, binder_part, binder_ties, binder_out, one_part, two_part, one_ties, two_ties, one_out, first_out, second_out};
+ghost use Rattle.gos_compile.specs.inner.Walked.{seen, wired, with_binder, with_one, with_two, with_choice};
+ghost use Rattle.gos_compile.specs.inner.Loads.{loaded, part_loaded, most, spent};
 
 use crate::forms::{OneRule, TwoRule, choice, front, one_point, rest};
 use crate::points::{Place, Point, answer_bits, shakes};
@@ -24,6 +24,7 @@ use std::alloc::Global;
 
 // A term, whose handshakes lead to these points.
 #[cycle(walk)]
+#[tactic(auto, using(crate::proofs::NodeLemmas::splits_seen))]
 pub(crate) fn wire(
     alloc: Global,
     types: &[Ty],
@@ -31,7 +32,9 @@ pub(crate) fn wire(
     out: &[Point],
     wires: &mut Wires,
 ) -> Result<(), NoMemory>
-    ensures { OnOk result (seen wires.new ≡ wired (types_at types.now) (node_seen node.now) out.now (seen wires.old)) }
+    requires { spent wires.old + length out.now + loaded types.now node.now ≤ most }
+    ensures wired { OnOk result (seen wires.new ≡ wired (types_at types.now) (node_seen node.now) out.now (seen wires.old)) }
+    ensures spent { OnOk result (spent wires.new ≤ spent wires.old + loaded types.now node.now) }
 {
     wires.shares(alloc, types, &node.splits)?;
     match &node.form {
@@ -130,6 +133,7 @@ pub(crate) fn wire(
 
 // A function, whose argument has this number.
 #[cycle(walk)]
+#[tactic(auto, using(crate::proofs::RowLemmas::argument_fewer, crate::proofs::ShakeLemmas::take_shorter, crate::proofs::ShakeLemmas::drop_shorter))]
 fn wire_function(
     alloc: Global,
     types: &[Ty],
@@ -139,10 +143,12 @@ fn wire_function(
     out: &[Point],
     wires: &mut Wires,
 ) -> Result<(), NoMemory>
-    ensures { OnOk result (seen wires.new ≡ wired (types_at types.now) (node_seen body.now) (drop (count (argument_of (type_of ty.now))) out.now) (with_own [] (led (take (count (argument_of (type_of ty.now))) out.now) (Place.Number number) 0) (seen wires.old))) }
+    requires { spent wires.old + length out.now + (5 + count (type_of ty.now) + loaded types.now body.now) ≤ most }
+    ensures wired { OnOk result (seen wires.new ≡ with_binder types.now OfFun ty.now number body.now out.now (seen wires.old)) }
+    ensures spent { OnOk result (spent wires.new ≤ spent wires.old + (5 + loaded types.now body.now)) }
 {
     let argument = argument(alloc, ty)?;
-    let n = shakes(&argument)?;
+    let n = shakes(&argument);
     wires.use_number(number, front(out, n))?;
     wire(alloc, types, body, rest(out, n), wires)
 }
@@ -159,9 +165,11 @@ fn wire_block(
     out: &[Point],
     wires: &mut Wires,
 ) -> Result<(), NoMemory>
-    ensures { OnOk result (seen wires.new ≡ wired (types_at types.now) (node_seen body.now) (binder_out (OfNew width) (type_of ty.now) (next_part (seen wires.old)) out.now) (with_own (binder_part (OfNew width) (type_of ty.now)) (binder_ties (OfNew width) (type_of ty.now) (next_part (seen wires.old)) number out.now) (seen wires.old))) }
+    requires { spent wires.old + length out.now + (5 + loaded types.now body.now) ≤ most }
+    ensures wired { OnOk result (seen wires.new ≡ with_binder types.now (OfNew width) ty.now number body.now out.now (seen wires.old)) }
+    ensures spent { OnOk result (spent wires.new ≤ spent wires.old + (5 + loaded types.now body.now)) }
 {
-    let i = wires.next()?;
+    let i = wires.next();
     wires.local(alloc, number, width, answer_bits(ty), out)?;
     let inner = one_point(alloc, Place::Part(i), 0)?;
     wire(alloc, types, body, &inner, wires)
@@ -169,7 +177,7 @@ fn wire_block(
 
 // A form of one part.
 #[cycle(walk)]
-#[tactic(auto, using(crate::proofs::NodeLemmas::type_seen))]
+#[tactic(auto, using(gos_check::proofs::NodeTypeLemmas::type_seen, crate::proofs::ShakeLemmas::one_few))]
 fn wire_one(
     alloc: Global,
     types: &[Ty],
@@ -179,9 +187,11 @@ fn wire_one(
     out: &[Point],
     wires: &mut Wires,
 ) -> Result<(), NoMemory>
-    ensures { OnOk result (seen wires.new ≡ wired (types_at types.now) (node_seen m.now) (one_out (one_form rule) (type_of ty.now) (type_of_node (node_seen m.now)) (next_part (seen wires.old)) wires.old.nodes out.now) (with_own (one_part (one_form rule) (type_of ty.now)) (one_ties (one_form rule) (next_part (seen wires.old)) out.now) (seen wires.old))) }
+    requires { spent wires.old + length out.now + (5 + count (type_of ty.now) + part_loaded types.now m.now) ≤ most }
+    ensures wired { OnOk result (seen wires.new ≡ with_one types.now rule ty.now m.now out.now (seen wires.old)) }
+    ensures spent { OnOk result (spent wires.new ≤ spent wires.old + (5 + loaded types.now m.now)) }
 {
-    let i = wires.next()?;
+    let i = wires.next();
     let inner = rule.out(alloc, ty, &m.ty, i, wires.nodes, out)?;
     rule.own(ty, out, wires)?;
     wire(alloc, types, m, &inner, wires)
@@ -189,7 +199,7 @@ fn wire_one(
 
 // A form of two parts.
 #[cycle(walk)]
-#[tactic(auto, using(crate::proofs::NodeLemmas::type_seen))]
+#[tactic(auto, using(gos_check::proofs::NodeTypeLemmas::type_seen, crate::proofs::ShakeLemmas::first_few, crate::proofs::ShakeLemmas::second_few))]
 fn wire_two(
     alloc: Global,
     types: &[Ty],
@@ -200,9 +210,11 @@ fn wire_two(
     out: &[Point],
     wires: &mut Wires,
 ) -> Result<(), NoMemory>
-    ensures { OnOk result (seen wires.new ≡ wired (types_at types.now) (node_seen n.now) (second_out (two_form rule) (type_of_node (node_seen m.now)) (type_of_node (node_seen n.now)) (next_part (seen wires.old)) wires.old.nodes out.now) (wired (types_at types.now) (node_seen m.now) (first_out (two_form rule) (type_of_node (node_seen m.now)) (type_of_node (node_seen n.now)) (next_part (seen wires.old)) wires.old.nodes out.now) (with_own (two_part (two_form rule) (type_of ty.now) (type_of_node (node_seen n.now))) (two_ties (two_form rule) (next_part (seen wires.old)) out.now) (seen wires.old)))) }
+    requires { spent wires.old + length out.now + (5 + (part_loaded types.now m.now + part_loaded types.now n.now)) ≤ most }
+    ensures wired { OnOk result (seen wires.new ≡ with_two types.now rule ty.now m.now n.now out.now (seen wires.old)) }
+    ensures spent { OnOk result (spent wires.new ≤ spent wires.old + (5 + (loaded types.now m.now + loaded types.now n.now))) }
 {
-    let i = wires.next()?;
+    let i = wires.next();
     let first = rule.first_out(alloc, &m.ty, &n.ty, i, wires.nodes, out)?;
     let second = rule.second_out(alloc, &m.ty, &n.ty, i, wires.nodes, out)?;
     rule.own(ty, &n.ty, out, wires)?;
@@ -222,9 +234,11 @@ fn wire_choice(
     out: &[Point],
     wires: &mut Wires,
 ) -> Result<(), NoMemory>
-    ensures { OnOk result (seen wires.new ≡ wired (types_at types.now) (node_seen p.now) (point (Place.Part (next_part (seen wires.old))) 2 ∷ []) (wired (types_at types.now) (node_seen n.now) (point (Place.Part (next_part (seen wires.old))) 1 ∷ []) (wired (types_at types.now) (node_seen m.now) (point (Place.Part (next_part (seen wires.old))) 0 ∷ []) (with_own (kinds.If (answer_bits (type_of ty.now)) ∷ []) (led out.now (Place.Part (next_part (seen wires.old))) 3) (seen wires.old))))) }
+    requires { spent wires.old + length out.now + (5 + (loaded types.now m.now + (loaded types.now n.now + loaded types.now p.now))) ≤ most }
+    ensures wired { OnOk result (seen wires.new ≡ with_choice types.now ty.now m.now n.now p.now out.now (seen wires.old)) }
+    ensures spent { OnOk result (spent wires.new ≤ spent wires.old + (5 + (loaded types.now m.now + (loaded types.now n.now + loaded types.now p.now)))) }
 {
-    let i = wires.next()?;
+    let i = wires.next();
     let test = one_point(alloc, Place::Part(i), 0)?;
     let yes = one_point(alloc, Place::Part(i), 1)?;
     let no = one_point(alloc, Place::Part(i), 2)?;

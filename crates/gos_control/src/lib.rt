@@ -11,10 +11,6 @@ mod control;
 mod par;
 mod repeat;
 mod seq;
-#[cfg(test)]
-mod settling_tests;
 mod skip;
-#[cfg(test)]
-mod tests;
 
 pub use control::Control;

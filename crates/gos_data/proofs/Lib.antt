@@ -1,2 +1,1 @@
 pub mod LocalLemmas
-pub mod SettlingLemmas

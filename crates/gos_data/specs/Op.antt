@@ -6,8 +6,8 @@
 use Rattle.std.specs.Prelude.{◌≡◌, ℕ, ◌+◌, ◌≤◌, List, [], ◌∷◌}
 use Rattle.gos_netlist.specs.Nets.{Function, And, Or, Xor, Mux, Add, Sub, Eq, Less, Gate, Reg, Cell}
 use Rattle.gos_netlist.specs.Settling.{Numbers, at}
-use Rattle.gos_plan.specs.Kinds.{Operation, result_width}
-use Rattle.gos_plan.specs.Kinds as operations
+use Rattle.gos_model.specs.Terms.{Op as Operation, result_width}
+use Rattle.gos_model.specs.Terms as operations
 use Rattle.gos_plan.specs.Firing.{Phase, Rest, Left, Right, State, Req, Token}
 use Rattle.gos_plan.specs.Gates.{Incoming, Outgoing, Bare, Bearing, held}
 use Rattle.gos_plan.specs.Cells.{bit, wide, buffer}

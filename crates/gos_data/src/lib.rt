@@ -13,9 +13,5 @@ mod lit;
 mod local;
 mod not;
 mod op;
-#[cfg(test)]
-mod settling_tests;
-#[cfg(test)]
-mod tests;
 
 pub use arith::Arith;

@@ -4,7 +4,7 @@
 // Handshakes: 0 asks for the left number, 1 for the right one, 2 is served.
 ghost use Rattle.std.specs.Prelude.{◌≡◌, ◌+◌, ◌≤◌, length, map};
 ghost use Rattle.gos_netlist.specs.Seen.{cell_of, function_of};
-ghost use Rattle.gos_plan.specs.Kinds.{result_width};
+ghost use Rattle.gos_model.specs.Terms.{result_width};
 ghost use Rattle.gos_plan.specs.Seen.{operation_of};
 ghost use Rattle.gos_plan.specs.Wires.{nets_in, incoming_of, HoldNets};
 ghost use Rattle.gos_data.specs.Op.{gate_of, op_cells, op_outs};

@@ -12,7 +12,8 @@ use Rattle.gos_plan.specs.declared.plan.PlanImport.{PlanImport}
 use Rattle.gos_plan.specs.Kinds.{Part, Contact, contacts_of, part_contacts, turned_contact}
 use Rattle.gos_model.specs.Typing.{Imported}
 use Rattle.gos_plan.specs.Plans.{End, PartEnd, ImportEnd, ResultEnd, Plan, contacts_of_part, contacts_of_import, turned_if, contact_at}
-use Rattle.gos_plan.specs.Ranges.{HasWidths, IsInRange}
+use Rattle.gos_plan.specs.Ranges.{IsInRange}
+use Rattle.gos_types.specs.Widths.{HasWidths}
 use Rattle.gos_plan.specs.Seen.{SeenPlan, part_of, import_of, plan_of}
 use Rattle.gos_plan.specs.Fit.{GatesFit}
 use Rattle.gos_expand.specs.Gates.{layout, outs_of}
@@ -48,7 +49,7 @@ import_ground : (p : SeenPlan) (root : List ℕ) → CanBeLaid p root → (i : �
     → IsGround t.ty × HasWidths t.ty
 import_ground p root can i t is =
     let (x, found, same) = mapped_found import_of p.imports i t is in
-    let ground = one_of_all (λ y. IsGround (type_of y.ty)) p.imports i x can.ground found in
+    let ground = one_of_all (λ y. IsGround (type_of y.ty)) p.imports i x can.ports.ground found in
     let small = one_of_all (λ y. HasWidths (type_of y.ty)) p.imports i x (λ k d low. (can.in_range.of_imports k d low).0) found in
     subst (λ (y : Imported). IsGround y.ty × HasWidths y.ty) same (ground, small)
 
@@ -87,7 +88,7 @@ sound p root can =
       gates = part_fits p root can;
       narrow = narrow p root can;
       right = can.right;
-      done = can.result;
+      done = can.ports.result;
       done_widths = can.in_range.of_result.0;
       grounds = λ i t is. (import_ground p root can i t is).0;
       ground_widths = λ i t is. (import_ground p root can i t is).1;

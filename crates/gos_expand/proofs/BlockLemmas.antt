@@ -97,13 +97,6 @@ total_within f n (suc i) (y ∷ ys) x e =
     rw (← shift n i) (total_within f (suc n) i ys x e) in
     omega (arith, rest)
 
--- blocks of these sizes have the total together
-pub blocks_length : {A : Type 0} (f : ℕ → A → List Cell) (size : ℕ → A → ℕ) (n : ℕ) (xs : List A)
-    → ((m : ℕ) (x : A) → length (f m x) ≡ size m x) → length (blocks f n xs) ≡ total size n xs
-blocks_length f size n [] each = refl
-blocks_length f size n (x ∷ xs) each =
-    rw (length-append (f n x) (blocks f (suc n) xs), each n x, blocks_length f size (suc n) xs each) refl
-
 -- the first blocks with the next one are no more cells than all
 pub blocks_within : {A : Type 0} (f : ℕ → A → List Cell) (n i : ℕ) (xs : List A) (x : A) → slice_get xs i ≡ Some x
     → length (blocks f n (take i xs)) + length (f (n + i) x) ≤ length (blocks f n xs)

@@ -14,7 +14,7 @@ use Rattle.gos_model.specs.Typing.{Imported}
 use Rattle.gos_plan.specs.Plans.{End, PartEnd, ImportEnd, ResultEnd, Joint, Plan, contacts_of_part, contacts_of_import, turned_if, contact_at, IsRight}
 use Rattle.gos_plan.specs.Tokens.{bits_of, way_put, way_taken}
 use Rattle.gos_plan.specs.Gates.{Outgoing, Bare, Bearing, bits_out}
-use Rattle.gos_plan.specs.Ranges.{HasWidths}
+use Rattle.gos_types.specs.Widths.{HasWidths}
 use Rattle.gos_plan.specs.Fit.{IsOwn, GoesOut, AllGoOut, GatesFit}
 use Rattle.gos_expand.specs.Blocks.{Nets, nets_from, token_size, inputs, registers}
 use Rattle.gos_expand.specs.Gates.{layout, outs_of}

@@ -8,7 +8,7 @@ use Rattle.gos_model.specs.Flattening.{if_pulse, pulses_from}
 use Rattle.gos_model.specs.Protocol.{shake_of}
 use Rattle.gos_plan.specs.Kinds.{Contact, contacts_of}
 use Rattle.gos_plan.specs.Plans.{End}
-use Rattle.gos_plan.specs.Ranges.{HasWidths}
+use Rattle.gos_types.specs.Widths.{HasWidths}
 use Rattle.gos_plan.specs.Tokens.{Element}
 use Rattle.gos_expand.specs.Blocks.{Nets, nets_from, nets_on, total}
 use Rattle.gos_expand.specs.Starts.{shake_size, ends_at}

@@ -9,8 +9,10 @@ use Rattle.gos_types.specs.Types.{Type', Com, Exp, Var, Pair, Fun, type_of}
 use Rattle.gos_types.specs.Handshakes.{Shake, turn, turn_all, one_below, below, handshakes_of}
 use Rattle.gos_plan.specs.declared.kinds.Kind.{Kind}
 use Rattle.gos_plan.specs.declared.kinds.Kind.TheVariants as kinds
-use Rattle.gos_plan.specs.Kinds.{Operation, Add, Sub, And, Or, Xor, Eq, Less, Contact, contact, contacts_of, part_contacts, turned_contact, other_side, result_width}
-use Rattle.gos_plan.specs.Ranges.{HasWidths, IsInRange}
+use Rattle.gos_plan.specs.Kinds.{Contact, contact, contacts_of, part_contacts, turned_contact, other_side}
+use Rattle.gos_model.specs.Terms.{Op as Operation, Add, Sub, And, Or, Xor, Eq, Less, result_width}
+use Rattle.gos_plan.specs.Ranges.{IsInRange}
+use Rattle.gos_types.specs.Widths.{HasWidths}
 use Rattle.gos_plan.specs.Seen.{part_of, operation_of}
 
 -- what holds of each element, mapped and joined

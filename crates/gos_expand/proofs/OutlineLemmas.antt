@@ -15,7 +15,7 @@ use Rattle.gos_model.specs.Protocol.{IsQuiet, IsQuietFrom, shake_of}
 use Rattle.gos_plan.specs.Kinds.{Contact, contacts_of}
 use Rattle.gos_model.specs.Typing.{Imported}
 use Rattle.gos_plan.specs.Plans.{End, PartEnd, ImportEnd, ResultEnd, Plan, contact_at, contacts_of_import, turned_if, same_end}
-use Rattle.gos_plan.specs.Ranges.{HasWidths}
+use Rattle.gos_types.specs.Widths.{HasWidths}
 use Rattle.gos_plan.specs.Tokens.{Element, Out, In, IsPortEnd}
 use Rattle.gos_plan.specs.Accounts.{outs_at, ins_at}
 use Rattle.gos_plan.specs.Cycles.{end_of_label, out_of, in_of, outs_of, ins_of}

@@ -13,7 +13,7 @@ use Rattle.gos_plan.specs.Cells.{bit, wide}
 use Rattle.gos_plan.specs.Gates.{Settled}
 use Rattle.gos_plan.specs.Fit.{HasNoInput}
 use Rattle.gos_plan.specs.Tokens.{places_of, asking_in}
-use Rattle.gos_plan.proofs.JointLemmas.{IsIn}
+use Rattle.gos_plan.proofs.JointLemmas.{IsIn, same_itself}
 use Rattle.gos_plan.proofs.BalanceLemmas.{ends_differ}
 use Rattle.gos_expand.specs.Blocks.{Nets, nets_from, token_size, registers, nothing, inputs}
 use Rattle.gos_expand.specs.Starts.{keep_all, Outer, ports_of, port_start, joint_start, bits_if, bits_taken, loose_start, part_start, shake_size}
@@ -21,7 +21,7 @@ use Rattle.gos_expand.specs.Laid.{Seat, seat_among, seat_of, arrives, arrives_by
 use Rattle.gos_expand.specs.Facts.{Delays, source, target, width, bits_put}
 use Rattle.gos_expand.proofs.StandLemmas.{StandAt, each_left, each_right, each_block}
 use Rattle.gos_expand.proofs.GroupLemmas.{token_length, shakes_length, port_stands, joint_stands, part_stands}
-use Rattle.gos_expand.proofs.SeatLemmas.{joint_fits, same_itself, loose_stands}
+use Rattle.gos_expand.proofs.SeatLemmas.{joint_fits, loose_stands}
 use Rattle.gos_expand.proofs.FlowLemmas.{ground_serves}
 use Rattle.gos_expand.proofs.PortLemmas.{port_there}
 use Rattle.gos_expand.proofs.StandingLemmas.{is_in_at}

@@ -12,7 +12,7 @@ use Rattle.gos_netcheck.specs.PortRules.{place, places, AllFit, inputs_among, in
 use Rattle.gos_plan.specs.Kinds.{contacts_of}
 use Rattle.gos_model.specs.Typing.{Imported}
 use Rattle.gos_plan.specs.Plans.{End, Joint, ImportEnd, ResultEnd, Plan, contact_at}
-use Rattle.gos_plan.specs.Ranges.{HasWidths}
+use Rattle.gos_types.specs.Widths.{HasWidths}
 use Rattle.gos_plan.specs.Fit.{HasNoInput}
 use Rattle.gos_expand.specs.Blocks.{Nets, registers, total, nets_on}
 use Rattle.gos_expand.specs.Starts.{keep_all, Outer, ports_of, taken_ports, port_size, bits_if, bits_taken, port_start, joint_start, part_start}

@@ -16,7 +16,7 @@ use Rattle.gos_plan.specs.Ranges as ranges
 use Rattle.gos_plan.specs.Kept.{KeepLaws}
 use Rattle.gos_plan.proofs.TokenBitsLemmas.{literals_fit}
 use Rattle.gos_expand.specs.Gates.{layout, outs_of, late_of, pending_of, stands_of}
-use Rattle.gos_expand.specs.Kept.{all_gates}
+use Rattle.gos_expand.proofs.KeptLemmas.{all_gates}
 use Rattle.gos_expand.specs.Blocks.{Nets}
 use Rattle.gos_expand.specs.Starts.{keep_all, part_start}
 use Rattle.gos_expand.specs.Laid.{leaves, arrives, nets_out, outs_if, incoming, laid_cells, laid}

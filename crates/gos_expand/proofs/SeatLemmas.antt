@@ -9,27 +9,12 @@ use Rattle.gos_netlist.specs.Events.{Request, Answer}
 use Rattle.gos_plan.specs.Kinds.{Part, Contact, contacts_of, part_contacts}
 use Rattle.gos_model.specs.Typing.{Imported}
 use Rattle.gos_plan.specs.Plans.{End, PartEnd, ImportEnd, ResultEnd, Joint, Plan, contacts_of_part, contacts_of_import, turned_if, contact_at, same_end, is_free, Fits, AreRight}
+use Rattle.gos_plan.proofs.JointLemmas.{same_itself, same_is}
 use Rattle.gos_expand.specs.Blocks.{blocks, nothing}
 use Rattle.gos_expand.specs.Starts.{keep_all, ports_of, taken_ports, bits_taken, ends_at, port_ends, part_ends, loose_ends, loose_size, start_among, loose_start, loose_ends_start}
 use Rattle.gos_expand.specs.Laid.{Seat, seat_among, seat_of, loose_cells, laid_cells}
 use Rattle.gos_expand.proofs.StandLemmas.{Each, StandAt, each_left, each_right, each_moved}
 use Rattle.gos_expand.proofs.GroupLemmas.{loose_length, loose_stand}
-
-pub same_itself : (e : End) → same_end e e ≡ true
-same_itself (PartEnd i h) = grind arith
-same_itself (ImportEnd i h) = grind arith
-same_itself (ResultEnd h) = grind arith
-
-pub same_is : (d e : End) → same_end d e ≡ true → d ≡ e
-same_is (PartEnd i h) (PartEnd j g) t = grind (arith, t)
-same_is (PartEnd i h) (ImportEnd j g) t = grind (arith, t)
-same_is (PartEnd i h) (ResultEnd g) t = grind (arith, t)
-same_is (ImportEnd i h) (PartEnd j g) t = grind (arith, t)
-same_is (ImportEnd i h) (ImportEnd j g) t = grind (arith, t)
-same_is (ImportEnd i h) (ResultEnd g) t = grind (arith, t)
-same_is (ResultEnd h) (PartEnd j g) t = grind (arith, t)
-same_is (ResultEnd h) (ImportEnd j g) t = grind (arith, t)
-same_is (ResultEnd h) (ResultEnd g) t = grind (arith, t)
 
 -- each joint of right ones fits
 pub joint_fits : (p : Plan) (before js : List Joint) (x : ℕ) (j : Joint) → AreRight p before js → slice_get js x ≡ Some j → Fits p j

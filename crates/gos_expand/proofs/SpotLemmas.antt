@@ -10,7 +10,7 @@ use Rattle.gos_netlist.specs.Nets.{Function, Input, Reg, Cell, Side, Give, Take}
 use Rattle.gos_netlist.specs.Events.{Direction, Request, Answer, is_input}
 use Rattle.gos_netcheck.specs.PortRules.{place, places, IsEnd, Fits, FitsAt, AllFit, inputs_among, AreNew}
 use Rattle.gos_plan.specs.Kinds.{Contact, contacts_of}
-use Rattle.gos_plan.specs.Ranges.{HasWidths}
+use Rattle.gos_types.specs.Widths.{HasWidths}
 use Rattle.gos_expand.specs.Blocks.{Nets, token_size, token_cells, inputs, registers, blocks, total, nets_on}
 use Rattle.gos_expand.specs.Starts.{shake_size}
 use Rattle.gos_expand.specs.Laid.{side_cells}

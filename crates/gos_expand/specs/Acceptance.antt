@@ -15,13 +15,16 @@ use Rattle.gos_expand.specs.Laid.{laid}
 abbrev pub AreDifferent : List (List ℕ) → Type 0
 AreDifferent names = (i j : ℕ) (a b : List ℕ) → i < j → slice_get names i ≡ Some a → slice_get names j ≡ Some b → a ≢ b
 
--- The plan is right and in range, its result is a command or an expression, its imports have ground types, and no two
--- of its ports have one name.
+-- the result is a command or an expression, and the imports have ground types
+pub record HasGroundPorts (p : SeenPlan) : Type 0 where
+  pub result : IsDone (type_of p.outcome)
+  pub ground : All (λ i. IsGround (type_of i.ty)) p.imports
+
+-- The plan is right and in range, its ports are ground, and no two of them have one name.
 pub record CanBeLaid (p : SeenPlan) (root : List ℕ) : Type 0 where
   pub in_range : AreInRange p.imports p.outcome p.parts
   pub right : IsRight (plan_of p)
-  pub result : IsDone (type_of p.outcome)
-  pub ground : All (λ i. IsGround (type_of i.ty)) p.imports
+  pub ports : HasGroundPorts p
   pub names : AreDifferent (root ∷ map (λ i. i.name) p.imports)
 
 -- the netlist of such a plan, with a register in each direction of each joint, is accepted

@@ -67,7 +67,8 @@ fn longer(value: Option<u64>, b: u8, low: u64, high: u64) -> Option<u64>
 
 // The number with one more digit, where it is below 2^64 and has no leading zero.
 fn with_digit(value: Option<u64>, b: u8) -> Option<u64>
-    ensures { MatchOption result (Begins (IsDecimalIn 0 (2 ^ 64 - 1)) (digits_so_far value ++ b ∷ []) → ⊥) (λ next. digits_so_far value ++ b ∷ [] ≡ decimal next) }
+    ensures { MatchOption result (Begins (IsDecimalIn 0 (2 ^ 64 - 1)) (digits_so_far value ++ b ∷ []) → ⊥) (λ next.
+        digits_so_far value ++ b ∷ [] ≡ decimal next) }
 {
     if !b.is_ascii_digit() {
         return None;

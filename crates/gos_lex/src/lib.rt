@@ -25,7 +25,5 @@ mod name;
 mod numeral;
 mod scanner;
 mod sign;
-#[cfg(test)]
-mod tests;
 mod token;
 mod word;

@@ -10,6 +10,4 @@ pub use words::{all_different, is_among, place_of};
 
 mod lines;
 mod numbers;
-#[cfg(test)]
-mod tests;
 mod words;

@@ -19,8 +19,13 @@ pub struct Line<'a> {
 
 /// The first line of a text that says something; none where no line does. `Err` is want of memory alone.
 pub fn next_line<'a>(alloc: Global, text: &'a [u8]) -> Result<Option<Line<'a>>, AllocError>
-    ensures line { IfOk result (λ next. MatchOption next (content_of text.now ≡ []) (λ line. content_of text.now ≡ map (λ word. word.now) line.words.items ∷ content_of line.rest.now)) }
-    ensures numbered { IfOk result (λ next. MatchOption next ((n : ℕ) → statements_from n (lines text.now) ≡ []) (λ line. (n : ℕ) → statements_from n (lines text.now) ≡ (record { line = n + line.skipped; words = map (λ word. word.now) line.words.items }) ∷ statements_from (n + line.skipped + 1) (lines line.rest.now))) }
+    ensures line { IfOk result (λ next. MatchOption next (content_of text.now ≡ []) (λ line.
+        content_of text.now ≡ map (λ word. word.now) line.words.items ∷ content_of line.rest.now)) }
+    ensures numbered { IfOk result (λ next. MatchOption next ((n : ℕ) → statements_from n (lines text.now) ≡ []) (λ line.
+        (n : ℕ)
+        → statements_from n (lines text.now)
+        ≡ (record { line = n + line.skipped; words = map (λ word. word.now) line.words.items }) ∷ statements_from
+        (n + line.skipped + 1) (lines line.rest.now))) }
     ensures shorter { IfOk result (λ next. IfSome next (λ line. line.skipped + length line.rest.now < length text.now)) }
 {
     let mut skipped = 0;

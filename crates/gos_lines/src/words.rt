@@ -27,7 +27,8 @@ pub fn is_among(word: &[u8], words: &[&[u8]]) -> bool
 
 /// The place of a word among these; none where it isn't one of them.
 pub fn place_of(word: &[u8], words: &[&[u8]]) -> Option<usize>
-    ensures { MatchOption result ((k : ℕ) → slice_get (map (λ word. word.now) words.now) k ≡ Some word.now → ⊥) (λ k. (k < length words.now) × (slice_get (map (λ word. word.now) words.now) k ≡ Some word.now)) }
+    ensures { MatchOption result ((k : ℕ) → slice_get (map (λ word. word.now) words.now) k ≡ Some word.now → ⊥) (λ k.
+        (k < length words.now) × (slice_get (map (λ word. word.now) words.now) k ≡ Some word.now)) }
 {
     match words {
         [] => None,

@@ -7,3 +7,4 @@ mod TypingLemmas
 mod LatchLemmas
 pub mod SmallPaceLemmas
 mod SilentLemmas
+pub mod StoreLemmas

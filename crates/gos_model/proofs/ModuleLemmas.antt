@@ -2,15 +2,19 @@
 use Rattle.std.specs.Prelude.{◌≡◌, zero, suc, [], ◌∷◌, Contains}
 use Rattle.std.proofs.Common.{arith, refl, sym, ◌∙◌}
 use Rattle.gos_types.specs.Types.{Com, Fun}
-use Rattle.gos_model.specs.Typing.{Thing, Named, IsWidth}
+use Rattle.gos_model.specs.Typing.{Thing, Named}
+use Rattle.gos_types.specs.Widths.{IsWidth}
 use Rattle.gos_model.specs.SmallPrograms.{c}
-use Rattle.gos_model.specs.SmallModules.{f, v, Weights, Types, Shared, Links}
+use Rattle.gos_model.specs.SmallModules.{f, v, Weights, Types, Shared, Links, LinkWeighs}
 
 pub weights : Weights
 weights = (refl, refl, refl, refl, refl, refl)
 
 pub links : Links
 links = refl
+
+pub link_weighs : LinkWeighs
+link_weighs = refl
 
 pub shared : Shared
 shared (t, m, n, apart) = apart (Named c) (0, omega arith, refl) (0, omega arith, refl)

@@ -1,11 +1,12 @@
--- A reached place has a path.
-use Rattle.std.specs.Prelude.{ℕ, zero, suc, List, [], ◌∷◌}
-use Rattle.std.proofs.Common.{inl, inr}
+-- A reached place has a path, whatever changes it.
+use Rattle.std.specs.Prelude.{◌↔◌, ◌⊎◌, ℕ, zero, suc, List, [], ◌∷◌}
+use Rattle.std.proofs.Common.{inl, inr, refl}
 use Rattle.gos_model.specs.Terms.{Term, Seq, Par, If, Assign, Not, Bin, Scope, Held}
-use Rattle.gos_model.specs.Reach.{Rel, Reached, Below}
-use Rattle.gos_model.specs.Paths.{ReachedAt}
+use Rattle.gos_model.specs.Reach.{Rel, Reached, Below, Under, Aside, Rewrites}
+use Rattle.gos_model.specs.Paths.{ReachedAt, AtSomePath}
 use Rattle.gos_model.specs.Steps.{Computes}
-use Rattle.gos_model.specs.Laws.{StepsHavePaths}
+use Rattle.gos_model.specs.Labels.{Emits, Takes}
+use Rattle.gos_model.specs.Laws.{StepsHavePaths, LabelsHavePaths, UnfoldingsHavePaths}
 
 -- the path below a place that is known to be reached
 path_of : (R : Rel) (m t : Term) → Below R m t → (path : List ℕ) × ReachedAt path R m t
@@ -47,5 +48,16 @@ path_reached R (suc zero ∷ path) (Assign m n) t (n', e, h) = inr (n', e, path_
 path_reached R (zero ∷ path) (Scope l m) t (m', e, h) = inr (m', e, path_reached R path m m' h)
 path_reached R (i ∷ path) m t h = absurd h
 
+same_places : (R : Rel) (m t : Term) → Reached R m t ↔ AtSomePath R m t
+same_places R m t = (reached_path R m t, λ h. path_reached R h.0 m t h.1)
+
 pub steps_have_paths : StepsHavePaths
-steps_have_paths s s' m t = (reached_path (Computes s s') m t, λ h. path_reached (Computes s s') h.0 m t h.1)
+steps_have_paths s s' = same_places (Computes s s')
+
+pub labels_have_paths : LabelsHavePaths
+labels_have_paths i o s m t =
+    let R : Rel = λ a b. Emits i o a b ⊎ Takes i o a b in
+    (λ h. reached_path R m t h.0, λ h. (path_reached R h.0 m t h.1, refl))
+
+pub unfoldings_have_paths : UnfoldingsHavePaths
+unfoldings_have_paths = same_places (λ a b. (Rewrites a b ⊎ Under Rewrites a b) ⊎ Aside Rewrites a b)

@@ -142,7 +142,7 @@ loop_runs = (
                   (0, (Scope 0 body_then_loop), refl, inr ((then_loop (Seq (Put (Loc 0) 1) (Import c))), refl, inr ((Seq (Put (Loc 0) 1) (Import c)), refl, inr ((Put (Loc 0) 1), refl, inl (1, 1, refl, refl, refl))))),
                   (
                     Running (running (Seq Skip (Import c))) again,
-                    (0, (running (Seq (Put (Loc 0) 1) (Import c))), refl, inr ((then_loop (Seq Skip (Import c))), refl, inr ((Seq Skip (Import c)), refl, inr (Skip, refl, inl (0, refl, refl, refl))))),
+                    (0, (running (Seq (Put (Loc 0) 1) (Import c))), refl, inr ((then_loop (Seq Skip (Import c))), refl, inr ((Seq Skip (Import c)), refl, inr (Skip, refl, inl (entry 0 1 0, refl, refl, refl, refl))))),
                     (
                       Running (running (Import c)) again,
                       (0, (running (Seq Skip (Import c))), refl, inr ((then_loop (Import c)), refl, inr ((Import c), refl, inl (refl, refl, refl)))),

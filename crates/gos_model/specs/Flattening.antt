@@ -1,7 +1,7 @@
 -- The pulses of a run, as lists of labels.
 --
 -- Read first: Labels, Settling. Within a cycle the outputs come before the inputs, and otherwise the order is free.
-use Rattle.std.specs.Prelude.{◌≡◌, ℕ, zero, suc, not, List, [], ◌∷◌, ◌++◌, filter, nat_eq, if◌then◌else◌}
+use Rattle.std.specs.Prelude.{◌≡◌, ℕ, suc, not, List, [], ◌∷◌, ◌++◌, filter, nat_eq, if◌then◌else◌, Some, None}
 use Rattle.gos_model.specs.Terms.{Name}
 use Rattle.gos_model.specs.Labels.{Port, Given, Taken, Label, is_output}
 use Rattle.gos_netlist.specs.Events.{Event, Is, events}
@@ -17,11 +17,11 @@ port_of Take x = Taken x
 abbrev pub if_pulse : ℕ → Label → List Label
 if_pulse on l = if nat_eq on 1 then l ∷ [] else []
 
--- The pulses of a port's events from number n on. An event without bits has one net, another one a second for its number.
+-- The pulses of a port's events from number n on. An event without a number has one net, another one a second for its number.
 abbrev pub pulses_from : Port → ℕ → List Event → List ℕ → Numbers → List Label
-pulses_from p n (Is way zero ∷ es) (a ∷ nets) v =
+pulses_from p n (Is way None ∷ es) (a ∷ nets) v =
     if_pulse (at v a) (record { port = p; event = n; value = 0 }) ++ pulses_from p (suc n) es nets v
-pulses_from p n (Is way (suc b) ∷ es) (a ∷ x ∷ nets) v =
+pulses_from p n (Is way (Some b) ∷ es) (a ∷ x ∷ nets) v =
     if_pulse (at v a) (record { port = p; event = n; value = at v x }) ++ pulses_from p (suc n) es nets v
 pulses_from p n es nets v = []
 

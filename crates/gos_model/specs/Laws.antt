@@ -1,14 +1,17 @@
 -- Laws of the definitions.
 --
--- Read first: Weight, Paths.
-use Rattle.std.specs.Prelude.{◌≡◌, ◌↔◌, ℕ, List}
+-- Read first: Weight, Paths, Moves.
+use Rattle.std.specs.Prelude.{◌≡◌, ◌↔◌, ◌⊎◌, ℕ, List, Some, None}
 use Rattle.gos_types.specs.Types.{Type'}
-use Rattle.gos_model.specs.Terms.{Term}
+use Rattle.gos_model.specs.Terms.{Term, Loc, Put}
 use Rattle.gos_model.specs.Typing.{Imports, Typed}
 use Rattle.gos_model.specs.Weight.{node_type}
-use Rattle.gos_model.specs.Stores.{Store}
+use Rattle.gos_model.specs.Stores.{Entry, Store, entry_at}
+use Rattle.gos_model.specs.Reach.{Under, Aside, Rewrites, Unfolds}
+use Rattle.gos_model.specs.Paths.{AtSomePath}
 use Rattle.gos_model.specs.Steps.{Steps, Computes}
-use Rattle.gos_model.specs.Paths.{ReachedAt}
+use Rattle.gos_model.specs.Labels.{Label, Emits, Takes}
+use Rattle.gos_model.specs.Moves.{Showing, Acts}
 
 -- a typed term has one type
 abbrev pub OneType : Type 0
@@ -20,4 +23,24 @@ NodeHasType = (i : Imports) (g : List Type') (m : Term) (t : Type') → Typed i 
 
 -- a step at a reached place is a step at a path
 abbrev pub StepsHavePaths : Type 0
-StepsHavePaths = (s s' : Store) (m t : Term) → Steps s s' m t ↔ ((path : List ℕ) × ReachedAt path (Computes s s') m t)
+StepsHavePaths = (s s' : Store) (m t : Term) → Steps s s' m t ↔ AtSomePath (Computes s s') m t
+
+-- and so is a label
+abbrev pub LabelsHavePaths : Type 0
+LabelsHavePaths =
+    (i : Imports) (o : Label) (s : Store) (m t : Term) → Acts i (Showing o) s s m t ↔ AtSomePath (λ a b. Emits i o a b ⊎ Takes i o a b) m t
+
+-- and an unfolding of a head there
+abbrev pub UnfoldingsHavePaths : Type 0
+UnfoldingsHavePaths =
+    (m t : Term) → Unfolds m t ↔ AtSomePath (λ a b. (Rewrites a b ⊎ Under Rewrites a b) ⊎ Aside Rewrites a b) m t
+
+-- after a write the location has its width and the number that was written
+abbrev pub WritesStore : Type 0
+WritesStore =
+    (s s' : Store) (m t : Term) (k : ℕ) → Computes s s' (Put m k) t
+    → (e : Entry) × (entry_at s e.place ≡ Some e) × (entry_at s' e.place ≡ Some record e { number = k })
+
+-- a location that the store doesn't have is not written
+abbrev pub AbsentIsNotWritten : Type 0
+AbsentIsNotWritten = (s s' : Store) (l k : ℕ) (t : Term) → entry_at s l ≡ None → Computes s s' (Put (Loc l) k) t → ⊥

@@ -1,11 +1,12 @@
 -- The substituted program of linked modules.
 --
--- Read first: Moves. It is the root's body, in which each bound import is the substituted program of its giver. The
+-- Read first: Moves, Weight. It is the root's body, in which each bound import is the substituted program of its giver. The
 -- open imports stay as names, in the order of the instances.
-use Rattle.std.specs.Prelude.{ℕ, zero, suc, List, [], ◌∷◌, ◌++◌, length, Option, Some, None, nat_eq, ◌&&◌, if◌then◌else◌}
+use Rattle.std.specs.Prelude.{ℕ, zero, suc, List, [], ◌∷◌, ◌++◌, length, sum_by, Option, Some, None, nat_eq, ◌&&◌, if◌then◌else◌}
 use Rattle.std.specs.Str.{bytes_eq}
 use Rattle.gos_model.specs.Terms.{Name, Term, Skip, Lit, Bound, Import, Lam, App, Both, Fst, Snd, Seq, Par, If, While, Assign, Deref, New, Not, Bin, Loc, Scope, Wait, Held, Put}
 use Rattle.gos_model.specs.Typing.{Imports, Imported}
+use Rattle.gos_model.specs.Weight.{weight}
 use Rattle.gos_model.specs.Moves.{Program}
 
 -- what stands for an import
@@ -89,3 +90,7 @@ open_from bs u (p ∷ ps) = open_of bs u p.imports ++ open_from bs (suc u) ps
 -- the root's body with all givers put in, and the open imports of all instances
 abbrev pub substituted : Instances → List Bind → ℕ → Program
 substituted ps bs root = record { imports = open_from bs 0 ps; body = linked ps bs (length ps) root }
+
+-- the weight of a link: the sum over its instances
+abbrev pub link_weight : Instances → ℕ
+link_weight = sum_by (λ p. weight p.imports p.body)

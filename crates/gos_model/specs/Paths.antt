@@ -1,6 +1,7 @@
 -- Reached places by their child numbers.
 --
--- Read first: Reach. A step at a reached place is a step at a path, both ways: the law StepsHavePaths.
+-- Read first: Reach. What changes a reached place changes the place at a path, and the other way round. The laws
+-- StepsHavePaths, LabelsHavePaths and UnfoldingsHavePaths say so of all that is lifted to a reached place.
 use Rattle.std.specs.Prelude.{◌≡◌, ℕ, zero, suc, List, [], ◌∷◌}
 use Rattle.gos_model.specs.Terms.{Term, Seq, Par, If, Assign, Not, Bin, Scope, Held}
 use Rattle.gos_model.specs.Reach.{Rel}
@@ -18,3 +19,7 @@ ReachedAt (zero ∷ path) R (Not m) t = (m' : Term) × (t ≡ Not m') × Reached
 ReachedAt (suc zero ∷ path) R (Assign m n) t = (n' : Term) × (t ≡ Assign m n') × ReachedAt path R n n'
 ReachedAt (zero ∷ path) R (Scope l m) t = (m' : Term) × (t ≡ Scope l m') × ReachedAt path R m m'
 ReachedAt (i ∷ path) R m t = ⊥
+
+-- R changes the reached place at some path
+abbrev pub AtSomePath : Rel → Rel
+AtSomePath R m t = (path : List ℕ) × ReachedAt path R m t

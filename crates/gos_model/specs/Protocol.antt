@@ -6,7 +6,7 @@ use Rattle.std.specs.Str.{bytes_eq}
 use Rattle.gos_types.specs.Types.{Type'}
 use Rattle.gos_model.specs.Typing.{Imports, import_type}
 use Rattle.gos_model.specs.Labels.{Port, Given, Taken, Label, is_answer, is_output_at, is_output}
-use Rattle.gos_netlist.specs.Events.{Event, Is, Answer, events}
+use Rattle.gos_netlist.specs.Events.{Event, Is, Answer, bits_of, events}
 use Rattle.gos_netlist.specs.Nets.{Input, Cell, Side, Give, Take, NetPort, Netlist}
 use Rattle.gos_netlist.specs.Settling.{Numbers, at}
 use Rattle.gos_model.specs.Flattening.{port_of, Flattening, flat}
@@ -37,7 +37,7 @@ event_of (Some t) n = slice_get (events t) n
 
 -- the event is an answer, and the number k has at most its bits
 abbrev pub FitsAnswer : Option Event → ℕ → Type 0
-FitsAnswer (Some (Is Answer bits)) k = k < 2 ^ bits
+FitsAnswer (Some (Is Answer number)) k = k < 2 ^ bits_of number
 FitsAnswer event k = ⊥
 
 -- Whether the input of event n with number k may come after these labels, newest first: a request at the given port
@@ -72,8 +72,8 @@ RunKeeps net vs = (parts : List (List Label)) → Flattening net vs parts → Ke
 
 -- From event number n of a port on: where the pulse of an input is 0, so is its number.
 abbrev pub IsQuietFrom : Port → ℕ → List Event → List ℕ → Numbers → Type 0
-IsQuietFrom p n (Is way zero ∷ es) (a ∷ nets) ins = IsQuietFrom p (suc n) es nets ins
-IsQuietFrom p n (Is way (suc b) ∷ es) (a ∷ x ∷ nets) ins =
+IsQuietFrom p n (Is way None ∷ es) (a ∷ nets) ins = IsQuietFrom p (suc n) es nets ins
+IsQuietFrom p n (Is way (Some b) ∷ es) (a ∷ x ∷ nets) ins =
     (IsFalse (is_output_at p n) → at ins a ≡ 0 → at ins x ≡ 0) × IsQuietFrom p (suc n) es nets ins
 IsQuietFrom p n es nets ins = Unit {0}
 

@@ -7,7 +7,7 @@ use Rattle.gos_model.specs.Terms.{Name, Term, Skip, Lit, Bound, Import, Lam, App
 use Rattle.gos_model.specs.Typing.{Typed}
 use Rattle.gos_model.specs.Weight.{weight}
 use Rattle.gos_model.specs.Moves.{Program}
-use Rattle.gos_model.specs.Linking.{Bind, substituted}
+use Rattle.gos_model.specs.Linking.{Bind, substituted, link_weight}
 use Rattle.gos_model.specs.SmallPrograms.{c, d, two_commands, loop_once}
 
 -- a loop that runs its second argument as often as its first says
@@ -64,3 +64,7 @@ Links =
       imports = record { name = v; ty = Var 8 } ∷ [];
       body = Seq (App twice.body (Assign (Import v) (Lit 1 8))) (App twice.body (Assign (Import v) (Lit 2 8)));
     }
+
+-- it weighs what both weigh together; a giver counts once, at however many uses its program is put in
+abbrev pub LinkWeighs : Type 0
+LinkWeighs = link_weight (user ∷ twice ∷ []) ≡ 84

@@ -11,7 +11,7 @@ use Rattle.gos_syntax.specs.Trees as trees
 use Rattle.gos_syntax.specs.Trees.{Tree, tree_of}
 use Rattle.gos_syntax.specs.Modules.{SeenImport, SeenModule}
 use Rattle.gos_model.specs.Terms.{Name, Op, Add, Sub, And, Or, Xor, Eq, Less, Term, Skip, Lit, Bound, Import, Lam, App, Both, Fst, Snd, Seq, Par, If, While, Assign, Deref, New, Not, Bin}
-use Rattle.gos_model.specs.Typing.{Imported, Imports}
+use Rattle.gos_model.specs.Typing.{Imported}
 use Rattle.gos_model.specs.Moves.{Program}
 
 -- one binder further in

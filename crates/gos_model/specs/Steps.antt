@@ -12,7 +12,8 @@ abbrev pub IsValue : Term → Type 0
 IsValue m = (m ≡ Skip) ⊎ ((k : ℕ) × (w : ℕ) × (m ≡ Lit k w))
 
 -- One row for each form: a term with store s becomes t with store s', at the place itself. A loop becomes a choice,
--- an operator holds its left operand, and a new variable gets a location that the store doesn't have, with number 0.
+-- an operator holds its left operand, and a new variable gets a location that the store doesn't have, with number 0. Only
+-- a location that the store has is read or written.
 abbrev pub Computes : Store → Store → Rel
 Computes s s' (Seq m n) t = (m ≡ Skip) × (t ≡ n) × (s' ≡ s)
 Computes s s' (Par m n) t = (m ≡ Skip) × (n ≡ Skip) × (t ≡ Skip) × (s' ≡ s)
@@ -23,7 +24,8 @@ Computes s s' (Held k op n) t =
     (j : ℕ) × (w : ℕ) × (n ≡ Lit j w) × (t ≡ Lit (result_of op w k j) (result_width op w)) × (s' ≡ s)
 Computes s s' (Not m) t = (k : ℕ) × (w : ℕ) × (m ≡ Lit k w) × (t ≡ Lit (complement w k) w) × (s' ≡ s)
 Computes s s' (Assign m n) t = (k : ℕ) × (w : ℕ) × (n ≡ Lit k w) × (t ≡ Put m k) × (s' ≡ s)
-Computes s s' (Put m k) t = (l : ℕ) × (m ≡ Loc l) × (t ≡ Skip) × (s' ≡ store_put s l k)
+Computes s s' (Put m k) t =
+    (e : Entry) × (m ≡ Loc e.place) × (entry_at s e.place ≡ Some e) × (t ≡ Skip) × (s' ≡ store_put s e.place k)
 Computes s s' (Deref m) t =
     (e : Entry) × (m ≡ Loc e.place) × (entry_at s e.place ≡ Some e) × (t ≡ Lit e.number e.width) × (s' ≡ s)
 Computes s s' (New w m) t =

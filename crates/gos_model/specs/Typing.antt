@@ -2,9 +2,10 @@
 --
 -- Read first: Terms. `Typed` has a row for each form, and no order of search. It is Reynolds' syntactic control of
 -- interference in its affine form: the two parts of an application share no name, and neither do those of `||`.
-use Rattle.std.specs.Prelude.{◌≡◌, ℕ, suc, ◌-◌, ◌^◌, ◌<◌, ◌≤◌, List, [], ◌∷◌, ◌++◌, Contains, Option, Some, None, nat_lt, if◌then◌else◌, slice_get}
+use Rattle.std.specs.Prelude.{◌≡◌, ℕ, suc, ◌-◌, ◌^◌, ◌<◌, List, [], ◌∷◌, ◌++◌, Contains, Option, Some, None, nat_lt, if◌then◌else◌, slice_get}
 use Rattle.std.specs.Str.{bytes_eq}
 use Rattle.gos_types.specs.Types.{Type', Com, Exp, Var, Pair, Fun, IsDone}
+use Rattle.gos_types.specs.Widths.{IsWidth}
 use Rattle.gos_model.specs.Terms.{Name, Term, Skip, Lit, Bound, Import, Lam, App, Both, Fst, Snd, Seq, Par, If, While, Assign, Deref, New, Not, Bin, Loc, Scope, Wait, Held, Put, result_width}
 
 -- an import: its name and its type
@@ -56,10 +57,6 @@ things d (Put m k) = things d m
 -- nothing is free in both
 abbrev pub Apart : Term → Term → Type 0
 Apart m n = (t : Thing) → Contains (things 0 m) t → Contains (things 0 n) t → ⊥
-
--- widths are 1 to 32
-abbrev pub IsWidth : ℕ → Type 0
-IsWidth w = (1 ≤ w) × (w ≤ 32)
 
 -- A term with imports i, under binders of the types g with the innermost first, has type t. Running forms have none.
 abbrev pub Typed : Imports → List Type' → Term → Type' → Type 0

@@ -1,6 +1,14 @@
 // What the definitions say, in small. Each theorem is the contract of a function that does nothing.
-ghost use Rattle.gos_model.specs.Laws.{NodeHasType, OneType, StepsHavePaths};
-ghost use Rattle.gos_model.specs.SmallModules.{Weights, Types, Shared, Links};
+ghost use Rattle.gos_model.specs.Laws.{
+  NodeHasType,
+  OneType,
+  StepsHavePaths,
+  LabelsHavePaths,
+  UnfoldingsHavePaths,
+  WritesStore,
+  AbsentIsNotWritten,
+};
+ghost use Rattle.gos_model.specs.SmallModules.{Weights, Types, Shared, Links, LinkWeighs};
 ghost use Rattle.gos_model.specs.SmallPace.{LatchFlattens, SilentLags, SkipKeepsPace};
 ghost use Rattle.gos_model.specs.SmallPrograms.{
   SeqRuns,
@@ -31,12 +39,14 @@ pub fn small_traces()
     ensures twice { DoubleAsksTwice }
 {}
 
-/// Modules have their weights and types, a name in both parts is refused, and a link puts the giver in.
+/// Modules have their weights and types, a name in both parts is refused, and a link puts the giver in and weighs what
+/// its instances weigh together.
 pub fn small_modules()
     ensures weights { Weights }
     ensures types { Types }
     ensures shared { Shared }
     ensures links { Links }
+    ensures weighs { LinkWeighs }
 {}
 
 /// A typed term has one type, and weighs by it.
@@ -45,9 +55,17 @@ pub fn types_of_terms()
     ensures one { OneType }
 {}
 
-/// A step at a reached place is a step at a path, both ways.
+/// A step at a reached place is a step at a path, both ways, and so are a label and an unfolding.
 pub fn reached_places()
-    ensures { StepsHavePaths }
+    ensures step { StepsHavePaths }
+    ensures label { LabelsHavePaths }
+    ensures unfolding { UnfoldingsHavePaths }
+{}
+
+/// A write leaves its number in the store, at a location that the store has.
+pub fn writes()
+    ensures left { WritesStore }
+    ensures absent { AbsentIsNotWritten }
 {}
 
 /// The pulses of a latch are run in cycle 0, and done in all later ones.

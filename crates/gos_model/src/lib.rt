@@ -7,10 +7,8 @@
 #![tactic(auto)]
 
 mod laws;
-#[cfg(test)]
-mod tests;
 
 pub use laws::{
     keeping_pace, latch_pulses, reached_places, sequences, small_modules, small_traces,
-    types_of_terms,
+    types_of_terms, writes,
 };

@@ -4,9 +4,9 @@
 -- out at registers, so a netlist's outputs in a cycle don't depend on the inputs of that cycle.
 use Rattle.std.specs.Prelude.{◌≡◌, ◌≢◌, ℕ, zero, suc, ◌<◌, Bool, true, false, if◌then◌else◌, ◌⊎◌, List, [], ◌∷◌, ◌++◌, length, take, Option, Some, None, slice_get, Contains}
 use Rattle.std.specs.List.{flat_map}
-use Rattle.gos_types.specs.Types.{Type', Com, Exp, Var, IsGround, IsDone}
+use Rattle.gos_types.specs.Types.{Type', IsGround, IsDone}
 use Rattle.gos_netlist.specs.Nets.{Function, Input, Reg, Cell, Side, Give, Take, NetPort}
-use Rattle.gos_netlist.specs.Events.{Direction, Request, Answer, is_input}
+use Rattle.gos_netlist.specs.Events.{Direction, Event, Is, events, is_input}
 use Rattle.gos_netcheck.specs.declared.ports.Place.{Place}
 use Rattle.gos_netcheck.specs.Rules.{KeptBefore, Kept, IsFirstToBreak}
 
@@ -14,15 +14,14 @@ use Rattle.gos_netcheck.specs.Rules.{KeptBefore, Kept, IsFirstToBreak}
 abbrev pub place : Side → Direction → ℕ → Place
 place side way w = record { input = is_input side way; width = w }
 
--- The nets of a port of this type, in their order: a pulse for each event, and its number behind it. `com`: run, done.
--- `exp`: ask, ans and its number. `var`: read, ans and its number, write and its number, done.
+-- the nets of an event: its pulse, and its number behind it, where it has one
+abbrev pub event_places : Side → Event → List Place
+event_places side (Is way None) = place side way 1 ∷ []
+event_places side (Is way (Some w)) = place side way 1 ∷ place side way w ∷ []
+
+-- the nets of a port of this type, in the order of its events
 abbrev pub places : Side → Type' → List Place
-places side Com = place side Request 1 ∷ place side Answer 1 ∷ []
-places side (Exp w) = place side Request 1 ∷ place side Answer 1 ∷ place side Answer w ∷ []
-places side (Var w) =
-    place side Request 1 ∷ place side Answer 1 ∷ place side Answer w
-    ∷ place side Request 1 ∷ place side Request w ∷ place side Answer 1 ∷ []
-places side t = []
+places side t = flat_map (event_places side) (events t)
 
 -- an input is an Input cell, and an output is a register
 abbrev pub IsEnd : Bool → Function → Type 0

@@ -1,7 +1,17 @@
 // The rules for each cell: the nets that it names are there, and widths fit.
 ghost use Rattle.std.specs.Prelude.{◌≡◌, ◌↔◌, ◌<◌, ◌≤◌, IsTrue, MatchOption, map, length};
 ghost use Rattle.gos_netlist.specs.Seen.{cell_of, function_of};
-ghost use Rattle.gos_netcheck.specs.CellRules.{PinsExist, HasRightWidths, OperandsFit, NetsExist, WidthsFit, IsFirstWithoutNet, IsFirstOfWrongWidth, width_at, widths_of};
+ghost use Rattle.gos_netcheck.specs.CellRules.{
+  PinsExist,
+  HasRightWidths,
+  OperandsFit,
+  NetsExist,
+  WidthsFit,
+  IsFirstWithoutNet,
+  IsFirstOfWrongWidth,
+  width_at,
+  widths_of,
+};
 
 use gos_netlist::{Cell, Gate, NetId};
 

@@ -15,8 +15,6 @@ mod fault;
 mod law;
 mod ports;
 mod schedule;
-#[cfg(test)]
-mod tests;
 
 pub use checked::{Checked, accept};
 pub use fault::{NetFault, Refused};

@@ -1,11 +1,45 @@
 // The rules for each port, and that each input cell stands in one.
-ghost use Rattle.std.specs.Prelude.{◌≡◌, ◌↔◌, ◌<◌, ◌+◌, ◌||◌, ◌++◌, ℕ, not, List, All, IsTrue, IfOk, OnOk, MatchBool, MatchOption, Contains, map, length, take, Some, slice_get};
+ghost use Rattle.std.specs.Prelude.{
+  ◌≡◌,
+  ◌↔◌,
+  ◌<◌,
+  ◌+◌,
+  ◌||◌,
+  ◌++◌,
+  ℕ,
+  not,
+  List,
+  All,
+  IsTrue,
+  IfOk,
+  OnOk,
+  MatchBool,
+  MatchOption,
+  Contains,
+  map,
+  length,
+  take,
+  Some,
+  slice_get,
+};
 ghost use Rattle.std.specs.Str.{bytes_eq};
 ghost use Rattle.gos_types.specs.Types.{Type'};
 ghost use Rattle.gos_netlist.specs.Nets.{NetPort, Input};
 ghost use Rattle.gos_netlist.specs.Seen.{cell_of, function_of, number_of, side_of, ground_type};
 ghost use Rattle.gos_netlist.specs.Events.{Request, Answer, is_input};
-ghost use Rattle.gos_netcheck.specs.PortRules.{HasSide, Fits, IsEnd, AllFit, AreNew, PortsFit, IsFirstWrongPort, IsLoose, IsRightPort, inputs_among, all_inputs};
+ghost use Rattle.gos_netcheck.specs.PortRules.{
+  HasSide,
+  Fits,
+  IsEnd,
+  AllFit,
+  AreNew,
+  PortsFit,
+  IsFirstWrongPort,
+  IsLoose,
+  IsRightPort,
+  inputs_among,
+  all_inputs,
+};
 ghost use Rattle.gos_netcheck.specs.PortRules as rules;
 ghost use Rattle.gos_netcheck.specs.inner.PortSearch.{has_name, HasNames, AreTaken};
 
@@ -58,7 +92,10 @@ fn keeps_rules<'a>(
 ) -> Result<bool, NoMemory>
     requires { length taken.old.items ≡ length cells.now }
     ensures count { length taken.new.items ≡ length taken.old.items }
-    ensures right { IfOk result (λ right. (ports : List NetPort) → slice_get ports k ≡ Some port.now → HasNames names.old (take k ports) → AreTaken taken.old.items (all_inputs (take k ports)) → MatchBool right (IsRightPort (map cell_of cells.now) ports k port.now × HasNames names.new (take (k + 1) ports) × AreTaken taken.new.items (all_inputs (take (k + 1) ports))) (IsRightPort (map cell_of cells.now) ports k port.now → ⊥)) }
+    ensures right { IfOk result (λ right. (ports : List NetPort) → slice_get ports k ≡ Some port.now
+        → HasNames names.old (take k ports) → AreTaken taken.old.items (all_inputs (take k ports))
+        → MatchBool right (IsRightPort (map cell_of cells.now) ports k port.now × HasNames names.new (take (k + 1) ports)
+        × AreTaken taken.new.items (all_inputs (take (k + 1) ports))) (IsRightPort (map cell_of cells.now) ports k port.now → ⊥)) }
 {
     let places = places(alloc, port.side, port.ground)?;
     if !has_side(k, port.side, port.ground) {
@@ -182,7 +219,9 @@ fn add_name<'a>(names: &mut HashSet<&'a [u8]>, name: &'a [u8]) -> Result<bool, N
 // Marks nets as taken, up to one that is taken already, and says whether there is none.
 fn take_all(taken: &mut [bool], nets: &[NetId]) -> bool
     requires { All (λ net. net.0 < length taken.old) nets.now }
-    ensures right { (before : List ℕ) → AreTaken taken.old before → MatchBool result (AreNew before (map number_of nets.now) × AreTaken taken.new (before ++ map number_of nets.now)) (AreNew before (map number_of nets.now) → ⊥) }
+    ensures right { (before : List ℕ) → AreTaken taken.old before → MatchBool result
+        (AreNew before (map number_of nets.now) × AreTaken taken.new (before ++ map number_of nets.now))
+        (AreNew before (map number_of nets.now) → ⊥) }
 {
     for net in nets {
         let place = net.0 as usize;
@@ -197,7 +236,8 @@ fn take_all(taken: &mut [bool], nets: &[NetId]) -> bool
 // Whether some input cell isn't taken.
 fn has_loose_input(cells: &[Cell], taken: &[bool]) -> bool
     requires { length taken.now ≡ length cells.now }
-    ensures { (nets : List ℕ) → AreTaken taken.now nets → MatchBool result ((n : ℕ) × IsLoose (map cell_of cells.now) nets n) ((n : ℕ) → IsLoose (map cell_of cells.now) nets n → ⊥) }
+    ensures { (nets : List ℕ) → AreTaken taken.now nets → MatchBool result ((n : ℕ) × IsLoose (map cell_of cells.now) nets n)
+        ((n : ℕ) → IsLoose (map cell_of cells.now) nets n → ⊥) }
 {
     for (n, cell) in cells.iter().enumerate() {
         if is_end(true, cell.gate) && !taken[n] {

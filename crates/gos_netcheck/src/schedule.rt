@@ -4,7 +4,35 @@
 // that feeds that net has its place in the order, so has the net. Else it goes on to a net that feeds it and has no
 // place yet. If that one stands on the path, the nets from it on are a cycle. A net is gone on to once, and
 // its pins, three at most, are looked at again behind each of them, so the search takes time in proportion to cells.
-ghost use Rattle.std.specs.Prelude.{◌≡◌, ◌↔◌, ◌<◌, ◌≤◌, ◌^◌, ◌++◌, ◌∷◌, ◌-◌, ℕ, [], IsTrue, IfOk, IfErr, IfSome, IsNone, OnOk, All, Contains, MatchOption, MatchBool, map, length, replicate, take, vec_len, slice_get, slice_set};
+ghost use Rattle.std.specs.Prelude.{
+  ◌≡◌,
+  ◌↔◌,
+  ◌<◌,
+  ◌≤◌,
+  ◌^◌,
+  ◌++◌,
+  ◌∷◌,
+  ◌-◌,
+  ℕ,
+  [],
+  IsTrue,
+  IfOk,
+  IfErr,
+  IfSome,
+  IsNone,
+  OnOk,
+  All,
+  Contains,
+  MatchOption,
+  MatchBool,
+  map,
+  length,
+  replicate,
+  take,
+  vec_len,
+  slice_get,
+  slice_set,
+};
 ghost use Rattle.gos_netlist.specs.Seen.{cell_of, function_of, number_of};
 ghost use Rattle.gos_netlist.specs.Cycles.{IsRegister, Feeds};
 ghost use Rattle.gos_netcheck.specs.Rules.{Kept};
@@ -169,7 +197,8 @@ fn first_undone(cells: &[Cell], marks: &[Mark], nets: &[NetId]) -> Option<NetId>
 
 // Whether a cell waits for one of its pins, which has this cell and this mark.
 fn waits_for(cell: &Cell, mark: Mark) -> bool
-    ensures { MatchBool result ((IsRegister (function_of cell.now.gate) → ⊥) × (mark ≡ Mark.Placed → ⊥)) ((IsRegister (function_of cell.now.gate) → ⊥) → mark ≡ Mark.Placed) }
+    ensures { MatchBool result ((IsRegister (function_of cell.now.gate) → ⊥) × (mark ≡ Mark.Placed → ⊥))
+        ((IsRegister (function_of cell.now.gate) → ⊥) → mark ≡ Mark.Placed) }
 {
     !is_register(cell.gate) && !is_placed(mark)
 }

@@ -8,7 +8,8 @@ use Rattle.gos_netlist.specs.declared.word.GateWord.{GateWord}
 use Rattle.gos_netlist.specs.declared.word.GateWord.TheVariants as gates
 use Rattle.gos_netlist.specs.Nets.{Function, Input, Const, Not, And, Or, Xor, Mux, Add, Sub, Eq, Less, Gate, Reg, Cell}
 use Rattle.gos_netlist.specs.NetText.{spaced, word_of, operands, cell_text}
-use Rattle.gos_netlist.specs.Writable.{IsWidth, OperandsFit, IsWritableCell}
+use Rattle.gos_netlist.specs.Writable.{OperandsFit, IsWritableCell}
+use Rattle.gos_types.specs.Widths.{IsWidth}
 use Rattle.gos_netlist.specs.NetItems.{IsInRange, IsNumberText, Passed, ended, end_before, numbers_text, AreNets, gate_text, word_for, pin_count, width_end, HasWord, IsGateText, IsOperandsText, IsCellText}
 use Rattle.gos_netlist.proofs.SequenceLemmas.{Then, IsCode, misses_as, then_first, then_rest}
 use Rattle.gos_netlist.proofs.PassedLemmas.{passed_both, passed_as}

@@ -18,3 +18,4 @@ pub mod BreakLemmas
 pub mod SectionLemmas
 pub mod WholeLemmas
 pub mod LawLemmas
+pub mod LengthLemmas

@@ -1,7 +1,9 @@
 -- The events of ports, and of a netlist.
 --
 -- Read first: Nets. A handshake of a port begins with a request and ends with an answer; each of the two is an event.
-use Rattle.std.specs.Prelude.{ℕ, suc, Bool, true, false, List, [], ◌∷◌, ◌++◌}
+-- What else is told of the nets of a port follows from its events: a net for the pulse of each, and one more behind it for
+-- its number, where it has one.
+use Rattle.std.specs.Prelude.{ℕ, suc, Bool, true, false, List, [], ◌∷◌, ◌++◌, Option, Some, None}
 use Rattle.gos_types.specs.Types.{Type', Com, Exp, Var}
 use Rattle.gos_netlist.specs.declared.event.Event as seen
 use Rattle.gos_netlist.specs.Nets.{Side, Give, Take, NetPort, Netlist}
@@ -10,17 +12,32 @@ use Rattle.gos_netlist.specs.Nets.{Side, Give, Take, NetPort, Netlist}
 pub data Direction : Type 0 where
   Request Answer : Direction
 
--- an event: its direction, and the bits of its number
+-- an event: its direction, and the bits of its number, where it has one
 pub data Event : Type 0 where
-  Is : (way : Direction) (bits : ℕ) → Event
+  Is : (way : Direction) (number : Option ℕ) → Event
+
+-- the bits of a number; 0 where there is none
+abbrev pub bits_of : Option ℕ → ℕ
+bits_of None = 0
+bits_of (Some bits) = bits
 
 -- The events of a port of this type, by number. `com`: run, done. `exp`: ask, ans. `var`: read, ans, write, done.
 -- So requests have even numbers and answers odd ones.
 abbrev pub events : Type' → List Event
-events Com = Is Request 0 ∷ Is Answer 0 ∷ []
-events (Exp w) = Is Request 0 ∷ Is Answer w ∷ []
-events (Var w) = Is Request 0 ∷ Is Answer w ∷ Is Request w ∷ Is Answer 0 ∷ []
+events Com = Is Request None ∷ Is Answer None ∷ []
+events (Exp w) = Is Request None ∷ Is Answer (Some w) ∷ []
+events (Var w) = Is Request None ∷ Is Answer (Some w) ∷ Is Request (Some w) ∷ Is Answer None ∷ []
 events t = []
+
+-- how many nets a port with these events has
+abbrev pub nets_for : List Event → ℕ
+nets_for [] = 0
+nets_for (Is way None ∷ es) = suc (nets_for es)
+nets_for (Is way (Some bits) ∷ es) = suc (suc (nets_for es))
+
+-- how many nets a port of this type has: 2, 3 or 6
+abbrev pub net_count : Type' → ℕ
+net_count t = nets_for (events t)
 
 -- whether the surroundings give an event: at a given port the requests, at a taken one the answers
 abbrev pub is_input : Side → Direction → Bool
@@ -32,8 +49,8 @@ is_input Take Answer = true
 -- the events of a port at place k among the ports, of which the first has number n there
 abbrev pub port_events : ℕ → Side → ℕ → List Event → List seen.Event
 port_events k side n [] = []
-port_events k side n (Is way bits ∷ es) =
-    record { port = k; place = n; input = is_input side way; bits = bits } ∷ port_events k side (suc n) es
+port_events k side n (Is way number ∷ es) =
+    record { port = k; place = n; input = is_input side way; bits = bits_of number } ∷ port_events k side (suc n) es
 
 -- the events of ports, of which the first has place k
 abbrev pub events_from : ℕ → List NetPort → List seen.Event

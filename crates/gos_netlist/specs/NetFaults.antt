@@ -67,6 +67,10 @@ IsOneNetlist text = (net other : Netlist) → IsWritable net → IsWritable othe
 abbrev pub ReadHasNoFault : List ℕ → Type 0
 ReadHasNoFault text = (net : Netlist) (fault : NetTextFault) → IsRead text net → HasFault text fault → fault ≡ faults.NoMemory
 
+-- A netlist of the format with so many cells and ports at most has a text that is not too long: it is read, as that netlist.
+abbrev pub PrintedIsRead : Type 0
+PrintedIsRead = (net : Netlist) → IsWritable net → length net.cells ≤ 5000000 → length net.ports ≤ 65536 → IsRead (text_of net) net
+
 -- a text has one fault at most beside want of memory
 abbrev pub HasOneFault : List ℕ → Type 0
 HasOneFault text =

@@ -16,7 +16,8 @@ use Rattle.gos_netlist.specs.declared.fault.NetTextFault.{NetTextFault}
 use Rattle.gos_netlist.specs.declared.fault.NetTextFault.TheVariants as faults
 use Rattle.gos_netlist.specs.Nets.{Function, Input, Const, Not, And, Or, Xor, Mux, Add, Sub, Eq, Less, Gate, Reg, Cell, Side, NetPort}
 use Rattle.gos_netlist.specs.NetText.{operands, cell_text, port_text, side_word}
-use Rattle.gos_netlist.specs.Writable.{IsNumber, OperandsFit, IsWritableCell, IsPortType, net_count, IsWritablePort}
+use Rattle.gos_netlist.specs.Writable.{IsNumber, OperandsFit, IsWritableCell, IsPortType, IsWritablePort}
+use Rattle.gos_netlist.specs.Events.{net_count}
 use Rattle.gos_netlist.specs.NetFaults.{IsAbove}
 
 -- the bytes are the text of some value of this kind

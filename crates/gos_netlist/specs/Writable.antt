@@ -4,12 +4,10 @@
 use Rattle.std.specs.Prelude.{◌≡◌, ℕ, ◌^◌, ◌<◌, ◌≤◌, length}
 use Rattle.std.specs.List.{AllByRecursion}
 use Rattle.gos_types.specs.Types.{Type', Com, Exp, Var}
+use Rattle.gos_types.specs.Widths.{IsWidth}
 use Rattle.gos_lex.specs.Names.{IsNameOrWord}
 use Rattle.gos_netlist.specs.Nets.{Function, Const, pins, Cell, NetPort, Netlist}
-
--- a number of bits
-abbrev pub IsWidth : ℕ → Type 0
-IsWidth w = (1 ≤ w) × (w ≤ 32)
+use Rattle.gos_netlist.specs.Events.{net_count}
 
 -- a net's number, or a count
 abbrev pub IsNumber : ℕ → Type 0
@@ -30,13 +28,6 @@ IsPortType Com = Unit {0}
 IsPortType (Exp w) = IsWidth w
 IsPortType (Var w) = IsWidth w
 IsPortType t = ⊥
-
--- how many nets a port of this type has: one for each event, and one more where the event has bits
-abbrev pub net_count : Type' → ℕ
-net_count Com = 2
-net_count (Exp w) = 3
-net_count (Var w) = 6
-net_count t = 0
 
 -- a port
 pub record IsWritablePort (p : NetPort) : Type 0 where

@@ -3,7 +3,8 @@ ghost use Rattle.std.specs.Prelude.{◌≡◌, ◌<◌, ◌≤◌, ◌-◌, ◌^
 ghost use Rattle.gos_lex.specs.Items.{Misses};
 ghost use Rattle.gos_netlist.specs.Seen.{cell_of, function_of, number_of};
 ghost use Rattle.gos_netlist.specs.NetText.{cell_text, operands};
-ghost use Rattle.gos_netlist.specs.Writable.{IsWidth, IsWritableCell};
+ghost use Rattle.gos_netlist.specs.Writable.{IsWritableCell};
+ghost use Rattle.gos_types.specs.Widths.{IsWidth};
 ghost use Rattle.gos_netlist.specs.NetItems.{Passed, numbers_text, pin_count, word_for, HasWord, IsOperandsText, IsCellText};
 
 use crate::items::{nets, number};

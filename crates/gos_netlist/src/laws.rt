@@ -1,6 +1,6 @@
 // What the definitions say, in small. Each theorem is the contract of a function that does nothing.
 ghost use Rattle.std.specs.Prelude.{List, ℕ};
-ghost use Rattle.gos_netlist.specs.NetFaults.{HasOneFault, IsOneNetlist, ReadHasNoFault};
+ghost use Rattle.gos_netlist.specs.NetFaults.{HasOneFault, IsOneNetlist, PrintedIsRead, ReadHasNoFault};
 ghost use Rattle.gos_netlist.specs.Laws.{AcyclicSettles, AcyclicSettlesOnce};
 ghost use Rattle.gos_netlist.specs.SmallNets.{LatchRuns, LatchText, LoopedGates};
 
@@ -23,4 +23,10 @@ pub fn one_answer()
     ensures netlist { (text : List ℕ) → IsOneNetlist text }
     ensures read { (text : List ℕ) → ReadHasNoFault text }
     ensures fault { (text : List ℕ) → HasOneFault text }
+{}
+
+/// The text of a netlist within the limits of the format is within those of its reader: with `one_answer`, reading what
+/// was printed gives the netlist back, unless memory runs out.
+pub fn reads_back()
+    ensures { PrintedIsRead }
 {}

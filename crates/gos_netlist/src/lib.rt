@@ -22,14 +22,12 @@ mod port_line;
 mod printing;
 mod reading;
 mod sections;
-#[cfg(test)]
-mod tests;
 mod word;
 
 pub use event::{Event, events};
 pub use fault::NetTextFault;
 pub use items::one_of;
-pub use laws::{one_answer, settlings, small_nets};
+pub use laws::{one_answer, reads_back, settlings, small_nets};
 pub use nets::{Cell, Gate, Ground, NetId, Netlist, Pins, Port, Side};
 pub use passes::{SettleFault, settle};
 pub use printing::print_net;

@@ -5,7 +5,8 @@ ghost use Rattle.gos_lex.specs.Items.{Misses};
 ghost use Rattle.gos_lex.specs.Names.{IsNameOrWord};
 ghost use Rattle.gos_netlist.specs.Seen.{ground_type, number_of};
 ghost use Rattle.gos_netlist.specs.NetText.{port_text};
-ghost use Rattle.gos_netlist.specs.Writable.{net_count, IsPortType, IsWritablePort};
+ghost use Rattle.gos_netlist.specs.Writable.{IsPortType, IsWritablePort};
+ghost use Rattle.gos_netlist.specs.Events.{net_count};
 ghost use Rattle.gos_netlist.specs.NetItems.{Passed, BreaksOff, ended, numbers_text, AreNets, tail_text, IsNameText, IsTypeText, IsTailText, IsPortText};
 
 use crate::fault::NetTextFault;

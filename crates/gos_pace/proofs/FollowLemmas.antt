@@ -12,7 +12,7 @@ use Rattle.gos_plan.specs.Plans.{Plan}
 use Rattle.gos_plan.specs.Tokens.{Tokens, Element, Runs}
 use Rattle.gos_plan.specs.Orderly.{IsOrderly}
 use Rattle.gos_plan.specs.Cycles.{fires_of, Made, cycle_list, MakesCycles}
-use Rattle.gos_compile.specs.Matched.{all_shown, GoesOn, Agrees, IsMatched}
+use Rattle.gos_realises.specs.Matched.{all_shown, GoesOn, Agrees, IsMatched}
 use Rattle.gos_pace.specs.Quiet.{NoneGoesOn}
 use Rattle.gos_pace.proofs.ListedLemmas.{runs_append, orderly_first, shown_append, CyclesShown, cycle_shows}
 

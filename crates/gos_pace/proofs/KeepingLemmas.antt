@@ -14,7 +14,7 @@ use Rattle.gos_model.specs.Pace.{Turn, Follows, pace, MovesWithin}
 use Rattle.gos_plan.specs.Plans.{Plan}
 use Rattle.gos_plan.specs.Tokens.{Tokens, IsIdle}
 use Rattle.gos_plan.specs.Cycles.{Made, MakesCycles, IsPrompt, CyclesAreLists}
-use Rattle.gos_compile.specs.Matched.{all_shown, program_of}
+use Rattle.gos_realises.specs.Matched.{all_shown, program_of}
 use Rattle.gos_pace.specs.Quiet.{GrowsQuiet}
 use Rattle.gos_pace.specs.Ports.{HasPorts}
 use Rattle.gos_pace.specs.Keeping.{IsPlanFor, NetKeepsPace}

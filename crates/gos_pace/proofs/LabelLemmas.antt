@@ -3,7 +3,7 @@
 -- A label leads to an end of the plan and back to itself: the ports have the names of the imports, which are
 -- different.
 use Rattle.std.specs.Prelude.{not, Contains}
-use Rattle.std.proofs.Common.{◌≡◌, ℕ, zero, suc, ◌+◌, Bool, true, false, List, [], ◌∷◌, ◌++◌, map, filter, Some, slice_get, refl, sym, ◌∙◌, ap, subst, arith, if◌then◌else◌, nat_eq}
+use Rattle.std.proofs.Common.{◌≡◌, ℕ, zero, suc, ◌+◌, Bool, true, false, List, [], ◌∷◌, ◌++◌, map, filter, Some, None, slice_get, refl, sym, ◌∙◌, ap, subst, arith, if◌then◌else◌, nat_eq}
 use Rattle.std.specs.Str.{bytes_eq}
 use Rattle.std.proofs.lemmas.Slice.Eq.{bytes_eq-Decides}
 use Rattle.std.proofs.lemmas.Option.{slice_get_within, get_or_from_slice_get}
@@ -18,8 +18,8 @@ use Rattle.gos_model.specs.Protocol.{taken_by}
 use Rattle.gos_plan.specs.Plans.{Plan}
 use Rattle.gos_plan.specs.Tokens.{Element}
 use Rattle.gos_plan.specs.Cycles.{import_number, out_of, in_of, outs_of, ins_of}
-use Rattle.gos_compile.specs.Matched.{shows, all_shown}
-use Rattle.gos_compile.specs.Realises.{AllGround, NamesDiffer}
+use Rattle.gos_realises.specs.Matched.{shows, all_shown}
+use Rattle.gos_realises.specs.Realises.{AllGround, NamesDiffer}
 use Rattle.gos_pace.specs.Ports.{AreTaken, HasPorts}
 
 -- names
@@ -85,13 +85,13 @@ one_shown p on l h = by_test (nat_eq on 1)
 from_shown : (p : Plan) (port : Port) (n : ℕ) (es : List Event) (nets : List ℕ) (v : Numbers) → EventsShown p port n es
     → AllShown p (pulses_from port n es nets v)
 from_shown p port n [] nets v h = tt
-from_shown p port n (Is way zero ∷ es) [] v h = tt
-from_shown p port n (Is way zero ∷ es) (a ∷ nets) v h =
+from_shown p port n (Is way None ∷ es) [] v h = tt
+from_shown p port n (Is way None ∷ es) (a ∷ nets) v h =
     shown_append p (if_pulse (at v a) (record { port = port; event = n; value = 0 })) (pulses_from port (suc n) es nets v)
     (one_shown p (at v a) (record { port = port; event = n; value = 0 }) (h.0 0)) (from_shown p port (suc n) es nets v h.1)
-from_shown p port n (Is way (suc b) ∷ es) [] v h = tt
-from_shown p port n (Is way (suc b) ∷ es) (a ∷ []) v h = tt
-from_shown p port n (Is way (suc b) ∷ es) (a ∷ x ∷ nets) v h =
+from_shown p port n (Is way (Some b) ∷ es) [] v h = tt
+from_shown p port n (Is way (Some b) ∷ es) (a ∷ []) v h = tt
+from_shown p port n (Is way (Some b) ∷ es) (a ∷ x ∷ nets) v h =
     shown_append p (if_pulse (at v a) (record { port = port; event = n; value = at v x })) (pulses_from port (suc n) es nets v)
     (one_shown p (at v a) (record { port = port; event = n; value = at v x }) (h.0 (at v x))) (from_shown p port (suc n) es nets v h.1)
 

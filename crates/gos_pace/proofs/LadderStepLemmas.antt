@@ -16,7 +16,7 @@ use Rattle.gos_plan.proofs.AskingLemmas.{TakesAsking, PutsAsking, PutsInRole, Ro
 use Rattle.gos_plan.proofs.ProjectionLemmas.{taken_own, taken_other, puts_other}
 use Rattle.gos_plan.specs.Law.{Asked, after_taking}
 use Rattle.gos_plan.specs.Projection.{asked_by}
-use Rattle.gos_compile.specs.Matched.{asks_on}
+use Rattle.gos_realises.specs.Matched.{asks_on}
 use Rattle.gos_pace.specs.Ranks.{Ranks, Stepped}
 use Rattle.gos_pace.proofs.RankLemmas.{TakenAt, taken_at}
 use Rattle.gos_pace.proofs.QuietLemmas.{lies_open}

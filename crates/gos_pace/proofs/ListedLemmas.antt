@@ -11,7 +11,7 @@ use Rattle.gos_plan.specs.Plans.{Plan}
 use Rattle.gos_plan.specs.Tokens.{Tokens, Element, Runs, IsIdle}
 use Rattle.gos_plan.specs.Orderly.{Open, OrderlyFrom, IsOrderly}
 use Rattle.gos_plan.specs.Cycles.{outs_of, ins_of, PartFiring, fires_of, Made, cycle_list, list_of, IsBroken}
-use Rattle.gos_compile.specs.Matched.{shows, all_shown, RealisesDone}
+use Rattle.gos_realises.specs.Matched.{shows, all_shown, RealisesDone}
 use Rattle.gos_pace.proofs.LabelLemmas.{AllShown, outputs_shown, inputs_shown}
 
 -- a part of a list

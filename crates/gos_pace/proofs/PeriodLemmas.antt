@@ -10,7 +10,7 @@ use Rattle.gos_plan.specs.Plans.{Plan}
 use Rattle.gos_plan.specs.Tokens.{Tokens, Element, Fire, Out, In, Does, IsIdle}
 use Rattle.gos_plan.specs.Orderly.{IsOrderly}
 use Rattle.gos_plan.specs.Cycles.{outs_of, Made, state_after, IsMadeSoon, IsPrompt}
-use Rattle.gos_compile.specs.Matched.{Agrees}
+use Rattle.gos_realises.specs.Matched.{Agrees}
 use Rattle.gos_pace.specs.Quiet.{FiresOnly, all_fires, IsFiredSoon, FiresSoon, GrowsQuiet}
 use Rattle.gos_pace.proofs.FollowLemmas.{Here, Still, Along}
 

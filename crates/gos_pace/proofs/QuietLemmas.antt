@@ -12,8 +12,8 @@ use Rattle.gos_plan.specs.Orderly.{handshake_at, Open, none_open, with_open, aft
 use Rattle.gos_plan.specs.Cycles.{PartFiring, Made, state_after}
 use Rattle.gos_plan.proofs.JointLemmas.{IsIn, same_itself, found}
 use Rattle.gos_plan.proofs.HeldLemmas.{Fits, AllFit, all_fit}
-use Rattle.gos_compile.specs.Matched.{asks_on}
-use Rattle.gos_compile.specs.Realises.{IsSlim}
+use Rattle.gos_realises.specs.Matched.{asks_on}
+use Rattle.gos_realises.specs.Slim.{IsSlim}
 use Rattle.gos_pace.specs.Quiet.{all_fires, FiresSoon, IsFiredSoon, GrowsQuiet}
 use Rattle.gos_pace.specs.Ranks.{Ranks, no_ranks, Stepped, Steps, HasRank, RanksHold}
 use Rattle.gos_pace.proofs.StepLemmas.{AtLeast, Cycles, cycles_of, steps_append, steps_fit, step_fits, orderly_apart}

@@ -10,7 +10,7 @@ use Rattle.gos_plan.specs.Orderly.{named_by, handshake_at, Open, AllWelcome}
 use Rattle.gos_plan.specs.Cycles.{PartFiring, Made}
 use Rattle.gos_plan.proofs.JointLemmas.{IsIn, same_itself, fits, found, stands_there}
 use Rattle.gos_plan.proofs.HeldLemmas.{takes_of, nothing_there}
-use Rattle.gos_compile.specs.Matched.{asks_on}
+use Rattle.gos_realises.specs.Matched.{asks_on}
 use Rattle.gos_pace.specs.Quiet.{FiresSoon, IsFiredSoon}
 use Rattle.gos_pace.specs.Ranks.{Ranks, Stepped, Steps}
 use Rattle.gos_pace.proofs.StepLemmas.{AtLeast, put_all, Cycles, steps_append}

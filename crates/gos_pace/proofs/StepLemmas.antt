@@ -10,7 +10,7 @@ use Rattle.gos_plan.specs.Cycles.{PartFiring, fires_of, Made}
 use Rattle.gos_plan.proofs.DecidedLemmas.{one_state}
 use Rattle.gos_plan.proofs.HeldLemmas.{AllFit, takes_of, nothing_there}
 use Rattle.gos_plan.proofs.HeldLemmas as held
-use Rattle.gos_compile.specs.Matched.{asks_on}
+use Rattle.gos_realises.specs.Matched.{asks_on}
 use Rattle.gos_pace.specs.Quiet.{NoneGoesOn, FiresOnly, all_fires}
 use Rattle.gos_pace.specs.Ranks.{Ranks, with_rank, rank_put, ranks_after, Stepped, Steps}
 

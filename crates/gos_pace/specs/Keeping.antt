@@ -1,6 +1,6 @@
 -- A netlist whose cycles are lists of a plan keeps pace with the program that the plan realises.
 --
--- Read first: Ports; Pace of gos_model; Cycles of gos_plan; Realises of gos_compile.
+-- Read first: Ports; Pace of gos_model; Cycles of gos_plan; Realises of gos_realises.
 use Rattle.std.specs.Prelude.{List}
 use Rattle.gos_types.specs.Types.{IsDone}
 use Rattle.gos_netlist.specs.Nets.{Netlist}
@@ -10,8 +10,9 @@ use Rattle.gos_model.specs.Protocol.{InputsInRange}
 use Rattle.gos_model.specs.Pace.{KeepsPaceAlways}
 use Rattle.gos_plan.specs.Plans.{Plan, IsRight}
 use Rattle.gos_plan.specs.Cycles.{CyclesAreLists}
-use Rattle.gos_compile.specs.Matched.{RealisesDone, program_of}
-use Rattle.gos_compile.specs.Realises.{AllGround, NamesDiffer, IsSlim}
+use Rattle.gos_realises.specs.Matched.{RealisesDone, program_of}
+use Rattle.gos_realises.specs.Realises.{AllGround, NamesDiffer}
+use Rattle.gos_realises.specs.Slim.{IsSlim}
 use Rattle.gos_pace.specs.Ports.{HasPorts}
 
 -- The netlist has the plan's ports, and the cycles of its runs are lists of the plan.

@@ -1,6 +1,6 @@
 -- Cycles of firings alone, none of which goes on, and that they end.
 --
--- Read first: Cycles of gos_plan; Matched of gos_compile. A firing goes on where it takes an answer and puts a
+-- Read first: Cycles of gos_plan; Matched of gos_realises. A firing goes on where it takes an answer and puts a
 -- request.
 use Rattle.std.specs.Prelude.{◌≡◌, ℕ, ◌+◌, ◌<◌, ◌≤◌, List, [], ◌∷◌, ◌++◌, length, Some, slice_get, Contains}
 use Rattle.gos_model.specs.Pace.{pace}
@@ -8,8 +8,8 @@ use Rattle.gos_plan.specs.Plans.{Plan, IsRight}
 use Rattle.gos_plan.specs.Tokens.{Tokens, Element, Fire, Out, In, Does, Runs, IsIdle, IsQuiet}
 use Rattle.gos_plan.specs.Orderly.{IsOrderly}
 use Rattle.gos_plan.specs.Cycles.{fires_of, Made, state_after}
-use Rattle.gos_compile.specs.Matched.{GoesOn}
-use Rattle.gos_compile.specs.Realises.{IsSlim}
+use Rattle.gos_realises.specs.Matched.{GoesOn}
+use Rattle.gos_realises.specs.Slim.{IsSlim}
 
 -- the list leads from one token state to another, and none of its firings goes on
 abbrev pub NoneGoesOn : Plan → List Element → Tokens → Tokens → Type 0

@@ -9,7 +9,7 @@ use Rattle.gos_plan.specs.Plans.{End, Plan, IsRight, same_end}
 use Rattle.gos_plan.specs.Tokens.{Tokens, Element, Fire, places_of, end_of, way_of, token_at, firing_of, fired, IsIdle}
 use Rattle.gos_plan.specs.Orderly.{handshake_at, Open, none_open, ComesInOrder, AllWelcome, OrderlyFrom}
 use Rattle.gos_plan.specs.Cycles.{PartFiring}
-use Rattle.gos_compile.specs.Matched.{GoesOn}
+use Rattle.gos_realises.specs.Matched.{GoesOn}
 
 -- the rank of each handshake, by its name
 abbrev pub Ranks : Type 0

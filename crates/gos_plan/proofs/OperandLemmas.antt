@@ -4,7 +4,7 @@ use Rattle.gos_types.specs.Types.{Type', Com, Exp, Var, Pair, Fun}
 use Rattle.gos_plan.specs.declared.fault.ObjectFault.{ObjectFault}
 use Rattle.gos_plan.specs.declared.word.TypeWord.{TypeWord}
 use Rattle.gos_plan.specs.declared.word.TypeWord.TheVariants as types
-use Rattle.gos_plan.specs.Ranges.{HasWidths}
+use Rattle.gos_types.specs.Widths.{HasWidths}
 use Rattle.gos_plan.specs.TextItems.{Item, Fails, exactly}
 use Rattle.gos_plan.specs.ObjectItems.{shakes, word_of_type, forks, sized_by, type_operands_text, type_operands}
 use Rattle.gos_plan.proofs.TextLemmas.{Via, via_fails}

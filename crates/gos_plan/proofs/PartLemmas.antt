@@ -14,9 +14,10 @@ use Rattle.gos_plan.specs.declared.word.PartWord.{PartWord}
 use Rattle.gos_plan.specs.declared.word.PartWord.TheVariants as parts
 use Rattle.gos_plan.specs.declared.word.BodyWord.{BodyWord}
 use Rattle.gos_plan.specs.declared.word.BodyWord.TheVariants as bodies
-use Rattle.gos_plan.specs.Kinds.{Operation, Add, Sub, And, Or, Xor, Eq, Less, Part, Skip, Lit, Seq, Par, If, While, Op, Not, Assign, Deref, Local, Share}
+use Rattle.gos_plan.specs.Kinds.{Part, Skip, Lit, Seq, Par, If, While, Op, Not, Assign, Deref, Local, Share}
+use Rattle.gos_model.specs.Terms.{Op as Operation, Add, Sub, And, Or, Xor, Eq, Less}
 use Rattle.gos_plan.specs.Seen.{operation_of}
-use Rattle.gos_plan.specs.Ranges.{IsWidth}
+use Rattle.gos_types.specs.Widths.{IsWidth}
 use Rattle.gos_netlist.specs.NetItems.{IsInRange}
 use Rattle.gos_plan.specs.TextItems.{Reads, both, exactly, words, number_in}
 use Rattle.gos_plan.specs.ObjectText.{number_text, word_text, operator_for, word_of, bits_text, body_text, operands_text, IsWritablePart}

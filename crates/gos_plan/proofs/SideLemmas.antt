@@ -1,5 +1,5 @@
 -- The handshakes of a product and of a function are those of their sides.
-use Rattle.std.proofs.Common.{◌≡◌, List, [], ◌∷◌, ◌++◌, length, map, take, drop, refl, ◌∙◌, ap}
+use Rattle.std.proofs.Common.{◌≡◌, List, [], ◌∷◌, ◌++◌, map, refl, ◌∙◌, ap}
 use Rattle.std.proofs.lemmas.List.{map-append}
 use Rattle.gos_types.specs.declared.shakes.Role.{Role}
 use Rattle.gos_types.specs.declared.shakes.Role.TheVariants.{Serve, Ask}
@@ -7,24 +7,9 @@ use Rattle.gos_types.specs.declared.shakes.Step.{Step}
 use Rattle.gos_types.specs.declared.shakes.Step.TheVariants.{First, Second, Argument, Outcome}
 use Rattle.gos_types.specs.Types.{Pair, Fun}
 use Rattle.gos_types.specs.Handshakes.{Shake, turned, turn_all, below, handshakes_of}
+use Rattle.gos_types.proofs.SideLemmas.{are_joined}
 use Rattle.gos_plan.specs.Kinds.{Contact, contact, contacts_of, turned_contact, other_side}
-use Rattle.gos_plan.specs.Sides.{AreJoined, PairsJoin, FunctionsJoin, SidesTurnBack}
-
-take_first : (xs ys : List Contact) → take (length xs) (xs ++ ys) ≡ xs
-take_first [] ys = refl
-take_first (x ∷ xs) ys = ap (λ more. x ∷ more) (take_first xs ys)
-
-drop_first : (xs ys : List Contact) → drop (length xs) (xs ++ ys) ≡ ys
-drop_first [] ys = refl
-drop_first (x ∷ xs) ys = drop_first xs ys
-
-are_joined : (whole first second : List Contact) → whole ≡ first ++ second → AreJoined whole first second
-are_joined whole first second joined =
-    record {
-      joined = joined;
-      first_again = ap (take (length first)) joined ∙ take_first first second;
-      second_again = ap (drop (length first)) joined ∙ drop_first first second;
-    }
+use Rattle.gos_plan.specs.Sides.{PairsJoin, FunctionsJoin, SidesTurnBack}
 
 -- the way of a handshake is no part of what a joint sees
 one_below : (step : Step) (hs : List Shake) → map contact (below step hs) ≡ map contact hs
@@ -37,13 +22,13 @@ turned_sides (h ∷ hs) = ap (λ more. turned_contact (contact h) ∷ more) (tur
 
 pub pairs_join : PairsJoin
 pairs_join a b =
-    are_joined (contacts_of (Pair a b)) (contacts_of a) (contacts_of b)
+    are_joined Contact (contacts_of (Pair a b)) (contacts_of a) (contacts_of b)
     (map-append contact (below First (handshakes_of a)) (below Second (handshakes_of b))
     ∙ (λ i. one_below First (handshakes_of a) i ++ one_below Second (handshakes_of b) i))
 
 pub functions_join : FunctionsJoin
 functions_join a b =
-    are_joined (contacts_of (Fun a b)) (other_side (contacts_of a)) (contacts_of b)
+    are_joined Contact (contacts_of (Fun a b)) (other_side (contacts_of a)) (contacts_of b)
     (map-append contact (below Argument (turn_all (handshakes_of a))) (below Outcome (handshakes_of b))
     ∙ (λ i. (one_below Argument (turn_all (handshakes_of a)) ∙ turned_sides (handshakes_of a)) i ++ one_below Outcome (handshakes_of b) i))
 

@@ -8,7 +8,7 @@ use Rattle.gos_plan.specs.declared.fault.ObjectFault.{ObjectFault}
 use Rattle.gos_plan.specs.declared.fault.ObjectFault.TheVariants as faults
 use Rattle.gos_plan.specs.declared.word.TypeWord.{TypeWord}
 use Rattle.gos_plan.specs.declared.word.TypeWord.TheVariants as types
-use Rattle.gos_plan.specs.Ranges.{HasWidths}
+use Rattle.gos_types.specs.Widths.{HasWidths}
 use Rattle.gos_plan.specs.TextItems.{Item, Spans, Fails, Behind, both, words}
 use Rattle.gos_plan.specs.ObjectText.{type_text, number_text}
 use Rattle.gos_plan.specs.ObjectItems.{shakes, letters, word_of_type, least, type_word, IsFork, space, operand, Operand, First, Second, OverWithin, typed, forks, type_operands_text, OverOperands, type_operands}

@@ -1,16 +1,13 @@
 -- The kinds of parts, and the handshakes of each.
 --
--- Read first: Handshakes of gos_types. A part asks at some handshakes and serves at the others. Handshakes are numbered as
--- they stand here; the last one of most kinds is that by which the part is run.
-use Rattle.std.specs.Prelude.{ℕ, ◌+◌, ◌-◌, ◌^◌, ◌%◌, List, [], ◌∷◌, ◌++◌, nat_eq, nat_lt, if◌then◌else◌, bit_and, bit_or, bit_xor, map}
+-- Read first: Handshakes of gos_types; of Terms of gos_model the operators. A part asks at some handshakes and serves at
+-- the others. Handshakes are numbered as they stand here; the last one of most kinds is that by which the part is run.
+use Rattle.std.specs.Prelude.{ℕ, List, [], ◌∷◌, ◌++◌, map}
 use Rattle.gos_types.specs.declared.shakes.Role.{Role}
 use Rattle.gos_types.specs.declared.shakes.Role.TheVariants.{Serve, Ask}
 use Rattle.gos_types.specs.Types.{Type'}
 use Rattle.gos_types.specs.Handshakes.{Shake, turned, handshakes_of}
-
--- what an operator computes from its two operands
-pub data Operation : Type 0 where
-  Add Sub And Or Xor Eq Less : Operation
+use Rattle.gos_model.specs.Terms.{Op as Operation, result_width}
 
 -- A kind of parts. What a sequence, a choice or a block ends with has v bits; a command has 0.
 pub data Part : Type 0 where
@@ -26,26 +23,6 @@ pub data Part : Type 0 where
   Deref : (w : ℕ) → Part
   Local : (w v : ℕ) → Part
   Share : (t : Type') → Part
-
--- the result of an operator on operands of w bits
-abbrev pub result_of : Operation → ℕ → ℕ → ℕ → ℕ
-result_of Add w a b = (a + b) % 2 ^ w
-result_of Sub w a b = (a + 2 ^ w - b) % 2 ^ w
-result_of And w a b = bit_and a b
-result_of Or w a b = bit_or a b
-result_of Xor w a b = bit_xor a b
-result_of Eq w a b = if nat_eq a b then 1 else 0
-result_of Less w a b = if nat_lt a b then 1 else 0
-
--- the bits of an operator's result, for operands of w bits
-abbrev pub result_width : Operation → ℕ → ℕ
-result_width Eq w = 1
-result_width Less w = 1
-result_width op w = w
-
--- all w bits turned
-abbrev pub complement : ℕ → ℕ → ℕ
-complement w a = 2 ^ w - 1 - a
 
 -- a handshake at an end: who asks there, and the bits of its request and of its answer
 pub record Contact : Type 0 where

@@ -21,7 +21,7 @@ use Rattle.gos_plan.specs.Kinds.{Part, Skip, Seq, Par, If, While, Op, Not, Assig
 use Rattle.gos_plan.specs.Seen.{operation_of}
 use Rattle.gos_model.specs.Typing.{Imported}
 use Rattle.gos_plan.specs.Plans.{End, PartEnd, ImportEnd, ResultEnd, Joint, Plan}
-use Rattle.gos_plan.specs.Ranges.{HasWidths}
+use Rattle.gos_types.specs.Widths.{HasWidths}
 use Rattle.gos_plan.specs.TextItems.{Item, Spans, Behind, both, plain, exactly, words, number_in, any_name, section}
 use Rattle.gos_plan.specs.ObjectText.{number_text, type_text, word_text, word_of, bits_text, body_text, operands_text, part_text, import_text, end_text, joint_text, text_of, IsWritablePart, IsWritableImport, IsWritableEnd, IsWritableJoint, IsWritable, IsSmallType, IsSmallPart, IsSmallPlan}
 

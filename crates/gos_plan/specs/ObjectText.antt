@@ -17,10 +17,11 @@ use Rattle.gos_plan.specs.declared.word.SizedWord.TheVariants as sized
 use Rattle.gos_plan.specs.declared.word.PartWord.{PartWord}
 use Rattle.gos_plan.specs.declared.word.PartWord.TheVariants as parts
 use Rattle.gos_plan.specs.declared.kinds.Op2.{Op2}
-use Rattle.gos_plan.specs.Kinds.{Operation, Add, Sub, And, Or, Xor, Eq, Less, Part, Skip, Lit, Seq, Par, If, While, Op, Not, Assign, Deref, Local, Share}
+use Rattle.gos_plan.specs.Kinds.{Part, Skip, Lit, Seq, Par, If, While, Op, Not, Assign, Deref, Local, Share}
+use Rattle.gos_model.specs.Terms.{Op as Operation, Add, Sub, And, Or, Xor, Eq, Less}
 use Rattle.gos_model.specs.Typing.{Imported}
 use Rattle.gos_plan.specs.Plans.{End, PartEnd, ImportEnd, ResultEnd, Joint, Plan}
-use Rattle.gos_plan.specs.Ranges.{IsWidth, HasWidths}
+use Rattle.gos_types.specs.Widths.{IsWidth, HasWidths}
 
 -- a number and the byte that ends it
 abbrev pub number_text : ℕ → ℕ → List ℕ

@@ -1,23 +1,12 @@
 -- The ranges that every plan keeps: widths, literals, and how many handshakes a type has.
-use Rattle.std.specs.Prelude.{◌≤◌, ◌<◌, ◌^◌, ℕ, List, All, length}
+use Rattle.std.specs.Prelude.{◌≤◌, ◌<◌, ◌^◌, List, All, length}
 use Rattle.gos_types.specs.declared.types.Ty.{Ty}
-use Rattle.gos_types.specs.Types.{Type', Com, Exp, Var, Pair, Fun, type_of}
+use Rattle.gos_types.specs.Types.{type_of}
+use Rattle.gos_types.specs.Widths.{IsWidth, HasWidths}
 use Rattle.gos_types.specs.Handshakes.{handshakes_of}
 use Rattle.gos_plan.specs.declared.kinds.Kind.{Kind}
 use Rattle.gos_plan.specs.declared.kinds.Kind.TheVariants as kinds
 use Rattle.gos_plan.specs.declared.plan.PlanImport.{PlanImport}
-
--- 1 to 32 bits
-abbrev pub IsWidth : ℕ → Type 0
-IsWidth w = (1 ≤ w) × (w ≤ 32)
-
--- each width in a type is one
-abbrev pub HasWidths : Type' → Type 0
-HasWidths Com = Unit {0}
-HasWidths (Exp w) = IsWidth w
-HasWidths (Var w) = IsWidth w
-HasWidths (Pair a b) = HasWidths a × HasWidths b
-HasWidths (Fun a b) = HasWidths a × HasWidths b
 
 -- a type has widths, and at most 64 handshakes
 abbrev pub IsSmall : Ty → Type 0

@@ -10,7 +10,8 @@ use Rattle.gos_plan.specs.declared.plan.End as declared_end
 use Rattle.gos_plan.specs.declared.plan.End.TheVariants as ends
 use Rattle.gos_plan.specs.declared.plan.Joint as declared_joint
 use Rattle.gos_plan.specs.declared.plan.PlanImport as declared_import
-use Rattle.gos_plan.specs.Kinds.{Operation, Add, Sub, And, Or, Xor, Eq, Less, Part, Skip, Lit, Seq, Par, If, While, Op, Not, Assign, Deref, Local, Share}
+use Rattle.gos_plan.specs.Kinds.{Part, Skip, Lit, Seq, Par, If, While, Op, Not, Assign, Deref, Local, Share}
+use Rattle.gos_model.specs.Terms.{Op as Operation, Add, Sub, And, Or, Xor, Eq, Less}
 use Rattle.gos_model.specs.Typing.{Imported}
 use Rattle.gos_plan.specs.Plans.{End, PartEnd, ImportEnd, ResultEnd, Joint, Plan}
 

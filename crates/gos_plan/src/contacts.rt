@@ -1,7 +1,8 @@
 // The handshakes at ends: those of a part, and those of a type.
 ghost use Rattle.std.specs.Prelude.{◌≡◌, ◌++◌, map, false, IfOk, OnOk};
 ghost use Rattle.gos_types.specs.Types.{type_of};
-ghost use Rattle.gos_plan.specs.Kinds.{contacts_of, other_side, part_contacts, result_width, asks, serves};
+ghost use Rattle.gos_plan.specs.Kinds.{contacts_of, other_side, part_contacts, asks, serves};
+ghost use Rattle.gos_model.specs.Terms.{result_width};
 ghost use Rattle.gos_plan.specs.Seen.{part_of, operation_of};
 ghost use Rattle.gos_plan.specs.Contacts.{held_contact, as_seen, contact_for};
 

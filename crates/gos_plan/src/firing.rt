@@ -2,7 +2,8 @@
 ghost use Rattle.std.specs.Prelude.{◌≡◌, ◌^◌, ◌<◌, ◌≤◌, ℕ, [], ◌∷◌, Some, IfOk, length, map, nat_eq, if◌then◌else◌};
 ghost use Rattle.gos_types.specs.Types.{type_of};
 ghost use Rattle.gos_plan.specs.Kinds as kinds;
-ghost use Rattle.gos_plan.specs.Kinds.{result_of, complement, contact};
+ghost use Rattle.gos_plan.specs.Kinds.{contact};
+ghost use Rattle.gos_model.specs.Terms.{result_of, complement};
 ghost use Rattle.gos_plan.specs.Seen.{operation_of, part_of};
 ghost use Rattle.gos_plan.specs.Ranges.{IsSmall, IsInRange};
 ghost use Rattle.gos_plan.specs.Firing.{Rest, Both, Body, Req, Ans, at, put, firing, same_slot, row_for, shared_rows, share_rows};

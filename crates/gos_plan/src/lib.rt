@@ -18,11 +18,7 @@ pub mod cells;
 mod contacts;
 mod fault;
 mod firing;
-#[cfg(test)]
-mod firing_tests;
 mod gates;
-#[cfg(test)]
-mod gates_tests;
 mod import_line;
 mod items;
 mod joint_line;
@@ -34,10 +30,6 @@ mod printing;
 mod reading;
 mod seats;
 mod sections;
-#[cfg(test)]
-mod tests;
-#[cfg(test)]
-mod text_tests;
 mod types;
 mod word;
 

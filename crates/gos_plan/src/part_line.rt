@@ -2,7 +2,8 @@
 ghost use Rattle.std.specs.Prelude.{◌≡◌, ◌-◌, ◌^◌, ◌≤◌, IfOk, IfErr, length};
 ghost use Rattle.gos_types.specs.Types.{type_of};
 ghost use Rattle.gos_plan.specs.Seen.{part_of};
-ghost use Rattle.gos_plan.specs.Ranges.{IsWidth, IsInRange};
+ghost use Rattle.gos_plan.specs.Ranges.{IsInRange};
+ghost use Rattle.gos_types.specs.Widths.{IsWidth};
 ghost use Rattle.gos_plan.specs.TextItems.{Reads, Fails};
 ghost use Rattle.gos_plan.specs.ObjectItems.{bare_part, sized_part, body, literal_numbers, local_numbers, part_operands, part_line};
 

@@ -10,8 +10,6 @@
 mod laws;
 mod pool;
 mod region;
-#[cfg(test)]
-mod tests;
 
 pub use laws::marks_stay;
 pub use pool::NetPool;

@@ -1,13 +1,12 @@
 -- The events of an accepted netlist, each beside its nets: the pulses of a cycle are those that its events show.
-use Rattle.std.proofs.Common.{◌≡◌, ◌+◌, ℕ, zero, suc, Bool, true, false, not, cond, List, [], ◌∷◌, ◌++◌, map, refl, sym, ap, subst, ◌∙◌, arith, Option, Some, None, append_assoc}
+use Rattle.std.proofs.Common.{◌≡◌, ◌+◌, ℕ, suc, Bool, true, false, not, cond, List, [], ◌∷◌, ◌++◌, map, refl, sym, ap, subst, ◌∙◌, arith, Option, Some, None, append_assoc}
 use Rattle.std.specs.Prelude.{slice_get, nat_eq}
 use Rattle.std.specs.List.{flat_map}
 use Rattle.gos_types.specs.Types.{Type', Com, Exp, Var, Pair, Fun}
 use Rattle.gos_netlist.specs.declared.event.Event as seen
 use Rattle.gos_netlist.specs.Nets.{Cell, Side, Give, Take, NetPort, Netlist}
-use Rattle.gos_netlist.specs.Events.{Direction, Answer, Event, Is, events, is_input, port_events, events_from, events_of}
+use Rattle.gos_netlist.specs.Events.{Direction, Event, Is, events, is_input, port_events, events_from, events_of}
 use Rattle.gos_netlist.specs.Settling.{Numbers, at}
-use Rattle.gos_netcheck.specs.CellRules.{WidthsFit}
 use Rattle.gos_netcheck.specs.PortRules.{AllFit, Fits, inputs_among, place, places}
 use Rattle.gos_netcheck.specs.Accepted.{IsAccepted}
 use Rattle.gos_model.specs.Labels.{Port, Label, is_answer, is_output_at}
@@ -18,33 +17,33 @@ use Rattle.gos_sim.specs.Cycle.{pulse_shown}
 use Rattle.gos_pulse.specs.inner.Slots.{port_at, label_if, labels_of}
 use Rattle.gos_pulse.proofs.GuardLemmas.{direction_at}
 
--- the nets of events, from a list of nets: one for a pulse, and one more for its number where it has bits
+-- the nets of events, from a list of nets: one for a pulse, and one more for its number where it has one
 abbrev pub nets_from : Side → List Event → List ℕ → List EventNets
 nets_from side [] ns = []
-nets_from side (Is way zero ∷ es) [] = []
-nets_from side (Is way zero ∷ es) (a ∷ ns) = record { input = is_input side way; pulse = a; number = None } ∷ nets_from side es ns
-nets_from side (Is way (suc b) ∷ es) [] = []
-nets_from side (Is way (suc b) ∷ es) (a ∷ []) = []
-nets_from side (Is way (suc b) ∷ es) (a ∷ x ∷ ns) = record { input = is_input side way; pulse = a; number = Some x } ∷ nets_from side es ns
+nets_from side (Is way None ∷ es) [] = []
+nets_from side (Is way None ∷ es) (a ∷ ns) = record { input = is_input side way; pulse = a; number = None } ∷ nets_from side es ns
+nets_from side (Is way (Some b) ∷ es) [] = []
+nets_from side (Is way (Some b) ∷ es) (a ∷ []) = []
+nets_from side (Is way (Some b) ∷ es) (a ∷ x ∷ ns) = record { input = is_input side way; pulse = a; number = Some x } ∷ nets_from side es ns
 
 -- each of them fits
 abbrev pub FitRows : List Cell → Side → List Event → List ℕ → Type 0
 FitRows cells side [] [] = Unit {0}
 FitRows cells side [] (n ∷ ns) = ⊥
-FitRows cells side (Is way zero ∷ es) [] = ⊥
-FitRows cells side (Is way zero ∷ es) (a ∷ ns) = Fits cells (place side way 1) a × FitRows cells side es ns
-FitRows cells side (Is way (suc b) ∷ es) [] = ⊥
-FitRows cells side (Is way (suc b) ∷ es) (a ∷ []) = ⊥
-FitRows cells side (Is way (suc b) ∷ es) (a ∷ x ∷ ns) = Fits cells (place side way 1) a × Fits cells (place side way (suc b)) x × FitRows cells side es ns
+FitRows cells side (Is way None ∷ es) [] = ⊥
+FitRows cells side (Is way None ∷ es) (a ∷ ns) = Fits cells (place side way 1) a × FitRows cells side es ns
+FitRows cells side (Is way (Some b) ∷ es) [] = ⊥
+FitRows cells side (Is way (Some b) ∷ es) (a ∷ []) = ⊥
+FitRows cells side (Is way (Some b) ∷ es) (a ∷ x ∷ ns) = Fits cells (place side way 1) a × Fits cells (place side way b) x × FitRows cells side es ns
 
 -- those that are inputs
 abbrev pub inputs_from : Side → List Event → List ℕ → List ℕ
 inputs_from side [] ns = []
-inputs_from side (Is way zero ∷ es) [] = []
-inputs_from side (Is way zero ∷ es) (a ∷ ns) = cond (is_input side way) (a ∷ []) [] ++ inputs_from side es ns
-inputs_from side (Is way (suc b) ∷ es) [] = []
-inputs_from side (Is way (suc b) ∷ es) (a ∷ []) = []
-inputs_from side (Is way (suc b) ∷ es) (a ∷ x ∷ ns) = cond (is_input side way) (a ∷ []) [] ++ (cond (is_input side way) (x ∷ []) [] ++ inputs_from side es ns)
+inputs_from side (Is way None ∷ es) [] = []
+inputs_from side (Is way None ∷ es) (a ∷ ns) = cond (is_input side way) (a ∷ []) [] ++ inputs_from side es ns
+inputs_from side (Is way (Some b) ∷ es) [] = []
+inputs_from side (Is way (Some b) ∷ es) (a ∷ []) = []
+inputs_from side (Is way (Some b) ∷ es) (a ∷ x ∷ ns) = cond (is_input side way) (a ∷ []) [] ++ (cond (is_input side way) (x ∷ []) [] ++ inputs_from side es ns)
 
 -- the nets of a port, event by event
 pub record HasRows (cells : List Cell) (side : Side) (ty : Type') (ns : List ℕ) : Type 0 where
@@ -52,46 +51,38 @@ pub record HasRows (cells : List Cell) (side : Side) (ty : Type') (ns : List ℕ
   pub fits : FitRows cells side (events ty) ns
   pub inputs : inputs_among (places side ty) ns ≡ inputs_from side (events ty) ns
 
--- no net has width 0
-no_width : {X : Type 0} (cells : List Cell) (side : Side) (way : Direction) (n : ℕ) → WidthsFit cells → Fits cells (place side way 0) n → X
-no_width cells side way n widths fits =
-    let right = widths n fits.0 fits.1 in
-    absurd (omega (arith, right.0, fits.2))
-
-rows : (cells : List Cell) (side : Side) (ty : Type') (ns : List ℕ) → WidthsFit cells → AllFit cells (places side ty) ns → HasRows cells side ty ns
-rows cells side Com [] widths h = absurd (omega (arith, h.0))
-rows cells side Com (a ∷ []) widths h = absurd (omega (arith, h.0))
-rows cells side Com (a ∷ b ∷ []) widths h = record { nets = refl; fits = (h.1 0 a refl, (h.1 1 b refl, tt)); inputs = refl }
-rows cells side Com (a ∷ b ∷ c ∷ ns) widths h = absurd (omega (arith, h.0))
-rows cells side (Exp w) [] widths h = absurd (omega (arith, h.0))
-rows cells side (Exp w) (a ∷ []) widths h = absurd (omega (arith, h.0))
-rows cells side (Exp w) (a ∷ b ∷ []) widths h = absurd (omega (arith, h.0))
-rows cells side (Exp zero) (a ∷ b ∷ x ∷ ns) widths h = no_width cells side Answer x widths (h.1 2 x refl)
-rows cells side (Exp (suc w)) (a ∷ b ∷ x ∷ []) widths h = record { nets = refl; fits = (h.1 0 a refl, (h.1 1 b refl, h.1 2 x refl, tt)); inputs = refl }
-rows cells side (Exp (suc w)) (a ∷ b ∷ x ∷ c ∷ ns) widths h = absurd (omega (arith, h.0))
-rows cells side (Var w) [] widths h = absurd (omega (arith, h.0))
-rows cells side (Var w) (a ∷ []) widths h = absurd (omega (arith, h.0))
-rows cells side (Var w) (a ∷ b ∷ []) widths h = absurd (omega (arith, h.0))
-rows cells side (Var zero) (a ∷ b ∷ x ∷ ns) widths h = no_width cells side Answer x widths (h.1 2 x refl)
-rows cells side (Var (suc w)) (a ∷ b ∷ x ∷ []) widths h = absurd (omega (arith, h.0))
-rows cells side (Var (suc w)) (a ∷ b ∷ x ∷ d ∷ []) widths h = absurd (omega (arith, h.0))
-rows cells side (Var (suc w)) (a ∷ b ∷ x ∷ d ∷ y ∷ []) widths h = absurd (omega (arith, h.0))
-rows cells side (Var (suc w)) (a ∷ b ∷ x ∷ d ∷ y ∷ e ∷ []) widths h =
+rows : (cells : List Cell) (side : Side) (ty : Type') (ns : List ℕ) → AllFit cells (places side ty) ns → HasRows cells side ty ns
+rows cells side Com [] h = absurd (omega (arith, h.0))
+rows cells side Com (a ∷ []) h = absurd (omega (arith, h.0))
+rows cells side Com (a ∷ b ∷ []) h = record { nets = refl; fits = (h.1 0 a refl, (h.1 1 b refl, tt)); inputs = refl }
+rows cells side Com (a ∷ b ∷ c ∷ ns) h = absurd (omega (arith, h.0))
+rows cells side (Exp w) [] h = absurd (omega (arith, h.0))
+rows cells side (Exp w) (a ∷ []) h = absurd (omega (arith, h.0))
+rows cells side (Exp w) (a ∷ b ∷ []) h = absurd (omega (arith, h.0))
+rows cells side (Exp w) (a ∷ b ∷ x ∷ []) h = record { nets = refl; fits = (h.1 0 a refl, (h.1 1 b refl, h.1 2 x refl, tt)); inputs = refl }
+rows cells side (Exp w) (a ∷ b ∷ x ∷ c ∷ ns) h = absurd (omega (arith, h.0))
+rows cells side (Var w) [] h = absurd (omega (arith, h.0))
+rows cells side (Var w) (a ∷ []) h = absurd (omega (arith, h.0))
+rows cells side (Var w) (a ∷ b ∷ []) h = absurd (omega (arith, h.0))
+rows cells side (Var w) (a ∷ b ∷ x ∷ []) h = absurd (omega (arith, h.0))
+rows cells side (Var w) (a ∷ b ∷ x ∷ d ∷ []) h = absurd (omega (arith, h.0))
+rows cells side (Var w) (a ∷ b ∷ x ∷ d ∷ y ∷ []) h = absurd (omega (arith, h.0))
+rows cells side (Var w) (a ∷ b ∷ x ∷ d ∷ y ∷ e ∷ []) h =
     record {
       nets = refl;
       fits = (h.1 0 a refl, (h.1 1 b refl, h.1 2 x refl, (h.1 3 d refl, h.1 4 y refl, (h.1 5 e refl, tt))));
       inputs = refl;
     }
-rows cells side (Var (suc w)) (a ∷ b ∷ x ∷ d ∷ y ∷ e ∷ f ∷ ns) widths h = absurd (omega (arith, h.0))
-rows cells side (Pair a b) [] widths h = record { nets = refl; fits = tt; inputs = refl }
-rows cells side (Pair a b) (n ∷ ns) widths h = absurd (omega (arith, h.0))
-rows cells side (Fun a b) [] widths h = record { nets = refl; fits = tt; inputs = refl }
-rows cells side (Fun a b) (n ∷ ns) widths h = absurd (omega (arith, h.0))
+rows cells side (Var w) (a ∷ b ∷ x ∷ d ∷ y ∷ e ∷ f ∷ ns) h = absurd (omega (arith, h.0))
+rows cells side (Pair a b) [] h = record { nets = refl; fits = tt; inputs = refl }
+rows cells side (Pair a b) (n ∷ ns) h = absurd (omega (arith, h.0))
+rows cells side (Fun a b) [] h = record { nets = refl; fits = tt; inputs = refl }
+rows cells side (Fun a b) (n ∷ ns) h = absurd (omega (arith, h.0))
 
 -- requests and answers alternate
 abbrev Alternate : ℕ → List Event → Type 0
 Alternate n [] = Unit {0}
-Alternate n (Is way bits ∷ es) = (way ≡ direction_at (is_answer n)) × Alternate (suc n) es
+Alternate n (Is way number ∷ es) = (way ≡ direction_at (is_answer n)) × Alternate (suc n) es
 
 alternate : (ty : Type') → Alternate 0 (events ty)
 alternate Com = (refl, (refl, tt))
@@ -103,7 +94,7 @@ alternate (Fun a b) = tt
 -- the events of a port from number n on go out where they are not inputs
 abbrev pub TurnsOut : Port → Side → ℕ → List Event → Type 0
 TurnsOut port side n [] = Unit {0}
-TurnsOut port side n (Is way bits ∷ es) = (is_output_at port n ≡ not (is_input side way)) × TurnsOut port side (suc n) es
+TurnsOut port side n (Is way number ∷ es) = (is_output_at port n ≡ not (is_input side way)) × TurnsOut port side (suc n) es
 
 -- the net of an event's number, where it has one
 abbrev pub IsNumberNet : List Cell → seen.Event → Option ℕ → Type 0
@@ -138,7 +129,7 @@ module _ (net : Netlist) (k : ℕ) (p : NetPort) (here : slice_get net.ports k �
 
   outputs_turn : (n : ℕ) (es : List Event) → Alternate n es → TurnsOut (port_of p.side p.name) p.side n es
   outputs_turn n [] turns = tt
-  outputs_turn n (Is way bits ∷ es) turns = (output_of n way turns.0, outputs_turn (suc n) es turns.1)
+  outputs_turn n (Is way number ∷ es) turns = (output_of n way turns.0, outputs_turn (suc n) es turns.1)
 
   pub turns_out : TurnsOut (port_of p.side p.name) p.side 0 (events p.ty)
   turns_out = outputs_turn 0 (events p.ty) (alternate p.ty)
@@ -147,14 +138,14 @@ module _ (net : Netlist) (k : ℕ) (p : NetPort) (here : slice_get net.ports k �
   port_rows : (n : ℕ) (es : List Event) (ns : List ℕ) → Alternate n es → FitRows net.cells p.side es ns → AreRows net (port_events k p.side n es) (nets_from p.side es ns)
   port_rows n [] [] turns fit = tt
   port_rows n [] (a ∷ ns) turns fit = absurd fit
-  port_rows n (Is way zero ∷ es) [] turns fit = absurd fit
-  port_rows n (Is way zero ∷ es) (a ∷ ns) turns fit = (
+  port_rows n (Is way None ∷ es) [] turns fit = absurd fit
+  port_rows n (Is way None ∷ es) (a ∷ ns) turns fit = (
     record { port = p; at = here; input = refl; output = output_of n way turns.0; pulse = fit.0; number = refl },
     port_rows (suc n) es ns turns.1 fit.1,
   )
-  port_rows n (Is way (suc b) ∷ es) [] turns fit = absurd fit
-  port_rows n (Is way (suc b) ∷ es) (a ∷ []) turns fit = absurd fit
-  port_rows n (Is way (suc b) ∷ es) (a ∷ x ∷ ns) turns fit = (
+  port_rows n (Is way (Some b) ∷ es) [] turns fit = absurd fit
+  port_rows n (Is way (Some b) ∷ es) (a ∷ []) turns fit = absurd fit
+  port_rows n (Is way (Some b) ∷ es) (a ∷ x ∷ ns) turns fit = (
     record { port = p; at = here; input = refl; output = output_of n way turns.0; pulse = fit.0; number = fit.1 },
     port_rows (suc n) es ns turns.1 fit.2,
   )
@@ -166,13 +157,13 @@ module _ (net : Netlist) (k : ℕ) (p : NetPort) (here : slice_get net.ports k �
       → pulses_from (port_of p.side p.name) n es ns v ≡ labels_of net.ports (port_events k p.side n es) (map (pulse_shown v) (nets_from p.side es ns))
   port_labels v n [] [] fit = refl
   port_labels v n [] (a ∷ ns) fit = absurd fit
-  port_labels v n (Is way zero ∷ es) [] fit = absurd fit
-  port_labels v n (Is way zero ∷ es) (a ∷ ns) fit =
+  port_labels v n (Is way None ∷ es) [] fit = absurd fit
+  port_labels v n (Is way None ∷ es) (a ∷ ns) fit =
       let rest = port_labels v (suc n) es ns fit.1 in
       λ i. cond (nat_eq (at v a) 1) (record { port = port_in_label i; event = n; value = 0 } ∷ []) [] ++ rest i
-  port_labels v n (Is way (suc b) ∷ es) [] fit = absurd fit
-  port_labels v n (Is way (suc b) ∷ es) (a ∷ []) fit = absurd fit
-  port_labels v n (Is way (suc b) ∷ es) (a ∷ x ∷ ns) fit =
+  port_labels v n (Is way (Some b) ∷ es) [] fit = absurd fit
+  port_labels v n (Is way (Some b) ∷ es) (a ∷ []) fit = absurd fit
+  port_labels v n (Is way (Some b) ∷ es) (a ∷ x ∷ ns) fit =
       let rest = port_labels v (suc n) es ns fit.2 in
       λ i. cond (nat_eq (at v a) 1) (record { port = port_in_label i; event = n; value = at v x } ∷ []) [] ++ rest i
 
@@ -231,7 +222,7 @@ all_labels net v k (p ∷ ps) from =
 -- the ports of an accepted netlist have rows
 ports_have_rows : (net : Netlist) → IsAccepted net → (j : ℕ) (p : NetPort) → slice_get net.ports j ≡ Some p → HasRows net.cells p.side p.ty p.nets
 ports_have_rows net accepted j p is =
-    rows net.cells p.side p.ty p.nets accepted.widths (accepted.ports.each j p is).nets
+    rows net.cells p.side p.ty p.nets (accepted.ports.each j p is).nets
 
 pub from_first : (net : Netlist) → IsAccepted net → FromPlace net 0 net.ports
 from_first net accepted j p is =

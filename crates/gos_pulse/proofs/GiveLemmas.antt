@@ -43,7 +43,7 @@ input_event net i event there input =
     record {
       port = its.port;
       at = ap (slice_get net.ports) (sym place) ∙ its.at;
-      answers = answers_of its.port.side its.way (is_answer event.place) (placed its.port.ty event.place its.way event.bits its.event).0 (sym its.input ∙ input);
+      answers = answers_of its.port.side its.way (is_answer event.place) (placed its.port.ty event.place its.way its.number its.event).0 (sym its.input ∙ input);
     }
 
 -- the events of inputs are input events

@@ -9,7 +9,7 @@ use Rattle.std.proofs.lemmas.Slice.Eq.{bytes_eq-Decides}
 use Rattle.gos_types.specs.Types.{Type', Com, Exp, Var, Pair, Fun, IsDone}
 use Rattle.gos_netlist.specs.declared.event.Event as seen
 use Rattle.gos_netlist.specs.Nets.{Side, Give, Take, NetPort, Netlist}
-use Rattle.gos_netlist.specs.Events.{Direction, Request, Answer, Event, Is, events, is_input, port_events, events_from, events_of}
+use Rattle.gos_netlist.specs.Events.{Direction, Request, Answer, Event, Is, bits_of, events, is_input, port_events, events_from, events_of}
 use Rattle.gos_model.specs.Typing.{import_type}
 use Rattle.gos_model.specs.Labels.{Port, Given, Taken, Label, is_answer}
 use Rattle.gos_model.specs.Flattening.{port_of}
@@ -23,9 +23,11 @@ pub record IsEventOf (ports : List NetPort) (k : ℕ) (e : seen.Event) : Type 0 
   pub index : ℕ
   pub port : NetPort
   pub way : Direction
+  pub number : Option ℕ
   pub port_is : e.port ≡ k + index
   pub at : slice_get ports index ≡ Some port
-  pub event : slice_get (events port.ty) e.place ≡ Some (Is way e.bits)
+  pub event : slice_get (events port.ty) e.place ≡ Some (Is way number)
+  pub bits : e.bits ≡ bits_of number
   pub input : e.input ≡ is_input port.side way
 
 -- an element of two lists is one of the first or one of the second
@@ -38,21 +40,23 @@ of_either (y ∷ xs) ys (suc i) x h = of_either xs ys i x h
 pub record IsPortEvent (k : ℕ) (side : Side) (n : ℕ) (es : List Event) (e : seen.Event) : Type 0 where
   pub index : ℕ
   pub way : Direction
+  pub number : Option ℕ
   pub port_is : e.port ≡ k
   pub place_is : e.place ≡ n + index
-  pub event : slice_get es index ≡ Some (Is way e.bits)
+  pub event : slice_get es index ≡ Some (Is way number)
+  pub bits : e.bits ≡ bits_of number
   pub input : e.input ≡ is_input side way
 
 port_event : (k : ℕ) (side : Side) (n : ℕ) (es : List Event) (i : ℕ) (e : seen.Event) → slice_get (port_events k side n es) i ≡ Some e → IsPortEvent k side n es e
 port_event k side n [] i e h = let wrong : None ≡ Some e = h in absurd cc
-port_event k side n (Is way bits ∷ es) zero e h =
-    let one : seen.Event = record { port = k; place = n; input = is_input side way; bits = bits } in
+port_event k side n (Is way number ∷ es) zero e h =
+    let one : seen.Event = record { port = k; place = n; input = is_input side way; bits = bits_of number } in
     let same : one ≡ e = cc in
-    subst (λ (x : seen.Event). IsPortEvent k side n (Is way bits ∷ es) x) same
-    (record { index = 0; way = way; port_is = refl; place_is = omega arith; event = refl; input = refl })
-port_event k side n (Is way bits ∷ es) (suc i) e h =
+    subst (λ (x : seen.Event). IsPortEvent k side n (Is way number ∷ es) x) same
+    (record { index = 0; way = way; number = number; port_is = refl; place_is = omega arith; event = refl; bits = refl; input = refl })
+port_event k side n (Is way number ∷ es) (suc i) e h =
     let later = port_event k side (suc n) es i e h in
-    record { index = suc later.index; way = later.way; port_is = later.port_is; place_is = omega (arith, later.place_is); event = later.event; input = later.input }
+    record { index = suc later.index; way = later.way; number = later.number; port_is = later.port_is; place_is = omega (arith, later.place_is); event = later.event; bits = later.bits; input = later.input }
 
 -- an event of ports, and what it is there
 pub event_from : (k : ℕ) (ports : List NetPort) (i : ℕ) (e : seen.Event) → slice_get (events_from k ports) i ≡ Some e → IsEventOf ports k e
@@ -62,10 +66,10 @@ event_from k (p ∷ ps) i e h =
       | inl here ↦
           let known = port_event k p.side 0 (events p.ty) i e here in
           let place : known.index ≡ e.place = omega (arith, known.place_is) in
-          record { index = 0; port = p; way = known.way; port_is = omega (arith, known.port_is); at = refl; event = ap (slice_get (events p.ty)) (sym place) ∙ known.event; input = known.input }
+          record { index = 0; port = p; way = known.way; number = known.number; port_is = omega (arith, known.port_is); at = refl; event = ap (slice_get (events p.ty)) (sym place) ∙ known.event; bits = known.bits; input = known.input }
       | inr later ↦
           let known = event_from (suc k) ps later.0 e later.1 in
-          record { index = suc known.index; port = known.port; way = known.way; port_is = omega (arith, known.port_is); at = known.at; event = known.event; input = known.input }
+          record { index = suc known.index; port = known.port; way = known.way; number = known.number; port_is = omega (arith, known.port_is); at = known.at; event = known.event; bits = known.bits; input = known.input }
     ]
 
 -- an event of one way is an event, and goes that way
@@ -84,7 +88,7 @@ half_there inputs all i e h = slice_get-map half_of (events_way inputs all) i �
 
 -- the direction of an event
 abbrev direction_of : Event → Direction
-direction_of (Is way bits) = way
+direction_of (Is way number) = way
 
 -- the direction of the event at a place
 abbrev pub direction_at : Bool → Direction
@@ -95,26 +99,26 @@ direction_at false = Request
 abbrev IsPlaced : ℕ → Direction → Type 0
 IsPlaced n way = (way ≡ direction_at (is_answer n)) × (shake_of n ≡ cond (is_second n) 1 0)
 
-its_way : (one : Event) (way : Direction) (bits : ℕ) → Some one ≡ Some (Is way bits) → way ≡ direction_of one
-its_way one way bits h = let same : one ≡ Is way bits = cc in ap direction_of (sym same)
+its_way : (one : Event) (way : Direction) (number : Option ℕ) → Some one ≡ Some (Is way number) → way ≡ direction_of one
+its_way one way number h = let same : one ≡ Is way number = cc in ap direction_of (sym same)
 
-pub no_event : {X : Type 0} (way : Direction) (bits : ℕ) → None ≡ Some (Is way bits) → X
-no_event way bits h = absurd cc
+pub no_event : {X : Type 0} (way : Direction) (number : Option ℕ) → None ≡ Some (Is way number) → X
+no_event way number h = absurd cc
 
-pub placed : (ty : Type') (n : ℕ) (way : Direction) (bits : ℕ) → slice_get (events ty) n ≡ Some (Is way bits) → IsPlaced n way
-placed Com zero way bits h = (its_way (Is Request 0) way bits h, refl)
-placed Com (suc zero) way bits h = (its_way (Is Answer 0) way bits h, refl)
-placed Com (suc (suc n)) way bits h = no_event way bits h
-placed (Exp w) zero way bits h = (its_way (Is Request 0) way bits h, refl)
-placed (Exp w) (suc zero) way bits h = (its_way (Is Answer w) way bits h, refl)
-placed (Exp w) (suc (suc n)) way bits h = no_event way bits h
-placed (Var w) zero way bits h = (its_way (Is Request 0) way bits h, refl)
-placed (Var w) (suc zero) way bits h = (its_way (Is Answer w) way bits h, refl)
-placed (Var w) (suc (suc zero)) way bits h = (its_way (Is Request w) way bits h, refl)
-placed (Var w) (suc (suc (suc zero))) way bits h = (its_way (Is Answer 0) way bits h, refl)
-placed (Var w) (suc (suc (suc (suc n)))) way bits h = no_event way bits h
-placed (Pair a b) n way bits h = no_event way bits h
-placed (Fun a b) n way bits h = no_event way bits h
+pub placed : (ty : Type') (n : ℕ) (way : Direction) (number : Option ℕ) → slice_get (events ty) n ≡ Some (Is way number) → IsPlaced n way
+placed Com zero way number h = (its_way (Is Request None) way number h, refl)
+placed Com (suc zero) way number h = (its_way (Is Answer None) way number h, refl)
+placed Com (suc (suc n)) way number h = no_event way number h
+placed (Exp w) zero way number h = (its_way (Is Request None) way number h, refl)
+placed (Exp w) (suc zero) way number h = (its_way (Is Answer (Some w)) way number h, refl)
+placed (Exp w) (suc (suc n)) way number h = no_event way number h
+placed (Var w) zero way number h = (its_way (Is Request None) way number h, refl)
+placed (Var w) (suc zero) way number h = (its_way (Is Answer (Some w)) way number h, refl)
+placed (Var w) (suc (suc zero)) way number h = (its_way (Is Request (Some w)) way number h, refl)
+placed (Var w) (suc (suc (suc zero))) way number h = (its_way (Is Answer None) way number h, refl)
+placed (Var w) (suc (suc (suc (suc n)))) way number h = no_event way number h
+placed (Pair a b) n way number h = no_event way number h
+placed (Fun a b) n way number h = no_event way number h
 
 pub same_port-refl : (x : Port) → same_port x x ≡ true
 same_port-refl Given = refl
@@ -162,7 +166,9 @@ pub record IsKnown (net : Netlist) (inputs : Bool) (i : ℕ) (l : Label) (half :
   pub port_is : l.port ≡ port_of port.side port.name
   pub event_is : l.event ≡ event.place
   pub there : slice_get (events_way inputs (events_of net)) i ≡ Some event
-  pub is : slice_get (events port.ty) event.place ≡ Some (Is way event.bits)
+  pub number : Option ℕ
+  pub is : slice_get (events port.ty) event.place ≡ Some (Is way number)
+  pub bits : event.bits ≡ bits_of number
   pub input : event.input ≡ is_input port.side way
   pub goes_its_way : goes inputs event ≡ true
   pub half_is : half ≡ half_of event
@@ -179,11 +185,13 @@ known net inputs i l half label half_is =
       event = label.event;
       port = label.port;
       way = its.way;
+      number = its.number;
       at = label.at;
       port_is = label.port_is;
       event_is = label.event_is;
       there = label.there;
-      is = subst (λ (p : NetPort). slice_get (events p.ty) label.event.place ≡ Some (Is its.way label.event.bits)) equal its.event;
+      is = subst (λ (p : NetPort). slice_get (events p.ty) label.event.place ≡ Some (Is its.way its.number)) equal its.event;
+      bits = its.bits;
       input = subst (λ (p : NetPort). label.event.input ≡ is_input p.side its.way) equal its.input;
       goes_its_way = one.1;
       half_is = half_is ∙ half_at;
@@ -194,7 +202,7 @@ module _ (net : Netlist) (past : List Label) (l : Label) (inputs : Bool) (i : �
   pub saw : (old new : Guard) → HasPorts net → Guards net past old → IsLabel net (events_way inputs (events_of net)) i l → half ≡ get_or (halves_of inputs (events_of net)) i half → new.inputs.items ≡ old.inputs.items → new.outputs.items ≡ old.outputs.items → new.flags.first.items ≡ cond half.second old.flags.first.items (set old.flags.first.items half.port half.request) → new.flags.second.items ≡ cond half.second (set old.flags.second.items half.port half.request) old.flags.second.items → Guards net (l ∷ past) new
   saw old new has guards label half_is same_inputs same_outputs first_is second_is =
       let its = known net inputs i l half label half_is in
-      let its_place : IsPlaced its.event.place its.way = placed its.port.ty its.event.place its.way its.event.bits its.is in
+      let its_place : IsPlaced its.event.place its.way = placed its.port.ty its.event.place its.way its.number its.is in
       by its (is_second its.event.place) refl its_place.1
     where
       by : (its : IsKnown net inputs i l half) (b : Bool) → is_second its.event.place ≡ b → shake_of its.event.place ≡ cond (is_second its.event.place) 1 0 → Guards net (l ∷ past) new
@@ -240,23 +248,23 @@ module _ (net : Netlist) (past : List Label) (l : Label) (inputs : Bool) (i : �
 request_no_answer : Request ≡ Answer → ⊥
 request_no_answer h = absurd cc
 
-abbrev bits_of : Event → ℕ
-bits_of (Is way bits) = bits
+abbrev bits_in : Event → ℕ
+bits_in (Is way number) = bits_of number
 
-its_bits : (one : Event) (way : Direction) (bits : ℕ) → Some one ≡ Some (Is way bits) → bits ≡ bits_of one
-its_bits one way bits h = let same : one ≡ Is way bits = cc in ap bits_of (sym same)
+its_bits : (one : Event) (way : Direction) (number : Option ℕ) → Some one ≡ Some (Is way number) → bits_of number ≡ bits_in one
+its_bits one way number h = let same : one ≡ Is way number = cc in ap bits_in (sym same)
 
 -- a request at a port that gives a command or an expression is its first event, and has no number
-first_request : (ty : Type') (n bits : ℕ) → IsDone ty → slice_get (events ty) n ≡ Some (Is Request bits) → (n ≡ 0) × (bits ≡ 0)
-first_request Com zero bits done h = (refl, its_bits (Is Request 0) Request bits h)
-first_request Com (suc zero) bits done h = absurd (request_no_answer (its_way (Is Answer 0) Request bits h))
-first_request Com (suc (suc n)) bits done h = no_event Request bits h
-first_request (Exp w) zero bits done h = (refl, its_bits (Is Request 0) Request bits h)
-first_request (Exp w) (suc zero) bits done h = absurd (request_no_answer (its_way (Is Answer w) Request bits h))
-first_request (Exp w) (suc (suc n)) bits done h = no_event Request bits h
-first_request (Var w) n bits done h = absurd done
-first_request (Pair a b) n bits done h = absurd done
-first_request (Fun a b) n bits done h = absurd done
+first_request : (ty : Type') (n : ℕ) (number : Option ℕ) → IsDone ty → slice_get (events ty) n ≡ Some (Is Request number) → (n ≡ 0) × (bits_of number ≡ 0)
+first_request Com zero number done h = (refl, its_bits (Is Request None) Request number h)
+first_request Com (suc zero) number done h = absurd (request_no_answer (its_way (Is Answer None) Request number h))
+first_request Com (suc (suc n)) number done h = no_event Request number h
+first_request (Exp w) zero number done h = (refl, its_bits (Is Request None) Request number h)
+first_request (Exp w) (suc zero) number done h = absurd (request_no_answer (its_way (Is Answer (Some w)) Request number h))
+first_request (Exp w) (suc (suc n)) number done h = no_event Request number h
+first_request (Var w) n number done h = absurd done
+first_request (Pair a b) n number done h = absurd done
+first_request (Fun a b) n number done h = absurd done
 
 rest_differ : (q : NetPort) (ports : List NetPort) → PortsDiffer (q ∷ ports) → PortsDiffer ports
 rest_differ q ports differ = λ i j p r at_i at_j same.
@@ -331,13 +339,13 @@ module _ (net : Netlist) (past : List Label) (l : Label) (half : Half) (guard : 
   by_side i result has its fits its_place result_is Give side =
       let way : its.way ≡ Request = given_way its.way (ap (λ (s : Side). is_input s its.way) (sym side) ∙ sym its.input ∙ its.goes_its_way) in
       let asks : is_answer its.event.place ≡ false = no_answer (is_answer its.event.place) (sym way ∙ its_place.0) in
-      let first = first_request its.port.ty its.event.place its.event.bits (has.given its.event.port its.port its.at side) (its.is ∙ ap (λ (d : Direction). Some (Is d its.event.bits)) way) in
+      let first = first_request its.port.ty its.event.place its.number (has.given its.event.port its.port its.at side) (its.is ∙ ap (λ (d : Direction). Some (Is d its.number)) way) in
       let port : port_of its.port.side its.port.name ≡ Given = ap (λ (s : Side). port_of s its.port.name) side in
       let shake : shake_of its.event.place ≡ 0 = ap shake_of first.0 in
       let result_now : result ≡ not (is_open past Given 0) =
       result_is ∙ ap (λ (c : Bool). cond (not c) (not (is_open past (port_of its.port.side its.port.name) (shake_of its.event.place))) (is_open past (port_of its.port.side its.port.name) (shake_of its.event.place))) asks
       ∙ (λ j. not (is_open past (port j) (shake j))) in
-      let small : l.value < 2 ^ 0 = subst (λ (n : ℕ). l.value < 2 ^ n) first.1 fits in
+      let small : l.value < 2 ^ 0 = subst (λ (n : ℕ). l.value < 2 ^ n) (its.bits ∙ first.1) fits in
       let none : l.value ≡ 0 = omega (arith, small) in
       subst (λ (x : Port). IsTrue result ↔ Allowed (taken_by net.ports) past x l.event l.value) (sym (its.port_is ∙ port))
       (λ yes. (its.event_is ∙ first.0, none, not_true (is_open past Given 0) (sym result_now ∙ yes)), λ allowed. result_now ∙ ap not allowed.2)
@@ -348,10 +356,10 @@ module _ (net : Netlist) (past : List Label) (l : Label) (half : Half) (guard : 
       let result_now : result ≡ is_open past (Taken its.port.name) (shake_of l.event) =
       result_is ∙ ap (λ (c : Bool). cond (not c) (not (is_open past (port_of its.port.side its.port.name) (shake_of its.event.place))) (is_open past (port_of its.port.side its.port.name) (shake_of its.event.place))) answers
       ∙ (λ j. is_open past (port j) (shake_of (sym its.event_is j))) in
-      let found : event_of (import_type (taken_by net.ports) its.port.name) l.event ≡ Some (Is Answer its.event.bits) =
+      let found : event_of (import_type (taken_by net.ports) its.port.name) l.event ≡ Some (Is Answer its.number) =
       ap (λ t. event_of t l.event) (taken_type net.ports its.event.port its.port has.differ its.at side)
-      ∙ ap (slice_get (events its.port.ty)) its.event_is ∙ its.is ∙ ap (λ (d : Direction). Some (Is d its.event.bits)) way in
-      let answers_fit : FitsAnswer (event_of (import_type (taken_by net.ports) its.port.name) l.event) l.value = subst (λ (e : Option Event). FitsAnswer e l.value) (sym found) fits in
+      ∙ ap (slice_get (events its.port.ty)) its.event_is ∙ its.is ∙ ap (λ (d : Direction). Some (Is d its.number)) way in
+      let answers_fit : FitsAnswer (event_of (import_type (taken_by net.ports) its.port.name) l.event) l.value = subst (λ (e : Option Event). FitsAnswer e l.value) (sym found) (subst (λ (n : ℕ). l.value < 2 ^ n) its.bits fits) in
       subst (λ (x : Port). IsTrue result ↔ Allowed (taken_by net.ports) past x l.event l.value) (sym (its.port_is ∙ port))
       (λ yes. (answers_fit, sym result_now ∙ yes), λ allowed. result_now ∙ allowed.1)
 
@@ -359,7 +367,7 @@ module _ (net : Netlist) (past : List Label) (l : Label) (half : Half) (guard : 
   pub allowed_is : (i : ℕ) (result : Bool) → HasPorts net → Guards net past guard → IsLabel net (events_way true (events_of net)) i l → IsValueOf (events_way true (events_of net)) i l.value → half ≡ get_or (halves_of true (events_of net)) i half → result ≡ cond half.request (not seen_open) seen_open → IsTrue result ↔ Allowed (taken_by net.ports) past l.port l.event l.value
   allowed_is i result has guards label value half_is result_is =
       let its = known net true i l half label half_is in
-      let its_place : IsPlaced its.event.place its.way = placed its.port.ty its.event.place its.way its.event.bits its.is in
+      let its_place : IsPlaced its.event.place its.way = placed its.port.ty its.event.place its.way its.number its.is in
       let open_now : seen_open ≡ is_open past (port_of its.port.side its.port.name) (shake_of its.event.place) = open_is i its guards its_place.1 in
       by_side i result has its (value its.event its.there) its_place
       (result_is ∙ ap (λ (h : Half). cond h.request (not seen_open) seen_open) its.half_is ∙ ap (λ (o : Bool). cond (not (is_answer its.event.place)) (not o) o) open_now)

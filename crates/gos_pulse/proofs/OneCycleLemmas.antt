@@ -191,20 +191,20 @@ module _ (net : Netlist) (regs i v j w : Numbers) (one : Shows net regs i v) (tw
       → AllByRecursion (Agrees v w) (nets_from side es ns) → AllByRecursion (Agrees w v) (nets_from side es ns) → AllByRecursion IsSame (inputs_from side es ns)
   port_same side port n [] [] turns fit quiet still there back = tt
   port_same side port n [] (a ∷ ns) turns fit quiet still there back = absurd fit
-  port_same side port n (Is way zero ∷ es) [] turns fit quiet still there back = absurd fit
-  port_same side port n (Is way zero ∷ es) (a ∷ ns) turns fit quiet still there back =
+  port_same side port n (Is way None ∷ es) [] turns fit quiet still there back = absurd fit
+  port_same side port n (Is way None ∷ es) (a ∷ ns) turns fit quiet still there back =
       some_of IsSame (is_input side way) a (inputs_from side es ns)
       (λ input. pulse_same (is_input side way) a None input fit.0 there.0 back.0)
       (port_same side port (suc n) es ns turns.1 fit.1 quiet still there.1 back.1)
-  port_same side port n (Is way (suc b) ∷ es) [] turns fit quiet still there back = absurd fit
-  port_same side port n (Is way (suc b) ∷ es) (a ∷ []) turns fit quiet still there back = absurd fit
-  port_same side port n (Is way (suc b) ∷ es) (a ∷ x ∷ ns) turns fit quiet still there back =
+  port_same side port n (Is way (Some b) ∷ es) [] turns fit quiet still there back = absurd fit
+  port_same side port n (Is way (Some b) ∷ es) (a ∷ []) turns fit quiet still there back = absurd fit
+  port_same side port n (Is way (Some b) ∷ es) (a ∷ x ∷ ns) turns fit quiet still there back =
       some_of IsSame (is_input side way) a (cond (is_input side way) (x ∷ []) [] ++ inputs_from side es ns)
       (λ input. pulse_same (is_input side way) a (Some x) input fit.0 there.0 back.0)
       (some_of IsSame (is_input side way) x (inputs_from side es ns)
       (λ input.
       let into : IsFalse (is_output_at port n) = turns.0 ∙ ap not input in
-      number_same (is_input side way) a x (suc b) input fit.0 fit.1 (quiet.0 into) (still.0 into) there.0 back.0)
+      number_same (is_input side way) a x b input fit.0 fit.1 (quiet.0 into) (still.0 into) there.0 back.0)
       (port_same side port (suc n) es ns turns.1 fit.2 quiet.1 still.1 there.1 back.1))
 
   -- of the ports from place k on

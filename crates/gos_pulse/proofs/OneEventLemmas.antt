@@ -1,13 +1,13 @@
 -- A name is that of one input event at most: the netlist's ports have different names, and no event's word has a dot.
 -- And a label is that of one event.
-use Rattle.std.proofs.Common.{◌≡◌, ◌⊎◌, inl, inr, ◌+◌, ◌<◌, ℕ, zero, suc, Bool, true, not, cond, List, [], ◌∷◌, ◌++◌, length, get_or, refl, sym, ap, ◌∙◌, arith, Some, None, true≢false}
+use Rattle.std.proofs.Common.{◌≡◌, ◌⊎◌, inl, inr, ◌+◌, ◌<◌, ℕ, zero, suc, Bool, true, not, cond, List, [], ◌∷◌, ◌++◌, length, get_or, refl, sym, ap, ◌∙◌, arith, Option, Some, None, true≢false}
 use Rattle.std.specs.Prelude.{slice_get, nat_eq}
 use Rattle.std.specs.List.{list_all}
 use Rattle.std.proofs.lemmas.Bool.{and_parts}
 use Rattle.gos_types.specs.Types.{Type', Com, Exp, Var, Pair, Fun}
 use Rattle.gos_netlist.specs.declared.event.Event as seen
 use Rattle.gos_netlist.specs.Nets.{Side, NetPort, Netlist}
-use Rattle.gos_netlist.specs.Events.{Direction, Event, Is, events, is_input, port_events, events_from, events_of}
+use Rattle.gos_netlist.specs.Events.{Direction, Event, Is, bits_of, events, is_input, port_events, events_from, events_of}
 use Rattle.gos_netcheck.specs.Accepted.{IsAccepted}
 use Rattle.gos_lines.specs.Lines.{Word}
 use Rattle.gos_model.specs.Labels.{Label}
@@ -41,20 +41,20 @@ one_cut (b ∷ port) (c ∷ port1) word word1 none none1 same =
     (λ i. first i ∷ parts.0 i, parts.1)
 
 -- no word of an event has a dot
-no_dots : (ty : Type') (place bits : ℕ) (way : Direction) → slice_get (events ty) place ≡ Some (Is way bits) → list_all is_no_dot (event_word ty place) ≡ true
-no_dots Com zero bits way is = refl
-no_dots Com (suc zero) bits way is = refl
-no_dots Com (suc (suc n)) bits way is = no_event way bits is
-no_dots (Exp w) zero bits way is = refl
-no_dots (Exp w) (suc zero) bits way is = refl
-no_dots (Exp w) (suc (suc n)) bits way is = no_event way bits is
-no_dots (Var w) zero bits way is = refl
-no_dots (Var w) (suc zero) bits way is = refl
-no_dots (Var w) (suc (suc zero)) bits way is = refl
-no_dots (Var w) (suc (suc (suc zero))) bits way is = refl
-no_dots (Var w) (suc (suc (suc (suc n)))) bits way is = no_event way bits is
-no_dots (Pair a b) n bits way is = no_event way bits is
-no_dots (Fun a b) n bits way is = no_event way bits is
+no_dots : (ty : Type') (place : ℕ) (number : Option ℕ) (way : Direction) → slice_get (events ty) place ≡ Some (Is way number) → list_all is_no_dot (event_word ty place) ≡ true
+no_dots Com zero number way is = refl
+no_dots Com (suc zero) number way is = refl
+no_dots Com (suc (suc n)) number way is = no_event way number is
+no_dots (Exp w) zero number way is = refl
+no_dots (Exp w) (suc zero) number way is = refl
+no_dots (Exp w) (suc (suc n)) number way is = no_event way number is
+no_dots (Var w) zero number way is = refl
+no_dots (Var w) (suc zero) number way is = refl
+no_dots (Var w) (suc (suc zero)) number way is = refl
+no_dots (Var w) (suc (suc (suc zero))) number way is = refl
+no_dots (Var w) (suc (suc (suc (suc n)))) number way is = no_event way number is
+no_dots (Pair a b) n number way is = no_event way number is
+no_dots (Fun a b) n number way is = no_event way number is
 
 -- the place of an event, told by the second letter of its word: run, done; ask, ans; read, ans, write, done
 abbrev place_told : Type' → ℕ → ℕ
@@ -63,20 +63,20 @@ place_told (Exp w) letter = cond (nat_eq letter 115) 0 1
 place_told (Var w) letter = cond (nat_eq letter 101) 0 (cond (nat_eq letter 110) 1 (cond (nat_eq letter 114) 2 3))
 place_told ty letter = 0
 
-place_is : (ty : Type') (place bits : ℕ) (way : Direction) → slice_get (events ty) place ≡ Some (Is way bits) → place_told ty (get_or (event_word ty place) 1 0) ≡ place
-place_is Com zero bits way is = refl
-place_is Com (suc zero) bits way is = refl
-place_is Com (suc (suc n)) bits way is = no_event way bits is
-place_is (Exp w) zero bits way is = refl
-place_is (Exp w) (suc zero) bits way is = refl
-place_is (Exp w) (suc (suc n)) bits way is = no_event way bits is
-place_is (Var w) zero bits way is = refl
-place_is (Var w) (suc zero) bits way is = refl
-place_is (Var w) (suc (suc zero)) bits way is = refl
-place_is (Var w) (suc (suc (suc zero))) bits way is = refl
-place_is (Var w) (suc (suc (suc (suc n)))) bits way is = no_event way bits is
-place_is (Pair a b) n bits way is = no_event way bits is
-place_is (Fun a b) n bits way is = no_event way bits is
+place_is : (ty : Type') (place : ℕ) (number : Option ℕ) (way : Direction) → slice_get (events ty) place ≡ Some (Is way number) → place_told ty (get_or (event_word ty place) 1 0) ≡ place
+place_is Com zero number way is = refl
+place_is Com (suc zero) number way is = refl
+place_is Com (suc (suc n)) number way is = no_event way number is
+place_is (Exp w) zero number way is = refl
+place_is (Exp w) (suc zero) number way is = refl
+place_is (Exp w) (suc (suc n)) number way is = no_event way number is
+place_is (Var w) zero number way is = refl
+place_is (Var w) (suc zero) number way is = refl
+place_is (Var w) (suc (suc zero)) number way is = refl
+place_is (Var w) (suc (suc (suc zero))) number way is = refl
+place_is (Var w) (suc (suc (suc (suc n)))) number way is = no_event way number is
+place_is (Pair a b) n number way is = no_event way number is
+place_is (Fun a b) n number way is = no_event way number is
 
 -- where the i-th of two lists' elements stands
 either_at : {X : Type 0} (xs ys : List X) (i : ℕ) (x : X) → slice_get (xs ++ ys) i ≡ Some x
@@ -91,11 +91,11 @@ either_at (y ∷ xs) ys (suc i) x h = elim (either_at xs ys i x h) [
 -- the events of one port stand by their places
 placed_at : (k : ℕ) (side : Side) (n : ℕ) (es : List Event) (i : ℕ) (e : seen.Event) → slice_get (port_events k side n es) i ≡ Some e → (e.port ≡ k) × (e.place ≡ n + i)
 placed_at k side n [] i e h = let wrong : None ≡ Some e = h in absurd cc
-placed_at k side n (Is way bits ∷ es) zero e h =
-    let one : seen.Event = record { port = k; place = n; input = is_input side way; bits = bits } in
+placed_at k side n (Is way number ∷ es) zero e h =
+    let one : seen.Event = record { port = k; place = n; input = is_input side way; bits = bits_of number } in
     let same : one ≡ e = cc in
     (sym (ap (λ (x : seen.Event). x.port) same), sym (ap (λ (x : seen.Event). x.place) same) ∙ omega arith)
-placed_at k side n (Is way bits ∷ es) (suc i) e h =
+placed_at k side n (Is way number ∷ es) (suc i) e h =
     let later = placed_at k side (suc n) es i e h in
     (later.0, omega (arith, later.1))
 
@@ -144,15 +144,15 @@ module _ (net : Netlist) (accepted : IsAccepted net) where
       let same : dotted its.port.name (event_word its.port.ty e.place) ≡ dotted has.port.name (event_word has.port.ty f.place) =
       sym (its_name e its) ∙ one.named ∙ sym other.named ∙ its_name f has in
       let parts = one_cut its.port.name has.port.name (event_word its.port.ty e.place) (event_word has.port.ty f.place)
-      (no_dots its.port.ty e.place e.bits its.way its.event) (no_dots has.port.ty f.place f.bits has.way has.event) same in
+      (no_dots its.port.ty e.place its.number its.way its.event) (no_dots has.port.ty f.place has.number has.way has.event) same in
       let index : its.index ≡ has.index = one_port its.index has.index its.port has.port its.at has.at parts.0 in
       let both : Some its.port ≡ Some has.port = sym its.at ∙ ap (slice_get net.ports) index ∙ has.at in
       let port : its.port ≡ has.port = cc in
       let type : its.port.ty ≡ has.port.ty = ap (λ (p : NetPort). p.ty) port in
       let place : e.place ≡ f.place =
-      sym (place_is its.port.ty e.place e.bits its.way its.event)
+      sym (place_is its.port.ty e.place its.number its.way its.event)
       ∙ (λ m. place_told (type m) (get_or (parts.1 m) 1 0))
-      ∙ place_is has.port.ty f.place f.bits has.way has.event in
+      ∙ place_is has.port.ty f.place has.number has.way has.event in
       let number : i ≡ j = one_index 0 net.ports i j e f one.there other.there (omega (arith, its.port_is, has.port_is, index)) place in
       let found : Some e ≡ Some f = sym one.there ∙ ap (slice_get (events_of net)) number ∙ other.there in
       (number, cc)

@@ -1,5 +1,5 @@
 -- The inputs that the pulses of a cycle give are in range.
-use Rattle.std.proofs.Common.{◌≡◌, ◌<◌, ◌^◌, inl, inr, ℕ, zero, suc, Bool, true, false, not, cond, List, [], ◌∷◌, ◌++◌, length, refl, pow_pos, sym, ap, subst, ◌∙◌, arith, Some, true≢false}
+use Rattle.std.proofs.Common.{◌≡◌, ◌<◌, ◌^◌, inl, inr, ℕ, suc, Bool, true, false, not, cond, List, [], ◌∷◌, ◌++◌, length, refl, pow_pos, sym, ap, subst, ◌∙◌, arith, Some, None, true≢false}
 use Rattle.std.specs.Prelude.{slice_get, filter, IsFalse, All}
 use Rattle.std.specs.List.{flat_map, AllByRecursion}
 use Rattle.std.proofs.lemmas.Bool.{cases_lt}
@@ -8,7 +8,7 @@ use Rattle.gos_netlist.specs.declared.event.Event as seen
 use Rattle.gos_netlist.specs.Nets.{Input, Cell, Side, NetPort, Netlist}
 use Rattle.gos_netlist.specs.Events.{Direction, Event, Is, is_input, events, port_events, events_from, events_of}
 use Rattle.gos_netlist.specs.Settling.{Numbers, at}
-use Rattle.gos_netcheck.specs.PortRules.{Fits, all_inputs, place}
+use Rattle.gos_netcheck.specs.PortRules.{all_inputs, place}
 use Rattle.gos_netcheck.specs.PortRules as rules
 use Rattle.gos_netcheck.specs.Accepted.{IsAccepted}
 use Rattle.gos_model.specs.Labels.{Port, is_output_at}
@@ -91,18 +91,18 @@ module _ (cells : List Cell) (ins : Numbers) (k : ℕ) (side : Side) where
   port_small : (n : ℕ) (es : List Event) (ns : List ℕ) → FitRows cells side es ns → AllFed ins (port_events k side n es) (nets_from side es ns) → AllByRecursion (IsSmall cells ins) (inputs_from side es ns)
   port_small n [] [] fit fed = tt
   port_small n [] (a ∷ ns) fit fed = absurd fit
-  port_small n (Is way zero ∷ es) [] fit fed = absurd fit
-  port_small n (Is way zero ∷ es) (a ∷ ns) fit fed =
+  port_small n (Is way None ∷ es) [] fit fed = absurd fit
+  port_small n (Is way None ∷ es) (a ∷ ns) fit fed =
       some_of (IsSmall cells ins) (is_input side way) a (inputs_from side es ns)
       (λ input. let p = fed.0 input in small cells ins a (bit p.0.on) 1 fit.0.0 fit.0.1 fit.0.2 p.1.gives.0 (bit_small p.0.on))
       (port_small (suc n) es ns fit.1 fed.1)
-  port_small n (Is way (suc b) ∷ es) [] fit fed = absurd fit
-  port_small n (Is way (suc b) ∷ es) (a ∷ []) fit fed = absurd fit
-  port_small n (Is way (suc b) ∷ es) (a ∷ x ∷ ns) fit fed =
+  port_small n (Is way (Some b) ∷ es) [] fit fed = absurd fit
+  port_small n (Is way (Some b) ∷ es) (a ∷ []) fit fed = absurd fit
+  port_small n (Is way (Some b) ∷ es) (a ∷ x ∷ ns) fit fed =
       some_of (IsSmall cells ins) (is_input side way) a (cond (is_input side way) (x ∷ []) [] ++ inputs_from side es ns)
       (λ input. let p = fed.0 input in small cells ins a (bit p.0.on) 1 fit.0.0 fit.0.1 fit.0.2 p.1.gives.0 (bit_small p.0.on))
       (some_of (IsSmall cells ins) (is_input side way) x (inputs_from side es ns)
-      (λ input. let p = fed.0 input in small cells ins x p.0.value (suc b) fit.1.0 fit.1.1 fit.1.2 p.1.gives.1 p.1.fits)
+      (λ input. let p = fed.0 input in small cells ins x p.0.value b fit.1.0 fit.1.1 fit.1.2 p.1.gives.1 p.1.fits)
       (port_small (suc n) es ns fit.2 fed.1))
 
   -- a number comes with its pulse alone
@@ -116,12 +116,12 @@ module _ (cells : List Cell) (ins : Numbers) (k : ℕ) (side : Side) where
 
   port_quiet : (port : Port) (n : ℕ) (es : List Event) (ns : List ℕ) → TurnsOut port side n es → FitRows cells side es ns → AllFed ins (port_events k side n es) (nets_from side es ns) → IsQuietFrom port n es ns ins
   port_quiet port n [] ns out fit fed = tt
-  port_quiet port n (Is way zero ∷ es) [] out fit fed = tt
-  port_quiet port n (Is way zero ∷ es) (a ∷ ns) out fit fed = port_quiet port (suc n) es ns out.1 fit.1 fed.1
-  port_quiet port n (Is way (suc b) ∷ es) [] out fit fed = tt
-  port_quiet port n (Is way (suc b) ∷ es) (a ∷ []) out fit fed = tt
-  port_quiet port n (Is way (suc b) ∷ es) (a ∷ x ∷ ns) out fit fed =
-      (number_quiet n way a x (suc b) port out.0 fed.0, port_quiet port (suc n) es ns out.1 fit.2 fed.1)
+  port_quiet port n (Is way None ∷ es) [] out fit fed = tt
+  port_quiet port n (Is way None ∷ es) (a ∷ ns) out fit fed = port_quiet port (suc n) es ns out.1 fit.1 fed.1
+  port_quiet port n (Is way (Some b) ∷ es) [] out fit fed = tt
+  port_quiet port n (Is way (Some b) ∷ es) (a ∷ []) out fit fed = tt
+  port_quiet port n (Is way (Some b) ∷ es) (a ∷ x ∷ ns) out fit fed =
+      (number_quiet n way a x b port out.0 fed.0, port_quiet port (suc n) es ns out.1 fit.2 fed.1)
 
 module _ (net : Netlist) (ins : Numbers) where
   -- of the ports from place k on
@@ -170,11 +170,11 @@ in_range net ins given accepted count gives range =
 
 quiet_at : (port : Port) (n : ℕ) (es : List Event) (ns : List ℕ) → IsQuietFrom port n es ns []
 quiet_at port n [] ns = tt
-quiet_at port n (Is way zero ∷ es) [] = tt
-quiet_at port n (Is way zero ∷ es) (a ∷ ns) = quiet_at port (suc n) es ns
-quiet_at port n (Is way (suc b) ∷ es) [] = tt
-quiet_at port n (Is way (suc b) ∷ es) (a ∷ []) = tt
-quiet_at port n (Is way (suc b) ∷ es) (a ∷ x ∷ ns) = (λ _ _. refl, quiet_at port (suc n) es ns)
+quiet_at port n (Is way None ∷ es) [] = tt
+quiet_at port n (Is way None ∷ es) (a ∷ ns) = quiet_at port (suc n) es ns
+quiet_at port n (Is way (Some b) ∷ es) [] = tt
+quiet_at port n (Is way (Some b) ∷ es) (a ∷ []) = tt
+quiet_at port n (Is way (Some b) ∷ es) (a ∷ x ∷ ns) = (λ _ _. refl, quiet_at port (suc n) es ns)
 
 quiet_ports : (ps : List NetPort) → IsQuiet ps []
 quiet_ports [] = tt

@@ -125,7 +125,7 @@ all_cons P x xs first rest = λ k d within. at k d within
 
 events_of_port : (m k : ℕ) (side : Side) (n : ℕ) (es : List Event) → k < m → HasPorts m (port_events k side n es)
 events_of_port m k side n [] known = λ i d within. absurd (omega (arith, within))
-events_of_port m k side n (Is way bits ∷ es) known = all_cons (λ event. event.port < m) _ _ known (events_of_port m k side (suc n) es known)
+events_of_port m k side n (Is way number ∷ es) known = all_cons (λ event. event.port < m) _ _ known (events_of_port m k side (suc n) es known)
 
 events_of_ports : (m k : ℕ) (ports : List NetPort) → k + length ports ≤ m → HasPorts m (events_from k ports)
 events_of_ports m k [] few = λ i d within. absurd (omega (arith, within))

@@ -61,7 +61,9 @@ impl Agenda {
     /// protocol doesn't allow.
     pub fn take_all(&self, cycle: usize, entries: &[Entry], board: &mut Board) -> Option<usize>
         requires { CanTakeAll self.now cycle entries.now board.old }
-        ensures { (net : Circuit) (past : List Label) → HasPorts net → Stands net past [] board.old → All (GivesInput net) entries.now → MatchOption result (AreTaken net past (at_entries cycle entries.now) board.new) (BreaksAt net past (at_entries cycle entries.now)) }
+        ensures { (net : Circuit) (past : List Label) → HasPorts net → Stands net past [] board.old
+            → All (GivesInput net) entries.now → MatchOption result (AreTaken net past (at_entries cycle entries.now) board.new)
+            (BreaksAt net past (at_entries cycle entries.now)) }
     {
         let mut place = self.first[cycle];
         while place < entries.len() {

@@ -65,7 +65,8 @@ impl Board {
     /// Gives the pulse of an entry where the protocol allows it now. The result is whether it was given.
     pub fn give(&mut self, entry: Entry) -> bool
         requires { CanTry self.old entry }
-        ensures { (net : Circuit) (past given : List Label) → HasPorts net → Stands net past given self.old → GivesInput net entry → IsTried net past given entry result self.new }
+        ensures { (net : Circuit) (past given : List Label) → HasPorts net → Stands net past given self.old → GivesInput net entry
+            → IsTried net past given entry result self.new }
     {
         let input = self.slots[entry.event].place;
         if !self.guard.allows(input) {
@@ -83,7 +84,8 @@ impl Board {
 // Shows the outputs of a cycle to a guard.
 fn see_outputs(guard: &mut Guard, outputs: &[Pulse])
     requires { length outputs.now ≡ length guard.old.outputs.items }
-    ensures { (net : Circuit) (past : List Label) → HasPorts net → Guards net past guard.old → Guards net (reverse (labels_of net.ports (outputs_of net) outputs.now) ++ past) guard.new }
+    ensures { (net : Circuit) (past : List Label) → HasPorts net → Guards net past guard.old
+        → Guards net (reverse (labels_of net.ports (outputs_of net) outputs.now) ++ past) guard.new }
 {
     for (output, pulse) in outputs.iter().enumerate() {
         see_output(guard, output, *pulse);
@@ -93,7 +95,8 @@ fn see_outputs(guard: &mut Guard, outputs: &[Pulse])
 // Shows what an output does in a cycle to a guard.
 fn see_output(guard: &mut Guard, output: usize, pulse: Pulse)
     requires { output < length guard.old.outputs.items }
-    ensures guards { (net : Circuit) (past : List Label) (event : seen.Event) → HasPorts net → Guards net past guard.old → slice_get (outputs_of net) output ≡ Some event → Guards net (reverse (label_if net.ports event pulse) ++ past) guard.new }
+    ensures guards { (net : Circuit) (past : List Label) (event : seen.Event) → HasPorts net → Guards net past guard.old
+        → slice_get (outputs_of net) output ≡ Some event → Guards net (reverse (label_if net.ports event pulse) ++ past) guard.new }
     ensures events { guard.new.outputs ≡ guard.old.outputs }
 {
     if !pulse.on {

@@ -68,7 +68,9 @@ fn run_cycle<'a>(
     board: &mut Board,
 ) -> Result<Queue<'a>, usize>
     requires { CanRun sim.old t agenda.now entries.now queue.since queue.entries.now board.old }
-    ensures cycle { (past : List Label) → Rests sim.old.net past board.old → MatchResult result (λ rest. RunsCycle sim.old entries.now past t queue.entry.since queue.entry.entries.now rest.since rest.entries.now sim.new board.new) (BreaksCycle sim.old entries.now past t) }
+    ensures cycle { (past : List Label) → Rests sim.old.net past board.old
+        → MatchResult result (λ rest. RunsCycle sim.old entries.now past t queue.entry.since queue.entry.entries.now rest.since
+        rest.entries.now sim.new board.new) (BreaksCycle sim.old entries.now past t) }
     ensures since { IfOk result (λ rest. rest.since ≤ t) }
     ensures net { sim.new.net ≡ sim.old.net }
 {

@@ -31,7 +31,8 @@ pub(crate) fn cycles_of(words: &[&[u8]]) -> Option<u64>
 
 // Two words, where there are two.
 fn two_words<'a>(words: &[&'a [u8]]) -> Option<(&'a [u8], &'a [u8])>
-    ensures { MatchOption result ((a b : Word) → map (λ word. word.now) words.now ≡ a ∷ b ∷ [] → ⊥) (λ pair. map (λ word. word.now) words.now ≡ pair.0.now ∷ pair.1.now ∷ []) }
+    ensures { MatchOption result ((a b : Word) → map (λ word. word.now) words.now ≡ a ∷ b ∷ [] → ⊥) (λ pair.
+        map (λ word. word.now) words.now ≡ pair.0.now ∷ pair.1.now ∷ []) }
 {
     match words {
         [a, b] => Some((*a, *b)),
@@ -41,7 +42,8 @@ fn two_words<'a>(words: &[&'a [u8]]) -> Option<(&'a [u8], &'a [u8])>
 
 /// What an entry's line writes; none where the line has no such form.
 pub(crate) fn written_in<'a>(words: &[&'a [u8]]) -> Option<Written<'a>>
-    ensures { MatchOption result ((w : Said) → SaysEntry (map (λ word. word.now) words.now) w → ⊥) (λ w. SaysEntry (map (λ word. word.now) words.now) (said w)) }
+    ensures { MatchOption result ((w : Said) → SaysEntry (map (λ word. word.now) words.now) w → ⊥) (λ w.
+        SaysEntry (map (λ word. word.now) words.now) (said w)) }
 {
     let (keyword, digits, name, last) = entry_words(words)?;
     let at = is_at(keyword)?;
@@ -60,7 +62,9 @@ pub(crate) fn written_in<'a>(words: &[&'a [u8]]) -> Option<Written<'a>>
 
 // Three or four words, where there are so many.
 fn entry_words<'a>(words: &[&'a [u8]]) -> Option<(&'a [u8], &'a [u8], &'a [u8], Option<&'a [u8]>)>
-    ensures { MatchOption result ((a b c : Word) (d : Option Word) → map (λ word. word.now) words.now ≡ a ∷ b ∷ c ∷ last_word d → ⊥) (λ all. map (λ word. word.now) words.now ≡ all.0.now ∷ all.1.now ∷ all.2.now ∷ last_word (option_map (λ word. word.now) all.3)) }
+    ensures { MatchOption result ((a b c : Word) (d : Option Word) → map (λ word. word.now) words.now ≡ a ∷ b ∷ c ∷ last_word d
+        → ⊥) (λ all. map (λ word. word.now) words.now ≡ all.0.now ∷ all.1.now ∷ all.2.now ∷ last_word
+        (option_map (λ word. word.now) all.3)) }
 {
     match words {
         [a, b, c] => Some((*a, *b, *c, None)),
@@ -84,7 +88,8 @@ fn is_at(word: &[u8]) -> Option<bool>
 
 // The value that the last word writes, if there is a last word.
 fn value_of(last: Option<&[u8]>) -> Option<Option<u64>>
-    ensures { MatchOption result ((value : Option ℕ) → WritesValue (option_map (λ word. word.now) last.entry) value → ⊥) (WritesValue (option_map (λ word. word.now) last.entry)) }
+    ensures { MatchOption result ((value : Option ℕ) → WritesValue (option_map (λ word. word.now) last.entry) value → ⊥)
+        (WritesValue (option_map (λ word. word.now) last.entry)) }
 {
     match last {
         None => Some(None),

@@ -37,7 +37,8 @@ impl EventTable {
     /// The number of the input event with this name, and the bits of its value, 0 where it has none.
     pub fn find(&self, net: &Netlist, name: &[u8]) -> Option<(usize, u32)>
         requires { IsTable net.now self.now }
-        ensures { MatchOption result ((i : ℕ) (event : seen.Event) → IsInput net.now i event name.now → ⊥) (λ found. (event : seen.Event) × IsInput net.now found.0 event name.now × (found.1 ≡ event.bits)) }
+        ensures { MatchOption result ((i : ℕ) (event : seen.Event) → IsInput net.now i event name.now → ⊥) (λ found.
+            (event : seen.Event) × IsInput net.now found.0 event name.now × (found.1 ≡ event.bits)) }
     {
         match self.numbers.get(name) {
             None => None,

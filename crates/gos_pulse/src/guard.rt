@@ -53,7 +53,9 @@ impl Guard {
     /// Whether this input may come now. It takes no memory.
     pub fn allows(&self, input: usize) -> bool
         requires { input < length self.now.inputs.items }
-        ensures { (net : Circuit) (past : List Label) (l : Label) → HasPorts net → Guards net past self.now → IsLabel net (inputs_of net) input l → IsValueOf (inputs_of net) input l.value → IsTrue result ↔ Allowed (taken_by net.ports) past l.port l.event l.value }
+        ensures { (net : Circuit) (past : List Label) (l : Label) → HasPorts net → Guards net past self.now
+            → IsLabel net (inputs_of net) input l → IsValueOf (inputs_of net) input l.value
+            → IsTrue result ↔ Allowed (taken_by net.ports) past l.port l.event l.value }
     {
         let half = self.inputs[input];
         may_come(self.flags.get(half), half.request)
@@ -62,7 +64,8 @@ impl Guard {
     /// Takes note of an output. It takes no memory.
     pub fn saw_output(&mut self, output: usize)
         requires { output < length self.old.outputs.items }
-        ensures guards { (net : Circuit) (past : List Label) (l : Label) → HasPorts net → Guards net past self.old → IsLabel net (outputs_of net) output l → Guards net (l ∷ past) self.new }
+        ensures guards { (net : Circuit) (past : List Label) (l : Label) → HasPorts net → Guards net past self.old
+            → IsLabel net (outputs_of net) output l → Guards net (l ∷ past) self.new }
         ensures events { (self.new.inputs ≡ self.old.inputs) × (self.new.outputs ≡ self.old.outputs) }
     {
         let half = self.outputs[output];
@@ -72,7 +75,8 @@ impl Guard {
     /// Takes note of an input. It takes no memory.
     pub fn saw_input(&mut self, input: usize)
         requires { input < length self.old.inputs.items }
-        ensures guards { (net : Circuit) (past : List Label) (l : Label) → HasPorts net → Guards net past self.old → IsLabel net (inputs_of net) input l → Guards net (l ∷ past) self.new }
+        ensures guards { (net : Circuit) (past : List Label) (l : Label) → HasPorts net → Guards net past self.old
+            → IsLabel net (inputs_of net) input l → Guards net (l ∷ past) self.new }
         ensures events { (self.new.inputs ≡ self.old.inputs) × (self.new.outputs ≡ self.old.outputs) }
     {
         let half = self.inputs[input];

@@ -34,9 +34,5 @@ mod laws;
 mod lines;
 mod queue;
 mod reading;
-#[cfg(test)]
-mod run_tests;
 mod slots;
-#[cfg(test)]
-mod tests;
 mod trace;

@@ -19,8 +19,12 @@ pub(crate) fn add_cycle(
     cycle: u64,
     board: &Board,
 ) -> Result<(), NoMemory>
-    requires { (net : Circuit) × HavePulses net true board.now.slots.items board.now.inputs.items × HavePulses net false board.now.slots.items board.now.outputs.items }
-    ensures { (net : Circuit) → HavePulses net true board.now.slots.items board.now.inputs.items → HavePulses net false board.now.slots.items board.now.outputs.items → OnOk result (AddsLines net cycle (labels_of net.ports (outputs_of net) board.now.outputs.items ++ labels_of net.ports (inputs_of net) board.now.inputs.items) lines.old.items lines.new.items) }
+    requires { (net : Circuit) × HavePulses net true board.now.slots.items board.now.inputs.items
+        × HavePulses net false board.now.slots.items board.now.outputs.items }
+    ensures { (net : Circuit) → HavePulses net true board.now.slots.items board.now.inputs.items
+        → HavePulses net false board.now.slots.items board.now.outputs.items
+        → OnOk result (AddsLines net cycle (labels_of net.ports (outputs_of net) board.now.outputs.items
+        ++ labels_of net.ports (inputs_of net) board.now.inputs.items) lines.old.items lines.new.items) }
 {
     add_lines(lines, cycle, false, &board.slots, &board.outputs)?;
     add_lines(lines, cycle, true, &board.slots, &board.inputs)?;
@@ -36,7 +40,9 @@ fn add_lines(
     pulses: &[Pulse],
 ) -> Result<(), NoMemory>
     requires { (net : Circuit) × HavePulses net input slots.now pulses.now }
-    ensures { (net : Circuit) → HavePulses net input slots.now pulses.now → OnOk result (AddsLines net cycle (labels_of net.ports (events_way input (events_of net)) pulses.now) lines.old.items lines.new.items) }
+    ensures { (net : Circuit) → HavePulses net input slots.now pulses.now
+        → OnOk result (AddsLines net cycle (labels_of net.ports (events_way input (events_of net)) pulses.now)
+        lines.old.items lines.new.items) }
 {
     for (event, slot) in slots.iter().enumerate() {
         if slot.input == input {

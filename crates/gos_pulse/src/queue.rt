@@ -46,7 +46,9 @@ fn add_next(next: &mut Vec<Entry>, entry: Entry) -> Result<(), NoMemory>
 pub(crate) fn give_all<'a>(t: u64, first: Queue<'a>, board: &mut Board) -> Queue<'a>
     requires since { first.since ≤ t }
     requires board { CanGiveAll first.entries.now board.old }
-    ensures given { (net : Circuit) (past given : List Label) → HasPorts net → Stands net past given board.old → All (GivesInput net) first.entry.entries.now → AreGiven net past given t first.entry.since first.entry.entries.now result.since result.entries.now board.new }
+    ensures given { (net : Circuit) (past given : List Label) → HasPorts net → Stands net past given board.old
+        → All (GivesInput net) first.entry.entries.now → AreGiven net past given t first.entry.since first.entry.entries.now
+        result.since result.entries.now board.new }
     ensures since { result.since ≤ t }
 {
     let mut queue = first;
@@ -63,7 +65,10 @@ pub(crate) fn give_all<'a>(t: u64, first: Queue<'a>, board: &mut Board) -> Queue
 fn give_first<'a>(t: u64, queue: Queue<'a>, board: &mut Board) -> Option<Queue<'a>>
     requires since { queue.since ≤ t }
     requires board { CanGiveAll queue.entries.now board.old }
-    ensures given { (net : Circuit) (past given : List Label) → HasPorts net → Stands net past given board.old → All (GivesInput net) queue.entry.entries.now → MatchOption result (IsFirstHeld net past given t queue.entry.since queue.entry.entries.now board.new) (λ rest. IsFirstGiven net past given t queue.entry.since queue.entry.entries.now rest.entries.now board.new) }
+    ensures given { (net : Circuit) (past given : List Label) → HasPorts net → Stands net past given board.old
+        → All (GivesInput net) queue.entry.entries.now → MatchOption result
+        (IsFirstHeld net past given t queue.entry.since queue.entry.entries.now board.new) (λ rest.
+        IsFirstGiven net past given t queue.entry.since queue.entry.entries.now rest.entries.now board.new) }
     ensures since { IfSome result (λ rest. rest.since ≡ t) }
     ensures shorter { IfSome result (λ rest. length rest.entries.now < length queue.entry.entries.now) }
 {

@@ -2,4 +2,3 @@ pub mod SharedLemmas
 pub mod CellLemmas
 pub mod SideLemmas
 pub mod SharingLemmas
-pub mod SettlingLemmas

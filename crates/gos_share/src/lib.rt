@@ -8,12 +8,8 @@
 
 mod cells;
 mod row;
-#[cfg(test)]
-mod settling_tests;
 mod shared;
 mod sharing;
 mod sides;
-#[cfg(test)]
-mod tests;
 
 pub use sharing::Sharing;

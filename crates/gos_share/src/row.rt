@@ -46,7 +46,8 @@ fn place_served(
     requires begun { pool.old.begun ≡ Some region.old }
     requires spare { block_size Serve k.ask_bits k.answer_bits ≤ pool.old.spare }
     requires numbered { spot.base + (spot.at + block_size Serve k.ask_bits k.answer_bits) ≤ 4294967295 }
-    ensures cells { Places (block_cells Serve k.ask_bits k.answer_bits (incoming_of wires.now) spot.count spot.j spot.base spot.at branch.kept.0 branch.set.0) pool.old pool.new }
+    ensures cells { Places (block_cells Serve k.ask_bits k.answer_bits (incoming_of wires.now) spot.count spot.j spot.base spot.at
+        branch.kept.0 branch.set.0) pool.old pool.new }
     ensures region { region.new ≡ region.old }
 {
     let Spot { count, j, base, at } = spot;
@@ -65,7 +66,8 @@ fn place_asked(k: Shared, spot: Spot, wires: &[Wire], pool: &mut NetPool, region
     requires begun { pool.old.begun ≡ Some region.old }
     requires spare { block_size Ask k.ask_bits k.answer_bits ≤ pool.old.spare }
     requires numbered { spot.base + (spot.at + block_size Ask k.ask_bits k.answer_bits) ≤ 4294967295 }
-    ensures cells { (c d : ℕ) → Places (block_cells Ask k.ask_bits k.answer_bits (incoming_of wires.now) spot.count spot.j spot.base spot.at c d) pool.old pool.new }
+    ensures cells { (c d : ℕ) → Places (block_cells Ask k.ask_bits k.answer_bits (incoming_of wires.now) spot.count spot.j
+        spot.base spot.at c d) pool.old pool.new }
     ensures region { region.new ≡ region.old }
 {
     let Spot { count, j, base, at } = spot;
@@ -89,7 +91,8 @@ fn place_block(
     requires begun { pool.old.begun ≡ Some region.old }
     requires spare { block_size k.role k.ask_bits k.answer_bits ≤ pool.old.spare }
     requires numbered { spot.base + (spot.at + block_size k.role k.ask_bits k.answer_bits) ≤ 4294967295 }
-    ensures cells { Places (block_cells k.role k.ask_bits k.answer_bits (incoming_of wires.now) spot.count spot.j spot.base spot.at branch.kept.0 branch.set.0) pool.old pool.new }
+    ensures cells { Places (block_cells k.role k.ask_bits k.answer_bits (incoming_of wires.now) spot.count spot.j spot.base
+        spot.at branch.kept.0 branch.set.0) pool.old pool.new }
     ensures kept { result.kept.0 ≡ kept_net k.role (spot.base + (spot.at + 0)) branch.kept.0 }
     ensures set { result.set.0 ≡ kept_net k.role (spot.base + (spot.at + 1)) branch.set.0 }
     ensures region { region.new ≡ region.old }
@@ -117,7 +120,8 @@ fn place_row(ty: &Ty, count: usize, wires: &[Wire], pool: &mut NetPool, region: 
     requires begun { pool.old.begun ≡ Some region.old }
     requires spare { blocks_size (all_of ty.now) + 1 ≤ pool.old.spare }
     requires numbered { region.old + (4 + blocks_size (all_of ty.now)) ≤ 4294967295 }
-    ensures cells { Places (row_cells (incoming_of wires.now) (length (all_of ty.now)) 0 region.old 3 (region.old + 0) (region.old + 2) (all_of ty.now)) pool.old pool.new }
+    ensures cells { Places (row_cells (incoming_of wires.now) (length (all_of ty.now)) 0 region.old 3 (region.old + 0)
+        (region.old + 2) (all_of ty.now)) pool.old pool.new }
     ensures region { region.new ≡ region.old }
 {
     let base = region.start();

@@ -2,6 +2,7 @@
 ghost use Rattle.std.specs.Prelude.{◌≡◌, ◌<◌, ◌≤◌, ◌++◌, ◌∷◌, [], All, IfOk, OnOk, filter, length, map};
 ghost use Rattle.std.specs.List.{flat_map};
 ghost use Rattle.gos_netlist.specs.Seen.{ground_type, number_of, side_of};
+ghost use Rattle.gos_netlist.specs.Events.{Request, Answer, net_count};
 ghost use Rattle.gos_sim.specs.EventNets as table;
 
 use gos_netlist::{Ground, NetId, Netlist, Port, Side};
@@ -22,7 +23,7 @@ pub struct EventNets {
 // The events of a netlist that come in, or those that go out.
 #[tactic(auto, using(std::proofs::lemmas::List::Elements::filter_more))]
 pub fn events_of(alloc: Global, net: &Netlist, input: bool) -> Result<Vec<EventNets>, NoMemory>
-    requires { All (λ p. table.net_count p.ty ≤ length p.nets) net.now.ports }
+    requires { All (λ p. net_count p.ty ≤ length p.nets) net.now.ports }
     ensures { IfOk result (λ events. events.items ≡ filter (table.comes_in input) (table.all_events net.now)) }
 {
     let all = all_events(alloc, &net.ports)?;
@@ -45,7 +46,7 @@ fn add_chosen(events: &mut Vec<EventNets>, event: EventNets, input: bool) -> Res
 
 // All events of ports, by port and then by number.
 fn all_events(alloc: Global, ports: &[Port]) -> Result<Vec<EventNets>, NoMemory>
-    requires { All (λ p. table.net_count p.ty ≤ length p.nets) ports.now }
+    requires { All (λ p. net_count p.ty ≤ length p.nets) ports.now }
     ensures { IfOk result (λ events. events.items ≡ flat_map table.port_events ports.now) }
 {
     let mut events = Vec::new(alloc);
@@ -62,7 +63,7 @@ fn add_events(
     ground: Ground,
     nets: &[NetId],
 ) -> Result<(), NoMemory>
-    requires { table.net_count (ground_type ground) ≤ length nets.now }
+    requires { net_count (ground_type ground) ≤ length nets.now }
     ensures { OnOk result (events.new.items ≡ events.old.items ++ table.events_at (side_of side) (ground_type ground) (map number_of nets.now)) }
 {
     match ground {
@@ -94,7 +95,7 @@ fn net_at(nets: &[NetId], place: usize) -> u32
 
 // A request of a port.
 fn request(side: Side, pulse: u32, number: Option<u32>) -> EventNets
-    ensures { result ≡ table.request (side_of side) pulse number }
+    ensures { result ≡ table.nets_of_event (side_of side) Request pulse number }
 {
     let input = matches!(side, Side::Give);
     EventNets {
@@ -106,7 +107,7 @@ fn request(side: Side, pulse: u32, number: Option<u32>) -> EventNets
 
 // An answer of a port.
 fn answer(side: Side, pulse: u32, number: Option<u32>) -> EventNets
-    ensures { result ≡ table.answer (side_of side) pulse number }
+    ensures { result ≡ table.nets_of_event (side_of side) Answer pulse number }
 {
     let input = matches!(side, Side::Take);
     EventNets {

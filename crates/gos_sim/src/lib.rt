@@ -14,8 +14,6 @@ mod program;
 mod pulse;
 mod running;
 mod sim;
-#[cfg(test)]
-mod tests;
 
 pub use event_nets::EventNets;
 pub use laws::runs;

@@ -16,7 +16,7 @@ use Rattle.gos_command.specs.declared.report.Report.{Report}
 use Rattle.gos_command.specs.declared.status.Cause.{Cause}
 use Rattle.gos_command.specs.declared.status.Cause.TheVariants as causes
 use Rattle.gos_command.specs.declared.status.Fault.{Fault}
-use Rattle.gos_simulate.specs.Simulation.{LeavesTrace, IsPulseFault, IsSimulationFile, IsSimulationCall}
+use Rattle.gos_simulate.specs.Simulation.{LeavesTrace, IsPulseFault, IsSimulationCall}
 
 -- the text is that of this netlist, which is accepted
 pub record SaysNet (text : List ℕ) (net : Netlist) : Type 0 where
@@ -50,12 +50,9 @@ IsSimFault files net pulses fault line =
     IsNetFault files net fault line
     ⊎ ((circuit : Netlist) × SaysNet (bytes_at files net) circuit × IsPulseFault files circuit pulses fault line)
 
--- the calls of the store, by their files
-abbrev pub IsSimFile : Word → Word → Word → LastFault → Type 0
-IsSimFile net pulses trace fault = (fault ≡ ReadFault net) ⊎ IsSimulationFile pulses trace fault
-
--- and when each is made: where what is judged before it is right
-abbrev pub IsSimCall : Files → Word → Word → Word → LastFault → Type 0
-IsSimCall files net pulses trace fault =
-    (fault ≡ ReadFault net)
-    ⊎ ((circuit : Netlist) × SaysNet (bytes_at files net) circuit × IsSimulationCall files circuit pulses trace fault)
+-- the calls of the store, each where what is judged before it is right, with what was written before it
+abbrev pub IsSimCall : Option Files → Option Files → Word → Word → Word → LastFault → Type 0
+IsSimCall old new net pulses trace fault =
+    ((fault ≡ ReadFault net) × (new ≡ old))
+    ⊎ ((circuit : Netlist) × IfSome old (λ files. SaysNet (bytes_at files net) circuit)
+    × IsSimulationCall old new circuit pulses trace fault)

@@ -3,7 +3,7 @@
 -- Read first: PulseFile, Driving and Traced of gos_pulse; Files of gos_outside. A file that the store doesn't hold counts
 -- as empty.
 use Rattle.std.specs.Prelude.{◌≡◌, ◌≢◌, ◌⊎◌, ℕ, List, length, Option, Some, IfSome}
-use Rattle.gos_outside.specs.Files.{Files, bytes_at, with_file}
+use Rattle.gos_outside.specs.Files.{Files, bytes_at, with_file, SameBut}
 use Rattle.gos_outside.specs.Faults.{LastFault, ReadFault, WriteFault}
 use Rattle.gos_lines.specs.Lines.{Word}
 use Rattle.gos_netlist.specs.Nets.{Netlist}
@@ -51,11 +51,9 @@ pub record IsPulseFault (files : Files) (net : Netlist) (pulses : Word) (fault :
   pub cause : IsPulseCause net (bytes_at files pulses) fault.cause
   pub says : line ≡ fault_line (Some net) fault
 
--- the calls of the store, by their files
-abbrev pub IsSimulationFile : Word → Word → LastFault → Type 0
-IsSimulationFile pulses trace fault = (fault ≡ ReadFault pulses) ⊎ (fault ≡ WriteFault trace)
-
--- and when each is made: the pulse file is read, and the trace is written where the run came to its end
-abbrev pub IsSimulationCall : Files → Netlist → Word → Word → LastFault → Type 0
-IsSimulationCall files net pulses trace fault =
-    (fault ≡ ReadFault pulses) ⊎ ((fault ≡ WriteFault trace) × RunsUnder net (bytes_at files pulses))
+-- The calls of the store, each with what was written before it: the pulse file is read, and the trace is written where the run
+-- came to its end. A file whose write fails may hold anything.
+abbrev pub IsSimulationCall : Option Files → Option Files → Netlist → Word → Word → LastFault → Type 0
+IsSimulationCall old new net pulses trace fault =
+    ((fault ≡ ReadFault pulses) × (new ≡ old))
+    ⊎ ((fault ≡ WriteFault trace) × SameBut trace old new × IfSome old (λ files. RunsUnder net (bytes_at files pulses)))

@@ -6,7 +6,7 @@ ghost use Rattle.gos_outside.specs.Files.{SameBut, bytes_at};
 ghost use Rattle.gos_outside.specs.Faults.{Rose, ReadFault};
 ghost use Rattle.gos_netlist.specs.NetFaults.{IsRead};
 ghost use Rattle.gos_command.specs.Ends.{IfStopped, IsTold};
-ghost use Rattle.gos_simulate.specs.Sim.{SaysNet, IsSimDone, IsNetFault, IsSimFault, IsSimFile, IsSimCall};
+ghost use Rattle.gos_simulate.specs.Sim.{SaysNet, IsSimDone, IsNetFault, IsSimFault, IsSimCall};
 
 use crate::simulation::simulate;
 use gos_command::{Cause, Report, Stop, read_file, reject};
@@ -30,13 +30,16 @@ pub fn sim<S: Store>(
     requires pulses { IsFileName pulses.now }
     requires trace { IsFileName trace.now }
     ensures done { IfOk result (IsSimDone (S.contents store.old) (S.contents store.new) net.now pulses.now trace.now) }
-    ensures rejected { IfErr result (λ stop. IfStopped stop (λ fault line. IfSome (S.contents store.old) (λ files. IsSimFault files net.now pulses.now fault line))) }
+    ensures rejected { IfErr result (λ stop. IfStopped stop (λ fault line.
+        IfSome (S.contents store.old) (λ files. IsSimFault files net.now pulses.now fault line))) }
     ensures told { IfErr result (λ stop. IfStopped stop IsTold) }
     ensures file { IfErr result (λ stop. IfStopped stop (λ fault line. (fault.file ≡ net.now) ⊎ (fault.file ≡ pulses.now))) }
     ensures rejected_files { IfErr result (λ stop. IfStopped stop (λ fault line. S.contents store.new ≡ S.contents store.old)) }
     ensures failed_only { IsErrOf result Stop.StoreFailed → Rose (S.faults store.old) (S.faults store.new) }
-    ensures failed_file { IsErrOf result Stop.StoreFailed → IsSimFile net.now pulses.now trace.now (S.last_fault store.new) }
-    ensures failed_call { IsErrOf result Stop.StoreFailed → IfSome (S.contents store.old) (λ files. IsSimCall files net.now pulses.now trace.now (S.last_fault store.new)) }
+    ensures failed_call { IsErrOf result Stop.StoreFailed →
+        IsSimCall (S.contents store.old) (S.contents store.new) net.now pulses.now trace.now (S.last_fault store.new) }
+    ensures same_count { (¬ (IsErrOf result Stop.StoreFailed)) → S.faults store.new ≡ S.faults store.old }
+    ensures memory_files { IsErrOf result Stop.NoMemory → S.contents store.new ≡ S.contents store.old }
     ensures never_falls { S.faults store.old ≤ S.faults store.new }
     ensures others { SameBut trace.now (S.contents store.old) (S.contents store.new) }
 {
@@ -57,6 +60,7 @@ fn checked_net<S: Store>(alloc: Global, net: &[u8], store: &mut S) -> Result<Che
     ensures file { IfErr result (λ stop. IfStopped stop (λ fault line. fault.file ≡ net.now)) }
     ensures failed_only { IsErrOf result Stop.StoreFailed → Rose (S.faults store.old) (S.faults store.new) }
     ensures failed_call { IsErrOf result Stop.StoreFailed → S.last_fault store.new ≡ ReadFault net.now }
+    ensures same_count { (¬ (IsErrOf result Stop.StoreFailed)) → S.faults store.new ≡ S.faults store.old }
     ensures never_falls { S.faults store.old ≤ S.faults store.new }
     ensures same_files { S.contents store.new ≡ S.contents store.old }
 {
@@ -77,6 +81,7 @@ fn circuit_in<S: Store>(alloc: Global, net: &[u8], store: &mut S) -> Result<Netl
     ensures file { IfErr result (λ stop. IfStopped stop (λ fault line. fault.file ≡ net.now)) }
     ensures failed_only { IsErrOf result Stop.StoreFailed → Rose (S.faults store.old) (S.faults store.new) }
     ensures failed_call { IsErrOf result Stop.StoreFailed → S.last_fault store.new ≡ ReadFault net.now }
+    ensures same_count { (¬ (IsErrOf result Stop.StoreFailed)) → S.faults store.new ≡ S.faults store.old }
     ensures never_falls { S.faults store.old ≤ S.faults store.new }
     ensures same_files { S.contents store.new ≡ S.contents store.old }
 {

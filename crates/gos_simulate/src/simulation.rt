@@ -9,7 +9,7 @@ ghost use Rattle.gos_pulse.specs.Driving.{GivesInput};
 ghost use Rattle.gos_pulse.specs.PulseFile.{IsPulseFile};
 ghost use Rattle.gos_pulse.specs.TraceText.{trace_text};
 ghost use Rattle.gos_command.specs.Ends.{IfStopped, IsTold};
-ghost use Rattle.gos_simulate.specs.Simulation.{LeavesTrace, RunsUnder, IsPulseFault, IsSimulationFile, IsSimulationCall};
+ghost use Rattle.gos_simulate.specs.Simulation.{LeavesTrace, RunsUnder, IsPulseFault, IsSimulationCall};
 
 use gos_command::{Cause, Counts, Stop, read_file, reject, write_file};
 use gos_netcheck::Checked;
@@ -35,13 +35,16 @@ pub fn simulate<S: Store>(
     requires pulses { IsFileName pulses.now }
     requires trace { IsFileName trace.now }
     ensures done { IfOk result (LeavesTrace (S.contents store.old) (S.contents store.new) net pulses.now trace.now) }
-    ensures rejected { IfErr result (λ stop. IfStopped stop (λ fault line. IfSome (S.contents store.old) (λ files. IsPulseFault files net pulses.now fault line))) }
+    ensures rejected { IfErr result (λ stop. IfStopped stop (λ fault line.
+        IfSome (S.contents store.old) (λ files. IsPulseFault files net pulses.now fault line))) }
     ensures told { IfErr result (λ stop. IfStopped stop IsTold) }
     ensures file { IfErr result (λ stop. IfStopped stop (λ fault line. fault.file ≡ pulses.now)) }
     ensures rejected_files { IfErr result (λ stop. IfStopped stop (λ fault line. S.contents store.new ≡ S.contents store.old)) }
     ensures failed_only { IsErrOf result Stop.StoreFailed → Rose (S.faults store.old) (S.faults store.new) }
-    ensures failed_file { IsErrOf result Stop.StoreFailed → IsSimulationFile pulses.now trace.now (S.last_fault store.new) }
-    ensures failed_call { IsErrOf result Stop.StoreFailed → IfSome (S.contents store.old) (λ files. IsSimulationCall files net pulses.now trace.now (S.last_fault store.new)) }
+    ensures failed_call { IsErrOf result Stop.StoreFailed →
+        IsSimulationCall (S.contents store.old) (S.contents store.new) net pulses.now trace.now (S.last_fault store.new) }
+    ensures same_count { (¬ (IsErrOf result Stop.StoreFailed)) → S.faults store.new ≡ S.faults store.old }
+    ensures memory_files { IsErrOf result Stop.NoMemory → S.contents store.new ≡ S.contents store.old }
     ensures never_falls { S.faults store.old ≤ S.faults store.new }
     ensures others { SameBut trace.now (S.contents store.old) (S.contents store.new) }
 {
@@ -64,14 +67,21 @@ fn run<S: Store>(
     requires pulses { IsFileName pulses.now }
     requires trace { IsFileName trace.now }
     requires entries { All (GivesInput net) read.now.1 }
-    ensures done { IfOk result (λ counts. IfSome (S.contents store.old) (λ files. IsPulseFile net (bytes_at files pulses.now) read.now.0 read.now.1) → LeavesTrace (S.contents store.old) (S.contents store.new) net pulses.now trace.now counts) }
-    ensures rejected { IfErr result (λ stop. IfStopped stop (λ fault line. IfSome (S.contents store.old) (λ files. IsPulseFile net (bytes_at files pulses.now) read.now.0 read.now.1 → IsPulseFault files net pulses.now fault line))) }
+    ensures done { IfOk result (λ counts. IfSome (S.contents store.old) (λ files.
+        IsPulseFile net (bytes_at files pulses.now) read.now.0 read.now.1)
+        → LeavesTrace (S.contents store.old) (S.contents store.new) net pulses.now trace.now counts) }
+    ensures rejected { IfErr result (λ stop. IfStopped stop (λ fault line.
+        IfSome (S.contents store.old) (λ files. IsPulseFile net (bytes_at files pulses.now) read.now.0 read.now.1
+        → IsPulseFault files net pulses.now fault line))) }
     ensures told { IfErr result (λ stop. IfStopped stop IsTold) }
     ensures file { IfErr result (λ stop. IfStopped stop (λ fault line. fault.file ≡ pulses.now)) }
     ensures rejected_files { IfErr result (λ stop. IfStopped stop (λ fault line. S.contents store.new ≡ S.contents store.old)) }
     ensures failed_only { IsErrOf result Stop.StoreFailed → Rose (S.faults store.old) (S.faults store.new) }
     ensures failed_call { IsErrOf result Stop.StoreFailed → S.last_fault store.new ≡ WriteFault trace.now }
-    ensures failed_after { IsErrOf result Stop.StoreFailed → IfSome (S.contents store.old) (λ files. IsPulseFile net (bytes_at files pulses.now) read.now.0 read.now.1 → RunsUnder net (bytes_at files pulses.now)) }
+    ensures failed_after { IsErrOf result Stop.StoreFailed → IfSome (S.contents store.old) (λ files.
+        IsPulseFile net (bytes_at files pulses.now) read.now.0 read.now.1 → RunsUnder net (bytes_at files pulses.now)) }
+    ensures same_count { (¬ (IsErrOf result Stop.StoreFailed)) → S.faults store.new ≡ S.faults store.old }
+    ensures memory_files { IsErrOf result Stop.NoMemory → S.contents store.new ≡ S.contents store.old }
     ensures never_falls { S.faults store.old ≤ S.faults store.new }
     ensures others { SameBut trace.now (S.contents store.old) (S.contents store.new) }
 {
@@ -94,11 +104,15 @@ fn write_trace<S: Store>(
 ) -> Result<Counts, Stop>
     requires trace { IsFileName trace.now }
     requires known { All (λ pulse. pulse.event < length (events_of net.now)) traced.now.lines.items }
-    ensures wrote { IfOk result (λ counts. S.contents store.new ≡ with_file trace.now (trace_text net.now traced.now.lines.items traced.now.cycles) (S.contents store.old)) }
-    ensures counts { IfOk result (λ counts. counts ≡ record { cycles = traced.now.cycles; pulses = length traced.now.lines.items; unused = traced.now.unused }) }
+    ensures wrote { IfOk result (λ counts. S.contents store.new ≡ with_file trace.now
+        (trace_text net.now traced.now.lines.items traced.now.cycles) (S.contents store.old)) }
+    ensures counts { IfOk result (λ counts.
+        counts ≡ record { cycles = traced.now.cycles; pulses = length traced.now.lines.items; unused = traced.now.unused }) }
     ensures rejects_nothing { IfErr result (λ stop. IfStopped stop (λ fault line. ⊥)) }
     ensures failed_only { IsErrOf result Stop.StoreFailed → Rose (S.faults store.old) (S.faults store.new) }
     ensures failed_call { IsErrOf result Stop.StoreFailed → S.last_fault store.new ≡ WriteFault trace.now }
+    ensures same_count { (¬ (IsErrOf result Stop.StoreFailed)) → S.faults store.new ≡ S.faults store.old }
+    ensures memory_files { IsErrOf result Stop.NoMemory → S.contents store.new ≡ S.contents store.old }
     ensures never_falls { S.faults store.old ≤ S.faults store.new }
     ensures others { SameBut trace.now (S.contents store.old) (S.contents store.new) }
 {

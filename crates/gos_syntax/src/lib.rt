@@ -23,6 +23,4 @@ mod phrases;
 mod printer;
 mod source;
 mod terms;
-#[cfg(test)]
-mod tests;
 mod types;

@@ -41,7 +41,8 @@ impl<'a> Source<'a> {
 
     // The first token with too many open tokens before it.
     fn first_deep(&self, alloc: Global) -> Result<Option<usize>, AllocError>
-        ensures { IfOk result (λ found. MatchOption found (NoneIsDeep self.now.text.now self.now.tokens.now) (IsFirstDeep self.now.text.now self.now.tokens.now)) }
+        ensures { IfOk result (λ found. MatchOption found (NoneIsDeep self.now.text.now self.now.tokens.now)
+            (IsFirstDeep self.now.text.now self.now.tokens.now)) }
     {
         let mut nesting = Nesting::new(alloc);
         for at in 0..self.tokens.len() {

@@ -66,6 +66,15 @@ fn add_number(alloc: Global, text: &mut Vec<u8>, n: u32) -> Result<(), NoMemory>
     add(text, digits.as_bytes())
 }
 
+// Adds the text of a literal: its value, and behind a colon its width.
+fn add_literal(alloc: Global, text: &mut Vec<u8>, value: u32, width: u32) -> Result<(), NoMemory>
+    ensures { OnOk result (text.new.items ≡ text.old.items ++ decimal value ++ codes ":" ++ decimal width) }
+{
+    add_number(alloc, text, value)?;
+    add(text, b":")?;
+    add_number(alloc, text, width)
+}
+
 // Adds the text of a term.
 #[cycle(printing)]
 fn add_term(alloc: Global, text: &mut Vec<u8>, term: &Term) -> Result<(), NoMemory>
@@ -73,11 +82,7 @@ fn add_term(alloc: Global, text: &mut Vec<u8>, term: &Term) -> Result<(), NoMemo
 {
     match &term.form {
         Form::Skip => add(text, b"skip"),
-        Form::Lit { value, width } => {
-            add_number(alloc, text, *value)?;
-            add(text, b":")?;
-            add_number(alloc, text, *width)
-        }
+        Form::Lit { value, width } => add_literal(alloc, text, *value, *width),
         Form::Name(name) => add(text, name.bytes()),
         Form::Fun { name, ty, body, .. } => {
             add_parameter(alloc, text, name, ty)?;
@@ -93,13 +98,7 @@ fn add_term(alloc: Global, text: &mut Vec<u8>, term: &Term) -> Result<(), NoMemo
             add_term(alloc, text, body)
         }
         Form::App(function, argument) => add_infix(alloc, text, function, b" ", argument),
-        Form::Pair(first, second) => {
-            add(text, b"(")?;
-            add_term(alloc, text, first)?;
-            add(text, b", ")?;
-            add_term(alloc, text, second)?;
-            add(text, b")")
-        }
+        Form::Pair(first, second) => add_pair(alloc, text, first, second),
         Form::Fst(pair) => add_prefixed(alloc, text, b"fst ", pair),
         Form::Snd(pair) => add_prefixed(alloc, text, b"snd ", pair),
         Form::Seq(first, second) => add_infix(alloc, text, first, b" ; ", second),
@@ -118,6 +117,18 @@ fn add_term(alloc: Global, text: &mut Vec<u8>, term: &Term) -> Result<(), NoMemo
         Form::Not(operand) => add_prefixed(alloc, text, b"not ", operand),
         Form::Bin(op, left, right) => add_infix(alloc, text, left, op_bytes(*op), right),
     }
+}
+
+// Adds the text of a pair.
+#[cycle(printing)]
+fn add_pair(alloc: Global, text: &mut Vec<u8>, first: &Term, second: &Term) -> Result<(), NoMemory>
+    ensures { OnOk result (text.new.items ≡ text.old.items ++ codes "(" ++ text_of (tree_of first.now.form first.now.span) ++ codes ", " ++ text_of (tree_of second.now.form second.now.span) ++ codes ")") }
+{
+    add(text, b"(")?;
+    add_term(alloc, text, first)?;
+    add(text, b", ")?;
+    add_term(alloc, text, second)?;
+    add(text, b")")
 }
 
 // Adds the text of a term that is an operand.
@@ -156,7 +167,8 @@ fn add_infix(
     between: &[u8],
     right: &Term,
 ) -> Result<(), NoMemory>
-    ensures { OnOk result (text.new.items ≡ text.old.items ++ operand_text (tree_of left.now.form left.now.span) ++ between.now ++ operand_text (tree_of right.now.form right.now.span)) }
+    ensures { OnOk result (text.new.items ≡ text.old.items ++ operand_text (tree_of left.now.form left.now.span) ++ between.now
+        ++ operand_text (tree_of right.now.form right.now.span)) }
 {
     add_operand(alloc, text, left)?;
     add(text, between)?;

@@ -1,5 +1,5 @@
 -- How a command ends, from how its work ended and what was printed.
-use Rattle.std.proofs.Common.{◌≡◌, ◌∙◌, ◌⊎◌, inl, inr, List, [], ◌∷◌, ℕ, Option, Result, Ok, Err, arith, ap, sym, subst}
+use Rattle.std.proofs.Common.{◌≡◌, ◌∙◌, ◌⊎◌, inl, inr, refl, List, [], ◌∷◌, ℕ, Option, Some, None, Result, Ok, Err, nat_eq, if◌then◌else◌, ap, sym, subst}
 use Rattle.std.specs.Prelude.{IfOk, IfErr, IfSome}
 use Rattle.gos_outside.specs.Files.{Files}
 use Rattle.gos_lines.specs.Lines.{Word}
@@ -11,9 +11,10 @@ use Rattle.gos_command.specs.declared.status.Status.{Status}
 use Rattle.gos_command.specs.declared.status.Status.TheVariants as statuses
 use Rattle.gos_command.specs.declared.stop.Stop.{Stop}
 use Rattle.gos_command.specs.declared.stop.Stop.TheVariants as stops
+use Rattle.gos_objects.specs.Checked.{IsSourceFault}
 use Rattle.gos_simulate.specs.Sim.{IsSimFault}
-use Rattle.gos_tool.specs.Command.{Command, Check, Sim, Build, Means}
-use Rattle.gos_tool.specs.Run.{IsDone, IsRejected, EndsDone, EndsRejected, IsUnsaid}
+use Rattle.gos_tool.specs.Command.{Command, Check, Compile, Sim, Build, Means}
+use Rattle.gos_tool.specs.Run.{IsDone, IsRejected, IsCutShort, EndsDone, EndsRejected, IsUnsaid, IsUntold}
 
 -- a command is done only where its work is
 pub ends_done : (words : List Word) (old new : Option Files) (written printed : Option (List ℕ)) (c : Command) (ended : Result Report Stop) (status : Status)
@@ -28,29 +29,29 @@ ends_done words old new written printed c (Err (stops.Rejected rejection)) statu
 ends_done words old new written printed c (Err stops.StoreFailed) status means is says done = let e = says.0 in cc
 ends_done words old new written printed c (Err stops.NoMemory) status means is says done = let e = says.0 in cc
 
--- words are one command at most: the first one tells which, and the others are its files
-abbrev first : List Word → Word
-first [] = []
-first (word ∷ words) = word
+-- The command that words are: by how many they are, and by the third letter of the first.
+abbrev third : Word → ℕ
+third (a ∷ b ∷ c ∷ letters) = c
+third letters = 0
 
-abbrev others : List Word → List Word
-others [] = []
-others (word ∷ words) = words
+abbrev with_one_file : ℕ → Word → Command
+with_one_file letter file = if nat_eq letter 101 then Check file else Build file
 
-abbrev first_byte : Word → ℕ
-first_byte [] = 0
-first_byte (b ∷ bytes) = b
+abbrev read_back : List Word → Option Command
+read_back (verb ∷ file ∷ []) = Some (with_one_file (third verb) file)
+read_back (verb ∷ source ∷ object ∷ []) = Some (Compile source object)
+read_back (verb ∷ net ∷ pulses ∷ trace ∷ []) = Some (Sim net pulses trace)
+read_back words = None
 
+is_read_back : (words : List Word) (c : Command) → Means words c → read_back words ≡ Some c
+is_read_back words (Check source) means = ap read_back means.0
+is_read_back words (Compile source object) means = ap read_back means.0
+is_read_back words (Sim net pulses trace) means = ap read_back means.0
+is_read_back words (Build own) means = ap read_back means.0
+
+-- words are one command at most
 same_meaning : (words : List Word) (c d : Command) → Means words c → Means words d → c ≡ d
-same_meaning words (Check a) (Check b) m n = ap (λ ws. Check (first (others ws))) (sym m.0 ∙ n.0)
-same_meaning words (Check a) (Sim x y z) m n = let e : 99 ≡ 115 = ap (λ ws. first_byte (first ws)) (sym m.0 ∙ n.0) in absurd (omega (arith, e))
-same_meaning words (Check a) (Build b) m n = let e : 99 ≡ 98 = ap (λ ws. first_byte (first ws)) (sym m.0 ∙ n.0) in absurd (omega (arith, e))
-same_meaning words (Sim x y z) (Check b) m n = let e : 115 ≡ 99 = ap (λ ws. first_byte (first ws)) (sym m.0 ∙ n.0) in absurd (omega (arith, e))
-same_meaning words (Sim x y z) (Sim u v w) m n = ap (λ ws. Sim (first (others ws)) (first (others (others ws))) (first (others (others (others ws))))) (sym m.0 ∙ n.0)
-same_meaning words (Sim x y z) (Build b) m n = let e : 115 ≡ 98 = ap (λ ws. first_byte (first ws)) (sym m.0 ∙ n.0) in absurd (omega (arith, e))
-same_meaning words (Build a) (Check b) m n = let e : 98 ≡ 99 = ap (λ ws. first_byte (first ws)) (sym m.0 ∙ n.0) in absurd (omega (arith, e))
-same_meaning words (Build a) (Sim x y z) m n = let e : 98 ≡ 115 = ap (λ ws. first_byte (first ws)) (sym m.0 ∙ n.0) in absurd (omega (arith, e))
-same_meaning words (Build a) (Build b) m n = ap (λ ws. Build (first (others ws))) (sym m.0 ∙ n.0)
+same_meaning words c d m n = let same : Some c ≡ Some d = sym (is_read_back words c m) ∙ is_read_back words d n in cc
 
 -- a command whose line could not be printed
 unsaid_as : (old new : Option Files) (written printed : Option (List ℕ)) (c : Command) (ended : Result Report Stop) (status : Status)
@@ -65,6 +66,21 @@ pub unsaid : (words : List Word) (old new : Option Files) (written printed : Opt
     → IsUnsaid d old new written printed
 unsaid words old new written printed c d ended status m n done rejected told says failed =
     subst (λ (e : Command). IsUnsaid e old new written printed) (same_meaning words c d m n) (unsaid_as old new written printed c ended status done rejected told says failed)
+
+-- a command at whose end memory runs out
+untold_as : (old new : Option Files) (written printed : Option (List ℕ)) (c : Command) (ended : Result Report Stop) (status : Status)
+    → IfOk ended (IsDone c old new) → IfErr ended (λ stop. IfStopped stop (IsRejected c old new)) → (ended ≡ Err stops.NoMemory → IsCutShort c old new)
+    → Finishes ended status written printed → status ≡ statuses.NoMemory → IsUntold c old new
+untold_as old new written printed c (Ok report) status done rejected short says failed = inl (report, done)
+untold_as old new written printed c (Err (stops.Rejected rejection)) status done rejected short says failed = inr (inl (rejection.fault, rejection.line.items, rejected))
+untold_as old new written printed c (Err stops.StoreFailed) status done rejected short says failed = let e = says.0 in cc
+untold_as old new written printed c (Err stops.NoMemory) status done rejected short says failed = inr (inr (short refl))
+
+pub untold : (words : List Word) (old new : Option Files) (written printed : Option (List ℕ)) (c d : Command) (ended : Result Report Stop) (status : Status)
+    → Means words c → Means words d → IfOk ended (IsDone c old new) → IfErr ended (λ stop. IfStopped stop (IsRejected c old new)) → (ended ≡ Err stops.NoMemory → IsCutShort c old new)
+    → Finishes ended status written printed → status ≡ statuses.NoMemory → IsUntold d old new
+untold words old new written printed c d ended status m n done rejected short says failed =
+    subst (λ (e : Command). IsUntold e old new) (same_meaning words c d m n) (untold_as old new written printed c ended status done rejected short says failed)
 
 -- a command that rejects a file, where the line that says so was printed
 ends_rejected : (words : List Word) (old new : Option Files) (written printed : Option (List ℕ)) (c : Command) (ended : Result Report Stop) (fault : Fault)
@@ -113,3 +129,13 @@ sim_rejected net pulses trace old new (Ok report) kept file why = tt
 sim_rejected net pulses trace old new (Err (stops.Rejected rejection)) kept file why = (kept, file, why)
 sim_rejected net pulses trace old new (Err stops.StoreFailed) kept file why = tt
 sim_rejected net pulses trace old new (Err stops.NoMemory) kept file why = tt
+
+-- and of `compile`
+pub compile_rejected : (source object : Word) (old new : Option Files) (ended : Result Report Stop)
+    → IfErr ended (λ stop. IfStopped stop (λ fault line. new ≡ old)) → IfErr ended (λ stop. IfStopped stop (λ fault line. fault.file ≡ source))
+    → IfErr ended (λ stop. IfStopped stop (λ fault line. IfSome old (λ files. IsSourceFault files source fault line)))
+    → IfErr ended (λ stop. IfStopped stop (IsRejected (Compile source object) old new))
+compile_rejected source object old new (Ok report) kept file why = tt
+compile_rejected source object old new (Err (stops.Rejected rejection)) kept file why = (kept, file, why)
+compile_rejected source object old new (Err stops.StoreFailed) kept file why = tt
+compile_rejected source object old new (Err stops.NoMemory) kept file why = tt

@@ -14,5 +14,4 @@ mod StageInputLemmas
 mod PaceLemmas
 mod BuildLemmas
 mod WordLemmas
-mod CheckedLemmas
 mod EndLemmas

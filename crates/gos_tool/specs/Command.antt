@@ -13,6 +13,7 @@ use Rattle.gos_tool.specs.SourceFile.{Sequence, IsSourceFile}
 -- a command, with the files that its words name
 pub data Command : Type 0 where
   Check : (source : Word) → Command
+  Compile : (source object : Word) → Command
   Sim : (net pulses trace : Word) → Command
   Build : (own : Word) → Command
 
@@ -23,6 +24,8 @@ texts words = map string_bytes words
 -- The words are this command. A file that is written is none of those that are read.
 abbrev pub Means : List Word → Command → Type 0
 Means words (Check source) = (words ≡ codes "check" ∷ source ∷ []) × IsFileName source
+Means words (Compile source object) =
+    (words ≡ codes "compile" ∷ source ∷ object ∷ []) × IsFileName source × IsFileName object × (object ≢ source)
 Means words (Sim net pulses trace) =
     (words ≡ codes "sim" ∷ net ∷ pulses ∷ trace ∷ []) × IsFileName net × IsFileName pulses × IsFileName trace
     × (trace ≢ net) × (trace ≢ pulses)
@@ -34,7 +37,7 @@ MeanNothing words = (c : Command) → Means words c → ⊥
 
 -- the line for words that are no command
 abbrev pub usage_line : List ℕ
-usage_line = codes "usage: gos check SRC | sim NET PULSES TRACE | build BUILD" ++ 10 ∷ []
+usage_line = codes "usage: gos check SRC | compile SRC OBJ | sim NET PULSES TRACE | build BUILD" ++ 10 ∷ []
 
 -- what the build file says
 abbrev pub SaysBuild : Files → Word → BuildFile → Type 0

@@ -4,7 +4,6 @@ pub mod SourceFile
 pub mod Program
 pub mod Headline
 pub mod Command
-pub mod Checked
 pub mod Built
 pub mod Run
 pub mod inner

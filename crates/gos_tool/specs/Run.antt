@@ -1,7 +1,7 @@
 -- How the tool's commands end.
 --
--- Read first: Command, Checked, Built; Sim of gos_simulate; Lines of gos_command. `old` and `new` are the files of the
--- store before and after, `written` and `printed` the bytes of the sink.
+-- Read first: Command, Built; Checked and Compiled of gos_objects; Sim of gos_simulate; Lines of gos_command. `old` and `new`
+-- are the files of the store before and after, `written` and `printed` the bytes of the sink.
 use Rattle.std.specs.Prelude.{◌≡◌, ◌⊎◌, ℕ, List, Option, IfSome}
 use Rattle.gos_outside.specs.Files.{Files, SameBut}
 use Rattle.gos_outside.specs.Faults.{LastFault, ReadFault}
@@ -11,34 +11,46 @@ use Rattle.gos_command.specs.Lines.{report_line}
 use Rattle.gos_command.specs.Ends.{IsTold}
 use Rattle.gos_command.specs.declared.report.Report.{Report}
 use Rattle.gos_command.specs.declared.status.Fault.{Fault}
-use Rattle.gos_simulate.specs.Sim.{IsSimDone, IsSimFault, IsSimFile, IsSimCall}
-use Rattle.gos_tool.specs.Command.{Command, Check, Sim, Build, Means}
-use Rattle.gos_tool.specs.Checked.{IsChecked, IsSourceFault}
-use Rattle.gos_tool.specs.Built.{IsBuilt, Rejects, IsBuildCall, KeepsUnnamed}
+use Rattle.gos_objects.specs.Checked.{IsChecked, IsSourceFault}
+use Rattle.gos_objects.specs.Compiled.{IsCompiled, IsCompileCall}
+use Rattle.gos_simulate.specs.Sim.{IsSimDone, IsSimFault, IsSimCall}
+use Rattle.gos_tool.specs.Command.{Command, Check, Compile, Sim, Build, Means}
+use Rattle.gos_tool.specs.Built.{IsBuilt, Rejects, IsBuildCall, IsBuildCutShort, KeepsUnnamed}
 
 -- all that the command is to do is done, with this report
 abbrev pub IsDone : Command → Option Files → Option Files → Report → Type 0
 IsDone (Check source) old new report = (new ≡ old) × IfSome old (λ files. IsChecked files source report)
+IsDone (Compile source object) old new report = IfSome old (λ files. IsCompiled files new source object report)
 IsDone (Sim net pulses trace) old new report = IsSimDone old new net pulses trace report
 IsDone (Build own) old new report = IfSome old (λ files. IsBuilt files new own report)
 
 -- The command rejects a file for this fault, with this line: the first that it finds.
 abbrev pub IsRejected : Command → Option Files → Option Files → Fault → List ℕ → Type 0
 IsRejected (Check source) old new fault line = (new ≡ old) × (fault.file ≡ source) × IfSome old (λ files. IsSourceFault files source fault line)
+IsRejected (Compile source object) old new fault line =
+    (new ≡ old) × (fault.file ≡ source) × IfSome old (λ files. IsSourceFault files source fault line)
 IsRejected (Sim net pulses trace) old new fault line =
     (new ≡ old) × ((fault.file ≡ net) ⊎ (fault.file ≡ pulses)) × IfSome old (λ files. IsSimFault files net pulses fault line)
 IsRejected (Build own) old new fault line = IfSome old (λ files. Rejects files new own fault line)
 
--- the command makes this call of the store, after all that is judged before it was right
-abbrev pub IsCall : Command → Option Files → LastFault → Type 0
-IsCall (Check source) old fault = fault ≡ ReadFault source
-IsCall (Sim net pulses trace) old fault =
-    IsSimFile net pulses trace fault × IfSome old (λ files. IsSimCall files net pulses trace fault)
-IsCall (Build own) old fault = IfSome old (λ files. IsBuildCall files own fault)
+-- The command makes this call of the store, after all that is judged before it was right, and this is what it wrote before.
+abbrev pub IsCall : Command → Option Files → Option Files → LastFault → Type 0
+IsCall (Check source) old new fault = (fault ≡ ReadFault source) × (new ≡ old)
+IsCall (Compile source object) old new fault = IsCompileCall old new source object fault
+IsCall (Sim net pulses trace) old new fault = IsSimCall old new net pulses trace fault
+IsCall (Build own) old new fault = IsBuildCall old new own fault
+
+-- What the command leaves where memory runs out before its end: the first of its files, each as where all is done.
+abbrev pub IsCutShort : Command → Option Files → Option Files → Type 0
+IsCutShort (Check source) old new = new ≡ old
+IsCutShort (Compile source object) old new = new ≡ old
+IsCutShort (Sim net pulses trace) old new = new ≡ old
+IsCutShort (Build own) old new = IsBuildCutShort old new own
 
 -- all files but those that the command writes are as they were
 abbrev pub KeepsOthers : Command → Option Files → Option Files → Type 0
 KeepsOthers (Check source) old new = new ≡ old
+KeepsOthers (Compile source object) old new = SameBut object old new
 KeepsOthers (Sim net pulses trace) old new = SameBut trace old new
 KeepsOthers (Build own) old new = KeepsUnnamed own old new
 
@@ -65,3 +77,8 @@ abbrev pub IsUnsaid : Command → Option Files → Option Files → Option (List
 IsUnsaid c old new written printed =
     ((report : Report) × AppendsPrefix (report_line report) written printed × IsDone c old new report)
     ⊎ ((fault : Fault) × (text : List ℕ) × IsTold fault text × AppendsPrefix text written printed × IsRejected c old new fault text)
+
+-- what the command leaves where memory runs out: all that it is to do is done, or a file is rejected, or it is cut short
+abbrev pub IsUntold : Command → Option Files → Option Files → Type 0
+IsUntold c old new =
+    ((report : Report) × IsDone c old new report) ⊎ (((fault : Fault) × (text : List ℕ) × IsRejected c old new fault text) ⊎ IsCutShort c old new)

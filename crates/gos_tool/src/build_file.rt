@@ -82,7 +82,8 @@ struct Head<'a> {
 
 fn read_head<'a>(alloc: Global, text: &'a [u8]) -> Result<Head<'a>, Refusal>
     ensures read { IfOk result (λ head. content_of text.now ≡ head_lines head.root.now head.source.now head.object.now (content_of head.rest.now)) }
-    ensures refused { IfErr result (λ e. e ≡ NotOfForm → (root source object : Word) (more : List Words) → content_of text.now ≡ head_lines root source object more → ⊥) }
+    ensures refused { IfErr result (λ e. e ≡ NotOfForm → (root source object : Word) (more : List Words)
+        → content_of text.now ≡ head_lines root source object more → ⊥) }
 {
     let version = read_one(alloc, text, b"gosbuild")?;
     let instance = read_three(alloc, version.rest, b"inst")?;

@@ -1,15 +1,15 @@
 // The commands and their words.
 
-ghost use Rattle.std.specs.Prelude.{◌∷◌, [], IfOk, IfErr, IsErrOf, MatchOption};
+ghost use Rattle.std.specs.Prelude.{◌≡◌, ◌∷◌, [], IfOk, IfErr, IsErrOf, MatchOption};
 ghost use Rattle.gos_outside.specs.Faults.{Rose};
 ghost use Rattle.gos_command.specs.Ends.{IfStopped, IsTold};
 ghost use Rattle.gos_tool.specs.Command.{texts, Means, MeanNothing};
 ghost use Rattle.gos_tool.specs.inner.CommandSeen.{meant, HasFileNames};
-ghost use Rattle.gos_tool.specs.Run.{IsDone, IsRejected, IsCall, KeepsOthers};
+ghost use Rattle.gos_tool.specs.Run.{IsDone, IsRejected, IsCall, IsCutShort, KeepsOthers};
 
 use crate::building::build;
-use crate::checking::check_source;
 use gos_command::{Report, Stop};
+use gos_objects::{check_source, compile_source};
 use gos_outside::{Store, is_file_name};
 use gos_simulate::sim;
 use std::alloc::Global;
@@ -20,6 +20,11 @@ pub enum Command<'a> {
     /// `check SRC`.
     Check {
         source: &'a [u8],
+    },
+    /// `compile SRC OBJ`.
+    Compile {
+        source: &'a [u8],
+        object: &'a [u8],
     },
     /// `sim NET PULSES TRACE`.
     Sim {
@@ -44,13 +49,17 @@ pub fn command_of(words: &[String]) -> Option<Command<'_>>
             pulses.as_bytes(),
             trace.as_bytes(),
         ),
+        [verb, source, object] => {
+            compile_of(verb.as_bytes(), source.as_bytes(), object.as_bytes())
+        }
         [verb, file] => one_file_of(verb.as_bytes(), file.as_bytes()),
         _ => None,
     }
 }
 
 fn sim_of<'a>(verb: &[u8], net: &'a [u8], pulses: &'a [u8], trace: &'a [u8]) -> Option<Command<'a>>
-    ensures { MatchOption result (MeanNothing (verb.now ∷ net.now ∷ pulses.now ∷ trace.now ∷ [])) (λ command. Means (verb.now ∷ net.now ∷ pulses.now ∷ trace.now ∷ []) (meant command)) }
+    ensures { MatchOption result (MeanNothing (verb.now ∷ net.now ∷ pulses.now ∷ trace.now ∷ [])) (λ command.
+        Means (verb.now ∷ net.now ∷ pulses.now ∷ trace.now ∷ []) (meant command)) }
 {
     if verb != b"sim".as_slice()
         || !is_file_name(net)
@@ -63,6 +72,18 @@ fn sim_of<'a>(verb: &[u8], net: &'a [u8], pulses: &'a [u8], trace: &'a [u8]) -> 
         return None;
     }
     Some(Command::Sim { net, pulses, trace })
+}
+
+fn compile_of<'a>(verb: &[u8], source: &'a [u8], object: &'a [u8]) -> Option<Command<'a>>
+    ensures { MatchOption result (MeanNothing (verb.now ∷ source.now ∷ object.now ∷ [])) (λ command. Means (verb.now ∷ source.now ∷ object.now ∷ []) (meant command)) }
+{
+    if verb != b"compile".as_slice() || !is_file_name(source) || !is_file_name(object) {
+        return None;
+    }
+    if object == source {
+        return None;
+    }
+    Some(Command::Compile { source, object })
 }
 
 fn one_file_of<'a>(verb: &[u8], file: &'a [u8]) -> Option<Command<'a>>
@@ -91,11 +112,15 @@ pub fn run_command<S: Store>(
     ensures rejected { IfErr result (λ stop. IfStopped stop (IsRejected (meant command.entry) (S.contents store.old) (S.contents store.new))) }
     ensures told { IfErr result (λ stop. IfStopped stop IsTold) }
     ensures failed_only { IsErrOf result Stop.StoreFailed → Rose (S.faults store.old) (S.faults store.new) }
-    ensures failed_call { IsErrOf result Stop.StoreFailed → IsCall (meant command.entry) (S.contents store.old) (S.last_fault store.new) }
+    ensures failed_call { IsErrOf result Stop.StoreFailed →
+        IsCall (meant command.entry) (S.contents store.old) (S.contents store.new) (S.last_fault store.new) }
+    ensures same_count { (¬ (IsErrOf result Stop.StoreFailed)) → S.faults store.new ≡ S.faults store.old }
+    ensures memory_files { IsErrOf result Stop.NoMemory → IsCutShort (meant command.entry) (S.contents store.old) (S.contents store.new) }
     ensures others { KeepsOthers (meant command.entry) (S.contents store.old) (S.contents store.new) }
 {
     match command {
         Command::Check { source } => check_source(alloc, source, store),
+        Command::Compile { source, object } => compile_source(alloc, source, object, store),
         Command::Sim { net, pulses, trace } => sim(alloc, net, pulses, trace, store),
         Command::Build { own } => build(alloc, own, store),
     }

@@ -1,41 +1,44 @@
 // The tool: from the words of a command to its files, its line and its status.
 //
 // `run` is the top call. It knows the outside only as a store of files and a sink of bytes. What it promises is said in
-// specs/: Command (the words), Checked (what `check` tells), BuildFile and SourceFile (the forms of the files of `build`),
-// Headline (what a circuit of a module is), Built (what `build` leaves, rejects and calls), Run (all commands). The
-// command `sim` is a crate of its own, gos_simulate.
+// specs/: Command (the words), BuildFile and SourceFile (the forms of the files of `build`), Headline (what a circuit of a
+// module is), Built (what `build` leaves, rejects and calls), Run (all commands). The other commands are crates of their
+// own: `check` and `compile` gos_objects, `sim` gos_simulate.
 #![tactic(auto)]
 
-ghost use Rattle.std.specs.Prelude.{◌≡◌};
+ghost use Rattle.std.specs.Prelude.{◌≡◌, ◌≢◌};
 ghost use Rattle.gos_outside.specs.Faults.{Rose};
 ghost use Rattle.gos_outside.specs.Written.{appended, AppendsPrefix};
 ghost use Rattle.gos_command.specs.Ends.{IfRejected, IsSaid};
 ghost use Rattle.gos_tool.specs.Command.{Command as Meaning, texts, Means, MeanNothing, usage_line};
-ghost use Rattle.gos_tool.specs.Run.{IsCall, KeepsOthers, EndsDone, EndsRejected, IsUnsaid};
+ghost use Rattle.gos_tool.specs.Run.{IsCall, KeepsOthers, EndsDone, EndsRejected, IsUnsaid, IsUntold};
 
 mod build_file;
 mod building;
-mod checking;
 mod circuit;
 mod command;
 mod lexemes;
+#[cfg(test)]
+mod rows;
 mod source_file;
 mod statements;
 #[cfg(test)]
 mod tests;
 
 use command::{command_of, run_command};
-pub use gos_command::{Cause, Fault, FileName, Status};
+pub use gos_command::{Cause, Fault, Status};
 use gos_command::{finish, say};
+pub use gos_link::FileName;
 use gos_outside::{Sink, Store};
 use std::alloc::Global;
 
 /// Does what the words of a command say, with the files of a store, and prints one line to a sink.
 ///
-/// `check SRC` reads a source file and tells the weight of its module. `sim NET PULSES TRACE` reads a netlist and a pulse
-/// file, runs the netlist and writes the trace. `build BUILD` reads the build file and the source file of its instance,
-/// writes the netlist, reads the pulse file, runs the netlist and writes the trace. Each status but `NoMemory` has its
-/// cause; want of memory may end a command anywhere.
+/// `check SRC` reads a source file and tells the weight of its module. `compile SRC OBJ` checks it in the same way, and
+/// writes the plan of its module. `sim NET PULSES TRACE` reads a netlist and a pulse file, runs the netlist and writes the
+/// trace. `build BUILD` reads the build file and the source file of its instance, writes the netlist and its Verilog text,
+/// reads the pulse file, runs the netlist and writes the trace. Each status but `NoMemory` has its cause; want of memory may
+/// end a command anywhere.
 pub fn run<S: Store, O: Sink>(alloc: Global, words: &[String], store: &mut S, out: &mut O) -> Status
     // Other words are answered with the usage line, and no file is touched.
     ensures usage { result ≡ Status.Usage → MeanNothing (texts words.now) }
@@ -44,24 +47,34 @@ pub fn run<S: Store, O: Sink>(alloc: Global, words: &[String], store: &mut S, ou
     ensures usage_files { MeanNothing (texts words.now) → S.contents store.new ≡ S.contents store.old }
 
     // Where all is done, the files are there and the line tells it. Of `build`: the netlist file holds the text of a circuit
-    // that keeps pace with the program of the source file, and the trace file holds its run under the pulse file.
+    // that keeps pace with the program of the source file, the Verilog file holds its Verilog text, and the trace file its run
+    // under the pulse file.
     ensures done { result ≡ Status.Done → EndsDone (texts words.now) (S.contents store.old) (S.contents store.new) (O.written out.old) (O.written out.new) }
 
     // A file is rejected only for the first fault that is found, and its line is printed.
-    ensures rejected { IfRejected result (EndsRejected (texts words.now) (S.contents store.old) (S.contents store.new) (O.written out.old) (O.written out.new)) }
+    ensures rejected { IfRejected result (EndsRejected (texts words.now) (S.contents store.old) (S.contents store.new)
+        (O.written out.old) (O.written out.new)) }
 
-    // The store is blamed only for a call that failed, and that the command makes then.
+    // The store is blamed where a call of it failed, and only there: the last call, which the command makes then. What the
+    // command writes before that call was written.
     ensures store_failed { result ≡ Status.StoreFailed → Rose (S.faults store.old) (S.faults store.new) }
-    ensures store_call { result ≡ Status.StoreFailed → (c : Meaning) × Means (texts words.now) c × IsCall c (S.contents store.old) (S.last_fault store.new) }
+    ensures store_call { result ≡ Status.StoreFailed → (c : Meaning) × Means (texts words.now) c
+        × IsCall c (S.contents store.old) (S.contents store.new) (S.last_fault store.new) }
+    ensures store_count { result ≢ Status.StoreFailed → S.faults store.new ≡ S.faults store.old }
     ensures store_line { result ≡ Status.StoreFailed → O.written out.new ≡ O.written out.old }
 
-    // The sink is blamed only for the one line, of which a first part was printed; all else is as where it was printed.
+    // The sink is blamed where the write of the one line failed, and only there. A first part of it was printed; all else is
+    // as where it was printed.
     ensures sink_failed { result ≡ Status.SinkFailed → Rose (O.faults out.old) (O.faults out.new) }
+    ensures sink_count { result ≢ Status.SinkFailed → O.faults out.new ≡ O.faults out.old }
     ensures sink_usage { result ≡ Status.SinkFailed → MeanNothing (texts words.now) → AppendsPrefix usage_line (O.written out.old) (O.written out.new) }
-    ensures sink_line { result ≡ Status.SinkFailed → (c : Meaning) → Means (texts words.now) c → IsUnsaid c (S.contents store.old) (S.contents store.new) (O.written out.old) (O.written out.new) }
+    ensures sink_line { result ≡ Status.SinkFailed → (c : Meaning) → Means (texts words.now) c
+        → IsUnsaid c (S.contents store.old) (S.contents store.new) (O.written out.old) (O.written out.new) }
 
-    // Where memory runs out nothing is printed.
+    // Where memory runs out nothing is printed. What was written so far is as where all is done.
     ensures memory_line { result ≡ Status.NoMemory → O.written out.new ≡ O.written out.old }
+    ensures memory_files { result ≡ Status.NoMemory → (c : Meaning) → Means (texts words.now) c
+        → IsUntold c (S.contents store.old) (S.contents store.new) }
 
     // No file changes but those that the command writes.
     ensures others { (c : Meaning) → Means (texts words.now) c → KeepsOthers c (S.contents store.old) (S.contents store.new) }
@@ -73,7 +86,7 @@ pub fn run<S: Store, O: Sink>(alloc: Global, words: &[String], store: &mut S, ou
         }
         None => say(
             alloc,
-            b"usage: gos check SRC | sim NET PULSES TRACE | build BUILD\n",
+            b"usage: gos check SRC | compile SRC OBJ | sim NET PULSES TRACE | build BUILD\n",
             Status::Usage,
             out,
         ),

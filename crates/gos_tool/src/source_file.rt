@@ -78,7 +78,8 @@ fn read_module<'a>(alloc: Global, lexemes: &[Lexeme<'a>]) -> Result<Module<'a>, 
 
 /// Reads as many imports of commands as there are.
 fn read_imports<'a>(alloc: Global, lexemes: &[Lexeme<'a>]) -> Result<Names<'a>, AllocError>
-    ensures read { IfOk result (λ imports. all_seen lexemes.now ≡ import_readings (map (λ name. name.now) imports.names.items) (all_seen (drop imports.end lexemes.now))) }
+    ensures read { IfOk result (λ imports. all_seen lexemes.now ≡ import_readings (map (λ name. name.now) imports.names.items)
+        (all_seen (drop imports.end lexemes.now))) }
     ensures all { IfOk result (λ imports. BeginsNoImport (all_seen (drop imports.end lexemes.now))) }
     ensures within { IfOk result (λ imports. imports.end ≤ length lexemes.now) }
 {
@@ -97,7 +98,8 @@ fn read_imports<'a>(alloc: Global, lexemes: &[Lexeme<'a>]) -> Result<Names<'a>, 
 
 /// The name of an import of a command that stands first.
 fn import_of<'a>(lexemes: &[Lexeme<'a>]) -> Option<&'a [u8]>
-    ensures import { MatchOption result (BeginsNoImport (all_seen lexemes.now)) (λ name. (4 ≤ length lexemes.now) × (all_seen lexemes.now ≡ import_readings (name.now ∷ []) (all_seen (drop 4 lexemes.now)))) }
+    ensures import { MatchOption result (BeginsNoImport (all_seen lexemes.now)) (λ name.
+        (4 ≤ length lexemes.now) × (all_seen lexemes.now ≡ import_readings (name.now ∷ []) (all_seen (drop 4 lexemes.now)))) }
 {
     match lexemes {
         [
@@ -113,7 +115,8 @@ fn import_of<'a>(lexemes: &[Lexeme<'a>]) -> Option<&'a [u8]>
 
 /// The name of the first command, where the export stands first.
 fn export_of<'a>(lexemes: &[Lexeme<'a>]) -> Option<&'a [u8]>
-    ensures export { MatchOption result (BeginsNoExport (all_seen lexemes.now)) (λ name. (2 ≤ length lexemes.now) × (all_seen lexemes.now ≡ AWord Word.Export ∷ AName name.now ∷ all_seen (drop 2 lexemes.now))) }
+    ensures export { MatchOption result (BeginsNoExport (all_seen lexemes.now)) (λ name.
+        (2 ≤ length lexemes.now) × (all_seen lexemes.now ≡ AWord Word.Export ∷ AName name.now ∷ all_seen (drop 2 lexemes.now))) }
 {
     match lexemes {
         [Lexeme::Word(Word::Export), Lexeme::Name(name), ..] => Some(*name),
@@ -123,7 +126,8 @@ fn export_of<'a>(lexemes: &[Lexeme<'a>]) -> Option<&'a [u8]>
 
 /// Reads as many names, each with a `;` before it, as there are.
 fn read_others<'a>(alloc: Global, lexemes: &[Lexeme<'a>]) -> Result<Names<'a>, AllocError>
-    ensures read { IfOk result (λ others. all_seen lexemes.now ≡ then_readings (map (λ name. name.now) others.names.items) (all_seen (drop others.end lexemes.now))) }
+    ensures read { IfOk result (λ others. all_seen lexemes.now ≡ then_readings (map (λ name. name.now) others.names.items)
+        (all_seen (drop others.end lexemes.now))) }
     ensures all { IfOk result (λ others. BeginsNoThen (all_seen (drop others.end lexemes.now))) }
     ensures within { IfOk result (λ others. others.end ≤ length lexemes.now) }
 {
@@ -142,7 +146,8 @@ fn read_others<'a>(alloc: Global, lexemes: &[Lexeme<'a>]) -> Result<Names<'a>, A
 
 /// The name after a `;` that stands first.
 fn then_of<'a>(lexemes: &[Lexeme<'a>]) -> Option<&'a [u8]>
-    ensures { MatchOption result (BeginsNoThen (all_seen lexemes.now)) (λ name. (2 ≤ length lexemes.now) × (all_seen lexemes.now ≡ then_readings (name.now ∷ []) (all_seen (drop 2 lexemes.now)))) }
+    ensures { MatchOption result (BeginsNoThen (all_seen lexemes.now)) (λ name.
+        (2 ≤ length lexemes.now) × (all_seen lexemes.now ≡ then_readings (name.now ∷ []) (all_seen (drop 2 lexemes.now)))) }
 {
     match lexemes {
         [Lexeme::Sign(Sign::Semicolon), Lexeme::Name(name), ..] => Some(*name),

@@ -57,7 +57,8 @@ pub struct Three<'a> {
 /// Reads a statement of this keyword with one argument.
 pub fn read_one<'a>(alloc: Global, text: &'a [u8], keyword: &[u8]) -> Result<One<'a>, Refusal>
     ensures read { IfOk result (λ one. content_of text.now ≡ (keyword.now ∷ one.argument.now ∷ []) ∷ content_of one.rest.now) }
-    ensures refused { IfErr result (λ e. e ≡ NotOfForm → (argument : Word) (more : List Words) → content_of text.now ≡ (keyword.now ∷ argument ∷ []) ∷ more → ⊥) }
+    ensures refused { IfErr result (λ e. e ≡ NotOfForm → (argument : Word) (more : List Words)
+        → content_of text.now ≡ (keyword.now ∷ argument ∷ []) ∷ more → ⊥) }
 {
     match next_line(alloc, text)? {
         Some(Line { words, rest, .. }) => match two_words(words.as_slice()) {
@@ -70,7 +71,8 @@ pub fn read_one<'a>(alloc: Global, text: &'a [u8], keyword: &[u8]) -> Result<One
 
 /// Reads a statement of this keyword with three arguments.
 pub fn read_three<'a>(alloc: Global, text: &'a [u8], keyword: &[u8]) -> Result<Three<'a>, Refusal>
-    ensures read { IfOk result (λ three. content_of text.now ≡ (keyword.now ∷ three.first.now ∷ three.second.now ∷ three.third.now ∷ []) ∷ content_of three.rest.now) }
+    ensures read { IfOk result (λ three. content_of text.now ≡ (keyword.now ∷ three.first.now ∷ three.second.now ∷ three.third.now
+        ∷ []) ∷ content_of three.rest.now) }
     ensures refused { IfErr result (λ e. e ≡ NotOfForm → (a b c : Word) (more : List Words) → content_of text.now ≡ (keyword.now ∷ a ∷ b ∷ c ∷ []) ∷ more → ⊥) }
 {
     match next_line(alloc, text)? {
@@ -100,7 +102,8 @@ pub fn read_end(alloc: Global, text: &[u8]) -> Result<(), Refusal>
 
 /// Two words, where there are two.
 fn two_words<'a>(words: &[&'a [u8]]) -> Option<(&'a [u8], &'a [u8])>
-    ensures { MatchOption result ((a b : Word) → map (λ word. word.now) words.now ≡ a ∷ b ∷ [] → ⊥) (λ pair. map (λ word. word.now) words.now ≡ pair.0.now ∷ pair.1.now ∷ []) }
+    ensures { MatchOption result ((a b : Word) → map (λ word. word.now) words.now ≡ a ∷ b ∷ [] → ⊥) (λ pair.
+        map (λ word. word.now) words.now ≡ pair.0.now ∷ pair.1.now ∷ []) }
 {
     match words {
         [a, b] => Some((*a, *b)),
@@ -110,7 +113,8 @@ fn two_words<'a>(words: &[&'a [u8]]) -> Option<(&'a [u8], &'a [u8])>
 
 /// Three words, where there are three.
 pub fn three_words<'a>(words: &[&'a [u8]]) -> Option<(&'a [u8], &'a [u8], &'a [u8])>
-    ensures { MatchOption result ((a b c : Word) → map (λ word. word.now) words.now ≡ a ∷ b ∷ c ∷ [] → ⊥) (λ all. map (λ word. word.now) words.now ≡ all.0.now ∷ all.1.now ∷ all.2.now ∷ []) }
+    ensures { MatchOption result ((a b c : Word) → map (λ word. word.now) words.now ≡ a ∷ b ∷ c ∷ [] → ⊥) (λ all.
+        map (λ word. word.now) words.now ≡ all.0.now ∷ all.1.now ∷ all.2.now ∷ []) }
 {
     match words {
         [a, b, c] => Some((*a, *b, *c)),
@@ -120,7 +124,8 @@ pub fn three_words<'a>(words: &[&'a [u8]]) -> Option<(&'a [u8], &'a [u8], &'a [u
 
 /// Four words, where there are four.
 fn four_words<'a>(words: &[&'a [u8]]) -> Option<(&'a [u8], &'a [u8], &'a [u8], &'a [u8])>
-    ensures { MatchOption result ((a b c d : Word) → map (λ word. word.now) words.now ≡ a ∷ b ∷ c ∷ d ∷ [] → ⊥) (λ all. map (λ word. word.now) words.now ≡ all.0.now ∷ all.1.now ∷ all.2.now ∷ all.3.now ∷ []) }
+    ensures { MatchOption result ((a b c d : Word) → map (λ word. word.now) words.now ≡ a ∷ b ∷ c ∷ d ∷ [] → ⊥) (λ all.
+        map (λ word. word.now) words.now ≡ all.0.now ∷ all.1.now ∷ all.2.now ∷ all.3.now ∷ []) }
 {
     match words {
         [a, b, c, d] => Some((*a, *b, *c, *d)),

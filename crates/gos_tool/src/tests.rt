@@ -17,6 +17,37 @@ const NET: &[u8] =
 const TRACE: &[u8] =
     b"0 main.run\n1 c.run\n1 c.done\n2 d.run\n2 d.done\n3 main.done\ncycles 20000\n";
 
+// The Verilog text of that netlist, written by hand.
+const VERILOG: &str =
+    "module gos_main(clk, rst, main__run, main__done, c__run, c__done, d__run, d__done);
+  input clk;
+  input rst;
+  input [0:0] main__run;
+  output [0:0] main__done;
+  output [0:0] c__run;
+  input [0:0] c__done;
+  output [0:0] d__run;
+  input [0:0] d__done;
+  wire [0:0] n0;
+  reg [0:0] n1;
+  wire [0:0] n2;
+  reg [0:0] n3;
+  wire [0:0] n4;
+  reg [0:0] n5;
+  wire [0:0] n6;
+  assign n0 = main__run;
+  always @(posedge clk) if (rst) n1 <= 1'd0; else n1 <= n6;
+  assign n2 = 1'd0;
+  always @(posedge clk) if (rst) n3 <= 1'd0; else n3 <= n0;
+  assign n4 = c__done;
+  always @(posedge clk) if (rst) n5 <= 1'd0; else n5 <= n4;
+  assign n6 = d__done;
+  assign main__done = n1;
+  assign c__run = n3;
+  assign d__run = n5;
+endmodule
+";
+
 const TWO_REGISTERS: &[u8] =
     b"gosnet 1\ncells 4\ninput 1\nor 1 0 2\nreg 1 1\nreg 1 1\nports 1\ngive main com 0 3\nend\n";
 
@@ -56,6 +87,7 @@ fn sequence_is_built_and_traced(rt: HostRuntime) -> Result<(), Fail> {
     assert_eq!(rt; status.code(), 0);
     assert!(rt; out.bytes() == b"ok weight 17 cycles 20000 pulses 6 unused 0\n".as_slice());
     assert!(rt; store.get(b"out.net").unwrap_or(b"") == NET);
+    assert!(rt; store.get(b"out.v").unwrap_or(b"") == VERILOG.as_bytes());
     assert!(rt; store.get(b"out.trc").unwrap_or(b"") == TRACE);
     Ok(())
 }
@@ -88,6 +120,7 @@ fn entry_that_breaks_the_protocol_is_told(rt: HostRuntime) -> Result<(), Fail> {
     assert_eq!(rt; built(alloc, &mut store, &mut out)?, 2);
     assert!(rt; out.bytes() == b"in.pls: P5 c.done at cycle 0\n".as_slice());
     assert!(rt; store.get(b"out.net").unwrap_or(b"") == NET);
+    assert!(rt; store.get(b"out.v").unwrap_or(b"") == VERILOG.as_bytes());
     assert!(rt; store.get(b"out.trc").is_none());
     Ok(())
 }
@@ -175,7 +208,8 @@ fn no_words_are_answered_with_the_usage(rt: HostRuntime) -> Result<(), Fail> {
     let status = run(alloc, &[], &mut store, &mut out);
     assert_eq!(rt; status.code(), 1);
     assert!(rt;
-        out.bytes() == b"usage: gos check SRC | sim NET PULSES TRACE | build BUILD\n".as_slice()
+        out.bytes()
+            == b"usage: gos check SRC | compile SRC OBJ | sim NET PULSES TRACE | build BUILD\n".as_slice()
     );
     Ok(())
 }

@@ -1,3 +1,4 @@
 mod TurnLemmas
 pub mod WithinLemmas
 pub mod CountLemmas
+pub mod SideLemmas

@@ -1,4 +1,6 @@
 pub mod Types
+pub mod Widths
 pub mod Handshakes
+pub mod Sides
 pub mod TypeText
 pub mod inner

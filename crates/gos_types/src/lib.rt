@@ -10,13 +10,11 @@
 mod fault;
 mod laws;
 mod shakes;
-#[cfg(test)]
-mod tests;
 mod text;
 mod types;
 
 pub use fault::NoMemory;
-pub use laws::turning_twice;
+pub use laws::{sides, turning_twice};
 pub use shakes::{Handshake, Role, Step, count, handshakes};
 pub use text::print_ty;
 pub use types::{Ty, copy, is_ground, same};

@@ -157,7 +157,9 @@ fn add_one(
     path: &[Step],
     shakes: &mut Vec<Handshake>,
 ) -> Result<(), NoMemory>
-    ensures { OnOk result (shakes.new.items ≡ shakes.old.items ++ record { role = role; ask_bits = ask_bits; answer_bits = answer_bits; path = path.now } ∷ []) }
+    ensures { OnOk result
+        (shakes.new.items
+        ≡ shakes.old.items ++ record { role = role; ask_bits = ask_bits; answer_bits = answer_bits; path = path.now } ∷ []) }
 {
     let path = path.to_vec(alloc)?;
     shakes.push(Handshake {

@@ -20,7 +20,7 @@ use Rattle.gos_check.specs.declared.linear.Split.{Split}
 use Rattle.gos_check.specs.declared.numbering.NumberedTerm.{NumberedTerm}
 use Rattle.gos_check.specs.declared.opens.Open.{Open}
 use Rattle.gos_check.specs.Scopes.{Binders, type_at}
-use Rattle.gos_check.specs.Nodes.{Binding, OfFun, OfNew, OneForm, OfFst, OfSnd, OfDeref, OfNot, TwoForm, OfApp, OfBoth, OfSeq, OfPar, OfWhile, OfAssign, OfBin, Numbered, Closed, Use, Under, One, Two, If, node_seen}
+use Rattle.gos_check.specs.Nodes.{Binding, OfFun, OfNew, OneForm, OfFst, OfSnd, OfDeref, OfNot, TwoForm, OfApp, OfBoth, OfSeq, OfPar, OfWhile, OfAssign, OfBin, Numbered, Closed, Use, Under, One, Two, If, node_seen, type_of_node}
 use Rattle.gos_check.specs.inner.Opens.{number_in, others, merged_splits, merged_names, merged_next, binder_number, binder_next}
 
 -- the forms that the walk tells apart
@@ -60,15 +60,6 @@ abbrev pub binder_type : Binding → Type' → Type' → Type'
 binder_type OfFun a b = Fun a b
 binder_type (OfNew w) a b = b
 
--- the type of a node
-abbrev pub type_in : Numbered → Type'
-type_in (Closed t ss c) = t
-type_in (Use t ss n) = t
-type_in (Under t ss b n m) = t
-type_in (One t ss f m) = t
-type_in (Two t ss f m n) = t
-type_in (If t ss m n p) = t
-
 -- a numbered term: its node, its free names with their numbers, and the next number
 pub record Result : Type 0 where
   pub node : Numbered
@@ -91,20 +82,20 @@ use_result t x n = record { node = Use t [] n; names = record { name = x; number
 abbrev pub binder_result : Binding → Name → Type' → Result → Result
 binder_result b x a r =
     record {
-      node = Under (binder_type b a (type_in r.node)) [] b (binder_number (number_in r.names x) r.next) r.node;
+      node = Under (binder_type b a (type_of_node r.node)) [] b (binder_number (number_in r.names x) r.next) r.node;
       names = others x r.names;
       next = binder_next (number_in r.names x) r.next;
     }
 
 -- a form of one part
 abbrev pub one_result : OneForm → Result → Result
-one_result f r = record { node = One (one_type f (type_in r.node)) [] f r.node; names = r.names; next = r.next }
+one_result f r = record { node = One (one_type f (type_of_node r.node)) [] f r.node; names = r.names; next = r.next }
 
 -- a form of two parts, of which the right one was numbered last
 abbrev pub two_result : TwoForm → Result → Result → Result
 two_result f l r =
     record {
-      node = Two (two_type f (type_in l.node) (type_in r.node)) (merged_splits l.names r.names r.next) f l.node r.node;
+      node = Two (two_type f (type_of_node l.node) (type_of_node r.node)) (merged_splits l.names r.names r.next) f l.node r.node;
       names = merged_names l.names r.names r.next;
       next = merged_next l.names r.names r.next;
     }
@@ -123,7 +114,7 @@ inner_next a b = merged_next a.names b.names b.next
 abbrev pub choice_result : Result → Result → Result → Result
 choice_result a b c =
     record {
-      node = If (type_in b.node) (merged_splits (inner_names a b) c.names c.next ++ inner_splits a b) a.node b.node c.node;
+      node = If (type_of_node b.node) (merged_splits (inner_names a b) c.names c.next ++ inner_splits a b) a.node b.node c.node;
       names = merged_names (inner_names a b) c.names c.next;
       next = merged_next (inner_names a b) c.names c.next;
     }

@@ -4,10 +4,9 @@
 use Rattle.std.proofs.Common.{inl, inr, ℕ, List, [], refl, sym, ap, ◌∙◌, subst, arith}
 use Rattle.std.specs.Prelude.{nat_eq, if◌then◌else◌}
 use Rattle.std.specs.List.{AllByRecursion}
-use Rattle.gos_netlist.specs.Settling.{Numbers}
 use Rattle.gos_netlist.specs.Settling as nets
 use Rattle.gos_netcheck.specs.CellRules.{HasRightWidths}
-use Rattle.gos_plan.specs.Ranges.{IsWidth}
+use Rattle.gos_types.specs.Widths.{IsWidth}
 use Rattle.gos_plan.specs.Kinds.{Deref, part_contacts}
 use Rattle.gos_plan.specs.Firing.{State, Req, Ans}
 use Rattle.gos_plan.specs.Gates.{Incoming, pulse_in, value_in, nothing_pending}

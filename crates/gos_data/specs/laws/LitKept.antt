@@ -5,7 +5,7 @@ use Rattle.std.proofs.Common.{◌≡◌, inl, inr, ℕ, suc, ◌+◌, ◌^◌, �
 use Rattle.std.specs.Prelude.{nat_eq, if◌then◌else◌}
 use Rattle.std.specs.List.{AllByRecursion}
 use Rattle.gos_netcheck.specs.CellRules.{HasRightWidths}
-use Rattle.gos_plan.specs.Ranges.{IsWidth}
+use Rattle.gos_types.specs.Widths.{IsWidth}
 use Rattle.gos_plan.specs.Kinds.{Lit, part_contacts}
 use Rattle.gos_plan.specs.Firing.{Phase, Rest, State, Slot, Req, Ans, Token, Row, row, at, put}
 use Rattle.gos_plan.specs.Gates.{Incoming, pulse_in, value_in, due, value_due, nothing_pending}

@@ -5,7 +5,7 @@ use Rattle.std.proofs.Common.{inl, inr, ℕ, zero, suc, ◌+◌, ◌≤◌, List
 use Rattle.std.specs.List.{AllByRecursion}
 use Rattle.gos_netlist.specs.Nets.{Cell}
 use Rattle.gos_netcheck.specs.CellRules.{HasRightWidths}
-use Rattle.gos_plan.specs.Ranges.{IsWidth}
+use Rattle.gos_types.specs.Widths.{IsWidth}
 use Rattle.gos_plan.specs.Kinds.{Local, part_contacts}
 use Rattle.gos_plan.specs.Firing.{Req, Ans}
 use Rattle.gos_plan.specs.Gates.{Incoming, held}

@@ -5,7 +5,7 @@ use Rattle.std.proofs.Common.{◌≡◌, inl, inr, ℕ, zero, suc, ◌+◌, ◌-
 use Rattle.std.specs.Prelude.{nat_eq, if◌then◌else◌}
 use Rattle.gos_netlist.specs.Settling.{Numbers}
 use Rattle.gos_netlist.specs.Settling as nets
-use Rattle.gos_plan.specs.Ranges.{IsWidth}
+use Rattle.gos_types.specs.Widths.{IsWidth}
 use Rattle.gos_plan.specs.Kinds.{Local}
 use Rattle.gos_plan.specs.Firing.{Phase, Rest, Active, State, Slot, Req, Ans, Token, Row, row, at, put}
 use Rattle.gos_plan.specs.Gates.{Incoming, Settled, Bare, Bearing, pulse_in, value_in, due, value_due, Shows, SameTokens, held}

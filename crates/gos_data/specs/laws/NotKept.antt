@@ -4,11 +4,11 @@
 use Rattle.std.proofs.Common.{inl, inr, ℕ, List, [], refl, sym, ap, ◌∙◌, subst, arith}
 use Rattle.std.specs.Prelude.{nat_eq, if◌then◌else◌}
 use Rattle.std.specs.List.{AllByRecursion}
-use Rattle.gos_netlist.specs.Settling.{Numbers}
 use Rattle.gos_netlist.specs.Settling as nets
 use Rattle.gos_netcheck.specs.CellRules.{HasRightWidths}
-use Rattle.gos_plan.specs.Ranges.{IsWidth}
-use Rattle.gos_plan.specs.Kinds.{Not, part_contacts, complement}
+use Rattle.gos_types.specs.Widths.{IsWidth}
+use Rattle.gos_plan.specs.Kinds.{Not, part_contacts}
+use Rattle.gos_model.specs.Terms.{complement}
 use Rattle.gos_plan.specs.Firing.{State, Req, Ans}
 use Rattle.gos_plan.specs.Gates.{Incoming, pulse_in, value_in, nothing_pending}
 use Rattle.gos_plan.specs.Law.{GatesLaw, StaySilent}

@@ -5,12 +5,13 @@ use Rattle.std.proofs.Common.{◌≡◌, ◌≢◌, inl, inr, ℕ, zero, suc, �
 use Rattle.std.specs.Prelude.{nat_eq, if◌then◌else◌}
 use Rattle.std.specs.List.{AllByRecursion}
 use Rattle.gos_netlist.specs.Nets.{Input, pins}
-use Rattle.gos_netlist.specs.Settling.{Numbers, shown}
+use Rattle.gos_netlist.specs.Settling.{shown}
 use Rattle.gos_netlist.specs.Settling as nets
 use Rattle.gos_netcheck.specs.CellRules.{width_at, OperandsFit, HasRightWidths}
-use Rattle.gos_plan.specs.Ranges.{IsWidth}
-use Rattle.gos_plan.specs.Kinds.{Operation, Op, part_contacts, result_of, result_width}
-use Rattle.gos_plan.specs.Kinds as operations
+use Rattle.gos_types.specs.Widths.{IsWidth}
+use Rattle.gos_plan.specs.Kinds.{Op, part_contacts}
+use Rattle.gos_model.specs.Terms.{Op as Operation, result_of, result_width}
+use Rattle.gos_model.specs.Terms as operations
 use Rattle.gos_plan.specs.Firing.{Phase, Rest, Left, Right, State, Slot, Req, Ans, Token, Row, row, at, put}
 use Rattle.gos_plan.specs.Gates.{Incoming, pulse_in, value_in, due, value_due, held}
 use Rattle.gos_plan.specs.Law.{Asked, Fires, times, GatesLaw, StaySilent}

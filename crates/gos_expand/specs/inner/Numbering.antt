@@ -1,8 +1,7 @@
 -- Where the blocks of a plan's netlist begin, as the program keeps it.
 --
--- Read first: Arrivals. Between the functions of this crate.
-use Rattle.std.specs.Prelude.{◌≡◌, ℕ, zero, suc, ◌+◌, ◌≤◌, List, [], ◌∷◌, map, All}
-use Rattle.gos_types.specs.Types.{type_of, IsGround, IsDone}
+-- Read first: Arrivals, Acceptance. Between the functions of this crate.
+use Rattle.std.specs.Prelude.{◌≡◌, ℕ, zero, suc, ◌+◌, ◌≤◌, List, [], ◌∷◌, map}
 use Rattle.gos_plan.specs.Seen.{SeenPlan, plan_of, end_of}
 use Rattle.gos_plan.specs.Size.{plan_size}
 use Rattle.gos_plan.specs.Plans.{End, PartEnd, ImportEnd, ResultEnd, Plan}
@@ -12,11 +11,12 @@ use Rattle.gos_expand.specs.declared.numbering.Numbering.{Numbering}
 use Rattle.gos_expand.specs.Gates.{part_size}
 use Rattle.gos_expand.specs.Starts.{keep_all, port_size, ports_of, loose_ends, parts_start, laid_size}
 use Rattle.gos_expand.specs.inner.Arrivals.{AreAt, start_at}
+use Rattle.gos_expand.specs.Acceptance.{HasGroundPorts}
 
--- What a plan must be to be laid out, besides what each plan is: its ports are ground, and it is small enough.
+-- The program's plan is right and in range by its type. What is asked of it besides: its ports are ground, and it is
+-- small enough.
 pub record IsExpandable (p : SeenPlan) : Type 0 where
-  pub result : IsDone (type_of p.outcome)
-  pub ground : All (λ i. IsGround (type_of i.ty)) p.imports
+  pub ports : HasGroundPorts p
   pub size : plan_size (plan_of p) ≤ 5000000
 
 -- where each of these blocks begins, of which the first begins at net n

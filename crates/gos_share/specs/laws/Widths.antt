@@ -15,7 +15,7 @@ use Rattle.gos_netlist.specs.Nets.{Cell}
 use Rattle.gos_netcheck.specs.CellRules.{width_at, HasRightWidths}
 use Rattle.gos_plan.specs.Kinds.{Contact, contact, contacts_of}
 use Rattle.gos_plan.specs.Gates.{Incoming, bits_in, incoming_bits}
-use Rattle.gos_plan.specs.Ranges.{HasWidths}
+use Rattle.gos_types.specs.Widths.{HasWidths}
 use Rattle.gos_plan.specs.Fit.{BitsComeIn, HaveBits}
 use Rattle.gos_share.specs.Blocks.{asked_cells, asked_size, answered_cells, sent_cells, sent_size, told_cells, branch_cells, block_cells, block_size, kept_net}
 use Rattle.gos_share.specs.Share.{place_behind, row_cells, share_cells}

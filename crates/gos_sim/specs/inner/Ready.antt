@@ -5,7 +5,8 @@ use Rattle.std.specs.Prelude.{◌≡◌, ◌≢◌, ℕ, ◌<◌, ◌≤◌, Lis
 use Rattle.gos_netlist.specs.Nets.{Input, Cell, Netlist, pins}
 use Rattle.gos_netlist.specs.Cycles.{IsRegister}
 use Rattle.gos_sim.specs.declared.event_nets.EventNets.{EventNets}
-use Rattle.gos_sim.specs.EventNets.{net_count, input_events, output_events, OnNets, Names}
+use Rattle.gos_sim.specs.EventNets.{input_events, output_events, OnNets, Names}
+use Rattle.gos_netlist.specs.Events.{net_count}
 use Rattle.gos_sim.specs.inner.Program.{IsShort}
 
 -- a cell of at most 32 bits whose pins are below a count

@@ -1,5 +1,5 @@
 use Rattle.gos_tool.specs.inner.CommandSeen.{meant}
-use Rattle.gos_tool.proofs.EndLemmas.{ends_done, if_rejected, unsaid}
+use Rattle.gos_tool.proofs.EndLemmas.{ends_done, if_rejected, unsaid, untold}
 use Rattle.gos_tool.proofs.run.Goals as goal
 
 pub returns-in-Some-clause-done : goal.returns-in-Some-clause-done
@@ -16,3 +16,8 @@ pub returns-in-Some-clause-rejected : goal.returns-in-Some-clause-rejected
 returns-in-Some-clause-rejected g c =
     if_rejected _ (g.S.Store.contents c.args.store.now) (g.S.Store.contents c.run_command-ended.new.store) (g.O.Sink.written c.args.out.now) (g.O.Sink.written c.finish.new.out)
     (meant c.in-Some.command) c.run_command-ended.result c.finish.result c.in-Some.ensures c.run_command-ended.ensures.rejected c.run_command-ended.ensures.told c.finish.ensures.finishes
+
+pub returns-in-Some-clause-memory_files : goal.returns-in-Some-clause-memory_files
+returns-in-Some-clause-memory_files g c = λ failed d means.
+    untold _ (g.S.Store.contents c.args.store.now) (g.S.Store.contents c.run_command-ended.new.store) (g.O.Sink.written c.args.out.now) (g.O.Sink.written c.finish.new.out)
+    (meant c.in-Some.command) d c.run_command-ended.result c.finish.result c.in-Some.ensures means c.run_command-ended.ensures.done c.run_command-ended.ensures.rejected c.run_command-ended.ensures.memory_files c.finish.ensures.finishes failed

@@ -6,5 +6,6 @@ use Rattle.gos_compile.proofs.modules.tie_imports.Given as goal
 -- with the ties of the imports that are left they are all of them
 abbrev pub invariant-loop-import : goal.invariant-loop-import
 invariant-loop-import l =
-    l.ties.items ++ import_ties l.number (map import_of (drop l.import-index l.imports))
-    ≡ l.initial.ties.items ++ import_ties 0 (map import_of l.imports)
+    (l.number ≡ l.import-index)
+    × (l.ties.items ++ import_ties l.number (map import_of (drop l.import-index l.imports))
+    ≡ l.initial.ties.items ++ import_ties 0 (map import_of l.imports))

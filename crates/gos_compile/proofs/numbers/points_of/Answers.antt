@@ -18,10 +18,10 @@ loop-k-preserved c =
     let t : Tie = slice_index_or c.args.ties.now (k - 1) none in
     let here : drop (k - 1) c.args.ties.now ≡ t ∷ drop (suc (k - 1)) c.args.ties.now = drop-cons c.args.ties.now (k - 1) none within in
     let before : k ≡ suc (k - 1) = omega (arith, positive) in
-    let one : c.in_ok-one.one ≡ code c.args.stride t.one = c.in_ok-one.ensures in
-    let other : c.in_ok-other.other ≡ code c.args.stride t.other = c.in_ok-other.ensures in
+    let one : c.code-one.result ≡ code c.args.stride t.one = c.code-one.ensures.value in
+    let other : c.code-other.result ≡ code c.args.stride t.other = c.code-other.ensures.value in
     let shakes : ShakesBelow c.args.stride (t ∷ drop (suc (k - 1)) c.args.ties.now) =
-    subst (λ (ts : List Tie). ShakesBelow c.args.stride ts) here (shakes_part c.args.stride c.args.ties.now (k - 1) c.requires)
+    subst (λ (ts : List Tie). ShakesBelow c.args.stride ts) here (shakes_part c.args.stride c.args.ties.now (k - 1) c.requires.shakes)
     in
     let old : List Point = c.loop-k.points.items in
     let mid : List Point = c.put.new.points.items in

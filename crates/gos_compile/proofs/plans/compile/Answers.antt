@@ -1,29 +1,60 @@
-use Rattle.std.proofs.Common.{ap, sym, subst, ◌∙◌, ◌≡◌, map, List}
+use Rattle.std.proofs.Common.{ap, sym, subst, ◌∙◌, ◌≡◌, ◌≤◌, ◌+◌, All, length, map, List}
 use Rattle.gos_types.specs.declared.types.Ty.{Ty}
 use Rattle.gos_types.specs.Types.{type_of}
 use Rattle.gos_syntax.specs.Modules.{SeenImport}
 use Rattle.gos_model.specs.Typing.{Imports}
 use Rattle.gos_model.specs.Sources as sources
+use Rattle.gos_check.specs.declared.linear.Node.{Node}
 use Rattle.gos_check.specs.Nodes.{Numbered, node_seen}
-use Rattle.gos_plan.specs.Seen.{SeenPlan, part_of, import_of, joint_of}
+use Rattle.gos_plan.specs.Seen.{SeenPlan, plan_of, part_of, import_of, joint_of}
 use Rattle.gos_compile.specs.declared.points.Tie.{Tie}
-use Rattle.gos_compile.specs.Wiring.{all_parts, all_ties}
-use Rattle.gos_compile.specs.inner.Found.{AreTables, all_found, bare, far_by}
+use Rattle.gos_realises.specs.Regular.{count}
+use Rattle.gos_realises.specs.Slim.{IsSlim}
+use Rattle.gos_compile.specs.Wiring.{type_of_node, all_parts, all_ties, all_types, IsPlanOf}
+use Rattle.gos_compile.specs.inner.Loads.{load, HasFewShakes}
+use Rattle.gos_compile.specs.inner.Found.{AreTables, ShakesBelow, all_found, bare, far_by}
 use Rattle.gos_compile.specs.inner.Counted.{IsThin}
 use Rattle.gos_compile.proofs.ThinLemmas.{thin}
 use Rattle.gos_check.specs.Checked.{program_in}
+use Rattle.gos_compile.proofs.LoadLemmas.{counters}
+use Rattle.gos_compile.proofs.SlimLemmas.{is_slim, few_parts, few_imports, all_small, shakes_small}
+use Rattle.gos_compile.proofs.ReadLemmas.{reads_back}
 use Rattle.gos_compile.proofs.RangeLemmas.{in_range}
 use Rattle.gos_compile.proofs.RightLemmas.{right_joints, no_fault}
 use Rattle.gos_compile.proofs.PlanLemmas.{is_plan}
 use Rattle.gos_compile.proofs.plans.compile.Goals as goal
 
-pub tables_of-requires : goal.tables_of-requires
-tables_of-requires c =
+pub tables_of-requires-clause-thin : goal.tables_of-requires-clause-thin
+tables_of-requires-clause-thin c =
     let ties : c.in_ok-wires.wires.ties.items ≡ all_ties (program_in c.args.program.now).imports (node_seen c.args.program.now.term) =
     c.in_ok-wires.ensures.ties ∙ (λ i. all_ties (map sources.import_of (c.imports.ensures i)) (node_seen (c.term.ensures.value i)))
     in
     subst (λ (ts : List Tie). IsThin ts) (sym (c.deref.ensures.value ∙ ties))
     (thin (program_in c.args.program.now) (node_seen c.args.program.now.term) c.term.ensures.checked.term)
+
+pub wires_of-requires-clause-few : goal.wires_of-requires-clause-few
+wires_of-requires-clause-few c =
+    subst (λ (is : List SeenImport). length is ≤ 65536) (sym c.imports.ensures) (few_imports c.args.program.now c.term.ensures.checked)
+
+pub wires_of-requires-clause-small : goal.wires_of-requires-clause-small
+wires_of-requires-clause-small c =
+    subst (λ (is : List SeenImport). All HasFewShakes is) (sym c.imports.ensures) (all_small c.args.program.now.imports c.term.ensures.checked.imports)
+
+pub wires_of-requires-clause-room : goal.wires_of-requires-clause-room
+wires_of-requires-clause-room c =
+    subst
+    (λ (is : List SeenImport). count (type_of_node (node_seen c.term.result.now))
+    + load (all_types (map sources.import_of is) (node_seen c.term.result.now)) (node_seen c.term.result.now) ≤ 65536) (sym c.imports.ensures)
+    (subst
+    (λ (m : Node). count (type_of_node (node_seen m)) + load (all_types (map sources.import_of c.args.program.now.imports) (node_seen m)) (node_seen m) ≤ 65536)
+    (sym c.term.ensures.value) (counters c.args.program.now c.term.ensures.checked))
+
+pub tables_of-requires-clause-shakes : goal.tables_of-requires-clause-shakes
+tables_of-requires-clause-shakes c =
+    let ties : c.in_ok-wires.wires.ties.items ≡ all_ties (program_in c.args.program.now).imports (node_seen c.args.program.now.term) =
+    c.in_ok-wires.ensures.ties ∙ (λ i. all_ties (map sources.import_of (c.imports.ensures i)) (node_seen (c.term.ensures.value i)))
+    in
+    subst (λ (ts : List Tie). ShakesBelow 65536 ts) (sym (c.deref.ensures.value ∙ ties)) (shakes_small c.args.program.now c.term.ensures.checked)
 
 pub returns-in-Ok : goal.returns-in-Ok
 returns-in-Ok c =
@@ -34,7 +65,7 @@ returns-in-Ok c =
     let e = c.in-Ok.ensures.plan in
     let imports : map import_of s.imports ≡ is =
     ap (λ (p : SeenPlan). map import_of p.imports) e
-    ∙ (c.in_ok-imports.ensures ∙ ap (λ (is : List SeenImport). map sources.import_of is) c.imports-2.ensures)
+    ∙ (c.in_ok-imports.ensures.imports ∙ ap (λ (is : List SeenImport). map sources.import_of is) c.imports-2.ensures)
     in
     let outcome : type_of s.outcome ≡ type_of c.args.program.now.result =
     ap (λ (p : SeenPlan). type_of p.outcome) e ∙ (c.in_ok-outcome.ensures ∙ ap (λ (t : Ty). type_of t) c.result.ensures)
@@ -48,7 +79,7 @@ returns-in-Ok c =
     c.in_ok-wires.ensures.ties ∙ (λ i. all_ties (map sources.import_of (c.imports.ensures i)) (node_seen (c.term.ensures.value i)))
     in
     let known : AreTables ts c.in_ok-tables.tables =
-    subst (λ (us : List Tie). AreTables us c.in_ok-tables.tables) c.deref.ensures.value c.in_ok-tables.ensures
+    subst (λ (us : List Tie). AreTables us c.in_ok-tables.tables) c.deref.ensures.value c.in_ok-tables.ensures.tables
     in
     let found : map joint_of s.joints ≡ all_found (bare s.imports s.outcome s.parts) (far_by c.in_ok-tables.tables) ts =
     ap (λ (p : SeenPlan). map joint_of p.joints) e
@@ -56,16 +87,26 @@ returns-in-Ok c =
     ∙ ((λ i. all_found (bare (c.deref-2.ensures.value i) c.in_ok-outcome.outcome (c.deref-3.ensures.value i)) (far_by c.in_ok-tables.tables) (c.deref-4.ensures.value i))
     ∙ sym (ap (λ (p : SeenPlan). all_found (bare p.imports p.outcome p.parts) (far_by c.in_ok-tables.tables) ts) e)))
     in
+    let plan : IsPlanOf is (type_of c.args.program.now.result) c.args.program.now.weight m (plan_of s) =
+    is_plan is (type_of c.args.program.now.result) c.args.program.now.weight m s ts c.in_ok-tables.tables imports outcome weight parts
+    c.in-Ok.ensures.right ties known found
+    in
+    let slim : IsSlim (plan_of s) = is_slim c.types_of_terms.ensures.node c.args.program.now c.term.ensures.checked (plan_of s) plan in
+    let (few, joined) = few_parts c.args.program.now c.term.ensures.checked (plan_of s) plan.weight slim in
     record {
-      plan = is_plan is (type_of c.args.program.now.result) c.args.program.now.weight m s ts c.in_ok-tables.tables imports outcome weight parts
-          c.in-Ok.ensures.right ties known found;
+      plan = plan;
+      slim = slim;
+      few_parts = few;
+      few_joints = joined;
+      read_back = reads_back c.types_of_terms.ensures.node c.args.program.now c.term.ensures.checked (plan_of s) c.in_ok-imports.imports.items plan slim
+          (ap (λ (p : SeenPlan). map import_of p.imports) e) c.in_ok-imports.ensures.names;
     }
 
 pub make-requires : goal.make-requires
 make-requires c =
     in_range c.types_of_terms.ensures.node c.args.program.now c.term.ensures.checked c.in_ok-imports.imports.items c.in_ok-outcome.outcome
     c.in_ok-wires.wires.parts.items
-    (c.in_ok-imports.ensures ∙ ap (λ (is : List SeenImport). map sources.import_of is) c.imports-2.ensures)
+    (c.in_ok-imports.ensures.imports ∙ ap (λ (is : List SeenImport). map sources.import_of is) c.imports-2.ensures)
     (c.in_ok-outcome.ensures ∙ ap (λ (t : Ty). type_of t) c.result.ensures)
     (c.in_ok-wires.ensures.parts ∙ (λ i. all_parts (map sources.import_of (c.imports.ensures i)) (node_seen (c.term.ensures.value i))))
     c.in_ok-wires.ensures.plain
@@ -89,7 +130,7 @@ only_memory-requires c =
     subst (λ (us : List Tie). IsThin us) (sym ties) (thin (program_in c.args.program.now) (node_seen c.args.program.now.term) c.term.ensures.checked.term)
     in
     let known : AreTables ts c.in_ok-tables.tables =
-    subst (λ (us : List Tie). AreTables us c.in_ok-tables.tables) c.deref.ensures.value c.in_ok-tables.ensures
+    subst (λ (us : List Tie). AreTables us c.in_ok-tables.tables) c.deref.ensures.value c.in_ok-tables.ensures.tables
     in
     let found : map joint_of s.joints ≡ all_found (bare s.imports s.outcome s.parts) (far_by c.in_ok-tables.tables) ts =
     c.in_ok-joints.ensures

@@ -24,8 +24,7 @@ returns-clause-can c = (
           of_parts = All-from_recursion IsInRange (kinds.Skip ∷ []) (tt, tt);
         };
     right = (((0, 0, refl, refl), refl, refl), tt);
-    result = tt;
-    ground = λ k d low. absurd (omega (arith, low));
+    ports = record { result = tt; ground = λ k d low. absurd (omega (arith, low)) };
     names = λ i j a b low is there same. one_name (codes "main") i j a b low is there;
   },
 )

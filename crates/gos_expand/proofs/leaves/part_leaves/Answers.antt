@@ -9,7 +9,7 @@ use Rattle.gos_plan.specs.Wires.{HoldNets}
 use Rattle.gos_expand.specs.declared.gates.Gates.{Gates}
 use Rattle.gos_expand.specs.Gates.{outs_of, part_size}
 use Rattle.gos_expand.specs.inner.Dispatch.{gates_for, cells_in, outs_in, IsLaidOut}
-use Rattle.gos_expand.proofs.CountLemmas.{part_length}
+use Rattle.gos_expand.proofs.GroupLemmas.{layout_length}
 use Rattle.gos_expand.proofs.NumberLemmas.{cells_for}
 use Rattle.gos_expand.proofs.LeafLemmas.{outs_for, nets_go_out, out_bare, out_bearing, some_there, wire_there, found_in_front}
 use Rattle.gos_expand.proofs.leaves.part_leaves.Goals.{then-bits-eq0, else-bits-eq0}
@@ -20,7 +20,7 @@ numbered : (g : Gates) (k : Kind) (b : ℕ) (i : Incoming) → g ≡ gates_for k
 numbered g k b i is room =
     let cells = ap (λ (h : Gates). length (cells_in h b i)) is in
     let same = ap (λ (f : ℕ → Incoming → List Cell). length (f b i)) (cells_for k) in
-    let size = part_length (part_of k) b i in
+    let size = layout_length (part_of k) b i in
     omega (arith, room, cells, same, size)
 
 pub outs-requires-clause-numbered : goal.outs-requires-clause-numbered

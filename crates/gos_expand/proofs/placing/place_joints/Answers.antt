@@ -1,12 +1,14 @@
-use Rattle.std.proofs.Common.{◌∙◌, ℕ, ap, arith, slice_index_or}
+use Rattle.std.proofs.Common.{◌≡◌, ◌∙◌, ℕ, length, ap, arith, slice_index_or}
 use Rattle.gos_pool.specs.Pools.{Pool}
 use Rattle.gos_plan.specs.declared.plan.Joint as declared
 use Rattle.gos_plan.specs.declared.plan.End.TheVariants as ends
 use Rattle.gos_plan.specs.Plans.{Joint, Plan}
 use Rattle.gos_plan.specs.Seen.{plan_of, joint_of}
-use Rattle.gos_expand.specs.Starts.{keep_all}
+use Rattle.gos_expand.specs.Starts.{keep_all, joint_size}
 use Rattle.gos_expand.specs.Laid.{joint_cells}
-use Rattle.gos_expand.proofs.CountLemmas.{indexed_mapped, right_there, asking_there, serving_there, joint_length}
+use Rattle.gos_expand.proofs.CountLemmas.{indexed_mapped, asking_there, serving_there}
+use Rattle.gos_expand.proofs.GroupLemmas.{joint_length}
+use Rattle.gos_expand.proofs.SeatLemmas.{joint_fits}
 use Rattle.gos_expand.proofs.PlacingLemmas.{block_placed, block_fits}
 use Rattle.gos_expand.proofs.placing.place_joints.Goals as goal
 
@@ -15,14 +17,14 @@ place_joint-requires-clause-asks c =
     let p : Plan = plan_of c.args.plan.now in
     let none : declared.Joint = record { asks = ends.Part 0 0; serves = ends.Part 0 0 } in
     let there = indexed_mapped joint_of c.loop-index.index c.joints-joints.result.now c.args.plan.now.joints none c.joints-joints.ensures.value c.loop-index-test.true in
-    asking_there p _ (right_there p _ p.joints c.loop-index.index (joint_of (slice_index_or c.joints-joints.result.now c.loop-index.index none)) c.joints-joints.ensures.right there)
+    asking_there p _ (joint_fits p _ p.joints c.loop-index.index (joint_of (slice_index_or c.joints-joints.result.now c.loop-index.index none)) c.joints-joints.ensures.right there)
 
 pub place_joint-requires-clause-serves : goal.place_joint-requires-clause-serves
 place_joint-requires-clause-serves c =
     let p : Plan = plan_of c.args.plan.now in
     let none : declared.Joint = record { asks = ends.Part 0 0; serves = ends.Part 0 0 } in
     let there = indexed_mapped joint_of c.loop-index.index c.joints-joints.result.now c.args.plan.now.joints none c.joints-joints.ensures.value c.loop-index-test.true in
-    serving_there p _ (right_there p _ p.joints c.loop-index.index (joint_of (slice_index_or c.joints-joints.result.now c.loop-index.index none)) c.joints-joints.ensures.right there)
+    serving_there p _ (joint_fits p _ p.joints c.loop-index.index (joint_of (slice_index_or c.joints-joints.result.now c.loop-index.index none)) c.joints-joints.ensures.right there)
 
 pub place_joint-requires-clause-spare : goal.place_joint-requires-clause-spare
 place_joint-requires-clause-spare c =
@@ -33,7 +35,7 @@ place_joint-requires-clause-spare c =
     let there = indexed_mapped joint_of i c.joints-joints.result.now c.args.plan.now.joints none c.joints-joints.ensures.value c.loop-index-test.true in
     let same = ap (λ (q : Pool). q.spare) c.begin-region.ensures.begun in
     let spare = c.requires.spare in
-    let size = joint_length p i joint in
+    let size : length (joint_cells keep_all p i joint) ≡ joint_size keep_all p 0 joint = joint_length p i joint in
     let fits = block_fits (joint_cells keep_all p) i 0 1 p.joints joint c.begin-region.new.self c.loop-index.pool there c.loop-index.invariant.0 (omega (arith, same, spare)) in
     omega (arith, fits, size)
 

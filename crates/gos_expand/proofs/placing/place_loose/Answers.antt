@@ -1,13 +1,15 @@
-use Rattle.std.proofs.Common.{◌∙◌, ℕ, List, ap, subst, arith, slice_index_or, map, length}
+use Rattle.std.proofs.Common.{◌≡◌, ◌∙◌, ℕ, List, ap, subst, arith, slice_index_or, map, length}
 use Rattle.gos_pool.specs.Pools.{Pool}
 use Rattle.gos_plan.specs.declared.plan.End.TheVariants as ends
 use Rattle.gos_plan.specs.Plans.{End, Plan}
 use Rattle.gos_plan.specs.Seen.{plan_of, end_of}
 use Rattle.gos_expand.specs.Blocks.{nothing, blocks}
+use Rattle.gos_expand.specs.Starts.{loose_size}
 use Rattle.gos_expand.specs.inner.Tokens.{Places}
 use Rattle.gos_expand.specs.inner.Arrivals.{start_at}
 use Rattle.gos_expand.specs.Laid.{loose_cells}
-use Rattle.gos_expand.proofs.CountLemmas.{indexed_mapped, loose_length}
+use Rattle.gos_expand.proofs.CountLemmas.{indexed_mapped}
+use Rattle.gos_expand.proofs.GroupLemmas.{loose_length}
 use Rattle.gos_expand.proofs.PlacingLemmas.{block_placed, block_fits}
 use Rattle.gos_expand.proofs.placing.place_loose.Goals as goal
 
@@ -21,7 +23,7 @@ place_nothing-requires-clause-spare c =
     let same = ap (λ (q : Pool). q.spare) c.begin-region.ensures.begun in
     let spare = c.requires.spare in
     let all = ap (λ (ds : List End). length (blocks (loose_cells p) 0 ds)) c.requires.numbered.of_loose in
-    let size = loose_length p i end in
+    let size : length (loose_cells p i end) ≡ loose_size p 0 end = loose_length p i end in
     let bits = c.bits_at-bits.ensures p (start_at p) c.requires.numbered.of_arrivals in
     let fits = block_fits (loose_cells p) i 0 1 es end c.begin-region.new.self c.loop-index.pool there c.loop-index.invariant.0 (omega (arith, same, spare, all)) in
     rw bits (omega (arith, fits, size))

@@ -14,7 +14,7 @@ use Rattle.gos_expand.specs.Starts.{keep_all}
 use Rattle.gos_expand.specs.inner.Tokens.{Places}
 use Rattle.gos_expand.specs.Laid.{incoming, part_cells}
 use Rattle.gos_expand.proofs.BlockLemmas.{item_mapped}
-use Rattle.gos_expand.proofs.CountLemmas.{part_length}
+use Rattle.gos_expand.proofs.GroupLemmas.{layout_length}
 use Rattle.gos_expand.proofs.EndLemmas.{part_ends_within}
 use Rattle.gos_expand.proofs.NumberLemmas.{cells_for}
 use Rattle.gos_expand.proofs.PlacingLemmas.{region_placed}
@@ -26,7 +26,7 @@ laid : (g : Gates) (k : Kind) (b : ℕ) (i : Incoming) → g ≡ gates_for k →
 laid g k b i is = ap (λ (h : Gates). cells_in h b i) is ∙ ap (λ (f : ℕ → Incoming → List Cell). f b i) (cells_for k)
 
 sized : (g : Gates) (k : Kind) (b : ℕ) (i : Incoming) → g ≡ gates_for k → length (cells_in g b i) ≡ part_size (part_of k)
-sized g k b i is = ap (λ (cs : List Cell). length cs) (laid g k b i is) ∙ part_length (part_of k) b i
+sized g k b i is = ap (λ (cs : List Cell). length cs) (laid g k b i is) ∙ layout_length (part_of k) b i
 
 pub outs-requires-clause-numbered : goal.outs-requires-clause-numbered
 outs-requires-clause-numbered c =

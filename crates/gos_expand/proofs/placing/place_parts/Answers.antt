@@ -8,8 +8,8 @@ use Rattle.gos_expand.specs.Blocks.{blocks}
 use Rattle.gos_expand.specs.Gates.{part_size}
 use Rattle.gos_expand.specs.Starts.{keep_all, part_start}
 use Rattle.gos_expand.specs.Laid.{incoming, part_cells}
-use Rattle.gos_expand.proofs.BlockLemmas.{blocks_length}
-use Rattle.gos_expand.proofs.CountLemmas.{part_length}
+use Rattle.gos_expand.proofs.GroupLemmas.{layout_length, part_length}
+use Rattle.gos_expand.proofs.StandLemmas.{length_blocks}
 use Rattle.gos_expand.proofs.LeafLemmas.{some_there}
 use Rattle.gos_expand.proofs.PlacingLemmas.{block_placed, block_fits}
 use Rattle.gos_expand.proofs.placing.place_parts.Goals as goal
@@ -19,7 +19,7 @@ place_part-requires-clause-start c =
     let p : Plan = plan_of c.args.plan.now in
     let i : ℕ = c.loop-index.index in
     let so_far : List Cell = blocks (part_cells keep_all p) 0 (take i p.parts) in
-    let size = blocks_length (part_cells keep_all p) (λ _ k. part_size k) 0 (take i p.parts) (λ m k. part_length k (part_start keep_all p m) (incoming keep_all p m)) in
+    let size = length_blocks (part_cells keep_all p) (λ _ k. part_size k) (part_length p) 0 (take i p.parts) in
     let all = length-append c.args.pool.now.cells so_far in
     let cells = ap (λ (cs : List Cell). length cs) c.loop-index.invariant.cells in
     let start = c.requires.start in
@@ -29,7 +29,7 @@ pub place_part-requires-clause-spare : goal.place_part-requires-clause-spare
 place_part-requires-clause-spare c = λ k there.
     let p : Plan = plan_of c.args.plan.now in
     let i : ℕ = c.loop-index.index in
-    let size = part_length k (part_start keep_all p i) (incoming keep_all p i) in
+    let size = layout_length k (part_start keep_all p i) (incoming keep_all p i) in
     let spare = c.requires.spare in
     let within : i < length c.args.plan.now.parts = subst (λ (ks : List Kind). i < length ks) c.parts-index-end.ensures.value c.loop-index-test.true in
     let fits = block_fits (part_cells keep_all p) i i (length c.args.plan.now.parts) p.parts k c.args.pool.now c.loop-index.pool there c.loop-index.invariant spare in

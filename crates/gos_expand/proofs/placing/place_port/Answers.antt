@@ -1,14 +1,17 @@
-use Rattle.std.proofs.Common.{◌∙◌, ℕ, List, sym, ap, subst, arith, length}
+use Rattle.std.proofs.Common.{◌≡◌, ◌∙◌, ℕ, List, sym, ap, subst, arith, length}
 use Rattle.gos_netlist.specs.Nets.{Cell}
 use Rattle.gos_netlist.specs.Seen.{side_of}
+use Rattle.gos_plan.specs.Kinds.{Contact}
 use Rattle.gos_plan.specs.Contacts.{contact_held}
 use Rattle.gos_plan.specs.Plans.{End, Plan}
 use Rattle.gos_plan.specs.Seen.{plan_of, end_of}
-use Rattle.gos_expand.specs.Starts.{Outer, keep_all}
+use Rattle.gos_expand.specs.Blocks.{Nets}
+use Rattle.gos_expand.specs.Starts.{Outer, keep_all, shake_size}
 use Rattle.gos_expand.specs.inner.Tokens.{held_nets, Places}
-use Rattle.gos_expand.specs.Laid.{shake_cells}
+use Rattle.gos_expand.specs.Laid.{side_cells, shake_cells}
 use Rattle.gos_expand.specs.inner.Outers.{outer_at}
-use Rattle.gos_expand.proofs.CountLemmas.{side_length, shake_placed}
+use Rattle.gos_expand.proofs.CountLemmas.{shake_placed}
+use Rattle.gos_expand.proofs.GroupLemmas.{shake_length}
 use Rattle.gos_expand.proofs.LeafLemmas.{some_there}
 use Rattle.gos_expand.proofs.PlacingLemmas.{block_placed, block_fits}
 use Rattle.gos_expand.proofs.placing.place_port.Goals as goal
@@ -26,7 +29,9 @@ place_shake-requires-clause-spare c =
     let same =
     shake_placed p c.args.place h found.0 c.in-Some.entry (side_of c.side.result) (held_nets c.arrives-nets.result) e found.1 told c.end-end.ensures c.side.ensures c.arrives-nets.ensures in
     let counts = ap (λ (cs : List Cell). length cs) same in
-    let size = side_length (side_of c.side.result) (contact_held c.in-Some.entry.contact) (held_nets c.arrives-nets.result) in
+    let contact : Contact = contact_held c.in-Some.entry.contact in
+    let nets : Nets = held_nets c.arrives-nets.result in
+    let size : length (side_cells (side_of c.side.result) contact nets) ≡ shake_size 0 contact = shake_length (side_of c.side.result) contact nets in
     let spare = c.requires.spare in
     let fits =
     block_fits (shake_cells keep_all p o) h 0 0 o.contacts found.0 c.args.pool.now c.loop-shake.pool found.1 c.loop-shake.invariant.0 (omega (arith, spare)) in

@@ -13,7 +13,8 @@ use Rattle.gos_expand.specs.Laid.{port_cells, joint_cells, loose_cells, part_cel
 use Rattle.gos_expand.specs.Acceptance.{CanBeLaid}
 use Rattle.gos_expand.proofs.AcceptLemmas.{laid_accepted}
 use Rattle.gos_expand.proofs.FewLemmas.{laid_small}
-use Rattle.gos_expand.proofs.WholeLemmas.{four_groups, ports_length, joints_length, all_loose_length, parts_length}
+use Rattle.gos_expand.proofs.GroupLemmas.{ports_long, joints_long, loose_long, parts_long}
+use Rattle.gos_expand.proofs.WholeLemmas.{four_groups}
 use Rattle.gos_expand.proofs.whole.expand.Goals as goal
 
 pub place_ports-requires-clause-spare : goal.place_ports-requires-clause-spare
@@ -21,7 +22,7 @@ place_ports-requires-clause-spare c =
     let p : Plan = plan_of c.args.plan.now in
     let spare = c.in_ok-reserve.ensures.spare in
     let whole = c.in_ok-numbering.ensures.whole in
-    let ports = ports_length p in
+    let ports = ports_long p in
     omega (arith, spare, whole, ports)
 
 pub place_joints-requires-clause-spare : goal.place_joints-requires-clause-spare
@@ -29,8 +30,8 @@ place_joints-requires-clause-spare c =
     let p : Plan = plan_of c.args.plan.now in
     let spare = c.in_ok-reserve.ensures.spare in
     let whole = c.in_ok-numbering.ensures.whole in
-    let ports = ports_length p in
-    let joints = joints_length p in
+    let ports = ports_long p in
+    let joints = joints_long p in
     let first = c.place_ports.ensures.spare in
     omega (arith, spare, whole, ports, joints, first)
 
@@ -39,9 +40,9 @@ place_loose-requires-clause-spare c =
     let p : Plan = plan_of c.args.plan.now in
     let spare = c.in_ok-reserve.ensures.spare in
     let whole = c.in_ok-numbering.ensures.whole in
-    let ports = ports_length p in
-    let joints = joints_length p in
-    let loose = all_loose_length p in
+    let ports = ports_long p in
+    let joints = joints_long p in
+    let loose = loose_long p in
     let first = c.place_ports.ensures.spare in
     let second = c.place_joints.ensures.placed.spare in
     omega (arith, spare, whole, ports, joints, loose, first, second)
@@ -49,9 +50,9 @@ place_loose-requires-clause-spare c =
 pub place_parts-requires-clause-start : goal.place_parts-requires-clause-start
 place_parts-requires-clause-start c =
     let p : Plan = plan_of c.args.plan.now in
-    let ports = ports_length p in
-    let joints = joints_length p in
-    let loose = all_loose_length p in
+    let ports = ports_long p in
+    let joints = joints_long p in
+    let loose = loose_long p in
     let none = ap (λ (q : Pool). length q.cells) c.new-pool.ensures in
     let same = ap (λ (q : Pool). length q.cells) c.in_ok-reserve.ensures.lists in
     let first = ap (λ (cs : List Cell). length cs) c.place_ports.ensures.cells in
@@ -68,10 +69,10 @@ place_parts-requires-clause-spare c =
     let spare = c.in_ok-reserve.ensures.spare in
     let whole = c.in_ok-numbering.ensures.whole in
     let count = ap (λ (ks : List Kind). length ks) c.parts.ensures.value in
-    let ports = ports_length p in
-    let joints = joints_length p in
-    let loose = all_loose_length p in
-    let parts = parts_length p in
+    let ports = ports_long p in
+    let joints = joints_long p in
+    let loose = loose_long p in
+    let parts = parts_long p in
     let first = c.place_ports.ensures.spare in
     let second = c.place_joints.ensures.placed.spare in
     let third = c.place_loose.ensures.spare in
@@ -88,10 +89,10 @@ returns-clause-laid c =
 -- what the caller sees to, and what each plan is, are what the laws ask
 pub returns-clause-accepted : goal.returns-clause-accepted
 returns-clause-accepted c =
-    let can : CanBeLaid c.args.plan.now c.args.root.now = record { in_range = c.parts.ensures.in_range; right = c.place_joints.ensures.right; result = c.requires.result; ground = c.requires.ground; names = c.requires.names } in
+    let can : CanBeLaid c.args.plan.now c.args.root.now = record { in_range = c.parts.ensures.in_range; right = c.place_joints.ensures.right; ports = record { result = c.requires.result; ground = c.requires.ground }; names = c.requires.names } in
     subst IsAccepted (sym (returns-clause-laid c)) (laid_accepted c.args.plan.now c.args.root.now can)
 
 pub returns-clause-few : goal.returns-clause-few
 returns-clause-few c =
-    let can : CanBeLaid c.args.plan.now c.args.root.now = record { in_range = c.parts.ensures.in_range; right = c.place_joints.ensures.right; result = c.requires.result; ground = c.requires.ground; names = c.requires.names } in
+    let can : CanBeLaid c.args.plan.now c.args.root.now = record { in_range = c.parts.ensures.in_range; right = c.place_joints.ensures.right; ports = record { result = c.requires.result; ground = c.requires.ground }; names = c.requires.names } in
     subst (λ (net : Netlist). length net.cells ≤ plan_size (plan_of c.args.plan.now)) (sym (returns-clause-laid c)) (laid_small c.args.plan.now c.args.root.now can)

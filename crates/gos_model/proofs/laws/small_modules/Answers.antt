@@ -1,4 +1,4 @@
-use Rattle.gos_model.proofs.ModuleLemmas.{weights, types, shared, links}
+use Rattle.gos_model.proofs.ModuleLemmas.{weights, types, shared, links, link_weighs}
 use Rattle.gos_model.proofs.laws.small_modules.Goals as goal
 
 pub returns-clause-weights : goal.returns-clause-weights
@@ -12,3 +12,6 @@ returns-clause-shared c = shared
 
 pub returns-clause-links : goal.returns-clause-links
 returns-clause-links c = links
+
+pub returns-clause-weighs : goal.returns-clause-weighs
+returns-clause-weighs c = link_weighs

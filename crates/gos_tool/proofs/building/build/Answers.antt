@@ -7,7 +7,7 @@ use Rattle.gos_command.proofs.EndLemmas.{of_some, of_some_both, of_result, of_st
 use Rattle.gos_outside.specs.OtherFiles.{OthersSame}
 use Rattle.gos_tool.specs.BuildFile.{build_of}
 use Rattle.gos_tool.specs.Command.{SaysBuild}
-use Rattle.gos_tool.specs.Built.{IsModuleBuilt, IsBuilt, RejectsModule, Rejects, IsModuleCall, IsBuildCall}
+use Rattle.gos_tool.specs.Built.{IsModuleBuilt, IsBuilt, RejectsModule, Rejects, IsModuleCall, IsModuleCutShort}
 use Rattle.gos_tool.proofs.BuildLemmas.{says_build, keeps_unnamed}
 use Rattle.gos_tool.proofs.building.build.Given.{Over}
 use Rattle.gos_tool.proofs.building.build.Goals as goal
@@ -44,16 +44,20 @@ returns-in-Ok-clause-rejected g c =
 
 pub returns-in-Ok-clause-failed_call : goal.returns-in-Ok-clause-failed_call
 returns-in-Ok-clause-failed_call g c = λ failed.
-    let own = c.args.own.now in
     let b = build_of c.in-Ok.build in
-    let old = g.S.Store.contents c.args.store.now in
+    let new = g.S.Store.contents c.build_module.new.store in
     let fault = g.S.Store.last_fault c.build_module.new.store in
-    of_some_both (λ files. SaysBuild files own b) (λ files. IsModuleCall files b fault) (λ files. IsBuildCall files own fault) old
-    (λ files said call. inr (b, said, call)) (said_by g c) (subst (λ told. IfSome told (λ files. IsModuleCall files b fault)) c.in_ok-text.ensures.same_files (c.build_module.ensures.failed_call failed))
+    inr (b, said_by g c, subst (λ told. IsModuleCall told new b fault) c.in_ok-text.ensures.same_files (c.build_module.ensures.failed_call failed))
+
+pub returns-in-Ok-clause-memory_files : goal.returns-in-Ok-clause-memory_files
+returns-in-Ok-clause-memory_files g c = λ failed.
+    let b = build_of c.in-Ok.build in
+    let new = g.S.Store.contents c.build_module.new.store in
+    inr (b, said_by g c, subst (λ told. IsModuleCutShort told new b) c.in_ok-text.ensures.same_files (c.build_module.ensures.memory_files failed))
 
 pub returns-in-Ok-clause-others : goal.returns-in-Ok-clause-others
 returns-in-Ok-clause-others g c =
     let b = build_of c.in-Ok.build in
     let old = g.S.Store.contents c.args.store.now in
     let new = g.S.Store.contents c.build_module.new.store in
-    keeps_unnamed c.args.own.now b old new (said_by g c) (subst (λ told. OthersSame (b.net ∷ b.trace ∷ []) told new) c.in_ok-text.ensures.same_files c.build_module.ensures.others)
+    keeps_unnamed c.args.own.now b old new (said_by g c) (subst (λ told. OthersSame (b.net ∷ b.verilog ∷ b.trace ∷ []) told new) c.in_ok-text.ensures.same_files c.build_module.ensures.others)

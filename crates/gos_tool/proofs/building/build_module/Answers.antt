@@ -7,8 +7,8 @@ use Rattle.gos_command.proofs.EndLemmas.{of_some, of_some_both, of_result, of_st
 use Rattle.gos_tool.specs.BuildFile.{build_of}
 use Rattle.gos_tool.specs.inner.SourceFileSeen.{sequence_of}
 use Rattle.gos_tool.specs.Command.{SaysModule}
-use Rattle.gos_tool.specs.Built.{IsCompiled, IsModuleBuilt, RejectsPulses, RejectsModule}
-use Rattle.gos_tool.proofs.BuildLemmas.{says_module}
+use Rattle.gos_tool.specs.Built.{IsCompiled, IsModuleBuilt, RejectsPulses, RejectsModule, IsCircuitCall}
+use Rattle.gos_tool.proofs.BuildLemmas.{says_module, module_cut_short}
 use Rattle.gos_tool.proofs.building.build_module.Given.{Over}
 use Rattle.gos_tool.proofs.building.build_module.Goals as goal
 
@@ -42,3 +42,20 @@ returns-in-Ok-clause-rejected g c =
     (λ fault line h. of_some_both (λ files. SaysModule files b s) (λ files. RejectsPulses files new b s fault line) (λ files. RejectsModule files new b fault line) old
     (λ files said wrong. inr (s, said, wrong)) (said_by g c) (subst (λ told. IfSome told (λ files. RejectsPulses files new b s fault line)) c.in_ok-text.ensures.same_files h))
     c.build_circuit.ensures.rejected
+
+pub returns-in-Ok-clause-failed_call : goal.returns-in-Ok-clause-failed_call
+returns-in-Ok-clause-failed_call g c = λ failed.
+    let b = build_of c.args.build.now in
+    let s = sequence_of c.in-Ok.read in
+    let new = g.S.Store.contents c.build_circuit.new.store in
+    let fault = g.S.Store.last_fault c.build_circuit.new.store in
+    inr (s, said_by g c, subst (λ told. IsCircuitCall told new b s fault) c.in_ok-text.ensures.same_files (c.build_circuit.ensures.failed_call failed))
+
+pub returns-in-Ok-clause-memory_files : goal.returns-in-Ok-clause-memory_files
+returns-in-Ok-clause-memory_files g c = λ failed.
+    let b = build_of c.args.build.now in
+    let s = sequence_of c.in-Ok.read in
+    let old = g.S.Store.contents c.args.store.now in
+    let mid = g.S.Store.contents c.read_file.new.store in
+    let new = g.S.Store.contents c.build_circuit.new.store in
+    module_cut_short old mid new b s c.in_ok-text.ensures.same_files (said_by g c) (c.build_circuit.ensures.memory_files failed)

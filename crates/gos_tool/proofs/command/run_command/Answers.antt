@@ -3,12 +3,12 @@ use Rattle.std.specs.Prelude.{IfErr}
 use Rattle.gos_command.specs.Ends.{IfStopped}
 use Rattle.gos_tool.specs.Run.{IsRejected, IsCall}
 use Rattle.gos_tool.specs.inner.CommandSeen.{meant}
-use Rattle.gos_tool.proofs.EndLemmas.{sim_rejected}
+use Rattle.gos_tool.proofs.EndLemmas.{sim_rejected, compile_rejected}
 use Rattle.gos_tool.proofs.command.run_command.Goals as goal
 
 pub returns-in-Sim-clause-failed_call : goal.returns-in-Sim-clause-failed_call
 returns-in-Sim-clause-failed_call g c = λ failed.
-    subst (λ command. IsCall (meant command) (g.S.Store.contents c.args.store.now) (g.S.Store.last_fault c.sim.new.store)) (sym c.in-Sim.is) (c.sim.ensures.failed_file failed, c.sim.ensures.failed_call failed)
+    subst (λ command. IsCall (meant command) (g.S.Store.contents c.args.store.now) (g.S.Store.contents c.sim.new.store) (g.S.Store.last_fault c.sim.new.store)) (sym c.in-Sim.is) (c.sim.ensures.failed_call failed)
 
 pub returns-in-Sim-clause-rejected : goal.returns-in-Sim-clause-rejected
 returns-in-Sim-clause-rejected g c =
@@ -16,3 +16,14 @@ returns-in-Sim-clause-rejected g c =
     let new = g.S.Store.contents c.sim.new.store in
     subst (λ command. IfErr c.sim.result (λ stop. IfStopped stop (IsRejected (meant command) old new))) (sym c.in-Sim.is)
     (sim_rejected c.in-Sim.net.now c.in-Sim.pulses.now c.in-Sim.trace.now old new c.sim.result c.sim.ensures.rejected_files c.sim.ensures.file c.sim.ensures.rejected)
+
+pub returns-in-Compile-clause-failed_call : goal.returns-in-Compile-clause-failed_call
+returns-in-Compile-clause-failed_call g c = λ failed.
+    subst (λ command. IsCall (meant command) (g.S.Store.contents c.args.store.now) (g.S.Store.contents c.compile_source.new.store) (g.S.Store.last_fault c.compile_source.new.store)) (sym c.in-Compile.is) (c.compile_source.ensures.failed_call failed)
+
+pub returns-in-Compile-clause-rejected : goal.returns-in-Compile-clause-rejected
+returns-in-Compile-clause-rejected g c =
+    let old = g.S.Store.contents c.args.store.now in
+    let new = g.S.Store.contents c.compile_source.new.store in
+    subst (λ command. IfErr c.compile_source.result (λ stop. IfStopped stop (IsRejected (meant command) old new))) (sym c.in-Compile.is)
+    (compile_rejected c.in-Compile.source.now c.in-Compile.object.now old new c.compile_source.result c.compile_source.ensures.rejected_files c.compile_source.ensures.file c.compile_source.ensures.rejected)

@@ -3,7 +3,7 @@ use Rattle.std.specs.Prelude.{length}
 use Rattle.gos_types.specs.declared.types.Ty.{Ty}
 use Rattle.gos_plan.specs.Wires.{HoldNets}
 use Rattle.gos_share.specs.Share.{share_outs}
-use Rattle.gos_share.specs.Seen.{all_of}
+use Rattle.gos_share.specs.inner.Seen.{all_of}
 use Rattle.gos_share.proofs.SharingLemmas.{few_blocks, three_times, third, numbers, three_sides}
 use Rattle.gos_share.proofs.sharing.SharingMacro.outs.Goals as goal
 

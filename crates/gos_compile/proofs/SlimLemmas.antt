@@ -1,0 +1,126 @@
+-- The plan of a checked module is slim.
+--
+-- Read first: LoadLemmas, EndLemmas.
+use Rattle.std.specs.Prelude.{◌≡◌, ◌≤◌, List, [], ◌∷◌, ◌++◌, All, length, map, sum_by}
+use Rattle.std.proofs.Common.{refl, ap, sym, ◌∙◌, arith, length-append}
+use Rattle.std.proofs.lemmas.List.{length-map}
+use Rattle.std.proofs.lemmas.List.Elements.{All-nil, All-cons}
+use Rattle.std.proofs.lemmas.List.Sums.{sum_by-cons}
+use Rattle.gos_types.specs.Types.{Type', Com, Exp, Var, Pair, Fun, type_of}
+use Rattle.gos_syntax.specs.Modules.{SeenImport}
+use Rattle.gos_model.specs.Typing.{Imported, Imports}
+use Rattle.gos_model.specs.Weight as weights
+use Rattle.gos_model.specs.Laws.{NodeHasType}
+use Rattle.gos_model.specs.Sources.{import_of}
+use Rattle.gos_check.specs.Accepted.{AreWritten}
+use Rattle.gos_check.specs.Checked.{SeenLinear, IsChecked, program_in}
+use Rattle.gos_check.specs.Linearity.{import_at}
+use Rattle.gos_check.specs.Nodes.{Numbered, node_seen}
+use Rattle.gos_plan.specs.Kinds as kinds
+use Rattle.gos_plan.specs.Kinds.{Part, part_contacts, contacts_of, other_side}
+use Rattle.gos_plan.specs.Plans.{Plan}
+use Rattle.gos_realises.specs.Regular.{count}
+use Rattle.gos_realises.specs.Slim.{all_shakes, IsSlim}
+use Rattle.gos_compile.specs.Wiring.{type_of_node, all_parts, all_ties, IsPlanOf}
+use Rattle.gos_compile.specs.inner.Found.{ShakesBelow}
+use Rattle.gos_compile.specs.inner.Loads.{HasFewShakes}
+use Rattle.gos_compile.proofs.BoundLemmas.{same_count}
+use Rattle.gos_compile.proofs.EndLemmas.{imports_shakes, few_joints}
+use Rattle.gos_compile.proofs.LoadLemmas.{counters, few_ends}
+use Rattle.gos_compile.proofs.RangeLemmas.{node_typed}
+use Rattle.gos_compile.proofs.RowLemmas.{count_pair, count_fun}
+use Rattle.gos_compile.proofs.ShakeLemmas.{CountsBelow, module_below}
+
+-- each import has a handshake, which is in the weight
+some_shake : (t : Type') → 1 ≤ count t
+some_shake Com = omega arith
+some_shake (Exp w) = omega arith
+some_shake (Var w) = omega arith
+some_shake (Pair a b) = let one = some_shake a in let all = count_pair a b in omega (arith, one, all)
+some_shake (Fun a b) = let one = some_shake a in let all = count_fun a b in omega (arith, one, all)
+
+pub imports_weigh : (is : Imports) → (length is ≤ imports_shakes is) × (imports_shakes is ≡ sum_by (λ (x : Imported). weights.count x.ty) is)
+imports_weigh [] = (omega arith, refl)
+imports_weigh (i ∷ is) =
+    let one = some_shake i.ty in
+    let same = same_count i.ty in
+    let (few, rest) = imports_weigh is in
+    let first = sum_by-cons (λ (x : Imported). weights.count x.ty) i is in
+    (omega (arith, one, few), omega (arith, same, rest, first))
+
+-- and so has each part
+part_shake : (k : Part) → 1 ≤ length (part_contacts k)
+part_shake (kinds.Share t) =
+    let one = length-append (other_side (contacts_of t)) (contacts_of t ++ contacts_of t) in
+    let two = length-append (contacts_of t) (contacts_of t) in
+    let some = some_shake t in
+    omega (arith, one, two, some)
+part_shake kinds.Skip = omega arith
+part_shake (kinds.Lit w k) = omega arith
+part_shake (kinds.Seq v) = omega arith
+part_shake kinds.Par = omega arith
+part_shake (kinds.If v) = omega arith
+part_shake kinds.While = omega arith
+part_shake (kinds.Op op w) = omega arith
+part_shake (kinds.Not w) = omega arith
+part_shake (kinds.Assign w) = omega arith
+part_shake (kinds.Deref w) = omega arith
+part_shake (kinds.Local w v) = omega arith
+
+pub parts_shake : (ks : List Part) → length ks ≤ all_shakes ks
+parts_shake [] = omega arith
+parts_shake (k ∷ ks) = let one = part_shake k in let rest = parts_shake ks in omega (arith, one, rest)
+
+-- the plan of a checked module
+pub is_slim : NodeHasType → (l : SeenLinear) → IsChecked l → (p : Plan)
+    → IsPlanOf (program_in l).imports (type_of l.result) l.weight (node_seen l.term) p → IsSlim p
+is_slim law l c p plan =
+    let is : Imports = (program_in l).imports in
+    let m : Numbered = node_seen l.term in
+    let ends = few_ends l c in
+    let (few, weigh) = imports_weigh is in
+    let joined = few_joints p plan.right in
+    let result : count p.outcome ≡ count (type_of_node m) =
+    ap (λ (t : Type'). count t) (plan.outcome ∙ sym (node_typed law is [] (import_at is) m (type_of l.result) c.term.types c.typed))
+    in
+    let shakes : all_shakes p.parts ≡ all_shakes (all_parts is m) = ap (λ (ks : List Part). all_shakes ks) plan.parts in
+    let parts : length p.parts ≡ length (all_parts is m) = ap (λ (ks : List Part). length ks) plan.parts in
+    let imports : length p.imports ≡ length is = ap (λ (xs : Imports). length xs) plan.imports in
+    let of_imports : imports_shakes p.imports ≡ imports_shakes is = ap (λ (xs : Imports). imports_shakes xs) plan.imports in
+    let weight : p.weight ≡ l.weight = plan.weight in
+    record {
+      joints = omega (arith, ends, weigh, joined, result, shakes, of_imports, weight);
+      ends = omega (arith, ends, shakes, parts, weight);
+      imports = omega (arith, ends, few, weigh, imports, weight);
+    }
+
+-- few parts and joints
+pub few_parts : (l : SeenLinear) → IsChecked l → (p : Plan) → p.weight ≡ l.weight → IsSlim p → (length p.parts ≤ 16384) × (length p.joints ≤ 16384)
+few_parts l c p weight slim =
+    let some = parts_shake p.parts in
+    let ends = slim.ends in
+    let joints = slim.joints in
+    let limit = c.light in
+    (omega (arith, some, ends, limit, weight), omega (arith, joints, limit, weight))
+
+-- the handshakes of all points in a module's ties
+small_imports : (is : List SeenImport) → AreWritten is → CountsBelow 65536 (map import_of is)
+small_imports [] h = tt
+small_imports (i ∷ is) (written, h) = let small = written.1 in let same = same_count (type_of i.ty) in (omega (arith, small, same), small_imports is h)
+
+pub shakes_small : (l : SeenLinear) → IsChecked l → ShakesBelow 65536 (all_ties (program_in l).imports (node_seen l.term))
+shakes_small l c = module_below 65536 (program_in l).imports (node_seen l.term) (small_imports l.imports c.imports) (counters l c)
+
+-- what the walk asks of the imports
+pub all_small : (is : List SeenImport) → AreWritten is → All HasFewShakes is
+all_small [] h = All-nil HasFewShakes
+all_small (i ∷ is) (written, h) =
+    let small = written.1 in let same = same_count (type_of i.ty) in All-cons HasFewShakes i is (omega (arith, small, same)) (all_small is h)
+
+pub few_imports : (l : SeenLinear) → IsChecked l → length l.imports ≤ 65536
+few_imports l c =
+    let ends = few_ends l c in
+    let (few, weigh) = imports_weigh (program_in l).imports in
+    let same : length (program_in l).imports ≡ length l.imports = simp length-map refl in
+    let limit = c.light in
+    omega (arith, ends, few, weigh, same, limit)

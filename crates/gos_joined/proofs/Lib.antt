@@ -1,0 +1,6 @@
+mod ChainLemmas
+mod ReachLemmas
+mod StepLemmas
+mod OriginLemmas
+mod JoiningLemmas
+mod WholeLemmas

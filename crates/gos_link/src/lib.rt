@@ -1,0 +1,29 @@
+// Build files, and the linking of plans.
+//
+// A build file names the instances of a build, which of them serves which import of which other, the root and the files.
+// `read_build` reads one. Read `build.rt` first (what a build file says), then specs/BuildFile.antt, then `reading.rt`.
+#![tactic(auto)]
+
+mod build;
+mod fault;
+mod file_name;
+mod joining;
+#[cfg(test)]
+mod link_tests;
+mod linking;
+mod noting;
+mod opens;
+mod reading;
+#[cfg(test)]
+mod reading_tests;
+mod said;
+mod services;
+mod size;
+mod ties;
+mod whole;
+
+pub use build::{Bind, Build, Instance};
+pub use fault::LinkFault;
+pub use file_name::FileName;
+pub use linking::link;
+pub use reading::read_build;

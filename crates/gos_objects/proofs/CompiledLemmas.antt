@@ -1,0 +1,44 @@
+-- From the plan of a checked module to the object file of its source.
+use Rattle.std.proofs.Common.{◌≡◌, ◌∙◌, ℕ, List, Option, Some, None, ap, subst}
+use Rattle.std.specs.Prelude.{IfSome}
+use Rattle.gos_outside.specs.Files.{Files, bytes_at, with_file}
+use Rattle.gos_lines.specs.Lines.{Word}
+use Rattle.gos_types.specs.Types.{Type', type_of}
+use Rattle.gos_model.specs.Moves.{Program}
+use Rattle.gos_model.specs.Sources.{program_of}
+use Rattle.gos_check.specs.Checked.{SeenLinear}
+use Rattle.gos_check.specs.Nodes.{node_seen}
+use Rattle.gos_compile.specs.Wiring.{IsPlanOf}
+use Rattle.gos_command.specs.declared.report.Report.{Report}
+use Rattle.gos_objects.specs.Compiled.{IsObjectOf, IsCompiled}
+use Rattle.gos_objects.specs.inner.Typed.{IsTypedAs, IsPlanText}
+
+-- the text of the plan of a checked module is that of the source's module
+object_is : (source text : List ℕ) (linear : SeenLinear) (typed : IsTypedAs source linear) → IsPlanText linear text → IsObjectOf text typed.made
+object_is source text linear typed plan =
+    let m = typed.made in
+    let term = node_seen linear.term in
+    let of_program = subst (λ (p : Program). IsPlanOf p.imports (type_of linear.result) linear.weight term plan.plan) typed.program plan.made in
+    let of_type = subst (λ (t : Type'). IsPlanOf (program_of m).imports t linear.weight term plan.plan) typed.outcome of_program in
+    record {
+      term = term;
+      plan = plan.plan;
+      stands = typed.term;
+      made = subst (λ (w : ℕ). IsPlanOf (program_of m).imports (type_of m.result) w term plan.plan) typed.weight of_type;
+      is = plan.is;
+    }
+
+-- the object was written
+pub compiled : (told new : Option Files) (source object : Word) (linear : SeenLinear) (text : List ℕ) (report : Report)
+    → IfSome told (λ files. IsTypedAs (bytes_at files source) linear) → IsPlanText linear text → new ≡ with_file object text told
+    → report ≡ record { weight = Some linear.weight; run = None } → IfSome told (λ files. IsCompiled files new source object report)
+compiled None new source object linear text report typed plan wrote tells = tt
+compiled (Some files) new source object linear text report typed plan wrote tells =
+    record {
+      made = typed.made;
+      text = text;
+      says = typed.says;
+      compiled = object_is (bytes_at files source) text linear typed plan;
+      wrote = wrote;
+      tells = tells ∙ ap (λ (n : ℕ). record { weight = Some n; run = None }) typed.weight;
+    }

@@ -1,0 +1,28 @@
+-- What is known of the module of a source that was checked, and of the text of its plan.
+use Rattle.std.specs.Prelude.{◌≡◌, ℕ, List}
+use Rattle.gos_types.specs.Types.{type_of}
+use Rattle.gos_syntax.specs.Modules.{SeenModule}
+use Rattle.gos_model.specs.Sources.{program_of}
+use Rattle.gos_check.specs.Accepted.{weighed}
+use Rattle.gos_check.specs.Checked.{SeenLinear, program_in}
+use Rattle.gos_check.specs.Nodes.{node_seen}
+use Rattle.gos_check.specs.Linearity.{StandsFor}
+use Rattle.gos_plan.specs.Plans.{Plan}
+use Rattle.gos_plan.specs.ObjectText.{text_of}
+use Rattle.gos_compile.specs.Wiring.{IsPlanOf}
+use Rattle.gos_objects.specs.Checked.{SaysModule}
+
+-- the text is that of a module that is accepted, and for which this checked module stands
+pub record IsTypedAs (text : List ℕ) (linear : SeenLinear) : Type 0 where
+  pub made : SeenModule
+  pub says : SaysModule text made
+  pub program : program_in linear ≡ program_of made
+  pub outcome : type_of linear.result ≡ type_of made.result
+  pub weight : linear.weight ≡ weighed made
+  pub term : StandsFor (program_of made) (node_seen linear.term)
+
+-- the text is that of the plan of this checked module
+pub record IsPlanText (linear : SeenLinear) (text : List ℕ) : Type 0 where
+  pub plan : Plan
+  pub made : IsPlanOf (program_in linear).imports (type_of linear.result) linear.weight (node_seen linear.term) plan
+  pub is : text ≡ text_of plan

@@ -1,0 +1,79 @@
+// The gates of Skip, placed in a pool.
+ghost use Rattle.std.specs.Prelude.{[]};
+ghost use Rattle.gos_plan.specs.Kinds.{Skip};
+ghost use Rattle.gos_plan.specs.Gates.{nothing_pending};
+ghost use Rattle.gos_plan.specs.SmallGates.{skip_cells, skip_outs, skip_stands};
+ghost use Rattle.gos_plan.specs.laws.SkipKept.{skip_gates};
+
+use gos_netlist::{Cell, Gate, NetId};
+use gos_plan::{Macro, Wire};
+use gos_pool::{NetPool, Region};
+use std::test::Fail;
+
+// The gates of Skip: the request is the answer.
+#[derive(Drop)]
+struct Buffer;
+
+impl Macro for Buffer {
+    ghost part = { λ _. Skip };
+
+    ghost cells = { λ _. skip_cells };
+
+    ghost outs_at = { λ _. skip_outs };
+
+    ghost late = { λ _. [] };
+
+    ghost pending = { λ _. nothing_pending };
+
+    ghost stands = { λ _. skip_stands };
+
+    ghost is_laid_out = { λ _. Unit {0} };
+
+    fn size(&self) -> u32 {
+        1
+    }
+
+    fn outs(&self, base: NetId, wires: &mut [Wire]) {
+        wires[0].out_pulse = base;
+    }
+
+    fn place(&self, pool: &mut NetPool, region: &mut Region, wires: &[Wire]) {
+        let request = wires[0].in_pulse;
+        pool.place(
+            region,
+            Cell {
+                width: 1,
+                gate: Gate::Or(request, request),
+            },
+        );
+    }
+
+    ghost law = { λ _ _. skip_gates };
+}
+
+// A part in a pool of its own, with net 7 as the request that comes in.
+#[test]
+fn gates_of_a_skip_are_placed(rt: HostRuntime) -> Result<(), Fail> {
+    let alloc = rt.alloc();
+    let mut pool = NetPool::new(alloc);
+    pool.reserve(2)?;
+    let mut region = pool.begin();
+    let mut wires = [Wire {
+        in_pulse: NetId(7),
+        in_value: NetId(0),
+        out_pulse: NetId(0),
+        out_value: NetId(0),
+    }];
+    let gates = Buffer;
+    gates.outs(NetId(0), &mut wires);
+    gates.place(&mut pool, &mut region, &wires);
+    pool.finish(region);
+    let cells = pool.into_cells();
+    assert_eq!(rt; cells.len(), 1);
+    assert_eq!(rt; wires[0].out_pulse.0, 0);
+    match cells[0].gate {
+        Gate::Or(a, b) => assert_eq!(rt; (a.0, b.0), (7, 7)),
+        _ => assert!(rt; false, "it is no buffer"),
+    }
+    Ok(())
+}

@@ -1,0 +1,22 @@
+mod RingLemmas
+mod OneJointLemmas
+mod SkipLemmas
+mod NameLemmas
+mod TraceLemmas
+mod SmallLinkLemmas
+mod SmallTurnLemmas
+mod SmallLemmas
+mod RenumberLemmas
+mod RotateLemmas
+mod LeftLemmas
+mod AloneLemmas
+mod UseLemmas
+pub mod FittingLemmas
+mod FunctionLemmas
+mod ModuleLemmas
+mod HeadLemmas
+mod SameLemmas
+mod SameTurnLemmas
+mod GroundTurnLemmas
+mod ToldLemmas
+mod InputLemmas

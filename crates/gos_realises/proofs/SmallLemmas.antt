@@ -1,0 +1,18 @@
+-- What realises nothing.
+use Rattle.std.specs.Prelude.{◌≡◌}
+use Rattle.std.proofs.Common.{sym, ◌∙◌}
+use Rattle.gos_types.specs.Types.{Com, Exp}
+use Rattle.gos_realises.specs.OtherPlans.{OtherTypesAreNot, NoNumberIsDone, WildIsNot}
+
+pub other_types_are_not : OtherTypesAreNot
+other_types_are_not t p m other r = other r.suits.outcome
+
+pub no_number_is_done : NoNumberIsDone
+no_number_is_done p m number r =
+    let both : Exp 8 ≡ Com = sym number ∙ r.suits.outcome in
+    cc both
+
+pub wild_is_not : WildIsNot
+wild_is_not t m r =
+    let (a, (b, (c, (d, (((q, v, asks, serves), one, other), rest))))) = r.suits.right in
+    cc serves

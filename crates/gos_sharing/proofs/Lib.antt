@@ -1,0 +1,11 @@
+mod SeenIdleLemmas
+mod SeenPlaceLemmas
+mod SeenTokenLemmas
+mod SeenFillLemmas
+mod SeenFireLemmas
+mod ShareRowLemmas
+mod SeenKeptLemmas
+mod SeenElementLemmas
+mod SeenRunLemmas
+mod SeenQuietLemmas
+mod SmallSharingLemmas

@@ -1,0 +1,14 @@
+pub mod FeedLemmas
+pub mod PortNetLemmas
+pub mod PrintLemmas
+pub mod TableLemmas
+pub mod SmallTextLemmas
+pub mod CodeLemmas
+pub mod ExpressionLemmas
+pub mod DriverLemmas
+pub mod DeclarationLemmas
+pub mod SuffixLemmas
+pub mod InputLemmas
+pub mod PortLemmas
+pub mod OneTextLemmas
+pub mod MeaningLemmas

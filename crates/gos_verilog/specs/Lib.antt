@@ -1,0 +1,8 @@
+-- In reading order: a file uses only files above it.
+pub mod PortNets
+pub mod Lines
+pub mod VerilogText
+pub mod SmallTexts
+pub mod OneText
+pub mod Meaning
+pub mod inner

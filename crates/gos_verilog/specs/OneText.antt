@@ -1,0 +1,20 @@
+-- That a netlist has one text at most, and a text is that of one netlist at most.
+--
+-- Read first: VerilogText; Writable of gos_netlist, Accepted of gos_netcheck.
+use Rattle.std.specs.Prelude.{◌≡◌, ℕ, List}
+use Rattle.gos_netlist.specs.Nets.{Netlist}
+use Rattle.gos_netlist.specs.Writable.{IsWritable}
+use Rattle.gos_netcheck.specs.Accepted.{IsAccepted}
+use Rattle.gos_verilog.specs.VerilogText.{IsVerilogOf}
+
+-- an accepted netlist, whose names are names and whose numbers are in the ranges of the format
+abbrev pub IsPrintable : Netlist → Type 0
+IsPrintable net = IsWritable net × IsAccepted net
+
+-- no two accepted netlists have this text
+abbrev pub IsOneNetlist : List ℕ → Type 0
+IsOneNetlist text = (net other : Netlist) → IsPrintable net → IsPrintable other → IsVerilogOf net text → IsVerilogOf other text → net ≡ other
+
+-- this accepted netlist has no two texts
+abbrev pub HasOneText : Netlist → Type 0
+HasOneText net = (text other : List ℕ) → IsAccepted net → IsVerilogOf net text → IsVerilogOf net other → text ≡ other

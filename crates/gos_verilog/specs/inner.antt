@@ -1,0 +1,2 @@
+-- What stands between the functions of this crate alone.
+pub mod Drivers

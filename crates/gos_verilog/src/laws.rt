@@ -1,0 +1,28 @@
+// What the definitions say. Each theorem is the contract of a function that does nothing.
+ghost use Rattle.std.specs.Prelude.{List, ℕ};
+ghost use Rattle.gos_netlist.specs.Nets.{Netlist};
+ghost use Rattle.gos_verilog.specs.Meaning.{IsTextOfExpression, MeansNext, MeansSettling};
+ghost use Rattle.gos_verilog.specs.OneText.{HasOneText, IsOneNetlist};
+ghost use Rattle.gos_verilog.specs.SmallTexts.{LatchText, LongerIsNoText, UnresetIsNoText};
+
+/// The latch has its text, and neither one in which a register has no reset nor one with a blank more.
+pub fn small_texts()
+    ensures latch { LatchText }
+    ensures reset { UnresetIsNoText }
+    ensures end { LongerIsNoText }
+{}
+
+/// An accepted netlist has one text at most, and a text is that of one accepted netlist at most: ports, cells and their
+/// order are known by it.
+pub fn one_text()
+    ensures text { (net : Netlist) → HasOneText net }
+    ensures netlist { (text : List ℕ) → IsOneNetlist text }
+{}
+
+/// Read by IEEE 1364-2005 the lines of a module mean its netlist: its nets meet all lines in a cycle exactly where they
+/// are a settling, and its registers take the netlist's next registers at a clock edge, or 0 in reset.
+pub fn meaning()
+    ensures text { IsTextOfExpression }
+    ensures settling { MeansSettling }
+    ensures edge { MeansNext }
+{}

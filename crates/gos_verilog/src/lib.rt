@@ -1,0 +1,18 @@
+// A circuit as one Verilog module, in the small part of IEEE 1364-2005 that it takes.
+//
+// `write_verilog` gives the one text of an accepted netlist. What such a text is stands in `specs`, in the order of
+// `specs/Lib.antt`: `PortNets` (the nets of ports, with their names), `Lines` (the lines of a module), `VerilogText` (the
+// text of a netlist), `SmallTexts`, `OneText` (that each has one of the other), `Meaning` (what the lines mean).
+// `port_net.rt` has the nets of ports, `printing.rt` the lines, `writing.rt` the whole text, and `laws.rt` theorems on the
+// definitions.
+#![tactic(auto)]
+
+mod laws;
+mod port_net;
+mod printing;
+#[cfg(test)]
+mod tests;
+mod writing;
+
+pub use laws::{meaning, one_text, small_texts};
+pub use writing::write_verilog;

@@ -1,0 +1,185 @@
+// The texts of two circuits, written by hand.
+ghost use Rattle.std.specs.Prelude.{◌<◌, ◌^◌, IfOk, length};
+ghost use Rattle.gos_lex.specs.Names.{IsNameOrWord};
+
+use crate::writing::write_verilog;
+use gos_lex::{LexFault, Name};
+use gos_netcheck::accept;
+use gos_netlist::{Cell, Gate, Ground, NetId, Netlist, Port, Side};
+use std::alloc::Global;
+use std::test::Fail;
+
+// The text of the latch.
+const LATCH: &str = "module gos_main(clk, rst, main__run, main__done);
+  input clk;
+  input rst;
+  input [0:0] main__run;
+  output [0:0] main__done;
+  wire [0:0] n0;
+  wire [0:0] n1;
+  reg [0:0] n2;
+  reg [0:0] n3;
+  assign n0 = main__run;
+  assign n1 = n0 | n2;
+  always @(posedge clk) if (rst) n2 <= 1'd0; else n2 <= n1;
+  always @(posedge clk) if (rst) n3 <= 1'd0; else n3 <= n1;
+  assign main__done = n3;
+endmodule
+";
+
+// The text of a circuit with a cell of each sort, which gives an expression and takes a variable.
+const SORTS: &str =
+    "module gos_main(clk, rst, main__ask, main__ans, main__ansvalue, v__read, v__ans, v__ansvalue, v__write, v__writevalue, v__done);
+  input clk;
+  input rst;
+  input [0:0] main__ask;
+  output [0:0] main__ans;
+  output [3:0] main__ansvalue;
+  output [0:0] v__read;
+  input [0:0] v__ans;
+  input [3:0] v__ansvalue;
+  output [0:0] v__write;
+  output [3:0] v__writevalue;
+  input [0:0] v__done;
+  wire [0:0] n0;
+  wire [0:0] n1;
+  wire [3:0] n2;
+  wire [0:0] n3;
+  wire [3:0] n4;
+  wire [3:0] n5;
+  wire [3:0] n6;
+  wire [3:0] n7;
+  wire [3:0] n8;
+  wire [3:0] n9;
+  wire [3:0] n10;
+  wire [3:0] n11;
+  wire [0:0] n12;
+  wire [0:0] n13;
+  wire [3:0] n14;
+  reg [0:0] n15;
+  reg [3:0] n16;
+  assign n0 = v__done;
+  assign n1 = v__ans;
+  assign n2 = v__ansvalue;
+  assign n3 = main__ask;
+  assign n4 = 4'd9;
+  assign n5 = ~n2;
+  assign n6 = n2 & n4;
+  assign n7 = n2 | n4;
+  assign n8 = n2 ^ n4;
+  assign n9 = n0 ? n5 : n6;
+  assign n10 = n2 + n4;
+  assign n11 = n2 - n4;
+  assign n12 = n2 == n4;
+  assign n13 = n2 < n4;
+  assign n14 = n0 ? n2 : 4'd0;
+  always @(posedge clk) if (rst) n15 <= 1'd0; else n15 <= n12;
+  always @(posedge clk) if (rst) n16 <= 4'd0; else n16 <= n9;
+  assign main__ans = n15;
+  assign main__ansvalue = n16;
+  assign v__read = n15;
+  assign v__write = n15;
+  assign v__writevalue = n16;
+endmodule
+";
+
+fn bit(gate: Gate) -> Cell {
+    Cell { width: 1, gate }
+}
+
+fn latch(alloc: Global) -> Result<Netlist, LexFault>
+    ensures { IfOk result (λ net. length net.cells < 2 ^ 32) }
+{
+    let name = Name::new(alloc, b"main")?;
+    let nets = vec![in alloc; NetId(0), NetId(3)]?;
+    let port = Port {
+        name,
+        side: Side::Give,
+        ground: Ground::Com,
+        nets,
+    };
+    let ports = vec![in alloc; port]?;
+    let cells = vec![in alloc;
+        bit(Gate::Input),
+        bit(Gate::Or(NetId(0), NetId(2))),
+        bit(Gate::Reg(NetId(1))),
+        bit(Gate::Reg(NetId(1))),
+    ]?;
+    Ok(Netlist { cells, ports })
+}
+
+#[test]
+fn writes_the_latch(rt: HostRuntime) -> Result<(), Fail> {
+    let alloc = rt.alloc();
+    let net = accept(alloc, latch(alloc)?)?;
+    let text = write_verilog(alloc, &net)?;
+    assert_eq!(rt; text.as_slice(), LATCH.as_bytes());
+    Ok(())
+}
+
+fn four(gate: Gate) -> Cell {
+    Cell { width: 4, gate }
+}
+
+// A port with these nets.
+fn port(
+    alloc: Global,
+    name: &[u8],
+    side: Side,
+    ground: Ground,
+    nets: Vec<NetId>,
+) -> Result<Port, LexFault>
+    requires { IsNameOrWord name.now }
+{
+    let name = Name::new(alloc, name)?;
+    Ok(Port {
+        name,
+        side,
+        ground,
+        nets,
+    })
+}
+
+// The Input cells and the nets of ports stand in different orders.
+fn sorts(alloc: Global) -> Result<Netlist, LexFault>
+    ensures { IfOk result (λ net. length net.cells < 2 ^ 32) }
+{
+    let a = NetId(2);
+    let b = NetId(4);
+    let cells = [
+        bit(Gate::Input),
+        bit(Gate::Input),
+        four(Gate::Input),
+        bit(Gate::Input),
+        four(Gate::Const(9)),
+        four(Gate::Not(a)),
+        four(Gate::And(a, b)),
+        four(Gate::Or(a, b)),
+        four(Gate::Xor(a, b)),
+        four(Gate::Mux(NetId(0), NetId(5), NetId(6))),
+        four(Gate::Add(a, b)),
+        four(Gate::Sub(a, b)),
+        bit(Gate::Eq(a, b)),
+        bit(Gate::Less(a, b)),
+        four(Gate::Gate(NetId(0), a)),
+        bit(Gate::Reg(NetId(12))),
+        four(Gate::Reg(NetId(9))),
+    ];
+    let given = vec![in alloc; NetId(3), NetId(15), NetId(16)]?;
+    let taken = vec![in alloc; NetId(15), NetId(1), a, NetId(15), NetId(16), NetId(0)]?;
+    let ports = vec![in alloc;
+        port(alloc, b"main", Side::Give, Ground::Exp(4), given)?,
+        port(alloc, b"v", Side::Take, Ground::Var(4), taken)?,
+    ]?;
+    let cells = cells.as_slice().to_vec(alloc)?;
+    Ok(Netlist { cells, ports })
+}
+
+#[test]
+fn writes_each_sort(rt: HostRuntime) -> Result<(), Fail> {
+    let alloc = rt.alloc();
+    let net = accept(alloc, sorts(alloc)?)?;
+    let text = write_verilog(alloc, &net)?;
+    assert_eq!(rt; text.as_slice(), SORTS.as_bytes());
+    Ok(())
+}
