@@ -41,33 +41,33 @@ pub record PartAt (k : ℕ) (ps : List Plan) (g : ℕ) (part : Part) : Type 0 wh
   pub has : slice_get of.parts number ≡ Some part
   pub sum : g ≡ parts_before ps plan + number
 
-pub part_at : (k : ℕ) (ps : List Plan) (g : ℕ) (part : Part) → slice_get (all_parts ps) g ≡ Some part → PartAt k ps g part
-part_at k [] g part e = absurd (cc e)
-part_at k (p ∷ ps) g part e =
-    elim (either_at p.parts (all_parts ps) g part e) [
+pub part_at : (k : ℕ) (ps : List Plan) (g : ℕ) (kind : Part) → slice_get (all_parts ps) g ≡ Some kind → PartAt k ps g kind
+part_at k [] g kind e = absurd (cc e)
+part_at k (p ∷ ps) g kind e =
+    elim (either_at p.parts (all_parts ps) g kind e) [
       | inl h ↦ record { plan = 0; number = g; of = p; is = refl; has = h; sum = omega arith }
       | inr (j, n, h) ↦
-          (let r = part_at (suc k) ps j part h in
+          (let r = part_at (suc k) ps j kind h in
           let sum = r.sum in
           record { plan = suc r.plan; number = r.number; of = r.of; is = r.is; has = r.has; sum = omega (arith, n, sum) })
     ]
 
 -- and where it stands in its plan
-pub part_stands : (k : ℕ) (ps : List Plan) (n : ℕ) (p : Plan) (i h : ℕ) (part : Part) → slice_get ps n ≡ Some p → slice_get p.parts i ≡ Some part
-    → (slice_get (all_parts ps) (parts_before ps n + i) ≡ Some part) × (part_place k ps (parts_before ps n + i) h ≡ place (k + n) (PartEnd i h))
-part_stands k [] n p i h part e f = absurd (cc e)
-part_stands k (q ∷ ps) zero p i h part e f =
+pub part_stands : (k : ℕ) (ps : List Plan) (n : ℕ) (p : Plan) (i h : ℕ) (kind : Part) → slice_get ps n ≡ Some p → slice_get p.parts i ≡ Some kind
+    → (slice_get (all_parts ps) (parts_before ps n + i) ≡ Some kind) × (part_place k ps (parts_before ps n + i) h ≡ place (k + n) (PartEnd i h))
+part_stands k [] n p i h kind e f = absurd (cc e)
+part_stands k (q ∷ ps) zero p i h kind e f =
     let same : q ≡ p = cc e in
-    let here : slice_get q.parts i ≡ Some part = subst (λ (r : Plan). slice_get r.parts i ≡ Some part) (sym same) f in
-    let low : i < length q.parts = within q.parts i part here in
+    let here : slice_get q.parts i ≡ Some kind = subst (λ (r : Plan). slice_get r.parts i ≡ Some kind) (sym same) f in
+    let low : i < length q.parts = within q.parts i kind here in
     let none : 0 + i ≡ i = omega arith in
     let test : nat_lt (0 + i) (length q.parts) ≡ true = grind (arith, low, none) in
     let sum : k ≡ k + 0 = omega arith in (
-      ap (slice_get (q.parts ++ all_parts ps)) none ∙ front_at q.parts (all_parts ps) i part here,
+      ap (slice_get (q.parts ++ all_parts ps)) none ∙ front_at q.parts (all_parts ps) i kind here,
       rw test ((λ t. place (sum t) (PartEnd (none t) h))),
     )
-part_stands k (q ∷ ps) (suc n) p i h part e f =
-    let (at, stands) = part_stands (suc k) ps n p i h part e f in
+part_stands k (q ∷ ps) (suc n) p i h kind e f =
+    let (at, stands) = part_stands (suc k) ps n p i h kind e f in
     let m : ℕ = parts_before ps n + i in
     let sum : (length q.parts + parts_before ps n) + i ≡ length q.parts + m = omega arith in
     let less : ((length q.parts + parts_before ps n) + i) - length q.parts ≡ m = omega arith in

@@ -31,14 +31,14 @@ pub(crate) fn number_bound(services: &[Service], user: usize, import: usize) -> 
 fn add_open<'a>(
     opens: &mut Vec<Open<'a>>,
     bound: Option<usize>,
-    open: Open<'a>,
+    left: Open<'a>,
 ) -> Result<(), NoMemory>
-    ensures seen { OnOk result (map open_seen opens.new.items ≡ map open_seen opens.old.items ++ if_open bound (open_seen open.entry) []) }
-    ensures small { OnOk result (IsSmall open.entry.import.now.ty → All (λ o. IsSmall o.import.now.ty) opens.old.items → All (λ o. IsSmall o.import.now.ty) opens.new.items) }
+    ensures seen { OnOk result (map open_seen opens.new.items ≡ map open_seen opens.old.items ++ if_open bound (open_seen left.entry) []) }
+    ensures small { OnOk result (IsSmall left.entry.import.now.ty → All (λ o. IsSmall o.import.now.ty) opens.old.items → All (λ o. IsSmall o.import.now.ty) opens.new.items) }
 {
     match bound {
         Some(_) => {}
-        None => opens.push(open)?,
+        None => opens.push(left)?,
     }
     Ok(())
 }

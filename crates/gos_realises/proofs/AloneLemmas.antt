@@ -13,7 +13,7 @@ use Rattle.gos_model.specs.Typing.{Imported}
 use Rattle.gos_plan.specs.Kinds.{Part, Contact, asks, serves, contacts_of}
 use Rattle.gos_plan.specs.Plans.{End, PartEnd, ImportEnd, ResultEnd, Joint, Plan, contact_at, contacts_of_part, contacts_of_import, turned_if, same_end, stands_in, Fits, IsRight}
 use Rattle.gos_plan.specs.Tokens.{places_of}
-use Rattle.gos_plan.specs.Joining.{Place, place, Wiring, JoinedWithin, Linked, Path, Connects, all_left, left_place, origin, IsJoining, IsSameButOrder}
+use Rattle.gos_plan.specs.Joining.{Place, place, Wiring, JoinedWithin, Linked, Path, Connects, all_left, left_place, origin, IsJoining}
 use Rattle.gos_plan.proofs.JointLemmas as joints
 use Rattle.gos_plan.proofs.JointLemmas.{IsIn, same_itself, one_joint, contained, stands_there, found, Found}
 use Rattle.gos_realises.specs.Wirings.{side}

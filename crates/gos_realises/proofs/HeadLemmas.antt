@@ -2,19 +2,17 @@
 --
 -- The first runs the head where the second runs what it unfolds to (`Late`). What the second does then the first does
 -- with one unfolding more, and the head itself can do nothing else.
-use Rattle.std.specs.Prelude.{◌≡◌, ℕ, zero, suc, IsTrue, ◌⊎◌, List, [], ◌∷◌}
+use Rattle.std.specs.Prelude.{◌≡◌, zero, suc, ◌⊎◌, List, [], ◌∷◌}
 use Rattle.std.proofs.Common.{refl, sym, ◌∙◌, ap, subst, arith, inl, inr}
 use Rattle.gos_types.specs.Types.{Type'}
-use Rattle.gos_model.specs.Terms as terms
 use Rattle.gos_model.specs.Terms.{Term, Lam, App, Both, Fst, Snd}
 use Rattle.gos_model.specs.Stores.{Store}
 use Rattle.gos_model.specs.Typing.{Imports}
-use Rattle.gos_model.specs.Labels.{Label, is_output}
 use Rattle.gos_model.specs.Substitution.{instantiate}
 use Rattle.gos_model.specs.Reach.{Rewrites, Under, Unfolds}
-use Rattle.gos_model.specs.Moves.{Program, Config, Idle, Running, Act, Computing, Showing, Move, Moves, Unfoldings, ActsTo, Stalled, labels}
+use Rattle.gos_model.specs.Moves.{Program, Config, Idle, Running, Act, Computing, Showing, Move, Moves, Unfoldings, ActsTo, Stalled}
 use Rattle.gos_plan.specs.Plans.{Plan}
-use Rattle.gos_plan.specs.Tokens.{Tokens, Element, Does}
+use Rattle.gos_plan.specs.Tokens.{Tokens, Element}
 use Rattle.gos_realises.specs.Matched.{Agrees, IsMatched, program_of}
 use Rattle.gos_realises.specs.Functions.{HeadsAreRealised}
 

@@ -17,3 +17,6 @@ mod ModuleLemmas
 mod HeadLemmas
 mod SameLemmas
 mod SameTurnLemmas
+mod GroundTurnLemmas
+mod ToldLemmas
+mod InputLemmas

@@ -14,3 +14,4 @@ pub mod Fitting
 pub mod Renumbered
 pub mod Alone
 pub mod Functions
+pub mod Inputs

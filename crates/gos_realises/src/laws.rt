@@ -2,6 +2,7 @@
 ghost use Rattle.gos_realises.specs.Alone.{AloneIsItself, OrderIsFree, SkipModuleIsRealised};
 ghost use Rattle.gos_realises.specs.Functions.{HeadsAreRealised, SameIsRealised};
 ghost use Rattle.gos_realises.specs.Fitting.{AppliedFits, SidesFit, VariablesFit, SuppliedFits};
+ghost use Rattle.gos_realises.specs.Inputs.{ProtocolKeepsTurns, MatchingSuffices};
 ghost use Rattle.gos_realises.specs.Renumbered.{RenumberingKeeps};
 ghost use Rattle.gos_realises.specs.SmallLinks.{SameFits, NumberDoesNotFit, TwiceDoesNotFit, PartDoesNotFit, NowhereDoesNotFit, SkipIsSlim, WeightIsNeeded};
 ghost use Rattle.gos_realises.specs.SmallTurns.{SkipIsRegular, BothSidesAreNot};
@@ -73,6 +74,13 @@ pub fn alone()
 pub fn functions()
     ensures heads { HeadsAreRealised }
     ensures same { SameIsRealised }
+{}
+
+/// Inputs that keep the protocol keep turns, in a regular plan of a command or an expression; so its lists are orderly, and
+/// it realises a program where they are matched.
+pub fn inputs()
+    ensures turns { ProtocolKeepsTurns }
+    ensures matching { MatchingSuffices }
 {}
 
 /// Renumbering the parts of a plan keeps it regular, and realising its program.

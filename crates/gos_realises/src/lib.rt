@@ -7,6 +7,6 @@
 mod laws;
 
 pub use laws::{
-    alone, functions, links, lists_are_traces, others_are_refused, renumbering, slim, small_links,
-    small_realisers, turns,
+    alone, functions, inputs, links, lists_are_traces, others_are_refused, renumbering, slim,
+    small_links, small_realisers, turns,
 };

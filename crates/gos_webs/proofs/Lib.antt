@@ -3,3 +3,4 @@ pub mod WebLemmas
 pub mod MovedLemmas
 mod CutLemmas
 mod SmallWebLemmas
+mod CutListLemmas

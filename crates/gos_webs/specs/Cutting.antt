@@ -108,6 +108,12 @@ IsCutList f r [] s ys = ys ≡ []
 IsCutList f r (x ∷ xs) s ys =
     (t : Tokens) → Does r x s t → (zs : List Element) × (ys ≡ cut_element f r x s ++ zs) × IsCutList f r xs t zs
 
+-- A possible list has one such list.
+abbrev pub CutListIs : Type 0
+CutListIs =
+    (f : Cut) (r : Plan) (xs : List Element) (s t : Tokens)
+    → Runs r xs s t → (ys : List Element) × IsCutList f r xs s ys × ((zs : List Element) → IsCutList f r xs s zs → zs ≡ ys)
+
 -- What the whole does the region does. Numbers have to fit, since an input has to: a token that is put on a cut joint.
 abbrev pub ElementIsCut : Type 0
 ElementIsCut =

@@ -1,7 +1,7 @@
 // What the definitions give. Each theorem is the contract of a function that does nothing.
 ghost use Rattle.gos_webs.specs.Webs.{SameWaysSamePlan, RightIsOfItsWeb};
 ghost use Rattle.gos_webs.specs.Renumbering.{RenumberedBack, DoesIsMoved, RunsIsMoved, QuietIsMoved};
-ghost use Rattle.gos_webs.specs.Cutting.{IdleIsCut, ElementIsCut, ListIsCut};
+ghost use Rattle.gos_webs.specs.Cutting.{CutListIs, IdleIsCut, ElementIsCut, ListIsCut};
 ghost use Rattle.gos_webs.specs.SmallWebs.{UnjoinedIsNot, SwapIsRenumbering, SwapIsSeen, FirstIsCut, WrongIsNoCut, FirstIsOnce};
 
 /// A web that connects the same ends has the same plans. A right plan is the plan of the web of its own joints.
@@ -26,6 +26,7 @@ pub fn lists_are_renumbered()
 pub fn lists_are_cut()
     ensures element { ElementIsCut }
     ensures list { ListIsCut }
+    ensures one { CutListIs }
     ensures idle { IdleIsCut }
 {}
 

@@ -1,4 +1,5 @@
 use Rattle.gos_webs.proofs.CutLemmas.{element_is_cut, list_is_cut}
+use Rattle.gos_webs.proofs.CutListLemmas.{cut_list_is}
 use Rattle.gos_webs.proofs.IdleLemmas.{idle_is_cut}
 use Rattle.gos_webs.proofs.laws.lists_are_cut.Goals as goal
 
@@ -10,3 +11,6 @@ returns-clause-list c = list_is_cut
 
 pub returns-clause-idle : goal.returns-clause-idle
 returns-clause-idle c = idle_is_cut
+
+pub returns-clause-one : goal.returns-clause-one
+returns-clause-one c = cut_list_is
