@@ -8,10 +8,7 @@ use Rattle.gos_types.specs.Handshakes.{handshakes_of}
 use Rattle.gos_plan.specs.declared.kinds.Kind.{Kind}
 use Rattle.gos_plan.specs.declared.plan.PlanImport.{PlanImport}
 use Rattle.gos_types.specs.Widths.{HasWidths}
-<<<<<<< HEAD
 use Rattle.gos_plan.specs.Ranges.{IsSmall}
-=======
->>>>>>> 69ad8c34779895744687ad45bddbce0ebacd852b
 use Rattle.gos_plan.specs.Plans.{End, Plan}
 use Rattle.gos_plan.specs.Seen.{SeenPlan, import_of, joint_of, part_of, plan_of}
 use Rattle.gos_plan.specs.Joining.{LeftImport, all_left}
