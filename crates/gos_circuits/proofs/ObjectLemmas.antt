@@ -1,15 +1,37 @@
 -- Object files are read one after another.
-use Rattle.std.proofs.Common.{◌≡◌, inl, inr, ℕ, List, [], ◌∷◌, ◌++◌, Option, Some, None, refl, subst, sym}
+use Rattle.std.proofs.Common.{◌≡◌, ◌<◌, ◌+◌, ◌∙◌, inl, inr, ℕ, suc, List, [], ◌∷◌, ◌++◌, Option, Some, None, drop, length, slice_index_or, subst, sym, arith}
 use Rattle.std.specs.Prelude.{IfSome}
 use Rattle.std.proofs.lemmas.List.{append-nil, append_assoc}
-use Rattle.gos_outside.specs.Files.{Files}
+use Rattle.std.proofs.Math.Seq.{drop-cons}
+use Rattle.gos_outside.specs.Files.{Files, bytes_at}
 use Rattle.gos_outside.specs.Faults.{LastFault, ReadFault}
-use Rattle.gos_plan.specs.Seen.{SeenPlan}
+use Rattle.gos_lines.specs.Lines.{Word}
+use Rattle.gos_plan.specs.Seen.{SeenPlan, plan_of}
+use Rattle.gos_plan.specs.ObjectFaults.{IsRead}
 use Rattle.gos_link.specs.declared.build.Instance.{Instance}
 use Rattle.gos_command.specs.declared.status.Fault.{Fault}
 use Rattle.gos_command.proofs.EndLemmas.{of_some, of_some_both}
 use Rattle.gos_circuits.specs.Objects.{HoldsPlan, HoldPlans, IsObjectFault, RejectsObject, IsObjectCall}
 use Rattle.gos_circuits.specs.inner.Reading.{AreReadBefore}
+
+-- the next instance
+pub next_instance : (xs : List Instance) (k : ℕ) (x : Instance) → k < length xs → x ≡ slice_index_or xs k x → drop k xs ≡ x ∷ drop (k + 1) xs
+next_instance xs k x less is =
+    let after : suc k ≡ k + 1 = omega arith in
+    subst (λ (n : ℕ). drop k xs ≡ x ∷ drop n xs) after (drop-cons xs k x less ∙ (λ i. sym is i ∷ drop (suc k) xs))
+
+-- what was read of its object, from the files as they were
+pub same_read : (old mid : Option Files) (i : Instance) (name : Word) (p : SeenPlan) → mid ≡ old → name ≡ i.object
+    → IfSome mid (λ files. IsRead (bytes_at files name) (plan_of p)) → IfSome old (λ files. HoldsPlan files i p)
+same_read old mid i name p same is read =
+    subst (λ (n : Word). IfSome old (λ files. IsRead (bytes_at files n) (plan_of p))) is
+    (subst (λ (told : Option Files). IfSome told (λ files. IsRead (bytes_at files name) (plan_of p))) same read)
+
+pub same_rejected : (old mid : Option Files) (i : Instance) (name : Word) (fault : Fault) (line : List ℕ) → mid ≡ old → name ≡ i.object
+    → IfSome mid (λ files. IsObjectFault files name fault line) → IfSome old (λ files. IsObjectFault files i.object fault line)
+same_rejected old mid i name fault line same is wrong =
+    subst (λ (n : Word). IfSome old (λ files. IsObjectFault files n fault line)) is
+    (subst (λ (told : Option Files). IfSome told (λ files. IsObjectFault files name fault line)) same wrong)
 
 -- before the first
 pub none_read : (old : Option Files) (all : List Instance) → AreReadBefore old all all []

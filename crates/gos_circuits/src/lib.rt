@@ -1,8 +1,8 @@
 // From object files to circuits.
 #![tactic(auto)]
 
-pub use circuit::circuit;
+pub use laying::circuit;
 pub use objects::plans_in;
 
-mod circuit;
+mod laying;
 mod objects;

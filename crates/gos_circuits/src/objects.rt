@@ -37,7 +37,9 @@ pub fn plans_in<S: Store>(
     let mut plans = Vec::new(alloc);
     for instance in instances {
         let plan = plan_in(alloc, instance.object.bytes(), store)?;
-        plans.push(plan)?;
+        let Ok(()) = plans.push(plan) else {
+            return Err(Stop::NoMemory);
+        };
     }
     Ok(plans)
 }

@@ -1,7 +1,7 @@
 use Rattle.std.proofs.Common.{◌∙◌, sym, true≢false}
 use Rattle.gos_netcheck.proofs.FaultLemmas.{no_fault}
-use Rattle.gos_circuits.proofs.circuit.accepted.Goals.{in-NoMemory, in_default}
-use Rattle.gos_circuits.proofs.circuit.accepted.Goals as goal
+use Rattle.gos_circuits.proofs.laying.accepted.Goals.{in-NoMemory, in_default}
+use Rattle.gos_circuits.proofs.laying.accepted.Goals as goal
 
 pub prove-unreachable-requires : goal.prove-unreachable-requires
 prove-unreachable-requires c =
