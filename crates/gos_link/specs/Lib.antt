@@ -1,3 +1,5 @@
 -- In reading order: a file uses only files above it.
 pub mod BuildFile
+pub mod Services
+pub mod Linked
 pub mod inner

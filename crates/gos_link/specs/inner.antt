@@ -1,2 +1,7 @@
 -- Between the functions of this crate.
 pub mod Noting
+pub mod Tops
+pub mod Opens
+pub mod Ports
+pub mod Wired
+pub mod Judged

@@ -7,13 +7,23 @@
 mod build;
 mod fault;
 mod file_name;
+mod joining;
+#[cfg(test)]
+mod link_tests;
+mod linking;
 mod noting;
+mod opens;
 mod reading;
 #[cfg(test)]
 mod reading_tests;
 mod said;
+mod services;
+mod size;
+mod ties;
+mod whole;
 
 pub use build::{Bind, Build, Instance};
 pub use fault::LinkFault;
 pub use file_name::FileName;
+pub use linking::link;
 pub use reading::read_build;

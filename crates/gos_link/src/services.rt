@@ -1,0 +1,226 @@
+// What the bind lines of a build mean: which instance serves which import of which other one.
+
+ghost use Rattle.std.specs.Prelude.{◌≡◌, ◌≢◌, ◌<◌, ◌+◌, ◌∷◌, [], ℕ, List, Some, None, length, map, IfOk, IfErr};
+ghost use Rattle.gos_types.specs.Types.{type_of};
+ghost use Rattle.gos_link.specs.Services.{instance_named, import_named, Means, first_bound, first_used, IsRightBind, IsWrongBind, BindsOn};
+ghost use Rattle.gos_link.specs.inner.Tops.{AreTops, moved, top_at};
+
+use crate::build::{Bind, Instance};
+use crate::fault::LinkFault;
+use gos_lex::Name;
+use gos_plan::{Plan, PlanImport};
+use gos_types::{NoMemory, Ty, copy, same};
+use std::alloc::Global;
+
+/// That instance `giver` serves import `import` of instance `user`, by a line.
+#[derive(Debug, Clone, Copy, PartialEq, Eq)]
+pub struct Service {
+    pub line: u64,
+    pub user: usize,
+    pub import: usize,
+    pub giver: usize,
+}
+
+// The number of the first instance of this name.
+pub(crate) fn instance_named(instances: &[Instance], name: &[u8]) -> Option<usize>
+    ensures { result ≡ instance_named instances.now name.now }
+{
+    instances
+        .iter()
+        .position(|instance| instance.name.bytes() == name)
+}
+
+// The number of the first import of this name.
+fn import_named(imports: &[PlanImport], name: &[u8]) -> Option<usize>
+    ensures { result ≡ import_named imports.now name.now }
+{
+    imports
+        .iter()
+        .position(|import| import.name.bytes() == name)
+}
+
+// A copy of a name. `Err` is want of memory alone.
+pub(crate) fn copy_name(alloc: Global, name: &Name) -> Result<Name, NoMemory>
+    ensures { IfOk result (λ copy. copy ≡ name.now) }
+{
+    match Name::new(alloc, name.bytes()) {
+        Ok(copy) => Ok(copy),
+        Err(_) => Err(NoMemory),
+    }
+}
+
+// That a line names no instance.
+pub(crate) fn no_instance(alloc: Global, line: u64, name: &Name) -> LinkFault
+    ensures { result ≢ LinkFault.NoMemory → result ≡ LinkFault.NoInstance line name.now }
+{
+    match copy_name(alloc, name) {
+        Ok(name) => LinkFault::NoInstance { line, name },
+        Err(_) => LinkFault::NoMemory,
+    }
+}
+
+// That a line names no import.
+fn no_import(alloc: Global, line: u64, name: &Name) -> LinkFault
+    ensures { result ≢ LinkFault.NoMemory → result ≡ LinkFault.NoImport line name.now }
+{
+    match copy_name(alloc, name) {
+        Ok(name) => LinkFault::NoImport { line, name },
+        Err(_) => LinkFault::NoMemory,
+    }
+}
+
+// That a line binds different types.
+fn type_differs(alloc: Global, line: u64, want: &Ty, got: &Ty) -> Result<LinkFault, NoMemory>
+    ensures { IfOk result (λ fault. (w : Ty) × (g : Ty) × (fault ≡ LinkFault.TypeDiffers line w g) × (type_of w ≡ type_of want.now) × (type_of g ≡ type_of got.now)) }
+{
+    let want = copy(alloc, want)?;
+    let got = copy(alloc, got)?;
+    Ok(LinkFault::TypeDiffers { line, want, got })
+}
+
+// What a line means.
+fn meaning(
+    alloc: Global,
+    instances: &[Instance],
+    plans: &[Plan],
+    bind: &Bind,
+) -> Result<Service, LinkFault>
+    requires { length plans.now ≡ length instances.now }
+    ensures means { IfOk result (Means instances.now plans.now bind.now) }
+    ensures fault { IfErr result (λ fault. fault ≢ LinkFault.NoMemory → (before : List Service) → IsWrongBind instances.now plans.now before bind.now fault) }
+{
+    let Some(user) = instance_named(instances, bind.user.bytes()) else {
+        return Err(no_instance(alloc, bind.line, &bind.user));
+    };
+    let Some(giver) = instance_named(instances, bind.giver.bytes()) else {
+        return Err(no_instance(alloc, bind.line, &bind.giver));
+    };
+    let imports = plans[user].imports();
+    let Some(import) = import_named(imports, bind.import.bytes()) else {
+        return Err(no_import(alloc, bind.line, &bind.import));
+    };
+    let want = &imports[import].ty;
+    let got = plans[giver].result();
+    if !same(want, got) {
+        return Err(type_differs(alloc, bind.line, want, got)?);
+    }
+    Ok(Service {
+        line: bind.line,
+        user,
+        import,
+        giver,
+    })
+}
+
+// The line of the first service of an import.
+fn first_bound(services: &[Service], user: usize, import: usize) -> Option<u64>
+    ensures { result ≡ first_bound services.now user import }
+{
+    for service in services {
+        if service.user == user && service.import == import {
+            return Some(service.line);
+        }
+    }
+    None
+}
+
+// The line of the first service by a giver.
+pub(crate) fn first_used(services: &[Service], giver: usize) -> Option<u64>
+    ensures { result ≡ first_used services.now giver }
+{
+    for service in services {
+        if service.giver == giver {
+            return Some(service.line);
+        }
+    }
+    None
+}
+
+// What a line means, if it is right after these services.
+fn service_of(
+    alloc: Global,
+    instances: &[Instance],
+    plans: &[Plan],
+    bind: &Bind,
+    before: &[Service],
+    tops: &[usize],
+) -> Result<Service, LinkFault>
+    requires plans { length plans.now ≡ length instances.now }
+    requires tops { AreTops (length instances.now) before.now tops.now }
+    ensures right { IfOk result (IsRightBind instances.now plans.now before.now bind.now) }
+    ensures fault { IfErr result (λ fault. fault ≢ LinkFault.NoMemory → IsWrongBind instances.now plans.now before.now bind.now fault) }
+{
+    let service = meaning(alloc, instances, plans, bind)?;
+    let second = service.line;
+    if let Some(first) = first_bound(before, service.user, service.import) {
+        return Err(LinkFault::BoundTwice { first, second });
+    }
+    if let Some(first) = first_used(before, service.giver) {
+        return Err(LinkFault::UsedTwice { first, second });
+    }
+    if top_at(tops, service.user) == service.giver {
+        return Err(LinkFault::Loop { line: second });
+    }
+    Ok(service)
+}
+
+// The top of an instance.
+fn top_at(tops: &[usize], instance: usize) -> usize
+    ensures { result ≡ top_at tops.now instance }
+{
+    match tops.get(instance) {
+        Some(top) => *top,
+        None => instance,
+    }
+}
+
+// Each of n instances as its own top.
+#[tactic(auto, using(crate::proofs::OwnLemmas::one_alone))]
+fn own_tops(alloc: Global, n: usize) -> Result<Vec<usize>, NoMemory>
+    ensures { IfOk result (λ tops. AreTops n [] tops.items) }
+{
+    let mut tops = Vec::new(alloc);
+    for k in 0..n {
+        tops.push(k)?;
+    }
+    Ok(tops)
+}
+
+// The tops after one service more.
+fn tops_after(alloc: Global, tops: &[usize], service: Service) -> Result<Vec<usize>, NoMemory>
+    ensures { IfOk result (λ after. after.items ≡ map (moved service.giver (top_at tops.now service.user)) tops.now) }
+{
+    let top = top_at(tops, service.user);
+    let giver = service.giver;
+    let after = tops
+        .iter()
+        .map(|old| if *old == giver { top } else { *old })
+        .collect(alloc)?;
+    Ok(after)
+}
+
+/// What the lines of a build mean, if all are right, and else why the first that isn't is wrong.
+pub(crate) fn services_of(
+    alloc: Global,
+    instances: &[Instance],
+    plans: &[Plan],
+    binds: &[Bind],
+) -> Result<Vec<Service>, LinkFault>
+    requires { length plans.now ≡ length instances.now }
+    ensures right { IfOk result (λ services. BindsOn instances.now plans.now [] binds.now services.items None) }
+    ensures tops { IfOk result (λ services. (tops : List ℕ) × AreTops (length instances.now) services.items tops) }
+    ensures fault { IfErr result (λ fault. fault ≢ LinkFault.NoMemory → (services : List Service) × BindsOn instances.now plans.now [] binds.now services (Some fault)) }
+{
+    let mut services = Vec::new(alloc);
+    let mut tops = own_tops(alloc, instances.len())?;
+    for bind in binds {
+        match service_of(alloc, instances, plans, bind, &services, &tops) {
+            Ok(service) => {
+                tops = tops_after(alloc, &tops, service)?;
+                services.push(service)?;
+            }
+            Err(fault) => return Err(fault),
+        }
+    }
+    Ok(services)
+}

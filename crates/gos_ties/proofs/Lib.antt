@@ -1,0 +1,9 @@
+mod NumberLemmas
+mod JoinLemmas
+mod FarLemmas
+mod CodeLemmas
+mod ContactLemmas
+mod JointLemmas
+mod PlanLemmas
+mod ThinLemmas
+mod RightLemmas
