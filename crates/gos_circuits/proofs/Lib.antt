@@ -1,3 +1,5 @@
 mod PortLemmas
 mod CircuitLemmas
 mod ObjectLemmas
+mod WholeLemmas
+mod LinkLemmas

@@ -1,6 +1,6 @@
 // The object files of instances are read.
 
-ghost use Rattle.std.specs.Prelude.{◌≡◌, ◌≤◌, IfOk, IfErr, IfSome, IsErrOf};
+ghost use Rattle.std.specs.Prelude.{◌≡◌, ◌≤◌, length, IfOk, IfErr, IfSome, IsErrOf};
 ghost use Rattle.gos_outside.specs.FileName.{IsFileName};
 ghost use Rattle.gos_outside.specs.Files.{bytes_at};
 ghost use Rattle.gos_outside.specs.Faults.{Rose, ReadFault};
@@ -25,6 +25,7 @@ pub fn plans_in<S: Store>(
     store: &mut S,
 ) -> Result<Vec<Plan>, Stop>
     ensures held { IfOk result (λ plans. IfSome (S.contents store.old) (λ files. HoldPlans files instances.now plans.items)) }
+    ensures each { IfOk result (λ plans. length plans.items ≡ length instances.now) }
     ensures rejected { IfErr result (λ stop. IfStopped stop (λ fault line.
         IfSome (S.contents store.old) (λ files. RejectsObject files instances.now fault line))) }
     ensures told { IfErr result (λ stop. IfStopped stop IsTold) }

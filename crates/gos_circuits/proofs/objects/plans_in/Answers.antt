@@ -1,6 +1,6 @@
-use Rattle.std.proofs.Common.{◌≡◌, ◌+◌, ◌∙◌, ◌∷◌, [], List, drop, sym, subst, arith}
+use Rattle.std.proofs.Common.{◌≡◌, ◌+◌, ◌∙◌, ◌∷◌, [], ℕ, List, drop, length, ap, sym, subst, arith}
 use Rattle.std.specs.Prelude.{IfSome}
-use Rattle.std.proofs.lemmas.List.{drop_all}
+use Rattle.std.proofs.lemmas.List.{drop_all, length-append}
 use Rattle.std.proofs.lemmas.Result.{err_from_is_err_and}
 use Rattle.gos_plan.specs.Seen.{SeenPlan}
 use Rattle.gos_link.specs.declared.build.Instance.{Instance}
@@ -18,11 +18,14 @@ loop-instance-preserved g c =
     let i = c.instance-item.result in
     let plans = c.loop-instance.plans.items in
     let before = subst (λ (rest : List Instance). AreReadBefore old all rest plans) (next_instance all k i c.loop-instance-test.true c.instance-item.is) c.loop-instance.invariant.0 in
-    let read = same_read old (g.S.Store.contents c.loop-instance.store) i c.bytes.result.now c.in_ok-plan.plan c.loop-instance.invariant.1 c.bytes.ensures.bytes c.in_ok-plan.ensures.read in
+    let read = same_read old (g.S.Store.contents c.loop-instance.store) i c.bytes.result.now c.in_ok-plan.plan c.loop-instance.invariant.2 c.bytes.ensures.bytes c.in_ok-plan.ensures.read in
+    let items = ap (λ (ps : List SeenPlan). length ps) c.in-Ok.ensures.items in
+    let joined = length-append plans (c.in_ok-plan.plan ∷ []) in
     let more = one_read old all (drop (k + 1) all) i plans c.in_ok-plan.plan before read in (
       subst (λ (ps : List SeenPlan). AreReadBefore old all (drop (k + 1) all) ps) (sym c.in-Ok.ensures.items) more,
-      c.in_ok-plan.ensures.same_files ∙ c.loop-instance.invariant.1,
-      c.in_ok-plan.ensures.same_count (λ e. cc e) ∙ c.loop-instance.invariant.2,
+      omega (arith, items, joined, c.loop-instance.invariant.1),
+      c.in_ok-plan.ensures.same_files ∙ c.loop-instance.invariant.2,
+      c.in_ok-plan.ensures.same_count (λ e. cc e) ∙ c.loop-instance.invariant.3,
     )
 
 pub returns-in_err-plan-clause-rejected : goal.returns-in_err-plan-clause-rejected
@@ -37,7 +40,7 @@ returns-in_err-plan-clause-rejected g c =
     rw (p.1, p.2)
     (of_stopped _ (λ fault line. IfSome old (λ files. RejectsObject files all fault line)) c.in_err-plan.field-0.0
     (λ fault line h. next_rejected old all (drop (k + 1) all) i plans fault line before
-    (same_rejected old (g.S.Store.contents c.loop-instance.store) i c.bytes.result.now fault line c.loop-instance.invariant.1 c.bytes.ensures.bytes h))
+    (same_rejected old (g.S.Store.contents c.loop-instance.store) i c.bytes.result.now fault line c.loop-instance.invariant.2 c.bytes.ensures.bytes h))
     c.in_err-plan.ensures.rejected)
 
 pub returns-clause-held : goal.returns-clause-held
