@@ -9,7 +9,6 @@ use Rattle.gos_model.specs.Steps as steps
 use Rattle.gos_model.specs.Moves.{Program, Running, Act, Computing}
 use Rattle.gos_plan.specs.Firing.{Phase, Rest, First, Second, Test, Branch, Body, Left, Right, Waiting, State, Slot, Req, Ans, Row, at, put, row, row_for, rows, same_slot, firing}
 use Rattle.gos_plan.specs.Kinds as kinds
-use Rattle.gos_compile.specs.Wiring.{operation}
 use Rattle.gos_sessions.specs.Sessions.{run_shake, Form, Sequence, Choice, Loop, Binary, Complement, Session, session, session_of, own_part, own_term, value_of, bits, Computes, LeadsOn, TablesAreRight}
 
 none : (g : Program) (m : Term) → Computes g [] m m
@@ -130,16 +129,6 @@ in_choice g t a b c Branch n s e =
     by_branch false r v x = by_row g (Choice t a b c) (value_of t v) v true _ r x (inr (v, [], refl, refl, none g (value_of t v)))
 in_choice g t a b c p n s e = no_session s e
 
--- an operator of parts computes what that of terms does
-same_result : (op : Op) (w k v : ℕ) → terms.result_of op w k v ≡ kinds.result_of (operation op) w k v
-same_result terms.Add w k v = refl
-same_result terms.Sub w k v = refl
-same_result terms.And w k v = refl
-same_result terms.Or w k v = refl
-same_result terms.Xor w k v = refl
-same_result terms.Eq w k v = refl
-same_result terms.Less w k v = refl
-
 in_binary : (g : Program) (op : Op) (w : ℕ) (a b : Term) (p : Phase) (n : ℕ) (s : Session) → session_of (Binary op w a b) p n ≡ Some s → Goes g (Binary op w a b) p n s
 in_binary g op w a b Left n s e =
     by_session g (Binary op w a b) Left n _ s e (λ r v fits x.
@@ -159,7 +148,7 @@ in_binary g op w a b Right n s e =
       terms.result_of op w n v,
       Computing ∷ [],
       refl,
-      ap (λ k. put (Ans 2) k ∷ []) (sym (same_result op w n v)),
+      refl,
       one g (terms.Held n op (terms.Lit v w)) (terms.Lit (terms.result_of op w n v) (terms.result_width op w)) (v, w, refl, refl, refl),
     )))
 in_binary g op w a b p n s e = no_session s e
@@ -209,7 +198,7 @@ of_loop a b Test n slot r e = inr (session 0 a (Exp 1) (λ x. terms.If x (terms.
 of_loop a b Body n slot r e = inr (session 1 b Com (λ x. terms.Seq x (terms.While a b)), refl, one_row _ r slot e)
 of_loop a b p n slot r e = absurd (none-some r e)
 
-of_binary : (op : Op) (w : ℕ) (a b : Term) (p : Phase) (n : ℕ) (slot : Slot) (r : Row) → row_for slot (rows (kinds.Op (operation op) w) p n) ≡ Some r → Taken (Binary op w a b) p n slot
+of_binary : (op : Op) (w : ℕ) (a b : Term) (p : Phase) (n : ℕ) (slot : Slot) (r : Row) → row_for slot (rows (kinds.Op op w) p n) ≡ Some r → Taken (Binary op w a b) p n slot
 of_binary op w a b Rest n slot r e = inl (refl, one_row _ r slot e)
 of_binary op w a b Left n slot r e = inr (session 0 a (Exp w) (λ x. terms.Bin op x b), refl, one_row _ r slot e)
 of_binary op w a b Right n slot r e = inr (session 1 b (Exp w) (λ x. terms.Held n op x), refl, one_row _ r slot e)

@@ -10,7 +10,6 @@ use Rattle.gos_model.specs.Moves.{Program, Running, Act, Moves, labels}
 use Rattle.gos_plan.specs.Kinds as kinds
 use Rattle.gos_plan.specs.Kinds.{Part, part_contacts}
 use Rattle.gos_plan.specs.Firing.{Phase, Rest, First, Second, Test, Branch, Body, Left, Right, Waiting, State, Slot, Req, Ans, Token, Row, at, put, firing}
-use Rattle.gos_compile.specs.Wiring.{operation}
 
 -- The forms that run one child at a time, with their terms. `!` and `:=` are none: what they do is what a variable's plan is
 -- asked for.
@@ -30,7 +29,7 @@ abbrev pub own_part : Form → Part
 own_part (Sequence t m n) = kinds.Seq (bits t)
 own_part (Choice t m n p) = kinds.If (bits t)
 own_part (Loop m n) = kinds.While
-own_part (Binary op w m n) = kinds.Op (operation op) w
+own_part (Binary op w m n) = kinds.Op op w
 own_part (Complement w m) = kinds.Not w
 
 abbrev pub own_term : Form → Term
