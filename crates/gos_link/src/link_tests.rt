@@ -295,8 +295,8 @@ fn binds_64_imports(rt: HostRuntime) -> Result<(), Fail> {
     let mut object = format!(in alloc; "gosobj 1\nweight 100\nimports 64\n")?;
     let mut joints = format!(in alloc; "result com\nparts 64\n")?;
     let mut plans = Vec::new(alloc);
-    for k in 0..64 {
-        let giver = 63 - k;
+    for k in 0..64_u32 {
+        let giver = 63_u32.saturating_sub(k);
         let line = format!(in alloc; "inst k{k} s k{k}.obj\n")?;
         lines.push_str(&line)?;
         let bind = format!(in alloc; "bind main i{k} k{giver}\n")?;

@@ -12,8 +12,9 @@ use Rattle.gos_command.specs.declared.status.Status.TheVariants as statuses
 use Rattle.gos_command.specs.declared.stop.Stop.{Stop}
 use Rattle.gos_command.specs.declared.stop.Stop.TheVariants as stops
 use Rattle.gos_objects.specs.Checked.{IsSourceFault}
+use Rattle.gos_circuits.specs.Linked.{RejectsLink}
 use Rattle.gos_simulate.specs.Sim.{IsSimFault}
-use Rattle.gos_tool.specs.Command.{Command, Check, Compile, Sim, Build, Means}
+use Rattle.gos_tool.specs.Command.{Command, Check, Compile, Link, Sim, Build, Means}
 use Rattle.gos_tool.specs.Run.{IsDone, IsRejected, IsCutShort, EndsDone, EndsRejected, IsUnsaid, IsUntold}
 
 -- a command is done only where its work is
@@ -35,7 +36,7 @@ third (a ∷ b ∷ c ∷ letters) = c
 third letters = 0
 
 abbrev with_one_file : ℕ → Word → Command
-with_one_file letter file = if nat_eq letter 101 then Check file else Build file
+with_one_file letter file = if nat_eq letter 101 then Check file else (if nat_eq letter 110 then Link file else Build file)
 
 abbrev read_back : List Word → Option Command
 read_back (verb ∷ file ∷ []) = Some (with_one_file (third verb) file)
@@ -46,6 +47,7 @@ read_back words = None
 is_read_back : (words : List Word) (c : Command) → Means words c → read_back words ≡ Some c
 is_read_back words (Check source) means = ap read_back means.0
 is_read_back words (Compile source object) means = ap read_back means.0
+is_read_back words (Link own) means = ap read_back means.0
 is_read_back words (Sim net pulses trace) means = ap read_back means.0
 is_read_back words (Build own) means = ap read_back means.0
 
@@ -139,3 +141,12 @@ compile_rejected source object old new (Ok report) kept file why = tt
 compile_rejected source object old new (Err (stops.Rejected rejection)) kept file why = (kept, file, why)
 compile_rejected source object old new (Err stops.StoreFailed) kept file why = tt
 compile_rejected source object old new (Err stops.NoMemory) kept file why = tt
+
+-- and of `link`
+pub link_rejected : (own : Word) (old new : Option Files) (ended : Result Report Stop)
+    → IfErr ended (λ stop. IfStopped stop (λ fault line. new ≡ old)) → IfErr ended (λ stop. IfStopped stop (λ fault line. IfSome old (λ files. RejectsLink files own fault line)))
+    → IfErr ended (λ stop. IfStopped stop (IsRejected (Link own) old new))
+link_rejected own old new (Ok report) kept why = tt
+link_rejected own old new (Err (stops.Rejected rejection)) kept why = (kept, why)
+link_rejected own old new (Err stops.StoreFailed) kept why = tt
+link_rejected own old new (Err stops.NoMemory) kept why = tt

@@ -14,6 +14,7 @@ use Rattle.gos_tool.specs.SourceFile.{Sequence, IsSourceFile}
 pub data Command : Type 0 where
   Check : (source : Word) → Command
   Compile : (source object : Word) → Command
+  Link : (own : Word) → Command
   Sim : (net pulses trace : Word) → Command
   Build : (own : Word) → Command
 
@@ -26,6 +27,7 @@ abbrev pub Means : List Word → Command → Type 0
 Means words (Check source) = (words ≡ codes "check" ∷ source ∷ []) × IsFileName source
 Means words (Compile source object) =
     (words ≡ codes "compile" ∷ source ∷ object ∷ []) × IsFileName source × IsFileName object × (object ≢ source)
+Means words (Link own) = (words ≡ codes "link" ∷ own ∷ []) × IsFileName own
 Means words (Sim net pulses trace) =
     (words ≡ codes "sim" ∷ net ∷ pulses ∷ trace ∷ []) × IsFileName net × IsFileName pulses × IsFileName trace
     × (trace ≢ net) × (trace ≢ pulses)
@@ -37,7 +39,7 @@ MeanNothing words = (c : Command) → Means words c → ⊥
 
 -- the line for words that are no command
 abbrev pub usage_line : List ℕ
-usage_line = codes "usage: gos check SRC | compile SRC OBJ | sim NET PULSES TRACE | build BUILD" ++ 10 ∷ []
+usage_line = codes "usage: gos check SRC | compile SRC OBJ | link BUILD | sim NET PULSES TRACE | build BUILD" ++ 10 ∷ []
 
 -- what the build file says
 abbrev pub SaysBuild : Files → Word → BuildFile → Type 0

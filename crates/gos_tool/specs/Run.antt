@@ -1,6 +1,6 @@
 -- How the tool's commands end.
 --
--- Read first: Command, Built; Checked and Compiled of gos_objects; Sim of gos_simulate; Lines of gos_command. `old` and `new`
+-- Read first: Command, Built; Checked and Compiled of gos_objects; Linked of gos_circuits; Sim of gos_simulate; Lines of gos_command. `old` and `new`
 -- are the files of the store before and after, `written` and `printed` the bytes of the sink.
 use Rattle.std.specs.Prelude.{◌≡◌, ◌⊎◌, ℕ, List, Option, IfSome}
 use Rattle.gos_outside.specs.Files.{Files, SameBut}
@@ -13,14 +13,17 @@ use Rattle.gos_command.specs.declared.report.Report.{Report}
 use Rattle.gos_command.specs.declared.status.Fault.{Fault}
 use Rattle.gos_objects.specs.Checked.{IsChecked, IsSourceFault}
 use Rattle.gos_objects.specs.Compiled.{IsCompiled, IsCompileCall}
+use Rattle.gos_circuits.specs.Linked as linking
+use Rattle.gos_circuits.specs.Linked.{IsLinkDone, RejectsLink, IsLinkCall, IsLinkCutShort}
 use Rattle.gos_simulate.specs.Sim.{IsSimDone, IsSimFault, IsSimCall}
-use Rattle.gos_tool.specs.Command.{Command, Check, Compile, Sim, Build, Means}
+use Rattle.gos_tool.specs.Command.{Command, Check, Compile, Link, Sim, Build, Means}
 use Rattle.gos_tool.specs.Built.{IsBuilt, Rejects, IsBuildCall, IsBuildCutShort, KeepsUnnamed}
 
 -- all that the command is to do is done, with this report
 abbrev pub IsDone : Command → Option Files → Option Files → Report → Type 0
 IsDone (Check source) old new report = (new ≡ old) × IfSome old (λ files. IsChecked files source report)
 IsDone (Compile source object) old new report = IfSome old (λ files. IsCompiled files new source object report)
+IsDone (Link own) old new report = IsLinkDone old new own report
 IsDone (Sim net pulses trace) old new report = IsSimDone old new net pulses trace report
 IsDone (Build own) old new report = IfSome old (λ files. IsBuilt files new own report)
 
@@ -29,6 +32,7 @@ abbrev pub IsRejected : Command → Option Files → Option Files → Fault → 
 IsRejected (Check source) old new fault line = (new ≡ old) × (fault.file ≡ source) × IfSome old (λ files. IsSourceFault files source fault line)
 IsRejected (Compile source object) old new fault line =
     (new ≡ old) × (fault.file ≡ source) × IfSome old (λ files. IsSourceFault files source fault line)
+IsRejected (Link own) old new fault line = (new ≡ old) × IfSome old (λ files. RejectsLink files own fault line)
 IsRejected (Sim net pulses trace) old new fault line =
     (new ≡ old) × ((fault.file ≡ net) ⊎ (fault.file ≡ pulses)) × IfSome old (λ files. IsSimFault files net pulses fault line)
 IsRejected (Build own) old new fault line = IfSome old (λ files. Rejects files new own fault line)
@@ -37,6 +41,7 @@ IsRejected (Build own) old new fault line = IfSome old (λ files. Rejects files 
 abbrev pub IsCall : Command → Option Files → Option Files → LastFault → Type 0
 IsCall (Check source) old new fault = (fault ≡ ReadFault source) × (new ≡ old)
 IsCall (Compile source object) old new fault = IsCompileCall old new source object fault
+IsCall (Link own) old new fault = IsLinkCall old new own fault
 IsCall (Sim net pulses trace) old new fault = IsSimCall old new net pulses trace fault
 IsCall (Build own) old new fault = IsBuildCall old new own fault
 
@@ -44,6 +49,7 @@ IsCall (Build own) old new fault = IsBuildCall old new own fault
 abbrev pub IsCutShort : Command → Option Files → Option Files → Type 0
 IsCutShort (Check source) old new = new ≡ old
 IsCutShort (Compile source object) old new = new ≡ old
+IsCutShort (Link own) old new = IsLinkCutShort old new own
 IsCutShort (Sim net pulses trace) old new = new ≡ old
 IsCutShort (Build own) old new = IsBuildCutShort old new own
 
@@ -51,6 +57,7 @@ IsCutShort (Build own) old new = IsBuildCutShort old new own
 abbrev pub KeepsOthers : Command → Option Files → Option Files → Type 0
 KeepsOthers (Check source) old new = new ≡ old
 KeepsOthers (Compile source object) old new = SameBut object old new
+KeepsOthers (Link own) old new = linking.KeepsUnnamed own old new
 KeepsOthers (Sim net pulses trace) old new = SameBut trace old new
 KeepsOthers (Build own) old new = KeepsUnnamed own old new
 

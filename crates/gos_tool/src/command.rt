@@ -8,6 +8,7 @@ ghost use Rattle.gos_tool.specs.inner.CommandSeen.{meant, HasFileNames};
 ghost use Rattle.gos_tool.specs.Run.{IsDone, IsRejected, IsCall, IsCutShort, KeepsOthers};
 
 use crate::building::build;
+use gos_circuits::link_build;
 use gos_command::{Report, Stop};
 use gos_objects::{check_source, compile_source};
 use gos_outside::{Store, is_file_name};
@@ -25,6 +26,10 @@ pub enum Command<'a> {
     Compile {
         source: &'a [u8],
         object: &'a [u8],
+    },
+    /// `link BUILD`.
+    Link {
+        own: &'a [u8],
     },
     /// `sim NET PULSES TRACE`.
     Sim {
@@ -95,6 +100,9 @@ fn one_file_of<'a>(verb: &[u8], file: &'a [u8]) -> Option<Command<'a>>
     if verb == b"check".as_slice() {
         return Some(Command::Check { source: file });
     }
+    if verb == b"link".as_slice() {
+        return Some(Command::Link { own: file });
+    }
     if verb == b"build".as_slice() {
         return Some(Command::Build { own: file });
     }
@@ -121,6 +129,7 @@ pub fn run_command<S: Store>(
     match command {
         Command::Check { source } => check_source(alloc, source, store),
         Command::Compile { source, object } => compile_source(alloc, source, object, store),
+        Command::Link { own } => link_build(alloc, own, store),
         Command::Sim { net, pulses, trace } => sim(alloc, net, pulses, trace, store),
         Command::Build { own } => build(alloc, own, store),
     }

@@ -3,7 +3,7 @@
 // `run` is the top call. It knows the outside only as a store of files and a sink of bytes. What it promises is said in
 // specs/: Command (the words), BuildFile and SourceFile (the forms of the files of `build`), Headline (what a circuit of a
 // module is), Built (what `build` leaves, rejects and calls), Run (all commands). The other commands are crates of their
-// own: `check` and `compile` gos_objects, `sim` gos_simulate.
+// own: `check` and `compile` gos_objects, `link` gos_circuits, `sim` gos_simulate.
 #![tactic(auto)]
 
 ghost use Rattle.std.specs.Prelude.{◌≡◌, ◌≢◌};
@@ -35,10 +35,11 @@ use std::alloc::Global;
 /// Does what the words of a command say, with the files of a store, and prints one line to a sink.
 ///
 /// `check SRC` reads a source file and tells the weight of its module. `compile SRC OBJ` checks it in the same way, and
-/// writes the plan of its module. `sim NET PULSES TRACE` reads a netlist and a pulse file, runs the netlist and writes the
-/// trace. `build BUILD` reads the build file and the source file of its instance, writes the netlist and its Verilog text,
-/// reads the pulse file, runs the netlist and writes the trace. Each status but `NoMemory` has its cause; want of memory may
-/// end a command anywhere.
+/// writes the plan of its module. `link BUILD` reads the build file and the object files of its instances, links their
+/// plans, and writes the netlist of a circuit of the whole and its Verilog text. `sim NET PULSES TRACE` reads a netlist and a
+/// pulse file, runs the netlist and writes the trace. `build BUILD` reads the build file and the source file of its instance,
+/// writes the netlist and its Verilog text, reads the pulse file, runs the netlist and writes the trace. Each status but
+/// `NoMemory` has its cause; want of memory may end a command anywhere.
 pub fn run<S: Store, O: Sink>(alloc: Global, words: &[String], store: &mut S, out: &mut O) -> Status
     // Other words are answered with the usage line, and no file is touched.
     ensures usage { result ≡ Status.Usage → MeanNothing (texts words.now) }
@@ -86,7 +87,7 @@ pub fn run<S: Store, O: Sink>(alloc: Global, words: &[String], store: &mut S, ou
         }
         None => say(
             alloc,
-            b"usage: gos check SRC | compile SRC OBJ | sim NET PULSES TRACE | build BUILD\n",
+            b"usage: gos check SRC | compile SRC OBJ | link BUILD | sim NET PULSES TRACE | build BUILD\n",
             Status::Usage,
             out,
         ),

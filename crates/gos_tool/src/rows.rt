@@ -1,4 +1,4 @@
-// Worked rows of the commands `check`, `compile` and `sim`: files, and what is printed.
+// Worked rows of the commands `check`, `compile`, `link` and `sim`: files, and what is printed.
 use crate::run;
 use gos_outside::{SureSink, SureStore};
 use std::alloc::{AllocError, Global};
@@ -16,6 +16,10 @@ const TRACE: &[u8] = b"0 main.run\n1 main.done\n2 main.done\ncycles 3\n";
 
 /// The trace under a second run in the second cycle.
 const TRACE_OF_TWO: &[u8] = b"0 main.run\n1 main.done\n1 main.run\n2 main.done\ncycles 3\n";
+
+/// A build file of one instance.
+const BUILD: &[u8] =
+    b"gosbuild 1\ninst main main.gos main.obj\nroot main\nnet out.net\nverilog out.v\npulses in.pls\ntrace out.trc\n";
 
 /// The object file of `export skip : com`.
 const SKIP_OBJECT: &[u8] =
@@ -145,6 +149,34 @@ fn sources_are_compiled(rt: HostRuntime) -> Result<(), Fail> {
     assert_eq!(rt; shared.code, 2);
     assert!(rt; shared.out.bytes() == b"main.gos: C5 c at 22..23 and 27..28\n".as_slice());
     assert!(rt; shared.store.get(b"main.obj").is_none());
+    Ok(())
+}
+
+// Runs `link` over a build file of one instance with this object.
+fn linked(alloc: Global, object: &[u8]) -> Result<Left, AllocError> {
+    ran(
+        alloc,
+        &["link", "b.txt"],
+        &[
+            (b"b.txt".as_slice(), BUILD),
+            (b"main.obj".as_slice(), object),
+        ],
+    )
+}
+
+#[test]
+fn objects_are_linked(rt: HostRuntime) -> Result<(), Fail> {
+    let alloc = rt.alloc();
+    let skip = linked(alloc, SKIP_OBJECT)?;
+    assert_eq!(rt; skip.code, 0);
+    assert!(rt; skip.out.bytes() == b"ok weight 5\n".as_slice());
+    assert!(rt; skip.store.get(b"out.net").is_some());
+    assert!(rt; skip.store.get(b"out.v").is_some());
+    assert!(rt; skip.store.get(b"out.trc").is_none());
+    let empty = linked(alloc, b"")?;
+    assert_eq!(rt; empty.code, 2);
+    assert!(rt; empty.out.bytes() == b"main.obj: O1 at 0\n".as_slice());
+    assert!(rt; empty.store.get(b"out.net").is_none());
     Ok(())
 }
 

@@ -4,7 +4,8 @@ use Rattle.std.specs.List.{AllByRecursion, flat_map}
 use Rattle.std.proofs.lemmas.List.{append_cancel_left}
 use Rattle.std.proofs.Math.Nat.{pow-le-pow_right}
 use Rattle.gos_netlist.specs.Nets.{Function, Input, Const, Not, And, Or, Xor, Mux, Add, Sub, Eq, Less, Gate, Reg, Cell, NetPort, Netlist}
-use Rattle.gos_netlist.specs.Writable.{IsWidth, IsNumber, OperandsFit, IsWritableCell, IsWritablePort, IsWritable}
+use Rattle.gos_types.specs.Widths.{IsWidth}
+use Rattle.gos_netlist.specs.Writable.{IsNumber, OperandsFit, IsWritableCell, IsWritablePort, IsWritable}
 use Rattle.gos_netcheck.specs.Accepted.{IsAccepted}
 use Rattle.gos_verilog.specs.PortNets.{PortNet, port_nets}
 use Rattle.gos_verilog.specs.Lines.{cell_net, module_head, clock_declarations, port_declaration, cell_declarations, expression, driver, driver_of, output_assignment, assignment}

@@ -1,12 +1,13 @@
 -- A command as its words mean it.
 use Rattle.gos_outside.specs.FileName.{IsFileName}
-use Rattle.gos_tool.specs.Command.{Command, Check, Compile, Sim, Build}
+use Rattle.gos_tool.specs.Command.{Command, Check, Compile, Link, Sim, Build}
 use Rattle.gos_tool.specs.declared.command.Command as declared
 use Rattle.gos_tool.specs.declared.command.Command.TheVariants as words
 
 abbrev pub meant : declared.Command → Command
 meant (words.Check source) = Check source.now
 meant (words.Compile source object) = Compile source.now object.now
+meant (words.Link own) = Link own.now
 meant (words.Sim net pulses trace) = Sim net.now pulses.now trace.now
 meant (words.Build own) = Build own.now
 
@@ -14,5 +15,6 @@ meant (words.Build own) = Build own.now
 abbrev pub HasFileNames : Command → Type 0
 HasFileNames (Check source) = IsFileName source
 HasFileNames (Compile source object) = IsFileName source × IsFileName object
+HasFileNames (Link own) = IsFileName own
 HasFileNames (Sim net pulses trace) = IsFileName net × IsFileName pulses × IsFileName trace
 HasFileNames (Build own) = IsFileName own

@@ -3,7 +3,7 @@ use Rattle.std.specs.Prelude.{IfErr}
 use Rattle.gos_command.specs.Ends.{IfStopped}
 use Rattle.gos_tool.specs.Run.{IsRejected, IsCall}
 use Rattle.gos_tool.specs.inner.CommandSeen.{meant}
-use Rattle.gos_tool.proofs.EndLemmas.{sim_rejected, compile_rejected}
+use Rattle.gos_tool.proofs.EndLemmas.{sim_rejected, compile_rejected, link_rejected}
 use Rattle.gos_tool.proofs.command.run_command.Goals as goal
 
 pub returns-in-Sim-clause-failed_call : goal.returns-in-Sim-clause-failed_call
@@ -27,3 +27,14 @@ returns-in-Compile-clause-rejected g c =
     let new = g.S.Store.contents c.compile_source.new.store in
     subst (λ command. IfErr c.compile_source.result (λ stop. IfStopped stop (IsRejected (meant command) old new))) (sym c.in-Compile.is)
     (compile_rejected c.in-Compile.source.now c.in-Compile.object.now old new c.compile_source.result c.compile_source.ensures.rejected_files c.compile_source.ensures.file c.compile_source.ensures.rejected)
+
+pub returns-in-Link-clause-failed_call : goal.returns-in-Link-clause-failed_call
+returns-in-Link-clause-failed_call g c = λ failed.
+    subst (λ command. IsCall (meant command) (g.S.Store.contents c.args.store.now) (g.S.Store.contents c.link_build.new.store) (g.S.Store.last_fault c.link_build.new.store)) (sym c.in-Link.is) (c.link_build.ensures.failed_call failed)
+
+pub returns-in-Link-clause-rejected : goal.returns-in-Link-clause-rejected
+returns-in-Link-clause-rejected g c =
+    let old = g.S.Store.contents c.args.store.now in
+    let new = g.S.Store.contents c.link_build.new.store in
+    subst (λ command. IfErr c.link_build.result (λ stop. IfStopped stop (IsRejected (meant command) old new))) (sym c.in-Link.is)
+    (link_rejected c.in-Link.own.now old new c.link_build.result c.link_build.ensures.rejected_files c.link_build.ensures.rejected)

@@ -1,0 +1,5 @@
+mod PortLemmas
+mod CircuitLemmas
+mod ObjectLemmas
+mod WholeLemmas
+mod LinkLemmas

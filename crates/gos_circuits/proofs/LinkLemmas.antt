@@ -1,0 +1,148 @@
+-- From the parts of the command `link` to what the whole leaves.
+use Rattle.std.proofs.Common.{◌≡◌, ◌≢◌, ◌≤◌, ◌<◌, ◌⊎◌, ◌∙◌, inl, inr, ℕ, zero, suc, List, [], ◌∷◌, Option, Some, None, length, refl, ap, sym, subst, arith}
+use Rattle.std.specs.Prelude.{IfSome}
+use Rattle.gos_outside.specs.Files.{Files, bytes_at, with_file, SameBut}
+use Rattle.gos_outside.specs.OtherFiles.{OthersSame}
+use Rattle.gos_outside.specs.Faults.{LastFault, WriteFault}
+use Rattle.gos_outside.proofs.OtherFilesLemmas.{none_yet, one_more}
+use Rattle.gos_lines.specs.Lines.{Word}
+use Rattle.gos_netlist.specs.Nets.{Netlist}
+use Rattle.gos_netlist.specs.NetText.{text_of}
+use Rattle.gos_plan.specs.Plans.{Plan}
+use Rattle.gos_plan.specs.Seen.{SeenPlan}
+use Rattle.gos_link.specs.BuildFile.{IsBuildFile, IsFirstWrong}
+use Rattle.gos_link.specs.Linked.{IsLinked, IsUnlinked}
+use Rattle.gos_link.specs.declared.build.Build.{Build}
+use Rattle.gos_link.specs.declared.fault.LinkFault.{LinkFault}
+use Rattle.gos_link.specs.declared.fault.LinkFault.TheVariants as faults
+use Rattle.gos_verilog.specs.VerilogText.{IsVerilogOf}
+use Rattle.gos_command.specs.Files.{IsReadWhole}
+use Rattle.gos_command.specs.Ends.{IsRealCause}
+use Rattle.gos_command.specs.Lines.{fault_line}
+use Rattle.gos_command.specs.declared.report.Report.{Report}
+use Rattle.gos_command.specs.declared.status.Cause.{Cause}
+use Rattle.gos_command.specs.declared.status.Cause.TheVariants.{Link}
+use Rattle.gos_command.specs.declared.status.Fault.{Fault}
+use Rattle.gos_command.proofs.EndLemmas.{of_some, of_some_both}
+use Rattle.gos_circuits.specs.Circuit.{IsCircuitOf}
+use Rattle.gos_circuits.specs.Objects.{HoldPlans, RejectsObject}
+use Rattle.gos_circuits.specs.Linked.{SaysBuild, IsWhole, IsWritten, IsLinkDone, with_net, IsFormCause, IsLinkCause, IsBuildFault, RejectsWhole, RejectsLink, IsWriteCall, IsWriteCutShort}
+use Rattle.gos_circuits.specs.inner.Wholes.{IsWholeDone}
+
+-- a number is at most another one, or above it
+at_most_or_above : (n m : ℕ) → (n ≤ m) ⊎ (m < n)
+at_most_or_above zero m = inl (omega arith)
+at_most_or_above (suc n) zero = inr (omega arith)
+at_most_or_above (suc n) (suc m) = step (at_most_or_above n m)
+  where
+    step : ((n ≤ m) ⊎ (m < n)) → (suc n ≤ suc m) ⊎ (suc m < suc n)
+    step (inl h) = inl (omega (arith, h))
+    step (inr h) = inr (omega (arith, h))
+
+-- the first wrong line of the bytes that were read is that of the file
+pub wrong_file : (own : Word) (read file : List ℕ) (line : ℕ) → IsReadWhole 65536 read file → IsFirstWrong read own line → IsFirstWrong file own line
+wrong_file own read file line whole (inl long) = by (at_most_or_above (length file) 65536)
+  where
+    by : ((length file ≤ 65536) ⊎ (65536 < length file)) → IsFirstWrong file own line
+    by (inl short) = let same = whole.short short in subst (λ (text : List ℕ). IsFirstWrong text own line) same (inl long)
+    by (inr above) = inl (above, long.1)
+wrong_file own read file line whole (inr (inl wrong)) = subst (λ (text : List ℕ). IsFirstWrong text own line) (whole.whole wrong.0) (inr (inl wrong))
+wrong_file own read file line whole (inr (inr missing)) = subst (λ (text : List ℕ). IsFirstWrong text own line) (whole.whole missing.0) (inr (inr missing))
+
+-- the build file says what was read
+pub says_build : (told : Option Files) (own : Word) (read : List ℕ) (b : Build) → IfSome told (λ files. IsReadWhole 65536 read (bytes_at files own))
+    → IsBuildFile read own b → IfSome told (λ files. SaysBuild files own b)
+says_build told own read b whole is =
+    of_some (λ files. IsReadWhole 65536 read (bytes_at files own)) (λ files. SaysBuild files own b) told
+    (λ files h. subst (λ (text : List ℕ). IsBuildFile text own b) (h.whole is.short) is) whole
+
+-- the build file is rejected for its form
+pub wrong_form : (told : Option Files) (own : Word) (read : List ℕ) (why : LinkFault) (fault : Fault) (line : List ℕ)
+    → IfSome told (λ files. IsReadWhole 65536 read (bytes_at files own))
+    → (why ≢ faults.NoMemory → (n : ℕ) × (why ≡ faults.Form n) × IsFirstWrong read own n) → IsRealCause (Link why)
+    → fault ≡ record { file = own; cause = Link why } → line ≡ fault_line None fault → IfSome told (λ files. RejectsLink files own fault line)
+wrong_form told own read why fault line whole first real is says =
+    of_some (λ files. IsReadWhole 65536 read (bytes_at files own)) (λ files. RejectsLink files own fault line) told
+    (λ files h. inl (record {
+      file = ap (λ (f : Fault). f.file) is;
+      cause =
+          let one = first real in
+          let cause : fault.cause ≡ Link (faults.Form one.0) = ap (λ (f : Fault). f.cause) is ∙ ap Link one.1 in
+          subst (λ (c : Cause). IsFormCause (bytes_at files own) own c) (sym cause) (wrong_file own read (bytes_at files own) one.0 h one.2);
+      says = says;
+    }))
+    whole
+
+-- a rejection once the build file is read
+pub rejected_later : (old mid : Option Files) (own : Word) (b : Build) (fault : Fault) (line : List ℕ) → mid ≡ old → IfSome old (λ files. SaysBuild files own b)
+    → IfSome mid (λ files. RejectsWhole files own b fault line) → IfSome old (λ files. RejectsLink files own fault line)
+rejected_later old mid own b fault line same says wrong =
+    of_some_both (λ files. SaysBuild files own b) (λ files. RejectsWhole files own b fault line) (λ files. RejectsLink files own fault line) old
+    (λ files said h. inr (b, said, h)) says (subst (λ (told : Option Files). IfSome told (λ files. RejectsWhole files own b fault line)) same wrong)
+
+-- plans that can't be linked
+pub unlinked : (old : Option Files) (own : Word) (b : Build) (plans : List SeenPlan) (why : LinkFault) (fault : Fault) (line : List ℕ)
+    → IfSome old (λ files. HoldPlans files b.instances.items plans) → (why ≢ faults.NoMemory → IsUnlinked b plans why) → IsRealCause (Link why)
+    → fault ≡ record { file = own; cause = Link why } → line ≡ fault_line None fault → IfSome old (λ files. RejectsWhole files own b fault line)
+unlinked old own b plans why fault line held first real is says =
+    of_some (λ files. HoldPlans files b.instances.items plans) (λ files. RejectsWhole files own b fault line) old
+    (λ files h. inr (record {
+      file = ap (λ (f : Fault). f.file) is;
+      cause = subst (λ (c : Cause). IsLinkCause files b c) (sym (ap (λ (f : Fault). f.cause) is)) (real, plans, h, first real);
+      says = says;
+    }))
+    held
+
+-- the whole was written
+pub whole_done : (old mid new : Option Files) (b : Build) (plans : List SeenPlan) (whole : Plan) (report : Report) → mid ≡ old
+    → IfSome old (λ files. HoldPlans files b.instances.items plans) → IsLinked b plans whole
+    → ((net : Netlist) × IsWritten mid new b whole net) → report ≡ record { weight = Some whole.weight; run = None } → IsWholeDone old new b report
+whole_done old mid new b plans whole report same held linked (net, written) tells =
+    record {
+      whole = whole;
+      net = net;
+      linked = record { plans = plans; held = held; linked = linked };
+      written = subst (λ (told : Option Files). IsWritten told new b whole net) same written;
+      tells = tells;
+    }
+
+pub link_done : (old mid new : Option Files) (own : Word) (b : Build) (report : Report) → mid ≡ old → IfSome old (λ files. SaysBuild files own b)
+    → IsWholeDone mid new b report → IsLinkDone old new own report
+link_done old mid new own b report same says done =
+    let here = subst (λ (told : Option Files). IsWholeDone told new b report) same done in
+    record { build = b; whole = here.whole; net = here.net; says = says; linked = here.linked; written = here.written; tells = here.tells }
+
+-- the files with the netlist of a circuit written
+written_net : (old mid : Option Files) (b : Build) (net : Netlist) (text : List ℕ) → text ≡ text_of net → mid ≡ with_file b.net text old → mid ≡ with_net old b net
+written_net old mid b net text printed written = written ∙ ap (λ (t : List ℕ). with_file b.net t old) printed
+
+pub is_written : (old mid new : Option Files) (b : Build) (whole : Plan) (net : Netlist) (text verilog : List ℕ)
+    → IsCircuitOf b.root whole net → text ≡ text_of net → mid ≡ with_file b.net text old → IsVerilogOf net verilog → new ≡ with_file b.verilog verilog mid
+    → IsWritten old new b whole net
+is_written old mid new b whole net text verilog circuit printed written is wrote =
+    record {
+      verilog = verilog;
+      circuit = circuit;
+      text = is;
+      wrote = wrote ∙ ap (λ (told : Option Files). with_file b.verilog verilog told) (written_net old mid b net text printed written);
+    }
+
+-- the netlist was written, and then the write of its Verilog text failed, or memory ran out
+pub verilog_call : (old mid new : Option Files) (b : Build) (whole : Plan) (net : Netlist) (text : List ℕ) (fault : LastFault)
+    → IsCircuitOf b.root whole net → text ≡ text_of net → mid ≡ with_file b.net text old → fault ≡ WriteFault b.verilog → SameBut b.verilog mid new
+    → IsWriteCall old new b whole fault
+verilog_call old mid new b whole net text fault circuit printed written is same =
+    inr (net, circuit, is, subst (λ (told : Option Files). SameBut b.verilog told new) (written_net old mid b net text printed written) same)
+
+pub has_net : (old mid new : Option Files) (b : Build) (whole : Plan) (net : Netlist) (text : List ℕ)
+    → IsCircuitOf b.root whole net → text ≡ text_of net → mid ≡ with_file b.net text old → new ≡ mid → IsWriteCutShort old new b whole
+has_net old mid new b whole net text circuit printed written kept = inr (net, circuit, kept ∙ written_net old mid b net text printed written)
+
+-- what the writes leave as it was: that of the netlist, and then that of its Verilog text
+pub net_file : (net verilog : Word) (old mid : Option Files) → SameBut net old mid → OthersSame (net ∷ verilog ∷ []) old mid
+net_file net verilog old mid first =
+    one_more net (net ∷ verilog ∷ []) old old mid (λ other apart. apart.0) (none_yet (net ∷ verilog ∷ []) old) first
+
+pub circuit_files : (net verilog : Word) (old mid new : Option Files) → SameBut net old mid → SameBut verilog mid new → OthersSame (net ∷ verilog ∷ []) old new
+circuit_files net verilog old mid new first second =
+    one_more verilog (net ∷ verilog ∷ []) old mid new (λ other apart. apart.1.0) (net_file net verilog old mid first) second

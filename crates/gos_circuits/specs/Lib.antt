@@ -1,0 +1,5 @@
+-- In reading order: a file uses only files above it.
+pub mod Circuit
+pub mod Objects
+pub mod Linked
+pub mod inner

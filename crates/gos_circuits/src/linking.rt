@@ -1,0 +1,123 @@
+// The command `link BUILD`: the build file and the objects are read, and the circuit of the whole is written.
+
+ghost use Rattle.std.specs.Prelude.{◌≡◌, ◌≤◌, ◌∷◌, [], List, Some, None, IfOk, IfErr, IfSome, IsErrOf};
+ghost use Rattle.gos_outside.specs.FileName.{IsFileName};
+ghost use Rattle.gos_outside.specs.OtherFiles.{OthersSame};
+ghost use Rattle.gos_outside.specs.Faults.{Rose};
+ghost use Rattle.gos_netlist.specs.Nets.{Netlist as Circuit};
+ghost use Rattle.gos_plan.specs.Ranges.{AreInRange};
+ghost use Rattle.gos_plan.specs.Seen.{SeenPlan, plan_of};
+ghost use Rattle.gos_link.specs.Linked.{IsLinked};
+ghost use Rattle.gos_command.specs.Ends.{IfStopped, IsTold};
+ghost use Rattle.gos_circuits.specs.Linked.{IsWritten, IsLinkDone, RejectsWhole, RejectsLink};
+ghost use Rattle.gos_circuits.specs.Linked.{IsWriteCall, IsWholeCall, IsLinkCall, IsWriteCutShort, IsWholeCutShort, IsLinkCutShort, KeepsUnnamed};
+ghost use Rattle.gos_circuits.specs.inner.Wholes.{IsWholeDone};
+
+use crate::laying::circuit;
+use crate::objects::plans_in;
+use gos_command::{Cause, Report, Stop, read_file, reject, write_file};
+use gos_link::{Build, link, read_build};
+use gos_netlist::print_net;
+use gos_outside::Store;
+use gos_plan::Plan;
+use gos_verilog::write_verilog;
+use std::alloc::Global;
+
+/// The longest build file, in bytes.
+const BUILD_LIMIT: usize = 65_536;
+
+/// Reads the build file `own` and the object files of its instances, links their plans, and writes the netlist of a circuit
+/// of the whole and its Verilog text.
+///
+/// The build file is rejected with its first wrong line, or else the first object file that is none, or else the build file
+/// with the first reason for which these can't be linked.
+pub fn link_build<S: Store>(alloc: Global, own: &[u8], store: &mut S) -> Result<Report, Stop>
+    requires { IsFileName own.now }
+    ensures done { IfOk result (IsLinkDone (S.contents store.old) (S.contents store.new) own.now) }
+    ensures rejected { IfErr result (λ stop. IfStopped stop (λ fault line.
+        IfSome (S.contents store.old) (λ files. RejectsLink files own.now fault line))) }
+    ensures told { IfErr result (λ stop. IfStopped stop IsTold) }
+    ensures rejected_files { IfErr result (λ stop. IfStopped stop (λ fault line. S.contents store.new ≡ S.contents store.old)) }
+
+    // The store is blamed only for a call that failed, and that the command makes then.
+    ensures failed_only { IsErrOf result Stop.StoreFailed → Rose (S.faults store.old) (S.faults store.new) }
+    ensures failed_call { IsErrOf result Stop.StoreFailed →
+        IsLinkCall (S.contents store.old) (S.contents store.new) own.now (S.last_fault store.new) }
+    ensures same_count { (¬ (IsErrOf result Stop.StoreFailed)) → S.faults store.new ≡ S.faults store.old }
+    ensures memory_files { IsErrOf result Stop.NoMemory → IsLinkCutShort (S.contents store.old) (S.contents store.new) own.now }
+    ensures never_falls { S.faults store.old ≤ S.faults store.new }
+    ensures others { KeepsUnnamed own.now (S.contents store.old) (S.contents store.new) }
+{
+    let text = read_file(alloc, store, own, BUILD_LIMIT)?;
+    match read_build(alloc, text.as_slice(), own) {
+        Ok(build) => link_objects(alloc, own, &build, store),
+        Err(fault) => Err(reject(alloc, own, Cause::Link(fault), None)),
+    }
+}
+
+// Reads the object files, links their plans, and writes the circuit of the whole.
+fn link_objects<S: Store>(
+    alloc: Global,
+    own: &[u8],
+    build: &Build,
+    store: &mut S,
+) -> Result<Report, Stop>
+    requires { IsFileName own.now }
+    ensures done { IfOk result (IsWholeDone (S.contents store.old) (S.contents store.new) build.now) }
+    ensures rejected { IfErr result (λ stop. IfStopped stop (λ fault line.
+        IfSome (S.contents store.old) (λ files. RejectsWhole files own.now build.now fault line))) }
+    ensures told { IfErr result (λ stop. IfStopped stop IsTold) }
+    ensures rejected_files { IfErr result (λ stop. IfStopped stop (λ fault line. S.contents store.new ≡ S.contents store.old)) }
+    ensures failed_only { IsErrOf result Stop.StoreFailed → Rose (S.faults store.old) (S.faults store.new) }
+    ensures failed_call { IsErrOf result Stop.StoreFailed →
+        IsWholeCall (S.contents store.old) (S.contents store.new) build.now (S.last_fault store.new) }
+    ensures same_count { (¬ (IsErrOf result Stop.StoreFailed)) → S.faults store.new ≡ S.faults store.old }
+    ensures memory_files { IsErrOf result Stop.NoMemory → IsWholeCutShort (S.contents store.old) (S.contents store.new) build.now }
+    ensures never_falls { S.faults store.old ≤ S.faults store.new }
+    ensures others { OthersSame (build.now.net ∷ build.now.verilog ∷ []) (S.contents store.old) (S.contents store.new) }
+{
+    let plans = plans_in(alloc, build.instances.as_slice(), store)?;
+    match link(alloc, build, plans.as_slice()) {
+        Ok(whole) => write_circuit(alloc, build, &whole, store),
+        Err(fault) => Err(reject(alloc, own, Cause::Link(fault), None)),
+    }
+}
+
+// Writes the netlist of a circuit of the whole, and then the Verilog text of this very netlist.
+fn write_circuit<S: Store>(
+    alloc: Global,
+    build: &Build,
+    whole: &Plan,
+    store: &mut S,
+) -> Result<Report, Stop>
+    requires { (plans : List SeenPlan) × IsLinked build.now plans (plan_of whole.now) }
+    ensures written { IfOk result (λ report. (net : Circuit) × IsWritten (S.contents store.old) (S.contents store.new) build.now (plan_of whole.now) net) }
+    ensures tells { IfOk result (λ report. report ≡ record { weight = Some whole.now.weight; run = None }) }
+    ensures rejects_nothing { IfErr result (λ stop. IfStopped stop (λ fault line. ⊥)) }
+    ensures failed_only { IsErrOf result Stop.StoreFailed → Rose (S.faults store.old) (S.faults store.new) }
+    ensures failed_call { IsErrOf result Stop.StoreFailed →
+        IsWriteCall (S.contents store.old) (S.contents store.new) build.now (plan_of whole.now) (S.last_fault store.new) }
+    ensures same_count { (¬ (IsErrOf result Stop.StoreFailed)) → S.faults store.new ≡ S.faults store.old }
+    ensures memory_files { IsErrOf result Stop.NoMemory →
+        IsWriteCutShort (S.contents store.old) (S.contents store.new) build.now (plan_of whole.now) }
+    ensures never_falls { S.faults store.old ≤ S.faults store.new }
+    ensures others { OthersSame (build.now.net ∷ build.now.verilog ∷ []) (S.contents store.old) (S.contents store.new) }
+{
+    is_in_range(whole);
+    let net = circuit(alloc, whole, &build.root)?;
+    let text = print_net(alloc, net.netlist())?;
+    write_file(alloc, store, build.net.bytes(), text.as_slice())?;
+    let verilog = write_verilog(alloc, &net)?;
+    write_file(alloc, store, build.verilog.bytes(), verilog.as_slice())?;
+    Ok(Report {
+        weight: Some(whole.weight()),
+        run: None,
+    })
+}
+
+// The numbers of a plan are in range, as of each plan.
+fn is_in_range(plan: &Plan)
+    ensures { AreInRange plan.now.imports plan.now.outcome plan.now.parts }
+{
+    let _parts = plan.parts();
+}
