@@ -55,7 +55,8 @@ fn named_text(alloc: Global, word: &[u8], line: u64, name: &[u8]) -> Result<Vec<
 }
 
 fn differs_text(alloc: Global, line: u64, want: &Ty, got: &Ty) -> Result<Vec<u8>, NoMemory>
-    ensures { IfOk result (λ text. text.items ≡ counted (codes "B4 line ") line ++ codes " want " ++ type_text (type_of want.now) ++ codes " got " ++ type_text (type_of got.now)) }
+    ensures { IfOk result (λ text. text.items ≡ counted (codes "B4 line ") line ++ codes " want " ++ type_text (type_of want.now)
+        ++ codes " got " ++ type_text (type_of got.now)) }
 {
     let wanted = print_ty(alloc, want)?;
     let found = print_ty(alloc, got)?;

@@ -99,7 +99,8 @@ fn add_found(
     joints: &mut Vec<Joint>,
 ) -> Result<(), NoMemory>
     requires { tables.now.stride ≤ most }
-    ensures { OnOk result (map joint_of joints.new.items ≡ map joint_of joints.old.items ++ found (bare imports.now outcome.now parts.now) (far_by tables.now) point) }
+    ensures { OnOk result (map joint_of joints.new.items ≡ map joint_of joints.old.items
+        ++ found (bare imports.now outcome.now parts.now) (far_by tables.now) point) }
 {
     if let Some(joint) = found(alloc, imports, outcome, parts, tables, point)? {
         joints.push(joint)?;

@@ -29,7 +29,8 @@ use std::alloc::Global;
 /// most two joints for each unit of its weight, and its parts and their handshakes are at most four. The text of a plan
 /// with at most 64 imports is one that `read_object` reads. `Err` is want of memory alone.
 pub fn compile(alloc: Global, program: &Linear) -> Result<Plan, NoMemory>
-    ensures plan { IfOk result (λ plan. IsPlanOf (program_in program.now).imports (type_of program.now.result) program.now.weight (node_seen program.now.term) (plan_of plan)) }
+    ensures plan { IfOk result (λ plan. IsPlanOf (program_in program.now).imports (type_of program.now.result) program.now.weight
+        (node_seen program.now.term) (plan_of plan)) }
     ensures slim { IfOk result (λ plan. IsSlim (plan_of plan)) }
     ensures few_parts { IfOk result (λ plan. length (plan_of plan).parts ≤ 16384) }
     ensures few_joints { IfOk result (λ plan. length (plan_of plan).joints ≤ 16384) }

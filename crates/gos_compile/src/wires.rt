@@ -78,7 +78,9 @@ impl Wires {
         out: &[Point],
     ) -> Result<(), NoMemory>
         requires { spent self.old + length out.now + 3 ≤ most }
-        ensures own { OnOk result (seen self.new ≡ with_own (kinds.Local w v ∷ []) (led out.now (Place.Part (next_part (seen self.old))) 3 ++ led (row (Place.Number number) 0 2) (Place.Part (next_part (seen self.old))) 1) (seen self.old)) }
+        ensures own { OnOk result (seen self.new ≡ with_own (kinds.Local w v ∷ [])
+            (led out.now (Place.Part (next_part (seen self.old))) 3
+            ++ led (row (Place.Number number) 0 2) (Place.Part (next_part (seen self.old))) 1) (seen self.old)) }
         ensures spent { OnOk result (spent self.new ≡ spent self.old + 2) }
     {
         let part = Place::Part(self.next());

@@ -174,7 +174,8 @@ impl Arrivals {
 
 // Fills an entry of one of several lists, if it is there.
 fn fill_of(lists: &mut Vec<Vec<Arrival>>, at: usize, shake: usize, start: u32)
-    ensures { (i h : ℕ) → arrival_in (slice_get (map (λ s. s.items) lists.new.items) i) h ≡ filled_if (nat_eq i at && nat_eq h shake) start (arrival_in (slice_get (map (λ s. s.items) lists.old.items) i) h) }
+    ensures { (i h : ℕ) → arrival_in (slice_get (map (λ s. s.items) lists.new.items) i) h
+        ≡ filled_if (nat_eq i at && nat_eq h shake) start (arrival_in (slice_get (map (λ s. s.items) lists.old.items) i) h) }
 {
     if at < lists.len() {
         fill_entry(&mut lists[at], shake, start);

@@ -9,7 +9,21 @@ ghost use Rattle.gos_plan.specs.Size.{shakes_of};
 ghost use Rattle.gos_plan.specs.Ranges.{IsInRange};
 ghost use Rattle.gos_expand.specs.Blocks.{token_size, total};
 ghost use Rattle.gos_expand.specs.Gates.{part_size};
-ghost use Rattle.gos_expand.specs.Starts.{keep_all, shake_size, port_size, ports_of, joints_start, joint_size, loose_ends, loose_ends_start, loose_size, parts_start, laid_size, bits_if, bits_taken};
+ghost use Rattle.gos_expand.specs.Starts.{
+  keep_all,
+  shake_size,
+  port_size,
+  ports_of,
+  joints_start,
+  joint_size,
+  loose_ends,
+  loose_ends_start,
+  loose_size,
+  parts_start,
+  laid_size,
+  bits_if,
+  bits_taken,
+};
 ghost use Rattle.gos_expand.specs.inner.Arrivals.{AreAt, Exist, or_else, start_by, start_by_joints, start_by_ends, joined_start, start_at};
 ghost use Rattle.gos_expand.specs.inner.Numbering.{IsExpandable, IsNumbered, starts};
 
@@ -109,7 +123,8 @@ fn number_joints(arrivals: &mut Arrivals, plan: &Plan, from: u32) -> u32
 // Numbers the registers of a joint: first those of the request. Gives what comes behind them.
 fn number_joint(arrivals: &mut Arrivals, joint: Joint, from: u32) -> u32
     requires { from + 4 ≤ 4294967295 }
-    ensures table { (p : APlan) (f : AnEnd → Option ℕ) → AreAt p f arrivals.old → AreAt p (λ e. or_else (f e) (start_by p from (joint_of joint) e)) arrivals.new }
+    ensures table { (p : APlan) (f : AnEnd → Option ℕ) → AreAt p f arrivals.old
+        → AreAt p (λ e. or_else (f e) (start_by p from (joint_of joint) e)) arrivals.new }
     ensures next { (p : APlan) (f : AnEnd → Option ℕ) → AreAt p f arrivals.old → result ≡ from + joint_size keep_all p 0 (joint_of joint) }
     ensures few { result ≤ from + 4 }
 {
@@ -121,8 +136,10 @@ fn number_joint(arrivals: &mut Arrivals, joint: Joint, from: u32) -> u32
 
 // How many cells the request and the answer of a joint have.
 fn joint_sizes(arrivals: &Arrivals, joint: Joint) -> (u32, u32)
-    ensures request { (p : APlan) (f : AnEnd → Option ℕ) → AreAt p f arrivals.now → result.0 ≡ token_size (bits_if (contact_at p (joint_of joint).asking) Request) }
-    ensures answer { (p : APlan) (f : AnEnd → Option ℕ) → AreAt p f arrivals.now → result.1 ≡ token_size (bits_if (contact_at p (joint_of joint).asking) Answer) }
+    ensures request { (p : APlan) (f : AnEnd → Option ℕ) → AreAt p f arrivals.now
+        → result.0 ≡ token_size (bits_if (contact_at p (joint_of joint).asking) Request) }
+    ensures answer { (p : APlan) (f : AnEnd → Option ℕ) → AreAt p f arrivals.now
+        → result.1 ≡ token_size (bits_if (contact_at p (joint_of joint).asking) Answer) }
     ensures few { (result.0 ≤ 2) × (result.1 ≤ 2) }
 {
     match arrivals.get(joint.asks) {
@@ -148,7 +165,8 @@ fn loose_ends(alloc: Global, plan: &Plan, arrivals: &Arrivals) -> Result<Vec<End
 
 // Those of these ends at which nothing comes in by a joint.
 fn free_ends(alloc: Global, ends: &[End], arrivals: &Arrivals) -> Result<Vec<End>, NoMemory>
-    ensures free { IfOk result (λ free. (p : APlan) → AreAt p (joined_start p) arrivals.now → Exist p (map end_of ends.now) → map end_of free.items ≡ filter (λ e. is_free e p.joints) (map end_of ends.now)) }
+    ensures free { IfOk result (λ free. (p : APlan) → AreAt p (joined_start p) arrivals.now → Exist p (map end_of ends.now)
+        → map end_of free.items ≡ filter (λ e. is_free e p.joints) (map end_of ends.now)) }
     ensures few { IfOk result (λ free. length free.items ≤ length ends.now) }
 {
     let mut free = Vec::new(alloc);
@@ -173,7 +191,8 @@ fn is_loose(arrivals: &Arrivals, end: End) -> bool
 // Numbers the constants of ends in no joint. Gives what comes behind them.
 fn number_loose(arrivals: &mut Arrivals, loose: &[End], from: u32) -> u32
     requires { from + 2 * length loose.now ≤ 4294967295 }
-    ensures table { (p : APlan) (f : AnEnd → Option ℕ) → AreAt p f arrivals.old → AreAt p (λ e. or_else (f e) (start_by_ends p from (map end_of loose.now) e)) arrivals.new }
+    ensures table { (p : APlan) (f : AnEnd → Option ℕ) → AreAt p f arrivals.old
+        → AreAt p (λ e. or_else (f e) (start_by_ends p from (map end_of loose.now) e)) arrivals.new }
     ensures next { (p : APlan) (f : AnEnd → Option ℕ) → AreAt p f arrivals.old → result ≡ from + total (loose_size p) 0 (map end_of loose.now) }
     ensures few { result ≤ from + 2 * length loose.now }
 {

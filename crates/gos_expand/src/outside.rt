@@ -26,7 +26,8 @@ pub(crate) fn ports(
 ) -> Result<Vec<Port>, NoMemory>
     requires small { IsExpandable plan.now }
     requires numbered { IsNumbered (plan_of plan.now) numbering.now }
-    ensures { IfOk result (λ ports. ports.items ≡ laid_port (plan_of plan.now) 0 root.now Give (type_of plan.now.outcome) ∷ taken (plan_of plan.now) 1 (plan_of plan.now).imports) }
+    ensures { IfOk result (λ ports. ports.items ≡ laid_port (plan_of plan.now) 0 root.now Give (type_of plan.now.outcome) ∷ taken
+        (plan_of plan.now) 1 (plan_of plan.now).imports) }
 {
     let mut ports = Vec::new(alloc);
     ports.push(port(alloc, root, Side::Give, plan.result(), numbering.ports[0])?)?;
@@ -44,7 +45,8 @@ pub(crate) fn ports(
 fn port(alloc: Global, name: &Name, side: Side, ty: &Ty, start: u32) -> Result<Port, NoMemory>
     requires ground { IsGround (type_of ty.now) }
     requires room { start + 6 ≤ 4294967295 }
-    ensures { IfOk result (λ port. port ≡ record { name = name.now; side = side_of side; ty = type_of ty.now; nets = nets_on start (total shake_size 0 (contacts_of (type_of ty.now))) }) }
+    ensures { IfOk result (λ port. port
+        ≡ record { name = name.now; side = side_of side; ty = type_of ty.now; nets = nets_on start (total shake_size 0 (contacts_of (type_of ty.now))) }) }
 {
     let mut nets = Vec::new(alloc);
     for place in 0..port_cells(ty) {

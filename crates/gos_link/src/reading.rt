@@ -3,7 +3,22 @@
 ghost use Rattle.std.specs.Prelude.{◌≡◌, ◌≢◌, ◌<◌, ◌+◌, ◌&&◌, ◌^◌, ◌↔◌, [], ℕ, Some, None, map, length, IfOk, IfErr, IsTrue, MatchOption};
 ghost use Rattle.std.specs.Str.Lines.{lines};
 ghost use Rattle.gos_lines.specs.Lines.{statements_from};
-ghost use Rattle.gos_link.specs.BuildFile.{sort_of, IsWrongAt, IsBuildFile, IsFirstWrong, IsRightAfter, ReadsOn, has_instance, has_source, has_no_source, is_new, is_new_file, is_new_source, last_sort, may_follow};
+ghost use Rattle.gos_link.specs.BuildFile.{
+  sort_of,
+  IsWrongAt,
+  IsBuildFile,
+  IsFirstWrong,
+  IsRightAfter,
+  ReadsOn,
+  has_instance,
+  has_source,
+  has_no_source,
+  is_new,
+  is_new_file,
+  is_new_source,
+  last_sort,
+  may_follow,
+};
 
 use crate::build::Build;
 use crate::fault::LinkFault;
@@ -37,7 +52,8 @@ pub fn read_build(alloc: Global, text: &[u8], own: &[u8]) -> Result<Build, LinkF
 fn read_items(alloc: Global, text: &[u8], own: &[u8]) -> Result<Vec<Item>, LinkFault>
     requires { 1 + length text.now < 2 ^ 64 }
     ensures read { IfOk result (λ items. ReadsOn own.now [] (statements_from 1 (lines text.now)) items.items None) }
-    ensures fault { IfErr result (λ fault. fault ≢ LinkFault.NoMemory → (line : ℕ) × (fault ≡ LinkFault.Form line) × IsWrongAt own.now (statements_from 1 (lines text.now)) line) }
+    ensures fault { IfErr result (λ fault. fault ≢ LinkFault.NoMemory → (line : ℕ) × (fault ≡ LinkFault.Form line)
+        × IsWrongAt own.now (statements_from 1 (lines text.now)) line) }
 {
     let mut items = Vec::new(alloc);
     let mut line = 1;
@@ -65,7 +81,9 @@ fn read_item(
     own: &[u8],
     before: &[Item],
 ) -> Result<Option<Said>, NoMemory>
-    ensures { IfOk result (λ found. MatchOption found ((said : Said) → IsRightAfter own.now before.now (map (λ word. word.now) words.now) said → ⊥) (IsRightAfter own.now before.now (map (λ word. word.now) words.now))) }
+    ensures { IfOk result (λ found. MatchOption found ((said : Said)
+        → IsRightAfter own.now before.now (map (λ word. word.now) words.now) said → ⊥)
+        (IsRightAfter own.now before.now (map (λ word. word.now) words.now))) }
 {
     match said_by(alloc, words)? {
         Some(said) if is_right(&said, own, before) => Ok(Some(said)),

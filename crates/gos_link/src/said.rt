@@ -140,7 +140,9 @@ fn said_by_four(
     second: &[u8],
     third: &[u8],
 ) -> Result<Option<Said>, NoMemory>
-    ensures { IfOk result (λ found. MatchOption found ((said : Said) → Says (word.now ∷ first.now ∷ second.now ∷ third.now ∷ []) said → ⊥) (Says (word.now ∷ first.now ∷ second.now ∷ third.now ∷ []))) }
+    ensures { IfOk result (λ found. MatchOption found ((said : Said)
+        → Says (word.now ∷ first.now ∷ second.now ∷ third.now ∷ []) said → ⊥)
+        (Says (word.now ∷ first.now ∷ second.now ∷ third.now ∷ []))) }
 {
     if word == b"inst".as_slice() {
         said_by_inst(alloc, first, second, third)
@@ -158,7 +160,9 @@ fn said_by_inst(
     source: &[u8],
     object: &[u8],
 ) -> Result<Option<Said>, NoMemory>
-    ensures { IfOk result (λ found. MatchOption found ((said : Said) → Says (codes "inst" ∷ name.now ∷ source.now ∷ object.now ∷ []) said → ⊥) (Says (codes "inst" ∷ name.now ∷ source.now ∷ object.now ∷ []))) }
+    ensures { IfOk result (λ found. MatchOption found ((said : Said)
+        → Says (codes "inst" ∷ name.now ∷ source.now ∷ object.now ∷ []) said → ⊥)
+        (Says (codes "inst" ∷ name.now ∷ source.now ∷ object.now ∷ []))) }
 {
     if !is_name(name) || !is_file_name(source) || !is_file_name(object) {
         return Ok(None);
@@ -180,7 +184,9 @@ fn said_by_bind(
     import: &[u8],
     giver: &[u8],
 ) -> Result<Option<Said>, NoMemory>
-    ensures { IfOk result (λ found. MatchOption found ((said : Said) → Says (codes "bind" ∷ user.now ∷ import.now ∷ giver.now ∷ []) said → ⊥) (Says (codes "bind" ∷ user.now ∷ import.now ∷ giver.now ∷ []))) }
+    ensures { IfOk result (λ found. MatchOption found ((said : Said)
+        → Says (codes "bind" ∷ user.now ∷ import.now ∷ giver.now ∷ []) said → ⊥)
+        (Says (codes "bind" ∷ user.now ∷ import.now ∷ giver.now ∷ []))) }
 {
     if !is_name(user) || !is_name(import) || !is_name(giver) {
         return Ok(None);
@@ -197,7 +203,8 @@ fn said_by_bind(
 
 // Two words, where there are two.
 fn two_words<'a>(words: &[&'a [u8]]) -> Option<(&'a [u8], &'a [u8])>
-    ensures { MatchOption result ((a b : Word) → map (λ word. word.now) words.now ≡ a ∷ b ∷ [] → ⊥) (λ pair. map (λ word. word.now) words.now ≡ pair.0.now ∷ pair.1.now ∷ []) }
+    ensures { MatchOption result ((a b : Word) → map (λ word. word.now) words.now ≡ a ∷ b ∷ [] → ⊥) (λ pair.
+        map (λ word. word.now) words.now ≡ pair.0.now ∷ pair.1.now ∷ []) }
 {
     match words {
         [a, b] => Some((*a, *b)),
@@ -207,7 +214,8 @@ fn two_words<'a>(words: &[&'a [u8]]) -> Option<(&'a [u8], &'a [u8])>
 
 // Four words, where there are four.
 fn four_words<'a>(words: &[&'a [u8]]) -> Option<(&'a [u8], &'a [u8], &'a [u8], &'a [u8])>
-    ensures { MatchOption result ((a b c d : Word) → map (λ word. word.now) words.now ≡ a ∷ b ∷ c ∷ d ∷ [] → ⊥) (λ all. map (λ word. word.now) words.now ≡ all.0.now ∷ all.1.now ∷ all.2.now ∷ all.3.now ∷ []) }
+    ensures { MatchOption result ((a b c d : Word) → map (λ word. word.now) words.now ≡ a ∷ b ∷ c ∷ d ∷ [] → ⊥) (λ all.
+        map (λ word. word.now) words.now ≡ all.0.now ∷ all.1.now ∷ all.2.now ∷ all.3.now ∷ []) }
 {
     match words {
         [a, b, c, d] => Some((*a, *b, *c, *d)),
@@ -218,7 +226,8 @@ fn four_words<'a>(words: &[&'a [u8]]) -> Option<(&'a [u8], &'a [u8], &'a [u8], &
 /// What a line of these words says, if it is of one of the forms. `Err` is want of memory alone.
 #[tactic(auto, using(crate::proofs::SaidLemmas::says_nothing))]
 pub(crate) fn said_by(alloc: Global, words: &[&[u8]]) -> Result<Option<Said>, NoMemory>
-    ensures { IfOk result (λ found. MatchOption found ((said : Said) → Says (map (λ word. word.now) words.now) said → ⊥) (Says (map (λ word. word.now) words.now))) }
+    ensures { IfOk result (λ found. MatchOption found ((said : Said) → Says (map (λ word. word.now) words.now) said → ⊥)
+        (Says (map (λ word. word.now) words.now))) }
 {
     if let Some((word, name)) = two_words(words) {
         return said_by_two(alloc, word, name);

@@ -88,7 +88,8 @@ pub fn part_contacts(alloc: Global, kind: &Kind) -> Result<Vec<Contact>, NoMemor
 // The handshakes of a Share: the source's, which it uses, and those of two callers.
 #[tactic(auto, using(crate::proofs::SeatLemmas::contacts_shared))]
 fn share_contacts(alloc: Global, ty: &Ty) -> Result<Vec<Contact>, NoMemory>
-    ensures { IfOk result (λ contacts. contacts.items ≡ map held_contact (other_side (contacts_of (type_of ty.now)) ++ (contacts_of (type_of ty.now) ++ contacts_of (type_of ty.now)))) }
+    ensures { IfOk result (λ contacts. contacts.items ≡ map held_contact
+        (other_side (contacts_of (type_of ty.now)) ++ (contacts_of (type_of ty.now) ++ contacts_of (type_of ty.now)))) }
 {
     let shakes = handshakes(alloc, ty)?;
     let mut contacts = Vec::new(alloc);

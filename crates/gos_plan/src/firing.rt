@@ -246,7 +246,9 @@ fn repeat(q: State, slot: Slot, value: u64) -> Option<Firing>
 
 // What a While does with the answer of its test.
 fn tested(number: u64, value: u64) -> Option<Firing>
-    ensures { fired_of result ≡ Some record { next = at (if nat_eq value 1 then Body else Rest) number; tokens = (if nat_eq value 1 then put (Req 1) 0 else put (Ans 2) 0) ∷ [] } }
+    ensures { fired_of result
+        ≡ Some
+        record { next = at (if nat_eq value 1 then Body else Rest) number; tokens = (if nat_eq value 1 then put (Req 1) 0 else put (Ans 2) 0) ∷ [] } }
 {
     if value == 1 {
         to(Phase::Body, number, Slot::Req(1), 0)

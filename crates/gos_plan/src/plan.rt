@@ -118,9 +118,12 @@ pub fn make(
     joints: Vec<Joint>,
 ) -> Result<Plan, ObjectFault>
     requires { AreInRange imports.items outcome parts.items }
-    ensures plan { IfOk result (λ plan. plan ≡ record { weight = weight; imports = imports.items; outcome = outcome; parts = parts.items; joints = joints.items }) }
+    ensures plan { IfOk result (λ plan.
+        plan ≡ record { weight = weight; imports = imports.items; outcome = outcome; parts = parts.items; joints = joints.items }) }
     ensures right { IfOk result (λ plan. IsRight (plan_of plan)) }
-    ensures fault { IfErr result (IsFault (record { weight = weight; imports = imports.items; outcome = outcome; parts = parts.items; joints = joints.items })) }
+    ensures fault { IfErr result
+        (IsFault
+        (record { weight = weight; imports = imports.items; outcome = outcome; parts = parts.items; joints = joints.items })) }
 {
     match judge(alloc, &imports, &outcome, &parts, &joints) {
         Ok(()) => Ok(Plan {
@@ -142,8 +145,15 @@ fn judge(
     parts: &[Kind],
     joints: &[Joint],
 ) -> Result<(), ObjectFault>
-    ensures right { IfOk result (λ _. (weight : ℕ) → IsRight (plan_of (record { weight = weight; imports = imports.now; outcome = outcome.now; parts = parts.now; joints = joints.now }))) }
-    ensures fault { IfErr result (λ fault. (weight : ℕ) → IsFault (record { weight = weight; imports = imports.now; outcome = outcome.now; parts = parts.now; joints = joints.now }) fault) }
+    ensures right { IfOk result (λ _.
+        (weight : ℕ)
+        → IsRight
+        (plan_of
+        (record { weight = weight; imports = imports.now; outcome = outcome.now; parts = parts.now; joints = joints.now }))) }
+    ensures fault { IfErr result (λ fault.
+        (weight : ℕ)
+        → IsFault
+        (record { weight = weight; imports = imports.now; outcome = outcome.now; parts = parts.now; joints = joints.now }) fault) }
 {
     let mut seats = Seats::new(alloc, imports, outcome, parts)?;
     for index in 0..joints.len() {

@@ -4,7 +4,23 @@ ghost use Rattle.std.specs.List.{flat_map};
 ghost use Rattle.gos_types.specs.Types.{type_of};
 ghost use Rattle.gos_plan.specs.Ranges.{IsInRange};
 ghost use Rattle.gos_plan.specs.Seen.{part_of, end_of, joint_of, import_of, plan_of};
-ghost use Rattle.gos_plan.specs.ObjectText.{number_text, type_text, word_text, word_of, body_text, operands_text, part_text, import_text, end_text, joint_text, sized_text, imports_text, parts_text, joints_text, text_of};
+ghost use Rattle.gos_plan.specs.ObjectText.{
+  number_text,
+  type_text,
+  word_text,
+  word_of,
+  body_text,
+  operands_text,
+  part_text,
+  import_text,
+  end_text,
+  joint_text,
+  sized_text,
+  imports_text,
+  parts_text,
+  joints_text,
+  text_of,
+};
 ghost use Rattle.gos_plan.specs.declared.word.SizedWord.TheVariants.{Op as operator};
 
 use crate::kinds::{Kind, Op2};

@@ -159,7 +159,8 @@ fn meet(asking: Seat, serving: Seat) -> bool
 // Takes a seat of one of several lists.
 fn take_of(lists: &mut Vec<Vec<Seat>>, at: usize, shake: usize)
     requires { IsSome (seat_in (slice_get (map (λ seats. seats.items) lists.old.items) at) shake) }
-    ensures { (i h : ℕ) → seat_in (slice_get (map (λ seats. seats.items) lists.new.items) i) h ≡ taken_if (nat_eq i at && nat_eq h shake) (seat_in (slice_get (map (λ seats. seats.items) lists.old.items) i) h) }
+    ensures { (i h : ℕ) → seat_in (slice_get (map (λ seats. seats.items) lists.new.items) i) h
+        ≡ taken_if (nat_eq i at && nat_eq h shake) (seat_in (slice_get (map (λ seats. seats.items) lists.old.items) i) h) }
 {
     take_seat(&mut lists[at], shake);
 }

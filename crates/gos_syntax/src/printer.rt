@@ -122,7 +122,9 @@ fn add_term(alloc: Global, text: &mut Vec<u8>, term: &Term) -> Result<(), NoMemo
 // Adds the text of a pair.
 #[cycle(printing)]
 fn add_pair(alloc: Global, text: &mut Vec<u8>, first: &Term, second: &Term) -> Result<(), NoMemory>
-    ensures { OnOk result (text.new.items ≡ text.old.items ++ codes "(" ++ text_of (tree_of first.now.form first.now.span) ++ codes ", " ++ text_of (tree_of second.now.form second.now.span) ++ codes ")") }
+    ensures { OnOk result (text.new.items ≡ text.old.items ++ codes
+        "(" ++ text_of (tree_of first.now.form first.now.span) ++ codes ", "
+        ++ text_of (tree_of second.now.form second.now.span) ++ codes ")") }
 {
     add(text, b"(")?;
     add_term(alloc, text, first)?;

@@ -80,7 +80,8 @@ fn sim_of<'a>(verb: &[u8], net: &'a [u8], pulses: &'a [u8], trace: &'a [u8]) -> 
 }
 
 fn compile_of<'a>(verb: &[u8], source: &'a [u8], object: &'a [u8]) -> Option<Command<'a>>
-    ensures { MatchOption result (MeanNothing (verb.now ∷ source.now ∷ object.now ∷ [])) (λ command. Means (verb.now ∷ source.now ∷ object.now ∷ []) (meant command)) }
+    ensures { MatchOption result (MeanNothing (verb.now ∷ source.now ∷ object.now ∷ [])) (λ command.
+        Means (verb.now ∷ source.now ∷ object.now ∷ []) (meant command)) }
 {
     if verb != b"compile".as_slice() || !is_file_name(source) || !is_file_name(object) {
         return None;
