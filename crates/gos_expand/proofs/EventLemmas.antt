@@ -1,5 +1,5 @@
 -- How many outputs and inputs come at an end of a port in the list of a cycle: as its pulse says.
-use Rattle.std.proofs.Common.{◌≡◌, ℕ, suc, ◌+◌, Bool, true, false, List, [], ◌∷◌, ◌++◌, refl, ap, subst, arith, nat_eq, if◌then◌else◌}
+use Rattle.std.proofs.Common.{◌≡◌, ℕ, suc, ◌+◌, Bool, true, false, List, [], ◌∷◌, ◌++◌, refl, ap, subst, ◌∙◌, arith, nat_eq, if◌then◌else◌}
 use Rattle.gos_netlist.specs.Settling.{Numbers, at}
 use Rattle.gos_plan.specs.Plans.{End, Plan, same_end}
 use Rattle.gos_plan.specs.Tokens.{Element, Fire, Out, In}
@@ -63,17 +63,6 @@ ins_of_fires : (e : End) (fs : List PartFiring) → ins_at e (fires_of fs) ≡ 0
 ins_of_fires e [] = refl
 ins_of_fires e (f ∷ fs) = ins_of_fires e fs
 
-pub no_in_before : (e : End) (v : Numbers) (bits : End → ℕ) (nets : End → Nets) (ds : List End) → occurs e ds ≡ 0 → ins_at e (elements In v bits nets ds) ≡ 0
-no_in_before e v bits nets [] h = refl
-no_in_before e v bits nets (d ∷ ds) h = by_tests (nat_eq (at v (nets d).pulse) 1) (same_end d e) refl h (no_in_before e v bits nets ds)
-  where
-    by_tests : (b x : Bool) → same_end d e ≡ x → (if x then suc (occurs e ds) else occurs e ds) ≡ 0
-        → (occurs e ds ≡ 0 → ins_at e (elements In v bits nets ds) ≡ 0)
-        → ins_at e (if b then In d (number_by v (bits d) (nets d)) ∷ elements In v bits nets ds else elements In v bits nets ds) ≡ 0
-    by_tests b true t h go = absurd (omega (arith, h))
-    by_tests true false t h go = rw t (go h)
-    by_tests false false t h go = go h
-
 -- how many come where the nets show this, and the sum of their numbers
 abbrev pub flag : Numbers → Nets → ℕ
 flag v nets = if nat_eq (at v nets.pulse) 1 then 1 else 0
@@ -111,35 +100,33 @@ outs_once e v bits nets (d ∷ ds) h = by_same (same_end d e) refl h (outs_once 
         by_pulse true t so = (rw t so.0, rw t so.1)
         by_pulse false t so = so
 
-pub ins_once : (e : End) (v : Numbers) (bits : End → ℕ) (nets : End → Nets) (es : List End) → occurs e es ≡ 1
-    → (ins_at e (elements In v bits nets es) ≡ flag v (nets e)) × (ins_sum e (elements In v bits nets es) ≡ number_if v (bits e) (nets e))
-ins_once e v bits nets [] h = absurd (omega (arith, h))
-ins_once e v bits nets (d ∷ ds) h = by_same (same_end d e) refl h (ins_once e v bits nets ds)
+-- as many inputs come as outputs would, were all of them outputs
+pub ins_as_outs : (e : End) (v : Numbers) (bits : End → ℕ) (nets : End → Nets) (es : List End)
+    → (ins_at e (elements In v bits nets es) ≡ outs_at e (elements Out v bits nets es)) × (ins_sum e (elements In v bits nets es) ≡ outs_sum e (elements Out v bits nets es))
+ins_as_outs e v bits nets [] = (refl, refl)
+ins_as_outs e v bits nets (d ∷ ds) = by_pulse (nat_eq (at v (nets d).pulse) 1) (ins_as_outs e v bits nets ds)
   where
-    rest : List Element
-    rest = elements In v bits nets ds
+    number : ℕ
+    number = number_by v (bits d) (nets d)
 
-    by_same : (x : Bool) → same_end d e ≡ x → (if x then suc (occurs e ds) else occurs e ds) ≡ 1
-        → (occurs e ds ≡ 1 → (ins_at e rest ≡ flag v (nets e)) × (ins_sum e rest ≡ number_if v (bits e) (nets e)))
-        → (ins_at e (elements In v bits nets (d ∷ ds)) ≡ flag v (nets e)) × (ins_sum e (elements In v bits nets (d ∷ ds)) ≡ number_if v (bits e) (nets e))
-    by_same true t h go =
-        let none : ins_at e rest ≡ 0 = no_in_before e v bits nets ds (omega (arith, h)) in
-        let no_sum : ins_sum e rest ≡ 0 = no_ins e rest none in
-        subst (λ (z : End). (ins_at e (elements In v bits nets (d ∷ ds)) ≡ flag v (nets z)) × (ins_sum e (elements In v bits nets (d ∷ ds)) ≡ number_if v (bits z) (nets z)))
-        (same_is d e t) (by_pulse (nat_eq (at v (nets d).pulse) 1) t none no_sum)
-      where
-        by_pulse : (b : Bool) → same_end d e ≡ true → ins_at e rest ≡ 0 → ins_sum e rest ≡ 0
-            → (ins_at e (if b then In d (number_by v (bits d) (nets d)) ∷ rest else rest) ≡ (if b then 1 else 0))
-            × (ins_sum e (if b then In d (number_by v (bits d) (nets d)) ∷ rest else rest) ≡ (if b then number_by v (bits d) (nets d) else 0))
-        by_pulse true t none no_sum = (rw t (ap suc none), rw t (omega (arith, no_sum)))
-        by_pulse false t none no_sum = (none, no_sum)
-    by_same false t h go = by_pulse (nat_eq (at v (nets d).pulse) 1) t (go h)
-      where
-        by_pulse : (b : Bool) → same_end d e ≡ false → (ins_at e rest ≡ flag v (nets e)) × (ins_sum e rest ≡ number_if v (bits e) (nets e))
-            → (ins_at e (if b then In d (number_by v (bits d) (nets d)) ∷ rest else rest) ≡ flag v (nets e))
-            × (ins_sum e (if b then In d (number_by v (bits d) (nets d)) ∷ rest else rest) ≡ number_if v (bits e) (nets e))
-        by_pulse true t so = (rw t so.0, rw t so.1)
-        by_pulse false t so = so
+    inputs : List Element
+    inputs = elements In v bits nets ds
+
+    outputs : List Element
+    outputs = elements Out v bits nets ds
+
+    by_pulse : (b : Bool) → (ins_at e inputs ≡ outs_at e outputs) × (ins_sum e inputs ≡ outs_sum e outputs)
+        → (ins_at e (if b then In d number ∷ inputs else inputs) ≡ outs_at e (if b then Out d number ∷ outputs else outputs))
+        × (ins_sum e (if b then In d number ∷ inputs else inputs) ≡ outs_sum e (if b then Out d number ∷ outputs else outputs))
+    by_pulse true h = (λ i. if same_end d e then suc (h.0 i) else h.0 i, λ i. if same_end d e then number + h.1 i else h.1 i)
+    by_pulse false h = h
+
+ins_once : (e : End) (v : Numbers) (bits : End → ℕ) (nets : End → Nets) (es : List End) → occurs e es ≡ 1
+    → (ins_at e (elements In v bits nets es) ≡ flag v (nets e)) × (ins_sum e (elements In v bits nets es) ≡ number_if v (bits e) (nets e))
+ins_once e v bits nets es h =
+    let same = ins_as_outs e v bits nets es in
+    let once = outs_once e v bits nets es h in
+    (same.0 ∙ once.0, same.1 ∙ once.1)
 
 -- so it is in the list of a cycle
 pub outs_listed : (p : Plan) (n : Places) (v : Numbers) (e : End) (fs : List PartFiring) → occurs e (port_ends (ports_of p)) ≡ 1

@@ -29,7 +29,7 @@ use Rattle.gos_expand.specs.Facts.{bits_put, bits_out_at, bits_in_at, elements, 
 use Rattle.gos_expand.proofs.FlowLemmas.{IsSound, ground_serves, done_ground}
 use Rattle.gos_expand.proofs.PulseLemmas.{elements-append}
 use Rattle.gos_expand.proofs.PossibleLemmas.{no_out_before}
-use Rattle.gos_expand.proofs.EventLemmas.{flag, no_in_before, outs_once, ins_once}
+use Rattle.gos_expand.proofs.EventLemmas.{flag, outs_once, ins_as_outs}
 use Rattle.gos_expand.proofs.RegisterLemmas.{shows, turned_back}
 use Rattle.gos_expand.proofs.LabelLemmas.{answers, requests}
 use Rattle.gos_expand.proofs.OnceLemmas.{each_once, all_listed, number_is, import_there}
@@ -130,15 +130,6 @@ none_out p e (l ∷ ls) h = by_test (same_end (end_of_label p l) e) refl h (none
     by_test true t h go = absurd (omega (arith, h))
     by_test false t h go = (turned_apart (end_of_label p l) e t, go h)
 
-none_in : (p : Plan) (e : End) (ls : List Label) → ins_at e (ins_of p ls) ≡ 0 → NonePasses p e ls
-none_in p e [] h = tt
-none_in p e (l ∷ ls) h = by_test (same_end (end_of_label p l) e) refl h (none_in p e ls)
-  where
-    by_test : (b : Bool) → same_end (end_of_label p l) e ≡ b → (if b then suc (ins_at e (ins_of p ls)) else ins_at e (ins_of p ls)) ≡ 0
-        → (ins_at e (ins_of p ls) ≡ 0 → NonePasses p e ls) → NonePasses p e (l ∷ ls)
-    by_test true t h go = absurd (omega (arith, h))
-    by_test false t h go = (turned_apart (end_of_label p l) e t, go h)
-
 outs_differ : (p : Plan) (ls : List Label) → ((e : End) → outs_at e (outs_of p ls) ≤ 1) → EndsDiffer p ls
 outs_differ p [] few = tt
 outs_differ p (l ∷ ls) few =
@@ -151,17 +142,13 @@ outs_differ p (l ∷ ls) few =
     fewer e true h = omega (arith, h)
     fewer e false h = h
 
+-- labels are as many inputs at an end as they would be outputs there
+ins_counted : (p : Plan) (e : End) (ls : List Label) → ins_at e (ins_of p ls) ≡ outs_at e (outs_of p ls)
+ins_counted p e [] = refl
+ins_counted p e (l ∷ ls) = λ i. if same_end (end_of_label p l) e then suc (ins_counted p e ls i) else ins_counted p e ls i
+
 ins_differ : (p : Plan) (ls : List Label) → ((e : End) → ins_at e (ins_of p ls) ≤ 1) → EndsDiffer p ls
-ins_differ p [] few = tt
-ins_differ p (l ∷ ls) few =
-    let twice : suc (ins_at (end_of_label p l) (ins_of p ls)) ≤ 1 =
-    subst (λ (b : Bool). (if b then suc (ins_at (end_of_label p l) (ins_of p ls)) else ins_at (end_of_label p l) (ins_of p ls)) ≤ 1)
-    (same_itself (end_of_label p l)) (few (end_of_label p l)) in
-    (none_in p (end_of_label p l) ls (omega (arith, twice)), ins_differ p ls (λ e. fewer e (same_end (end_of_label p l) e) (few e)))
-  where
-    fewer : (e : End) (b : Bool) → (if b then suc (ins_at e (ins_of p ls)) else ins_at e (ins_of p ls)) ≤ 1 → ins_at e (ins_of p ls) ≤ 1
-    fewer e true h = omega (arith, h)
-    fewer e false h = h
+ins_differ p ls few = outs_differ p ls (λ e. subst (λ (n : ℕ). n ≤ 1) (ins_counted p e ls) (few e))
 
 flag_small : (v : Numbers) (nets : Nets) → flag v nets ≤ 1
 flag_small v nets = by_test (nat_eq (at v nets.pulse) 1)
@@ -170,39 +157,32 @@ flag_small v nets = by_test (nat_eq (at v nets.pulse) 1)
     by_test true = omega arith
     by_test false = omega arith
 
-few_outs : (p : Plan) (v : Numbers) (e : End) → outs_at e (elements Out v (bits_out_at p) (shows p) (port_ends (ports_of p))) ≤ 1
-few_outs p v e = by_count (occurs e (port_ends (ports_of p))) refl
+few_outs : (p : Plan) (v : Numbers) (bits : End → ℕ) (nets : End → Nets) (e : End) → outs_at e (elements Out v bits nets (port_ends (ports_of p))) ≤ 1
+few_outs p v bits nets e = by_count (occurs e (port_ends (ports_of p))) refl
   where
-    by_count : (m : ℕ) → occurs e (port_ends (ports_of p)) ≡ m → outs_at e (elements Out v (bits_out_at p) (shows p) (port_ends (ports_of p))) ≤ 1
-    by_count zero h = let none = no_out_before e v (bits_out_at p) (shows p) (port_ends (ports_of p)) h in omega (arith, none)
+    by_count : (m : ℕ) → occurs e (port_ends (ports_of p)) ≡ m → outs_at e (elements Out v bits nets (port_ends (ports_of p))) ≤ 1
+    by_count zero h = let none = no_out_before e v bits nets (port_ends (ports_of p)) h in omega (arith, none)
     by_count (suc m) h =
         let listed = all_listed p e (omega (arith, h)) in
-        let once = (outs_once e v (bits_out_at p) (shows p) (port_ends (ports_of p)) (each_once p e listed.1.0 listed.0 listed.1.1)).0 in
-        let small = flag_small v (shows p e) in
+        let once = (outs_once e v bits nets (port_ends (ports_of p)) (each_once p e listed.1.0 listed.0 listed.1.1)).0 in
+        let small = flag_small v (nets e) in
         omega (arith, once, small)
 
-few_ins : (p : Plan) (v : Numbers) (e : End) → ins_at e (elements In v (bits_in_at p) (leaves keep_all p) (port_ends (ports_of p))) ≤ 1
-few_ins p v e = by_count (occurs e (port_ends (ports_of p))) refl
-  where
-    by_count : (m : ℕ) → occurs e (port_ends (ports_of p)) ≡ m → ins_at e (elements In v (bits_in_at p) (leaves keep_all p) (port_ends (ports_of p))) ≤ 1
-    by_count zero h = let none = no_in_before e v (bits_in_at p) (leaves keep_all p) (port_ends (ports_of p)) h in omega (arith, none)
-    by_count (suc m) h =
-        let listed = all_listed p e (omega (arith, h)) in
-        let once = (ins_once e v (bits_in_at p) (leaves keep_all p) (port_ends (ports_of p)) (each_once p e listed.1.0 listed.0 listed.1.1)).0 in
-        let small = flag_small v (leaves keep_all p e) in
-        omega (arith, once, small)
+few_ins : (p : Plan) (v : Numbers) (bits : End → ℕ) (nets : End → Nets) (e : End) → ins_at e (elements In v bits nets (port_ends (ports_of p))) ≤ 1
+few_ins p v bits nets e =
+    subst (λ (n : ℕ). n ≤ 1) (sym (ins_as_outs e v bits nets (port_ends (ports_of p))).0) (few_outs p v bits nets e)
 
 pub outs_are_apart : (p : Plan) (root : List ℕ) (v : Numbers) → IsSound p → AreDifferent (root ∷ map (λ (x : Imported). x.name) p.imports)
     → EndsDiffer p (outputs (laid keep_all p root) v)
 outs_are_apart p root v sound differ =
     outs_differ p (outputs (laid keep_all p root) v)
-    (λ e. subst (λ (l : List Element). outs_at e l ≤ 1) (sym (outs_are p root v sound differ)) (few_outs p v e))
+    (λ e. subst (λ (l : List Element). outs_at e l ≤ 1) (sym (outs_are p root v sound differ)) (few_outs p v (bits_out_at p) (shows p) e))
 
 pub ins_are_apart : (p : Plan) (root : List ℕ) (v : Numbers) → IsSound p → AreDifferent (root ∷ map (λ (x : Imported). x.name) p.imports)
     → EndsDiffer p (inputs (laid keep_all p root) v)
 ins_are_apart p root v sound differ =
     ins_differ p (inputs (laid keep_all p root) v)
-    (λ e. subst (λ (l : List Element). ins_at e l ≤ 1) (sym (ins_are p root v sound differ)) (few_ins p v e))
+    (λ e. subst (λ (l : List Element). ins_at e l ≤ 1) (sym (ins_are p root v sound differ)) (few_ins p v (bits_in_at p) (leaves keep_all p) e))
 
 -- an answer at an import has no number without its pulse
 quiet_answer : (name : List ℕ) (s h : ℕ) (t : Type') (c : Contact) (ins : Numbers) → IsGround t → HasWidths t
