@@ -34,7 +34,8 @@ fn add_open<'a>(
     left: Open<'a>,
 ) -> Result<(), NoMemory>
     ensures seen { OnOk result (map open_seen opens.new.items ≡ map open_seen opens.old.items ++ if_open bound (open_seen left.entry) []) }
-    ensures small { OnOk result (IsSmall left.entry.import.now.ty → All (λ o. IsSmall o.import.now.ty) opens.old.items → All (λ o. IsSmall o.import.now.ty) opens.new.items) }
+    ensures small { OnOk result (IsSmall left.entry.import.now.ty → All (λ o. IsSmall o.import.now.ty) opens.old.items
+        → All (λ o. IsSmall o.import.now.ty) opens.new.items) }
 {
     match bound {
         Some(_) => {}
@@ -51,7 +52,8 @@ fn add_opens<'a>(
     imports: &'a [PlanImport],
 ) -> Result<(), NoMemory>
     ensures seen { OnOk result (map open_seen opens.new.items ≡ map open_seen opens.old.items ++ opens_in services.now plan 0 (map import_of imports.now)) }
-    ensures small { OnOk result (All (λ i. IsSmall i.ty) imports.now → All (λ o. IsSmall o.import.now.ty) opens.old.items → All (λ o. IsSmall o.import.now.ty) opens.new.items) }
+    ensures small { OnOk result (All (λ i. IsSmall i.ty) imports.now → All (λ o. IsSmall o.import.now.ty) opens.old.items
+        → All (λ o. IsSmall o.import.now.ty) opens.new.items) }
 {
     for (number, import) in imports.iter().enumerate() {
         let bound = number_bound(services, plan, number);

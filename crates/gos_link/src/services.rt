@@ -71,7 +71,8 @@ fn no_import(alloc: Global, line: u64, name: &Name) -> LinkFault
 
 // That a line binds different types.
 fn type_differs(alloc: Global, line: u64, want: &Ty, got: &Ty) -> Result<LinkFault, NoMemory>
-    ensures { IfOk result (λ fault. (w : Ty) × (g : Ty) × (fault ≡ LinkFault.TypeDiffers line w g) × (type_of w ≡ type_of want.now) × (type_of g ≡ type_of got.now)) }
+    ensures { IfOk result (λ fault. (w : Ty) × (g : Ty) × (fault ≡ LinkFault.TypeDiffers line w g) × (type_of w ≡ type_of want.now)
+        × (type_of g ≡ type_of got.now)) }
 {
     let want = copy(alloc, want)?;
     let got = copy(alloc, got)?;
@@ -209,7 +210,8 @@ pub(crate) fn services_of(
     requires { length plans.now ≡ length instances.now }
     ensures right { IfOk result (λ services. BindsOn instances.now plans.now [] binds.now services.items None) }
     ensures tops { IfOk result (λ services. (tops : List ℕ) × AreTops (length instances.now) services.items tops) }
-    ensures fault { IfErr result (λ fault. fault ≢ LinkFault.NoMemory → (services : List Service) × BindsOn instances.now plans.now [] binds.now services (Some fault)) }
+    ensures fault { IfErr result (λ fault. fault ≢ LinkFault.NoMemory
+        → (services : List Service) × BindsOn instances.now plans.now [] binds.now services (Some fault)) }
 {
     let mut services = Vec::new(alloc);
     let mut tops = own_tops(alloc, instances.len())?;

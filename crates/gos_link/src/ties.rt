@@ -104,7 +104,8 @@ fn places_of(
 
 // Where an end of a plan lies in the whole.
 fn point_of(start: u32, places: &[Place], outcome: Place, end: End) -> Result<Point, NoMemory>
-    ensures { (ss : List Service) (root k from : ℕ) → PlacesAre ss k from places.now → outcome ≡ place_of_result ss root k → IfOk result (λ point. point ≡ point_in ss root k start from (end_of end)) }
+    ensures { (ss : List Service) (root k from : ℕ) → PlacesAre ss k from places.now → outcome ≡ place_of_result ss root k
+        → IfOk result (λ point. point ≡ point_in ss root k start from (end_of end)) }
 {
     match end {
         End::Part { part, shake } => Ok(Point {
@@ -133,7 +134,8 @@ fn add_ties(
     outcome: Place,
     joints: &[Joint],
 ) -> Result<(), NoMemory>
-    ensures { (ss : List Service) (root k from : ℕ) → PlacesAre ss k from places.now → outcome ≡ place_of_result ss root k → OnOk result (ties.new.items ≡ ties.old.items ++ ties_in ss root k start from (map joint_of joints.now)) }
+    ensures { (ss : List Service) (root k from : ℕ) → PlacesAre ss k from places.now → outcome ≡ place_of_result ss root k
+        → OnOk result (ties.new.items ≡ ties.old.items ++ ties_in ss root k start from (map joint_of joints.now)) }
 {
     for joint in joints {
         let one = point_of(start, places, outcome, joint.asks)?;

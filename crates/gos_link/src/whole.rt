@@ -34,7 +34,8 @@ fn first_unplaced<'a>(
     services: &[Service],
     root: usize,
 ) -> Option<&'a Name>
-    ensures { MatchOption result (first_unplaced root services.now 0 instances.now ≡ None) (λ name. first_unplaced root services.now 0 instances.now ≡ Some name.now) }
+    ensures { MatchOption result (first_unplaced root services.now 0 instances.now ≡ None)
+        (λ name. first_unplaced root services.now 0 instances.now ≡ Some name.now) }
 {
     for (number, instance) in instances.iter().enumerate() {
         if !is_placed(root, services, number) {
@@ -80,7 +81,8 @@ fn ports_of<'a>(
     opens: &[Open<'a>],
 ) -> Result<Vec<Port<'a>>, NoMemory>
     requires { (k : ℕ) (l : LeftImport) → slice_get (map open_seen opens.now) k ≡ Some l → l.plan < length instances.now }
-    ensures { IfOk result (λ ports. map port_seen ports.items ≡ (record { name = root.now; instance = root.now }) ∷ map (port_of instances.now) (map open_seen opens.now)) }
+    ensures { IfOk result (λ ports. map port_seen ports.items
+        ≡ (record { name = root.now; instance = root.now }) ∷ map (port_of instances.now) (map open_seen opens.now)) }
 {
     let mut ports = Vec::new(alloc);
     ports.push(Port {
@@ -128,7 +130,8 @@ struct Clash<'a> {
 
 // The first two ports of one name.
 fn clash_of<'a>(alloc: Global, ports: &[Port<'a>]) -> Result<Option<Clash<'a>>, NoMemory>
-    ensures { IfOk result (λ clash. MatchOption clash (AreDifferent (length ports.now) (map port_seen ports.now)) (λ c. IsSecond (map port_seen ports.now) (port_seen c.one) (port_seen c.other))) }
+    ensures { IfOk result (λ clash. MatchOption clash (AreDifferent (length ports.now) (map port_seen ports.now))
+        (λ c. IsSecond (map port_seen ports.now) (port_seen c.one) (port_seen c.other))) }
 {
     let mut numbers = Numbers {
         by_name: IndexMap::new(alloc),
@@ -169,8 +172,10 @@ pub(crate) fn check_names(
     opens: &[Open],
 ) -> Result<(), LinkFault>
     requires { (k : ℕ) (l : LeftImport) → slice_get (map open_seen opens.now) k ≡ Some l → l.plan < length instances.now }
-    ensures different { IfOk result (λ _. AllDiffer ((record { name = root.now; instance = root.now }) ∷ map (port_of instances.now) (map open_seen opens.now))) }
-    ensures fault { IfErr result (λ fault. fault ≢ LinkFault.NoMemory → IsOpenTwice ((record { name = root.now; instance = root.now }) ∷ map (port_of instances.now) (map open_seen opens.now)) fault) }
+    ensures different { IfOk result (λ _. AllDiffer ((record { name = root.now; instance = root.now })
+        ∷ map (port_of instances.now) (map open_seen opens.now))) }
+    ensures fault { IfErr result (λ fault. fault ≢ LinkFault.NoMemory
+        → IsOpenTwice ((record { name = root.now; instance = root.now }) ∷ map (port_of instances.now) (map open_seen opens.now)) fault) }
 {
     let ports = ports_of(alloc, instances, root, opens)?;
     match clash_of(alloc, &ports)? {
@@ -200,7 +205,8 @@ pub(crate) fn check_result(alloc: Global, root: &Name, outcome: &Ty) -> Result<(
 
 // The first import whose type isn't ground.
 fn first_higher<'a>(opens: &[Open<'a>]) -> Option<&'a PlanImport>
-    ensures { MatchOption result (AreGround (length opens.now) (map open_seen opens.now)) (λ import. (l : LeftImport) × IsFirstHigher (map open_seen opens.now) l × (l.import.name ≡ import.now.name)) }
+    ensures { MatchOption result (AreGround (length opens.now) (map open_seen opens.now))
+        (λ import. (l : LeftImport) × IsFirstHigher (map open_seen opens.now) l × (l.import.name ≡ import.now.name)) }
 {
     for open in opens {
         let import = open.import;
@@ -214,7 +220,8 @@ fn first_higher<'a>(opens: &[Open<'a>]) -> Option<&'a PlanImport>
 /// Finds that the outside may serve all imports that stay.
 pub(crate) fn check_imports(alloc: Global, opens: &[Open]) -> Result<(), LinkFault>
     ensures ground { IfOk result (λ _. AreGround (length opens.now) (map open_seen opens.now)) }
-    ensures fault { IfErr result (λ fault. fault ≢ LinkFault.NoMemory → (l : LeftImport) × IsFirstHigher (map open_seen opens.now) l × (fault ≡ LinkFault.NotGround l.import.name)) }
+    ensures fault { IfErr result (λ fault. fault ≢ LinkFault.NoMemory
+        → (l : LeftImport) × IsFirstHigher (map open_seen opens.now) l × (fault ≡ LinkFault.NotGround l.import.name)) }
 {
     match first_higher(opens) {
         Some(import) => {

@@ -73,7 +73,8 @@ GivesIn net past t since (entry ∷ entries) (l ∷ labels) last rest =
 
 -- Cycle t, in which the nets show v, goes by the file: after the outputs these labels are taken and then given, and
 -- they are the inputs. What is left of the `next` entries is `rest`, the last of them given in cycle `last`.
-pub record GoesBy (net : Netlist) (file : List Entry) (past : List Label) (t since : ℕ) (queue : List Entry) (v : Numbers) (came : List Label) (last : ℕ) (rest : List Entry) : Type 0 where
+pub record GoesBy (net : Netlist) (file : List Entry) (past : List Label) (t since : ℕ) (queue : List Entry) (v : Numbers)
+    (came : List Label) (last : ℕ) (rest : List Entry) : Type 0 where
   pub taken : List Label
   pub given : List Label
   pub takes : TakesAll net (reverse (outputs net v) ++ past) (at_entries t file) taken

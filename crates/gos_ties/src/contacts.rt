@@ -25,7 +25,8 @@ pub(crate) fn contact_at(
     parts: &[Kind],
     end: End,
 ) -> Result<Option<Contact>, NoMemory>
-    ensures { IfOk result (λ found. asked found ≡ contact_at (plan_of (record { weight = 0; imports = imports.now; outcome = outcome.now; parts = parts.now; joints = [] })) (end_of end)) }
+    ensures { IfOk result (λ found. asked found ≡ contact_at
+        (plan_of (record { weight = 0; imports = imports.now; outcome = outcome.now; parts = parts.now; joints = [] })) (end_of end)) }
 {
     match end {
         End::Part { part, shake } => match parts.get(part as usize) {

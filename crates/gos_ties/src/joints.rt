@@ -97,7 +97,8 @@ fn add_found(
     point: Point,
     joints: &mut Vec<Joint>,
 ) -> Result<(), NoMemory>
-    ensures { OnOk result (map joint_of joints.new.items ≡ map joint_of joints.old.items ++ found (bare imports.now outcome.now parts.now) (far_by tables.now) point) }
+    ensures { OnOk result (map joint_of joints.new.items
+        ≡ map joint_of joints.old.items ++ found (bare imports.now outcome.now parts.now) (far_by tables.now) point) }
 {
     if let Some(joint) = found(alloc, imports, outcome, parts, tables, point)? {
         joints.push(joint)?;
@@ -142,8 +143,10 @@ pub fn tied_joints(
     ties: &[Tie],
 ) -> Result<Vec<Joint>, NoMemory>
     requires { IsThin ties.now }
-    ensures joints { IfOk result (λ joints. (a b : AnEnd) → Has (map joint_of joints.items) (joint a b) ↔ Connects ties.now (bare imports.now outcome.now parts.now) a b) }
-    ensures right { IfOk result (λ joints. (weight : ℕ) → IsRight (plan_of (record { weight = weight; imports = imports.now; outcome = outcome.now; parts = parts.now; joints = joints.items }))) }
+    ensures joints { IfOk result (λ joints. (a b : AnEnd)
+        → Has (map joint_of joints.items) (joint a b) ↔ Connects ties.now (bare imports.now outcome.now parts.now) a b) }
+    ensures right { IfOk result (λ joints. (weight : ℕ)
+        → IsRight (plan_of (record { weight = weight; imports = imports.now; outcome = outcome.now; parts = parts.now; joints = joints.items }))) }
 {
     let tables = tables_of(alloc, ties)?;
     let joints = joints_of(alloc, imports, outcome, parts, &tables, ties)?;

@@ -85,7 +85,8 @@ expression w source (Reg a) = cell_net a
 -- A register of w bits: from a clock edge on it is 0 where the reset was up before the edge, and else what its expression was.
 abbrev pub register : ℕ → ℕ → List ℕ → List ℕ
 register i w value =
-    codes "  always @(posedge clk) if (rst) " ++ cell_net i ++ codes " <= " ++ literal w 0 ++ codes "; else " ++ cell_net i ++ codes " <= " ++ value ++ codes ";\n"
+    codes "  always @(posedge clk) if (rst) " ++ cell_net i ++ codes " <= " ++ literal w 0 ++ codes "; else " ++ cell_net i ++ codes " <= "
+        ++ value ++ codes ";\n"
 
 -- what drives the net of cell i
 abbrev pub driver_of : ℕ → ℕ → List ℕ → Function → List ℕ
