@@ -65,7 +65,7 @@ out_there p e v s w does = by_contact (contact_at p e) refl does.1
     by_contact (Some c) is h = (c, is)
 
 -- the result of a command or an expression has one handshake, which asks; those of a ground import serve
-result_asks : (t : Type') → IsDone t → (h : ℕ) (c : Contact) → turned_if (slice_get (contacts_of t) h) ≡ Some c → (h ≡ 0) × (Ask ≡ c.role)
+pub result_asks : (t : Type') → IsDone t → (h : ℕ) (c : Contact) → turned_if (slice_get (contacts_of t) h) ≡ Some c → (h ≡ 0) × (Ask ≡ c.role)
 result_asks Com d zero c is = (refl, ap (λ (x : Contact). x.role) (same_Some _ c is))
 result_asks Com d (suc h) c is = absurd (none-some c is)
 result_asks (Exp w) d zero c is = (refl, ap (λ (x : Contact). x.role) (same_Some _ c is))
@@ -74,7 +74,7 @@ result_asks (Var w) d h c is = absurd d
 result_asks (Pair a b) d h c is = absurd d
 result_asks (Fun a b) d h c is = absurd d
 
-import_serves : (t : Type') → IsGround t → (h : ℕ) (c : Contact) → slice_get (contacts_of t) h ≡ Some c → Serve ≡ c.role
+pub import_serves : (t : Type') → IsGround t → (h : ℕ) (c : Contact) → slice_get (contacts_of t) h ≡ Some c → Serve ≡ c.role
 import_serves Com g zero c is = ap (λ (x : Contact). x.role) (same_Some _ c is)
 import_serves Com g (suc h) c is = absurd (none-some c is)
 import_serves (Exp w) g zero c is = ap (λ (x : Contact). x.role) (same_Some _ c is)
@@ -85,7 +85,7 @@ import_serves (Var w) g (suc (suc h)) c is = absurd (none-some c is)
 import_serves (Pair a b) g h c is = absurd g
 import_serves (Fun a b) g h c is = absurd g
 
-one_ground : (is : List Imported) → AllGround is → (i : ℕ) (x : Imported) → slice_get is i ≡ Some x → IsGround x.ty
+pub one_ground : (is : List Imported) → AllGround is → (i : ℕ) (x : Imported) → slice_get is i ≡ Some x → IsGround x.ty
 one_ground [] ground i x is = absurd (none-some x is)
 one_ground (j ∷ js) ground zero x is = subst (λ (y : Imported). IsGround y.ty) (same_Some j x is) ground.0
 one_ground (j ∷ js) ground (suc i) x is = one_ground js ground.1 i x is

@@ -1,0 +1,5 @@
+mod RegionLemmas
+mod DriverLemmas
+mod StepLemmas
+mod ProtocolLemmas
+mod LinkedLemmas
