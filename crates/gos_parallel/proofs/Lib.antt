@@ -3,3 +3,10 @@ mod DriverLemmas
 mod StepLemmas
 mod ProtocolLemmas
 mod LinkedLemmas
+mod PlainTurnLemmas
+mod OutputLemmas
+mod OrderLemmas
+mod RegularLemmas
+mod MoveLemmas
+mod QuietLemmas
+mod MatchLemmas

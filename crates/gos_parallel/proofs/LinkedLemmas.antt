@@ -185,10 +185,10 @@ module _
   pub way_told : (o : Plan) → o.outcome ≡ Com → way_out (contact_at o (ResultEnd 0)) ≡ Answer
   way_told o outcome = ap way_out (contact_of o outcome)
 
-  inner_left : (i j k : ℕ) → StandsIn p (ImportEnd i k) → f.outer (ImportEnd i k) ≡ ImportEnd j k → f.inner (ImportEnd j k) ≡ Some (ImportEnd i k)
+  pub inner_left : (i j k : ℕ) → StandsIn p (ImportEnd i k) → f.outer (ImportEnd i k) ≡ ImportEnd j k → f.inner (ImportEnd j k) ≡ Some (ImportEnd i k)
   inner_left i j k stands leads = ap f.inner (sym leads) ∙ (is.left.cut.ports (ImportEnd i k) tt stands).1
 
-  inner_right : (i j k : ℕ) → StandsIn q (ImportEnd i k) → g.outer (ImportEnd i k) ≡ ImportEnd j k → g.inner (ImportEnd j k) ≡ Some (ImportEnd i k)
+  pub inner_right : (i j k : ℕ) → StandsIn q (ImportEnd i k) → g.outer (ImportEnd i k) ≡ ImportEnd j k → g.inner (ImportEnd j k) ≡ Some (ImportEnd i k)
   inner_right i j k stands leads = ap g.inner (sym leads) ∙ (is.right.cut.ports (ImportEnd i k) tt stands).1
 
   abbrev pub Link : List Pass → List Pass → List Pass → Tokens → Type 0
@@ -256,10 +256,10 @@ module _
         stage = linked.stage;
       }
 
-  ways_left : (i j k : ℕ) → StandsIn p (ImportEnd i k) → f.outer (ImportEnd i k) ≡ ImportEnd j k → contact_at r (ImportEnd j k) ≡ contact_at p (ImportEnd i k)
+  pub ways_left : (i j k : ℕ) → StandsIn p (ImportEnd i k) → f.outer (ImportEnd i k) ≡ ImportEnd j k → contact_at r (ImportEnd j k) ≡ contact_at p (ImportEnd i k)
   ways_left i j k stands leads = ap (contact_at r) (sym leads) ∙ is.left.cut.contacts (ImportEnd i k) tt stands
 
-  ways_right : (i j k : ℕ) → StandsIn q (ImportEnd i k) → g.outer (ImportEnd i k) ≡ ImportEnd j k → contact_at r (ImportEnd j k) ≡ contact_at q (ImportEnd i k)
+  pub ways_right : (i j k : ℕ) → StandsIn q (ImportEnd i k) → g.outer (ImportEnd i k) ≡ ImportEnd j k → contact_at r (ImportEnd j k) ≡ contact_at q (ImportEnd i k)
   ways_right i j k stands leads = ap (contact_at r) (sym leads) ∙ is.right.cut.contacts (ImportEnd i k) tt stands
 
   local_left : (x y : Element) (s t : Tokens) (past lefts rights : List Pass) → Local f r p x y → Same d s t → Link past lefts rights s → Comes r past x
@@ -309,10 +309,10 @@ module _
   stage_of : (past lefts rights : List Pass) (s : Tokens) → Link past lefts rights s → Stage (is_open past (ResultEnd 0)) (s.state d).phase (gate s Request) (gate s Answer)
   stage_of past lefts rights s linked = linked.stage
 
-  asked_turn : (past : List Pass) → ComesInTurn past (ResultEnd 0) (way_in (contact_at r (ResultEnd 0))) → is_open past (ResultEnd 0) ≡ false
+  pub asked_turn : (past : List Pass) → ComesInTurn past (ResultEnd 0) (way_in (contact_at r (ResultEnd 0))) → is_open past (ResultEnd 0) ≡ false
   asked_turn past turn = subst (λ w. ComesInTurn past (ResultEnd 0) w) (way_asked r is.outcome) turn
 
-  not_lost : (j k : ℕ) (c : Contact) (past lefts rights : List Pass) (s : Tokens) → contact_at r (ImportEnd j k) ≡ Some c → f.inner (ImportEnd j k) ≡ None
+  pub not_lost : (j k : ℕ) (c : Contact) (past lefts rights : List Pass) (s : Tokens) → contact_at r (ImportEnd j k) ≡ Some c → f.inner (ImportEnd j k) ≡ None
       → g.inner (ImportEnd j k) ≡ None → Link past lefts rights s → ComesInTurn past (ImportEnd j k) (way_in (contact_at r (ImportEnd j k))) → ⊥
   not_lost j k c past lefts rights s there not_left not_right linked turn =
       let (x, at) = there_is r.imports j k c there in

@@ -88,14 +88,14 @@ one_sees : (f : Cut) (p : Plan) (y : Element) (s t : Tokens) → Runs p (y ∷ [
 one_sees f p y s t (w, does, is) = subst (λ (u : Tokens). Does p y (cut_tokens f p s) u) (sym is) does
 
 -- where an input or an output leads
-passes_out : (r : Plan) (e : End) (v : ℕ) (s t : Tokens) → Does r (Out e v) s t → (way : Direction) × (t ≡ with_token r e way None s)
+pub passes_out : (r : Plan) (e : End) (v : ℕ) (s t : Tokens) → Does r (Out e v) s t → (way : Direction) × (t ≡ with_token r e way None s)
 passes_out r e v s t (port, passes) = by_contact (contact_at r e) passes
   where
     by_contact : (o : Option Contact) → Passes r (Out e v) o s t → (way : Direction) × (t ≡ with_token r e way None s)
     by_contact None h = absurd h
     by_contact (Some c) h = (_, h.1)
 
-passes_in : (r : Plan) (e : End) (v : ℕ) (s t : Tokens) → Does r (In e v) s t → (way : Direction) × (t ≡ with_token r e way (Some v) s)
+pub passes_in : (r : Plan) (e : End) (v : ℕ) (s t : Tokens) → Does r (In e v) s t → (way : Direction) × (t ≡ with_token r e way (Some v) s)
 passes_in r e v s t (port, passes) = by_contact (contact_at r e) passes
   where
     by_contact : (o : Option Contact) → Passes r (In e v) o s t → (way : Direction) × (t ≡ with_token r e way (Some v) s)
@@ -158,10 +158,10 @@ not_its d h k f r p side other a b (x, y, has, at, beyond) = (
       other (driver_end d h f r p side y own k (beyond ∙ sym is)),
 )
 
-part_ends : (d k n : ℕ) → (k ≡ n → ⊥) → PartEnd d k ≡ PartEnd d n → ⊥
+pub part_ends : (d k n : ℕ) → (k ≡ n → ⊥) → PartEnd d k ≡ PartEnd d n → ⊥
 part_ends d k n other e = let same : k ≡ n = cc e in other same
 
-abbrev Differ : ℕ → ℕ → Type 0
+abbrev pub Differ : ℕ → ℕ → Type 0
 Differ k n = k ≡ n → ⊥
 
 zero_not_two : Differ 0 2
@@ -259,7 +259,7 @@ module _ (d : ℕ) (f g : Cut) (r p q : Plan) (is : IsParallel d f g r p q) wher
   right_state : (c : State) (s : Tokens) → cut_tokens g q (with_state d c s) ≡ cut_tokens g q s
   right_state = region.state_unseen d 1 g r q is.right d is.right.outside
 
-  gate_apart : (k : ℕ) → (k ≡ 2 → ⊥) → (w : Direction) (held : Option ℕ) (s : Tokens) (way : Direction)
+  pub gate_apart : (k : ℕ) → (k ≡ 2 → ⊥) → (w : Direction) (held : Option ℕ) (s : Tokens) (way : Direction)
       → gate (with_token r (PartEnd d k) w held s) way ≡ gate s way
   gate_apart k other = gate_kept (PartEnd d k) (λ e. cc e) (λ e. let same : k ≡ 2 = cc e in other same)
 

@@ -117,19 +117,19 @@ pub stands_by : (e : End) (j : Joint) → (e ≡ j.asking) ⊎ (e ≡ j.serving)
 stands_by e j (inl is) = subst (λ (x : End). stands_in x j ≡ true) (sym is) (first_stands j)
 stands_by e j (inr is) = subst (λ (x : End). stands_in x j ≡ true) (sym is) (last_stands j)
 
-asks_there : (js : List Joint) (j : Joint) → IsIn j js → asks_in js j.asking ≡ true
+pub asks_there : (js : List Joint) (j : Joint) → IsIn j js → asks_in js j.asking ≡ true
 asks_there [] j h = absurd h
 asks_there (x ∷ xs) j (inl is) =
     or_first (same_end j.asking x.asking) (asks_in xs j.asking)
     (subst (λ (y : Joint). same_end j.asking y.asking ≡ true) is (same_itself j.asking))
 asks_there (x ∷ xs) j (inr later) = or_then (same_end j.asking x.asking) (asks_in xs j.asking) (asks_there xs j later)
 
-record Asked (js : List Joint) (e : End) : Type 0 where
-  joint : Joint
-  is_in : IsIn joint js
-  asker : e ≡ joint.asking
+pub record Asked (js : List Joint) (e : End) : Type 0 where
+  pub joint : Joint
+  pub is_in : IsIn joint js
+  pub asker : e ≡ joint.asking
 
-asks_one : (js : List Joint) (e : End) → asks_in js e ≡ true → Asked js e
+pub asks_one : (js : List Joint) (e : End) → asks_in js e ≡ true → Asked js e
 asks_one [] e h = absurd (cc h)
 asks_one (x ∷ xs) e h = by_test (same_end e x.asking) refl (λ k. asks_one xs e k)
   where
@@ -250,7 +250,7 @@ token_put f r c is e own way held s = by_place (places_of c e) refl
 pub number_at : (f : Cut) (r c : Plan) → IsCut f r c → (k : Part) (i : ℕ) → nat_lt i (length c.parts) ≡ true → f.number (f.part i) ≡ Some i
 number_at f r c is k i within = (is.parts i (get_or c.parts i k) (slice_get-get_or c.parts i k (grind (arith, within)))).1
 
-state_put : (f : Cut) (r c : Plan) → IsCut f r c → (j : ℕ) (k : Part) → slice_get c.parts j ≡ Some k → (q : State) (s : Tokens)
+pub state_put : (f : Cut) (r c : Plan) → IsCut f r c → (j : ℕ) (k : Part) → slice_get c.parts j ≡ Some k → (q : State) (s : Tokens)
     → with_state j q (cut_tokens f c s) ≡ cut_tokens f c (with_state (f.part j) q s)
 state_put f r c is j k there q s =
     λ n. record {
