@@ -10,3 +10,4 @@ mod RegularLemmas
 mod MoveLemmas
 mod QuietLemmas
 mod MatchLemmas
+mod RealisesLemmas

@@ -44,7 +44,7 @@ turning_on p past (In e v ∷ ys) zs turning =
     turning_on p (after p (In e v) past) ys zs (record { inputs = turning.inputs.1; outputs = turning.outputs; now = turning.inputs.0.1 })
 
 -- an import that stands in a joint is there
-import_real : (o : Plan) (i k : ℕ) → (d h : ℕ) (f : Cut) (r : Plan) → IsSide d h f r o → StandsIn o (ImportEnd i k)
+pub import_real : (o : Plan) (i k : ℕ) → (d h : ℕ) (f : Cut) (r : Plan) → IsSide d h f r o → StandsIn o (ImportEnd i k)
     → (x : Imported) × (slice_get o.imports i ≡ Some x) × (k < count x.ty)
 import_real o i k d h f r side (j, listing, stands) =
     let place = stands_there o j (ImportEnd i k) side.cut.right (contained o.joints j listing) stands in
