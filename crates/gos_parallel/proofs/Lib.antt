@@ -11,3 +11,4 @@ mod MoveLemmas
 mod QuietLemmas
 mod MatchLemmas
 mod RealisesLemmas
+mod SmallParallelLemmas

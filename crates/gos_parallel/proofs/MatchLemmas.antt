@@ -3,24 +3,23 @@
 -- While both run, each has a store of its own, and the whole holds both under renamings that give no location twice
 -- (`Stand`). A region that has ended stands as a term that unfolds to `skip`, since no move of the whole unfolds it.
 use Rattle.std.specs.Prelude.{◌≡◌, ◌≢◌, ℕ, true, false, List, [], ◌∷◌, ◌++◌, Option, Some, None, All, slice_get}
-use Rattle.std.proofs.Common.{arith, refl, sym, ap, subst, inl, inr, ◌∙◌}
-use Rattle.gos_types.specs.Types.{Type', Com, IsDone}
+use Rattle.std.proofs.Common.{refl, sym, ap, subst, inl, ◌∙◌}
+use Rattle.gos_types.specs.Types.{Type', Com}
 use Rattle.gos_netlist.specs.Events.{Direction, Request, Answer}
 use Rattle.gos_model.specs.Terms.{Term, Skip, Par}
 use Rattle.gos_model.specs.Typing.{Imported, Typed}
 use Rattle.gos_model.specs.Stores.{Store}
-use Rattle.gos_model.specs.Steps.{IsValue}
 use Rattle.gos_model.specs.Labels.{Given, Taken, Label, given, is_output}
 use Rattle.gos_model.specs.Moves.{Program, Config, Idle, Running, Act, Computing, Showing, Unfoldings, Move, Moves, labels, Stalled}
 use Rattle.gos_plan.specs.Kinds.{Contact, asks, contacts_of}
 use Rattle.gos_plan.specs.Firing.{Phase, Rest, Both, LeftOnly, RightOnly, Slot, Req, Ans, Row, at, quiet_row}
-use Rattle.gos_plan.specs.Plans.{End, PartEnd, ImportEnd, ResultEnd, Plan, contact_at, turned_if}
-use Rattle.gos_plan.specs.Tokens.{Tokens, Element, Fire, Out, In, places_of, held_at, token_at, with_token, end_of, way_of, firing_of, fired, Passes, Does, Runs, IsIdle, IsQuiet}
+use Rattle.gos_plan.specs.Plans.{PartEnd, ResultEnd, Plan, contact_at, turned_if}
+use Rattle.gos_plan.specs.Tokens.{Tokens, Element, Fire, Out, In, places_of, held_at, token_at, with_token, firing_of, fired, Passes, Does, Runs, IsIdle, IsQuiet}
 use Rattle.gos_plan.specs.TokenBits.{LiteralFits, AllFit}
 use Rattle.gos_plan.proofs.DecidedLemmas.{one_state}
 use Rattle.gos_webs.specs.Cutting.{Cut, cut_tokens}
 use Rattle.gos_realises.specs.Regular.{Pass, way_in, way_out, is_open}
-use Rattle.gos_realises.specs.Matched.{port_if, event_number, label_at, shows, asks_on, GoesOn, Agrees, IsMatched, program_of}
+use Rattle.gos_realises.specs.Matched.{port_if, event_number, shows, asks_on, GoesOn, Agrees, IsMatched, program_of}
 use Rattle.gos_realises.specs.Realises.{AllGround}
 use Rattle.gos_realises.proofs.RingLemmas.{after}
 use Rattle.gos_contexts.specs.Contexts.{Context, ParLeft, ParRight, plug}
@@ -39,11 +38,11 @@ use Rattle.gos_parallel.proofs.DriverLemmas.{begin_row, end_row}
 use Rattle.gos_parallel.proofs.ProtocolLemmas.{InTurn}
 use Rattle.gos_parallel.proofs.RegionLemmas as region
 use Rattle.gos_parallel.proofs.StepLemmas.{gate, Same, Local, fires, puts_out, takes_in, Step, of_left, of_right, asked, told, starts, left_ends, right_ends, left_ends_all, right_ends_all, lost, step, free_left, free_right, gate_at_result, gate_at_part}
-use Rattle.gos_parallel.proofs.LinkedLemmas.{Linked, Led, Comes, first_comes, past_all, left_seen, right_seen, left_list, right_list, linked_step, fits_on, when_asking, ways_left, ways_right, way_asked, way_told, not_lost, asked_turn}
+use Rattle.gos_parallel.proofs.LinkedLemmas.{Linked, Comes, first_comes, past_all, left_seen, right_seen, left_list, right_list, linked_step, fits_on, when_asking, ways_left, ways_right, way_asked, way_told, not_lost, asked_turn}
 use Rattle.gos_parallel.proofs.OutputLemmas.{import_real}
 use Rattle.gos_parallel.proofs.OrderLemmas.{firing_same, par_firing}
 use Rattle.gos_parallel.proofs.QuietLemmas.{Neat, neat_step, side_quiet, whole_idle}
-use Rattle.gos_parallel.proofs.MoveLemmas.{AllTaken, inner_of, inner_from, moves_then, silent_then, stay_running, Began, request_begins, Ended, answer_ends, answer_value, unfoldings_then}
+use Rattle.gos_parallel.proofs.MoveLemmas.{AllTaken, inner_from, moves_then, silent_then, stay_running, request_begins, Ended, answer_ends, answer_value, unfoldings_then}
 
 -- one side runs, and the other has ended
 pub record One (ctx : Term → Context) (own c : Config) : Type 0 where
@@ -332,9 +331,11 @@ module _
   whole_waits s left right c (is_done x rest none some left_is right_is is_skip) quiet left_agrees right_agrees left_came right_came =
       let contact : contact_at r (ResultEnd 0) ≡ Some (asks 0 0) = ap (λ (t : Type'). turned_if (slice_get (contacts_of t) 0)) is.outcome in
       let next = with_token r (ResultEnd 0) Answer None s in
-      absurd (quiet.1 (ResultEnd 0) 0 next
-      (tt, subst (λ (o : Option Contact). Passes r (Out (ResultEnd 0) 0) o s next) (sym contact)
-      (ap (held_at s Answer) (gate_at_result d f g r p q is) ∙ some, refl)))
+      absurd (quiet.1 (ResultEnd 0) 0 next (
+        tt,
+        subst (λ (o : Option Contact). Passes r (Out (ResultEnd 0) 0) o s next) (sym contact)
+            (ap (held_at s Answer) (gate_at_result d f g r p q is) ∙ some, refl),
+      ))
 
   running_not_idle : (t : Term) (v : Store) (c : Config) → c ≡ Running t v → c ≡ Idle → ⊥
   running_not_idle t v c is_running is_idle = let bad : Running t v ≡ Idle = sym is_running ∙ is_idle in cc bad

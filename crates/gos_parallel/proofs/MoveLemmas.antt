@@ -1,12 +1,12 @@
 -- Lists of moves that match one element: how they begin and end by the labels that they show.
-use Rattle.std.specs.Prelude.{◌≡◌, ◌≢◌, ◌⊎◌, ℕ, zero, suc, List, [], ◌∷◌, ◌++◌}
-use Rattle.std.proofs.Common.{arith, refl, sym, ap, subst, inl, inr, ◌∙◌}
+use Rattle.std.specs.Prelude.{◌≡◌, ◌≢◌, ℕ, zero, suc, List, [], ◌∷◌, ◌++◌}
+use Rattle.std.proofs.Common.{refl, sym, ap, subst, inl, inr, ◌∙◌}
 use Rattle.gos_model.specs.Terms.{Name, Term, Import, Deref, Wait, Put}
 use Rattle.gos_model.specs.Typing.{Imports}
 use Rattle.gos_model.specs.Stores.{Store}
 use Rattle.gos_model.specs.Steps.{IsValue}
-use Rattle.gos_model.specs.Labels.{Port, Given, Taken, Label, given, taken}
-use Rattle.gos_model.specs.Moves.{Program, Config, Idle, Running, Act, Computing, Showing, Acts, ActsTo, Answers, Unfoldings, Move, Moves, labels}
+use Rattle.gos_model.specs.Labels.{Given, Taken, Label, given, taken}
+use Rattle.gos_model.specs.Moves.{Program, Config, Idle, Running, Act, Computing, Showing, Acts, Answers, Unfoldings, Moves, labels}
 use Rattle.gos_contexts.specs.Plugged.{AreInner}
 use Rattle.gos_contexts.proofs.BackwardLemmas.{OneLabel}
 use Rattle.gos_contexts.proofs.PluggedLemmas.{acts_of, stays_running, inner_rest}

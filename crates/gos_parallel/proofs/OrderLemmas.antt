@@ -2,19 +2,17 @@
 --
 -- What a region opens and closes has names of its own ends, and no two ends of the regions are one (`OpenAgree`). The part that asks
 -- opens and closes the handshakes at which it waits, by its phase.
-use Rattle.std.specs.Prelude.{◌≡◌, ◌⊎◌, ℕ, zero, suc, Bool, true, false, ◌&&◌, List, [], ◌∷◌, ◌++◌, Option, Some, None, All, nat_eq, nat_lt, slice_get, length, if◌then◌else◌}
+use Rattle.std.specs.Prelude.{◌≡◌, ◌⊎◌, ℕ, zero, suc, Bool, true, false, List, [], ◌∷◌, ◌++◌, Option, Some, None, All, nat_eq, nat_lt, slice_get, length, if◌then◌else◌}
 use Rattle.std.proofs.Common.{arith, refl, sym, ap, subst, inl, inr, ◌∙◌}
 use Rattle.std.proofs.lemmas.Option.{none-some, same_Some, slice_get_within}
 use Rattle.gos_types.specs.Types.{Type', Com}
-use Rattle.gos_types.specs.declared.shakes.Role.{Role}
 use Rattle.gos_types.specs.declared.shakes.Role.TheVariants.{Serve, Ask}
 use Rattle.gos_netlist.specs.Events.{Direction, Request, Answer}
 use Rattle.gos_plan.specs.Kinds as kinds
 use Rattle.gos_plan.specs.Kinds.{Part, Contact, asks, serves, part_contacts, contacts_of}
-use Rattle.gos_plan.specs.Firing.{Phase, Rest, Both, LeftOnly, RightOnly, State, Slot, Req, Ans, Token, Row, at, firing, row_for, rows, quiet_row}
+use Rattle.gos_plan.specs.Firing.{Phase, Rest, Both, LeftOnly, RightOnly, Slot, Req, Ans, Token, Row, at, firing, row_for, rows, quiet_row}
 use Rattle.gos_plan.specs.Plans.{End, PartEnd, ImportEnd, ResultEnd, Plan, contact_at, contacts_of_part, contacts_of_import, same_end, turned_if}
-use Rattle.gos_plan.specs.Turns.{IsEmptyAt}
-use Rattle.gos_plan.specs.Tokens.{Tokens, Element, Fire, Out, In, IsPortEnd, places_of, held_at, token_at, with_token, with_state, with_puts, end_of, shake_of, way_of, way_taken, way_put, firing_of, fired, Passes, Does, Runs, IsIdle}
+use Rattle.gos_plan.specs.Tokens.{Tokens, Element, Fire, Out, In, places_of, held_at, token_at, with_token, with_state, end_of, shake_of, way_of, way_taken, way_put, firing_of, Passes, Does, Runs, IsIdle}
 use Rattle.gos_plan.specs.Orderly.{Open, named_by, handshake_at, none_open, with_open, after_taken, after_put, ComesWell, AllComeWell, after_puts, ComesInOrder, AllWelcome, OrderlyFrom}
 use Rattle.gos_plan.specs.TokenBits as bits
 use Rattle.gos_plan.specs.TokenBits.{LiteralFits}
@@ -25,9 +23,9 @@ use Rattle.gos_plan.proofs.DecidedLemmas.{one_state}
 use Rattle.gos_plan.proofs.AskingLemmas.{TakesAsking, PutsAsking, row_asks}
 use Rattle.gos_plan.proofs.ProjectionLemmas.{named, taken_other, puts_other}
 use Rattle.gos_webs.specs.Cutting.{Cut, lies_at, StandsIn, cut_tokens}
-use Rattle.gos_webs.proofs.CutLemmas.{Owns, state_put, part_there}
+use Rattle.gos_webs.proofs.CutLemmas.{state_put}
 use Rattle.gos_model.specs.Typing.{Imported}
-use Rattle.gos_realises.specs.Regular.{Pass, way_in, is_request, is_open, ComesInTurn}
+use Rattle.gos_realises.specs.Regular.{Pass, is_request, is_open}
 use Rattle.gos_realises.specs.Realises.{AllGround}
 use Rattle.gos_realises.proofs.RingLemmas.{after}
 use Rattle.gos_realises.proofs.ToldLemmas.{there_is}
@@ -38,7 +36,7 @@ use Rattle.gos_parallel.proofs.RegionLemmas.{Held, result_held}
 use Rattle.gos_parallel.proofs.DriverLemmas.{begin_row, end_row}
 use Rattle.gos_parallel.proofs.ProtocolLemmas.{InTurn}
 use Rattle.gos_parallel.proofs.StepLemmas.{gate, Same, Local, fires, puts_out, takes_in, Step, of_left, of_right, asked, told, starts, left_ends, right_ends, left_ends_all, right_ends_all, lost, Sees, Unseen, step, part_ends, Differ, free_left, free_right, not_both_inner, gate_at_result, gate_at_part, gate_apart}
-use Rattle.gos_parallel.proofs.LinkedLemmas.{left_runs, right_runs, Stage, Linked, Led, Comes, first_comes, past_all, left_seen, right_seen, left_list, right_list, linked_step, fits_on, when_asking, when_told, when_starting, when_working, ways_left, ways_right, way_asked, way_told, not_lost, inner_left, inner_right, asked_turn}
+use Rattle.gos_parallel.proofs.LinkedLemmas.{left_runs, right_runs, Stage, Linked, Comes, first_comes, past_all, left_seen, right_seen, left_list, right_list, linked_step, fits_on, when_starting, when_working, way_asked, way_told, not_lost, asked_turn}
 
 -- a region's handshakes are open in the whole where they are in the region
 abbrev pub OpenAgree : Cut → Plan → Open → Open → Type 0
@@ -808,8 +806,7 @@ module _
         (sym (ap is_request (way_asked d f g r p q is literals ground r is.outcome)))
         (λ c there.
         let same : asks 0 0 ≡ c = same_Some (asks 0 0) c (sym (contact_of r is.outcome) ∙ there) in
-        subst (λ (y : Contact). ComesWell r (ResultEnd 0) (way_put y.role) o s' × (with_open (ResultEnd 0) true o ≡ after_put r (ResultEnd 0) (way_put y.role) o)) same
-        (
+        subst (λ (y : Contact). ComesWell r (ResultEnd 0) (way_put y.role) o s' × (with_open (ResultEnd 0) true o ≡ after_put r (ResultEnd 0) (way_put y.role) o)) same (
           ap o result_name ∙ (opened.result ∙ asked_turn d f g r p q is literals ground past comes),
           ap (λ (n : End). with_open n true o) (sym result_name),
         ))

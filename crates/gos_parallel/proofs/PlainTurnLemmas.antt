@@ -1,14 +1,14 @@
 -- Turns of ground imports and of a command, plainly: an import is open only where the result is, and of a variable one handshake.
-use Rattle.std.specs.Prelude.{◌≡◌, ◌<◌, ℕ, zero, suc, ◌+◌, ◌-◌, Bool, true, false, ◌&&◌, ◌||◌, List, [], ◌∷◌, Option, Some, None, nat_lt, slice_get, if◌then◌else◌}
+use Rattle.std.specs.Prelude.{◌≡◌, ◌<◌, ℕ, zero, suc, ◌+◌, ◌-◌, Bool, true, false, ◌&&◌, List, [], ◌∷◌, Some, nat_lt, slice_get}
 use Rattle.std.proofs.Common.{arith, refl, sym, ap, subst, ◌∙◌}
 use Rattle.std.proofs.lemmas.Bool.Decides.{nat_tests}
 use Rattle.std.proofs.lemmas.Option.{none-some, same_Some}
 use Rattle.gos_types.specs.Types.{Type', Com, Exp, Var, Pair, Fun, IsGround, IsDone}
 use Rattle.gos_model.specs.Typing.{Imported}
-use Rattle.gos_plan.specs.Plans.{End, ImportEnd, ResultEnd, Plan}
-use Rattle.gos_realises.specs.Regular.{Pass, is_open, count, some_open, beyond, KeepsTurnsOf, whole_type, whole_end}
+use Rattle.gos_plan.specs.Plans.{End, ImportEnd, ResultEnd}
+use Rattle.gos_realises.specs.Regular.{count, beyond, KeepsTurnsOf, whole_type, whole_end}
 use Rattle.gos_realises.specs.Realises.{AllGround}
-use Rattle.gos_realises.proofs.GroundTurnLemmas.{width, some_there, there_some, count_fun, width_small, result_open, done_kept, result_end}
+use Rattle.gos_realises.proofs.GroundTurnLemmas.{width, some_there, there_some, width_small, result_open, done_kept, result_end}
 
 -- of the imports from number n on
 pub record Plain (b : End → Bool) (n : ℕ) (is : List Imported) : Type 0 where

@@ -1,19 +1,18 @@
 -- Inputs that come in turn, each at its own handshake, keep the protocol, where the imports are ground and have different names.
-use Rattle.std.specs.Prelude.{◌≡◌, ◌^◌, ◌<◌, ℕ, zero, suc, Bool, true, false, not, IsTrue, IsFalse, List, [], ◌∷◌, Option, Some, None, slice_get, nat_eq, if◌then◌else◌}
+use Rattle.std.specs.Prelude.{◌≡◌, ◌^◌, ◌<◌, ℕ, zero, suc, Bool, true, false, not, IsFalse, List, [], ◌∷◌, Option, Some, None, slice_get, nat_eq, if◌then◌else◌}
 use Rattle.std.specs.Str.{bytes_eq}
 use Rattle.std.proofs.Common.{arith, refl, sym, ap, subst, ◌∙◌}
 use Rattle.std.proofs.lemmas.Bool.Decides.{nat_tests}
 use Rattle.std.proofs.lemmas.Option.{none-some, same_Some}
 use Rattle.gos_types.specs.Types.{Type', Com, Exp, Var, Pair, Fun, IsGround, IsDone}
-use Rattle.gos_types.specs.declared.shakes.Role.TheVariants.{Serve, Ask}
 use Rattle.gos_netlist.specs.Events.{Direction, Request, Answer}
 use Rattle.gos_model.specs.Typing.{Imported, Imports, import_type}
-use Rattle.gos_model.specs.Labels.{Port, Given, Taken, Label, is_answer, is_output_at, is_output}
+use Rattle.gos_model.specs.Labels.{Port, Taken, Label, is_answer, is_output_at, is_output}
 use Rattle.gos_model.specs.Protocol as protocol
 use Rattle.gos_model.specs.Protocol.{shake_of, event_of, FitsAnswer, Allowed, KeepsAfter, KeepsProtocol}
 use Rattle.gos_plan.specs.Kinds.{Contact, asks, contacts_of}
 use Rattle.gos_plan.specs.Plans.{End, PartEnd, ImportEnd, ResultEnd, Plan, contact_at, contacts_of_import, same_end, turned_if}
-use Rattle.gos_plan.specs.Tokens.{Tokens, Element, Fire, Out, In, IsPortEnd, way_taken, way_put, bits_of, Passes, Does, Runs}
+use Rattle.gos_plan.specs.Tokens.{Tokens, Element, Fire, Out, In, IsPortEnd, way_taken, way_put, bits_of, Passes, Runs}
 use Rattle.gos_realises.specs.Regular.{Pass, pass, way_in, way_out, is_request, is_open, ComesInTurn, InputsKeepTurns}
 use Rattle.gos_realises.specs.Matched.{port_if, event_number, label_at, all_shown}
 use Rattle.gos_realises.specs.Realises.{AllGround, NamesDiffer}

@@ -1,16 +1,16 @@
 -- Where the whole is quiet its regions are, and where they and the part that asks them are idle the whole is.
-use Rattle.std.specs.Prelude.{◌≡◌, ◌⊎◌, ◌&&◌, ℕ, zero, suc, Bool, true, false, List, [], ◌∷◌, Option, Some, None, nat_eq, nat_lt, length, slice_get, if◌then◌else◌}
+use Rattle.std.specs.Prelude.{◌≡◌, ◌⊎◌, ◌&&◌, ℕ, Bool, true, false, List, [], ◌∷◌, Option, Some, None, nat_eq, nat_lt, length, slice_get, if◌then◌else◌}
 use Rattle.std.proofs.Common.{arith, refl, sym, ap, subst, inl, inr, ◌∙◌}
 use Rattle.std.proofs.lemmas.Option.{slice_get_within}
-use Rattle.gos_types.specs.Types.{Type', Com, IsDone}
+use Rattle.gos_types.specs.Types.{IsDone}
 use Rattle.gos_netlist.specs.Events.{Direction, Request, Answer}
 use Rattle.gos_plan.specs.Kinds.{Part, Contact, asks}
-use Rattle.gos_plan.specs.Firing.{Rest, State, Slot, Ans, Token, Row, at}
+use Rattle.gos_plan.specs.Firing.{Rest, State, Slot, Ans, Token, at}
 use Rattle.gos_plan.specs.Plans.{End, PartEnd, ImportEnd, ResultEnd, Plan, contact_at, same_end}
 use Rattle.gos_plan.specs.Tokens.{Tokens, Element, Fire, Out, In, places_of, same_way, with_held, token_at, with_token, with_state, with_puts, end_of, way_of, way_taken, fired, Passes, Does, IsIdle, IsQuiet}
 use Rattle.gos_plan.proofs.JointLemmas.{contained, found, same_is}
 use Rattle.gos_plan.proofs.HeldLemmas.{nothing_there}
-use Rattle.gos_plan.proofs.TurnLemmas.{token_state, fired_state}
+use Rattle.gos_plan.proofs.TurnLemmas.{token_state}
 use Rattle.gos_webs.specs.Webs.{joint}
 use Rattle.gos_webs.specs.Cutting.{Cut, lies_at, StandsIn, asks_in, cut_tokens}
 use Rattle.gos_webs.proofs.MovedLemmas.{listed}

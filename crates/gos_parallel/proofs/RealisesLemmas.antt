@@ -1,9 +1,8 @@
 -- The plan of `M || N` realises it, where its regions realise M and N.
-use Rattle.std.specs.Prelude.{◌≡◌, ℕ, List, [], All}
+use Rattle.std.specs.Prelude.{ℕ, List, [], All}
 use Rattle.std.proofs.Common.{refl, sym, subst}
 use Rattle.gos_types.specs.Types.{Com, IsDone}
 use Rattle.gos_model.specs.Terms.{Term, Par}
-use Rattle.gos_model.specs.Typing.{Typed}
 use Rattle.gos_model.specs.Moves.{Idle}
 use Rattle.gos_model.specs.Protocol.{KeepsProtocol}
 use Rattle.gos_plan.specs.Plans.{Plan}

@@ -2,21 +2,20 @@
 --
 -- The region's result is counted among its ends also where it stands in no joint: then part d asks in vain, and the region sees
 -- a request that is lost.
-use Rattle.std.specs.Prelude.{◌≡◌, ◌⊎◌, ◌^◌, ◌<◌, ℕ, zero, suc, Bool, true, false, List, [], ◌∷◌, Option, Some, None, slice_get}
+use Rattle.std.specs.Prelude.{◌≡◌, ◌⊎◌, ℕ, true, List, [], ◌∷◌, Option, Some, None, slice_get}
 use Rattle.std.proofs.Common.{arith, refl, sym, ap, subst, inl, inr, ◌∙◌}
-use Rattle.gos_types.specs.Types.{Type', Com, IsDone}
+use Rattle.gos_types.specs.Types.{Type', IsDone}
 use Rattle.gos_netlist.specs.Events.{Direction, Request, Answer}
 use Rattle.gos_plan.specs.Kinds as kinds
 use Rattle.gos_plan.specs.Kinds.{Part, Contact, asks, contacts_of}
 use Rattle.gos_plan.specs.Firing.{State, Token, Row, Slot}
 use Rattle.gos_plan.specs.Plans.{End, PartEnd, ImportEnd, ResultEnd, Plan, contact_at, same_end, turned_if}
-use Rattle.gos_plan.specs.Tokens.{Tokens, Element, Fire, Out, In, IsPortEnd, places_of, held_at, with_held, token_at, with_token, with_state, with_puts, end_of, shake_of, way_of, fired, Passes, Does, Runs}
+use Rattle.gos_plan.specs.Tokens.{Tokens, Out, In, IsPortEnd, places_of, held_at, with_held, token_at, with_token, with_state, with_puts, end_of, shake_of, way_of, fired, Passes, Does}
 use Rattle.gos_plan.specs.Orderly.{named_by, handshake_at}
 use Rattle.gos_plan.proofs.JointLemmas.{contained, found, joined, same_is, same_itself, stands_there}
-use Rattle.gos_webs.specs.Webs.{joint}
 use Rattle.gos_webs.specs.Cutting.{Cut, lies_at, StandsIn, cut_tokens}
 use Rattle.gos_webs.proofs.MovedLemmas.{listed, same_bool}
-use Rattle.gos_webs.proofs.CutLemmas.{name_by, name_of, Owns, one_end, asker_asks, asker_own, place_there, no_place, token_cut, token_put, token_lost, state_lost}
+use Rattle.gos_webs.proofs.CutLemmas.{name_by, Owns, one_end, asker_asks, asker_own, place_there, no_place, token_cut, token_put, token_lost, state_lost}
 use Rattle.gos_realises.proofs.InputLemmas.{result_asks}
 use Rattle.gos_parallel.specs.Parallel.{IsSide}
 

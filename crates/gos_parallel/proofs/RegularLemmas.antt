@@ -1,21 +1,20 @@
 -- The plan of `M || N` is regular where those of M and N are.
-use Rattle.std.specs.Prelude.{◌≡◌, ℕ, false, List, [], All}
+use Rattle.std.specs.Prelude.{◌≡◌, false, List, []}
 use Rattle.std.proofs.Common.{refl, sym, subst}
 use Rattle.gos_types.specs.Types.{Com, IsDone}
 use Rattle.gos_model.specs.Protocol.{KeepsProtocol}
 use Rattle.gos_plan.specs.Plans.{Plan}
 use Rattle.gos_plan.specs.Tokens.{Tokens, Element, Runs, IsIdle}
-use Rattle.gos_plan.specs.TokenBits.{LiteralFits, AllFit}
 use Rattle.gos_plan.specs.Orderly.{none_open, IsOrderly}
 use Rattle.gos_plan.proofs.TokenBitsLemmas.{idle_fits}
-use Rattle.gos_webs.specs.Cutting.{Cut, cut_tokens}
+use Rattle.gos_webs.specs.Cutting.{cut_tokens}
 use Rattle.gos_webs.proofs.IdleLemmas.{idle_is_cut}
 use Rattle.gos_realises.specs.Regular.{IsRegular}
 use Rattle.gos_realises.specs.Matched.{all_shown}
 use Rattle.gos_realises.specs.Realises.{AllGround, NamesDiffer}
 use Rattle.gos_realises.proofs.GroundTurnLemmas.{all_closed}
 use Rattle.gos_realises.proofs.InputLemmas.{protocol_keeps_turns}
-use Rattle.gos_parallel.specs.Parallel.{IsParallel, ParallelIsRegular}
+use Rattle.gos_parallel.specs.Parallel.{ParallelIsRegular}
 use Rattle.gos_parallel.proofs.ProtocolLemmas.{InTurn, turns_in_turn, in_turn_keeps}
 use Rattle.gos_parallel.proofs.LinkedLemmas.{left_list, right_list, left_runs_on, right_runs_on, lists_in_turn, linked_first}
 use Rattle.gos_parallel.proofs.OutputLemmas.{Turning, outputs_turn}

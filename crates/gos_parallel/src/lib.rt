@@ -5,4 +5,4 @@
 
 mod laws;
 
-pub use laws::parallel;
+pub use laws::{parallel, small_parallel};

@@ -1,7 +1,7 @@
 pub mod RingLemmas
 mod OneJointLemmas
-mod SkipLemmas
-mod NameLemmas
+pub mod SkipLemmas
+pub mod NameLemmas
 mod TraceLemmas
 mod SmallLinkLemmas
 mod SmallTurnLemmas
