@@ -2,13 +2,13 @@
 use Rattle.std.specs.Prelude.{◌≡◌, ◌⊎◌, ℕ, zero, suc}
 use Rattle.std.proofs.Common.{arith, refl, sym, ap, subst, inl, inr, ◌∙◌}
 use Rattle.gos_types.specs.Types.{Type'}
-use Rattle.gos_model.specs.Terms.{Term, Skip, Lit, Lam, App, Both, Fst, Snd, Seq, Par, If, Assign, Deref, Not, Bin, Scope, Held, Put}
+use Rattle.gos_model.specs.Terms.{Term, Lam, App, Both, Fst, Snd, Seq, Par, If, Assign, Deref, Not, Bin, Scope, Held, Put}
 use Rattle.gos_model.specs.Typing.{Imports}
 use Rattle.gos_model.specs.Substitution.{instantiate}
 use Rattle.gos_model.specs.Stores.{Store}
 use Rattle.gos_model.specs.Reach.{Rel, Below, Rewrites, Under, Unfolds}
 use Rattle.gos_model.specs.Steps.{IsValue}
-use Rattle.gos_model.specs.Moves.{Program, Unfoldings}
+use Rattle.gos_model.specs.Moves.{Unfoldings}
 use Rattle.gos_contexts.specs.Ends.{RightWaitsForEnded, LeftWaitsForEnded}
 use Rattle.gos_contexts.proofs.BackwardLemmas.{OneHead, IsStuck, value_stuck, value_stays, value_answers, stuck_in, both_stalled}
 
