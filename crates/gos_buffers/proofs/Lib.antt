@@ -1,0 +1,6 @@
+mod GroundLemmas
+mod BranchLemmas
+mod BesideLemmas
+mod ShareStepLemmas
+mod RegularLemmas
+mod MatchedLemmas

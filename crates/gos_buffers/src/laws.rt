@@ -1,0 +1,18 @@
+// What the definitions give. Each theorem is the contract of a function that does nothing.
+ghost use Rattle.gos_buffers.specs.Buffers.{WorksForOne, BufferedIsRegular, BufferedRealises, BuffersAreLoyal};
+
+/// A Share of which one caller alone is joined works for that caller, and is loyal to it.
+pub fn callers()
+    ensures works { WorksForOne }
+    ensures loyal { BuffersAreLoyal }
+{}
+
+/// Before a regular plan it is regular.
+pub fn order()
+    ensures { BufferedIsRegular }
+{}
+
+/// It realises what the plan behind it realises.
+pub fn realising()
+    ensures { BufferedRealises }
+{}
