@@ -268,7 +268,7 @@ protocol_begins is past (l ∷ xs) ys h = (h.0, protocol_begins is (l ∷ past) 
 
 shown_together : (q : Plan) (xs ys : List Element) → all_shown q (xs ++ ys) ≡ all_shown q xs ++ all_shown q ys
 shown_together q [] ys = refl
-shown_together q (x ∷ xs) ys = ap (λ ls. shows q x ++ ls) (shown_together q xs ys) ∙ sym (append-assoc (shows q x) (all_shown q xs) (all_shown q ys))
+shown_together q (x ∷ xs) ys = ap (λ ls. shows q x ++ ls) (shown_together q xs ys) ∙ sym (append_assoc (shows q x) (all_shown q xs) (all_shown q ys))
 
 -- the Share's firing goes on for nobody
 no_request : (i : ℕ) (t : Type') (c : ℕ) (r q : Plan) (h : ℕ) (s w : Tokens) → Passed i t c r (Ans h) s w → (v : ℕ) (row : Row)
