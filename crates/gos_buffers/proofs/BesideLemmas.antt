@@ -9,7 +9,7 @@ use Rattle.gos_types.specs.declared.shakes.Role.{Role}
 use Rattle.gos_types.specs.declared.shakes.Role.TheVariants.{Serve, Ask}
 use Rattle.gos_netlist.specs.Events.{Direction, Request, Answer}
 use Rattle.gos_plan.specs.Kinds.{Contact, Part, asks, serves}
-use Rattle.gos_plan.specs.Plans.{End, PartEnd, Plan, contact_at, same_end, IsRight}
+use Rattle.gos_plan.specs.Plans.{End, PartEnd, Plan, contact_at, same_end}
 use Rattle.gos_plan.specs.Firing.{Rest, State, Token}
 use Rattle.gos_plan.specs.Tokens.{Tokens, places_of, same_way, held_at, with_held, with_place, token_at, with_token, with_state, with_puts, end_of, way_of, way_taken, way_put}
 use Rattle.gos_plan.specs.Orderly.{Open, named_by, handshake_at, after_taken, after_put, ComesWell, AllComeWell, after_puts}

@@ -1,18 +1,17 @@
 -- While a handshake of the source is open, the branch of a buffer is that of its caller. So each firing is for that caller.
-use Rattle.std.specs.Prelude.{◌⊎◌, ◌+◌, ◌-◌, ◌*◌, ◌<◌, ◌≤◌, None, IsTrue, nat_eq, slice_get}
+use Rattle.std.specs.Prelude.{◌⊎◌, ◌+◌, ◌-◌, ◌*◌, ◌<◌, None, nat_eq, slice_get}
 use Rattle.std.proofs.Common.{◌≡◌, ℕ, zero, suc, Bool, true, false, List, [], ◌∷◌, Option, Some, inl, inr, refl, sym, ◌∙◌, ap, subst, arith, if◌then◌else◌}
 use Rattle.gos_types.specs.Types.{Type'}
-use Rattle.gos_types.specs.declared.shakes.Role.{Role}
 use Rattle.gos_types.specs.declared.shakes.Role.TheVariants.{Serve, Ask}
 use Rattle.gos_netlist.specs.Events.{Direction, Request, Answer}
 use Rattle.gos_realises.specs.Regular.{count}
-use Rattle.gos_plan.specs.Kinds.{Contact, asks, serves, Part, Share, part_contacts}
+use Rattle.gos_plan.specs.Kinds.{Contact, serves, Part, Share, part_contacts}
 use Rattle.gos_plan.specs.Plans.{End, PartEnd, Plan, contact_at, same_end, stands_in, IsRight}
-use Rattle.gos_plan.specs.Firing.{Rest, State, at, Slot, Req, Ans, Token, put, Row, firing}
+use Rattle.gos_plan.specs.Firing.{Rest, State, at, Slot, Req, Ans, Token, put}
 use Rattle.gos_plan.specs.Tokens.{Tokens, Element, Fire, Out, In, places_of, held_at, token_at, end_of, way_of, shake_of, way_taken, way_put, firing_of, fired, with_token, Passes, Does, IsIdle}
 use Rattle.gos_plan.specs.Orderly.{Open, none_open, named_by, handshake_at, after_taken, after_put, after_puts, ComesInOrder, OrderlyFrom}
-use Rattle.gos_plan.proofs.JointLemmas.{IsIn, same_itself, same_is, Found, found, Joined, joined}
-use Rattle.gos_plan.proofs.HeldLemmas.{AllFit, step, takes_of}
+use Rattle.gos_plan.proofs.JointLemmas.{IsIn, same_is, found, joined}
+use Rattle.gos_plan.proofs.HeldLemmas.{AllFit, step}
 use Rattle.gos_plan.proofs.RowLemmas.{role_taking}
 use Rattle.gos_plan.proofs.AskingLemmas.{RoleIs, PutsInRole, row_roles}
 use Rattle.gos_plan.proofs.TurnLemmas.{token_state, fired_state}
@@ -28,7 +27,7 @@ use Rattle.gos_sharing.proofs.ShareRowLemmas.{served_there, asked_there, Pair, P
 use Rattle.gos_sharing.proofs.SeenKeptLemmas.{Side, side, PutsSo, two_ways, fit_none, not_both_so, still_open}
 use Rattle.gos_sharing.proofs.SeenElementLemmas.{puts_so, one_contact}
 use Rattle.gos_sharing.proofs.SeenRunLemmas.{name_of}
-use Rattle.gos_buffers.specs.Buffers.{IsBuffer, WorksForOne, IsLoyal, BuffersAreLoyal}
+use Rattle.gos_buffers.specs.Buffers.{IsBuffer, WorksForOne, BuffersAreLoyal}
 use Rattle.gos_buffers.proofs.GroundLemmas.{OfCaller, source_asks, callers_serve, next_rests}
 
 -- while a handshake of the source is open, the branch is caller c's, whose handshake is joined

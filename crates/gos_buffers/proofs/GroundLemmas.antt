@@ -1,11 +1,11 @@
 -- The Share of a ground type: its handshakes, the tokens that it takes, and the branch that it is left at.
-use Rattle.std.specs.Prelude.{◌⊎◌, ◌+◌, ◌*◌, ◌<◌, ◌≤◌, None, slice_get}
+use Rattle.std.specs.Prelude.{◌+◌, ◌*◌, ◌<◌, None, slice_get}
 use Rattle.std.proofs.Common.{◌≡◌, ℕ, zero, suc, List, [], ◌∷◌, Some, inl, inr, refl, sym, ◌∙◌, ap, subst, arith}
 use Rattle.std.proofs.lemmas.Option.{slice_get_within}
 use Rattle.gos_types.specs.Types.{Type', Com, Exp, Var, Pair, Fun, IsGround}
 use Rattle.gos_types.specs.declared.shakes.Role.{Role}
 use Rattle.gos_types.specs.declared.shakes.Role.TheVariants.{Serve, Ask}
-use Rattle.gos_netlist.specs.Events.{Direction, Request, Answer}
+use Rattle.gos_netlist.specs.Events.{Request, Answer}
 use Rattle.gos_realises.specs.Regular.{count}
 use Rattle.gos_plan.specs.Kinds.{Contact, asks, serves, Share, contacts_of, part_contacts}
 use Rattle.gos_plan.specs.Firing.{Phase, Rest, State, at, Slot, Req, Ans, Row, rows, row_for, shared_rows, share_rows, firing}

@@ -1,6 +1,7 @@
-mod GroundLemmas
-mod BranchLemmas
-mod BesideLemmas
-mod ShareStepLemmas
-mod RegularLemmas
-mod MatchedLemmas
+pub mod GroundLemmas
+pub mod BranchLemmas
+pub mod BesideLemmas
+pub mod ShareStepLemmas
+pub mod RegularLemmas
+pub mod MatchedLemmas
+mod SmallBufferLemmas

@@ -2,30 +2,29 @@
 --
 -- Along a list of the plan with the Share the match of what is seen of it is a match of the list itself: a firing of the Share
 -- is matched by no move. Where what is seen is idle, nothing waits at the Share.
-use Rattle.std.specs.Prelude.{◌⊎◌, ◌+◌, ◌*◌, ◌-◌, ◌<◌, ◌≢◌, ◌&&◌, None, IsTrue, nat_eq, slice_get}
+use Rattle.std.specs.Prelude.{◌⊎◌, ◌+◌, ◌*◌, ◌-◌, ◌<◌, ◌≢◌, ◌&&◌, None, nat_eq, slice_get}
 use Rattle.std.proofs.Common.{◌≡◌, ℕ, Bool, true, false, List, [], ◌∷◌, ◌++◌, Option, Some, Contains, inl, inr, refl, sym, ◌∙◌, ap, subst, arith, if◌then◌else◌}
 use Rattle.std.proofs.lemmas.List.{append_assoc}
 use Rattle.gos_types.specs.Types.{Type'}
 use Rattle.gos_types.specs.Handshakes.{turned}
 use Rattle.gos_types.specs.declared.shakes.Role.{Role}
 use Rattle.gos_types.specs.declared.shakes.Role.TheVariants.{Serve, Ask}
-use Rattle.gos_netlist.specs.Events.{Direction, Request, Answer}
-use Rattle.gos_model.specs.Terms.{Term}
+use Rattle.gos_netlist.specs.Events.{Direction, Answer}
 use Rattle.gos_model.specs.Labels.{Label}
-use Rattle.gos_model.specs.Moves.{Program, Config, Idle, Act, Moves, labels, Stalled}
+use Rattle.gos_model.specs.Moves.{Program, Config, Idle, Act, Moves, labels}
 use Rattle.gos_model.specs.Typing.{Imports}
 use Rattle.gos_model.specs.Protocol.{KeepsAfter, KeepsProtocol}
 use Rattle.gos_plan.specs.Kinds.{Contact, Part, Share, asks, serves, contacts_of, turned_contact, part_contacts}
-use Rattle.gos_plan.specs.Plans.{End, PartEnd, ImportEnd, ResultEnd, Joint, Plan, contact_at, same_end, IsRight}
+use Rattle.gos_plan.specs.Plans.{End, PartEnd, ImportEnd, ResultEnd, Plan, contact_at, same_end}
 use Rattle.gos_plan.specs.Firing.{Rest, State, at, Slot, Req, Ans, Token, put, Row}
-use Rattle.gos_plan.specs.Tokens.{Tokens, Element, Fire, Out, In, places_of, same_way, held_at, with_held, token_at, end_of, way_of, shake_of, way_taken, way_put, firing_of, fired, with_token, with_state, with_puts, Passes, Does, Runs, IsIdle, IsQuiet}
+use Rattle.gos_plan.specs.Tokens.{Tokens, Element, Fire, Out, In, places_of, same_way, with_held, token_at, end_of, way_of, shake_of, way_taken, way_put, firing_of, with_token, with_state, with_puts, Passes, Does, IsIdle}
 use Rattle.gos_plan.specs.Orderly.{Open, none_open, ComesInOrder, AllWelcome, OrderlyFrom, IsOrderly}
 use Rattle.gos_plan.proofs.JointLemmas.{IsIn, same_is, found, fits, contained, stands_there}
 use Rattle.gos_plan.proofs.RowLemmas.{role_taking}
 use Rattle.gos_plan.proofs.AskingLemmas.{RoleIs, row_roles, source_at}
 use Rattle.gos_plan.proofs.DecidedLemmas.{one_state}
 use Rattle.gos_realises.specs.Regular.{count, way_in, way_out}
-use Rattle.gos_realises.specs.Matched.{port_if, event_number, label_at, shows, all_shown, asks_on, GoesOn, Agrees, IsMatched, program_of, RealisesDone}
+use Rattle.gos_realises.specs.Matched.{port_if, event_number, label_at, shows, all_shown, asks_on, GoesOn, Agrees, IsMatched, program_of}
 use Rattle.gos_webs.specs.Webs.{joint}
 use Rattle.gos_webs.specs.Cutting.{asks_in, StandsIn}
 use Rattle.gos_webs.proofs.MovedLemmas.{listed}
@@ -33,10 +32,10 @@ use Rattle.gos_sharing.specs.Sharing.{source_end, caller_end, IsOfPart, IsSeenTh
 use Rattle.gos_sharing.proofs.SeenIdleLemmas.{idle_is_seen}
 use Rattle.gos_sharing.proofs.SeenPlaceLemmas.{asks_so, asker, other_in, followed, to_source}
 use Rattle.gos_sharing.proofs.SeenTokenLemmas.{next, place_asking, place_serving}
-use Rattle.gos_sharing.proofs.SeenFireLemmas.{contact_seen, port_outside}
+use Rattle.gos_sharing.proofs.SeenFireLemmas.{contact_seen}
 use Rattle.gos_sharing.proofs.SeenFillLemmas.{token_seen}
 use Rattle.gos_sharing.proofs.ShareRowLemmas.{asked_there, Passed, IsRequestPassed, IsAnswerPassed, share_passes, share_seen}
-use Rattle.gos_sharing.proofs.SeenKeptLemmas.{Kept, fit_none, all_clear, not_both_so}
+use Rattle.gos_sharing.proofs.SeenKeptLemmas.{Kept, fit_none, all_clear}
 use Rattle.gos_sharing.proofs.SeenElementLemmas.{fire_too, out_too, in_too, takes_so, visible, clear_of_taken}
 use Rattle.gos_sharing.proofs.SeenRunLemmas.{share_kept, runs_are_seen}
 use Rattle.gos_sharing.proofs.SeenQuietLemmas.{quiet_here}
@@ -115,7 +114,7 @@ leading i t c r q is j lt a into = of_joint (is.goes_on j lt (stands r (caller_e
           asks = asks_so q.joints a b (contained q.joints (joint a b) ((is.seen.joints a b).1 (inr through)));
           onto =
               ap (follower i t c) (other_in r a (caller_end i t c j) is.seen.right into)
-                  ∙ (followed i t c (count t + c * count t + j) ∙ ap (λ n. Some (PartEnd i n)) (to_source (count t) (count t + c * count t) j (omega arith)));
+              ∙ (followed i t c (count t + c * count t + j) ∙ ap (λ n. Some (PartEnd i n)) (to_source (count t) (count t + c * count t) j (omega arith)));
         }
       where
         through : LeadsThrough i t c r a b

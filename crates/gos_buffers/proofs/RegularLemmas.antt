@@ -2,26 +2,24 @@
 --
 -- Along a list of the plan with the Share, what is seen of it is a list of the plan without it. That one goes on in order, and
 -- so does the other. What may come is any property of lists that their beginnings have too.
-use Rattle.std.specs.Prelude.{◌⊎◌, ◌<◌, ◌^◌, None, nat_eq, slice_get}
-use Rattle.std.proofs.Common.{◌≡◌, ℕ, Bool, true, false, List, [], ◌∷◌, ◌++◌, Option, Some, inl, inr, refl, sym, ◌∙◌, ap, subst, arith, if◌then◌else◌}
+use Rattle.std.specs.Prelude.{◌<◌, ◌^◌, None, nat_eq, slice_get}
+use Rattle.std.proofs.Common.{◌≡◌, ℕ, Bool, true, false, List, [], ◌∷◌, ◌++◌, Option, Some, refl, sym, ◌∙◌, ap, subst, arith, if◌then◌else◌}
 use Rattle.gos_types.specs.Types.{Type'}
-use Rattle.gos_netlist.specs.Events.{Direction, Request, Answer}
-use Rattle.gos_plan.specs.Kinds.{Contact, Part, Share, part_contacts}
-use Rattle.gos_plan.specs.Plans.{End, PartEnd, Plan, contact_at, contacts_of_part}
-use Rattle.gos_plan.specs.Firing.{Rest, State, at, Slot, Token, Row, firing}
-use Rattle.gos_plan.specs.Tokens.{Tokens, Element, Fire, Out, In, places_of, held_at, token_at, end_of, way_of, shake_of, way_taken, way_put, bits_of, firing_of, fired, with_token, with_state, with_puts, Passes, Does, Runs, IsIdle}
+use Rattle.gos_plan.specs.Kinds.{Contact, Part, Share}
+use Rattle.gos_plan.specs.Plans.{End, Plan, contact_at, contacts_of_part}
+use Rattle.gos_plan.specs.Firing.{Rest, State, at, Slot, Row}
+use Rattle.gos_plan.specs.Tokens.{Tokens, Element, Fire, Out, In, places_of, token_at, end_of, way_of, shake_of, way_taken, way_put, bits_of, firing_of, fired, with_token, with_state, with_puts, Passes, Does, Runs, IsIdle}
 use Rattle.gos_plan.specs.Orderly.{Open, none_open, after_taken, after_put, after_puts, ComesWell, AllComeWell, ComesInOrder, AllWelcome, OrderlyFrom, IsOrderly}
 use Rattle.gos_plan.proofs.HeldLemmas.{takes_of}
 use Rattle.gos_plan.proofs.RowLemmas.{role_taking}
 use Rattle.gos_plan.proofs.AskingLemmas.{RoleIs, RowInRole, row_roles}
 use Rattle.gos_plan.proofs.DecidedLemmas.{one_state, one_open}
-use Rattle.gos_realises.specs.Regular.{Pass, pass, way_in, way_out, is_open, KeepsTurnsOf, whole_type, whole_end, ComesInTurn, KeepsTurns, InputsKeepTurns, OutputsKeepTurns, IsRegular}
-use Rattle.gos_sharing.specs.Sharing.{IsOfPart, IsSeenThrough, seen_tokens, without, WorksFor}
+use Rattle.gos_realises.specs.Regular.{Pass, pass, way_in, way_out, is_open, KeepsTurnsOf, whole_type, whole_end, ComesInTurn, KeepsTurns, InputsKeepTurns, OutputsKeepTurns}
+use Rattle.gos_sharing.specs.Sharing.{IsSeenThrough, seen_tokens, without}
 use Rattle.gos_sharing.proofs.SeenIdleLemmas.{idle_is_seen}
 use Rattle.gos_sharing.proofs.SeenFireLemmas.{contact_seen, port_outside, state_filled}
-use Rattle.gos_sharing.proofs.SeenKeptLemmas.{Kept, PutsSo, not_both_so}
-use Rattle.gos_sharing.proofs.SeenElementLemmas.{puts_so, takes_so, one_contact, visible, clear_of_taken}
-use Rattle.gos_sharing.proofs.SeenFillLemmas.{token_seen}
+use Rattle.gos_sharing.proofs.SeenKeptLemmas.{not_both_so}
+use Rattle.gos_sharing.proofs.SeenElementLemmas.{takes_so, one_contact}
 use Rattle.gos_sharing.proofs.SeenRunLemmas.{nothing_held, runs_are_seen}
 use Rattle.gos_buffers.specs.Buffers.{IsBuffer, BufferedIsRegular}
 use Rattle.gos_buffers.proofs.GroundLemmas.{share_takes}
@@ -239,13 +237,12 @@ go_on : (q : Plan) (may : List Element → Type 0) (u m : Open) (s w : Tokens) (
 go_on q may u m s w x does comes orders zs z runs may_come = of_list (orders (x ∷ zs) z (w, does, runs) may_come)
   where
     of_list : (y : Open) × (k : Tokens) × OrderlyFrom q (x ∷ zs) u s y k → (y : Open) × (k : Tokens) × OrderlyFrom q zs m w y k
-    of_list (y, k, (n, v, also, now, welcome, rest)) =
-        (
-          y,
-          k,
-          subst (λ (a : Open). OrderlyFrom q zs a w y k) (one_open q x u n m s w does now comes)
-              (subst (λ (b : Tokens). OrderlyFrom q zs n b y k) (sym (one_state q x s w v does also)) rest),
-        )
+    of_list (y, k, (n, v, also, now, welcome, rest)) = (
+      y,
+      k,
+      subst (λ (a : Open). OrderlyFrom q zs a w y k) (one_open q x u n m s w does now comes)
+          (subst (λ (b : Tokens). OrderlyFrom q zs n b y k) (sym (one_state q x s w v does also)) rest),
+    )
 
 -- an element outside the Share, and then the rest
 abbrev pub Ordered : Plan → List Element → Open → Tokens → Type 0
@@ -272,7 +269,7 @@ orderly_too i t c r q is (Fire k slot ∷ xs) may o u s w begins orders beside w
     by_part (nat_eq k i) refl comes
     (λ m beside_now orders_now welcome_now now. orderly_too i t c r q is xs may m u v w begins orders_now beside_now welcome_now runs now)
     (λ one orders_now welcome_now now.
-        orderly_too i t c r q is xs (λ zs. may (Fire k slot ∷ zs)) one.opened one.open_too v w (λ zs ys h. begins (Fire k slot ∷ zs) ys h) orders_now one.beside welcome_now runs now)
+    orderly_too i t c r q is xs (λ zs. may (Fire k slot ∷ zs)) one.opened one.open_too v w (λ zs ys h. begins (Fire k slot ∷ zs) ys h) orders_now one.beside welcome_now runs now)
   where
     by_part : (b : Bool) → nat_eq k i ≡ b → may (if b then without i xs else Fire k slot ∷ without i xs)
         → ((m : Open) → Beside i t c r q m u v → Orders q may u (seen_tokens i t c r q v) → AllWelcome q (seen_tokens i t c r q v) → may (without i xs) → Ordered r xs m v)

@@ -16,7 +16,7 @@ use Rattle.gos_sharing.specs.Sharing.{source_end, caller_end, IsOfPart, IsSeenTh
 use Rattle.gos_sharing.proofs.SeenPlaceLemmas.{asks_so, to_source}
 use Rattle.gos_sharing.proofs.SeenTokenLemmas.{next, asking_at, outside_at, of_part, place_serving}
 use Rattle.gos_sharing.proofs.ShareRowLemmas.{Pair, Passed, IsRequestPassed, IsAnswerPassed, same_branch, pair_through, into_pair, served_there, asked_there, differ, share_passes, share_seen}
-use Rattle.gos_sharing.proofs.SeenKeptLemmas.{Kept, fit_none, both_none, all_clear, PutsSo, not_both_so, stays_empty}
+use Rattle.gos_sharing.proofs.SeenKeptLemmas.{Kept, fit_none, both_none, all_clear, not_both_so, stays_empty}
 use Rattle.gos_sharing.proofs.SeenRunLemmas.{seen_joint, name_of, share_kept}
 use Rattle.gos_buffers.specs.Buffers.{IsBuffer}
 use Rattle.gos_buffers.proofs.GroundLemmas.{OfCaller}
@@ -307,9 +307,14 @@ share_alike i t c r q is slot o u s w beside does = of_kind p.passed
             let at = answer_line i t c r q is p.into p.out p.pair d k lt from in
             alike false
             (one_order i r slot o (with_open (PartEnd i p.out) false o) s p.value p.row p.lies p.fires
-            (written_out i r o (with_open (PartEnd i p.out) false o) s p.row p.value slot (Ans p.out) (put (Ans p.into) p.value ∷ []) p.takes same puts
-            ((subst (λ (e : End). ComesWell r (PartEnd i p.into) Answer (with_open e false o) (with_state i (p.row.next p.value) (with_token r (PartEnd i p.out) Answer None s))) (sym named)
-            (answer_well i t c r q is.seen p.into p.out p.value at o s (p.row.next p.value) beside.kept here), tt), ap (λ e. with_open e false o) (sym named))))
+            (written_out i r o (with_open (PartEnd i p.out) false o) s p.row p.value slot (Ans p.out) (put (Ans p.into) p.value ∷ []) p.takes same puts (
+              (
+                subst (λ (e : End). ComesWell r (PartEnd i p.into) Answer (with_open e false o) (with_state i (p.row.next p.value) (with_token r (PartEnd i p.out) Answer None s))) (sym named)
+                    (answer_well i t c r q is.seen p.into p.out p.value at o s (p.row.next p.value) beside.kept here),
+                tt,
+              ),
+              ap (λ e. with_open e false o) (sym named),
+            )))
             (subst (λ (z : Tokens). Linked i t c r q (with_open (PartEnd i p.out) false o) z) (sym leads)
             (linked_answer i t c r q is.seen p.into p.out p.value p.pair (p.row.next p.value) o s beside.linked))
           where

@@ -5,4 +5,4 @@
 
 mod laws;
 
-pub use laws::{callers, order, realising};
+pub use laws::{callers, order, realising, small_buffers};
