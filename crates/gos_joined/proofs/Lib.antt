@@ -1,6 +1,6 @@
 mod ChainLemmas
-mod ReachLemmas
-mod StepLemmas
-mod OriginLemmas
-mod JoiningLemmas
+pub mod ReachLemmas
+pub mod StepLemmas
+pub mod OriginLemmas
+pub mod JoiningLemmas
 mod WholeLemmas

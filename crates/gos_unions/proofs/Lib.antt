@@ -1,0 +1,9 @@
+pub mod WalkLemmas
+pub mod PathLemmas
+pub mod PlaceLemmas
+pub mod UnionLemmas
+pub mod NumberLemmas
+pub mod LinkLemmas
+pub mod LeftLemmas
+pub mod DeepLemmas
+pub mod FlatLemmas
