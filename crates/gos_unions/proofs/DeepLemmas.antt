@@ -135,12 +135,15 @@ module _ (w : Wiring) (vs : List Wiring) (are : AreJoinings vs w.plans) (all_sta
       ∙ sym (ap (deeper vs) at_outer ∙ (ap (λ (o : Option Wiring). later (first_of vs k) (origin_if o (PartEnd outer.part h))) joins.is_wiring ∙ ap (later (first_of vs k)) at_inner))
 
   -- where an end of joining k that there is stands
-  pub there_in : (a : Place) → IsThere w a → (v : Wiring) → slice_get vs a.plan ≡ Some v → IsThere v (origin v a.end)
-  there_in a (c, there) v is =
+  pub contact_in_wiring : (a : Place) (c : Contact) → contact_of w a ≡ Some c → (v : Wiring) → slice_get vs a.plan ≡ Some v → contact_of v (origin v a.end) ≡ Some c
+  contact_in_wiring a c there v is =
       let joins = plan_of vs w.plans a.plan v are is in
       let same : joins.wiring ≡ v = (let both : Some joins.wiring ≡ Some v = sym joins.is_wiring ∙ is in cc both) in
-      let here : contact_at joins.plan a.end ≡ Some c = ap (λ o. contact_in o a.end) (sym joins.is_plan) ∙ there in
-      subst (λ (x : Wiring). IsThere x (origin x a.end)) same (c, stands_at joins.wiring joins.plan (fields_of joins.wiring joins.plan joins.joins) a.end c here)
+      let here : contact_at joins.plan a.end ≡ Some c = ap (λ (o : Option Plan). contact_in o a.end) (sym joins.is_plan) ∙ there in
+      subst (λ (x : Wiring). contact_of x (origin x a.end) ≡ Some c) same (stands_at joins.wiring joins.plan (fields_of joins.wiring joins.plan joins.joins) a.end c here)
+
+  pub there_in : (a : Place) → IsThere w a → (v : Wiring) → slice_get vs a.plan ≡ Some v → IsThere v (origin v a.end)
+  there_in a (c, there) v is = (c, contact_in_wiring a c there v is)
 
   -- and there is such a wiring
   pub wiring_at : (a : Place) → IsThere w a → (v : Wiring) × (slice_get vs a.plan ≡ Some v)
@@ -351,7 +354,7 @@ module _ (w : Wiring) (vs : List Wiring) (are : AreJoinings vs w.plans) (all_sta
       ∙ sym (ap (λ (o : Option LeftImport). deeper vs (left_place o h)) at_i ∙ deep_import l.plan l.number h v m is at_m))
 
   -- the result
-  result_in : (n s h : ℕ) (o : Option Wiring) → place (n + giver_if o) (ResultEnd (skipped_if o + s + h)) ≡ later n (origin_if o (ResultEnd (s + h)))
+  pub result_in : (n s h : ℕ) (o : Option Wiring) → place (n + giver_if o) (ResultEnd (skipped_if o + s + h)) ≡ later n (origin_if o (ResultEnd (s + h)))
   result_in n s h None = let sum : 0 + s + h ≡ s + h = omega arith in ap (λ (m : ℕ). place (n + 0) (ResultEnd m)) sum
   result_in n s h (Some v) =
       let sum : v.skipped + s + h ≡ v.skipped + (s + h) = omega arith in ap (λ (m : ℕ). place (n + v.giver) (ResultEnd m)) sum
@@ -369,7 +372,7 @@ module _ (w : Wiring) (vs : List Wiring) (are : AreJoinings vs w.plans) (all_sta
   imports_flat : map import_of (all_left (flat w vs)) ≡ map import_of (all_left w)
   imports_flat = ap (map import_of) left_flat ∙ same_imports (all_left w)
 
-  result_flat : HasResult w → HasResult (flat w vs)
+  pub result_flat : HasResult w → HasResult (flat w vs)
   result_flat results h c e = by_plan (slice_get w.plans w.giver) refl (results h c e)
     where
       by_plan : (o : Option Plan) → slice_get w.plans w.giver ≡ o → slice_get (contacts_of_result o) (w.skipped + h) ≡ Some c

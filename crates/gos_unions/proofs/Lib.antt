@@ -7,3 +7,4 @@ pub mod LinkLemmas
 pub mod LeftLemmas
 pub mod DeepLemmas
 pub mod FlatLemmas
+pub mod FlatFitLemmas

@@ -1,6 +1,6 @@
 // What the definitions give. Each theorem is the contract of a function that does nothing.
 ghost use Rattle.gos_unions.specs.Unions.{JoiningIsUnion, UnionIsJoining};
-ghost use Rattle.gos_unions.specs.Flat.{FlatJoins, JoiningsJoin};
+ghost use Rattle.gos_unions.specs.Flat.{FlatFits, FlatIsJoined, FlatJoins, JoinedIsFlat, JoiningsJoin};
 
 /// The joining of plans of webs is the plan of the union of the webs, and back.
 pub fn unions()
@@ -12,4 +12,11 @@ pub fn unions()
 pub fn joinings_of_joinings()
     ensures flat { JoiningsJoin }
     ensures joins { FlatJoins }
+{}
+
+/// Where the inner and the outer links fit so do all of them; and the same of joinings of links that fit.
+pub fn flat_links()
+    ensures fit { FlatFits }
+    ensures flat { JoinedIsFlat }
+    ensures joined { FlatIsJoined }
 {}
