@@ -3,4 +3,4 @@ pub mod ReachLemmas
 pub mod StepLemmas
 pub mod OriginLemmas
 pub mod JoiningLemmas
-mod WholeLemmas
+pub mod WholeLemmas

@@ -126,7 +126,7 @@ stalled_same i j same b c stalled = (
 
 allowed_same : (i j : Imports) → SameImports i j → (past : List Label) (p : Port) (n k : ℕ) → Allowed i past p n k → Allowed j past p n k
 allowed_same i j same past Given n k h = h
-allowed_same i j same past (Taken x) n k (fits, open) = (subst (λ (t : Option Type'). FitsAnswer (event_of t n) k) (same x) fits, open)
+allowed_same i j same past (Taken x) n k (fits, asked) = (subst (λ (t : Option Type'). FitsAnswer (event_of t n) k) (same x) fits, asked)
 
 keeps_after_same : (i j : Imports) → SameImports i j → (past ls : List Label) → KeepsAfter i past ls → KeepsAfter j past ls
 keeps_after_same i j same past [] h = h
@@ -142,12 +142,12 @@ pub record AreReordered (to from : ℕ → ℕ) (is js : List Imported) : Type 0
   pub here : (n : ℕ) → slice_get is (from n) ≡ slice_get js n
   pub returns : (n : ℕ) → to (from n) ≡ n
 
-at_of : {X : Type 0} (xs : List X) (x : X) → Contains xs x → (n : ℕ) × (slice_get xs n ≡ Some x)
+pub at_of : {X : Type 0} (xs : List X) (x : X) → Contains xs x → (n : ℕ) × (slice_get xs n ≡ Some x)
 at_of [] x (k, small, e) = absurd (omega (arith, small))
 at_of (y ∷ xs) x (zero, small, e) = (0, ap Some e)
 at_of (y ∷ xs) x (suc k, small, e) = let (n, is) = at_of xs x (k, omega (arith, small), e) in (suc n, is)
 
-of_at : {X : Type 0} (xs : List X) (n : ℕ) (x : X) → slice_get xs n ≡ Some x → Contains xs x
+pub of_at : {X : Type 0} (xs : List X) (n : ℕ) (x : X) → slice_get xs n ≡ Some x → Contains xs x
 of_at [] n x e = absurd (cc e)
 of_at (y ∷ xs) zero x e = (0, omega arith, cc e)
 of_at (y ∷ xs) (suc n) x e = let (k, small, is) = of_at xs n x e in (suc k, omega (arith, small), is)
@@ -213,7 +213,7 @@ has_type (i ∷ is) x t e = by_test (bytes_eq i.name x) refl e (has_type is x t)
     by_test true test e rest = (i, (0, omega arith, refl), test, cc e)
     by_test false test e rest = let (j, (k, small, at), named, typed) = rest e in (j, (suc k, omega (arith, small), at), named, typed)
 
-name_is : (x y : Name) → bytes_eq x y ≡ true → x ≡ y
+pub name_is : (x y : Name) → bytes_eq x y ≡ true → x ≡ y
 name_is x y test = grind (arith, bytes_eq-Decides, test)
 
 type_has : (is : Imports) → NamesDiffer is → (x : Name) (i : Imported) → Contains is i → bytes_eq i.name x ≡ true → import_type is x ≡ Some i.ty

@@ -104,7 +104,7 @@ module _ (forth undo : ℕ → ℕ) (f : ℕ → Renumber) (w v : Wiring) (is : 
       (mapped_walk Place Place (Step w) (Step v) there (λ x y s. goes Place (Step v) (there x) (there y) (step_there x y s)) n a b (path_walk w n a b u))
 
   -- parts
-  pub part_there : ℕ → ℕ
+  abbrev pub part_there : ℕ → ℕ
   part_there i = before v.plans (forth (plan_in w.plans i)) + (f (plan_in w.plans i)).part (part_in w.plans i)
 
   pub part_goes : (k j : ℕ) (p : Plan) → slice_get w.plans k ≡ Some p → j < length p.parts
@@ -209,7 +209,7 @@ module _ (forth undo : ℕ → ℕ) (f : ℕ → Renumber) (w v : Wiring) (is : 
   index_if None = 0
   index_if (Some l) = left_index v.links 0 v.plans (forth l.plan) ((f l.plan).import l.number)
 
-  pub import_there : ℕ → ℕ
+  abbrev pub import_there : ℕ → ℕ
   import_there i = index_if (slice_get (all_left w) i)
 
   pub import_goes : (i : ℕ) (l : LeftImport) → slice_get (all_left w) i ≡ Some l → slice_get (all_left v) (import_there i) ≡ Some (left_there l)
@@ -246,7 +246,7 @@ module _ (forth undo : ℕ → ℕ) (f : ℕ → Renumber) (w v : Wiring) (is : 
       let (q, at_q, small, same) = plan_there forth undo f w v is s.plan s.part s.of s.is s.small in
       let round : before w.plans (undo (forth s.plan)) + (f (undo (forth s.plan))).part_back ((f s.plan).part s.part) ≡ before w.plans s.plan + s.part =
       (λ i. before w.plans (is.returns s.plan i) + (f (is.returns s.plan i)).part_back ((f s.plan).part s.part))
-          ∙ ap (λ (n : ℕ). before w.plans s.plan + n) ((is.one_to_one s.plan).parts s.part)
+      ∙ ap (λ (n : ℕ). before w.plans s.plan + n) ((is.one_to_one s.plan).parts s.part)
       in
       ap parts_from (ap parts_to s.number ∙ part_goes forth undo f w v is s.plan s.part s.of s.is s.small)
       ∙ (part_goes undo forth (all_back undo f) v w also (forth s.plan) ((f s.plan).part s.part) q at_q small ∙ (round ∙ sym s.number))

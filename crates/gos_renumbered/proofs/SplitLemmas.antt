@@ -80,6 +80,11 @@ pub part_is : (ps : List Plan) (k j : ℕ) (p : Plan) → slice_get ps k ≡ Som
 part_is ps k j p is small = ap (λ (a : Place). part_number a.end) (place_of_part 0 ps k j 0 p is small)
 
 -- an import that no link joins, by its number among those that stay
+abbrev after_test : List Link → ℕ → ℕ → Imported → List Imported → ℕ → Bool → Option LeftImport
+after_test ls k n y xs m b =
+    slice_get (if b then left_in ls k (suc n) xs else record { plan = k; number = n; import = y } ∷ left_in ls k (suc n) xs)
+    ((if b then 0 else 1) + left_before ls k (suc n) xs m)
+
 left_in_get : (ls : List Link) (k n : ℕ) (xs : List Imported) (m : ℕ) (x : Imported) → slice_get xs m ≡ Some x → is_joined ls k (n + m) ≡ false
     → slice_get (left_in ls k n xs) (left_before ls k n xs m) ≡ Some (record { plan = k; number = n + m; import = x })
 left_in_get ls k n [] m x at free = absurd (cc at)
@@ -94,20 +99,15 @@ left_in_get ls k n (y ∷ xs) (suc m) x at free = by_test (is_joined ls k n) ref
     sum : suc n + m ≡ n + suc m
     sum = omega arith
 
-    abbrev there : Bool → Option LeftImport
-    there b =
-        slice_get (if b then left_in ls k (suc n) xs else record { plan = k; number = n; import = y } ∷ left_in ls k (suc n) xs)
-        ((if b then 0 else 1) + left_before ls k (suc n) xs m)
-
     by_test : (b : Bool) → is_joined ls k n ≡ b
         → slice_get (left_in ls k (suc n) xs) (left_before ls k (suc n) xs m) ≡ Some (record { plan = k; number = suc n + m; import = x })
-        → there (is_joined ls k n) ≡ Some (record { plan = k; number = n + suc m; import = x })
+        → after_test ls k n y xs m (is_joined ls k n) ≡ Some (record { plan = k; number = n + suc m; import = x })
     by_test true test rest =
         let zeros : 0 + left_before ls k (suc n) xs m ≡ left_before ls k (suc n) xs m = omega arith in
-        ap there test ∙ (ap (slice_get (left_in ls k (suc n) xs)) zeros ∙ (rest ∙ (λ i. Some (record { plan = k; number = sum i; import = x }))))
+        ap (after_test ls k n y xs m) test ∙ (ap (slice_get (left_in ls k (suc n) xs)) zeros ∙ (rest ∙ (λ i. Some (record { plan = k; number = sum i; import = x }))))
     by_test false test rest =
         let ones : 1 + left_before ls k (suc n) xs m ≡ suc (left_before ls k (suc n) xs m) = omega arith in
-        ap there test
+        ap (after_test ls k n y xs m) test
         ∙ (ap (slice_get (record { plan = k; number = n; import = y } ∷ left_in ls k (suc n) xs)) ones
         ∙ (rest ∙ (λ i. Some (record { plan = k; number = sum i; import = x }))))
 

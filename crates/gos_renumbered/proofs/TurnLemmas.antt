@@ -62,9 +62,9 @@ turns_agree (Fun a b) f g agree (first, second, leads) =
     let of_b = beyond_agree (count a) (count b) (count (Fun a b)) f g (count_fun a b) agree in (
       turns_agree a f g of_a first,
       turns_agree b (beyond (count a) f) (beyond (count a) g) of_b second,
-      λ open.
+      λ busy.
           subst (λ (x : Bool). IsTrue x) (some_agree (count b) (beyond (count a) f) (beyond (count a) g) of_b)
-          (leads (subst (λ (x : Bool). IsTrue x) (sym (some_agree (count a) f g of_a)) open)),
+          (leads (subst (λ (x : Bool). IsTrue x) (sym (some_agree (count a) f g of_a)) busy)),
     )
 
 -- the handshakes of import i, and of the result, among all ends
@@ -101,18 +101,18 @@ rest_follows n x is f F follows h =
 -- where something is open the result is, and back
 result_up : (n : ℕ) (is : List Imported) (t : Type') (f : ℕ → Bool) (F : End → Bool) → Follows n is f F → IsTrue (some_open (count t) (of_result F))
     → IsTrue (some_open (count (whole_type is t)) f)
-result_up n [] t f F follows open = subst (λ (b : Bool). IsTrue b) (some_agree (count t) (of_result F) f (λ h low. sym (follows h))) open
-result_up n (x ∷ is) t f F follows open =
-    let rest = result_up (suc n) is t (beyond (count x.ty) f) F (rest_follows n x is f F follows) open in
+result_up n [] t f F follows busy = subst (λ (b : Bool). IsTrue b) (some_agree (count t) (of_result F) f (λ h low. sym (follows h))) busy
+result_up n (x ∷ is) t f F follows busy =
+    let rest = result_up (suc n) is t (beyond (count x.ty) f) F (rest_follows n x is f F follows) busy in
     let (k, low, up) = some_there (count (whole_type is t)) (beyond (count x.ty) f) rest in
     let sum = count_fun x.ty (whole_type is t) in
     there_some (count (whole_type (x ∷ is) t)) f (count x.ty + k) (omega (arith, low, sum)) up
 
 result_led : (n : ℕ) (is : List Imported) (t : Type') (f : ℕ → Bool) (F : End → Bool) → Follows n is f F → KeepsTurnsOf (whole_type is t) f
     → IsTrue (some_open (count (whole_type is t)) f) → IsTrue (some_open (count t) (of_result F))
-result_led n [] t f F follows keeps open = subst (λ (b : Bool). IsTrue b) (some_agree (count t) f (of_result F) (λ h low. follows h)) open
-result_led n (x ∷ is) t f F follows (own, rest, leads) open =
-    let (k, low, up) = some_there (count (whole_type (x ∷ is) t)) f open in
+result_led n [] t f F follows keeps busy = subst (λ (b : Bool). IsTrue b) (some_agree (count t) f (of_result F) (λ h low. follows h)) busy
+result_led n (x ∷ is) t f F follows (own, rest, leads) busy =
+    let (k, low, up) = some_there (count (whole_type (x ∷ is) t)) f busy in
     result_led (suc n) is t (beyond (count x.ty) f) F (rest_follows n x is f F follows) rest (by_test k low up (nat_lt k (count x.ty)) refl)
   where
     by_test : (k : ℕ) → k < count (whole_type (x ∷ is) t) → f k ≡ true → (b : Bool) → nat_lt k (count x.ty) ≡ b
@@ -133,8 +133,8 @@ keeps_each n (x ∷ is) t f F follows (own, rest, leads) =
     let agree = first_follows n x is f F follows in
     let here : ImportKeeps F n x t = (
       turns_agree x.ty f (of_import F n) agree own,
-      λ open. result_led (suc n) is t (beyond (count x.ty) f) F after rest
-          (leads (subst (λ (b : Bool). IsTrue b) (sym (some_agree (count x.ty) f (of_import F n) agree)) open)),
+      λ busy. result_led (suc n) is t (beyond (count x.ty) f) F after rest
+          (leads (subst (λ (b : Bool). IsTrue b) (sym (some_agree (count x.ty) f (of_import F n) agree)) busy)),
     )
     in
     (each_of n x is t F here more.0, more.1)
@@ -162,8 +162,8 @@ each_keeps n (x ∷ is) t f F follows (each, result) =
     in (
       turns_agree x.ty (of_import F n) f (agree_back (count x.ty) f (of_import F n) agree) here.0,
       each_keeps (suc n) is t (beyond (count x.ty) f) F after (rest, result),
-      λ open. result_up (suc n) is t (beyond (count x.ty) f) F after
-          (here.1 (subst (λ (b : Bool). IsTrue b) (some_agree (count x.ty) f (of_import F n) agree) open)),
+      λ busy. result_up (suc n) is t (beyond (count x.ty) f) F after
+          (here.1 (subst (λ (b : Bool). IsTrue b) (some_agree (count x.ty) f (of_import F n) agree) busy)),
     )
 
 -- what passed a renumbered plan
@@ -211,7 +211,7 @@ module _ (f : Renumber) (p q : Plan) (is : IsRenumbered f p q) where
         in
         let shown : Shown x p.outcome (of_import (is_open past) i) (of_result (is_open past)) =
         subst (λ (g : ℕ → Bool). Shown x p.outcome g (of_result (is_open past))) (import_same past i)
-            (subst (λ (h : ℕ → Bool). Shown x p.outcome (of_import (is_open (moved_passes f past)) (f.import i)) h) (result_same past) of_p)
+        (subst (λ (h : ℕ → Bool). Shown x p.outcome (of_import (is_open (moved_passes f past)) (f.import i)) h) (result_same past) of_p)
         in
         subst (λ (m : ℕ). ImportKeeps (is_open past) m x p.outcome) zero_i shown),
     subst (λ (t : Type'). KeepsTurnsOf t (of_result (is_open past))) is.outcome (subst (KeepsTurnsOf q.outcome) (result_same past) result),
@@ -233,7 +233,7 @@ module _ (f : Renumber) (p q : Plan) (is : IsRenumbered f p q) where
         in
         let shown : Shown x q.outcome (of_import (is_open (moved_passes f past)) (f.import (f.import_back i))) (of_result (is_open (moved_passes f past))) =
         subst (λ (g : ℕ → Bool). Shown x q.outcome g (of_result (is_open (moved_passes f past)))) (sym (import_same past (f.import_back i)))
-            (subst (λ (h : ℕ → Bool). Shown x q.outcome (of_import (is_open past) (f.import_back i)) h) (sym (result_same past)) of_q)
+        (subst (λ (h : ℕ → Bool). Shown x q.outcome (of_import (is_open past) (f.import_back i)) h) (sym (result_same past)) of_q)
         in
         subst (λ (m : ℕ). ImportKeeps (is_open (moved_passes f past)) m x q.outcome) round shown),
     subst (λ (t : Type'). KeepsTurnsOf t (of_result (is_open (moved_passes f past)))) (sym is.outcome)

@@ -127,7 +127,7 @@ module _ (w : Wiring) (vs : List Wiring) (are : AreJoinings vs w.plans) (all_sta
       let zero_flat : 0 + (first_of vs k + j) ≡ first_of vs k + j = omega arith in
       let there : origin (flat w vs) (PartEnd i h) ≡ place (first_of vs k + j) (PartEnd inner.part h) =
       ap (λ (n : ℕ). part_place 0 (all_plans vs) n h) number
-          ∙ (place_of_part 0 (all_plans vs) (first_of vs k + j) inner.part h inner.of at_flat small ∙ ap (λ (n : ℕ). place n (PartEnd inner.part h)) zero_flat)
+      ∙ (place_of_part 0 (all_plans vs) (first_of vs k + j) inner.part h inner.of at_flat small ∙ ap (λ (n : ℕ). place n (PartEnd inner.part h)) zero_flat)
       in
       let at_outer : origin w (PartEnd i h) ≡ place k (PartEnd outer.part h) = outer.stands ∙ ap (λ (n : ℕ). place n (PartEnd outer.part h)) zero_k in
       let at_inner : origin v (PartEnd outer.part h) ≡ place j (PartEnd inner.part h) = inner.stands ∙ ap (λ (n : ℕ). place n (PartEnd inner.part h)) zero_j in
@@ -319,8 +319,8 @@ module _ (w : Wiring) (vs : List Wiring) (are : AreJoinings vs w.plans) (all_sta
       lowered_from (suc k) (n + length v.plans) us ps joinings.1
       (λ m. (let e : suc k + m ≡ k + suc m = omega arith in ap (slice_get vs) e ∙ same (suc m)))
       (λ m. (let e : suc k + m ≡ k + suc m = omega arith in
-          let sum : n + (length v.plans + first_of us m) ≡ n + length v.plans + first_of us m = omega arith in
-          ap (first_of vs) e ∙ (firsts (suc m) ∙ sum)))
+      let sum : n + (length v.plans + first_of us m) ≡ n + length v.plans + first_of us m = omega arith in
+      ap (first_of vs) e ∙ (firsts (suc m) ∙ sum)))
       in
       left_two flats n v.plans (all_plans us)
       ∙ ((λ i. lowered_head k n v p joinings.0 is first i ++ tail i) ∙ sym (map-append (deep_left vs) (left_in w.links k 0 p.imports) (left_among w.links (suc k) ps)))

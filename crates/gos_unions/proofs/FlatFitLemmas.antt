@@ -294,7 +294,7 @@ module _ (w : Wiring) (vs : List Wiring) (are : AreJoined vs w.plans) (bare : Li
           let low_v = in_range v (origin v l.other.end) (there_in w vs joinings all_stand stand l.other (d, at_other) v is_v) in
           let numbers : first_of vs l.one.plan + (origin u l.one.end).plan ≡ first_of vs l.other.plan + (origin v l.other.end).plan =
           ap (λ (x : Place). x.plan) (sym (deeper_at w vs joinings all_stand stand l.one u is_u))
-              ∙ (e ∙ ap (λ (x : Place). x.plan) (deeper_at w vs joinings all_stand stand l.other v is_v))
+          ∙ (e ∙ ap (λ (x : Place). x.plan) (deeper_at w vs joinings all_stand stand l.other v is_v))
           in
           apart (one_number vs l.one.plan l.other.plan (origin u l.one.end).plan (origin v l.other.end).plan u v is_u is_v low_u low_v numbers).0
 
@@ -378,7 +378,7 @@ module _ (w : Wiring) (vs : List Wiring) (are : AreJoined vs w.plans) (bare : Li
       elim (flat_link j m e) [
         | inl x ↦
             subst (LinkFits (flat w vs)) (inner_same j m x)
-                (inner_fits x.joining x.wiring x.link x.is ((fits_of vs w.plans x.joining x.wiring are x.is).each x.number x.link x.at))
+            (inner_fits x.joining x.wiring x.link x.is ((fits_of vs w.plans x.joining x.wiring are x.is).each x.number x.link x.at))
         | inr (n, l, sum, at, same) ↦ subst (LinkFits (flat w vs)) same (outer_fits l (contained_at w.links n l at) (fit.each n l at))
       ]
 

@@ -8,3 +8,4 @@ pub mod LeftLemmas
 pub mod DeepLemmas
 pub mod FlatLemmas
 pub mod FlatFitLemmas
+mod SmallUnionLemmas

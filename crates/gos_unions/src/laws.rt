@@ -1,4 +1,5 @@
 // What the definitions give. Each theorem is the contract of a function that does nothing.
+ghost use Rattle.gos_unions.specs.SmallUnions.{BeyondStandsNowhere, HiddenIsNotBare, LoneIsBare, SkipHasUnion, TwiceAppliedIs, UnjoinedIsNoUnion};
 ghost use Rattle.gos_unions.specs.Unions.{JoiningIsUnion, UnionIsJoining};
 ghost use Rattle.gos_unions.specs.Flat.{FlatFits, FlatIsJoined, FlatJoins, JoinedIsFlat, JoiningsJoin};
 
@@ -19,4 +20,15 @@ pub fn flat_links()
     ensures fit { FlatFits }
     ensures flat { JoinedIsFlat }
     ensures joined { FlatIsJoined }
+{}
+
+/// Of the plan of `skip` alone, the plan without its joints isn't of the union; a link to no plan doesn't stand; a flat
+/// wiring of three plans; and a part's end whose joint leads nowhere isn't bare.
+pub fn small_unions()
+    ensures union { SkipHasUnion }
+    ensures unjoined { UnjoinedIsNoUnion }
+    ensures beyond { BeyondStandsNowhere }
+    ensures flat { TwiceAppliedIs }
+    ensures hidden { HiddenIsNotBare }
+    ensures bare { LoneIsBare }
 {}

@@ -5,4 +5,4 @@
 
 mod laws;
 
-pub use laws::{flat_links, joinings_of_joinings, unions};
+pub use laws::{flat_links, joinings_of_joinings, small_unions, unions};
