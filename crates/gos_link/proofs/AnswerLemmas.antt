@@ -1,5 +1,5 @@
 -- A build has one answer: its bind lines mean one list of services or have one first fault, and so it is with what stands behind them.
-use Rattle.std.specs.Prelude.{◌≡◌, ◌≢◌, ◌⊎◌, ℕ, zero, suc, ◌≤◌, ◌<◌, List, [], ◌∷◌, ◌++◌, length, Option, Some, None, slice_get}
+use Rattle.std.specs.Prelude.{◌≡◌, ◌≢◌, ◌⊎◌, ℕ, zero, suc, ◌+◌, ◌≤◌, ◌<◌, List, [], ◌∷◌, ◌++◌, length, Option, Some, None, slice_get}
 use Rattle.std.proofs.Common.{refl, sym, ◌∙◌, ap, subst, arith, inl, inr}
 use Rattle.gos_types.specs.Types.{IsGround}
 use Rattle.gos_model.specs.Typing.{Imported}
@@ -89,8 +89,8 @@ higher_is_one imports l m one other =
     earlier e (inr low) = other.higher (one.ground other.number m (omega (arith, low, e)) other.at)
 
 module _ (joins_one : JoiningIsOne) (b : Build) (ps : List SeenPlan) (ss : List Service) where
-  abbrev ports : ℕ → List Port
-  ports root = ports_of b (whole_of ps ss root)
+  abbrev all_ports : ℕ → List Port
+  all_ports root = ports_of b (whole_of ps ss root)
 
   abbrev result_done : ℕ → Type 0
   result_done root = IsDone (outcome_of (slice_get (plans_of ps) root))
@@ -118,7 +118,7 @@ module _ (joins_one : JoiningIsOne) (b : Build) (ps : List SeenPlan) (ss : List 
       × (first_unplaced root ss 0 b.instances.items ≡ Some name)
   Stopped (suc (suc zero)) f =
       (root : ℕ) × (one other : Port) × (f ≡ faults.OpenTwice other.name one.instance other.instance) × IsPlaced b ss root
-      × IsSecond (ports root) one other
+      × IsSecond (all_ports root) one other
   Stopped (suc (suc (suc zero))) f = (root : ℕ) × (f ≡ faults.NotGround b.root) × IsNamed b ps ss root × (result_done root → ⊥)
   Stopped (suc (suc (suc (suc zero)))) f =
       (root : ℕ) × (l : LeftImport) × (f ≡ faults.NotGround l.import.name) × IsNamed b ps ss root × result_done root
@@ -172,8 +172,8 @@ module _ (joins_one : JoiningIsOne) (b : Build) (ps : List SeenPlan) (ss : List 
       (ap (λ (k : ℕ). first_unplaced k ss 0 b.instances.items) same ∙ placed.placed)
   clash (suc (suc zero)) f (root, one, other, e, placed, second) (k, named) =
       let same : root ≡ k = one_root root k placed.finds_root named.placed.finds_root in
-      let there = subst (λ (n : ℕ). IsSecond (ports n) one other) same second in
-      named.names there.first there.second one other there.before (within (ports k) there.second other there.at_second) there.at_first there.at_second there.same
+      let there = subst (λ (n : ℕ). IsSecond (all_ports n) one other) same second in
+      named.names there.first there.second one other there.before (within (all_ports k) there.second other there.at_second) there.at_first there.at_second there.same
   clash (suc (suc (suc zero))) f (root, e, named, never) (k, again, done) =
       let same : root ≡ k = one_root root k named.placed.finds_root again.placed.finds_root in
       never (subst (λ (n : ℕ). result_done n) (sym same) done)
@@ -191,17 +191,17 @@ module _ (joins_one : JoiningIsOne) (b : Build) (ps : List SeenPlan) (ss : List 
   clash (suc (suc (suc (suc (suc (suc (suc n))))))) f a p = absurd a
 
   stops : (f : LinkFault) → IsWrongWhole b ps ss f → (n : ℕ) × (suc n ≤ 7) × Stopped n f
-  stops (faults.NoInstance line name) (at, same, none) = (0, omega arith, (λ i. faults.NoInstance (at i) (same i)), none)
-  stops (faults.Unplaced name) (root, finds, unplaced) = (1, omega arith, root, name, refl, finds, unplaced)
+  stops (faults.NoInstance line name) (at, same, none) = (0, omega arith, ((λ i. faults.NoInstance (at i) (same i)), none))
+  stops (faults.Unplaced name) (root, finds, unplaced) = (1, omega arith, (root, name, refl, finds, unplaced))
   stops (faults.OpenTwice name first second) (root, one, other, placed, seconds, is, at, and) =
-      (2, omega arith, root, one, other, (λ i. faults.OpenTwice (is i) (at i) (and i)), placed, seconds)
-  stops (faults.NotGround name) (root, named, inl (never, is)) = (3, omega arith, root, ap faults.NotGround is, named, never)
-  stops (faults.NotGround name) (root, named, inr (done, l, higher, is)) = (4, omega arith, root, l, ap faults.NotGround is, named, done, higher)
+      (2, omega arith, (root, one, other, (λ i. faults.OpenTwice (is i) (at i) (and i)), placed, seconds))
+  stops (faults.NotGround name) (root, named, inl (never, is)) = (3, omega arith, (root, ap faults.NotGround is, named, never))
+  stops (faults.NotGround name) (root, named, inr (done, l, higher, is)) = (4, omega arith, (root, l, ap faults.NotGround is, named, done, higher))
   stops (faults.TooHeavy weight) (root, grounded, is, heavy) =
-      (5, omega arith, root, ap faults.TooHeavy is, grounded, (omega (arith, is, heavy)))
+      (5, omega arith, (root, ap faults.TooHeavy is, grounded, omega (arith, is, heavy)))
   stops (faults.TooLarge size ports) (root, p, light, joining, is, count, large) =
-      (6, omega arith, root, p, (λ i. faults.TooLarge (is i) (count i)), light, joining,
-      (elim large [ inl h ↦ inl (omega (arith, h, is)) | inr h ↦ inr (omega (arith, h, count)) ]))
+      (6, omega arith, (root, p, (λ i. faults.TooLarge (is i) (count i)), light, joining,
+      (elim large [ inl h ↦ inl (omega (arith, h, is)) | inr h ↦ inr (omega (arith, h, count)) ])))
   stops (faults.Form line) w = absurd w
   stops (faults.NoImport line name) w = absurd w
   stops (faults.TypeDiffers line want got) w = absurd w
@@ -211,7 +211,7 @@ module _ (joins_one : JoiningIsOne) (b : Build) (ps : List SeenPlan) (ss : List 
   stops faults.NoMemory w = absurd w
 
   same : (n : ℕ) (f g : LinkFault) → Stopped n f → Stopped n g → IsSameFault f g
-  same zero f g (e, none) (h, no) = both_are f g _ _ e h refl
+  same zero f g (e, none) (h, absent) = both_are f g _ _ e h refl
   same (suc zero) f g (root, name, e, finds, unplaced) (k, other, h, found, again) =
       let same : root ≡ k = one_root root k finds found in
       both_are f g _ _ e h
@@ -220,8 +220,8 @@ module _ (joins_one : JoiningIsOne) (b : Build) (ps : List SeenPlan) (ss : List 
       (ap (λ (n : ℕ). first_unplaced n ss 0 b.instances.items) same ∙ again)))
   same (suc (suc zero)) f g (root, one, other, e, placed, second) (k, third, fourth, h, again, next) =
       let same : root ≡ k = one_root root k placed.finds_root again.finds_root in
-      let there = subst (λ (n : ℕ). IsSecond (ports n) one other) same second in
-      let (a, c) = second_is_one (ports k) one other third fourth there next in
+      let there = subst (λ (n : ℕ). IsSecond (all_ports n) one other) same second in
+      let (a, c) = second_is_one (all_ports k) one other third fourth there next in
       both_are f g _ _ e h (λ i. faults.OpenTwice (c i).name (a i).instance (c i).instance)
   same (suc (suc (suc zero))) f g a c = both_are f g _ _ a.1 c.1 refl
   same (suc (suc (suc (suc zero)))) f g (root, l, e, named, done, higher) (k, m, h, again, ended, next) =

@@ -131,7 +131,7 @@ end_of q (j ∷ js) some =
       | inl none ↦
           elim (once_cases q (at j.serving)) [
             | inr (same, few) ↦ record { of = j; has = inl refl; is = inr same }
-            | inl no ↦ (let rest = end_of q js (omega (arith, some, none, no)) in record { of = rest.of; has = inr rest.has; is = rest.is })
+            | inl never ↦ (let rest = end_of q js (omega (arith, some, none, never)) in record { of = rest.of; has = inr rest.has; is = rest.is })
           ]
     ]
 

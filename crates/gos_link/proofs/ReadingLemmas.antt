@@ -57,11 +57,11 @@ record IsOther (r : Role) : Type 0 where
   bind : role_byte r ≢ 98
   root : role_byte r ≢ 114
 
-other : (r : Role) → IsOther r
-other roles.Net = record { version = λ e. omega (arith, e); instance = λ e. omega (arith, e); bind = λ e. omega (arith, e); root = λ e. omega (arith, e) }
-other roles.Verilog = record { version = λ e. omega (arith, e); instance = λ e. omega (arith, e); bind = λ e. omega (arith, e); root = λ e. omega (arith, e) }
-other roles.Pulses = record { version = λ e. omega (arith, e); instance = λ e. omega (arith, e); bind = λ e. omega (arith, e); root = λ e. omega (arith, e) }
-other roles.Trace = record { version = λ e. omega (arith, e); instance = λ e. omega (arith, e); bind = λ e. omega (arith, e); root = λ e. omega (arith, e) }
+other_sort : (r : Role) → IsOther r
+other_sort roles.Net = record { version = λ e. omega (arith, e); instance = λ e. omega (arith, e); bind = λ e. omega (arith, e); root = λ e. omega (arith, e) }
+other_sort roles.Verilog = record { version = λ e. omega (arith, e); instance = λ e. omega (arith, e); bind = λ e. omega (arith, e); root = λ e. omega (arith, e) }
+other_sort roles.Pulses = record { version = λ e. omega (arith, e); instance = λ e. omega (arith, e); bind = λ e. omega (arith, e); root = λ e. omega (arith, e) }
+other_sort roles.Trace = record { version = λ e. omega (arith, e); instance = λ e. omega (arith, e); bind = λ e. omega (arith, e); root = λ e. omega (arith, e) }
 
 -- what a line says
 abbrev said_byte : Said → ℕ
@@ -98,31 +98,31 @@ same_said (says.File r n) (says.File q m) e f =
 same_said says.Version (says.Inst m t p) e f = absurd (omega (arith, f))
 same_said says.Version (says.Bind v j h) e f = absurd (omega (arith, f))
 same_said says.Version (says.Root m) e f = absurd (omega (arith, f))
-same_said says.Version (says.File q m) e f = absurd ((other q).version (sym f))
+same_said says.Version (says.File q m) e f = absurd ((other_sort q).version (sym f))
 same_said (says.Inst n s o) says.Version e f = absurd (omega (arith, f))
 same_said (says.Inst n s o) (says.Bind v j h) e f = absurd (omega (arith, f))
 same_said (says.Inst n s o) (says.Root m) e f = absurd (omega (arith, f))
-same_said (says.Inst n s o) (says.File q m) e f = absurd ((other q).instance (sym f))
+same_said (says.Inst n s o) (says.File q m) e f = absurd ((other_sort q).instance (sym f))
 same_said (says.Bind u i g) says.Version e f = absurd (omega (arith, f))
 same_said (says.Bind u i g) (says.Inst m t p) e f = absurd (omega (arith, f))
 same_said (says.Bind u i g) (says.Root m) e f = absurd (omega (arith, f))
-same_said (says.Bind u i g) (says.File q m) e f = absurd ((other q).bind (sym f))
+same_said (says.Bind u i g) (says.File q m) e f = absurd ((other_sort q).bind (sym f))
 same_said (says.Root n) says.Version e f = absurd (omega (arith, f))
 same_said (says.Root n) (says.Inst m t p) e f = absurd (omega (arith, f))
 same_said (says.Root n) (says.Bind v j h) e f = absurd (omega (arith, f))
-same_said (says.Root n) (says.File q m) e f = absurd ((other q).root (sym f))
-same_said (says.File r n) says.Version e f = absurd ((other r).version f)
-same_said (says.File r n) (says.Inst m t p) e f = absurd ((other r).instance f)
-same_said (says.File r n) (says.Bind v j h) e f = absurd ((other r).bind f)
-same_said (says.File r n) (says.Root m) e f = absurd ((other r).root f)
+same_said (says.Root n) (says.File q m) e f = absurd ((other_sort q).root (sym f))
+same_said (says.File r n) says.Version e f = absurd ((other_sort r).version f)
+same_said (says.File r n) (says.Inst m t p) e f = absurd ((other_sort r).instance f)
+same_said (says.File r n) (says.Bind v j h) e f = absurd ((other_sort r).bind f)
+same_said (says.File r n) (says.Root m) e f = absurd ((other_sort r).root f)
 
 one_said : (a b : Said) → words_said a ≡ words_said b → a ≡ b
 one_said a b e = same_said a b e (sym (said_first a) ∙ (ap first_of e ∙ said_first b))
 
 -- what lines say, and where they end
-record Agree (items others : List Item) (ending end : Option ℕ) : Type 0 where
-  items : items ≡ others
-  ending : ending ≡ end
+record Agree (said others : List Item) (last end : Option ℕ) : Type 0 where
+  items : said ≡ others
+  ending : last ≡ end
 
 reads_agree : (own : Word) (before : List Item) (ss : List Statement) (items others : List Item) (ending end : Option ℕ)
     → ReadsOn own before ss items ending → ReadsOn own before ss others end → Agree items others ending end
@@ -157,21 +157,21 @@ never_ends text own items others line one two =
 
 pub build_has_no_wrong_line : BuildHasNoWrongLine
 build_has_no_wrong_line text own b line build (inl (long, is)) = let short = build.short in absurd (omega (arith, long, short))
-build_has_no_wrong_line text own b line build (inr (inl (short, items, reads))) = never_ends text own build.items items line build.reads reads
+build_has_no_wrong_line text own b line build (inr (inl (short, (items, reads)))) = never_ends text own build.items items line build.reads reads
 build_has_no_wrong_line text own b line build (inr (inr (short, items, reads, never, is))) =
     let agree = reads_agree own [] (statements_of text) items build.items None None reads build.reads in
     never b (ap (λ (list : List Item). sum_of nothing list) agree.items ∙ build.says)
 
 pub has_one_wrong_line : HasOneWrongLine
-has_one_wrong_line text own line last (inl (long, is)) (inl (other, same)) = is ∙ sym same
+has_one_wrong_line text own line last (inl (long, is)) (inl (longer, same)) = is ∙ sym same
 has_one_wrong_line text own line last (inl (long, is)) (inr (inl (short, rest))) = absurd (omega (arith, long, short))
-has_one_wrong_line text own line last (inl (long, is)) (inr (inr (short, rest))) = absurd (omega (arith, long, short))
+has_one_wrong_line text own line last (inl (long, is)) (inr (inr (short, items, reads, never, same))) = absurd (omega (arith, long, short))
 has_one_wrong_line text own line last (inr (inl (short, rest))) (inl (long, is)) = absurd (omega (arith, long, short))
-has_one_wrong_line text own line last (inr (inr (short, rest))) (inl (long, is)) = absurd (omega (arith, long, short))
-has_one_wrong_line text own line last (inr (inl (short, items, reads))) (inr (inl (low, others, read))) =
+has_one_wrong_line text own line last (inr (inr (short, items, reads, never, same))) (inl (long, is)) = absurd (omega (arith, long, short))
+has_one_wrong_line text own line last (inr (inl (short, (items, reads)))) (inr (inl (low, (others, read)))) =
     let ends = (reads_agree own [] (statements_of text) items others (Some line) (Some last) reads read).ending in cc ends
-has_one_wrong_line text own line last (inr (inl (short, items, reads))) (inr (inr (low, others, read, never, is))) =
+has_one_wrong_line text own line last (inr (inl (short, (items, reads)))) (inr (inr (low, others, read, never, is))) =
     absurd (never_ends text own others items line read reads)
-has_one_wrong_line text own line last (inr (inr (short, items, reads, never, is))) (inr (inl (low, others, read))) =
+has_one_wrong_line text own line last (inr (inr (short, items, reads, never, is))) (inr (inl (low, (others, read)))) =
     absurd (never_ends text own items others last reads read)
-has_one_wrong_line text own line last (inr (inr (short, items, reads, never, is))) (inr (inr (low, others, read, no, same))) = is ∙ sym same
+has_one_wrong_line text own line last (inr (inr (short, items, reads, never, is))) (inr (inr (low, others, read, never_so, same))) = is ∙ sym same

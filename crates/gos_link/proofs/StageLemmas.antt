@@ -100,7 +100,7 @@ module _ (is : List Instance) (ps : List SeenPlan) (before : List Service) (b : 
   down zero p = tt
   down (suc zero) (k, g, p, q, both) = (k, both.finds_user)
   down (suc (suc zero)) (s, p, q, x, all) = (s.user, s.giver, p, q, all.both)
-  down (suc (suc (suc zero))) (s, p, q, x, line, all, type) = (s, p, q, x, all)
+  down (suc (suc (suc zero))) (s, (p, q, x, line, all, type)) = (s, p, q, x, all)
   down (suc (suc (suc (suc zero)))) (s, means, bound) = (s, means)
   down (suc (suc (suc (suc (suc zero))))) (s, means, bound, used) = (s, means, bound)
   down (suc (suc (suc (suc (suc (suc zero)))))) (s, right) = (s, right.means, right.unbound, right.unused)
@@ -159,7 +159,7 @@ module _ (is : List Instance) (ps : List SeenPlan) (before : List Service) (b : 
   clash (suc (suc zero)) f (e, k, g, p, q, both, none) (s, r, t, x, all) =
       let one = one_both k g s.user s.giver p q r t both all.both in
       some_none (import_named r.imports b.import) s.import all.named (ap (λ (m : SeenPlan). import_named m.imports b.import) (sym one.of_user) ∙ none)
-  clash (suc (suc (suc zero))) f (s, p, q, x, want, got, e, all, wants, gets, differ) (z, r, t, y, line, others, type) =
+  clash (suc (suc (suc zero))) f (s, p, q, x, want, got, e, all, wants, gets, differ) (z, (r, t, y, line, others, type)) =
       let one = one_all s z p q r t x y all others in
       differ
       (ap (λ (i : PlanImport). type_of i.ty) one.import ∙ (type ∙ ap (λ (m : SeenPlan). type_of m.outcome) (sym one.both.of_giver)))
@@ -175,14 +175,14 @@ module _ (is : List Instance) (ps : List SeenPlan) (before : List Service) (b : 
 
   -- the stage at which a line stops, by its fault
   stops : (f : LinkFault) → IsWrongBind is ps before b f → (n : ℕ) × (suc n ≤ 7) × Stopped n f
-  stops (faults.NoInstance line name) (at, inl (none, same)) = (0, omega arith, (λ i. faults.NoInstance (at i) (same i)), none)
-  stops (faults.NoInstance line name) (at, inr (k, user, none, same)) = (1, omega arith, (λ i. faults.NoInstance (at i) (same i)), k, user, none)
-  stops (faults.NoImport line name) (at, same, (k, g, p, q, both, none)) = (2, omega arith, (λ i. faults.NoImport (at i) (same i)), k, g, p, q, both, none)
+  stops (faults.NoInstance line name) (at, inl (none, same)) = (0, omega arith, ((λ i. faults.NoInstance (at i) (same i)), none))
+  stops (faults.NoInstance line name) (at, inr (k, user, none, same)) = (1, omega arith, ((λ i. faults.NoInstance (at i) (same i)), k, user, none))
+  stops (faults.NoImport line name) (at, same, (k, g, p, q, both, none)) = (2, omega arith, ((λ i. faults.NoImport (at i) (same i)), k, g, p, q, both, none))
   stops (faults.TypeDiffers line want got) (s, p, q, x, at, all, wants, gets, differ) =
-      (3, omega arith, s, p, q, x, want, got, ap (λ (n : ℕ). faults.TypeDiffers n want got) at, all, wants, gets, differ)
-  stops (faults.BoundTwice first second) (s, at, means, bound) = (4, omega arith, s, first, ap (faults.BoundTwice first) at, means, bound)
-  stops (faults.UsedTwice first second) (s, at, means, bound, used) = (5, omega arith, s, first, ap (faults.UsedTwice first) at, means, bound, used)
-  stops (faults.Loop line) (s, at, means, bound, used, ring) = (6, omega arith, s, ap faults.Loop at, means, bound, used, ring)
+      (3, omega arith, (s, p, q, x, want, got, ap (λ (n : ℕ). faults.TypeDiffers n want got) at, all, wants, gets, differ))
+  stops (faults.BoundTwice first second) (s, at, means, bound) = (4, omega arith, (s, first, ap (faults.BoundTwice first) at, means, bound))
+  stops (faults.UsedTwice first second) (s, at, means, bound, used) = (5, omega arith, (s, first, ap (faults.UsedTwice first) at, means, bound, used))
+  stops (faults.Loop line) (s, at, means, bound, used, ring) = (6, omega arith, (s, ap faults.Loop at, means, bound, used, ring))
   stops (faults.Form line) w = absurd w
   stops (faults.Unplaced name) w = absurd w
   stops (faults.OpenTwice name first second) w = absurd w
@@ -192,8 +192,8 @@ module _ (is : List Instance) (ps : List SeenPlan) (before : List Service) (b : 
   stops faults.NoMemory w = absurd w
 
   same : (n : ℕ) (f g : LinkFault) → Stopped n f → Stopped n g → IsSameFault f g
-  same zero f g (e, none) (h, no) = both_are f g _ _ e h refl
-  same (suc zero) f g (e, k, user, none) (h, l, other, no) = both_are f g _ _ e h refl
+  same zero f g (e, none) (h, absent) = both_are f g _ _ e h refl
+  same (suc zero) f g (e, k, user, none) (h, l, other, absent) = both_are f g _ _ e h refl
   same (suc (suc zero)) f g a c = both_are f g _ _ a.0 c.0 refl
   same (suc (suc (suc zero))) f g (s, p, q, x, want, got, e, all, wants, gets, differ) (z, r, t, y, want', got', h, others, wants', gets', differ') =
       let one = one_all s z p q r t x y all others in
