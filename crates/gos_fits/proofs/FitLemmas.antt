@@ -1,15 +1,15 @@
 -- The joining of slim plans is slim, and a slim plan within the limit on weight is small.
 --
 -- Parts, handshakes and weights add up, the imports that stay are among all, and the joints are no more than those of the plans.
-use Rattle.std.specs.Prelude.{◌≡◌, ◌≤◌, ◌<◌, ◌⊎◌, ℕ, suc, ◌+◌, ◌*◌, Bool, true, false, List, [], ◌∷◌, ◌++◌, length, map, Some, None}
-use Rattle.std.proofs.Common.{refl, sym, ◌∙◌, ap, subst, arith, inl, inr, length-append}
+use Rattle.std.specs.Prelude.{◌≡◌, ◌≤◌, ℕ, suc, ◌+◌, ◌*◌, Bool, true, false, List, [], ◌∷◌, ◌++◌, length, map, Some, None}
+use Rattle.std.proofs.Common.{refl, ◌∙◌, ap, arith, inl, inr, length-append}
 use Rattle.std.proofs.lemmas.List.{length-map}
 use Rattle.gos_model.specs.Typing.{Imported}
-use Rattle.gos_plan.specs.Kinds.{Part, part_contacts}
+use Rattle.gos_plan.specs.Kinds.{Part}
 use Rattle.gos_plan.specs.Plans.{Plan}
 use Rattle.gos_plan.specs.Seen.{SeenPlan}
 use Rattle.gos_plan.specs.Size.{shakes_of, plan_size}
-use Rattle.gos_plan.specs.Joining.{Link, is_joined, left_in, left_among, all_left, all_parts, all_weight, IsJoining}
+use Rattle.gos_plan.specs.Joining.{Link, is_joined, left_in, left_among, all_parts, all_weight, IsJoining}
 use Rattle.gos_realises.specs.Slim.{all_shakes, IsSlim}
 use Rattle.gos_link.specs.declared.build.Bind.{Bind}
 use Rattle.gos_link.specs.declared.build.Build.{Build}
@@ -63,8 +63,12 @@ are_few (p ∷ ps) (slim, others) =
     let rest = are_few ps others in
     let parts = length-append p.parts (all_parts ps) in
     let shakes = shakes-append p.parts (all_parts ps) in
-    let (one_joints, one_ends, one_imports) = (slim.joints, slim.ends, slim.imports) in
-    let (more_joints, more_ends, more_imports) = (rest.joints, rest.ends, rest.imports) in
+    let one_joints = slim.joints in
+    let one_ends = slim.ends in
+    let one_imports = slim.imports in
+    let more_joints = rest.joints in
+    let more_ends = rest.ends in
+    let more_imports = rest.imports in
     record {
       joints = omega (arith, one_joints, more_joints);
       ends = omega (arith, one_ends, more_ends, parts, shakes);
@@ -76,7 +80,9 @@ joined_slim : (ps : List Plan) (ls : List Link) (r : Plan) → AreSlim ps → r.
     → r.imports ≡ map (λ l. l.import) (left_among ls 0 ps) → length r.joints ≤ all_joints ps → IsSlim r
 joined_slim ps ls r slim parts weight imports joints =
     let few = are_few ps slim in
-    let (all_joints_few, all_ends_few, all_imports_few) = (few.joints, few.ends, few.imports) in
+    let all_joints_few = few.joints in
+    let all_ends_few = few.ends in
+    let all_imports_few = few.imports in
     let ends : length r.parts + all_shakes r.parts ≡ length (all_parts ps) + all_shakes (all_parts ps) =
     ap (λ (ks : List Part). length ks + all_shakes ks) parts in
     let left : length r.imports ≡ length (left_among ls 0 ps) =
@@ -99,7 +105,9 @@ module _ (few_joints : JointsAreFew) (b : Build) (ps : List SeenPlan) (are : Are
 small : (p : Plan) → IsSlim p → p.weight ≤ 32768 → (plan_size p ≤ 5000000) × (count_ports p ≤ 65536)
 small p slim light =
     let same = same_shakes p.parts in
-    let (joints, ends, imports) = (slim.joints, slim.ends, slim.imports) in
+    let joints = slim.joints in
+    let ends = slim.ends in
+    let imports = slim.imports in
     (omega (arith, same, joints, ends, imports, light), omega (arith, imports, light))
 
 -- no bind line is too large
