@@ -3,3 +3,8 @@ pub mod ShareLemmas
 pub mod OwnLemmas
 pub mod PortLemmas
 pub mod StageLemmas
+pub mod TurnLemmas
+pub mod QuietLemmas
+pub mod WholeLemmas
+pub mod NodeLemmas
+pub mod WindowLemmas

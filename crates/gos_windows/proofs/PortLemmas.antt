@@ -1,6 +1,6 @@
 -- Ports of plans with ground imports and a command or an expression for their result.
-use Rattle.std.specs.Prelude.{◌<◌, None, slice_get, Contains}
-use Rattle.std.proofs.Common.{◌≡◌, ℕ, zero, suc, List, [], ◌∷◌, ◌⊎◌, Option, Some, inl, inr, refl, sym, ◌∙◌, ap, subst, arith}
+use Rattle.std.specs.Prelude.{◌<◌, None, slice_get, nat_lt, Contains}
+use Rattle.std.proofs.Common.{◌≡◌, ℕ, zero, suc, true, List, [], ◌∷◌, ◌⊎◌, Option, Some, inl, inr, refl, sym, ◌∙◌, ap, subst, arith}
 use Rattle.std.proofs.lemmas.Option.{slice_get-get_or, same_Some}
 use Rattle.gos_types.specs.declared.shakes.Role.TheVariants.{Serve, Ask}
 use Rattle.gos_types.specs.Types.{Type', Com, Exp, Var, Pair, Fun, IsGround, IsDone}
@@ -66,6 +66,10 @@ pub ground_within : (is js : List Imported) → AllGround js → ((x : Imported)
 ground_within [] js ground within = tt
 ground_within (x ∷ xs) js ground within =
     (one_of js x ground (within x (first_in x xs)), ground_within xs js ground (λ y there. within y (later_in x y xs there)))
+
+-- numbers in order
+pub below_so : (i n : ℕ) → i < n → nat_lt i n ≡ true
+below_so i n less = grind (arith, less)
 
 -- a list of one element
 pub run_one : (p : Plan) (x : Element) (s t : Tokens) → Runs p (x ∷ []) s t → Does p x s t
