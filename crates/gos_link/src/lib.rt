@@ -8,14 +8,10 @@ mod build;
 mod fault;
 mod file_name;
 mod joining;
-#[cfg(test)]
-mod link_tests;
 mod linking;
 mod noting;
 mod opens;
 mod reading;
-#[cfg(test)]
-mod reading_tests;
 mod said;
 mod services;
 mod size;
