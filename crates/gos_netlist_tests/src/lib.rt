@@ -6,6 +6,8 @@
 #[cfg(test)]
 mod acceptance;
 #[cfg(test)]
+mod circuits;
+#[cfg(test)]
 mod driving;
 #[cfg(test)]
 mod lines;

@@ -1,10 +1,8 @@
 // The programs on the latch: a circuit that shows `done` from the cycle after `run` on.
-ghost use Rattle.std.specs.Prelude.{◌≡◌, ◌≤◌, All, IfOk};
-
-use gos_lex::{LexFault, Name};
+use crate::circuits::{bit, latch};
 use gos_netlist::{
-    Cell, Event, Gate, Ground, NetId, NetTextFault, Netlist, Port, SettleFault, Side, events,
-    one_answer, print_net, read_net, settle, settlings, small_nets,
+    Event, Gate, NetId, NetTextFault, Netlist, SettleFault, events, one_answer, print_net, read_net,
+    settle, settlings, small_nets,
 };
 use std::alloc::Global;
 use std::test::Fail;
@@ -12,33 +10,6 @@ use std::test::Fail;
 // The text of the latch.
 const LATCH: &str =
     "gosnet 1\ncells 4\ninput 1\nor 1 0 2\nreg 1 1\nreg 1 1\nports 1\ngive main com 0 3\nend\n";
-
-fn bit(gate: Gate) -> Cell
-    ensures { result.width ≡ 1 }
-{
-    Cell { width: 1, gate }
-}
-
-fn latch(alloc: Global) -> Result<Netlist, LexFault>
-    ensures { IfOk result (λ net. All (λ c. c.width ≤ 64) net.cells) }
-{
-    let name = Name::new(alloc, b"main")?;
-    let nets = vec![in alloc; NetId(0), NetId(3)]?;
-    let port = Port {
-        name,
-        side: Side::Give,
-        ground: Ground::Com,
-        nets,
-    };
-    let ports = vec![in alloc; port]?;
-    let cells = vec![in alloc;
-        bit(Gate::Input),
-        bit(Gate::Or(NetId(0), NetId(2))),
-        bit(Gate::Reg(NetId(1))),
-        bit(Gate::Reg(NetId(1))),
-    ]?;
-    Ok(Netlist { cells, ports })
-}
 
 #[test]
 fn prints_the_latch(rt: HostRuntime) -> Result<(), Fail> {
