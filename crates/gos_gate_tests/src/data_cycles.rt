@@ -1,5 +1,5 @@
 // Each kind that gives, computes, reads or writes numbers, settled cycle by cycle over the worked steps of its firing rule.
-use crate::trial::{first_wrong, wire};
+use crate::trial::first_wrong;
 use gos_data::Arith;
 use gos_plan::{Kind, Op2};
 use std::test::Fail;
@@ -7,14 +7,9 @@ use std::test::Fail;
 #[test]
 fn literal_answers_its_number(rt: HostRuntime) -> Result<(), Fail> {
     let alloc = rt.alloc();
-    let mut wires = [wire(0)];
     let part = Arith(Kind::Lit { w: 4, k: 9 });
-    let cycles = [
-        "! | 9",
-        ". | .",
-        "! | 9",
-    ];
-    let wrong = first_wrong(alloc, &part, [1; 6], &mut wires, &cycles)?;
+    let rows = ["! | 9", ". | .", "! | 9"];
+    let wrong = first_wrong(alloc, &part, 1, [1; 6], &rows)?;
     assert_eq!(rt; wrong, None);
     Ok(())
 }
@@ -23,12 +18,11 @@ fn literal_answers_its_number(rt: HostRuntime) -> Result<(), Fail> {
 #[test]
 fn comparison_holds_the_left_number(rt: HostRuntime) -> Result<(), Fail> {
     let alloc = rt.alloc();
-    let mut wires = [wire(0), wire(1), wire(2)];
     let less = Arith(Kind::Op {
         op: Op2::Less,
         w: 8,
     });
-    let cycles = [
+    let rows = [
         ". . ! | ! . .",
         "3 . . | . . .",
         ". . . | . ! .",
@@ -38,7 +32,7 @@ fn comparison_holds_the_left_number(rt: HostRuntime) -> Result<(), Fail> {
         ". . . | . ! .",
         ". 3 . | . . !",
     ];
-    let wrong = first_wrong(alloc, &less, [8, 8, 1, 1, 1, 1], &mut wires, &cycles)?;
+    let wrong = first_wrong(alloc, &less, 3, [8, 8, 1, 1, 1, 1], &rows)?;
     assert_eq!(rt; wrong, None);
     Ok(())
 }
@@ -48,15 +42,14 @@ fn comparison_holds_the_left_number(rt: HostRuntime) -> Result<(), Fail> {
 #[test]
 fn subtraction_keeps_two_left_numbers_apart(rt: HostRuntime) -> Result<(), Fail> {
     let alloc = rt.alloc();
-    let mut wires = [wire(0), wire(1), wire(2)];
     let subtraction = Arith(Kind::Op { op: Op2::Sub, w: 8 });
-    let cycles = [
+    let rows = [
         "9 . ! | ! . .",
         ". . . | . ! .",
         "30 2 ! | ! . 7",
         ". 5 . | . ! 25",
     ];
-    let wrong = first_wrong(alloc, &subtraction, [8, 8, 1, 1, 1, 1], &mut wires, &cycles)?;
+    let wrong = first_wrong(alloc, &subtraction, 3, [8, 8, 1, 1, 1, 1], &rows)?;
     assert_eq!(rt; wrong, None);
     Ok(())
 }
@@ -65,7 +58,7 @@ fn subtraction_keeps_two_left_numbers_apart(rt: HostRuntime) -> Result<(), Fail>
 #[test]
 fn operators_compute(rt: HostRuntime) -> Result<(), Fail> {
     let alloc = rt.alloc();
-    let rows = [
+    let numbers = [
         (Op2::Add, "200 . . | . . .", ". 100 . | . . 44"),
         (Op2::Sub, "100 . . | . . .", ". 200 . | . . 156"),
         (Op2::And, "12 . . | . . .", ". 10 . | . . 8"),
@@ -75,11 +68,10 @@ fn operators_compute(rt: HostRuntime) -> Result<(), Fail> {
         (Op2::Eq, "7 . . | . . .", ". 8 . | . . !"),
         (Op2::Less, "7 . . | . . .", ". 7 . | . . !"),
     ];
-    for (op, left, right) in rows {
-        let mut wires = [wire(0), wire(1), wire(2)];
+    for (op, left, right) in numbers {
         let part = Arith(Kind::Op { op, w: 8 });
-        let cycles = [". . ! | ! . .", left, ". . . | . ! .", right];
-        let wrong = first_wrong(alloc, &part, [8, 8, 1, 1, 1, 1], &mut wires, &cycles)?;
+        let rows = [". . ! | ! . .", left, ". . . | . ! .", right];
+        let wrong = first_wrong(alloc, &part, 3, [8, 8, 1, 1, 1, 1], &rows)?;
         assert_eq!(rt; wrong, None);
     }
     Ok(())
@@ -89,15 +81,9 @@ fn operators_compute(rt: HostRuntime) -> Result<(), Fail> {
 #[test]
 fn complement_turns_all_bits(rt: HostRuntime) -> Result<(), Fail> {
     let alloc = rt.alloc();
-    let mut wires = [wire(0), wire(1)];
     let part = Arith(Kind::Not { w: 8 });
-    let cycles = [
-        ". ! | ! .",
-        ". . | . .",
-        "5 ! | ! 250",
-        "! . | . 255",
-    ];
-    let wrong = first_wrong(alloc, &part, [8, 1, 1, 1, 1, 1], &mut wires, &cycles)?;
+    let rows = [". ! | ! .", ". . | . .", "5 ! | ! 250", "! . | . 255"];
+    let wrong = first_wrong(alloc, &part, 2, [8, 1, 1, 1, 1, 1], &rows)?;
     assert_eq!(rt; wrong, None);
     Ok(())
 }
@@ -105,15 +91,14 @@ fn complement_turns_all_bits(rt: HostRuntime) -> Result<(), Fail> {
 #[test]
 fn assignment_writes_the_number(rt: HostRuntime) -> Result<(), Fail> {
     let alloc = rt.alloc();
-    let mut wires = [wire(0), wire(1), wire(2)];
     let part = Arith(Kind::Assign { w: 8 });
-    let cycles = [
+    let rows = [
         ". . ! | ! . .",
         "7 . . | . 7 .",
         ". . . | . . .",
         ". ! ! | ! . !",
     ];
-    let wrong = first_wrong(alloc, &part, [8, 1, 1, 1, 1, 1], &mut wires, &cycles)?;
+    let wrong = first_wrong(alloc, &part, 3, [8, 1, 1, 1, 1, 1], &rows)?;
     assert_eq!(rt; wrong, None);
     Ok(())
 }
@@ -121,14 +106,9 @@ fn assignment_writes_the_number(rt: HostRuntime) -> Result<(), Fail> {
 #[test]
 fn read_passes_the_number_on(rt: HostRuntime) -> Result<(), Fail> {
     let alloc = rt.alloc();
-    let mut wires = [wire(0), wire(1)];
     let part = Arith(Kind::Deref { w: 16 });
-    let cycles = [
-        ". ! | ! .",
-        "900 ! | ! 900",
-        "! . | . !",
-    ];
-    let wrong = first_wrong(alloc, &part, [16, 1, 1, 1, 1, 1], &mut wires, &cycles)?;
+    let rows = [". ! | ! .", "900 ! | ! 900", "! . | . !"];
+    let wrong = first_wrong(alloc, &part, 2, [16, 1, 1, 1, 1, 1], &rows)?;
     assert_eq!(rt; wrong, None);
     Ok(())
 }
@@ -137,9 +117,8 @@ fn read_passes_the_number_on(rt: HostRuntime) -> Result<(), Fail> {
 #[test]
 fn local_begins_with_0(rt: HostRuntime) -> Result<(), Fail> {
     let alloc = rt.alloc();
-    let mut wires = [wire(0), wire(1), wire(2), wire(3)];
     let part = Arith(Kind::Local { w: 8, v: 5 });
-    let cycles = [
+    let rows = [
         ". . . ! | . . . .",
         ". . . . | ! . . .",
         ". ! . . | . ! . .",
@@ -150,7 +129,7 @@ fn local_begins_with_0(rt: HostRuntime) -> Result<(), Fail> {
         ". . . . | ! . . .",
         ". ! . . | . ! . .",
     ];
-    let wrong = first_wrong(alloc, &part, [5, 1, 8, 1, 1, 1], &mut wires, &cycles)?;
+    let wrong = first_wrong(alloc, &part, 4, [5, 1, 8, 1, 1, 1], &rows)?;
     assert_eq!(rt; wrong, None);
     Ok(())
 }
@@ -159,9 +138,8 @@ fn local_begins_with_0(rt: HostRuntime) -> Result<(), Fail> {
 #[test]
 fn local_of_a_command_is_written(rt: HostRuntime) -> Result<(), Fail> {
     let alloc = rt.alloc();
-    let mut wires = [wire(0), wire(1), wire(2), wire(3)];
     let part = Arith(Kind::Local { w: 8, v: 0 });
-    let cycles = [
+    let rows = [
         ". . . ! | . . . .",
         ". . . . | ! . . .",
         ". ! 5 . | . ! . .",
@@ -169,7 +147,7 @@ fn local_of_a_command_is_written(rt: HostRuntime) -> Result<(), Fail> {
         ". ! . . | . 6 ! .",
         "! . . . | . . . !",
     ];
-    let wrong = first_wrong(alloc, &part, [1, 1, 8, 1, 1, 1], &mut wires, &cycles)?;
+    let wrong = first_wrong(alloc, &part, 4, [1, 1, 8, 1, 1, 1], &rows)?;
     assert_eq!(rt; wrong, None);
     Ok(())
 }

@@ -52,18 +52,6 @@ fn number(word: &str) -> Result<Option<u64>, Fail> {
     }
 }
 
-/// The wire of a handshake in a trial. As long as no number goes out at it, there is no net for one.
-pub fn wire(handshake: u32) -> Wire
-    requires { handshake ≤ 5 }
-{
-    Wire {
-        in_pulse: NetId(2 * handshake),
-        in_value: NetId(2 * handshake + 1),
-        out_pulse: NetId(u32::MAX),
-        out_value: NetId(u32::MAX),
-    }
-}
-
 /// The wire of a handshake at which these nets come in.
 pub fn wire_from(pulse: u32, value: u32) -> Wire {
     Wire {
@@ -87,6 +75,18 @@ pub fn placed<M: Macro>(alloc: Global, part: &M, wires: &mut [Wire]) -> Result<V
     part.place(&mut pool, &mut region, wires);
     pool.finish(region);
     Ok(pool.into_cells())
+}
+
+// The wire of a handshake in a trial. As long as no number goes out at it, there is no net for one.
+fn wire(handshake: u32) -> Wire
+    requires { handshake ≤ 5 }
+{
+    Wire {
+        in_pulse: NetId(2 * handshake),
+        in_value: NetId(2 * handshake + 1),
+        out_pulse: NetId(u32::MAX),
+        out_value: NetId(u32::MAX),
+    }
 }
 
 // The inputs of a trial, where the numbers that come in at the handshakes have so many bits.
@@ -185,19 +185,21 @@ fn input_numbers(alloc: Global, comes: &[Option<u64>]) -> Result<Vec<u64>, Alloc
     Ok(numbers)
 }
 
-/// Runs a part from registers of 0: the first row of which something else goes out than what has to. A row is a cycle,
-/// with a word for each handshake before its bar, and one behind it. The numbers that come in at the handshakes have so many
-/// bits.
+/// Runs a part with so many handshakes from registers of 0: the first row of which something else goes out than what has
+/// to. A row is a cycle, with a word for each handshake before its bar, and one behind it. The numbers that come in at the
+/// handshakes have so many bits.
 pub fn first_wrong<M: Macro>(
     alloc: Global,
     part: &M,
+    handshakes: usize,
     bits: [u32; 6],
-    wires: &mut [Wire],
     rows: &[&str],
 ) -> Result<Option<usize>, Fail>
-    requires wires { length wires.old ≡ length (part_contacts (M.part part.now)) }
-    requires few { length wires.old ≤ 6 }
+    requires handshakes { handshakes ≡ length (part_contacts (M.part part.now)) }
+    requires few { handshakes ≤ 6 }
 {
+    let mut wires = [wire(0), wire(1), wire(2), wire(3), wire(4), wire(5)];
+    let wires = &mut wires[..handshakes];
     let net = Netlist {
         cells: laid_out(alloc, part, bits, wires)?,
         ports: Vec::new(alloc),

@@ -30,7 +30,10 @@ fn objects_are_linked(rt: HostRuntime) -> Result<(), Fail> {
     assert!(rt; told_weight(link_build(alloc, b"b.txt", &mut one)) == Some(5));
     assert!(rt; one.get(b"out.net").is_some());
     assert!(rt; one.get(b"out.v").is_some());
-    let objects = [(b"main.obj".as_slice(), USE), (b"k.obj".as_slice(), SKIP_OBJECT)];
+    let objects = [
+        (b"main.obj".as_slice(), USE),
+        (b"k.obj".as_slice(), SKIP_OBJECT),
+    ];
     let mut two = SureStore::new(build_of(alloc, TWO, &objects)?);
     assert!(rt; told_weight(link_build(alloc, b"b.txt", &mut two)) == Some(11));
     assert!(rt; two.get(b"out.net").unwrap_or(b"") == one.get(b"out.net").unwrap_or(b"-"));
@@ -60,7 +63,11 @@ fn faults_are_told_in_their_order(rt: HostRuntime) -> Result<(), Fail> {
         ),
     ];
     for (build, object, line) in rows.iter() {
-        let mut store = SureStore::new(build_of(alloc, build, &[(b"main.obj".as_slice(), *object)])?);
+        let mut store = SureStore::new(build_of(
+            alloc,
+            build,
+            &[(b"main.obj".as_slice(), *object)],
+        )?);
         let ended = link_build(alloc, b"b.txt", &mut store);
         assert!(rt; told_line(alloc, ended).as_slice() == *line);
         assert!(rt; store.get(b"out.net").is_none());
