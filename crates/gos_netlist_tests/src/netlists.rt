@@ -1,8 +1,8 @@
 // The programs on the latch: a circuit that shows `done` from the cycle after `run` on.
 use crate::circuits::{bit, latch};
 use gos_netlist::{
-    Event, Gate, NetId, NetTextFault, Netlist, SettleFault, events, one_answer, print_net, read_net,
-    settle, settlings, small_nets,
+    Event, Gate, NetId, NetTextFault, Netlist, SettleFault, events, one_answer, print_net,
+    read_net, settle, settlings, small_nets,
 };
 use std::alloc::Global;
 use std::test::Fail;
@@ -99,25 +99,25 @@ fn refusal(alloc: Global, text: &[u8]) -> Option<(bool, usize)> {
 fn refuses_other_texts_at_their_places(rt: HostRuntime) {
     let alloc = rt.alloc();
     let rows = [
-        (b"".as_slice(), false, 0),
-        (b"gosnet 1\ncells 5000001\n".as_slice(), true, 15),
-        (b"gosnet 1\ncells 4294967296\n".as_slice(), true, 15),
-        (b"gosnet 1\ncells 04\n".as_slice(), false, 16),
-        (b"gosnet 1\ncells 1\ninput".as_slice(), false, 22),
-        (b"gosnet 1\ncells 1\nnand 1 0 0\n".as_slice(), false, 18),
-        (b"gosnet 1\ncells 1\nconst 1 2\n".as_slice(), false, 25),
-        (b"gosnet 1\ncells 1\ninput 33\n".as_slice(), false, 24),
-        (b"gosnet 1\ncells 0\nports 65537\n".as_slice(), true, 23),
+        ("", false, 0),
+        ("gosnet 1\ncells 5000001\n", true, 15),
+        ("gosnet 1\ncells 4294967296\n", true, 15),
+        ("gosnet 1\ncells 04\n", false, 16),
+        ("gosnet 1\ncells 1\ninput", false, 22),
+        ("gosnet 1\ncells 1\nnand 1 0 0\n", false, 18),
+        ("gosnet 1\ncells 1\nconst 1 2\n", false, 25),
+        ("gosnet 1\ncells 1\ninput 33\n", false, 24),
+        ("gosnet 1\ncells 0\nports 65537\n", true, 23),
         (
-            b"gosnet 1\ncells 0\nports 1\ngive 2 com 0 3\nend\n".as_slice(),
+            "gosnet 1\ncells 0\nports 1\ngive 2 com 0 3\nend\n",
             false,
             30,
         ),
-        (b"gosnet 1\ncells 0\nports 0\nend".as_slice(), false, 28),
-        (b"gosnet 1\ncells 0\nports 0\nend\n\n".as_slice(), false, 29),
+        ("gosnet 1\ncells 0\nports 0\nend", false, 28),
+        ("gosnet 1\ncells 0\nports 0\nend\n\n", false, 29),
     ];
     for (text, limit, place) in rows {
-        assert!(rt; refusal(alloc, text) == Some((limit, place)));
+        assert!(rt; refusal(alloc, text.as_bytes()) == Some((limit, place)));
     }
 }
 
