@@ -22,10 +22,10 @@ fn shows_done_from_the_cycle_after_run(rt: HostRuntime) -> Result<(), Fail> {
     sim.cycle(&inputs, &mut outputs);
     assert_eq!(rt; outputs.as_slice(), [OFF].as_slice());
     inputs.fill(OFF);
-    for _ in 0..2 {
-        sim.cycle(&inputs, &mut outputs);
-        assert_eq!(rt; outputs.as_slice(), [ON].as_slice());
-    }
+    sim.cycle(&inputs, &mut outputs);
+    assert_eq!(rt; outputs.as_slice(), [ON].as_slice());
+    sim.cycle(&inputs, &mut outputs);
+    assert_eq!(rt; outputs.as_slice(), [ON].as_slice());
     sim.reset();
     sim.peek(&mut outputs);
     assert_eq!(rt; outputs.as_slice(), [OFF].as_slice());
