@@ -11,44 +11,44 @@ use gos_plan::{Macro, Wire};
 use gos_pool::NetPool;
 use gos_types::NoMemory;
 use std::alloc::{AllocError, Global};
-use std::test::Fail;
 
-/// What comes in at the handshakes in a cycle, and what has to go out.
-#[derive(Drop)]
-struct Cycle {
-    comes: Vec<Option<u64>>,
-    goes: Vec<Option<u64>>,
+/// Nothing at a handshake.
+pub const NO: Option<u64> = None;
+
+/// A pulse without a number.
+pub const PULSE: Option<u64> = Some(0);
+
+/// Nothing at any handshake.
+pub const QUIET: [Option<u64>; 6] = [None, None, None, None, None, None];
+
+/// What comes in at each handshake in a cycle, and what has to go out.
+#[derive(Clone, Copy)]
+pub struct Cycle {
+    pub comes: [Option<u64>; 6],
+    pub goes: [Option<u64>; 6],
 }
 
-impl Cycle {
-    // A cycle from its row: what comes in stands before the bar, and what goes out behind it.
-    fn read(alloc: Global, row: &str) -> Result<Cycle, Fail> {
-        let (comes, goes) = row.split_once('|').ok_or("a row without a bar")?;
-        Ok(Cycle {
-            comes: numbers(alloc, comes)?,
-            goes: numbers(alloc, goes)?,
-        })
-    }
+/// A cycle of a part with up to six handshakes.
+pub fn row(comes: [Option<u64>; 6], goes: [Option<u64>; 6]) -> Cycle {
+    Cycle { comes, goes }
 }
 
-// What stands at each handshake.
-fn numbers(alloc: Global, words: &str) -> Result<Vec<Option<u64>>, Fail> {
-    let mut numbers = Vec::new(alloc);
-    for word in words.split_whitespace() {
-        numbers.push(number(word)?)?;
-    }
-    Ok(numbers)
+/// A cycle of a part with up to four handshakes.
+pub fn row_of_four(comes: [Option<u64>; 4], goes: [Option<u64>; 4]) -> Cycle {
+    let [a, b, c, d] = comes;
+    let [p, q, r, s] = goes;
+    row([a, b, c, d, NO, NO], [p, q, r, s, NO, NO])
 }
 
-// What stands at a handshake: `.` is nothing, `!` is a pulse without a number, and a numeral is one with that number.
-fn number(word: &str) -> Result<Option<u64>, Fail> {
-    if word == "." {
-        Ok(None)
-    } else if word == "!" {
-        Ok(Some(0))
-    } else {
-        let number = word.parse::<u64>().ok().ok_or("a word of a row")?;
-        Ok(Some(number))
+/// The wire of a handshake in a trial. As long as no number goes out at it, there is no net for one.
+pub fn wire(handshake: u32) -> Wire
+    requires { handshake ≤ 5 }
+{
+    Wire {
+        in_pulse: NetId(2 * handshake),
+        in_value: NetId(2 * handshake + 1),
+        out_pulse: NetId(u32::MAX),
+        out_value: NetId(u32::MAX),
     }
 }
 
@@ -75,18 +75,6 @@ pub fn placed<M: Macro>(alloc: Global, part: &M, wires: &mut [Wire]) -> Result<V
     part.place(&mut pool, &mut region, wires);
     pool.finish(region);
     Ok(pool.into_cells())
-}
-
-// The wire of a handshake in a trial. As long as no number goes out at it, there is no net for one.
-fn wire(handshake: u32) -> Wire
-    requires { handshake ≤ 5 }
-{
-    Wire {
-        in_pulse: NetId(2 * handshake),
-        in_value: NetId(2 * handshake + 1),
-        out_pulse: NetId(u32::MAX),
-        out_value: NetId(u32::MAX),
-    }
 }
 
 // The inputs of a trial, where the numbers that come in at the handshakes have so many bits.
@@ -159,13 +147,12 @@ fn settled(
     }
 }
 
-// Whether the nets show the pulse and the number, or nothing, at each handshake.
+// Whether a net shows the pulse and the number, or nothing, at each handshake.
 fn goes_out(wires: &[Wire], values: &[u64], goes: &[Option<u64>]) -> bool {
-    wires.len() == goes.len()
-        && wires.iter().zip(goes).all(|(wire, number)| {
-            shown(values, wire.out_pulse) == u64::from(number.is_some())
-                && shown(values, wire.out_value) == number.unwrap_or(0)
-        })
+    wires.iter().zip(goes).all(|(wire, number)| {
+        shown(values, wire.out_pulse) == u64::from(number.is_some())
+            && shown(values, wire.out_value) == number.unwrap_or(0)
+    })
 }
 
 // A handshake as the two nets of its pulse and its number show it.
@@ -177,37 +164,33 @@ fn on_nets(number: Option<u64>) -> [u64; 2] {
 }
 
 // The pulses and the numbers that come in, by the numbers of their nets.
-fn input_numbers(alloc: Global, comes: &[Option<u64>]) -> Result<Vec<u64>, AllocError> {
+fn input_numbers(alloc: Global, comes: [Option<u64>; 6]) -> Result<Vec<u64>, AllocError> {
     let mut numbers = Vec::new(alloc);
     for number in comes {
-        numbers.extend_from_slice(&on_nets(*number))?;
+        numbers.extend_from_slice(&on_nets(number))?;
     }
     Ok(numbers)
 }
 
-/// Runs a part with so many handshakes from registers of 0: the first row of which something else goes out than what has
-/// to. A row is a cycle, with a word for each handshake before its bar, and one behind it. The numbers that come in at the
-/// handshakes have so many bits.
+/// Runs a part from registers of 0: the first cycle in which something else goes out than what has to. The numbers that
+/// come in at the handshakes have so many bits.
 pub fn first_wrong<M: Macro>(
     alloc: Global,
     part: &M,
-    handshakes: usize,
     bits: [u32; 6],
-    rows: &[&str],
-) -> Result<Option<usize>, Fail>
-    requires handshakes { handshakes ≡ length (part_contacts (M.part part.now)) }
-    requires few { handshakes ≤ 6 }
+    wires: &mut [Wire],
+    cycles: &[Cycle],
+) -> Result<Option<usize>, SettleFault>
+    requires wires { length wires.old ≡ length (part_contacts (M.part part.now)) }
+    requires few { length wires.old ≤ 6 }
 {
-    let mut wires = [wire(0), wire(1), wire(2), wire(3), wire(4), wire(5)];
-    let wires = &mut wires[..handshakes];
     let net = Netlist {
         cells: laid_out(alloc, part, bits, wires)?,
         ports: Vec::new(alloc),
     };
     let mut registers = Vec::new(alloc);
-    for (n, row) in rows.iter().enumerate() {
-        let cycle = Cycle::read(alloc, row)?;
-        let inputs = input_numbers(alloc, &cycle.comes)?;
+    for (n, cycle) in cycles.iter().enumerate() {
+        let inputs = input_numbers(alloc, cycle.comes)?;
         let values = settled(alloc, &net, &registers, &inputs)?;
         if !goes_out(wires, &values, &cycle.goes) {
             return Ok(Some(n));

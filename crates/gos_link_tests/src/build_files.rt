@@ -25,35 +25,35 @@ fn reads_a_build(rt: HostRuntime) -> Result<(), Fail> {
 
 #[test]
 fn names_the_first_wrong_line(rt: HostRuntime) -> Result<(), Fail> {
-    let rows = [
-        ("", 1),
-        ("gosbuild 2", 1),
-        ("gosbuild 1\n", 2),
-        ("gosbuild 1\n# nothing\nroot m", 3),
-        ("gosbuild 1\ninst m m.gos m.obj\ninst m k.gos k.obj", 3),
-        ("gosbuild 1\ninst m m.gos m.gos", 2),
-        ("gosbuild 1\ninst m b.txt m.obj", 2),
-        ("gosbuild 1\ninst skip m.gos m.obj", 2),
-        ("gosbuild 1\ninst m m.gos m.obj x", 2),
-        ("gosbuild 1\ninst m m.gos m.obj\ninst k m.obj k.obj", 3),
-        ("gosbuild 1\ninst m m.gos m.obj\ninst k k.gos m.gos", 3),
-        ("gosbuild 1\ninst m m.gos m.obj\nroot m\nbind m a m", 4),
+    let rows: [(&[u8], u64); 16] = [
+        (b"", 1),
+        (b"gosbuild 2", 1),
+        (b"gosbuild 1\n", 2),
+        (b"gosbuild 1\n# nothing\nroot m", 3),
+        (b"gosbuild 1\ninst m m.gos m.obj\ninst m k.gos k.obj", 3),
+        (b"gosbuild 1\ninst m m.gos m.gos", 2),
+        (b"gosbuild 1\ninst m b.txt m.obj", 2),
+        (b"gosbuild 1\ninst skip m.gos m.obj", 2),
+        (b"gosbuild 1\ninst m m.gos m.obj x", 2),
+        (b"gosbuild 1\ninst m m.gos m.obj\ninst k m.obj k.obj", 3),
+        (b"gosbuild 1\ninst m m.gos m.obj\ninst k k.gos m.gos", 3),
+        (b"gosbuild 1\ninst m m.gos m.obj\nroot m\nbind m a m", 4),
         (
-            "gosbuild 1\ninst m m.gos m.obj\nbind m a m\ninst k k.gos k.obj",
+            b"gosbuild 1\ninst m m.gos m.obj\nbind m a m\ninst k k.gos k.obj",
             4,
         ),
-        ("gosbuild 1\ninst m m.gos m.obj\nroot m\nnet m.gos", 4),
+        (b"gosbuild 1\ninst m m.gos m.obj\nroot m\nnet m.gos", 4),
         (
-            "gosbuild 1\ninst m m.gos m.obj\nroot m\nnet n\nverilog v\npulses p\ntrace n",
+            b"gosbuild 1\ninst m m.gos m.obj\nroot m\nnet n\nverilog v\npulses p\ntrace n",
             7,
         ),
         (
-            "gosbuild 1\ninst m m.gos m.obj\nroot m\nnet n\nverilog v\npulses p\ntrace t\ntrace u",
+            b"gosbuild 1\ninst m m.gos m.obj\nroot m\nnet n\nverilog v\npulses p\ntrace t\ntrace u",
             8,
         ),
     ];
     for (text, line) in rows {
-        match read_build(rt.alloc(), text.as_bytes(), b"b.txt") {
+        match read_build(rt.alloc(), text, b"b.txt") {
             Err(LinkFault::Form { line: found }) => assert_eq!(rt; found, line),
             _ => assert!(rt; false, "a line was wrong"),
         }

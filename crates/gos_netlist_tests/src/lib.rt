@@ -8,6 +8,12 @@ mod acceptance;
 #[cfg(test)]
 mod circuits;
 #[cfg(test)]
+mod driving;
+#[cfg(test)]
+mod lines;
+#[cfg(test)]
 mod netlists;
+#[cfg(test)]
+mod pulse_files;
 #[cfg(test)]
 mod simulating;

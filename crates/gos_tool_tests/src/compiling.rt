@@ -1,6 +1,5 @@
 // Sources that are compiled, some that are refused, and stores that fail.
-use crate::commands::{held, told_line, told_weight};
-use gos_command::Stop;
+use gos_command::{Report, Stop};
 use gos_objects::{check_source, compile_source};
 use gos_outside::{MemoryStore, SureStore};
 use std::alloc::{AllocError, Global};
@@ -11,15 +10,34 @@ const SEQUENCE: &[u8] = b"import c : com import d : com export c ; d : com";
 const SEQUENCE_OBJECT: &[u8] =
     b"gosobj 1\nweight 17\nimports 2\nimport c com\nimport d com\nresult com\nparts 1\nseq\njoints 3\nr.0 p0.2\np0.0 i0.0\np0.1 i1.0\nend\n";
 
-// The files where this source alone is there.
-fn source_alone(alloc: Global, source: &[u8]) -> Result<Vec<(Vec<u8>, Vec<u8>)>, AllocError> {
-    held(alloc, &[(b"a.gos".as_slice(), source)])
+fn held(alloc: Global, source: &[u8]) -> Result<Vec<(Vec<u8>, Vec<u8>)>, AllocError> {
+    let mut files = Vec::new(alloc);
+    files.push((b"a.gos".to_vec(alloc)?, source.to_vec(alloc)?))?;
+    Ok(files)
+}
+
+// The weight that is told, or none.
+fn told_weight(ended: Result<Report, Stop>) -> Option<u64> {
+    match ended {
+        Ok(report) => report.weight,
+        Err(_) => None,
+    }
+}
+
+// The line of a file that is rejected, or nothing.
+fn told_line(alloc: Global, ended: Result<Report, Stop>) -> Vec<u8> {
+    match ended {
+        Err(Stop::Rejected(rejection)) => rejection.line,
+        Err(Stop::StoreFailed) => Vec::new(alloc),
+        Err(Stop::NoMemory) => Vec::new(alloc),
+        Ok(_) => Vec::new(alloc),
+    }
 }
 
 #[test]
 fn sequence_is_compiled(rt: HostRuntime) -> Result<(), Fail> {
     let alloc = rt.alloc();
-    let mut store = SureStore::new(source_alone(alloc, SEQUENCE)?);
+    let mut store = SureStore::new(held(alloc, SEQUENCE)?);
     let ended = compile_source(alloc, b"a.gos", b"a.obj", &mut store);
     assert!(rt; told_weight(ended) == Some(17));
     assert!(rt; store.get(b"a.obj").unwrap_or(b"") == SEQUENCE_OBJECT);
@@ -48,7 +66,7 @@ fn every_form_is_compiled(rt: HostRuntime) -> Result<(), Fail> {
         ),
     ];
     for (source, weight) in rows.iter() {
-        let mut store = SureStore::new(source_alone(alloc, source)?);
+        let mut store = SureStore::new(held(alloc, source)?);
         let ended = compile_source(alloc, b"a.gos", b"a.obj", &mut store);
         assert!(rt; told_weight(ended) == Some(*weight));
         assert!(rt; store.get(b"a.obj").is_some());
@@ -76,7 +94,7 @@ fn faults_are_told_and_nothing_is_written(rt: HostRuntime) -> Result<(), Fail> {
         (b"?", b"a.gos: L2 byte at 0\n"),
     ];
     for (source, line) in rows.iter() {
-        let mut store = SureStore::new(source_alone(alloc, source)?);
+        let mut store = SureStore::new(held(alloc, source)?);
         let ended = compile_source(alloc, b"a.gos", b"a.obj", &mut store);
         assert!(rt; told_line(alloc, ended).as_slice() == *line);
         assert!(rt; store.get(b"a.obj").is_none());
@@ -88,11 +106,11 @@ fn faults_are_told_and_nothing_is_written(rt: HostRuntime) -> Result<(), Fail> {
 fn failing_calls_end_the_command(rt: HostRuntime) -> Result<(), Fail> {
     let alloc = rt.alloc();
     for call in 1..3u64 {
-        let mut store = MemoryStore::new(source_alone(alloc, SEQUENCE)?, vec![in alloc; call]?);
+        let mut store = MemoryStore::new(held(alloc, SEQUENCE)?, vec![in alloc; call]?);
         let ended = compile_source(alloc, b"a.gos", b"a.obj", &mut store);
         assert!(rt; matches!(ended, Err(Stop::StoreFailed)));
     }
-    let mut store = MemoryStore::new(source_alone(alloc, SEQUENCE)?, vec![in alloc; 3]?);
+    let mut store = MemoryStore::new(held(alloc, SEQUENCE)?, vec![in alloc; 3]?);
     let ended = compile_source(alloc, b"a.gos", b"a.obj", &mut store);
     assert!(rt; told_weight(ended) == Some(17));
     Ok(())

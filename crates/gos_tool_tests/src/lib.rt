@@ -6,8 +6,6 @@
 #[cfg(test)]
 mod building;
 #[cfg(test)]
-mod commands;
-#[cfg(test)]
 mod compiling;
 #[cfg(test)]
 mod linking;
