@@ -1,7 +1,7 @@
 // Sources and the object texts of their plans. The texts are written by hand, from the kinds and the wiring.
 
-use crate::{compile, small_plans};
 use gos_check::{check, parsed_is_countable};
+use gos_compile::{compile, small_plans};
 use gos_lex::scan;
 use gos_plan::print_object;
 use gos_syntax::parse;

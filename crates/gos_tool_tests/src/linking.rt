@@ -1,5 +1,5 @@
 // Builds that are linked, and some that are refused.
-use crate::link_build;
+use gos_circuits::link_build;
 use gos_command::{Report, Stop};
 use gos_outside::{MemoryStore, SureStore};
 use std::alloc::{AllocError, Global};

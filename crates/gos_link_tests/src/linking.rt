@@ -1,8 +1,6 @@
 // Builds that are linked, and builds that are not.
-use crate::fault::LinkFault;
-use crate::linking::link;
-use crate::reading::read_build;
 use gos_lex::Name;
+use gos_link::{LinkFault, link, read_build};
 use gos_plan::{print_object, read_object};
 use gos_types::{Ty, print_ty};
 use std::alloc::{AllocError, Global};

@@ -2,9 +2,10 @@
 
 ghost use Rattle.std.specs.Prelude.{◌≡◌, ◌<◌, ◌^◌, IfOk, length};
 
-use gos_lex::{LexFault, Name};
+use crate::circuits::{bit, latch, main_port, port};
+use gos_lex::LexFault;
 use gos_netcheck::accept;
-use gos_netlist::{Cell, Gate, Ground, NetId, Netlist, Port, Side};
+use gos_netlist::{Cell, Gate, Ground, NetId, Netlist, Side};
 use gos_pulse::{PulseFault, drive, print_trace, read_pulses};
 use gos_sim::Sim;
 use std::alloc::{AllocError, Global};
@@ -21,24 +22,24 @@ enum Outcome {
 fn run_file(alloc: Global, net: Netlist, text: &[u8]) -> Outcome
     requires { length net.cells < 2 ^ 32 }
 {
-    match accept(alloc, net) {
-        Ok(net) => match Sim::new(alloc, net) {
-            Ok(mut sim) => match read_pulses(alloc, text, sim.netlist()) {
-                Ok(pulses) => match drive(alloc, &mut sim, &pulses) {
-                    Ok(trace) => match print_trace(alloc, &trace, sim.netlist()) {
-                        Ok(text) => Outcome::Traced {
-                            text,
-                            unused: trace.unused,
-                        },
-                        Err(_) => Outcome::Failed,
-                    },
-                    Err(PulseFault::Broken { cycle, event }) => Outcome::Broken { cycle, event },
-                    Err(_) => Outcome::Failed,
-                },
-                Err(_) => Outcome::Failed,
+    let Ok(net) = accept(alloc, net) else {
+        return Outcome::Failed;
+    };
+    let Ok(mut sim) = Sim::new(alloc, net) else {
+        return Outcome::Failed;
+    };
+    let Ok(pulses) = read_pulses(alloc, text, sim.netlist()) else {
+        return Outcome::Failed;
+    };
+    match drive(alloc, &mut sim, &pulses) {
+        Ok(trace) => match print_trace(alloc, &trace, sim.netlist()) {
+            Ok(text) => Outcome::Traced {
+                text,
+                unused: trace.unused,
             },
             Err(_) => Outcome::Failed,
         },
+        Err(PulseFault::Broken { cycle, event }) => Outcome::Broken { cycle, event },
         Err(_) => Outcome::Failed,
     }
 }
@@ -59,43 +60,12 @@ fn is_broken(outcome: &Outcome, at: u64, by: usize) -> bool {
     }
 }
 
-fn bit(gate: Gate) -> Cell {
-    Cell { width: 1, gate }
-}
-
-fn main_port(alloc: Global, run: u32, done: u32) -> Result<Port, LexFault> {
-    Ok(Port {
-        name: Name::new(alloc, b"main")?,
-        side: Side::Give,
-        ground: Ground::Com,
-        nets: vec![in alloc; NetId(run), NetId(done)]?,
-    })
-}
-
-// Shows `done` in each cycle after `run`.
-fn latch(alloc: Global) -> Result<Netlist, LexFault>
-    ensures { IfOk result (λ net. length net.cells ≡ 4) }
-{
-    let ports = vec![in alloc; main_port(alloc, 0, 3)?]?;
-    let cells = vec![in alloc;
-        bit(Gate::Input),
-        bit(Gate::Or(NetId(0), NetId(2))),
-        bit(Gate::Reg(NetId(1))),
-        bit(Gate::Reg(NetId(1))),
-    ]?;
-    Ok(Netlist { cells, ports })
-}
-
 // Runs c, and is done after it. Its events are main.run, main.done, c.run and c.done.
 fn relay(alloc: Global) -> Result<Netlist, LexFault>
     ensures { IfOk result (λ net. length net.cells ≡ 4) }
 {
-    let c = Port {
-        name: Name::new(alloc, b"c")?,
-        side: Side::Take,
-        ground: Ground::Com,
-        nets: vec![in alloc; NetId(2), NetId(1)]?,
-    };
+    let nets = [NetId(2), NetId(1)];
+    let c = port(alloc, b"c", Side::Take, Ground::Com, &nets)?;
     let ports = vec![in alloc; main_port(alloc, 0, 3)?, c]?;
     let cells = vec![in alloc;
         bit(Gate::Input),
@@ -110,12 +80,8 @@ fn relay(alloc: Global) -> Result<Netlist, LexFault>
 fn question(alloc: Global) -> Result<Netlist, LexFault>
     ensures { IfOk result (λ net. length net.cells ≡ 5) }
 {
-    let x = Port {
-        name: Name::new(alloc, b"x")?,
-        side: Side::Take,
-        ground: Ground::Exp(4),
-        nets: vec![in alloc; NetId(1), NetId(2), NetId(3)]?,
-    };
+    let nets = [NetId(1), NetId(2), NetId(3)];
+    let x = port(alloc, b"x", Side::Take, Ground::Exp(4), &nets)?;
     let ports = vec![in alloc; main_port(alloc, 0, 4)?, x]?;
     let number = Cell {
         width: 4,

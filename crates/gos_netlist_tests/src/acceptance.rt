@@ -1,27 +1,11 @@
 // The worked ring, and a netlist for each fault. The expected answers are written by hand.
 ghost use Rattle.std.specs.Prelude.{◌<◌, ◌^◌, length};
 
-use gos_lex::{LexFault, Name};
+use crate::circuits::{bit, latch, main_port, port};
 use gos_netcheck::{NetFault, accept, one_answer};
 use gos_netlist::{Cell, Gate, Ground, NetId, Netlist, Port, Side};
 use std::alloc::{AllocError, Global};
 use std::test::Fail;
-
-fn bit(gate: Gate) -> Cell {
-    Cell { width: 1, gate }
-}
-
-// The port of a command named `main`.
-fn main_port(alloc: Global, side: Side, run: u32, done: u32) -> Result<Port, LexFault> {
-    let name = Name::new(alloc, b"main")?;
-    let nets = vec![in alloc; NetId(run), NetId(done)]?;
-    Ok(Port {
-        name,
-        side,
-        ground: Ground::Com,
-        nets,
-    })
-}
 
 // The fault of these cells with these ports.
 fn fault_of(alloc: Global, cells: &[Cell], ports: Vec<Port>) -> Result<Option<NetFault>, AllocError>
@@ -48,15 +32,7 @@ fn is_ring(fault: &NetFault, first: u32, second: u32) -> bool {
 #[test]
 fn a_latch_is_accepted(rt: HostRuntime) -> Result<(), Fail> {
     let alloc = rt.alloc();
-    let cells = [
-        bit(Gate::Input),
-        bit(Gate::Or(NetId(0), NetId(2))),
-        bit(Gate::Reg(NetId(1))),
-        bit(Gate::Reg(NetId(1))),
-    ];
-    let cells = cells.to_vec(alloc)?;
-    let ports = vec![in alloc; main_port(alloc, Side::Give, 0, 3)?]?;
-    match accept(alloc, Netlist { cells, ports }) {
+    match accept(alloc, latch(alloc)?) {
         Ok(checked) => {
             assert_eq!(rt; checked.schedule().len(), 4);
             assert_eq!(rt; checked.netlist().ports.len(), 1);
@@ -78,7 +54,7 @@ fn a_ring_is_handed_back(rt: HostRuntime) -> Result<(), Fail> {
         bit(Gate::Reg(NetId(1))),
     ];
     let cells = cells.to_vec(alloc)?;
-    let ports = vec![in alloc; main_port(alloc, Side::Give, 0, 3)?]?;
+    let ports = vec![in alloc; main_port(alloc, 0, 3)?]?;
     match accept(alloc, Netlist { cells, ports }) {
         Ok(_) => assert!(rt; false, "the ring was accepted"),
         Err(refused) => {
@@ -124,7 +100,7 @@ fn the_first_fault_is_told(rt: HostRuntime) -> Result<(), Fail> {
         ),
     ];
     for (cells, want) in rows {
-        let ports = vec![in alloc; main_port(alloc, Side::Give, 0, 1)?]?;
+        let ports = vec![in alloc; main_port(alloc, 0, 1)?]?;
         match fault_of(alloc, &cells, ports)? {
             Some(fault) => {
                 let text = format!(in alloc; "{fault}")?;
@@ -142,8 +118,9 @@ fn ports_are_counted(rt: HostRuntime) -> Result<(), Fail> {
     let alloc = rt.alloc();
     let input = bit(Gate::Input);
     let register = bit(Gate::Reg(NetId(0)));
-    let first = main_port(alloc, Side::Give, 0, 1)?;
-    let second = main_port(alloc, Side::Take, 1, 2)?;
+    let first = main_port(alloc, 0, 1)?;
+    let nets = [NetId(1), NetId(2)];
+    let second = port(alloc, b"main", Side::Take, Ground::Com, &nets)?;
     let ports = vec![in alloc; first, second]?;
     let twice = fault_of(alloc, &[input, register, input], ports)?;
     assert!(rt; matches!(&twice, Some(NetFault::Port { index: 1 })));

@@ -1,6 +1,6 @@
 // The worked examples of each command, files that are refused, and a store and a sink that fail.
-use crate::run;
 use gos_outside::{MemorySink, MemoryStore, SureSink, SureStore};
+use gos_tool::run;
 use std::alloc::{AllocError, Global};
 use std::test::Fail;
 

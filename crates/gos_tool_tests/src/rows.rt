@@ -1,6 +1,6 @@
 // Worked rows of the commands `check`, `compile`, `link` and `sim`: files, and what is printed.
-use crate::run;
 use gos_outside::{SureSink, SureStore};
+use gos_tool::run;
 use std::alloc::{AllocError, Global};
 use std::test::Fail;
 

@@ -5,7 +5,7 @@ ghost use Rattle.gos_plan.specs.Seen.{plan_of};
 ghost use Rattle.gos_plan.specs.Size.{plan_size};
 ghost use Rattle.gos_expand.specs.Acceptance.{AreDifferent};
 
-use crate::whole::{Policy, expand};
+use gos_expand::{Policy, expand};
 use gos_lex::Name;
 use gos_netcheck::accept;
 use gos_plan::{End, Joint, Kind, Plan, PlanImport, make};

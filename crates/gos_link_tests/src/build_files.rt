@@ -1,6 +1,5 @@
 // Build files, right and wrong.
-use crate::fault::LinkFault;
-use crate::reading::read_build;
+use gos_link::{LinkFault, read_build};
 use std::test::Fail;
 
 const WHOLE: &[u8] =

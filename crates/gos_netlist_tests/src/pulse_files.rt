@@ -55,27 +55,27 @@ fn names_the_first_wrong_line(rt: HostRuntime) -> Result<(), Fail> {
     let alloc = rt.alloc();
     let net = circuit(alloc)?;
     let cases = [
-        (b"".as_slice(), (1, 1)),
-        (b"# a\n\n".as_slice(), (1, 3)),
-        (b"at 0 main.run".as_slice(), (1, 1)),
-        (b"cycles 0".as_slice(), (4, 1)),
-        (b"cycles 1000001".as_slice(), (4, 1)),
-        (b"cycles 18446744073709551616".as_slice(), (1, 1)),
-        (b"cycles 1\n\n# b\nat 1 main.run".as_slice(), (4, 4)),
-        (b"cycles 1\nat 1 no.run".as_slice(), (4, 2)),
-        (b"cycles 1\nat 0 main.done".as_slice(), (2, 2)),
-        (b"cycles 1\nat 0 main".as_slice(), (1, 2)),
-        (b"cycles 1\nat 0 x.ans".as_slice(), (3, 2)),
-        (b"cycles 1\nat 0 x.ans 16".as_slice(), (3, 2)),
-        (b"cycles 1\nat 0 main.run 0".as_slice(), (3, 2)),
-        (b"cycles 1\nnext 1000001 main.run".as_slice(), (4, 2)),
+        ("", (1, 1)),
+        ("# a\n\n", (1, 3)),
+        ("at 0 main.run", (1, 1)),
+        ("cycles 0", (4, 1)),
+        ("cycles 1000001", (4, 1)),
+        ("cycles 18446744073709551616", (1, 1)),
+        ("cycles 1\n\n# b\nat 1 main.run", (4, 4)),
+        ("cycles 1\nat 1 no.run", (4, 2)),
+        ("cycles 1\nat 0 main.done", (2, 2)),
+        ("cycles 1\nat 0 main", (1, 2)),
+        ("cycles 1\nat 0 x.ans", (3, 2)),
+        ("cycles 1\nat 0 x.ans 16", (3, 2)),
+        ("cycles 1\nat 0 main.run 0", (3, 2)),
+        ("cycles 1\nnext 1000001 main.run", (4, 2)),
         (
-            b"cycles 1\r\n next 01\tx.ans 015 \r\nat 0 main.run\n".as_slice(),
+            "cycles 1\r\n next 01\tx.ans 015 \r\nat 0 main.run\n",
             (0, 0),
         ),
     ];
     for (text, want) in cases {
-        assert_eq!(rt; answer(read_pulses(alloc, text, &net)), want);
+        assert_eq!(rt; answer(read_pulses(alloc, text.as_bytes(), &net)), want);
     }
     Ok(())
 }

@@ -1,6 +1,6 @@
 // Sources that are compiled, some that are refused, and stores that fail.
-use crate::{check_source, compile_source};
 use gos_command::{Report, Stop};
+use gos_objects::{check_source, compile_source};
 use gos_outside::{MemoryStore, SureStore};
 use std::alloc::{AllocError, Global};
 use std::test::Fail;

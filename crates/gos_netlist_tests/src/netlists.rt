@@ -1,10 +1,8 @@
 // The programs on the latch: a circuit that shows `done` from the cycle after `run` on.
-ghost use Rattle.std.specs.Prelude.{◌≡◌, ◌≤◌, All, IfOk};
-
-use gos_lex::{LexFault, Name};
+use crate::circuits::{bit, latch};
 use gos_netlist::{
-    Cell, Event, Gate, Ground, NetId, NetTextFault, Netlist, Port, SettleFault, Side, events,
-    one_answer, print_net, read_net, settle, settlings, small_nets,
+    Event, Gate, NetId, NetTextFault, Netlist, SettleFault, events, one_answer, print_net,
+    read_net, settle, settlings, small_nets,
 };
 use std::alloc::Global;
 use std::test::Fail;
@@ -12,33 +10,6 @@ use std::test::Fail;
 // The text of the latch.
 const LATCH: &str =
     "gosnet 1\ncells 4\ninput 1\nor 1 0 2\nreg 1 1\nreg 1 1\nports 1\ngive main com 0 3\nend\n";
-
-fn bit(gate: Gate) -> Cell
-    ensures { result.width ≡ 1 }
-{
-    Cell { width: 1, gate }
-}
-
-fn latch(alloc: Global) -> Result<Netlist, LexFault>
-    ensures { IfOk result (λ net. All (λ c. c.width ≤ 64) net.cells) }
-{
-    let name = Name::new(alloc, b"main")?;
-    let nets = vec![in alloc; NetId(0), NetId(3)]?;
-    let port = Port {
-        name,
-        side: Side::Give,
-        ground: Ground::Com,
-        nets,
-    };
-    let ports = vec![in alloc; port]?;
-    let cells = vec![in alloc;
-        bit(Gate::Input),
-        bit(Gate::Or(NetId(0), NetId(2))),
-        bit(Gate::Reg(NetId(1))),
-        bit(Gate::Reg(NetId(1))),
-    ]?;
-    Ok(Netlist { cells, ports })
-}
 
 #[test]
 fn prints_the_latch(rt: HostRuntime) -> Result<(), Fail> {
@@ -128,25 +99,25 @@ fn refusal(alloc: Global, text: &[u8]) -> Option<(bool, usize)> {
 fn refuses_other_texts_at_their_places(rt: HostRuntime) {
     let alloc = rt.alloc();
     let rows = [
-        (b"".as_slice(), false, 0),
-        (b"gosnet 1\ncells 5000001\n".as_slice(), true, 15),
-        (b"gosnet 1\ncells 4294967296\n".as_slice(), true, 15),
-        (b"gosnet 1\ncells 04\n".as_slice(), false, 16),
-        (b"gosnet 1\ncells 1\ninput".as_slice(), false, 22),
-        (b"gosnet 1\ncells 1\nnand 1 0 0\n".as_slice(), false, 18),
-        (b"gosnet 1\ncells 1\nconst 1 2\n".as_slice(), false, 25),
-        (b"gosnet 1\ncells 1\ninput 33\n".as_slice(), false, 24),
-        (b"gosnet 1\ncells 0\nports 65537\n".as_slice(), true, 23),
+        ("", false, 0),
+        ("gosnet 1\ncells 5000001\n", true, 15),
+        ("gosnet 1\ncells 4294967296\n", true, 15),
+        ("gosnet 1\ncells 04\n", false, 16),
+        ("gosnet 1\ncells 1\ninput", false, 22),
+        ("gosnet 1\ncells 1\nnand 1 0 0\n", false, 18),
+        ("gosnet 1\ncells 1\nconst 1 2\n", false, 25),
+        ("gosnet 1\ncells 1\ninput 33\n", false, 24),
+        ("gosnet 1\ncells 0\nports 65537\n", true, 23),
         (
-            b"gosnet 1\ncells 0\nports 1\ngive 2 com 0 3\nend\n".as_slice(),
+            "gosnet 1\ncells 0\nports 1\ngive 2 com 0 3\nend\n",
             false,
             30,
         ),
-        (b"gosnet 1\ncells 0\nports 0\nend".as_slice(), false, 28),
-        (b"gosnet 1\ncells 0\nports 0\nend\n\n".as_slice(), false, 29),
+        ("gosnet 1\ncells 0\nports 0\nend", false, 28),
+        ("gosnet 1\ncells 0\nports 0\nend\n\n", false, 29),
     ];
     for (text, limit, place) in rows {
-        assert!(rt; refusal(alloc, text) == Some((limit, place)));
+        assert!(rt; refusal(alloc, text.as_bytes()) == Some((limit, place)));
     }
 }
 
