@@ -4,4 +4,6 @@ pub mod BesideLemmas
 pub mod ShareStepLemmas
 pub mod RegularLemmas
 pub mod MatchedLemmas
+pub mod LoosePartLemmas
+pub mod BufferedLemmas
 mod SmallBufferLemmas

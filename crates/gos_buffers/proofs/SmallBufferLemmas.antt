@@ -8,7 +8,11 @@ use Rattle.gos_plan.specs.Plans.{End, PartEnd, ResultEnd, Joint, stands_in, IsRi
 use Rattle.gos_webs.specs.Webs.{joint}
 use Rattle.gos_webs.specs.Cutting.{StandsIn}
 use Rattle.gos_sharing.specs.Sharing.{way_into, way_out_of, IsOfPart, LeadsThrough, IsSeenThrough}
-use Rattle.gos_buffers.specs.SmallBuffers.{shared_skip, bare_skip, FirstIsBuffer, SecondIsNone, BothAreNone, unsourced_skip, UnsourcedIsNone}
+use Rattle.gos_model.specs.Terms as terms
+use Rattle.gos_plan.specs.SmallPlans.{skip_plan}
+use Rattle.gos_realises.proofs.SkipLemmas.{skip_is_realised}
+use Rattle.gos_buffers.proofs.BufferedLemmas.{done_is_buffered}
+use Rattle.gos_buffers.specs.SmallBuffers.{shared_skip, bare_skip, FirstIsBuffer, SharedIsRealised, SecondIsNone, BothAreNone, unsourced_skip, UnsourcedIsNone}
 
 shared_is_right : IsRight shared_skip
 shared_is_right = (((0, 0, refl, refl), refl, refl), (((0, 0, refl, refl), refl, refl), tt))
@@ -98,6 +102,13 @@ source_stands (suc j) lt = absurd (omega (arith, lt))
 
 pub first_is_buffer : FirstIsBuffer
 first_is_buffer = record { seen = first_is_seen; ground = tt; alone = second_alone; goes_on = λ j lt asked. source_stands j lt }
+
+result_joined : (j : ℕ) → j < 1 → StandsIn skip_plan (ResultEnd j)
+result_joined zero lt = (joint (ResultEnd 0) (PartEnd 0 0), (0, omega arith, refl), refl)
+result_joined (suc j) lt = absurd (omega (arith, lt))
+
+pub shared_is_realised : SharedIsRealised
+shared_is_realised = done_is_buffered Com 0 skip_plan terms.Skip (omega arith) tt result_joined skip_is_realised
 
 pub second_is_none : SecondIsNone
 second_is_none is = is.alone 0 (omega arith) (joint (ResultEnd 0) (PartEnd 1 1), (1, omega arith, refl), refl)

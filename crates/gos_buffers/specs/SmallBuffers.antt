@@ -3,9 +3,11 @@
 -- Read first: Buffers; SmallPlans of gos_plan. They show that the definition can be met and can be missed.
 use Rattle.std.specs.Prelude.{ℕ, [], ◌∷◌}
 use Rattle.gos_types.specs.Types.{Com}
+use Rattle.gos_model.specs.Terms as terms
 use Rattle.gos_plan.specs.Kinds.{Skip, Seq, Share}
 use Rattle.gos_plan.specs.Plans.{PartEnd, ResultEnd, Plan}
 use Rattle.gos_plan.specs.SmallPlans.{skip_plan}
+use Rattle.gos_realises.specs.Realises.{Realises}
 use Rattle.gos_webs.specs.Webs.{joint}
 use Rattle.gos_buffers.specs.Buffers.{IsBuffer}
 
@@ -21,10 +23,15 @@ shared_skip =
 abbrev pub bare_skip : Plan
 bare_skip = record skip_plan { parts = Skip ∷ Share Com ∷ [] }
 
--- it is a buffer for its first caller, and none for its second
+-- it is a buffer for its first caller
 abbrev pub FirstIsBuffer : Type 0
 FirstIsBuffer = IsBuffer 1 Com 0 shared_skip bare_skip
 
+-- which realises `skip`
+abbrev pub SharedIsRealised : Type 0
+SharedIsRealised = Realises Com shared_skip terms.Skip
+
+-- and none for its second
 abbrev pub SecondIsNone : Type 0
 SecondIsNone = IsBuffer 1 Com 1 shared_skip bare_skip → ⊥
 

@@ -1,6 +1,7 @@
 // What the definitions give. Each theorem is the contract of a function that does nothing.
 ghost use Rattle.gos_buffers.specs.Buffers.{WorksForOne, BufferedIsRegular, BufferedRealises, BuffersAreLoyal};
-ghost use Rattle.gos_buffers.specs.SmallBuffers.{FirstIsBuffer, SecondIsNone, BothAreNone, UnsourcedIsNone};
+ghost use Rattle.gos_buffers.specs.Buffering.{LoosePartIsFree, BufferedIsBuffer, DoneIsBuffered};
+ghost use Rattle.gos_buffers.specs.SmallBuffers.{FirstIsBuffer, SharedIsRealised, SecondIsNone, BothAreNone, UnsourcedIsNone};
 
 /// A Share of which one caller alone is joined works for that caller, and is loyal to it.
 pub fn callers()
@@ -18,10 +19,22 @@ pub fn realising()
     ensures { BufferedRealises }
 {}
 
-/// A Share before the plan of `skip` is a buffer for its first caller, and none for its second. It is none where both
-/// callers are joined, or where its source is not.
+/// A part that stands in no joint does nothing.
+pub fn loose_parts()
+    ensures { LoosePartIsFree }
+{}
+
+/// A plan behind a Share is a buffer, and realises the command or the expression that the plan realises.
+pub fn plans_of_buffers()
+    ensures buffer { BufferedIsBuffer }
+    ensures done { DoneIsBuffered }
+{}
+
+/// A Share before the plan of `skip` is a buffer for its first caller, which realises `skip`, and none for its second.
+/// It is none where both callers are joined, or where its source is not.
 pub fn small_buffers()
     ensures first { FirstIsBuffer }
+    ensures realised { SharedIsRealised }
     ensures second { SecondIsNone }
     ensures both { BothAreNone }
     ensures unsourced { UnsourcedIsNone }

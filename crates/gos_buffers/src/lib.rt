@@ -5,4 +5,4 @@
 
 mod laws;
 
-pub use laws::{callers, order, realising, small_buffers};
+pub use laws::{callers, loose_parts, order, plans_of_buffers, realising, small_buffers};

@@ -1,4 +1,4 @@
-use Rattle.gos_buffers.proofs.SmallBufferLemmas.{first_is_buffer, second_is_none, both_are_none, unsourced_is_none}
+use Rattle.gos_buffers.proofs.SmallBufferLemmas.{first_is_buffer, shared_is_realised, second_is_none, both_are_none, unsourced_is_none}
 use Rattle.gos_buffers.proofs.laws.small_buffers.Goals as goal
 
 pub returns-clause-first : goal.returns-clause-first
@@ -12,3 +12,6 @@ returns-clause-both c = both_are_none
 
 pub returns-clause-unsourced : goal.returns-clause-unsourced
 returns-clause-unsourced c = unsourced_is_none
+
+pub returns-clause-realised : goal.returns-clause-realised
+returns-clause-realised c = shared_is_realised
