@@ -8,6 +8,7 @@ mod build;
 mod fault;
 mod file_name;
 mod joining;
+mod laws;
 #[cfg(test)]
 mod link_tests;
 mod linking;
@@ -25,5 +26,6 @@ mod whole;
 pub use build::{Bind, Build, Instance};
 pub use fault::LinkFault;
 pub use file_name::FileName;
+pub use laws::{few_joints, one_answer, one_build};
 pub use linking::link;
 pub use reading::read_build;

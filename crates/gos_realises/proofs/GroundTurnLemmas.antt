@@ -18,7 +18,7 @@ or_true true x h = refl
 or_true false x h = h
 
 -- one of the first n is open
-some_there : (n : ℕ) (f : ℕ → Bool) → some_open n f ≡ true → (k : ℕ) × (k < n) × (f k ≡ true)
+pub some_there : (n : ℕ) (f : ℕ → Bool) → some_open n f ≡ true → (k : ℕ) × (k < n) × (f k ≡ true)
 some_there zero f h = absurd (cc h)
 some_there (suc n) f h = by_test (f n) refl h (some_there n f)
   where
@@ -27,7 +27,7 @@ some_there (suc n) f h = by_test (f n) refl h (some_there n f)
     by_test true t g further = (n, omega arith, t)
     by_test false t g further = let (k, low, is) = further g in (k, omega (arith, low), is)
 
-there_some : (n : ℕ) (f : ℕ → Bool) (k : ℕ) → k < n → f k ≡ true → some_open n f ≡ true
+pub there_some : (n : ℕ) (f : ℕ → Bool) (k : ℕ) → k < n → f k ≡ true → some_open n f ≡ true
 there_some zero f k low is = absurd (omega (arith, low))
 there_some (suc n) f k low is = by_test (nat_eq k n) refl (λ other. there_some n f k other is)
   where
@@ -42,7 +42,7 @@ lengths : (cs : List Contact) → length (other_side cs) ≡ length cs
 lengths [] = refl
 lengths (c ∷ cs) = ap suc (lengths cs)
 
-count_fun : (a b : Type') → count (Fun a b) ≡ count a + count b
+pub count_fun : (a b : Type') → count (Fun a b) ≡ count a + count b
 count_fun a b =
     let joined = ap (λ (cs : List Contact). length cs) (functions_join a b).joined in
     let both = length-append (other_side (contacts_of a)) (contacts_of b) in

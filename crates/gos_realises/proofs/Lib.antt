@@ -17,6 +17,6 @@ mod ModuleLemmas
 mod HeadLemmas
 mod SameLemmas
 mod SameTurnLemmas
-mod GroundTurnLemmas
+pub mod GroundTurnLemmas
 mod ToldLemmas
 mod InputLemmas
