@@ -42,10 +42,10 @@ none_last [] = refl
 none_last (x ∷ xs) = none_last xs
 
 -- numbers
-later : (h n : ℕ) → n ≤ h → nat_eq h n ≡ false → suc n ≤ h
+pub later : (h n : ℕ) → n ≤ h → nat_eq h n ≡ false → suc n ≤ h
 later h n le e = grind (arith, le, e)
 
-above : (h n : ℕ) → suc n ≤ h → nat_eq h n ≡ true → ⊥
+pub above : (h n : ℕ) → suc n ≤ h → nat_eq h n ≡ true → ⊥
 above h n le e = let same : h ≡ n = grind (arith, e) in omega (arith, same, le)
 
 apart_callers : (n c j h : ℕ) → c < 2 → j < n → h < n → n + (1 - c) * n + j ≡ n + c * n + h → ⊥
@@ -62,12 +62,12 @@ abbrev Onto : List Joint → List Joint → List Joint
 Onto [] before = before
 Onto (x ∷ xs) before = Onto xs (x ∷ before)
 
-right_together : (p : Plan) (before xs ys : List Joint) → AreRight p before xs → AreRight p (Onto xs before) ys → AreRight p before (xs ++ ys)
+pub right_together : (p : Plan) (before xs ys : List Joint) → AreRight p before xs → AreRight p (Onto xs before) ys → AreRight p before (xs ++ ys)
 right_together p before [] ys one other = other
 right_together p before (x ∷ xs) ys one other = (one.0, right_together p (x ∷ before) xs ys one.1 other)
 
 -- an end that stands in none is free
-free_of : (e : End) (js : List Joint) → ((j : Joint) → IsIn j js → stands_in e j ≡ false) → IsTrue (is_free e js)
+pub free_of : (e : End) (js : List Joint) → ((j : Joint) → IsIn j js → stands_in e j ≡ false) → IsTrue (is_free e js)
 free_of e [] none = refl
 free_of e (x ∷ xs) none =
     let here = none x (inl refl) in
@@ -116,13 +116,13 @@ in_either (x ∷ xs) ys j (inr h) = by_side (in_either xs ys j h)
     by_side (inr k) = inr k
 
 -- those of the callers
-in_callers : (i : ℕ) (t : Type') (c n m : ℕ) (j : Joint) → IsIn j (callers_joined i t c n m) → (h : ℕ) × (h < n + m) × (n ≤ h) × (j ≡ joint (ResultEnd h) (caller_end i t c h))
+pub in_callers : (i : ℕ) (t : Type') (c n m : ℕ) (j : Joint) → IsIn j (callers_joined i t c n m) → (h : ℕ) × (h < n + m) × (n ≤ h) × (j ≡ joint (ResultEnd h) (caller_end i t c h))
 in_callers i t c n zero j h = absurd h
 in_callers i t c n (suc m) j (inl e) = (n, omega arith, omega arith, e)
 in_callers i t c n (suc m) j (inr h) =
     let (g, lt, le, e) = in_callers i t c (suc n) m j h in (g, omega (arith, lt), omega (arith, le), e)
 
-callers_in : (i : ℕ) (t : Type') (c n m h : ℕ) → n ≤ h → h < n + m → IsIn (joint (ResultEnd h) (caller_end i t c h)) (callers_joined i t c n m)
+pub callers_in : (i : ℕ) (t : Type') (c n m h : ℕ) → n ≤ h → h < n + m → IsIn (joint (ResultEnd h) (caller_end i t c h)) (callers_joined i t c n m)
 callers_in i t c n zero h le lt = absurd (omega (arith, le, lt))
 callers_in i t c n (suc m) h le lt = by_test (nat_eq h n) refl (λ above. callers_in i t c (suc n) m h above (omega (arith, lt)))
   where
@@ -132,17 +132,17 @@ callers_in i t c n (suc m) h le lt = by_test (nat_eq h n) refl (λ above. caller
     by_test false e rest = inr (rest (later h n le e))
 
 -- contacts
-no_some : {A : Type 0} (x : A) → None ≡ Some x → ⊥
+pub no_some : {A : Type 0} (x : A) → None ≡ Some x → ⊥
 no_some x e = cc e
 
 turned_is : (f : Option Contact) (k : Contact) → turned_if f ≡ Some k → (d : Contact) × (f ≡ Some d) × (k ≡ turned_contact d)
 turned_is None k e = absurd (no_some k e)
 turned_is (Some d) k e = let same : turned_contact d ≡ k = cc e in (d, refl, sym same)
 
-serves_of : (k : Contact) → k.role ≡ Serve → k ≡ serves k.ask_bits k.answer_bits
+pub serves_of : (k : Contact) → k.role ≡ Serve → k ≡ serves k.ask_bits k.answer_bits
 serves_of k role = λ n. record { role = role n; ask_bits = k.ask_bits; answer_bits = k.answer_bits }
 
-asks_of : (k : Contact) → k.role ≡ Serve → turned_contact k ≡ asks k.ask_bits k.answer_bits
+pub asks_of : (k : Contact) → k.role ≡ Serve → turned_contact k ≡ asks k.ask_bits k.answer_bits
 asks_of k role = λ n. record { role = turned (role n); ask_bits = k.ask_bits; answer_bits = k.answer_bits }
 
 role_clash : (q a x y : ℕ) (k : Contact) → k.role ≡ Serve → Some (serves x y) ≡ Some (turned_contact k) → ⊥
@@ -150,23 +150,23 @@ role_clash q a x y k role e =
     let same : serves x y ≡ turned_contact k = cc e in
     let roles : Serve ≡ Ask = ap (λ (z : Contact). z.role) same ∙ ap turned role in cc roles
 
-false_not : (b : Bool) → (b ≡ true → ⊥) → b ≡ false
+pub false_not : (b : Bool) → (b ≡ true → ⊥) → b ≡ false
 false_not true h = absurd (h refl)
 false_not false h = refl
 
-differ : (d e : End) → (d ≡ e → ⊥) → same_end d e ≡ false
+pub differ : (d e : End) → (d ≡ e → ⊥) → same_end d e ≡ false
 differ d e apart = false_not (same_end d e) (λ h. apart (same_is d e h))
 
-neither : (a b : Bool) → a ≡ false → b ≡ false → (a || b) ≡ false
+pub neither : (a b : Bool) → a ≡ false → b ≡ false → (a || b) ≡ false
 neither a b h k = grind (arith, h, k)
 
-part_of : (k h i g : ℕ) → PartEnd k h ≡ PartEnd i g → k ≡ i
+pub part_of : (k h i g : ℕ) → PartEnd k h ≡ PartEnd i g → k ≡ i
 part_of k h i g e = cc e
 
-shake_of : (k h i g : ℕ) → PartEnd k h ≡ PartEnd i g → h ≡ g
+pub shake_of : (k h i g : ℕ) → PartEnd k h ≡ PartEnd i g → h ≡ g
 shake_of k h i g e = cc e
 
-module _ (c : ℕ) (p : Plan) (two : c < 2) (right : IsRight p) (ground : IsGround p.outcome) (result : ResultIsJoined p) where
+module _ (c : ℕ) (p : Plan) (two : c < 2) (right : IsRight p) (ground : IsGround p.outcome) where
   abbrev number : ℕ
   number = length p.parts
 
@@ -177,20 +177,20 @@ module _ (c : ℕ) (p : Plan) (two : c < 2) (right : IsRight p) (ground : IsGrou
   bare = with_part (Share p.outcome) p
 
   -- the Share has a number of its own
-  own_number : (h : ℕ) (k : Contact) → contact_at p (PartEnd number h) ≡ Some k → ⊥
+  pub own_number : (h : ℕ) (k : Contact) → contact_at p (PartEnd number h) ≡ Some k → ⊥
   own_number h k there = no_some k (sym (ap (λ x. slice_get (contacts_of_part x) h) (none_last p.parts)) ∙ there)
 
-  known_part : (j h : ℕ) (k : Contact) → contact_at p (PartEnd j h) ≡ Some k → j ≡ number → ⊥
+  pub known_part : (j h : ℕ) (k : Contact) → contact_at p (PartEnd j h) ≡ Some k → j ≡ number → ⊥
   known_part j h k there e = own_number h k (subst (λ (n : ℕ). contact_at p (PartEnd n h) ≡ Some k) e there)
 
-  result_shake : (h : ℕ) (k : Contact) → contact_at p (ResultEnd h) ≡ Some k → (d : Contact) × (slice_get (contacts_of p.outcome) h ≡ Some d) × (k ≡ turned_contact d)
+  pub result_shake : (h : ℕ) (k : Contact) → contact_at p (ResultEnd h) ≡ Some k → (d : Contact) × (slice_get (contacts_of p.outcome) h ≡ Some d) × (k ≡ turned_contact d)
   result_shake h k there = turned_is (slice_get (contacts_of p.outcome) h) k there
 
-  result_within : (h : ℕ) (k : Contact) → contact_at p (ResultEnd h) ≡ Some k → h < count p.outcome
+  pub result_within : (h : ℕ) (k : Contact) → contact_at p (ResultEnd h) ≡ Some k → h < count p.outcome
   result_within h k there = let at = result_shake h k there in slice_get_within (contacts_of p.outcome) h at.0 at.1
 
   -- the result asks
-  result_asks : (h x y : ℕ) → contact_at p (ResultEnd h) ≡ Some (serves x y) → ⊥
+  pub result_asks : (h x y : ℕ) → contact_at p (ResultEnd h) ≡ Some (serves x y) → ⊥
   result_asks h x y there =
       let at = result_shake h (serves x y) there in
       let lt = slice_get_within (contacts_of p.outcome) h at.0 at.1 in
@@ -199,13 +199,13 @@ module _ (c : ℕ) (p : Plan) (two : c < 2) (right : IsRight p) (ground : IsGrou
       let same : at.0 ≡ own.0 = cc both in
       role_clash 0 0 x y at.0 (ap (λ (z : Contact). z.role) same ∙ own.2) (ap Some at.2)
 
-  share_last : slice_get whole.parts number ≡ Some (Share p.outcome)
+  pub share_last : slice_get whole.parts number ≡ Some (Share p.outcome)
   share_last = at_last p.parts (Share p.outcome)
 
-  share_contact : (h : ℕ) → contact_at whole (PartEnd number h) ≡ slice_get (part_contacts (Share p.outcome)) h
+  pub share_contact : (h : ℕ) → contact_at whole (PartEnd number h) ≡ slice_get (part_contacts (Share p.outcome)) h
   share_contact h = ap (λ x. slice_get (contacts_of_part x) h) share_last
 
-  contact_behind : (e : End) (k : Contact) → contact_at p e ≡ Some k → contact_at whole (end_behind number e) ≡ Some k
+  pub contact_behind : (e : End) (k : Contact) → contact_at p e ≡ Some k → contact_at whole (end_behind number e) ≡ Some k
   contact_behind (PartEnd j h) k there =
       ap (λ x. slice_get (contacts_of_part x) h) (before_last p.parts (Share p.outcome) j (known_part j h k there)) ∙ there
   contact_behind (ImportEnd j h) k there = there
@@ -267,7 +267,7 @@ module _ (c : ℕ) (p : Plan) (two : c < 2) (right : IsRight p) (ground : IsGrou
           ap (slice_get (part_contacts (Share p.outcome))) is ∙ second_caller_at p.outcome h k there
       by_caller (suc (suc b)) lt = absurd (omega (arith, lt))
 
-  caller_fits : (h : ℕ) → h < count p.outcome → Fits whole (joint (ResultEnd h) (caller_end number p.outcome c h))
+  pub caller_fits : (h : ℕ) → h < count p.outcome → Fits whole (joint (ResultEnd h) (caller_end number p.outcome c h))
   caller_fits h lt =
       let (k, there, role) = ground_serves p.outcome h ground lt in
       (k.ask_bits, k.answer_bits, ap turned_if there ∙ ap Some (asks_of k role), caller_contact h k there ∙ ap Some (serves_of k role))
@@ -354,13 +354,13 @@ module _ (c : ℕ) (p : Plan) (two : c < 2) (right : IsRight p) (ground : IsGrou
   bare_right = bare_rights [] p.joints right
 
   -- a joint of the whole is one of the plan's, or the caller's
-  abbrev Behind : End → End → Type 0
+  abbrev pub Behind : End → End → Type 0
   Behind a b = (d : End) × (e : End) × IsIn (joint d e) p.joints × (a ≡ end_behind number d) × (b ≡ end_behind number e)
 
-  abbrev OfCallers : End → End → Type 0
+  abbrev pub OfCallers : End → End → Type 0
   OfCallers a b = (h : ℕ) × (h < count p.outcome) × (a ≡ ResultEnd h) × (b ≡ caller_end number p.outcome c h)
 
-  of_whole : (a b : End) → Contains whole.joints (joint a b) → Behind a b ⊎ OfCallers a b
+  pub of_whole : (a b : End) → Contains whole.joints (joint a b) → Behind a b ⊎ OfCallers a b
   of_whole a b has = by_side (in_either (map (joint_behind number) p.joints) (callers_joined number p.outcome c 0 (count p.outcome)) (joint a b) (contained whole.joints (joint a b) has))
     where
       by_side : IsIn (joint a b) (map (joint_behind number) p.joints) ⊎ IsIn (joint a b) (callers_joined number p.outcome c 0 (count p.outcome)) → Behind a b ⊎ OfCallers a b
@@ -371,19 +371,19 @@ module _ (c : ℕ) (p : Plan) (two : c < 2) (right : IsRight p) (ground : IsGrou
           let (h, lt, le, same) = in_callers number p.outcome c 0 (count p.outcome) (joint a b) here in
           inr (h, omega (arith, lt), ap (λ (j : Joint). j.asking) same, ap (λ (j : Joint). j.serving) same)
 
-  behind_in : (d e : End) → IsIn (joint d e) p.joints → Contains whole.joints (joint (end_behind number d) (end_behind number e))
+  pub behind_in : (d e : End) → IsIn (joint d e) p.joints → Contains whole.joints (joint (end_behind number d) (end_behind number e))
   behind_in d e here =
       listed whole.joints (joint (end_behind number d) (end_behind number e))
       (in_first (map (joint_behind number) p.joints) (callers_joined number p.outcome c 0 (count p.outcome)) (joint (end_behind number d) (end_behind number e)) (map_in (joint_behind number) p.joints (joint d e) here))
 
-  caller_in : (h : ℕ) → h < count p.outcome → Contains whole.joints (joint (ResultEnd h) (caller_end number p.outcome c h))
+  pub caller_in : (h : ℕ) → h < count p.outcome → Contains whole.joints (joint (ResultEnd h) (caller_end number p.outcome c h))
   caller_in h lt =
       listed whole.joints (joint (ResultEnd h) (caller_end number p.outcome c h))
       (in_second (map (joint_behind number) p.joints) (callers_joined number p.outcome c 0 (count p.outcome)) (joint (ResultEnd h) (caller_end number p.outcome c h))
       (callers_in number p.outcome c 0 (count p.outcome) h (omega arith) (omega (arith, lt))))
 
   -- what serves is no end of the result
-  server_outside : (d e : End) → IsIn (joint d e) p.joints → (end_behind number e ≡ e) × (IsOfPart number e → ⊥)
+  pub server_outside : (d e : End) → IsIn (joint d e) p.joints → (end_behind number e ≡ e) × (IsOfPart number e → ⊥)
   server_outside d (PartEnd j h) here = let fit = fits p [] p.joints (joint d (PartEnd j h)) right here in (refl, known_part j h (serves fit.0 fit.1) fit.3)
   server_outside d (ImportEnd j h) here = (refl, λ of. of)
   server_outside d (ResultEnd h) here = let fit = fits p [] p.joints (joint d (ResultEnd h)) right here in absurd (result_asks h fit.0 fit.1 fit.3)
@@ -522,8 +522,8 @@ module _ (c : ℕ) (p : Plan) (two : c < 2) (right : IsRight p) (ground : IsGrou
             | inr one ↦ not_caller h le (one ∙ at_b)
           ]
 
-  source_joined : (j : ℕ) → j < count p.outcome → StandsIn whole (source_end number j)
-  source_joined j lt = of_joint (result j lt)
+  source_joined : ResultIsJoined p → (j : ℕ) → j < count p.outcome → StandsIn whole (source_end number j)
+  source_joined result j lt = of_joint (result j lt)
     where
       of_joint : StandsIn p (ResultEnd j) → StandsIn whole (source_end number j)
       of_joint (k, has, at_end) = by_end (either_end (ResultEnd j) k.asking k.serving at_end)
@@ -540,8 +540,8 @@ module _ (c : ℕ) (p : Plan) (two : c < 2) (right : IsRight p) (ground : IsGrou
           by_end (inr e) =
               let fit = fits p [] p.joints k right in_p in absurd (result_asks j fit.0 fit.1 (ap (contact_at p) e ∙ fit.3))
 
-  pub is_buffer : IsBuffer number p.outcome c whole bare
-  is_buffer = record { seen = seen_through; ground = ground; alone = other_alone; goes_on = λ j lt asked. source_joined j lt }
+  pub is_buffer : ResultIsJoined p → IsBuffer number p.outcome c whole bare
+  is_buffer result = record { seen = seen_through; ground = ground; alone = other_alone; goes_on = λ j lt asked. source_joined result j lt }
 
 pub buffered_is_buffer : BufferedIsBuffer
 buffered_is_buffer c p two right ground result = is_buffer c p two right ground result
@@ -551,7 +551,7 @@ loosely : (t : Type') (c : ℕ) (p : Plan) → c < 2 → p.outcome ≡ t → IsG
     → IsRight (buffered t c p) × (IsRegular p → IsRegular (buffered t c p)) × ((m : Term) → RealisesDone p m → RealisesDone (buffered t c p) m)
 loosely t c p two outcome ground result right =
     subst (λ (u : Type'). IsRight (buffered u c p) × (IsRegular p → IsRegular (buffered u c p)) × ((m : Term) → RealisesDone p m → RealisesDone (buffered u c p) m)) outcome (
-      whole_right c p two right own result,
+      whole_right c p two right own,
       (λ regular. buffered_is_regular (length p.parts) p.outcome c (buffered p.outcome c p) (with_part (Share p.outcome) p) buffer ((loose_part_is_free (Share p.outcome) p right).0 regular)),
       (λ m realises. buffered_realises (length p.parts) p.outcome c (buffered p.outcome c p) (with_part (Share p.outcome) p) m buffer ((loose_part_is_free (Share p.outcome) p right).1 m realises)),
     )

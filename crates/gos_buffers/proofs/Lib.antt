@@ -6,4 +6,6 @@ pub mod RegularLemmas
 pub mod MatchedLemmas
 pub mod LoosePartLemmas
 pub mod BufferedLemmas
+pub mod HousedLemmas
+pub mod JoinedBufferLemmas
 mod SmallBufferLemmas

@@ -6,8 +6,11 @@ use Rattle.gos_types.specs.Types.{Type', IsGround, IsDone}
 use Rattle.gos_model.specs.Terms.{Term}
 use Rattle.gos_plan.specs.Kinds.{Part, Share}
 use Rattle.gos_plan.specs.Plans.{End, PartEnd, ImportEnd, ResultEnd, Joint, Plan, IsRight}
+use Rattle.gos_plan.specs.Joining.{Link, Wiring}
 use Rattle.gos_realises.specs.Regular.{count, IsRegular}
 use Rattle.gos_realises.specs.Matched.{RealisesDone}
+use Rattle.gos_realises.specs.Links.{IsJoined}
+use Rattle.gos_realises.specs.Wirings.{link}
 use Rattle.gos_realises.specs.Realises.{Realises}
 use Rattle.gos_webs.specs.Webs.{joint}
 use Rattle.gos_webs.specs.Cutting.{StandsIn}
@@ -45,6 +48,25 @@ buffered t c p =
       parts = p.parts ++ (Share t ∷ []);
       joints = map (joint_behind (length p.parts)) p.joints ++ callers_joined (length p.parts) t c 0 (count t);
     }
+
+-- the plan of a Share alone, whose result is caller c's
+abbrev pub lone_share : Type' → ℕ → Plan
+lone_share t c = record { weight = 0; imports = []; outcome = t; parts = Share t ∷ []; joints = callers_joined 0 t c 0 (count t) }
+
+-- handshakes j, j + 1, .. of plan 0's result, so many of them, joined to those of plan 1's source
+abbrev pub sources_linked : ℕ → ℕ → List Link
+sources_linked j zero = []
+sources_linked j (suc m) = link 0 (ResultEnd j) 1 (source_end 0 j) ∷ sources_linked (suc j) m
+
+-- the plan joined to a Share, with that Share's result
+abbrev pub buffering : Type' → ℕ → Plan → Wiring
+buffering t c p =
+    record { plans = p ∷ lone_share t c ∷ []; links = sources_linked 0 (count t); giver = 1; skipped = 0; outcome = t }
+
+-- of which the plan behind the Share is the joining
+abbrev pub BufferedIsJoined : Type 0
+BufferedIsJoined =
+    (c : ℕ) (p : Plan) → c < 2 → IsRight p → IsGround p.outcome → IsJoined (buffering p.outcome c p) (buffered p.outcome c p)
 
 -- each handshake of the plan's result stands in a joint
 abbrev pub ResultIsJoined : Plan → Type 0

@@ -1,7 +1,7 @@
 // What the definitions give. Each theorem is the contract of a function that does nothing.
 ghost use Rattle.gos_buffers.specs.Buffers.{WorksForOne, BufferedIsRegular, BufferedRealises, BuffersAreLoyal};
-ghost use Rattle.gos_buffers.specs.Buffering.{LoosePartIsFree, BufferedIsBuffer, DoneIsBuffered};
-ghost use Rattle.gos_buffers.specs.SmallBuffers.{FirstIsBuffer, SharedIsRealised, SecondIsNone, BothAreNone, UnsourcedIsNone};
+ghost use Rattle.gos_buffers.specs.Buffering.{LoosePartIsFree, BufferedIsBuffer, BufferedIsJoined, DoneIsBuffered};
+ghost use Rattle.gos_buffers.specs.SmallBuffers.{BothAreNone, EmptyIsUnjoined, FirstIsBuffer, FirstIsLoyal, SecondIsNone, SecondIsNotLoyal, SharedIsBuffered, SharedIsRealised, UnsourcedIsNone};
 
 /// A Share of which one caller alone is joined works for that caller, and is loyal to it.
 pub fn callers()
@@ -30,12 +30,21 @@ pub fn plans_of_buffers()
     ensures done { DoneIsBuffered }
 {}
 
-/// A Share before the plan of `skip` is a buffer for its first caller, which realises `skip`, and none for its second.
-/// It is none where both callers are joined, or where its source is not.
+/// The plan behind a Share is the joining of that plan with the Share.
+pub fn joined_buffers()
+    ensures { BufferedIsJoined }
+{}
+
+/// A Share before the plan of `skip` is a buffer for its first caller, loyal to it, and realises `skip`; for its second
+/// it is none, and not loyal. It is none where both callers are joined, or where its source is not.
 pub fn small_buffers()
+    ensures shared { SharedIsBuffered }
     ensures first { FirstIsBuffer }
+    ensures loyal { FirstIsLoyal }
     ensures realised { SharedIsRealised }
     ensures second { SecondIsNone }
+    ensures disloyal { SecondIsNotLoyal }
     ensures both { BothAreNone }
     ensures unsourced { UnsourcedIsNone }
+    ensures empty { EmptyIsUnjoined }
 {}
