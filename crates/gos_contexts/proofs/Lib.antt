@@ -16,3 +16,4 @@ pub mod SameLemmas
 pub mod TogetherLemmas
 pub mod PlacedLemmas
 pub mod LocalLemmas
+pub mod SmallLemmas

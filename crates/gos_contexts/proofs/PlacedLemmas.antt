@@ -181,11 +181,13 @@ not_there : (r : ℕ → ℕ) (y : Name) (z : ℕ) (x : Name) → bytes_eq x y �
 not_there r y z x f = rw f refl
 
 -- a source without the import, and without locations
-pub sources_placed : (r : ℕ → ℕ) (y : Name) (z : ℕ) (i : Imports) (g : List Type') (m : Term) (t : Type') → Typed i g m t → import_type i y ≡ None → placed r y z m ≡ m
+pub sources_placed : (r : ℕ → ℕ) (y : Name) (z : ℕ) (i : Imports) (g : List Type') (m : Term) (t : Type') → Typed i g m t → import_type i y ≡ None
+    → placed r y z m ≡ m
 sources_placed r y z i g Skip t h none = refl
 sources_placed r y z i g (Lit k w) t h none = refl
 sources_placed r y z i g (Bound n) t h none = refl
-sources_placed r y z i g (Import x) t h none = not_there r y z x (name_cases x y (λ same e. let bad : None ≡ Some t = sym none ∙ (sym (ap (import_type i) same) ∙ h) in absurd cc) (λ f. f))
+sources_placed r y z i g (Import x) t h none =
+    not_there r y z x (name_cases x y (λ same e. let bad : None ≡ Some t = sym none ∙ (sym (ap (import_type i) same) ∙ h) in absurd cc) (λ f. f))
 sources_placed r y z i g (Lam a m) t (b, e, h) none = λ j. Lam a (sources_placed r y z i (a ∷ g) m b h none j)
 sources_placed r y z i g (App m n) t (a, h, k, apart) none = λ j. App (sources_placed r y z i g m (Fun a t) h none j) (sources_placed r y z i g n a k none j)
 sources_placed r y z i g (Both m n) t (a, b, e, h, k) none = λ j. Both (sources_placed r y z i g m a h none j) (sources_placed r y z i g n b k none j)
@@ -193,13 +195,16 @@ sources_placed r y z i g (Fst m) t (b, h) none = λ j. Fst (sources_placed r y z
 sources_placed r y z i g (Snd m) t (a, h) none = λ j. Snd (sources_placed r y z i g m (Pair a t) h none j)
 sources_placed r y z i g (Seq m n) t (d, h, k) none = λ j. Seq (sources_placed r y z i g m Com h none j) (sources_placed r y z i g n t k none j)
 sources_placed r y z i g (Par m n) t (e, h, k, apart) none = λ j. Par (sources_placed r y z i g m Com h none j) (sources_placed r y z i g n Com k none j)
-sources_placed r y z i g (If m n p) t (d, h, k, o) none = λ j. If (sources_placed r y z i g m (Exp 1) h none j) (sources_placed r y z i g n t k none j) (sources_placed r y z i g p t o none j)
+sources_placed r y z i g (If m n p) t (d, h, k, o) none =
+    λ j. If (sources_placed r y z i g m (Exp 1) h none j) (sources_placed r y z i g n t k none j) (sources_placed r y z i g p t o none j)
 sources_placed r y z i g (While m n) t (e, h, k) none = λ j. While (sources_placed r y z i g m (Exp 1) h none j) (sources_placed r y z i g n Com k none j)
-sources_placed r y z i g (Assign m n) t (w, e, h, k) none = λ j. Assign (sources_placed r y z i g m (Var w) h none j) (sources_placed r y z i g n (Exp w) k none j)
+sources_placed r y z i g (Assign m n) t (w, e, h, k) none =
+    λ j. Assign (sources_placed r y z i g m (Var w) h none j) (sources_placed r y z i g n (Exp w) k none j)
 sources_placed r y z i g (Deref m) t (w, e, h) none = λ j. Deref (sources_placed r y z i g m (Var w) h none j)
 sources_placed r y z i g (New w m) t (d, k, h) none = λ j. New w (sources_placed r y z i (Var w ∷ g) m t h none j)
 sources_placed r y z i g (Not m) t (w, e, h) none = λ j. Not (sources_placed r y z i g m (Exp w) h none j)
-sources_placed r y z i g (Bin op m n) t (w, e, h, k) none = λ j. Bin op (sources_placed r y z i g m (Exp w) h none j) (sources_placed r y z i g n (Exp w) k none j)
+sources_placed r y z i g (Bin op m n) t (w, e, h, k) none =
+    λ j. Bin op (sources_placed r y z i g m (Exp w) h none j) (sources_placed r y z i g n (Exp w) k none j)
 sources_placed r y z i g (Loc l) t h none = absurd h
 sources_placed r y z i g (Scope l m) t h none = absurd h
 sources_placed r y z i g (Wait x s) t h none = absurd h

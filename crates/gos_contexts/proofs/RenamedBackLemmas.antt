@@ -57,23 +57,32 @@ Back r R m v = (t : Term) × (v ≡ renamed r t) × R m t
 below_back : (r : ℕ → ℕ) (R S : Rel) → ((a v : Term) → S (renamed r a) v → Back r R a v) → (m v : Term) → Below S (renamed r m) v
     → Back r (Below R) m v
 below_back r R S g (Seq m n) v (m', e, inl h) = let y = g m m' h in (Seq y.0 n, e ∙ ap (λ (x : Term). Seq x (renamed r n)) y.1, (y.0, refl, inl y.2))
-below_back r R S g (Seq m n) v (m', e, inr h) = let y = below_back r R S g m m' h in (Seq y.0 n, e ∙ ap (λ (x : Term). Seq x (renamed r n)) y.1, (y.0, refl, inr y.2))
+below_back r R S g (Seq m n) v (m', e, inr h) =
+    let y = below_back r R S g m m' h in (Seq y.0 n, e ∙ ap (λ (x : Term). Seq x (renamed r n)) y.1, (y.0, refl, inr y.2))
 below_back r R S g (Par m n) v (inl (m', e, inl h)) = let y = g m m' h in (Par y.0 n, e ∙ ap (λ (x : Term). Par x (renamed r n)) y.1, inl (y.0, refl, inl y.2))
-below_back r R S g (Par m n) v (inl (m', e, inr h)) = let y = below_back r R S g m m' h in (Par y.0 n, e ∙ ap (λ (x : Term). Par x (renamed r n)) y.1, inl (y.0, refl, inr y.2))
+below_back r R S g (Par m n) v (inl (m', e, inr h)) =
+    let y = below_back r R S g m m' h in (Par y.0 n, e ∙ ap (λ (x : Term). Par x (renamed r n)) y.1, inl (y.0, refl, inr y.2))
 below_back r R S g (Par m n) v (inr (n', e, inl h)) = let y = g n n' h in (Par m y.0, e ∙ ap (λ (x : Term). Par (renamed r m) x) y.1, inr (y.0, refl, inl y.2))
-below_back r R S g (Par m n) v (inr (n', e, inr h)) = let y = below_back r R S g n n' h in (Par m y.0, e ∙ ap (λ (x : Term). Par (renamed r m) x) y.1, inr (y.0, refl, inr y.2))
-below_back r R S g (If m n p) v (m', e, inl h) = let y = g m m' h in (If y.0 n p, e ∙ ap (λ (x : Term). If x (renamed r n) (renamed r p)) y.1, (y.0, refl, inl y.2))
-below_back r R S g (If m n p) v (m', e, inr h) = let y = below_back r R S g m m' h in (If y.0 n p, e ∙ ap (λ (x : Term). If x (renamed r n) (renamed r p)) y.1, (y.0, refl, inr y.2))
+below_back r R S g (Par m n) v (inr (n', e, inr h)) =
+    let y = below_back r R S g n n' h in (Par m y.0, e ∙ ap (λ (x : Term). Par (renamed r m) x) y.1, inr (y.0, refl, inr y.2))
+below_back r R S g (If m n p) v (m', e, inl h) =
+    let y = g m m' h in (If y.0 n p, e ∙ ap (λ (x : Term). If x (renamed r n) (renamed r p)) y.1, (y.0, refl, inl y.2))
+below_back r R S g (If m n p) v (m', e, inr h) =
+    let y = below_back r R S g m m' h in (If y.0 n p, e ∙ ap (λ (x : Term). If x (renamed r n) (renamed r p)) y.1, (y.0, refl, inr y.2))
 below_back r R S g (Bin op m n) v (m', e, inl h) = let y = g m m' h in (Bin op y.0 n, e ∙ ap (λ (x : Term). Bin op x (renamed r n)) y.1, (y.0, refl, inl y.2))
-below_back r R S g (Bin op m n) v (m', e, inr h) = let y = below_back r R S g m m' h in (Bin op y.0 n, e ∙ ap (λ (x : Term). Bin op x (renamed r n)) y.1, (y.0, refl, inr y.2))
+below_back r R S g (Bin op m n) v (m', e, inr h) =
+    let y = below_back r R S g m m' h in (Bin op y.0 n, e ∙ ap (λ (x : Term). Bin op x (renamed r n)) y.1, (y.0, refl, inr y.2))
 below_back r R S g (Held k op n) v (n', e, inl h) = let y = g n n' h in (Held k op y.0, e ∙ ap (λ (x : Term). Held k op x) y.1, (y.0, refl, inl y.2))
-below_back r R S g (Held k op n) v (n', e, inr h) = let y = below_back r R S g n n' h in (Held k op y.0, e ∙ ap (λ (x : Term). Held k op x) y.1, (y.0, refl, inr y.2))
+below_back r R S g (Held k op n) v (n', e, inr h) =
+    let y = below_back r R S g n n' h in (Held k op y.0, e ∙ ap (λ (x : Term). Held k op x) y.1, (y.0, refl, inr y.2))
 below_back r R S g (Not m) v (m', e, inl h) = let y = g m m' h in (Not y.0, e ∙ ap (λ (x : Term). Not x) y.1, (y.0, refl, inl y.2))
 below_back r R S g (Not m) v (m', e, inr h) = let y = below_back r R S g m m' h in (Not y.0, e ∙ ap (λ (x : Term). Not x) y.1, (y.0, refl, inr y.2))
 below_back r R S g (Assign m n) v (n', e, inl h) = let y = g n n' h in (Assign m y.0, e ∙ ap (λ (x : Term). Assign (renamed r m) x) y.1, (y.0, refl, inl y.2))
-below_back r R S g (Assign m n) v (n', e, inr h) = let y = below_back r R S g n n' h in (Assign m y.0, e ∙ ap (λ (x : Term). Assign (renamed r m) x) y.1, (y.0, refl, inr y.2))
+below_back r R S g (Assign m n) v (n', e, inr h) =
+    let y = below_back r R S g n n' h in (Assign m y.0, e ∙ ap (λ (x : Term). Assign (renamed r m) x) y.1, (y.0, refl, inr y.2))
 below_back r R S g (Scope l m) v (m', e, inl h) = let y = g m m' h in (Scope l y.0, e ∙ ap (λ (x : Term). Scope (r l) x) y.1, (y.0, refl, inl y.2))
-below_back r R S g (Scope l m) v (m', e, inr h) = let y = below_back r R S g m m' h in (Scope l y.0, e ∙ ap (λ (x : Term). Scope (r l) x) y.1, (y.0, refl, inr y.2))
+below_back r R S g (Scope l m) v (m', e, inr h) =
+    let y = below_back r R S g m m' h in (Scope l y.0, e ∙ ap (λ (x : Term). Scope (r l) x) y.1, (y.0, refl, inr y.2))
 below_back r R S g m v h = absurd h
 
 pub reached_back : (r : ℕ → ℕ) (R S : Rel) → ((a v : Term) → S (renamed r a) v → Back r R a v) → (m v : Term) → Reached S (renamed r m) v

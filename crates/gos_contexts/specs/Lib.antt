@@ -9,3 +9,4 @@ pub mod Widening
 pub mod SameStores
 pub mod Together
 pub mod LocalVariable
+pub mod SmallContexts

@@ -67,6 +67,7 @@ ghost use Rattle.gos_contexts.specs.LocalVariable.{
   WriteAnswered,
   UnfoldingsBefore,
 };
+ghost use Rattle.gos_contexts.specs.SmallContexts.{SidesAreNotAlone, RequestsAreNotInner, BlocksOpenInPlace, StoresKeepScopes, LocationsStand, LocationsAreScoped, BlocksDiffer, BlockIsRenamed, RenamingsTellApart, ZeroIsFree, NoneAreAmongSome, NamesAreKnown, EntriesInAnyOrder, StoresAreApart, StoreIsHeld, LocationIsPlaced, OthersAreLeft, HomeIsApart, LabelsElsewhere};
 
 /// What a term does it does also at a reached place of another one.
 pub fn moves_within()
@@ -174,4 +175,27 @@ pub fn local_variables()
     ensures write_asked { WriteAsked }
     ensures write_answered { WriteAnswered }
     ensures before { UnfoldingsBefore }
+{}
+
+/// Small terms and stores that meet the definitions of this crate, and others that miss them.
+pub fn small_contexts()
+    ensures alone { SidesAreNotAlone }
+    ensures inner { RequestsAreNotInner }
+    ensures open { BlocksOpenInPlace }
+    ensures scopes { StoresKeepScopes }
+    ensures stand { LocationsStand }
+    ensures scoped { LocationsAreScoped }
+    ensures differ { BlocksDiffer }
+    ensures renamed { BlockIsRenamed }
+    ensures renamings { RenamingsTellApart }
+    ensures free { ZeroIsFree }
+    ensures among { NoneAreAmongSome }
+    ensures known { NamesAreKnown }
+    ensures order { EntriesInAnyOrder }
+    ensures apart { StoresAreApart }
+    ensures held { StoreIsHeld }
+    ensures placed { LocationIsPlaced }
+    ensures others { OthersAreLeft }
+    ensures home { HomeIsApart }
+    ensures elsewhere { LabelsElsewhere }
 {}
