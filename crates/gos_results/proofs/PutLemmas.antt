@@ -1,6 +1,6 @@
 -- Putting a term in for a variable of its type keeps types, and so do unfoldings.
-use Rattle.std.specs.Prelude.{◌≡◌, ◌≢◌, ℕ, zero, suc, List, [], ◌∷◌, ◌⊎◌, Option, Some, None, slice_get, nat_eq, if◌then◌else◌}
-use Rattle.std.proofs.Common.{arith, refl, sym, ap, subst, inl, inr, ◌∙◌}
+use Rattle.std.specs.Prelude.{◌≡◌, ◌≢◌, ℕ, zero, suc, List, [], ◌∷◌, Some, None, slice_get, nat_eq, if◌then◌else◌}
+use Rattle.std.proofs.Common.{arith, refl, sym, ap, subst, inl, inr}
 use Rattle.std.proofs.lemmas.Bool.{cond-true, cond-false}
 use Rattle.gos_types.specs.Types.{Type', Com, Exp, Var, Pair, Fun}
 use Rattle.gos_model.specs.Terms.{Term, Skip, Lit, Bound, Import, Lam, App, Both, Fst, Snd, Seq, Par, If, While, Assign, Deref, New, Not, Bin, Loc, Scope, Wait, Held, Put}
@@ -26,6 +26,7 @@ puts_under d h g a b p = record { here = here; other = other }
     here : (n : ℕ) (t : Type') → n ≡ suc d → slice_get (b ∷ h) n ≡ Some t → t ≡ a
     here zero t e x = absurd (omega (arith, e))
     here (suc n) t e x = p.here n t (omega (arith, e)) x
+
     other : (n : ℕ) (t : Type') → n ≢ suc d → slice_get (b ∷ h) n ≡ Some t → slice_get (b ∷ g) n ≡ Some t
     other zero t e x = x
     other (suc n) t e x = p.other n t (λ y. e (ap suc y)) x
@@ -80,6 +81,7 @@ puts_first a = record { here = here; other = other }
     here : (n : ℕ) (t : Type') → n ≡ 0 → slice_get (a ∷ []) n ≡ Some t → t ≡ a
     here zero t e x = cc (sym x)
     here (suc n) t e x = absurd (omega (arith, e))
+
     other : (n : ℕ) (t : Type') → n ≢ 0 → slice_get (a ∷ []) n ≡ Some t → slice_get [] n ≡ Some t
     other zero t e x = absurd (e refl)
     other (suc n) t e x = x

@@ -1,8 +1,8 @@
 -- What a source becomes in a run has its type, and so has what the run ends with.
-use Rattle.std.specs.Prelude.{◌≡◌, ◌^◌, ◌<◌, ◌⊎◌, ℕ, List, [], ◌∷◌, ◌++◌, Some, None}
+use Rattle.std.specs.Prelude.{◌≡◌, ◌^◌, ◌<◌, ℕ, List, [], ◌∷◌, ◌++◌, Some, None}
 use Rattle.std.proofs.Common.{refl, sym, ap, subst, inl, inr, ◌∙◌}
-use Rattle.gos_types.specs.Types.{Type', Com, Exp}
-use Rattle.gos_model.specs.Terms.{Term, Skip, Lit}
+use Rattle.gos_types.specs.Types.{Type'}
+use Rattle.gos_model.specs.Terms.{Term, Lit}
 use Rattle.gos_model.specs.Typing.{Imports, Typed}
 use Rattle.gos_model.specs.Stores.{Entry, Store}
 use Rattle.gos_model.specs.Steps.{Computes, IsValue}
@@ -47,10 +47,11 @@ one_move p ty before a (Running m s) Idle typed hs h k = tt
 one_move p ty before a (Running m s) (Running b u) typed hs (n, v, us, h) k =
     let r = acts_keep p.imports a s u v b (acts_of p.imports a s u v b h) ty (unfoldings_typed (widths_of s) p.imports n m v us ty k.0) k.1 in
     let all : Moves p (before ++ a ∷ []) Idle (Running b u) =
-    moves_then p before (a ∷ []) Idle (Running m s) (Running b u) hs (Running b u, (n, v, us, h), refl) in
-    (settled (either s u) (widths_of u) p.imports u (λ l w x here. elim x [ inl y ↦ r.2 l w y here | inr y ↦ y ]) b [] ty
-    (runs_stay p (before ++ a ∷ []) b u ty typed all).2 r.0,
-    r.1)
+    moves_then p before (a ∷ []) Idle (Running m s) (Running b u) hs (Running b u, (n, v, us, h), refl) in (
+      settled (either s u) (widths_of u) p.imports u (λ l w x here. elim x [ inl y ↦ r.2 l w y here | inr y ↦ y ]) b [] ty
+          (runs_stay p (before ++ a ∷ []) b u ty typed all).2 r.0,
+      r.1,
+    )
 
 all_moves : (p : Program) (ty : Type') (acts before : List Act) (c d : Config)
     → Typed p.imports [] p.body ty → Moves p before Idle c → Moves p acts c d → Has p ty c → Has p ty d
@@ -82,6 +83,10 @@ answer_is ws i v t k (inr (j, w, e, o)) h =
     inr (w, here.0, e ∙ ap (λ x. Lit x w) (sym same), subst (λ (x : ℕ). x < 2 ^ w) (sym same) here.1)
 
 pub answers_are_typed : AnswersAreTyped
-answers_are_typed p ty acts m s k typed h (n, v, us, answers) =
-    (n, v, us, answer_is (widths_of s) p.imports v ty k answers
-    (unfoldings_typed (widths_of s) p.imports n m v us ty (runs_keep_types p ty acts m s typed h).0))
+answers_are_typed p ty acts m s k typed h (n, v, us, answers) = (
+  n,
+  v,
+  us,
+  answer_is (widths_of s) p.imports v ty k answers
+      (unfoldings_typed (widths_of s) p.imports n m v us ty (runs_keep_types p ty acts m s typed h).0),
+)

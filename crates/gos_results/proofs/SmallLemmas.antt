@@ -1,8 +1,8 @@
 -- Small running terms and stores.
-use Rattle.std.specs.Prelude.{◌≡◌, ◌^◌, ◌<◌, ◌⊎◌, ℕ, zero, suc, List, [], ◌∷◌, Option, Some, None}
+use Rattle.std.specs.Prelude.{◌≡◌, ◌^◌, ◌<◌, ℕ, [], Some, None}
 use Rattle.std.proofs.Common.{arith, refl, sym, ap, subst, inl, inr, ◌∙◌}
-use Rattle.gos_types.specs.Types.{Type', Com, Exp, Var}
-use Rattle.gos_model.specs.Terms.{Term, Skip, Lit}
+use Rattle.gos_types.specs.Types.{Com, Exp, Var}
+use Rattle.gos_model.specs.Terms.{Skip, Lit}
 use Rattle.gos_model.specs.Typing.{Named}
 use Rattle.gos_model.specs.Stores.{Entry, entry_at}
 use Rattle.gos_model.specs.SmallPrograms.{c}
@@ -55,15 +55,18 @@ exp_same v w e = cc
 pub some_results : SomeResults
 some_results = (
   inr (2, refl, refl, omega arith),
-  λ h. elim h
-      [ inl (e, v, k) ↦ is_com e
-      | inr (w, e, v, fits) ↦ let small : 3 < 2 ^ 1 = subst (λ (x : ℕ). 3 < 2 ^ x) (sym (exp_same 1 w e)) fits in omega (arith, small) ],
+  λ h. elim h [
+    | inl (e, v, k) ↦ is_com e
+    | inr (w, e, v, fits) ↦ let small : 3 < 2 ^ 1 = subst (λ (x : ℕ). 3 < 2 ^ x) (sym (exp_same 1 w e)) fits in omega (arith, small)
+  ],
   λ h. elim h [ inl (e, v, k) ↦ is_skip v | inr (w, e, v, fits) ↦ com_is w e ],
 )
   where
     is_com : Exp 1 ≡ Com → ⊥
     is_com e = cc e
+
     com_is : (w : ℕ) → Com ≡ Exp w → ⊥
     com_is w e = cc e
+
     is_skip : Lit 0 1 ≡ Skip → ⊥
     is_skip e = cc e

@@ -1,5 +1,5 @@
 -- Steps and labels keep types, and a step keeps the widths of the locations that stay.
-use Rattle.std.specs.Prelude.{◌≡◌, ◌≢◌, ℕ, zero, suc, ◌+◌, ◌-◌, ◌^◌, ◌<◌, List, [], ◌∷◌, ◌⊎◌, Bool, true, false, Option, Some, None, nat_eq, nat_lt, if◌then◌else◌}
+use Rattle.std.specs.Prelude.{◌≡◌, ℕ, zero, suc, ◌+◌, ◌-◌, ◌^◌, ◌<◌, List, [], ◌∷◌, ◌⊎◌, Bool, true, false, Option, Some, None, nat_eq, nat_lt, if◌then◌else◌}
 use Rattle.std.proofs.Common.{arith, refl, sym, ap, subst, inl, inr, ◌∙◌}
 use Rattle.std.proofs.lemmas.Nat.{pow_pos, mod_below, and_le_l, or_lt, xor_lt}
 use Rattle.gos_types.specs.Types.{Type', Com, Exp, Var}
@@ -8,14 +8,14 @@ use Rattle.gos_model.specs.Substitution.{instantiate}
 use Rattle.gos_model.specs.Typing.{Imports, import_type}
 use Rattle.gos_model.specs.Stores.{Entry, Store, entry_at, store_put, without}
 use Rattle.gos_model.specs.Reach.{Rel}
-use Rattle.gos_model.specs.Steps.{Computes, IsValue}
+use Rattle.gos_model.specs.Steps.{Computes}
 use Rattle.gos_model.specs.Labels.{Label, IsAnswer}
 use Rattle.gos_contexts.specs.Contexts.{Context, SeqFirst, ParLeft, ParRight, IfTest, BinLeft, HeldRight, NotOf, AssignRight, ScopeBody, plug}
 use Rattle.gos_contexts.specs.Standing.{Present}
 use Rattle.gos_contexts.proofs.StoreLemmas.{number_cases, not_both, first_at, later_at, without_same, without_other, numbered, put_same, put_other}
 use Rattle.gos_contexts.proofs.BackwardLemmas.{OneLabel}
 use Rattle.gos_results.specs.HasTypes.{Widths, widths_of, NumbersFit, AnswersWith, HasType}
-use Rattle.gos_results.proofs.TypeLemmas.{AreWidths, widened}
+use Rattle.gos_results.proofs.TypeLemmas.{widened}
 use Rattle.gos_results.proofs.PutLemmas.{instantiate_typed, KeepsType}
 
 -- what an operator computes has its bits
@@ -180,20 +180,22 @@ row_kept i s u (Assign m n) b (k, v, en, et, es) t (w, e, h, l) f =
     same_store i s u b t es f (to_term (widths_of s) i t (Put m k) b et (w, e, subst (λ (x : ℕ). k < 2 ^ x) (sym fits.0) fits.1, h))
 row_kept i s u (Put m k) b (d, em, here, et, es) t (w, e, small, h) f =
     let wide = location i s m d.place w d em here h in
-    after i s u (store_put s d.place k) b t es
-    (to_term (either s (store_put s d.place k)) i t Skip b et e,
-    put_fits s d.place k w d here (subst (λ (x : ℕ). k < 2 ^ x) wide small) f,
-    put_stays s d.place k)
+    after i s u (store_put s d.place k) b t es (
+      to_term (either s (store_put s d.place k)) i t Skip b et e,
+      put_fits s d.place k w d here (subst (λ (x : ℕ). k < 2 ^ x) wide small) f,
+      put_stays s d.place k,
+    )
 row_kept i s u (Deref m) b (d, em, here, et, es) t (w, e, h) f =
     let wide = location i s m d.place w d em here h in
     same_store i s u b t es f (to_term (widths_of s) i t (Lit d.number d.width) b et (e ∙ ap (λ x. Exp x) wide, f d.place d here))
 row_kept i s u (New w m) b (l, absent, et, es) t (d, h) f =
     let o : Entry = record { place = l; width = w; number = 0 } in
-    after i s u (o ∷ s) b t es
-    (to_term (either s (o ∷ s)) i t (Scope l (instantiate m (Loc l))) b et
-    (d, instantiate_typed (either s (o ∷ s)) i m (Loc l) (Var w) t (over_both i s (o ∷ s) m (Var w ∷ []) t h) (w, refl, inr (o, first_at o s l refl, refl))),
-    new_fits s l w f,
-    new_stays s l w absent)
+    after i s u (o ∷ s) b t es (
+      to_term (either s (o ∷ s)) i t (Scope l (instantiate m (Loc l))) b et
+          (d, instantiate_typed (either s (o ∷ s)) i m (Loc l) (Var w) t (over_both i s (o ∷ s) m (Var w ∷ []) t h) (w, refl, inr (o, first_at o s l refl, refl))),
+      new_fits s l w f,
+      new_stays s l w absent,
+    )
 row_kept i s u (Scope l m) b (is, et, es) t (d, h) f =
     after i s u (without s l) b t es
     (to_term (either s (without s l)) i t m b et (over_both i s (without s l) m [] t h), end_fits s l f, end_stays s l)

@@ -8,7 +8,7 @@ use Rattle.gos_model.specs.Typing.{Typed}
 use Rattle.gos_model.specs.Stores.{Store}
 use Rattle.gos_model.specs.Steps.{IsValue}
 use Rattle.gos_model.specs.Labels.{given}
-use Rattle.gos_model.specs.Moves.{Program, Config, Idle, Running, Act, Showing, Unfoldings, Move, Moves, Answers}
+use Rattle.gos_model.specs.Moves.{Program, Idle, Running, Act, Showing, Unfoldings, Move, Moves}
 use Rattle.gos_results.specs.HasTypes.{RunsAs}
 
 -- the value of this type with number k: of a command `skip`, with 0; of an expression a literal of its width that fits it

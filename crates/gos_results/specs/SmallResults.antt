@@ -1,9 +1,9 @@
 -- Small running terms and stores that meet the definitions, and others that miss them.
-use Rattle.std.specs.Prelude.{ℕ, List, [], ◌∷◌}
+use Rattle.std.specs.Prelude.{ℕ, [], ◌∷◌}
 use Rattle.gos_types.specs.Types.{Type', Com, Exp}
-use Rattle.gos_model.specs.Terms.{Skip, Lit, Import, Par, Loc, Wait, Put}
+use Rattle.gos_model.specs.Terms.{Lit, Import, Par, Loc, Wait, Put}
 use Rattle.gos_model.specs.Typing.{Imports, Typed}
-use Rattle.gos_model.specs.Stores.{Entry, Store}
+use Rattle.gos_model.specs.Stores.{Store}
 use Rattle.gos_model.specs.SmallPrograms.{c}
 use Rattle.gos_results.specs.HasTypes.{widths_of, NumbersFit, HasType}
 use Rattle.gos_results.specs.Results.{IsResult}
