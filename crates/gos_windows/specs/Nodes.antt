@@ -41,6 +41,7 @@ pub record IsStage (r : Plan) (d : ℕ) (g : Stage) : Type 0 where
   pub loyal : (n : Serving) (i : ℕ) → Contains g.sides n → g.cut.number n.part ≡ Some i → IsLoyal i n.ty n.side g.plan
   pub run_by : StandsIn g.plan (ResultEnd 0) → g.cut.outer (ResultEnd 0) ≡ PartEnd d g.asked_at
   pub imports : (i : Imported) → Contains g.plan.imports i → Contains r.imports i
+  pub names : NamesDiffer g.plan.imports
   pub ports :
       (i h : ℕ) → StandsIn g.plan (ImportEnd i h)
       → (k : ℕ) × (g.cut.outer (ImportEnd i h) ≡ ImportEnd k h) × (slice_get r.imports k ≡ slice_get g.plan.imports i)

@@ -2,7 +2,7 @@
 -- at which the Shares between children serve their other caller.
 --
 -- Read first: Cutting of gos_webs; Sharing of gos_sharing; Regular of gos_realises.
-use Rattle.std.specs.Prelude.{◌≡◌, ℕ, ◌-◌, ◌<◌, List, ◌⊎◌, Option, Some, slice_get, Contains}
+use Rattle.std.specs.Prelude.{◌≡◌, ℕ, ◌-◌, ◌<◌, List, [], ◌⊎◌, Option, Some, slice_get, Contains}
 use Rattle.gos_types.specs.Types.{Type'}
 use Rattle.gos_plan.specs.Kinds.{Part, Share}
 use Rattle.gos_plan.specs.Firing.{Slot}
@@ -23,7 +23,8 @@ pub record Serving : Type 0 where
 abbrev pub IsOther : List Serving → End → Type 0
 IsOther ss e = (n : Serving) × (j : ℕ) × Contains ss n × (j < count n.ty) × (e ≡ caller_end n.part n.ty (1 - n.side) j)
 
--- c is the plan of the region of r in which these Shares serve. A port that stands in no joint stands for nothing.
+-- c is the plan of the region of r in which these Shares serve. A port that stands in no joint stands for nothing. An end of
+-- the region in a joint of the whole that the region lacks is one at which such a Share serves its other caller.
 pub record IsRegion (f : Cut) (ss : List Serving) (r c : Plan) : Type 0 where
   pub whole_right : IsRight r
   pub right : IsRight c
@@ -35,7 +36,8 @@ pub record IsRegion (f : Cut) (ss : List Serving) (r c : Plan) : Type 0 where
   pub joints : (a b : End) → Contains c.joints (joint a b) → Contains r.joints (joint (lies_at f a) (lies_at f b))
   pub all :
       (a b : End) → Contains r.joints (joint a b) → IsInside f a ⊎ IsInside f b
-      → ((d e : End) × Contains c.joints (joint d e) × (lies_at f d ≡ a) × (lies_at f e ≡ b)) ⊎ (IsOther ss a ⊎ IsOther ss b)
+      → ((d e : End) × Contains c.joints (joint d e) × (lies_at f d ≡ a) × (lies_at f e ≡ b))
+      ⊎ ((IsInside f a → IsOther ss a) × (IsInside f b → IsOther ss b))
   pub serving :
       (n : Serving) → Contains ss n
       → (n.side < 2) × ((i : ℕ) × (f.number n.part ≡ Some i) × (slice_get c.parts i ≡ Some (Share n.ty)))
