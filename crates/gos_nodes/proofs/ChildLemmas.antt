@@ -1,40 +1,37 @@
 -- A session's child: how it begins, what it does in its frame, and how it ends.
-use Rattle.std.specs.Prelude.{◌≡◌, ◌⊎◌, ℕ, zero, suc, true, List, [], ◌∷◌, ◌++◌, Option, Some, Contains}
-use Rattle.std.proofs.Common.{refl, sym, ap, subst, inl, inr, ◌∙◌}
-use Rattle.gos_types.specs.Types.{Type', Com, Exp}
-use Rattle.gos_netlist.specs.Events.{Answer}
-use Rattle.gos_model.specs.Terms as terms
+use Rattle.std.specs.Prelude.{◌≡◌, ℕ, zero, suc, List, [], ◌∷◌, ◌++◌, Some}
+use Rattle.std.proofs.Common.{sym, ap, subst, inl, inr, ◌∙◌}
+use Rattle.gos_types.specs.Types.{Type'}
 use Rattle.gos_model.specs.Terms.{Term}
 use Rattle.gos_model.specs.Typing.{Imported, Typed}
 use Rattle.gos_model.specs.Stores.{Store}
 use Rattle.gos_model.specs.Steps.{IsValue}
-use Rattle.gos_model.specs.Labels.{Given, given}
+use Rattle.gos_model.specs.Labels.{given}
 use Rattle.gos_model.specs.Moves.{Program, Config, Idle, Running, Act, Unfoldings, Moves, labels}
 use Rattle.gos_plan.specs.Firing.{State}
-use Rattle.gos_plan.specs.Kinds.{Contact}
 use Rattle.gos_plan.specs.Plans.{End, PartEnd, ImportEnd, ResultEnd, Plan, contact_at}
-use Rattle.gos_plan.specs.Tokens.{Tokens, Element, Fire, Out, In, IsPortEnd, token_at, way_taken, Does, Runs, IsIdle}
-use Rattle.gos_realises.specs.Regular.{Pass, pass, is_open, way_in, way_out, InputsKeepTurns}
+use Rattle.gos_plan.specs.Tokens.{Tokens, Element, Fire, Out, In, IsPortEnd, way_taken, Does, Runs}
+use Rattle.gos_realises.specs.Regular.{Pass, pass, way_in, way_out, InputsKeepTurns}
 use Rattle.gos_realises.specs.Matched.{label_at, shows, GoesOn, Agrees, IsMatched, program_of, RealisesDone}
 use Rattle.gos_realises.specs.Realises.{AllGround, NamesDiffer}
 use Rattle.gos_webs.specs.Cutting.{StandsIn}
-use Rattle.gos_sessions.specs.Sessions.{Form, Session, session_of, own_term, value_of}
+use Rattle.gos_sessions.specs.Sessions.{Form, Session, session_of, value_of}
 use Rattle.gos_contexts.specs.Plugged.{AreInner}
 use Rattle.gos_contexts.specs.Scopes.{KeepsScopes}
-use Rattle.gos_contexts.specs.Widening.{AreAmong, Knows}
+use Rattle.gos_contexts.specs.Widening.{AreAmong}
 use Rattle.gos_contexts.proofs.ScopeLemmas.{runs_keep_scopes, unfoldings_keep, none_left}
 use Rattle.gos_contexts.proofs.ShutLemmas.{sources_are_shut}
-use Rattle.gos_contexts.proofs.WideningLemmas.{sources_known, runs_known}
 use Rattle.gos_results.specs.Results.{IsResult}
 use Rattle.gos_results.proofs.ResultLemmas.{moves_then, answers_are_typed}
 use Rattle.gos_windows.specs.Regions.{whole_element}
-use Rattle.gos_windows.specs.Nodes.{Stage, IsStage, IsNode}
+use Rattle.gos_windows.specs.Nodes.{Stage, IsStage}
 use Rattle.gos_windows.specs.Windows.{seen, Begins}
 use Rattle.gos_nodes.proofs.ProtocolLemmas.{turns_keep_protocol}
 use Rattle.gos_nodes.proofs.SilentLemmas.{silent_inner, one_inner, inner_stays, asked_first, answer_last, no_request}
-use Rattle.gos_nodes.proofs.FrameLemmas.{frame_is, framed, framed_waits, framed_unfolds}
+use Rattle.gos_nodes.proofs.FrameLemmas.{frame_is, framed, framed_unfolds}
 use Rattle.gos_nodes.proofs.RegionLemmas.{token_stands, own_stays, fires_goes_on, out_shown, in_shown}
-use Rattle.gos_nodes.proofs.PortLemmas.{request_shown, answer_shown, no_other_out, no_other_in, out_held, in_there, ground_one, ground_all, among, import_port, comes_open, OpenStand, open_first, open_then}
+use Rattle.gos_realises.proofs.InputLemmas.{in_there}
+use Rattle.gos_nodes.proofs.PortLemmas.{request_shown, answer_shown, no_other_out, no_other_in, out_held, ground_one, ground_all, among, import_port, comes_open, OpenStand, open_first, open_then}
 
 -- a child's program
 abbrev pub child : Stage → Session → Program

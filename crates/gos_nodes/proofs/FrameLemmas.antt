@@ -1,8 +1,7 @@
 -- The frames of sessions: each is nothing, or one context beside which nothing is reached. What a child does, and where it can
 -- only wait, in its frame.
 use Rattle.std.specs.Prelude.{◌≡◌, ◌⊎◌, ℕ, List, Option, Some, None}
-use Rattle.std.proofs.Common.{refl, sym, ap, subst, inl, inr, ◌∙◌}
-use Rattle.gos_types.specs.Types.{Type'}
+use Rattle.std.proofs.Common.{refl, sym, subst, inl, inr}
 use Rattle.gos_model.specs.Terms as terms
 use Rattle.gos_model.specs.Terms.{Op, Term}
 use Rattle.gos_model.specs.Stores.{Store}

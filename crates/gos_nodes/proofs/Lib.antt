@@ -4,5 +4,5 @@ pub mod RegionLemmas
 pub mod PortLemmas
 pub mod ProtocolLemmas
 pub mod ChildLemmas
-pub mod NodeLemmas
+pub mod MatchedLemmas
 pub mod RestLemmas

@@ -1,25 +1,25 @@
 -- Ports: the handshakes of a result that is a command or an expression, and of ground imports; what passes there.
-use Rattle.std.specs.Prelude.{◌≡◌, ℕ, zero, suc, ◌^◌, ◌<◌, ◌⊎◌, Bool, true, false, IsTrue, List, [], ◌∷◌, Option, Some, None, slice_get, length, Contains, if◌then◌else◌}
+use Rattle.std.specs.Prelude.{◌≡◌, ℕ, zero, suc, ◌^◌, ◌<◌, ◌⊎◌, Bool, true, false, List, [], ◌∷◌, Option, Some, None, slice_get, Contains}
 use Rattle.std.specs.Str.{bytes_eq}
 use Rattle.std.proofs.Common.{arith, refl, sym, ap, subst, inl, inr, ◌∙◌}
 use Rattle.std.proofs.lemmas.Bool.{cond-true, cond-false}
 use Rattle.gos_types.specs.declared.shakes.Role.{Role}
-use Rattle.gos_types.specs.declared.shakes.Role.TheVariants.{Serve, Ask}
+use Rattle.gos_types.specs.declared.shakes.Role.TheVariants.{Serve}
 use Rattle.gos_types.specs.Types.{Type', Com, Exp, Var, Pair, Fun, IsGround, IsDone}
 use Rattle.gos_netlist.specs.Events.{Direction, Request, Answer}
-use Rattle.gos_model.specs.Terms as terms
 use Rattle.gos_model.specs.Terms.{Name}
 use Rattle.gos_model.specs.Typing.{Imported, Imports, import_type}
-use Rattle.gos_model.specs.Labels.{Port, Given, Taken, Label, given}
+use Rattle.gos_model.specs.Labels.{Given, Taken, given}
 use Rattle.gos_model.specs.Moves.{Answers}
 use Rattle.gos_plan.specs.Kinds.{Contact, contacts_of}
-use Rattle.gos_plan.specs.Plans.{End, PartEnd, ImportEnd, ResultEnd, Plan, turned_if, contacts_of_import, contact_at, same_end}
-use Rattle.gos_plan.specs.Tokens.{Tokens, Element, Out, In, IsPortEnd, way_put, way_taken, bits_of, token_at, Passes, Does}
+use Rattle.gos_plan.specs.Plans.{End, ImportEnd, ResultEnd, Plan, turned_if, contacts_of_import, contact_at, same_end}
+use Rattle.gos_plan.specs.Tokens.{Tokens, Out, In, way_put, way_taken, bits_of, token_at, Passes, Does}
 use Rattle.gos_plan.specs.TokenBits.{TokensFit}
 use Rattle.gos_plan.proofs.JointLemmas.{same_is}
 use Rattle.gos_realises.specs.Regular.{Pass, pass, is_open, is_request, way_in, way_out, ComesInTurn}
 use Rattle.gos_realises.specs.Matched.{port_if, event_number, label_at, shows}
 use Rattle.gos_realises.specs.Realises.{AllGround, NamesDiffer}
+use Rattle.gos_realises.proofs.InputLemmas.{import_serves, one_ground}
 use Rattle.gos_realises.proofs.ToldLemmas.{contains_at, there_is}
 use Rattle.gos_webs.specs.Cutting.{StandsIn}
 use Rattle.gos_contexts.specs.Widening.{AreAmong}
@@ -76,13 +76,6 @@ out_held p e v s t (port, passes) = by_contact (contact_at p e) refl passes
     by_contact None is h = absurd h
     by_contact (Some c) is h = (c, is, h.0)
 
-pub in_there : (p : Plan) (e : End) (v : ℕ) (s t : Tokens) → Does p (In e v) s t → (c : Contact) × (contact_at p e ≡ Some c)
-in_there p e v s t (port, passes) = by_contact (contact_at p e) refl passes
-  where
-    by_contact : (o : Option Contact) → contact_at p e ≡ o → Passes p (In e v) o s t → (c : Contact) × (contact_at p e ≡ Some c)
-    by_contact None is h = absurd h
-    by_contact (Some c) is h = (c, is)
-
 -- imports
 none_there : {A : Type 0} (x : A) → Contains [] x → ⊥
 none_there x (k, less, e) = omega (arith, less)
@@ -100,9 +93,9 @@ contains_cases x y xs (suc k, less, e) = inr (k, omega (arith, less), e)
 pub ground_one : (is : List Imported) (x : Imported) → AllGround is → Contains is x → IsGround x.ty
 ground_one [] x all there = absurd (none_there x there)
 ground_one (i ∷ is) x all there =
-    elim (contains_cases i x is there)
-    [ inl e ↦ subst (λ (y : Imported). IsGround y.ty) e all.0
-    | inr later ↦ ground_one is x all.1 later
+    elim (contains_cases i x is there) [
+      | inl e ↦ subst (λ (y : Imported). IsGround y.ty) e all.0
+      | inr later ↦ ground_one is x all.1 later
     ]
 
 pub ground_all : (is : List Imported) → ((x : Imported) → Contains is x → IsGround x.ty) → AllGround is
@@ -125,14 +118,14 @@ typed_there (i ∷ is) x t h =
 pub there_typed : (is : Imports) (i : Imported) → NamesDiffer is → Contains is i → import_type is i.name ≡ Some i.ty
 there_typed [] i differ there = absurd (none_there i there)
 there_typed (j ∷ is) i differ there =
-    elim (contains_cases j i is there)
-    [ inl e ↦
-        cond-true (bytes_eq j.name i.name) (Some j.ty) (import_type is i.name) (same_true j.name i.name (ap (λ (y : Imported). y.name) e))
-        ∙ ap (λ (y : Imported). Some y.ty) e
-    | inr later ↦
-        name_cases j.name i.name
-        (λ same yes. absurd (differ.0 i later same))
-        (λ other. cond-false (bytes_eq j.name i.name) (Some j.ty) (import_type is i.name) other ∙ there_typed is i differ.1 later)
+    elim (contains_cases j i is there) [
+      | inl e ↦
+          cond-true (bytes_eq j.name i.name) (Some j.ty) (import_type is i.name) (same_true j.name i.name (ap (λ (y : Imported). y.name) e))
+          ∙ ap (λ (y : Imported). Some y.ty) e
+      | inr later ↦
+          name_cases j.name i.name
+          (λ same yes. absurd (differ.0 i later same))
+          (λ other. cond-false (bytes_eq j.name i.name) (Some j.ty) (import_type is i.name) other ∙ there_typed is i differ.1 later)
     ]
 
 pub among : (is js : Imports) → NamesDiffer js → ((i : Imported) → Contains is i → Contains js i) → AreAmong is js
@@ -151,25 +144,9 @@ import_port p i h v way c at given =
     taken_given x e = cc e
 
 -- what is known of a handshake that there is
-abbrev role_if : Option Contact → Role
-role_if None = Serve
-role_if (Some c) = c.role
-
 abbrev bits_if : Option Contact → ℕ
 bits_if None = 0
 bits_if (Some c) = bits_of c Answer
-
--- a ground import answers
-ground_serves : (t : Type') (h : ℕ) (c : Contact) → IsGround t → slice_get (contacts_of t) h ≡ Some c → c.role ≡ Serve
-ground_serves Com zero c g e = ap (λ o. role_if o) (sym e)
-ground_serves Com (suc h) c g e = absurd (cc e)
-ground_serves (Exp w) zero c g e = ap (λ o. role_if o) (sym e)
-ground_serves (Exp w) (suc h) c g e = absurd (cc e)
-ground_serves (Var w) zero c g e = ap (λ o. role_if o) (sym e)
-ground_serves (Var w) (suc zero) c g e = ap (λ o. role_if o) (sym e)
-ground_serves (Var w) (suc (suc h)) c g e = absurd (cc e)
-ground_serves (Pair a b) h c g e = absurd g
-ground_serves (Fun a b) h c g e = absurd g
 
 -- so what comes in at one comes where its handshake is open
 pub comes_open : (p : Plan) (i h : ℕ) (c : Contact) (past : List Pass) → AllGround p.imports → contact_at p (ImportEnd i h) ≡ Some c
@@ -177,8 +154,8 @@ pub comes_open : (p : Plan) (i h : ℕ) (c : Contact) (past : List Pass) → All
 comes_open p i h c past ground at comes =
     let (x, is) = there_is p.imports i h c at in
     let here : slice_get (contacts_of x.ty) h ≡ Some c = ap (λ (o : Option Imported). slice_get (contacts_of_import o) h) (sym is) ∙ at in
-    let serves : c.role ≡ Serve = ground_serves x.ty h c (ground_one p.imports x ground (contains_at p.imports i x is)) here in
-    let way : way_in (contact_at p (ImportEnd i h)) ≡ Answer = ap way_in at ∙ ap way_put serves in
+    let serves : Serve ≡ c.role = import_serves x.ty (one_ground p.imports ground i x is) h c here in
+    let way : way_in (contact_at p (ImportEnd i h)) ≡ Answer = ap way_in at ∙ sym (ap way_put serves) in
     subst (λ (w : Direction). ComesInTurn past (ImportEnd i h) w) way comes
 
 -- each import with an open handshake stands in a joint

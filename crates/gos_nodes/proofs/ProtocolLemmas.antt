@@ -1,11 +1,10 @@
 -- Inputs that keep turns keep the protocol: along the list what labels leave open is what passed leaves open.
-use Rattle.std.specs.Prelude.{◌≡◌, ℕ, zero, suc, ◌^◌, ◌<◌, Bool, true, false, not, IsTrue, IsFalse, List, [], ◌∷◌, Option, Some, None, slice_get, if◌then◌else◌}
+use Rattle.std.specs.Prelude.{◌≡◌, ℕ, zero, suc, ◌^◌, ◌<◌, Bool, true, false, not, IsFalse, List, [], ◌∷◌, Option, Some, None, slice_get, if◌then◌else◌}
 use Rattle.std.proofs.Common.{arith, refl, sym, ◌∙◌, ap, subst}
-use Rattle.gos_types.specs.declared.shakes.Role.TheVariants.{Serve, Ask}
 use Rattle.gos_types.specs.Types.{Type', Com, Exp, Var, Pair, Fun, IsGround, IsDone}
 use Rattle.gos_netlist.specs.Events.{Direction, Request, Answer}
 use Rattle.gos_model.specs.Typing.{Imported}
-use Rattle.gos_model.specs.Labels.{Port, Given, Taken, Label, is_output, is_output_at, is_answer}
+use Rattle.gos_model.specs.Labels.{Taken, Label, is_output, is_output_at, is_answer}
 use Rattle.gos_model.specs.Protocol as protocol
 use Rattle.gos_model.specs.Protocol.{Allowed, FitsAnswer, event_of, KeepsAfter}
 use Rattle.gos_plan.specs.Kinds.{Contact, contacts_of}

@@ -1,63 +1,29 @@
 -- What an element of a stage is in the whole: it leaves the own part as it is, its tokens are those of the stage's plan, and it
 -- shows the same.
-use Rattle.std.specs.Prelude.{◌≡◌, ◌≢◌, ◌⊎◌, ℕ, Bool, true, false, IsTrue, List, [], ◌∷◌, Option, Some, None, slice_get, length, nat_eq, nat_lt, Contains, if◌then◌else◌}
+use Rattle.std.specs.Prelude.{◌≡◌, ◌≢◌, ◌⊎◌, ℕ, Bool, true, false, List, [], ◌∷◌, Option, Some, None, slice_get, length, nat_eq, nat_lt, if◌then◌else◌}
 use Rattle.std.proofs.Common.{arith, refl, sym, ap, subst, inl, inr, ◌∙◌}
 use Rattle.std.proofs.lemmas.Bool.{cond-true, cond-false}
 use Rattle.std.proofs.lemmas.Option.{slice_get_within}
-use Rattle.gos_netlist.specs.Events.{Direction, Request, Answer}
+use Rattle.gos_netlist.specs.Events.{Direction, Answer}
 use Rattle.gos_model.specs.Typing.{Imported}
 use Rattle.gos_model.specs.Labels.{Label}
 use Rattle.gos_model.specs.Moves.{Act}
 use Rattle.gos_plan.specs.Kinds.{Part, Contact}
-use Rattle.gos_plan.specs.Firing.{Rest, Slot, Req, Ans, State, Row, at, firing}
-use Rattle.gos_plan.specs.Plans.{End, PartEnd, ImportEnd, ResultEnd, Joint, Plan, IsRight, contact_at, contacts_of_import, same_end, stands_in}
-use Rattle.gos_plan.specs.Tokens.{Tokens, Element, Fire, Out, In, places_of, held_at, token_at, with_token, end_of, way_of, way_taken, way_put, fired, firing_of, Passes, Does}
+use Rattle.gos_plan.specs.Firing.{Rest, Slot, Req, Ans, State, Row, at}
+use Rattle.gos_plan.specs.Plans.{End, PartEnd, ImportEnd, Joint, Plan, contact_at, contacts_of_import, same_end, stands_in}
+use Rattle.gos_plan.specs.Tokens.{Tokens, Element, Fire, Out, In, places_of, held_at, token_at, way_taken, way_put, firing_of, Passes, Does}
 use Rattle.gos_plan.proofs.JointLemmas.{IsIn, Found, same_itself, same_is, found, stands_there, contained}
 use Rattle.gos_plan.proofs.TurnLemmas.{token_state, fired_state}
 use Rattle.gos_realises.specs.Regular.{way_in, way_out}
-use Rattle.gos_realises.specs.Matched.{port_if, event_number, label_at, shows, GoesOn, asks_on}
+use Rattle.gos_realises.specs.Matched.{port_if, event_number, label_at, shows, GoesOn}
 use Rattle.gos_webs.specs.Webs.{joint}
 use Rattle.gos_webs.specs.Cutting.{Cut, lies_at, StandsIn, asks_in, cut_tokens}
 use Rattle.gos_webs.proofs.MovedLemmas.{listed}
+use Rattle.gos_webs.proofs.CutLemmas.{which_end, stands_cut, asks_there}
 use Rattle.gos_contexts.proofs.StoreLemmas.{eq_false}
 use Rattle.gos_windows.specs.Regions.{Serving, IsRegion, whole_element}
 use Rattle.gos_windows.specs.Nodes.{Stage, IsStage}
 use Rattle.gos_windows.specs.Windows.{seen}
-
--- which end of a joint
-or_first : (a b : Bool) → a ≡ true → (if a then true else b) ≡ true
-or_first true b h = refl
-or_first false b h = absurd (cc h)
-
-or_then : (a b : Bool) → b ≡ true → (if a then true else b) ≡ true
-or_then true b h = refl
-or_then false b h = h
-
-which_end : (e : End) (j : Joint) → stands_in e j ≡ true → (e ≡ j.asking) ⊎ (e ≡ j.serving)
-which_end e j stands = by_test (same_end e j.asking) refl
-  where
-    by_test : (b : Bool) → same_end e j.asking ≡ b → (e ≡ j.asking) ⊎ (e ≡ j.serving)
-    by_test true t = inl (same_is e j.asking t)
-    by_test false t = let s : same_end e j.serving ≡ true = grind (arith, stands, t) in inr (same_is e j.serving s)
-
-stands_by : (e : End) (j : Joint) → (e ≡ j.asking) ⊎ (e ≡ j.serving) → stands_in e j ≡ true
-stands_by e j (inl is) =
-    let same = same_itself j.asking in
-    let there : stands_in j.asking j ≡ true = grind (arith, same) in subst (λ (x : End). stands_in x j ≡ true) (sym is) there
-stands_by e j (inr is) =
-    let same = same_itself j.serving in
-    let there : stands_in j.serving j ≡ true = grind (arith, same) in subst (λ (x : End). stands_in x j ≡ true) (sym is) there
-
-lies_in : (f : Cut) (e : End) (j : Joint) → (e ≡ j.asking) ⊎ (e ≡ j.serving) → stands_in (lies_at f e) (joint (lies_at f j.asking) (lies_at f j.serving)) ≡ true
-lies_in f e j (inl is) = stands_by (lies_at f e) (joint (lies_at f j.asking) (lies_at f j.serving)) (inl (ap (lies_at f) is))
-lies_in f e j (inr is) = stands_by (lies_at f e) (joint (lies_at f j.asking) (lies_at f j.serving)) (inr (ap (lies_at f) is))
-
-asks_there : (js : List Joint) (j : Joint) → IsIn j js → asks_in js j.asking ≡ true
-asks_there [] j h = absurd h
-asks_there (x ∷ xs) j (inl is) =
-    or_first (same_end j.asking x.asking) (asks_in xs j.asking)
-    (subst (λ (y : Joint). same_end j.asking y.asking ≡ true) is (same_itself j.asking))
-asks_there (x ∷ xs) j (inr later) = or_then (same_end j.asking x.asking) (asks_in xs j.asking) (asks_there xs j later)
 
 -- an end at which a token lies stands in a joint
 pub token_stands : (c : Plan) (s : Tokens) (e : End) (way : Direction) (v : ℕ) → token_at c s e way ≡ Some v → StandsIn c e
@@ -78,7 +44,7 @@ token_same f ss r c is e (j, listing, stands) s way =
     let is_in : IsIn j c.joints = contained c.joints j listing in
     let whole : Joint = joint (lies_at f j.asking) (lies_at f j.serving) in
     let there : places_of r (lies_at f e) ≡ Some (lies_at f j.asking) =
-    stands_there r whole (lies_at f e) is.whole_right (contained r.joints whole (is.joints j.asking j.serving listing)) (lies_in f e j (which_end e j stands)) in
+    stands_there r whole (lies_at f e) is.whole_right (contained r.joints whole (is.joints j.asking j.serving listing)) (stands_cut f e j (which_end e j stands)) in
     ap (held_at (cut_tokens f c s) way) (stands_there c j e is.right is_in stands)
     ∙ (cond-true (asks_in c.joints j.asking) (s.in_place way (lies_at f j.asking)) None (asks_there c.joints j is_in)
     ∙ ap (held_at s way) (sym there))

@@ -3,7 +3,7 @@ use Rattle.std.specs.Prelude.{◌≡◌, ℕ, List, [], ◌∷◌, ◌++◌}
 use Rattle.std.proofs.Common.{arith, sym, ap, subst, ◌∙◌}
 use Rattle.gos_types.specs.Types.{IsDone}
 use Rattle.gos_model.specs.Labels.{given}
-use Rattle.gos_model.specs.Moves.{Program, Config, Idle, Running, Act, Computing, Showing, Moves, labels}
+use Rattle.gos_model.specs.Moves.{Program, Config, Idle, Running, Act, Moves, labels}
 use Rattle.gos_plan.specs.Plans.{ResultEnd, Plan}
 use Rattle.gos_plan.specs.Tokens.{Tokens, Element, Out, Runs, IsIdle}
 use Rattle.gos_realises.specs.Matched.{IsMatched, program_of}

@@ -1,13 +1,11 @@
 -- Lists of moves by what they show: nothing, a request, one label, an answer.
-use Rattle.std.specs.Prelude.{◌≡◌, ◌≢◌, ℕ, zero, suc, List, [], ◌∷◌, ◌++◌, ◌⊎◌}
+use Rattle.std.specs.Prelude.{◌≡◌, ◌≢◌, ℕ, zero, suc, List, [], ◌∷◌, ◌++◌}
 use Rattle.std.proofs.Common.{arith, refl, sym, ap, subst, inl, inr, ◌∙◌}
 use Rattle.gos_model.specs.Terms.{Term, Import, Deref, Wait, Put}
 use Rattle.gos_model.specs.Typing.{Imports}
 use Rattle.gos_model.specs.Stores.{Store}
-use Rattle.gos_model.specs.Reach.{Rel}
-use Rattle.gos_model.specs.Labels.{Port, Given, Taken, Label, given}
-use Rattle.gos_model.specs.Moves.{Program, Config, Idle, Running, Act, Computing, Showing, Acts, Unfoldings, Answers, Move, Moves, labels}
-use Rattle.gos_contexts.specs.Contexts.{Context, plug}
+use Rattle.gos_model.specs.Labels.{Given, Taken, Label, given}
+use Rattle.gos_model.specs.Moves.{Program, Config, Idle, Running, Act, Computing, Showing, Unfoldings, Answers, Move, Moves, labels}
 use Rattle.gos_contexts.specs.Plugged.{AreInner}
 use Rattle.gos_contexts.proofs.BackwardLemmas.{OneLabel}
 use Rattle.gos_contexts.proofs.PluggedLemmas.{acts_of, stays_running, inner_rest}

@@ -1,7 +1,7 @@
 -- That a node realises its term, where the plans of its stages realise theirs.
 --
 -- Read first: Windows of gos_windows; Sessions of gos_sessions; Matched, Realises of gos_realises.
-use Rattle.std.specs.Prelude.{◌≡◌, ℕ, List, [], Option, Some, Contains}
+use Rattle.std.specs.Prelude.{◌≡◌, ℕ, List, [], Some, Contains}
 use Rattle.gos_types.specs.Types.{IsDone}
 use Rattle.gos_model.specs.Terms.{Term}
 use Rattle.gos_model.specs.Typing.{Typed}
@@ -9,12 +9,11 @@ use Rattle.gos_model.specs.Protocol.{KeepsProtocol}
 use Rattle.gos_plan.specs.Firing.{Phase}
 use Rattle.gos_plan.specs.Plans.{Plan, IsRight}
 use Rattle.gos_plan.specs.Tokens.{Tokens, Element, Runs, IsIdle}
-use Rattle.gos_realises.specs.Regular.{InputsKeepTurns, IsRegular}
+use Rattle.gos_realises.specs.Regular.{InputsKeepTurns}
 use Rattle.gos_realises.specs.Matched.{all_shown, RealisesDone}
 use Rattle.gos_realises.specs.Realises.{AllGround, NamesDiffer}
 use Rattle.gos_sessions.specs.Sessions.{Form, Session, session_of, own_term}
-use Rattle.gos_windows.specs.Nodes.{Stage, IsRestful, IsNode, NodeIsRegular}
-use Rattle.gos_windows.specs.Windows.{ListsAreStaged, QuietIsWithin, OwnPartCan}
+use Rattle.gos_windows.specs.Nodes.{Stage, IsRestful, IsNode}
 
 -- each session of the form has a stage whose plan realises the session's term
 abbrev pub AreRealised : Form → List Stage → Type 0

@@ -1,11 +1,10 @@
 // What a node realises. Each theorem is the contract of a function that does nothing.
 ghost use Rattle.gos_nodes.specs.Realised.{NodeRealises, RealisersRest, TurnsKeepProtocol};
 ghost use Rattle.gos_windows.specs.Nodes.{NodeIsRegular};
-ghost use Rattle.gos_windows.specs.Windows.{ListsAreStaged, OwnPartCan, QuietIsWithin};
 
-/// A node realises its form's term, where the plans of its stages realise the terms of their sessions.
+/// A node realises its form's term, where the plans of its stages realise the terms of their sessions, and nodes are regular.
 pub fn nodes_realise()
-    ensures { ListsAreStaged → QuietIsWithin → OwnPartCan → NodeIsRegular → NodeRealises }
+    ensures { NodeIsRegular → NodeRealises }
 {}
 
 /// Inputs that keep turns keep the protocol.

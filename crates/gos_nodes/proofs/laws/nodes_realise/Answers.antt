@@ -1,4 +1,4 @@
-use Rattle.gos_nodes.proofs.NodeLemmas.{node_realises}
+use Rattle.gos_nodes.proofs.MatchedLemmas.{node_realises}
 use Rattle.gos_nodes.proofs.laws.nodes_realise.Goals as goal
 
 pub returns : goal.returns

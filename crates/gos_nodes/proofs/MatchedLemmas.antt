@@ -1,5 +1,5 @@
 -- A node's list is matched by its term: at rest, asked, within a session, and answered.
-use Rattle.std.specs.Prelude.{◌≡◌, ◌≢◌, ◌⊎◌, ℕ, zero, suc, ◌^◌, ◌<◌, Bool, true, false, IsTrue, List, [], ◌∷◌, ◌++◌, Option, Some, None, slice_get, Contains}
+use Rattle.std.specs.Prelude.{◌≡◌, ◌≢◌, ◌⊎◌, ℕ, ◌^◌, ◌<◌, Bool, true, false, IsTrue, List, [], ◌∷◌, ◌++◌, Option, Some, slice_get, Contains}
 use Rattle.std.proofs.Common.{refl, sym, ap, subst, inl, inr, ◌∙◌}
 use Rattle.gos_types.specs.Types.{Type', IsDone}
 use Rattle.gos_netlist.specs.Events.{Request, Answer}
@@ -7,11 +7,11 @@ use Rattle.gos_model.specs.Terms.{Term}
 use Rattle.gos_model.specs.Typing.{Typed}
 use Rattle.gos_model.specs.Stores.{Store}
 use Rattle.gos_model.specs.Labels.{given, is_output}
-use Rattle.gos_model.specs.Moves.{Program, Config, Idle, Running, Act, Computing, Showing, Unfoldings, Moves, labels, Stalled}
+use Rattle.gos_model.specs.Moves.{Program, Config, Idle, Running, Act, Showing, Unfoldings, Moves, labels, Stalled}
 use Rattle.gos_plan.specs.Kinds.{Part}
 use Rattle.gos_plan.specs.Firing.{Rest, State, Slot, Req, Ans, Token, Row, at, put, firing}
 use Rattle.gos_plan.specs.Plans.{PartEnd, ResultEnd, Plan}
-use Rattle.gos_plan.specs.Tokens.{Tokens, Element, Fire, Out, In, token_at, firing_of, Does, Runs, IsIdle, IsQuiet}
+use Rattle.gos_plan.specs.Tokens.{Tokens, Element, Fire, Out, In, token_at, firing_of, Does, IsIdle}
 use Rattle.gos_plan.specs.TokenBits.{AllFit}
 use Rattle.gos_plan.proofs.DecidedLemmas.{one_state}
 use Rattle.gos_plan.proofs.TokenBitsLemmas.{all_stay_fit, idle_fits}
@@ -19,18 +19,19 @@ use Rattle.gos_realises.specs.Matched.{asks_on, shows, GoesOn, Agrees, IsMatched
 use Rattle.gos_realises.proofs.InputLemmas.{protocol_keeps_turns, matching_suffices}
 use Rattle.gos_sessions.specs.Sessions.{Form, Session, bits, own_part, own_term, own_type, run_shake, value_of, session_of, Computes, LeadsOn}
 use Rattle.gos_sessions.proofs.TableLemmas.{tables_are_right}
-use Rattle.gos_contexts.specs.Widening.{AreAmong}
 use Rattle.gos_contexts.proofs.WideningLemmas.{sources_known, runs_known}
 use Rattle.gos_results.proofs.ResultLemmas.{moves_then}
 use Rattle.gos_windows.specs.Regions.{whole_element}
 use Rattle.gos_windows.specs.Nodes.{Stage, IsNode, NodeIsRegular}
-use Rattle.gos_windows.specs.Windows.{seen, HoldsOnly, StirsOnly, Begins, Where, Resting, Asked, Within, Answered, LeadsTo, to_session, to_answer, Staged, rests, waits, stays, holds, is_asked, begins, stirs, goes_on, replies, ListsAreStaged, QuietIsWithin, OwnPartCan}
+use Rattle.gos_windows.specs.Windows.{seen, HoldsOnly, StirsOnly, Begins, Where, Resting, Asked, Within, Answered, LeadsTo, to_session, to_answer, Staged, rests, waits, stays, holds, is_asked, begins, stirs, goes_on, replies}
+use Rattle.gos_windows.proofs.QuietLemmas.{quiet_is_within, own_part_can}
+use Rattle.gos_windows.proofs.WindowLemmas.{lists_are_staged}
 use Rattle.gos_nodes.specs.Realised.{AreRealised, NodeRealises}
 use Rattle.gos_nodes.proofs.SilentLemmas.{labels_then, unfold_first}
 use Rattle.gos_nodes.proofs.FrameLemmas.{frame_is, framed, framed_waits}
 use Rattle.gos_nodes.proofs.SilentLemmas.{silent_inner}
 use Rattle.gos_nodes.proofs.PortLemmas.{request_shown, answer_shown, answers_value}
-use Rattle.gos_nodes.proofs.ChildLemmas.{child, Inner, agrees_here, stage_among, Opened, opens, Went, goes_within, Ended, ends}
+use Rattle.gos_nodes.proofs.ChildLemmas.{child, Inner, agrees_here, stage_among, opens, goes_within, ends}
 
 -- an idle program can only wait
 run_is_no_output : (o : _) → IsTrue (is_output o) → Showing o ≡ Showing (given 0 0) → ⊥
@@ -72,8 +73,7 @@ both_silent : (xs ys : List Act) → labels xs ≡ [] → labels ys ≡ [] → l
 both_silent xs ys e h = labels_then xs ys ∙ (ap (λ ls. ls ++ labels ys) e ∙ h)
 
 module _
-    (r : Plan) (d : ℕ) (f : Form) (gs : List Stage) (node : IsNode r d f gs) (real : AreRealised f gs) (quiet : QuietIsWithin)
-    (own : OwnPartCan) where
+    (r : Plan) (d : ℕ) (f : Form) (gs : List Stage) (node : IsNode r d f gs) (real : AreRealised f gs) where
   abbrev whole : Program
   whole = program_of r (own_term f)
 
@@ -88,20 +88,20 @@ module _
 
   -- where the own part, or the answer, is what can go on
   asked_agrees : (s : Tokens) (m : Term) (st : Store) → HoldsOnly r (PartEnd d (run_shake (own_part f))) Request 0 s → Agrees r whole s (Running m st)
-  asked_agrees s m st here = (λ q. absurd ((own r d f gs s node).0 here q), λ e. absurd (running_is_not_idle m st e))
+  asked_agrees s m st here = (λ q. absurd ((own_part_can r d f gs s node).0 here q), λ e. absurd (running_is_not_idle m st e))
 
   answered_agrees : (s : Tokens) (v : ℕ) (m : Term) (st : Store) → HoldsOnly r (ResultEnd 0) Answer v s → Agrees r whole s (Running m st)
-  answered_agrees s v m st here = (λ q. absurd ((own r d f gs s node).1 v here q), λ e. absurd (running_is_not_idle m st e))
+  answered_agrees s v m st here = (λ q. absurd ((own_part_can r d f gs s node).1 v here q), λ e. absurd (running_is_not_idle m st e))
 
   -- within a session the child is
   within_agrees : (g : Stage) (ys : List Element) (s : Tokens) (e : Session) (m : Term) (st : Store)
       → Contains gs g → StirsOnly d f g s → Inner d f g ys s e m st → Agrees r whole s (Running (e.frame m) st)
   within_agrees g ys s e m st has only inner = (
     λ q.
-    framed_waits (child g e) whole e.frame m st (frame_is f (s.state d).phase (s.state d).number e inner.at)
-    (stage_among r d g node.names (node.stages g has))
-    (runs_known (child g e) inner.acts m st (sources_known g.plan.imports [] e.term e.ty inner.typed) inner.ran)
-    ((agrees_here g.plan (child g e) ys (seen g s) (Running m st) inner.matched).0 (quiet r d f gs g s node has only q)),
+        framed_waits (child g e) whole e.frame m st (frame_is f (s.state d).phase (s.state d).number e inner.at)
+        (stage_among r d g node.names (node.stages g has))
+        (runs_known (child g e) inner.acts m st (sources_known g.plan.imports [] e.term e.ty inner.typed) inner.ran)
+        ((agrees_here g.plan (child g e) ys (seen g s) (Running m st) inner.matched).0 (quiet_is_within r d f gs g s node has only q)),
     λ x. absurd (running_is_not_idle (e.frame m) st x),
   )
 
@@ -303,10 +303,10 @@ module _
   matches w xs s (replies s1 t ys v here does rest) fits =
       replied s1 t ys v fits here does (matches Resting ys t rest (next_fits (Out (ResultEnd 0) v) s1 t fits does))
 
-pub node_realises : ListsAreStaged → QuietIsWithin → OwnPartCan → NodeIsRegular → NodeRealises
-node_realises staged quiet own regular r d f gs node real =
+pub node_realises : NodeIsRegular → NodeRealises
+node_realises regular r d f gs node real =
     let is_regular = (regular r d f gs node).0 in
     let done = subst IsDone (sym node.outcome) node.done in
     matching_suffices r (own_term f) is_regular node.ground node.names done (λ s t xs idle runs keeps.
     let turns = protocol_keeps_turns r xs s t is_regular node.ground node.names done idle runs keeps in
-    matches r d f gs node real quiet own Resting xs s (staged r d f gs s t xs node idle runs turns) (idle_fits r s idle))
+    matches r d f gs node real Resting xs s (lists_are_staged r d f gs s t xs node idle runs turns) (idle_fits r s idle))
