@@ -3,7 +3,6 @@ use Rattle.std.specs.Prelude.{◌≡◌, ℕ, zero, suc, ◌^◌, ◌<◌, ◌�
 use Rattle.std.specs.Str.{bytes_eq}
 use Rattle.std.proofs.Common.{arith, refl, sym, ap, subst, inl, inr, ◌∙◌}
 use Rattle.std.proofs.lemmas.Bool.{cond-true, cond-false}
-use Rattle.gos_types.specs.declared.shakes.Role.{Role}
 use Rattle.gos_types.specs.declared.shakes.Role.TheVariants.{Serve}
 use Rattle.gos_types.specs.Types.{Type', Com, Exp, Var, Pair, Fun, IsGround, IsDone}
 use Rattle.gos_netlist.specs.Events.{Direction, Request, Answer}
@@ -20,7 +19,7 @@ use Rattle.gos_realises.specs.Regular.{Pass, pass, is_open, is_request, way_in, 
 use Rattle.gos_realises.specs.Matched.{port_if, event_number, label_at, shows}
 use Rattle.gos_realises.specs.Realises.{AllGround, NamesDiffer}
 use Rattle.gos_realises.proofs.InputLemmas.{import_serves, one_ground}
-use Rattle.gos_realises.proofs.ToldLemmas.{contains_at, there_is}
+use Rattle.gos_realises.proofs.ToldLemmas.{there_is}
 use Rattle.gos_webs.specs.Cutting.{StandsIn}
 use Rattle.gos_contexts.specs.Widening.{AreAmong}
 use Rattle.gos_contexts.proofs.PlacedLemmas.{same_true, name_cases}

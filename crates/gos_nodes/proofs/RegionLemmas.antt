@@ -1,7 +1,7 @@
 -- What an element of a stage is in the whole: it leaves the own part as it is, its tokens are those of the stage's plan, and it
 -- shows the same.
-use Rattle.std.specs.Prelude.{◌≡◌, ◌≢◌, ◌⊎◌, ℕ, Bool, true, false, List, [], ◌∷◌, Option, Some, None, slice_get, length, nat_eq, nat_lt, if◌then◌else◌}
-use Rattle.std.proofs.Common.{arith, refl, sym, ap, subst, inl, inr, ◌∙◌}
+use Rattle.std.specs.Prelude.{◌≡◌, ◌≢◌, ℕ, true, List, [], ◌∷◌, Option, Some, None, slice_get, length, nat_eq, nat_lt}
+use Rattle.std.proofs.Common.{arith, refl, sym, ap, ◌∙◌}
 use Rattle.std.proofs.lemmas.Bool.{cond-true, cond-false}
 use Rattle.std.proofs.lemmas.Option.{slice_get_within}
 use Rattle.gos_netlist.specs.Events.{Direction, Answer}
@@ -10,9 +10,9 @@ use Rattle.gos_model.specs.Labels.{Label}
 use Rattle.gos_model.specs.Moves.{Act}
 use Rattle.gos_plan.specs.Kinds.{Part, Contact}
 use Rattle.gos_plan.specs.Firing.{Rest, Slot, Req, Ans, State, Row, at}
-use Rattle.gos_plan.specs.Plans.{End, PartEnd, ImportEnd, Joint, Plan, contact_at, contacts_of_import, same_end, stands_in}
+use Rattle.gos_plan.specs.Plans.{End, PartEnd, ImportEnd, Joint, Plan, contact_at, contacts_of_import}
 use Rattle.gos_plan.specs.Tokens.{Tokens, Element, Fire, Out, In, places_of, held_at, token_at, way_taken, way_put, firing_of, Passes, Does}
-use Rattle.gos_plan.proofs.JointLemmas.{IsIn, Found, same_itself, same_is, found, stands_there, contained}
+use Rattle.gos_plan.proofs.JointLemmas.{IsIn, Found, found, stands_there, contained}
 use Rattle.gos_plan.proofs.TurnLemmas.{token_state, fired_state}
 use Rattle.gos_realises.specs.Regular.{way_in, way_out}
 use Rattle.gos_realises.specs.Matched.{port_if, event_number, label_at, shows, GoesOn}
