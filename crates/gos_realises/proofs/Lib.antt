@@ -1,4 +1,4 @@
-mod RingLemmas
+pub mod RingLemmas
 mod OneJointLemmas
 mod SkipLemmas
 mod NameLemmas
@@ -18,5 +18,5 @@ mod HeadLemmas
 mod SameLemmas
 mod SameTurnLemmas
 pub mod GroundTurnLemmas
-mod ToldLemmas
-mod InputLemmas
+pub mod ToldLemmas
+pub mod InputLemmas
