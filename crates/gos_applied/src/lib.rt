@@ -6,4 +6,4 @@
 
 mod laws;
 
-pub use laws::applications;
+pub use laws::{applications, projections, readings};
