@@ -103,7 +103,7 @@ both_true a b true true h k shut = let up = h refl in let also = k refl in absur
 both_true a b true false h k shut = refl
 both_true a b false d h k shut = refl
 
-ground_kept : (a : Type') → IsGround a → (f g : ℕ → Bool) → ((h : ℕ) → h < count a → g h ≡ true → f h ≡ true) → KeepsTurnsOf a f → KeepsTurnsOf a g
+pub ground_kept : (a : Type') → IsGround a → (f g : ℕ → Bool) → ((h : ℕ) → h < count a → g h ≡ true → f h ≡ true) → KeepsTurnsOf a f → KeepsTurnsOf a g
 ground_kept Com ground f g less keeps = tt
 ground_kept (Exp w) ground f g less keeps = tt
 ground_kept (Var w) ground f g less keeps = both_true (f 0) (f 1) (g 0) (g 1) (less 0 (omega arith)) (less 1 (omega arith)) keeps

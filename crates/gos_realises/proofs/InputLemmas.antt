@@ -24,40 +24,40 @@ use Rattle.gos_realises.proofs.RingLemmas.{after, told_open}
 use Rattle.gos_realises.proofs.ToldLemmas.{shake_event, asks_event, there_is, told_step}
 
 -- what passed, after a list
-abbrev passed : Plan → List Pass → List Element → List Pass
+abbrev pub passed : Plan → List Pass → List Element → List Pass
 passed p past [] = past
 passed p past (x ∷ xs) = passed p (after p x past) xs
 
-passed_then : (p : Plan) (past : List Pass) (ys : List Element) (x : Element) → passed p past (ys ++ x ∷ []) ≡ after p x (passed p past ys)
+pub passed_then : (p : Plan) (past : List Pass) (ys : List Element) (x : Element) → passed p past (ys ++ x ∷ []) ≡ after p x (passed p past ys)
 passed_then p past [] x = refl
 passed_then p past (y ∷ ys) x = passed_then p (after p y past) ys x
 
-inputs_then : (p : Plan) (past : List Pass) (ys zs : List Element) → InputsKeepTurns p past ys → InputsKeepTurns p (passed p past ys) zs
+pub inputs_then : (p : Plan) (past : List Pass) (ys zs : List Element) → InputsKeepTurns p past ys → InputsKeepTurns p (passed p past ys) zs
     → InputsKeepTurns p past (ys ++ zs)
 inputs_then p past [] zs one other = other
 inputs_then p past (Fire i t ∷ ys) zs one other = inputs_then p past ys zs one other
 inputs_then p past (Out e v ∷ ys) zs one other = inputs_then p (after p (Out e v) past) ys zs one other
 inputs_then p past (In e v ∷ ys) zs one other = (one.0, inputs_then p (after p (In e v) past) ys zs one.1 other)
 
-outputs_last : (p : Plan) (past : List Pass) (ys zs : List Element) → OutputsKeepTurns p past (ys ++ zs) → OutputsKeepTurns p (passed p past ys) zs
+pub outputs_last : (p : Plan) (past : List Pass) (ys zs : List Element) → OutputsKeepTurns p past (ys ++ zs) → OutputsKeepTurns p (passed p past ys) zs
 outputs_last p past [] zs whole = whole
 outputs_last p past (Fire i t ∷ ys) zs whole = outputs_last p past ys zs whole
 outputs_last p past (Out e v ∷ ys) zs whole = outputs_last p (after p (Out e v) past) ys zs whole.1
 outputs_last p past (In e v ∷ ys) zs whole = outputs_last p (after p (In e v) past) ys zs whole
 
-runs_then : (p : Plan) (ys : List Element) (x : Element) (s u w : Tokens) → Runs p ys s u → Does p x u w → Runs p (ys ++ x ∷ []) s w
+pub runs_then : (p : Plan) (ys : List Element) (x : Element) (s u w : Tokens) → Runs p ys s u → Does p x u w → Runs p (ys ++ x ∷ []) s w
 runs_then p [] x s u w is does = (w, subst (λ a. Does p x a w) is does, refl)
 runs_then p (y ∷ ys) x s u w (t, one, more) does = (t, one, runs_then p ys x t u w more does)
 
 -- an input and an output pass an end that is there
-in_there : (p : Plan) (e : End) (v : ℕ) (s w : Tokens) → Does p (In e v) s w → (c : Contact) × (contact_at p e ≡ Some c)
+pub in_there : (p : Plan) (e : End) (v : ℕ) (s w : Tokens) → Does p (In e v) s w → (c : Contact) × (contact_at p e ≡ Some c)
 in_there p e v s w does = by_contact (contact_at p e) refl does.1
   where
     by_contact : (o : Option Contact) → contact_at p e ≡ o → Passes p (In e v) o s w → (c : Contact) × (contact_at p e ≡ Some c)
     by_contact None is h = absurd h
     by_contact (Some c) is h = (c, is)
 
-out_there : (p : Plan) (e : End) (v : ℕ) (s w : Tokens) → Does p (Out e v) s w → (c : Contact) × (contact_at p e ≡ Some c)
+pub out_there : (p : Plan) (e : End) (v : ℕ) (s w : Tokens) → Does p (Out e v) s w → (c : Contact) × (contact_at p e ≡ Some c)
 out_there p e v s w does = by_contact (contact_at p e) refl does.1
   where
     by_contact : (o : Option Contact) → contact_at p e ≡ o → Passes p (Out e v) o s w → (c : Contact) × (contact_at p e ≡ Some c)

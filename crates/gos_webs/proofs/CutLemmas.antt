@@ -144,7 +144,7 @@ pub joint_there : (f : Cut) (r c : Plan) → IsCut f r c → (j : Joint) → IsI
 joint_there f r c is j is_in =
     contained r.joints (joint (lies_at f j.asking) (lies_at f j.serving)) (is.joints j.asking j.serving (listed c.joints j is_in))
 
-stands_cut : (f : Cut) (e : End) (j : Joint) → (e ≡ j.asking) ⊎ (e ≡ j.serving) → stands_in (lies_at f e) (joint (lies_at f j.asking) (lies_at f j.serving)) ≡ true
+pub stands_cut : (f : Cut) (e : End) (j : Joint) → (e ≡ j.asking) ⊎ (e ≡ j.serving) → stands_in (lies_at f e) (joint (lies_at f j.asking) (lies_at f j.serving)) ≡ true
 stands_cut f e j (inl is) = stands_by (lies_at f e) (joint (lies_at f j.asking) (lies_at f j.serving)) (inl (ap (lies_at f) is))
 stands_cut f e j (inr is) = stands_by (lies_at f e) (joint (lies_at f j.asking) (lies_at f j.serving)) (inr (ap (lies_at f) is))
 
@@ -214,7 +214,7 @@ stated_so : (d l q : Bool) (x y z : State) → (q ≡ true → l ≡ d) → (q �
 stated_so d l true x y z same never = ap (λ (b : Bool). if b then x else y) (sym (same refl))
 stated_so d l false x y z same never = ap (λ (b : Bool). if b then x else z) (never refl)
 
-place_filled : (f : Cut) (r c : Plan) → IsCut f r c → (a : End) → asks_in c.joints a ≡ true → (way : Direction) (held : Option ℕ) (s : Tokens)
+pub place_filled : (f : Cut) (r c : Plan) → IsCut f r c → (a : End) → asks_in c.joints a ≡ true → (way : Direction) (held : Option ℕ) (s : Tokens)
     → with_place way a held (cut_tokens f c s) ≡ cut_tokens f c (with_place way (lies_at f a) held s)
 place_filled f r c is a asker way held s =
     λ i. record {
@@ -278,7 +278,7 @@ state_put f r c is j k there q s =
     other : (i : ℕ) → nat_lt i (length c.parts) ≡ false → nat_eq i j ≡ false
     other i t = grind (arith, t, within)
 
-puts_cut : (f : Cut) (r c : Plan) → IsCut f r c → (j : ℕ) (k : Part) → slice_get c.parts j ≡ Some k → (ts : List Token) (s : Tokens)
+pub puts_cut : (f : Cut) (r c : Plan) → IsCut f r c → (j : ℕ) (k : Part) → slice_get c.parts j ≡ Some k → (ts : List Token) (s : Tokens)
     → with_puts c j ts (cut_tokens f c s) ≡ cut_tokens f c (with_puts r (f.part j) ts s)
 puts_cut f r c is j k there [] s = refl
 puts_cut f r c is j k there (t ∷ ts) s =
@@ -391,7 +391,7 @@ state_lost f r c is i k out q s =
         by_test false t = refl
 
 -- an output or an input of the region, where a port leads to this end
-taken_out : (f : Cut) (r c : Plan) → IsCut f r c → (b : End) → name_of f b ≡ f.inner b → (way : Direction) (v : ℕ) (s : Tokens)
+pub taken_out : (f : Cut) (r c : Plan) → IsCut f r c → (b : End) → name_of f b ≡ f.inner b → (way : Direction) (v : ℕ) (s : Tokens)
     → ((d : Contact) → contact_at r b ≡ Some d → way ≡ way_taken d.role) → token_at r s b way ≡ Some v
     → Runs c (out_if (f.inner b) v) (cut_tokens f c s) (cut_tokens f c (with_token r b way None s))
 taken_out f r c is b outside way v s ways held = by_inner (f.inner b) refl
@@ -416,17 +416,17 @@ taken_out f r c is b outside way v s ways held = by_inner (f.inner b) refl
     by_inner None none = token_lost f r c is b (outside ∙ none) way None s
     by_inner (Some e) inner = (cut_tokens f c (with_token r b way None s), passes e inner, refl)
 
-same_ways : (way : Direction) → same_way way way ≡ true
+pub same_ways : (way : Direction) → same_way way way ≡ true
 same_ways Request = refl
 same_ways Answer = refl
 
-lies_there : (r : Plan) (b x : End) (way : Direction) (v : ℕ) (s : Tokens) → places_of r b ≡ Some x → token_at r (with_token r b way (Some v) s) b way ≡ Some v
+pub lies_there : (r : Plan) (b x : End) (way : Direction) (v : ℕ) (s : Tokens) → places_of r b ≡ Some x → token_at r (with_token r b way (Some v) s) b way ≡ Some v
 lies_there r b x way v s named =
     subst (λ (o : Option End). held_at (with_held way o (Some v) s) way o ≡ Some v) (sym named)
     (ap (λ (w : Bool). if w && same_end x x then Some v else s.in_place way x) (same_ways way)
     ∙ ap (λ (w : Bool). if w then Some v else s.in_place way x) (same_itself x))
 
-put_in : (f : Cut) (r c : Plan) → IsCut f r c → (b : End) → name_of f b ≡ f.inner b → (way : Direction) (v : ℕ) (s : Tokens)
+pub put_in : (f : Cut) (r c : Plan) → IsCut f r c → (b : End) → name_of f b ≡ f.inner b → (way : Direction) (v : ℕ) (s : Tokens)
     → ((d : Contact) → contact_at r b ≡ Some d → token_at r (with_token r b way (Some v) s) b way ≡ Some v → (way ≡ way_put d.role) × (v < 2 ^ bits_of d way))
     → Runs c (in_if (f.inner b) v) (cut_tokens f c s) (cut_tokens f c (with_token r b way (Some v) s))
 put_in f r c is b outside way v s small = by_inner (f.inner b) refl
@@ -454,7 +454,7 @@ put_in f r c is b outside way v s small = by_inner (f.inner b) refl
     by_inner (Some e) inner = (cut_tokens f c (with_token r b way (Some v) s), passes e inner, refl)
 
 -- one list after another
-after : (c : Plan) (xs ys : List Element) (s u t : Tokens) → Runs c xs s u → Runs c ys u t → Runs c (xs ++ ys) s t
+pub after : (c : Plan) (xs ys : List Element) (s u t : Tokens) → Runs c xs s u → Runs c ys u t → Runs c (xs ++ ys) s t
 after c [] ys s u t first rest = subst (λ (x : Tokens). Runs c ys x t) first rest
 after c (x ∷ xs) ys s u t (w, does, more) rest = (w, does, after c xs ys w u t more rest)
 
