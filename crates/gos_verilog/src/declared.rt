@@ -69,7 +69,7 @@ fn direction(cursor: &mut Cursor) -> Result<bool, VFault>
 // Passes a range, and gives how many bits it has.
 fn width(cursor: &mut Cursor) -> Result<u32, VFault>
     ensures text { cursor.new.text ≡ cursor.old.text }
-    ensures { IfOk result IsWidth }
+    ensures width { IfOk result IsWidth }
 {
     match number(cursor, 0, 31, b':') {
         Ok(last) => {
@@ -121,7 +121,7 @@ fn kind(cursor: &mut Cursor) -> Result<bool, usize>
 // Passes the declaration of the net of cell `i`, behind the word for its kind.
 fn cell_declaration(cursor: &mut Cursor, i: u32, register: bool) -> Result<Shape, VFault>
     ensures text { cursor.new.text ≡ cursor.old.text }
-    ensures { IfOk result (λ shape. IsWidth shape.width) }
+    ensures width { IfOk result (λ shape. IsWidth shape.width) }
 {
     let width = width(cursor)?;
     word(cursor, b"n")?;
