@@ -1,6 +1,6 @@
-mod RingLemmas
+pub mod RingLemmas
 mod OneJointLemmas
-mod SkipLemmas
+pub mod SkipLemmas
 mod NameLemmas
 mod TraceLemmas
 mod SmallLinkLemmas
@@ -8,7 +8,7 @@ mod SmallTurnLemmas
 mod SmallLemmas
 mod RenumberLemmas
 mod RotateLemmas
-mod LeftLemmas
+pub mod LeftLemmas
 mod AloneLemmas
 mod UseLemmas
 pub mod FittingLemmas
@@ -17,6 +17,6 @@ mod ModuleLemmas
 mod HeadLemmas
 mod SameLemmas
 mod SameTurnLemmas
-mod GroundTurnLemmas
-mod ToldLemmas
-mod InputLemmas
+pub mod GroundTurnLemmas
+pub mod ToldLemmas
+pub mod InputLemmas
