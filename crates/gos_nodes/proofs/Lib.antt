@@ -6,3 +6,4 @@ pub mod ProtocolLemmas
 pub mod ChildLemmas
 pub mod MatchedLemmas
 pub mod RestLemmas
+pub mod SmallLemmas

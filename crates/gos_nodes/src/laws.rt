@@ -1,5 +1,6 @@
 // What a node realises. Each theorem is the contract of a function that does nothing.
 ghost use Rattle.gos_nodes.specs.Realised.{NodeRealises, RealisersRest, TurnsKeepProtocol};
+ghost use Rattle.gos_nodes.specs.SmallNodes.{OneStageIsNot, TwiceIsNode, TwiceIsRealised, TwoSkipsAreRealised};
 ghost use Rattle.gos_windows.specs.Nodes.{NodeIsRegular};
 
 /// A node realises its form's term, where the plans of its stages realise the terms of their sessions, and nodes are regular.
@@ -15,4 +16,12 @@ pub fn turns_keep_protocol()
 /// A plan that realises a term of a command or an expression rests after its answer.
 pub fn realisers_rest()
     ensures { RealisersRest }
+{}
+
+/// The plan of `skip ; skip` is a node of two stages, and so it realises its term; with one stage it is no node.
+pub fn small_nodes()
+    ensures node { TwiceIsNode }
+    ensures one { OneStageIsNot }
+    ensures stages { TwoSkipsAreRealised }
+    ensures whole { NodeIsRegular → TwiceIsRealised }
 {}

@@ -1,6 +1,6 @@
 pub mod RingLemmas
 mod OneJointLemmas
-mod SkipLemmas
+pub mod SkipLemmas
 mod NameLemmas
 mod TraceLemmas
 mod SmallLinkLemmas
