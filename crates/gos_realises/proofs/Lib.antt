@@ -8,7 +8,7 @@ mod SmallTurnLemmas
 mod SmallLemmas
 mod RenumberLemmas
 mod RotateLemmas
-mod LeftLemmas
+pub mod LeftLemmas
 mod AloneLemmas
 mod UseLemmas
 pub mod FittingLemmas

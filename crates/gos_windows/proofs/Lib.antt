@@ -8,3 +8,6 @@ pub mod QuietLemmas
 pub mod WholeLemmas
 pub mod NodeLemmas
 pub mod WindowLemmas
+pub mod KeepingLemmas
+pub mod GroundLemmas
+pub mod OutputLemmas

@@ -1,30 +1,24 @@
 -- The list of a node, element by element: where the whole is, and where each element leads.
-use Rattle.std.specs.Prelude.{◌≢◌, None, nat_eq, slice_get, Contains}
-use Rattle.std.proofs.Common.{◌≡◌, ℕ, Bool, true, false, List, [], ◌∷◌, ◌++◌, ◌⊎◌, Option, Some, inl, inr, refl, sym, ◌∙◌, ap, subst, arith, if◌then◌else◌}
-use Rattle.std.proofs.lemmas.Option.{none-some, same_Some}
-use Rattle.gos_types.specs.declared.shakes.Role.TheVariants.{Serve, Ask}
+use Rattle.std.specs.Prelude.{None, slice_get, Contains}
+use Rattle.std.proofs.Common.{◌≡◌, ℕ, Bool, true, false, List, [], ◌∷◌, Option, Some, inl, inr, sym, ◌∙◌, ap, subst, if◌then◌else◌}
 use Rattle.gos_netlist.specs.Events.{Direction, Request, Answer}
 use Rattle.gos_plan.specs.Kinds.{Part, Contact}
-use Rattle.gos_plan.specs.Firing.{Phase, Rest, State, Slot, Req, Ans, Row, at, put, firing}
+use Rattle.gos_plan.specs.Firing.{Phase, Rest, State, Slot, Req, Ans, Row, at, firing}
 use Rattle.gos_plan.specs.Plans.{End, PartEnd, ImportEnd, ResultEnd, Plan, contact_at}
-use Rattle.gos_plan.specs.Tokens.{Tokens, Element, Fire, Out, In, IsPortEnd, places_of, with_token, with_state, with_puts, token_at, end_of, way_of, shake_of, way_taken, way_put, fired, firing_of, Passes, Does, Runs, IsIdle}
-use Rattle.gos_plan.specs.TokenBits.{AllFit}
+use Rattle.gos_plan.specs.Tokens.{Tokens, Element, Fire, Out, In, IsPortEnd, places_of, with_token, with_state, with_puts, token_at, end_of, way_of, shake_of, way_taken, fired, firing_of, Passes, Does, Runs, IsIdle}
 use Rattle.gos_plan.proofs.HeldLemmas.{takes_of}
 use Rattle.gos_plan.proofs.TurnLemmas.{token_state, fired_state}
-use Rattle.gos_plan.proofs.TokenBitsLemmas.{all_stay_fit, idle_fits}
-use Rattle.gos_realises.specs.Regular.{Pass, pass, way_in, way_out, is_request, is_open, ComesInTurn, KeepsTurns, InputsKeepTurns, OutputsKeepTurns}
-use Rattle.gos_realises.proofs.InputLemmas.{passed, passed_then, inputs_then, outputs_last, runs_then, in_there, out_there}
+use Rattle.gos_realises.specs.Regular.{Pass, pass, way_in, way_out, is_request, is_open, ComesInTurn, InputsKeepTurns}
+use Rattle.gos_realises.proofs.InputLemmas.{passed, out_there}
 use Rattle.gos_realises.proofs.RingLemmas.{after}
-use Rattle.gos_webs.specs.Cutting.{lies_at, StandsIn}
-use Rattle.gos_sessions.specs.Sessions.{Form, Session, own_part, own_term, run_shake, session_of}
+use Rattle.gos_sessions.specs.Sessions.{Form, own_part, own_term, run_shake, session_of}
 use Rattle.gos_sessions.proofs.TableLemmas.{tables_are_right}
-use Rattle.gos_windows.specs.Regions.{whole_element}
-use Rattle.gos_windows.specs.Nodes.{Stage, IsStage, IsNode}
-use Rattle.gos_windows.specs.Windows.{seen, StirsOnly, HoldsOnly, Where, Resting, Asked, Within, Answered, to_session, to_answer, Staged, rests, waits, stays, holds, is_asked, begins, stirs, goes_on, replies, ListsAreStaged}
+use Rattle.gos_windows.specs.Nodes.{Stage, IsNode}
+use Rattle.gos_windows.specs.Windows.{seen, HoldsOnly, Resting, Asked, Within, Answered, Staged}
 use Rattle.gos_windows.proofs.PortLemmas.{port_role}
 use Rattle.gos_windows.proofs.OwnLemmas.{none_at_rest}
-use Rattle.gos_windows.proofs.StageLemmas.{Emptied, stage, ground_stage, InStage, OnStage, Ran, lies, end_is, fires_in, out_in, in_in, answers, answer_fits, emptied}
-use Rattle.gos_windows.proofs.TurnLemmas.{Turned, answer_turned, turns_before, way_in_of, way_out_of, result_in, result_out, Follows, follows_step, OnlyResult, NoneOpen}
+use Rattle.gos_windows.proofs.StageLemmas.{Emptied}
+use Rattle.gos_windows.proofs.TurnLemmas.{result_in, result_out, OnlyResult, NoneOpen}
 use Rattle.gos_windows.proofs.WholeLemmas.{own_end, done, result_place, own_place, at_own_joint, in_turn_at, put_only, taken_empty, only_there, held_beside, idle_token, other_state, Going, Led, asks, own_leads}
 use Rattle.gos_windows.proofs.WholeLemmas as whole
 

@@ -1,34 +1,33 @@
 -- Within a stage, and whole lists.
-use Rattle.std.specs.Prelude.{◌≢◌, ◌^◌, ◌<◌, None, nat_eq, slice_get, Contains}
-use Rattle.std.proofs.Common.{◌≡◌, ℕ, Bool, true, false, List, [], ◌∷◌, ◌++◌, ◌⊎◌, Option, Some, inl, inr, refl, sym, ◌∙◌, ap, subst, arith, if◌then◌else◌}
-use Rattle.std.proofs.lemmas.Option.{none-some, same_Some}
-use Rattle.gos_types.specs.declared.shakes.Role.TheVariants.{Serve, Ask}
+use Rattle.std.specs.Prelude.{◌≢◌, ◌^◌, ◌<◌, None, slice_get, Contains}
+use Rattle.std.proofs.Common.{◌≡◌, ℕ, Bool, true, false, List, [], ◌∷◌, ◌++◌, ◌⊎◌, Option, Some, inl, inr, refl, sym, ◌∙◌, ap, subst, if◌then◌else◌}
+use Rattle.std.proofs.lemmas.Option.{same_Some}
 use Rattle.gos_types.specs.Types.{Type'}
 use Rattle.gos_netlist.specs.Events.{Direction, Request, Answer}
-use Rattle.gos_plan.specs.Kinds.{Part, Contact}
-use Rattle.gos_plan.specs.Firing.{Phase, Rest, State, Slot, Req, Ans, Row, at, put, firing}
+use Rattle.gos_plan.specs.Kinds.{Contact}
+use Rattle.gos_plan.specs.Firing.{Phase, State, Slot, Ans, Row, at, firing}
 use Rattle.gos_plan.specs.Plans.{End, PartEnd, ImportEnd, ResultEnd, Plan, contact_at}
-use Rattle.gos_plan.specs.Tokens.{Tokens, Element, Fire, Out, In, IsPortEnd, places_of, with_token, with_state, with_puts, token_at, end_of, way_of, shake_of, way_taken, way_put, fired, firing_of, Passes, Does, Runs, IsIdle}
+use Rattle.gos_plan.specs.Tokens.{Tokens, Element, Fire, Out, In, with_token, with_state, with_puts, token_at, end_of, way_of, shake_of, way_taken, way_put, fired, firing_of, Passes, Does, Runs, IsIdle}
 use Rattle.gos_plan.specs.TokenBits.{AllFit}
 use Rattle.gos_plan.proofs.TurnLemmas.{token_state, fired_state}
 use Rattle.gos_plan.proofs.TokenBitsLemmas.{all_stay_fit, idle_fits}
-use Rattle.gos_realises.specs.Regular.{Pass, pass, way_in, way_out, is_request, is_open, ComesInTurn, KeepsTurns, InputsKeepTurns, OutputsKeepTurns}
+use Rattle.gos_realises.specs.Regular.{Pass, pass, way_in, way_out, is_open, ComesInTurn, KeepsTurns, InputsKeepTurns}
 use Rattle.gos_realises.proofs.InputLemmas.{passed, passed_then, inputs_then, outputs_last, runs_then, in_there, out_there}
 use Rattle.gos_realises.proofs.RingLemmas.{after}
-use Rattle.gos_webs.specs.Cutting.{lies_at, StandsIn}
+use Rattle.gos_webs.specs.Cutting.{StandsIn}
 use Rattle.gos_sessions.specs.Sessions.{Form, Session, bits, own_part, own_term, run_shake, session_of, value_of}
 use Rattle.gos_sessions.proofs.TableLemmas.{tables_are_right}
 use Rattle.gos_windows.specs.Regions.{whole_element}
-use Rattle.gos_windows.specs.Nodes.{Stage, IsStage, IsNode}
+use Rattle.gos_windows.specs.Nodes.{Stage, IsNode}
 use Rattle.gos_windows.specs.Windows as windows
 use Rattle.gos_windows.specs.Windows.{seen, StirsOnly, HoldsOnly, Where, Resting, Asked, Within, Answered, to_session, to_answer, Staged, rests, waits, stays, holds, is_asked, begins, stirs, goes_on, ListsAreStaged}
 use Rattle.gos_windows.proofs.PortLemmas.{port_role, stands_contact}
 use Rattle.gos_windows.proofs.OwnLemmas.{none_at_rest}
-use Rattle.gos_windows.proofs.StageLemmas.{Emptied, stage, ground_stage, InStage, OnStage, Ran, lies, end_is, fires_in, out_in, in_in, answers, answer_fits, emptied}
-use Rattle.gos_windows.proofs.TurnLemmas.{Turned, answer_turned, turns_before, way_in_of, way_out_of, result_in, result_out, import_shut, Follows, follows_step, OnlyResult, NoneOpen}
+use Rattle.gos_windows.proofs.StageLemmas.{Emptied, stage, ground_stage, InStage, OnStage, lies, end_is, fires_in, out_in, in_in, answers, answer_fits, emptied}
+use Rattle.gos_windows.proofs.TurnLemmas.{Turned, answer_turned, turns_before, way_in_of, result_out, import_shut, Follows, follows_step, OnlyResult, NoneOpen}
 use Rattle.gos_windows.proofs.WholeLemmas as whole
 use Rattle.gos_windows.proofs.WholeLemmas.{in_turn_at, other_state, Going, Led, asks, own_leads}
-use Rattle.gos_windows.proofs.NodeLemmas.{Place, AtRest, AtAsked, AtStage, AtAnswer, InTurn, first_turn, turns_after, Holds, Result, rest_step, AskedStep, asked_step, answer_step, own_fired, own_firing}
+use Rattle.gos_windows.proofs.NodeLemmas.{Place, AtRest, AtAsked, AtStage, AtAnswer, InTurn, first_turn, turns_after, Holds, Result, rest_step, asked_step, answer_step, own_fired, own_firing}
 
 abbrev OneTurn : Plan → List Pass → Element → Type 0
 OneTurn p past y = InputsKeepTurns p past (y ∷ [])
@@ -56,7 +55,7 @@ module _ (r : Plan) (d : ℕ) (f : Form) (gs : List Stage) (node : IsNode r d f 
     pub state : t.state d ≡ row.next v
     pub led : Led r d f gs node row v t past
 
-  stage_out_turned : (g : Stage) (has : Contains gs g) (hs : List Element) (before s t : Tokens) (past : List Pass) → Going r d f gs node g has hs before s past
+  pub stage_out_turned : (g : Stage) (has : Contains gs g) (hs : List Element) (before s t : Tokens) (past : List Pass) → Going r d f gs node g has hs before s past
       → (e : End) (v : ℕ) → Does g.plan (Out e v) (seen g s) (seen g t) → KeepsTurns g.plan (passed g.plan [] hs) (pass e (way_out (contact_at g.plan e)))
   stage_out_turned g has hs before s t past going e v does =
       let ran = runs_then g.plan hs (Out e v) before (seen g s) (seen g t) going.ran.ran does in
@@ -272,7 +271,7 @@ module _ (r : Plan) (d : ℕ) (f : Form) (gs : List Stage) (node : IsNode r d f 
       (pl : Place gs) (s t : Tokens) (past : List Pass)
       → AllFit r s → Holds r d f gs node pl s past → Runs r xs s t → InputsKeepTurns r past xs → Result r d f gs node pl xs s
 
-  fit_after : (x : Element) (s w : Tokens) → AllFit r s → Does r x s w → AllFit r w
+  pub fit_after : (x : Element) (s w : Tokens) → AllFit r s → Does r x s w → AllFit r w
   fit_after x s w fit does = all_stay_fit r (x ∷ []) s w node.right node.literals fit (w, does, refl)
 
   led_on : (xs : List Element) → Rest' xs → (row : Row) (v : ℕ) (w t : Tokens) (past : List Pass) → AllFit r w → Led r d f gs node row v w past → Runs r xs w t

@@ -2,3 +2,4 @@
 pub mod Regions
 pub mod Nodes
 pub mod Windows
+pub mod Keeping

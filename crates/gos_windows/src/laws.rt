@@ -1,5 +1,12 @@
 // What the definitions give. Each theorem is the contract of a function that does nothing.
+ghost use Rattle.gos_windows.specs.Nodes.{NodeKeepsTurns};
+ghost use Rattle.gos_windows.specs.Keeping.{TurnsKeepProtocol};
 ghost use Rattle.gos_windows.specs.Windows.{ListsAreStaged, OwnPartCan, QuietIsWithin};
+
+/// Inputs that keep turns keep the protocol.
+pub fn turns_keep_protocol()
+    ensures { TurnsKeepProtocol }
+{}
 
 /// From the request of a child to its answer, what a node does is a list of the child's, from an idle state of it. Where
 /// the whole is quiet the child is quiet too, and the own part and the answer never wait.
@@ -7,4 +14,9 @@ pub fn lists_of_nodes()
     ensures staged { ListsAreStaged }
     ensures quiet { QuietIsWithin }
     ensures own { OwnPartCan }
+{}
+
+/// The outputs of a node keep turns, where its inputs do, and it rests after its answer.
+pub fn nodes_keep_turns()
+    ensures { NodeKeepsTurns }
 {}
