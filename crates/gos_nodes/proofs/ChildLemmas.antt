@@ -26,7 +26,7 @@ use Rattle.gos_results.proofs.ResultLemmas.{moves_then, answers_are_typed}
 use Rattle.gos_windows.specs.Regions.{whole_element}
 use Rattle.gos_windows.specs.Nodes.{Stage, IsStage}
 use Rattle.gos_windows.specs.Windows.{seen, Begins}
-use Rattle.gos_nodes.proofs.ProtocolLemmas.{turns_keep_protocol}
+use Rattle.gos_windows.proofs.KeepingLemmas.{turns_keep_protocol}
 use Rattle.gos_nodes.proofs.SilentLemmas.{silent_inner, one_inner, inner_stays, asked_first, answer_last, no_request}
 use Rattle.gos_nodes.proofs.FrameLemmas.{frame_is, framed, framed_unfolds}
 use Rattle.gos_nodes.proofs.RegionLemmas.{token_stands, own_stays, fires_goes_on, out_shown, in_shown}
@@ -84,7 +84,7 @@ opens r d f g ys s e ground is at asked outcome typed realises begins =
     let list : List Element = In (ResultEnd 0) 0 ∷ ys in
     let runs : Runs p list begins.before begins.after = (seen g s, begins.asked, begins.runs) in
     let keeps =
-    turns_keep_protocol p list begins.before begins.after is.region.right (stage_ground r d g ground is) is.names is.outcome begins.idle runs begins.turns in
+    turns_keep_protocol p list begins.before begins.after (stage_ground r d g ground is) is.names is.outcome runs begins.turns in
     let first = (realises begins.before begins.after list begins.idle runs keeps).0.1 (seen g s) begins.asked in
     let shown : labels first.0 ≡ given 0 0 ∷ [] = first.3 ∙ request_shown p 0 is.outcome in
     let after = asked_first (child g e) first.0 first.1 (given 0 0) first.2 shown in
