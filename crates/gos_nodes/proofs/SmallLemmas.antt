@@ -19,7 +19,7 @@ use Rattle.gos_webs.specs.SmallWebs.{twice_plan, first_out}
 use Rattle.gos_webs.proofs.SmallWebLemmas.{twice_is_right, skip_is_right, one_port, first_is_cut}
 use Rattle.gos_sessions.specs.Sessions.{Session, session, session_of}
 use Rattle.gos_windows.specs.Regions.{Serving, IsRegion, IsLoyal}
-use Rattle.gos_windows.specs.Nodes.{Stage, IsStage, IsOfStage, NodeIsRegular}
+use Rattle.gos_windows.specs.Nodes.{Stage, IsStage, IsOfStage}
 use Rattle.gos_nodes.specs.SmallNodes.{twice_form, number_of_second, port_of_second, second_out, skip_stage, twice_stages, TwiceIsNode, OneStageIsNot, TwoSkipsAreRealised, TwiceIsRealised}
 use Rattle.gos_nodes.proofs.RestLemmas.{realisers_rest}
 use Rattle.gos_nodes.proofs.MatchedLemmas.{node_realises}
@@ -246,5 +246,5 @@ no_stage g (k, less, e) = omega (arith, less)
 pub two_skips_are_realised : TwoSkipsAreRealised
 two_skips_are_realised = (stage_of, λ real. let s = real First 0 first_session refl in no_stage s.0 s.1)
 
-pub twice_is_realised : NodeIsRegular → TwiceIsRealised
-twice_is_realised regular = node_realises regular twice_plan 0 twice_form twice_stages twice_is_node stage_of
+pub twice_is_realised : TwiceIsRealised
+twice_is_realised = node_realises twice_plan 0 twice_form twice_stages twice_is_node stage_of

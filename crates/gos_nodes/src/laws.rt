@@ -1,13 +1,12 @@
 // What a node realises. Each theorem is the contract of a function that does nothing.
 ghost use Rattle.gos_nodes.specs.Realised.{NodeIsMatched, NodeRealises, RealisersRest};
 ghost use Rattle.gos_nodes.specs.SmallNodes.{OneStageIsNot, TwiceIsNode, TwiceIsRealised, TwoSkipsAreRealised};
-ghost use Rattle.gos_windows.specs.Nodes.{NodeIsRegular};
 
-/// The lists of a node are matched by its form's term, where the plans of its stages realise the terms of their sessions. So a
-/// node realises the term, where nodes are regular.
+/// The lists of a node are matched by its form's term, where the plans of its stages realise the terms of their sessions. So
+/// the node realises the term.
 pub fn nodes_realise()
     ensures matched { NodeIsMatched }
-    ensures realised { NodeIsRegular → NodeRealises }
+    ensures realised { NodeRealises }
 {}
 
 /// A plan that realises a term of a command or an expression rests after its answer.
@@ -20,5 +19,5 @@ pub fn small_nodes()
     ensures node { TwiceIsNode }
     ensures one { OneStageIsNot }
     ensures stages { TwoSkipsAreRealised }
-    ensures whole { NodeIsRegular → TwiceIsRealised }
+    ensures whole { TwiceIsRealised }
 {}

@@ -3,3 +3,4 @@ pub mod Regions
 pub mod Nodes
 pub mod Windows
 pub mod Keeping
+pub mod Closing
