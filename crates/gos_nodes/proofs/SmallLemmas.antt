@@ -1,5 +1,5 @@
 -- `skip ; skip` is a node of two stages. A cut is a region without Shares, and so each Skip is one.
-use Rattle.std.specs.Prelude.{◌≡◌, ◌⊎◌, ℕ, zero, suc, List, [], ◌∷◌, Option, Some, None, slice_get, Contains, All}
+use Rattle.std.specs.Prelude.{◌≡◌, ◌⊎◌, ℕ, zero, suc, [], ◌∷◌, Some, None, slice_get, Contains, All}
 use Rattle.std.proofs.Common.{arith, refl, sym, ap, subst, inl, inr, ◌∙◌}
 use Rattle.std.proofs.lemmas.Option.{none-some, same_Some}
 use Rattle.gos_types.specs.Types.{Com}
@@ -18,7 +18,7 @@ use Rattle.gos_webs.specs.Cutting.{Cut, lies_at, IsInside, StandsIn, IsCut}
 use Rattle.gos_webs.specs.SmallWebs.{twice_plan, first_out}
 use Rattle.gos_webs.proofs.SmallWebLemmas.{twice_is_right, skip_is_right, one_port, first_is_cut}
 use Rattle.gos_sessions.specs.Sessions.{Session, session, session_of}
-use Rattle.gos_windows.specs.Regions.{Serving, IsRegion, IsLoyal}
+use Rattle.gos_windows.specs.Regions.{Serving, IsRegion}
 use Rattle.gos_windows.specs.Nodes.{Stage, IsStage, IsOfStage}
 use Rattle.gos_nodes.specs.SmallNodes.{twice_form, number_of_second, port_of_second, second_out, skip_stage, twice_stages, TwiceIsNode, OneStageIsNot, TwoSkipsAreRealised, TwiceIsRealised}
 use Rattle.gos_nodes.proofs.RestLemmas.{realisers_rest}
