@@ -37,7 +37,7 @@ same_part (suc zero) = refl
 same_part (suc (suc zero)) = refl
 same_part (suc (suc (suc n))) = refl
 
-twice_is_right : IsRight twice_plan
+pub twice_is_right : IsRight twice_plan
 twice_is_right = (((0, 0, refl, refl), refl, refl), (((0, 0, refl, refl), refl, refl), (((0, 0, refl, refl), refl, refl), tt)))
 
 swapped_is_right : IsRight swapped_plan
