@@ -1,6 +1,6 @@
 pub mod RingLemmas
-mod OneJointLemmas
-mod SkipLemmas
+pub mod OneJointLemmas
+pub mod SkipLemmas
 mod NameLemmas
 mod TraceLemmas
 mod SmallLinkLemmas
