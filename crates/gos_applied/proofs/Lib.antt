@@ -5,3 +5,6 @@ pub mod TermLemmas
 pub mod SideLemmas
 pub mod ReadingLemmas
 mod ApplicationLemmas
+pub mod OpenedLemmas
+mod BodyLemmas
+mod SmallFunctionLemmas

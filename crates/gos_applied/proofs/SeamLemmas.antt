@@ -46,13 +46,13 @@ single_links (u ∷ us) zero v at = let same : single u ≡ v = cc at in ap (λ 
 single_links (u ∷ us) (suc i) v at = single_links us i v at
 
 -- the links of an application
-abbrev result_link : ℕ → Link
+abbrev pub result_link : ℕ → Link
 result_link h = link 0 (ResultEnd h) 1 (ResultEnd h)
 
-abbrev OfResults : ℕ → ℕ → Link → Type 0
+abbrev pub OfResults : ℕ → ℕ → Link → Type 0
 OfResults n m l = (h : ℕ) × (h < n + m) × (l ≡ result_link h)
 
-of_results : (n m : ℕ) (l : Link) → Contains (results_linked 1 n m) l → OfResults n m l
+pub of_results : (n m : ℕ) (l : Link) → Contains (results_linked 1 n m) l → OfResults n m l
 of_results n zero l (k, small, e) = absurd (omega (arith, small))
 of_results n (suc m) l (zero, small, e) = (n, omega arith, sym e)
 of_results n (suc m) l (suc k, small, e) =
@@ -61,7 +61,7 @@ of_results n (suc m) l (suc k, small, e) =
 in_tail : (n m h : ℕ) → Contains (results_linked 1 (suc n) m) (result_link h) → Contains (results_linked 1 n (suc m)) (result_link h)
 in_tail n m h (k, small, e) = (suc k, omega (arith, small), e)
 
-in_results : (n m h : ℕ) → n ≤ h → h < n + m → Contains (results_linked 1 n m) (result_link h)
+pub in_results : (n m h : ℕ) → n ≤ h → h < n + m → Contains (results_linked 1 n m) (result_link h)
 in_results n zero h low high = absurd (omega (arith, low, high))
 in_results n (suc m) h low high = by_number (h - n) (omega (arith, low)) (λ above. in_tail n m h (in_results (suc n) m h above (omega (arith, high))))
   where

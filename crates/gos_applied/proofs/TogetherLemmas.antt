@@ -89,7 +89,7 @@ undo_forth n (suc k) = by_tests (nat_lt k n) (nat_eq k n) refl refl
         let high : n < k = omega (arith, least, differ) in
         ap (forth n) (undo_high n k high) ∙ far k refl high
 
-plans_two : (ss ts : List Supply) → plans_of (ss ++ ts) ≡ plans_of ss ++ plans_of ts
+pub plans_two : (ss ts : List Supply) → plans_of (ss ++ ts) ≡ plans_of ss ++ plans_of ts
 plans_two [] ts = refl
 plans_two (s ∷ ss) ts = ap (λ (ps : List Plan). s.plan ∷ ps) (plans_two ss ts)
 
@@ -235,7 +235,7 @@ module _ (a b : Type') (p q s x y : Plan) (ss ts : List Supply) (imports : s.imp
           outcome = sym outcome;
         }
 
-supplied_two : (is js : List Imported) (ss ts : List Supply) → AreSupplied is ss → AreSupplied js ts → AreSupplied (is ++ js) (ss ++ ts)
+pub supplied_two : (is js : List Imported) (ss ts : List Supply) → AreSupplied is ss → AreSupplied js ts → AreSupplied (is ++ js) (ss ++ ts)
 supplied_two [] js [] ts of_ss of_ts = of_ts
 supplied_two [] js (s ∷ ss) ts of_ss of_ts = absurd of_ss
 supplied_two (i ∷ is) js [] ts of_ss of_ts = absurd of_ss

@@ -6,4 +6,4 @@
 
 mod laws;
 
-pub use laws::{applications, projections, readings};
+pub use laws::{applications, functions, projections, readings, small_functions};

@@ -211,7 +211,8 @@ module _
       }
 
   -- an import of a region is asked or answers
-  import_left : (i j k : ℕ) (way : Direction) (past lefts rights : List Pass) (s : Tokens) → StandsIn p (ImportEnd i k) → f.outer (ImportEnd i k) ≡ ImportEnd j k
+  import_left : (i j k : ℕ) (way : Direction) (past lefts rights : List Pass) (s : Tokens) → StandsIn p (ImportEnd i k)
+      → f.outer (ImportEnd i k) ≡ ImportEnd j k
       → Link past lefts rights s → Link (pass (ImportEnd j k) way ∷ past) (pass (ImportEnd i k) way ∷ lefts) rights s
   import_left i j k way past lefts rights s stands leads linked =
       record {
@@ -233,7 +234,8 @@ module _
         stage = linked.stage;
       }
 
-  import_right : (i j k : ℕ) (way : Direction) (past lefts rights : List Pass) (s : Tokens) → StandsIn q (ImportEnd i k) → g.outer (ImportEnd i k) ≡ ImportEnd j k
+  import_right : (i j k : ℕ) (way : Direction) (past lefts rights : List Pass) (s : Tokens) → StandsIn q (ImportEnd i k)
+      → g.outer (ImportEnd i k) ≡ ImportEnd j k
       → Link past lefts rights s → Link (pass (ImportEnd j k) way ∷ past) lefts (pass (ImportEnd i k) way ∷ rights) s
   import_right i j k way past lefts rights s stands leads linked =
       record {
@@ -255,10 +257,12 @@ module _
         stage = linked.stage;
       }
 
-  pub ways_left : (i j k : ℕ) → StandsIn p (ImportEnd i k) → f.outer (ImportEnd i k) ≡ ImportEnd j k → contact_at r (ImportEnd j k) ≡ contact_at p (ImportEnd i k)
+  pub ways_left : (i j k : ℕ) → StandsIn p (ImportEnd i k) → f.outer (ImportEnd i k) ≡ ImportEnd j k
+      → contact_at r (ImportEnd j k) ≡ contact_at p (ImportEnd i k)
   ways_left i j k stands leads = ap (contact_at r) (sym leads) ∙ is.left.cut.contacts (ImportEnd i k) tt stands
 
-  pub ways_right : (i j k : ℕ) → StandsIn q (ImportEnd i k) → g.outer (ImportEnd i k) ≡ ImportEnd j k → contact_at r (ImportEnd j k) ≡ contact_at q (ImportEnd i k)
+  pub ways_right : (i j k : ℕ) → StandsIn q (ImportEnd i k) → g.outer (ImportEnd i k) ≡ ImportEnd j k
+      → contact_at r (ImportEnd j k) ≡ contact_at q (ImportEnd i k)
   ways_right i j k stands leads = ap (contact_at r) (sym leads) ∙ is.right.cut.contacts (ImportEnd i k) tt stands
 
   local_left : (x y : Element) (s t : Tokens) (past lefts rights : List Pass) → Local f r p x y → Same d s t → Link past lefts rights s → Comes r past x
@@ -305,7 +309,8 @@ module _
   phase_of : (s : Tokens) → Phase
   phase_of s = (s.state d).phase
 
-  stage_of : (past lefts rights : List Pass) (s : Tokens) → Link past lefts rights s → Stage (is_open past (ResultEnd 0)) (s.state d).phase (gate s Request) (gate s Answer)
+  stage_of : (past lefts rights : List Pass) (s : Tokens) → Link past lefts rights s
+      → Stage (is_open past (ResultEnd 0)) (s.state d).phase (gate s Request) (gate s Answer)
   stage_of past lefts rights s linked = linked.stage
 
   pub asked_turn : (past : List Pass) → ComesInTurn past (ResultEnd 0) (way_in (contact_at r (ResultEnd 0))) → is_open past (ResultEnd 0) ≡ false

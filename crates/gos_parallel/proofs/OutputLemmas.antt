@@ -59,8 +59,10 @@ module _
 
   -- whose an import is that is open
   data Owner (lefts rights : List Pass) (j k : ℕ) : Type 0 where
-    on_left : (i : ℕ) → StandsIn p (ImportEnd i k) → slice_get p.imports i ≡ slice_get r.imports j → is_open lefts (ImportEnd i k) ≡ true → Owner lefts rights j k
-    on_right : (i : ℕ) → StandsIn q (ImportEnd i k) → slice_get q.imports i ≡ slice_get r.imports j → is_open rights (ImportEnd i k) ≡ true → Owner lefts rights j k
+    on_left : (i : ℕ) → StandsIn p (ImportEnd i k) → slice_get p.imports i ≡ slice_get r.imports j → is_open lefts (ImportEnd i k) ≡ true
+        → Owner lefts rights j k
+    on_right : (i : ℕ) → StandsIn q (ImportEnd i k) → slice_get q.imports i ≡ slice_get r.imports j → is_open rights (ImportEnd i k) ≡ true
+        → Owner lefts rights j k
 
   owner : (past lefts rights : List Pass) (s : Tokens) → Link past lefts rights s → (j k : ℕ) → is_open past (ImportEnd j k) ≡ true → Owner lefts rights j k
   owner past lefts rights s linked j k up = by_left (f.inner (ImportEnd j k)) refl
@@ -189,7 +191,8 @@ module _
   output_turn x s t (right_ends_all v s' t' right left phase rest ask ans) past lefts rights ys zs linked left_keeps right_keeps turned = tt
   output_turn x s t (lost j k v s' t' c there not_left not_right left right same) past lefts rights ys zs linked left_keeps right_keeps turned = tt
 
-  outputs_then : (x : Element) (xs : List Element) (past : List Pass) → OutputTurns r past x → OutputsKeepTurns r (after r x past) xs → OutputsKeepTurns r past (x ∷ xs)
+  outputs_then : (x : Element) (xs : List Element) (past : List Pass) → OutputTurns r past x → OutputsKeepTurns r (after r x past) xs
+      → OutputsKeepTurns r past (x ∷ xs)
   outputs_then (Fire i t) xs past turn later = later
   outputs_then (Out e v) xs past turn later = (turn, later)
   outputs_then (In e v) xs past turn later = later

@@ -115,7 +115,8 @@ module _ (p : Plan) (ground : AllGround p.imports) (differ : NamesDiffer p.impor
       (subst (λ r. Permitted ls (ResultEnd 0) v (way_put r)) role
       (at_result v ls past agree here (subst (λ r. ComesInTurn past (ResultEnd 0) (way_put r)) (sym role) shut)))
 
-  in_contact : (e : End) (v : ℕ) (s w : Tokens) (o : Option Contact) → Passes p (In e v) o s w → (c : Contact) × (o ≡ Some c) × (v < 2 ^ bits_of c (way_put c.role))
+  in_contact : (e : End) (v : ℕ) (s w : Tokens) (o : Option Contact) → Passes p (In e v) o s w
+      → (c : Contact) × (o ≡ Some c) × (v < 2 ^ bits_of c (way_put c.role))
   in_contact e v s w None passes = absurd passes
   in_contact e v s w (Some c) passes = (c, refl, passes.0)
 

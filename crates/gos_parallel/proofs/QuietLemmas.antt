@@ -116,7 +116,8 @@ module _
       by_place (Some n) named =
           let there = found a.joints (ImportEnd i k) n named in (there.joint, listed a.joints there.joint there.is_in, there.stands)
 
-  import_out : (i k v : ℕ) (s u : Tokens) (t : Contact) → contact_at a (ImportEnd i k) ≡ Some t → token_at a (cut_tokens c a s) (ImportEnd i k) (way_taken t.role) ≡ Some v
+  import_out : (i k v : ℕ) (s u : Tokens) (t : Contact) → contact_at a (ImportEnd i k) ≡ Some t
+      → token_at a (cut_tokens c a s) (ImportEnd i k) (way_taken t.role) ≡ Some v
       → (j : ℕ) × (w : Tokens) × Does r (Out (ImportEnd j k) v) s w
   import_out i k v s u t there lies =
       let stands = token_stands i k (way_taken t.role) v (cut_tokens c a s) lies in

@@ -52,7 +52,8 @@ pub record Two (left right c : Config) : Type 0 where
   pub holds : Holds naming first_store (beside other_naming second_store rest) whole
 
 -- the same, as the right side sees it
-pub also_holds : (left right c : Config) (two : Two left right c) → Holds two.other_naming two.second_store (beside two.naming two.first_store two.rest) two.whole
+pub also_holds : (left right c : Config) (two : Two left right c)
+    → Holds two.other_naming two.second_store (beside two.naming two.first_store two.rest) two.whole
 also_holds left right c two =
     holds_both two.naming two.other_naming two.first_store two.second_store two.rest two.whole two.other_injective two.differ two.other_free two.holds
 
@@ -79,7 +80,8 @@ no_moves : (g : Program) (acts : List Act) (c : Config) → acts ≡ [] → Move
 no_moves g acts c none = subst (λ (as' : List Act). Moves g as' c c) (sym none) refl
 
 -- a side moves, within the whole
-pub one_moves : (ctx : Term → Context) (g whole : Program) (acts : List Act) (own next c : Config) → AreAmong g.imports whole.imports → AreInner acts → One ctx own c
+pub one_moves : (ctx : Term → Context) (g whole : Program) (acts : List Act) (own next c : Config) → AreAmong g.imports whole.imports → AreInner acts
+    → One ctx own c
     → Moves g acts own next → (e : Config) × Moves whole acts c e × One ctx next e
 one_moves ctx g whole acts own next c among inner one moves =
     let from_own = subst (λ (x : Config). Moves g acts x next) one.own_is moves in

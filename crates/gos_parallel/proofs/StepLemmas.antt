@@ -496,7 +496,8 @@ module _ (d : ℕ) (f g : Cut) (r p q : Plan) (is : IsParallel d f g r p q) wher
       let is_y : x ≡ y = cc one in
       is.names x y (contains_at p.imports i x at_x) (contains_at q.imports n y at_y) (ap (λ (z : Imported). z.name) is_y)
 
-  port_same : (e : End) (w : Direction) (held : Option ℕ) (s t : Tokens) → (e ≡ ResultEnd 0 → ⊥) → (e ≡ PartEnd d 2 → ⊥) → t ≡ with_token r e w held s → Same d s t
+  port_same : (e : End) (w : Direction) (held : Option ℕ) (s t : Tokens) → (e ≡ ResultEnd 0 → ⊥) → (e ≡ PartEnd d 2 → ⊥)
+      → t ≡ with_token r e w held s → Same d s t
   port_same e w held s t not_result not_part leads =
       record {
         state = ap (λ (u : Tokens). u.state d) leads ∙ token_state r e w held s d;

@@ -1,5 +1,5 @@
 pub mod RingLemmas
-mod OneJointLemmas
+pub mod OneJointLemmas
 pub mod SkipLemmas
 pub mod NameLemmas
 mod TraceLemmas

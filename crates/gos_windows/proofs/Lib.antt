@@ -11,3 +11,8 @@ pub mod WindowLemmas
 pub mod KeepingLemmas
 pub mod GroundLemmas
 pub mod OutputLemmas
+pub mod WaitLemmas
+pub mod ClosingLemmas
+pub mod MatchLemmas
+pub mod OrderLemmas
+pub mod SmallNodeLemmas

@@ -48,11 +48,11 @@ turns_after p past (In e v) xs turns = turns.1
 true_is_not_false : (b : Bool) → b ≡ true → b ≡ false → ⊥
 true_is_not_false b up down = let both : true ≡ false = sym up ∙ down in cc both
 
-request_slot : (slot : Slot) (h : ℕ) → way_of slot ≡ Request → shake_of slot ≡ h → slot ≡ Req h
+pub request_slot : (slot : Slot) (h : ℕ) → way_of slot ≡ Request → shake_of slot ≡ h → slot ≡ Req h
 request_slot (Req g) h way same = ap Req same
 request_slot (Ans g) h way same = absurd (cc way)
 
-answer_slot : (slot : Slot) (h : ℕ) → way_of slot ≡ Answer → shake_of slot ≡ h → slot ≡ Ans h
+pub answer_slot : (slot : Slot) (h : ℕ) → way_of slot ≡ Answer → shake_of slot ≡ h → slot ≡ Ans h
 answer_slot (Req g) h way same = absurd (cc way)
 answer_slot (Ans g) h way same = ap Ans same
 
@@ -102,7 +102,7 @@ module _ (r : Plan) (d : ℕ) (f : Form) (gs : List Stage) (node : IsNode r d f 
       ]
 
   -- what fires while a token lies on the result's joint alone
-  own_slot : (i : ℕ) (slot : Slot) (way : Direction) → way_of slot ≡ way → places_of r (end_of i slot) ≡ Some (ResultEnd 0)
+  pub own_slot : (i : ℕ) (slot : Slot) (way : Direction) → way_of slot ≡ way → places_of r (end_of i slot) ≡ Some (ResultEnd 0)
       → (i ≡ d) × (shake_of slot ≡ run_shake (own_part f))
   own_slot i slot way same named =
       elim (at_own_joint r d f gs node (end_of i slot) named) [
@@ -165,6 +165,9 @@ module _ (r : Plan) (d : ℕ) (f : Form) (gs : List Stage) (node : IsNode r d f 
     pub is : x ≡ Fire d (Req (run_shake (own_part f)))
     pub fires : firing (own_part f) (s.state d) (Req (run_shake (own_part f))) ≡ Some row
     pub state : t.state d ≡ row.next 0
+    pub empty : Emptied d (with_token r (PartEnd d (run_shake (own_part f))) Request None s)
+    pub by : firing_of (slice_get r.parts d) (s.state d) (Req (run_shake (own_part f))) ≡ Some row
+    pub leads : t ≡ fired r d row 0 s
     pub led : Led r d f gs node row 0 t past
 
   pub asked_step : (x : Element) (s t : Tokens) (past : List Pass) → HoldsOnly r (PartEnd d (run_shake (own_part f))) Request 0 s → OnlyResult past → Does r x s t → InTurn r past x
@@ -179,6 +182,9 @@ module _ (r : Plan) (d : ℕ) (f : Form) (gs : List Stage) (node : IsNode r d f 
         is = is;
         fires = fires;
         state = own.2 ∙ ap row.next there.2;
+        empty = empty;
+        by = by_own;
+        leads = leads ∙ (λ l. fired r (which.0 l) row (there.2 l) s);
         led = subst (λ (n : ℕ). Led r d f gs node row n t past) there.2 led_on;
       }
     where

@@ -29,6 +29,12 @@ use Rattle.gos_windows.proofs.WholeLemmas as whole
 use Rattle.gos_windows.proofs.WholeLemmas.{in_turn_at, other_state, Going, Led, asks, own_leads}
 use Rattle.gos_windows.proofs.NodeLemmas.{Place, AtRest, AtAsked, AtStage, AtAnswer, InTurn, first_turn, turns_after, Holds, Result, rest_step, asked_step, answer_step, own_fired, own_firing}
 
+-- the ends at which an element passes stand in joints
+abbrev pub Standing : Plan → Element → Type 0
+Standing p (Fire i t) = Unit {0}
+Standing p (Out e v) = StandsIn p e
+Standing p (In e v) = StandsIn p e
+
 abbrev OneTurn : Plan → List Pass → Element → Type 0
 OneTurn p past y = InputsKeepTurns p past (y ∷ [])
 
@@ -39,6 +45,7 @@ module _ (r : Plan) (d : ℕ) (f : Form) (gs : List Stage) (node : IsNode r d f 
     pub is : whole_element g.cut y ≡ x
     pub does : Does g.plan y (seen g s) (seen g t)
     pub turn : OneTurn g.plan (passed g.plan [] hs) y
+    pub standing : Standing g.plan y
     pub going : Going r d f gs node g has (hs ++ y ∷ []) before t past
 
   -- the own part takes the stage's answer
@@ -51,6 +58,9 @@ module _ (r : Plan) (d : ℕ) (f : Form) (gs : List Stage) (node : IsNode r d f 
     pub idle : IsIdle g.plan end
     pub fits : v < 2 ^ bits g.plan.outcome
     pub held : token_at r s (PartEnd d g.asked_at) Answer ≡ Some v
+    pub empty : Emptied d (with_token r (PartEnd d g.asked_at) Answer None s)
+    pub by : firing_of (slice_get r.parts d) (s.state d) (Ans g.asked_at) ≡ Some row
+    pub leads : t ≡ fired r d row v s
     pub fires : firing (own_part f) (s.state d) (Ans g.asked_at) ≡ Some row
     pub state : t.state d ≡ row.next v
     pub led : Led r d f gs node row v t past
@@ -73,15 +83,16 @@ module _ (r : Plan) (d : ℕ) (f : Form) (gs : List Stage) (node : IsNode r d f 
     within = going.stirs.places
 
     -- the stage goes on
-    on_by : (x y : Element) (later : List Pass) → whole_element g.cut y ≡ x → Does g.plan y (seen g s) (seen g t) → OneTurn g.plan own y → Turned g.plan (after g.plan y own)
+    on_by : (x y : Element) (later : List Pass) → whole_element g.cut y ≡ x → Does g.plan y (seen g s) (seen g t) → OneTurn g.plan own y → Standing g.plan y → Turned g.plan (after g.plan y own)
         → InStage r d f gs node g has t → t.state d ≡ s.state d → ((i : ℕ) → g.cut.number i ≡ None → t.state i ≡ s.state i)
         → Follows g (after g.plan y own) later → StageStep g has hs before s t later x
-    on_by x y later is does turn turned in_stage own_state others follows =
+    on_by x y later is does turn standing turned in_stage own_state others follows =
         record {
           y = y;
           is = is;
           does = does;
           turn = turn;
+          standing = standing;
           going =
               record {
                 ran =
@@ -114,7 +125,7 @@ module _ (r : Plan) (d : ℕ) (f : Form) (gs : List Stage) (node : IsNode r d f 
     fire_step i j slot number does =
         let at_j = (stage r d f gs node g has).region.numbers i j number in
         let (own_does, in_stage) = fires_in r d f gs node g has before s t hs going.ran within i j number slot does in
-        on_by (Fire i slot) (Fire j slot) past (ap (λ (n : ℕ). Fire n slot) at_j.0) own_does tt going.turned in_stage
+        on_by (Fire i slot) (Fire j slot) past (ap (λ (n : ℕ). Fire n slot) at_j.0) own_does tt tt going.turned in_stage
         (own_kept i j slot number does d (stage r d f gs node g has).outside) (own_kept i j slot number does) going.follows
 
     -- an output at a port
@@ -128,7 +139,7 @@ module _ (r : Plan) (d : ℕ) (f : Form) (gs : List Stage) (node : IsNode r d f 
         let passes = subst (λ (o : Option Contact). Passes r (Out b v) o s t) there does.1 in
         let state = λ (n : ℕ). ap (λ (x : Tokens). x.state n) passes.1 ∙ token_state r b (way_taken c.role) None s n in
         let ways = ap way_out (port_contact i h b stands at) in
-        on_by (Out b v) (Out (ImportEnd i h) v) (after r (Out b v) past) (ap (λ (e : End). Out e v) at) own_does tt
+        on_by (Out b v) (Out (ImportEnd i h) v) (after r (Out b v) past) (ap (λ (e : End). Out e v) at) own_does tt stands
         (stage_out_turned g has hs before s t past going (ImportEnd i h) v own_does).1 in_stage (state d) (λ n out. state n)
         (subst (λ (way : Direction). Follows g (after g.plan (Out (ImportEnd i h) v) own) (pass b way ∷ past)) (sym ways)
         (follows_step r d f gs node g has own past going.follows i h b stands at (way_out (contact_at g.plan (ImportEnd i h)))))
@@ -146,7 +157,7 @@ module _ (r : Plan) (d : ℕ) (f : Form) (gs : List Stage) (node : IsNode r d f 
         let ways = ap way_in (port_contact i h b stands at_b) in
         let open_there : is_open own (ImportEnd i h) ≡ true = going.follows.same i h stands ∙ (ap (is_open past) at ∙ up) in
         let turn = in_turn i h stands open_there in
-        on_by (In b v) (In (ImportEnd i h) v) (after r (In b v) past) (ap (λ (e : End). In e v) at_b) own_does (turn, tt) turn.1 in_stage (state d) (λ n out. state n)
+        on_by (In b v) (In (ImportEnd i h) v) (after r (In b v) past) (ap (λ (e : End). In e v) at_b) own_does (turn, tt) stands turn.1 in_stage (state d) (λ n out. state n)
         (subst (λ (way : Direction). Follows g (after g.plan (In (ImportEnd i h) v) own) (pass b way ∷ past)) (sym ways)
         (follows_step r d f gs node g has own past going.follows i h b stands at_b (way_in (contact_at g.plan (ImportEnd i h)))))
       where
@@ -182,6 +193,9 @@ module _ (r : Plan) (d : ℕ) (f : Form) (gs : List Stage) (node : IsNode r d f 
           idle = idle;
           fits = answer_fits r d f gs node g has s fit within v held_so;
           held = held_so;
+          empty = empty;
+          by = ap (λ (x : Slot). firing_of (slice_get r.parts d) (s.state d) x) (sym slot_is) ∙ by_own;
+          leads = leads ∙ ap (λ (n : ℕ). fired r n row v s) which.0;
           fires = fires.1;
           state = fires.2;
           led = led;

@@ -3,3 +3,5 @@ pub mod Regions
 pub mod Nodes
 pub mod Windows
 pub mod Keeping
+pub mod Closing
+pub mod SmallNodes

@@ -1,11 +1,18 @@
 // What the definitions give. Each theorem is the contract of a function that does nothing.
-ghost use Rattle.gos_windows.specs.Nodes.{NodeKeepsTurns};
+ghost use Rattle.gos_windows.specs.Closing.{IdleIsClosed};
 ghost use Rattle.gos_windows.specs.Keeping.{TurnsKeepProtocol};
+ghost use Rattle.gos_windows.specs.Nodes.{NodeIsRegular, NodeKeepsTurns};
+ghost use Rattle.gos_windows.specs.SmallNodes.{OneIsMissing, SharedForBoth, TwiceIsNode};
 ghost use Rattle.gos_windows.specs.Windows.{ListsAreStaged, OwnPartCan, QuietIsWithin};
 
 /// Inputs that keep turns keep the protocol.
 pub fn turns_keep_protocol()
     ensures { TurnsKeepProtocol }
+{}
+
+/// Where an orderly list leads from an idle state to an idle state, no handshake is open but perhaps the result's.
+pub fn idle_is_closed()
+    ensures { IdleIsClosed }
 {}
 
 /// From the request of a child to its answer, what a node does is a list of the child's, from an idle state of it. Where
@@ -16,7 +23,16 @@ pub fn lists_of_nodes()
     ensures own { OwnPartCan }
 {}
 
-/// The outputs of a node keep turns, where its inputs do, and it rests after its answer.
-pub fn nodes_keep_turns()
-    ensures { NodeKeepsTurns }
+/// A node is regular, and rests after its answer: its lists are orderly, and its outputs keep turns.
+pub fn nodes_are_regular()
+    ensures turns { NodeKeepsTurns }
+    ensures regular { NodeIsRegular }
+{}
+
+/// The plan of `skip ; skip` is a node of two stages, and with one of them left out it is none. A Share by which both
+/// children use one source is loyal to neither.
+pub fn small_nodes()
+    ensures node { TwiceIsNode }
+    ensures missing { OneIsMissing }
+    ensures both { SharedForBoth }
 {}
