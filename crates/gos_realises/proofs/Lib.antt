@@ -1,7 +1,7 @@
 pub mod RingLemmas
 mod OneJointLemmas
 pub mod SkipLemmas
-mod NameLemmas
+pub mod NameLemmas
 mod TraceLemmas
 mod SmallLinkLemmas
 mod SmallTurnLemmas
