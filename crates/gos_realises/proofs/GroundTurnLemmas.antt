@@ -61,7 +61,7 @@ one_done (Var w) d = absurd d
 one_done (Pair a b) d = absurd d
 one_done (Fun a b) d = absurd d
 
-width_small : (is : List Imported) (t : Type') → IsDone t → width is < count (whole_type is t)
+pub width_small : (is : List Imported) (t : Type') → IsDone t → width is < count (whole_type is t)
 width_small [] t d = one_done t d
 width_small (i ∷ is) t d =
     let rest = width_small is t d in
@@ -74,7 +74,7 @@ first_open f h = by_test (f 0) refl h
     by_test true t g = t
     by_test false t g = absurd (cc g)
 
-done_open : (t : Type') → IsDone t → (f : ℕ → Bool) → some_open (count t) f ≡ true → f 0 ≡ true
+pub done_open : (t : Type') → IsDone t → (f : ℕ → Bool) → some_open (count t) f ≡ true → f 0 ≡ true
 done_open Com d f h = first_open f h
 done_open (Exp w) d f h = first_open f h
 done_open (Var w) d f h = absurd d
@@ -82,7 +82,7 @@ done_open (Pair a b) d f h = absurd d
 done_open (Fun a b) d f h = absurd d
 
 -- where something is open the result is
-result_open : (is : List Imported) (t : Type') → IsDone t → (f : ℕ → Bool) → KeepsTurnsOf (whole_type is t) f
+pub result_open : (is : List Imported) (t : Type') → IsDone t → (f : ℕ → Bool) → KeepsTurnsOf (whole_type is t) f
     → some_open (count (whole_type is t)) f ≡ true → f (width is) ≡ true
 result_open [] t d f keeps h = done_open t d f h
 result_open (i ∷ is) t d f (own, rest, leads) h =
@@ -103,14 +103,14 @@ both_true a b true true h k shut = let up = h refl in let also = k refl in absur
 both_true a b true false h k shut = refl
 both_true a b false d h k shut = refl
 
-ground_kept : (a : Type') → IsGround a → (f g : ℕ → Bool) → ((h : ℕ) → h < count a → g h ≡ true → f h ≡ true) → KeepsTurnsOf a f → KeepsTurnsOf a g
+pub ground_kept : (a : Type') → IsGround a → (f g : ℕ → Bool) → ((h : ℕ) → h < count a → g h ≡ true → f h ≡ true) → KeepsTurnsOf a f → KeepsTurnsOf a g
 ground_kept Com ground f g less keeps = tt
 ground_kept (Exp w) ground f g less keeps = tt
 ground_kept (Var w) ground f g less keeps = both_true (f 0) (f 1) (g 0) (g 1) (less 0 (omega arith)) (less 1 (omega arith)) keeps
 ground_kept (Pair a b) ground f g less keeps = absurd ground
 ground_kept (Fun a b) ground f g less keeps = absurd ground
 
-done_kept : (t : Type') → IsDone t → (g : ℕ → Bool) → KeepsTurnsOf t g
+pub done_kept : (t : Type') → IsDone t → (g : ℕ → Bool) → KeepsTurnsOf t g
 done_kept Com d g = tt
 done_kept (Exp w) d g = tt
 done_kept (Var w) d g = absurd d

@@ -1,7 +1,7 @@
-mod RingLemmas
+pub mod RingLemmas
 mod OneJointLemmas
 pub mod SkipLemmas
-mod NameLemmas
+pub mod NameLemmas
 mod TraceLemmas
 mod SmallLinkLemmas
 mod SmallTurnLemmas
@@ -18,5 +18,5 @@ mod HeadLemmas
 mod SameLemmas
 mod SameTurnLemmas
 pub mod GroundTurnLemmas
-mod ToldLemmas
-mod InputLemmas
+pub mod ToldLemmas
+pub mod InputLemmas

@@ -201,10 +201,10 @@ names_same to from is js same differ =
     sym (same.returns m) ∙ (ap to one ∙ same.returns n)))
 
 -- the type of a name
-abbrev Typing : Imports → Name → Type' → Type 0
+abbrev pub Typing : Imports → Name → Type' → Type 0
 Typing is x t = (i : Imported) × Contains is i × (bytes_eq i.name x ≡ true) × (i.ty ≡ t)
 
-has_type : (is : Imports) (x : Name) (t : Type') → import_type is x ≡ Some t → Typing is x t
+pub has_type : (is : Imports) (x : Name) (t : Type') → import_type is x ≡ Some t → Typing is x t
 has_type [] x t e = absurd (cc e)
 has_type (i ∷ is) x t e = by_test (bytes_eq i.name x) refl e (has_type is x t)
   where

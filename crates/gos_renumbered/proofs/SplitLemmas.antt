@@ -8,6 +8,7 @@ use Rattle.gos_plan.specs.Kinds.{Part}
 use Rattle.gos_plan.specs.Plans.{End, PartEnd, ImportEnd, ResultEnd, Plan}
 use Rattle.gos_plan.specs.Joining.{Place, place, Link, all_parts, is_joined, LeftImport, left_in, left_among, part_place}
 use Rattle.gos_joined.proofs.OriginLemmas.{front_at, behind_at, before, left_before, left_index}
+use Rattle.gos_unions.proofs.LeftLemmas.{front, behind}
 use Rattle.gos_unions.proofs.DeepLemmas.{place_of_part}
 
 -- part i of all is part `part` of plan `plan`
@@ -110,15 +111,6 @@ left_in_get ls k n (y ∷ xs) (suc m) x at free = by_test (is_joined ls k n) ref
         ap (after_test ls k n y xs m) test
         ∙ (ap (slice_get (record { plan = k; number = n; import = y } ∷ left_in ls k (suc n) xs)) ones
         ∙ (rest ∙ (λ i. Some (record { plan = k; number = sum i; import = x }))))
-
-behind : {X : Type 0} (xs ys : List X) (i : ℕ) → slice_get (xs ++ ys) (length xs + i) ≡ slice_get ys i
-behind [] ys i = let zeros : 0 + i ≡ i = omega arith in ap (slice_get ys) zeros
-behind (x ∷ xs) ys i = let e : suc (length xs) + i ≡ suc (length xs + i) = omega arith in ap (slice_get (x ∷ (xs ++ ys))) e ∙ behind xs ys i
-
-front : {X : Type 0} (xs ys : List X) (i : ℕ) (x : X) → slice_get xs i ≡ Some x → slice_get (xs ++ ys) i ≡ Some x
-front [] ys i x e = absurd (cc e)
-front (y ∷ xs) ys zero x e = e
-front (y ∷ xs) ys (suc i) x e = front xs ys i x e
 
 pub left_get : (ls : List Link) (n : ℕ) (ps : List Plan) (k m : ℕ) (p : Plan) (x : Imported) → slice_get ps k ≡ Some p → slice_get p.imports m ≡ Some x
     → is_joined ls (n + k) m ≡ false

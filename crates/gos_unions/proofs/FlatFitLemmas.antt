@@ -46,16 +46,16 @@ fits_of (u ∷ vs) [] k v are is = absurd are
 fits_of (u ∷ vs) (p ∷ ps) zero v are is = let same : u ≡ v = cc is in subst LinksFit same are.0.fits
 fits_of (u ∷ vs) (p ∷ ps) (suc k) v are is = fits_of vs ps k v are.1 is
 
-contained_at : {X : Type 0} (xs : List X) (k : ℕ) (x : X) → slice_get xs k ≡ Some x → Contains xs x
+pub contained_at : {X : Type 0} (xs : List X) (k : ℕ) (x : X) → slice_get xs k ≡ Some x → Contains xs x
 contained_at [] k x e = absurd (cc e)
 contained_at (y ∷ xs) zero x e = (0, omega arith, cc e)
 contained_at (y ∷ xs) (suc k) x e = let (n, small, is) = contained_at xs k x e in (suc n, omega (arith, small), is)
 
 -- an element of two lists stands in one of them
-abbrev InTwo : {X : Type 0} → List X → List X → ℕ → X → Type 0
+abbrev pub InTwo : {X : Type 0} → List X → List X → ℕ → X → Type 0
 InTwo xs ys k x = (slice_get xs k ≡ Some x) ⊎ ((n : ℕ) × (k ≡ length xs + n) × (slice_get ys n ≡ Some x))
 
-in_two : {X : Type 0} (xs ys : List X) (k : ℕ) (x : X) → slice_get (xs ++ ys) k ≡ Some x → InTwo xs ys k x
+pub in_two : {X : Type 0} (xs ys : List X) (k : ℕ) (x : X) → slice_get (xs ++ ys) k ≡ Some x → InTwo xs ys k x
 in_two [] ys k x e = inr (k, omega arith, e)
 in_two (y ∷ xs) ys zero x e = inl e
 in_two (y ∷ xs) ys (suc k) x e =
@@ -97,7 +97,7 @@ record InnerAt (n : ℕ) (vs : List Wiring) (j : ℕ) (m : Link) : Type 0 where
   same : later_link (n + first_of vs joining) link ≡ m
   sum : j ≡ links_before vs joining + number
 
-length_of_map : {X Y : Type 0} (f : X → Y) (xs : List X) → length (map f xs) ≡ length xs
+pub length_of_map : {X Y : Type 0} (f : X → Y) (xs : List X) → length (map f xs) ≡ length xs
 length_of_map f [] = refl
 length_of_map f (x ∷ xs) = ap suc (length_of_map f xs)
 

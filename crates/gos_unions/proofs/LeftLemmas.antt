@@ -8,12 +8,12 @@ use Rattle.gos_plan.specs.Joining.{Place, place, Link, Wiring, is_joined, LeftIm
 use Rattle.gos_joined.proofs.OriginLemmas.{import_of}
 
 -- elements of two lists
-front : {X : Type 0} (xs ys : List X) (i : ℕ) (x : X) → slice_get xs i ≡ Some x → slice_get (xs ++ ys) i ≡ Some x
+pub front : {X : Type 0} (xs ys : List X) (i : ℕ) (x : X) → slice_get xs i ≡ Some x → slice_get (xs ++ ys) i ≡ Some x
 front [] ys i x e = absurd (cc e)
 front (y ∷ xs) ys zero x e = e
 front (y ∷ xs) ys (suc i) x e = front xs ys i x e
 
-behind : {X : Type 0} (xs ys : List X) (i : ℕ) → slice_get (xs ++ ys) (length xs + i) ≡ slice_get ys i
+pub behind : {X : Type 0} (xs ys : List X) (i : ℕ) → slice_get (xs ++ ys) (length xs + i) ≡ slice_get ys i
 behind [] ys i = let zeros : 0 + i ≡ i = omega arith in ap (slice_get ys) zeros
 behind (x ∷ xs) ys i = let e : suc (length xs) + i ≡ suc (length xs + i) = omega arith in ap (slice_get (x ∷ (xs ++ ys))) e ∙ behind xs ys i
 

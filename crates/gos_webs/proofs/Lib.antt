@@ -1,6 +1,6 @@
 pub mod IdleLemmas
 pub mod WebLemmas
 pub mod MovedLemmas
-mod CutLemmas
-mod SmallWebLemmas
+pub mod CutLemmas
+pub mod SmallWebLemmas
 mod CutListLemmas

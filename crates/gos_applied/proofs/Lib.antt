@@ -1,0 +1,7 @@
+pub mod SeamLemmas
+pub mod SingleLemmas
+pub mod TogetherLemmas
+pub mod TermLemmas
+pub mod SideLemmas
+pub mod ReadingLemmas
+mod ApplicationLemmas

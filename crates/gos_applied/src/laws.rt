@@ -1,0 +1,23 @@
+// What the definitions give. Each theorem is the contract of a function that does nothing.
+ghost use Rattle.gos_applied.specs.Applied.{AppliedIsSupplied, ApplicationIsRealised};
+ghost use Rattle.gos_applied.specs.Projected.{FirstIsRealised, ReadingIsRealised, ReadingIsSupplied, SecondIsRealised, SideIsSupplied};
+
+/// The plan of an application, with supplies, is one but for numbers with the supplied plan of the function applied to the
+/// supplied plan of the argument. So it realises the application where these realise the function and the argument.
+pub fn applications()
+    ensures supplied { AppliedIsSupplied }
+    ensures realised { ApplicationIsRealised }
+{}
+
+/// The same of a side of a product: it realises the projection where the plan realises the product.
+pub fn projections()
+    ensures supplied { SideIsSupplied }
+    ensures first { FirstIsRealised }
+    ensures second { SecondIsRealised }
+{}
+
+/// The same of a variable that is read.
+pub fn readings()
+    ensures supplied { ReadingIsSupplied }
+    ensures realised { ReadingIsRealised }
+{}

@@ -1,0 +1,17 @@
+pub mod InlayLemmas
+pub mod ShareLemmas
+pub mod OwnLemmas
+pub mod PortLemmas
+pub mod StageLemmas
+pub mod TurnLemmas
+pub mod QuietLemmas
+pub mod WholeLemmas
+pub mod NodeLemmas
+pub mod WindowLemmas
+pub mod KeepingLemmas
+pub mod GroundLemmas
+pub mod OutputLemmas
+pub mod WaitLemmas
+pub mod ClosingLemmas
+pub mod MatchLemmas
+pub mod OrderLemmas

@@ -1,0 +1,6 @@
+-- In reading order: a file uses only files above it.
+pub mod Regions
+pub mod Nodes
+pub mod Windows
+pub mod Keeping
+pub mod Closing
