@@ -7,4 +7,5 @@ pub mod ReadingLemmas
 mod ApplicationLemmas
 pub mod OpenedLemmas
 mod BodyLemmas
+mod InTurnLemmas
 mod SmallFunctionLemmas

@@ -47,7 +47,7 @@ data Seam : Type 0 where
 count_pair : (a b : Type') → count (Pair a b) ≡ count a + count b
 count_pair a b = ap (λ (cs : List Contact). length cs) (pairs_join a b).joined ∙ length-append (contacts_of a) (contacts_of b)
 
-some_shake : (t : Type') → 0 < count t
+pub some_shake : (t : Type') → 0 < count t
 some_shake Com = omega arith
 some_shake (Exp w) = omega arith
 some_shake (Var w) = omega arith

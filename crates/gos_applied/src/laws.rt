@@ -1,5 +1,6 @@
 // What the definitions give. Each theorem is the contract of a function that does nothing.
 ghost use Rattle.gos_applied.specs.Applied.{AppliedIsSupplied, ApplicationIsRealised};
+ghost use Rattle.gos_applied.specs.InTurn.{InTurnIsAtOnce};
 ghost use Rattle.gos_applied.specs.Opened.{BodyIsRealised, OpenedIsSupplied};
 ghost use Rattle.gos_applied.specs.Projected.{FirstIsRealised, ReadingIsRealised, ReadingIsSupplied, SecondIsRealised, SideIsSupplied};
 ghost use Rattle.gos_applied.specs.SmallFunctions.{SameIsFunction, UnjoinedIsNoBody};
@@ -35,4 +36,9 @@ pub fn functions()
 pub fn small_functions()
     ensures same { SameIsFunction }
     ensures unjoined { UnjoinedIsNoBody }
+{}
+
+/// Supplies may be put in one after another or all at once.
+pub fn supplies()
+    ensures { InTurnIsAtOnce }
 {}

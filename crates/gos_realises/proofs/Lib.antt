@@ -6,7 +6,7 @@ mod TraceLemmas
 mod SmallLinkLemmas
 mod SmallTurnLemmas
 mod SmallLemmas
-mod RenumberLemmas
+pub mod RenumberLemmas
 mod RotateLemmas
 pub mod LeftLemmas
 mod AloneLemmas
