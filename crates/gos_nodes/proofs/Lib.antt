@@ -6,3 +6,4 @@ pub mod ChildLemmas
 pub mod MatchedLemmas
 pub mod RestLemmas
 pub mod SmallLemmas
+pub mod SuitLemmas

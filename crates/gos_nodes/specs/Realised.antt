@@ -11,8 +11,8 @@ use Rattle.gos_plan.specs.Plans.{Plan}
 use Rattle.gos_plan.specs.Tokens.{Tokens, Element, Runs, IsIdle}
 use Rattle.gos_realises.specs.Regular.{InputsKeepTurns}
 use Rattle.gos_realises.specs.Matched.{IsMatched, program_of, RealisesDone}
-use Rattle.gos_realises.specs.Realises.{AllGround, NamesDiffer}
-use Rattle.gos_sessions.specs.Sessions.{Form, Session, session_of, own_term}
+use Rattle.gos_realises.specs.Realises.{AllGround, NamesDiffer, Realises}
+use Rattle.gos_sessions.specs.Sessions.{Form, Session, session_of, own_term, own_type}
 use Rattle.gos_windows.specs.Nodes.{Stage, IsRestful, IsNode}
 
 -- each session of the form has a stage whose plan realises the session's term
@@ -32,6 +32,11 @@ NodeIsMatched =
 -- So the node realises the term: its lists are orderly too, since a node is regular.
 abbrev pub NodeRealises : Type 0
 NodeRealises = (r : Plan) (d : ℕ) (f : Form) (gs : List Stage) → IsNode r d f gs → AreRealised f gs → RealisesDone r (own_term f)
+
+-- The plan suits the term too, so it realises it by its type.
+abbrev pub NodeRealisesByType : Type 0
+NodeRealisesByType =
+    (r : Plan) (d : ℕ) (f : Form) (gs : List Stage) → IsNode r d f gs → AreRealised f gs → Realises (own_type f) r (own_term f)
 
 -- A plan that realises a term of a command or an expression rests after its answer.
 abbrev pub RealisersRest : Type 0

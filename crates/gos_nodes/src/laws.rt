@@ -1,5 +1,5 @@
 // What a node realises. Each theorem is the contract of a function that does nothing.
-ghost use Rattle.gos_nodes.specs.Realised.{NodeIsMatched, NodeRealises, RealisersRest};
+ghost use Rattle.gos_nodes.specs.Realised.{NodeIsMatched, NodeRealises, NodeRealisesByType, RealisersRest};
 ghost use Rattle.gos_nodes.specs.SmallNodes.{OneStageIsNot, TwiceIsNode, TwiceIsRealised, TwoSkipsAreRealised};
 
 /// The lists of a node are matched by its form's term, where the plans of its stages realise the terms of their sessions. So
@@ -7,6 +7,7 @@ ghost use Rattle.gos_nodes.specs.SmallNodes.{OneStageIsNot, TwiceIsNode, TwiceIs
 pub fn nodes_realise()
     ensures matched { NodeIsMatched }
     ensures realised { NodeRealises }
+    ensures by_type { NodeRealisesByType }
 {}
 
 /// A plan that realises a term of a command or an expression rests after its answer.
