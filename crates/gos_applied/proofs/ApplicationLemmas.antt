@@ -1,15 +1,13 @@
 -- The plan of an application realises it where the plans of the function and of its argument do.
 use Rattle.std.specs.Prelude.{◌≡◌, ◌++◌, List, [], Option}
-use Rattle.std.proofs.Common.{refl, sym, ◌∙◌, ap, subst}
+use Rattle.std.proofs.Common.{sym, ◌∙◌, subst}
 use Rattle.gos_types.specs.Types.{Type', Fun}
 use Rattle.gos_model.specs.Terms.{Name, Term, App}
 use Rattle.gos_model.specs.Typing.{Imported}
 use Rattle.gos_model.specs.Linking.{supplied}
-use Rattle.gos_plan.specs.Plans.{Plan}
 use Rattle.gos_realises.specs.Links.{IsJoined}
-use Rattle.gos_realises.specs.Wirings.{applying}
 use Rattle.gos_realises.specs.Realises.{NamesDiffer, Realises}
-use Rattle.gos_realises.specs.Modules.{Supply, AreSupplied, term_for, supplying, RealisesOpen}
+use Rattle.gos_realises.specs.Modules.{Supply, AreSupplied, term_for, supplying}
 use Rattle.gos_joined.proofs.WholeLemmas.{applied_is_joined, supplied_is_joined}
 use Rattle.gos_renumbered.proofs.ImportLemmas.{names_same}
 use Rattle.gos_renumbered.proofs.OrderLemmas.{reordered}

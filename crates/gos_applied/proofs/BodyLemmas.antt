@@ -1,16 +1,12 @@
 -- The plan of a function, supplied and applied, realises the body with the argument in it.
-use Rattle.std.specs.Prelude.{◌≡◌, ◌≢◌, ℕ, zero, suc, List, [], ◌∷◌, ◌++◌, ◌⊎◌, Contains}
-use Rattle.std.proofs.Common.{refl, sym, ◌∙◌, ap, subst, arith, inl, inr}
+use Rattle.std.specs.Prelude.{◌≢◌, suc, List, [], ◌∷◌, ◌++◌, ◌⊎◌, Contains}
+use Rattle.std.proofs.Common.{refl, sym, subst, arith, inl, inr}
 use Rattle.std.proofs.lemmas.List.Elements.{Contains-append_cases}
-use Rattle.gos_types.specs.Types.{Type'}
-use Rattle.gos_model.specs.Terms.{Term}
 use Rattle.gos_model.specs.Typing.{Imported}
 use Rattle.gos_model.specs.Linking.{supplied}
-use Rattle.gos_plan.specs.Plans.{Plan}
 use Rattle.gos_plan.specs.Joining.{Link}
-use Rattle.gos_realises.specs.Links.{IsJoined}
 use Rattle.gos_realises.specs.Wirings.{applying}
-use Rattle.gos_realises.specs.Realises.{NamesDiffer, HaveOtherNames, Realises}
+use Rattle.gos_realises.specs.Realises.{NamesDiffer, HaveOtherNames}
 use Rattle.gos_realises.specs.Modules.{Supply, AreSupplied, supplying, term_for}
 use Rattle.gos_joined.proofs.WholeLemmas.{supplied_is_joined}
 use Rattle.gos_unions.proofs.FlatLemmas.{joinings_join}
@@ -19,7 +15,7 @@ use Rattle.gos_renumbered.specs.SmallRewirings.{unchanged}
 use Rattle.gos_renumbered.proofs.ImportLemmas.{names_same}
 use Rattle.gos_renumbered.proofs.OrderLemmas.{reordered}
 use Rattle.gos_renumbered.proofs.HigherLemmas.{renumbered_is_realised}
-use Rattle.gos_applied.specs.Opened.{IsFunctionOf, OpenedIsSupplied, BodyIsRealised}
+use Rattle.gos_applied.specs.Opened.{OpenedIsSupplied, BodyIsRealised}
 use Rattle.gos_applied.proofs.SingleLemmas.{alone_joins}
 use Rattle.gos_applied.proofs.TogetherLemmas.{supplied_length, supplied_two, imports_of}
 use Rattle.gos_applied.proofs.OpenedLemmas.{own, is_body}

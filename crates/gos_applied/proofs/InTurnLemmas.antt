@@ -1,18 +1,15 @@
 -- Supplies one after another are supplies all at once: both are joinings of the plan and all supplies, in one order.
-use Rattle.std.specs.Prelude.{◌≡◌, ◌≢◌, ◌↔◌, ℕ, zero, suc, ◌+◌, ◌<◌, Bool, true, false, List, [], ◌∷◌, ◌++◌, ◌⊎◌, length, map, Option, Some, None, Contains, slice_get, if◌then◌else◌}
+use Rattle.std.specs.Prelude.{◌≡◌, ℕ, zero, suc, ◌+◌, ◌<◌, Bool, true, false, List, [], ◌∷◌, ◌++◌, ◌⊎◌, length, Option, Some, Contains, slice_get, if◌then◌else◌}
 use Rattle.std.proofs.Common.{refl, sym, ◌∙◌, ap, subst, arith, inl, inr}
 use Rattle.std.proofs.lemmas.Option.{slice_get_within}
 use Rattle.gos_model.specs.Typing.{Imported}
-use Rattle.gos_plan.specs.Plans.{End, ImportEnd, ResultEnd, Plan, IsRight}
+use Rattle.gos_plan.specs.Plans.{ImportEnd, ResultEnd, Plan, IsRight}
 use Rattle.gos_plan.specs.Joining.{Place, place, Link, Wiring, Linked, LeftImport, is_joined, left_in, left_among, all_left, left_place}
-use Rattle.gos_realises.specs.Regular.{count}
-use Rattle.gos_realises.specs.Wirings.{link}
-use Rattle.gos_realises.specs.Modules.{Supply, plans_of, AreSupplied, imports_linked, supplying}
+use Rattle.gos_realises.specs.Modules.{Supply, plans_of, imports_linked, supplying}
 use Rattle.gos_joined.proofs.ReachLemmas.{place_is}
-use Rattle.gos_webs.specs.Renumbering.{Renumber, IsRenumbered}
-use Rattle.gos_unions.specs.Flat.{all_plans, first_of, later, later_link, origin_if, deeper, deeper_link, flat}
+use Rattle.gos_unions.specs.Flat.{first_of, later, later_link, origin_if, deeper, deeper_link, flat}
 use Rattle.gos_unions.proofs.LeftLemmas.{front, behind}
-use Rattle.gos_unions.proofs.LinkLemmas.{flat_inner, flat_outer, OfWiring, OfOuter, of_flat, IsAt, JoinedBy, joined_by, by_joined}
+use Rattle.gos_unions.proofs.LinkLemmas.{flat_inner, flat_outer, OfWiring, OfOuter, of_flat, IsAt, joined_by, by_joined}
 use Rattle.gos_unions.proofs.FlatLemmas.{joinings_join}
 use Rattle.gos_unions.proofs.FlatFitLemmas.{in_two, links_stand}
 use Rattle.gos_renumbered.specs.Rewired.{rewired, IsRewired}
@@ -23,7 +20,7 @@ use Rattle.gos_renumbered.proofs.SupplyLemmas.{supply_link, OfImports, of_import
 use Rattle.gos_applied.specs.InTurn.{supplying_first, InTurnIsAtOnce}
 use Rattle.gos_applied.proofs.SeamLemmas.{singles, single_plans, single_first, single_at, single_links, listed, listed_at}
 use Rattle.gos_applied.proofs.SingleLemmas.{singles_join, singles_stand}
-use Rattle.gos_applied.proofs.TogetherLemmas.{supplied_length, supplied_two, plans_length, plans_two}
+use Rattle.gos_applied.proofs.TogetherLemmas.{supplied_length, plans_length, plans_two}
 use Rattle.gos_applied.proofs.SideLemmas.{IsSupply, plain, later_plain}
 use Rattle.gos_applied.proofs.OpenedLemmas.{some_shake}
 

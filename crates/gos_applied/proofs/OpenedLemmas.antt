@@ -1,29 +1,27 @@
 -- The supplied function applied to an argument is the body that has the argument for a supply: of the two flat wirings each
 -- path of one is a path of the other, with the argument's handshakes at the result in place of an import.
-use Rattle.std.specs.Prelude.{◌≡◌, ◌≢◌, ◌↔◌, ℕ, zero, suc, ◌+◌, ◌-◌, ◌<◌, ◌≤◌, Bool, true, false, List, [], ◌∷◌, ◌++◌, ◌⊎◌, length, map, Option, Some, None, Contains, slice_get, nat_eq, nat_lt, if◌then◌else◌}
+use Rattle.std.specs.Prelude.{◌≡◌, ℕ, zero, suc, ◌+◌, ◌-◌, ◌<◌, ◌≤◌, Bool, true, false, List, [], ◌∷◌, ◌++◌, ◌⊎◌, length, map, Option, Some, None, Contains, slice_get, nat_eq, nat_lt, if◌then◌else◌}
 use Rattle.std.proofs.Common.{refl, sym, ◌∙◌, ap, subst, arith, inl, inr, length-append}
 use Rattle.std.proofs.lemmas.Bool.Decides.{nat_tests}
 use Rattle.std.proofs.lemmas.Option.{slice_get_within}
-use Rattle.std.proofs.lemmas.List.{append-nil}
 use Rattle.gos_types.specs.Types.{Type', Com, Exp, Var, Pair, Fun}
 use Rattle.gos_model.specs.Typing.{Imported}
 use Rattle.gos_plan.specs.Kinds.{Part, Contact, asks, serves, contacts_of}
-use Rattle.gos_plan.specs.Plans.{End, PartEnd, ImportEnd, ResultEnd, Joint, Plan, contact_at, contacts_of_import, Fits, IsRight}
+use Rattle.gos_plan.specs.Plans.{End, PartEnd, ImportEnd, ResultEnd, Plan, contact_at, contacts_of_import}
 use Rattle.gos_plan.specs.Joining.{Place, place, Link, Wiring, is_joined, LeftImport, left_in, left_among, all_left, left_place, part_place, all_parts, origin, JoinedWithin, Linked, IsJoining}
 use Rattle.gos_plan.proofs.SideLemmas.{pairs_join}
 use Rattle.gos_plan.proofs.JointLemmas.{contained}
 use Rattle.gos_plan.proofs.JointLemmas as joints
 use Rattle.gos_realises.specs.Regular.{count}
-use Rattle.gos_realises.specs.Links.{contact_of, contact_in, IsJoined}
-use Rattle.gos_realises.specs.Wirings.{link, results_linked, applying}
-use Rattle.gos_realises.specs.Modules.{Supply, plans_of, AreSupplied, imports_linked, supplying}
+use Rattle.gos_realises.specs.Links.{contact_of}
+use Rattle.gos_realises.specs.Wirings.{link, applying}
+use Rattle.gos_realises.specs.Modules.{Supply, plans_of, supplying}
 use Rattle.gos_realises.proofs.GroundTurnLemmas.{count_fun}
 use Rattle.gos_joined.proofs.OriginLemmas.{import_of}
-use Rattle.gos_joined.proofs.ReachLemmas.{place_is, Step, Paths}
+use Rattle.gos_joined.proofs.ReachLemmas.{Step, Paths}
 use Rattle.gos_webs.specs.Webs.{joint}
-use Rattle.gos_webs.specs.Renumbering.{Renumber, IsRenumbered, moved_end}
-use Rattle.gos_unions.specs.Unions.{IsThere}
-use Rattle.gos_unions.specs.Flat.{first_of, later, later_link, origin_if, deeper, deeper_link, flat}
+use Rattle.gos_webs.specs.Renumbering.{IsRenumbered, moved_end}
+use Rattle.gos_unions.specs.Flat.{later_link, deeper_link, flat}
 use Rattle.gos_unions.proofs.WalkLemmas.{goes, mapped_walk}
 use Rattle.gos_unions.proofs.PathLemmas.{path_walk, walks_paths}
 use Rattle.gos_unions.proofs.PlaceLemmas.{fields_of, stands_at}

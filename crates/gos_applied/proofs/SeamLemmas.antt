@@ -1,22 +1,21 @@
 -- The two flat wirings of an application with its supplies: function, argument and then all supplies, and each of the two
 -- with its own supplies. They have the same links, which are the seams: of the argument, and of the imports of both.
-use Rattle.std.specs.Prelude.{◌≡◌, ◌≢◌, ◌↔◌, ℕ, zero, suc, ◌+◌, ◌-◌, ◌<◌, ◌≤◌, ◌&&◌, ◌||◌, Bool, true, false, List, [], ◌∷◌, ◌++◌, ◌⊎◌, length, map, Option, Some, None, Contains, slice_get, nat_eq, nat_lt, if◌then◌else◌}
+use Rattle.std.specs.Prelude.{◌≡◌, ℕ, zero, suc, ◌+◌, ◌-◌, ◌<◌, ◌≤◌, ◌&&◌, ◌||◌, Bool, true, false, List, [], ◌∷◌, ◌++◌, ◌⊎◌, length, map, Option, Some, Contains, slice_get, nat_eq, if◌then◌else◌}
 use Rattle.std.proofs.Common.{refl, sym, ◌∙◌, ap, subst, arith, inl, inr}
-use Rattle.std.proofs.lemmas.Bool.Decides.{nat_tests}
 use Rattle.std.proofs.lemmas.Option.{slice_get_within}
 use Rattle.std.proofs.lemmas.List.{map-append, append-nil}
 use Rattle.gos_types.specs.Types.{Type'}
 use Rattle.gos_model.specs.Typing.{Imported}
-use Rattle.gos_plan.specs.Plans.{End, PartEnd, ImportEnd, ResultEnd, Plan}
-use Rattle.gos_plan.specs.Joining.{Place, place, Link, Wiring, is_joined, is_at_import, LeftImport, left_in, left_among, all_left, left_place, origin}
+use Rattle.gos_plan.specs.Plans.{ImportEnd, ResultEnd, Plan}
+use Rattle.gos_plan.specs.Joining.{place, Link, Wiring, is_joined, LeftImport, left_in, all_left, left_place}
 use Rattle.gos_realises.specs.Regular.{count}
 use Rattle.gos_realises.specs.Wirings.{link, results_linked, side, applying}
-use Rattle.gos_realises.specs.Modules.{Supply, plans_of, imports_linked, supplying}
+use Rattle.gos_realises.specs.Modules.{Supply, plans_of, supplying}
 use Rattle.gos_joined.proofs.OriginLemmas.{import_of}
 use Rattle.gos_unions.specs.Flat.{all_plans, first_of, later, later_link, origin_if, deeper, deeper_link, flat}
 use Rattle.gos_unions.proofs.LeftLemmas.{front, behind}
 use Rattle.gos_unions.proofs.LinkLemmas.{flat_inner, flat_outer, OfWiring, OfOuter, of_flat}
-use Rattle.gos_unions.proofs.FlatFitLemmas.{InTwo, in_two}
+use Rattle.gos_unions.proofs.FlatFitLemmas.{in_two}
 use Rattle.gos_renumbered.proofs.SupplyLemmas.{supply_link, OfImports, of_imports, in_imports}
 
 -- a plan alone

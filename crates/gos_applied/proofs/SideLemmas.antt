@@ -1,23 +1,23 @@
 -- The plan of a side, with supplies, is one but for numbers with that side of the supplied plan.
-use Rattle.std.specs.Prelude.{◌≡◌, ◌≢◌, ◌↔◌, ℕ, zero, suc, ◌+◌, ◌<◌, List, [], ◌∷◌, ◌++◌, ◌⊎◌, length, map, Option, Some, None, Contains, slice_get}
+use Rattle.std.specs.Prelude.{◌≡◌, ℕ, zero, suc, ◌+◌, ◌<◌, List, [], ◌∷◌, ◌⊎◌, length, map, Option, Some, Contains, slice_get}
 use Rattle.std.proofs.Common.{refl, sym, ◌∙◌, ap, subst, arith, inl, inr}
 use Rattle.std.proofs.lemmas.Option.{slice_get_within}
 use Rattle.std.proofs.lemmas.List.{append-nil}
 use Rattle.gos_types.specs.Types.{Type', Pair}
-use Rattle.gos_model.specs.Terms.{Term, Fst, Snd}
+use Rattle.gos_model.specs.Terms.{Fst, Snd}
 use Rattle.gos_model.specs.Typing.{Imported}
 use Rattle.gos_model.specs.Linking.{supplied}
-use Rattle.gos_plan.specs.Plans.{End, PartEnd, ImportEnd, ResultEnd, Plan, IsRight}
+use Rattle.gos_plan.specs.Plans.{ImportEnd, ResultEnd, Plan, IsRight}
 use Rattle.gos_plan.specs.Joining.{Place, place, Link, Wiring, Linked, LeftImport, all_left, left_in, left_place, IsJoining}
 use Rattle.gos_realises.specs.Regular.{count}
 use Rattle.gos_realises.specs.Links.{IsJoined}
 use Rattle.gos_realises.specs.Wirings.{link, side}
 use Rattle.gos_realises.specs.Realises.{NamesDiffer, Realises}
-use Rattle.gos_realises.specs.Modules.{Supply, plans_of, AreSupplied, term_for, supplying, RealisesOpen}
+use Rattle.gos_realises.specs.Modules.{Supply, plans_of, AreSupplied, term_for, supplying}
 use Rattle.gos_joined.proofs.OriginLemmas.{import_of}
 use Rattle.gos_joined.proofs.ReachLemmas.{place_is}
 use Rattle.gos_joined.proofs.WholeLemmas.{sides_are_joined, supplied_is_joined}
-use Rattle.gos_webs.specs.Renumbering.{Renumber, IsRenumbered, moved_end}
+use Rattle.gos_webs.specs.Renumbering.{Renumber, IsRenumbered}
 use Rattle.gos_unions.specs.Flat.{all_plans, first_of, later, later_link, origin_if, deeper, deeper_link, flat}
 use Rattle.gos_unions.proofs.LinkLemmas.{flat_inner, flat_outer, OfWiring, OfOuter, of_flat}
 use Rattle.gos_unions.proofs.FlatLemmas.{joinings_join}
@@ -28,7 +28,7 @@ use Rattle.gos_renumbered.proofs.ImportLemmas.{names_same}
 use Rattle.gos_renumbered.proofs.OrderLemmas.{reordered}
 use Rattle.gos_renumbered.proofs.RewireLemmas.{rewired_is_renumbered}
 use Rattle.gos_renumbered.proofs.HigherLemmas.{unchanged_end, unchanged_one, is_itself, renumbered_is_realised}
-use Rattle.gos_renumbered.proofs.SupplyLemmas.{supply_link, OfImports, of_imports, in_imports, supply_right}
+use Rattle.gos_renumbered.proofs.SupplyLemmas.{supply_link, of_imports, in_imports, supply_right}
 use Rattle.gos_applied.specs.Projected.{SideIsSupplied, FirstIsRealised, SecondIsRealised}
 use Rattle.gos_applied.proofs.SeamLemmas.{singles, single_plans, single_first, single_at, single_links, listed, left_none, listed_imports, listed_at}
 use Rattle.gos_applied.proofs.SingleLemmas.{singles_join, singles_stand}

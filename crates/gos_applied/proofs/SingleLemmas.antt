@@ -1,5 +1,5 @@
 -- A plan alone is its own joining.
-use Rattle.std.specs.Prelude.{◌≡◌, ◌≢◌, ◌↔◌, ℕ, zero, suc, ◌+◌, ◌<◌, List, [], ◌∷◌, ◌++◌, ◌⊎◌, length, map, Option, Some, None, Contains, slice_get}
+use Rattle.std.specs.Prelude.{◌≡◌, ℕ, zero, suc, ◌+◌, ◌<◌, List, [], ◌∷◌, length, map, Option, Some, None, Contains, slice_get}
 use Rattle.std.proofs.Common.{refl, sym, ◌∙◌, ap, subst, arith, inl, inr}
 use Rattle.std.proofs.lemmas.Option.{slice_get_within}
 use Rattle.std.proofs.lemmas.List.{append-nil}
@@ -12,12 +12,10 @@ use Rattle.gos_realises.specs.Modules.{Supply, plans_of}
 use Rattle.gos_joined.proofs.OriginLemmas.{import_of}
 use Rattle.gos_webs.specs.Webs.{Of, tie, Way, here, along, joint, own_web, IsOfWeb}
 use Rattle.gos_webs.proofs.WebLemmas.{right_is_of_its_web}
-use Rattle.gos_unions.specs.Unions.{LinksStand}
 use Rattle.gos_unions.specs.Flat.{AreJoinings, AllLinksStand}
 use Rattle.gos_unions.proofs.UnionLemmas.{in_image}
-use Rattle.gos_unions.proofs.LeftLemmas.{front}
 use Rattle.gos_unions.proofs.DeepLemmas.{place_of_part}
-use Rattle.gos_applied.proofs.SeamLemmas.{single, singles, listed, left_none, listed_imports, listed_at}
+use Rattle.gos_applied.proofs.SeamLemmas.{singles, listed, left_none, listed_imports, listed_at}
 
 abbrev alone : Plan → Wiring
 alone p = side 0 p.outcome p

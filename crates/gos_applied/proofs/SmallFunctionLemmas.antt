@@ -1,11 +1,11 @@
 -- A small function and its body.
-use Rattle.std.specs.Prelude.{◌≡◌, ℕ, zero, suc, List, [], ◌∷◌, Contains}
-use Rattle.std.proofs.Common.{refl, sym, ap, subst, arith}
+use Rattle.std.specs.Prelude.{◌≡◌, zero, suc, [], ◌∷◌, Contains}
+use Rattle.std.proofs.Common.{refl, subst, arith}
 use Rattle.gos_plan.specs.Plans.{End, ImportEnd, ResultEnd, Joint}
 use Rattle.gos_plan.specs.SmallPlans.{same_plan}
 use Rattle.gos_webs.specs.Webs.{joint}
 use Rattle.gos_applied.specs.Opened.{opened}
-use Rattle.gos_applied.specs.SmallFunctions.{named, name_plan, SameIsFunction, UnjoinedIsNoBody}
+use Rattle.gos_applied.specs.SmallFunctions.{name_plan, SameIsFunction, UnjoinedIsNoBody}
 
 only : (i j : Joint) → Contains (i ∷ []) j → i ≡ j
 only i j (zero, small, e) = e

@@ -1,20 +1,18 @@
 -- The plan of an application, with supplies, is one but for numbers with the supplied plans, applied.
-use Rattle.std.specs.Prelude.{◌≡◌, ◌≢◌, ◌↔◌, ℕ, zero, suc, ◌+◌, ◌-◌, ◌<◌, ◌≤◌, Bool, true, false, List, [], ◌∷◌, ◌++◌, ◌⊎◌, length, map, Option, Some, None, Contains, slice_get, nat_eq, nat_lt, if◌then◌else◌}
-use Rattle.std.proofs.Common.{refl, sym, ◌∙◌, ap, subst, arith, inl, inr, length-append}
+use Rattle.std.specs.Prelude.{◌≡◌, ℕ, zero, suc, ◌+◌, ◌<◌, ◌≤◌, Bool, true, false, List, [], ◌∷◌, ◌++◌, length, Some, slice_get, nat_eq, nat_lt, if◌then◌else◌}
+use Rattle.std.proofs.Common.{refl, sym, ◌∙◌, ap, subst, arith, inl, inr}
 use Rattle.std.proofs.lemmas.Bool.Decides.{nat_tests}
 use Rattle.std.proofs.lemmas.Option.{slice_get_within}
 use Rattle.std.proofs.lemmas.List.{append-nil}
 use Rattle.gos_types.specs.Types.{Type'}
 use Rattle.gos_model.specs.Typing.{Imported}
-use Rattle.gos_plan.specs.Plans.{End, ResultEnd, ImportEnd, Plan, IsRight}
-use Rattle.gos_plan.specs.Joining.{Place, place, Link, Wiring, Linked, IsJoining}
-use Rattle.gos_realises.specs.Regular.{count}
-use Rattle.gos_realises.specs.Links.{LinksFit, IsJoined}
+use Rattle.gos_plan.specs.Plans.{ResultEnd, Plan, IsRight}
+use Rattle.gos_plan.specs.Joining.{Place, place, Link, Wiring, Linked}
+use Rattle.gos_realises.specs.Links.{IsJoined}
 use Rattle.gos_realises.specs.Wirings.{applying}
 use Rattle.gos_realises.specs.Modules.{Supply, plans_of, AreSupplied, supplying}
-use Rattle.gos_joined.proofs.OriginLemmas.{import_of}
 use Rattle.gos_joined.proofs.ReachLemmas.{place_is}
-use Rattle.gos_webs.specs.Renumbering.{Renumber, IsRenumbered, moved_end}
+use Rattle.gos_webs.specs.Renumbering.{IsRenumbered, moved_end}
 use Rattle.gos_unions.specs.Flat.{all_plans}
 use Rattle.gos_unions.proofs.LeftLemmas.{front, behind}
 use Rattle.gos_unions.proofs.FlatLemmas.{joinings_join}
@@ -25,7 +23,7 @@ use Rattle.gos_renumbered.proofs.RewireLemmas.{rewired_is_renumbered}
 use Rattle.gos_renumbered.proofs.HigherLemmas.{unchanged_end, unchanged_one, is_itself}
 use Rattle.gos_renumbered.proofs.SupplyLemmas.{supply_right}
 use Rattle.gos_applied.specs.Applied.{AppliedIsSupplied}
-use Rattle.gos_applied.proofs.SeamLemmas.{single, singles, single_plans, applied_imports, Seam, Argument, OfFirst, OfSecond, IsSeam, together_link, apart_link, own, apart, size, apart_seam, seam_apart, joint_first, together, own_count, together_seam, seam_together}
+use Rattle.gos_applied.proofs.SeamLemmas.{singles, single_plans, applied_imports, Seam, Argument, OfFirst, OfSecond, IsSeam, together_link, apart_link, own, apart, apart_seam, seam_apart, joint_first, together, together_seam, seam_together}
 use Rattle.gos_applied.proofs.SingleLemmas.{singles_join, singles_stand}
 
 -- Function, argument, and all supplies, n of them the function's: where each plan stands where the argument comes behind these.

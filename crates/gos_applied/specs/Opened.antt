@@ -2,7 +2,7 @@
 --
 -- Read first: Applied. Applied to an argument it does what the body does with the argument for a supply.
 use Rattle.std.specs.Prelude.{◌≡◌, ℕ, ◌-◌, List, [], ◌∷◌, ◌++◌, length, nat_lt, if◌then◌else◌, Contains}
-use Rattle.gos_types.specs.Types.{Type', Fun}
+use Rattle.gos_types.specs.Types.{Fun}
 use Rattle.gos_model.specs.Terms.{Term}
 use Rattle.gos_model.specs.Typing.{Imported}
 use Rattle.gos_model.specs.Linking.{supplied}

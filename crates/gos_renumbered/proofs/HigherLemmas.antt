@@ -1,16 +1,16 @@
 -- Realising at each type doesn't see numbers: what is joined to renumbered plans is renumbered.
-use Rattle.std.specs.Prelude.{◌≡◌, ◌↔◌, ℕ, zero, suc, ◌+◌, ◌^◌, ◌<◌, List, [], ◌∷◌, ◌⊎◌, Option, Some, None, Contains, slice_get}
+use Rattle.std.specs.Prelude.{◌≡◌, ℕ, zero, suc, List, [], ◌∷◌, Some, Contains, slice_get}
 use Rattle.std.proofs.Common.{refl, sym, ◌∙◌, ap, subst, arith, inl, inr}
 use Rattle.gos_types.specs.Types.{Type', Com, Exp, Var, Pair, Fun}
 use Rattle.gos_model.specs.Terms.{Term, Lit, App, Fst, Snd, Assign, Deref}
 use Rattle.gos_plan.specs.Kinds as kinds
 use Rattle.gos_plan.specs.Plans.{End, PartEnd, ImportEnd, ResultEnd, Plan, IsRight}
 use Rattle.gos_plan.specs.Joining.{Place, place, Link, Linked, Wiring}
-use Rattle.gos_realises.specs.Regular.{count, IsRegular}
+use Rattle.gos_realises.specs.Regular.{count}
 use Rattle.gos_realises.specs.Matched.{RealisesDone}
 use Rattle.gos_realises.specs.Links.{LinksFit, IsJoined}
-use Rattle.gos_realises.specs.Wirings.{lone, link, results_linked, reading, writing, side, applying}
-use Rattle.gos_realises.specs.Realises.{NamesDiffer, HaveOtherNames, Suits, Means, Realises}
+use Rattle.gos_realises.specs.Wirings.{lone, link, results_linked}
+use Rattle.gos_realises.specs.Realises.{NamesDiffer, Suits, Means}
 use Rattle.gos_joined.proofs.ReachLemmas.{place_is}
 use Rattle.gos_joined.proofs.WholeLemmas.{applied_is_joined, sides_are_joined, variables_are_joined}
 use Rattle.gos_webs.specs.Webs.{joint}
@@ -20,7 +20,7 @@ use Rattle.gos_webs.proofs.MovedLemmas.{back_and_there}
 use Rattle.gos_renumbered.specs.Rewired.{rewired, IsRewired}
 use Rattle.gos_renumbered.specs.SmallRewirings.{unchanged}
 use Rattle.gos_renumbered.specs.Renumbered.{RenumberedIsRegular, RenumberedIsDone, RenumberedIsRealised}
-use Rattle.gos_renumbered.proofs.ImportLemmas.{SameImports, AreReordered, typed_same, ground_same, names_same, other_names_same, reordered_same}
+use Rattle.gos_renumbered.proofs.ImportLemmas.{AreReordered, typed_same, ground_same, names_same, other_names_same, reordered_same}
 use Rattle.gos_renumbered.proofs.OrderLemmas.{regular_back, reordered, realises_back}
 use Rattle.gos_renumbered.proofs.RewireLemmas.{rewired_is_renumbered}
 

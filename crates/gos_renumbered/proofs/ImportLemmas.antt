@@ -1,5 +1,5 @@
 -- A program sees its imports by their names alone: in what order they stand is nothing to it.
-use Rattle.std.specs.Prelude.{◌≡◌, ◌≢◌, ℕ, zero, suc, Bool, true, false, IsTrue, IsFalse, List, [], ◌∷◌, ◌⊎◌, Option, Some, None, Contains, slice_get, if◌then◌else◌}
+use Rattle.std.specs.Prelude.{◌≡◌, ℕ, zero, suc, Bool, true, false, List, [], ◌∷◌, ◌⊎◌, Option, Some, None, Contains, slice_get, if◌then◌else◌}
 use Rattle.std.specs.Str.{bytes_eq}
 use Rattle.std.proofs.Common.{refl, sym, ◌∙◌, ap, subst, arith, inl, inr}
 use Rattle.std.proofs.lemmas.Slice.Eq.{bytes_eq-Decides}
@@ -7,7 +7,7 @@ use Rattle.gos_types.specs.Types.{Type', Com, Exp, Var, IsGround}
 use Rattle.gos_model.specs.Terms.{Name, Term, Skip, Lit, Bound, Import, Lam, App, Both, Fst, Snd, Seq, Par, If, While, Assign, Deref, New, Not, Bin, Loc, Scope, Wait, Held, Put}
 use Rattle.gos_model.specs.Typing.{Imported, Imports, import_type, Typed}
 use Rattle.gos_model.specs.Stores.{Store}
-use Rattle.gos_model.specs.Labels.{Port, Given, Taken, Label, Emits, Takes, IsAnswer, is_output}
+use Rattle.gos_model.specs.Labels.{Port, Given, Taken, Label, Emits, Takes, IsAnswer}
 use Rattle.gos_model.specs.Moves.{Program, Config, Idle, Running, Act, Computing, Showing, ActsTo, Move, Moves, Stalled}
 use Rattle.gos_model.specs.Protocol.{FitsAnswer, event_of, Allowed, KeepsAfter, KeepsProtocol}
 use Rattle.gos_model.proofs.ReachLemmas.{reached_map}

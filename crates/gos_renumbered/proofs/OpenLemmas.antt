@@ -1,16 +1,15 @@
 -- A plan realises a term with any supplies where a renumbered one does: each supply goes with its import.
-use Rattle.std.specs.Prelude.{◌≡◌, ◌↔◌, ℕ, zero, suc, ◌+◌, ◌<◌, Bool, true, false, List, [], ◌∷◌, ◌⊎◌, length, Option, Some, None, Contains, slice_get}
+use Rattle.std.specs.Prelude.{◌≡◌, ℕ, zero, suc, ◌+◌, List, [], ◌∷◌, ◌⊎◌, Option, Some, None, Contains, slice_get}
 use Rattle.std.proofs.Common.{refl, sym, ◌∙◌, ap, subst, arith, inl, inr}
 use Rattle.gos_types.specs.Types.{Type', Com}
 use Rattle.gos_model.specs.Terms as terms
 use Rattle.gos_model.specs.Terms.{Name, Term}
 use Rattle.gos_model.specs.Typing.{Imported}
 use Rattle.gos_model.specs.Linking.{supplied}
-use Rattle.gos_plan.specs.Plans.{End, PartEnd, ImportEnd, ResultEnd, Plan, IsRight}
-use Rattle.gos_plan.specs.Joining.{Place, place, Link, Wiring, Linked}
-use Rattle.gos_realises.specs.Regular.{count}
+use Rattle.gos_plan.specs.Plans.{End, Plan}
+use Rattle.gos_plan.specs.Joining.{Place, place, Link, Linked}
 use Rattle.gos_realises.specs.Realises.{NamesDiffer, Realises}
-use Rattle.gos_realises.specs.Modules.{Supply, plans_of, AreSupplied, term_for, imports_linked, supplying, RealisesOpen}
+use Rattle.gos_realises.specs.Modules.{Supply, plans_of, AreSupplied, term_for, imports_linked, supplying}
 use Rattle.gos_joined.proofs.WholeLemmas.{supplied_is_joined}
 use Rattle.gos_webs.specs.Renumbering.{Renumber, IsOneToOne, IsRenumbered, back, moved_end}
 use Rattle.gos_webs.proofs.IdleLemmas.{renumbered_back}
@@ -18,11 +17,11 @@ use Rattle.gos_webs.proofs.MovedLemmas.{back_and_there}
 use Rattle.gos_renumbered.specs.Rewired.{rewired, IsRewired}
 use Rattle.gos_renumbered.specs.SmallRewirings.{unchanged}
 use Rattle.gos_renumbered.specs.Open.{RenumberedIsOpen}
-use Rattle.gos_renumbered.proofs.ImportLemmas.{names_same, reordered_same}
+use Rattle.gos_renumbered.proofs.ImportLemmas.{names_same}
 use Rattle.gos_renumbered.proofs.OrderLemmas.{reordered}
 use Rattle.gos_renumbered.proofs.RewireLemmas.{rewired_is_renumbered}
 use Rattle.gos_renumbered.proofs.HigherLemmas.{unchanged_end, unchanged_one, is_itself, renumbered_is_realised}
-use Rattle.gos_renumbered.proofs.SupplyLemmas.{supply_link, OfImports, of_imports, in_imports, supply_of, import_for, plan_at, supply_at, supply_right, TermAt, term_at, at_term}
+use Rattle.gos_renumbered.proofs.SupplyLemmas.{supply_link, OfImports, of_imports, in_imports, supply_of, import_for, plan_at, supply_at, supply_right, term_at, at_term}
 
 -- the supplies of imports in another order: that of import n there is number `from n`
 nothing : Supply

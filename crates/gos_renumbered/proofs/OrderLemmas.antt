@@ -5,20 +5,19 @@ use Rattle.std.proofs.Common.{refl, sym, ◌∙◌, ap, subst}
 use Rattle.gos_netlist.specs.Events.{Direction, Request, Answer}
 use Rattle.gos_model.specs.Terms.{Term}
 use Rattle.gos_model.specs.Labels.{Label}
-use Rattle.gos_model.specs.Moves.{Program, Config, Idle, Act}
+use Rattle.gos_model.specs.Moves.{Config, Idle, Act}
 use Rattle.gos_model.specs.Protocol.{KeepsProtocol}
 use Rattle.gos_plan.specs.Kinds.{Contact}
-use Rattle.gos_plan.specs.Firing.{Slot, Req, Ans, State, Token, Row}
-use Rattle.gos_plan.specs.Plans.{End, PartEnd, ImportEnd, ResultEnd, Joint, Plan, contact_at, contacts_of_part, same_end}
-use Rattle.gos_plan.specs.Tokens.{Tokens, Element, Fire, Out, In, IsPortEnd, places_of, token_at, with_token, with_state, with_puts, shake_of, end_of, way_of, way_taken, way_put, firing_of, fired, Does, Runs, IsIdle, IsQuiet}
+use Rattle.gos_plan.specs.Firing.{Slot, Req, Ans, Token, Row}
+use Rattle.gos_plan.specs.Plans.{End, PartEnd, ImportEnd, ResultEnd, Plan, contact_at}
+use Rattle.gos_plan.specs.Tokens.{Tokens, Element, Fire, Out, In, places_of, token_at, with_token, with_state, end_of, way_of, way_taken, way_put, firing_of, IsIdle}
 use Rattle.gos_plan.specs.Orderly.{Open, none_open, named_by, handshake_at, with_open, after_taken, after_put, after_puts, ComesWell, AllComeWell, ComesInOrder, AllWelcome, OrderlyFrom, IsOrderly}
 use Rattle.gos_realises.specs.Regular.{Pass, pass, way_in, way_out, KeepsTurns, InputsKeepTurns, OutputsKeepTurns, IsRegular}
 use Rattle.gos_realises.specs.Matched.{port_if, event_number, label_at, shows, all_shown, GoesOn, Agrees, IsMatched, program_of, RealisesDone}
-use Rattle.gos_realises.specs.Realises.{NamesDiffer}
 use Rattle.gos_webs.specs.Renumbering.{Renumber, IsOneToOne, IsRenumbered, back, moved_end, moved, moved_list, moved_tokens}
 use Rattle.gos_webs.proofs.IdleLemmas.{renumbered_back}
-use Rattle.gos_webs.proofs.MovedLemmas.{moved_if, back_and_there, same_moved, place_moved, token_moved, token_filled, state_filled, contact_moved, port_moved, tokens_round, does_is_moved, runs_is_moved, quiet_is_moved}
-use Rattle.gos_renumbered.proofs.ImportLemmas.{SameImports, imports_back, program, moves_same, stalled_same, protocol_same, AreReordered, reordered_same}
+use Rattle.gos_webs.proofs.MovedLemmas.{moved_if, back_and_there, same_moved, place_moved, token_moved, token_filled, state_filled, contact_moved, tokens_round, does_is_moved, runs_is_moved, quiet_is_moved}
+use Rattle.gos_renumbered.proofs.ImportLemmas.{SameImports, imports_back, moves_same, stalled_same, protocol_same, AreReordered}
 use Rattle.gos_renumbered.proofs.TurnLemmas.{moved_pass, moved_passes, turns_forth, turns_back}
 
 abbrev pub moved_open : Renumber → Open → Open

@@ -1,14 +1,13 @@
 -- The joinings of wirings that are one but for numbers are one but for numbers.
-use Rattle.std.specs.Prelude.{◌≡◌, ◌≢◌, ◌↔◌, ℕ, zero, suc, ◌+◌, ◌<◌, ◌≤◌, Bool, true, false, List, [], ◌∷◌, ◌⊎◌, length, map, Option, Some, None, Contains, slice_get, nat_lt, if◌then◌else◌, option_map}
+use Rattle.std.specs.Prelude.{◌≡◌, ℕ, ◌+◌, ◌<◌, ◌≤◌, Bool, true, false, List, ◌⊎◌, length, map, Option, Some, None, Contains, slice_get, nat_lt, option_map}
 use Rattle.std.proofs.Common.{refl, sym, ◌∙◌, ap, subst, arith, inl, inr}
 use Rattle.std.proofs.lemmas.Bool.Decides.{nat_tests}
 use Rattle.std.proofs.lemmas.Option.{slice_get-map, slice_get_within, slice_get_past}
 use Rattle.std.proofs.lemmas.List.{length-map}
-use Rattle.gos_types.specs.Types.{Type'}
 use Rattle.gos_model.specs.Typing.{Imported}
 use Rattle.gos_plan.specs.Kinds.{Part, Contact, asks, serves, contacts_of}
-use Rattle.gos_plan.specs.Plans.{End, PartEnd, ImportEnd, ResultEnd, Joint, Plan, contact_at, contacts_of_part, contacts_of_import, turned_if}
-use Rattle.gos_plan.specs.Joining.{Place, place, Link, Wiring, is_joined, LeftImport, left_in, left_among, all_left, all_parts, left_place, part_place, origin, JoinedWithin, Linked, Connects, IsJoining}
+use Rattle.gos_plan.specs.Plans.{End, PartEnd, ImportEnd, ResultEnd, Plan, contact_at, contacts_of_part, contacts_of_import, turned_if}
+use Rattle.gos_plan.specs.Joining.{Place, place, Link, Wiring, is_joined, LeftImport, all_left, all_parts, left_place, part_place, origin, JoinedWithin, Linked, IsJoining}
 use Rattle.gos_joined.proofs.OriginLemmas.{before, left_index, left_at, import_of}
 use Rattle.gos_joined.proofs.ReachLemmas.{place_is, Step, Paths}
 use Rattle.gos_webs.specs.Webs.{joint}
@@ -17,11 +16,11 @@ use Rattle.gos_webs.proofs.IdleLemmas.{there_and_back, renumbered_back}
 use Rattle.gos_webs.proofs.MovedLemmas.{turned, back_and_there}
 use Rattle.gos_unions.proofs.WalkLemmas.{goes, mapped_walk}
 use Rattle.gos_unions.proofs.PathLemmas.{path_walk, walks_paths}
-use Rattle.gos_unions.proofs.LinkLemmas.{IsAt, JoinedBy, joined_by, by_joined, tests_agree}
+use Rattle.gos_unions.proofs.LinkLemmas.{IsAt, joined_by, by_joined, tests_agree}
 use Rattle.gos_unions.proofs.DeepLemmas.{place_of_part}
 use Rattle.gos_renumbered.specs.Rewired.{rewired, IsRewired, RewiredIsRenumbered}
 use Rattle.gos_renumbered.proofs.SizeLemmas.{AreOneToOne, same_size, extended, below, above, extended_returns, turned_around}
-use Rattle.gos_renumbered.proofs.SplitLemmas.{SplitAt, split_at, part_get, part_low, element_at, plan_in, part_in, plan_is, part_is, left_get}
+use Rattle.gos_renumbered.proofs.SplitLemmas.{split_at, part_get, part_low, element_at, plan_in, part_in, plan_is, part_is, left_get}
 
 -- the numbers back
 abbrev pub all_back : (ℕ → ℕ) → (ℕ → Renumber) → ℕ → Renumber

@@ -1,6 +1,6 @@
 -- Numbers below m and below n that are one to one: m is n, and all numbers are one to one when the others stay.
 use Rattle.std.specs.Prelude.{◌≡◌, ℕ, zero, suc, ◌<◌, ◌≤◌, Bool, true, false, nat_eq, nat_lt, if◌then◌else◌}
-use Rattle.std.proofs.Common.{refl, sym, ◌∙◌, ap, subst, arith}
+use Rattle.std.proofs.Common.{refl, sym, ◌∙◌, ap, arith}
 use Rattle.std.proofs.lemmas.Bool.Decides.{nat_tests}
 
 abbrev IsInto : ℕ → ℕ → (ℕ → ℕ) → Type 0

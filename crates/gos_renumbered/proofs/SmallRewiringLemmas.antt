@@ -1,8 +1,8 @@
 -- A small wiring with its plans in another order.
-use Rattle.std.specs.Prelude.{◌≡◌, ◌↔◌, ℕ, zero, suc, List, [], ◌∷◌, ◌⊎◌, Option, Some, Contains, slice_get}
+use Rattle.std.specs.Prelude.{◌≡◌, ℕ, zero, suc, [], ◌∷◌, Some, Contains, slice_get}
 use Rattle.std.proofs.Common.{refl, sym, ◌∙◌, ap, subst, arith, inl, inr}
-use Rattle.gos_plan.specs.Plans.{End, ResultEnd, Plan, IsRight}
-use Rattle.gos_plan.specs.Joining.{Place, place, Link, Linked}
+use Rattle.gos_plan.specs.Plans.{ResultEnd, Plan, IsRight}
+use Rattle.gos_plan.specs.Joining.{Place, Link, Linked}
 use Rattle.gos_plan.specs.SmallPlans.{skip_plan, same_plan, same_of_skip}
 use Rattle.gos_realises.specs.Wirings.{link}
 use Rattle.gos_joined.proofs.ReachLemmas.{place_is}

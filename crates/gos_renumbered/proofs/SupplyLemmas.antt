@@ -1,16 +1,16 @@
 -- The links of supplies, the supply of an import, and the term for a name.
-use Rattle.std.specs.Prelude.{◌≡◌, ◌≢◌, ℕ, zero, suc, ◌+◌, ◌-◌, ◌<◌, ◌≤◌, Bool, true, false, List, [], ◌∷◌, ◌++◌, ◌⊎◌, length, Option, Some, None, Contains, slice_get, if◌then◌else◌}
+use Rattle.std.specs.Prelude.{◌≡◌, ℕ, zero, suc, ◌+◌, ◌-◌, ◌<◌, ◌≤◌, Bool, true, false, List, [], ◌∷◌, ◌⊎◌, Some, Contains, slice_get, if◌then◌else◌}
 use Rattle.std.specs.Str.{bytes_eq}
 use Rattle.std.proofs.Common.{refl, sym, ◌∙◌, ap, subst, arith, inl, inr}
 use Rattle.std.proofs.lemmas.List.Elements.{Contains-append_left, Contains-append_right, Contains-append_cases}
 use Rattle.gos_model.specs.Terms.{Name, Term}
 use Rattle.gos_model.specs.Typing.{Imported}
-use Rattle.gos_plan.specs.Plans.{End, PartEnd, ImportEnd, ResultEnd, Plan, IsRight}
-use Rattle.gos_plan.specs.Joining.{Place, place, Link, Wiring, Linked}
+use Rattle.gos_plan.specs.Plans.{ImportEnd, ResultEnd, Plan, IsRight}
+use Rattle.gos_plan.specs.Joining.{Link}
 use Rattle.gos_realises.specs.Regular.{count}
 use Rattle.gos_realises.specs.Wirings.{link}
 use Rattle.gos_realises.specs.Realises.{NamesDiffer, Realises}
-use Rattle.gos_realises.specs.Modules.{Supply, plans_of, AreSupplied, term_for, import_linked, imports_linked, supplying}
+use Rattle.gos_realises.specs.Modules.{Supply, plans_of, AreSupplied, term_for, import_linked, imports_linked}
 use Rattle.gos_renumbered.proofs.ImportLemmas.{name_is, of_at}
 
 -- handshake h of import i, linked to its supply

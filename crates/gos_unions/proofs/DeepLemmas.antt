@@ -1,5 +1,5 @@
 -- Where ends stand in the flat wiring: where the joining's plan has them, so many plans later.
-use Rattle.std.specs.Prelude.{◌≡◌, ℕ, zero, suc, ◌+◌, ◌-◌, ◌<◌, ◌≤◌, Bool, true, false, List, [], ◌∷◌, ◌++◌, ◌⊎◌, length, map, Option, Some, None, Contains, slice_get, nat_lt, if◌then◌else◌, option_map}
+use Rattle.std.specs.Prelude.{◌≡◌, ℕ, zero, suc, ◌+◌, ◌-◌, ◌<◌, true, false, List, [], ◌∷◌, ◌++◌, ◌⊎◌, length, map, Option, Some, None, Contains, slice_get, nat_lt, option_map}
 use Rattle.std.proofs.Common.{refl, sym, ◌∙◌, ap, subst, arith, inl, inr}
 use Rattle.std.proofs.lemmas.Bool.Decides.{nat_tests}
 use Rattle.std.proofs.lemmas.List.{map-append}
@@ -9,13 +9,13 @@ use Rattle.gos_plan.specs.Kinds.{Part, Contact, contacts_of}
 use Rattle.gos_plan.specs.Plans.{End, PartEnd, ImportEnd, ResultEnd, Joint, Plan, contact_at, contacts_of_part, contacts_of_import}
 use Rattle.gos_plan.specs.Joining.{Place, place, Link, Wiring, is_joined, LeftImport, left_in, left_among, all_left, left_place, part_place, origin, all_parts, all_weight, contacts_of_result, IsJoining}
 use Rattle.gos_realises.specs.Links.{contact_of, contact_in}
-use Rattle.gos_joined.proofs.OriginLemmas.{before, part_at, import_of, left_index, left_at, ImportAt, import_at, left_sort, sort, sort_of, whole}
+use Rattle.gos_joined.proofs.OriginLemmas.{before, part_at, import_of, left_index, left_at, import_at, sort, sort_of, whole}
 use Rattle.gos_joined.proofs.ReachLemmas.{place_is}
 use Rattle.gos_unions.specs.Unions.{IsThere, LinksStand, HasResult, HasFieldsOf}
 use Rattle.gos_unions.specs.Flat.{all_plans, first_of, later, later_link, origin_if, deeper, deeper_link, giver_if, skipped_if, flat, AreJoinings, AllLinksStand}
 use Rattle.gos_unions.proofs.PlaceLemmas.{fields_of, stands_at, same_contact}
-use Rattle.gos_unions.proofs.NumberLemmas.{Joins, wiring_of, plan_of, stands_of, flat_at, one_number, before_flat}
-use Rattle.gos_unions.proofs.LinkLemmas.{in_range, flat_inner, flat_outer, OfWiring, OfOuter, of_flat, later_is, IsAt, JoinedBy, joined_by, by_joined, tests_agree}
+use Rattle.gos_unions.proofs.NumberLemmas.{wiring_of, plan_of, stands_of, flat_at, one_number, before_flat}
+use Rattle.gos_unions.proofs.LinkLemmas.{in_range, flat_inner, flat_outer, OfWiring, OfOuter, of_flat, IsAt, JoinedBy, joined_by, by_joined, tests_agree}
 use Rattle.gos_unions.proofs.LeftLemmas.{Lowers, lowered_all, left_two}
 
 -- part j of plan k, by its number among all

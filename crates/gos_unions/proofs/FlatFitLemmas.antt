@@ -1,20 +1,18 @@
 -- The links of the flat wiring fit where the inner and the outer ones do.
-use Rattle.std.specs.Prelude.{◌≡◌, ◌≢◌, ℕ, zero, suc, ◌+◌, ◌-◌, ◌<◌, ◌≤◌, Bool, true, false, List, [], ◌∷◌, ◌++◌, ◌⊎◌, length, map, Option, Some, None, Contains, slice_get, nat_lt, option_map}
+use Rattle.std.specs.Prelude.{◌≡◌, ℕ, zero, suc, ◌+◌, ◌<◌, List, [], ◌∷◌, ◌++◌, ◌⊎◌, length, map, Option, Some, None, Contains, slice_get}
 use Rattle.std.proofs.Common.{refl, sym, ◌∙◌, ap, subst, arith, inl, inr}
-use Rattle.std.proofs.lemmas.Bool.Decides.{nat_tests}
-use Rattle.std.proofs.lemmas.Option.{slice_get-map, slice_get_within}
 use Rattle.gos_plan.specs.Kinds.{Contact, contacts_of, turned_contact}
 use Rattle.gos_plan.specs.Plans.{End, PartEnd, ImportEnd, ResultEnd, Plan, contact_at, turned_if, IsRight}
 use Rattle.gos_plan.specs.Joining.{Place, place, Link, Wiring, origin, contacts_of_result, IsJoining}
-use Rattle.gos_realises.specs.Links.{contact_of, contact_in, IsUnjoined, EndsFit, LinkFits, StandsIn, LinksFit, IsJoined}
-use Rattle.gos_joined.proofs.OriginLemmas.{front_at, behind_at, sort, sort_of, at_origin}
+use Rattle.gos_realises.specs.Links.{contact_of, contact_in, IsUnjoined, EndsFit, LinkFits, StandsIn, LinksFit}
+use Rattle.gos_joined.proofs.OriginLemmas.{sort, sort_of, at_origin}
 use Rattle.gos_joined.proofs.ReachLemmas.{place_is}
 use Rattle.gos_joined.proofs.StepLemmas.{in_list, IsPart}
-use Rattle.gos_unions.specs.Unions.{IsThere, LinksStand, HasResult, HasFieldsOf}
-use Rattle.gos_unions.specs.Flat.{all_plans, first_of, later, later_link, inner_links, origin_if, deeper, deeper_link, giver_if, skipped_if, flat, AreJoinings, AreJoined, AllLinksStand, IsBare, LinkedPartsAreBare, FlatFits, JoinedIsFlat, FlatIsJoined}
+use Rattle.gos_unions.specs.Unions.{IsThere, LinksStand, HasResult}
+use Rattle.gos_unions.specs.Flat.{all_plans, first_of, later, later_link, inner_links, deeper, deeper_link, flat, AreJoinings, AreJoined, AllLinksStand, IsBare, LinkedPartsAreBare, FlatFits, JoinedIsFlat, FlatIsJoined}
 use Rattle.gos_unions.proofs.PlaceLemmas.{fields_of, same_contact, stands_alone}
-use Rattle.gos_unions.proofs.NumberLemmas.{Joins, plan_of, stands_of, flat_at, one_number}
-use Rattle.gos_unions.proofs.LinkLemmas.{in_range, later_is}
+use Rattle.gos_unions.proofs.NumberLemmas.{plan_of, flat_at, one_number}
+use Rattle.gos_unions.proofs.LinkLemmas.{in_range}
 use Rattle.gos_unions.proofs.DeepLemmas.{contact_in_wiring, there_in, wiring_at, deeper_at, same_place, result_flat, result_in}
 use Rattle.gos_unions.proofs.FlatLemmas.{joinings_join, flat_joins}
 

@@ -1,9 +1,9 @@
 -- A joining of joinings is the joining of the flat wiring, and back: paths of one are paths of the other.
-use Rattle.std.specs.Prelude.{◌≡◌, ◌≢◌, ℕ, zero, suc, ◌+◌, ◌<◌, List, ◌⊎◌, length, Option, Some, None, Contains, slice_get}
-use Rattle.std.proofs.Common.{refl, sym, ◌∙◌, ap, subst, arith, inl, inr}
+use Rattle.std.specs.Prelude.{◌≡◌, ℕ, ◌+◌, ◌<◌, List, ◌⊎◌, length, Option, Some, None, slice_get}
+use Rattle.std.proofs.Common.{refl, sym, ◌∙◌, ap, subst, inl, inr}
 use Rattle.std.proofs.lemmas.Option.{slice_get_within}
-use Rattle.gos_plan.specs.Kinds.{Contact, asks, serves, turned_contact}
-use Rattle.gos_plan.specs.Plans.{End, Joint, Plan, contact_at}
+use Rattle.gos_plan.specs.Kinds.{Contact, asks, serves}
+use Rattle.gos_plan.specs.Plans.{End, Plan, contact_at}
 use Rattle.gos_plan.specs.Joining.{Place, place, Link, Wiring, origin, JoinedWithin, Linked, Connects, IsJoining}
 use Rattle.gos_joined.proofs.ReachLemmas.{place_is, Step, Paths, step_back}
 use Rattle.gos_unions.specs.Unions.{IsThere, LinksStand, HasFieldsOf}
@@ -13,7 +13,7 @@ use Rattle.gos_unions.proofs.PathLemmas.{path_walk, walk_path, paths_walks, walk
 use Rattle.gos_unions.proofs.PlaceLemmas.{fields_of, stands_at}
 use Rattle.gos_unions.proofs.NumberLemmas.{wiring_of, stands_of, flat_at}
 use Rattle.gos_unions.proofs.LinkLemmas.{in_range, flat_inner, flat_outer, OfWiring, OfOuter, of_flat}
-use Rattle.gos_unions.proofs.DeepLemmas.{there_in, wiring_at, deeper_at, same_place, origin_deep, fields_flat, fields_back}
+use Rattle.gos_unions.proofs.DeepLemmas.{there_in, wiring_at, same_place, origin_deep, fields_flat, fields_back}
 
 -- a step of the wiring that there is
 abbrev StepOf : Option Wiring → Place → Place → Type 0

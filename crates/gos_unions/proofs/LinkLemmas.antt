@@ -1,13 +1,12 @@
 -- The links of the flat wiring: those of each joining, and those of the joinings; and which imports a link joins.
-use Rattle.std.specs.Prelude.{◌≡◌, ◌↔◌, ℕ, zero, suc, ◌+◌, ◌<◌, ◌||◌, ◌&&◌, Bool, true, false, List, [], ◌∷◌, ◌++◌, ◌⊎◌, length, map, Option, Some, None, Contains, slice_get, nat_eq}
+use Rattle.std.specs.Prelude.{◌≡◌, ℕ, zero, suc, ◌+◌, ◌<◌, ◌||◌, ◌&&◌, Bool, true, false, List, [], ◌∷◌, ◌⊎◌, length, map, Option, Some, None, Contains, slice_get, nat_eq}
 use Rattle.std.proofs.Common.{refl, sym, ◌∙◌, ap, subst, arith, inl, inr}
 use Rattle.std.proofs.lemmas.Bool.Decides.{nat_tests}
 use Rattle.std.proofs.lemmas.Option.{slice_get_within}
 use Rattle.std.proofs.lemmas.List.Elements.{Contains-append_left, Contains-append_right, Contains-append_cases}
-use Rattle.gos_plan.specs.Kinds.{Contact}
 use Rattle.gos_plan.specs.Plans.{End, PartEnd, ImportEnd, ResultEnd, Plan}
 use Rattle.gos_plan.specs.Joining.{Place, place, Link, Wiring, is_of_import, is_at_import, is_joined}
-use Rattle.gos_realises.specs.Links.{contact_of, contact_in}
+use Rattle.gos_realises.specs.Links.{contact_in}
 use Rattle.gos_joined.proofs.OriginLemmas.{at_import}
 use Rattle.gos_joined.proofs.ReachLemmas.{place_is}
 use Rattle.gos_unions.specs.Unions.{IsThere}

@@ -1,13 +1,11 @@
 -- The numbers of plans in the flat wiring: those of one joining follow those of the one before.
-use Rattle.std.specs.Prelude.{◌≡◌, ℕ, zero, suc, ◌+◌, ◌-◌, ◌<◌, ◌≤◌, List, [], ◌∷◌, ◌++◌, length, Option, Some, None, slice_get}
+use Rattle.std.specs.Prelude.{◌≡◌, ℕ, zero, suc, ◌+◌, ◌-◌, ◌<◌, ◌≤◌, List, [], ◌∷◌, ◌++◌, length, Some, slice_get}
 use Rattle.std.proofs.Common.{refl, sym, ◌∙◌, ap, subst, arith}
-use Rattle.std.proofs.lemmas.Option.{slice_get_within}
 use Rattle.gos_plan.specs.Plans.{Plan}
 use Rattle.gos_plan.specs.Joining.{Wiring, IsJoining, all_parts}
 use Rattle.gos_joined.proofs.OriginLemmas.{front_at, behind_at, before}
-use Rattle.gos_realises.specs.Links.{IsJoined}
 use Rattle.gos_unions.specs.Unions.{LinksStand}
-use Rattle.gos_unions.specs.Flat.{all_plans, first_of, AreJoinings, AreJoined, AllLinksStand}
+use Rattle.gos_unions.specs.Flat.{all_plans, first_of, AreJoinings, AllLinksStand}
 
 -- plan k and wiring k
 pub record Joins (vs : List Wiring) (ps : List Plan) (k : ℕ) : Type 0 where

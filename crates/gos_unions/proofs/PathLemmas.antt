@@ -1,13 +1,13 @@
 -- Paths of a wiring whose plans have joints where walks lead, of any relation: such a path is a walk of the relations and
 -- links together, and back.
-use Rattle.std.specs.Prelude.{◌≡◌, ◌≢◌, ◌↔◌, ℕ, zero, suc, List, ◌⊎◌, Option, Some, None, Contains, slice_get}
+use Rattle.std.specs.Prelude.{◌≡◌, ◌≢◌, ◌↔◌, ℕ, zero, suc, ◌⊎◌, Option, Some, None, Contains, slice_get}
 use Rattle.std.proofs.Common.{refl, sym, ◌∙◌, ap, subst, inl, inr}
 use Rattle.gos_types.specs.declared.shakes.Role.{Role}
 use Rattle.gos_types.specs.declared.shakes.Role.TheVariants.{Serve, Ask}
 use Rattle.gos_plan.specs.Kinds.{Contact, asks, serves, turned_contact}
-use Rattle.gos_plan.specs.Plans.{End, Joint, Plan, contact_at}
+use Rattle.gos_plan.specs.Plans.{End, Plan, contact_at}
 use Rattle.gos_plan.specs.Joining.{Place, Link, Wiring, JoinedWithin, Linked, Path}
-use Rattle.gos_realises.specs.Links.{contact_in, contact_of}
+use Rattle.gos_realises.specs.Links.{contact_in}
 use Rattle.gos_joined.proofs.ReachLemmas.{Told, told_end, place_is, Step, Paths, paths_then}
 use Rattle.gos_webs.specs.Webs.{joint}
 use Rattle.gos_unions.specs.Unions.{IsThere, LinksStand}

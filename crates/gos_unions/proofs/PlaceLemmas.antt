@@ -1,14 +1,14 @@
 -- Where the ends of a joining stand, as far as the joining tells: each has its handshake there, and stands alone.
-use Rattle.std.specs.Prelude.{◌≡◌, ℕ, ◌+◌, List, map, Option, Some, None, slice_get}
+use Rattle.std.specs.Prelude.{◌≡◌, ℕ, ◌+◌, List, Option, Some, None, slice_get}
 use Rattle.std.proofs.Common.{refl, sym, ◌∙◌, ap, arith}
 use Rattle.gos_types.specs.Types.{Type'}
 use Rattle.gos_model.specs.Typing.{Imported}
 use Rattle.gos_plan.specs.Kinds.{Part, Contact, contacts_of}
 use Rattle.gos_plan.specs.Plans.{End, PartEnd, ImportEnd, ResultEnd, Joint, Plan, contact_at, contacts_of_part, contacts_of_import, turned_if}
-use Rattle.gos_plan.specs.Joining.{Place, Wiring, origin, contacts_of_result, IsJoining, all_parts, all_left}
+use Rattle.gos_plan.specs.Joining.{Wiring, origin, contacts_of_result, IsJoining}
 use Rattle.gos_realises.specs.Links.{contact_of, contact_in}
 use Rattle.gos_joined.proofs.OriginLemmas.{whole, part_at, import_at, one_origin}
-use Rattle.gos_unions.specs.Unions.{IsThere, HasResult, HasFieldsOf}
+use Rattle.gos_unions.specs.Unions.{HasResult, HasFieldsOf}
 
 pub fields_of : (w : Wiring) (r : Plan) → IsJoining w r → HasFieldsOf w r
 fields_of w r is = record { parts = is.parts; imports = is.imports; outcome = is.outcome; weight = is.weight; result = is.result }

@@ -1,15 +1,15 @@
 -- Small unions and flat wirings.
-use Rattle.std.specs.Prelude.{◌≡◌, ℕ, zero, suc, ◌+◌, ◌<◌, List, [], ◌∷◌, true, false, Option, Some, None, Contains, slice_get}
-use Rattle.std.proofs.Common.{refl, sym, ◌∙◌, ap, subst, arith, inl, inr}
-use Rattle.gos_types.specs.Types.{Com, Pair}
+use Rattle.std.specs.Prelude.{◌≡◌, ℕ, zero, suc, ◌+◌, [], ◌∷◌, true, false, Some, None, slice_get}
+use Rattle.std.proofs.Common.{refl, ◌∙◌, ap, subst, arith, inl}
+use Rattle.gos_types.specs.Types.{Com}
 use Rattle.gos_plan.specs.Kinds.{Contact, contacts_of}
 use Rattle.gos_plan.specs.Plans.{PartEnd, ResultEnd, Plan, IsRight}
-use Rattle.gos_plan.specs.Joining.{Place, place, Link}
+use Rattle.gos_plan.specs.Joining.{place, Link}
 use Rattle.gos_plan.specs.SmallPlans.{skip_plan}
 use Rattle.gos_realises.specs.Links.{StandsIn, LinksFit}
 use Rattle.gos_realises.specs.Wirings.{link}
 use Rattle.gos_joined.proofs.JoiningLemmas.{fitting_is_joined}
-use Rattle.gos_webs.specs.Webs.{Of, Within, tie, here, along, own_web}
+use Rattle.gos_webs.specs.Webs.{Of, Within, here, along, own_web}
 use Rattle.gos_webs.proofs.WebLemmas.{right_is_of_its_web}
 use Rattle.gos_unions.specs.SmallUnions.{alone, SkipHasUnion, UnjoinedIsNoUnion, BeyondStandsNowhere, TwiceAppliedIs, HiddenIsNotBare, LoneIsBare}
 use Rattle.gos_unions.proofs.UnionLemmas.{joining_is_union}

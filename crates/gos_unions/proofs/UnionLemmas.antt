@@ -1,16 +1,16 @@
 -- The joining of plans of webs is the plan of the union of their webs, and back.
-use Rattle.std.specs.Prelude.{◌≡◌, ◌≢◌, ◌↔◌, ℕ, zero, suc, ◌+◌, List, [], ◌∷◌, ◌++◌, ◌⊎◌, map, Option, Some, None, Contains, slice_get}
+use Rattle.std.specs.Prelude.{◌≡◌, ℕ, zero, suc, ◌+◌, List, [], ◌∷◌, map, Option, Some, None, Contains, slice_get}
 use Rattle.std.proofs.Common.{refl, sym, ◌∙◌, ap, subst, arith, inl, inr}
 use Rattle.std.proofs.lemmas.List.Elements.{Contains-append_left, Contains-append_right, Contains-append_cases}
-use Rattle.gos_plan.specs.Kinds.{Contact, asks, serves, turned_contact}
+use Rattle.gos_plan.specs.Kinds.{Contact, asks, serves}
 use Rattle.gos_plan.specs.Plans.{End, Plan, contact_at}
 use Rattle.gos_plan.specs.Joining as joining
 use Rattle.gos_plan.specs.Joining.{Place, Link, Wiring, origin, IsJoining}
 use Rattle.gos_joined.proofs.ReachLemmas.{Paths}
-use Rattle.gos_webs.specs.Webs.{Dot, Within, Tie, tie, Web, Meet, Way, here, along, Connects, joint, IsOfWeb}
-use Rattle.gos_unions.specs.Unions.{within, all_within, at_of, dot_at, link_ties, union, AreOfWebs, IsThere, LinksStand, HasFieldsOf, JoiningIsUnion, UnionIsJoining}
+use Rattle.gos_webs.specs.Webs.{Dot, Within, Tie, tie, Web, Meet, Way, here, along, Connects, IsOfWeb}
+use Rattle.gos_unions.specs.Unions.{within, all_within, at_of, dot_at, link_ties, union, AreOfWebs, IsThere, LinksStand, JoiningIsUnion, UnionIsJoining}
 use Rattle.gos_unions.proofs.WalkLemmas.{Walk, Walks, goes, mapped_walk, followed_walk}
-use Rattle.gos_unions.proofs.PathLemmas.{Led, IsLed, spot, Between, Whole, path_to_walk, walk_to_path}
+use Rattle.gos_unions.proofs.PathLemmas.{IsLed, spot, Whole, path_to_walk, walk_to_path}
 use Rattle.gos_unions.proofs.PlaceLemmas.{fields_of, stands_at}
 
 -- ways are walks of ties

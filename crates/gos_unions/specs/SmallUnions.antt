@@ -2,11 +2,11 @@
 --
 -- Read first: Flat; SmallPlans of gos_plan; SmallWebs of gos_webs. They show that these definitions can be met and can be
 -- missed.
-use Rattle.std.specs.Prelude.{◌≡◌, ℕ, List, [], ◌∷◌, Some}
-use Rattle.gos_types.specs.Types.{Type', Com, Exp, Fun}
-use Rattle.gos_plan.specs.Kinds.{Part, Skip, Deref}
-use Rattle.gos_plan.specs.Plans.{End, PartEnd, ImportEnd, ResultEnd, Plan}
-use Rattle.gos_plan.specs.Joining.{Link, Wiring}
+use Rattle.std.specs.Prelude.{◌≡◌, [], ◌∷◌, Some}
+use Rattle.gos_types.specs.Types.{Com, Exp, Fun}
+use Rattle.gos_plan.specs.Kinds.{Skip, Deref}
+use Rattle.gos_plan.specs.Plans.{PartEnd, ResultEnd, Plan}
+use Rattle.gos_plan.specs.Joining.{Wiring}
 use Rattle.gos_plan.specs.SmallPlans.{skip_plan, same_plan, same_of_skip}
 use Rattle.gos_realises.specs.Wirings.{lone, link, side, applying}
 use Rattle.gos_webs.specs.Webs.{Web, IsOfWeb, own_web}
