@@ -16,8 +16,6 @@ mod modules;
 mod numbers;
 mod plans;
 mod points;
-#[cfg(test)]
-mod tests;
 mod types;
 mod walk;
 mod wires;

@@ -22,26 +22,26 @@ use Rattle.gos_link.proofs.ServiceLemmas.{In}
 use Rattle.gos_link.proofs.PointLemmas.{contact_in, IsThere, back, back_at, of_service, back_tells}
 
 -- 1 where ends are one
-abbrev one_if : Bool → ℕ
+abbrev pub one_if : Bool → ℕ
 one_if b = if b then 1 else 0
 
-abbrev one_end : End → End → ℕ
+abbrev pub one_end : End → End → ℕ
 one_end e f = one_if (same_end e f)
 
 -- how often an end is in joints
-abbrev stands : End → List Joint → ℕ
+abbrev pub stands : End → List Joint → ℕ
 stands e [] = 0
 stands e (j ∷ js) = one_end e j.asking + one_end e j.serving + stands e js
 
-role_differs : Ask ≡ Serve → ⊥
+pub role_differs : Ask ≡ Serve → ⊥
 role_differs e = cc e
 
-abbrev role_or : Option Contact → Role
+abbrev pub role_or : Option Contact → Role
 role_or None = Ask
 role_or (Some c) = c.role
 
 -- an end is in one joint at most, and in none behind one
-abbrev Seldom : End → List Joint → List Joint → Type 0
+abbrev pub Seldom : End → List Joint → List Joint → Type 0
 Seldom e before js = (stands e js ≤ 1) × ((is_free e before ≡ false) → stands e js ≡ 0)
 
 less : (a b f : Bool) → (a ≡ true) ⊎ (b ≡ true) → (not (a || b) && f) ≡ false
@@ -63,7 +63,7 @@ count_false : (a : Bool) → a ≡ false → one_if a ≡ 0
 count_false false e = refl
 count_false true e = absurd (cc e)
 
-seldom : (p : Plan) (before js : List Joint) (e : End) → AreRight p before js → Seldom e before js
+pub seldom : (p : Plan) (before js : List Joint) (e : End) → AreRight p before js → Seldom e before js
 seldom p before [] e r = (omega arith, λ f. refl)
 seldom p before (j ∷ js) e ((fits, asking, serving), rest) = by (seldom p (j ∷ before) js e rest) (same_end e j.asking) (same_end e j.serving) refl refl
   where
@@ -185,7 +185,7 @@ place_upto (spots.Node k) (spots.Import l) = omega arith
 place_upto (spots.Node k) spots.Result = omega arith
 place_upto (spots.Node k) (spots.Number l) = omega arith
 
-once_cases : (q p : Point) → (once q p ≡ 0) ⊎ ((q ≡ p) × (once q p ≤ 1))
+pub once_cases : (q p : Point) → (once q p ≡ 0) ⊎ ((q ≡ p) × (once q p ≤ 1))
 once_cases q p =
     number_cases p.shake q.shake
     (λ e b. elim (same_place q.place p.place) [

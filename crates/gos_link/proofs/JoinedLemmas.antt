@@ -24,7 +24,7 @@ at_end (PartEnd i h) = refl
 at_end (ImportEnd i h) = refl
 at_end (ResultEnd h) = refl
 
-one_at : (a b : End) → at a ≡ at b → a ≡ b
+pub one_at : (a b : End) → at a ≡ at b → a ≡ b
 one_at a b e = ap (λ (o : Option End). unwrap_or o a) (sym (at_end a) ∙ (ap (λ (p : Point). end_at p) e ∙ at_end b))
 
 -- the joints of gos_ties are in the list
@@ -50,7 +50,7 @@ module _ (ps : List Plan) (ss : List Service) (root : ℕ) (known : AreJoinable 
   contact_same r bears (ImportEnd i h) = ap (λ (xs : List Imported). slice_get (contacts_of_import (slice_get xs i)) h) bears.imports
   contact_same r bears (ResultEnd h) = ap (λ (t : Type'). turned_if (slice_get (contacts_of t) h)) bears.outcome
 
-  there_at : (r : Plan) → Bears r → (e : End) (c : Contact) → contact_at r e ≡ Some c → Stands ps ss root known e c
+  pub there_at : (r : Plan) → Bears r → (e : End) (c : Contact) → contact_at r e ≡ Some c → Stands ps ss root known e c
   there_at r bears e c is = stands ps ss root known [] e c (sym (contact_same r bears e) ∙ is)
 
   pub is_joining : (s : SeenPlan) → Bears (plan_of s) → s.weight ≡ all_weight ps → IsRight (plan_of s)

@@ -14,5 +14,10 @@ mod WalkLemmas
 mod CountLemmas
 mod BoundLemmas
 mod JoinedLemmas
+mod FewLemmas
 mod TieLemmas
 mod JudgeLemmas
+mod WholeLemmas
+mod StageLemmas
+mod AnswerLemmas
+mod ReadingLemmas

@@ -2,4 +2,5 @@
 pub mod BuildFile
 pub mod Services
 pub mod Linked
+pub mod Answers
 pub mod inner

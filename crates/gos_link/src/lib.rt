@@ -8,14 +8,11 @@ mod build;
 mod fault;
 mod file_name;
 mod joining;
-#[cfg(test)]
-mod link_tests;
+mod laws;
 mod linking;
 mod noting;
 mod opens;
 mod reading;
-#[cfg(test)]
-mod reading_tests;
 mod said;
 mod services;
 mod size;
@@ -25,5 +22,6 @@ mod whole;
 pub use build::{Bind, Build, Instance};
 pub use fault::LinkFault;
 pub use file_name::FileName;
+pub use laws::{few_joints, one_answer, one_build};
 pub use linking::link;
 pub use reading::read_build;

@@ -1,4 +1,4 @@
-use Rattle.std.proofs.Common.{◌≡◌, ◌∙◌, ◌<◌, ◌≤◌, ℕ, List, arith, Option, Some, ap, length, map, refl, subst, sym}
+use Rattle.std.proofs.Common.{◌≡◌, ◌∙◌, ◌<◌, ◌≤◌, List, arith, Option, Some, ap, length, map, refl, subst, sym}
 use Rattle.std.specs.Prelude.{◌↔◌, slice_get, option_map}
 use Rattle.std.proofs.lemmas.Option.{slice_get_read, slice_get-map}
 use Rattle.std.proofs.lemmas.List.{length-map}
@@ -8,15 +8,14 @@ use Rattle.gos_types.specs.Handshakes.{handshakes_of}
 use Rattle.gos_plan.specs.declared.kinds.Kind.{Kind}
 use Rattle.gos_plan.specs.declared.plan.PlanImport.{PlanImport}
 use Rattle.gos_types.specs.Widths.{HasWidths}
-use Rattle.gos_plan.specs.Ranges.{IsSmall}
 use Rattle.gos_plan.specs.Plans.{End, Plan}
 use Rattle.gos_plan.specs.Seen.{SeenPlan, import_of, joint_of, part_of, plan_of}
-use Rattle.gos_plan.specs.Joining.{LeftImport, all_left}
+use Rattle.gos_plan.specs.Joining.{LeftImport}
 use Rattle.gos_ties.specs.declared.points.Tie.{Tie}
 use Rattle.gos_ties.specs.Counted.{IsThin}
 use Rattle.gos_ties.specs.Ties.{Connects, Has, bare, joint}
 use Rattle.gos_link.specs.declared.opens.Open.{Open}
-use Rattle.gos_link.specs.Linked.{outcome_of, whole_of}
+use Rattle.gos_link.specs.Linked.{outcome_of}
 use Rattle.gos_link.specs.inner.Opens.{open_seen}
 use Rattle.gos_link.specs.inner.Wired.{ties_from}
 use Rattle.gos_link.proofs.ServiceLemmas.{opens_left}

@@ -1,0 +1,10 @@
+pub mod SeamLemmas
+pub mod SingleLemmas
+pub mod TogetherLemmas
+pub mod TermLemmas
+pub mod SideLemmas
+pub mod ReadingLemmas
+mod ApplicationLemmas
+pub mod OpenedLemmas
+mod BodyLemmas
+mod SmallFunctionLemmas

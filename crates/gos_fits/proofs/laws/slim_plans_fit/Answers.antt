@@ -1,0 +1,8 @@
+use Rattle.gos_fits.proofs.FitLemmas.{linked_is_slim, slim_is_never_too_large}
+use Rattle.gos_fits.proofs.laws.slim_plans_fit.Goals as goal
+
+pub returns-clause-slim : goal.returns-clause-slim
+returns-clause-slim c = linked_is_slim c.few_joints.ensures
+
+pub returns-clause-fits : goal.returns-clause-fits
+returns-clause-fits c = slim_is_never_too_large c.few_joints.ensures

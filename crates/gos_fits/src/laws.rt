@@ -1,0 +1,13 @@
+// What the definitions give for all builds. The theorem is the contract of a function that does nothing.
+
+ghost use Rattle.gos_fits.specs.Fits.{LinkedIsSlim, SlimIsNeverTooLarge};
+
+use gos_link::few_joints;
+
+/// Where all plans of a build are slim, so is the linked plan, and `link` never answers `TooLarge`.
+pub fn slim_plans_fit()
+    ensures slim { LinkedIsSlim }
+    ensures fits { SlimIsNeverTooLarge }
+{
+    few_joints();
+}

@@ -1,0 +1,26 @@
+// What the definitions give for every build file and every build. Each theorem is the contract of a function that does nothing.
+
+ghost use Rattle.gos_link.specs.Answers.{BuildHasNoWrongLine, HasOneFault, HasOneWrongLine, IsOneBuild, JointsAreFew, LinkedHasNoFault, LinkedIsOne};
+
+use gos_plan::one_joining;
+
+/// A text is one build at most, or has one first wrong line, and not both.
+pub fn one_build()
+    ensures build { IsOneBuild }
+    ensures wrong_line { HasOneWrongLine }
+    ensures either { BuildHasNoWrongLine }
+{}
+
+/// A build has one linked plan at most, but for the order of its joints, or one fault, and not both.
+pub fn one_answer()
+    ensures linked { LinkedIsOne }
+    ensures fault { HasOneFault }
+    ensures either { LinkedHasNoFault }
+{
+    one_joining();
+}
+
+/// The joining of a build's plans has no more joints than these have together.
+pub fn few_joints()
+    ensures { JointsAreFew }
+{}
