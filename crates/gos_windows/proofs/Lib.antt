@@ -16,3 +16,5 @@ pub mod ClosingLemmas
 pub mod MatchLemmas
 pub mod OrderLemmas
 pub mod SmallNodeLemmas
+pub mod SmallRegionLemmas
+pub mod SmallLoyalLemmas

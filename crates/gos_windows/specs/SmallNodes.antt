@@ -1,17 +1,18 @@
 -- Small nodes: the plan of `skip ; skip`, and a Share that serves both callers.
 --
 -- Read first: Windows; SmallWebs of gos_webs. They show that these definitions can be met and can be missed.
-use Rattle.std.specs.Prelude.{ℕ, zero, suc, [], ◌∷◌, Option, Some, None}
+use Rattle.std.specs.Prelude.{ℕ, zero, suc, List, [], ◌∷◌, Option, Some, None, codes}
 use Rattle.gos_types.specs.Types.{Com}
 use Rattle.gos_model.specs.Terms as terms
+use Rattle.gos_model.specs.Typing.{Imported}
 use Rattle.gos_plan.specs.Kinds.{Skip, Seq, Share}
 use Rattle.gos_plan.specs.Plans.{End, PartEnd, ImportEnd, ResultEnd, Plan}
 use Rattle.gos_plan.specs.SmallPlans.{skip_plan}
 use Rattle.gos_webs.specs.Webs.{joint}
-use Rattle.gos_webs.specs.SmallWebs.{twice_plan, first_out}
+use Rattle.gos_webs.specs.SmallWebs.{twice_plan, number_of_first, first_out}
 use Rattle.gos_webs.specs.Cutting.{Cut}
 use Rattle.gos_sessions.specs.Sessions.{Form, Sequence}
-use Rattle.gos_windows.specs.Regions.{IsLoyal}
+use Rattle.gos_windows.specs.Regions.{Serving, IsRegion, IsLoyal}
 use Rattle.gos_windows.specs.Nodes.{Stage, IsNode}
 
 -- the second Skip, cut out
@@ -65,3 +66,61 @@ both_plan =
 -- Its Share is loyal to neither caller.
 abbrev pub SharedForBoth : Type 0
 SharedForBoth = (IsLoyal 1 Com 0 both_plan → ⊥) × (IsLoyal 1 Com 1 both_plan → ⊥)
+
+-- the plan of `c ; c`, whose children share `c`
+abbrev pub an_import : List Imported
+an_import = record { name = codes "c"; ty = Com } ∷ []
+
+abbrev pub calls_plan : Plan
+calls_plan =
+    record {
+      weight = 20;
+      imports = an_import;
+      outcome = Com;
+      parts = Seq 0 ∷ Share Com ∷ [];
+      joints =
+          joint (ResultEnd 0) (PartEnd 0 2) ∷ joint (PartEnd 0 0) (PartEnd 1 1) ∷ joint (PartEnd 0 1) (PartEnd 1 2)
+          ∷ joint (PartEnd 1 0) (ImportEnd 0 0) ∷ [];
+    }
+
+-- its first child, with the Share for its supply
+abbrev pub call_plan : Plan
+call_plan =
+    record {
+      weight = 10;
+      imports = an_import;
+      outcome = Com;
+      parts = Share Com ∷ [];
+      joints = joint (ResultEnd 0) (PartEnd 0 1) ∷ joint (PartEnd 0 0) (ImportEnd 0 0) ∷ [];
+    }
+
+abbrev pub call_outer : End → End
+call_outer (PartEnd i h) = PartEnd 0 0
+call_outer (ImportEnd i h) = ImportEnd 0 0
+call_outer (ResultEnd h) = PartEnd 0 0
+
+abbrev pub call_inner : End → Option End
+call_inner (PartEnd zero zero) = Some (ResultEnd 0)
+call_inner (PartEnd zero (suc h)) = None
+call_inner (PartEnd (suc i) h) = None
+call_inner (ImportEnd zero zero) = Some (ImportEnd 0 0)
+call_inner (ImportEnd zero (suc h)) = None
+call_inner (ImportEnd (suc i) h) = None
+call_inner (ResultEnd h) = None
+
+abbrev pub call_out : Cut
+call_out = record { part = λ i. 1; number = number_of_first; outer = call_outer; inner = call_inner }
+
+abbrev pub served : ℕ → Serving
+served c = record { part = 1; ty = Com; side = c }
+
+-- is a region, where the Share serves it as its first caller, and none where it is said to be the second
+abbrev pub CallIsRegion : Type 0
+CallIsRegion = IsRegion call_out (served 0 ∷ []) calls_plan call_plan
+
+abbrev pub WrongSideIsNone : Type 0
+WrongSideIsNone = IsRegion call_out (served 1 ∷ []) calls_plan call_plan → ⊥
+
+-- and the Share is loyal to it there
+abbrev pub CallIsLoyal : Type 0
+CallIsLoyal = IsLoyal 0 Com 0 call_plan

@@ -2,7 +2,7 @@
 ghost use Rattle.gos_windows.specs.Closing.{IdleIsClosed};
 ghost use Rattle.gos_windows.specs.Keeping.{TurnsKeepProtocol};
 ghost use Rattle.gos_windows.specs.Nodes.{NodeIsRegular, NodeKeepsTurns};
-ghost use Rattle.gos_windows.specs.SmallNodes.{OneIsMissing, SharedForBoth, TwiceIsNode};
+ghost use Rattle.gos_windows.specs.SmallNodes.{CallIsLoyal, CallIsRegion, OneIsMissing, SharedForBoth, TwiceIsNode, WrongSideIsNone};
 ghost use Rattle.gos_windows.specs.Windows.{ListsAreStaged, OwnPartCan, QuietIsWithin};
 
 /// Inputs that keep turns keep the protocol.
@@ -35,4 +35,12 @@ pub fn small_nodes()
     ensures node { TwiceIsNode }
     ensures missing { OneIsMissing }
     ensures both { SharedForBoth }
+{}
+
+/// The first child of `c ; c`, with the Share for its supply, is a region, and none where the Share is said to serve it as
+/// its second caller. The Share is loyal to it there.
+pub fn small_regions()
+    ensures region { CallIsRegion }
+    ensures wrong { WrongSideIsNone }
+    ensures loyal { CallIsLoyal }
 {}
