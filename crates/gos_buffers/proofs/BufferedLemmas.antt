@@ -2,7 +2,7 @@
 use Rattle.std.specs.Prelude.{◌⊎◌, ◌+◌, ◌-◌, ◌*◌, ◌<◌, ◌≤◌, ◌&&◌, ◌||◌, None, IsTrue, nat_eq, slice_get, length, map}
 use Rattle.std.proofs.Common.{◌≡◌, ℕ, zero, suc, Bool, true, false, not, List, [], ◌∷◌, ◌++◌, Option, Some, Contains, inl, inr, refl, sym, ◌∙◌, ap, subst, arith}
 use Rattle.std.proofs.lemmas.Option.{slice_get_within}
-use Rattle.gos_types.specs.Types.{Type', Com, Exp, Var, Pair, Fun, IsGround}
+use Rattle.gos_types.specs.Types.{Type', IsGround}
 use Rattle.gos_types.specs.Handshakes.{turned}
 use Rattle.gos_types.specs.declared.shakes.Role.{Role}
 use Rattle.gos_types.specs.declared.shakes.Role.TheVariants.{Serve, Ask}
@@ -20,7 +20,7 @@ use Rattle.gos_webs.proofs.MovedLemmas.{listed}
 use Rattle.gos_sharing.specs.Sharing.{source_end, caller_end, way_into, way_out_of, IsOfPart, LeadsThrough, IsSeenThrough}
 use Rattle.gos_sharing.proofs.SeenTokenLemmas.{either_end}
 use Rattle.gos_buffers.specs.Buffers.{IsBuffer}
-use Rattle.gos_buffers.specs.Buffering.{with_part, end_behind, joint_behind, callers_joined, buffered, ResultIsJoined, BufferedIsBuffer, DoneIsBuffered}
+use Rattle.gos_buffers.specs.Buffering.{with_part, end_behind, joint_behind, callers_joined, buffered, ResultIsJoined, BufferedIsBuffer}
 use Rattle.gos_buffers.proofs.GroundLemmas.{ground_serves}
 use Rattle.gos_buffers.proofs.LoosePartLemmas.{loose_part_is_free}
 use Rattle.gos_buffers.proofs.RegularLemmas.{buffered_is_regular}
@@ -31,7 +31,7 @@ pub at_last : (xs : List Part) (y : Part) → slice_get (xs ++ (y ∷ [])) (leng
 at_last [] y = refl
 at_last (x ∷ xs) y = at_last xs y
 
-before_last : (xs : List Part) (y : Part) (i : ℕ) → (i ≡ length xs → ⊥) → slice_get (xs ++ (y ∷ [])) i ≡ slice_get xs i
+pub before_last : (xs : List Part) (y : Part) (i : ℕ) → (i ≡ length xs → ⊥) → slice_get (xs ++ (y ∷ [])) i ≡ slice_get xs i
 before_last [] y zero apart = absurd (apart refl)
 before_last [] y (suc i) apart = refl
 before_last (x ∷ xs) y zero apart = refl
@@ -48,12 +48,12 @@ later h n le e = grind (arith, le, e)
 pub above : (h n : ℕ) → suc n ≤ h → nat_eq h n ≡ true → ⊥
 above h n le e = let same : h ≡ n = grind (arith, e) in omega (arith, same, le)
 
-apart_callers : (n c j h : ℕ) → c < 2 → j < n → h < n → n + (1 - c) * n + j ≡ n + c * n + h → ⊥
+pub apart_callers : (n c j h : ℕ) → c < 2 → j < n → h < n → n + (1 - c) * n + j ≡ n + c * n + h → ⊥
 apart_callers n zero j h two lt le e = omega (arith, lt, le, e)
 apart_callers n (suc zero) j h two lt le e = omega (arith, lt, le, e)
 apart_callers n (suc (suc c)) j h two lt le e = omega (arith, two)
 
-stands_asking : (e a b : End) → e ≡ a → stands_in e (joint a b) ≡ true
+pub stands_asking : (e a b : End) → e ≡ a → stands_in e (joint a b) ≡ true
 stands_asking e a b same =
     let t : same_end e a ≡ true = subst (λ (x : End). same_end e x ≡ true) same (same_itself e) in rw t refl
 
@@ -255,7 +255,7 @@ module _ (c : ℕ) (p : Plan) (two : c < 2) (right : IsRight p) (ground : IsGrou
       with_one x before fit all j (inr h) = all j h
 
   -- the joints of the caller
-  caller_contact : (h : ℕ) (k : Contact) → slice_get (contacts_of p.outcome) h ≡ Some k → contact_at whole (caller_end number p.outcome c h) ≡ Some k
+  pub caller_contact : (h : ℕ) (k : Contact) → slice_get (contacts_of p.outcome) h ≡ Some k → contact_at whole (caller_end number p.outcome c h) ≡ Some k
   caller_contact h k there = share_contact (count p.outcome + c * count p.outcome + h) ∙ by_caller c two
     where
       by_caller : (b : ℕ) → b < 2 → slice_get (part_contacts (Share p.outcome)) (count p.outcome + b * count p.outcome + h) ≡ Some k
@@ -308,7 +308,7 @@ module _ (c : ℕ) (p : Plan) (two : c < 2) (right : IsRight p) (ground : IsGrou
   result_not h (ImportEnd j g) = refl
   result_not h (ResultEnd g) = refl
 
-  caller_not : (h : ℕ) (e : End) (k : Contact) → contact_at p e ≡ Some k → caller_end number p.outcome c h ≡ end_behind number e → ⊥
+  pub caller_not : (h : ℕ) (e : End) (k : Contact) → contact_at p e ≡ Some k → caller_end number p.outcome c h ≡ end_behind number e → ⊥
   caller_not h (PartEnd j g) k there e = known_part j g k there (sym (part_of number (count p.outcome + c * count p.outcome + h) j g e))
   caller_not h (ImportEnd j g) k there e = cc e
   caller_not h (ResultEnd g) k there e =
@@ -425,13 +425,13 @@ module _ (c : ℕ) (p : Plan) (two : c < 2) (right : IsRight p) (ground : IsGrou
           )
 
   -- an end behind the Share that isn't the Share's is one of the plan
-  outside_behind : (a d : End) → a ≡ end_behind number d → (IsOfPart number a → ⊥) → a ≡ d
+  pub outside_behind : (a d : End) → a ≡ end_behind number d → (IsOfPart number a → ⊥) → a ≡ d
   outside_behind a (PartEnd j h) e apart = e
   outside_behind a (ImportEnd j h) e apart = e
   outside_behind a (ResultEnd h) e apart = absurd (apart (subst (λ (x : End). IsOfPart number x) (sym e) refl))
 
   -- the asker of the Share's handshake is the result
-  source_behind : (j : ℕ) (d : End) (k : Contact) → contact_at p d ≡ Some k → source_end number j ≡ end_behind number d → d ≡ ResultEnd j
+  pub source_behind : (j : ℕ) (d : End) (k : Contact) → contact_at p d ≡ Some k → source_end number j ≡ end_behind number d → d ≡ ResultEnd j
   source_behind j (PartEnd l g) k there e = absurd (known_part l g k there (sym (part_of number j l g e)))
   source_behind j (ImportEnd l g) k there e = absurd (cc e)
   source_behind j (ResultEnd g) k there e = ap ResultEnd (sym (shake_of number j number g e))
@@ -562,7 +562,7 @@ loosely t c p two outcome ground result right =
     buffer : IsBuffer (length p.parts) p.outcome c (buffered p.outcome c p) (with_part (Share p.outcome) p)
     buffer = is_buffer c p two right own result
 
-done_suits : (t : Type') (c : ℕ) (p : Plan) (m : Term) → c < 2 → IsGround t → ResultIsJoined p → Suits t p m → Suits t (buffered t c p) m
+pub done_suits : (t : Type') (c : ℕ) (p : Plan) (m : Term) → c < 2 → IsGround t → ResultIsJoined p → Suits t p m → Suits t (buffered t c p) m
 done_suits t c p m two ground result suits =
     let found = loosely t c p two suits.outcome ground result suits.right in
     record {
@@ -574,11 +574,7 @@ done_suits t c p m two ground result suits =
       regular = found.1 suits.regular;
     }
 
-pub done_is_buffered : DoneIsBuffered
-done_is_buffered Com c p m two done result realises =
-    record { suits = done_suits Com c p m two tt result realises.suits; means = (loosely Com c p two realises.suits.outcome tt result realises.suits.right).2 m realises.means }
-done_is_buffered (Exp w) c p m two done result realises =
-    record { suits = done_suits (Exp w) c p m two tt result realises.suits; means = (loosely (Exp w) c p two realises.suits.outcome tt result realises.suits.right).2 m realises.means }
-done_is_buffered (Var w) c p m two done result realises = absurd done
-done_is_buffered (Pair a b) c p m two done result realises = absurd done
-done_is_buffered (Fun a b) c p m two done result realises = absurd done
+-- a command or an expression
+pub done_is_buffered : (t : Type') (c : ℕ) (p : Plan) (m : Term) → c < 2 → IsGround t → ResultIsJoined p → Suits t p m → RealisesDone p m → Suits t (buffered t c p) m × RealisesDone (buffered t c p) m
+done_is_buffered t c p m two ground result suits done =
+    (done_suits t c p m two ground result suits, (loosely t c p two suits.outcome ground result suits.right).2 m done)

@@ -26,10 +26,10 @@ path_named w r home housed (suc n) a b (x, inl here, path) = housed.within a x h
 path_named w r home housed (suc n) a b (x, inr here, path) = housed.linked a x here ∙ path_named w r home housed n x b path
 
 -- two ends of one handshake are those of a joint
-abbrev Together : Plan → End → End → Type 0
+abbrev pub Together : Plan → End → End → Type 0
 Together r a b = IsIn (joint a b) r.joints ⊎ IsIn (joint b a) r.joints
 
-together : (r : Plan) (a b : End) → IsRight r → a ≢ b → handshake_at r a ≡ handshake_at r b → Together r a b
+pub together : (r : Plan) (a b : End) → IsRight r → a ≢ b → handshake_at r a ≡ handshake_at r b → Together r a b
 together r a b right apart same = by_places (places_of r a) refl (places_of r b) refl
   where
     named : (e x : End) → places_of r e ≡ Some x → handshake_at r e ≡ x
@@ -73,10 +73,10 @@ together r a b right apart same = by_places (places_of r a) refl (places_of r b)
     by_places None h (Some y) k = absurd (one_placed b a y k h (sym (named b y k) ∙ (sym same ∙ bare a h)))
     by_places (Some x) h (Some y) k = both_placed x h (k ∙ ap Some (sym (named b y k) ∙ (sym same ∙ named a x h)))
 
-is_contact : (r : Plan) (e : End) (c d : Contact) → contact_at r e ≡ Some c → contact_at r e ≡ Some d → c ≡ d
+pub is_contact : (r : Plan) (e : End) (c d : Contact) → contact_at r e ≡ Some c → contact_at r e ≡ Some d → c ≡ d
 is_contact r e c d h k = let both : Some c ≡ Some d = sym h ∙ k in cc both
 
-not_both : (q a x y : ℕ) → asks q a ≡ serves x y → ⊥
+pub not_both : (q a x y : ℕ) → asks q a ≡ serves x y → ⊥
 not_both q a x y e = let roles : Ask ≡ Serve = ap (λ (c : Contact). c.role) e in cc roles
 
 pub housed_joining : (w : Wiring) (r : Plan) (home : Place → End) → IsRight r → IsHoused w r home

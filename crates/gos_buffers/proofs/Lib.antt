@@ -9,3 +9,8 @@ pub mod BufferedLemmas
 pub mod HousedLemmas
 pub mod JoinedBufferLemmas
 mod SmallBufferLemmas
+pub mod DrivenLemmas
+pub mod LooseDrivenLemmas
+pub mod ReadingLemmas
+pub mod WritingLemmas
+pub mod VariableLemmas

@@ -5,8 +5,8 @@ use Rattle.gos_model.specs.Terms.{Term}
 use Rattle.gos_model.specs.Labels.{Label}
 use Rattle.gos_model.specs.Moves.{Program, Config, Idle, Act}
 use Rattle.gos_model.specs.Protocol.{KeepsProtocol}
-use Rattle.gos_plan.specs.Kinds.{Contact, Part}
-use Rattle.gos_plan.specs.Plans.{End, PartEnd, ImportEnd, ResultEnd, Plan, contact_at, contacts_of_part, IsRight}
+use Rattle.gos_plan.specs.Kinds.{Contact, Part, asks, serves}
+use Rattle.gos_plan.specs.Plans.{End, PartEnd, ImportEnd, ResultEnd, Joint, Plan, contact_at, contacts_of_part, AreRight, IsRight}
 use Rattle.gos_plan.specs.Firing.{Slot, Req, Ans, Token}
 use Rattle.gos_plan.specs.Tokens.{Tokens, Element, Fire, Out, In, places_of, held_at, token_at, end_of, way_of, shake_of, firing_of, with_token, with_state, with_puts, Does, Runs, IsQuiet}
 use Rattle.gos_plan.specs.Orderly.{Open, none_open, after_taken, after_put, after_puts, AllComeWell, ComesInOrder, AllWelcome, OrderlyFrom, IsOrderly}
@@ -173,6 +173,26 @@ module _ (k : Part) (p : Plan) (right : IsRight p) where
       let was = runs_back xs s w runs in
       let (matched, orderly) = realises s w xs idle was (subst (λ (ls : List Label). KeepsProtocol p.imports ls) (all_same xs s w was) keeps) in
       (matched_on (program_of p m) xs s Idle matched, is_orderly_on xs s orderly)
+
+-- it is right with it
+part_stays : (k : Part) (p : Plan) (e : End) (c : Contact) → contact_at p e ≡ Some c → contact_at (with_part k p) e ≡ Some c
+part_stays k p (PartEnd i h) c there = of_part (slice_get p.parts i) refl
+  where
+    of_part : (f : Option Part) → slice_get p.parts i ≡ f → slice_get (contacts_of_part (slice_get (p.parts ++ (k ∷ [])) i)) h ≡ Some c
+    of_part None e = let none : slice_get (contacts_of_part None) h ≡ Some c = sym (ap (λ x. slice_get (contacts_of_part x) h) e) ∙ there in absurd (cc none)
+    of_part (Some x) e =
+        ap (λ y. slice_get (contacts_of_part y) h) (in_front p.parts (k ∷ []) i x e) ∙ (sym (ap (λ y. slice_get (contacts_of_part y) h) e) ∙ there)
+part_stays k p (ImportEnd i h) c there = there
+part_stays k p (ResultEnd h) c there = there
+
+all_right : (k : Part) (p : Plan) (before js : List Joint) → AreRight p before js → AreRight (with_part k p) before js
+all_right k p before [] are = tt
+all_right k p before (x ∷ xs) are =
+    let fit = are.0.0 in
+    (((fit.0, fit.1, part_stays k p x.asking (asks fit.0 fit.1) fit.2, part_stays k p x.serving (serves fit.0 fit.1) fit.3), are.0.1, are.0.2), all_right k p (x ∷ before) xs are.1)
+
+pub with_part_right : (k : Part) (p : Plan) → IsRight p → IsRight (with_part k p)
+with_part_right k p right = all_right k p [] p.joints right
 
 pub loose_part_is_free : LoosePartIsFree
 loose_part_is_free k p right = (regular_on k p right, realises_on k p right)

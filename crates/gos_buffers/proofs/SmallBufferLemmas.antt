@@ -16,7 +16,7 @@ use Rattle.gos_plan.specs.SmallPlans.{skip_plan, at_first}
 use Rattle.gos_realises.specs.Regular.{InputsKeepTurns}
 use Rattle.gos_buffers.proofs.BranchLemmas.{buffers_are_loyal}
 use Rattle.gos_realises.proofs.SkipLemmas.{skip_is_realised}
-use Rattle.gos_buffers.proofs.BufferedLemmas.{done_is_buffered}
+use Rattle.gos_buffers.proofs.VariableLemmas.{ground_is_buffered}
 use Rattle.gos_buffers.specs.SmallBuffers.{shared_skip, bare_skip, SharedIsBuffered, FirstIsBuffer, FirstIsLoyal, SharedIsRealised, SecondIsNotLoyal, EmptyIsUnjoined, SecondIsNone, BothAreNone, unsourced_skip, UnsourcedIsNone}
 
 shared_is_right : IsRight shared_skip
@@ -113,7 +113,7 @@ result_joined zero lt = (joint (ResultEnd 0) (PartEnd 0 0), (0, omega arith, ref
 result_joined (suc j) lt = absurd (omega (arith, lt))
 
 pub shared_is_realised : SharedIsRealised
-shared_is_realised = done_is_buffered Com 0 skip_plan terms.Skip (omega arith) tt result_joined skip_is_realised
+shared_is_realised = ground_is_buffered Com 0 skip_plan terms.Skip (omega arith) tt result_joined skip_is_realised
 
 pub shared_is_buffered : SharedIsBuffered
 shared_is_buffered = refl

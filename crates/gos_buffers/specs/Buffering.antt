@@ -2,7 +2,7 @@
 --
 -- Read first: Buffers; Realises of gos_realises.
 use Rattle.std.specs.Prelude.{ℕ, zero, suc, ◌<◌, List, [], ◌∷◌, ◌++◌, length, map}
-use Rattle.gos_types.specs.Types.{Type', IsGround, IsDone}
+use Rattle.gos_types.specs.Types.{Type', IsGround}
 use Rattle.gos_model.specs.Terms.{Term}
 use Rattle.gos_plan.specs.Kinds.{Part, Share}
 use Rattle.gos_plan.specs.Plans.{End, PartEnd, ImportEnd, ResultEnd, Joint, Plan, IsRight}
@@ -80,7 +80,7 @@ BufferedIsBuffer =
     → IsBuffer (length p.parts) p.outcome c (buffered p.outcome c p) (with_part (Share p.outcome) p)
 
 -- so it realises what the plan does
-abbrev pub DoneIsBuffered : Type 0
-DoneIsBuffered =
+abbrev pub GroundIsBuffered : Type 0
+GroundIsBuffered =
     (t : Type') (c : ℕ) (p : Plan) (m : Term)
-    → c < 2 → IsDone t → ResultIsJoined p → Realises t p m → Realises t (buffered t c p) m
+    → c < 2 → IsGround t → ResultIsJoined p → Realises t p m → Realises t (buffered t c p) m

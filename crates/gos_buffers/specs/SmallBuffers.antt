@@ -1,6 +1,7 @@
 -- Small buffers, and Shares that are none.
 --
--- Read first: Buffering; SmallPlans of gos_plan; OtherPlans of gos_realises. They show that the definition can be met and can be missed.
+-- Read first: Buffering; SmallPlans of gos_plan; OtherPlans of gos_realises. They show that the definitions can be met and can be
+-- missed.
 use Rattle.std.specs.Prelude.{◌≡◌, ℕ, [], ◌∷◌}
 use Rattle.gos_types.specs.Types.{Com}
 use Rattle.gos_model.specs.Terms as terms
@@ -25,7 +26,7 @@ shared_skip =
 abbrev pub bare_skip : Plan
 bare_skip = record skip_plan { parts = Skip ∷ Share Com ∷ [] }
 
--- which is the plan of `skip` behind the first caller
+-- The plan with the Share is that of `skip` behind the first caller.
 abbrev pub SharedIsBuffered : Type 0
 SharedIsBuffered = shared_skip ≡ buffered Com 0 skip_plan
 

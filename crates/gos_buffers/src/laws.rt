@@ -1,6 +1,6 @@
 // What the definitions give. Each theorem is the contract of a function that does nothing.
 ghost use Rattle.gos_buffers.specs.Buffers.{WorksForOne, BufferedIsRegular, BufferedRealises, BuffersAreLoyal};
-ghost use Rattle.gos_buffers.specs.Buffering.{LoosePartIsFree, BufferedIsBuffer, BufferedIsJoined, DoneIsBuffered};
+ghost use Rattle.gos_buffers.specs.Buffering.{LoosePartIsFree, BufferedIsBuffer, BufferedIsJoined, GroundIsBuffered};
 ghost use Rattle.gos_buffers.specs.SmallBuffers.{BothAreNone, EmptyIsUnjoined, FirstIsBuffer, FirstIsLoyal, SecondIsNone, SecondIsNotLoyal, SharedIsBuffered, SharedIsRealised, UnsourcedIsNone};
 
 /// A Share of which one caller alone is joined works for that caller, and is loyal to it.
@@ -24,10 +24,10 @@ pub fn loose_parts()
     ensures { LoosePartIsFree }
 {}
 
-/// A plan behind a Share is a buffer, and realises the command or the expression that the plan realises.
+/// A plan behind a Share is a buffer, and realises what the plan realises: a command, an expression or a variable.
 pub fn plans_of_buffers()
     ensures buffer { BufferedIsBuffer }
-    ensures done { DoneIsBuffered }
+    ensures realises { GroundIsBuffered }
 {}
 
 /// The plan behind a Share is the joining of that plan with the Share.

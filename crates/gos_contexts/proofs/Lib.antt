@@ -18,4 +18,3 @@ pub mod PlacedLemmas
 pub mod LocalLemmas
 pub mod SmallLemmas
 pub mod EndedLemmas
-pub mod ShapeLemmas

@@ -67,7 +67,7 @@ ghost use Rattle.gos_contexts.specs.LocalVariable.{
   WriteAnswered,
   UnfoldingsBefore,
 };
-ghost use Rattle.gos_contexts.specs.Ends.{CommandsEndInSkip, RightWaitsForEnded, LeftWaitsForEnded};
+ghost use Rattle.gos_contexts.specs.Ends.{RightWaitsForEnded, LeftWaitsForEnded};
 ghost use Rattle.gos_contexts.specs.SmallContexts.{SidesAreNotAlone, RequestsAreNotInner, BlocksOpenInPlace, StoresKeepScopes, LocationsStand, LocationsAreScoped, BlocksDiffer, BlockIsRenamed, RenamingsTellApart, ZeroIsFree, NoneAreAmongSome, NamesAreKnown, EntriesInAnyOrder, StoresAreApart, StoreIsHeld, LocationIsPlaced, OthersAreLeft, HomeIsApart, LabelsElsewhere};
 
 /// What a term does it does also at a reached place of another one.
@@ -178,9 +178,8 @@ pub fn local_variables()
     ensures before { UnfoldingsBefore }
 {}
 
-/// What a run ends with, and how `||` waits where one side has ended.
-pub fn ends_of_runs()
-    ensures skip { CommandsEndInSkip }
+/// How `||` waits where one side has ended.
+pub fn waits_for_ended()
     ensures right { RightWaitsForEnded }
     ensures left { LeftWaitsForEnded }
 {}

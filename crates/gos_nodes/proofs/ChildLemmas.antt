@@ -26,7 +26,7 @@ use Rattle.gos_results.proofs.ResultLemmas.{moves_then, answers_are_typed}
 use Rattle.gos_windows.specs.Regions.{whole_element}
 use Rattle.gos_windows.specs.Nodes.{Stage, IsStage}
 use Rattle.gos_windows.specs.Windows.{seen, Begins}
-use Rattle.gos_nodes.proofs.ProtocolLemmas.{turns_keep_protocol}
+use Rattle.gos_windows.proofs.KeepingLemmas.{turns_keep_protocol}
 use Rattle.gos_nodes.proofs.SilentLemmas.{silent_inner, one_inner, inner_stays, asked_first, answer_last, no_request}
 use Rattle.gos_nodes.proofs.FrameLemmas.{frame_is, framed, framed_unfolds}
 use Rattle.gos_nodes.proofs.RegionLemmas.{token_stands, own_stays, fires_goes_on, out_shown, in_shown}
@@ -66,6 +66,13 @@ stage_ground r d g ground is = ground_all g.plan.imports (λ x there. ground_one
 pub stage_among : (r : Plan) (d : ℕ) (g : Stage) → NamesDiffer r.imports → IsStage r d g → AreAmong g.plan.imports r.imports
 stage_among r d g differ is = among g.plan.imports r.imports differ is.imports
 
+-- to an equal configuration
+moves_at : (q : Program) (acts : List Act) (b c d : Config) → c ≡ d → Moves q acts b c → Moves q acts b d
+moves_at q acts b c d e h = subst (λ (x : Config). Moves q acts b x) e h
+
+matched_at : (p : Plan) (q : Program) (xs : List Element) (s : Tokens) (c d : Config) → c ≡ d → IsMatched p q xs s c → IsMatched p q xs s d
+matched_at p q xs s c d e h = subst (λ (x : Config). IsMatched p q xs s x) e h
+
 -- what is known of a session that begins
 pub record Opened (d : ℕ) (f : Form) (g : Stage) (ys : List Element) (s : Tokens) (e : Session) : Type 0 where
   pub term : Term
@@ -84,7 +91,7 @@ opens r d f g ys s e ground is at asked outcome typed realises begins =
     let list : List Element = In (ResultEnd 0) 0 ∷ ys in
     let runs : Runs p list begins.before begins.after = (seen g s, begins.asked, begins.runs) in
     let keeps =
-    turns_keep_protocol p list begins.before begins.after is.region.right (stage_ground r d g ground is) is.names is.outcome begins.idle runs begins.turns in
+    turns_keep_protocol p list begins.before begins.after (stage_ground r d g ground is) is.names is.outcome runs begins.turns in
     let first = (realises begins.before begins.after list begins.idle runs keeps).0.1 (seen g s) begins.asked in
     let shown : labels first.0 ≡ given 0 0 ∷ [] = first.3 ∙ request_shown p 0 is.outcome in
     let after = asked_first (child g e) first.0 first.1 (given 0 0) first.2 shown in
@@ -94,7 +101,7 @@ opens r d f g ys s e ground is at asked outcome typed realises begins =
       store = stays.1;
       acts = after.0;
       silent = after.1;
-      moves = subst (λ (c : Config). Moves (child g e) after.0 (Running e.term []) c) stays.2 after.2;
+      moves = moves_at (child g e) after.0 (Running e.term []) first.1 (Running stays.0 stays.1) stays.2 after.2;
       inner =
           record {
             at = at;
@@ -102,8 +109,8 @@ opens r d f g ys s e ground is at asked outcome typed realises begins =
             outcome = outcome;
             typed = typed;
             acts = first.0;
-            ran = subst (λ (c : Config). Moves (child g e) first.0 Idle c) stays.2 first.2;
-            matched = subst (λ (c : Config). IsMatched p (child g e) ys (seen g s) c) stays.2 first.5;
+            ran = moves_at (child g e) first.0 Idle first.1 (Running stays.0 stays.1) stays.2 first.2;
+            matched = matched_at p (child g e) ys (seen g s) first.1 (Running stays.0 stays.1) stays.2 first.5;
             past = pass (ResultEnd 0) (way_in (contact_at p (ResultEnd 0))) ∷ [];
             turns = begins.turns.1;
             stand = open_first p (way_in (contact_at p (ResultEnd 0)));
@@ -191,7 +198,7 @@ goes_within r d f q g y ys s t e m st ground differ same is does whole inner =
     let stir = stirred r d g ground is p y ys s (seen g t) t next.0 m st next.1 inner.past does whole next.2 next.3 next.4 inner.turns inner.stand in
     let stays = inner_stays p next.0 m st next.1 stir.inner next.2 in
     let moves : Moves p next.0 (Running m st) (Running stays.0 stays.1) =
-    subst (λ (c : Config). Moves p next.0 (Running m st) c) stays.2 next.2 in
+    moves_at p next.0 (Running m st) next.1 (Running stays.0 stays.1) stays.2 next.2 in
     let less : AreAmong g.plan.imports q.imports = subst (λ (i : List Imported). AreAmong g.plan.imports i) (sym same) (stage_among r d g differ is) in
     record {
       term = stays.0;
@@ -208,7 +215,7 @@ goes_within r d f q g y ys s t e m st ground differ same is does whole inner =
             typed = inner.typed;
             acts = inner.acts ++ next.0;
             ran = moves_then p inner.acts next.0 Idle (Running m st) (Running stays.0 stays.1) inner.ran moves;
-            matched = subst (λ (c : Config). IsMatched g.plan p ys (seen g t) c) stays.2 next.5;
+            matched = matched_at g.plan p ys (seen g t) next.1 (Running stays.0 stays.1) stays.2 next.5;
             past = stir.past;
             turns = stir.turns;
             stand = stir.stand;

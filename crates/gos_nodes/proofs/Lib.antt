@@ -2,7 +2,7 @@ pub mod SilentLemmas
 pub mod FrameLemmas
 pub mod RegionLemmas
 pub mod PortLemmas
-pub mod ProtocolLemmas
 pub mod ChildLemmas
 pub mod MatchedLemmas
 pub mod RestLemmas
+pub mod SmallLemmas

@@ -22,11 +22,12 @@ use Rattle.gos_sessions.proofs.TableLemmas.{tables_are_right}
 use Rattle.gos_contexts.proofs.WideningLemmas.{sources_known, runs_known}
 use Rattle.gos_results.proofs.ResultLemmas.{moves_then}
 use Rattle.gos_windows.specs.Regions.{whole_element}
-use Rattle.gos_windows.specs.Nodes.{Stage, IsNode, NodeIsRegular}
+use Rattle.gos_windows.specs.Nodes.{Stage, IsNode}
 use Rattle.gos_windows.specs.Windows.{seen, HoldsOnly, StirsOnly, Begins, Where, Resting, Asked, Within, Answered, LeadsTo, to_session, to_answer, Staged, rests, waits, stays, holds, is_asked, begins, stirs, goes_on, replies}
 use Rattle.gos_windows.proofs.QuietLemmas.{quiet_is_within, own_part_can}
 use Rattle.gos_windows.proofs.WindowLemmas.{lists_are_staged}
-use Rattle.gos_nodes.specs.Realised.{AreRealised, NodeRealises}
+use Rattle.gos_windows.proofs.OrderLemmas.{node_is_regular}
+use Rattle.gos_nodes.specs.Realised.{AreRealised, NodeIsMatched, NodeRealises}
 use Rattle.gos_nodes.proofs.SilentLemmas.{labels_then, unfold_first}
 use Rattle.gos_nodes.proofs.FrameLemmas.{frame_is, framed, framed_waits}
 use Rattle.gos_nodes.proofs.SilentLemmas.{silent_inner}
@@ -303,10 +304,13 @@ module _
   matches w xs s (replies s1 t ys v here does rest) fits =
       replied s1 t ys v fits here does (matches Resting ys t rest (next_fits (Out (ResultEnd 0) v) s1 t fits does))
 
-pub node_realises : NodeIsRegular → NodeRealises
-node_realises regular r d f gs node real =
-    let is_regular = (regular r d f gs node).0 in
+pub node_is_matched : NodeIsMatched
+node_is_matched r d f gs s t xs node real idle runs turns =
+    matches r d f gs node real Resting xs s (lists_are_staged r d f gs s t xs node idle runs turns) (idle_fits r s idle)
+
+pub node_realises : NodeRealises
+node_realises r d f gs node real =
+    let is_regular = (node_is_regular r d f gs node).0 in
     let done = subst IsDone (sym node.outcome) node.done in
     matching_suffices r (own_term f) is_regular node.ground node.names done (λ s t xs idle runs keeps.
-    let turns = protocol_keeps_turns r xs s t is_regular node.ground node.names done idle runs keeps in
-    matches r d f gs node real Resting xs s (lists_are_staged r d f gs s t xs node idle runs turns) (idle_fits r s idle))
+    node_is_matched r d f gs s t xs node real idle runs (protocol_keeps_turns r xs s t is_regular node.ground node.names done idle runs keeps))

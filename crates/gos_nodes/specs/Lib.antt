@@ -1,1 +1,2 @@
 pub mod Realised
+pub mod SmallNodes

@@ -5,12 +5,12 @@ use Rattle.std.specs.Prelude.{◌≡◌, ℕ, List, [], Some, Contains}
 use Rattle.gos_types.specs.Types.{IsDone}
 use Rattle.gos_model.specs.Terms.{Term}
 use Rattle.gos_model.specs.Typing.{Typed}
-use Rattle.gos_model.specs.Protocol.{KeepsProtocol}
+use Rattle.gos_model.specs.Moves.{Idle}
 use Rattle.gos_plan.specs.Firing.{Phase}
-use Rattle.gos_plan.specs.Plans.{Plan, IsRight}
+use Rattle.gos_plan.specs.Plans.{Plan}
 use Rattle.gos_plan.specs.Tokens.{Tokens, Element, Runs, IsIdle}
 use Rattle.gos_realises.specs.Regular.{InputsKeepTurns}
-use Rattle.gos_realises.specs.Matched.{all_shown, RealisesDone}
+use Rattle.gos_realises.specs.Matched.{IsMatched, program_of, RealisesDone}
 use Rattle.gos_realises.specs.Realises.{AllGround, NamesDiffer}
 use Rattle.gos_sessions.specs.Sessions.{Form, Session, session_of, own_term}
 use Rattle.gos_windows.specs.Nodes.{Stage, IsRestful, IsNode}
@@ -22,19 +22,19 @@ AreRealised f gs =
     → (g : Stage) × Contains gs g × (g.asked_at ≡ e.asked_at) × (g.plan.outcome ≡ e.ty)
     × Typed g.plan.imports [] e.term e.ty × RealisesDone g.plan e.term
 
--- then the node realises the form's term
+-- Then each list of the node from an idle state, where its inputs keep turns, is matched by the form's term.
+abbrev pub NodeIsMatched : Type 0
+NodeIsMatched =
+    (r : Plan) (d : ℕ) (f : Form) (gs : List Stage) (s t : Tokens) (xs : List Element)
+    → IsNode r d f gs → AreRealised f gs → IsIdle r s → Runs r xs s t → InputsKeepTurns r [] xs
+    → IsMatched r (program_of r (own_term f)) xs s Idle
+
+-- So the node realises the term: its lists are orderly too, since a node is regular.
 abbrev pub NodeRealises : Type 0
 NodeRealises = (r : Plan) (d : ℕ) (f : Form) (gs : List Stage) → IsNode r d f gs → AreRealised f gs → RealisesDone r (own_term f)
-
--- where the inputs keep turns they keep the protocol
-abbrev pub TurnsKeepProtocol : Type 0
-TurnsKeepProtocol =
-    (p : Plan) (xs : List Element) (s t : Tokens)
-    → IsRight p → AllGround p.imports → NamesDiffer p.imports → IsDone p.outcome → IsIdle p s → Runs p xs s t
-    → InputsKeepTurns p [] xs → KeepsProtocol p.imports (all_shown p xs)
 
 -- A plan that realises a term of a command or an expression rests after its answer.
 abbrev pub RealisersRest : Type 0
 RealisersRest =
     (p : Plan) (m : Term)
-    → IsRight p → AllGround p.imports → NamesDiffer p.imports → IsDone p.outcome → RealisesDone p m → IsRestful p
+    → AllGround p.imports → NamesDiffer p.imports → IsDone p.outcome → RealisesDone p m → IsRestful p

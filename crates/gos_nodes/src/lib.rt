@@ -5,4 +5,4 @@
 
 mod laws;
 
-pub use laws::{nodes_realise, realisers_rest, turns_keep_protocol};
+pub use laws::{nodes_realise, realisers_rest, small_nodes};

@@ -5,10 +5,12 @@ mod ProtocolLemmas
 mod LinkedLemmas
 mod PlainTurnLemmas
 mod OutputLemmas
+mod OpenLemmas
 mod OrderLemmas
 mod RegularLemmas
 mod MoveLemmas
 mod QuietLemmas
+mod StandLemmas
 mod MatchLemmas
 mod RealisesLemmas
 mod SmallParallelLemmas

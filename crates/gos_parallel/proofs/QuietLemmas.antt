@@ -20,7 +20,7 @@ use Rattle.gos_parallel.specs.Parallel.{IsSide, IsJointOf, IsPartOf, IsParallel}
 use Rattle.gos_parallel.proofs.RegionLemmas as region
 use Rattle.gos_parallel.proofs.RegionLemmas.{Held, result_held}
 use Rattle.gos_parallel.proofs.StepLemmas.{gate, passes_out, passes_in}
-use Rattle.gos_parallel.proofs.OrderLemmas.{firing_same}
+use Rattle.gos_parallel.proofs.OpenLemmas.{firing_same}
 
 -- what is no place of a joint is empty, and what is no part is at rest
 pub record Neat (r : Plan) (s : Tokens) : Type 0 where

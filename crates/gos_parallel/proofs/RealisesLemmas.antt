@@ -20,7 +20,8 @@ use Rattle.gos_parallel.proofs.ProtocolLemmas.{turns_in_turn, in_turn_keeps}
 use Rattle.gos_parallel.proofs.LinkedLemmas.{left_list, right_list, left_runs_on, right_runs_on, lists_in_turn, linked_first}
 use Rattle.gos_parallel.proofs.RegularLemmas.{parallel_is_regular}
 use Rattle.gos_parallel.proofs.QuietLemmas.{neat_first}
-use Rattle.gos_parallel.proofs.MatchLemmas.{matches, rests}
+use Rattle.gos_parallel.proofs.StandLemmas.{rests}
+use Rattle.gos_parallel.proofs.MatchLemmas.{matches}
 
 module _
     (d : ℕ) (f g : Cut) (r p q : Plan) (m n : Term) (is : IsParallel d f g r p q) (literals : All LiteralFits r.parts) (ground : AllGround r.imports)

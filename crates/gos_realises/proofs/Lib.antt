@@ -1,12 +1,12 @@
 pub mod RingLemmas
-mod OneJointLemmas
+pub mod OneJointLemmas
 pub mod SkipLemmas
 pub mod NameLemmas
 mod TraceLemmas
 mod SmallLinkLemmas
 mod SmallTurnLemmas
 mod SmallLemmas
-mod RenumberLemmas
+pub mod RenumberLemmas
 mod RotateLemmas
 pub mod LeftLemmas
 mod AloneLemmas

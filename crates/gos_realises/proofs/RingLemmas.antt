@@ -86,14 +86,14 @@ Script S next succ (x ∷ xs) q = (x ≡ next q) × Script S next succ xs (succ 
 module _
     (p : Plan) (S : Type 0) (next : S → Element) (succ : S → S) (At : S → Tokens → Type 0) (OpenAt : S → Open → Type 0)
     (Opened : S → (End → Bool) → Type 0) (circle : IsCircle p S next succ At OpenAt Opened) where
-  leads_on : (x : Element) (q : S) (s w : Tokens) → x ≡ next q → At q s → Does p x s w → At (succ q) w
+  pub leads_on : (x : Element) (q : S) (s w : Tokens) → x ≡ next q → At q s → Does p x s w → At (succ q) w
   leads_on x q s w e here does = circle.leads q s w here (subst (λ (y : Element). Does p y s w) e does)
 
   passed_on : (x : Element) (q : S) (past : List Pass) → x ≡ next q → Opened q (is_open past) → Opened (succ q) (is_open (after p x past))
   passed_on x q past e o =
       subst (λ (y : Element). Opened (succ q) (is_open (after p y past))) (sym e) (circle.passed q past o)
 
-  by_turns : (xs : List Element) (q : S) (s t : Tokens) (past : List Pass)
+  pub by_turns : (xs : List Element) (q : S) (s t : Tokens) (past : List Pass)
       → At q s → Runs p xs s t → Opened q (is_open past) → InputsKeepTurns p past xs → Script S next succ xs q
   by_turns [] q s t past here runs o keeps = tt
   by_turns (Fire i k ∷ xs) q s t past here (w, does, runs) o keeps =

@@ -19,15 +19,15 @@ use Rattle.gos_realises.specs.SmallRealisers.{SkipIsRealised}
 use Rattle.gos_realises.proofs.OneJointLemmas.{Lies, rests_alone, is_idle, with_request, with_answer, not_both}
 use Rattle.gos_realises.proofs.RingLemmas.{after, told_open, OutputTurns, MayCome, IsCircle, IsRing, IsFirst, circle_is_regular, ring_realises}
 
-data Stage : Type 0 where
+pub data Stage : Type 0 where
   Resting Asked Answered : Stage
 
-abbrev next : Stage → Element
+abbrev pub next : Stage → Element
 next Resting = In (ResultEnd 0) 0
 next Asked = Fire 0 (Req 0)
 next Answered = Out (ResultEnd 0) 0
 
-abbrev succ : Stage → Stage
+abbrev pub succ : Stage → Stage
 succ Resting = Asked
 succ Asked = Answered
 succ Answered = Resting
@@ -42,17 +42,17 @@ config Resting = Idle
 config Asked = Running terms.Skip []
 config Answered = Running terms.Skip []
 
-abbrev At : Stage → Tokens → Type 0
+abbrev pub At : Stage → Tokens → Type 0
 At Resting s = Lies (ResultEnd 0) None None s
 At Asked s = Lies (ResultEnd 0) (Some 0) None s
 At Answered s = Lies (ResultEnd 0) None (Some 0) s
 
-abbrev OpenAt : Stage → Open → Type 0
+abbrev pub OpenAt : Stage → Open → Type 0
 OpenAt Resting o = o (ResultEnd 0) ≡ false
 OpenAt Asked o = o (ResultEnd 0) ≡ true
 OpenAt Answered o = o (ResultEnd 0) ≡ true
 
-abbrev Opened : Stage → (End → Bool) → Type 0
+abbrev pub Opened : Stage → (End → Bool) → Type 0
 Opened Resting f = f (ResultEnd 0) ≡ false
 Opened Asked f = f (ResultEnd 0) ≡ true
 Opened Answered f = f (ResultEnd 0) ≡ true
@@ -244,7 +244,7 @@ goes_on Resting s here = tt
 goes_on Asked s here = tt
 goes_on Answered s here = tt
 
-circle : IsCircle skip_plan Stage next succ At OpenAt Opened
+pub circle : IsCircle skip_plan Stage next succ At OpenAt Opened
 circle =
     record {
       leads = leads;
@@ -269,7 +269,7 @@ ring =
       goes_on = goes_on;
     }
 
-first : IsFirst skip_plan Stage At OpenAt Opened Resting
+pub first : IsFirst skip_plan Stage At OpenAt Opened Resting
 first = record { rests = λ s idle. rests_alone (ResultEnd 0) skip_plan s idle; none = refl; closed = refl; silent = refl }
 
 pub skip_is_realised : SkipIsRealised

@@ -37,7 +37,7 @@ same_part (suc zero) = refl
 same_part (suc (suc zero)) = refl
 same_part (suc (suc (suc n))) = refl
 
-twice_is_right : IsRight twice_plan
+pub twice_is_right : IsRight twice_plan
 twice_is_right = (((0, 0, refl, refl), refl, refl), (((0, 0, refl, refl), refl, refl), (((0, 0, refl, refl), refl, refl), tt)))
 
 swapped_is_right : IsRight swapped_plan
@@ -97,7 +97,7 @@ swap_is_seen is = not_second ((is.joints (PartEnd 0 0) (PartEnd 1 0)).0 (1, omeg
 pub skip_is_right : IsRight skip_plan
 skip_is_right = (((0, 0, refl, refl), refl, refl), tt)
 
-abbrev skip_joint : Joint
+abbrev pub skip_joint : Joint
 skip_joint = joint (ResultEnd 0) (PartEnd 0 0)
 
 its_part : (i : ℕ) (k : Part) → slice_get skip_plan.parts i ≡ Some k → (slice_get twice_plan.parts 1 ≡ Some k) × (Some 0 ≡ Some i)

@@ -15,3 +15,4 @@ pub mod WaitLemmas
 pub mod ClosingLemmas
 pub mod MatchLemmas
 pub mod OrderLemmas
+pub mod SmallNodeLemmas

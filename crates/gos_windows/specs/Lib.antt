@@ -4,3 +4,4 @@ pub mod Nodes
 pub mod Windows
 pub mod Keeping
 pub mod Closing
+pub mod SmallNodes

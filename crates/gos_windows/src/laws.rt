@@ -2,6 +2,7 @@
 ghost use Rattle.gos_windows.specs.Closing.{IdleIsClosed};
 ghost use Rattle.gos_windows.specs.Keeping.{TurnsKeepProtocol};
 ghost use Rattle.gos_windows.specs.Nodes.{NodeIsRegular, NodeKeepsTurns};
+ghost use Rattle.gos_windows.specs.SmallNodes.{OneIsMissing, SharedForBoth, TwiceIsNode};
 ghost use Rattle.gos_windows.specs.Windows.{ListsAreStaged, OwnPartCan, QuietIsWithin};
 
 /// Inputs that keep turns keep the protocol.
@@ -26,4 +27,12 @@ pub fn lists_of_nodes()
 pub fn nodes_are_regular()
     ensures turns { NodeKeepsTurns }
     ensures regular { NodeIsRegular }
+{}
+
+/// The plan of `skip ; skip` is a node of two stages, and with one of them left out it is none. A Share by which both
+/// children use one source is loyal to neither.
+pub fn small_nodes()
+    ensures node { TwiceIsNode }
+    ensures missing { OneIsMissing }
+    ensures both { SharedForBoth }
 {}

@@ -5,4 +5,6 @@
 
 mod laws;
 
-pub use laws::{idle_is_closed, lists_of_nodes, nodes_are_regular, turns_keep_protocol};
+pub use laws::{
+    idle_is_closed, lists_of_nodes, nodes_are_regular, small_nodes, turns_keep_protocol,
+};

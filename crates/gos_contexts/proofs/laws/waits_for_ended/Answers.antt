@@ -1,9 +1,5 @@
-use Rattle.gos_contexts.proofs.ShapeLemmas.{commands_end_in_skip}
 use Rattle.gos_contexts.proofs.EndedLemmas.{right_waits_for_ended, left_waits_for_ended}
-use Rattle.gos_contexts.proofs.laws.ends_of_runs.Goals as goal
-
-pub returns-clause-skip : goal.returns-clause-skip
-returns-clause-skip c = commands_end_in_skip
+use Rattle.gos_contexts.proofs.laws.waits_for_ended.Goals as goal
 
 pub returns-clause-right : goal.returns-clause-right
 returns-clause-right c = right_waits_for_ended

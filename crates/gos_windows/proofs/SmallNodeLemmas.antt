@@ -1,0 +1,337 @@
+-- The plan of `skip ; skip` is a node of two stages; and a Share that serves both callers, list by list.
+use Rattle.std.specs.Prelude.{◌≡◌, ℕ, zero, suc, Some, All, slice_get, Contains, List, [], ◌∷◌, ◌++◌, ◌⊎◌}
+use Rattle.std.proofs.Common.{refl, sym, ◌∙◌, ap, subst, arith, inl, inr}
+use Rattle.std.proofs.lemmas.Option.{none-some, same_Some}
+use Rattle.gos_netlist.specs.Events.{Request}
+use Rattle.gos_model.specs.Typing.{Imported}
+use Rattle.gos_plan.specs.Kinds.{Part, Skip}
+use Rattle.gos_plan.specs.Firing.{Phase, Rest, First, Second, Req, Ans, row, at, put}
+use Rattle.gos_plan.specs.Plans.{End, PartEnd, ImportEnd, ResultEnd, Joint, Plan, contact_at}
+use Rattle.gos_plan.specs.Tokens.{Tokens, Element, Fire, Out, In, IsPortEnd, with_token, fired, Runs, IsIdle}
+use Rattle.gos_plan.specs.TokenBits.{LiteralFits}
+use Rattle.gos_plan.specs.SmallPlans.{skip_plan, at_first}
+use Rattle.gos_realises.specs.Regular.{IsRegular}
+use Rattle.gos_realises.proofs.OneJointLemmas.{is_idle}
+use Rattle.gos_realises.proofs.RingLemmas.{Script, by_turns, leads_on}
+use Rattle.gos_realises.proofs.SkipLemmas as skips
+use Rattle.gos_realises.proofs.SkipLemmas.{skip_is_realised}
+use Rattle.gos_webs.specs.Webs.{joint}
+use Rattle.gos_webs.specs.SmallWebs.{twice_plan, first_out}
+use Rattle.gos_webs.specs.Cutting.{Cut, IsCut, IsInside, StandsIn, lies_at}
+use Rattle.gos_webs.proofs.SmallWebLemmas.{twice_is_right, skip_is_right, skip_joint, one_port, first_is_cut}
+use Rattle.gos_sessions.specs.Sessions.{Session, session_of}
+use Rattle.gos_windows.specs.Regions.{Serving, IsRegion}
+use Rattle.gos_windows.specs.Nodes.{Stage, IsRestful, IsStage, IsOfStage}
+use Rattle.gos_windows.specs.SmallNodes.{number_of_second, port_of_second, second_out, first_stage, second_stage, twice_form, TwiceIsNode, OneIsMissing, both_plan, SharedForBoth}
+
+-- a cut is a region without Shares
+no_serving : (n : Serving) → Contains [] n → ⊥
+no_serving n (k, within, is) = omega (arith, within)
+
+cut_region : (f : Cut) (r c : Plan) → IsCut f r c → IsRegion f [] r c
+cut_region f r c is =
+    record {
+      whole_right = is.whole_right;
+      right = is.right;
+      parts = is.parts;
+      numbers = is.numbers;
+      ports = is.ports;
+      inners = is.inners;
+      contacts = is.contacts;
+      joints = is.joints;
+      all = λ a b there inside. inl (is.all a b there inside);
+      serving = λ n there. absurd (no_serving n there);
+      unused = λ n i j there number low stands. no_serving n there;
+    }
+
+-- the second Skip
+its_part : (i : ℕ) (k : Part) → slice_get skip_plan.parts i ≡ Some k → (slice_get twice_plan.parts 2 ≡ Some k) × (Some 0 ≡ Some i)
+its_part zero k is = (is, refl)
+its_part (suc i) k is = absurd (none-some k is)
+
+its_number : (i j : ℕ) → number_of_second i ≡ Some j → (2 ≡ i) × ((k : Part) × (slice_get skip_plan.parts j ≡ Some k))
+its_number zero j is = absurd (none-some j is)
+its_number (suc zero) j is = absurd (none-some j is)
+its_number (suc (suc zero)) j is = (refl, (Skip, ap (λ n. slice_get skip_plan.parts n) (sym (same_Some 0 j is))))
+its_number (suc (suc (suc i))) j is = absurd (none-some j is)
+
+its_inner : (b e : End) → port_of_second b ≡ Some e → IsPortEnd e × StandsIn skip_plan e × (PartEnd 0 1 ≡ b)
+its_inner (PartEnd zero zero) e is = absurd (none-some e is)
+its_inner (PartEnd zero (suc zero)) e is =
+    subst (λ x. IsPortEnd x × StandsIn skip_plan x × (PartEnd 0 1 ≡ PartEnd 0 1)) (same_Some (ResultEnd 0) e is)
+    (tt, (skip_joint, (0, omega arith, refl), refl), refl)
+its_inner (PartEnd zero (suc (suc h))) e is = absurd (none-some e is)
+its_inner (PartEnd (suc i) h) e is = absurd (none-some e is)
+its_inner (ImportEnd i h) e is = absurd (none-some e is)
+its_inner (ResultEnd h) e is = absurd (none-some e is)
+
+its_joint : (a b : End) → Contains skip_plan.joints (joint a b) → Contains twice_plan.joints (joint (lies_at second_out a) (lies_at second_out b))
+its_joint a b (zero, l, e) = (2, omega arith, ap (λ (j : Joint). joint (lies_at second_out j.asking) (lies_at second_out j.serving)) e)
+its_joint a b (suc n, l, e) = absurd (omega (arith, l))
+
+abbrev Inside : Joint → Type 0
+Inside j = IsInside second_out j.asking ⊎ IsInside second_out j.serving
+
+outside_run : Inside (joint (ResultEnd 0) (PartEnd 0 2)) → ⊥
+outside_run (inl h) = h
+outside_run (inr (j, h)) = none-some j h
+
+outside_first : Inside (joint (PartEnd 0 0) (PartEnd 1 0)) → ⊥
+outside_first (inl (j, h)) = none-some j h
+outside_first (inr (j, h)) = none-some j h
+
+all_its_joints : (a b : End) → Contains twice_plan.joints (joint a b) → IsInside second_out a ⊎ IsInside second_out b
+    → (d e : End) × Contains skip_plan.joints (joint d e) × (lies_at second_out d ≡ a) × (lies_at second_out e ≡ b)
+all_its_joints a b (zero, l, e) inside = absurd (outside_run (subst (λ (j : Joint). Inside j) (sym e) inside))
+all_its_joints a b (suc zero, l, e) inside = absurd (outside_first (subst (λ (j : Joint). Inside j) (sym e) inside))
+all_its_joints a b (suc (suc zero), l, e) inside =
+    (ResultEnd 0, PartEnd 0 0, (0, omega arith, refl), ap (λ (j : Joint). j.asking) e, ap (λ (j : Joint). j.serving) e)
+all_its_joints a b (suc (suc (suc n)), l, e) inside = absurd (omega (arith, l))
+
+second_is_cut : IsCut second_out twice_plan skip_plan
+second_is_cut =
+    record {
+      whole_right = twice_is_right;
+      right = skip_is_right;
+      parts = its_part;
+      numbers = its_number;
+      ports = λ e port stands. (refl, ap Some (one_port e port stands));
+      inners = its_inner;
+      contacts = λ e port stands. ap (contact_at skip_plan) (one_port e port stands);
+      joints = its_joint;
+      all = all_its_joints;
+    }
+
+-- `skip` rests after its answer
+last_of : (xs : List Element) (x : Element) (q : skips.Stage) (s t : Tokens) → skips.At q s → Runs skip_plan (xs ++ x ∷ []) s t → Script skips.Stage skips.next skips.succ (xs ++ x ∷ []) q
+    → (z : skips.Stage) × (x ≡ skips.next z) × skips.At (skips.succ z) t
+last_of [] x q s t here (w, does, is) (e, script) =
+    (q, e, subst (skips.At (skips.succ q)) (sym is) (leads_on skip_plan skips.Stage skips.next skips.succ skips.At skips.OpenAt skips.Opened skips.circle x q s w e here does))
+last_of (y ∷ ys) x q s t here (w, does, runs) (e, script) =
+    last_of ys x (skips.succ q) w t (leads_on skip_plan skips.Stage skips.next skips.succ skips.At skips.OpenAt skips.Opened skips.circle y q s w e here does) runs script
+
+answered : (v : ℕ) (z : skips.Stage) (t : Tokens) → Out (ResultEnd 0) v ≡ skips.next z → skips.At (skips.succ z) t → IsIdle skip_plan t
+answered v skips.Resting t is here = let clash : Out (ResultEnd 0) v ≡ In (ResultEnd 0) 0 = is in absurd (cc clash)
+answered v skips.Asked t is here = let clash : Out (ResultEnd 0) v ≡ Fire 0 (Req 0) = is in absurd (cc clash)
+answered v skips.Answered t is here = is_idle (ResultEnd 0) skip_plan t here
+
+skip_rests : IsRestful skip_plan
+skip_rests s t xs v idle runs turns =
+    let here = skips.first.rests s idle in
+    let script =
+    by_turns skip_plan skips.Stage skips.next skips.succ skips.At skips.OpenAt skips.Opened skips.circle (xs ++ Out (ResultEnd 0) v ∷ []) skips.Resting s t [] here runs
+    skips.first.closed turns in
+    let (z, is, there) = last_of xs (Out (ResultEnd 0) v) skips.Resting s t here runs script in answered v z t is there
+
+skip_is_regular : IsRegular skip_plan
+skip_is_regular = skip_is_realised.suits.regular
+
+-- the stages
+no_import : (i h : ℕ) → StandsIn skip_plan (ImportEnd i h) → ⊥
+no_import i h stands = let clash : ResultEnd 0 ≡ ImportEnd i h = one_port (ImportEnd i h) tt stands in cc clash
+
+no_imports : (x : Imported) → Contains skip_plan.imports x → ⊥
+no_imports x (k, within, is) = omega (arith, within)
+
+is_first : IsStage twice_plan 0 first_stage
+is_first =
+    record {
+      region = cut_region first_out twice_plan skip_plan first_is_cut;
+      outside = refl;
+      outcome = tt;
+      regular = skip_is_regular;
+      restful = skip_rests;
+      loyal = λ n i there number. absurd (no_serving n there);
+      run_by = λ stands. refl;
+      imports = λ i there. absurd (no_imports i there);
+      names = tt;
+      ports = λ i h stands. absurd (no_import i h stands);
+    }
+
+is_second : IsStage twice_plan 0 second_stage
+is_second =
+    record {
+      region = cut_region second_out twice_plan skip_plan second_is_cut;
+      outside = refl;
+      outcome = tt;
+      regular = skip_is_regular;
+      restful = skip_rests;
+      loyal = λ n i there number. absurd (no_serving n there);
+      run_by = λ stands. refl;
+      imports = λ i there. absurd (no_imports i there);
+      names = tt;
+      ports = λ i h stands. absurd (no_import i h stands);
+    }
+
+abbrev both : List Stage
+both = first_stage ∷ second_stage ∷ []
+
+each_stage : (g : Stage) → Contains both g → IsStage twice_plan 0 g
+each_stage g (zero, l, is) = subst (IsStage twice_plan 0) is is_first
+each_stage g (suc zero, l, is) = subst (IsStage twice_plan 0) is is_second
+each_stage g (suc (suc n), l, is) = absurd (omega (arith, l))
+
+asked_once : (g e : Stage) → Contains both g → Contains both e → g.asked_at ≡ e.asked_at → g ≡ e
+asked_once g e (zero, l, is) (zero, k, also) same = sym is ∙ also
+asked_once g e (suc zero, l, is) (suc zero, k, also) same = sym is ∙ also
+asked_once g e (zero, l, is) (suc zero, k, also) same =
+    let clash : 0 ≡ 1 = ap (λ (x : Stage). x.asked_at) is ∙ (same ∙ sym (ap (λ (x : Stage). x.asked_at) also)) in absurd (omega (arith, clash))
+asked_once g e (suc zero, l, is) (zero, k, also) same =
+    let clash : 1 ≡ 0 = ap (λ (x : Stage). x.asked_at) is ∙ (same ∙ sym (ap (λ (x : Stage). x.asked_at) also)) in absurd (omega (arith, clash))
+asked_once g e (suc (suc n), l, is) other same = absurd (omega (arith, l))
+asked_once g e other (suc (suc n), l, is) same = absurd (omega (arith, l))
+
+every_session : (p : Phase) (n : ℕ) (e : Session) → session_of twice_form p n ≡ Some e
+    → (g : Stage) × Contains both g × (g.asked_at ≡ e.asked_at) × (g.plan.outcome ≡ e.ty)
+every_session First n e is =
+    (first_stage, (0, omega arith, refl), ap (λ (x : Session). x.asked_at) (same_Some _ e is), ap (λ (x : Session). x.ty) (same_Some _ e is))
+every_session Second n e is =
+    (second_stage, (1, omega arith, refl), ap (λ (x : Session). x.asked_at) (same_Some _ e is), ap (λ (x : Session). x.ty) (same_Some _ e is))
+every_session p n e is = absurd (none-some e is)
+
+of_first : IsOfStage both (PartEnd 0 0) (PartEnd 1 0)
+of_first = (first_stage, ResultEnd 0, PartEnd 0 0, (0, omega arith, refl), (0, omega arith, refl), refl, refl)
+
+of_second : IsOfStage both (PartEnd 0 1) (PartEnd 2 0)
+of_second = (second_stage, ResultEnd 0, PartEnd 0 0, (1, omega arith, refl), (0, omega arith, refl), refl, refl)
+
+abbrev OwnOrStage : Joint → Type 0
+OwnOrStage j = ((j.asking ≡ ResultEnd 0) × (j.serving ≡ PartEnd 0 2)) ⊎ IsOfStage both j.asking j.serving
+
+every_joint : (a b : End) → Contains twice_plan.joints (joint a b) → OwnOrStage (joint a b)
+every_joint a b (zero, l, is) = subst OwnOrStage is (inl (refl, refl))
+every_joint a b (suc zero, l, is) = subst OwnOrStage is (inr of_first)
+every_joint a b (suc (suc zero), l, is) = subst OwnOrStage is (inr of_second)
+every_joint a b (suc (suc (suc n)), l, is) = absurd (omega (arith, l))
+
+every_part : (i : ℕ) (k : Part) → slice_get twice_plan.parts i ≡ Some k
+    → (i ≡ 0) ⊎ ((g : Stage) × (j : ℕ) × Contains both g × (g.cut.number i ≡ Some j))
+every_part zero k is = inl refl
+every_part (suc zero) k is = inr (first_stage, 0, (0, omega arith, refl), refl)
+every_part (suc (suc zero)) k is = inr (second_stage, 0, (1, omega arith, refl), refl)
+every_part (suc (suc (suc i))) k is = absurd (none-some k is)
+
+all_fit : All LiteralFits twice_plan.parts
+all_fit zero d within = tt
+all_fit (suc zero) d within = tt
+all_fit (suc (suc zero)) d within = tt
+all_fit (suc (suc (suc i))) d within = absurd (omega (arith, within))
+
+pub twice_is_node : TwiceIsNode
+twice_is_node =
+    record {
+      right = twice_is_right;
+      own = refl;
+      outcome = refl;
+      done = tt;
+      literals = all_fit;
+      ground = tt;
+      names = tt;
+      stages = each_stage;
+      one = asked_once;
+      staged = every_session;
+      result = (0, omega arith, refl);
+      joints = every_joint;
+      parts = every_part;
+    }
+
+-- one stage is missing
+only_first : (g : Stage) → Contains (first_stage ∷ []) g → g.asked_at ≡ 1 → ⊥
+only_first g (zero, l, is) asked = let clash : 0 ≡ 1 = ap (λ (x : Stage). x.asked_at) is ∙ asked in omega (arith, clash)
+only_first g (suc n, l, is) asked = omega (arith, l)
+
+pub one_is_missing : OneIsMissing
+one_is_missing node = let (g, has, asked, ty) = node.staged Second 0 _ refl in only_first g has asked
+
+-- a Share that serves both callers, state by state
+abbrev begun : Tokens
+begun = with_token both_plan (ResultEnd 0) Request (Some 0) at_first
+
+abbrev first_asked : Tokens
+first_asked = fired both_plan 0 (row (Req 2) (at First 0) (λ v. put (Req 0) 0)) 0 begun
+
+abbrev passed_on : Tokens
+passed_on = fired both_plan 1 (row (Req 1) (at Rest 0) (put (Req 0))) 0 first_asked
+
+abbrev done_once : Tokens
+done_once = fired both_plan 2 (row (Req 0) (at Rest 0) (λ v. put (Ans 0) 0)) 0 passed_on
+
+abbrev passed_back : Tokens
+passed_back = fired both_plan 1 (row (Ans 0) (at Rest 0) (put (Ans 1))) 0 done_once
+
+abbrev second_asked : Tokens
+second_asked = fired both_plan 0 (row (Ans 0) (at Second 0) (λ v. put (Req 1) 0)) 0 passed_back
+
+abbrev passed_again : Tokens
+passed_again = fired both_plan 1 (row (Req 2) (at Rest 1) (put (Req 0))) 0 second_asked
+
+abbrev done_twice : Tokens
+done_twice = fired both_plan 2 (row (Req 0) (at Rest 0) (λ v. put (Ans 0) 0)) 0 passed_again
+
+abbrev at_last : Tokens
+at_last = fired both_plan 1 (row (Ans 0) (at Rest 1) (put (Ans 2))) 0 done_twice
+
+abbrev once_there : List Element
+once_there = In (ResultEnd 0) 0 ∷ Fire 0 (Req 2) ∷ Fire 1 (Req 1) ∷ Fire 2 (Req 0) ∷ []
+
+idle_first : IsIdle both_plan at_first
+idle_first = ((λ way e. refl), (λ i. refl))
+
+runs_once : Runs both_plan once_there at_first done_once
+runs_once = (
+  begun,
+  (tt, (omega arith, refl)),
+  (
+    first_asked,
+    (0, _, refl, refl, refl),
+    (
+      passed_on,
+      (0, _, refl, refl, refl),
+      (done_once, (0, _, refl, refl, refl), refl),
+    ),
+  ),
+)
+
+abbrev twice_there : List Element
+twice_there = In (ResultEnd 0) 0 ∷ Fire 0 (Req 2) ∷ Fire 1 (Req 1) ∷ Fire 2 (Req 0) ∷ Fire 1 (Ans 0) ∷ Fire 0 (Ans 0) ∷ Fire 1 (Req 2) ∷ Fire 2 (Req 0) ∷ []
+
+runs_twice : Runs both_plan twice_there at_first done_twice
+runs_twice = (
+  begun,
+  (tt, (omega arith, refl)),
+  (
+    first_asked,
+    (0, _, refl, refl, refl),
+    (
+      passed_on,
+      (0, _, refl, refl, refl),
+      (
+        done_once,
+        (0, _, refl, refl, refl),
+        (
+          passed_back,
+          (0, _, refl, refl, refl),
+          (
+            second_asked,
+            (0, _, refl, refl, refl),
+            (
+              passed_again,
+              (0, _, refl, refl, refl),
+              (done_twice, (0, _, refl, refl, refl), refl),
+            ),
+          ),
+        ),
+      ),
+    ),
+  ),
+)
+
+pub shared_for_both : SharedForBoth
+shared_for_both = (
+  (λ loyal.
+      let is = loyal at_first done_twice at_last twice_there (Ans 0) idle_first runs_twice ((refl, tt), tt) (0, _, refl, refl, refl) (omega arith) in
+      let clash : 1 ≡ 0 = is in omega (arith, clash)),
+  (λ loyal.
+      let is = loyal at_first done_once passed_back once_there (Ans 0) idle_first runs_once ((refl, tt), tt) (0, _, refl, refl, refl) (omega arith) in
+      let clash : 0 ≡ 1 = is in omega (arith, clash)),
+)
