@@ -12,7 +12,8 @@ use Rattle.gos_syntax.specs.ModuleTrees.{import_tree}
 use Rattle.gos_syntax.specs.Grammar as grammar
 use Rattle.gos_syntax.specs.Grammar.{IsType, TypeRule, IsTerm, Rule}
 use Rattle.gos_syntax.specs.ParsedModules.{AreImports, IsParsed}
-use Rattle.gos_check.specs.Sizes.{size, WritesCountable, AreCountable, IsCountableModule}
+use Rattle.gos_syntax.specs.Sizes.{size}
+use Rattle.gos_check.specs.Sizes.{WritesCountable, AreCountable, IsCountableModule}
 
 -- each token is longer than nothing
 tokens_fit : (text : List ℕ) (at : ℕ) (tokens : List Token) → at ≤ length text → Reads text at tokens None → at + length tokens ≤ length text

@@ -14,6 +14,7 @@ pub mod CompleteLemmas
 pub mod ModuleLemmas
 pub mod CountLemmas
 pub mod OpenLemmas
+mod NodeSizes
 pub mod NodeTypeLemmas
 pub mod TimesLemmas
 pub mod MergeLemmas

@@ -10,7 +10,7 @@ use Rattle.gos_model.specs.Terms.{Name}
 use Rattle.gos_model.specs.Typing.{Imports, import_type}
 use Rattle.gos_model.specs.Weight.{count, or_com, after_fun, left_of, right_of, read_of, op_type, node_type, nodes_weight}
 use Rattle.gos_model.specs.Sources.{import_of, term_of, binder_of, bound_or_import, one_further, op_of}
-use Rattle.gos_check.specs.Sizes.{size}
+use Rattle.gos_syntax.specs.Sizes.{size}
 use Rattle.gos_check.specs.Written.{literal, written, written_width}
 use Rattle.gos_check.specs.Scopes.{Binder, Binders, type_at, used}
 use Rattle.gos_check.specs.Demands.{application, first_side, second_side, sequence, parallel, choice, looping, assignment, reading, negation, operation, done}

@@ -3,7 +3,8 @@
 ghost use Rattle.std.specs.Prelude.{◌≡◌, ◌+◌, ◌*◌, ◌≤◌, Ok, map, length, IfOk, IfErr};
 ghost use Rattle.gos_types.specs.Types.{type_of};
 ghost use Rattle.gos_model.specs.Sources.{program_of};
-ghost use Rattle.gos_check.specs.Sizes.{size, IsCountableModule};
+ghost use Rattle.gos_syntax.specs.Sizes.{size};
+ghost use Rattle.gos_check.specs.Sizes.{IsCountableModule};
 ghost use Rattle.gos_check.specs.Faults.{Refuses};
 ghost use Rattle.gos_check.specs.Judgements.{light, module_judged};
 ghost use Rattle.gos_check.specs.Accepted.{IsAccepted, IsRefused, weighed};

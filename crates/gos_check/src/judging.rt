@@ -9,7 +9,8 @@ ghost use Rattle.std.specs.Prelude.{◌≡◌, ◌+◌, ◌*◌, ◌^◌, ◌<�
 ghost use Rattle.gos_types.specs.Types.{type_of, Fun, Var};
 ghost use Rattle.gos_model.specs.Weight.{count};
 ghost use Rattle.gos_model.specs.Sources.{import_of};
-ghost use Rattle.gos_check.specs.Sizes.{size, IsCountable, WritesCountable, AreCountable};
+ghost use Rattle.gos_syntax.specs.Sizes.{size};
+ghost use Rattle.gos_check.specs.Sizes.{IsCountable, WritesCountable, AreCountable};
 ghost use Rattle.gos_check.specs.Faults.{Refuses, after};
 ghost use Rattle.gos_check.specs.Written.{small, written, written_width};
 ghost use Rattle.gos_check.specs.Scopes.{type_at, used};

@@ -9,7 +9,7 @@ ghost use Rattle.gos_types.specs.Types.{type_of, Com, Exp, Var};
 ghost use Rattle.gos_model.specs.Terms as terms;
 ghost use Rattle.gos_model.specs.Sources.{import_of};
 ghost use Rattle.gos_model.specs.Weight.{or_com};
-ghost use Rattle.gos_check.specs.Sizes.{size};
+ghost use Rattle.gos_syntax.specs.Sizes.{size};
 ghost use Rattle.gos_check.specs.Scopes.{type_at};
 ghost use Rattle.gos_check.specs.inner.Seen.{binders_of};
 ghost use Rattle.gos_check.specs.inner.Walked.{tree};

@@ -7,6 +7,7 @@ ghost use Rattle.gos_check.specs.inner.Numbering.{exchanged, renamed_split, rena
 use crate::linear::{Node, NodeForm, Split};
 
 // Exchanges two numbers wherever they stand in a term.
+#[cycle(renaming)]
 pub(crate) fn exchange(a: u32, b: u32, node: &mut Node)
     ensures { node_seen node.new ≡ renamed (exchanged a b) (node_seen node.old) }
 {
@@ -23,44 +24,33 @@ pub(crate) fn exchange(a: u32, b: u32, node: &mut Node)
             *number = exchanged(a, b, *number);
             exchange(a, b, body);
         }
-        NodeForm::App(m, n) => {
-            exchange(a, b, m);
-            exchange(a, b, n);
-        }
-        NodeForm::Pair(m, n) => {
-            exchange(a, b, m);
-            exchange(a, b, n);
-        }
+        NodeForm::App(m, n) => exchange_both(a, b, m, n),
+        NodeForm::Pair(m, n) => exchange_both(a, b, m, n),
         NodeForm::Fst(m) => exchange(a, b, m),
         NodeForm::Snd(m) => exchange(a, b, m),
-        NodeForm::Seq(m, n) => {
-            exchange(a, b, m);
-            exchange(a, b, n);
-        }
-        NodeForm::Par(m, n) => {
-            exchange(a, b, m);
-            exchange(a, b, n);
-        }
+        NodeForm::Seq(m, n) => exchange_both(a, b, m, n),
+        NodeForm::Par(m, n) => exchange_both(a, b, m, n),
         NodeForm::If(m, n, p) => {
             exchange(a, b, m);
             exchange(a, b, n);
             exchange(a, b, p);
         }
-        NodeForm::While(m, n) => {
-            exchange(a, b, m);
-            exchange(a, b, n);
-        }
-        NodeForm::Assign(m, n) => {
-            exchange(a, b, m);
-            exchange(a, b, n);
-        }
+        NodeForm::While(m, n) => exchange_both(a, b, m, n),
+        NodeForm::Assign(m, n) => exchange_both(a, b, m, n),
         NodeForm::Deref(m) => exchange(a, b, m),
         NodeForm::Not(m) => exchange(a, b, m),
-        NodeForm::Bin(_, m, n) => {
-            exchange(a, b, m);
-            exchange(a, b, n);
-        }
+        NodeForm::Bin(_, m, n) => exchange_both(a, b, m, n),
     }
+}
+
+// The same in both of two terms.
+#[cycle(renaming)]
+fn exchange_both(a: u32, b: u32, m: &mut Node, n: &mut Node)
+    ensures first { node_seen m.new ≡ renamed (exchanged a b) (node_seen m.old) }
+    ensures second { node_seen n.new ≡ renamed (exchanged a b) (node_seen n.old) }
+{
+    exchange(a, b, m);
+    exchange(a, b, n);
 }
 
 // The same in splits.

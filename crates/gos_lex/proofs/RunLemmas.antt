@@ -1,5 +1,5 @@
 -- The longest name and the longest numeral at the front of a text are runs of bytes of one class.
-use Rattle.std.proofs.Common.{◌≡◌, ℕ, zero, suc, ◌+◌, ◌<◌, ◌≤◌, Bool, true, false, ◌&&◌, ◌||◌, cond, List, [], ◌∷◌, length, take, get_or, nat_eq, refl, sym, ◌∙◌, subst, arith, IsTrue}
+use Rattle.std.proofs.Common.{◌≡◌, ℕ, zero, suc, ◌+◌, ◌<◌, ◌≤◌, Bool, true, false, ◌&&◌, ◌||◌, cond, List, [], ◌∷◌, length, take, get_or, nat_eq, refl, sym, ◌∙◌, ap, subst, arith, IsTrue}
 use Rattle.std.specs.List.{list_all, prefix_len}
 use Rattle.std.specs.Char.{is_ascii_digit}
 use Rattle.std.proofs.lemmas.List.Sums.{prefix_len-le-length}
@@ -37,8 +37,9 @@ TakesLongest test len text =
 no_digit : (b : ℕ) → begins_name b ≡ true → is_ascii_digit b ≡ false
 no_digit b h = grind arith
 
-name_no_sign : (b : ℕ) (bytes : List ℕ) → begins_name b ≡ true → is_sign (b ∷ bytes) ≡ false
-name_no_sign b bytes h =
+-- what begins a name or a numeral begins no sign
+no_sign : (b : ℕ) (bytes : List ℕ) → (begins_name b || is_ascii_digit b) ≡ true → is_sign (b ∷ bytes) ≡ false
+no_sign b bytes h =
     let e40 : nat_eq b 40 ≡ false = grind arith in
     let e41 : nat_eq b 41 ≡ false = grind arith in
     let e44 : nat_eq b 44 ≡ false = grind arith in
@@ -56,24 +57,11 @@ name_no_sign b bytes h =
     let e42 : nat_eq b 42 ≡ false = grind arith in
     rw (e40, e41, e44, e46, e58, e59, e124, e38, e94, e43, e45, e61, e60, e33, e42) refl
 
+name_no_sign : (b : ℕ) (bytes : List ℕ) → begins_name b ≡ true → is_sign (b ∷ bytes) ≡ false
+name_no_sign b bytes h = no_sign b bytes (ap (λ (t : Bool). t || is_ascii_digit b) h)
+
 digit_no_sign : (b : ℕ) (bytes : List ℕ) → is_ascii_digit b ≡ true → is_sign (b ∷ bytes) ≡ false
-digit_no_sign b bytes h =
-    let e40 : nat_eq b 40 ≡ false = grind arith in
-    let e41 : nat_eq b 41 ≡ false = grind arith in
-    let e44 : nat_eq b 44 ≡ false = grind arith in
-    let e46 : nat_eq b 46 ≡ false = grind arith in
-    let e58 : nat_eq b 58 ≡ false = grind arith in
-    let e59 : nat_eq b 59 ≡ false = grind arith in
-    let e124 : nat_eq b 124 ≡ false = grind arith in
-    let e38 : nat_eq b 38 ≡ false = grind arith in
-    let e94 : nat_eq b 94 ≡ false = grind arith in
-    let e43 : nat_eq b 43 ≡ false = grind arith in
-    let e45 : nat_eq b 45 ≡ false = grind arith in
-    let e61 : nat_eq b 61 ≡ false = grind arith in
-    let e60 : nat_eq b 60 ≡ false = grind arith in
-    let e33 : nat_eq b 33 ≡ false = grind arith in
-    let e42 : nat_eq b 42 ≡ false = grind arith in
-    rw (e40, e41, e44, e46, e58, e59, e124, e38, e94, e43, e45, e61, e60, e33, e42) refl
+digit_no_sign b bytes h = no_sign b bytes (grind (arith, h))
 
 pub digit_no_name : (b : ℕ) → is_ascii_digit b ≡ true → begins_name b ≡ false
 digit_no_name b h = grind arith

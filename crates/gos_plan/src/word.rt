@@ -92,27 +92,10 @@ pub fn part_word(cursor: &mut Cursor) -> Result<PartWord, ObjectFault>
         PartWord::Local,
         PartWord::Share,
     ];
-    let texts = [
-        b"skip\n".as_slice(),
-        b"seq\n".as_slice(),
-        b"par\n".as_slice(),
-        b"if\n".as_slice(),
-        b"while\n".as_slice(),
-        b"seqexp ".as_slice(),
-        b"ifexp ".as_slice(),
-        b"add ".as_slice(),
-        b"sub ".as_slice(),
-        b"and ".as_slice(),
-        b"or ".as_slice(),
-        b"xor ".as_slice(),
-        b"eq ".as_slice(),
-        b"less ".as_slice(),
-        b"not ".as_slice(),
-        b"assign ".as_slice(),
-        b"deref ".as_slice(),
-        b"lit ".as_slice(),
-        b"local ".as_slice(),
-        b"share ".as_slice(),
+    let texts: [&[u8]; 20] = [
+        b"skip\n", b"seq\n", b"par\n", b"if\n", b"while\n", b"seqexp ", b"ifexp ", b"add ",
+        b"sub ", b"and ", b"or ", b"xor ", b"eq ", b"less ", b"not ", b"assign ", b"deref ",
+        b"lit ", b"local ", b"share ",
     ];
     match one_of(cursor, &texts) {
         Ok(k) => Ok(words[k]),

@@ -1,7 +1,6 @@
 pub mod ItemLemmas
 pub mod NestingLemmas
 pub mod ImportLemmas
-pub mod TreeSizes
 pub mod LeadsLemmas
 pub mod RuleLemmas
 pub mod StopLemmas

@@ -1,6 +1,7 @@
 -- In reading order: a file uses only files above it.
 pub mod Items
 pub mod Trees
+pub mod Sizes
 pub mod Modules
 pub mod ModuleTrees
 pub mod Operators

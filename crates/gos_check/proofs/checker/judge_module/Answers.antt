@@ -2,7 +2,7 @@ use Rattle.std.specs.Prelude.{◌≡◌, ◌+◌, ◌*◌, ◌≤◌, List, [], 
 use Rattle.std.proofs.Common.{arith, rules}
 use Rattle.gos_syntax.specs.Modules.{SeenImport}
 use Rattle.gos_model.specs.Sources.{import_of}
-use Rattle.gos_check.specs.Sizes.{size}
+use Rattle.gos_syntax.specs.Sizes.{size}
 use Rattle.gos_check.specs.inner.Walked.{tree, weight_of}
 use Rattle.gos_check.proofs.WeightLemmas.{nodes_weigh, imports_weigh}
 use Rattle.gos_check.proofs.checker.judge_module.Goals as goal

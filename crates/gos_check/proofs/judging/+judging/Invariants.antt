@@ -1,5 +1,5 @@
 use Rattle.std.proofs.Common.{◌+◌, ◌*◌}
-use Rattle.gos_check.specs.Sizes.{size}
+use Rattle.gos_syntax.specs.Sizes.{size}
 use Rattle.gos_check.specs.inner.Walked.{tree}
 use Rattle.gos_check.proofs.judging.+judging.Given as goal
 

@@ -1,6 +1,6 @@
 use Rattle.std.proofs.Common.{◌+◌, ◌*◌}
 use Rattle.gos_syntax.specs.Trees.{tree_of}
-use Rattle.gos_syntax.proofs.TreeSizes.{size}
+use Rattle.gos_syntax.specs.Sizes.{size}
 use Rattle.gos_syntax.proofs.printer.+printing.Given as goal
 
 abbrev pub decreases-add_term : goal.decreases-add_term

@@ -1,5 +1,5 @@
--- How large a tree is: what grows less as the printer goes down.
-use Rattle.std.proofs.Common.{ℕ, ◌+◌}
+-- How large a tree is.
+use Rattle.std.specs.Prelude.{ℕ, ◌+◌}
 use Rattle.gos_syntax.specs.Trees.{Tree, Skip, Lit, Use, Lam, New, App, Both, Fst, Snd, Seq, Par, If, While, Assign, Deref, Not, Bin}
 
 -- how many nodes a tree has
