@@ -6,14 +6,14 @@
 It needs `rt`, and the crates below gos_verilog have to be proved. A program that reads a netlist, accepts it, writes its
 Verilog text and reads that back is built in a copy of these crates, with the netlist of bench/simulation.py of so many
 cells, 1,000,000 without a word. It is run for each step and up to it, and prints the megabytes of Verilog text that are
-written and read in a second; the better of three runs counts.
+written and read in a second of the processor's time; the best of three runs counts.
 """
 
+import resource
 import shutil
 import subprocess
 import sys
 import tempfile
-import time
 from pathlib import Path
 
 import simulation
@@ -86,13 +86,19 @@ def build(folder):
     return program / 'out' / 'verilog_bench'
 
 
+def spent():
+    """The seconds that the processor has spent on programs that were run."""
+    used = resource.getrusage(resource.RUSAGE_CHILDREN)
+    return used.ru_utime + used.ru_stime
+
+
 def run(program, folder, step):
     """The seconds that a step and those before it take, and how many bytes are written."""
     best = None
     for _ in range(3):
-        start = time.monotonic()
+        start = spent()
         done = subprocess.run([program, step], cwd=folder, check=True, capture_output=True, text=True)
-        took = time.monotonic() - start
+        took = spent() - start
         best = took if best is None else min(best, took)
     return best, int(done.stdout)
 

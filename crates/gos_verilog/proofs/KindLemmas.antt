@@ -1,12 +1,14 @@
 -- The lines of cells, kind by kind: what their numbers make.
 use Rattle.std.proofs.Common.{◌≡◌, ℕ, ◌-◌, ◌^◌, ◌<◌, ◌≤◌, List, [], ◌∷◌, ◌++◌, refl, sym, ◌∙◌, ap, subst, arith, codes}
 use Rattle.std.proofs.Math.Nat.{one-le-pow}
+use Rattle.gos_lex.specs.Items.{Misses}
+use Rattle.gos_netlist.proofs.SequenceLemmas.{misses_as}
 use Rattle.gos_netlist.specs.Nets.{Function, Const, Not, And, Or, Xor, Mux, Add, Sub, Eq, Less, Gate, Reg}
 use Rattle.gos_verilog.specs.declared.cell_line.Kind.{Kind}
 use Rattle.gos_verilog.specs.declared.cell_line.Kind.TheVariants as kinds
 use Rattle.gos_verilog.specs.Lines.{driver_of}
-use Rattle.gos_verilog.specs.inner.Slots.{Slot', IsSlot, FitSlots, line_text}
-use Rattle.gos_verilog.specs.inner.CellLines.{HasKind, exactly, net_behind, target_slot, binary_slots, kind_slots, kind_tail, made}
+use Rattle.gos_verilog.specs.inner.Slots.{Slot', IsSlot, FitSlots, line_text, IsLine}
+use Rattle.gos_verilog.specs.inner.CellLines.{HasKind, IsKindLine, exactly, net_behind, target_slot, binary_slots, kind_slots, kind_tail, made}
 use Rattle.gos_verilog.proofs.KindTextLemmas.{const_text, not_text, binary_text, mux_text, gate_text, reg_text}
 
 -- the numbers of two, three or four slots
@@ -110,3 +112,56 @@ is_made kinds.Eq i w ns fit =
 is_made kinds.Less i w ns fit =
     let two = binary_fit i (codes "<" ++ codes " n") ns fit in
     subst (IsMade kinds.Less i w) (sym two.4) (record { kind_is = (refl, (two.2, (two.3, tt))); text = binary_text i two.0 two.1 (codes "<") })
+
+-- a line of this kind, by its slots
+pub record IsUnmade (kind : Kind) (i w : ℕ) (f : Function) : Type 0 where
+  pub numbers : List ℕ
+  pub fit : FitSlots (kind_slots kind i w) numbers
+  pub text : line_text (kind_slots kind i w) (kind_tail kind) numbers ≡ driver_of i w [] f
+
+exact : (n : ℕ) → (n ≤ n) × (n ≤ n)
+exact n = (omega arith, omega arith)
+
+net : (a : ℕ) → a ≤ 4294967295 → (0 ≤ a) × (a ≤ 4294967295)
+net a within = (omega arith, within)
+
+below : (w k : ℕ) → k < 2 ^ w → (0 ≤ k) × (k ≤ 2 ^ w - 1)
+below w k within = (omega arith, omega (arith, within))
+
+-- the function is of the kind, so all others are out
+pub is_unmade : (kind : Kind) (i w : ℕ) (f : Function) → HasKind kind w f → IsUnmade kind i w f
+is_unmade kinds.Const i w (Const k) has =
+    record { numbers = i ∷ w ∷ k ∷ []; fit = (exact i, (exact w, (below w k has.1, tt))); text = const_text i w k }
+is_unmade kinds.Not i w (Not a) has = record { numbers = i ∷ a ∷ []; fit = (exact i, (net a has.1.0, tt)); text = not_text i w a }
+is_unmade kinds.And i w (And a b) has =
+    record { numbers = i ∷ a ∷ b ∷ []; fit = (exact i, (net a has.1.0, (net b has.1.1.0, tt))); text = binary_text i a b (codes "&") }
+is_unmade kinds.Or i w (Or a b) has =
+    record { numbers = i ∷ a ∷ b ∷ []; fit = (exact i, (net a has.1.0, (net b has.1.1.0, tt))); text = binary_text i a b (codes "|") }
+is_unmade kinds.Xor i w (Xor a b) has =
+    record { numbers = i ∷ a ∷ b ∷ []; fit = (exact i, (net a has.1.0, (net b has.1.1.0, tt))); text = binary_text i a b (codes "^") }
+is_unmade kinds.Add i w (Add a b) has =
+    record { numbers = i ∷ a ∷ b ∷ []; fit = (exact i, (net a has.1.0, (net b has.1.1.0, tt))); text = binary_text i a b (codes "+") }
+is_unmade kinds.Sub i w (Sub a b) has =
+    record { numbers = i ∷ a ∷ b ∷ []; fit = (exact i, (net a has.1.0, (net b has.1.1.0, tt))); text = binary_text i a b (codes "-") }
+is_unmade kinds.Eq i w (Eq a b) has =
+    record { numbers = i ∷ a ∷ b ∷ []; fit = (exact i, (net a has.1.0, (net b has.1.1.0, tt))); text = binary_text i a b (codes "==") }
+is_unmade kinds.Less i w (Less a b) has =
+    record { numbers = i ∷ a ∷ b ∷ []; fit = (exact i, (net a has.1.0, (net b has.1.1.0, tt))); text = binary_text i a b (codes "<") }
+is_unmade kinds.Mux i w (Mux s a b) has =
+    record {
+      numbers = i ∷ s ∷ a ∷ b ∷ [];
+      fit = (exact i, (net s has.1.0, (net a has.1.1.0, (net b has.1.1.1.0, tt))));
+      text = mux_text i w s a b;
+    }
+is_unmade kinds.Gate i w (Gate s a) has =
+    record { numbers = i ∷ s ∷ a ∷ w ∷ []; fit = (exact i, (net s has.1.0, (net a has.1.1.0, (exact w, tt)))); text = gate_text i w s a }
+is_unmade kinds.Reg i w (Reg a) has =
+    record { numbers = i ∷ w ∷ i ∷ a ∷ []; fit = (exact i, (exact w, (exact i, (net a has.1.0, tt)))); text = reg_text i w a }
+is_unmade kind i w f has = absurd (cc (has.0))
+
+-- where the slots of a kind break off, its line does
+pub no_kind : (kind : Kind) (i w : ℕ) (text : List ℕ) (at place : ℕ) → Misses (IsLine (kind_slots kind i w) (kind_tail kind)) text at place → Misses (IsKindLine kind i w) text at place
+no_kind kind i w text at place =
+    misses_as (IsLine (kind_slots kind i w) (kind_tail kind)) (IsKindLine kind i w) text at place
+    (λ bytes item. let is = is_made kind i w item.0 item.1 in (made kind item.0, is.kind_is, item.2 ∙ is.text))
+    (λ bytes item. let is = is_unmade kind i w item.0 item.1 in (is.numbers, is.fit, item.2 ∙ sym is.text))

@@ -44,6 +44,7 @@ pub fn kind_line(
     requires within { cursor.now.at ≤ length cursor.now.text }
     ensures kind { IfOk result (λ gate. HasKind kind width (function_of gate)) }
     ensures passed { IfOk result (λ gate. Passed cursor.old cursor.new (driver_of i width [] (function_of gate))) }
+    ensures wrong { IfErr result (Misses (lines.IsKindLine kind i width) cursor.old.text cursor.old.at) }
 {
     let numbers = numbers(alloc, cursor, kind, i, width)?;
     Ok(gate(kind, &numbers))

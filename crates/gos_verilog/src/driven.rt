@@ -82,15 +82,18 @@ fn wire(
     ensures cell { IfOk result (λ both. IsWritableCell (cell_of (record { width = width; gate = both.0 }))) }
     ensures within { IfOk result (λ both. both.1 ≤ length rest.now) }
 {
-    let one = match source(rest, i) {
-        Ok((name, len)) => match inputs.note(name, width, i) {
-            true => return Ok((Gate::Input, len)),
-            false => len,
-        },
+    let one = match any_line(alloc, rest, i, width) {
+        Ok(both) => return Ok(both),
         Err(at) => at,
     };
-    match any_line(alloc, rest, i, width) {
-        Ok(both) => Ok(both),
+    match source(rest, i) {
+        Ok((name, len)) => {
+            if inputs.note(name, width, i) {
+                Ok((Gate::Input, len))
+            } else {
+                Err(further(one, len))
+            }
+        }
         Err(other) => Err(further(one, other)),
     }
 }

@@ -4,8 +4,10 @@
 use Rattle.std.specs.Prelude.{◌≡◌, ℕ, ◌-◌, ◌^◌, List, [], ◌∷◌, ◌++◌, Option, Some, None, codes}
 use Rattle.gos_netlist.specs.Nets.{Function, Input, Const, Not, And, Or, Xor, Mux, Add, Sub, Eq, Less, Gate, Reg}
 use Rattle.gos_netlist.specs.Writable.{OperandsFit}
+use Rattle.gos_netlist.specs.NetItems.{IsTextOf}
 use Rattle.gos_verilog.specs.declared.cell_line.Kind.{Kind}
 use Rattle.gos_verilog.specs.declared.cell_line.Kind.TheVariants as kinds
+use Rattle.gos_verilog.specs.Lines.{driver_of}
 use Rattle.gos_verilog.specs.inner.Slots.{Slot'}
 
 -- the kind of a function that is no input
@@ -27,6 +29,10 @@ kind_of (Reg a) = Some kinds.Reg
 -- a function of this kind, for a cell of w bits
 abbrev pub HasKind : Kind → ℕ → Function → Type 0
 HasKind kind w f = (kind_of f ≡ Some kind) × OperandsFit w f
+
+-- the line of a cell whose function is of this kind
+abbrev pub IsKindLine : Kind → ℕ → ℕ → List ℕ → Type 0
+IsKindLine kind i w = IsTextOf Function (HasKind kind w) (driver_of i w [])
 
 -- the sign of a kind of two nets
 abbrev pub sign : Kind → List ℕ

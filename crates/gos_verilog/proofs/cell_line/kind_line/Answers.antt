@@ -3,7 +3,8 @@ use Rattle.std.proofs.Common.{[]}
 use Rattle.gos_verilog.specs.inner.Slots.{line_text}
 use Rattle.gos_verilog.specs.inner.CellLines.{kind_slots, kind_tail, made}
 use Rattle.gos_netlist.proofs.PassedLemmas.{passed_as}
-use Rattle.gos_verilog.proofs.KindLemmas.{is_made}
+use Rattle.gos_verilog.proofs.KindLemmas.{is_made, no_kind}
+use Rattle.std.proofs.lemmas.Result.{err_from_is_err_and}
 use Rattle.gos_verilog.proofs.cell_line.kind_line.Goals as goal
 
 pub returns-clause-kind : goal.returns-clause-kind
@@ -18,3 +19,10 @@ returns-clause-passed c =
     let slots = kind_slots c.args.kind c.args.i c.args.width in
     rw (c.gate.ensures, c.deref.ensures)
     (passed_as c.args.cursor.now c.numbers.new.cursor (line_text slots (kind_tail c.args.kind) ns) (driver_of c.args.i c.args.width [] (made c.args.kind ns)) is.text c.in_ok-numbers.ensures.passed)
+
+pub returns-in_err-numbers-clause-wrong : goal.returns-in_err-numbers-clause-wrong
+returns-in_err-numbers-clause-wrong c =
+    let old = c.args.cursor.now in
+    let known = no_kind c.args.kind c.args.i c.args.width old.text old.at c.in_err-numbers.field-0.0 c.in_err-numbers.ensures.wrong in
+    let p = err_from_is_err_and c.from_residual.result c.from_residual.ensures.1 in
+    rw (p.1, p.2) known
