@@ -1,5 +1,5 @@
-use Rattle.std.proofs.Common.{◌≡◌, ℕ, Some, get_or}
-use Rattle.std.specs.Prelude.{slice_get}
+use Rattle.std.proofs.Common.{◌≡◌, ℕ, Some, get_or, ap, map}
+use Rattle.std.specs.Prelude.{slice_get, option_map}
 use Rattle.std.proofs.lemmas.Option.{slice_get-get_or}
 use Rattle.gos_plan.specs.declared.plan.End.TheVariants as ends
 use Rattle.gos_plan.specs.declared.plan.Joint as declared_joint
@@ -14,8 +14,8 @@ loop-joint-preserved c = λ ss root k from are outcome.
     let d : declared_joint.Joint = record { asks = ends.Part 0 0; serves = ends.Part 0 0 } in
     let j : declared_joint.Joint = get_or c.args.joints.now n d in
     let at : slice_get c.args.joints.now n ≡ Some j = slice_get-get_or c.args.joints.now n d c.loop-joint-test.true in
-    let one = c.in_ok-one.ensures ss root k from are outcome in
-    let other = c.in_ok-other.ensures ss root k from are outcome in
-    let t : Tie = record { one = c.in_ok-one.one; other = c.in_ok-other.other } in
+    let one = c.point_of-one.ensures ss root k from are outcome in
+    let other = c.point_of-other.ensures ss root k from are outcome in
+    let t : Tie = record { one = c.point_of-one.result; other = c.point_of-other.result } in
     ties_more ss root k c.args.start from n j c.args.joints.now t c.loop-joint.ties.items c.push.new.self.items _ at (λ i. tie (one i) (other i)) c.in_ok-push.ensures.items
     (c.loop-joint.invariant ss root k from are outcome)
