@@ -2,15 +2,11 @@
 --
 -- Read first: JointLemmas, ThinLemmas. An end is in one tie, so that its joint is found once; and no two ends have one
 -- far end.
-use Rattle.std.specs.Prelude.{◌≡◌, ℕ, zero, suc, unwrap_or, ◌≤◌, ◌⊎◌, Bool, true, false, not, ◌&&◌, ◌||◌, IsTrue, List, [], ◌∷◌, ◌++◌, Option, Some, None, map, if◌then◌else◌, reverse, take, slice_get}
-use Rattle.std.proofs.Common.{refl, ap, sym, ◌∙◌, subst, arith, inl, inr, append_assoc}
+use Rattle.std.specs.Prelude.{◌≡◌, ℕ, ◌≤◌, ◌⊎◌, Bool, true, false, not, ◌&&◌, ◌||◌, IsTrue, List, [], ◌∷◌, ◌++◌, Option, Some, None, map, if◌then◌else◌}
+use Rattle.std.proofs.Common.{refl, ap, sym, ◌∙◌, subst, arith, inl, inr}
 use Rattle.std.proofs.lemmas.Bool.Decides.{nat_tests}
 use Rattle.gos_plan.specs.Kinds.{Contact, asks, serves}
-use Rattle.gos_plan.specs.Plans.{End, PartEnd, ImportEnd, ResultEnd, Joint, Plan, contact_at, same_end, is_free, Fits, IsRightAfter, AreRight, IsRight}
-use Rattle.std.proofs.lemmas.List.{append-nil, reverse-append}
-use Rattle.gos_plan.specs.declared.fault.ObjectFault.{ObjectFault}
-use Rattle.gos_plan.specs.declared.fault.ObjectFault.TheVariants as faults
-use Rattle.gos_plan.specs.Faults.{IsFirstWrong, IsFault}
+use Rattle.gos_plan.specs.Plans.{End, PartEnd, ImportEnd, ResultEnd, Joint, Plan, contact_at, same_end, is_free, Fits, AreRight, IsRight}
 use Rattle.gos_plan.specs.Seen.{SeenPlan, joint_of, plan_of}
 use Rattle.gos_ties.specs.declared.points.Point.{Point}
 use Rattle.gos_ties.specs.declared.points.Tie.{Tie}

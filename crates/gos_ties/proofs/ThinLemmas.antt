@@ -1,5 +1,5 @@
 -- A number is in bonds as often as its point is in ties.
-use Rattle.std.specs.Prelude.{◌≡◌, ℕ, ◌+◌, ◌≤◌, ◌<◌, ◌⊎◌, List, [], ◌∷◌, map, nat_eq, if◌then◌else◌, Some}
+use Rattle.std.specs.Prelude.{◌≡◌, ℕ, ◌+◌, ◌≤◌, ◌⊎◌, List, [], ◌∷◌, map, nat_eq, if◌then◌else◌, Some}
 use Rattle.std.proofs.Common.{refl, sym, subst, arith, inl, inr}
 use Rattle.gos_ties.proofs.NumberLemmas.{number_cases, eq_true}
 use Rattle.gos_plan.specs.Plans.{End}

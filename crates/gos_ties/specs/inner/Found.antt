@@ -1,20 +1,15 @@
 -- The joints of a plan, as they are found: at each point of the ties, from its far one.
 --
 -- Read first: Ties, Joined. Between the functions of this crate. Points have numbers: their places in a list.
-use Rattle.std.specs.Prelude.{◌≡◌, ℕ, ◌+◌, ◌*◌, ◌<◌, ◌≤◌, ◌⊎◌, Bool, true, false, ◌&&◌, List, [], ◌∷◌, ◌++◌, Option, Some, None, map, nat_eq, if◌then◌else◌, unwrap_or, slice_get}
+use Rattle.std.specs.Prelude.{◌≡◌, ℕ, ◌≤◌, ◌⊎◌, Bool, true, false, ◌&&◌, List, [], ◌∷◌, ◌++◌, Option, Some, None, map, nat_eq, if◌then◌else◌, unwrap_or, slice_get}
 use Rattle.std.specs.List.{position_or_len}
 use Rattle.gos_types.specs.declared.shakes.Role.{Role}
 use Rattle.gos_types.specs.declared.shakes.Role.TheVariants.{Serve, Ask}
 use Rattle.gos_plan.specs.declared.plan.End as declared_end
-use Rattle.gos_types.specs.declared.types.Ty.{Ty}
-use Rattle.gos_plan.specs.declared.kinds.Kind.{Kind}
-use Rattle.gos_plan.specs.declared.plan.PlanImport.{PlanImport}
 use Rattle.gos_plan.specs.declared.plan.Joint as declared_joint
-use Rattle.gos_plan.specs.Seen.{end_of, joint_of, plan_of}
+use Rattle.gos_plan.specs.Seen.{end_of, joint_of}
 use Rattle.gos_plan.specs.Kinds.{Contact}
-use Rattle.gos_plan.specs.Plans.{End, PartEnd, ImportEnd, ResultEnd, Joint, Plan, contact_at}
-use Rattle.gos_ties.specs.declared.points.Place.{Place}
-use Rattle.gos_ties.specs.declared.points.Place.TheVariants as places
+use Rattle.gos_plan.specs.Plans.{End, Joint, Plan, contact_at}
 use Rattle.gos_ties.specs.declared.points.Point.{Point}
 use Rattle.gos_ties.specs.declared.points.Tie.{Tie}
 use Rattle.gos_ties.specs.contracts.points.PointPartialEq.TheImpl.{eq-value}

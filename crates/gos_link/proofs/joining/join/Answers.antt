@@ -1,5 +1,5 @@
 use Rattle.std.proofs.Common.{◌≡◌, ◌∙◌, ◌<◌, ◌≤◌, ℕ, List, arith, Option, Some, ap, length, map, refl, subst, sym}
-use Rattle.std.specs.Prelude.{slice_get, option_map}
+use Rattle.std.specs.Prelude.{◌↔◌, slice_get, option_map}
 use Rattle.std.proofs.lemmas.Option.{slice_get_read, slice_get-map}
 use Rattle.std.proofs.lemmas.List.{length-map}
 use Rattle.gos_types.specs.declared.types.Ty.{Ty}
@@ -40,9 +40,8 @@ tied_plan-requires-clause-in_range c =
       of_parts = c.in_ok-parts.ensures.in_range;
     }
 
--- the plan is the joining
-joined : (c : goal.After-plan) → IsJoining (whole_of c.args.plans.now c.args.services.now c.args.root) (plan_of c.in_ok-plan.plan)
-joined c =
+pub returns : goal.returns
+returns c =
     let ps : List Plan = map plan_of c.args.plans.now in
     let s : SeenPlan = c.in_ok-plan.plan in
     let made = c.in_ok-plan.ensures in
@@ -62,15 +61,12 @@ joined c =
     let outcome : type_of s.outcome ≡ outcome_of (slice_get ps c.args.root) =
     ap (λ (t : Ty). type_of t) made.outcome
     ∙ (c.in_ok-outcome.ensures ∙ (ap (λ (t : Ty). type_of t) c.outcome_of.ensures.value ∙ ap (λ (o : Option Plan). outcome_of o) (sym at_root))) in
+    let joining : IsJoining (whole_of c.args.plans.now c.args.services.now c.args.root) (plan_of s) =
     is_joining ps c.args.services.now c.args.root c.requires.joinable c.in_ok-ties.ensures.right s
     (record { parts = parts; imports = imports; outcome = outcome }) (made.weight ∙ c.weight_of-weight.ensures) made.right
     (subst (λ (ts : List Tie). (a b : End) → Has (plan_of s).joints (joint a b) ↔ Connects ts (plan_of s) a b)
-    (c.deref-2.ensures.value ∙ c.in_ok-ties.ensures.ties) made.joints)
-
-pub returns-clause-joining : goal.returns-clause-joining
-returns-clause-joining c = joined c
-
-pub returns-clause-countable : goal.returns-clause-countable
-returns-clause-countable c =
-    countable (map plan_of c.args.plans.now) c.args.services.now c.args.root (plan_of c.in_ok-plan.plan) c.requires.joinable
-    c.in_ok-ties.ensures.right c.requires.counted (joined c)
+    (c.deref-2.ensures.value ∙ c.in_ok-ties.ensures.ties) made.joints) in
+    record {
+      joining = joining;
+      countable = countable ps c.args.services.now c.args.root (plan_of s) c.requires.joinable c.in_ok-ties.ensures.right c.requires.counted joining;
+    }

@@ -1,6 +1,6 @@
-use Rattle.std.proofs.Common.{sym, subst, ◌∙◌, ◌≡◌, ◌≤◌, ℕ, List, length}
+use Rattle.std.proofs.Common.{sym, subst, ◌∙◌, ◌≤◌, ℕ, List}
 use Rattle.gos_ties.specs.declared.joining.Bond.{Bond}
-use Rattle.gos_ties.specs.inner.Joined.{AreBelow, AreFar, far_at, touches}
+use Rattle.gos_ties.specs.inner.Joined.{AreFar, far_at, touches}
 use Rattle.gos_ties.proofs.ThinLemmas.{few_bonds, free_bonds}
 use Rattle.gos_ties.proofs.joints.tables_of.Goals as goal
 

@@ -1,6 +1,5 @@
-use Rattle.std.proofs.Common.{◌≡◌, List, sym, subst, map}
+use Rattle.std.proofs.Common.{List, sym, subst}
 use Rattle.gos_plan.specs.Plans.{Joint}
-use Rattle.gos_plan.specs.Seen.{joint_of}
 use Rattle.gos_ties.specs.Ties.{Has, joint, bare}
 use Rattle.gos_ties.proofs.JointLemmas.{joints_found}
 use Rattle.gos_ties.proofs.RightLemmas.{right_joints}
