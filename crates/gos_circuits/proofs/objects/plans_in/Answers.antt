@@ -7,7 +7,7 @@ use Rattle.gos_link.specs.declared.build.Instance.{Instance}
 use Rattle.gos_command.proofs.EndLemmas.{of_stopped}
 use Rattle.gos_circuits.specs.Objects.{IsObjectFault, RejectsObject}
 use Rattle.gos_circuits.specs.inner.Reading.{AreReadBefore}
-use Rattle.gos_circuits.proofs.ObjectLemmas.{next_instance, one_read, next_rejected, all_read, same_read, same_rejected}
+use Rattle.gos_circuits.proofs.ObjectLemmas.{next_instance, one_read, next_rejected, all_read, limits_more, same_read, same_rejected}
 use Rattle.gos_circuits.proofs.objects.plans_in.Goals as goal
 
 pub loop-instance-preserved : goal.loop-instance-preserved
@@ -26,6 +26,7 @@ loop-instance-preserved g c =
       omega (arith, items, joined, c.loop-instance.invariant.1),
       c.in_ok-plan.ensures.same_files ∙ c.loop-instance.invariant.2,
       c.in_ok-plan.ensures.same_count (λ e. cc e) ∙ c.loop-instance.invariant.3,
+      limits_more plans _ c.in_ok-plan.plan c.in-Ok.ensures.items c.loop-instance.invariant.4 c.in_ok-plan.ensures.limits,
     )
 
 pub returns-in_err-plan-clause-rejected : goal.returns-in_err-plan-clause-rejected
