@@ -1,12 +1,11 @@
 -- A build has one answer: its bind lines mean one list of services or have one first fault, and so it is with what stands behind them.
 use Rattle.std.specs.Prelude.{◌≡◌, ◌≢◌, ◌⊎◌, ℕ, zero, suc, ◌+◌, ◌≤◌, ◌<◌, List, [], ◌∷◌, ◌++◌, length, Option, Some, None, slice_get}
 use Rattle.std.proofs.Common.{refl, sym, ◌∙◌, ap, subst, arith, inl, inr}
-use Rattle.gos_types.specs.Types.{IsGround}
 use Rattle.gos_model.specs.Typing.{Imported}
 use Rattle.gos_plan.specs.Plans.{Plan}
 use Rattle.gos_plan.specs.Seen.{SeenPlan}
 use Rattle.gos_plan.specs.Size.{plan_size}
-use Rattle.gos_plan.specs.Joining.{LeftImport, all_left, all_weight, IsJoining, JoiningIsOne, IsSameButOrder}
+use Rattle.gos_plan.specs.Joining.{LeftImport, all_left, all_weight, IsJoining, JoiningIsOne}
 use Rattle.gos_link.specs.declared.build.Instance.{Instance}
 use Rattle.gos_link.specs.declared.build.Bind.{Bind}
 use Rattle.gos_link.specs.declared.build.Build.{Build}
@@ -14,7 +13,7 @@ use Rattle.gos_link.specs.declared.services.Service.{Service}
 use Rattle.gos_link.specs.declared.fault.LinkFault.{LinkFault}
 use Rattle.gos_link.specs.declared.fault.LinkFault.TheVariants as faults
 use Rattle.gos_link.specs.Services.{instance_named, BindsOn}
-use Rattle.gos_link.specs.Linked.{Port, AreDifferent, AreGround, IsDone, IsFirstHigher, IsSecond, IsPlaced, IsNamed, IsGrounded, IsLight, IsLinked, IsUnlinked, IsWrongWhole, count_ports, first_unplaced, outcome_of, plans_of, ports_of, whole_of}
+use Rattle.gos_link.specs.Linked.{Port, IsDone, IsFirstHigher, IsSecond, IsPlaced, IsNamed, IsGrounded, IsLight, IsWrongWhole, count_ports, first_unplaced, outcome_of, plans_of, ports_of, whole_of}
 use Rattle.gos_link.specs.Answers.{IsSameFault, LinkedIsOne, HasOneFault, LinkedHasNoFault}
 use Rattle.gos_link.proofs.NumberLemmas.{number_cases, order}
 use Rattle.gos_link.proofs.PlaceLemmas.{within}

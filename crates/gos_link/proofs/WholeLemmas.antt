@@ -1,16 +1,15 @@
 -- Where the bind lines are right and all instances have their places, the plans may be joined along the services.
-use Rattle.std.specs.Prelude.{◌≡◌, ◌≤◌, ℕ, zero, suc, ◌+◌, ◌<◌, List, [], ◌∷◌, ◌++◌, length, map, None, slice_get, unwrap_or}
-use Rattle.std.proofs.Common.{refl, sym, ◌∙◌, ap, subst, arith, append-nil, append_assoc}
+use Rattle.std.specs.Prelude.{◌≡◌, ℕ, zero, suc, ◌+◌, List, [], ◌∷◌, ◌++◌, length, map, None, slice_get, unwrap_or}
+use Rattle.std.proofs.Common.{refl, sym, ap, subst, arith, append-nil, append_assoc}
 use Rattle.gos_plan.specs.Plans.{Plan, IsRight}
 use Rattle.gos_plan.specs.Seen.{SeenPlan}
-use Rattle.gos_plan.specs.Joining.{IsJoining}
 use Rattle.gos_link.specs.declared.build.Instance.{Instance}
 use Rattle.gos_link.specs.declared.build.Bind.{Bind}
 use Rattle.gos_link.specs.declared.build.Build.{Build}
 use Rattle.gos_link.specs.declared.services.Service.{Service}
 use Rattle.gos_link.specs.Services.{BindsOn}
-use Rattle.gos_link.specs.Linked.{IsPlaced, plans_of, whole_of}
-use Rattle.gos_link.specs.Answers.{EachRight, ArePlansOf, JointsAreFew}
+use Rattle.gos_link.specs.Linked.{IsPlaced, plans_of}
+use Rattle.gos_link.specs.Answers.{EachRight, JointsAreFew}
 use Rattle.gos_link.specs.inner.Tops.{top_at, AreTops, moved}
 use Rattle.gos_link.specs.inner.Wired.{AllRight, AreJoinable}
 use Rattle.gos_link.proofs.TopLemmas.{tops_begin}
