@@ -6,11 +6,9 @@ use Rattle.std.proofs.Math.Seq.{drop-cons}
 use Rattle.gos_outside.specs.Files.{Files, bytes_at}
 use Rattle.gos_outside.specs.Faults.{LastFault, ReadFault}
 use Rattle.gos_lines.specs.Lines.{Word}
-use Rattle.gos_plan.specs.Plans.{Plan}
 use Rattle.gos_plan.specs.Seen.{SeenPlan, plan_of}
 use Rattle.gos_plan.specs.ObjectFaults.{IsRead}
 use Rattle.gos_link.specs.declared.build.Instance.{Instance}
-use Rattle.gos_link.specs.Linked.{AllKeepLimits, KeepsLimits, plans_of}
 use Rattle.gos_command.specs.declared.status.Fault.{Fault}
 use Rattle.gos_command.proofs.EndLemmas.{of_some, of_some_both}
 use Rattle.gos_circuits.specs.Objects.{HoldsPlan, HoldPlans, IsObjectFault, RejectsObject, IsObjectCall}
@@ -73,15 +71,3 @@ all_read old all plans before =
     nothing : (old : Option Files) → IfSome old (λ files. HoldPlans files [] [])
     nothing None = tt
     nothing (Some files) = tt
-
--- a text that is read is that of a plan within the limits
-pub keeps_limits : (text : List ℕ) (p : Plan) → IsRead text p → KeepsLimits p
-keeps_limits text p (is, right) = record { light = is.writable.weight.1; small = is.small }
-
-all_limits : (ps qs : List SeenPlan) → AllKeepLimits (plans_of ps) → AllKeepLimits (plans_of qs) → AllKeepLimits (plans_of (ps ++ qs))
-all_limits [] qs one other = other
-all_limits (p ∷ ps) qs (one, rest) other = (one, all_limits ps qs rest other)
-
-pub limits_more : (old new : List SeenPlan) (p : SeenPlan) → new ≡ old ++ p ∷ [] → AllKeepLimits (plans_of old) → KeepsLimits (plan_of p)
-    → AllKeepLimits (plans_of new)
-limits_more old new p pushed before one = subst (λ (ps : List SeenPlan). AllKeepLimits (plans_of ps)) (sym pushed) (all_limits old (p ∷ []) before (one, tt))

@@ -4,6 +4,7 @@ mod NodeLemmas
 mod WalkLemmas
 mod PlanLemmas
 mod TallyLemmas
+mod ShakeLemmas
 mod ThinLemmas
 mod RangeLemmas
 mod SmallPlanLemmas

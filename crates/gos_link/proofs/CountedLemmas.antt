@@ -10,8 +10,9 @@ use Rattle.gos_plan.specs.declared.kinds.Kind.{Kind}
 use Rattle.gos_plan.specs.declared.kinds.Kind.TheVariants as kinds
 use Rattle.gos_plan.specs.Kinds.{Contact, Part, asks, serves, contact, turned_contact, contacts_of, other_side, part_contacts}
 use Rattle.gos_plan.specs.Plans.{End, PartEnd, ImportEnd, ResultEnd, Joint, Plan, contact_at, contacts_of_part, contacts_of_import, AreRight, IsRight}
+use Rattle.gos_plan.specs.ObjectFaults.{IsRead}
 use Rattle.gos_plan.specs.Ranges.{IsInRange}
-use Rattle.gos_plan.specs.Seen.{SeenPlan, import_of, part_of, plan_of}
+use Rattle.gos_plan.specs.Seen.{SeenPlan, import_of, joint_of, part_of, plan_of}
 use Rattle.gos_plan.specs.Size.{shakes_of}
 use Rattle.gos_plan.specs.Joining.{Link, is_joined, left_in, left_among, all_left, all_parts, all_weight, IsJoining}
 use Rattle.gos_link.specs.declared.build.Instance.{Instance}
@@ -19,7 +20,7 @@ use Rattle.gos_link.specs.declared.build.Bind.{Bind}
 use Rattle.gos_link.specs.declared.build.Build.{Build}
 use Rattle.gos_link.specs.declared.services.Service.{Service}
 use Rattle.gos_link.specs.Services.{BindsOn}
-use Rattle.gos_link.specs.Linked.{AllKeepLimits, IsLinkable, plans_of, whole_of, wiring_of}
+use Rattle.gos_link.specs.Linked.{AllKeepLimits, IsLinkable, KeepsLimits, plans_of, whole_of, wiring_of}
 use Rattle.gos_link.specs.Answers.{all_joints}
 use Rattle.gos_link.specs.inner.Counts.{all_imports, AreCounted, HasRoom, HaveRoom, IsCountable}
 use Rattle.gos_link.specs.inner.Wired.{AllRight, AreJoinable}
@@ -47,8 +48,14 @@ are_small [] limits = record { weight = omega arith; parts = omega arith; import
 are_small (p ∷ ps) (one, others) =
     let rest = are_small ps others in
     let sum = length-append p.parts (all_parts ps) in
-    let (weight, imports, parts, joints) = (one.light, one.small.imports.0, one.small.parts.0, one.small.joints) in
-    let (weights, more_parts, more_imports, more_joints) = (rest.weight, rest.parts, rest.imports, rest.joints) in
+    let weight = one.light in
+    let imports = one.small.imports.0 in
+    let parts = one.small.parts.0 in
+    let joints = one.small.joints in
+    let weights = rest.weight in
+    let more_parts = rest.parts in
+    let more_imports = rest.imports in
+    let more_joints = rest.joints in
     record {
       weight = omega (arith, weight, weights);
       parts = omega (arith, sum, parts, more_parts);
@@ -62,8 +69,13 @@ counted b ps ss is binds =
     let small = are_small (plans_of ps) is.limits in
     let size = length-map ps plan_of in
     let lines = binds_length b.instances.items ps [] b.binds.items ss binds in
-    let (each, few, few_binds) = (is.each, is.few_instances, is.few_binds) in
-    let (weight, parts, imports, joints) = (small.weight, small.parts, small.imports, small.joints) in
+    let each = is.each in
+    let few = is.few_instances in
+    let few_binds = is.few_binds in
+    let weight = small.weight in
+    let parts = small.parts in
+    let imports = small.imports in
+    let joints = small.joints in
     record {
       weight = omega (arith, weight, size, each, few);
       parts = omega (arith, parts, size, each, few);
@@ -99,7 +111,9 @@ countable ps ss root r known right count joining =
     ap (λ (xs : List Imported). length xs) joining.imports ∙ length-map (all_left (wiring_of ps ss root)) (λ l. l.import) in
     let left = few_left (wiring_of ps ss root).links 0 ps in
     let joints = few_joined ps ss root known right r joining in
-    let (few_parts, few_imports, few_joints) = (count.parts, count.imports, count.joints) in
+    let few_parts = count.parts in
+    let few_imports = count.imports in
+    let few_joints = count.joints in
     record {
       parts = omega (arith, parts, few_parts);
       imports = omega (arith, imports, left, few_imports);
@@ -123,7 +137,7 @@ room_at p start n (ResultEnd h) c fits low is = tt
 pub have_room : (p : Plan) (start n : ℕ) (before js : List Joint) → start + length p.parts < 2 ^ 32 → length p.imports ≤ n → AreRight p before js
     → HaveRoom start n js
 have_room p start n before [] fits low right = tt
-have_room p start n before (j ∷ js) fits low (((q, v, asked, served), free), rest) =
+have_room p start n before (j ∷ js) fits low (((q, v, asked, served), free_one, free_other), rest) =
     (room_at p start n j.asking (asks q v) fits low asked, room_at p start n j.serving (serves q v) fits low served, have_room p start n (j ∷ before) js fits low rest)
 
 pub joint_room : (start n : ℕ) (js : List Joint) (k : ℕ) (j : Joint) → HaveRoom start n js → slice_get js k ≡ Some j
@@ -146,6 +160,16 @@ pub imports_on : (ps : List SeenPlan) (k : ℕ) (p : SeenPlan) → slice_get ps 
 imports_on ps k p at =
     let size = length-map p.imports import_of in
     ap (λ (qs : List SeenPlan). all_imports (map plan_of qs)) (drop_at ps k p at) ∙ (omega (arith, size))
+
+-- its ends have room
+pub ties_room : (ps : List SeenPlan) (k : ℕ) (p : SeenPlan) (start places : ℕ) → slice_get ps k ≡ Some p
+    → start + length (all_parts (map plan_of (drop k ps))) ≤ length (all_parts (map plan_of ps)) → length (all_parts (map plan_of ps)) < 2 ^ 32
+    → places ≡ length p.imports → IsRight (plan_of p) → HaveRoom start places (map joint_of p.joints)
+ties_room ps k p start places at before few size right =
+    let on = parts_on ps k p at in
+    let parts = length-map p.parts part_of in
+    let imports = length-map p.imports import_of in
+    have_room (plan_of p) start places [] (map joint_of p.joints) (omega (arith, before, few, on, parts)) (omega (arith, size, imports)) right
 
 -- a part has at most 192 handshakes
 part_few : (k : Kind) → IsInRange k → length (part_contacts (part_of k)) ≤ 192
@@ -174,3 +198,15 @@ pub shakes_few : (ks : List Kind) → All IsInRange ks → shakes_of (map part_o
 shakes_few [] range = omega arith
 shakes_few (k ∷ ks) range =
     let one = part_few k (All-head IsInRange k ks range) in let rest = shakes_few ks (All-tail IsInRange k ks range) in omega (arith, one, rest)
+
+-- a text that is read is that of a plan within the limits
+pub keeps_limits : (text : List ℕ) (p : Plan) → IsRead text p → KeepsLimits p
+keeps_limits text p (is, right) = record { light = is.writable.weight.1; small = is.small }
+
+all_limits : (ps qs : List SeenPlan) → AllKeepLimits (plans_of ps) → AllKeepLimits (plans_of qs) → AllKeepLimits (plans_of (ps ++ qs))
+all_limits [] qs one other = other
+all_limits (p ∷ ps) qs (one, rest) other = (one, all_limits ps qs rest other)
+
+pub limits_more : (old new : List SeenPlan) (p : SeenPlan) → new ≡ old ++ p ∷ [] → AllKeepLimits (plans_of old) → KeepsLimits (plan_of p)
+    → AllKeepLimits (plans_of new)
+limits_more old new p pushed before one = subst (λ (ps : List SeenPlan). AllKeepLimits (plans_of ps)) (sym pushed) (all_limits old (p ∷ []) before (one, tt))

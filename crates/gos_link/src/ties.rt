@@ -79,6 +79,7 @@ fn places_of(
     ensures many { IfOk result (λ places. length places.each.items ≡ n) }
     ensures each { IfOk result (λ places. PlacesAre services.now plan from places.each.items) }
     ensures stay { IfOk result (λ places. places.stay ≡ from + rank services.now plan n) }
+    ensures few { IfOk result (λ places. places.stay ≤ from + n) }
 {
     let mut each = Vec::new(alloc);
     let mut stay = from;

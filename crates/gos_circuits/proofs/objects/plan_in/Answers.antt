@@ -1,4 +1,4 @@
-use Rattle.gos_circuits.proofs.ObjectLemmas.{keeps_limits}
+use Rattle.gos_link.proofs.CountedLemmas.{keeps_limits}
 use Rattle.gos_circuits.proofs.objects.plan_in.Goals as goal
 
 pub returns-in-Ok-clause-limits : goal.returns-in-Ok-clause-limits
