@@ -1,7 +1,7 @@
 -- The plan of a checked module is slim.
 --
 -- Read first: LoadLemmas, EndLemmas.
-use Rattle.std.specs.Prelude.{◌≡◌, ◌≤◌, List, [], ◌∷◌, ◌++◌, All, length, map, sum_by}
+use Rattle.std.specs.Prelude.{◌≡◌, ◌≤◌, List, [], ◌∷◌, ◌++◌, All, length, sum_by}
 use Rattle.std.proofs.Common.{refl, ap, sym, ◌∙◌, arith, length-append}
 use Rattle.std.proofs.lemmas.List.{length-map}
 use Rattle.std.proofs.lemmas.List.Elements.{All-nil, All-cons}
@@ -11,7 +11,6 @@ use Rattle.gos_syntax.specs.Modules.{SeenImport}
 use Rattle.gos_model.specs.Typing.{Imported, Imports}
 use Rattle.gos_model.specs.Weight as weights
 use Rattle.gos_model.specs.Laws.{NodeHasType}
-use Rattle.gos_model.specs.Sources.{import_of}
 use Rattle.gos_check.specs.Accepted.{AreWritten}
 use Rattle.gos_check.specs.Checked.{SeenLinear, IsChecked, program_in}
 use Rattle.gos_check.specs.Linearity.{import_at}
@@ -21,11 +20,11 @@ use Rattle.gos_plan.specs.Kinds.{Part, part_contacts, contacts_of, other_side}
 use Rattle.gos_plan.specs.Plans.{Plan}
 use Rattle.gos_realises.specs.Regular.{count}
 use Rattle.gos_realises.specs.Slim.{all_shakes, IsSlim}
-use Rattle.gos_compile.specs.Wiring.{type_of_node, all_parts, all_ties, IsPlanOf}
+use Rattle.gos_compile.specs.Wiring.{type_of_node, all_parts, IsPlanOf}
 use Rattle.gos_compile.specs.inner.Loads.{HasFewShakes}
 use Rattle.gos_compile.proofs.BoundLemmas.{same_count}
 use Rattle.gos_compile.proofs.EndLemmas.{imports_shakes, few_joints}
-use Rattle.gos_compile.proofs.LoadLemmas.{counters, few_ends}
+use Rattle.gos_compile.proofs.LoadLemmas.{few_ends}
 use Rattle.gos_compile.proofs.RangeLemmas.{node_typed}
 use Rattle.gos_compile.proofs.RowLemmas.{count_pair, count_fun}
 

@@ -2,9 +2,9 @@
 --
 -- Read first: TallyLemmas. What it counts for a part, a node, an import and the result is once, and for a number as often
 -- as it is used and made.
-use Rattle.std.specs.Prelude.{◌≡◌, ℕ, zero, suc, ◌+◌, ◌≤◌, ◌<◌, ◌⊎◌, List, [], ◌∷◌, ◌++◌, length, map, nat_eq, if◌then◌else◌, false, Some}
-use Rattle.std.proofs.Common.{refl, ap, sym, subst, arith, length-append, inl, inr}
-use Rattle.gos_check.proofs.TimesLemmas.{number_cases, eq_true, eq_false, times-append}
+use Rattle.std.specs.Prelude.{◌≡◌, ℕ, zero, suc, ◌+◌, ◌≤◌, ◌<◌, List, [], ◌∷◌, ◌++◌, length, nat_eq, if◌then◌else◌, false, Some}
+use Rattle.std.proofs.Common.{refl, ap, arith, length-append}
+use Rattle.gos_check.proofs.TimesLemmas.{number_cases, eq_false, times-append}
 use Rattle.gos_check.specs.declared.linear.Split.{Split}
 use Rattle.gos_check.specs.Nodes.{Numbered, Closed, Use, Under, One, Two, If, Binding, OfFun, OfNew, OneForm, OfFst, OfSnd, OfDeref, OfNot, TwoForm, OfApp, OfBoth, OfSeq, OfPar, OfWhile, OfAssign, OfBin}
 use Rattle.gos_check.specs.Linearity.{times, split_in, sides, used, made, StandsFor}
@@ -17,11 +17,10 @@ use Rattle.gos_plan.specs.Plans.{End}
 use Rattle.gos_ties.specs.declared.points.Place.{Place}
 use Rattle.gos_ties.specs.declared.points.Place.TheVariants as places
 use Rattle.gos_ties.specs.declared.points.Point.{Point}
-use Rattle.gos_ties.specs.declared.points.Tie.{Tie}
 use Rattle.gos_realises.specs.Regular.{count}
 use Rattle.gos_compile.specs.Wiring.{Types, row, led, shares, closed_part, binder_part, one_part, two_part, parts_of, ties_of, type_of_node, nodes, import_ties, all_types, all_ties}
-use Rattle.gos_ties.specs.Ties.{end_of_place, end_at}
-use Rattle.gos_ties.specs.Counted.{place_once, once, meetings, IsThin}
+use Rattle.gos_ties.specs.Ties.{end_of_place}
+use Rattle.gos_ties.specs.Counted.{place_once, meetings, IsThin}
 use Rattle.gos_compile.proofs.TallyLemmas.{meetings-append, led_row, row_once, shares_tally, binder_tally, one_tally, two_tally, tally, tallied}
 
 -- 1 where k is one of the n numbers from i on, and else 0

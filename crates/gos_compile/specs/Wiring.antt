@@ -3,7 +3,7 @@
 -- Read first: Nodes and Linearity of gos_check; Plans of gos_plan; Ties of gos_ties. A handshake of a node leads to a point: an end of
 -- the plan, or a handshake of a number or within a node, where two ties meet. There is a joint for each two ends that
 -- a path of ties connects (`Connects`). `Place`, `Point` and `Tie` are those of gos_ties.
-use Rattle.std.specs.Prelude.{◌≡◌, ◌↔◌, ℕ, zero, suc, ◌+◌, ◌-◌, List, [], ◌∷◌, ◌++◌, ◌⊎◌, length, take, drop, Some, nat_eq, if◌then◌else◌}
+use Rattle.std.specs.Prelude.{◌≡◌, ◌↔◌, ℕ, zero, suc, ◌+◌, ◌-◌, List, [], ◌∷◌, ◌++◌, length, take, drop, nat_eq, if◌then◌else◌}
 use Rattle.gos_types.specs.Types.{Type', Com, Exp}
 use Rattle.gos_model.specs.Terms as terms
 use Rattle.gos_model.specs.Terms.{Term}
@@ -13,7 +13,7 @@ use Rattle.gos_check.specs.Nodes.{Numbered, Closed, Use, Under, One, Two, If, Bi
 pub use Rattle.gos_check.specs.Nodes.{type_of_node}
 use Rattle.gos_plan.specs.Kinds as kinds
 use Rattle.gos_plan.specs.Kinds.{Part, asks, serves}
-use Rattle.gos_plan.specs.Plans.{End, PartEnd, ImportEnd, ResultEnd, Joint, Plan, contact_at, IsRight}
+use Rattle.gos_plan.specs.Plans.{End, Plan, IsRight}
 use Rattle.gos_ties.specs.declared.points.Place.{Place}
 use Rattle.gos_ties.specs.declared.points.Place.TheVariants as places
 use Rattle.gos_ties.specs.declared.points.Point.{Point}

@@ -12,10 +12,10 @@ ghost use Rattle.gos_realises.specs.Regular.{count};
 ghost use Rattle.gos_compile.specs.inner.Loads.{most, spent};
 
 use crate::points::{add_row, answer_bits, row, shakes};
-use gos_ties::{Place, Point};
 use crate::wires::Wires;
 use gos_plan::{Kind, Op2};
 use gos_syntax::Op;
+use gos_ties::{Place, Point};
 use gos_types::{NoMemory, Ty};
 use std::alloc::Global;
 

@@ -14,12 +14,12 @@ ghost use Rattle.gos_compile.specs.Wiring.{type_of_node, import_ties, all_parts,
 ghost use Rattle.gos_compile.specs.inner.Loads.{load, most, HasFewShakes};
 
 use crate::points::{lead_row, row, shakes};
-use gos_ties::{Place, Tie};
 use crate::types::{import_list, set_types};
 use crate::walk::wire;
 use crate::wires::Wires;
 use gos_check::Node;
 use gos_syntax::Import;
+use gos_ties::{Place, Tie};
 use gos_types::NoMemory;
 use std::alloc::Global;
 

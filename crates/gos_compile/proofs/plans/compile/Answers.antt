@@ -8,7 +8,6 @@ use Rattle.gos_check.specs.declared.linear.Node.{Node}
 use Rattle.gos_check.specs.Nodes.{Numbered, node_seen}
 use Rattle.gos_plan.specs.declared.kinds.Kind.{Kind}
 use Rattle.gos_plan.specs.declared.plan.PlanImport.{PlanImport}
-use Rattle.gos_plan.specs.Plans.{End}
 use Rattle.gos_plan.specs.Seen.{SeenPlan, plan_of, part_of, import_of}
 use Rattle.gos_ties.specs.declared.points.Tie.{Tie}
 use Rattle.gos_realises.specs.Regular.{count}
