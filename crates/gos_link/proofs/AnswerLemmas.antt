@@ -198,9 +198,18 @@ module _ (joins_one : JoiningIsOne) (b : Build) (ps : List SeenPlan) (ss : List 
   stops (faults.NotGround name) (root, named, inr (done, l, higher, is)) = (4, omega arith, (root, l, ap faults.NotGround is, named, done, higher))
   stops (faults.TooHeavy weight) (root, grounded, is, heavy) =
       (5, omega arith, (root, ap faults.TooHeavy is, grounded, omega (arith, is, heavy)))
-  stops (faults.TooLarge size ports) (root, p, light, joining, is, count, large) =
-      (6, omega arith, (root, p, (λ i. faults.TooLarge (is i) (count i)), light, joining,
-      (elim large [ inl h ↦ inl (omega (arith, h, is)) | inr h ↦ inr (omega (arith, h, count)) ])))
+  stops (faults.TooLarge size ports) (root, p, light, joining, is, count, large) = (
+    6,
+    omega arith,
+    (
+      root,
+      p,
+      (λ i. faults.TooLarge (is i) (count i)),
+      light,
+      joining,
+      (elim large [ inl h ↦ inl (omega (arith, h, is)) | inr h ↦ inr (omega (arith, h, count)) ]),
+    ),
+  )
   stops (faults.Form line) w = absurd w
   stops (faults.NoImport line name) w = absurd w
   stops (faults.TypeDiffers line want got) w = absurd w

@@ -198,8 +198,7 @@ module _ (is : List Instance) (ps : List SeenPlan) (before : List Service) (b : 
   same (suc (suc (suc zero))) f g (s, p, q, x, want, got, e, all, wants, gets, differ) (z, r, t, y, want', got', h, others, wants', gets', differ') =
       let one = one_all s z p q r t x y all others in
       subst (λ (k : LinkFault). IsSameFault k g) (sym e)
-      (subst (λ (k : LinkFault). IsSameFault (faults.TypeDiffers b.line want got) k) (sym h)
-      (
+      (subst (λ (k : LinkFault). IsSameFault (faults.TypeDiffers b.line want got) k) (sym h) (
         refl,
         wants ∙ (ap (λ (i : PlanImport). type_of i.ty) one.import ∙ sym wants'),
         gets ∙ (ap (λ (m : SeenPlan). type_of m.outcome) one.both.of_giver ∙ sym gets'),

@@ -9,8 +9,7 @@ pub fn one_build()
     ensures build { IsOneBuild }
     ensures wrong_line { HasOneWrongLine }
     ensures either { BuildHasNoWrongLine }
-{
-}
+{}
 
 /// A build has one linked plan at most, but for the order of its joints, or one fault, and not both.
 pub fn one_answer()
@@ -24,5 +23,4 @@ pub fn one_answer()
 /// The joining of a build's plans has no more joints than these have together.
 pub fn few_joints()
     ensures { JointsAreFew }
-{
-}
+{}
