@@ -12,5 +12,3 @@ pub use objects::plans_in;
 mod laying;
 mod linking;
 mod objects;
-#[cfg(test)]
-mod tests;

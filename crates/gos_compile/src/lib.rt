@@ -11,8 +11,6 @@ mod laws;
 mod modules;
 mod plans;
 mod points;
-#[cfg(test)]
-mod tests;
 mod types;
 mod walk;
 mod wires;

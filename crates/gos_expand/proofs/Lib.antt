@@ -40,4 +40,3 @@ pub mod LabelLemmas
 pub mod OnceLemmas
 pub mod OutlineLemmas
 pub mod RunLemmas
-pub mod NameLemmas

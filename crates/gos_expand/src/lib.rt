@@ -16,8 +16,6 @@ mod numbering;
 mod outside;
 mod places;
 mod placing;
-#[cfg(test)]
-mod tests;
 mod tokens;
 mod whole;
 

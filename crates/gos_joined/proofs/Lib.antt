@@ -1,6 +1,6 @@
 mod ChainLemmas
-mod ReachLemmas
-mod StepLemmas
-mod OriginLemmas
-mod JoiningLemmas
-mod WholeLemmas
+pub mod ReachLemmas
+pub mod StepLemmas
+pub mod OriginLemmas
+pub mod JoiningLemmas
+pub mod WholeLemmas

@@ -21,36 +21,36 @@ whole w js =
     }
 
 -- elements of two lists
-front_at : {X : Type 0} (xs ys : List X) (i : ℕ) → i < length xs → slice_get (xs ++ ys) i ≡ slice_get xs i
+pub front_at : {X : Type 0} (xs ys : List X) (i : ℕ) → i < length xs → slice_get (xs ++ ys) i ≡ slice_get xs i
 front_at [] ys i small = absurd (omega (arith, small))
 front_at (x ∷ xs) ys zero small = refl
 front_at (x ∷ xs) ys (suc i) small = front_at xs ys i (omega (arith, small))
 
-behind_at : {X : Type 0} (xs ys : List X) (i : ℕ) → length xs ≤ i → slice_get (xs ++ ys) i ≡ slice_get ys (i - length xs)
+pub behind_at : {X : Type 0} (xs ys : List X) (i : ℕ) → length xs ≤ i → slice_get (xs ++ ys) i ≡ slice_get ys (i - length xs)
 behind_at [] ys i large = let e : i ≡ i - 0 = omega arith in ap (slice_get ys) e
 behind_at (x ∷ xs) ys zero large = absurd (omega (arith, large))
 behind_at (x ∷ xs) ys (suc i) large =
     let e : i - length xs ≡ suc i - suc (length xs) = omega arith in behind_at xs ys i (omega (arith, large)) ∙ ap (slice_get ys) e
 
 -- parts
-abbrev before : List Plan → ℕ → ℕ
+abbrev pub before : List Plan → ℕ → ℕ
 before [] k = 0
 before (p ∷ ps) zero = 0
 before (p ∷ ps) (suc k) = length p.parts + before ps k
 
-record PartAt (n : ℕ) (ps : List Plan) (i h : ℕ) (c : Contact) : Type 0 where
-  plan : ℕ
-  part : ℕ
-  of : Plan
-  number : i ≡ before ps plan + part
-  stands : part_place n ps i h ≡ place (n + plan) (PartEnd part h)
-  is : slice_get ps plan ≡ Some of
-  has : slice_get (contacts_of_part (slice_get of.parts part)) h ≡ Some c
+pub record PartAt (n : ℕ) (ps : List Plan) (i h : ℕ) (c : Contact) : Type 0 where
+  pub plan : ℕ
+  pub part : ℕ
+  pub of : Plan
+  pub number : i ≡ before ps plan + part
+  pub stands : part_place n ps i h ≡ place (n + plan) (PartEnd part h)
+  pub is : slice_get ps plan ≡ Some of
+  pub has : slice_get (contacts_of_part (slice_get of.parts part)) h ≡ Some c
 
-next_place : (a : Place) (n k : ℕ) (e : End) → a ≡ place (suc n + k) e → a ≡ place (n + suc k) e
+pub next_place : (a : Place) (n k : ℕ) (e : End) → a ≡ place (suc n + k) e → a ≡ place (n + suc k) e
 next_place a n k e is = let sum : suc n + k ≡ n + suc k = omega arith in is ∙ ap (λ (m : ℕ). place m e) sum
 
-part_at : (n : ℕ) (ps : List Plan) (i h : ℕ) (c : Contact) → slice_get (contacts_of_part (slice_get (all_parts ps) i)) h ≡ Some c → PartAt n ps i h c
+pub part_at : (n : ℕ) (ps : List Plan) (i h : ℕ) (c : Contact) → slice_get (contacts_of_part (slice_get (all_parts ps) i)) h ≡ Some c → PartAt n ps i h c
 part_at n [] i h c e = absurd (cc e)
 part_at n (p ∷ ps) i h c e = by_test (nat_lt i (length p.parts)) refl (part_at (suc n) ps (i - length p.parts) h c)
   where
@@ -84,7 +84,7 @@ part_at n (p ∷ ps) i h c e = by_test (nat_lt i (length p.parts)) refl (part_at
         }
 
 -- imports that stay
-abbrev left_before : List Link → ℕ → ℕ → List Imported → ℕ → ℕ
+abbrev pub left_before : List Link → ℕ → ℕ → List Imported → ℕ → ℕ
 left_before ls k n [] m = 0
 left_before ls k n (x ∷ xs) zero = 0
 left_before ls k n (x ∷ xs) (suc m) = (if is_joined ls k n then 0 else 1) + left_before ls k (suc n) xs m
@@ -142,21 +142,21 @@ left_one ls k n (x ∷ xs) i l e = by_test (is_joined ls k n) refl i e (λ m. le
           stays = ap (is_joined ls k) (sym sum) ∙ there.stays;
         }
 
-abbrev left_index : List Link → ℕ → List Plan → ℕ → ℕ → ℕ
+abbrev pub left_index : List Link → ℕ → List Plan → ℕ → ℕ → ℕ
 left_index ls n [] k m = 0
 left_index ls n (p ∷ ps) zero m = left_before ls n 0 p.imports m
 left_index ls n (p ∷ ps) (suc k) m = length (left_in ls n 0 p.imports) + left_index ls (suc n) ps k m
 
-record LeftAt (ls : List Link) (n : ℕ) (ps : List Plan) (i : ℕ) (l : LeftImport) : Type 0 where
-  plan : ℕ
-  of : Plan
-  place_of : i ≡ left_index ls n ps plan l.number
-  plan_is : l.plan ≡ n + plan
-  is : slice_get ps plan ≡ Some of
-  has : slice_get of.imports l.number ≡ Some l.import
-  stays : is_joined ls l.plan l.number ≡ false
+pub record LeftAt (ls : List Link) (n : ℕ) (ps : List Plan) (i : ℕ) (l : LeftImport) : Type 0 where
+  pub plan : ℕ
+  pub of : Plan
+  pub place_of : i ≡ left_index ls n ps plan l.number
+  pub plan_is : l.plan ≡ n + plan
+  pub is : slice_get ps plan ≡ Some of
+  pub has : slice_get of.imports l.number ≡ Some l.import
+  pub stays : is_joined ls l.plan l.number ≡ false
 
-left_at : (ls : List Link) (n : ℕ) (ps : List Plan) (i : ℕ) (l : LeftImport) → slice_get (left_among ls n ps) i ≡ Some l → LeftAt ls n ps i l
+pub left_at : (ls : List Link) (n : ℕ) (ps : List Plan) (i : ℕ) (l : LeftImport) → slice_get (left_among ls n ps) i ≡ Some l → LeftAt ls n ps i l
 left_at ls n [] i l e = absurd (cc e)
 left_at ls n (p ∷ ps) i l e = by_test (nat_lt i (length (left_in ls n 0 p.imports))) refl (left_at ls (suc n) ps (i - length (left_in ls n 0 p.imports)) l)
   where
@@ -192,10 +192,10 @@ left_at ls n (p ∷ ps) i l e = by_test (nat_lt i (length (left_in ls n 0 p.impo
           stays = there.stays;
         }
 
-at_import : (k i h : ℕ) → is_at_import k i (place k (ImportEnd i h)) ≡ true
+pub at_import : (k i h : ℕ) → is_at_import k i (place k (ImportEnd i h)) ≡ true
 at_import k i h = grind arith
 
-no_link : (ls : List Link) (k i h : ℕ) (l : Link) (n : ℕ) → slice_get ls n ≡ Some l → StandsIn (place k (ImportEnd i h)) l → is_joined ls k i ≡ false → ⊥
+pub no_link : (ls : List Link) (k i h : ℕ) (l : Link) (n : ℕ) → slice_get ls n ≡ Some l → StandsIn (place k (ImportEnd i h)) l → is_joined ls k i ≡ false → ⊥
 no_link [] k i h l n at stands none = absurd (cc at)
 no_link (x ∷ ls) k i h l (suc n) at stands none = no_link ls k i h l n at stands (grind (arith, none))
 no_link (x ∷ ls) k i h l zero at stands none = by_way stands
@@ -212,16 +212,16 @@ no_link (x ∷ ls) k i h l zero at stands none = by_way stands
         grind (arith, none, one)
 
 -- an import of the joining stands at one that stays
-record ImportAt (w : Wiring) (i h : ℕ) (c : Contact) : Type 0 where
-  left : LeftImport
-  at : LeftAt w.links 0 w.plans i left
-  stands : origin w (ImportEnd i h) ≡ place left.plan (ImportEnd left.number h)
-  has : slice_get (contacts_of left.import.ty) h ≡ Some c
+pub record ImportAt (w : Wiring) (i h : ℕ) (c : Contact) : Type 0 where
+  pub left : LeftImport
+  pub at : LeftAt w.links 0 w.plans i left
+  pub stands : origin w (ImportEnd i h) ≡ place left.plan (ImportEnd left.number h)
+  pub has : slice_get (contacts_of left.import.ty) h ≡ Some c
 
-abbrev import_of : LeftImport → Imported
+abbrev pub import_of : LeftImport → Imported
 import_of l = l.import
 
-import_at : (w : Wiring) (i h : ℕ) (c : Contact) → slice_get (contacts_of_import (slice_get (map (λ l. l.import) (all_left w)) i)) h ≡ Some c → ImportAt w i h c
+pub import_at : (w : Wiring) (i h : ℕ) (c : Contact) → slice_get (contacts_of_import (slice_get (map (λ l. l.import) (all_left w)) i)) h ≡ Some c → ImportAt w i h c
 import_at w i h c e =
     by_left (slice_get (all_left w) i) refl
     (ap (λ (o : Option Imported). slice_get (contacts_of_import o) h) (sym (slice_get-map import_of (all_left w) i)) ∙ e)
@@ -231,7 +231,7 @@ import_at w i h c e =
     by_left (Some l) is there =
         record { left = l; at = left_at w.links 0 w.plans i l is; stands = ap (λ (o : Option LeftImport). left_place o h) is; has = there }
 
-result_contact : (o : Option Plan) (n : ℕ) → contact_in o (ResultEnd n) ≡ turned_if (slice_get (contacts_of_result o) n)
+pub result_contact : (o : Option Plan) (n : ℕ) → contact_in o (ResultEnd n) ≡ turned_if (slice_get (contacts_of_result o) n)
 result_contact None n = refl
 result_contact (Some p) n = refl
 
@@ -276,16 +276,16 @@ at_origin w fit js (ResultEnd h) c e = by_contact (slice_get (contacts_of w.outc
         )
 
 -- no two ends stand at one place
-abbrev sort : End → ℕ
+abbrev pub sort : End → ℕ
 sort (PartEnd i h) = 0
 sort (ImportEnd i h) = 1
 sort (ResultEnd h) = 2
 
-left_sort : (o : Option LeftImport) (h : ℕ) → sort (left_place o h).end ≡ 1
+pub left_sort : (o : Option LeftImport) (h : ℕ) → sort (left_place o h).end ≡ 1
 left_sort None h = refl
 left_sort (Some l) h = refl
 
-sort_of : (w : Wiring) (js : List Joint) (e : End) (c : Contact) → contact_at (whole w js) e ≡ Some c → sort (origin w e).end ≡ sort e
+pub sort_of : (w : Wiring) (js : List Joint) (e : End) (c : Contact) → contact_at (whole w js) e ≡ Some c → sort (origin w e).end ≡ sort e
 sort_of w js (PartEnd i h) c e = ap (λ (x : Place). sort x.end) (part_at 0 w.plans i h c e).stands
 sort_of w js (ImportEnd i h) c e = left_sort (slice_get (all_left w) i) h
 sort_of w js (ResultEnd h) c e = refl

@@ -28,7 +28,7 @@ told_number (suc m) (suc n) =
       | inr apart ↦ inr (λ e. apart (omega (arith, e)))
     ]
 
-told_end : (d e : End) → Told (d ≡ e)
+pub told_end : (d e : End) → Told (d ≡ e)
 told_end d e = by_test (same_end d e) refl
   where
     by_test : (b : Bool) → same_end d e ≡ b → Told (d ≡ e)

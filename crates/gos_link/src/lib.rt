@@ -9,14 +9,10 @@ mod fault;
 mod file_name;
 mod joining;
 mod laws;
-#[cfg(test)]
-mod link_tests;
 mod linking;
 mod noting;
 mod opens;
 mod reading;
-#[cfg(test)]
-mod reading_tests;
 mod said;
 mod services;
 mod size;

@@ -14,7 +14,7 @@ use Rattle.gos_model.specs.SmallPrograms.{c, d, two_commands, loop_once}
 abbrev pub repeat : Term
 repeat =
     Lam (Exp 8) (Lam Com (New 8 (Seq (Assign (Bound 0) (Bound 2)) (While (Not (Bin Eq (Deref (Bound 0)) (Lit 0 8)))
-        (Seq (Bound 1) (Assign (Bound 0) (Bin Sub (Deref (Bound 0)) (Lit 1 8))))))))
+    (Seq (Bound 1) (Assign (Bound 0) (Bin Sub (Deref (Bound 0)) (Lit 1 8))))))))
 
 -- the names of two imports
 abbrev pub f : Name

@@ -10,5 +10,3 @@ pub use compiling::compile_source;
 
 mod checking;
 mod compiling;
-#[cfg(test)]
-mod tests;

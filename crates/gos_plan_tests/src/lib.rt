@@ -1,30 +1,11 @@
-// Tests of plans and of the gates of their parts, by public calls alone.
+// Tests of plans by public calls alone: which are made, their object texts, and how their parts fire.
 //
 // A crate with tests is proved twice, so crates that others wait for have none: theirs stand here, one file a subject.
-// `trial.rt` lays a part out alone, and settles it cycle by cycle.
 #![tactic(auto)]
 
 #[cfg(test)]
-mod control_cells;
-#[cfg(test)]
-mod control_cycles;
-#[cfg(test)]
-mod data_cells;
-#[cfg(test)]
-mod data_cycles;
-#[cfg(test)]
 mod firings;
-#[cfg(test)]
-mod gates;
 #[cfg(test)]
 mod object_texts;
 #[cfg(test)]
 mod plans;
-#[cfg(test)]
-mod pools;
-#[cfg(test)]
-mod share_cells;
-#[cfg(test)]
-mod share_cycles;
-#[cfg(test)]
-mod trial;

@@ -18,7 +18,7 @@ or_true true x h = refl
 or_true false x h = h
 
 -- one of the first n is open
-some_there : (n : ℕ) (f : ℕ → Bool) → some_open n f ≡ true → (k : ℕ) × (k < n) × (f k ≡ true)
+pub some_there : (n : ℕ) (f : ℕ → Bool) → some_open n f ≡ true → (k : ℕ) × (k < n) × (f k ≡ true)
 some_there zero f h = absurd (cc h)
 some_there (suc n) f h = by_test (f n) refl h (some_there n f)
   where
@@ -27,7 +27,7 @@ some_there (suc n) f h = by_test (f n) refl h (some_there n f)
     by_test true t g further = (n, omega arith, t)
     by_test false t g further = let (k, low, is) = further g in (k, omega (arith, low), is)
 
-there_some : (n : ℕ) (f : ℕ → Bool) (k : ℕ) → k < n → f k ≡ true → some_open n f ≡ true
+pub there_some : (n : ℕ) (f : ℕ → Bool) (k : ℕ) → k < n → f k ≡ true → some_open n f ≡ true
 there_some zero f k low is = absurd (omega (arith, low))
 there_some (suc n) f k low is = by_test (nat_eq k n) refl (λ other. there_some n f k other is)
   where
@@ -42,7 +42,7 @@ lengths : (cs : List Contact) → length (other_side cs) ≡ length cs
 lengths [] = refl
 lengths (c ∷ cs) = ap suc (lengths cs)
 
-count_fun : (a b : Type') → count (Fun a b) ≡ count a + count b
+pub count_fun : (a b : Type') → count (Fun a b) ≡ count a + count b
 count_fun a b =
     let joined = ap (λ (cs : List Contact). length cs) (functions_join a b).joined in
     let both = length-append (other_side (contacts_of a)) (contacts_of b) in
@@ -61,7 +61,7 @@ one_done (Var w) d = absurd d
 one_done (Pair a b) d = absurd d
 one_done (Fun a b) d = absurd d
 
-width_small : (is : List Imported) (t : Type') → IsDone t → width is < count (whole_type is t)
+pub width_small : (is : List Imported) (t : Type') → IsDone t → width is < count (whole_type is t)
 width_small [] t d = one_done t d
 width_small (i ∷ is) t d =
     let rest = width_small is t d in
@@ -82,7 +82,7 @@ done_open (Pair a b) d f h = absurd d
 done_open (Fun a b) d f h = absurd d
 
 -- where something is open the result is
-result_open : (is : List Imported) (t : Type') → IsDone t → (f : ℕ → Bool) → KeepsTurnsOf (whole_type is t) f
+pub result_open : (is : List Imported) (t : Type') → IsDone t → (f : ℕ → Bool) → KeepsTurnsOf (whole_type is t) f
     → some_open (count (whole_type is t)) f ≡ true → f (width is) ≡ true
 result_open [] t d f keeps h = done_open t d f h
 result_open (i ∷ is) t d f (own, rest, leads) h =
@@ -103,14 +103,14 @@ both_true a b true true h k shut = let up = h refl in let also = k refl in absur
 both_true a b true false h k shut = refl
 both_true a b false d h k shut = refl
 
-ground_kept : (a : Type') → IsGround a → (f g : ℕ → Bool) → ((h : ℕ) → h < count a → g h ≡ true → f h ≡ true) → KeepsTurnsOf a f → KeepsTurnsOf a g
+pub ground_kept : (a : Type') → IsGround a → (f g : ℕ → Bool) → ((h : ℕ) → h < count a → g h ≡ true → f h ≡ true) → KeepsTurnsOf a f → KeepsTurnsOf a g
 ground_kept Com ground f g less keeps = tt
 ground_kept (Exp w) ground f g less keeps = tt
 ground_kept (Var w) ground f g less keeps = both_true (f 0) (f 1) (g 0) (g 1) (less 0 (omega arith)) (less 1 (omega arith)) keeps
 ground_kept (Pair a b) ground f g less keeps = absurd ground
 ground_kept (Fun a b) ground f g less keeps = absurd ground
 
-done_kept : (t : Type') → IsDone t → (g : ℕ → Bool) → KeepsTurnsOf t g
+pub done_kept : (t : Type') → IsDone t → (g : ℕ → Bool) → KeepsTurnsOf t g
 done_kept Com d g = tt
 done_kept (Exp w) d g = tt
 done_kept (Var w) d g = absurd d

@@ -24,40 +24,40 @@ use Rattle.gos_realises.proofs.RingLemmas.{after, told_open}
 use Rattle.gos_realises.proofs.ToldLemmas.{shake_event, asks_event, there_is, told_step}
 
 -- what passed, after a list
-abbrev passed : Plan → List Pass → List Element → List Pass
+abbrev pub passed : Plan → List Pass → List Element → List Pass
 passed p past [] = past
 passed p past (x ∷ xs) = passed p (after p x past) xs
 
-passed_then : (p : Plan) (past : List Pass) (ys : List Element) (x : Element) → passed p past (ys ++ x ∷ []) ≡ after p x (passed p past ys)
+pub passed_then : (p : Plan) (past : List Pass) (ys : List Element) (x : Element) → passed p past (ys ++ x ∷ []) ≡ after p x (passed p past ys)
 passed_then p past [] x = refl
 passed_then p past (y ∷ ys) x = passed_then p (after p y past) ys x
 
-inputs_then : (p : Plan) (past : List Pass) (ys zs : List Element) → InputsKeepTurns p past ys → InputsKeepTurns p (passed p past ys) zs
+pub inputs_then : (p : Plan) (past : List Pass) (ys zs : List Element) → InputsKeepTurns p past ys → InputsKeepTurns p (passed p past ys) zs
     → InputsKeepTurns p past (ys ++ zs)
 inputs_then p past [] zs one other = other
 inputs_then p past (Fire i t ∷ ys) zs one other = inputs_then p past ys zs one other
 inputs_then p past (Out e v ∷ ys) zs one other = inputs_then p (after p (Out e v) past) ys zs one other
 inputs_then p past (In e v ∷ ys) zs one other = (one.0, inputs_then p (after p (In e v) past) ys zs one.1 other)
 
-outputs_last : (p : Plan) (past : List Pass) (ys zs : List Element) → OutputsKeepTurns p past (ys ++ zs) → OutputsKeepTurns p (passed p past ys) zs
+pub outputs_last : (p : Plan) (past : List Pass) (ys zs : List Element) → OutputsKeepTurns p past (ys ++ zs) → OutputsKeepTurns p (passed p past ys) zs
 outputs_last p past [] zs whole = whole
 outputs_last p past (Fire i t ∷ ys) zs whole = outputs_last p past ys zs whole
 outputs_last p past (Out e v ∷ ys) zs whole = outputs_last p (after p (Out e v) past) ys zs whole.1
 outputs_last p past (In e v ∷ ys) zs whole = outputs_last p (after p (In e v) past) ys zs whole
 
-runs_then : (p : Plan) (ys : List Element) (x : Element) (s u w : Tokens) → Runs p ys s u → Does p x u w → Runs p (ys ++ x ∷ []) s w
+pub runs_then : (p : Plan) (ys : List Element) (x : Element) (s u w : Tokens) → Runs p ys s u → Does p x u w → Runs p (ys ++ x ∷ []) s w
 runs_then p [] x s u w is does = (w, subst (λ a. Does p x a w) is does, refl)
 runs_then p (y ∷ ys) x s u w (t, one, more) does = (t, one, runs_then p ys x t u w more does)
 
 -- an input and an output pass an end that is there
-in_there : (p : Plan) (e : End) (v : ℕ) (s w : Tokens) → Does p (In e v) s w → (c : Contact) × (contact_at p e ≡ Some c)
+pub in_there : (p : Plan) (e : End) (v : ℕ) (s w : Tokens) → Does p (In e v) s w → (c : Contact) × (contact_at p e ≡ Some c)
 in_there p e v s w does = by_contact (contact_at p e) refl does.1
   where
     by_contact : (o : Option Contact) → contact_at p e ≡ o → Passes p (In e v) o s w → (c : Contact) × (contact_at p e ≡ Some c)
     by_contact None is h = absurd h
     by_contact (Some c) is h = (c, is)
 
-out_there : (p : Plan) (e : End) (v : ℕ) (s w : Tokens) → Does p (Out e v) s w → (c : Contact) × (contact_at p e ≡ Some c)
+pub out_there : (p : Plan) (e : End) (v : ℕ) (s w : Tokens) → Does p (Out e v) s w → (c : Contact) × (contact_at p e ≡ Some c)
 out_there p e v s w does = by_contact (contact_at p e) refl does.1
   where
     by_contact : (o : Option Contact) → contact_at p e ≡ o → Passes p (Out e v) o s w → (c : Contact) × (contact_at p e ≡ Some c)
@@ -65,7 +65,7 @@ out_there p e v s w does = by_contact (contact_at p e) refl does.1
     by_contact (Some c) is h = (c, is)
 
 -- the result of a command or an expression has one handshake, which asks; those of a ground import serve
-result_asks : (t : Type') → IsDone t → (h : ℕ) (c : Contact) → turned_if (slice_get (contacts_of t) h) ≡ Some c → (h ≡ 0) × (Ask ≡ c.role)
+pub result_asks : (t : Type') → IsDone t → (h : ℕ) (c : Contact) → turned_if (slice_get (contacts_of t) h) ≡ Some c → (h ≡ 0) × (Ask ≡ c.role)
 result_asks Com d zero c is = (refl, ap (λ (x : Contact). x.role) (same_Some _ c is))
 result_asks Com d (suc h) c is = absurd (none-some c is)
 result_asks (Exp w) d zero c is = (refl, ap (λ (x : Contact). x.role) (same_Some _ c is))
@@ -74,7 +74,7 @@ result_asks (Var w) d h c is = absurd d
 result_asks (Pair a b) d h c is = absurd d
 result_asks (Fun a b) d h c is = absurd d
 
-import_serves : (t : Type') → IsGround t → (h : ℕ) (c : Contact) → slice_get (contacts_of t) h ≡ Some c → Serve ≡ c.role
+pub import_serves : (t : Type') → IsGround t → (h : ℕ) (c : Contact) → slice_get (contacts_of t) h ≡ Some c → Serve ≡ c.role
 import_serves Com g zero c is = ap (λ (x : Contact). x.role) (same_Some _ c is)
 import_serves Com g (suc h) c is = absurd (none-some c is)
 import_serves (Exp w) g zero c is = ap (λ (x : Contact). x.role) (same_Some _ c is)
@@ -85,7 +85,7 @@ import_serves (Var w) g (suc (suc h)) c is = absurd (none-some c is)
 import_serves (Pair a b) g h c is = absurd g
 import_serves (Fun a b) g h c is = absurd g
 
-one_ground : (is : List Imported) → AllGround is → (i : ℕ) (x : Imported) → slice_get is i ≡ Some x → IsGround x.ty
+pub one_ground : (is : List Imported) → AllGround is → (i : ℕ) (x : Imported) → slice_get is i ≡ Some x → IsGround x.ty
 one_ground [] ground i x is = absurd (none-some x is)
 one_ground (j ∷ js) ground zero x is = subst (λ (y : Imported). IsGround y.ty) (same_Some j x is) ground.0
 one_ground (j ∷ js) ground (suc i) x is = one_ground js ground.1 i x is

@@ -1,4 +1,4 @@
-mod RingLemmas
+pub mod RingLemmas
 mod OneJointLemmas
 mod SkipLemmas
 mod NameLemmas
@@ -17,6 +17,6 @@ mod ModuleLemmas
 mod HeadLemmas
 mod SameLemmas
 mod SameTurnLemmas
-mod GroundTurnLemmas
-mod ToldLemmas
-mod InputLemmas
+pub mod GroundTurnLemmas
+pub mod ToldLemmas
+pub mod InputLemmas

@@ -29,7 +29,7 @@ test_differ x y differ = by_test (bytes_eq x y) refl
     by_test true e = let is : x ≡ y = grind (arith, bytes_eq-Decides, e) in absurd (differ is)
     by_test false e = e
 
-contains_at : (xs : Imports) (k : ℕ) (x : Imported) → slice_get xs k ≡ Some x → Contains xs x
+pub contains_at : (xs : Imports) (k : ℕ) (x : Imported) → slice_get xs k ≡ Some x → Contains xs x
 contains_at xs k x e = (k, slice_get_within xs k x e, get_or_from_slice_get xs k x x e)
 
 next_number : (j i : ℕ) → nat_eq j i ≡ nat_eq (suc j) (suc i)

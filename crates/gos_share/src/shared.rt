@@ -53,13 +53,7 @@ fn only(shared: Shared, j: u32) -> Result<Shared, u32>
 }
 
 // Handshake `j` of a type. `Err` has by how much `j` is behind the last one.
-#[tactic(auto, using(
-    crate::proofs::SharedLemmas::pair_first,
-    crate::proofs::SharedLemmas::pair_second,
-    crate::proofs::SharedLemmas::fun_second,
-    crate::proofs::SharedLemmas::pair_behind,
-    crate::proofs::SharedLemmas::fun_behind,
-))]
+#[tactic(auto, using(crate::proofs::SharedLemmas::pair_first, crate::proofs::SharedLemmas::pair_second, crate::proofs::SharedLemmas::fun_second, crate::proofs::SharedLemmas::pair_behind, crate::proofs::SharedLemmas::fun_behind))]
 fn find(ty: &Ty, j: u32) -> Result<Shared, u32>
     ensures there { IfOk result (λ k. slice_get (contacts_of (type_of ty.now)) j ≡ Some (contact_of k)) }
     ensures behind { IfErr result (λ over. j ≡ over + length (contacts_of (type_of ty.now))) }

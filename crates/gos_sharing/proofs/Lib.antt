@@ -1,11 +1,11 @@
-mod SeenIdleLemmas
-mod SeenPlaceLemmas
-mod SeenTokenLemmas
-mod SeenFillLemmas
-mod SeenFireLemmas
-mod ShareRowLemmas
-mod SeenKeptLemmas
-mod SeenElementLemmas
-mod SeenRunLemmas
-mod SeenQuietLemmas
+pub mod SeenIdleLemmas
+pub mod SeenPlaceLemmas
+pub mod SeenTokenLemmas
+pub mod SeenFillLemmas
+pub mod SeenFireLemmas
+pub mod ShareRowLemmas
+pub mod SeenKeptLemmas
+pub mod SeenElementLemmas
+pub mod SeenRunLemmas
+pub mod SeenQuietLemmas
 mod SmallSharingLemmas

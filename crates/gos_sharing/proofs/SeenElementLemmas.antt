@@ -96,7 +96,7 @@ visible i t c r q is o s e way v apart takes kept lies none = by_place (places_o
 contact_of : (r : Plan) (k h : ℕ) (p : Part) → slice_get r.parts k ≡ Some p → contact_at r (PartEnd k h) ≡ slice_get (part_contacts p) h
 contact_of r k h p at_k = ap (λ x. slice_get (contacts_of_part x) h) at_k
 
-puts_so : (r : Plan) (k : ℕ) (p : Part) (x : Slot) → slice_get r.parts k ≡ Some p → RoleIs p (shake_of x) (role_putting x) → PutsSo r (end_of k x) (way_of x)
+pub puts_so : (r : Plan) (k : ℕ) (p : Part) (x : Slot) → slice_get r.parts k ≡ Some p → RoleIs p (shake_of x) (role_putting x) → PutsSo r (end_of k x) (way_of x)
 puts_so r k p x at_k role d there = ap way_put (role d (sym (contact_of r k (shake_of x) p at_k) ∙ there)) ∙ sym (way_to_put x)
 
 pub takes_so : (r : Plan) (k : ℕ) (p : Part) (x : Slot) → slice_get r.parts k ≡ Some p → RoleIs p (shake_of x) (role_taking x) → (d : Contact) → contact_at r (end_of k x) ≡ Some d → way_taken d.role ≡ way_of x

@@ -26,7 +26,7 @@ other_state i c k j x y apart = by_test (nat_eq j i) refl (nat_eq j k) refl
     by_test true t false u = rw (t, u) refl
     by_test false t b u = rw t refl
 
-state_filled : (i : ℕ) (t : Type') (c : ℕ) (r q : Plan) (k : ℕ) (x : State) (s : Tokens) → (k ≡ i → ⊥)
+pub state_filled : (i : ℕ) (t : Type') (c : ℕ) (r q : Plan) (k : ℕ) (x : State) (s : Tokens) → (k ≡ i → ⊥)
     → seen_tokens i t c r q (with_state k x s) ≡ with_state k x (seen_tokens i t c r q s)
 state_filled i t c r q k x s apart =
     λ n. record {

@@ -32,7 +32,7 @@ fit_none o s fit d shut way = by_bool (o d) refl (fit d) way
     by_bool false h f Request = f.0
     by_bool false h f Answer = f.1
 
-both_none : (s : Tokens) (a : End) (way : Direction) → s.in_place Request a ≡ None → s.in_place Answer a ≡ None → s.in_place way a ≡ None
+pub both_none : (s : Tokens) (a : End) (way : Direction) → s.in_place Request a ≡ None → s.in_place Answer a ≡ None → s.in_place way a ≡ None
 both_none s a Request h k = h
 both_none s a Answer h k = k
 

@@ -15,7 +15,7 @@ use Rattle.gos_plan.proofs.AskingLemmas.{row_roles}
 use Rattle.gos_plan.proofs.RowLemmas.{role_taking}
 use Rattle.gos_webs.specs.Webs.{joint}
 use Rattle.gos_webs.specs.Cutting.{asks_in}
-use Rattle.gos_sharing.specs.Sharing.{IsOfPart, IsSeenThrough, LeadsThrough, passed_on, held_or, held_if, way_out_of, seen_tokens, QuietIsSeen}
+use Rattle.gos_sharing.specs.Sharing.{IsOfPart, IsSeenThrough, LeadsThrough, passed_on, held_or, held_if, way_out_of, seen_tokens, ServesOne, QuietIsSeen}
 use Rattle.gos_webs.proofs.MovedLemmas.{listed}
 use Rattle.gos_sharing.proofs.SeenPlaceLemmas.{Through}
 use Rattle.gos_sharing.proofs.SeenTokenLemmas.{next, Owns, seen_at, asking_at, follows, of_part, either_end, one_server, place_asking, place_serving}
@@ -115,17 +115,13 @@ not_joined i t c r q is h a there = by_end (either_end (PartEnd i h) f.joint.ask
     by_end (inl e) (inr (j, k, at_j, into, out)) = is.apart f.joint.asking _ into (of_part i h f.joint.asking (sym e)) (into_of j k.role)
     by_end (inr e) (inr (j, k, at_j, into, out)) = is.apart _ f.joint.serving out (out_of j k.role) (of_part i h f.joint.serving (sym e))
 
-pub quiet_is_seen : QuietIsSeen
-quiet_is_seen i t c r q xs s w one quiet = (λ k slot u does. no_fire k slot u does (nat_eq k i) refl, λ e v u does. no_out e v u does (contact_at r e) refl)
+-- where each token is welcome, whatever led there
+pub quiet_here : (i : ℕ) (t : Type') (c : ℕ) (r q : Plan) → IsSeenThrough i t c r q → (w : Tokens) → AllWelcome r w → IsQuiet r w → IsQuiet q (seen_tokens i t c r q w)
+quiet_here i t c r q is w welcome quiet = (λ k slot u does. no_fire k slot u does (nat_eq k i) refl, λ e v u does. no_out e v u does (contact_at r e) refl)
   where
-    welcome : AllWelcome r w
-    welcome =
-        welcome_after r xs none_open one.opened s w one.orderly
-        (λ k slot d v there way lies. absurd (not_both_so v (token_at r s (end_of k slot) (way_of slot)) (nothing_held s (way_of slot) (places_of r (end_of k slot)) (λ a. one.idle.0 (way_of slot) a)) lies))
-
     placed : (h : ℕ) (way : Direction) (n : ℕ) → token_at q (seen_tokens i t c r q w) (PartEnd i h) way ≡ Some n → (p : Option End) → places_of q (PartEnd i h) ≡ p → ⊥
     placed h way n lies None k = not_both_so n (token_at q (seen_tokens i t c r q w) (PartEnd i h) way) (ap (held_at (seen_tokens i t c r q w) way) k) lies
-    placed h way n lies (Some a) k = not_joined i t c r q one.plans h a k
+    placed h way n lies (Some a) k = not_joined i t c r q is h a k
 
     no_fire : (k : ℕ) (slot : Slot) (u : Tokens) → Does q (Fire k slot) (seen_tokens i t c r q w) u → (b : Bool) → nat_eq k i ≡ b → ⊥
     no_fire k slot u (n, row, lies, by, leads) true h =
@@ -139,19 +135,27 @@ quiet_is_seen i t c r q xs s w one quiet = (λ k slot u does. no_fire k slot u d
         by_r : firing_of (slice_get r.parts k) (w.state k) slot ≡ Some row
         by_r =
             let here : (if nat_eq k i then at Rest c else w.state k) ≡ w.state k = rw h refl in
-            ap (λ y. firing_of (slice_get r.parts k) y slot) (sym here) ∙ (ap (λ y. firing_of (slice_get y k) (if nat_eq k i then at Rest c else w.state k) slot) (sym one.plans.parts) ∙ by)
+            ap (λ y. firing_of (slice_get r.parts k) y slot) (sym here) ∙ (ap (λ y. firing_of (slice_get y k) (if nat_eq k i then at Rest c else w.state k) slot) (sym is.parts) ∙ by)
 
         with_part : (p : Option Part) → slice_get r.parts k ≡ p → ⊥
         with_part None z = let no : None ≡ Some row = ap (λ y. firing_of y (w.state k) slot) (sym z) ∙ by_r in cc no
         with_part (Some p) z =
             let roles = row_roles p (w.state k) slot row n (ap (λ y. firing_of y (w.state k) slot) (sym z) ∙ by_r) in
             let role = subst (λ (x : Slot). Rattle.gos_plan.proofs.AskingLemmas.RoleIs p (Rattle.gos_plan.specs.Tokens.shake_of x) (role_taking x)) roles.0 roles.1.0 in
-            let there = token_too i t c r q one.plans w welcome quiet (end_of k slot) (way_of slot) n apart (takes_so r k p slot z role) lies in
+            let there = token_too i t c r q is w welcome quiet (end_of k slot) (way_of slot) n apart (takes_so r k p slot z role) lies in
             quiet.0 k slot (fired r k row n w) (n, row, there, by_r, refl)
 
     no_out : (e : End) (v : ℕ) (u : Tokens) → Does q (Out e v) (seen_tokens i t c r q w) u → (f : Option Contact) → contact_at r e ≡ f → ⊥
-    no_out e v u does None h = subst (λ (f : Option Contact). Passes q (Out e v) f (seen_tokens i t c r q w) u) (contact_seen i t c r q one.plans e ∙ h) does.1
+    no_out e v u does None h = subst (λ (f : Option Contact). Passes q (Out e v) f (seen_tokens i t c r q w) u) (contact_seen i t c r q is e ∙ h) does.1
     no_out e v u does (Some k) h =
-        let passes = subst (λ (f : Option Contact). Passes q (Out e v) f (seen_tokens i t c r q w) u) (contact_seen i t c r q one.plans e ∙ h) does.1 in
-        let there = token_too i t c r q one.plans w welcome quiet e (way_taken k.role) v (port_outside i e does.0) (λ d z. ap (λ (x : Contact). way_taken x.role) (one_contact r e k d h z)) passes.0 in
+        let passes = subst (λ (f : Option Contact). Passes q (Out e v) f (seen_tokens i t c r q w) u) (contact_seen i t c r q is e ∙ h) does.1 in
+        let there = token_too i t c r q is w welcome quiet e (way_taken k.role) v (port_outside i e does.0) (λ d z. ap (λ (x : Contact). way_taken x.role) (one_contact r e k d h z)) passes.0 in
         quiet.1 e v (with_token r e (way_taken k.role) None w) (does.0, subst (λ (f : Option Contact). Passes r (Out e v) f w (with_token r e (way_taken k.role) None w)) (sym h) (there, refl))
+
+pub all_welcome : (i : ℕ) (t : Type') (c : ℕ) (r q : Plan) (xs : List Element) (s w : Tokens) → ServesOne i t c r q xs s w → AllWelcome r w
+all_welcome i t c r q xs s w one =
+    welcome_after r xs none_open one.opened s w one.orderly
+    (λ k slot d v there way lies. absurd (not_both_so v (token_at r s (end_of k slot) (way_of slot)) (nothing_held s (way_of slot) (places_of r (end_of k slot)) (λ a. one.idle.0 (way_of slot) a)) lies))
+
+pub quiet_is_seen : QuietIsSeen
+quiet_is_seen i t c r q xs s w one quiet = quiet_here i t c r q one.plans w (all_welcome i t c r q xs s w one) quiet

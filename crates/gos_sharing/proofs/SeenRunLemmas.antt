@@ -19,12 +19,12 @@ use Rattle.gos_sharing.proofs.SeenKeptLemmas.{Kept, fit_none, not_both_so, all_c
 use Rattle.gos_sharing.proofs.SeenElementLemmas.{fire_too, out_too, in_too}
 
 -- two joints that the Share joins are one in the plan without it
-seen_joint : (i : ℕ) (t : Type') (c : ℕ) (r q : Plan) → IsSeenThrough i t c r q → (h g : ℕ) → Pair i t c r h g → (a b : End) → IsIn (joint a (PartEnd i h)) r.joints
+pub seen_joint : (i : ℕ) (t : Type') (c : ℕ) (r q : Plan) → IsSeenThrough i t c r q → (h g : ℕ) → Pair i t c r h g → (a b : End) → IsIn (joint a (PartEnd i h)) r.joints
     → IsIn (joint (PartEnd i g) b) r.joints → IsIn (joint a b) q.joints
 seen_joint i t c r q is h g pair a b into out = contained q.joints (joint a b) ((is.joints a b).1 (inr (pair.leads a b into out)))
 
 -- the name of the handshake at which it asks
-name_of : (r : Plan) (i g : ℕ) → ((d : End) → places_of r (PartEnd i g) ≡ Some d → d ≡ PartEnd i g) → handshake_at r (PartEnd i g) ≡ PartEnd i g
+pub name_of : (r : Plan) (i g : ℕ) → ((d : End) → places_of r (PartEnd i g) ≡ Some d → d ≡ PartEnd i g) → handshake_at r (PartEnd i g) ≡ PartEnd i g
 name_of r i g own = by_place (places_of r (PartEnd i g)) refl
   where
     by_place : (p : Option End) → places_of r (PartEnd i g) ≡ p → named_by p (PartEnd i g) ≡ PartEnd i g

@@ -49,16 +49,16 @@ Passes t c r = (j : ℕ) × (role : Role) × IsAt t j role × Passing (count t) 
 abbrev pub PassesIf : Type' → ℕ → ℕ → Row → Type 0
 PassesIf t c b r = IsForCaller t c b (shake_of r.takes) → Passes t c r
 
-first_caller : (n j c : ℕ) → j < n → n + c * n ≤ n + j → c ≡ 0
+pub first_caller : (n j c : ℕ) → j < n → n + c * n ≤ n + j → c ≡ 0
 first_caller n j zero h k = refl
 first_caller n j (suc c) h k = absurd (omega (arith, h, k))
 
-second_caller : (n j c : ℕ) → c < 2 → n + n + j < n + c * n + n → c ≡ 1
+pub second_caller : (n j c : ℕ) → c < 2 → n + n + j < n + c * n + n → c ≡ 1
 second_caller n j zero h k = absurd (omega (arith, h, k))
 second_caller n j (suc zero) h k = refl
 second_caller n j (suc (suc c)) h k = absurd (omega (arith, h))
 
-same_branch : (n j b c : ℕ) → c < 2 → j < n → n + c * n ≤ n + b * n + j → n + b * n + j < n + c * n + n → b ≡ c
+pub same_branch : (n j b c : ℕ) → c < 2 → j < n → n + c * n ≤ n + b * n + j → n + b * n + j < n + c * n + n → b ≡ c
 same_branch n j zero zero h l k m = refl
 same_branch n j (suc b) zero h l k m = absurd (omega (arith, h, l, k, m))
 same_branch n j zero (suc zero) h l k m = absurd (omega (arith, h, l, k, m))

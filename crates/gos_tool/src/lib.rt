@@ -18,12 +18,8 @@ mod building;
 mod circuit;
 mod command;
 mod lexemes;
-#[cfg(test)]
-mod rows;
 mod source_file;
 mod statements;
-#[cfg(test)]
-mod tests;
 
 use command::{command_of, run_command};
 pub use gos_command::{Cause, Fault, Status};

@@ -86,7 +86,7 @@ expression w source (Reg a) = cell_net a
 abbrev pub register : ℕ → ℕ → List ℕ → List ℕ
 register i w value =
     codes "  always @(posedge clk) if (rst) " ++ cell_net i ++ codes " <= " ++ literal w 0 ++ codes "; else " ++ cell_net i ++ codes " <= "
-        ++ value ++ codes ";\n"
+    ++ value ++ codes ";\n"
 
 -- what drives the net of cell i
 abbrev pub driver_of : ℕ → ℕ → List ℕ → Function → List ℕ

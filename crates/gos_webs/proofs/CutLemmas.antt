@@ -38,12 +38,12 @@ Owns c (PartEnd i h) = (k : Part) × (slice_get c.parts i ≡ Some k)
 Owns c (ImportEnd i h) = StandsIn c (ImportEnd i h)
 Owns c (ResultEnd h) = StandsIn c (ResultEnd h)
 
-outside_name : (f : Cut) (b : End) → IsOutside f b → name_of f b ≡ f.inner b
+pub outside_name : (f : Cut) (b : End) → IsOutside f b → name_of f b ≡ f.inner b
 outside_name f (PartEnd i h) out = ap (name_by f i h) out
 outside_name f (ImportEnd i h) out = refl
 outside_name f (ResultEnd h) out = refl
 
-own_name : (f : Cut) (r c : Plan) → IsCut f r c → (e : End) → Owns c e → name_of f (lies_at f e) ≡ Some e
+pub own_name : (f : Cut) (r c : Plan) → IsCut f r c → (e : End) → Owns c e → name_of f (lies_at f e) ≡ Some e
 own_name f r c is (PartEnd i h) (k, there) = ap (name_by f (f.part i) h) (is.parts i k there).1
 own_name f r c is (ImportEnd i h) stands =
     let port = is.ports (ImportEnd i h) tt stands in outside_name f (f.outer (ImportEnd i h)) port.0 ∙ port.1
@@ -51,11 +51,11 @@ own_name f r c is (ResultEnd h) stands =
     let port = is.ports (ResultEnd h) tt stands in outside_name f (f.outer (ResultEnd h)) port.0 ∙ port.1
 
 -- ends of the region are apart in the whole
-one_end : (f : Cut) (r c : Plan) → IsCut f r c → (d e : End) → Owns c d → Owns c e → lies_at f d ≡ lies_at f e → d ≡ e
+pub one_end : (f : Cut) (r c : Plan) → IsCut f r c → (d e : End) → Owns c d → Owns c e → lies_at f d ≡ lies_at f e → d ≡ e
 one_end f r c is d e own also same =
     let both : Some d ≡ Some e = sym (own_name f r c is d own) ∙ (ap (name_of f) same ∙ own_name f r c is e also) in cc both
 
-same_lies : (f : Cut) (r c : Plan) → IsCut f r c → (d e : End) → Owns c d → Owns c e → same_end (lies_at f d) (lies_at f e) ≡ same_end d e
+pub same_lies : (f : Cut) (r c : Plan) → IsCut f r c → (d e : End) → Owns c d → Owns c e → same_end (lies_at f d) (lies_at f e) ≡ same_end d e
 same_lies f r c is d e own also = same_bool (same_end (lies_at f d) (lies_at f e)) (same_end d e) to from
   where
     to : same_end (lies_at f d) (lies_at f e) ≡ true → same_end d e ≡ true
@@ -65,23 +65,23 @@ same_lies f r c is d e own also = same_bool (same_end (lies_at f d) (lies_at f e
     from : same_end d e ≡ true → same_end (lies_at f d) (lies_at f e) ≡ true
     from h = subst (λ (x : End). same_end (lies_at f d) (lies_at f x) ≡ true) (same_is d e h) (same_itself (lies_at f d))
 
-part_at : (o : Option Part) (h : ℕ) (k : Contact) → slice_get (contacts_of_part o) h ≡ Some k → (p : Part) × (o ≡ Some p)
+pub part_at : (o : Option Part) (h : ℕ) (k : Contact) → slice_get (contacts_of_part o) h ≡ Some k → (p : Part) × (o ≡ Some p)
 part_at None h k e = absurd (cc e)
 part_at (Some p) h k e = (p, refl)
 
-stands_own : (c : Plan) (j : Joint) (e : End) → IsRight c → IsIn j c.joints → stands_in e j ≡ true → Owns c e
+pub stands_own : (c : Plan) (j : Joint) (e : End) → IsRight c → IsIn j c.joints → stands_in e j ≡ true → Owns c e
 stands_own c j (PartEnd i h) right is_in stands =
     let one = joined c (PartEnd i h) j.asking right (stands_there c j (PartEnd i h) right is_in stands) in
     part_at (slice_get c.parts i) h one.here one.is_here
 stands_own c j (ImportEnd i h) right is_in stands = (j, listed c.joints j is_in, stands)
 stands_own c j (ResultEnd h) right is_in stands = (j, listed c.joints j is_in, stands)
 
-port_own : (c : Plan) (e : End) → IsPortEnd e → StandsIn c e → Owns c e
+pub port_own : (c : Plan) (e : End) → IsPortEnd e → StandsIn c e → Owns c e
 port_own c (PartEnd i h) port stands = absurd port
 port_own c (ImportEnd i h) port stands = stands
 port_own c (ResultEnd h) port stands = stands
 
-port_lies : (f : Cut) (e : End) → IsPortEnd e → lies_at f e ≡ f.outer e
+pub port_lies : (f : Cut) (e : End) → IsPortEnd e → lies_at f e ≡ f.outer e
 port_lies f (PartEnd i h) port = absurd port
 port_lies f (ImportEnd i h) port = refl
 port_lies f (ResultEnd h) port = refl
@@ -100,36 +100,36 @@ or_then : (a b : Bool) → b ≡ true → (if a then true else b) ≡ true
 or_then true b h = refl
 or_then false b h = h
 
-which_end : (e : End) (j : Joint) → stands_in e j ≡ true → (e ≡ j.asking) ⊎ (e ≡ j.serving)
+pub which_end : (e : End) (j : Joint) → stands_in e j ≡ true → (e ≡ j.asking) ⊎ (e ≡ j.serving)
 which_end e j stands = by_test (same_end e j.asking) refl
   where
     by_test : (b : Bool) → same_end e j.asking ≡ b → (e ≡ j.asking) ⊎ (e ≡ j.serving)
     by_test true t = inl (same_is e j.asking t)
     by_test false t = let s : same_end e j.serving ≡ true = grind (arith, stands, t) in inr (same_is e j.serving s)
 
-first_stands : (j : Joint) → stands_in j.asking j ≡ true
+pub first_stands : (j : Joint) → stands_in j.asking j ≡ true
 first_stands j = let same = same_itself j.asking in grind (arith, same)
 
-last_stands : (j : Joint) → stands_in j.serving j ≡ true
+pub last_stands : (j : Joint) → stands_in j.serving j ≡ true
 last_stands j = let same = same_itself j.serving in grind (arith, same)
 
-stands_by : (e : End) (j : Joint) → (e ≡ j.asking) ⊎ (e ≡ j.serving) → stands_in e j ≡ true
+pub stands_by : (e : End) (j : Joint) → (e ≡ j.asking) ⊎ (e ≡ j.serving) → stands_in e j ≡ true
 stands_by e j (inl is) = subst (λ (x : End). stands_in x j ≡ true) (sym is) (first_stands j)
 stands_by e j (inr is) = subst (λ (x : End). stands_in x j ≡ true) (sym is) (last_stands j)
 
-asks_there : (js : List Joint) (j : Joint) → IsIn j js → asks_in js j.asking ≡ true
+pub asks_there : (js : List Joint) (j : Joint) → IsIn j js → asks_in js j.asking ≡ true
 asks_there [] j h = absurd h
 asks_there (x ∷ xs) j (inl is) =
     or_first (same_end j.asking x.asking) (asks_in xs j.asking)
     (subst (λ (y : Joint). same_end j.asking y.asking ≡ true) is (same_itself j.asking))
 asks_there (x ∷ xs) j (inr later) = or_then (same_end j.asking x.asking) (asks_in xs j.asking) (asks_there xs j later)
 
-record Asked (js : List Joint) (e : End) : Type 0 where
-  joint : Joint
-  is_in : IsIn joint js
-  asker : e ≡ joint.asking
+pub record Asked (js : List Joint) (e : End) : Type 0 where
+  pub joint : Joint
+  pub is_in : IsIn joint js
+  pub asker : e ≡ joint.asking
 
-asks_one : (js : List Joint) (e : End) → asks_in js e ≡ true → Asked js e
+pub asks_one : (js : List Joint) (e : End) → asks_in js e ≡ true → Asked js e
 asks_one [] e h = absurd (cc h)
 asks_one (x ∷ xs) e h = by_test (same_end e x.asking) refl (λ k. asks_one xs e k)
   where
@@ -140,30 +140,30 @@ asks_one (x ∷ xs) e h = by_test (same_end e x.asking) refl (λ k. asks_one xs 
         record { joint = rest.joint; is_in = inr rest.is_in; asker = rest.asker }
 
 -- places
-joint_there : (f : Cut) (r c : Plan) → IsCut f r c → (j : Joint) → IsIn j c.joints → IsIn (joint (lies_at f j.asking) (lies_at f j.serving)) r.joints
+pub joint_there : (f : Cut) (r c : Plan) → IsCut f r c → (j : Joint) → IsIn j c.joints → IsIn (joint (lies_at f j.asking) (lies_at f j.serving)) r.joints
 joint_there f r c is j is_in =
     contained r.joints (joint (lies_at f j.asking) (lies_at f j.serving)) (is.joints j.asking j.serving (listed c.joints j is_in))
 
-stands_cut : (f : Cut) (e : End) (j : Joint) → (e ≡ j.asking) ⊎ (e ≡ j.serving) → stands_in (lies_at f e) (joint (lies_at f j.asking) (lies_at f j.serving)) ≡ true
+pub stands_cut : (f : Cut) (e : End) (j : Joint) → (e ≡ j.asking) ⊎ (e ≡ j.serving) → stands_in (lies_at f e) (joint (lies_at f j.asking) (lies_at f j.serving)) ≡ true
 stands_cut f e j (inl is) = stands_by (lies_at f e) (joint (lies_at f j.asking) (lies_at f j.serving)) (inl (ap (lies_at f) is))
 stands_cut f e j (inr is) = stands_by (lies_at f e) (joint (lies_at f j.asking) (lies_at f j.serving)) (inr (ap (lies_at f) is))
 
-place_there : (f : Cut) (r c : Plan) → IsCut f r c → (e a : End) → places_of c e ≡ Some a → places_of r (lies_at f e) ≡ Some (lies_at f a)
+pub place_there : (f : Cut) (r c : Plan) → IsCut f r c → (e a : End) → places_of c e ≡ Some a → places_of r (lies_at f e) ≡ Some (lies_at f a)
 place_there f r c is e a h =
     let at = found c.joints e a h in
     stands_there r (joint (lies_at f at.joint.asking) (lies_at f at.joint.serving)) (lies_at f e) is.whole_right
     (joint_there f r c is at.joint at.is_in) (stands_cut f e at.joint (which_end e at.joint at.stands))
     ∙ ap (λ x. Some (lies_at f x)) at.named
 
-asker_asks : (c : Plan) (e a : End) → places_of c e ≡ Some a → asks_in c.joints a ≡ true
+pub asker_asks : (c : Plan) (e a : End) → places_of c e ≡ Some a → asks_in c.joints a ≡ true
 asker_asks c e a h =
     let at = found c.joints e a h in subst (λ (x : End). asks_in c.joints x ≡ true) at.named (asks_there c.joints at.joint at.is_in)
 
-asker_own : (c : Plan) → IsRight c → (a : End) → asks_in c.joints a ≡ true → Owns c a
+pub asker_own : (c : Plan) → IsRight c → (a : End) → asks_in c.joints a ≡ true → Owns c a
 asker_own c right a h =
     let one = asks_one c.joints a h in stands_own c one.joint a right one.is_in (stands_by a one.joint (inl one.asker))
 
-no_place : (f : Cut) (r c : Plan) → IsCut f r c → (e : End) → Owns c e → places_of c e ≡ None → places_of r (lies_at f e) ≡ None
+pub no_place : (f : Cut) (r c : Plan) → IsCut f r c → (e : End) → Owns c e → places_of c e ≡ None → places_of r (lies_at f e) ≡ None
 no_place f r c is (ImportEnd i h) (j, listing, stands) none = absurd (has_place c.joints j (ImportEnd i h) (contained c.joints j listing) stands none)
 no_place f r c is (ResultEnd h) (j, listing, stands) none = absurd (has_place c.joints j (ResultEnd h) (contained c.joints j listing) stands none)
 no_place f r c is (PartEnd i h) (k, there) none = by_place (places_of r (PartEnd (f.part i) h)) refl
@@ -193,7 +193,7 @@ no_place f r c is (PartEnd i h) (k, there) none = by_place (places_of r (PartEnd
         (stands_by (PartEnd i h) (joint own.0 own.1) (back at.joint (joint own.0 own.1) which is_in own.3 own.4)) none)
 
 -- what lies at an end of the region
-token_cut : (f : Cut) (r c : Plan) → IsCut f r c → (e : End) → Owns c e → (s : Tokens) (way : Direction) → token_at c (cut_tokens f c s) e way ≡ token_at r s (lies_at f e) way
+pub token_cut : (f : Cut) (r c : Plan) → IsCut f r c → (e : End) → Owns c e → (s : Tokens) (way : Direction) → token_at c (cut_tokens f c s) e way ≡ token_at r s (lies_at f e) way
 token_cut f r c is e own s way = by_place (places_of c e) refl
   where
     by_place : (o : Option End) → places_of c e ≡ o → token_at c (cut_tokens f c s) e way ≡ token_at r s (lies_at f e) way
@@ -214,7 +214,7 @@ stated_so : (d l q : Bool) (x y z : State) → (q ≡ true → l ≡ d) → (q �
 stated_so d l true x y z same never = ap (λ (b : Bool). if b then x else y) (sym (same refl))
 stated_so d l false x y z same never = ap (λ (b : Bool). if b then x else z) (never refl)
 
-place_filled : (f : Cut) (r c : Plan) → IsCut f r c → (a : End) → asks_in c.joints a ≡ true → (way : Direction) (held : Option ℕ) (s : Tokens)
+pub place_filled : (f : Cut) (r c : Plan) → IsCut f r c → (a : End) → asks_in c.joints a ≡ true → (way : Direction) (held : Option ℕ) (s : Tokens)
     → with_place way a held (cut_tokens f c s) ≡ cut_tokens f c (with_place way (lies_at f a) held s)
 place_filled f r c is a asker way held s =
     λ i. record {
@@ -233,7 +233,7 @@ place_filled f r c is a asker way held s =
             let clash : true ≡ false = sym asker ∙ (ap (asks_in c.joints) (sym (same_is d a t)) ∙ never) in absurd (cc clash)
         by_test false t = refl
 
-token_put : (f : Cut) (r c : Plan) → IsCut f r c → (e : End) → Owns c e → (way : Direction) (held : Option ℕ) (s : Tokens)
+pub token_put : (f : Cut) (r c : Plan) → IsCut f r c → (e : End) → Owns c e → (way : Direction) (held : Option ℕ) (s : Tokens)
     → with_token c e way held (cut_tokens f c s) ≡ cut_tokens f c (with_token r (lies_at f e) way held s)
 token_put f r c is e own way held s = by_place (places_of c e) refl
   where
@@ -247,10 +247,10 @@ token_put f r c is e own way held s = by_place (places_of c e) refl
         ∙ ap (λ o. cut_tokens f c (with_held way o held s)) (sym (place_there f r c is e a named)))
 
 -- the numbers of parts
-number_at : (f : Cut) (r c : Plan) → IsCut f r c → (k : Part) (i : ℕ) → nat_lt i (length c.parts) ≡ true → f.number (f.part i) ≡ Some i
+pub number_at : (f : Cut) (r c : Plan) → IsCut f r c → (k : Part) (i : ℕ) → nat_lt i (length c.parts) ≡ true → f.number (f.part i) ≡ Some i
 number_at f r c is k i within = (is.parts i (get_or c.parts i k) (slice_get-get_or c.parts i k (grind (arith, within)))).1
 
-state_put : (f : Cut) (r c : Plan) → IsCut f r c → (j : ℕ) (k : Part) → slice_get c.parts j ≡ Some k → (q : State) (s : Tokens)
+pub state_put : (f : Cut) (r c : Plan) → IsCut f r c → (j : ℕ) (k : Part) → slice_get c.parts j ≡ Some k → (q : State) (s : Tokens)
     → with_state j q (cut_tokens f c s) ≡ cut_tokens f c (with_state (f.part j) q s)
 state_put f r c is j k there q s =
     λ n. record {
@@ -278,21 +278,21 @@ state_put f r c is j k there q s =
     other : (i : ℕ) → nat_lt i (length c.parts) ≡ false → nat_eq i j ≡ false
     other i t = grind (arith, t, within)
 
-puts_cut : (f : Cut) (r c : Plan) → IsCut f r c → (j : ℕ) (k : Part) → slice_get c.parts j ≡ Some k → (ts : List Token) (s : Tokens)
+pub puts_cut : (f : Cut) (r c : Plan) → IsCut f r c → (j : ℕ) (k : Part) → slice_get c.parts j ≡ Some k → (ts : List Token) (s : Tokens)
     → with_puts c j ts (cut_tokens f c s) ≡ cut_tokens f c (with_puts r (f.part j) ts s)
 puts_cut f r c is j k there [] s = refl
 puts_cut f r c is j k there (t ∷ ts) s =
     ap (with_puts c j ts) (token_put f r c is (end_of j t.slot) (k, there) (way_of t.slot) (Some t.value) s)
     ∙ puts_cut f r c is j k there ts (with_token r (end_of (f.part j) t.slot) (way_of t.slot) (Some t.value) s)
 
-fired_cut : (f : Cut) (r c : Plan) → IsCut f r c → (j : ℕ) (k : Part) → slice_get c.parts j ≡ Some k → (row : Row) (v : ℕ) (s : Tokens)
+pub fired_cut : (f : Cut) (r c : Plan) → IsCut f r c → (j : ℕ) (k : Part) → slice_get c.parts j ≡ Some k → (row : Row) (v : ℕ) (s : Tokens)
     → fired c j row v (cut_tokens f c s) ≡ cut_tokens f c (fired r (f.part j) row v s)
 fired_cut f r c is j k there row v s =
     ap (λ u. with_puts c j (row.puts v) (with_state j (row.next v) u)) (token_put f r c is (end_of j row.takes) (k, there) (way_of row.takes) None s)
     ∙ (ap (with_puts c j (row.puts v)) (state_put f r c is j k there (row.next v) (with_token r (end_of (f.part j) row.takes) (way_of row.takes) None s))
     ∙ puts_cut f r c is j k there (row.puts v) (with_state (f.part j) (row.next v) (with_token r (end_of (f.part j) row.takes) (way_of row.takes) None s)))
 
-fire_cut : (f : Cut) (r c : Plan) → IsCut f r c → (j i : ℕ) → f.number i ≡ Some j → (slot : Slot) (s t : Tokens)
+pub fire_cut : (f : Cut) (r c : Plan) → IsCut f r c → (j i : ℕ) → f.number i ≡ Some j → (slot : Slot) (s t : Tokens)
     → Does r (Fire i slot) s t → Does c (Fire j slot) (cut_tokens f c s) (cut_tokens f c t)
 fire_cut f r c is j i number slot s t does =
     at_part (subst (λ (n : ℕ). Does r (Fire n slot) s t) (sym there.0) does)
@@ -353,7 +353,7 @@ state_lost_so : (l q : Bool) (x y z : State) → (q ≡ true → l ≡ false) �
 state_lost_so l true x y z never = ap (λ (b : Bool). if b then x else y) (never refl)
 state_lost_so l false x y z never = refl
 
-token_lost : (f : Cut) (r c : Plan) → IsCut f r c → (b : End) → name_of f b ≡ None → (way : Direction) (held : Option ℕ) (s : Tokens)
+pub token_lost : (f : Cut) (r c : Plan) → IsCut f r c → (b : End) → name_of f b ≡ None → (way : Direction) (held : Option ℕ) (s : Tokens)
     → cut_tokens f c (with_token r b way held s) ≡ cut_tokens f c s
 token_lost f r c is b nameless way held s = by_place (places_of r b) refl
   where
@@ -373,7 +373,7 @@ token_lost f r c is b nameless way held s = by_place (places_of r b) refl
           state = λ j. if nat_lt j (length c.parts) then s.state (f.part j) else at Rest 0;
         })
 
-state_lost : (f : Cut) (r c : Plan) → IsCut f r c → (i : ℕ) (k : Part) → f.number i ≡ None → (q : State) (s : Tokens)
+pub state_lost : (f : Cut) (r c : Plan) → IsCut f r c → (i : ℕ) (k : Part) → f.number i ≡ None → (q : State) (s : Tokens)
     → cut_tokens f c (with_state i q s) ≡ cut_tokens f c s
 state_lost f r c is i k out q s =
     λ n. record {
@@ -391,7 +391,7 @@ state_lost f r c is i k out q s =
         by_test false t = refl
 
 -- an output or an input of the region, where a port leads to this end
-taken_out : (f : Cut) (r c : Plan) → IsCut f r c → (b : End) → name_of f b ≡ f.inner b → (way : Direction) (v : ℕ) (s : Tokens)
+pub taken_out : (f : Cut) (r c : Plan) → IsCut f r c → (b : End) → name_of f b ≡ f.inner b → (way : Direction) (v : ℕ) (s : Tokens)
     → ((d : Contact) → contact_at r b ≡ Some d → way ≡ way_taken d.role) → token_at r s b way ≡ Some v
     → Runs c (out_if (f.inner b) v) (cut_tokens f c s) (cut_tokens f c (with_token r b way None s))
 taken_out f r c is b outside way v s ways held = by_inner (f.inner b) refl
@@ -416,17 +416,17 @@ taken_out f r c is b outside way v s ways held = by_inner (f.inner b) refl
     by_inner None none = token_lost f r c is b (outside ∙ none) way None s
     by_inner (Some e) inner = (cut_tokens f c (with_token r b way None s), passes e inner, refl)
 
-same_ways : (way : Direction) → same_way way way ≡ true
+pub same_ways : (way : Direction) → same_way way way ≡ true
 same_ways Request = refl
 same_ways Answer = refl
 
-lies_there : (r : Plan) (b x : End) (way : Direction) (v : ℕ) (s : Tokens) → places_of r b ≡ Some x → token_at r (with_token r b way (Some v) s) b way ≡ Some v
+pub lies_there : (r : Plan) (b x : End) (way : Direction) (v : ℕ) (s : Tokens) → places_of r b ≡ Some x → token_at r (with_token r b way (Some v) s) b way ≡ Some v
 lies_there r b x way v s named =
     subst (λ (o : Option End). held_at (with_held way o (Some v) s) way o ≡ Some v) (sym named)
     (ap (λ (w : Bool). if w && same_end x x then Some v else s.in_place way x) (same_ways way)
     ∙ ap (λ (w : Bool). if w then Some v else s.in_place way x) (same_itself x))
 
-put_in : (f : Cut) (r c : Plan) → IsCut f r c → (b : End) → name_of f b ≡ f.inner b → (way : Direction) (v : ℕ) (s : Tokens)
+pub put_in : (f : Cut) (r c : Plan) → IsCut f r c → (b : End) → name_of f b ≡ f.inner b → (way : Direction) (v : ℕ) (s : Tokens)
     → ((d : Contact) → contact_at r b ≡ Some d → token_at r (with_token r b way (Some v) s) b way ≡ Some v → (way ≡ way_put d.role) × (v < 2 ^ bits_of d way))
     → Runs c (in_if (f.inner b) v) (cut_tokens f c s) (cut_tokens f c (with_token r b way (Some v) s))
 put_in f r c is b outside way v s small = by_inner (f.inner b) refl
@@ -454,7 +454,7 @@ put_in f r c is b outside way v s small = by_inner (f.inner b) refl
     by_inner (Some e) inner = (cut_tokens f c (with_token r b way (Some v) s), passes e inner, refl)
 
 -- one list after another
-after : (c : Plan) (xs ys : List Element) (s u t : Tokens) → Runs c xs s u → Runs c ys u t → Runs c (xs ++ ys) s t
+pub after : (c : Plan) (xs ys : List Element) (s u t : Tokens) → Runs c xs s u → Runs c ys u t → Runs c (xs ++ ys) s t
 after c [] ys s u t first rest = subst (λ (x : Tokens). Runs c ys x t) first rest
 after c (x ∷ xs) ys s u t (w, does, more) rest = (w, does, after c xs ys w u t more rest)
 
@@ -553,7 +553,7 @@ puts_out f r c is i k there out (t ∷ []) few roles s fit =
 puts_out f r c is i k there out (t ∷ u ∷ ts) few roles s fit = zeros_out f r c is i k there out (t ∷ u ∷ ts) few roles s
 
 -- a firing outside
-part_there : (o : Option Part) (q : State) (t : Slot) (row : Row) → firing_of o q t ≡ Some row → (k : Part) × (o ≡ Some k)
+pub part_there : (o : Option Part) (q : State) (t : Slot) (row : Row) → firing_of o q t ≡ Some row → (k : Part) × (o ≡ Some k)
 part_there None q t row e = absurd (cc e)
 part_there (Some k) q t row e = (k, refl)
 

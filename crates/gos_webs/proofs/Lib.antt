@@ -1,6 +1,6 @@
 pub mod IdleLemmas
 pub mod WebLemmas
 pub mod MovedLemmas
-mod CutLemmas
+pub mod CutLemmas
 mod SmallWebLemmas
 mod CutListLemmas

@@ -1,0 +1,5 @@
+pub mod SeamLemmas
+pub mod SingleLemmas
+pub mod TogetherLemmas
+pub mod TermLemmas
+mod ApplicationLemmas

@@ -1,0 +1,8 @@
+// Buffers: a Share of which one caller alone is joined.
+//
+// Definitions and laws alone. Read `specs/Buffers`, and then laws.rt.
+#![tactic(auto)]
+
+mod laws;
+
+pub use laws::{callers, order, realising, small_buffers};

@@ -1,0 +1,12 @@
+pub mod Contexts
+pub mod Plugged
+pub mod Backward
+pub mod Scopes
+pub mod Standing
+pub mod Renaming
+pub mod Beside
+pub mod Widening
+pub mod SameStores
+pub mod Together
+pub mod LocalVariable
+pub mod SmallContexts

@@ -1,0 +1,10 @@
+pub mod ImportLemmas
+mod TurnLemmas
+pub mod OrderLemmas
+mod SizeLemmas
+mod SplitLemmas
+pub mod RewireLemmas
+pub mod HigherLemmas
+pub mod SupplyLemmas
+mod OpenLemmas
+mod SmallRewiringLemmas

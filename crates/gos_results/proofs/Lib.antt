@@ -1,0 +1,5 @@
+pub mod TypeLemmas
+pub mod PutLemmas
+pub mod StepLemmas
+pub mod ResultLemmas
+pub mod SmallLemmas

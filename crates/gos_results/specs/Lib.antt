@@ -1,0 +1,3 @@
+pub mod HasTypes
+pub mod Results
+pub mod SmallResults

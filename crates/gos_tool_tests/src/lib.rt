@@ -1,0 +1,13 @@
+// Tests of the commands by public calls alone: files in memory, the line that is printed, and calls that fail.
+//
+// A crate with tests is proved twice, so crates that others wait for have none: theirs stand here, one file a subject.
+#![tactic(auto)]
+
+#[cfg(test)]
+mod building;
+#[cfg(test)]
+mod compiling;
+#[cfg(test)]
+mod linking;
+#[cfg(test)]
+mod rows;

@@ -1,0 +1,10 @@
+pub mod InlayLemmas
+pub mod ShareLemmas
+pub mod OwnLemmas
+pub mod PortLemmas
+pub mod StageLemmas
+pub mod TurnLemmas
+pub mod QuietLemmas
+pub mod WholeLemmas
+pub mod NodeLemmas
+pub mod WindowLemmas

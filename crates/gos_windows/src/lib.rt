@@ -1,0 +1,8 @@
+// Nodes that run one child at a time, by their lists: from the request of a child to its answer all else rests.
+//
+// Definitions and laws alone. Read `specs/Regions`, `specs/Nodes` and `specs/Windows`, and then laws.rt.
+#![tactic(auto)]
+
+mod laws;
+
+pub use laws::lists_of_nodes;

@@ -1,0 +1,73 @@
+"""The ports of a netlist's text, and the pulses of a trace (docs/FORMATS.md): what tools/vcd, tools/wave and tools/picture read."""
+import sys
+from dataclasses import dataclass
+from pathlib import Path
+
+# The events of each type: their names, and whether they have a value.
+EVENTS = {
+    "com": [("run", False), ("done", False)],
+    "exp": [("ask", False), ("ans", True)],
+    "var": [("read", False), ("ans", True), ("write", True), ("done", False)],
+}
+
+
+@dataclass
+class Event:
+    """An event of a port: `PORT.EVENT`, whether it is an output of the circuit, and the bits of its value, 0 where it has none."""
+
+    name: str
+    is_output: bool
+    bits: int
+
+
+@dataclass
+class Port:
+    """A port: `give` or `take`, its name, its type in words, its nets in order, and its events."""
+
+    side: str
+    name: str
+    ty: str
+    nets: list
+    events: list
+
+
+def port_of(line):
+    """The port of a line such as `take v var 8 3 4 5 6 7 8`."""
+    side, name, sort, *rest = line.split(" ")
+    bits = int(rest.pop(0)) if sort != "com" else 0
+    events = []
+    for at, (event, has_value) in enumerate(EVENTS[sort]):
+        # requests and answers take turns; who gives a port answers there, and who takes one asks
+        events.append(Event(f"{name}.{event}", (at % 2 == 1) == (side == "give"), bits if has_value else 0))
+    return Port(side, name, f"{sort} {bits}" if bits else sort, [int(it) for it in rest], events)
+
+
+def ports_of(text):
+    """The ports of a netlist's text, in order."""
+    lines = text.split("\n")
+    at = next(at for at, line in enumerate(lines) if line.startswith("ports "))
+    return [port_of(line) for line in lines[at + 1 : at + 1 + int(lines[at].split(" ")[1])]]
+
+
+def pulses_of(text):
+    """The pulses of a trace, each as its cycle, `PORT.EVENT` and its value or none; and the number of cycles."""
+    pulses, cycles = [], 0
+    for line in text.split("\n"):
+        first, *rest = line.split(" ")
+        if first == "cycles":
+            cycles = int(rest[0])
+        elif first:
+            pulses.append((int(first), rest[0], int(rest[1]) if len(rest) > 1 else None))
+    return pulses, cycles
+
+
+def read(words, usage):
+    """The events of the netlist and the pulses and cycles of the trace that two words name."""
+    if len(words) != 2:
+        sys.exit(usage)
+    events = [event for port in ports_of(Path(words[0]).read_text()) for event in port.events]
+    pulses, cycles = pulses_of(Path(words[1]).read_text())
+    unknown = {name for _, name, _ in pulses} - {event.name for event in events}
+    if unknown:
+        sys.exit(f"{words[1]} is no trace of {words[0]}, which has no event {min(unknown)}")
+    return events, pulses, cycles
