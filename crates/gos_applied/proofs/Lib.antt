@@ -2,4 +2,9 @@ pub mod SeamLemmas
 pub mod SingleLemmas
 pub mod TogetherLemmas
 pub mod TermLemmas
+pub mod SideLemmas
+pub mod ReadingLemmas
 mod ApplicationLemmas
+pub mod OpenedLemmas
+mod BodyLemmas
+mod SmallFunctionLemmas

@@ -30,29 +30,29 @@ pub single_plans : (us : List Supply) → all_plans (singles us) ≡ plans_of us
 single_plans [] = refl
 single_plans (u ∷ us) = ap (λ (ps : List Plan). u.plan ∷ ps) (single_plans us)
 
-single_first : (us : List Supply) (i : ℕ) → i < length us → first_of (singles us) i ≡ i
+pub single_first : (us : List Supply) (i : ℕ) → i < length us → first_of (singles us) i ≡ i
 single_first [] i low = absurd (omega (arith, low))
 single_first (u ∷ us) zero low = refl
 single_first (u ∷ us) (suc i) low = let rest = single_first us i (omega (arith, low)) in omega (arith, rest)
 
-single_at : (us : List Supply) (i : ℕ) → i < length us → (u : Supply) × (slice_get (singles us) i ≡ Some (single u))
+pub single_at : (us : List Supply) (i : ℕ) → i < length us → (u : Supply) × (slice_get (singles us) i ≡ Some (single u))
 single_at [] i low = absurd (omega (arith, low))
 single_at (u ∷ us) zero low = (u, refl)
 single_at (u ∷ us) (suc i) low = single_at us i (omega (arith, low))
 
-single_links : (us : List Supply) (i : ℕ) (v : Wiring) → slice_get (singles us) i ≡ Some v → v.links ≡ []
+pub single_links : (us : List Supply) (i : ℕ) (v : Wiring) → slice_get (singles us) i ≡ Some v → v.links ≡ []
 single_links [] i v at = absurd (cc at)
 single_links (u ∷ us) zero v at = let same : single u ≡ v = cc at in ap (λ (x : Wiring). x.links) (sym same)
 single_links (u ∷ us) (suc i) v at = single_links us i v at
 
 -- the links of an application
-abbrev result_link : ℕ → Link
+abbrev pub result_link : ℕ → Link
 result_link h = link 0 (ResultEnd h) 1 (ResultEnd h)
 
-abbrev OfResults : ℕ → ℕ → Link → Type 0
+abbrev pub OfResults : ℕ → ℕ → Link → Type 0
 OfResults n m l = (h : ℕ) × (h < n + m) × (l ≡ result_link h)
 
-of_results : (n m : ℕ) (l : Link) → Contains (results_linked 1 n m) l → OfResults n m l
+pub of_results : (n m : ℕ) (l : Link) → Contains (results_linked 1 n m) l → OfResults n m l
 of_results n zero l (k, small, e) = absurd (omega (arith, small))
 of_results n (suc m) l (zero, small, e) = (n, omega arith, sym e)
 of_results n (suc m) l (suc k, small, e) =
@@ -61,7 +61,7 @@ of_results n (suc m) l (suc k, small, e) =
 in_tail : (n m h : ℕ) → Contains (results_linked 1 (suc n) m) (result_link h) → Contains (results_linked 1 n (suc m)) (result_link h)
 in_tail n m h (k, small, e) = (suc k, omega (arith, small), e)
 
-in_results : (n m h : ℕ) → n ≤ h → h < n + m → Contains (results_linked 1 n m) (result_link h)
+pub in_results : (n m h : ℕ) → n ≤ h → h < n + m → Contains (results_linked 1 n m) (result_link h)
 in_results n zero h low high = absurd (omega (arith, low, high))
 in_results n (suc m) h low high = by_number (h - n) (omega (arith, low)) (λ above. in_tail n m h (in_results (suc n) m h above (omega (arith, high))))
   where
@@ -70,7 +70,7 @@ in_results n (suc m) h low high = by_number (h - n) (omega (arith, low)) (λ abo
     by_number (suc d) e further = further (omega (arith, e))
 
 -- no import of an application is joined
-and_none : (b : Bool) → b && false ≡ false
+pub and_none : (b : Bool) → b && false ≡ false
 and_none true = refl
 and_none false = refl
 
@@ -107,7 +107,7 @@ listed_at k i (y ∷ xs) (suc j) x at =
     let sum : suc i + j ≡ i + suc j = omega arith in
     listed_at k (suc i) xs j x at ∙ (λ l. Some (record { plan = k; number = sum l; import = x }))
 
-listed_length : (k i : ℕ) (xs : List Imported) → length (listed k i xs) ≡ length xs
+pub listed_length : (k i : ℕ) (xs : List Imported) → length (listed k i xs) ≡ length xs
 listed_length k i [] = refl
 listed_length k i (x ∷ xs) = ap suc (listed_length k (suc i) xs)
 

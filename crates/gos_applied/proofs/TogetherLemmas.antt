@@ -38,18 +38,18 @@ abbrev pub undo : ℕ → ℕ → ℕ
 undo n zero = zero
 undo n (suc k) = if nat_lt k n then suc (suc k) else if nat_eq k n then 1 else suc k
 
-forth_low : (n i : ℕ) → i < n → forth n (suc (suc i)) ≡ suc i
+pub forth_low : (n i : ℕ) → i < n → forth n (suc (suc i)) ≡ suc i
 forth_low n i low = let test : nat_lt i n ≡ true = grind (arith, nat_tests, low) in ap (λ (b : Bool). if b then suc i else suc (suc i)) test
 
 forth_high : (n i : ℕ) → n ≤ i → forth n (suc (suc i)) ≡ suc (suc i)
 forth_high n i high = let test : nat_lt i n ≡ false = grind (arith, nat_tests, high) in ap (λ (b : Bool). if b then suc i else suc (suc i)) test
 
-undo_low : (n k : ℕ) → k < n → undo n (suc k) ≡ suc (suc k)
+pub undo_low : (n k : ℕ) → k < n → undo n (suc k) ≡ suc (suc k)
 undo_low n k low =
     let test : nat_lt k n ≡ true = grind (arith, nat_tests, low) in
     ap (λ (b : Bool). if b then suc (suc k) else if nat_eq k n then 1 else suc k) test
 
-undo_at : (n k : ℕ) → k ≡ n → undo n (suc k) ≡ 1
+pub undo_at : (n k : ℕ) → k ≡ n → undo n (suc k) ≡ 1
 undo_at n k same =
     let less : nat_lt k n ≡ false = grind (arith, nat_tests, same) in
     let test : nat_eq k n ≡ true = grind (arith, nat_tests, same) in
@@ -61,7 +61,7 @@ undo_high n k high =
     let test : nat_eq k n ≡ false = grind (arith, nat_tests, high) in
     (λ i. if less i then suc (suc k) else if test i then 1 else suc k)
 
-forth_undo : (n k : ℕ) → undo n (forth n k) ≡ k
+pub forth_undo : (n k : ℕ) → undo n (forth n k) ≡ k
 forth_undo n zero = refl
 forth_undo n (suc zero) = undo_at n n refl
 forth_undo n (suc (suc i)) = by_test (nat_lt i n) refl
@@ -71,7 +71,7 @@ forth_undo n (suc (suc i)) = by_test (nat_lt i n) refl
     by_test false test =
         let high : n ≤ i = grind (arith, nat_tests, test) in ap (undo n) (forth_high n i high) ∙ undo_high n (suc i) (omega (arith, high))
 
-undo_forth : (n k : ℕ) → forth n (undo n k) ≡ k
+pub undo_forth : (n k : ℕ) → forth n (undo n k) ≡ k
 undo_forth n zero = refl
 undo_forth n (suc k) = by_tests (nat_lt k n) (nat_eq k n) refl refl
   where
@@ -89,17 +89,17 @@ undo_forth n (suc k) = by_tests (nat_lt k n) (nat_eq k n) refl refl
         let high : n < k = omega (arith, least, differ) in
         ap (forth n) (undo_high n k high) ∙ far k refl high
 
-plans_two : (ss ts : List Supply) → plans_of (ss ++ ts) ≡ plans_of ss ++ plans_of ts
+pub plans_two : (ss ts : List Supply) → plans_of (ss ++ ts) ≡ plans_of ss ++ plans_of ts
 plans_two [] ts = refl
 plans_two (s ∷ ss) ts = ap (λ (ps : List Plan). s.plan ∷ ps) (plans_two ss ts)
 
-supplied_length : (is : List Imported) (ss : List Supply) → AreSupplied is ss → length (plans_of ss) ≡ length is
+pub supplied_length : (is : List Imported) (ss : List Supply) → AreSupplied is ss → length (plans_of ss) ≡ length is
 supplied_length [] [] are = refl
 supplied_length [] (s ∷ ss) are = absurd are
 supplied_length (i ∷ is) [] are = absurd are
 supplied_length (i ∷ is) (s ∷ ss) are = ap suc (supplied_length is ss are.1)
 
-plans_length : (ss : List Supply) → length (plans_of ss) ≡ length ss
+pub plans_length : (ss : List Supply) → length (plans_of ss) ≡ length ss
 plans_length [] = refl
 plans_length (s ∷ ss) = ap suc (plans_length ss)
 
@@ -235,7 +235,7 @@ module _ (a b : Type') (p q s x y : Plan) (ss ts : List Supply) (imports : s.imp
           outcome = sym outcome;
         }
 
-supplied_two : (is js : List Imported) (ss ts : List Supply) → AreSupplied is ss → AreSupplied js ts → AreSupplied (is ++ js) (ss ++ ts)
+pub supplied_two : (is js : List Imported) (ss ts : List Supply) → AreSupplied is ss → AreSupplied js ts → AreSupplied (is ++ js) (ss ++ ts)
 supplied_two [] js [] ts of_ss of_ts = of_ts
 supplied_two [] js (s ∷ ss) ts of_ss of_ts = absurd of_ss
 supplied_two (i ∷ is) js [] ts of_ss of_ts = absurd of_ss

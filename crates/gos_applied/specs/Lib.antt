@@ -1,1 +1,4 @@
 pub mod Applied
+pub mod Projected
+pub mod Opened
+pub mod SmallFunctions

@@ -6,4 +6,4 @@
 
 mod laws;
 
-pub use laws::applications;
+pub use laws::{applications, functions, projections, readings, small_functions};

@@ -4,4 +4,8 @@ pub mod BesideLemmas
 pub mod ShareStepLemmas
 pub mod RegularLemmas
 pub mod MatchedLemmas
+pub mod LoosePartLemmas
+pub mod BufferedLemmas
+pub mod HousedLemmas
+pub mod JoinedBufferLemmas
 mod SmallBufferLemmas

@@ -1,5 +1,5 @@
 -- The Share before the plan of `skip` is a buffer for its first caller. One with two callers, or without a source, is none.
-use Rattle.std.specs.Prelude.{◌≡◌, ℕ, zero, suc, ◌+◌, ◌*◌, ◌<◌, ◌⊎◌, Some, Contains, IsTrue, slice_get}
+use Rattle.std.specs.Prelude.{◌≡◌, ℕ, zero, suc, ◌+◌, ◌*◌, ◌<◌, List, [], ◌∷◌, ◌⊎◌, Some, Contains, IsTrue, slice_get}
 use Rattle.std.proofs.Common.{refl, sym, ap, subst, arith, inl, inr}
 use Rattle.std.proofs.lemmas.Option.{none-some, same_Some}
 use Rattle.gos_types.specs.Types.{Com}
@@ -8,7 +8,16 @@ use Rattle.gos_plan.specs.Plans.{End, PartEnd, ResultEnd, Joint, stands_in, IsRi
 use Rattle.gos_webs.specs.Webs.{joint}
 use Rattle.gos_webs.specs.Cutting.{StandsIn}
 use Rattle.gos_sharing.specs.Sharing.{way_into, way_out_of, IsOfPart, LeadsThrough, IsSeenThrough}
-use Rattle.gos_buffers.specs.SmallBuffers.{shared_skip, bare_skip, FirstIsBuffer, SecondIsNone, BothAreNone, unsourced_skip, UnsourcedIsNone}
+use Rattle.gos_model.specs.Terms as terms
+use Rattle.gos_netlist.specs.Events.{Request}
+use Rattle.gos_plan.specs.Firing.{Rest, Req, Ans, Row, row, at, put}
+use Rattle.gos_plan.specs.Tokens.{Tokens, Element, Fire, In, fired, with_token, Runs}
+use Rattle.gos_plan.specs.SmallPlans.{skip_plan, at_first}
+use Rattle.gos_realises.specs.Regular.{InputsKeepTurns}
+use Rattle.gos_buffers.proofs.BranchLemmas.{buffers_are_loyal}
+use Rattle.gos_realises.proofs.SkipLemmas.{skip_is_realised}
+use Rattle.gos_buffers.proofs.BufferedLemmas.{done_is_buffered}
+use Rattle.gos_buffers.specs.SmallBuffers.{shared_skip, bare_skip, SharedIsBuffered, FirstIsBuffer, FirstIsLoyal, SharedIsRealised, SecondIsNotLoyal, EmptyIsUnjoined, SecondIsNone, BothAreNone, unsourced_skip, UnsourcedIsNone}
 
 shared_is_right : IsRight shared_skip
 shared_is_right = (((0, 0, refl, refl), refl, refl), (((0, 0, refl, refl), refl, refl), tt))
@@ -98,6 +107,54 @@ source_stands (suc j) lt = absurd (omega (arith, lt))
 
 pub first_is_buffer : FirstIsBuffer
 first_is_buffer = record { seen = first_is_seen; ground = tt; alone = second_alone; goes_on = λ j lt asked. source_stands j lt }
+
+result_joined : (j : ℕ) → j < 1 → StandsIn skip_plan (ResultEnd j)
+result_joined zero lt = (joint (ResultEnd 0) (PartEnd 0 0), (0, omega arith, refl), refl)
+result_joined (suc j) lt = absurd (omega (arith, lt))
+
+pub shared_is_realised : SharedIsRealised
+shared_is_realised = done_is_buffered Com 0 skip_plan terms.Skip (omega arith) tt result_joined skip_is_realised
+
+pub shared_is_buffered : SharedIsBuffered
+shared_is_buffered = refl
+
+pub first_is_loyal : FirstIsLoyal
+first_is_loyal = buffers_are_loyal 1 Com 0 shared_skip bare_skip first_is_buffer shared_is_realised.suits.regular
+
+-- a run, until the answer of `skip` comes to the Share
+abbrev until_answer : List Element
+until_answer = In (ResultEnd 0) 0 ∷ Fire 1 (Req 1) ∷ Fire 0 (Req 0) ∷ []
+
+abbrev asked : Tokens
+asked = with_token shared_skip (ResultEnd 0) Request (Some 0) at_first
+
+abbrev passes : Row
+passes = row (Req 1) (at Rest 0) (put (Req 0))
+
+abbrev passed : Tokens
+passed = fired shared_skip 1 passes 0 asked
+
+abbrev answers : Row
+answers = row (Req 0) (at Rest 0) (λ v. put (Ans 0) 0)
+
+abbrev answered : Tokens
+answered = fired shared_skip 0 answers 0 passed
+
+abbrev returns : Row
+returns = row (Ans 0) (at Rest 0) (put (Ans 1))
+
+runs : Runs shared_skip until_answer at_first answered
+runs = (asked, (tt, (omega arith, refl)), (passed, (0, passes, refl, refl, refl), (answered, (0, answers, refl, refl, refl), refl)))
+
+pub second_is_not_loyal : SecondIsNotLoyal
+second_is_not_loyal loyal =
+    let turns : InputsKeepTurns shared_skip [] until_answer = ((refl, tt), tt) in
+    let branch : (answered.state 1).number ≡ 1 =
+    loyal until_answer (Ans 0) at_first answered (fired shared_skip 1 returns 0 answered) ((λ way e. refl), (λ i. refl)) runs turns (omega arith) (0, returns, refl, refl, refl) in
+    omega (arith, branch)
+
+pub empty_is_unjoined : EmptyIsUnjoined
+empty_is_unjoined joined = let (j, (k, inside, is), stands) = joined 0 (omega arith) in omega (arith, inside)
 
 pub second_is_none : SecondIsNone
 second_is_none is = is.alone 0 (omega arith) (joint (ResultEnd 0) (PartEnd 1 1), (1, omega arith, refl), refl)

@@ -1,13 +1,17 @@
 -- Small buffers, and Shares that are none.
 --
--- Read first: Buffers; SmallPlans of gos_plan. They show that the definition can be met and can be missed.
-use Rattle.std.specs.Prelude.{ℕ, [], ◌∷◌}
+-- Read first: Buffering; SmallPlans of gos_plan; OtherPlans of gos_realises. They show that the definition can be met and can be missed.
+use Rattle.std.specs.Prelude.{◌≡◌, ℕ, [], ◌∷◌}
 use Rattle.gos_types.specs.Types.{Com}
+use Rattle.gos_model.specs.Terms as terms
 use Rattle.gos_plan.specs.Kinds.{Skip, Seq, Share}
 use Rattle.gos_plan.specs.Plans.{PartEnd, ResultEnd, Plan}
 use Rattle.gos_plan.specs.SmallPlans.{skip_plan}
+use Rattle.gos_realises.specs.OtherPlans.{empty_plan}
+use Rattle.gos_realises.specs.Realises.{Realises}
 use Rattle.gos_webs.specs.Webs.{joint}
-use Rattle.gos_buffers.specs.Buffers.{IsBuffer}
+use Rattle.gos_buffers.specs.Buffers.{IsBuffer, IsLoyal}
+use Rattle.gos_buffers.specs.Buffering.{buffered, ResultIsJoined}
 
 -- `skip` behind the first caller of a Share
 abbrev pub shared_skip : Plan
@@ -21,12 +25,27 @@ shared_skip =
 abbrev pub bare_skip : Plan
 bare_skip = record skip_plan { parts = Skip ∷ Share Com ∷ [] }
 
--- it is a buffer for its first caller, and none for its second
+-- which is the plan of `skip` behind the first caller
+abbrev pub SharedIsBuffered : Type 0
+SharedIsBuffered = shared_skip ≡ buffered Com 0 skip_plan
+
+-- It is a buffer for its first caller, and loyal to it.
 abbrev pub FirstIsBuffer : Type 0
 FirstIsBuffer = IsBuffer 1 Com 0 shared_skip bare_skip
 
+abbrev pub FirstIsLoyal : Type 0
+FirstIsLoyal = IsLoyal 1 0 Com shared_skip
+
+-- it realises `skip`
+abbrev pub SharedIsRealised : Type 0
+SharedIsRealised = Realises Com shared_skip terms.Skip
+
+-- For its second caller it is none, and not loyal to it: when the answer of `skip` comes the branch is the first one's.
 abbrev pub SecondIsNone : Type 0
 SecondIsNone = IsBuffer 1 Com 1 shared_skip bare_skip → ⊥
+
+abbrev pub SecondIsNotLoyal : Type 0
+SecondIsNotLoyal = IsLoyal 1 1 Com shared_skip → ⊥
 
 -- where both callers are joined it is none, whatever is taken for the plan without it
 abbrev pub skip_twice : Plan
@@ -49,3 +68,7 @@ unsourced_skip = record shared_skip { joints = joint (ResultEnd 0) (PartEnd 1 1)
 
 abbrev pub UnsourcedIsNone : Type 0
 UnsourcedIsNone = (q : Plan) → IsBuffer 1 Com 0 unsourced_skip q → ⊥
+
+-- nor does the result of a plan without joints stand in one
+abbrev pub EmptyIsUnjoined : Type 0
+EmptyIsUnjoined = ResultIsJoined empty_plan → ⊥

@@ -1,6 +1,7 @@
 // What the definitions give. Each theorem is the contract of a function that does nothing.
 ghost use Rattle.gos_buffers.specs.Buffers.{WorksForOne, BufferedIsRegular, BufferedRealises, BuffersAreLoyal};
-ghost use Rattle.gos_buffers.specs.SmallBuffers.{FirstIsBuffer, SecondIsNone, BothAreNone, UnsourcedIsNone};
+ghost use Rattle.gos_buffers.specs.Buffering.{LoosePartIsFree, BufferedIsBuffer, BufferedIsJoined, DoneIsBuffered};
+ghost use Rattle.gos_buffers.specs.SmallBuffers.{BothAreNone, EmptyIsUnjoined, FirstIsBuffer, FirstIsLoyal, SecondIsNone, SecondIsNotLoyal, SharedIsBuffered, SharedIsRealised, UnsourcedIsNone};
 
 /// A Share of which one caller alone is joined works for that caller, and is loyal to it.
 pub fn callers()
@@ -18,11 +19,32 @@ pub fn realising()
     ensures { BufferedRealises }
 {}
 
-/// A Share before the plan of `skip` is a buffer for its first caller, and none for its second. It is none where both
-/// callers are joined, or where its source is not.
+/// A part that stands in no joint does nothing.
+pub fn loose_parts()
+    ensures { LoosePartIsFree }
+{}
+
+/// A plan behind a Share is a buffer, and realises the command or the expression that the plan realises.
+pub fn plans_of_buffers()
+    ensures buffer { BufferedIsBuffer }
+    ensures done { DoneIsBuffered }
+{}
+
+/// The plan behind a Share is the joining of that plan with the Share.
+pub fn joined_buffers()
+    ensures { BufferedIsJoined }
+{}
+
+/// A Share before the plan of `skip` is a buffer for its first caller, loyal to it, and realises `skip`; for its second
+/// it is none, and not loyal. It is none where both callers are joined, or where its source is not.
 pub fn small_buffers()
+    ensures shared { SharedIsBuffered }
     ensures first { FirstIsBuffer }
+    ensures loyal { FirstIsLoyal }
+    ensures realised { SharedIsRealised }
     ensures second { SecondIsNone }
+    ensures disloyal { SecondIsNotLoyal }
     ensures both { BothAreNone }
     ensures unsourced { UnsourcedIsNone }
+    ensures empty { EmptyIsUnjoined }
 {}

@@ -5,4 +5,6 @@
 
 mod laws;
 
-pub use laws::{callers, order, realising, small_buffers};
+pub use laws::{
+    callers, joined_buffers, loose_parts, order, plans_of_buffers, realising, small_buffers,
+};

@@ -213,11 +213,11 @@ stuck_of_both i s l r none left right = (silent, shown)
     shown o s' v out h = label o s' v out (labels_of_both i o s s' l r v h)
 
 -- a value is stuck, and no unfolding changes it
-value_stuck : (i : Imports) (s : Store) (v : Term) → IsValue v → IsStuck i s v
+pub value_stuck : (i : Imports) (s : Store) (v : Term) → IsValue v → IsStuck i s v
 value_stuck i s v (inl e) = subst (λ (x : Term). IsStuck i s x) (sym e) (λ s' t h. grind (arith, h), λ o s' t out h. grind (arith, h))
 value_stuck i s v (inr (k, w, e)) = subst (λ (x : Term). IsStuck i s x) (sym e) (λ s' t h. grind (arith, h), λ o s' t out h. grind (arith, h))
 
-value_stays : (n : ℕ) (m v : Term) → IsValue m → Unfoldings n m v → m ≡ v
+pub value_stays : (n : ℕ) (m v : Term) → IsValue m → Unfoldings n m v → m ≡ v
 value_stays zero m v is h = h
 value_stays (suc n) m v (inl e) (u, h, hs) = absurd (none (subst (λ (x : Term). Unfolds x u) e h))
   where
@@ -229,7 +229,7 @@ value_stays (suc n) m v (inr (k, w, e)) (u, h, hs) = absurd (none (subst (λ (x 
     none g = grind (arith, g)
 
 -- of both sides, whatever makes them stuck
-both_stalled : (q : Program) (s : Store) (l r : Term)
+pub both_stalled : (q : Program) (s : Store) (l r : Term)
     → ((j k : ℕ) (a b : Term) → Unfoldings j l a → Unfoldings k r b → (a ≡ Skip → b ≡ Skip → ⊥) × IsStuck q.imports s a × IsStuck q.imports s b)
     → Stalled q (Running (Par l r) s)
 both_stalled q s l r sides = stalled_of q s (Par l r) never stuck

@@ -17,3 +17,5 @@ pub mod TogetherLemmas
 pub mod PlacedLemmas
 pub mod LocalLemmas
 pub mod SmallLemmas
+pub mod EndedLemmas
+pub mod ShapeLemmas

@@ -169,7 +169,7 @@ keeps_after s s' m t q (i, each) = let k = q i in (k.0, λ l e h. found l e h (e
     found l e h None g = (q i).1 l (e, h) (inr g)
     found l e h (Some d) g = (q i).1 l (e, h) (inl (each l d g))
 
-unfoldings_keep : (s : Store) (n : ℕ) (m t : Term) → Unfoldings n m t → KeepsScopes m s → KeepsScopes t s
+pub unfoldings_keep : (s : Store) (n : ℕ) (m t : Term) → Unfoldings n m t → KeepsScopes m s → KeepsScopes t s
 unfoldings_keep s zero m t h k = subst (λ (x : Term). KeepsScopes x s) h k
 unfoldings_keep s (suc n) m t (u, h, hs) k =
     unfoldings_keep s n u t hs (keeps_after s s m u (reached_lifted OneHead (Keeps s s) (heads_keep s) (kept_in s s) m u h) k)
@@ -212,7 +212,7 @@ moves_keep_scopes p acts m t s u shut k h = all_keep p acts (Running m s) (Runni
 pub runs_keep_scopes : RunsKeepScopes
 runs_keep_scopes p acts t s shut h = all_keep p acts Idle (Running t s) shut h tt
 
-none_left : (v : Term) (s : Store) → KeepsScopes v s → IsValue v → s ≡ []
+pub none_left : (v : Term) (s : Store) → KeepsScopes v s → IsValue v → s ≡ []
 none_left v [] k is = refl
 none_left v (e ∷ s) (i, each) is = absurd (value_shut v e.place is (each e.place e (first_at e s e.place refl)))
 

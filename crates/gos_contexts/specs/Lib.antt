@@ -9,4 +9,5 @@ pub mod Widening
 pub mod SameStores
 pub mod Together
 pub mod LocalVariable
+pub mod Ends
 pub mod SmallContexts

@@ -67,6 +67,7 @@ ghost use Rattle.gos_contexts.specs.LocalVariable.{
   WriteAnswered,
   UnfoldingsBefore,
 };
+ghost use Rattle.gos_contexts.specs.Ends.{CommandsEndInSkip, RightWaitsForEnded, LeftWaitsForEnded};
 ghost use Rattle.gos_contexts.specs.SmallContexts.{SidesAreNotAlone, RequestsAreNotInner, BlocksOpenInPlace, StoresKeepScopes, LocationsStand, LocationsAreScoped, BlocksDiffer, BlockIsRenamed, RenamingsTellApart, ZeroIsFree, NoneAreAmongSome, NamesAreKnown, EntriesInAnyOrder, StoresAreApart, StoreIsHeld, LocationIsPlaced, OthersAreLeft, HomeIsApart, LabelsElsewhere};
 
 /// What a term does it does also at a reached place of another one.
@@ -175,6 +176,13 @@ pub fn local_variables()
     ensures write_asked { WriteAsked }
     ensures write_answered { WriteAnswered }
     ensures before { UnfoldingsBefore }
+{}
+
+/// What a run ends with, and how `||` waits where one side has ended.
+pub fn ends_of_runs()
+    ensures skip { CommandsEndInSkip }
+    ensures right { RightWaitsForEnded }
+    ensures left { LeftWaitsForEnded }
 {}
 
 /// Small terms and stores that meet the definitions of this crate, and others that miss them.

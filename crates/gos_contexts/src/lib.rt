@@ -9,6 +9,7 @@
 mod laws;
 
 pub use laws::{
-    local_variables, locations_of_runs, moves_beside, moves_of_contexts, moves_of_more_imports,
-    moves_within, parts_together, renamed_terms, same_stores, scopes_of_runs, small_contexts,
+    ends_of_runs, local_variables, locations_of_runs, moves_beside, moves_of_contexts,
+    moves_of_more_imports, moves_within, parts_together, renamed_terms, same_stores,
+    scopes_of_runs, small_contexts,
 };

@@ -29,19 +29,19 @@ use Rattle.gos_pace.proofs.AloneLemmas.{Lone, Alone, answer_open, one_put, alike
 
 -- a firing in order, with what is known of its row
 pub record Fact (p : Plan) (j : ℕ) (slot : Slot) (o : Open) (s : Tokens) (m : Open) (w : Tokens) : Type 0 where
-  value : ℕ
-  row : Row
-  lies : token_at p s (end_of j slot) (way_of slot) ≡ Some value
-  kind : Part
-  is : slice_get p.parts j ≡ Some kind
-  fires : firing kind (s.state j) slot ≡ Some row
-  leads : w ≡ fired p j row value s
-  well : AllComeWell p j (row.puts value) (after_taken p (end_of j slot) (way_of slot) o) (with_state j (row.next value) (with_token p (end_of j row.takes) (way_of row.takes) None s))
-  opens : m ≡ after_puts p j (row.puts value) (after_taken p (end_of j slot) (way_of slot) o)
-  takes : row.takes ≡ slot
-  puts_role : PutsInRole kind (row.puts value)
-  takes_asking : TakesAsking kind slot
-  puts_asking : PutsAsking kind (row.puts value)
+  pub value : ℕ
+  pub row : Row
+  pub lies : token_at p s (end_of j slot) (way_of slot) ≡ Some value
+  pub kind : Part
+  pub is : slice_get p.parts j ≡ Some kind
+  pub fires : firing kind (s.state j) slot ≡ Some row
+  pub leads : w ≡ fired p j row value s
+  pub well : AllComeWell p j (row.puts value) (after_taken p (end_of j slot) (way_of slot) o) (with_state j (row.next value) (with_token p (end_of j row.takes) (way_of row.takes) None s))
+  pub opens : m ≡ after_puts p j (row.puts value) (after_taken p (end_of j slot) (way_of slot) o)
+  pub takes : row.takes ≡ slot
+  pub puts_role : PutsInRole kind (row.puts value)
+  pub takes_asking : TakesAsking kind slot
+  pub puts_asking : PutsAsking kind (row.puts value)
 
 pub fact : (p : Plan) (j : ℕ) (slot : Slot) (o m : Open) (s w : Tokens) → Does p (Fire j slot) s w → ComesInOrder p (Fire j slot) s o m → Fact p j slot o s m w
 fact p j slot o m s w (v, r, lies, fires, leads) comes = of_part (slice_get p.parts j) refl
@@ -71,7 +71,7 @@ fact p j slot o m s w (v, r, lies, fires, leads) comes = of_part (slice_get p.pa
           puts_asking = asks.1.1;
         }
 
-keeps_busy : (p : Plan) (j : ℕ) (slot : Slot) (o m : Open) (s w : Tokens) (n : End) → (x : Fact p j slot o s m w)
+pub keeps_busy : (p : Plan) (j : ℕ) (slot : Slot) (o m : Open) (s w : Tokens) (n : End) → (x : Fact p j slot o s m w)
     → Busy (after_taken p (end_of j slot) (way_of slot) o) (with_token p (end_of j slot) (way_of slot) None s) n
     → NeverAnswers p j n (x.row.puts x.value) → Busy m w n
 keeps_busy p j slot o m s w n x busy never =
@@ -82,14 +82,14 @@ keeps_busy p j slot o m s w n x busy never =
     let all = busy_puts p j 0 (x.row.puts x.value) before no_ranks (between x.row.takes) n x.well never first in
     subst (λ (y : Tokens). Busy m y n) (sym x.leads) (subst (λ (y : Open). Busy y (fired p j x.row x.value s) n) (sym x.opens) all.0)
 
-open_after : (p : Plan) (j : ℕ) (slot : Slot) (o m : Open) (s w : Tokens) (a : ℕ) → IsRight p → (x : Fact p j slot o s m w)
+pub open_after : (p : Plan) (j : ℕ) (slot : Slot) (o m : Open) (s w : Tokens) (a : ℕ) → IsRight p → (x : Fact p j slot o s m w)
     → m (PartEnd j a) ≡ (if is_put (Req a) (x.row.puts x.value) then true else after_taking slot (asked_by j o) a)
 open_after p j slot o m s w a right x =
     ap (λ (y : Open). y (PartEnd j a)) x.opens
     ∙ (opened_by p j x.kind (x.row.puts x.value) (after_taken p (end_of j slot) (way_of slot) o) a right x.is x.puts_asking
     ∙ ap (λ (b : Bool). if is_put (Req a) (x.row.puts x.value) then true else b) (taken_own p j x.kind slot o right x.is x.takes_asking a))
 
-open_other : (p : Plan) (i j : ℕ) (slot : Slot) (o m : Open) (s w : Tokens) (a : ℕ) → IsRight p → (x : Fact p j slot o s m w) → nat_eq i j ≡ false
+pub open_other : (p : Plan) (i j : ℕ) (slot : Slot) (o m : Open) (s w : Tokens) (a : ℕ) → IsRight p → (x : Fact p j slot o s m w) → nat_eq i j ≡ false
     → m (PartEnd i a) ≡ o (PartEnd i a)
 open_other p i j slot o m s w a right x apart =
     ap (λ (y : Open). y (PartEnd i a)) x.opens

@@ -121,7 +121,7 @@ law_of p o s right fit alone j k slot r v is lies fires = by_kind k refl
     by_kind (Deref w) e = plain (λ t h. let never : Deref w ≡ Share t = sym e ∙ h in cc never)
     by_kind (Local w n) e = plain (λ t h. let never : Local w n ≡ Share t = sym e ∙ h in cc never)
 
-always_ties : (p : Plan) → IsRight p → AlwaysTies p
+pub always_ties : (p : Plan) → IsRight p → AlwaysTies p
 always_ties p right first s xs o idle orderly =
     law_of p o s right (all_fit p xs none_open o first s orderly at_first)
     (alone_list p xs none_open o first s right orderly at_first (λ i t k c is there role y opened. absurd (cc opened)))

@@ -3,15 +3,15 @@ mod ListedLemmas
 mod FollowLemmas
 mod PeriodLemmas
 mod StepLemmas
-mod RankLemmas
-mod QuietLemmas
-mod TieLemmas
-mod FrameLemmas
-mod LadderLemmas
-mod LadderStepLemmas
-mod HoldLemmas
-mod SharedLemmas
-mod AloneLemmas
-mod AloneStepLemmas
-mod GrowLemmas
+pub mod RankLemmas
+pub mod QuietLemmas
+pub mod TieLemmas
+pub mod FrameLemmas
+pub mod LadderLemmas
+pub mod LadderStepLemmas
+pub mod HoldLemmas
+pub mod SharedLemmas
+pub mod AloneLemmas
+pub mod AloneStepLemmas
+pub mod GrowLemmas
 mod KeepingLemmas

@@ -74,7 +74,7 @@ first_open f h = by_test (f 0) refl h
     by_test true t g = t
     by_test false t g = absurd (cc g)
 
-done_open : (t : Type') → IsDone t → (f : ℕ → Bool) → some_open (count t) f ≡ true → f 0 ≡ true
+pub done_open : (t : Type') → IsDone t → (f : ℕ → Bool) → some_open (count t) f ≡ true → f 0 ≡ true
 done_open Com d f h = first_open f h
 done_open (Exp w) d f h = first_open f h
 done_open (Var w) d f h = absurd d

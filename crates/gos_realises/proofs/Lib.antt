@@ -1,14 +1,14 @@
 pub mod RingLemmas
 mod OneJointLemmas
-mod SkipLemmas
-mod NameLemmas
+pub mod SkipLemmas
+pub mod NameLemmas
 mod TraceLemmas
 mod SmallLinkLemmas
 mod SmallTurnLemmas
 mod SmallLemmas
 mod RenumberLemmas
 mod RotateLemmas
-mod LeftLemmas
+pub mod LeftLemmas
 mod AloneLemmas
 mod UseLemmas
 pub mod FittingLemmas

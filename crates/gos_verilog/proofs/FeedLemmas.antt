@@ -13,6 +13,7 @@ use Rattle.gos_verilog.specs.VerilogText.{AreDrivers, IsItsNet, IsVerilogOf, fir
 use Rattle.gos_verilog.specs.Lines.{module_head, clock_declarations, port_declaration, cell_declarations, output_assignment}
 use Rattle.std.specs.List.{flat_map}
 use Rattle.gos_verilog.specs.inner.Drivers.{FeedsAt, LeadsToFeeds, name_of, driven, module_lines}
+use Rattle.gos_verilog.specs.inner.Inputs.{AreFed}
 
 -- the number is among these
 abbrev In : ℕ → List ℕ → Type 0
@@ -89,7 +90,7 @@ open_ports (p ∷ ports) i found =
       | inr behind ↦ feeding_right (nets_of_port p) (port_nets ports) i (open_ports ports i behind)
     ]
 
--- each Input cell is a net of a port
+-- each Input cell of an accepted netlist is a net of a port
 cell_fed : (cells : List Cell) (ports : List NetPort) (i : ℕ) (c : Cell) → PortsFit cells ports → slice_get cells i ≡ Some c → c.gate ≡ Input → IsFeeding (port_nets ports) i
 cell_fed cells ports i c fit is gate =
     elim (decide_in i (all_inputs ports)) [
@@ -114,16 +115,19 @@ drivers_from nets table (c ∷ cells) i fed = (
   refl,
 )
 
--- the text of an accepted netlist
-pub text_is : (net : Netlist) (nets : List PortNet) (name table text : List ℕ) → IsAccepted net → nets ≡ port_nets net.ports → name ≡ first_name net.ports
+pub accepted_fed : (net : Netlist) → IsAccepted net → AreFed (port_nets net.ports) net.cells
+accepted_fed net accepted i c is gate = cell_fed net.cells net.ports i c accepted.ports is gate
+
+-- the text of a netlist whose Input cells are inputs
+pub text_is : (net : Netlist) (nets : List PortNet) (name table text : List ℕ) → AreFed (port_nets net.ports) net.cells → nets ≡ port_nets net.ports → name ≡ first_name net.ports
     → length table ≡ length net.cells → LeadsToFeeds nets (length nets) table → text ≡ module_lines name nets table net.cells
     → IsVerilogOf net text
-text_is net nets name table text accepted are named long leads is = (
+text_is net nets name table text fed_all are named long leads is = (
   driven nets table 0 net.cells,
   subst (λ (list : List PortNet). AreDrivers IsItsNet list 0 net.cells (driven nets table 0 net.cells)) are
       (drivers_from nets table net.cells 0
       (λ j c is gate.
-      let fed = cell_fed net.cells net.ports j c accepted.ports is gate in
+      let fed = fed_all j c is gate in
       let here : FeedsAt nets fed.0 j = subst (λ (list : List PortNet). FeedsAt list fed.0 j) (sym are) fed.1 in
       let e : j ≡ 0 + j = omega arith in
       subst (λ (n : ℕ). FeedsAt nets (get_or table n 0) n) e

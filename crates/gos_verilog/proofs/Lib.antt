@@ -12,3 +12,10 @@ pub mod InputLemmas
 pub mod PortLemmas
 pub mod OneTextLemmas
 pub mod MeaningLemmas
+pub mod NumberLemmas
+pub mod ListLemmas
+pub mod RunLemmas
+pub mod SlotLemmas
+pub mod KindTextLemmas
+pub mod KindLemmas
+pub mod ReadableLemmas

@@ -1,6 +1,7 @@
 -- A Verilog text is that of one accepted netlist at most, and an accepted netlist has one text at most.
 use Rattle.std.proofs.Common.{◌≡◌, ◌≢◌, ◌⊎◌, inl, inr, ℕ, zero, suc, ◌+◌, ◌^◌, ◌<◌, ◌≤◌, Bool, true, false, if◌then◌else◌, List, [], ◌∷◌, ◌++◌, length, map, take, get_or, Some, None, refl, sym, ◌∙◌, ap, subst, arith, slice_get, append_assoc, codes}
 use Rattle.std.specs.List.{AllByRecursion, flat_map}
+use Rattle.std.proofs.lemmas.Bool.{cases_lt}
 use Rattle.std.proofs.lemmas.List.{append_cancel_left}
 use Rattle.std.proofs.Math.Nat.{pow-le-pow_right}
 use Rattle.gos_netlist.specs.Nets.{Function, Input, Const, Not, And, Or, Xor, Mux, Add, Sub, Eq, Less, Gate, Reg, Cell, NetPort, Netlist}
@@ -10,7 +11,8 @@ use Rattle.gos_netcheck.specs.Accepted.{IsAccepted}
 use Rattle.gos_verilog.specs.PortNets.{PortNet, port_nets}
 use Rattle.gos_verilog.specs.Lines.{cell_net, module_head, clock_declarations, port_declaration, cell_declarations, expression, driver, driver_of, output_assignment, assignment}
 use Rattle.gos_verilog.specs.VerilogText.{first_name, declarations, outputs, IsFed, AreDrivers, IsItsNet, IsVerilogOf}
-use Rattle.gos_verilog.specs.OneText.{HasOneText, IsPrintable, IsOneNetlist}
+use Rattle.gos_verilog.specs.Readable.{IsReadable}
+use Rattle.gos_verilog.specs.OneText.{IsReadAsOne, IsReadBack, HasOneText, IsPrintable, IsOneNetlist}
 use Rattle.gos_verilog.specs.inner.Drivers.{is_register}
 use Rattle.gos_verilog.proofs.CodeLemmas.{AreNameBytes, name_code}
 use Rattle.gos_verilog.proofs.ExpressionLemmas.{IsSmall, AreSmall, IsNetName}
@@ -148,16 +150,24 @@ names_at (n ∷ ns) (m ∷ ms) zero a b heads is_a is_b =
     ap (λ (p : PortNet). p.name) (sym one) ∙ (heads.0 ∙ ap (λ (p : PortNet). p.name) other)
 names_at (n ∷ ns) (m ∷ ms) (suc k) a b heads is_a is_b = names_at ns ms k a b heads.3 is_a is_b
 
+-- each input is an Input cell
+abbrev AreOpen : List Cell → List PortNet → Type 0
+AreOpen cells ns = (k : ℕ) (a : PortNet) → slice_get ns k ≡ Some a → a.input ≡ true → IsInputCell cells a.cell
+
+-- inputs that are one cell stand at one place
+abbrev HaveOwnCells : List PortNet → Type 0
+HaveOwnCells ns = (j k : ℕ) (a b : PortNet) → slice_get ns j ≡ Some a → slice_get ns k ≡ Some b → a.input ≡ true → b.input ≡ true → a.cell ≡ b.cell → j ≡ k
+
 -- a net that is an input is one cell in both
-input_same : (cells : List Cell) (ns ms : List PortNet) (k : ℕ) (a b : PortNet) → AllByRecursion (IsOpen cells) ns → AreApart (input_cells ns) → AreNamesApart ms → AreSameHeads ns ms
+input_same : (cells : List Cell) (ns ms : List PortNet) (k : ℕ) (a b : PortNet) → AreOpen cells ns → HaveOwnCells ns → AreNamesApart ms → AreSameHeads ns ms
     → AreBothFed ns ms 0 cells → slice_get ns k ≡ Some a → slice_get ms k ≡ Some b → a.input ≡ true → a.cell ≡ b.cell
 input_same cells ns ms k a b opens apart named heads fed is_a is_b input =
-    let cell = get_all PortNet (IsOpen cells) ns k a opens is_a input in
+    let cell = opens k a is_a input in
     let e : 0 + a.cell ≡ a.cell = omega arith in
     let both = subst (λ (n : ℕ). (source : List ℕ) × IsFed IsItsNet ns n cell.0 source × IsFed IsItsNet ms n cell.0 source) e (both_at ns ms 0 a.cell cells cell.0 fed cell.1 cell.2) in
     let one = both.1 in
     let other = both.2 in
-    let here : k ≡ one.0 = inputs.one_place ns k one.0 a one.1 apart is_a one.2 input one.3 (sym one.4) in
+    let here : k ≡ one.0 = apart k one.0 a one.1 is_a one.2 input one.3 (sym one.4) in
     let is_one : slice_get ns k ≡ Some one.1 = subst (λ (n : ℕ). slice_get ns n ≡ Some one.1) (sym here) one.2 in
     let same_one : a ≡ one.1 = let found : Some a ≡ Some one.1 = sym is_a ∙ is_one in cc found in
     let name : b.name ≡ other.1.name = sym (names_at ns ms k a b heads is_a is_b) ∙ (ap (λ (p : PortNet). p.name) same_one ∙ (sym one.5 ∙ other.5)) in
@@ -205,8 +215,9 @@ first_bytes [] all = refl
 first_bytes (p ∷ ps) all = name_bytes p.name all.0.name
 
 -- two netlists with one text
-pub one_netlist : (text : List ℕ) → IsOneNetlist text
-one_netlist text net other (writable, accepted) (writable_other, accepted_other) (drivers, are, is) (drivers_other, are_other, is_other) =
+one_circuit : (text : List ℕ) (net other : Netlist) → IsWritable net → IsWritable other → AreOpen net.cells (port_nets net.ports) → HaveOwnCells (port_nets net.ports)
+    → AreNamesApart (port_nets other.ports) → IsVerilogOf net text → IsVerilogOf other text → net ≡ other
+one_circuit text net other writable writable_other opens apart names_apart (drivers, are, is) (drivers_other, are_other, is_other) =
     let ns : List PortNet = port_nets net.ports in
     let ms : List PortNet = port_nets other.ports in
     let right_n = right_nets net.ports writable.ports in
@@ -226,12 +237,49 @@ one_netlist text net other (writable, accepted) (writable_other, accepted_other)
     let alike = cells_code 0 net.cells other.cells (drivers ++ back) (drivers_other ++ back_other) (have_bits net.cells writable.cells) (have_bits other.cells writable_other.cells) (drivers_body ns 0 net.cells drivers back are (outputs_body ns)) (drivers_body ms 0 other.cells drivers_other back_other are_other (outputs_body ms)) heads.1 in
     let driven = drivers_code ns ms 0 net.cells other.cells drivers drivers_other back back_other right_n right_m (have_bits net.cells writable.cells) (small_cells net.cells writable.cells) (small_cells other.cells writable_other.cells) alike.0 are are_other alike.1 in
     let outs = outputs_code ns ms (codes "endmodule\n") (codes "endmodule\n") (cells_of ns right_n) (cells_of ms right_m) heads.0 driven.2 in
-    let opens = open_nets net.cells net.ports (λ k p got. (accepted.ports.each k p got).nets) in
-    let apart = inputs_apart net.ports (λ k p got. (accepted.ports.each k p got).inputs) in
-    let names_apart = nets_apart other.ports (λ k j p q got before earlier. (accepted_other.ports.each k p got).name j q before earlier) in
     let same = nets_same ns ms heads.0 outs (λ k a b is_a is_b input. input_same net.cells ns ms k a b opens apart names_apart heads.0 driven.1 is_a is_b input) in
     let ports = ports_code net.ports other.ports writable.ports writable_other.ports same in
     (λ i. record { cells = driven.0 i; ports = ports i })
+
+accepted_open : (net : Netlist) → IsAccepted net → AreOpen net.cells (port_nets net.ports)
+accepted_open net accepted k a is input = get_all PortNet (IsOpen net.cells) (port_nets net.ports) k a (open_nets net.cells net.ports (λ j p got. (accepted.ports.each j p got).nets)) is input
+
+accepted_own : (net : Netlist) → IsAccepted net → HaveOwnCells (port_nets net.ports)
+accepted_own net accepted j k a b is_a is_b =
+    inputs.one_place (port_nets net.ports) j k a b (inputs_apart net.ports (λ i p got. (accepted.ports.each i p got).inputs)) is_a is_b
+
+accepted_apart : (net : Netlist) → IsAccepted net → AreNamesApart (port_nets net.ports)
+accepted_apart net accepted = nets_apart net.ports (λ k j p q got before earlier. (accepted.ports.each k p got).name j q before earlier)
+
+pub one_netlist : (text : List ℕ) → IsOneNetlist text
+one_netlist text net other (writable, accepted) (writable_other, accepted_other) is is_other =
+    one_circuit text net other writable writable_other (accepted_open net accepted) (accepted_own net accepted) (accepted_apart other accepted_other) is is_other
+
+readable_open : (net : Netlist) → IsReadable net → AreOpen net.cells (port_nets net.ports)
+readable_open net readable k a is input = (record { width = a.width; gate = Input }, readable.inputs k a is input, refl)
+
+readable_own : (net : Netlist) → IsReadable net → HaveOwnCells (port_nets net.ports)
+readable_own net readable j k a b is_a is_b in_a in_b same =
+    elim (cases_lt j k) [
+      | inl before ↦ absurd (readable.once k b is_b in_b j a before is_a in_a same)
+      | inr behind ↦ elim (cases_lt k j) [
+        | inl before ↦ absurd (readable.once j a is_a in_a k b before is_b in_b (sym same))
+        | inr over ↦ omega (arith, behind, over)
+      ]
+    ]
+
+readable_apart : (net : Netlist) → IsReadable net → AreNamesApart (port_nets net.ports)
+readable_apart net readable = nets_apart net.ports (λ k j p q got before earlier. readable.names k p got j q before earlier)
+
+-- what a text is read as is one netlist
+pub one_reading : (text : List ℕ) → IsReadAsOne text
+one_reading text net other (readable, is) (readable_other, is_other) =
+    one_circuit text net other readable.writable readable_other.writable (readable_open net readable) (readable_own net readable) (readable_apart other readable_other) is is_other
+
+-- what was written is read as what it was written of
+pub read_back : (net : Netlist) → IsReadBack net
+read_back net text other (writable, accepted) is (readable, is_other) =
+    one_circuit text net other writable readable.writable (accepted_open net accepted) (accepted_own net accepted) (readable_apart other readable) is is_other
 
 -- a line is the same whatever is named, but for an Input cell
 no_source : (i w : ℕ) (s t : List ℕ) (f : Function) → (f ≡ Input → s ≡ t) → driver_of i w s f ≡ driver_of i w t f

@@ -3,6 +3,7 @@ pub mod PortNets
 pub mod Lines
 pub mod VerilogText
 pub mod SmallTexts
+pub mod Readable
 pub mod OneText
 pub mod Meaning
 pub mod inner

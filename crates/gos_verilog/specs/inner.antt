@@ -1,2 +1,6 @@
 -- What stands between the functions of this crate alone.
 pub mod Drivers
+pub mod Runs
+pub mod Slots
+pub mod CellLines
+pub mod Inputs

@@ -2,7 +2,7 @@
 ghost use Rattle.std.specs.Prelude.{List, ℕ};
 ghost use Rattle.gos_netlist.specs.Nets.{Netlist};
 ghost use Rattle.gos_verilog.specs.Meaning.{IsTextOfExpression, MeansNext, MeansSettling};
-ghost use Rattle.gos_verilog.specs.OneText.{HasOneText, IsOneNetlist};
+ghost use Rattle.gos_verilog.specs.OneText.{HasOneText, IsOneNetlist, IsReadAsOne, IsReadBack};
 ghost use Rattle.gos_verilog.specs.SmallTexts.{LatchText, LongerIsNoText, UnresetIsNoText};
 
 /// The latch has its text, and neither one in which a register has no reset nor one with a blank more.
@@ -17,6 +17,12 @@ pub fn small_texts()
 pub fn one_text()
     ensures text { (net : Netlist) → HasOneText net }
     ensures netlist { (text : List ℕ) → IsOneNetlist text }
+{}
+
+/// A text is read as one netlist at most, and that of an accepted netlist as no other one.
+pub fn one_reading()
+    ensures one { (text : List ℕ) → IsReadAsOne text }
+    ensures back { (net : Netlist) → IsReadBack net }
 {}
 
 /// Read by IEEE 1364-2005 the lines of a module mean its netlist: its nets meet all lines in a cycle exactly where they

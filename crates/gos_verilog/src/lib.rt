@@ -7,12 +7,25 @@
 // definitions.
 #![tactic(auto)]
 
+mod cell_line;
+mod declared;
+mod driven;
+mod fault;
+mod head;
+mod inputs;
 mod laws;
+mod outputs;
 mod port_net;
+mod ports_of;
 mod printing;
+mod readable;
+mod reading;
+mod slots;
 #[cfg(test)]
 mod tests;
 mod writing;
 
-pub use laws::{meaning, one_text, small_texts};
+pub use fault::VFault;
+pub use laws::{meaning, one_reading, one_text, small_texts};
+pub use reading::read_verilog;
 pub use writing::write_verilog;

@@ -2,6 +2,8 @@
 ghost use Rattle.std.specs.Prelude.{◌<◌, ◌^◌, IfOk, length};
 ghost use Rattle.gos_lex.specs.Names.{IsNameOrWord};
 
+use crate::fault::VFault;
+use crate::reading::read_verilog;
 use crate::writing::write_verilog;
 use gos_lex::{LexFault, Name};
 use gos_netcheck::accept;
@@ -181,5 +183,69 @@ fn writes_each_sort(rt: HostRuntime) -> Result<(), Fail> {
     let net = accept(alloc, sorts(alloc)?)?;
     let text = write_verilog(alloc, &net)?;
     assert_eq!(rt; text.as_slice(), SORTS.as_bytes());
+    Ok(())
+}
+
+// The text of what is read from this one.
+fn read_and_written(alloc: Global, text: &[u8]) -> Result<Vec<u8>, Fail> {
+    let net = read_verilog(alloc, text)?;
+    let net = accept(alloc, net)?;
+    Ok(write_verilog(alloc, &net)?)
+}
+
+#[test]
+fn reads_the_latch(rt: HostRuntime) -> Result<(), Fail> {
+    let written = read_and_written(rt.alloc(), LATCH.as_bytes())?;
+    assert_eq!(rt; written.as_slice(), LATCH.as_bytes());
+    Ok(())
+}
+
+#[test]
+fn reads_each_sort(rt: HostRuntime) -> Result<(), Fail> {
+    let written = read_and_written(rt.alloc(), SORTS.as_bytes())?;
+    assert_eq!(rt; written.as_slice(), SORTS.as_bytes());
+    Ok(())
+}
+
+// Where a text is refused.
+fn refused_at(alloc: Global, text: &[u8]) -> Option<usize> {
+    match read_verilog(alloc, text) {
+        Err(VFault::Form { at }) => Some(at),
+        _ => None,
+    }
+}
+
+#[test]
+fn tells_where_a_text_ends(rt: HostRuntime) -> Result<(), Fail> {
+    let alloc = rt.alloc();
+    let text = LATCH.as_bytes();
+    assert_eq!(rt; refused_at(alloc, b""), Some(0));
+    for end in 0..text.len() {
+        assert_eq!(rt; refused_at(alloc, &text[..end]), Some(end));
+    }
+    let mut longer = text.to_vec(alloc)?;
+    longer.push(b' ')?;
+    assert_eq!(rt; refused_at(alloc, &longer), Some(text.len()));
+    Ok(())
+}
+
+// The text with another byte at a place.
+fn with_byte(alloc: Global, text: &[u8], at: usize, byte: u8) -> Result<Vec<u8>, Fail>
+    requires { at < length text.now }
+{
+    let mut changed = text.to_vec(alloc)?;
+    changed[at] = byte;
+    Ok(changed)
+}
+
+#[test]
+fn tells_a_wrong_byte(rt: HostRuntime) -> Result<(), Fail> {
+    let alloc = rt.alloc();
+    for text in [LATCH.as_bytes(), SORTS.as_bytes()] {
+        for at in 0..text.len() {
+            let changed = with_byte(alloc, text, at, b'#')?;
+            assert_eq!(rt; refused_at(alloc, &changed), Some(at));
+        }
+    }
     Ok(())
 }

@@ -1,7 +1,8 @@
 // Writing the text of a netlist.
 ghost use Rattle.std.specs.Prelude.{◌≡◌, ◌<◌, ℕ, true, false, IfOk, length, map, get_or};
 ghost use Rattle.gos_netlist.specs.Seen.{cell_of};
-ghost use Rattle.gos_netcheck.specs.Accepted.{IsAccepted};
+ghost use Rattle.gos_verilog.specs.PortNets.{port_nets as nets_of};
+ghost use Rattle.gos_verilog.specs.inner.Inputs.{AreFed};
 ghost use Rattle.gos_verilog.specs.VerilogText.{IsVerilogOf, first_name};
 ghost use Rattle.gos_verilog.specs.inner.Drivers.{LeadsToFeeds, module_lines};
 
@@ -21,9 +22,13 @@ pub fn write_verilog(alloc: Global, net: &Checked) -> Result<Vec<u8>, NoMemory>
     module_text(alloc, &net.cells, &net.ports)
 }
 
-// The text of the netlist of these cells and ports.
-fn module_text(alloc: Global, cells: &[Cell], ports: &[Port]) -> Result<Vec<u8>, NoMemory>
-    requires { IsAccepted (record { cells = map cell_of cells.now; ports = ports.now }) }
+/// The text of the netlist of these cells and ports, each Input cell of which is an input.
+pub(crate) fn module_text(
+    alloc: Global,
+    cells: &[Cell],
+    ports: &[Port],
+) -> Result<Vec<u8>, NoMemory>
+    requires { AreFed (nets_of ports.now) (map cell_of cells.now) }
     ensures { IfOk result (λ text. IsVerilogOf (record { cells = map cell_of cells.now; ports = ports.now }) text.items) }
 {
     let nets = port_nets(alloc, ports)?;

@@ -86,7 +86,7 @@ port_lies f (PartEnd i h) port = absurd port
 port_lies f (ImportEnd i h) port = refl
 port_lies f (ResultEnd h) port = refl
 
-port_outside : (f : Cut) (e : End) → IsPortEnd e → name_of f e ≡ f.inner e
+pub port_outside : (f : Cut) (e : End) → IsPortEnd e → name_of f e ≡ f.inner e
 port_outside f (PartEnd i h) port = absurd port
 port_outside f (ImportEnd i h) port = refl
 port_outside f (ResultEnd h) port = refl

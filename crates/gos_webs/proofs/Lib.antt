@@ -2,5 +2,5 @@ pub mod IdleLemmas
 pub mod WebLemmas
 pub mod MovedLemmas
 pub mod CutLemmas
-mod SmallWebLemmas
+pub mod SmallWebLemmas
 mod CutListLemmas

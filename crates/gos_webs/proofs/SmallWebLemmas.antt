@@ -37,7 +37,7 @@ same_part (suc zero) = refl
 same_part (suc (suc zero)) = refl
 same_part (suc (suc (suc n))) = refl
 
-twice_is_right : IsRight twice_plan
+pub twice_is_right : IsRight twice_plan
 twice_is_right = (((0, 0, refl, refl), refl, refl), (((0, 0, refl, refl), refl, refl), (((0, 0, refl, refl), refl, refl), tt)))
 
 swapped_is_right : IsRight swapped_plan
@@ -94,7 +94,7 @@ pub swap_is_seen : SwapIsSeen
 swap_is_seen is = not_second ((is.joints (PartEnd 0 0) (PartEnd 1 0)).0 (1, omega arith, refl))
 
 -- the first Skip
-skip_is_right : IsRight skip_plan
+pub skip_is_right : IsRight skip_plan
 skip_is_right = (((0, 0, refl, refl), refl, refl), tt)
 
 abbrev skip_joint : Joint
@@ -110,7 +110,7 @@ its_number (suc zero) j is = (refl, (Skip, ap (λ n. slice_get skip_plan.parts n
 its_number (suc (suc i)) j is = absurd (none-some j is)
 
 -- its one port
-one_port : (e : End) → IsPortEnd e → StandsIn skip_plan e → ResultEnd 0 ≡ e
+pub one_port : (e : End) → IsPortEnd e → StandsIn skip_plan e → ResultEnd 0 ≡ e
 one_port (PartEnd i h) port stands = absurd port
 one_port (ImportEnd i h) port (j, (zero, l, is), stands) =
     let no : false ≡ true = subst (λ (x : Joint). stands_in (ImportEnd i h) x ≡ true) (sym is) stands in cc no

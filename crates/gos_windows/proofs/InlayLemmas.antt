@@ -1,14 +1,13 @@
 -- The joints of a region, as they lie in the whole. The whole with these joints alone has the region as a cut.
 --
 -- So what is known of cuts is known of regions, where the places of an end are those of its joint in the region (`Agree`).
-use Rattle.std.specs.Prelude.{None, not, ◌||◌, ◌&&◌, slice_get, map, Contains}
-use Rattle.std.proofs.Common.{◌≡◌, ℕ, Bool, true, false, List, [], ◌∷◌, ◌⊎◌, Option, Some, inl, inr, refl, sym, ◌∙◌, ap, subst}
+use Rattle.std.specs.Prelude.{None, not, ◌||◌, ◌&&◌, map}
+use Rattle.std.proofs.Common.{◌≡◌, ℕ, true, List, [], ◌∷◌, ◌⊎◌, Option, Some, inl, inr, refl, sym, ◌∙◌, ap, subst}
 use Rattle.gos_netlist.specs.Events.{Direction}
-use Rattle.gos_plan.specs.Kinds.{Part}
-use Rattle.gos_plan.specs.Firing.{State, Slot, Token, Row}
-use Rattle.gos_plan.specs.Plans.{End, PartEnd, ImportEnd, ResultEnd, Joint, Plan, contact_at, same_end, stands_in, is_free, Fits, AreRight, IsRight}
-use Rattle.gos_plan.specs.Tokens.{Tokens, IsPortEnd, places_of, held_at, with_held, with_token, with_state, token_at, with_puts, end_of, way_of, fired}
-use Rattle.gos_plan.proofs.JointLemmas.{IsIn, same_itself, same_is, fits, Found, found, has_place, one_joint, stands_there, contained}
+use Rattle.gos_plan.specs.Firing.{Token, Row}
+use Rattle.gos_plan.specs.Plans.{End, PartEnd, ImportEnd, ResultEnd, Joint, Plan, contact_at, same_end, stands_in, is_free, Fits, AreRight}
+use Rattle.gos_plan.specs.Tokens.{Tokens, places_of, held_at, with_held, with_token, with_state, token_at, with_puts, end_of, way_of, fired}
+use Rattle.gos_plan.proofs.JointLemmas.{IsIn, same_itself, same_is, fits, Found, found, one_joint, stands_there, contained}
 use Rattle.gos_webs.specs.Webs.{joint}
 use Rattle.gos_webs.specs.Cutting.{Cut, lies_at, IsInside, StandsIn, IsCut, asks_in}
 use Rattle.gos_webs.proofs.MovedLemmas.{listed, same_bool}

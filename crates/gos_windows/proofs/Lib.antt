@@ -8,3 +8,10 @@ pub mod QuietLemmas
 pub mod WholeLemmas
 pub mod NodeLemmas
 pub mod WindowLemmas
+pub mod KeepingLemmas
+pub mod GroundLemmas
+pub mod OutputLemmas
+pub mod WaitLemmas
+pub mod ClosingLemmas
+pub mod MatchLemmas
+pub mod OrderLemmas

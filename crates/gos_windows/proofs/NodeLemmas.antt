@@ -1,30 +1,24 @@
 -- The list of a node, element by element: where the whole is, and where each element leads.
-use Rattle.std.specs.Prelude.{◌≢◌, None, nat_eq, slice_get, Contains}
-use Rattle.std.proofs.Common.{◌≡◌, ℕ, Bool, true, false, List, [], ◌∷◌, ◌++◌, ◌⊎◌, Option, Some, inl, inr, refl, sym, ◌∙◌, ap, subst, arith, if◌then◌else◌}
-use Rattle.std.proofs.lemmas.Option.{none-some, same_Some}
-use Rattle.gos_types.specs.declared.shakes.Role.TheVariants.{Serve, Ask}
+use Rattle.std.specs.Prelude.{None, slice_get, Contains}
+use Rattle.std.proofs.Common.{◌≡◌, ℕ, Bool, true, false, List, [], ◌∷◌, Option, Some, inl, inr, sym, ◌∙◌, ap, subst, if◌then◌else◌}
 use Rattle.gos_netlist.specs.Events.{Direction, Request, Answer}
 use Rattle.gos_plan.specs.Kinds.{Part, Contact}
-use Rattle.gos_plan.specs.Firing.{Phase, Rest, State, Slot, Req, Ans, Row, at, put, firing}
+use Rattle.gos_plan.specs.Firing.{Phase, Rest, State, Slot, Req, Ans, Row, at, firing}
 use Rattle.gos_plan.specs.Plans.{End, PartEnd, ImportEnd, ResultEnd, Plan, contact_at}
-use Rattle.gos_plan.specs.Tokens.{Tokens, Element, Fire, Out, In, IsPortEnd, places_of, with_token, with_state, with_puts, token_at, end_of, way_of, shake_of, way_taken, way_put, fired, firing_of, Passes, Does, Runs, IsIdle}
-use Rattle.gos_plan.specs.TokenBits.{AllFit}
+use Rattle.gos_plan.specs.Tokens.{Tokens, Element, Fire, Out, In, IsPortEnd, places_of, with_token, with_state, with_puts, token_at, end_of, way_of, shake_of, way_taken, fired, firing_of, Passes, Does, Runs, IsIdle}
 use Rattle.gos_plan.proofs.HeldLemmas.{takes_of}
 use Rattle.gos_plan.proofs.TurnLemmas.{token_state, fired_state}
-use Rattle.gos_plan.proofs.TokenBitsLemmas.{all_stay_fit, idle_fits}
-use Rattle.gos_realises.specs.Regular.{Pass, pass, way_in, way_out, is_request, is_open, ComesInTurn, KeepsTurns, InputsKeepTurns, OutputsKeepTurns}
-use Rattle.gos_realises.proofs.InputLemmas.{passed, passed_then, inputs_then, outputs_last, runs_then, in_there, out_there}
+use Rattle.gos_realises.specs.Regular.{Pass, pass, way_in, way_out, is_request, is_open, ComesInTurn, InputsKeepTurns}
+use Rattle.gos_realises.proofs.InputLemmas.{passed, out_there}
 use Rattle.gos_realises.proofs.RingLemmas.{after}
-use Rattle.gos_webs.specs.Cutting.{lies_at, StandsIn}
-use Rattle.gos_sessions.specs.Sessions.{Form, Session, own_part, own_term, run_shake, session_of}
+use Rattle.gos_sessions.specs.Sessions.{Form, own_part, own_term, run_shake, session_of}
 use Rattle.gos_sessions.proofs.TableLemmas.{tables_are_right}
-use Rattle.gos_windows.specs.Regions.{whole_element}
-use Rattle.gos_windows.specs.Nodes.{Stage, IsStage, IsNode}
-use Rattle.gos_windows.specs.Windows.{seen, StirsOnly, HoldsOnly, Where, Resting, Asked, Within, Answered, to_session, to_answer, Staged, rests, waits, stays, holds, is_asked, begins, stirs, goes_on, replies, ListsAreStaged}
+use Rattle.gos_windows.specs.Nodes.{Stage, IsNode}
+use Rattle.gos_windows.specs.Windows.{seen, HoldsOnly, Resting, Asked, Within, Answered, Staged}
 use Rattle.gos_windows.proofs.PortLemmas.{port_role}
 use Rattle.gos_windows.proofs.OwnLemmas.{none_at_rest}
-use Rattle.gos_windows.proofs.StageLemmas.{Emptied, stage, ground_stage, InStage, OnStage, Ran, lies, end_is, fires_in, out_in, in_in, answers, answer_fits, emptied}
-use Rattle.gos_windows.proofs.TurnLemmas.{Turned, answer_turned, turns_before, way_in_of, way_out_of, result_in, result_out, Follows, follows_step, OnlyResult, NoneOpen}
+use Rattle.gos_windows.proofs.StageLemmas.{Emptied}
+use Rattle.gos_windows.proofs.TurnLemmas.{result_in, result_out, OnlyResult, NoneOpen}
 use Rattle.gos_windows.proofs.WholeLemmas.{own_end, done, result_place, own_place, at_own_joint, in_turn_at, put_only, taken_empty, only_there, held_beside, idle_token, other_state, Going, Led, asks, own_leads}
 use Rattle.gos_windows.proofs.WholeLemmas as whole
 
@@ -54,11 +48,11 @@ turns_after p past (In e v) xs turns = turns.1
 true_is_not_false : (b : Bool) → b ≡ true → b ≡ false → ⊥
 true_is_not_false b up down = let both : true ≡ false = sym up ∙ down in cc both
 
-request_slot : (slot : Slot) (h : ℕ) → way_of slot ≡ Request → shake_of slot ≡ h → slot ≡ Req h
+pub request_slot : (slot : Slot) (h : ℕ) → way_of slot ≡ Request → shake_of slot ≡ h → slot ≡ Req h
 request_slot (Req g) h way same = ap Req same
 request_slot (Ans g) h way same = absurd (cc way)
 
-answer_slot : (slot : Slot) (h : ℕ) → way_of slot ≡ Answer → shake_of slot ≡ h → slot ≡ Ans h
+pub answer_slot : (slot : Slot) (h : ℕ) → way_of slot ≡ Answer → shake_of slot ≡ h → slot ≡ Ans h
 answer_slot (Req g) h way same = absurd (cc way)
 answer_slot (Ans g) h way same = ap Ans same
 
@@ -108,7 +102,7 @@ module _ (r : Plan) (d : ℕ) (f : Form) (gs : List Stage) (node : IsNode r d f 
       ]
 
   -- what fires while a token lies on the result's joint alone
-  own_slot : (i : ℕ) (slot : Slot) (way : Direction) → way_of slot ≡ way → places_of r (end_of i slot) ≡ Some (ResultEnd 0)
+  pub own_slot : (i : ℕ) (slot : Slot) (way : Direction) → way_of slot ≡ way → places_of r (end_of i slot) ≡ Some (ResultEnd 0)
       → (i ≡ d) × (shake_of slot ≡ run_shake (own_part f))
   own_slot i slot way same named =
       elim (at_own_joint r d f gs node (end_of i slot) named) [
@@ -171,6 +165,9 @@ module _ (r : Plan) (d : ℕ) (f : Form) (gs : List Stage) (node : IsNode r d f 
     pub is : x ≡ Fire d (Req (run_shake (own_part f)))
     pub fires : firing (own_part f) (s.state d) (Req (run_shake (own_part f))) ≡ Some row
     pub state : t.state d ≡ row.next 0
+    pub empty : Emptied d (with_token r (PartEnd d (run_shake (own_part f))) Request None s)
+    pub by : firing_of (slice_get r.parts d) (s.state d) (Req (run_shake (own_part f))) ≡ Some row
+    pub leads : t ≡ fired r d row 0 s
     pub led : Led r d f gs node row 0 t past
 
   pub asked_step : (x : Element) (s t : Tokens) (past : List Pass) → HoldsOnly r (PartEnd d (run_shake (own_part f))) Request 0 s → OnlyResult past → Does r x s t → InTurn r past x
@@ -185,6 +182,9 @@ module _ (r : Plan) (d : ℕ) (f : Form) (gs : List Stage) (node : IsNode r d f 
         is = is;
         fires = fires;
         state = own.2 ∙ ap row.next there.2;
+        empty = empty;
+        by = by_own;
+        leads = leads ∙ (λ l. fired r (which.0 l) row (there.2 l) s);
         led = subst (λ (n : ℕ). Led r d f gs node row n t past) there.2 led_on;
       }
     where

@@ -1,10 +1,10 @@
 -- The own part of a form: in a session it takes the answer of that session, and at rest its request.
-use Rattle.std.specs.Prelude.{None, nat_eq}
-use Rattle.std.proofs.Common.{◌≡◌, ℕ, Bool, true, false, [], ◌∷◌, Some, refl, sym, ◌∙◌, ap, subst, arith, if◌then◌else◌}
+use Rattle.std.specs.Prelude.{nat_eq}
+use Rattle.std.proofs.Common.{◌≡◌, ℕ, Bool, true, false, [], ◌∷◌, Some, refl, subst, arith, if◌then◌else◌}
 use Rattle.std.proofs.lemmas.Option.{none-some, same_Some}
 use Rattle.gos_types.specs.Types.{Type'}
 use Rattle.gos_model.specs.Terms.{Op, Term}
-use Rattle.gos_plan.specs.Firing.{Phase, Rest, First, Second, Test, Branch, Body, Left, Right, Waiting, State, Slot, Req, Ans, Row, at, put, row, row_for, firing}
+use Rattle.gos_plan.specs.Firing.{Phase, Rest, First, Second, Test, Branch, Body, Left, Right, Waiting, State, Req, Ans, Row, at, put, row, row_for, firing}
 use Rattle.gos_sessions.specs.Sessions.{run_shake, Form, Sequence, Choice, Loop, Binary, Complement, Session, session_of, own_part}
 
 abbrev CanTake : Form → Phase → ℕ → ℕ → Type 0

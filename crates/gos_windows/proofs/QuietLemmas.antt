@@ -1,25 +1,24 @@
 -- What is quiet in the whole: a stage that runs is quiet too, and the own part and the answer's output can go on.
-use Rattle.std.specs.Prelude.{None, nat_lt, length, slice_get, Contains}
-use Rattle.std.proofs.Common.{◌≡◌, ℕ, Bool, true, false, List, ◌⊎◌, Option, Some, inl, inr, refl, sym, ◌∙◌, ap, subst, arith, if◌then◌else◌}
+use Rattle.std.specs.Prelude.{None, length, slice_get, Contains}
+use Rattle.std.proofs.Common.{◌≡◌, ℕ, Bool, List, Option, Some, inl, inr, refl, sym, ◌∙◌, ap, subst, if◌then◌else◌}
 use Rattle.std.proofs.lemmas.Option.{slice_get_within}
-use Rattle.gos_types.specs.declared.shakes.Role.TheVariants.{Serve, Ask}
 use Rattle.gos_types.specs.Types.{IsDone}
 use Rattle.gos_netlist.specs.Events.{Direction, Request, Answer}
 use Rattle.gos_plan.specs.Kinds.{Part, Contact}
-use Rattle.gos_plan.specs.Firing.{Phase, Rest, State, Slot, Req, Ans, Row, at, firing}
+use Rattle.gos_plan.specs.Firing.{Phase, Rest, Slot, Req, Ans, Row, at, firing}
 use Rattle.gos_plan.specs.Plans.{End, PartEnd, ImportEnd, ResultEnd, Plan, contact_at}
-use Rattle.gos_plan.specs.Tokens.{Tokens, Element, Fire, Out, IsPortEnd, places_of, with_token, token_at, end_of, way_of, way_taken, fired, firing_of, Passes, Does, IsQuiet}
+use Rattle.gos_plan.specs.Tokens.{Tokens, Fire, Out, IsPortEnd, places_of, with_token, token_at, end_of, way_of, way_taken, fired, firing_of, Passes, Does, IsQuiet}
 use Rattle.gos_plan.proofs.HeldLemmas.{nothing_there}
 use Rattle.gos_realises.proofs.InputLemmas.{out_there}
 use Rattle.gos_webs.specs.Cutting.{lies_at, StandsIn}
-use Rattle.gos_webs.proofs.CutLemmas.{Owns, part_there, port_own, token_cut}
+use Rattle.gos_webs.proofs.CutLemmas.{Owns, part_there, token_cut}
 use Rattle.gos_sessions.specs.Sessions.{Form, run_shake, own_part}
 use Rattle.gos_windows.specs.Nodes.{Stage, IsNode}
 use Rattle.gos_windows.specs.Windows.{seen, StirsOnly, HoldsOnly, QuietIsWithin, OwnPartCan}
 use Rattle.gos_windows.proofs.InlayLemmas.{inlay, place_agrees, agree_token}
 use Rattle.gos_windows.proofs.PortLemmas.{port_role, place_stands, result_there, below_so}
 use Rattle.gos_windows.proofs.OwnLemmas.{takes_answer, takes_request}
-use Rattle.gos_windows.proofs.StageLemmas.{stage, cut, ground_stage, own_contact}
+use Rattle.gos_windows.proofs.StageLemmas.{stage, cut, ground_stage}
 
 module _
     (r : Plan) (d : ℕ) (f : Form) (gs : List Stage) (node : IsNode r d f gs) (g : Stage) (has : Contains gs g) (s : Tokens)

@@ -1,12 +1,11 @@
 -- A stage in the whole: where its tokens lie, what its parts do, and what is left after its answer.
-use Rattle.std.specs.Prelude.{◌≢◌, ◌+◌, ◌-◌, ◌*◌, ◌^◌, ◌<◌, ◌&&◌, None, slice_get, map, Contains, nat_eq, nat_lt, length, All}
-use Rattle.std.proofs.Common.{◌≡◌, ℕ, Bool, true, false, List, [], ◌∷◌, ◌++◌, ◌⊎◌, Option, Some, inl, inr, refl, sym, ◌∙◌, ap, subst, arith, if◌then◌else◌, pow_pos}
-use Rattle.gos_types.specs.declared.shakes.Role.TheVariants.{Serve, Ask}
-use Rattle.gos_types.specs.Types.{IsDone}
+use Rattle.std.specs.Prelude.{◌≢◌, ◌+◌, ◌-◌, ◌*◌, ◌^◌, ◌<◌, ◌&&◌, None, slice_get, map, Contains, nat_lt, length}
+use Rattle.std.proofs.Common.{◌≡◌, ℕ, Bool, true, false, List, [], ◌∷◌, ◌⊎◌, Option, Some, inl, inr, refl, sym, ◌∙◌, ap, subst, arith, if◌then◌else◌, pow_pos}
+use Rattle.gos_types.specs.declared.shakes.Role.TheVariants.{Ask}
 use Rattle.std.proofs.lemmas.Option.{slice_get_within}
 use Rattle.gos_netlist.specs.Events.{Direction, Request, Answer}
 use Rattle.gos_plan.specs.Kinds.{Part, Skip, Share, Contact}
-use Rattle.gos_plan.specs.Firing.{Rest, State, Slot, Req, Ans, Token, Row, at, firing}
+use Rattle.gos_plan.specs.Firing.{Rest, State, Slot, Token, Row, at}
 use Rattle.gos_plan.specs.Plans.{End, PartEnd, ImportEnd, ResultEnd, Joint, Plan, contact_at, same_end}
 use Rattle.gos_plan.specs.Tokens.{Tokens, Element, Fire, Out, In, IsPortEnd, places_of, same_way, held_at, with_held, with_token, with_state, token_at, with_puts, end_of, way_of, shake_of, way_taken, way_put, bits_of, fired, firing_of, Passes, Does, Runs, IsIdle}
 use Rattle.gos_plan.specs.TokenBits.{AllFit}
@@ -15,10 +14,8 @@ use Rattle.gos_plan.proofs.HeldLemmas.{nothing_there, takes_of}
 use Rattle.gos_realises.specs.Regular.{count, InputsKeepTurns}
 use Rattle.gos_realises.specs.Realises.{AllGround}
 use Rattle.gos_realises.proofs.InputLemmas.{result_asks, in_there, out_there}
-use Rattle.gos_webs.specs.Cutting.{Cut, lies_at, StandsIn, IsCut, asks_in, cut_tokens, out_if, in_if}
-use Rattle.gos_webs.proofs.MovedLemmas.{listed}
+use Rattle.gos_webs.specs.Cutting.{lies_at, StandsIn, IsCut, asks_in, out_if, in_if}
 use Rattle.gos_webs.proofs.CutLemmas.{Owns, outside_name, asks_there, place_there, number_at, fire_cut, taken_out, put_in, element_is_cut}
-use Rattle.gos_sharing.specs.Sharing.{caller_end}
 use Rattle.gos_sessions.specs.Sessions.{Form, bits}
 use Rattle.gos_windows.specs.Regions.{Serving, IsOther}
 use Rattle.gos_windows.specs.Nodes.{Stage, IsStage, IsNode}

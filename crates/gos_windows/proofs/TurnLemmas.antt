@@ -1,17 +1,16 @@
 -- Turns at the ports of a plan with ground imports and a command or an expression for its result; and at those of a stage.
 use Rattle.std.specs.Prelude.{◌+◌, ◌-◌, ◌<◌, slice_get, nat_lt, Contains}
-use Rattle.std.proofs.Common.{◌≡◌, ℕ, zero, suc, Bool, true, false, List, [], ◌∷◌, ◌++◌, Option, Some, refl, sym, ◌∙◌, ap, subst, arith, if◌then◌else◌}
+use Rattle.std.proofs.Common.{◌≡◌, ℕ, zero, suc, Bool, true, false, List, [], ◌∷◌, Some, refl, sym, ◌∙◌, ap, subst, arith, if◌then◌else◌}
 use Rattle.std.proofs.lemmas.Option.{none-some, slice_get_within}
 use Rattle.std.proofs.lemmas.Bool.Decides.{nat_tests}
-use Rattle.gos_types.specs.declared.shakes.Role.TheVariants.{Serve, Ask}
 use Rattle.gos_types.specs.Types.{Type', Com, Exp, Var, Pair, Fun, IsDone}
 use Rattle.gos_netlist.specs.Events.{Direction, Request, Answer}
 use Rattle.gos_model.specs.Typing.{Imported}
 use Rattle.gos_plan.specs.Kinds.{Contact, contacts_of}
-use Rattle.gos_plan.specs.Plans.{End, PartEnd, ImportEnd, ResultEnd, Plan, contact_at, contacts_of_import, turned_if, same_end}
+use Rattle.gos_plan.specs.Plans.{End, ImportEnd, ResultEnd, Plan, contact_at, contacts_of_import, turned_if, same_end}
 use Rattle.gos_plan.specs.Tokens.{Element, Fire, Out, In, way_taken, way_put}
 use Rattle.gos_plan.proofs.JointLemmas.{same_is}
-use Rattle.gos_realises.specs.Regular.{count, Pass, pass, way_in, way_out, is_request, is_open, KeepsTurnsOf, whole_type, whole_end, KeepsTurns, InputsKeepTurns}
+use Rattle.gos_realises.specs.Regular.{count, Pass, pass, way_in, way_out, is_request, is_open, KeepsTurnsOf, whole_type, whole_end, InputsKeepTurns}
 use Rattle.gos_realises.specs.Realises.{AllGround}
 use Rattle.gos_realises.proofs.GroundTurnLemmas.{width, width_small, there_some, result_open, turns_kept, all_closed, result_end, import_end}
 use Rattle.gos_realises.proofs.RingLemmas.{after}

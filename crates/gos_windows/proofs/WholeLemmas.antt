@@ -8,9 +8,9 @@ use Rattle.gos_netlist.specs.Events.{Direction, Request, Answer}
 use Rattle.gos_model.specs.Terms.{Term}
 use Rattle.gos_model.specs.Moves.{Program}
 use Rattle.gos_plan.specs.Kinds.{Contact, contacts_of}
-use Rattle.gos_plan.specs.Firing.{Phase, Rest, State, Slot, Req, Ans, Token, Row, put}
+use Rattle.gos_plan.specs.Firing.{Rest, State, Req, Ans, Token, Row, put}
 use Rattle.gos_plan.specs.Plans.{End, PartEnd, ImportEnd, ResultEnd, Joint, Plan, contact_at, stands_in, same_end, turned_if}
-use Rattle.gos_plan.specs.Tokens.{Tokens, Element, Fire, Out, In, IsPortEnd, places_of, same_way, held_at, with_held, with_token, with_state, token_at, with_puts, end_of, way_of, shake_of, way_taken, way_put, bits_of, Passes, Does, IsIdle}
+use Rattle.gos_plan.specs.Tokens.{Tokens, Element, In, places_of, same_way, held_at, with_held, with_token, with_state, token_at, with_puts, end_of, way_of, way_put, bits_of, Passes, Does, IsIdle}
 use Rattle.gos_plan.proofs.JointLemmas.{IsIn, Found, found, one_joint, stands_there, contained, same_is, same_itself}
 use Rattle.gos_plan.proofs.HeldLemmas.{nothing_there}
 use Rattle.gos_plan.proofs.TurnLemmas.{token_state, nat_eq_self}
@@ -20,8 +20,8 @@ use Rattle.gos_webs.specs.Webs.{joint}
 use Rattle.gos_webs.specs.Cutting.{lies_at, StandsIn}
 use Rattle.gos_webs.proofs.MovedLemmas.{listed}
 use Rattle.gos_webs.proofs.CutLemmas.{which_end, stands_by, first_stands, last_stands, stands_own, lies_there, same_ways}
-use Rattle.gos_sessions.specs.Sessions.{Form, Session, own_part, own_term, own_type, run_shake, session_of, LeadsOn}
-use Rattle.gos_windows.specs.Nodes.{Stage, IsStage, IsNode, IsOfStage}
+use Rattle.gos_sessions.specs.Sessions.{Form, Session, own_part, own_term, run_shake, session_of, LeadsOn}
+use Rattle.gos_windows.specs.Nodes.{Stage, IsStage, IsNode}
 use Rattle.gos_windows.specs.Windows.{seen, StirsOnly, HoldsOnly}
 use Rattle.gos_windows.proofs.PortLemmas.{port_role}
 use Rattle.gos_windows.proofs.OwnLemmas.{asked_apart}
@@ -42,14 +42,14 @@ second_of_both : (a b : Bool) → a && b ≡ true → b ≡ true
 second_of_both true b h = h
 second_of_both false b h = absurd (cc h)
 
-no_bits : (t : Type') → IsDone t → (c : Contact) → turned_if (slice_get (contacts_of t) 0) ≡ Some c → c.ask_bits ≡ 0
+pub no_bits : (t : Type') → IsDone t → (c : Contact) → turned_if (slice_get (contacts_of t) 0) ≡ Some c → c.ask_bits ≡ 0
 no_bits Com done c is = ap (λ (x : Contact). x.ask_bits) (sym (same_Some _ c is))
 no_bits (Exp w) done c is = ap (λ (x : Contact). x.ask_bits) (sym (same_Some _ c is))
 no_bits (Var w) done c is = absurd done
 no_bits (Pair a b) done c is = absurd done
 no_bits (Fun a b) done c is = absurd done
 
-zero_only : (v : ℕ) → v < 2 ^ 0 → v ≡ 0
+pub zero_only : (v : ℕ) → v < 2 ^ 0 → v ≡ 0
 zero_only v less = let small : v < 1 = less in omega (arith, small)
 
 pub nat_eq_same : (n : ℕ) → nat_eq n n ≡ true

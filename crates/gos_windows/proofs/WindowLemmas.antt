@@ -1,34 +1,39 @@
 -- Within a stage, and whole lists.
-use Rattle.std.specs.Prelude.{◌≢◌, ◌^◌, ◌<◌, None, nat_eq, slice_get, Contains}
-use Rattle.std.proofs.Common.{◌≡◌, ℕ, Bool, true, false, List, [], ◌∷◌, ◌++◌, ◌⊎◌, Option, Some, inl, inr, refl, sym, ◌∙◌, ap, subst, arith, if◌then◌else◌}
-use Rattle.std.proofs.lemmas.Option.{none-some, same_Some}
-use Rattle.gos_types.specs.declared.shakes.Role.TheVariants.{Serve, Ask}
+use Rattle.std.specs.Prelude.{◌≢◌, ◌^◌, ◌<◌, None, slice_get, Contains}
+use Rattle.std.proofs.Common.{◌≡◌, ℕ, Bool, true, false, List, [], ◌∷◌, ◌++◌, ◌⊎◌, Option, Some, inl, inr, refl, sym, ◌∙◌, ap, subst, if◌then◌else◌}
+use Rattle.std.proofs.lemmas.Option.{same_Some}
 use Rattle.gos_types.specs.Types.{Type'}
 use Rattle.gos_netlist.specs.Events.{Direction, Request, Answer}
-use Rattle.gos_plan.specs.Kinds.{Part, Contact}
-use Rattle.gos_plan.specs.Firing.{Phase, Rest, State, Slot, Req, Ans, Row, at, put, firing}
+use Rattle.gos_plan.specs.Kinds.{Contact}
+use Rattle.gos_plan.specs.Firing.{Phase, State, Slot, Ans, Row, at, firing}
 use Rattle.gos_plan.specs.Plans.{End, PartEnd, ImportEnd, ResultEnd, Plan, contact_at}
-use Rattle.gos_plan.specs.Tokens.{Tokens, Element, Fire, Out, In, IsPortEnd, places_of, with_token, with_state, with_puts, token_at, end_of, way_of, shake_of, way_taken, way_put, fired, firing_of, Passes, Does, Runs, IsIdle}
+use Rattle.gos_plan.specs.Tokens.{Tokens, Element, Fire, Out, In, with_token, with_state, with_puts, token_at, end_of, way_of, shake_of, way_taken, way_put, fired, firing_of, Passes, Does, Runs, IsIdle}
 use Rattle.gos_plan.specs.TokenBits.{AllFit}
 use Rattle.gos_plan.proofs.TurnLemmas.{token_state, fired_state}
 use Rattle.gos_plan.proofs.TokenBitsLemmas.{all_stay_fit, idle_fits}
-use Rattle.gos_realises.specs.Regular.{Pass, pass, way_in, way_out, is_request, is_open, ComesInTurn, KeepsTurns, InputsKeepTurns, OutputsKeepTurns}
+use Rattle.gos_realises.specs.Regular.{Pass, pass, way_in, way_out, is_open, ComesInTurn, KeepsTurns, InputsKeepTurns}
 use Rattle.gos_realises.proofs.InputLemmas.{passed, passed_then, inputs_then, outputs_last, runs_then, in_there, out_there}
 use Rattle.gos_realises.proofs.RingLemmas.{after}
-use Rattle.gos_webs.specs.Cutting.{lies_at, StandsIn}
+use Rattle.gos_webs.specs.Cutting.{StandsIn}
 use Rattle.gos_sessions.specs.Sessions.{Form, Session, bits, own_part, own_term, run_shake, session_of, value_of}
 use Rattle.gos_sessions.proofs.TableLemmas.{tables_are_right}
 use Rattle.gos_windows.specs.Regions.{whole_element}
-use Rattle.gos_windows.specs.Nodes.{Stage, IsStage, IsNode}
+use Rattle.gos_windows.specs.Nodes.{Stage, IsNode}
 use Rattle.gos_windows.specs.Windows as windows
 use Rattle.gos_windows.specs.Windows.{seen, StirsOnly, HoldsOnly, Where, Resting, Asked, Within, Answered, to_session, to_answer, Staged, rests, waits, stays, holds, is_asked, begins, stirs, goes_on, ListsAreStaged}
 use Rattle.gos_windows.proofs.PortLemmas.{port_role, stands_contact}
 use Rattle.gos_windows.proofs.OwnLemmas.{none_at_rest}
-use Rattle.gos_windows.proofs.StageLemmas.{Emptied, stage, ground_stage, InStage, OnStage, Ran, lies, end_is, fires_in, out_in, in_in, answers, answer_fits, emptied}
-use Rattle.gos_windows.proofs.TurnLemmas.{Turned, answer_turned, turns_before, way_in_of, way_out_of, result_in, result_out, import_shut, Follows, follows_step, OnlyResult, NoneOpen}
+use Rattle.gos_windows.proofs.StageLemmas.{Emptied, stage, ground_stage, InStage, OnStage, lies, end_is, fires_in, out_in, in_in, answers, answer_fits, emptied}
+use Rattle.gos_windows.proofs.TurnLemmas.{Turned, answer_turned, turns_before, way_in_of, result_out, import_shut, Follows, follows_step, OnlyResult, NoneOpen}
 use Rattle.gos_windows.proofs.WholeLemmas as whole
 use Rattle.gos_windows.proofs.WholeLemmas.{in_turn_at, other_state, Going, Led, asks, own_leads}
-use Rattle.gos_windows.proofs.NodeLemmas.{Place, AtRest, AtAsked, AtStage, AtAnswer, InTurn, first_turn, turns_after, Holds, Result, rest_step, AskedStep, asked_step, answer_step, own_fired, own_firing}
+use Rattle.gos_windows.proofs.NodeLemmas.{Place, AtRest, AtAsked, AtStage, AtAnswer, InTurn, first_turn, turns_after, Holds, Result, rest_step, asked_step, answer_step, own_fired, own_firing}
+
+-- the ends at which an element passes stand in joints
+abbrev pub Standing : Plan → Element → Type 0
+Standing p (Fire i t) = Unit {0}
+Standing p (Out e v) = StandsIn p e
+Standing p (In e v) = StandsIn p e
 
 abbrev OneTurn : Plan → List Pass → Element → Type 0
 OneTurn p past y = InputsKeepTurns p past (y ∷ [])
@@ -40,6 +45,7 @@ module _ (r : Plan) (d : ℕ) (f : Form) (gs : List Stage) (node : IsNode r d f 
     pub is : whole_element g.cut y ≡ x
     pub does : Does g.plan y (seen g s) (seen g t)
     pub turn : OneTurn g.plan (passed g.plan [] hs) y
+    pub standing : Standing g.plan y
     pub going : Going r d f gs node g has (hs ++ y ∷ []) before t past
 
   -- the own part takes the stage's answer
@@ -52,11 +58,14 @@ module _ (r : Plan) (d : ℕ) (f : Form) (gs : List Stage) (node : IsNode r d f 
     pub idle : IsIdle g.plan end
     pub fits : v < 2 ^ bits g.plan.outcome
     pub held : token_at r s (PartEnd d g.asked_at) Answer ≡ Some v
+    pub empty : Emptied d (with_token r (PartEnd d g.asked_at) Answer None s)
+    pub by : firing_of (slice_get r.parts d) (s.state d) (Ans g.asked_at) ≡ Some row
+    pub leads : t ≡ fired r d row v s
     pub fires : firing (own_part f) (s.state d) (Ans g.asked_at) ≡ Some row
     pub state : t.state d ≡ row.next v
     pub led : Led r d f gs node row v t past
 
-  stage_out_turned : (g : Stage) (has : Contains gs g) (hs : List Element) (before s t : Tokens) (past : List Pass) → Going r d f gs node g has hs before s past
+  pub stage_out_turned : (g : Stage) (has : Contains gs g) (hs : List Element) (before s t : Tokens) (past : List Pass) → Going r d f gs node g has hs before s past
       → (e : End) (v : ℕ) → Does g.plan (Out e v) (seen g s) (seen g t) → KeepsTurns g.plan (passed g.plan [] hs) (pass e (way_out (contact_at g.plan e)))
   stage_out_turned g has hs before s t past going e v does =
       let ran = runs_then g.plan hs (Out e v) before (seen g s) (seen g t) going.ran.ran does in
@@ -74,15 +83,16 @@ module _ (r : Plan) (d : ℕ) (f : Form) (gs : List Stage) (node : IsNode r d f 
     within = going.stirs.places
 
     -- the stage goes on
-    on_by : (x y : Element) (later : List Pass) → whole_element g.cut y ≡ x → Does g.plan y (seen g s) (seen g t) → OneTurn g.plan own y → Turned g.plan (after g.plan y own)
+    on_by : (x y : Element) (later : List Pass) → whole_element g.cut y ≡ x → Does g.plan y (seen g s) (seen g t) → OneTurn g.plan own y → Standing g.plan y → Turned g.plan (after g.plan y own)
         → InStage r d f gs node g has t → t.state d ≡ s.state d → ((i : ℕ) → g.cut.number i ≡ None → t.state i ≡ s.state i)
         → Follows g (after g.plan y own) later → StageStep g has hs before s t later x
-    on_by x y later is does turn turned in_stage own_state others follows =
+    on_by x y later is does turn standing turned in_stage own_state others follows =
         record {
           y = y;
           is = is;
           does = does;
           turn = turn;
+          standing = standing;
           going =
               record {
                 ran =
@@ -115,7 +125,7 @@ module _ (r : Plan) (d : ℕ) (f : Form) (gs : List Stage) (node : IsNode r d f 
     fire_step i j slot number does =
         let at_j = (stage r d f gs node g has).region.numbers i j number in
         let (own_does, in_stage) = fires_in r d f gs node g has before s t hs going.ran within i j number slot does in
-        on_by (Fire i slot) (Fire j slot) past (ap (λ (n : ℕ). Fire n slot) at_j.0) own_does tt going.turned in_stage
+        on_by (Fire i slot) (Fire j slot) past (ap (λ (n : ℕ). Fire n slot) at_j.0) own_does tt tt going.turned in_stage
         (own_kept i j slot number does d (stage r d f gs node g has).outside) (own_kept i j slot number does) going.follows
 
     -- an output at a port
@@ -129,7 +139,7 @@ module _ (r : Plan) (d : ℕ) (f : Form) (gs : List Stage) (node : IsNode r d f 
         let passes = subst (λ (o : Option Contact). Passes r (Out b v) o s t) there does.1 in
         let state = λ (n : ℕ). ap (λ (x : Tokens). x.state n) passes.1 ∙ token_state r b (way_taken c.role) None s n in
         let ways = ap way_out (port_contact i h b stands at) in
-        on_by (Out b v) (Out (ImportEnd i h) v) (after r (Out b v) past) (ap (λ (e : End). Out e v) at) own_does tt
+        on_by (Out b v) (Out (ImportEnd i h) v) (after r (Out b v) past) (ap (λ (e : End). Out e v) at) own_does tt stands
         (stage_out_turned g has hs before s t past going (ImportEnd i h) v own_does).1 in_stage (state d) (λ n out. state n)
         (subst (λ (way : Direction). Follows g (after g.plan (Out (ImportEnd i h) v) own) (pass b way ∷ past)) (sym ways)
         (follows_step r d f gs node g has own past going.follows i h b stands at (way_out (contact_at g.plan (ImportEnd i h)))))
@@ -147,7 +157,7 @@ module _ (r : Plan) (d : ℕ) (f : Form) (gs : List Stage) (node : IsNode r d f 
         let ways = ap way_in (port_contact i h b stands at_b) in
         let open_there : is_open own (ImportEnd i h) ≡ true = going.follows.same i h stands ∙ (ap (is_open past) at ∙ up) in
         let turn = in_turn i h stands open_there in
-        on_by (In b v) (In (ImportEnd i h) v) (after r (In b v) past) (ap (λ (e : End). In e v) at_b) own_does (turn, tt) turn.1 in_stage (state d) (λ n out. state n)
+        on_by (In b v) (In (ImportEnd i h) v) (after r (In b v) past) (ap (λ (e : End). In e v) at_b) own_does (turn, tt) stands turn.1 in_stage (state d) (λ n out. state n)
         (subst (λ (way : Direction). Follows g (after g.plan (In (ImportEnd i h) v) own) (pass b way ∷ past)) (sym ways)
         (follows_step r d f gs node g has own past going.follows i h b stands at_b (way_in (contact_at g.plan (ImportEnd i h)))))
       where
@@ -183,6 +193,9 @@ module _ (r : Plan) (d : ℕ) (f : Form) (gs : List Stage) (node : IsNode r d f 
           idle = idle;
           fits = answer_fits r d f gs node g has s fit within v held_so;
           held = held_so;
+          empty = empty;
+          by = ap (λ (x : Slot). firing_of (slice_get r.parts d) (s.state d) x) (sym slot_is) ∙ by_own;
+          leads = leads ∙ ap (λ (n : ℕ). fired r n row v s) which.0;
           fires = fires.1;
           state = fires.2;
           led = led;
@@ -272,7 +285,7 @@ module _ (r : Plan) (d : ℕ) (f : Form) (gs : List Stage) (node : IsNode r d f 
       (pl : Place gs) (s t : Tokens) (past : List Pass)
       → AllFit r s → Holds r d f gs node pl s past → Runs r xs s t → InputsKeepTurns r past xs → Result r d f gs node pl xs s
 
-  fit_after : (x : Element) (s w : Tokens) → AllFit r s → Does r x s w → AllFit r w
+  pub fit_after : (x : Element) (s w : Tokens) → AllFit r s → Does r x s w → AllFit r w
   fit_after x s w fit does = all_stay_fit r (x ∷ []) s w node.right node.literals fit (w, does, refl)
 
   led_on : (xs : List Element) → Rest' xs → (row : Row) (v : ℕ) (w t : Tokens) (past : List Pass) → AllFit r w → Led r d f gs node row v w past → Runs r xs w t

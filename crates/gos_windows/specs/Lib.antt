@@ -2,3 +2,5 @@
 pub mod Regions
 pub mod Nodes
 pub mod Windows
+pub mod Keeping
+pub mod Closing

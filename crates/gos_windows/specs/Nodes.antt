@@ -1,7 +1,7 @@
 -- Nodes: a plan whose own part runs its children, one at a time; each child, joined to its supplies, is a region.
 --
 -- Read first: Regions; Sessions of gos_sessions; Regular, Realises of gos_realises. Children may share supplies, by Shares.
-use Rattle.std.specs.Prelude.{◌≡◌, ℕ, List, [], ◌∷◌, ◌++◌, ◌⊎◌, Option, Some, None, All, slice_get, Contains}
+use Rattle.std.specs.Prelude.{◌≡◌, ℕ, List, [], ◌∷◌, ◌++◌, ◌⊎◌, Some, None, All, slice_get, Contains}
 use Rattle.gos_types.specs.Types.{IsDone}
 use Rattle.gos_model.specs.Typing.{Imported}
 use Rattle.gos_plan.specs.Kinds.{Part}
@@ -9,7 +9,7 @@ use Rattle.gos_plan.specs.Firing.{Phase}
 use Rattle.gos_plan.specs.Plans.{End, PartEnd, ImportEnd, ResultEnd, Plan, IsRight}
 use Rattle.gos_plan.specs.Tokens.{Tokens, Element, Out, Runs, IsIdle}
 use Rattle.gos_plan.specs.TokenBits.{LiteralFits}
-use Rattle.gos_realises.specs.Regular.{InputsKeepTurns, IsRegular}
+use Rattle.gos_realises.specs.Regular.{InputsKeepTurns, OutputsKeepTurns, IsRegular}
 use Rattle.gos_realises.specs.Realises.{AllGround, NamesDiffer}
 use Rattle.gos_webs.specs.Webs.{joint}
 use Rattle.gos_webs.specs.Cutting.{Cut, lies_at, StandsIn}
@@ -73,6 +73,14 @@ pub record IsNode (r : Plan) (d : ℕ) (f : Form) (gs : List Stage) : Type 0 whe
   pub parts :
       (i : ℕ) (k : Part) → slice_get r.parts i ≡ Some k
       → (i ≡ d) ⊎ ((g : Stage) × (j : ℕ) × Contains gs g × (g.cut.number i ≡ Some j))
+
+-- the outputs of a plan keep turns, over every list from an idle state whose inputs do
+abbrev pub OutputsInTurn : Plan → Type 0
+OutputsInTurn p = (s t : Tokens) (xs : List Element) → IsIdle p s → Runs p xs s t → InputsKeepTurns p [] xs → OutputsKeepTurns p [] xs
+
+-- So it is with a node, which rests after its answer.
+abbrev pub NodeKeepsTurns : Type 0
+NodeKeepsTurns = (r : Plan) (d : ℕ) (f : Form) (gs : List Stage) → IsNode r d f gs → OutputsInTurn r × IsRestful r
 
 -- A node's plan is regular, and rests after its answer.
 abbrev pub NodeIsRegular : Type 0

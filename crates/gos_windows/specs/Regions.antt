@@ -2,11 +2,11 @@
 -- at which the Shares between children serve their other caller.
 --
 -- Read first: Cutting of gos_webs; Sharing of gos_sharing; Regular of gos_realises.
-use Rattle.std.specs.Prelude.{◌≡◌, ℕ, ◌-◌, ◌<◌, List, [], ◌⊎◌, Option, Some, slice_get, Contains}
+use Rattle.std.specs.Prelude.{◌≡◌, ℕ, ◌-◌, ◌<◌, List, [], ◌⊎◌, Some, slice_get, Contains}
 use Rattle.gos_types.specs.Types.{Type'}
 use Rattle.gos_plan.specs.Kinds.{Part, Share}
 use Rattle.gos_plan.specs.Firing.{Slot}
-use Rattle.gos_plan.specs.Plans.{End, PartEnd, ImportEnd, ResultEnd, Plan, contact_at, IsRight}
+use Rattle.gos_plan.specs.Plans.{End, Plan, contact_at, IsRight}
 use Rattle.gos_plan.specs.Tokens.{Tokens, Element, Fire, Out, In, IsPortEnd, shake_of, Does, Runs, IsIdle}
 use Rattle.gos_realises.specs.Regular.{count, InputsKeepTurns}
 use Rattle.gos_webs.specs.Webs.{joint}

@@ -1,10 +1,10 @@
 -- Windows: in the list of a node, from the request of a child to its answer all else rests, and what is done is of the child.
 --
 -- Read first: Nodes.
-use Rattle.std.specs.Prelude.{◌≡◌, ◌≢◌, ℕ, ◌^◌, ◌<◌, true, List, [], ◌∷◌, ◌++◌, ◌⊎◌, Option, Some, None, slice_get, Contains}
+use Rattle.std.specs.Prelude.{◌≡◌, ◌≢◌, ℕ, ◌^◌, ◌<◌, true, List, [], ◌∷◌, Some, None, Contains}
 use Rattle.gos_netlist.specs.Events.{Direction, Request, Answer}
-use Rattle.gos_plan.specs.Firing.{Rest, Slot, Req, Ans, State, Row, put, firing}
-use Rattle.gos_plan.specs.Plans.{End, PartEnd, ImportEnd, ResultEnd, Plan, IsRight}
+use Rattle.gos_plan.specs.Firing.{Rest, Req, Ans, Row, put, firing}
+use Rattle.gos_plan.specs.Plans.{End, PartEnd, ResultEnd, Plan}
 use Rattle.gos_plan.specs.Tokens.{Tokens, Element, Fire, Out, In, places_of, token_at, Does, Runs, IsIdle, IsQuiet}
 use Rattle.gos_realises.specs.Regular.{InputsKeepTurns}
 use Rattle.gos_webs.specs.Cutting.{lies_at, asks_in, cut_tokens}

@@ -5,4 +5,4 @@
 
 mod laws;
 
-pub use laws::lists_of_nodes;
+pub use laws::{idle_is_closed, lists_of_nodes, nodes_are_regular, turns_keep_protocol};

@@ -1,0 +1,14 @@
+mod RegionLemmas
+mod DriverLemmas
+mod StepLemmas
+mod ProtocolLemmas
+mod LinkedLemmas
+mod PlainTurnLemmas
+mod OutputLemmas
+mod OrderLemmas
+mod RegularLemmas
+mod MoveLemmas
+mod QuietLemmas
+mod MatchLemmas
+mod RealisesLemmas
+mod SmallParallelLemmas

@@ -1,0 +1,9 @@
+use Rattle.gos_parallel.proofs.RegularLemmas.{parallel_is_regular}
+use Rattle.gos_parallel.proofs.RealisesLemmas.{parallel_realises}
+use Rattle.gos_parallel.proofs.laws.parallel.Goals as goal
+
+pub returns-clause-regular : goal.returns-clause-regular
+returns-clause-regular c = parallel_is_regular
+
+pub returns-clause-realises : goal.returns-clause-realises
+returns-clause-realises c = parallel_realises

@@ -1,0 +1,231 @@
+// The lines that drive the nets of cells, but those of Input cells. `Err` is the place of the first byte that can't go on
+// as the line, or the end of the text.
+ghost use Rattle.std.specs.Prelude.{◌≡◌, ◌≤◌, ◌^◌, ◌-◌, [], IfOk, IfErr, length, codes};
+ghost use Rattle.gos_lex.specs.Items.{Misses};
+ghost use Rattle.gos_netlist.specs.Seen.{function_of};
+ghost use Rattle.gos_types.specs.Widths.{IsWidth};
+ghost use Rattle.gos_netlist.specs.NetItems.{Passed};
+ghost use Rattle.gos_verilog.specs.Lines.{driver_of};
+ghost use Rattle.gos_verilog.specs.inner.Slots.{FitSlots, line_text, IsLine};
+ghost use Rattle.gos_verilog.specs.inner.CellLines as lines;
+ghost use Rattle.gos_verilog.specs.inner.CellLines.{HasKind};
+
+use crate::slots::{Numbers, Slot, line};
+use gos_lex::Cursor;
+use gos_netlist::{Gate, NetId};
+use std::alloc::Global;
+
+/// What kind of function drives a net.
+#[derive(Debug, Clone, Copy)]
+pub enum Kind {
+    Const,
+    Not,
+    And,
+    Or,
+    Xor,
+    Mux,
+    Add,
+    Sub,
+    Eq,
+    Less,
+    Gate,
+    Reg,
+}
+
+/// Passes the line of a cell of this kind, and gives its gate.
+pub fn kind_line(
+    alloc: Global,
+    cursor: &mut Cursor,
+    kind: Kind,
+    i: u32,
+    width: u32,
+) -> Result<Gate, usize>
+    requires width { IsWidth width }
+    requires within { cursor.now.at ≤ length cursor.now.text }
+    ensures kind { IfOk result (λ gate. HasKind kind width (function_of gate)) }
+    ensures passed { IfOk result (λ gate. Passed cursor.old cursor.new (driver_of i width [] (function_of gate))) }
+{
+    let numbers = numbers(alloc, cursor, kind, i, width)?;
+    Ok(gate(kind, &numbers))
+}
+
+// Passes the line of a cell of this kind, and gives its numbers.
+fn numbers(
+    alloc: Global,
+    cursor: &mut Cursor,
+    kind: Kind,
+    i: u32,
+    width: u32,
+) -> Result<Numbers, usize>
+    requires width { IsWidth width }
+    requires within { cursor.now.at ≤ length cursor.now.text }
+    ensures fit { IfOk result (λ numbers. FitSlots (lines.kind_slots kind i width) numbers.items) }
+    ensures passed { IfOk result (λ numbers. Passed cursor.old cursor.new (line_text (lines.kind_slots kind i width) (lines.kind_tail kind) numbers.items)) }
+    ensures wrong { IfErr result (Misses (IsLine (lines.kind_slots kind i width) (lines.kind_tail kind)) cursor.old.text cursor.old.at) }
+{
+    match kind {
+        Kind::Const => constant(alloc, cursor, i, width),
+        Kind::Not => complement(alloc, cursor, i),
+        Kind::Mux => mux(alloc, cursor, i),
+        Kind::Gate => gated(alloc, cursor, i, width),
+        Kind::Reg => register(alloc, cursor, i, width),
+        Kind::And => binary(alloc, cursor, i, b"& n"),
+        Kind::Or => binary(alloc, cursor, i, b"| n"),
+        Kind::Xor => binary(alloc, cursor, i, b"^ n"),
+        Kind::Add => binary(alloc, cursor, i, b"+ n"),
+        Kind::Sub => binary(alloc, cursor, i, b"- n"),
+        Kind::Eq => binary(alloc, cursor, i, b"== n"),
+        Kind::Less => binary(alloc, cursor, i, b"< n"),
+    }
+}
+
+// Passes the line of a constant.
+fn constant(alloc: Global, cursor: &mut Cursor, i: u32, width: u32) -> Result<Numbers, usize>
+    requires width { IsWidth width }
+    requires within { cursor.now.at ≤ length cursor.now.text }
+    ensures fit { IfOk result (λ numbers. FitSlots (lines.const_slots i width) numbers.items) }
+    ensures passed { IfOk result (λ numbers. Passed cursor.old cursor.new (line_text (lines.const_slots i width) (codes "\n") numbers.items)) }
+    ensures wrong { IfErr result (Misses (IsLine (lines.const_slots i width) (codes "\n")) cursor.old.text cursor.old.at) }
+{
+    let slots = [
+        target(i),
+        exactly(b"= ", width, b'\''),
+        Slot {
+            before: b"d",
+            low: 0,
+            high: greatest(width),
+            end: b';',
+        },
+    ];
+    line(alloc, cursor, &slots, b"\n")
+}
+
+// Passes the line of a complement.
+fn complement(alloc: Global, cursor: &mut Cursor, i: u32) -> Result<Numbers, usize>
+    requires within { cursor.now.at ≤ length cursor.now.text }
+    ensures fit { IfOk result (λ numbers. FitSlots (lines.not_slots i) numbers.items) }
+    ensures passed { IfOk result (λ numbers. Passed cursor.old cursor.new (line_text (lines.not_slots i) (codes "\n") numbers.items)) }
+    ensures wrong { IfErr result (Misses (IsLine (lines.not_slots i) (codes "\n")) cursor.old.text cursor.old.at) }
+{
+    let slots = [target(i), net_behind(b"= ~n", b';')];
+    line(alloc, cursor, &slots, b"\n")
+}
+
+// Passes the line of a gate of two nets, with this word before the second.
+fn binary(alloc: Global, cursor: &mut Cursor, i: u32, word: &[u8]) -> Result<Numbers, usize>
+    requires within { cursor.now.at ≤ length cursor.now.text }
+    ensures fit { IfOk result (λ numbers. FitSlots (lines.binary_slots i word.now) numbers.items) }
+    ensures passed { IfOk result (λ numbers. Passed cursor.old cursor.new (line_text (lines.binary_slots i word.now) (codes "\n") numbers.items)) }
+    ensures wrong { IfErr result (Misses (IsLine (lines.binary_slots i word.now) (codes "\n")) cursor.old.text cursor.old.at) }
+{
+    let slots = [target(i), net_behind(b"= n", b' '), net_behind(word, b';')];
+    line(alloc, cursor, &slots, b"\n")
+}
+
+// Passes the line of a choice between two nets.
+fn mux(alloc: Global, cursor: &mut Cursor, i: u32) -> Result<Numbers, usize>
+    requires within { cursor.now.at ≤ length cursor.now.text }
+    ensures fit { IfOk result (λ numbers. FitSlots (lines.mux_slots i) numbers.items) }
+    ensures passed { IfOk result (λ numbers. Passed cursor.old cursor.new (line_text (lines.mux_slots i) (codes "\n") numbers.items)) }
+    ensures wrong { IfErr result (Misses (IsLine (lines.mux_slots i) (codes "\n")) cursor.old.text cursor.old.at) }
+{
+    let slots = [
+        target(i),
+        net_behind(b"= n", b' '),
+        net_behind(b"? n", b' '),
+        net_behind(b": n", b';'),
+    ];
+    line(alloc, cursor, &slots, b"\n")
+}
+
+// Passes the line of a net that is let through.
+fn gated(alloc: Global, cursor: &mut Cursor, i: u32, width: u32) -> Result<Numbers, usize>
+    requires within { cursor.now.at ≤ length cursor.now.text }
+    ensures fit { IfOk result (λ numbers. FitSlots (lines.gate_slots i width) numbers.items) }
+    ensures passed { IfOk result (λ numbers. Passed cursor.old cursor.new (line_text (lines.gate_slots i width) (codes "d0;\n") numbers.items)) }
+    ensures wrong { IfErr result (Misses (IsLine (lines.gate_slots i width) (codes "d0;\n")) cursor.old.text cursor.old.at) }
+{
+    let slots = [
+        target(i),
+        net_behind(b"= n", b' '),
+        net_behind(b"? n", b' '),
+        exactly(b": ", width, b'\''),
+    ];
+    line(alloc, cursor, &slots, b"d0;\n")
+}
+
+// Passes the line of a register.
+fn register(alloc: Global, cursor: &mut Cursor, i: u32, width: u32) -> Result<Numbers, usize>
+    requires within { cursor.now.at ≤ length cursor.now.text }
+    ensures fit { IfOk result (λ numbers. FitSlots (lines.reg_slots i width) numbers.items) }
+    ensures passed { IfOk result (λ numbers. Passed cursor.old cursor.new (line_text (lines.reg_slots i width) (codes "\n") numbers.items)) }
+    ensures wrong { IfErr result (Misses (IsLine (lines.reg_slots i width) (codes "\n")) cursor.old.text cursor.old.at) }
+{
+    let slots = [
+        exactly(b"  always @(posedge clk) if (rst) n", i, b' '),
+        exactly(b"<= ", width, b'\''),
+        exactly(b"d0; else n", i, b' '),
+        net_behind(b"<= n", b';'),
+    ];
+    line(alloc, cursor, &slots, b"\n")
+}
+
+// The word for the net that a line assigns.
+fn target(i: u32) -> Slot<'static>
+    ensures { result ≡ lines.target_slot i }
+{
+    exactly(b"  assign n", i, b' ')
+}
+
+// A word and exactly this number.
+fn exactly(before: &[u8], n: u32, end: u8) -> Slot
+    ensures { result ≡ lines.exactly before.now n end }
+{
+    Slot {
+        before,
+        low: n,
+        high: n,
+        end,
+    }
+}
+
+// A word and the number of a net.
+fn net_behind(before: &[u8], end: u8) -> Slot
+    ensures { result ≡ lines.net_behind before.now end }
+{
+    Slot {
+        before,
+        low: 0,
+        high: u32::MAX,
+        end,
+    }
+}
+
+// The greatest number of so many bits.
+fn greatest(width: u32) -> u32
+    requires { IsWidth width }
+    ensures { result ≡ 2 ^ width - 1 }
+{
+    ((1u64 << width) - 1) as u32
+}
+
+// The gate of this kind with the numbers of its line.
+fn gate(kind: Kind, numbers: &[u32]) -> Gate
+    ensures { function_of result ≡ lines.made kind numbers.now }
+{
+    match (kind, numbers) {
+        (Kind::Const, [_, _, k, ..]) => Gate::Const(u64::from(*k)),
+        (Kind::Not, [_, a, ..]) => Gate::Not(NetId(*a)),
+        (Kind::And, [_, a, b, ..]) => Gate::And(NetId(*a), NetId(*b)),
+        (Kind::Or, [_, a, b, ..]) => Gate::Or(NetId(*a), NetId(*b)),
+        (Kind::Xor, [_, a, b, ..]) => Gate::Xor(NetId(*a), NetId(*b)),
+        (Kind::Mux, [_, s, a, b, ..]) => Gate::Mux(NetId(*s), NetId(*a), NetId(*b)),
+        (Kind::Add, [_, a, b, ..]) => Gate::Add(NetId(*a), NetId(*b)),
+        (Kind::Sub, [_, a, b, ..]) => Gate::Sub(NetId(*a), NetId(*b)),
+        (Kind::Eq, [_, a, b, ..]) => Gate::Eq(NetId(*a), NetId(*b)),
+        (Kind::Less, [_, a, b, ..]) => Gate::Less(NetId(*a), NetId(*b)),
+        (Kind::Gate, [_, s, a, ..]) => Gate::Gate(NetId(*s), NetId(*a)),
+        (Kind::Reg, [_, _, _, a, ..]) => Gate::Reg(NetId(*a)),
+        _ => Gate::Input,
+    }
+}

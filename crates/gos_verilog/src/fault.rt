@@ -1,0 +1,71 @@
+// Why a text is no Verilog text of a netlist.
+use crate::declared::further;
+use gos_types::NoMemory;
+use std::alloc::{AllocError, AllocFailed};
+use thiserror::Error;
+
+/// Why a text is refused as the Verilog text of a netlist. Places count bytes from 0.
+#[derive(Debug, Drop, Error)]
+pub enum VFault {
+    /// The text is that of no netlist. At `at` stands the byte at which it was found out, or the text ends there.
+    #[error("the Verilog is not of its form at {at}")]
+    Form { at: usize },
+    /// There was no memory left.
+    #[error("out of memory")]
+    NoMemory,
+}
+
+impl VFault {
+    /// The fault, whose place was counted from `at`.
+    pub(crate) fn behind(self, at: usize) -> VFault {
+        match self {
+            VFault::Form { at: place } => VFault::Form {
+                at: at.saturating_add(place),
+            },
+            VFault::NoMemory => VFault::NoMemory,
+        }
+    }
+
+    /// The fault, at this place where it was found out earlier.
+    pub(crate) fn not_before(self, at: usize) -> VFault {
+        match self {
+            VFault::Form { at: place } => VFault::Form {
+                at: further(at, place),
+            },
+            VFault::NoMemory => VFault::NoMemory,
+        }
+    }
+}
+
+impl From<NoMemory> for VFault {
+    ghost use Rattle.std.specs.Prelude.{◌≡◌};
+    ghost use Rattle.gos_verilog.specs.declared.fault.VFault.TheVariants.{NoMemory as OutOfMemory};
+
+    ghost from_gives = { λ _ e. e ≡ OutOfMemory };
+
+    fn from(_e: NoMemory) -> VFault {
+        VFault::NoMemory
+    }
+}
+
+impl From<AllocError> for VFault {
+    ghost use Rattle.std.specs.Prelude.{◌≡◌};
+    ghost use Rattle.gos_verilog.specs.declared.fault.VFault.TheVariants.{NoMemory as OutOfMemory};
+
+    ghost from_gives = { λ _ e. e ≡ OutOfMemory };
+
+    fn from(_e: AllocError) -> VFault {
+        VFault::NoMemory
+    }
+}
+
+impl<T: Drop> From<AllocFailed<T>> for VFault {
+    ghost use Rattle.std.specs.Prelude.{◌≡◌};
+    ghost use Rattle.gos_verilog.specs.declared.fault.VFault.TheVariants.{NoMemory as OutOfMemory};
+
+    ghost from_gives = { λ _ e. e ≡ OutOfMemory };
+
+    fn from(_e: AllocFailed<T>) -> VFault {
+        VFault::NoMemory
+    }
+}

@@ -1,0 +1,93 @@
+// The head of a module: the names of its ports' nets.
+ghost use Rattle.std.specs.Prelude.{◌≡◌, ◌≤◌, IfOk, OnOk, length};
+ghost use Rattle.std.specs.List.{prefix_len};
+ghost use Rattle.gos_lex.specs.Bytes.{continues_name};
+ghost use Rattle.gos_lex.specs.Items.{Misses, IsJust};
+ghost use Rattle.gos_netlist.specs.NetItems.{Passed};
+
+use crate::fault::VFault;
+use gos_lex::Cursor;
+use std::alloc::Global;
+
+/// Passes the head of a module, and gives the names of the nets of its ports.
+pub fn head<'a>(alloc: Global, text: &'a [u8], cursor: &mut Cursor) -> Result<Vec<&'a [u8]>, VFault>
+    requires { cursor.now.text ≡ text.now }
+    ensures text { cursor.new.text ≡ text.now }
+{
+    word(cursor, b"module gos_")?;
+    name(text, cursor)?;
+    word(cursor, b"(clk, rst")?;
+    let names = names(alloc, text, cursor)?;
+    word(cursor, b");\n")?;
+    Ok(names)
+}
+
+// Passes names, each behind a comma.
+fn names<'a>(alloc: Global, text: &'a [u8], cursor: &mut Cursor) -> Result<Vec<&'a [u8]>, VFault>
+    requires { cursor.now.text ≡ text.now }
+    ensures text { cursor.new.text ≡ text.now }
+{
+    let mut names = Vec::new(alloc);
+    // Each name takes a byte at least.
+    for _ in 0..text.len() {
+        if !is_at(text, cursor.at(), b',') {
+            return Ok(names);
+        }
+        word(cursor, b", ")?;
+        names.push(name(text, cursor)?)?;
+    }
+    Ok(names)
+}
+
+// Whether the byte stands at this place.
+fn is_at(text: &[u8], at: usize, byte: u8) -> bool {
+    match text.get(at) {
+        Some(found) => *found == byte,
+        None => false,
+    }
+}
+
+// Passes the bytes of names at the cursor, as many as there are.
+fn name<'a>(text: &'a [u8], cursor: &mut Cursor) -> Result<&'a [u8], VFault>
+    requires { cursor.now.text ≡ text.now }
+    ensures text { cursor.new.text ≡ text.now }
+    ensures forward { cursor.old.at ≤ cursor.new.at }
+{
+    let name = name_at(text, cursor.at());
+    word(cursor, name)?;
+    Ok(name)
+}
+
+/// The bytes of names at this place, as many as there are.
+pub fn name_at(text: &[u8], at: usize) -> &[u8]
+    requires { at ≤ length text.now }
+{
+    let rest = &text[at..];
+    &rest[..name_length(rest)]
+}
+
+// How many bytes at the front of the text a name may go on with.
+fn name_length(text: &[u8]) -> usize
+    ensures { result ≡ prefix_len continues_name text.now }
+{
+    text.iter().take_while(|b| continues_name(**b)).count()
+}
+
+// Whether a name may go on with the byte.
+fn continues_name(b: u8) -> bool
+    ensures { result ≡ continues_name b }
+{
+    b.is_ascii_alphabetic() || b == b'_' || b.is_ascii_digit()
+}
+
+/// Passes exactly these bytes.
+pub fn word(cursor: &mut Cursor, bytes: &[u8]) -> Result<(), VFault>
+    ensures text { cursor.new.text ≡ cursor.old.text }
+    ensures forward { cursor.old.at ≤ cursor.new.at }
+    ensures passed { IfOk result (λ _. Passed cursor.old cursor.new bytes.now) }
+{
+    match cursor.word(bytes) {
+        Ok(()) => Ok(()),
+        Err(at) => Err(VFault::Form { at }),
+    }
+}

@@ -1,0 +1,97 @@
+// Lines of words and numbers. `Err` is the place of the first byte that can't go on as the line, or the end of the text.
+ghost use Rattle.std.specs.Prelude.{◌≡◌, ◌≤◌, ℕ, false, IfOk, IfErr, length};
+ghost use Rattle.std.specs.Char.{is_ascii_digit};
+ghost use Rattle.std.specs.Fmt.{decimal};
+ghost use Rattle.gos_lex.specs.Items.{Misses};
+ghost use Rattle.gos_netlist.specs.NetItems.{Passed, IsTextOf, IsInRange, IsNumberText, ended};
+ghost use Rattle.gos_verilog.specs.inner.Runs.{IsRun, run_text};
+ghost use Rattle.gos_verilog.specs.inner.Slots.{IsSlot, IsRightSlot, AreSlots, FitSlots, slot_text, line_text, IsLine, Slot'};
+
+use gos_lex::Cursor;
+use smallvec::SmallVec;
+use std::alloc::Global;
+use std::marker::Model;
+
+/// A word, a number of a range, and the byte that ends it.
+#[derive(Debug, Drop)]
+pub struct Slot<'a> {
+    pub before: &'a [u8],
+    pub low: u32,
+    pub high: u32,
+    pub end: u8,
+}
+
+impl<'a> Model for Slot<'a> {
+    ghost use Rattle.gos_verilog.specs.inner.Slots.{Slot'};
+
+    ghost Value = { Slot' };
+
+    ghost view = { λ s. record { before = s.before.now; low = s.low; high = s.high; end = s.end } };
+}
+
+/// The numbers of a line: four at most.
+pub type Numbers = SmallVec<u32, 4>;
+
+/// Passes a line of these slots and this word behind them, and gives its numbers.
+pub fn line(
+    alloc: Global,
+    cursor: &mut Cursor,
+    slots: &[Slot],
+    tail: &[u8],
+) -> Result<Numbers, usize>
+    requires few { length slots.now ≤ 4 }
+    requires right { AreSlots slots.now }
+    requires within { cursor.now.at ≤ length cursor.now.text }
+    ensures count { IfOk result (λ numbers. length numbers.items ≡ length slots.now) }
+    ensures fit { IfOk result (λ numbers. FitSlots slots.now numbers.items) }
+    ensures passed { IfOk result (λ numbers. Passed cursor.old cursor.new (line_text slots.now tail.now numbers.items)) }
+    ensures wrong { IfErr result (Misses (IsLine slots.now tail.now) cursor.old.text cursor.old.at) }
+{
+    let numbers = slots_of(alloc, cursor, slots)?;
+    cursor.word(tail)?;
+    Ok(numbers)
+}
+
+// Passes slots.
+fn slots_of(alloc: Global, cursor: &mut Cursor, slots: &[Slot]) -> Result<Numbers, usize>
+    requires few { length slots.now ≤ 4 }
+    requires right { AreSlots slots.now }
+    requires within { cursor.now.at ≤ length cursor.now.text }
+    ensures count { IfOk result (λ numbers. length numbers.items ≡ length slots.now) }
+    ensures fit { IfOk result (λ numbers. FitSlots slots.now numbers.items) }
+    ensures passed { IfOk result (λ numbers. Passed cursor.old cursor.new (run_text Slot' ℕ slot_text slots.now numbers.items)) }
+    ensures wrong { IfErr result (Misses (IsRun Slot' ℕ IsSlot slot_text slots.now) cursor.old.text cursor.old.at) }
+{
+    let mut numbers = SmallVec::new(alloc);
+    for slot in slots {
+        let n = pass_slot(cursor, slot)?;
+        numbers.push_reserved(n);
+    }
+    Ok(numbers)
+}
+
+// Passes a slot.
+fn pass_slot(cursor: &mut Cursor, slot: &Slot) -> Result<u32, usize>
+    requires { IsRightSlot slot.now }
+    ensures range { IfOk result (IsSlot slot.now) }
+    ensures passed { IfOk result (λ n. Passed cursor.old cursor.new (slot_text slot.now n)) }
+    ensures wrong { IfErr result (Misses (IsTextOf ℕ (IsSlot slot.now) (slot_text slot.now)) cursor.old.text cursor.old.at) }
+{
+    cursor.word(slot.before)?;
+    let n = number(cursor, slot.low, slot.high, slot.end)?;
+    Ok(n)
+}
+
+/// Passes a number of the range, and the byte that ends it.
+pub fn number(cursor: &mut Cursor, low: u32, high: u32, end: u8) -> Result<u32, usize>
+    requires range { low ≤ high }
+    requires no_digit { is_ascii_digit end ≡ false }
+    ensures text { cursor.new.text ≡ cursor.old.text }
+    ensures range { IfOk result (IsInRange low high) }
+    ensures passed { IfOk result (λ n. Passed cursor.old cursor.new (ended end (decimal n))) }
+    ensures wrong { IfErr result (Misses (IsNumberText low high end) cursor.old.text cursor.old.at) }
+{
+    let n = cursor.number(low as u64, high as u64)?;
+    cursor.word(&[end])?;
+    Ok(n as u32)
+}
