@@ -1,3 +1,2 @@
-mod ImportLemmas
 mod CheckedLemmas
 mod CompiledLemmas
