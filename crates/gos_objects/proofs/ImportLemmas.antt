@@ -9,7 +9,7 @@ use Rattle.gos_types.specs.Types.{Type'}
 use Rattle.gos_syntax.specs.Items.{Item, item_of, items_of, reading_at}
 use Rattle.gos_syntax.specs.Grammar.{HasWord, TypeRule, Whole, Product, Base, IsType, a_product, a_function, a_base, a_pair, a_command, an_expression, a_variable, in_brackets}
 use Rattle.gos_syntax.specs.Modules.{SeenModule}
-use Rattle.gos_syntax.specs.ModuleTrees.{ImportTree, import_tree, module_tree}
+use Rattle.gos_syntax.specs.ModuleTrees.{ImportTree, import_tree}
 use Rattle.gos_syntax.specs.OpenTokens.{is_import, imports_before, IsExtraImport}
 use Rattle.gos_syntax.specs.ParsedModules.{AreImports, IsParsed}
 use Rattle.gos_syntax.proofs.NestingLemmas.{one_import_more}
