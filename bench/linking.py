@@ -10,14 +10,15 @@ The modules make a chain: each serves the next one's import. There are two sorts
     wide      each passes on a function whose argument has 31 handshakes, and uses it and its argument twice, so that
               the parts that share them have up to 96 handshakes
 
-The modules are compiled first. Then three builds are timed, each the best of five runs: `refused` is refused for the name
-of a port after all objects were read, which is the time to read them; `linked` is the whole command, which reads, links,
-lays out the circuit and writes the netlist and its Verilog text; and Icarus Verilog reads and elaborates that text. It
-prints a line for each sort.
+The modules are compiled first. Then two builds are timed, each the best of five runs: `refused` is refused since the last
+module serves none, after all objects were read, which is the time to read them; `linked` is the whole command, which reads,
+links, lays out the circuit and writes the netlist and its Verilog text. Icarus Verilog reads and elaborates that text once, for
+a minute at most. It prints a line for each sort.
 """
 
 import os
 import shutil
+import signal
 import subprocess
 import sys
 import tempfile
@@ -25,6 +26,8 @@ import time
 
 SIZES = [(128, 256)]
 RUNS = 5
+# How long Icarus Verilog may take, in seconds.
+LIMIT = 60
 HANDSHAKES = 31
 
 
@@ -65,24 +68,31 @@ def write(folder, name, text):
         file.write(text)
 
 
-def padded(gos, sort, first, last, weight, folder):
-    """The longest module of this weight at most: a command more weighs ten."""
-    write(folder, 'try.gos', sort(first, last, 0))
+def weight_of(gos, text, folder):
+    write(folder, 'try.gos', text)
     told = words([gos, 'check', 'try.gos'], folder)
     if told[:2] != ['ok', 'weight']:
-        sys.exit(f'{sort.__name__}: {" ".join(told)}')
-    return sort(first, last, max(0, (weight - int(told[2])) // 10))
+        sys.exit(' '.join(told))
+    return int(told[2])
+
+
+def padded(gos, sort, first, last, weight, folder):
+    """The longest module of this weight at most: a command more weighs ten."""
+    bare = weight_of(gos, sort(first, last, 0), folder)
+    return sort(first, last, max(0, (weight - bare) // 10))
 
 
 def make(gos, sort, modules, weight, folder):
     """The objects of a chain, and a build file without its root line and the files."""
-    texts = [padded(gos, sort, first, last, weight, folder) for first, last in ((True, False), (False, False), (False, True))]
+    first = padded(gos, sort, True, False, weight, folder)
+    each = (modules * weight - weight_of(gos, first, folder)) // (modules - 1)
+    texts = [first, padded(gos, sort, False, False, each, folder), padded(gos, sort, False, True, each, folder)]
     lines = ['gosbuild 1']
     for k in range(modules):
         write(folder, f'm{k}.gos', texts[0 if k == 0 else 2 if k == modules - 1 else 1])
         told = words([gos, 'compile', f'm{k}.gos', f'm{k}.obj'], folder)
         if told[:1] != ['ok']:
-            sys.exit(f'{sort.__name__}: {" ".join(told)}')
+            sys.exit(' '.join(told))
         lines.append(f'inst m{k} m{k}.gos m{k}.obj')
     return lines + [f'bind m{k} next m{k + 1}' for k in range(modules - 1)]
 
@@ -94,6 +104,18 @@ def best(command, folder):
         subprocess.run(command, cwd=folder, stdout=subprocess.DEVNULL, stderr=subprocess.DEVNULL)
         times.append(time.perf_counter() - start)
     return min(times)
+
+
+def icarus(folder):
+    start = time.perf_counter()
+    run = subprocess.Popen(['iverilog', '-t', 'null', 'out.v'], cwd=folder, start_new_session=True)
+    try:
+        run.wait(LIMIT)
+    except subprocess.TimeoutExpired:
+        os.killpg(run.pid, signal.SIGKILL)
+        run.wait()
+        return f'more than {LIMIT} s'
+    return f'{time.perf_counter() - start:6.2f} s'
 
 
 def measure(gos, sort, modules, weight, folder):
@@ -109,7 +131,7 @@ def measure(gos, sort, modules, weight, folder):
     line = f'{sort.__name__:7} {modules:4} modules {" ".join(told):16} {size / 1e6:6.2f} MB of objects {cells:8} cells'
     line += f' refused {refused:6.3f} s linked {linked:6.3f} s'
     if shutil.which('iverilog'):
-        line += f' icarus {best(["iverilog", "-t", "null", "out.v"], folder):6.2f} s'
+        line += f' icarus {icarus(folder)}'
     print(line)
 
 

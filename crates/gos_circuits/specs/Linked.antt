@@ -107,7 +107,8 @@ IsWholeCutShort old new b = (new ≡ old) ⊎ ((whole : Plan) × IsWhole old b w
 abbrev pub IsLinkCutShort : Option Files → Option Files → Word → Type 0
 IsLinkCutShort old new own = (new ≡ old) ⊎ ((b : Build) × IfSome old (λ files. SaysBuild files own b) × IsWholeCutShort old new b)
 
--- all files are as they were, or the build file says b, and all but the netlist and the Verilog text are that b names
+-- All files are as they were, or the build file says b, and all but the netlist and the Verilog text are that b names. What it says
+-- is one build (`IsOneBuild` of gos_link), so that b is any that it says.
 abbrev pub KeepsUnnamed : Word → Option Files → Option Files → Type 0
 KeepsUnnamed own old new =
     (new ≡ old) ⊎ ((b : Build) × IfSome old (λ files. SaysBuild files own b) × OthersSame (b.net ∷ b.verilog ∷ []) old new)

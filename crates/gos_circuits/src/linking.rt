@@ -1,6 +1,6 @@
 // The command `link BUILD`: the build file and the objects are read, and the circuit of the whole is written.
 
-ghost use Rattle.std.specs.Prelude.{◌≡◌, ◌≤◌, ◌∷◌, [], List, Some, None, IfOk, IfErr, IfSome, IsErrOf};
+ghost use Rattle.std.specs.Prelude.{◌≡◌, ◌≤◌, ◌∷◌, [], List, Some, None, length, IfOk, IfErr, IfSome, IsErrOf};
 ghost use Rattle.gos_outside.specs.FileName.{IsFileName};
 ghost use Rattle.gos_outside.specs.OtherFiles.{OthersSame};
 ghost use Rattle.gos_outside.specs.Faults.{Rose};
@@ -62,7 +62,9 @@ fn link_objects<S: Store>(
     build: &Build,
     store: &mut S,
 ) -> Result<Report, Stop>
-    requires { IsFileName own.now }
+    requires own { IsFileName own.now }
+    requires few_instances { length build.now.instances.items ≤ 65536 }
+    requires few_binds { length build.now.binds.items ≤ 65536 }
     ensures done { IfOk result (IsWholeDone (S.contents store.old) (S.contents store.new) build.now) }
     ensures rejected { IfErr result (λ stop. IfStopped stop (λ fault line.
         IfSome (S.contents store.old) (λ files. RejectsWhole files own.now build.now fault line))) }

@@ -6,6 +6,7 @@ ghost use Rattle.gos_outside.specs.Files.{bytes_at};
 ghost use Rattle.gos_outside.specs.Faults.{Rose, ReadFault};
 ghost use Rattle.gos_plan.specs.Seen.{plan_of};
 ghost use Rattle.gos_plan.specs.ObjectFaults.{IsRead};
+ghost use Rattle.gos_link.specs.Linked.{AllKeepLimits, KeepsLimits, plans_of};
 ghost use Rattle.gos_command.specs.Ends.{IfStopped, IsTold};
 ghost use Rattle.gos_circuits.specs.Objects.{HoldPlans, IsObjectFault, RejectsObject, IsObjectCall};
 
@@ -26,6 +27,7 @@ pub fn plans_in<S: Store>(
 ) -> Result<Vec<Plan>, Stop>
     ensures held { IfOk result (λ plans. IfSome (S.contents store.old) (λ files. HoldPlans files instances.now plans.items)) }
     ensures each { IfOk result (λ plans. length plans.items ≡ length instances.now) }
+    ensures limits { IfOk result (λ plans. AllKeepLimits (plans_of plans.items)) }
     ensures rejected { IfErr result (λ stop. IfStopped stop (λ fault line.
         IfSome (S.contents store.old) (λ files. RejectsObject files instances.now fault line))) }
     ensures told { IfErr result (λ stop. IfStopped stop IsTold) }
@@ -49,6 +51,7 @@ pub fn plans_in<S: Store>(
 fn plan_in<S: Store>(alloc: Global, object: &[u8], store: &mut S) -> Result<Plan, Stop>
     requires { IsFileName object.now }
     ensures read { IfOk result (λ plan. IfSome (S.contents store.old) (λ files. IsRead (bytes_at files object.now) (plan_of plan))) }
+    ensures limits { IfOk result (λ plan. KeepsLimits (plan_of plan)) }
     ensures rejected { IfErr result (λ stop. IfStopped stop (λ fault line.
         IfSome (S.contents store.old) (λ files. IsObjectFault files object.now fault line))) }
     ensures told { IfErr result (λ stop. IfStopped stop IsTold) }

@@ -1,14 +1,23 @@
 -- The joints of a plan that is right are at most half of its ends: no end stands in two of them.
-use Rattle.std.specs.Prelude.{◌≡◌, ℕ, zero, suc, ◌+◌, ◌*◌, ◌≤◌, ◌<◌, Bool, true, false, not, ◌&&◌, ◌||◌, List, [], ◌∷◌, ◌++◌, Option, Some, length, slice_get, if◌then◌else◌}
+use Rattle.std.specs.Prelude.{◌≡◌, ℕ, zero, suc, ◌+◌, ◌*◌, ◌≤◌, ◌<◌, Bool, true, false, not, ◌&&◌, ◌||◌, List, [], ◌∷◌, ◌++◌, Option, None, Some, length, slice_get, if◌then◌else◌}
 use Rattle.std.proofs.Common.{refl, ap, sym, ◌∙◌, subst, arith, true≢false, length-append}
+use Rattle.gos_types.specs.declared.shakes.Role.{Role}
+use Rattle.gos_types.specs.declared.shakes.Role.TheVariants.{Serve, Ask}
 use Rattle.gos_model.specs.Typing.{Imports}
 use Rattle.gos_check.proofs.TimesLemmas.{eq_true}
 use Rattle.gos_plan.specs.Kinds.{Part, Contact, asks, serves, contacts_of, part_contacts}
 use Rattle.gos_plan.specs.Plans.{End, PartEnd, ImportEnd, ResultEnd, Joint, Plan, contact_at, contacts_of_part, contacts_of_import, turned_if, same_end, is_free, AreRight, IsRight}
 use Rattle.gos_realises.specs.Regular.{count}
 use Rattle.gos_realises.specs.Slim.{all_shakes}
-use Rattle.gos_compile.proofs.JointLemmas.{ask_serve, role_or}
-use Rattle.gos_compile.proofs.RightLemmas.{same_tells}
+use Rattle.gos_plan.proofs.JointLemmas.{same_is}
+
+-- an end that asks is none that serves
+ask_serve : Ask ≡ Serve → ⊥
+ask_serve e = cc
+
+abbrev role_or : Option Contact → Role
+role_or None = Ask
+role_or (Some c) = c.role
 
 same_self : (e : End) → same_end e e ≡ true
 same_self (PartEnd i h) = rw (eq_true i i refl, eq_true h h refl) refl
@@ -41,7 +50,7 @@ without_one x (y ∷ ys) h = by (same_end y x) refl (without_one x ys) h
         → ((e : End) → appears e (y ∷ ys) ≡ (if same_end x e then 1 else 0) + appears e (if b then ys else y ∷ without x ys))
         × (length (y ∷ ys) ≡ suc (length (if b then ys else y ∷ without x ys)))
     by true t rest some =
-        let same : y ≡ x = same_tells y x t in
+        let same : y ≡ x = same_is y x t in
         ((λ e. ap (λ (z : End). (if same_end z e then 1 else 0) + appears e ys) same), refl)
     by false t rest some =
         let (counts, size) = rest (omega (arith, some)) in ((λ e. let one = counts e in omega (arith, one)), omega (arith, size))
@@ -104,7 +113,7 @@ fresh p before (j ∷ js) (((q, v, asks_there, serves_there), free_asking, free_
             absurd (true≢false (sym same ∙ other))
 
     turned : (x : End) → same_end x e ≡ true → same_end e x ≡ true
-    turned x h = let same : x ≡ e = same_tells x e h in ap (λ (y : End). same_end e y) same ∙ same_self e
+    turned x h = let same : x ≡ e = same_is x e h in ap (λ (y : End). same_end e y) same ∙ same_self e
 
     not_both : j.asking ≡ e → j.serving ≡ e → ⊥
     not_both one other =
@@ -116,10 +125,10 @@ fresh p before (j ∷ js) (((q, v, asks_there, serves_there), free_asking, free_
     by : (a b : Bool) → same_end j.asking e ≡ a → same_end j.serving e ≡ b → IsFresh p (j ∷ before) js e
         → ((if a then 1 else 0) + ((if b then 1 else 0) + appears e (ends_of js)) ≤ 1)
         × (0 < (if a then 1 else 0) + ((if b then 1 else 0) + appears e (ends_of js)) → (is_free e before ≡ true) × IsThere p e)
-    by true true s t known = absurd (not_both (same_tells j.asking e s) (same_tells j.serving e t))
+    by true true s t known = absurd (not_both (same_is j.asking e s) (same_is j.serving e t))
     by true false s t known =
         let none = gone (turned j.asking s) known in
-        let here : j.asking ≡ e = same_tells j.asking e s in (
+        let here : j.asking ≡ e = same_is j.asking e s in (
           omega (arith, none),
           λ h. (
             subst (λ (x : End). is_free x before ≡ true) here free_asking,
@@ -128,7 +137,7 @@ fresh p before (j ∷ js) (((q, v, asks_there, serves_there), free_asking, free_
         )
     by false true s t known =
         let none = gone_serving (turned j.serving t) known in
-        let here : j.serving ≡ e = same_tells j.serving e t in (
+        let here : j.serving ≡ e = same_is j.serving e t in (
           omega (arith, none),
           λ h. (
             subst (λ (x : End). is_free x before ≡ true) here free_serving,

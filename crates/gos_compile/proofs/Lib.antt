@@ -2,16 +2,10 @@ mod RowLemmas
 mod TableLemmas
 mod NodeLemmas
 mod WalkLemmas
-mod JoinLemmas
-mod FarLemmas
-mod CodeLemmas
-mod ContactLemmas
-mod JointLemmas
 mod PlanLemmas
 mod TallyLemmas
 mod ShakeLemmas
 mod ThinLemmas
-mod RightLemmas
 mod RangeLemmas
 mod SmallPlanLemmas
 mod KnownLemmas

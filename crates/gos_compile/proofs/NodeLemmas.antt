@@ -2,7 +2,6 @@
 use Rattle.std.specs.Prelude.{◌≤◌, List}
 use Rattle.std.proofs.Common.{arith}
 use Rattle.gos_types.specs.declared.types.Ty.{Ty}
-use Rattle.gos_types.specs.Types.{type_of}
 use Rattle.gos_check.specs.declared.linear.Split.{Split}
 use Rattle.gos_check.specs.declared.linear.Node.{Node}
 use Rattle.gos_check.specs.declared.linear.NodeForm.{NodeForm}

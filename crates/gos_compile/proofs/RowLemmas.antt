@@ -4,10 +4,11 @@ use Rattle.std.proofs.Common.{refl, ap, ◌∙◌, append_assoc, arith, length-a
 use Rattle.std.proofs.lemmas.List.{length-map}
 use Rattle.gos_types.specs.Types.{Type', Com, Exp, Var, Pair, Fun}
 use Rattle.gos_check.specs.Nodes.{argument_of}
-use Rattle.gos_compile.specs.declared.points.Place.{Place}
-use Rattle.gos_compile.specs.declared.points.Point.{Point}
+use Rattle.gos_ties.specs.declared.points.Place.{Place}
+use Rattle.gos_ties.specs.declared.points.Point.{Point}
 use Rattle.gos_realises.specs.Regular.{count}
-use Rattle.gos_compile.specs.Wiring.{point, row}
+use Rattle.gos_ties.specs.Ties.{point}
+use Rattle.gos_compile.specs.Wiring.{row}
 
 row_longer : (place : Place) (h n k : ℕ) → k ≡ h + n → row place h n ++ point place k ∷ [] ≡ row place h (suc n)
 row_longer place h zero k e = ap (λ (g : ℕ). point place g ∷ []) (let f : k ≡ h = omega (arith, e) in f)

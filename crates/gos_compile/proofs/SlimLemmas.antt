@@ -1,7 +1,7 @@
 -- The plan of a checked module is slim.
 --
 -- Read first: LoadLemmas, EndLemmas.
-use Rattle.std.specs.Prelude.{◌≡◌, ◌≤◌, List, [], ◌∷◌, ◌++◌, All, length, map, sum_by}
+use Rattle.std.specs.Prelude.{◌≡◌, ◌≤◌, List, [], ◌∷◌, ◌++◌, All, length, sum_by}
 use Rattle.std.proofs.Common.{refl, ap, sym, ◌∙◌, arith, length-append}
 use Rattle.std.proofs.lemmas.List.{length-map}
 use Rattle.std.proofs.lemmas.List.Elements.{All-nil, All-cons}
@@ -11,7 +11,6 @@ use Rattle.gos_syntax.specs.Modules.{SeenImport}
 use Rattle.gos_model.specs.Typing.{Imported, Imports}
 use Rattle.gos_model.specs.Weight as weights
 use Rattle.gos_model.specs.Laws.{NodeHasType}
-use Rattle.gos_model.specs.Sources.{import_of}
 use Rattle.gos_check.specs.Accepted.{AreWritten}
 use Rattle.gos_check.specs.Checked.{SeenLinear, IsChecked, program_in}
 use Rattle.gos_check.specs.Linearity.{import_at}
@@ -21,15 +20,13 @@ use Rattle.gos_plan.specs.Kinds.{Part, part_contacts, contacts_of, other_side}
 use Rattle.gos_plan.specs.Plans.{Plan}
 use Rattle.gos_realises.specs.Regular.{count}
 use Rattle.gos_realises.specs.Slim.{all_shakes, IsSlim}
-use Rattle.gos_compile.specs.Wiring.{type_of_node, all_parts, all_ties, IsPlanOf}
-use Rattle.gos_compile.specs.inner.Found.{ShakesBelow}
+use Rattle.gos_compile.specs.Wiring.{type_of_node, all_parts, IsPlanOf}
 use Rattle.gos_compile.specs.inner.Loads.{HasFewShakes}
 use Rattle.gos_compile.proofs.BoundLemmas.{same_count}
 use Rattle.gos_compile.proofs.EndLemmas.{imports_shakes, few_joints}
-use Rattle.gos_compile.proofs.LoadLemmas.{counters, few_ends}
+use Rattle.gos_compile.proofs.LoadLemmas.{few_ends}
 use Rattle.gos_compile.proofs.RangeLemmas.{node_typed}
 use Rattle.gos_compile.proofs.RowLemmas.{count_pair, count_fun}
-use Rattle.gos_compile.proofs.ShakeLemmas.{CountsBelow, module_below}
 
 -- each import has a handshake, which is in the weight
 some_shake : (t : Type') → 1 ≤ count t
@@ -102,14 +99,6 @@ few_parts l c p weight slim =
     let joints = slim.joints in
     let limit = c.light in
     (omega (arith, some, ends, limit, weight), omega (arith, joints, limit, weight))
-
--- the handshakes of all points in a module's ties
-small_imports : (is : List SeenImport) → AreWritten is → CountsBelow 65536 (map import_of is)
-small_imports [] h = tt
-small_imports (i ∷ is) (written, h) = let small = written.1 in let same = same_count (type_of i.ty) in (omega (arith, small, same), small_imports is h)
-
-pub shakes_small : (l : SeenLinear) → IsChecked l → ShakesBelow 65536 (all_ties (program_in l).imports (node_seen l.term))
-shakes_small l c = module_below 65536 (program_in l).imports (node_seen l.term) (small_imports l.imports c.imports) (counters l c)
 
 -- what the walk asks of the imports
 pub all_small : (is : List SeenImport) → AreWritten is → All HasFewShakes is

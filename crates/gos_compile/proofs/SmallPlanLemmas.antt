@@ -11,11 +11,12 @@ use Rattle.gos_types.specs.Types.{Com}
 use Rattle.gos_check.specs.Nodes.{Closed}
 use Rattle.gos_plan.specs.Kinds.{Contact, asks, serves}
 use Rattle.gos_plan.specs.Plans.{End, PartEnd, ImportEnd, ResultEnd, Joint, contact_at}
-use Rattle.gos_compile.specs.declared.points.Place.{Place}
-use Rattle.gos_compile.specs.declared.points.Place.TheVariants as places
-use Rattle.gos_compile.specs.declared.points.Point.{Point}
-use Rattle.gos_compile.specs.declared.points.Tie.{Tie}
-use Rattle.gos_compile.specs.Wiring.{point, at, Meet, Path, here, along, Connects, joint, Has, all_ties}
+use Rattle.gos_ties.specs.declared.points.Place.{Place}
+use Rattle.gos_ties.specs.declared.points.Place.TheVariants as places
+use Rattle.gos_ties.specs.declared.points.Point.{Point}
+use Rattle.gos_ties.specs.declared.points.Tie.{Tie}
+use Rattle.gos_ties.specs.Ties.{point, at, Meet, Path, here, along, Connects, joint, Has}
+use Rattle.gos_compile.specs.Wiring.{all_ties}
 use Rattle.gos_compile.specs.SmallPlans.{skip_plan, SkipIsPlanned, same_term, same_plan, SameIsPlanned, two_imports, both_term, both_plan, BothIsPlanned}
 
 -- an end that serves asks not, and the other way round

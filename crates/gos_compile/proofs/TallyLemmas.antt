@@ -5,13 +5,14 @@ use Rattle.gos_check.proofs.TimesLemmas.{number_cases, eq_false}
 use Rattle.gos_check.specs.declared.linear.Split.{Split}
 use Rattle.gos_check.specs.Nodes.{Numbered, Closed, Use, Under, One, Two, If, Binding, OfFun, OfNew, OneForm, OfFst, OfSnd, OfDeref, OfNot, TwoForm, OfApp, OfBoth, OfSeq, OfPar, OfWhile, OfAssign, OfBin, argument_of}
 use Rattle.gos_types.specs.Types.{Type'}
-use Rattle.gos_compile.specs.declared.points.Place.{Place}
-use Rattle.gos_compile.specs.declared.points.Place.TheVariants as places
-use Rattle.gos_compile.specs.declared.points.Point.{Point}
-use Rattle.gos_compile.specs.declared.points.Tie.{Tie}
+use Rattle.gos_ties.specs.declared.points.Place.{Place}
+use Rattle.gos_ties.specs.declared.points.Place.TheVariants as places
+use Rattle.gos_ties.specs.declared.points.Point.{Point}
+use Rattle.gos_ties.specs.declared.points.Tie.{Tie}
 use Rattle.gos_realises.specs.Regular.{count}
-use Rattle.gos_compile.specs.Wiring.{Types, point, row, led, share_ties, shares_ties, ties_of, parts_of, type_of_node, nodes, binder_part, binder_ties, binder_out, one_part, one_ties, one_out, two_part, two_ties, first_out, second_out}
-use Rattle.gos_compile.specs.inner.Counted.{place_once, once, meetings}
+use Rattle.gos_ties.specs.Ties.{point}
+use Rattle.gos_compile.specs.Wiring.{Types, row, led, share_ties, shares_ties, ties_of, parts_of, type_of_node, nodes, binder_part, binder_ties, binder_out, one_part, one_ties, one_out, two_part, two_ties, first_out, second_out}
+use Rattle.gos_ties.specs.Counted.{place_once, once, meetings}
 
 -- how often a point is in a list
 abbrev pub occurs : Point → List Point → ℕ

@@ -7,10 +7,10 @@ use Rattle.gos_check.specs.Nodes.{Numbered, Closed, Use, Under, One, Two, If}
 use Rattle.gos_plan.specs.declared.kinds.Kind.{Kind}
 use Rattle.gos_plan.specs.Kinds as kinds
 use Rattle.gos_plan.specs.Kinds.{Part}
-use Rattle.gos_compile.specs.declared.points.Point.{Point}
-use Rattle.gos_compile.specs.declared.points.Tie.{Tie}
+use Rattle.gos_ties.specs.declared.points.Point.{Point}
+use Rattle.gos_ties.specs.declared.points.Tie.{Tie}
 use Rattle.gos_model.specs.Typing.{Imports}
-use Rattle.gos_compile.specs.declared.points.Place.TheVariants as places
+use Rattle.gos_ties.specs.declared.points.Place.TheVariants as places
 use Rattle.gos_compile.specs.Wiring.{Types, row, type_of_node, import_ties, all_types, all_parts, all_ties, shares, shares_ties, share_ties, parts_of, ties_of, nodes}
 use Rattle.gos_realises.specs.Regular.{count}
 use Rattle.gos_compile.specs.inner.Walked.{Wired, is_plain, with_share, with_shares, wired}

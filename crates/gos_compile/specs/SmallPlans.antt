@@ -8,7 +8,8 @@ use Rattle.gos_model.specs.Typing.{Imported}
 use Rattle.gos_check.specs.Nodes.{Numbered, Closed, Use, Under, Two, OfFun, OfSeq}
 use Rattle.gos_plan.specs.Kinds.{Skip, Seq}
 use Rattle.gos_plan.specs.Plans.{PartEnd, ImportEnd, ResultEnd, Plan}
-use Rattle.gos_compile.specs.Wiring.{joint, IsPlanOf}
+use Rattle.gos_ties.specs.Ties.{joint}
+use Rattle.gos_compile.specs.Wiring.{IsPlanOf}
 
 -- the plan of `skip`
 abbrev pub skip_plan : Plan

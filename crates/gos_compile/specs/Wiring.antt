@@ -1,9 +1,9 @@
 -- The wiring of a typed term: which ends of its plan meet.
 --
--- Read first: Nodes and Linearity of gos_check; Plans of gos_plan. A handshake of a node leads to a point: an end of
+-- Read first: Nodes and Linearity of gos_check; Plans of gos_plan; Ties of gos_ties. A handshake of a node leads to a point: an end of
 -- the plan, or a handshake of a number or within a node, where two ties meet. There is a joint for each two ends that
--- a path of ties connects. `Place`, `Point` and `Tie` are those of points.rt.
-use Rattle.std.specs.Prelude.{◌≡◌, ◌↔◌, ℕ, zero, suc, ◌+◌, ◌-◌, List, [], ◌∷◌, ◌++◌, ◌⊎◌, length, take, drop, Some, nat_eq, if◌then◌else◌}
+-- a path of ties connects (`Connects`). `Place`, `Point` and `Tie` are those of gos_ties.
+use Rattle.std.specs.Prelude.{◌≡◌, ◌↔◌, ℕ, zero, suc, ◌+◌, ◌-◌, List, [], ◌∷◌, ◌++◌, length, take, drop, nat_eq, if◌then◌else◌}
 use Rattle.gos_types.specs.Types.{Type', Com, Exp}
 use Rattle.gos_model.specs.Terms as terms
 use Rattle.gos_model.specs.Terms.{Term}
@@ -13,31 +13,18 @@ use Rattle.gos_check.specs.Nodes.{Numbered, Closed, Use, Under, One, Two, If, Bi
 pub use Rattle.gos_check.specs.Nodes.{type_of_node}
 use Rattle.gos_plan.specs.Kinds as kinds
 use Rattle.gos_plan.specs.Kinds.{Part, asks, serves}
-use Rattle.gos_plan.specs.Plans.{End, PartEnd, ImportEnd, ResultEnd, Joint, Plan, contact_at, IsRight}
-use Rattle.gos_compile.specs.declared.points.Place.{Place}
-use Rattle.gos_compile.specs.declared.points.Place.TheVariants as places
-use Rattle.gos_compile.specs.declared.points.Point.{Point}
-use Rattle.gos_compile.specs.declared.points.Tie.{Tie}
+use Rattle.gos_plan.specs.Plans.{End, Plan, IsRight}
+use Rattle.gos_ties.specs.declared.points.Place.{Place}
+use Rattle.gos_ties.specs.declared.points.Place.TheVariants as places
+use Rattle.gos_ties.specs.declared.points.Point.{Point}
+use Rattle.gos_ties.specs.declared.points.Tie.{Tie}
+use Rattle.gos_ties.specs.Ties.{point, tie, Connects, joint, Has}
 use Rattle.gos_realises.specs.Regular.{count}
-
--- a point: a handshake of a place
-abbrev pub point : Place → ℕ → Point
-point place h = record { place = place; shake = h }
-
--- the point of an end
-abbrev pub at : End → Point
-at (PartEnd i h) = point (places.Part i) h
-at (ImportEnd i h) = point (places.Import i) h
-at (ResultEnd h) = point places.Result h
 
 -- n points of a place, from handshake h on
 abbrev pub row : Place → ℕ → ℕ → List Point
 row place h zero = []
 row place h (suc n) = point place h ∷ row place (suc h) n
-
--- two points that meet
-abbrev pub tie : Point → Point → Tie
-tie a b = record { one = a; other = b }
 
 -- points meet those of a place, from its handshake h on
 abbrev pub led : List Point → Place → ℕ → List Tie
@@ -221,29 +208,6 @@ all_parts is m = parts_of (all_types is m) m
 
 abbrev pub all_ties : Imports → Numbered → List Tie
 all_ties is m = import_ties 0 is ++ ties_of (all_types is m) 0 0 m (row places.Result 0 (count (type_of_node m)))
-
--- one of the ties is between these points, in either order
-abbrev pub Meet : List Tie → Point → Point → Type 0
-Meet [] a b = ⊥
-Meet (t ∷ ts) a b = (t ≡ tie a b) ⊎ (t ≡ tie b a) ⊎ Meet ts a b
-
--- a path of ties
-pub data Path (ts : List Tie) : Point → Point → Type 0 where
-  here : (a : Point) → Path ts a a
-  along : (a c b : Point) → Meet ts a c → Path ts c b → Path ts a b
-
--- in a plan the one end asks, the other serves, their bits are equal, and a path of ties connects them
-abbrev pub Connects : List Tie → Plan → End → End → Type 0
-Connects ts p a b =
-    (q : ℕ) × (v : ℕ) × (contact_at p a ≡ Some (asks q v)) × (contact_at p b ≡ Some (serves q v)) × Path ts (at a) (at b)
-
--- a joint of these ends is among the joints
-abbrev pub joint : End → End → Joint
-joint a b = record { asking = a; serving = b }
-
-abbrev pub Has : List Joint → Joint → Type 0
-Has [] j = ⊥
-Has (k ∷ ks) j = (k ≡ j) ⊎ Has ks j
 
 -- The plan of a module with these imports, this result, this weight and this term.
 pub record IsPlanOf (is : Imports) (t : Type') (w : ℕ) (m : Numbered) (p : Plan) : Type 0 where

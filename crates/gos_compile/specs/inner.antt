@@ -2,9 +2,5 @@
 -- files above it.
 pub mod Tables
 pub mod Walked
-pub mod Contacts
-pub mod Joined
-pub mod Found
-pub mod Counted
 pub mod Loads
 pub mod Named

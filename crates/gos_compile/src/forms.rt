@@ -6,14 +6,16 @@ ghost use Rattle.gos_plan.specs.Kinds as kinds;
 ghost use Rattle.gos_plan.specs.Seen.{part_of, operation_of};
 ghost use Rattle.gos_model.specs.Sources.{op_of};
 ghost use Rattle.gos_compile.specs.inner.Walked.{seen, is_plain, with_one_own, with_two_own, one_form, two_form};
-ghost use Rattle.gos_compile.specs.Wiring.{point, row, answer_bits, one_out, first_out, second_out};
+ghost use Rattle.gos_ties.specs.Ties.{point};
+ghost use Rattle.gos_compile.specs.Wiring.{row, answer_bits, one_out, first_out, second_out};
 ghost use Rattle.gos_realises.specs.Regular.{count};
 ghost use Rattle.gos_compile.specs.inner.Loads.{most, spent};
 
-use crate::points::{Place, Point, add_row, answer_bits, row, shakes};
+use crate::points::{add_row, answer_bits, row, shakes};
 use crate::wires::Wires;
 use gos_plan::{Kind, Op2};
 use gos_syntax::Op;
+use gos_ties::{Place, Point};
 use gos_types::{NoMemory, Ty};
 use std::alloc::Global;
 

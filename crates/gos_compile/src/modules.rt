@@ -13,12 +13,13 @@ ghost use Rattle.gos_realises.specs.Regular.{count};
 ghost use Rattle.gos_compile.specs.Wiring.{type_of_node, import_ties, all_parts, all_ties, all_types};
 ghost use Rattle.gos_compile.specs.inner.Loads.{load, most, HasFewShakes};
 
-use crate::points::{Place, Tie, lead_row, row, shakes};
+use crate::points::{lead_row, row, shakes};
 use crate::types::{import_list, set_types};
 use crate::walk::wire;
 use crate::wires::Wires;
 use gos_check::Node;
 use gos_syntax::Import;
+use gos_ties::{Place, Tie};
 use gos_types::NoMemory;
 use std::alloc::Global;
 

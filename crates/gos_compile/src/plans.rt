@@ -6,7 +6,6 @@ ghost use Rattle.gos_types.specs.Types.{type_of};
 ghost use Rattle.gos_model.specs.Sources as sources;
 ghost use Rattle.gos_check.specs.Checked.{program_in};
 ghost use Rattle.gos_check.specs.Nodes.{node_seen};
-ghost use Rattle.gos_plan.specs.declared.fault.ObjectFault.TheVariants as ObjectFault;
 ghost use Rattle.gos_plan.specs.ObjectFaults.{IsRead};
 ghost use Rattle.gos_plan.specs.ObjectText.{text_of};
 ghost use Rattle.gos_plan.specs.Seen as plans;
@@ -15,13 +14,13 @@ ghost use Rattle.gos_realises.specs.Slim.{IsSlim};
 ghost use Rattle.gos_compile.specs.Wiring.{IsPlanOf};
 ghost use Rattle.gos_compile.specs.inner.Named.{HaveNames};
 
-use crate::joints::{joints_of, tables_of};
 use crate::modules::wires_of;
 use gos_check::Linear;
 use gos_lex::Name;
 use gos_model::types_of_terms;
-use gos_plan::{ObjectFault, Plan, PlanImport, make};
+use gos_plan::{Plan, PlanImport};
 use gos_syntax::Import;
+use gos_ties::tied_plan;
 use gos_types::{NoMemory, copy};
 use std::alloc::Global;
 
@@ -38,38 +37,17 @@ pub fn compile(alloc: Global, program: &Linear) -> Result<Plan, NoMemory>
 {
     types_of_terms();
     let wires = wires_of(alloc, program.imports(), program.term())?;
-    let tables = tables_of(alloc, &wires.ties)?;
     let imports = plan_imports(alloc, program.imports())?;
     let outcome = copy(alloc, program.result())?;
-    let joints = joints_of(
-        alloc,
-        &imports,
-        &outcome,
-        &wires.parts,
-        &tables,
-        &wires.ties,
-    )?;
-    match make(
+    let plan = tied_plan(
         alloc,
         program.weight(),
         imports,
         outcome,
         wires.parts,
-        joints,
-    ) {
-        Ok(plan) => Ok(plan),
-        Err(fault) => Err(only_memory(fault)),
-    }
-}
-
-// A plan that is right is refused for want of memory alone.
-fn only_memory(fault: ObjectFault) -> NoMemory
-    requires { fault ≡ ObjectFault.NoMemory }
-{
-    match fault {
-        ObjectFault::NoMemory => NoMemory,
-        _ => unreachable!(),
-    }
+        &wires.ties,
+    )?;
+    Ok(plan)
 }
 
 // The imports of a plan.

@@ -6,32 +6,9 @@ ghost use Rattle.gos_realises.specs.Regular.{count};
 ghost use Rattle.gos_compile.specs.Wiring.{led, row, answer_bits};
 ghost use Rattle.gos_compile.specs.inner.Loads.{most};
 
+use gos_ties::{Place, Point, Tie};
 use gos_types::{NoMemory, Ty};
 use std::alloc::Global;
-
-/// What has handshakes: a part, an import or the result of the plan; a number of the term, or a node of it.
-#[derive(Debug, Clone, Copy, PartialEq, Eq)]
-pub enum Place {
-    Part(u32),
-    Import(u32),
-    Result,
-    Number(u32),
-    Node(u32),
-}
-
-/// A handshake of a place.
-#[derive(Debug, Clone, Copy, PartialEq, Eq)]
-pub struct Point {
-    pub place: Place,
-    pub shake: u32,
-}
-
-/// Two points that meet.
-#[derive(Debug, Clone, Copy, PartialEq, Eq)]
-pub struct Tie {
-    pub one: Point,
-    pub other: Point,
-}
 
 // Adds so many points of a place, from its first on.
 #[tactic(auto, using(crate::proofs::RowLemmas::row_more))]

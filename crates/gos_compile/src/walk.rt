@@ -14,11 +14,12 @@ ghost use Rattle.gos_compile.specs.inner.Walked.{seen, wired, with_binder, with_
 ghost use Rattle.gos_compile.specs.inner.Loads.{loaded, part_loaded, most, spent};
 
 use crate::forms::{OneRule, TwoRule, choice, front, one_point, rest};
-use crate::points::{Place, Point, answer_bits, shakes};
+use crate::points::{answer_bits, shakes};
 use crate::types::argument;
 use crate::wires::Wires;
 use gos_check::{Node, NodeForm};
 use gos_plan::Kind;
+use gos_ties::{Place, Point};
 use gos_types::{NoMemory, Ty};
 use std::alloc::Global;
 

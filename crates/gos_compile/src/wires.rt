@@ -8,10 +8,11 @@ ghost use Rattle.gos_compile.specs.inner.Walked.{seen, is_plain, next_part, with
 ghost use Rattle.gos_compile.specs.Wiring.{led, row, share_ties};
 ghost use Rattle.gos_compile.specs.inner.Loads.{most, spent, share_load, splits_load};
 
-use crate::points::{Place, Point, Tie, lead, lead_row, shakes};
+use crate::points::{lead, lead_row, shakes};
 use crate::types::type_at;
 use gos_check::Split;
 use gos_plan::Kind;
+use gos_ties::{Place, Point, Tie};
 use gos_types::{NoMemory, Ty};
 use std::alloc::Global;
 

@@ -19,6 +19,8 @@ use Rattle.gos_link.specs.declared.services.Service.{Service}
 use Rattle.gos_link.specs.Services.{BindsOn}
 use Rattle.gos_link.specs.Linked.{count_ports, plans_of, whole_of, IsLight}
 use Rattle.gos_link.specs.Answers.{all_joints, ArePlansOf, JointsAreFew}
+use Rattle.gos_link.specs.inner.Counts.{all_imports}
+use Rattle.gos_link.proofs.CountedLemmas.{few_left}
 use Rattle.gos_fits.specs.Fits.{AreSlim, LinkedIsSlim, SlimIsNeverTooLarge}
 
 -- handshakes are counted in one way
@@ -29,27 +31,6 @@ same_shakes (k ∷ ks) = let rest = same_shakes ks in omega (arith, rest)
 shakes-append : (ks ls : List Part) → all_shakes (ks ++ ls) ≡ all_shakes ks + all_shakes ls
 shakes-append [] ls = omega arith
 shakes-append (k ∷ ks) ls = let rest = shakes-append ks ls in omega (arith, rest)
-
--- the imports that stay are among all
-abbrev all_imports : List Plan → ℕ
-all_imports [] = 0
-all_imports (p ∷ ps) = length p.imports + all_imports ps
-
-few_left_in : (ls : List Link) (k i : ℕ) (xs : List Imported) → length (left_in ls k i xs) ≤ length xs
-few_left_in ls k i [] = omega arith
-few_left_in ls k i (x ∷ xs) = by (is_joined ls k i) refl (few_left_in ls k (suc i) xs)
-  where
-    by : (b : Bool) → is_joined ls k i ≡ b → length (left_in ls k (suc i) xs) ≤ length xs → length (left_in ls k i (x ∷ xs)) ≤ length (x ∷ xs)
-    by true e rest = rw e (omega (arith, rest))
-    by false e rest = rw e (omega (arith, rest))
-
-few_left : (ls : List Link) (k : ℕ) (ps : List Plan) → length (left_among ls k ps) ≤ all_imports ps
-few_left ls k [] = omega arith
-few_left ls k (p ∷ ps) =
-    let both = length-append (left_in ls k 0 p.imports) (left_among ls (suc k) ps) in
-    let one = few_left_in ls k 0 p.imports in
-    let rest = few_left ls (suc k) ps in
-    omega (arith, both, one, rest)
 
 -- what slim plans have together is little for their weight
 record AreFew (ps : List Plan) : Type 0 where

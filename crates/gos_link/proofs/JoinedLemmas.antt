@@ -8,7 +8,7 @@ use Rattle.gos_plan.specs.Plans.{End, PartEnd, ImportEnd, ResultEnd, Joint, Plan
 use Rattle.gos_plan.specs.Seen.{SeenPlan, plan_of, joint_of}
 use Rattle.gos_plan.specs.Joining.{all_parts, all_weight, all_left, origin, Path, Connects, contacts_of_result, IsJoining}
 use Rattle.gos_ties.specs.declared.points.Point.{Point}
-use Rattle.gos_ties.specs.Ties.{at, end_at, bare}
+use Rattle.gos_ties.specs.Ties.{at, end_at}
 use Rattle.gos_ties.specs.Ties as tied
 use Rattle.gos_link.specs.declared.services.Service.{Service}
 use Rattle.gos_link.specs.Linked.{outcome_of, wiring_of}
@@ -54,7 +54,7 @@ module _ (ps : List Plan) (ss : List Service) (root : ℕ) (known : AreJoinable 
   there_at r bears e c is = stands ps ss root known [] e c (sym (contact_same r bears e) ∙ is)
 
   pub is_joining : (s : SeenPlan) → Bears (plan_of s) → s.weight ≡ all_weight ps → IsRight (plan_of s)
-      → ((a b : End) → tied.Has (map joint_of s.joints) (tied.joint a b) ↔ tied.Connects (ties_from ss root 0 0 0 ps) (bare s.imports s.outcome s.parts) a b)
+      → ((a b : End) → tied.Has (map joint_of s.joints) (tied.joint a b) ↔ tied.Connects (ties_from ss root 0 0 0 ps) (plan_of s) a b)
       → IsJoining (wiring_of ps ss root) (plan_of s)
   is_joining s bears weight right_joints found =
       record {
@@ -70,11 +70,6 @@ module _ (ps : List Plan) (ss : List Service) (root : ℕ) (known : AreJoinable 
     where
       r : Plan
       r = plan_of s
-
-      bare_contact : (e : End) → contact_at (bare s.imports s.outcome s.parts) e ≡ contact_at r e
-      bare_contact (PartEnd i h) = refl
-      bare_contact (ImportEnd i h) = refl
-      bare_contact (ResultEnd h) = refl
 
       result : (h : ℕ) (c : Contact) → slice_get (contacts_of (outcome_of (slice_get ps root))) h ≡ Some c
           → slice_get (contacts_of_result (slice_get ps root)) (0 + h) ≡ Some c
@@ -95,15 +90,13 @@ module _ (ps : List Plan) (ss : List Service) (root : ℕ) (known : AreJoinable 
       forth : (a b : End) → Contains r.joints (record { asking = a; serving = b }) → Connects (wiring_of ps ss root) r a b
       forth a b has =
           let (q, v, asked, served, path) = (found a b).0 (in_has (map joint_of s.joints) (tied.joint a b) (in_contained (map joint_of s.joints) (tied.joint a b) has)) in
-          let at_a : contact_at r a ≡ Some (asks q v) = sym (bare_contact a) ∙ asked in
-          let at_b : contact_at r b ≡ Some (serves q v) = sym (bare_contact b) ∙ served in
-          let one = there_at r bears a (asks q v) at_a in
-          let other = there_at r bears b (serves q v) at_b in
+          let one = there_at r bears a (asks q v) asked in
+          let other = there_at r bears b (serves q v) served in
           let spots : tied.Path (ties_from ss root 0 0 0 ps) (spot_of ps ss root (origin (wiring_of ps ss root) a)) (spot_of ps ss root (origin (wiring_of ps ss root) b)) =
           subst (λ (p : Point). tied.Path (ties_from ss root 0 0 0 ps) p (spot_of ps ss root (origin (wiring_of ps ss root) b))) (sym one.spot)
           (subst (λ (p : Point). tied.Path (ties_from ss root 0 0 0 ps) (at a) p) (sym other.spot) path) in
           let (n, way) = tied_path ps ss root known right (origin (wiring_of ps ss root) a) (origin (wiring_of ps ss root) b) (asks q v, one.contact) (serves q v, other.contact) spots in
-          (q, v, n, at_a, at_b, way)
+          (q, v, n, asked, served, way)
 
       back : (a b : End) → Connects (wiring_of ps ss root) r a b → Contains r.joints (record { asking = a; serving = b })
       back a b (q, v, n, asked, served, way) =
@@ -114,4 +107,4 @@ module _ (ps : List Plan) (ss : List Service) (root : ℕ) (known : AreJoinable 
           subst (λ (p : Point). tied.Path (ties_from ss root 0 0 0 ps) p (at b)) one.spot
           (subst (λ (p : Point). tied.Path (ties_from ss root 0 0 0 ps) (spot_of ps ss root (origin (wiring_of ps ss root) a)) p) other.spot spots) in
           contains_in (map joint_of s.joints) (tied.joint a b)
-          (has_in (map joint_of s.joints) (tied.joint a b) ((found a b).1 (q, v, bare_contact a ∙ asked, bare_contact b ∙ served, path)))
+          (has_in (map joint_of s.joints) (tied.joint a b) ((found a b).1 (q, v, asked, served, path)))

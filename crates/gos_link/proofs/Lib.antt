@@ -21,3 +21,4 @@ mod WholeLemmas
 mod StageLemmas
 mod AnswerLemmas
 mod ReadingLemmas
+pub mod CountedLemmas

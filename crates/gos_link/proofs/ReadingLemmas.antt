@@ -1,13 +1,14 @@
 -- A text reads in one way: what a line says is one thing, and so is what lines say together, or the first wrong line.
-use Rattle.std.specs.Prelude.{◌≡◌, ◌≢◌, ℕ, List, [], ◌∷◌, ◌++◌, Option, Some, None}
-use Rattle.std.proofs.Common.{refl, sym, ◌∙◌, ap, subst, arith, inl, inr}
+use Rattle.std.specs.Prelude.{◌≡◌, ◌≢◌, ◌<◌, ◌≤◌, ◌+◌, ℕ, List, [], ◌∷◌, ◌++◌, Option, Some, None, length}
+use Rattle.std.proofs.Common.{refl, sym, ◌∙◌, ap, subst, arith, inl, inr, length-append}
 use Rattle.gos_lines.specs.Lines.{Word, Words, Statement, statements_of}
 use Rattle.gos_link.specs.declared.said.Role.{Role}
 use Rattle.gos_link.specs.declared.said.Role.TheVariants as roles
 use Rattle.gos_link.specs.declared.said.Said.{Said}
 use Rattle.gos_link.specs.declared.said.Said.TheVariants as says
 use Rattle.gos_link.specs.declared.said.Item.{Item}
-use Rattle.gos_link.specs.BuildFile.{keyword, words_said, ReadsOn, nothing, sum_of}
+use Rattle.gos_link.specs.declared.build.Build.{Build}
+use Rattle.gos_link.specs.BuildFile.{keyword, words_said, IsRightAfter, ReadsOn, Sum, nothing, sum_of, whole, with_said, IsBuildFile, IsWrongAt, IsFirstWrong}
 use Rattle.gos_link.specs.Answers.{IsOneBuild, HasOneWrongLine, BuildHasNoWrongLine}
 
 -- the first byte of the first word tells the sort of a line
@@ -174,3 +175,33 @@ has_one_wrong_line text own line last (inr (inl (short, (items, reads)))) (inr (
 has_one_wrong_line text own line last (inr (inr (short, items, reads, never, is))) (inr (inl (low, (others, read)))) =
     absurd (never_ends text own items others last reads read)
 has_one_wrong_line text own line last (inr (inr (short, items, reads, never, is))) (inr (inr (low, others, read, never_so, same))) = is ∙ sym same
+
+-- there are no more instances and bind lines than lines that say something
+one_said_more : (line : ℕ) (said : Said) (sum : Sum)
+    → (length (with_said line said sum).instances ≤ length sum.instances + 1) × (length (with_said line said sum).binds ≤ length sum.binds + 1)
+one_said_more line says.Version sum = (omega arith, omega arith)
+one_said_more line (says.Inst n s o) sum =
+    let more = length-append sum.instances (record { line = line; name = n; source = s; object = o } ∷ []) in (omega (arith, more), omega arith)
+one_said_more line (says.Bind u i g) sum =
+    let more = length-append sum.binds (record { line = line; user = u; import = i; giver = g } ∷ []) in (omega arith, omega (arith, more))
+one_said_more line (says.Root n) sum = (omega arith, omega arith)
+one_said_more line (says.File roles.Net n) sum = (omega arith, omega arith)
+one_said_more line (says.File roles.Verilog n) sum = (omega arith, omega arith)
+one_said_more line (says.File roles.Pulses n) sum = (omega arith, omega arith)
+one_said_more line (says.File roles.Trace n) sum = (omega arith, omega arith)
+
+few_said : (sum : Sum) (items : List Item)
+    → (length (sum_of sum items).instances ≤ length sum.instances + length items) × (length (sum_of sum items).binds ≤ length sum.binds + length items)
+few_said sum [] = (omega arith, omega arith)
+few_said sum (x ∷ items) =
+    let (instances, binds) = one_said_more x.line x.said sum in
+    let (more_instances, more_binds) = few_said (with_said x.line x.said sum) items in
+    (omega (arith, instances, more_instances), omega (arith, binds, more_binds))
+
+pub few_lines : (items : List Item) (b : Build) → sum_of nothing items ≡ whole b
+    → (length b.instances.items ≤ length items) × (length b.binds.items ≤ length items)
+few_lines items b is =
+    let (instances, binds) = few_said nothing items in
+    let one : length (sum_of nothing items).instances ≡ length b.instances.items = ap (λ (s : Sum). length s.instances) is in
+    let other : length (sum_of nothing items).binds ≡ length b.binds.items = ap (λ (s : Sum). length s.binds) is in
+    (omega (arith, one, instances), omega (arith, other, binds))

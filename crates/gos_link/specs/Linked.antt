@@ -8,6 +8,7 @@ use Rattle.gos_lines.specs.Lines.{Word}
 use Rattle.gos_model.specs.Typing.{Imported}
 use Rattle.gos_plan.specs.Plans.{ImportEnd, ResultEnd, Plan, contacts_of_import}
 use Rattle.gos_plan.specs.Seen.{SeenPlan, plan_of}
+use Rattle.gos_plan.specs.ObjectText.{IsSmallPlan}
 use Rattle.gos_plan.specs.Size.{plan_size}
 use Rattle.gos_plan.specs.Joining.{Link, place, Wiring, LeftImport, all_left, all_weight, IsJoining}
 use Rattle.gos_link.specs.declared.build.Instance.{Instance}
@@ -16,6 +17,15 @@ use Rattle.gos_link.specs.declared.services.Service.{Service}
 use Rattle.gos_link.specs.declared.fault.LinkFault.{LinkFault}
 use Rattle.gos_link.specs.declared.fault.LinkFault.TheVariants as faults
 use Rattle.gos_link.specs.Services.{instance_named, first_used, BindsOn}
+
+-- a plan within the limits of an object file
+pub record KeepsLimits (p : Plan) : Type 0 where
+  pub light : p.weight ≤ 8192
+  pub small : IsSmallPlan p
+
+abbrev pub AllKeepLimits : List Plan → Type 0
+AllKeepLimits [] = Unit {0}
+AllKeepLimits (p ∷ ps) = KeepsLimits p × AllKeepLimits ps
 
 -- the imports of a plan that there is, or of none
 abbrev pub imports_of : Option Plan → List Imported
@@ -54,6 +64,14 @@ plans_of ps = map plan_of ps
 
 abbrev pub whole_of : List SeenPlan → List Service → ℕ → Wiring
 whole_of ps ss root = wiring_of (plans_of ps) ss root
+
+-- What `link` takes: a plan for each instance, within the limits of an object file; and no more instances and bind lines than a
+-- build file has.
+pub record IsLinkable (b : Build) (ps : List SeenPlan) : Type 0 where
+  pub each : length ps ≡ length b.instances.items
+  pub limits : AllKeepLimits (plans_of ps)
+  pub few_instances : length b.instances.items ≤ 65536
+  pub few_binds : length b.binds.items ≤ 65536
 
 -- the instances that the imports which stay belong to, and their names: the ports besides the root's
 pub record Port : Type 0 where

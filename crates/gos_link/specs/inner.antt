@@ -5,3 +5,4 @@ pub mod Opens
 pub mod Ports
 pub mod Wired
 pub mod Judged
+pub mod Counts

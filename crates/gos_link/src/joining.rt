@@ -1,19 +1,20 @@
 // The joining of plans along services.
 
-ghost use Rattle.std.specs.Prelude.{◌≡◌, ◌++◌, All, map, IfOk, OnOk};
+ghost use Rattle.std.specs.Prelude.{◌≡◌, ◌<◌, ◌^◌, ◌++◌, All, map, IfOk, OnOk};
 ghost use Rattle.gos_types.specs.Types.{type_of};
 ghost use Rattle.gos_plan.specs.Seen.{part_of, import_of, plan_of};
 ghost use Rattle.gos_plan.specs.Ranges.{IsInRange, IsSmall};
 ghost use Rattle.gos_plan.specs.Joining.{IsJoining, all_parts, all_weight};
 ghost use Rattle.gos_link.specs.Linked.{whole_of};
 ghost use Rattle.gos_link.specs.inner.Opens.{open_seen};
+ghost use Rattle.gos_link.specs.inner.Counts.{AreCounted, IsCountable};
 ghost use Rattle.gos_link.specs.inner.Wired.{AreJoinable};
 
 use crate::opens::{Open, opens_of};
 use crate::services::{Service, copy_name};
 use crate::ties::ties_of;
-use gos_plan::{Kind, Plan, PlanImport, make};
-use gos_ties::tied_joints;
+use gos_plan::{Kind, Plan, PlanImport};
+use gos_ties::tied_plan;
 use gos_types::{NoMemory, Ty, copy};
 use std::alloc::Global;
 
@@ -86,18 +87,16 @@ fn imports_of(alloc: Global, opens: &[Open]) -> Result<Vec<PlanImport>, NoMemory
     Ok(imports)
 }
 
-// What all plans weigh. More than 64 bits count as want of memory.
-pub(crate) fn weight_of(plans: &[Plan]) -> Result<u64, NoMemory>
-    ensures { IfOk result (λ weight. weight ≡ all_weight (map plan_of plans.now)) }
+// What all plans weigh.
+pub(crate) fn weight_of(plans: &[Plan]) -> u64
+    requires { all_weight (map plan_of plans.now) < 2 ^ 32 }
+    ensures { result ≡ all_weight (map plan_of plans.now) }
 {
     let mut weight: u64 = 0;
     for plan in plans {
-        match weight.checked_add(plan.weight()) {
-            Some(sum) => weight = sum,
-            None => return Err(NoMemory),
-        }
+        weight += plan.weight();
     }
-    Ok(weight)
+    weight
 }
 
 // The type of a plan's result, which is in range as its parts are.
@@ -109,26 +108,24 @@ fn outcome_of(plan: &Plan) -> &Ty
     plan.result()
 }
 
-/// The joining of plans along services. `Err` is want of memory alone, or of 32 bits for the number of a part or an import.
+/// The joining of plans along services. `Err` is want of memory alone.
 pub(crate) fn join(
     alloc: Global,
     plans: &[Plan],
     services: &[Service],
     root: usize,
 ) -> Result<Plan, NoMemory>
-    requires { AreJoinable (map plan_of plans.now) services.now root }
-    ensures { IfOk result (λ plan. IsJoining (whole_of plans.now services.now root) (plan_of plan)) }
+    requires joinable { AreJoinable (map plan_of plans.now) services.now root }
+    requires counted { AreCounted (map plan_of plans.now) services.now }
+    ensures joining { IfOk result (λ plan. IsJoining (whole_of plans.now services.now root) (plan_of plan)) }
+    ensures countable { IfOk result (λ plan. IsCountable (plan_of plan)) }
 {
     let opens = opens_of(alloc, plans, services)?;
     let imports = imports_of(alloc, &opens)?;
     let outcome = copy(alloc, outcome_of(&plans[root]))?;
     let parts = parts_of(alloc, plans)?;
     let ties = ties_of(alloc, plans, services, root)?;
-    let joints = tied_joints(alloc, &imports, &outcome, &parts, &ties)?;
-    let weight = weight_of(plans)?;
-    match make(alloc, weight, imports, outcome, parts, joints) {
-        Ok(plan) => Ok(plan),
-        // The joints are right: only memory can be wanting.
-        Err(_) => Err(NoMemory),
-    }
+    let weight = weight_of(plans);
+    let plan = tied_plan(alloc, weight, imports, outcome, parts, &ties)?;
+    Ok(plan)
 }

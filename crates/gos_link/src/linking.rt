@@ -3,7 +3,8 @@
 ghost use Rattle.std.specs.Prelude.{◌≡◌, ◌≢◌, [], ℕ, List, None, length, map, IfOk, IfErr};
 ghost use Rattle.gos_plan.specs.Seen.{plan_of};
 ghost use Rattle.gos_link.specs.Services.{BindsOn};
-ghost use Rattle.gos_link.specs.Linked.{IsGrounded, IsLight, IsLinked, IsUnlinked, IsWrongWhole};
+ghost use Rattle.gos_link.specs.Linked.{IsGrounded, IsLight, IsLinkable, IsLinked, IsUnlinked, IsWrongWhole};
+ghost use Rattle.gos_link.specs.inner.Counts.{AreCounted};
 ghost use Rattle.gos_link.specs.inner.Judged.{IsJudged};
 ghost use Rattle.gos_link.specs.inner.Tops.{AreTops};
 ghost use Rattle.gos_link.specs.inner.Wired.{AreJoinable};
@@ -47,23 +48,25 @@ fn judge(
     requires plans { length plans.now ≡ length build.now.instances.items }
     requires binds { BindsOn build.now.instances.items plans.now [] build.now.binds.items services.now None }
     requires tops { (tops : List ℕ) × AreTops (length build.now.instances.items) services.now tops }
+    requires counted { AreCounted (map plan_of plans.now) services.now }
     ensures light { IfOk result (IsLight build.now plans.now services.now) }
     ensures joinable { IfOk result (AreJoinable (map plan_of plans.now) services.now) }
     ensures fault { IfErr result (λ fault. fault ≢ LinkFault.NoMemory → IsWrongWhole build.now plans.now services.now fault) }
 {
     let root = root_of(alloc, build, services)?;
     check_ports(alloc, build, plans, services, root)?;
-    check_weight(weight_of(plans)?)?;
+    check_weight(weight_of(plans))?;
     Ok(root)
 }
 
-/// Links the plans of a build's instances, which are given in their order.
+/// Links the plans of a build's instances, which are given in their order. They are within the limits of object files, and the
+/// build has no more lines than a build file. The error `NoMemory` is want of memory alone.
 ///
 /// The error is the first of these: for each bind line in order `NoInstance`, `NoImport`, `TypeDiffers`, `BoundTwice`,
 /// `UsedTwice`, `Loop`; then `NoInstance` of the root's line, `Unplaced`, `OpenTwice`, `NotGround`, `TooHeavy`, `TooLarge`. It is
 /// never `Form`.
 pub fn link(alloc: Global, build: &Build, plans: &[Plan]) -> Result<Plan, LinkFault>
-    requires { length plans.now ≡ length build.now.instances.items }
+    requires { IsLinkable build.now plans.now }
     ensures linked { IfOk result (λ plan. IsLinked build.now plans.now (plan_of plan)) }
     ensures fault { IfErr result (λ fault. fault ≢ LinkFault.NoMemory → IsUnlinked build.now plans.now fault) }
 {

@@ -1,6 +1,6 @@
 // The imports that no other instance serves.
 
-ghost use Rattle.std.specs.Prelude.{◌≡◌, ◌++◌, [], All, map, IfOk, OnOk};
+ghost use Rattle.std.specs.Prelude.{◌≡◌, ◌<◌, ◌++◌, [], All, length, map, IfOk, IfSome, OnOk};
 ghost use Rattle.gos_plan.specs.Ranges.{IsSmall};
 ghost use Rattle.gos_plan.specs.Seen.{import_of, plan_of};
 ghost use Rattle.gos_link.specs.inner.Opens.{if_open, open_seen, opens_in, opens_among, number_bound};
@@ -20,7 +20,8 @@ pub(crate) struct Open<'a> {
 
 // The number of the first service of an import.
 pub(crate) fn number_bound(services: &[Service], user: usize, import: usize) -> Option<usize>
-    ensures { result ≡ number_bound services.now user import }
+    ensures number { result ≡ number_bound services.now user import }
+    ensures within { IfSome result (λ t. t < length services.now) }
 {
     services
         .iter()

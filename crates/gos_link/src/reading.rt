@@ -1,6 +1,6 @@
 // The reader of build files.
 
-ghost use Rattle.std.specs.Prelude.{◌≡◌, ◌≢◌, ◌<◌, ◌+◌, ◌&&◌, ◌^◌, ◌↔◌, [], ℕ, Some, None, map, length, IfOk, IfErr, IsTrue, MatchOption};
+ghost use Rattle.std.specs.Prelude.{◌≡◌, ◌≢◌, ◌<◌, ◌≤◌, ◌+◌, ◌&&◌, ◌^◌, ◌↔◌, [], ℕ, Some, None, map, length, IfOk, IfErr, IsTrue, MatchOption};
 ghost use Rattle.std.specs.Str.Lines.{lines};
 ghost use Rattle.gos_lines.specs.Lines.{statements_from};
 ghost use Rattle.gos_link.specs.BuildFile.{
@@ -34,6 +34,8 @@ const MAX_TEXT: usize = 65_536;
 /// Reads the build file that stands in the file `own`. The error is `Form` with the first wrong line, or `NoMemory`.
 pub fn read_build(alloc: Global, text: &[u8], own: &[u8]) -> Result<Build, LinkFault>
     ensures read { IfOk result (IsBuildFile text.now own.now) }
+    ensures few_instances { IfOk result (λ build. length build.instances.items ≤ 65536) }
+    ensures few_binds { IfOk result (λ build. length build.binds.items ≤ 65536) }
     ensures fault { IfErr result (λ fault. fault ≢ LinkFault.NoMemory → (line : ℕ) × (fault ≡ LinkFault.Form line) × IsFirstWrong text.now own.now line) }
 {
     if text.len() > MAX_TEXT {
@@ -52,6 +54,7 @@ pub fn read_build(alloc: Global, text: &[u8], own: &[u8]) -> Result<Build, LinkF
 fn read_items(alloc: Global, text: &[u8], own: &[u8]) -> Result<Vec<Item>, LinkFault>
     requires { 1 + length text.now < 2 ^ 64 }
     ensures read { IfOk result (λ items. ReadsOn own.now [] (statements_from 1 (lines text.now)) items.items None) }
+    ensures few { IfOk result (λ items. length items.items ≤ length text.now) }
     ensures fault { IfErr result (λ fault. fault ≢ LinkFault.NoMemory → (line : ℕ) × (fault ≡ LinkFault.Form line)
         × IsWrongAt own.now (statements_from 1 (lines text.now)) line) }
 {

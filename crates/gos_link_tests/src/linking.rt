@@ -1,7 +1,11 @@
 // Builds that are linked, and builds that are not.
+
+ghost use Rattle.std.specs.Prelude.{IfOk, IfSome};
+ghost use Rattle.gos_link.specs.Linked.{AllKeepLimits, plans_of};
+
 use gos_lex::Name;
 use gos_link::{LinkFault, link, read_build};
-use gos_plan::{print_object, read_object};
+use gos_plan::{Plan, print_object, read_object};
 use gos_types::{Ty, print_ty};
 use std::alloc::{AllocError, Global};
 use std::test::Fail;
@@ -73,19 +77,29 @@ fn line_of(alloc: Global, fault: &LinkFault) -> Result<String, AllocError> {
     }
 }
 
+// The plans of objects, if they are some.
+fn plans_in(alloc: Global, objects: &[&str]) -> Result<Option<Vec<Plan>>, AllocError>
+    ensures { IfOk result (λ found. IfSome found (λ plans. AllKeepLimits (plans_of plans.items))) }
+{
+    let mut plans = Vec::new(alloc);
+    for object in objects {
+        match read_object(alloc, object.as_bytes()) {
+            Ok(plan) => plans.push(plan)?,
+            Err(_) => return Ok(None),
+        }
+    }
+    Ok(Some(plans))
+}
+
 // The fault line of a build of these lines whose objects are these, or the object of the linked plan.
 fn linked(alloc: Global, lines: &str, objects: &[&str]) -> Result<String, AllocError> {
     let build_text = format!(in alloc; "gosbuild 1\n{lines}{TAIL}")?;
     let Ok(build) = read_build(alloc, build_text.as_bytes(), b"b.txt") else {
         return format!(in alloc; "no build");
     };
-    let mut plans = Vec::new(alloc);
-    for object in objects {
-        match read_object(alloc, object.as_bytes()) {
-            Ok(plan) => plans.push(plan)?,
-            Err(_) => return format!(in alloc; "no object"),
-        }
-    }
+    let Some(plans) = plans_in(alloc, objects)? else {
+        return format!(in alloc; "no object");
+    };
     if plans.len() != build.instances.len() {
         return format!(in alloc; "other objects");
     }

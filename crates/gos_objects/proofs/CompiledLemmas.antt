@@ -1,17 +1,31 @@
 -- From the plan of a checked module to the object file of its source.
-use Rattle.std.proofs.Common.{◌≡◌, ◌∙◌, ℕ, List, Option, Some, None, ap, subst}
+use Rattle.std.proofs.Common.{◌≡◌, ◌∙◌, ◌≤◌, ℕ, List, Option, Some, None, ap, arith, length, map, subst, sym}
+use Rattle.std.proofs.lemmas.List.{length-map}
 use Rattle.std.specs.Prelude.{IfSome}
 use Rattle.gos_outside.specs.Files.{Files, bytes_at, with_file}
 use Rattle.gos_lines.specs.Lines.{Word}
 use Rattle.gos_types.specs.Types.{Type', type_of}
 use Rattle.gos_model.specs.Moves.{Program}
-use Rattle.gos_model.specs.Sources.{program_of}
+use Rattle.gos_model.specs.Sources.{import_of, program_of}
 use Rattle.gos_check.specs.Checked.{SeenLinear}
 use Rattle.gos_check.specs.Nodes.{node_seen}
+use Rattle.gos_plan.specs.ObjectFaults.{IsRead}
 use Rattle.gos_compile.specs.Wiring.{IsPlanOf}
 use Rattle.gos_command.specs.declared.report.Report.{Report}
 use Rattle.gos_objects.specs.Compiled.{IsObjectOf, IsCompiled}
 use Rattle.gos_objects.specs.inner.Typed.{IsTypedAs, IsPlanText}
+use Rattle.gos_objects.proofs.ImportLemmas.{few_imports}
+
+-- a checked module has the imports of the source's
+few : (text : List ℕ) (linear : SeenLinear) (typed : IsTypedAs text linear) → length linear.imports ≤ 64
+few text linear typed =
+    let m = typed.made in
+    let source = typed.says.source in
+    let limit = few_imports text source.tokens m source.parsed in
+    let same : length (map import_of linear.imports) ≡ length (map import_of m.imports) = ap (λ (p : Program). length p.imports) typed.program in
+    let one = length-map linear.imports import_of in
+    let other = length-map m.imports import_of in
+    omega (arith, limit, same, one, other)
 
 -- the text of the plan of a checked module is that of the source's module
 object_is : (source text : List ℕ) (linear : SeenLinear) (typed : IsTypedAs source linear) → IsPlanText linear text → IsObjectOf text typed.made
@@ -26,6 +40,8 @@ object_is source text linear typed plan =
       stands = typed.term;
       made = subst (λ (w : ℕ). IsPlanOf (program_of m).imports (type_of m.result) w term plan.plan) typed.weight of_type;
       is = plan.is;
+      slim = plan.slim;
+      read = subst (λ (t : List ℕ). IsRead t plan.plan) (sym plan.is) (plan.read_back (few source linear typed));
     }
 
 -- the object was written

@@ -1,2 +1,3 @@
+mod ImportLemmas
 mod CheckedLemmas
 mod CompiledLemmas

@@ -1,6 +1,7 @@
 -- The command `compile SRC OBJ`.
 --
--- Read first: Checked; Wiring of gos_compile (the plan of a module); ObjectText of gos_plan (its text).
+-- Read first: Checked; Wiring of gos_compile (the plan of a module); Slim of gos_realises; ObjectText and ObjectFaults of gos_plan (its
+-- text, and which texts are read).
 use Rattle.std.specs.Prelude.{◌≡◌, ◌⊎◌, ℕ, List, Option, Some, None, IfSome}
 use Rattle.gos_outside.specs.Files.{Files, bytes_at, with_file, SameBut}
 use Rattle.gos_outside.specs.Faults.{LastFault, ReadFault, WriteFault}
@@ -13,17 +14,22 @@ use Rattle.gos_check.specs.Nodes.{Numbered}
 use Rattle.gos_check.specs.Linearity.{StandsFor}
 use Rattle.gos_plan.specs.Plans.{Plan}
 use Rattle.gos_plan.specs.ObjectText.{text_of}
+use Rattle.gos_plan.specs.ObjectFaults.{IsRead}
+use Rattle.gos_realises.specs.Slim.{IsSlim}
 use Rattle.gos_compile.specs.Wiring.{IsPlanOf}
 use Rattle.gos_command.specs.declared.report.Report.{Report}
 use Rattle.gos_objects.specs.Checked.{SaysModule}
 
--- The text is that of the plan of a module: the parts and the joints are those of a typed term that stands for it.
+-- The text is that of the plan of a module: the parts and the joints are those of a typed term that stands for it. The plan is slim,
+-- and it is what the text is read as.
 pub record IsObjectOf (text : List ℕ) (m : SeenModule) : Type 0 where
   pub term : Numbered
   pub plan : Plan
   pub stands : StandsFor (program_of m) term
   pub made : IsPlanOf (program_of m).imports (type_of m.result) (weighed m) term plan
   pub is : text ≡ text_of plan
+  pub slim : IsSlim plan
+  pub read : IsRead text plan
 
 -- The source file says a module that is accepted, the text of its plan is written over the files before, and the report
 -- has its weight.

@@ -14,8 +14,8 @@ use Rattle.gos_ties.specs.declared.points.Tie.{Tie}
 use Rattle.gos_ties.specs.Ties.{at, point, Meet, Path, here, along, Connects, joint, Has}
 use Rattle.gos_ties.specs.inner.Joined.{touches, AreFar, far_at}
 use Rattle.gos_ties.specs.Ties.{end_of_place, end_at}
-use Rattle.gos_ties.specs.inner.Found.{code, bond_of, IsTied, ShakesBelow, asks_there, serves_there, do_fit, found_from, found, all_found, far_point, AreNumbered}
-use Rattle.gos_ties.proofs.CodeLemmas.{codes_tell, shakes_tied, path_leads, leads_path}
+use Rattle.gos_ties.specs.inner.Found.{code, bond_of, IsTied, asks_there, serves_there, do_fit, found_from, found, all_found, far_point, AreNumbered}
+use Rattle.gos_ties.proofs.CodeLemmas.{codes_tell, path_leads, leads_path}
 
 -- ends and their points
 place_tells : (place : Place) (h : ℕ) (e : End) → end_of_place place h ≡ Some e → point place h ≡ at e
@@ -141,56 +141,56 @@ not_both p a b q v one other e =
 fits_so : (q v : ℕ) → do_fit (Some (asks q v)) (Some (serves q v)) ≡ true
 fits_so q v = rw (eq_true q q refl, eq_true v v refl) refl
 
-pub joints_found : (stride : ℕ) (ts : List Tie) (far : List ℕ) (points : List Point) (p : Plan) → ShakesBelow stride ts
-    → AreFar (map (bond_of stride) ts) (far_at far) → AreNumbered stride ts points
-    → ((q : Point) (e : End) → IsTied ts q → end_at q ≡ Some e → touches (code stride q) (map (bond_of stride) ts) ≤ 1)
-    → (a b : End) → Has (all_found p (far_point stride far points) ts) (joint a b) ↔ Connects ts p a b
-joints_found stride ts far points p shakes ends numbered free a b = (sound, complete)
+pub joints_found : (ts : List Tie) (far : List ℕ) (points : List Point) (p : Plan) → AreNumbered points ts
+    → AreFar (map (bond_of points) ts) (far_at far)
+    → ((q : Point) (e : End) → IsTied ts q → end_at q ≡ Some e → touches (code points q) (map (bond_of points) ts) ≤ 1)
+    → (a b : End) → Has (all_found p (far_point far points) ts) (joint a b) ↔ Connects ts p a b
+joints_found ts far points p numbered ends free a b = (sound, complete)
   where
-    far_path : (q : Point) → IsTied ts q → Path ts q (far_point stride far points q)
+    far_path : (q : Point) → IsTied ts q → Path ts q (far_point far points q)
     far_path q tied =
-        let (c, is, tied_c, path) = leads_path stride ts shakes q tied (code stride q) (far_at far (code stride q)) refl (ends.reached (code stride q)) in
-        let there : far_point stride far points q ≡ c =
+        let (c, is, tied_c, path) = leads_path points ts numbered q tied (code points q) (far_at far (code points q)) refl (ends.reached (code points q)) in
+        let there : far_point far points q ≡ c =
         ap (λ (n : ℕ). unwrap_or (slice_get points n) q) is ∙ ap (λ (o : Option Point). unwrap_or o q) (numbered c tied_c)
         in
         subst (λ (r : Point). Path ts q r) (sym there) path
 
-    sound : Has (all_found p (far_point stride far points) ts) (joint a b) → Connects ts p a b
+    sound : Has (all_found p (far_point far points) ts) (joint a b) → Connects ts p a b
     sound h =
-        let (q, tied, found_here) = found_at p (far_point stride far points) ts (joint a b) h in
-        let (one, other, fits) = from_ends p (end_at q) (end_at (far_point stride far points q)) a b found_here in
+        let (q, tied, found_here) = found_at p (far_point far points) ts (joint a b) h in
+        let (one, other, fits) = from_ends p (end_at q) (end_at (far_point far points q)) a b found_here in
         let (n, v, asks_a, serves_b) = fit_tells (contact_at p a) (contact_at p b) fits in
         let at_a : q ≡ at a = end_tells q a one in
-        let at_b : far_point stride far points q ≡ at b = end_tells (far_point stride far points q) b other in (
+        let at_b : far_point far points q ≡ at b = end_tells (far_point far points q) b other in (
           n,
           v,
           asks_a,
           serves_b,
           subst (λ (r : Point). Path ts (at a) r) at_b
-              (subst (λ (r : Point). Path ts r (far_point stride far points q)) at_a (far_path q tied)),
+              (subst (λ (r : Point). Path ts r (far_point far points q)) at_a (far_path q tied)),
         )
 
-    complete : Connects ts p a b → Has (all_found p (far_point stride far points) ts) (joint a b)
+    complete : Connects ts p a b → Has (all_found p (far_point far points) ts) (joint a b)
     complete (n, v, asks_a, serves_b, path) =
         elim (path_ends ts (at a) (at b) path) [
           | inl e ↦ absurd (not_both p a b n v asks_a serves_b e)
           | inr tied ↦
               let free_a = free (at a) a tied.0 (at_end a) in
               let free_b = free (at b) b tied.1 (at_end b) in
-              let there : far_point stride far points (at a) ≡ at b =
-              elim (ends.only (code stride (at a)) (code stride (at b)) free_a free_b (path_leads stride ts (at a) (at b) path)) [
+              let there : far_point far points (at a) ≡ at b =
+              elim (ends.only (code points (at a)) (code points (at b)) free_a free_b (path_leads points ts (at a) (at b) path)) [
                 | inl e ↦
                     absurd
                     (not_both p a b n v asks_a serves_b
-                    (sym (codes_tell stride (at b) (at a) (shakes_tied stride ts shakes (at b) tied.1) (shakes_tied stride ts shakes (at a) tied.0) e)))
+                    (sym (codes_tell points (at b) (at a) (numbered (at b) tied.1) (numbered (at a) tied.0) e)))
                 | inr e ↦
                     ap (λ (k : ℕ). unwrap_or (slice_get points k) (at a)) (sym e) ∙ ap (λ (o : Option Point). unwrap_or o (at a)) (numbered (at b) tied.1)
               ]
               in
               let fits : do_fit (contact_at p a) (contact_at p b) ≡ true = rw (asks_a, serves_b) (fits_so n v) in
-              let one : found p (far_point stride far points) (at a) ≡ joint a b ∷ [] =
+              let one : found p (far_point far points) (at a) ≡ joint a b ∷ [] =
               rw (there, at_end a, at_end b, fits) refl
               in
-              all_at p (far_point stride far points) ts (joint a b) (at a) tied.0
+              all_at p (far_point far points) ts (joint a b) (at a) tied.0
               (subst (λ (js : List Joint). Has js (joint a b)) (sym one) (inl refl))
         ]

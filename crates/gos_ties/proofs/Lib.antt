@@ -2,8 +2,10 @@ mod NumberLemmas
 mod JoinLemmas
 mod FarLemmas
 mod CodeLemmas
+mod PointLemmas
 mod ContactLemmas
 mod JointLemmas
 mod PlanLemmas
 mod ThinLemmas
 mod RightLemmas
+mod FaultLemmas

@@ -2,15 +2,11 @@
 --
 -- Read first: JointLemmas, ThinLemmas. An end is in one tie, so that its joint is found once; and no two ends have one
 -- far end.
-use Rattle.std.specs.Prelude.{◌≡◌, ℕ, zero, suc, unwrap_or, ◌≤◌, ◌⊎◌, Bool, true, false, not, ◌&&◌, ◌||◌, IsTrue, List, [], ◌∷◌, ◌++◌, Option, Some, None, map, if◌then◌else◌, reverse, take, slice_get}
-use Rattle.std.proofs.Common.{refl, ap, sym, ◌∙◌, subst, arith, inl, inr, append_assoc}
+use Rattle.std.specs.Prelude.{◌≡◌, ℕ, ◌≤◌, ◌⊎◌, Bool, true, false, not, ◌&&◌, ◌||◌, IsTrue, List, [], ◌∷◌, ◌++◌, Option, Some, None, map, if◌then◌else◌}
+use Rattle.std.proofs.Common.{refl, ap, sym, ◌∙◌, subst, arith, inl, inr}
 use Rattle.std.proofs.lemmas.Bool.Decides.{nat_tests}
 use Rattle.gos_plan.specs.Kinds.{Contact, asks, serves}
-use Rattle.gos_plan.specs.Plans.{End, PartEnd, ImportEnd, ResultEnd, Joint, Plan, contact_at, same_end, is_free, Fits, IsRightAfter, AreRight, IsRight}
-use Rattle.std.proofs.lemmas.List.{append-nil, reverse-append}
-use Rattle.gos_plan.specs.declared.fault.ObjectFault.{ObjectFault}
-use Rattle.gos_plan.specs.declared.fault.ObjectFault.TheVariants as faults
-use Rattle.gos_plan.specs.Faults.{IsFirstWrong, IsFault}
+use Rattle.gos_plan.specs.Plans.{End, PartEnd, ImportEnd, ResultEnd, Joint, Plan, contact_at, same_end, is_free, Fits, AreRight, IsRight}
 use Rattle.gos_plan.specs.Seen.{SeenPlan, joint_of, plan_of}
 use Rattle.gos_ties.specs.declared.points.Point.{Point}
 use Rattle.gos_ties.specs.declared.points.Tie.{Tie}
@@ -20,7 +16,7 @@ use Rattle.gos_ties.specs.inner.Joined.{far_at}
 use Rattle.gos_ties.specs.Ties.{end_at, bare}
 use Rattle.gos_ties.specs.inner.Found.{code, IsTied, do_fit, found_from, found, all_found, far_by, AreTables}
 use Rattle.gos_ties.specs.Counted.{once, meetings, IsThin}
-use Rattle.gos_ties.proofs.CodeLemmas.{codes_tell, shakes_tied, path_leads}
+use Rattle.gos_ties.proofs.CodeLemmas.{codes_tell, path_leads}
 use Rattle.gos_ties.proofs.JointLemmas.{end_tells, at_end, from_ends, all_at, ask_serve, role_or, not_both, path_ends, joints_found}
 use Rattle.gos_ties.proofs.PlanLemmas.{bare_connects}
 use Rattle.gos_ties.proofs.ThinLemmas.{occurs, same_once}
@@ -185,8 +181,7 @@ apart_ends ts t p tables a b c one other =
     let tied_a = (tied_ends a n v asks_a serves_b path).0 in
     let tied_c = (tied_ends c m w asks_c serves_b' way).0 in
     let same : at a ≡ at c =
-    codes_tell t.stride (at a) (at c) (shakes_tied t.stride ts tables.shakes (at a) tied_a) (shakes_tied t.stride ts tables.shakes (at c) tied_c)
-    (at_one ∙ sym at_other)
+    codes_tell t.numbers.points.keys (at a) (at c) (tables.numbered (at a) tied_a) (tables.numbered (at c) tied_c) (at_one ∙ sym at_other)
     in
     some_one a c (sym (at_end a) ∙ (ap (λ (x : Point). end_at x) same ∙ at_end c))
   where
@@ -198,17 +193,16 @@ apart_ends ts t p tables a b c one other =
     tied_ends x q v asks_x serves_b path = elim (path_ends ts (at x) (at b) path) [ inl e ↦ absurd (not_both p x b q v asks_x serves_b e) | inr tied ↦ tied ]
 
     far_end : (x : End) (q v : ℕ) → contact_at p x ≡ Some (asks q v) → contact_at p b ≡ Some (serves q v) → Path ts (at x) (at b)
-        → code t.stride (at x) ≡ far_at t.far.items (code t.stride (at b))
+        → code t.numbers.points.keys (at x) ≡ far_at t.far.items (code t.numbers.points.keys (at b))
     far_end x q v asks_x serves_b path =
         let (tied_x, tied_b) = tied_ends x q v asks_x serves_b path in
         elim
-        (tables.far.only (code t.stride (at b)) (code t.stride (at x)) (tables.free (at b) b tied_b (at_end b)) (tables.free (at x) x tied_x (at_end x))
-        (path_leads t.stride ts (at b) (at x) (path_back ts (at x) (at b) path))) [
+        (tables.far.only (code t.numbers.points.keys (at b)) (code t.numbers.points.keys (at x)) (tables.free (at b) b tied_b (at_end b)) (tables.free (at x) x tied_x (at_end x))
+        (path_leads t.numbers.points.keys ts (at b) (at x) (path_back ts (at x) (at b) path))) [
           | inl e ↦
               absurd
               (not_both p x b q v asks_x serves_b
-              (codes_tell t.stride (at x) (at b) (shakes_tied t.stride ts tables.shakes (at x) tied_x) (shakes_tied t.stride ts tables.shakes (at b) tied_b)
-              e))
+              (codes_tell t.numbers.points.keys (at x) (at b) (tables.numbered (at x) tied_x) (tables.numbered (at b) tied_b) e))
           | inr e ↦ e
         ]
 
@@ -218,31 +212,9 @@ right_joints s ts t thin tables is =
     let p : Plan = bare s.imports s.outcome s.parts in
     let sound : (q : Point) (a b : End) → IsTied ts q → Has (found p (far_by t) q) (joint a b) → Connects ts (plan_of s) a b =
     (λ q a b tied h. bare_connects s ts a b
-    ((joints_found t.stride ts t.far.items t.points.items p tables.shakes tables.far tables.numbered tables.free a b).0
+    ((joints_found ts t.far.items t.numbers.points.keys p tables.numbered tables.far tables.free a b).0
     (all_at p (far_by t) ts (joint a b) q tied h)))
     in
     subst (λ (js : List Joint). AreRight (plan_of s) [] js) (sym (is ∙ all_at_points p (far_by t) ts))
     (right_points ts p (plan_of s) (far_by t) sound (apart_ends ts t (plan_of s) tables) (points ts) (each_tied ts)
     (λ a. let all = points_occur (at a) ts in let few = thin.ends (at a) a (at_end a) in omega (arith, all, few)) [] (λ k i. absurd i))
-
--- a plan that is right has no first joint that is wrong
-right_at : (p : Plan) (before js : List Joint) (i : ℕ) (j : Joint) → AreRight p before js → slice_get js i ≡ Some j
-    → IsRightAfter p (reverse (take i js) ++ before) j
-right_at p before [] i j h is = cc
-right_at p before (k ∷ js) zero j (h, rest) is = subst (λ (o : Option Joint). IsRightAfter p before (unwrap_or o k)) is h
-right_at p before (k ∷ js) (suc i) j (h, rest) is =
-    let turned : reverse (k ∷ take i js) ++ before ≡ reverse (take i js) ++ k ∷ before =
-    ap (λ (b : List Joint). b ++ before) (reverse-append (k ∷ []) (take i js)) ∙ append_assoc (reverse (take i js)) (k ∷ []) before in
-    subst (λ (b : List Joint). IsRightAfter p b j) (sym turned) (right_at p (k ∷ before) js i j rest is)
-
-none_wrong : (p : Plan) (i : ℕ) → IsRight p → IsFirstWrong p i → ⊥
-none_wrong p i right wrong =
-    wrong.wrong
-    (subst (λ (ks : List Joint). IsRightAfter p ks wrong.joint) (append-nil (reverse (take i p.joints)))
-    (right_at p [] p.joints i wrong.joint right wrong.stands))
-
-pub no_fault : (s : SeenPlan) (e : ObjectFault) → IsRight (plan_of s) → IsFault s e → e ≡ faults.NoMemory
-no_fault s (faults.Form at) right fault = absurd fault
-no_fault s (faults.Joint index) right fault = absurd (none_wrong (plan_of s) index right fault)
-no_fault s (faults.Limit at) right fault = absurd fault
-no_fault s faults.NoMemory right fault = refl

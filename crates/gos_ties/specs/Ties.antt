@@ -2,7 +2,7 @@
 --
 -- Read first: Plans of gos_plan. A point is an end of a plan, or lies inside, where two ties may meet. There is a joint for
 -- each two ends that a path of ties connects. `Place`, `Point` and `Tie` are those of points.rt.
-use Rattle.std.specs.Prelude.{◌≡◌, ◌↔◌, ℕ, List, [], ◌∷◌, ◌⊎◌, Option, Some, None}
+use Rattle.std.specs.Prelude.{◌≡◌, ℕ, List, [], ◌∷◌, ◌⊎◌, Option, Some, None}
 use Rattle.gos_types.specs.declared.types.Ty.{Ty}
 use Rattle.gos_plan.specs.declared.kinds.Kind.{Kind}
 use Rattle.gos_plan.specs.declared.plan.PlanImport.{PlanImport}

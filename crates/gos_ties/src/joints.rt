@@ -15,18 +15,17 @@ ghost use Rattle.gos_ties.specs.inner.Found.{AreTables, do_fit, far_by, found, a
 
 use crate::contacts::contact_at;
 use crate::joining::far_ends;
-use crate::numbers::{bonds_of, end_at, far_point, points_of, size_of, stride_of};
+use crate::numbers::{Numbers, bonds_of, count, end_at, far_point, numbers_of};
 use crate::points::{Point, Tie};
 use gos_plan::{Contact, Joint, Kind, PlanImport};
 use gos_types::{NoMemory, Role, Ty};
 use std::alloc::Global;
 
-// The far numbers of points, and the points by number.
+// The numbers of points, and the far number of each.
 #[derive(Drop)]
 pub(crate) struct Tables {
-    pub stride: usize,
+    pub numbers: Numbers,
     pub far: Vec<usize>,
-    pub points: Vec<Point>,
 }
 
 // The tables of ties.
@@ -34,16 +33,10 @@ fn tables_of(alloc: Global, ties: &[Tie]) -> Result<Tables, NoMemory>
     requires { IsThin ties.now }
     ensures { IfOk result (AreTables ties.now) }
 {
-    let stride = stride_of(ties)?;
-    let bonds = bonds_of(alloc, stride, ties)?;
-    let size = size_of(&bonds)?;
-    let far = far_ends(alloc, size, &bonds)?;
-    let points = points_of(alloc, stride, ties)?;
-    Ok(Tables {
-        stride,
-        far,
-        points,
-    })
+    let numbers = numbers_of(alloc, ties)?;
+    let bonds = bonds_of(alloc, &numbers, ties)?;
+    let far = far_ends(alloc, count(&numbers), &bonds)?;
+    Ok(Tables { numbers, far })
 }
 
 // Whether the one handshake asks, the other serves, and their bits are equal.
@@ -72,7 +65,7 @@ fn found(
 ) -> Result<Option<Joint>, NoMemory>
     ensures { IfOk result (λ joint. joints_seen joint ≡ found (bare imports.now outcome.now parts.now) (far_by tables.now) point) }
 {
-    let far = far_point(tables.stride, &tables.far, &tables.points, point)?;
+    let far = far_point(&tables.far, &tables.numbers, point);
     match (end_at(point), end_at(far)) {
         (Some(asks), Some(serves)) => {
             let one = contact_at(alloc, imports, outcome, parts, asks)?;
@@ -135,7 +128,7 @@ fn joints_of(
 
 /// The joints that ties make in a plan of these imports, this result and these parts: one for each two ends that a path of
 /// ties connects, of which the one asks and the other serves. They are right. `Err` is want of memory alone.
-pub fn tied_joints(
+pub(crate) fn tied_joints(
     alloc: Global,
     imports: &[PlanImport],
     outcome: &Ty,

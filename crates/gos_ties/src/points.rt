@@ -1,7 +1,7 @@
 // Points, and what is tied to what.
 
 /// What has handshakes: a part, an import or the result of a plan; or a place inside, of either of two sorts.
-#[derive(Debug, Clone, Copy, PartialEq, Eq)]
+#[derive(Debug, Clone, Copy, PartialEq, Eq, Hash)]
 pub enum Place {
     Part(u32),
     Import(u32),
@@ -11,7 +11,7 @@ pub enum Place {
 }
 
 /// A handshake of a place.
-#[derive(Debug, Clone, Copy, PartialEq, Eq)]
+#[derive(Debug, Clone, Copy, PartialEq, Eq, Hash)]
 pub struct Point {
     pub place: Place,
     pub shake: u32,

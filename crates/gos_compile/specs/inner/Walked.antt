@@ -15,9 +15,9 @@ use Rattle.gos_plan.specs.Kinds.{Part}
 use Rattle.gos_plan.specs.declared.kinds.Kind.{Kind}
 use Rattle.gos_plan.specs.declared.kinds.Kind.TheVariants as declared_kinds
 use Rattle.gos_plan.specs.Seen.{part_of}
-use Rattle.gos_compile.specs.declared.points.Place.TheVariants as places
-use Rattle.gos_compile.specs.declared.points.Point.{Point}
-use Rattle.gos_compile.specs.declared.points.Tie.{Tie}
+use Rattle.gos_ties.specs.declared.points.Place.TheVariants as places
+use Rattle.gos_ties.specs.declared.points.Point.{Point}
+use Rattle.gos_ties.specs.declared.points.Tie.{Tie}
 use Rattle.gos_compile.specs.declared.wires.Wires.{Wires}
 use Rattle.gos_compile.specs.declared.forms.OneRule.{OneRule}
 use Rattle.gos_compile.specs.declared.forms.OneRule.TheVariants as one
@@ -25,7 +25,8 @@ use Rattle.gos_compile.specs.declared.forms.TwoRule.{TwoRule}
 use Rattle.gos_compile.specs.declared.forms.TwoRule.TheVariants as two
 use Rattle.gos_realises.specs.Regular.{count}
 use Rattle.gos_compile.specs.inner.Tables.{types_at}
-use Rattle.gos_compile.specs.Wiring.{Types, point, led, share_ties, type_of_node, answer_bits, closed_part, binder_part, one_part, two_part, binder_ties, one_ties, two_ties, binder_out, one_out, first_out, second_out}
+use Rattle.gos_ties.specs.Ties.{point}
+use Rattle.gos_compile.specs.Wiring.{Types, led, share_ties, type_of_node, answer_bits, closed_part, binder_part, one_part, two_part, binder_ties, one_ties, two_ties, binder_out, one_out, first_out, second_out}
 
 -- the parts and the ties so far, how many nodes were met, and whether each sequence and each choice of expressions has bits
 pub record Wired : Type 0 where

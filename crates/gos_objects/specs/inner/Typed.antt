@@ -1,5 +1,5 @@
 -- What is known of the module of a source that was checked, and of the text of its plan.
-use Rattle.std.specs.Prelude.{◌≡◌, ℕ, List}
+use Rattle.std.specs.Prelude.{◌≡◌, ◌≤◌, ℕ, List, length}
 use Rattle.gos_types.specs.Types.{type_of}
 use Rattle.gos_syntax.specs.Modules.{SeenModule}
 use Rattle.gos_model.specs.Sources.{program_of}
@@ -9,6 +9,8 @@ use Rattle.gos_check.specs.Nodes.{node_seen}
 use Rattle.gos_check.specs.Linearity.{StandsFor}
 use Rattle.gos_plan.specs.Plans.{Plan}
 use Rattle.gos_plan.specs.ObjectText.{text_of}
+use Rattle.gos_plan.specs.ObjectFaults.{IsRead}
+use Rattle.gos_realises.specs.Slim.{IsSlim}
 use Rattle.gos_compile.specs.Wiring.{IsPlanOf}
 use Rattle.gos_objects.specs.Checked.{SaysModule}
 
@@ -26,3 +28,5 @@ pub record IsPlanText (linear : SeenLinear) (text : List ℕ) : Type 0 where
   pub plan : Plan
   pub made : IsPlanOf (program_in linear).imports (type_of linear.result) linear.weight (node_seen linear.term) plan
   pub is : text ≡ text_of plan
+  pub slim : IsSlim plan
+  pub read_back : length linear.imports ≤ 64 → IsRead (text_of plan) plan

@@ -1,9 +1,10 @@
-use Rattle.std.proofs.Common.{◌≡◌, inr, List, Option, Some, None, sym, subst}
+use Rattle.std.proofs.Common.{◌≡◌, ◌∙◌, ap, inr, length, List, Option, Some, None, sym, subst}
 use Rattle.std.specs.Prelude.{IfSome}
 use Rattle.gos_outside.specs.Files.{Files}
 use Rattle.gos_netlist.specs.Nets.{Netlist}
 use Rattle.gos_plan.specs.Seen.{SeenPlan, plan_of}
 use Rattle.gos_link.specs.declared.build.Instance.{Instance}
+use Rattle.gos_link.specs.Linked.{AllKeepLimits, plans_of}
 use Rattle.gos_command.specs.declared.report.Report.{Report}
 use Rattle.gos_command.proofs.EndLemmas.{of_result_both}
 use Rattle.gos_circuits.specs.Objects.{HoldPlans}
@@ -56,3 +57,13 @@ returns-in-Ok-clause-memory_files g c = λ failed.
       is_whole g c,
       subst (λ (told : Option Files). IsWriteCutShort told new c.args.build.now whole) c.in_ok-plans.ensures.same_files (c.write_circuit.ensures.memory_files failed),
     )
+
+pub link-requires : goal.link-requires
+link-requires g c =
+    let plans : c.as_slice-2.result.now ≡ c.in_ok-plans.plans.items = c.as_slice-2.ensures.value in
+    record {
+      each = ap (λ (ps : List SeenPlan). length ps) plans ∙ (c.in_ok-plans.ensures.each ∙ ap (λ (is : List Instance). length is) c.as_slice.ensures.value);
+      limits = subst (λ (ps : List SeenPlan). AllKeepLimits (plans_of ps)) (sym plans) c.in_ok-plans.ensures.limits;
+      few_instances = c.requires.few_instances;
+      few_binds = c.requires.few_binds;
+    }

@@ -4,6 +4,7 @@ use Rattle.std.proofs.lemmas.List.{drop_all, length-append}
 use Rattle.std.proofs.lemmas.Result.{err_from_is_err_and}
 use Rattle.gos_plan.specs.Seen.{SeenPlan}
 use Rattle.gos_link.specs.declared.build.Instance.{Instance}
+use Rattle.gos_link.proofs.CountedLemmas.{limits_more}
 use Rattle.gos_command.proofs.EndLemmas.{of_stopped}
 use Rattle.gos_circuits.specs.Objects.{IsObjectFault, RejectsObject}
 use Rattle.gos_circuits.specs.inner.Reading.{AreReadBefore}
@@ -26,6 +27,7 @@ loop-instance-preserved g c =
       omega (arith, items, joined, c.loop-instance.invariant.1),
       c.in_ok-plan.ensures.same_files ∙ c.loop-instance.invariant.2,
       c.in_ok-plan.ensures.same_count (λ e. cc e) ∙ c.loop-instance.invariant.3,
+      limits_more plans _ c.in_ok-plan.plan c.in-Ok.ensures.items c.loop-instance.invariant.4 c.in_ok-plan.ensures.limits,
     )
 
 pub returns-in_err-plan-clause-rejected : goal.returns-in_err-plan-clause-rejected

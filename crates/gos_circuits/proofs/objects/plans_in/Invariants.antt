@@ -1,4 +1,5 @@
 use Rattle.std.proofs.Common.{◌≡◌, drop, length}
+use Rattle.gos_link.specs.Linked.{AllKeepLimits, plans_of}
 use Rattle.gos_circuits.specs.inner.Reading.{AreReadBefore}
 use Rattle.gos_circuits.proofs.objects.plans_in.Given as goal
 
@@ -9,3 +10,4 @@ invariant-loop-instance g l =
     × (length l.plans.items ≡ l.instance-index)
     × (g.S.Store.contents l.store ≡ g.S.Store.contents l.initial.store)
     × (g.S.Store.faults l.store ≡ g.S.Store.faults l.initial.store)
+    × AllKeepLimits (plans_of l.plans.items)

@@ -7,9 +7,9 @@ use Rattle.gos_model.specs.Typing.{Imports}
 use Rattle.gos_check.specs.Nodes.{type_of_node, node_seen, Numbered}
 use Rattle.gos_plan.specs.declared.kinds.Kind.{Kind}
 use Rattle.gos_plan.specs.Seen.{part_of}
-use Rattle.gos_compile.specs.declared.points.Place.TheVariants as places
-use Rattle.gos_compile.specs.declared.points.Point.{Point}
-use Rattle.gos_compile.specs.declared.points.Tie.{Tie}
+use Rattle.gos_ties.specs.declared.points.Place.TheVariants as places
+use Rattle.gos_ties.specs.declared.points.Point.{Point}
+use Rattle.gos_ties.specs.declared.points.Tie.{Tie}
 use Rattle.gos_realises.specs.Regular.{count}
 use Rattle.gos_compile.specs.inner.Tables.{types_at}
 use Rattle.gos_compile.specs.inner.Walked.{seen, is_plain}

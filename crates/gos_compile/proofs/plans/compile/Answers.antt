@@ -6,31 +6,40 @@ use Rattle.gos_model.specs.Typing.{Imports}
 use Rattle.gos_model.specs.Sources as sources
 use Rattle.gos_check.specs.declared.linear.Node.{Node}
 use Rattle.gos_check.specs.Nodes.{Numbered, node_seen}
-use Rattle.gos_plan.specs.Seen.{SeenPlan, plan_of, part_of, import_of, joint_of}
-use Rattle.gos_compile.specs.declared.points.Tie.{Tie}
+use Rattle.gos_plan.specs.declared.kinds.Kind.{Kind}
+use Rattle.gos_plan.specs.declared.plan.PlanImport.{PlanImport}
+use Rattle.gos_plan.specs.Seen.{SeenPlan, plan_of, part_of, import_of}
+use Rattle.gos_ties.specs.declared.points.Tie.{Tie}
 use Rattle.gos_realises.specs.Regular.{count}
 use Rattle.gos_realises.specs.Slim.{IsSlim}
 use Rattle.gos_compile.specs.Wiring.{type_of_node, all_parts, all_ties, all_types, IsPlanOf}
 use Rattle.gos_compile.specs.inner.Loads.{load, HasFewShakes}
-use Rattle.gos_compile.specs.inner.Found.{AreTables, ShakesBelow, all_found, bare, far_by}
-use Rattle.gos_compile.specs.inner.Counted.{IsThin}
+use Rattle.gos_ties.specs.Counted.{IsThin}
 use Rattle.gos_compile.proofs.ThinLemmas.{thin}
 use Rattle.gos_check.specs.Checked.{program_in}
 use Rattle.gos_compile.proofs.LoadLemmas.{counters}
-use Rattle.gos_compile.proofs.SlimLemmas.{is_slim, few_parts, few_imports, all_small, shakes_small}
+use Rattle.gos_compile.proofs.SlimLemmas.{is_slim, few_parts, few_imports, all_small}
 use Rattle.gos_compile.proofs.ReadLemmas.{reads_back}
 use Rattle.gos_compile.proofs.RangeLemmas.{in_range}
-use Rattle.gos_compile.proofs.RightLemmas.{right_joints, no_fault}
 use Rattle.gos_compile.proofs.PlanLemmas.{is_plan}
 use Rattle.gos_compile.proofs.plans.compile.Goals as goal
 
-pub tables_of-requires-clause-thin : goal.tables_of-requires-clause-thin
-tables_of-requires-clause-thin c =
+pub tied_plan-requires-clause-thin : goal.tied_plan-requires-clause-thin
+tied_plan-requires-clause-thin c =
     let ties : c.in_ok-wires.wires.ties.items ≡ all_ties (program_in c.args.program.now).imports (node_seen c.args.program.now.term) =
     c.in_ok-wires.ensures.ties ∙ (λ i. all_ties (map sources.import_of (c.imports.ensures i)) (node_seen (c.term.ensures.value i)))
     in
     subst (λ (ts : List Tie). IsThin ts) (sym (c.deref.ensures.value ∙ ties))
     (thin (program_in c.args.program.now) (node_seen c.args.program.now.term) c.term.ensures.checked.term)
+
+pub tied_plan-requires-clause-in_range : goal.tied_plan-requires-clause-in_range
+tied_plan-requires-clause-in_range c =
+    in_range c.types_of_terms.ensures.node c.args.program.now c.term.ensures.checked c.in_ok-imports.imports.items c.in_ok-outcome.outcome
+    c.in_ok-wires.wires.parts.items
+    (c.in_ok-imports.ensures.imports ∙ ap (λ (is : List SeenImport). map sources.import_of is) c.imports-2.ensures)
+    (c.in_ok-outcome.ensures ∙ ap (λ (t : Ty). type_of t) c.result.ensures)
+    (c.in_ok-wires.ensures.parts ∙ (λ i. all_parts (map sources.import_of (c.imports.ensures i)) (node_seen (c.term.ensures.value i))))
+    c.in_ok-wires.ensures.plain
 
 pub wires_of-requires-clause-few : goal.wires_of-requires-clause-few
 wires_of-requires-clause-few c =
@@ -49,47 +58,30 @@ wires_of-requires-clause-room c =
     (λ (m : Node). count (type_of_node (node_seen m)) + load (all_types (map sources.import_of c.args.program.now.imports) (node_seen m)) (node_seen m) ≤ 65536)
     (sym c.term.ensures.value) (counters c.args.program.now c.term.ensures.checked))
 
-pub tables_of-requires-clause-shakes : goal.tables_of-requires-clause-shakes
-tables_of-requires-clause-shakes c =
-    let ties : c.in_ok-wires.wires.ties.items ≡ all_ties (program_in c.args.program.now).imports (node_seen c.args.program.now.term) =
-    c.in_ok-wires.ensures.ties ∙ (λ i. all_ties (map sources.import_of (c.imports.ensures i)) (node_seen (c.term.ensures.value i)))
-    in
-    subst (λ (ts : List Tie). ShakesBelow 65536 ts) (sym (c.deref.ensures.value ∙ ties)) (shakes_small c.args.program.now c.term.ensures.checked)
-
-pub returns-in-Ok : goal.returns-in-Ok
-returns-in-Ok c =
+pub returns : goal.returns
+returns c =
     let is : Imports = map sources.import_of c.args.program.now.imports in
     let m : Numbered = node_seen c.args.program.now.term in
-    let s : SeenPlan = c.in-Ok.plan in
-    let ts : List Tie = c.in_ok-wires.wires.ties.items in
-    let e = c.in-Ok.ensures.plan in
+    let s : SeenPlan = c.in_ok-plan.plan in
+    let made = c.in_ok-plan.ensures in
     let imports : map import_of s.imports ≡ is =
-    ap (λ (p : SeenPlan). map import_of p.imports) e
+    ap (λ (xs : List PlanImport). map import_of xs) made.imports
     ∙ (c.in_ok-imports.ensures.imports ∙ ap (λ (is : List SeenImport). map sources.import_of is) c.imports-2.ensures)
     in
     let outcome : type_of s.outcome ≡ type_of c.args.program.now.result =
-    ap (λ (p : SeenPlan). type_of p.outcome) e ∙ (c.in_ok-outcome.ensures ∙ ap (λ (t : Ty). type_of t) c.result.ensures)
+    ap (λ (t : Ty). type_of t) made.outcome ∙ (c.in_ok-outcome.ensures ∙ ap (λ (t : Ty). type_of t) c.result.ensures)
     in
-    let weight : s.weight ≡ c.args.program.now.weight = ap (λ (p : SeenPlan). p.weight) e ∙ c.weight.ensures in
     let parts : map part_of s.parts ≡ all_parts is m =
-    ap (λ (p : SeenPlan). map part_of p.parts) e
+    ap (λ (ks : List Kind). map part_of ks) made.parts
     ∙ (c.in_ok-wires.ensures.parts ∙ (λ i. all_parts (map sources.import_of (c.imports.ensures i)) (node_seen (c.term.ensures.value i))))
     in
-    let ties : ts ≡ all_ties is m =
-    c.in_ok-wires.ensures.ties ∙ (λ i. all_ties (map sources.import_of (c.imports.ensures i)) (node_seen (c.term.ensures.value i)))
-    in
-    let known : AreTables ts c.in_ok-tables.tables =
-    subst (λ (us : List Tie). AreTables us c.in_ok-tables.tables) c.deref.ensures.value c.in_ok-tables.ensures.tables
-    in
-    let found : map joint_of s.joints ≡ all_found (bare s.imports s.outcome s.parts) (far_by c.in_ok-tables.tables) ts =
-    ap (λ (p : SeenPlan). map joint_of p.joints) e
-    ∙ (c.in_ok-joints.ensures
-    ∙ ((λ i. all_found (bare (c.deref-2.ensures.value i) c.in_ok-outcome.outcome (c.deref-3.ensures.value i)) (far_by c.in_ok-tables.tables) (c.deref-4.ensures.value i))
-    ∙ sym (ap (λ (p : SeenPlan). all_found (bare p.imports p.outcome p.parts) (far_by c.in_ok-tables.tables) ts) e)))
+    let ties : c.deref.result.now ≡ all_ties is m =
+    c.deref.ensures.value
+    ∙ (c.in_ok-wires.ensures.ties ∙ (λ i. all_ties (map sources.import_of (c.imports.ensures i)) (node_seen (c.term.ensures.value i))))
     in
     let plan : IsPlanOf is (type_of c.args.program.now.result) c.args.program.now.weight m (plan_of s) =
-    is_plan is (type_of c.args.program.now.result) c.args.program.now.weight m s ts c.in_ok-tables.tables imports outcome weight parts
-    c.in-Ok.ensures.right ties known found
+    is_plan is (type_of c.args.program.now.result) c.args.program.now.weight m s c.deref.result.now imports outcome (made.weight ∙ c.weight.ensures) parts
+    made.right ties made.joints
     in
     let slim : IsSlim (plan_of s) = is_slim c.types_of_terms.ensures.node c.args.program.now c.term.ensures.checked (plan_of s) plan in
     let (few, joined) = few_parts c.args.program.now c.term.ensures.checked (plan_of s) plan.weight slim in
@@ -99,41 +91,5 @@ returns-in-Ok c =
       few_parts = few;
       few_joints = joined;
       read_back = reads_back c.types_of_terms.ensures.node c.args.program.now c.term.ensures.checked (plan_of s) c.in_ok-imports.imports.items plan slim
-          (ap (λ (p : SeenPlan). map import_of p.imports) e) c.in_ok-imports.ensures.names;
+          (ap (λ (xs : List PlanImport). map import_of xs) made.imports) c.in_ok-imports.ensures.names;
     }
-
-pub make-requires : goal.make-requires
-make-requires c =
-    in_range c.types_of_terms.ensures.node c.args.program.now c.term.ensures.checked c.in_ok-imports.imports.items c.in_ok-outcome.outcome
-    c.in_ok-wires.wires.parts.items
-    (c.in_ok-imports.ensures.imports ∙ ap (λ (is : List SeenImport). map sources.import_of is) c.imports-2.ensures)
-    (c.in_ok-outcome.ensures ∙ ap (λ (t : Ty). type_of t) c.result.ensures)
-    (c.in_ok-wires.ensures.parts ∙ (λ i. all_parts (map sources.import_of (c.imports.ensures i)) (node_seen (c.term.ensures.value i))))
-    c.in_ok-wires.ensures.plain
-
-pub only_memory-requires : goal.only_memory-requires
-only_memory-requires c =
-    let s : SeenPlan =
-    record {
-      weight = c.weight.result;
-      imports = c.in_ok-imports.imports.items;
-      outcome = c.in_ok-outcome.outcome;
-      parts = c.in_ok-wires.wires.parts.items;
-      joints = c.in_ok-joints.joints.items;
-    }
-    in
-    let ts : List Tie = c.in_ok-wires.wires.ties.items in
-    let ties : ts ≡ all_ties (program_in c.args.program.now).imports (node_seen c.args.program.now.term) =
-    c.in_ok-wires.ensures.ties ∙ (λ i. all_ties (map sources.import_of (c.imports.ensures i)) (node_seen (c.term.ensures.value i)))
-    in
-    let thin_ties : IsThin ts =
-    subst (λ (us : List Tie). IsThin us) (sym ties) (thin (program_in c.args.program.now) (node_seen c.args.program.now.term) c.term.ensures.checked.term)
-    in
-    let known : AreTables ts c.in_ok-tables.tables =
-    subst (λ (us : List Tie). AreTables us c.in_ok-tables.tables) c.deref.ensures.value c.in_ok-tables.ensures.tables
-    in
-    let found : map joint_of s.joints ≡ all_found (bare s.imports s.outcome s.parts) (far_by c.in_ok-tables.tables) ts =
-    c.in_ok-joints.ensures
-    ∙ (λ i. all_found (bare (c.deref-2.ensures.value i) c.in_ok-outcome.outcome (c.deref-3.ensures.value i)) (far_by c.in_ok-tables.tables) (c.deref-4.ensures.value i))
-    in
-    no_fault s c.in-Err.fault (right_joints s ts c.in_ok-tables.tables thin_ties known found) c.in-Err.ensures.fault

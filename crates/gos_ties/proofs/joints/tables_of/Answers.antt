@@ -6,15 +6,13 @@ use Rattle.gos_ties.proofs.joints.tables_of.Goals as goal
 
 pub far_ends-requires-clause-few : goal.far_ends-requires-clause-few
 far_ends-requires-clause-few c =
-    let stride : ℕ = c.in_ok-stride.stride in
-    subst (λ (bs : List Bond). (k : ℕ) → touches k bs ≤ 2) (sym (c.deref-2.ensures.value ∙ c.in_ok-bonds.ensures)) (few_bonds stride c.args.ties.now c.requires c.in_ok-stride.ensures)
+    subst (λ (bs : List Bond). (k : ℕ) → touches k bs ≤ 2) (sym (c.deref.ensures.value ∙ c.in_ok-bonds.ensures.bonds))
+    (few_bonds c.in_ok-numbers.numbers.points.keys c.args.ties.now c.requires c.in_ok-numbers.ensures)
 
 pub returns : goal.returns
 returns c =
-    let stride : ℕ = c.in_ok-stride.stride in
     record {
-      shakes = c.in_ok-stride.ensures;
-      far = subst (λ (bs : List Bond). AreFar bs (far_at c.in_ok-far.far.items)) (c.deref-2.ensures.value ∙ c.in_ok-bonds.ensures) c.in_ok-far.ensures.far;
-      numbered = c.in_ok-points.ensures;
-      free = free_bonds stride c.args.ties.now c.requires c.in_ok-stride.ensures;
+      numbered = c.in_ok-numbers.ensures;
+      far = subst (λ (bs : List Bond). AreFar bs (far_at c.in_ok-far.far.items)) (c.deref.ensures.value ∙ c.in_ok-bonds.ensures.bonds) c.in_ok-far.ensures.far;
+      free = free_bonds c.in_ok-numbers.numbers.points.keys c.args.ties.now c.requires c.in_ok-numbers.ensures;
     }

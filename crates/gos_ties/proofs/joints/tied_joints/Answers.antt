@@ -1,6 +1,5 @@
-use Rattle.std.proofs.Common.{◌≡◌, List, sym, subst, map}
+use Rattle.std.proofs.Common.{List, sym, subst}
 use Rattle.gos_plan.specs.Plans.{Joint}
-use Rattle.gos_plan.specs.Seen.{joint_of}
 use Rattle.gos_ties.specs.Ties.{Has, joint, bare}
 use Rattle.gos_ties.proofs.JointLemmas.{joints_found}
 use Rattle.gos_ties.proofs.RightLemmas.{right_joints}
@@ -12,7 +11,7 @@ returns-clause-joints c = λ a b.
     let t = c.in_ok-tables.tables in
     let p = bare c.args.imports.now c.args.outcome.now c.args.parts.now in
     let (sound, complete) =
-    joints_found t.stride c.args.ties.now t.far.items t.points.items p known.shakes known.far known.numbered known.free a b
+    joints_found c.args.ties.now t.far.items t.numbers.points.keys p known.numbered known.far known.free a b
     in (
       (λ h. sound (subst (λ (js : List Joint). Has js (joint a b)) c.in_ok-joints.ensures h)),
       (λ k. subst (λ (js : List Joint). Has js (joint a b)) (sym c.in_ok-joints.ensures) (complete k)),

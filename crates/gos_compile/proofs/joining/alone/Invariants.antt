@@ -1,7 +1,0 @@
-use Rattle.std.proofs.Common.{◌≡◌, ◌≤◌, ℕ, length}
-use Rattle.gos_compile.specs.inner.Joined.{far_at}
-use Rattle.gos_compile.proofs.joining.alone.Given as goal
-
--- each number so far is its own
-abbrev pub invariant-loop-number : goal.invariant-loop-number
-invariant-loop-number l = (l.number ≤ l.n) × (length l.far.items ≡ l.number) × ((p : ℕ) → far_at l.far.items p ≡ p)
