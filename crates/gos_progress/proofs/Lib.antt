@@ -1,0 +1,4 @@
+pub mod ClosingLemmas
+pub mod GoodLemmas
+pub mod ProgressLemmas
+pub mod SmallLemmas

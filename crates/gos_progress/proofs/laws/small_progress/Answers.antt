@@ -1,0 +1,11 @@
+use Rattle.gos_progress.proofs.SmallLemmas.{skip_begins, wait_is_stalled, function_import_waits}
+use Rattle.gos_progress.proofs.laws.small_progress.Goals as goal
+
+pub returns-clause-skip : goal.returns-clause-skip
+returns-clause-skip c = skip_begins
+
+pub returns-clause-wait : goal.returns-clause-wait
+returns-clause-wait c = wait_is_stalled
+
+pub returns-clause-function : goal.returns-clause-function
+returns-clause-function c = function_import_waits
