@@ -1,4 +1,5 @@
 pub mod ClosingLemmas
 pub mod GoodLemmas
+pub mod WaitLemmas
 pub mod ProgressLemmas
 pub mod SmallLemmas
