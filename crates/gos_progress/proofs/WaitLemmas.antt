@@ -136,8 +136,9 @@ unfoldings : (n : ℕ) (m t : Term) → Unfoldings n m t → BringsNoWait m t
 unfoldings zero m t h k = subst HasNoWait h k
 unfoldings (suc n) m t (u, h, hs) k = unfoldings n u t hs (reached_lifted OneHead BringsNoWait head in_place m u h k)
 
-abbrev WaitsForNone : Config → Type 0
-WaitsForNone Idle = Unit {0}
+-- a running term in which nothing waits
+abbrev pub WaitsForNone : Config → Type 0
+WaitsForNone Idle = ⊥
 WaitsForNone (Running m s) = HasNoWait m
 
 computing : (p : Program) (m : Term) (s : Store) (d : Config) → Move p Computing (Running m s) d → HasNoWait m → WaitsForNone d
@@ -145,30 +146,20 @@ computing p m s Idle (n, u, hs, h) k = absurd h
 computing p m s (Running t r) (n, u, hs, h) k =
     reached_lifted (Computes s r) BringsNoWait (row s r) in_place u t h (unfoldings n m u hs k)
 
-not_idle : (d : Config) → Move (record { imports = []; body = Skip }) Computing Idle d → ⊥
-not_idle d (e, is) = cc e
-
 -- a run that shows nothing
-silent : (p : Program) (acts : List Act) (c d : Config) → (c ≡ Idle → ⊥) → Moves p acts c d → labels acts ≡ [] → WaitsForNone c → WaitsForNone d
-silent p [] c d begun h e k = subst WaitsForNone h k
-silent p (Showing o ∷ acts) c d begun h e k = absurd (cc e)
-silent p (Computing ∷ acts) Idle d begun h e k = absurd (begun refl)
-silent p (Computing ∷ acts) (Running m s) d begun (b, h, hs) e k = silent p acts b d (runs m s b h) hs e (computing p m s b h k)
-  where
-    runs : (m : Term) (s : Store) (b : Config) → Move p Computing (Running m s) b → b ≡ Idle → ⊥
-    runs m s Idle (n, u, us, x) same = x
-    runs m s (Running t r) move same = cc same
+silent : (p : Program) (acts : List Act) (c d : Config) → Moves p acts c d → labels acts ≡ [] → WaitsForNone c → WaitsForNone d
+silent p [] c d h e k = subst WaitsForNone h k
+silent p (Showing o ∷ acts) c d h e k = absurd (cc e)
+silent p (Computing ∷ acts) Idle d h e k = absurd k
+silent p (Computing ∷ acts) (Running m s) d (b, h, hs) e k = silent p acts b d hs e (computing p m s b h k)
 
 -- from its request on
 pub unasked : (p : Program) (acts : List Act) (d : Config) → HasNoWait p.body → Moves p acts Idle d → labels acts ≡ given 0 0 ∷ [] → WaitsForNone d
 unasked p [] d source h e = absurd (cc e)
 unasked p (Computing ∷ acts) d source (b, (is, at), hs) e = absurd (cc is)
 unasked p (Showing o ∷ acts) d source (b, (is, at), hs) e =
-    silent p acts b d (λ same. running (sym at) same) hs (rest (labels acts) e) (subst WaitsForNone (sym at) source)
+    silent p acts b d hs (rest (labels acts) e) (subst WaitsForNone (sym at) source)
   where
-    running : Running p.body [] ≡ b → b ≡ Idle → ⊥
-    running one two = cc (one, two)
-
     rest : (ls : List Label) → o ∷ ls ≡ given 0 0 ∷ [] → ls ≡ []
     rest [] e = refl
     rest (l ∷ ls) e = absurd (cc e)

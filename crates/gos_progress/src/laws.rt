@@ -1,6 +1,7 @@
 // What a program does at least. Each theorem is the contract of a function that does nothing.
 ghost use Rattle.gos_progress.specs.Progress.{ProgramsBegin, RunsGoOn, UnaskedRunsGoOn};
-ghost use Rattle.gos_progress.specs.SmallProgress.{FunctionImportWaits, SkipBegins, WaitIsStalled};
+ghost use Rattle.gos_progress.specs.Realisers.{RealisersAreJoined};
+ghost use Rattle.gos_progress.specs.SmallProgress.{FunctionImportWaits, SkipBegins, WaitIsStalled, WaitsAreSeen};
 
 /// A command or an expression with ground imports is not stalled when it begins, nor where it waits for no answer.
 pub fn progress()
@@ -9,9 +10,15 @@ pub fn progress()
     ensures unasked { UnaskedRunsGoOn }
 {}
 
+/// A plan that realises a command or an expression has a joint at its result.
+pub fn realisers()
+    ensures { RealisersAreJoined }
+{}
+
 /// Small programs that begin, and others that can only wait.
 pub fn small_progress()
     ensures skip { SkipBegins }
     ensures wait { WaitIsStalled }
     ensures function { FunctionImportWaits }
+    ensures waits { WaitsAreSeen }
 {}
