@@ -7,7 +7,8 @@ use Rattle.std.proofs.lemmas.Bool.Decides.{nat_tests}
 use Rattle.gos_types.specs.Types.{Type', Com, Exp, Var, Pair, Fun}
 use Rattle.gos_model.specs.Terms.{Term, Skip, Lit, Bound, Import, Lam, App, Both, Fst, Snd, Seq, Par, If, While, Assign, Deref, New, Not, Bin, Loc, Scope, Wait, Held, Put}
 use Rattle.gos_model.specs.Substitution.{put_at}
-use Rattle.gos_model.specs.Typing.{Imports, Typed}
+use Rattle.gos_model.specs.Typing.{Imports}
+use Rattle.gos_results.specs.HasTypes.{Widths, HasType}
 use Rattle.gos_contexts.proofs.StoreLemmas.{eq_true, eq_false}
 
 -- the term for a variable, or any closed one
@@ -147,28 +148,28 @@ is_there [] n t h = absurd (cc h)
 is_there (a ∷ g) zero t h = omega arith
 is_there (a ∷ g) (suc n) t h = let less = is_there g n t h in omega (arith, less)
 
--- a source without free variables is closed by nothing
-pub closed_by_none : (i : Imports) (g : List Type') (m : Term) (t : Type') → Typed i g m t → close (length g) [] m ≡ m
-closed_by_none i g Skip t h = refl
-closed_by_none i g (Lit k w) t h = refl
-closed_by_none i g (Bound n) t h = rw (lt_true n (length g) (is_there g n t h)) refl
-closed_by_none i g (Import x) t h = refl
-closed_by_none i g (Lam a m) t (b, e, h) = λ j. Lam a (closed_by_none i (a ∷ g) m b h j)
-closed_by_none i g (App m n) t (a, h, k, apart) = λ j. App (closed_by_none i g m (Fun a t) h j) (closed_by_none i g n a k j)
-closed_by_none i g (Both m n) t (a, b, e, h, k) = λ j. Both (closed_by_none i g m a h j) (closed_by_none i g n b k j)
-closed_by_none i g (Fst m) t (b, h) = λ j. Fst (closed_by_none i g m (Pair t b) h j)
-closed_by_none i g (Snd m) t (a, h) = λ j. Snd (closed_by_none i g m (Pair a t) h j)
-closed_by_none i g (Seq m n) t (d, h, k) = λ j. Seq (closed_by_none i g m Com h j) (closed_by_none i g n t k j)
-closed_by_none i g (Par m n) t (e, h, k, apart) = λ j. Par (closed_by_none i g m Com h j) (closed_by_none i g n Com k j)
-closed_by_none i g (If m n p) t (d, h, k, l) = λ j. If (closed_by_none i g m (Exp 1) h j) (closed_by_none i g n t k j) (closed_by_none i g p t l j)
-closed_by_none i g (While m n) t (e, h, k) = λ j. While (closed_by_none i g m (Exp 1) h j) (closed_by_none i g n Com k j)
-closed_by_none i g (Assign m n) t (w, e, h, k) = λ j. Assign (closed_by_none i g m (Var w) h j) (closed_by_none i g n (Exp w) k j)
-closed_by_none i g (Deref m) t (w, e, h) = λ j. Deref (closed_by_none i g m (Var w) h j)
-closed_by_none i g (New w m) t (d, wide, h) = λ j. New w (closed_by_none i (Var w ∷ g) m t h j)
-closed_by_none i g (Not m) t (w, e, h) = λ j. Not (closed_by_none i g m (Exp w) h j)
-closed_by_none i g (Bin op m n) t (w, e, h, k) = λ j. Bin op (closed_by_none i g m (Exp w) h j) (closed_by_none i g n (Exp w) k j)
-closed_by_none i g (Loc l) t h = absurd h
-closed_by_none i g (Scope l m) t h = absurd h
-closed_by_none i g (Wait x s) t h = absurd h
-closed_by_none i g (Held k op m) t h = absurd h
-closed_by_none i g (Put m k) t h = absurd h
+-- a term without free variables is closed by nothing
+pub closed_by_none : (ws : Widths) (i : Imports) (g : List Type') (m : Term) (t : Type') → HasType ws i g m t → close (length g) [] m ≡ m
+closed_by_none ws i g Skip t h = refl
+closed_by_none ws i g (Lit k w) t h = refl
+closed_by_none ws i g (Bound n) t h = rw (lt_true n (length g) (is_there g n t h)) refl
+closed_by_none ws i g (Import x) t h = refl
+closed_by_none ws i g (Lam a m) t (b, e, h) = λ j. Lam a (closed_by_none ws i (a ∷ g) m b h j)
+closed_by_none ws i g (App m n) t (a, h, k) = λ j. App (closed_by_none ws i g m (Fun a t) h j) (closed_by_none ws i g n a k j)
+closed_by_none ws i g (Both m n) t (a, b, e, h, k) = λ j. Both (closed_by_none ws i g m a h j) (closed_by_none ws i g n b k j)
+closed_by_none ws i g (Fst m) t (b, h) = λ j. Fst (closed_by_none ws i g m (Pair t b) h j)
+closed_by_none ws i g (Snd m) t (a, h) = λ j. Snd (closed_by_none ws i g m (Pair a t) h j)
+closed_by_none ws i g (Seq m n) t (d, h, k) = λ j. Seq (closed_by_none ws i g m Com h j) (closed_by_none ws i g n t k j)
+closed_by_none ws i g (Par m n) t (e, h, k) = λ j. Par (closed_by_none ws i g m Com h j) (closed_by_none ws i g n Com k j)
+closed_by_none ws i g (If m n p) t (d, h, k, l) = λ j. If (closed_by_none ws i g m (Exp 1) h j) (closed_by_none ws i g n t k j) (closed_by_none ws i g p t l j)
+closed_by_none ws i g (While m n) t (e, h, k) = λ j. While (closed_by_none ws i g m (Exp 1) h j) (closed_by_none ws i g n Com k j)
+closed_by_none ws i g (Assign m n) t (w, e, h, k) = λ j. Assign (closed_by_none ws i g m (Var w) h j) (closed_by_none ws i g n (Exp w) k j)
+closed_by_none ws i g (Deref m) t (w, e, h) = λ j. Deref (closed_by_none ws i g m (Var w) h j)
+closed_by_none ws i g (New w m) t (d, h) = λ j. New w (closed_by_none ws i (Var w ∷ g) m t h j)
+closed_by_none ws i g (Not m) t (w, e, h) = λ j. Not (closed_by_none ws i g m (Exp w) h j)
+closed_by_none ws i g (Bin op m n) t (w, e, h, k) = λ j. Bin op (closed_by_none ws i g m (Exp w) h j) (closed_by_none ws i g n (Exp w) k j)
+closed_by_none ws i g (Loc l) t h = refl
+closed_by_none ws i g (Scope l m) t (d, h) = λ j. Scope l (closed_by_none ws i g m t h j)
+closed_by_none ws i g (Wait x s) t h = refl
+closed_by_none ws i g (Held k op m) t (w, e, fits, h) = λ j. Held k op (closed_by_none ws i g m (Exp w) h j)
+closed_by_none ws i g (Put m k) t (w, e, fits, h) = λ j. Put (closed_by_none ws i g m (Var w) h j) k

@@ -1,4 +1,6 @@
 pub mod ClosingLemmas
 pub mod GoodLemmas
+pub mod WaitLemmas
 pub mod ProgressLemmas
+pub mod RealiserLemmas
 pub mod SmallLemmas

@@ -1,4 +1,4 @@
--- A good command or expression is not stalled.
+-- A good command or expression is not stalled, and what a run leads to is good where nothing waits.
 use Rattle.std.specs.Prelude.{◌≡◌, Bool, true, false, [], ◌∷◌, Some, if◌then◌else◌}
 use Rattle.std.specs.Str.{bytes_eq}
 use Rattle.std.proofs.Common.{refl, subst, inl, inr}
@@ -8,8 +8,12 @@ use Rattle.gos_model.specs.Typing.{Imports, import_type}
 use Rattle.gos_model.specs.Labels.{given}
 use Rattle.gos_model.specs.Moves.{Program, Idle, Running, Computing, Showing, Stalled}
 use Rattle.gos_realises.specs.Realises.{AllGround}
-use Rattle.gos_progress.specs.Progress.{ProgramsBegin}
+use Rattle.gos_progress.specs.Progress.{ProgramsBegin, RunsGoOn, UnaskedRunsGoOn}
 use Rattle.gos_progress.proofs.ClosingLemmas.{closed_by_none}
+use Rattle.gos_progress.proofs.WaitLemmas.{source_waits, unasked}
+use Rattle.gos_results.specs.HasTypes.{widths_of}
+use Rattle.gos_results.proofs.ResultLemmas.{runs_keep_types}
+use Rattle.gos_model.specs.Stores.{Store}
 use Rattle.gos_progress.proofs.GoodLemmas.{CanBegin, IsGood, good}
 
 pub ground_import : (is : Imports) → AllGround is → (x : Name) (t : Type') → import_type is x ≡ Some t → IsGround t
@@ -23,21 +27,32 @@ ground_import (i ∷ is) all x t e = tested (bytes_eq i.name x) e (ground_import
     tested true same further = subst IsGround (some_type i.ty t same) all.0
     tested false other further = further other
 
-not_stalled : (p : Program) (m : Term) → CanBegin p.imports m → Stalled p (Running m []) → ⊥
-not_stalled p m (n, u, hs, (Computing, s, t, own, h)) stalled = stalled.0 (Running t s) (n, u, hs, h)
-not_stalled p m (n, u, hs, (Showing o, s, t, own, h)) stalled = stalled.1 o (Running t s) own (n, u, hs, h)
+not_stalled : (p : Program) (m : Term) (s : Store) → CanBegin p.imports s m → Stalled p (Running m s) → ⊥
+not_stalled p m s (n, u, hs, (Computing, r, t, own, h)) stalled = stalled.0 (Running t r) (n, u, hs, h)
+not_stalled p m s (n, u, hs, (Showing o, r, t, own, h)) stalled = stalled.1 o (Running t r) own (n, u, hs, h)
 
-good_begins : (p : Program) (t : Type') (m : Term) → IsDone t → IsGood p.imports t m → Stalled p (Running m []) → ⊥
-good_begins p Com m d (n, u, hs, inl e) stalled = stalled.1 (given 1 0) Idle refl (n, u, hs, inl (e, refl))
-good_begins p (Exp w) m d (n, u, hs, inl (k, e, fits)) stalled = stalled.1 (given 1 k) Idle refl (n, u, hs, inr (k, w, e, refl))
-good_begins p Com m d (n, u, hs, inr h) stalled = not_stalled p m (n, u, hs, h) stalled
-good_begins p (Exp w) m d (n, u, hs, inr h) stalled = not_stalled p m (n, u, hs, h) stalled
-good_begins p (Var w) m d h stalled = d
-good_begins p (Pair a b) m d h stalled = d
-good_begins p (Fun a b) m d h stalled = d
+good_begins : (p : Program) (t : Type') (m : Term) (s : Store) → IsDone t → IsGood p.imports s t m → Stalled p (Running m s) → ⊥
+good_begins p Com m s d (n, u, hs, inl e) stalled = stalled.1 (given 1 0) Idle refl (n, u, hs, inl (e, refl))
+good_begins p (Exp w) m s d (n, u, hs, inl (k, e, fits)) stalled = stalled.1 (given 1 k) Idle refl (n, u, hs, inr (k, w, e, refl))
+good_begins p Com m s d (n, u, hs, inr h) stalled = not_stalled p m s (n, u, hs, h) stalled
+good_begins p (Exp w) m s d (n, u, hs, inr h) stalled = not_stalled p m s (n, u, hs, h) stalled
+good_begins p (Var w) m s d h stalled = d
+good_begins p (Pair a b) m s d h stalled = d
+good_begins p (Fun a b) m s d h stalled = d
+
+pub runs_go_on : RunsGoOn
+runs_go_on p t acts m s all typed d run none =
+    let runs = runs_keep_types p t acts m s typed run in
+    good_begins p t m s d
+    (subst (λ (x : Term). IsGood p.imports s t x) (closed_by_none (widths_of s) p.imports [] m t runs.0)
+    (good p.imports s (ground_import p.imports all) [] m t [] tt none runs.0))
 
 pub programs_begin : ProgramsBegin
 programs_begin p t all typed d =
-    good_begins p t p.body d
-    (subst (λ (x : Term). IsGood p.imports t x) (closed_by_none p.imports [] p.body t typed)
-    (good p.imports (ground_import p.imports all) [] p.body t [] tt typed))
+    runs_go_on p t (Showing (given 0 0) ∷ []) p.body [] all typed d (Running p.body [], (refl, refl), refl)
+    (source_waits p.imports [] p.body t typed)
+
+pub unasked_runs_go_on : UnaskedRunsGoOn
+unasked_runs_go_on p t acts m s all typed d run shown =
+    runs_go_on p t acts m s all typed d run
+    (unasked p acts (Running m s) (source_waits p.imports [] p.body t typed) run shown)

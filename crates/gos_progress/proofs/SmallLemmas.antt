@@ -7,7 +7,7 @@ use Rattle.gos_model.specs.SmallPrograms.{c}
 use Rattle.gos_model.specs.Labels.{Label, given, is_output}
 use Rattle.gos_model.specs.Reach.{Unfolds}
 use Rattle.gos_model.specs.Moves.{Program, Config, Idle, Running, Act, Computing, Showing, Unfoldings, ActsTo, Stalled}
-use Rattle.gos_progress.specs.SmallProgress.{one_run, applied_import, SkipBegins, WaitIsStalled, FunctionImportWaits}
+use Rattle.gos_progress.specs.SmallProgress.{one_run, applied_import, SkipBegins, WaitIsStalled, FunctionImportWaits, WaitsAreSeen}
 
 pub skip_begins : SkipBegins
 skip_begins stalled = stalled.1 (given 1 0) Idle refl (0, Skip, refl, inl (refl, refl))
@@ -57,3 +57,6 @@ function_import_waits = (
   (Com, refl, refl, λ t here there. grind (arith, there)),
   still applied_import (App (Import c) Skip) applied_unfolds applied_computes applied_shows,
 )
+
+pub waits_are_seen : WaitsAreSeen
+waits_are_seen = ((tt, tt), λ h. h.0)

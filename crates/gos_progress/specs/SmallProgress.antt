@@ -3,9 +3,10 @@
 -- Read first: Progress; SmallPrograms of gos_model.
 use Rattle.std.specs.Prelude.{[], ◌∷◌}
 use Rattle.gos_types.specs.Types.{Com, Fun}
-use Rattle.gos_model.specs.Terms.{Skip, Import, App, Wait}
+use Rattle.gos_model.specs.Terms.{Skip, Import, App, Seq, Wait}
 use Rattle.gos_model.specs.Typing.{Typed}
 use Rattle.gos_model.specs.SmallPrograms.{c}
+use Rattle.gos_progress.specs.Progress.{HasNoWait}
 use Rattle.gos_model.specs.Moves.{Program, Running, Stalled}
 
 -- `skip`
@@ -31,3 +32,7 @@ applied_import = record { imports = record { name = c; ty = Fun Com Com } ∷ []
 -- It is a command, and is stalled when it begins: so the imports have to be ground.
 abbrev pub FunctionImportWaits : Type 0
 FunctionImportWaits = Typed applied_import.imports [] applied_import.body Com × Stalled applied_import (Running applied_import.body [])
+
+-- `c ; c` waits for none as it begins, and waits where c was asked
+abbrev pub WaitsAreSeen : Type 0
+WaitsAreSeen = HasNoWait (Seq (Import c) (Import c)) × (HasNoWait (Seq (Wait c 1) (Import c)) → ⊥)

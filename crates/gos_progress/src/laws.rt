@@ -1,10 +1,18 @@
 // What a program does at least. Each theorem is the contract of a function that does nothing.
-ghost use Rattle.gos_progress.specs.Progress.{ProgramsBegin};
-ghost use Rattle.gos_progress.specs.SmallProgress.{FunctionImportWaits, SkipBegins, WaitIsStalled};
+ghost use Rattle.gos_progress.specs.Progress.{ProgramsBegin, RunsGoOn, UnaskedRunsGoOn};
+ghost use Rattle.gos_progress.specs.Realisers.{RealisersAreJoined};
+ghost use Rattle.gos_progress.specs.SmallProgress.{FunctionImportWaits, SkipBegins, WaitIsStalled, WaitsAreSeen};
 
-/// A command or an expression with ground imports is not stalled when it begins.
+/// A command or an expression with ground imports is not stalled when it begins, nor where it waits for no answer.
 pub fn progress()
-    ensures { ProgramsBegin }
+    ensures begin { ProgramsBegin }
+    ensures runs { RunsGoOn }
+    ensures unasked { UnaskedRunsGoOn }
+{}
+
+/// A plan that realises a command or an expression has a joint at its result.
+pub fn realisers()
+    ensures { RealisersAreJoined }
 {}
 
 /// Small programs that begin, and others that can only wait.
@@ -12,4 +20,5 @@ pub fn small_progress()
     ensures skip { SkipBegins }
     ensures wait { WaitIsStalled }
     ensures function { FunctionImportWaits }
+    ensures waits { WaitsAreSeen }
 {}

@@ -5,4 +5,4 @@
 
 mod laws;
 
-pub use laws::{progress, small_progress};
+pub use laws::{progress, realisers, small_progress};

@@ -1,5 +1,11 @@
-use Rattle.gos_progress.proofs.ProgressLemmas.{programs_begin}
+use Rattle.gos_progress.proofs.ProgressLemmas.{programs_begin, runs_go_on, unasked_runs_go_on}
 use Rattle.gos_progress.proofs.laws.progress.Goals as goal
 
-pub returns : goal.returns
-returns c = programs_begin
+pub returns-clause-begin : goal.returns-clause-begin
+returns-clause-begin c = programs_begin
+
+pub returns-clause-runs : goal.returns-clause-runs
+returns-clause-runs c = runs_go_on
+
+pub returns-clause-unasked : goal.returns-clause-unasked
+returns-clause-unasked c = unasked_runs_go_on

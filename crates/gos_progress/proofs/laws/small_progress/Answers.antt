@@ -1,4 +1,4 @@
-use Rattle.gos_progress.proofs.SmallLemmas.{skip_begins, wait_is_stalled, function_import_waits}
+use Rattle.gos_progress.proofs.SmallLemmas.{skip_begins, wait_is_stalled, function_import_waits, waits_are_seen}
 use Rattle.gos_progress.proofs.laws.small_progress.Goals as goal
 
 pub returns-clause-skip : goal.returns-clause-skip
@@ -9,3 +9,6 @@ returns-clause-wait c = wait_is_stalled
 
 pub returns-clause-function : goal.returns-clause-function
 returns-clause-function c = function_import_waits
+
+pub returns-clause-waits : goal.returns-clause-waits
+returns-clause-waits c = waits_are_seen
