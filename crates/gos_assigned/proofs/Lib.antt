@@ -1,0 +1,4 @@
+pub mod TableLemmas
+pub mod SideLemmas
+pub mod ElementLemmas
+pub mod SmallLemmas

@@ -1,0 +1,5 @@
+pub mod Writes
+pub mod Tables
+pub mod Sides
+pub mod Elements
+pub mod SmallWrites
