@@ -49,9 +49,9 @@ taken_by w p n slot r e = absurd (none-some r e)
 pub assigns_do : AssignsDo
 assigns_do w =
     record {
-      begins = λ n r e. by_row (λ (x : Row). Leads x 0 (at Value n) (Req 0) 0) _ r e (refl, refl);
+      begins = λ n v r e. by_row (λ (x : Row). Leads x v (at Value n) (Req 0) 0) _ r e (refl, refl);
       writes = λ n v r e. by_row (λ (x : Row). Leads x v (at Writing n) (Req 1) v) _ r e (refl, refl);
-      ends = λ n r e. by_row (λ (x : Row). Leads x 0 (at Rest n) (Ans 2) 0) _ r e (refl, refl);
+      ends = λ n v r e. by_row (λ (x : Row). Leads x v (at Rest n) (Ans 2) 0) _ r e (refl, refl);
       no_other = λ q slot r e. taken_by w q.phase q.number slot r e;
     }
 

@@ -23,9 +23,9 @@ Leads r v q slot n = (r.next v ≡ q) × (r.puts v ≡ put slot n ∷ [])
 -- what an Assign of w bits does: run, it asks for the number; it writes the number that it is given; and when that is done
 -- it answers
 pub record AssignDoes (w : ℕ) : Type 0 where
-  pub begins : (n : ℕ) (r : Row) → firing (Assign w) (at Rest n) (Req 2) ≡ Some r → Leads r 0 (at Value n) (Req 0) 0
+  pub begins : (n v : ℕ) (r : Row) → firing (Assign w) (at Rest n) (Req 2) ≡ Some r → Leads r v (at Value n) (Req 0) 0
   pub writes : (n v : ℕ) (r : Row) → firing (Assign w) (at Value n) (Ans 0) ≡ Some r → Leads r v (at Writing n) (Req 1) v
-  pub ends : (n : ℕ) (r : Row) → firing (Assign w) (at Writing n) (Ans 1) ≡ Some r → Leads r 0 (at Rest n) (Ans 2) 0
+  pub ends : (n v : ℕ) (r : Row) → firing (Assign w) (at Writing n) (Ans 1) ≡ Some r → Leads r v (at Rest n) (Ans 2) 0
   pub no_other :
       (q : State) (slot : Slot) (r : Row) → firing (Assign w) q slot ≡ Some r
       → ((q.phase ≡ Rest) × (slot ≡ Req 2)) ⊎ (((q.phase ≡ Value) × (slot ≡ Ans 0)) ⊎ ((q.phase ≡ Writing) × (slot ≡ Ans 1)))

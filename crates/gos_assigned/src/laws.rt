@@ -1,4 +1,5 @@
 // What an assignment does. Each theorem is the contract of a function that does nothing.
+ghost use Rattle.gos_assigned.specs.Cuts.{CutsOfWrites, EndsOfWrites};
 ghost use Rattle.gos_assigned.specs.Elements.{ElementsOfWrites};
 ghost use Rattle.gos_assigned.specs.Sides.{RightSideMoves, RightSideWaits, WriteRuns};
 ghost use Rattle.gos_assigned.specs.SmallWrites.{LitDoesNotWrite, OneIsWritten, SevenBitsDoNotFit, UnjoinedDoesNotWrite};
@@ -24,6 +25,13 @@ pub fn right_sides()
 /// writes, the write, the answer, or an input.
 pub fn elements_of_writes()
     ensures { ElementsOfWrites }
+{}
+
+/// What N's region makes of each of these: it is asked when the Assign is run, it answers when the Assign takes its number, and
+/// of the write, of its answer and of the whole's run and answer it knows nothing.
+pub fn cuts_of_writes()
+    ensures ends { EndsOfWrites }
+    ensures cuts { CutsOfWrites }
 {}
 
 /// The plan of `x := 8:1` is made of that of `8:1` and an Assign of eight bits. Another part, another width or a write that

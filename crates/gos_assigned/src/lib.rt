@@ -5,4 +5,4 @@
 
 mod laws;
 
-pub use laws::{elements_of_writes, right_sides, small_writes, tables_are_right};
+pub use laws::{cuts_of_writes, elements_of_writes, right_sides, small_writes, tables_are_right};
