@@ -1,0 +1,5 @@
+pub mod TableLemmas
+pub mod SideLemmas
+pub mod ElementLemmas
+pub mod CutLemmas
+pub mod SmallLemmas
