@@ -1,16 +1,16 @@
-mod RegionLemmas
-mod DriverLemmas
-mod StepLemmas
-mod ProtocolLemmas
-mod LinkedLemmas
-mod PlainTurnLemmas
-mod OutputLemmas
-mod OpenLemmas
-mod OrderLemmas
-mod RegularLemmas
-mod MoveLemmas
-mod QuietLemmas
-mod StandLemmas
-mod MatchLemmas
-mod RealisesLemmas
-mod SmallParallelLemmas
+pub mod RegionLemmas
+pub mod DriverLemmas
+pub mod StepLemmas
+pub mod ProtocolLemmas
+pub mod LinkedLemmas
+pub mod PlainTurnLemmas
+pub mod OutputLemmas
+pub mod OpenLemmas
+pub mod OrderLemmas
+pub mod RegularLemmas
+pub mod MoveLemmas
+pub mod QuietLemmas
+pub mod StandLemmas
+pub mod MatchLemmas
+pub mod RealisesLemmas
+pub mod SmallParallelLemmas

@@ -60,7 +60,15 @@ answer_fits (Var w) ground (suc (suc h)) c v is small = absurd (none-some c is)
 answer_fits (Pair a b) ground h c v is small = absurd ground
 answer_fits (Fun a b) ground h c v is small = absurd ground
 
-module _ (p : Plan) (ground : AllGround p.imports) (differ : NamesDiffer p.imports) (outcome : p.outcome ≡ Com) where
+-- a command or an expression has one handshake
+done_contact : (t : Type') → IsDone t → (n : ℕ) × (turned_if (slice_get (contacts_of t) 0) ≡ Some (asks 0 n))
+done_contact Com done = (0, refl)
+done_contact (Exp w) done = (w, refl)
+done_contact (Var w) done = absurd done
+done_contact (Pair a b) done = absurd done
+done_contact (Fun a b) done = absurd done
+
+module _ (p : Plan) (ground : AllGround p.imports) (differ : NamesDiffer p.imports) (done : IsDone p.outcome) where
   abbrev Agree : List Label → List Pass → Type 0
   Agree ls past = (e : End) (k : Contact) → contact_at p e ≡ Some k → IsPortEnd e → told_open p ls e ≡ is_open past e
 
@@ -73,14 +81,11 @@ module _ (p : Plan) (ground : AllGround p.imports) (differ : NamesDiffer p.impor
   abbrev Permitted : List Label → End → ℕ → Direction → Type 0
   Permitted ls e v way = Allowed p.imports ls (label_at p e way v).port (label_at p e way v).event (label_at p e way v).value
 
-  result_contact : contact_at p (ResultEnd 0) ≡ Some (asks 0 0)
-  result_contact = ap (λ (t : Type'). turned_if (slice_get (contacts_of t) 0)) outcome
-
-  result_done : IsDone p.outcome
-  result_done = subst IsDone (sym outcome) tt
+  result_contact : (n : ℕ) × (contact_at p (ResultEnd 0) ≡ Some (asks 0 n))
+  result_contact = done_contact p.outcome done
 
   at_result : (v : ℕ) (ls : List Label) (past : List Pass) → Agree ls past → v < 1 → is_open past (ResultEnd 0) ≡ false → Permitted ls (ResultEnd 0) v Request
-  at_result v ls past agree small shut = (refl, omega (arith, small), agree (ResultEnd 0) (asks 0 0) result_contact tt ∙ shut)
+  at_result v ls past agree small shut = (refl, omega (arith, small), agree (ResultEnd 0) (asks 0 result_contact.0) result_contact.1 tt ∙ shut)
 
   at_import : (i h v : ℕ) (ls : List Label) (past : List Pass) (c : Contact) → contact_at p (ImportEnd i h) ≡ Some c → Agree ls past → v < 2 ^ c.answer_bits
       → is_open past (ImportEnd i h) ≡ true → Permitted ls (ImportEnd i h) v Answer
@@ -107,9 +112,9 @@ module _ (p : Plan) (ground : AllGround p.imports) (differ : NamesDiffer p.impor
       (at_import i h v ls past c there agree (subst (λ r. v < 2 ^ bits_of c (way_put r)) (sym role) small)
       (subst (λ r. ComesInTurn past (ImportEnd i h) (way_put r)) (sym role) turn))
   at_end (ResultEnd h) v ls past c there port agree small turn =
-      let (none, role) = result_asks p.outcome result_done h c there in
-      let is : Some (asks 0 0) ≡ Some c = sym result_contact ∙ (ap (λ k. contact_at p (ResultEnd k)) (sym none) ∙ there) in
-      let here = subst (λ (x : Contact). v < 2 ^ bits_of x (way_put x.role)) (sym (same_Some (asks 0 0) c is)) small in
+      let (none, role) = result_asks p.outcome done h c there in
+      let is : Some (asks 0 result_contact.0) ≡ Some c = sym result_contact.1 ∙ (ap (λ k. contact_at p (ResultEnd k)) (sym none) ∙ there) in
+      let here = subst (λ (x : Contact). v < 2 ^ bits_of x (way_put x.role)) (sym (same_Some (asks 0 result_contact.0) c is)) small in
       let shut = subst (λ k. ComesInTurn past (ResultEnd k) (way_put c.role)) none turn in
       subst (λ k. Permitted ls (ResultEnd k) v (way_put c.role)) (sym none)
       (subst (λ r. Permitted ls (ResultEnd 0) v (way_put r)) role
@@ -137,7 +142,7 @@ module _ (p : Plan) (ground : AllGround p.imports) (differ : NamesDiffer p.impor
       subst (λ r. is_output (label_at p (ImportEnd i h) (way_taken r) v) ≡ true) role
       (ap (λ q. is_output_at q (event_number Request h)) (ap port_if at) ∙ asks_event Request h)
   out_shown (ResultEnd h) v c there port =
-      let (none, role) = result_asks p.outcome result_done h c there in
+      let (none, role) = result_asks p.outcome done h c there in
       subst (λ r. is_output (label_at p (ResultEnd h) (way_taken r) v) ≡ true) role (turned_true (is_answer (event_number Answer h)) (asks_event Answer h))
 
   no_input : (e : End) (v : ℕ) (ls : List Label) (c : Contact) → contact_at p e ≡ Some c → IsPortEnd e

@@ -42,8 +42,8 @@ module _
       let zs = right_list d f g r p q is literals ground xs s t fit runs in
       let left_runs = left_runs_on d f g r p q is literals ground xs s t fit runs in
       let right_runs = right_runs_on d f g r p q is literals ground xs s t fit runs in
-      let left_keeps = in_turn_keeps p left.all_ground left.names is.left.outcome ys (cut_tokens f p s) (cut_tokens f p t) left_runs lefts in
-      let right_keeps = in_turn_keeps q right.all_ground right.names is.right.outcome zs (cut_tokens g q s) (cut_tokens g q t) right_runs rights in
+      let left_keeps = in_turn_keeps p left.all_ground left.names (subst IsDone (sym is.left.outcome) tt) ys (cut_tokens f p s) (cut_tokens f p t) left_runs lefts in
+      let right_keeps = in_turn_keeps q right.all_ground right.names (subst IsDone (sym is.right.outcome) tt) zs (cut_tokens g q s) (cut_tokens g q t) right_runs rights in
       let left_done = left_means (cut_tokens f p s) (cut_tokens f p t) ys (idle_is_cut f r p s idle) left_runs left_keeps in
       let right_done = right_means (cut_tokens g q s) (cut_tokens g q t) zs (idle_is_cut g r q s idle) right_runs right_keeps in
       matches d f g r p q is literals ground m n left.typed right.typed xs s t [] [] [] fit runs linked turn (neat_first r s idle) Idle Idle Idle

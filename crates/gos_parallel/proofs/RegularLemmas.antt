@@ -30,7 +30,7 @@ done_in_turn : (p : Plan) → AllGround p.imports → NamesDiffer p.imports → 
     → Runs p ys s t → InTurn p [] ys → Done p s ys
 done_in_turn p ground differ outcome regular s t ys rests runs turn =
     let done = subst IsDone (sym outcome) tt in
-    let protocol = in_turn_keeps p ground differ outcome ys s t runs turn in
+    let protocol = in_turn_keeps p ground differ done ys s t runs turn in
     let inputs = protocol_keeps_turns p ys s t regular ground differ done rests runs protocol in
     let (orderly, outputs) = regular s t ys rests runs inputs in
     record {

@@ -1,0 +1,9 @@
+mod RegionLemmas
+mod DriverLemmas
+mod StepLemmas
+mod LinkedLemmas
+mod OutputLemmas
+mod OpenLemmas
+mod OrderLemmas
+mod RegularLemmas
+mod SmallBlockLemmas

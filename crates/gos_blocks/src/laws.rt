@@ -1,0 +1,17 @@
+// What the plan of a block does. Each theorem is the contract of a function that does nothing.
+ghost use Rattle.gos_blocks.specs.Block.{BlockIsRegular};
+ghost use Rattle.gos_blocks.specs.SmallBlocks.{NewSkipIsBlock, VariableIsNeeded, WidthIsNeeded, OtherPartIsNot};
+
+/// Where the body's plan is regular the whole is.
+pub fn blocks()
+    ensures regular { BlockIsRegular }
+{}
+
+/// The plan of `new x : 1 in skip` is a block. Without an import for the variable, with a variable of another width, or with
+/// another part in the place of Local it isn't.
+pub fn small_blocks()
+    ensures block { NewSkipIsBlock }
+    ensures variable { VariableIsNeeded }
+    ensures width { WidthIsNeeded }
+    ensures other { OtherPartIsNot }
+{}
