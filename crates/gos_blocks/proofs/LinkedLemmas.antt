@@ -248,7 +248,6 @@ module _ (r : Plan) (b : Block) (is : IsBlock r b) (literals : All LiteralFits r
       let up : is_open past (ImportEnd j k) ≡ true = subst (λ w. ComesInTurn past (ImportEnd j k) w) way turn in
       let clash : true ≡ false = sym up ∙ linked.others j k none in cc clash
 
-
   -- both passes of a served handshake
   served_step : (h v n : ℕ) (past own : List Pass) (s t : Tokens) → way_out (contact_at b.body (ImportEnd b.place h)) ≡ Request
       → way_in (contact_at b.body (ImportEnd b.place h)) ≡ Answer → Linked b past own s → (t.state b.own).phase ≡ (s.state b.own).phase

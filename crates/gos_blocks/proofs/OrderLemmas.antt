@@ -141,13 +141,13 @@ module _ (r : Plan) (b : Block) (is : IsBlock r b) (literals : All LiteralFits r
       way = ap way_out there ∙ ap way_taken role
 
       does : Does b.body (Out e v) (cut_tokens b.cut b.body s) (with_token b.body e Request None (cut_tokens b.cut b.body s))
-      does =
-          (
-            tt,
-            subst (λ (x : Option Contact). Passes b.body (Out e v) x (cut_tokens b.cut b.body s) (with_token b.body e Request None (cut_tokens b.cut b.body s))) (sym there)
-                (ap (λ ro. token_at b.body (cut_tokens b.cut b.body s) e (way_taken ro)) role ∙ here,
-                ap (λ ro. with_token b.body e (way_taken ro) None (cut_tokens b.cut b.body s)) (sym role)),
-          )
+      does = (
+        tt,
+        subst (λ (x : Option Contact). Passes b.body (Out e v) x (cut_tokens b.cut b.body s) (with_token b.body e Request None (cut_tokens b.cut b.body s))) (sym there) (
+          ap (λ ro. token_at b.body (cut_tokens b.cut b.body s) e (way_taken ro)) role ∙ here,
+          ap (λ ro. with_token b.body e (way_taken ro) None (cut_tokens b.cut b.body s)) (sym role),
+        ),
+      )
 
       keeps : OutputsKeepTurns b.body own (Out e v ∷ [])
       keeps = ready (Out e v ∷ []) (with_token b.body e Request None (cut_tokens b.cut b.body s)) (with_token b.body e Request None (cut_tokens b.cut b.body s), does, refl) tt

@@ -107,10 +107,10 @@ result_joined t p m d r =
     elim (joint_or_none p.joints (ResultEnd 0)) [
       | inl found ↦ found
       | inr none ↦
-        let does = lost p first.0 first.1 none in
-        let matched =
-        (means_done t p m d r resting resting (request ∷ []) (resting_idle p) (resting, does, refl) (request_keeps p first.0 first.1)).0 in
-        absurd (never p t m first.0 d r first.1 (matched.1 resting does))
+          let does = lost p first.0 first.1 none in
+          let matched =
+          (means_done t p m d r resting resting (request ∷ []) (resting_idle p) (resting, does, refl) (request_keeps p first.0 first.1)).0 in
+          absurd (never p t m first.0 d r first.1 (matched.1 resting does))
     ]
 
 one_shake : (t : Type') (j : ℕ) → IsDone t → j < count t → 0 ≡ j
