@@ -2,7 +2,7 @@
 --
 -- Along a list whose inputs come in turn the body's result is open where the part is active, the variable's handshakes are closed, and
 -- another import of the body is open where that of the whole is (`Linked`). So the inputs of the body come in turn (`list_in_turn`).
-use Rattle.std.specs.Prelude.{◌≡◌, ◌≢◌, ℕ, zero, suc, Bool, true, false, List, [], ◌∷◌, ◌++◌, Option, Some, None, All, slice_get, if◌then◌else◌}
+use Rattle.std.specs.Prelude.{◌≡◌, ◌≢◌, ℕ, Bool, true, false, List, [], ◌∷◌, ◌++◌, Option, Some, None, All, slice_get, if◌then◌else◌}
 use Rattle.std.proofs.Common.{refl, sym, ap, subst, inl, ◌∙◌}
 use Rattle.gos_types.specs.Types.{Type', Var}
 use Rattle.gos_netlist.specs.Events.{Direction, Request, Answer}
@@ -14,7 +14,7 @@ use Rattle.gos_plan.specs.Tokens.{Tokens, Element, Fire, Out, In, way_put, Does,
 use Rattle.gos_plan.specs.TokenBits.{LiteralFits, AllFit}
 use Rattle.gos_plan.proofs.JointLemmas.{same_is, same_itself}
 use Rattle.gos_plan.proofs.TokenBitsLemmas.{all_stay_fit}
-use Rattle.gos_webs.specs.Cutting.{Cut, StandsIn, cut_tokens}
+use Rattle.gos_webs.specs.Cutting.{StandsIn, cut_tokens}
 use Rattle.gos_webs.proofs.CutLemmas as cuts
 use Rattle.gos_realises.specs.Regular.{Pass, pass, way_in, way_out, is_request, is_open, ComesInTurn}
 use Rattle.gos_realises.specs.Realises.{AllGround}

@@ -7,11 +7,10 @@ use Rattle.std.proofs.lemmas.Option.{slice_get_within}
 use Rattle.gos_types.specs.declared.shakes.Role.TheVariants.{Serve}
 use Rattle.gos_netlist.specs.Events.{Direction, Request, Answer}
 use Rattle.gos_plan.specs.Kinds.{Part, Contact}
-use Rattle.gos_plan.specs.Firing.{Rest, Slot, Token, Row, at, firing}
+use Rattle.gos_plan.specs.Firing.{Rest, Slot, Token, Row, at}
 use Rattle.gos_plan.specs.Plans.{End, PartEnd, ImportEnd, ResultEnd, Plan, contact_at, contacts_of_import, same_end}
-use Rattle.gos_plan.specs.Tokens.{Tokens, Element, Fire, Out, In, places_of, token_at, with_token, with_state, end_of, way_of, way_taken, way_put, firing_of, Passes, Does}
+use Rattle.gos_plan.specs.Tokens.{Tokens, Element, Fire, Out, In, token_at, with_token, with_state, end_of, way_of, way_taken, way_put, firing_of, Passes, Does}
 use Rattle.gos_plan.specs.Orderly.{Open, handshake_at, with_open, after_taken, after_put, ComesWell, AllComeWell, after_puts, ComesInOrder}
-use Rattle.gos_plan.proofs.JointLemmas.{same_is}
 use Rattle.gos_plan.proofs.AskingLemmas.{TakesAsking, PutsAsking, row_asks}
 use Rattle.gos_plan.proofs.ProjectionLemmas.{taken_other, puts_other}
 use Rattle.gos_webs.specs.Cutting.{Cut, lies_at, StandsIn, cut_tokens}
@@ -21,7 +20,7 @@ use Rattle.gos_realises.specs.Realises.{AllGround}
 use Rattle.gos_realises.proofs.ToldLemmas.{there_is}
 use Rattle.gos_realises.proofs.InputLemmas.{import_serves, one_ground}
 use Rattle.gos_parallel.proofs.StepLemmas.{Local, fires, puts_out, takes_in}
-use Rattle.gos_parallel.proofs.OpenLemmas.{opened_so, not_same, comes_of, comes_by}
+use Rattle.gos_parallel.proofs.OpenLemmas.{opened_so, comes_of}
 use Rattle.gos_blocks.specs.Block.{Block, IsBlock}
 use Rattle.gos_blocks.proofs.RegionLemmas as region
 use Rattle.gos_blocks.proofs.RegionLemmas.{Held, result_held}

@@ -5,7 +5,7 @@
 use Rattle.std.specs.Prelude.{◌≡◌, ◌<◌, ◌⊎◌, ℕ, zero, suc, ◌+◌, Bool, true, false, List, [], ◌∷◌, ◌++◌, Option, Some, None, All, slice_get, if◌then◌else◌}
 use Rattle.std.proofs.Common.{arith, refl, sym, ap, subst, inl, inr, ◌∙◌}
 use Rattle.std.proofs.lemmas.Option.{none-some, same_Some}
-use Rattle.gos_types.specs.Types.{Type', Var}
+use Rattle.gos_types.specs.Types.{Type'}
 use Rattle.gos_types.specs.declared.shakes.Role.TheVariants.{Serve, Ask}
 use Rattle.gos_netlist.specs.Events.{Direction, Request, Answer}
 use Rattle.gos_plan.specs.Kinds as kinds
@@ -22,7 +22,7 @@ use Rattle.gos_plan.proofs.HeldLemmas.{nothing_there}
 use Rattle.gos_plan.proofs.DecidedLemmas.{one_state}
 use Rattle.gos_plan.proofs.ProjectionLemmas.{named}
 use Rattle.gos_sessions.specs.Sessions as sessions
-use Rattle.gos_webs.specs.Cutting.{Cut, lies_at, StandsIn, cut_tokens}
+use Rattle.gos_webs.specs.Cutting.{lies_at, StandsIn, cut_tokens}
 use Rattle.gos_webs.proofs.CutLemmas as cuts
 use Rattle.gos_realises.specs.Regular.{Pass, is_request, is_open, count, way_out, OutputsKeepTurns}
 use Rattle.gos_realises.specs.Realises.{AllGround}
@@ -38,7 +38,7 @@ use Rattle.gos_blocks.proofs.DriverLemmas.{begin_row, read_row, write_row, end_r
 use Rattle.gos_blocks.proofs.RegionLemmas as region
 use Rattle.gos_blocks.proofs.RegionLemmas.{Held, result_held}
 use Rattle.gos_blocks.proofs.StepLemmas.{Step, of_body, asked, told, starts, read, write, ended, lost, Served, Differ, step, gate_at_result, gate_at_part, gate_apart, asked_there, own_state}
-use Rattle.gos_blocks.proofs.LinkedLemmas.{runs_body, Stage, Linked, when_starting, when_working, turn_append, past_itself, seen, way_asked, way_told, variable_contact, asked_turn, not_lost, linked_step, fits_on, body_list}
+use Rattle.gos_blocks.proofs.LinkedLemmas.{runs_body, Linked, when_starting, when_working, turn_append, past_itself, seen, way_asked, way_told, variable_contact, asked_turn, not_lost, linked_step, fits_on, body_list}
 use Rattle.gos_blocks.proofs.OpenLemmas.{OpenAgree, IsApart, put_agrees, taken_agrees, put_well, firing_same, Lies, in_part, at_import, at_driver, lies, side_step}
 use Rattle.gos_blocks.proofs.OutputLemmas.{is_active}
 

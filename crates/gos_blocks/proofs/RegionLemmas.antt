@@ -2,7 +2,7 @@
 --
 -- The body's result is counted among its ends also where it stands in no joint: then the part asks in vain, and the body
 -- sees a request that is lost.
-use Rattle.std.specs.Prelude.{◌≡◌, ◌≢◌, ◌⊎◌, ℕ, zero, suc, Bool, true, false, List, [], ◌∷◌, Option, Some, None, nat_eq, slice_get}
+use Rattle.std.specs.Prelude.{◌≡◌, ◌≢◌, ◌⊎◌, ℕ, zero, suc, Bool, true, false, Option, Some, None, nat_eq, slice_get}
 use Rattle.std.proofs.Common.{arith, refl, sym, ap, subst, inl, inr, ◌∙◌}
 use Rattle.std.proofs.lemmas.Option.{none-some}
 use Rattle.gos_types.specs.Types.{Type', Com, Exp, Var, Pair, Fun, IsDone}
@@ -10,13 +10,13 @@ use Rattle.gos_netlist.specs.Events.{Direction, Request, Answer}
 use Rattle.gos_model.specs.Typing.{Imported}
 use Rattle.gos_plan.specs.Kinds as kinds
 use Rattle.gos_plan.specs.Kinds.{Part, Contact, asks, contacts_of}
-use Rattle.gos_plan.specs.Firing.{State, Token, Row, Slot}
+use Rattle.gos_plan.specs.Firing.{State, Slot}
 use Rattle.gos_plan.specs.Plans.{End, PartEnd, ImportEnd, ResultEnd, Plan, contact_at, contacts_of_import, same_end, turned_if}
-use Rattle.gos_plan.specs.Tokens.{Tokens, Out, In, IsPortEnd, places_of, held_at, with_held, token_at, with_token, with_state, with_puts, end_of, shake_of, way_of, fired, Passes, Does}
+use Rattle.gos_plan.specs.Tokens.{Tokens, Out, In, IsPortEnd, places_of, held_at, with_held, token_at, with_token, with_state, end_of, shake_of, Passes, Does}
 use Rattle.gos_plan.specs.Orderly.{named_by, handshake_at}
 use Rattle.gos_plan.proofs.JointLemmas.{Found, contained, found, has_place, joined, same_is, same_itself, stands_there}
 use Rattle.gos_sessions.specs.Sessions.{bits}
-use Rattle.gos_webs.specs.Cutting.{Cut, lies_at, StandsIn, cut_tokens}
+use Rattle.gos_webs.specs.Cutting.{lies_at, StandsIn, cut_tokens}
 use Rattle.gos_webs.proofs.MovedLemmas.{listed, same_bool}
 use Rattle.gos_webs.proofs.CutLemmas.{name_by, Owns, port_own, port_lies, one_end, asker_asks, asker_own, place_there, no_place, token_cut, token_put, token_lost, state_lost, stands_own, which_end, first_stands, last_stands}
 use Rattle.gos_realises.proofs.InputLemmas.{result_asks}

@@ -2,14 +2,12 @@
 --
 -- The last result is `step`: each element that is possible is of one of seven sorts (`Step`), and of each it is said what the body
 -- and the part make of it.
-use Rattle.std.specs.Prelude.{◌≡◌, ◌≢◌, ◌⊎◌, ◌&&◌, ◌<◌, ℕ, suc, Bool, true, false, List, [], ◌∷◌, ◌++◌, Option, Some, None, All, Contains, nat_eq, slice_get, if◌then◌else◌}
+use Rattle.std.specs.Prelude.{◌≡◌, ◌⊎◌, ◌&&◌, ◌<◌, ℕ, suc, Bool, true, false, List, [], ◌∷◌, ◌++◌, Option, Some, None, All, nat_eq, slice_get, if◌then◌else◌}
 use Rattle.std.proofs.Common.{arith, refl, sym, ap, subst, inl, inr, ◌∙◌}
-use Rattle.gos_types.specs.Types.{Type', IsDone}
 use Rattle.gos_netlist.specs.Events.{Direction, Request, Answer}
-use Rattle.gos_model.specs.Typing.{Imported}
-use Rattle.gos_plan.specs.Kinds.{Part, Contact, asks, contacts_of}
+use Rattle.gos_plan.specs.Kinds.{Part, Contact, asks}
 use Rattle.gos_plan.specs.Firing.{Phase, Rest, Active, State, Slot, Req, Ans, Token, Row, at}
-use Rattle.gos_plan.specs.Plans.{End, PartEnd, ImportEnd, ResultEnd, Joint, Plan, contact_at, same_end, stands_in, turned_if}
+use Rattle.gos_plan.specs.Plans.{End, PartEnd, ImportEnd, ResultEnd, Joint, Plan, contact_at, same_end, stands_in}
 use Rattle.gos_plan.specs.Tokens.{Tokens, Element, Fire, Out, In, places_of, same_way, held_at, with_held, token_at, with_token, with_state, with_puts, end_of, way_of, firing_of, fired, way_taken, Passes, Does, Runs}
 use Rattle.gos_plan.specs.TokenBits.{LiteralFits, AllFit}
 use Rattle.gos_plan.proofs.JointLemmas.{contained, found, one_joint, same_is, stands_there}

@@ -1,7 +1,7 @@
 -- The plan of `new x : 1 in skip`: it is a block, whose body is the plan of `skip` with an import that is not used.
 --
 -- Read first: Block; SmallPlans of gos_plan, SmallParallel of gos_parallel.
-use Rattle.std.specs.Prelude.{ℕ, zero, suc, [], ◌∷◌, Option, Some, None}
+use Rattle.std.specs.Prelude.{zero, suc, [], ◌∷◌, Option, Some, None}
 use Rattle.gos_types.specs.Types.{Com, Var}
 use Rattle.gos_model.specs.SmallPrograms.{c}
 use Rattle.gos_model.specs.Typing.{Imported}
