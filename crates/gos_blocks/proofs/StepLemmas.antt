@@ -1,6 +1,6 @@
 -- What an element of a block is: one of the body, or one of the part that serves its variable.
 --
--- The last result is `step`: each element that is possible is of one of seven sorts (`Step`), and of each it is said what the body
+-- The last result is `step`: each element that is possible is of one of eight sorts (`Step`), and of each it is said what the body
 -- and the part make of it.
 use Rattle.std.specs.Prelude.{◌≡◌, ◌⊎◌, ◌&&◌, ◌<◌, ℕ, suc, Bool, true, false, List, [], ◌∷◌, ◌++◌, Option, Some, None, All, nat_eq, slice_get, if◌then◌else◌}
 use Rattle.std.proofs.Common.{arith, refl, sym, ap, subst, inl, inr, ◌∙◌}
