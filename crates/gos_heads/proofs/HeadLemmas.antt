@@ -1,6 +1,6 @@
 -- Head expansion, by recursion on the type: what is joined to a plan of a head leaves a head below another one.
-use Rattle.std.specs.Prelude.{◌≡◌, ℕ, Bool, false, List, [], ◌∷◌, ◌++◌, ◌||◌, map, nat_eq, ◌^◌, ◌<◌}
-use Rattle.std.proofs.Common.{refl, sym, ◌∙◌, ap, subst, inl, inr}
+use Rattle.std.specs.Prelude.{◌≡◌, ℕ, false, List, [], ◌∷◌, ◌++◌, ◌||◌, map, nat_eq}
+use Rattle.std.proofs.Common.{refl, sym, ◌∙◌, ap, subst, inr}
 use Rattle.std.proofs.lemmas.List.{append-nil}
 use Rattle.gos_types.specs.Types.{Type', Com, Exp, Var, Pair, Fun}
 use Rattle.gos_model.specs.Terms.{Term, Lit, App, Fst, Snd, Assign, Deref}
@@ -9,11 +9,9 @@ use Rattle.gos_plan.specs.Plans.{PartEnd, ResultEnd, Plan}
 use Rattle.gos_plan.specs.Joining.{Link, is_joined, left_in, all_left, IsJoining}
 use Rattle.gos_realises.specs.Regular.{count}
 use Rattle.gos_realises.specs.Links.{IsJoined}
-use Rattle.gos_realises.specs.Matched.{RealisesDone}
-use Rattle.gos_realises.specs.Wirings.{link, reading, writing, side, applying}
-use Rattle.gos_realises.specs.Realises.{HaveOtherNames, Suits, Means, Realises}
+use Rattle.gos_realises.specs.Wirings.{link, writing, applying}
+use Rattle.gos_realises.specs.Realises.{HaveOtherNames, Suits, Means}
 use Rattle.gos_joined.proofs.OriginLemmas.{import_of}
-use Rattle.gos_contexts.specs.Widening.{AreAmong}
 use Rattle.gos_applied.proofs.SeamLemmas.{and_none, listed, left_none, listed_imports}
 use Rattle.gos_applied.proofs.SideLemmas.{side_imports}
 use Rattle.gos_applied.proofs.ReadingLemmas.{reading_imports}

@@ -2,7 +2,7 @@
 use Rattle.std.specs.Prelude.{[]}
 use Rattle.std.proofs.Common.{refl, inl, inr}
 use Rattle.gos_types.specs.Types.{Com}
-use Rattle.gos_model.specs.Terms.{Skip, Bound, Both}
+use Rattle.gos_model.specs.Terms.{Skip, Bound}
 use Rattle.gos_model.specs.Typing.{Thing, Typed}
 use Rattle.gos_plan.specs.SmallPlans.{skip_plan}
 use Rattle.gos_realises.proofs.SkipLemmas.{skip_is_realised}

@@ -1,15 +1,18 @@
 -- A typed term has its type under more imports, and terms whose imports have other names share nothing.
-use Rattle.std.specs.Prelude.{◌≡◌, ◌≢◌, ℕ, zero, suc, Bool, true, false, List, [], ◌∷◌, ◌++◌, ◌⊎◌, length, Some, Contains, nat_lt, if◌then◌else◌, slice_get}
+use Rattle.std.specs.Prelude.{◌≡◌, ℕ, zero, suc, ◌-◌, Bool, true, false, List, [], ◌∷◌, ◌++◌, ◌⊎◌, length, Some, Contains, nat_lt, if◌then◌else◌, slice_get}
 use Rattle.std.specs.Str.{bytes_eq}
 use Rattle.std.proofs.Common.{refl, sym, ◌∙◌, ap, subst, arith, nat_tests, inl, inr}
 use Rattle.std.proofs.lemmas.Option.{slice_get_within}
 use Rattle.std.proofs.lemmas.List.Elements.{Contains-append_cases}
 use Rattle.gos_types.specs.Types.{Type', Com, Exp, Var, Pair, Fun}
-use Rattle.gos_model.specs.Terms.{Name, Term, Skip, Lit, Bound, Import, Lam, App, Both, Fst, Snd, Seq, Par, If, While, Assign, Deref, New, Not, Bin, Loc, Scope, Wait, Held, Put}
+use Rattle.gos_model.specs.Terms.{Name, Term, Skip, Lit, Bound, Import, Lam, App, Both, Fst, Snd, Seq, Par, If, While, Assign, Deref, New, Not, Bin}
 use Rattle.gos_model.specs.Typing.{Imported, Imports, import_type, Thing, Variable, Named, things, Apart, Typed}
 use Rattle.gos_realises.specs.Realises.{HaveOtherNames}
-use Rattle.gos_contexts.specs.Widening.{AreAmong}
 use Rattle.gos_renumbered.proofs.ImportLemmas.{has_type, name_is}
+
+-- the first imports have their types among the second
+abbrev AreAmong : Imports → Imports → Type 0
+AreAmong i j = (x : Name) (t : Type') → import_type i x ≡ Some t → import_type j x ≡ Some t
 
 pub typed_more : (i j : Imports) → AreAmong i j → (m : Term) (g : List Type') (t : Type') → Typed i g m t → Typed j g m t
 typed_more i j f Skip g t h = h

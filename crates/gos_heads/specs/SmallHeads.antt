@@ -1,7 +1,7 @@
 -- Small heads: what unfolds at its head, and what doesn't.
 --
 -- Read first: Heads; SmallPlans of gos_plan.
-use Rattle.gos_types.specs.Types.{Type', Com}
+use Rattle.gos_types.specs.Types.{Com}
 use Rattle.gos_model.specs.Terms.{Term, Skip, Bound, Lam, App, Both, Fst, Seq}
 use Rattle.gos_plan.specs.SmallPlans.{skip_plan}
 use Rattle.gos_realises.specs.Realises.{Realises}
