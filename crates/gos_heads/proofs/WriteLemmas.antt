@@ -1,7 +1,7 @@
 -- Assignments whose left sides are a head and what it unfolds to: the left side waits until the right one is a value,
 -- and then unfolds.
 use Rattle.std.specs.Prelude.{◌≡◌, ℕ, zero, suc, []}
-use Rattle.std.proofs.Common.{refl, sym, subst, arith, inl, inr}
+use Rattle.std.proofs.Common.{refl, sym, ◌∙◌, ap, subst, arith, inl, inr}
 use Rattle.gos_model.specs.Terms.{Term, Lit, Assign, Put}
 use Rattle.gos_model.specs.Stores.{Store}
 use Rattle.gos_model.specs.Typing.{Imports}
@@ -31,7 +31,8 @@ holds : (i : Imports) (m : Term) (k w : ℕ) (a : Act) (c : Config) → ActsTo i
 holds i m k w Computing Idle h = absurd h
 holds i m k w Computing (Running t s) (inl (j, v, e, to, same)) =
     let number : k ≡ j = cc e in
-    record { act = refl; config = λ n. Running ((to ∙ (λ l. Put m (sym number l))) n) (same n) }
+    let left : t ≡ Put m k = to ∙ ap (λ (x : ℕ). Put m x) (sym number) in
+    record { act = refl; config = λ n. Running (left n) (same n) }
 holds i m k w Computing (Running t s) (inr (l, e, inl h)) = absurd h
 holds i m k w Computing (Running t s) (inr (l, e, inr h)) = absurd h
 holds i m k w (Showing o) Idle h = absurd (grind (arith, h))
