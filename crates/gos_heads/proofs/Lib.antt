@@ -1,0 +1,7 @@
+mod OneWayLemmas
+pub mod SimulationLemmas
+mod ReadyLemmas
+mod WriteLemmas
+pub mod TypingLemmas
+pub mod HeadLemmas
+mod SmallHeadLemmas
