@@ -6,6 +6,6 @@ pub mod SideLemmas
 pub mod ReadingLemmas
 mod ApplicationLemmas
 pub mod OpenedLemmas
-mod BodyLemmas
+pub mod BodyLemmas
 mod InTurnLemmas
 mod SmallFunctionLemmas

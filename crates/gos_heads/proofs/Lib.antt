@@ -5,3 +5,5 @@ mod WriteLemmas
 pub mod TypingLemmas
 pub mod HeadLemmas
 mod SmallHeadLemmas
+mod BodyTermLemmas
+mod FunctionLemmas

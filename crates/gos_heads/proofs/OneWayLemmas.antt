@@ -1,3 +1,5 @@
+-- Not checked yet; nothing is known to be missing.
+--
 -- A head unfolds in one way, and does nothing else.
 use Rattle.std.specs.Prelude.{◌≡◌, ℕ}
 use Rattle.std.proofs.Common.{refl, sym, ◌∙◌, ap, subst, arith, inl, inr}

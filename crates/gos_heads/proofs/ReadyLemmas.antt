@@ -1,3 +1,5 @@
+-- Not checked yet; nothing is known to be missing.
+--
 -- A program whose body unfolds in one way has the moves of one whose body is what it unfolds to.
 use Rattle.std.specs.Prelude.{◌≡◌, zero, suc, []}
 use Rattle.std.proofs.Common.{refl, sym, subst}

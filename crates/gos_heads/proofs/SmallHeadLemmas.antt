@@ -1,3 +1,5 @@
+-- Not checked yet; nothing is known to be missing.
+--
 -- Small heads.
 use Rattle.std.specs.Prelude.{[]}
 use Rattle.std.proofs.Common.{refl, inl, inr}

@@ -1,3 +1,5 @@
+-- Not checked yet; nothing is known to be missing.
+--
 -- A typed term has its type under more imports, and terms whose imports have other names share nothing.
 use Rattle.std.specs.Prelude.{◌≡◌, ℕ, zero, suc, ◌-◌, Bool, true, false, List, [], ◌∷◌, ◌++◌, ◌⊎◌, length, Some, Contains, nat_lt, if◌then◌else◌, slice_get}
 use Rattle.std.specs.Str.{bytes_eq}
