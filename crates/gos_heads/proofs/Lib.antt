@@ -7,3 +7,6 @@ pub mod HeadLemmas
 mod SmallHeadLemmas
 mod BodyTermLemmas
 mod FunctionLemmas
+mod SmallSuitLemmas
+pub mod PairLemmas
+mod SmallPairLemmas

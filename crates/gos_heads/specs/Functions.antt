@@ -1,5 +1,3 @@
--- Not checked yet.
---
 -- Functions: the plan of a function realises it, with any supplies, where the plan of its body realises the body.
 --
 -- Read first: Heads; Opened of gos_applied. The use of the function unfolds to the body with the argument in it.

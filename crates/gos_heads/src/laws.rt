@@ -1,6 +1,10 @@
 // What the definitions give. Each theorem is the contract of a function that does nothing.
+ghost use Rattle.gos_heads.specs.Functions.{FunctionIsRealised};
 ghost use Rattle.gos_heads.specs.Heads.{HeadIsRealised};
+ghost use Rattle.gos_heads.specs.Pairs.{BothIsOpen, BothIsRealised, FirstOfBothIsRealised, SecondOfBothIsRealised};
 ghost use Rattle.gos_heads.specs.SmallHeads.{ArgumentUnfolds, BelowUnfolds, FunctionIsNoHead, InsideIsNoHead, UnfoldedIsRealised};
+ghost use Rattle.gos_heads.specs.SmallPairs.{SideIsNumber, SideIsSkip};
+ghost use Rattle.gos_heads.specs.SmallSuits.{NumberSuitsNot, SkipSuits};
 
 /// A plan realises a term, at any type, where it realises what the term's head unfolds to.
 pub fn heads()
@@ -15,4 +19,29 @@ pub fn small_heads()
     ensures function { FunctionIsNoHead }
     ensures inside { InsideIsNoHead }
     ensures realised { UnfoldedIsRealised }
+{}
+
+/// The plan of a function realises it, with any supplies, where it suits it and the plan of its body realises the body.
+pub fn functions()
+    ensures { FunctionIsRealised }
+{}
+
+/// The plan of `skip` suits `skip`, and no number.
+pub fn small_suits()
+    ensures skip { SkipSuits }
+    ensures number { NumberSuitsNot }
+{}
+
+/// The plan of a pair realises it where its sides realise those of the pair, with no supplies and with any.
+pub fn pairs()
+    ensures first { FirstOfBothIsRealised }
+    ensures second { SecondOfBothIsRealised }
+    ensures both { BothIsRealised }
+    ensures supplied { BothIsOpen }
+{}
+
+/// The plan of `skip` realises the first side of `(skip, 0)`, but not the second.
+pub fn small_pairs()
+    ensures skip { SideIsSkip }
+    ensures number { SideIsNumber }
 {}
