@@ -1,4 +1,3 @@
--- Not checked yet, and missing: `pub mod BodyLemmas` in proofs of gos_applied, and the law in src.
 --
 -- The plan of a function realises it: its use unfolds to the body with the argument in it, which the body's plan realises.
 use Rattle.std.specs.Prelude.{◌≡◌, [], List, ◌∷◌, ◌++◌, Some, None, if◌then◌else◌, Bool}

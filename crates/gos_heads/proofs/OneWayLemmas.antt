@@ -1,4 +1,3 @@
--- Not checked yet; nothing is known to be missing.
 --
 -- A head unfolds in one way, and does nothing else.
 use Rattle.std.specs.Prelude.{◌≡◌, ℕ}
@@ -88,19 +87,19 @@ head_rests m n (inr h) = absurd h
 -- what is read or written does nothing before it is a location or a name
 deref_rests : (f n : Term) → UnfoldsHead f n → (i : Imports) (a : Act) (s : Store) (c : Config) → ActsTo i a s (Deref f) c → ⊥
 deref_rests f n h i Computing s Idle act = act
-deref_rests f n h i Computing s (Running t u) (inl (e, is, rest)) = not_place f n e.place is h
+deref_rests f n h i Computing s (Running t u) (inl (e, is, found, to, same)) = not_place f n e.place is h
 deref_rests f n h i Computing s (Running t u) (inr act) = act
 deref_rests f n h i (Showing o) s Idle act = grind (arith, act)
-deref_rests f n h i (Showing o) s (Running t u) (inl (inl (x, w, is, rest)), e) = not_import f n x is h
+deref_rests f n h i (Showing o) s (Running t u) (inl (inl (x, w, is, of_type, shown, to)), e) = not_import f n x is h
 deref_rests f n h i (Showing o) s (Running t u) (inl (inr act), e) = act
 deref_rests f n h i (Showing o) s (Running t u) (inr act, e) = act
 
 put_rests : (f n : Term) (k : ℕ) → UnfoldsHead f n → (i : Imports) (a : Act) (s : Store) (c : Config) → ActsTo i a s (Put f k) c → ⊥
 put_rests f n k h i Computing s Idle act = act
-put_rests f n k h i Computing s (Running t u) (inl (e, is, rest)) = not_place f n e.place is h
+put_rests f n k h i Computing s (Running t u) (inl (e, is, found, to, same)) = not_place f n e.place is h
 put_rests f n k h i Computing s (Running t u) (inr act) = act
 put_rests f n k h i (Showing o) s Idle act = grind (arith, act)
-put_rests f n k h i (Showing o) s (Running t u) (inl (inl (x, w, is, rest)), e) = not_import f n x is h
+put_rests f n k h i (Showing o) s (Running t u) (inl (inl (x, w, is, of_type, shown, to)), e) = not_import f n x is h
 put_rests f n k h i (Showing o) s (Running t u) (inl (inr act), e) = act
 put_rests f n k h i (Showing o) s (Running t u) (inr act, e) = act
 

@@ -1,4 +1,3 @@
--- Not checked yet; nothing is known to be missing.
 --
 -- A program whose body unfolds in one way has the moves of one whose body is what it unfolds to.
 use Rattle.std.specs.Prelude.{◌≡◌, zero, suc, []}
@@ -61,7 +60,7 @@ module _ (is : Imports) (m n : Term) (ready : IsReady m n) where
   idles c e (same d) is_idle = is_idle
   idles c e late is_idle = absurd (running m [] is_idle)
 
-  pub follows : Follows lagging prompt Late
+  follows : Follows lagging prompt Late
   follows = record { starts = same Idle; step = step; stalls = stalls; idles = idles }
 
 pub ready_is_realised : (p : Plan) (m n : Term) → IsReady m n → RealisesDone p n → RealisesDone p m

@@ -1,4 +1,3 @@
--- Not checked yet; nothing is known to be missing.
 --
 -- Programs with the same moves from related configurations: a plan realises the one where it realises the other.
 use Rattle.std.specs.Prelude.{◌≡◌, List, [], ◌∷◌}

@@ -1,4 +1,3 @@
--- Not checked yet; nothing is known to be missing.
 --
 -- Small heads.
 use Rattle.std.specs.Prelude.{[]}

@@ -1,4 +1,3 @@
--- Not checked yet; nothing is known to be missing.
 --
 -- A typed term has its type under more imports, and terms whose imports have other names share nothing.
 use Rattle.std.specs.Prelude.{◌≡◌, ℕ, zero, suc, ◌-◌, Bool, true, false, List, [], ◌∷◌, ◌++◌, ◌⊎◌, length, Some, Contains, nat_lt, if◌then◌else◌, slice_get}
@@ -41,24 +40,26 @@ typed_more i j f m g t h = absurd h
 -- imports are among those that have others before or behind
 pub among_first : (is js : Imports) → AreAmong is (is ++ js)
 among_first [] js x t h = absurd (cc h)
-among_first (i ∷ is) js x t h = by_test (bytes_eq i.name x) h
+among_first (i ∷ is) js x t h = by_test (bytes_eq i.name x) h (among_first is js x t)
   where
-    by_test : (b : Bool) → (if b then Some i.ty else import_type is x) ≡ Some t → (if b then Some i.ty else import_type (is ++ js) x) ≡ Some t
-    by_test true e = e
-    by_test false e = among_first is js x t e
+    by_test : (b : Bool) → (if b then Some i.ty else import_type is x) ≡ Some t
+        → (import_type is x ≡ Some t → import_type (is ++ js) x ≡ Some t)
+        → (if b then Some i.ty else import_type (is ++ js) x) ≡ Some t
+    by_test true e rest = e
+    by_test false e rest = rest e
 
 pub among_second : (is js : Imports) → HaveOtherNames is js → AreAmong js (is ++ js)
 among_second [] js other x t h = h
-among_second (i ∷ is) js other x t h = by_test (bytes_eq i.name x) refl
+among_second (i ∷ is) js other x t h =
+    by_test (bytes_eq i.name x) refl
+    (among_second is js (λ a b has_a has_b. other a b (suc has_a.0, (let small = has_a.1 in omega (arith, small)), has_a.2) has_b) x t h)
   where
-    rest : HaveOtherNames is js
-    rest a b (k, small, at) = other a b (suc k, omega (arith, small), at)
-
-    by_test : (b : Bool) → bytes_eq i.name x ≡ b → (if b then Some i.ty else import_type (is ++ js) x) ≡ Some t
-    by_test true test =
+    by_test : (b : Bool) → bytes_eq i.name x ≡ b → import_type (is ++ js) x ≡ Some t
+        → (if b then Some i.ty else import_type (is ++ js) x) ≡ Some t
+    by_test true test rest =
         let (j, has, named, typed) = has_type js x t h in
         absurd (other i j (0, omega arith, refl) has (name_is i.name x test ∙ sym (name_is j.name x named)))
-    by_test false test = among_second is js rest x t h
+    by_test false test rest = rest
 
 -- the name of an import of these
 pub record IsName (is : Imports) (x : Thing) : Type 0 where

@@ -1,4 +1,3 @@
--- Not checked yet; nothing is known to be missing.
 --
 -- Assignments whose left sides are a head and what it unfolds to: the left side waits until the right one is a value,
 -- and then unfolds.
@@ -93,7 +92,7 @@ module _ (is : Imports) (m n : Term) (k w : ℕ) (ready : IsReady (Put m k) (Put
   idles c e before is_idle = absurd (running (Assign m (Lit k w)) [] is_idle)
   idles c e behind is_idle = absurd (running (Put m k) [] is_idle)
 
-  pub follows : Follows lagging prompt Written
+  follows : Follows lagging prompt Written
   follows = record { starts = same Idle; step = step; stalls = stalls; idles = idles }
 
 pub writing_is_realised : (p : Plan) (m n : Term) (k w : ℕ) → IsReady (Put m k) (Put n k) → RealisesDone p (Assign n (Lit k w))
