@@ -1,4 +1,3 @@
---
 -- A body with its argument: supplied as an import, or put in for the bound variable.
 use Rattle.std.specs.Prelude.{◌≡◌, ℕ, suc, ◌≤◌, Bool, true, false, List, [], ◌∷◌, length, Option, Some, nat_eq, if◌then◌else◌, slice_get}
 use Rattle.std.specs.Str.{bytes_eq}

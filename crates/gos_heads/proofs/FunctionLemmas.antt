@@ -1,4 +1,3 @@
---
 -- The plan of a function realises it: its use unfolds to the body with the argument in it, which the body's plan realises.
 use Rattle.std.specs.Prelude.{◌≡◌, [], List, ◌∷◌, ◌++◌, Some, None, if◌then◌else◌, Bool}
 use Rattle.std.specs.Str.{bytes_eq}

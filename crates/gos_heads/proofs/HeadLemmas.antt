@@ -1,4 +1,3 @@
---
 -- Head expansion, by recursion on the type: what is joined to a plan of a head leaves a head below another one.
 use Rattle.std.specs.Prelude.{◌≡◌, ℕ, false, List, [], ◌∷◌, ◌++◌, ◌||◌, map, nat_eq}
 use Rattle.std.proofs.Common.{refl, sym, ◌∙◌, ap, subst, inr}

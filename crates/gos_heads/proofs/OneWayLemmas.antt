@@ -1,4 +1,3 @@
---
 -- A head unfolds in one way, and does nothing else.
 use Rattle.std.specs.Prelude.{◌≡◌, ℕ}
 use Rattle.std.proofs.Common.{refl, sym, ◌∙◌, ap, subst, arith, inl, inr}

@@ -1,4 +1,3 @@
---
 -- A program whose body unfolds in one way has the moves of one whose body is what it unfolds to.
 use Rattle.std.specs.Prelude.{◌≡◌, zero, suc, []}
 use Rattle.std.proofs.Common.{refl, sym, subst}

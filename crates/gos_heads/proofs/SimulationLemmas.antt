@@ -1,4 +1,3 @@
---
 -- Programs with the same moves from related configurations: a plan realises the one where it realises the other.
 use Rattle.std.specs.Prelude.{◌≡◌, List, [], ◌∷◌}
 use Rattle.std.proofs.Common.{refl, subst}

@@ -1,4 +1,3 @@
---
 -- Small heads.
 use Rattle.std.specs.Prelude.{[]}
 use Rattle.std.proofs.Common.{refl, inl, inr}

@@ -1,4 +1,3 @@
---
 -- Assignments whose left sides are a head and what it unfolds to: the left side waits until the right one is a value,
 -- and then unfolds.
 use Rattle.std.specs.Prelude.{◌≡◌, ℕ, zero, suc, []}
