@@ -1,5 +1,5 @@
 -- The plan of a function realises it: its use unfolds to the body with the argument in it, which the body's plan realises.
-use Rattle.std.specs.Prelude.{◌≡◌, [], List, ◌∷◌, ◌++◌, Some, None, if◌then◌else◌, Bool}
+use Rattle.std.specs.Prelude.{◌≡◌, [], List, ◌∷◌, ◌++◌, Some, None, if◌then◌else◌, Bool, true}
 use Rattle.std.specs.Str.{bytes_eq}
 use Rattle.std.proofs.Common.{refl, sym, ◌∙◌, ap, subst, inl}
 use Rattle.gos_types.specs.Types.{Type', Fun}

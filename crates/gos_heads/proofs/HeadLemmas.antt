@@ -50,7 +50,7 @@ suits_as t r m n typed suits = record {
   regular = suits.regular;
 }
 
-typed_at : (t : Type') (is js : Imports) (m : Term) → js ≡ is → Typed is [] m t → Typed js [] m t
+pub typed_at : (t : Type') (is js : Imports) (m : Term) → js ≡ is → Typed is [] m t → Typed js [] m t
 typed_at t is js m same typed = subst (λ (i : Imports). Typed i [] m t) (sym same) typed
 
 -- an argument shares nothing with the function, since the imports of their plans have other names
@@ -89,10 +89,10 @@ head_means (Pair a b) p m n head typed (first, second) = (
       let here : Typed r.imports [] (Snd m) b = (a, typed_at (Pair a b) p.imports r.imports m (side_imports b (count a) p r joined.joining) typed) in
       (suits_as b r (Snd m) (Snd n) here suits, head_means b r (Snd m) (Snd n) (inr (n, refl, head)) here means),
 )
-head_means (Fun a b) p m n head typed applied q r k other of_k means_k joined =
-    let (suits, means) = applied q r k other of_k means_k joined in
+head_means (Fun a b) p m n head typed applied = λ q r k other of_k means_k joined.
+    (let (suits, means) = applied q r k other of_k means_k joined in
     let here = use_typed a b p q r m k other typed of_k.typed joined in
-    (suits_as b r (App m k) (App n k) here suits, head_means b r (App m k) (App n k) (inr (n, refl, head)) here means)
+    (suits_as b r (App m k) (App n k) here suits, head_means b r (App m k) (App n k) (inr (n, refl, head)) here means))
 
 pub head_is_realised : HeadIsRealised
 head_is_realised t p m n head typed realised =
