@@ -1,6 +1,6 @@
 -- The plan of a pair realises it where its sides realise those of the pair: with no supplies by what a product's plan is
 -- asked for, and with supplies since a side of the supplied plan is the supplied side.
-use Rattle.std.specs.Prelude.{◌≡◌, ℕ, List, []}
+use Rattle.std.specs.Prelude.{ℕ, List, []}
 use Rattle.std.proofs.Common.{refl, sym, subst, inl}
 use Rattle.gos_types.specs.Types.{Type', Pair}
 use Rattle.gos_model.specs.Terms.{Term, Both, Fst, Snd}

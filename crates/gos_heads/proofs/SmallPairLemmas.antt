@@ -1,7 +1,7 @@
 -- The plan of `skip` and the sides of a small pair.
 use Rattle.std.specs.Prelude.{◌≡◌, []}
 use Rattle.std.proofs.Common.{refl, arith}
-use Rattle.gos_types.specs.Types.{Type', Com, Exp, Pair}
+use Rattle.gos_types.specs.Types.{Com, Exp}
 use Rattle.gos_model.specs.Terms.{Skip, Lit, Both, Fst}
 use Rattle.gos_model.specs.Typing.{Typed}
 use Rattle.gos_plan.specs.SmallPlans.{skip_plan}

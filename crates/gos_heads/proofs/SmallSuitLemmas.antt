@@ -1,26 +1,27 @@
 -- The plan of `skip`, with no supplies: what it suits, and what it doesn't.
-use Rattle.std.specs.Prelude.{◌≡◌, List, [], ◌∷◌}
-use Rattle.std.proofs.Common.{refl, sym, subst, arith}
-use Rattle.gos_types.specs.Types.{Com, Exp}
-use Rattle.gos_model.specs.Terms.{Skip, Lit}
+use Rattle.std.specs.Prelude.{[], ◌∷◌}
+use Rattle.std.proofs.Common.{sym, subst}
+use Rattle.gos_types.specs.Types.{Com}
+use Rattle.gos_model.specs.Terms.{Skip}
 use Rattle.gos_plan.specs.Plans.{Plan}
+use Rattle.gos_plan.specs.Joining.{Link}
 use Rattle.gos_plan.specs.SmallPlans.{skip_plan}
 use Rattle.gos_realises.specs.Links.{IsJoined}
 use Rattle.gos_realises.specs.Realises.{NamesDiffer, Suits}
-use Rattle.gos_realises.specs.Modules.{Supply, AreSupplied, supplying, term_for}
+use Rattle.gos_realises.specs.Modules.{supplying}
 use Rattle.gos_realises.proofs.SkipLemmas.{skip_is_realised}
 use Rattle.gos_joined.proofs.WholeLemmas.{supplied_is_joined}
 use Rattle.gos_renumbered.specs.SmallRewirings.{unchanged}
 use Rattle.gos_renumbered.proofs.HigherLemmas.{is_itself, joined_moved, renumbered_is_realised}
 use Rattle.gos_applied.proofs.SingleLemmas.{alone_joins}
-use Rattle.gos_applied.proofs.BodyLemmas.{no_link}
 use Rattle.gos_heads.specs.SmallSuits.{SkipSuits, NumberSuitsNot}
+use Rattle.gos_heads.proofs.TypingLemmas.{no_member}
 
 -- what is joined of the plan alone is the plan but for numbers
 alone_suits : (r : Plan) → IsJoined (supplying skip_plan []) r → Suits Com r Skip
 alone_suits r of_r =
     let right = skip_is_realised.suits.right in
-    let (g, same) = joined_moved unchanged skip_plan skip_plan [] [] 0 0 Com (is_itself skip_plan right) (λ k x at. absurd (cc at)) (λ l has. absurd (no_link l has)) r skip_plan of_r
+    let (g, same) = joined_moved unchanged skip_plan skip_plan [] [] 0 0 Com (is_itself skip_plan right) (λ k x at. absurd (cc at)) (λ l has. absurd (no_member Link l has)) r skip_plan of_r
     (record { fits = of_r.fits; joining = alone_joins skip_plan right })
     in
     (renumbered_is_realised g r skip_plan Com Skip same skip_is_realised).suits
