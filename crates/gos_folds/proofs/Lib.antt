@@ -1,0 +1,4 @@
+pub mod WayLemmas
+pub mod FoldLemmas
+pub mod RegionLemmas
+pub mod PlanLemmas

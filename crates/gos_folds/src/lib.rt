@@ -1,0 +1,8 @@
+// Folds: when the plan of one web lies as a region in the plan of a larger one.
+//
+// Definitions and laws alone. Read `specs/Folds`, and then laws.rt.
+#![tactic(auto)]
+
+mod laws;
+
+pub use laws::{folded_is_region, folds_have_plans, unmet_ends_are_alone};
