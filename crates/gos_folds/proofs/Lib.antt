@@ -2,3 +2,4 @@ pub mod WayLemmas
 pub mod FoldLemmas
 pub mod RegionLemmas
 pub mod PlanLemmas
+pub mod SmallFoldLemmas
