@@ -6,12 +6,11 @@ use Rattle.gos_types.specs.declared.shakes.Role.{Role}
 use Rattle.gos_types.specs.declared.shakes.Role.TheVariants.{Serve, Ask}
 use Rattle.gos_plan.specs.Kinds.{Part, Contact, asks, serves}
 use Rattle.gos_plan.specs.Plans.{End, PartEnd, ImportEnd, ResultEnd, Plan, contacts_of_part, contact_at}
-use Rattle.gos_plan.specs.Tokens.{IsPortEnd}
 use Rattle.gos_webs.specs.Webs.{Dot, Tie, tie, Web, Meet, Way, here, along, Connects, joint}
-use Rattle.gos_webs.specs.Cutting.{lies_at, IsInside, IsOutside}
+use Rattle.gos_webs.specs.Cutting.{lies_at, IsOutside}
 use Rattle.gos_webs.proofs.CutLemmas.{name_by, name_of, outside_name, part_at, port_lies}
-use Rattle.gos_windows.specs.Regions.{Serving, IsOther}
-use Rattle.gos_folds.specs.Folds.{Fold, Follows, IsFolded, IsAlone, IsSpare, IsFold}
+use Rattle.gos_windows.specs.Regions.{Serving}
+use Rattle.gos_folds.specs.Folds.{Fold, Follows, IsFolded, IsSpare, IsFold}
 use Rattle.gos_folds.proofs.WayLemmas.{joined_way, turned_way}
 
 abbrev by_role : Role → Bool

@@ -1,17 +1,16 @@
 -- A folded web has a plan: its joints are those of the whole whose ends stand for its own.
-use Rattle.std.specs.Prelude.{◌≡◌, ℕ, ◌&&◌, Bool, true, false, not, IsTrue, List, [], ◌∷◌, ◌⊎◌, Option, Some, None, Contains, if◌then◌else◌}
+use Rattle.std.specs.Prelude.{◌≡◌, ◌&&◌, Bool, true, false, not, IsTrue, List, [], ◌∷◌, ◌⊎◌, Option, Some, None, Contains, if◌then◌else◌}
 use Rattle.std.proofs.Common.{refl, sym, ◌∙◌, ap, subst, arith, inl, inr}
 use Rattle.std.proofs.lemmas.Option.{none-some, same_Some}
 use Rattle.gos_plan.specs.Kinds.{Contact, asks, serves}
 use Rattle.gos_plan.specs.Plans.{End, PartEnd, ImportEnd, ResultEnd, Joint, Plan, contact_at, same_end, stands_in, is_free, Fits, AreRight}
-use Rattle.gos_plan.proofs.JointLemmas.{IsIn, same_itself, same_is, fits, contained}
+use Rattle.gos_plan.proofs.JointLemmas.{IsIn, same_itself, same_is, contained}
 use Rattle.gos_webs.specs.Webs.{Dot, Web, Connects, WaysFit, joint, IsOfWeb}
 use Rattle.gos_webs.specs.Cutting.{lies_at}
 use Rattle.gos_webs.proofs.MovedLemmas.{listed}
 use Rattle.gos_webs.proofs.CutLemmas.{name_of, which_end, stands_by}
 use Rattle.gos_windows.specs.Regions.{Serving}
 use Rattle.gos_folds.specs.Folds.{Fold, IsFold, with_joints, FoldHasPlan}
-use Rattle.gos_folds.proofs.WayLemmas.{turned_way}
 use Rattle.gos_folds.proofs.FoldLemmas as folds
 use Rattle.gos_folds.proofs.RegionLemmas.{folded_is_region}
 

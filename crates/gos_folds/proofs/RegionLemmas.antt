@@ -1,19 +1,19 @@
 -- The plan of a folded web is a region.
 use Rattle.std.specs.Prelude.{◌≡◌, ℕ, ◌-◌, ◌<◌, ◌&&◌, Bool, true, false, not, List, [], ◌∷◌, ◌⊎◌, Option, Some, None, Contains, if◌then◌else◌}
-use Rattle.std.proofs.Common.{refl, sym, ◌∙◌, ap, subst, arith, inl, inr}
+use Rattle.std.proofs.Common.{refl, sym, ◌∙◌, ap, subst, inl, inr}
 use Rattle.std.proofs.lemmas.Option.{none-some, same_Some}
 use Rattle.gos_plan.specs.Kinds.{Contact, asks, serves}
 use Rattle.gos_plan.specs.Plans.{End, PartEnd, ImportEnd, ResultEnd, Joint, Plan, contact_at, same_end, stands_in, is_free}
 use Rattle.gos_plan.specs.Tokens.{IsPortEnd}
 use Rattle.gos_plan.proofs.JointLemmas.{IsIn, same_itself, same_is, stands_there, joined, contained}
 use Rattle.gos_realises.specs.Regular.{count}
-use Rattle.gos_webs.specs.Webs.{Web, Connects, joint, IsOfWeb}
+use Rattle.gos_webs.specs.Webs.{Dot, Web, Connects, joint, IsOfWeb}
 use Rattle.gos_webs.specs.Cutting.{lies_at, IsInside, StandsIn}
 use Rattle.gos_webs.proofs.MovedLemmas.{listed}
 use Rattle.gos_webs.proofs.CutLemmas.{which_end}
 use Rattle.gos_sharing.specs.Sharing.{caller_end}
 use Rattle.gos_windows.specs.Regions.{Serving, IsOther, IsRegion}
-use Rattle.gos_folds.specs.Folds.{Fold, IsFolded, IsAlone, IsSpare, IsFold, is_port, port_if, joined_cut, FoldedIsRegion}
+use Rattle.gos_folds.specs.Folds.{Fold, IsFolded, IsAlone, IsSpare, IsFold, is_port, port_if, joined_cut, FoldedIsRegion, FoldedJoint}
 use Rattle.gos_folds.proofs.WayLemmas.{turned_way}
 use Rattle.gos_folds.proofs.FoldLemmas as folds
 
@@ -118,9 +118,17 @@ module _
   other (ImportEnd i h) k at none inside = absurd inside
   other (ResultEnd h) k at none inside = absurd inside
 
+  abbrev OwnJoint : End → End → Type 0
+  OwnJoint a b = (d e : End) × Contains c.joints (joint d e) × (lies_at f.cut d ≡ a) × (lies_at f.cut e ≡ b)
+
+  pub own_joint : (a b : End) (x : Dot) → Contains r.joints (joint a b) → (f.back (w.at a) ≡ Some x) ⊎ (f.back (w.at b) ≡ Some x) → OwnJoint a b
+  own_joint a b x has stands =
+      let one = folds.lifted_joint f ss w v r c is a b has x stands in
+      (one.first, one.last, (web.joints one.first one.last).1 one.connects, one.first_lies, one.last_lies)
+
   abbrev Known : End → End → Type 0
   Known a b =
-      ((d e : End) × Contains c.joints (joint d e) × (lies_at f.cut d ≡ a) × (lies_at f.cut e ≡ b))
+      OwnJoint a b
       ⊎ ((IsInside f.cut a → IsOther ss a) × (IsInside f.cut b → IsOther ss b))
 
   known : (a b : End) → Contains r.joints (joint a b) → Known a b
@@ -129,16 +137,14 @@ module _
       con : Connects w r a b
       con = (is.whole.joints a b).0 has
 
-      from : (x : _) → (f.back (w.at a) ≡ Some x) ⊎ (f.back (w.at b) ≡ Some x) → Known a b
-      from x stands =
-          let one = folds.lifted_joint f ss w v r c is a b has x stands in
-          inl (one.first, one.last, (web.joints one.first one.last).1 one.connects, one.first_lies, one.last_lies)
+      from : (x : Dot) → (f.back (w.at a) ≡ Some x) ⊎ (f.back (w.at b) ≡ Some x) → Known a b
+      from x stands = inl (own_joint a b x has stands)
 
-      by_last : (o : _) → f.back (w.at b) ≡ o → f.back (w.at a) ≡ None → Known a b
+      by_last : (o : Option Dot) → f.back (w.at b) ≡ o → f.back (w.at a) ≡ None → Known a b
       by_last None none none_first = inr (other a (asks con.0 con.1) con.2 none_first, other b (serves con.0 con.1) con.3 none)
       by_last (Some x) stands none_first = from x (inr stands)
 
-      by_first : (o : _) → f.back (w.at a) ≡ o → Known a b
+      by_first : (o : Option Dot) → f.back (w.at a) ≡ o → Known a b
       by_first None none = by_last (f.back (w.at b)) refl none
       by_first (Some x) stands = from x (inl stands)
 
@@ -178,3 +184,6 @@ module _
 
 pub folded_is_region : FoldedIsRegion
 folded_is_region f ss w v r c is web = region f ss w v r c is web
+
+pub folded_joint : FoldedJoint
+folded_joint f ss w v r c a b x is web has stands = own_joint f ss w v r c is web a b x has stands

@@ -1,8 +1,7 @@
 -- The first child of `c ; c`, with the Share for its supply, is folded; without its tie, or unshared, it isn't.
 use Rattle.std.specs.Prelude.{◌≡◌, ℕ, zero, suc, ◌-◌, ◌<◌, [], ◌∷◌, ◌⊎◌, Some, None, Contains}
 use Rattle.std.proofs.Common.{refl, sym, ap, subst, arith, inl, inr}
-use Rattle.std.proofs.lemmas.Option.{none-some, same_Some}
-use Rattle.gos_types.specs.Types.{Com}
+use Rattle.std.proofs.lemmas.Option.{none-some}
 use Rattle.gos_plan.specs.Kinds.{Contact, serves}
 use Rattle.gos_plan.specs.Plans.{End, PartEnd, ImportEnd, ResultEnd, contact_at}
 use Rattle.gos_plan.specs.Tokens.{IsPortEnd}

@@ -1,5 +1,5 @@
 -- Ways: turned, joined, and from where there is none.
-use Rattle.std.proofs.Common.{◌≡◌, List, inl, inr, refl, sym, subst}
+use Rattle.std.proofs.Common.{◌≡◌, List, inl, inr, refl}
 use Rattle.gos_webs.specs.Webs.{Dot, Tie, Meet, Way, here, along}
 use Rattle.gos_folds.specs.Folds.{UnmetIsAlone}
 

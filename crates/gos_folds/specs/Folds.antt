@@ -3,11 +3,11 @@
 -- Read first: Webs and Cutting of gos_webs; Regions of gos_windows. Joints are ways, so it is enough to compare ties: a tie
 -- of the small web is a way of the large one, and a tie of the large one is no tie or a way of the small one. A dot of the
 -- large web may stand for a dot of the small one, many for one: a way of the region never leaves the dots that do.
-use Rattle.std.specs.Prelude.{◌≡◌, ℕ, ◌&&◌, ◌<◌, Bool, true, false, not, List, [], ◌∷◌, ◌⊎◌, Option, Some, None, slice_get, Contains, if◌then◌else◌}
+use Rattle.std.specs.Prelude.{◌≡◌, ℕ, ◌&&◌, ◌<◌, Bool, true, false, not, List, ◌⊎◌, Option, Some, None, slice_get, Contains, if◌then◌else◌}
 use Rattle.gos_plan.specs.Kinds.{Part, Share, Contact}
 use Rattle.gos_plan.specs.Plans.{End, PartEnd, ImportEnd, ResultEnd, Joint, Plan, contact_at, same_end, is_free}
 use Rattle.gos_plan.specs.Tokens.{IsPortEnd}
-use Rattle.gos_webs.specs.Webs.{Dot, Tie, Web, Meet, Way, IsOfWeb}
+use Rattle.gos_webs.specs.Webs.{Dot, Tie, Web, Meet, Way, joint, IsOfWeb}
 use Rattle.gos_webs.specs.Cutting.{Cut, lies_at, IsOutside}
 use Rattle.gos_windows.specs.Regions.{Serving, IsOther, IsRegion}
 
@@ -78,6 +78,14 @@ abbrev pub FoldedIsRegion : Type 0
 FoldedIsRegion =
     (f : Fold) (ss : List Serving) (w v : Web) (r c : Plan)
     → IsFold f ss w v r c → IsOfWeb v c → IsRegion (joined_cut f.cut c.joints) ss r c
+
+-- A joint of the whole is one of the region's where one of its ends stands for a dot.
+abbrev pub FoldedJoint : Type 0
+FoldedJoint =
+    (f : Fold) (ss : List Serving) (w v : Web) (r c : Plan) (a b : End) (x : Dot)
+    → IsFold f ss w v r c → IsOfWeb v c
+    → Contains r.joints (joint a b) → (f.back (w.at a) ≡ Some x) ⊎ (f.back (w.at b) ≡ Some x)
+    → (d e : End) × Contains c.joints (joint d e) × (lies_at f.cut d ≡ a) × (lies_at f.cut e ≡ b)
 
 -- the plan with these joints
 abbrev pub with_joints : Plan → List Joint → Plan

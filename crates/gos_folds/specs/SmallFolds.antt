@@ -2,7 +2,7 @@
 --
 -- Read first: Folds; SmallNodes of gos_windows. They show that these definitions can be met and can be missed.
 use Rattle.std.specs.Prelude.{zero, suc, [], ◌∷◌, Option, Some, None}
-use Rattle.gos_plan.specs.Plans.{End, PartEnd, ImportEnd, ResultEnd}
+use Rattle.gos_plan.specs.Plans.{PartEnd, ImportEnd, ResultEnd}
 use Rattle.gos_webs.specs.Webs.{Dot, Of, Number, Node, Within, tie, Web, own_web}
 use Rattle.gos_webs.specs.Cutting.{lies_at}
 use Rattle.gos_windows.specs.SmallNodes.{calls_plan, call_plan, call_out, served}

@@ -1,10 +1,12 @@
 // What the definitions give. Each theorem is the contract of a function that does nothing.
-ghost use Rattle.gos_folds.specs.Folds.{FoldedIsRegion, FoldHasPlan, UnmetIsAlone};
+ghost use Rattle.gos_folds.specs.Folds.{FoldedIsRegion, FoldedJoint, FoldHasPlan, UnmetIsAlone};
 ghost use Rattle.gos_folds.specs.SmallFolds.{CallIsFold, UnsharedIsNone, UntiedIsNone};
 
-/// The plan of a folded web is a region of the plan in which it lies.
-pub fn folded_is_region()
-    ensures { FoldedIsRegion }
+/// The plan of a folded web is a region of the plan in which it lies. A joint of the whole with an end that stands for a dot
+/// of the folded web is one of the region's.
+pub fn folds_are_regions()
+    ensures region { FoldedIsRegion }
+    ensures joint { FoldedJoint }
 {}
 
 /// A folded web has a plan.

@@ -5,4 +5,4 @@
 
 mod laws;
 
-pub use laws::{folded_is_region, folds_have_plans, small_folds, unmet_ends_are_alone};
+pub use laws::{folds_are_regions, folds_have_plans, small_folds, unmet_ends_are_alone};
