@@ -11,7 +11,7 @@ use Rattle.gos_webs.specs.Cutting.{lies_at, IsOutside}
 use Rattle.gos_webs.proofs.CutLemmas.{name_by, name_of, outside_name, part_at, port_lies}
 use Rattle.gos_windows.specs.Regions.{Serving}
 use Rattle.gos_folds.specs.Folds.{Fold, Follows, IsFolded, IsSpare, IsFold}
-use Rattle.gos_folds.proofs.WayLemmas.{joined_way, turned_way}
+use Rattle.gos_folds.proofs.WayLemmas.{joined_way, turned_way, mapped_way}
 
 abbrev by_role : Role → Bool
 by_role Serve = false
@@ -48,14 +48,8 @@ back_there ts (Some x) (Some d) y h e =
 module _
     (f : Fold) (ss : List Serving) (w v : Web) (r c : Plan) (is : IsFold f ss w v r c) where
   -- ways of the small web are ways of the large one
-  laid_meet : (a b : Dot) → Meet v.ties a b → Way w.ties (f.dot a) (f.dot b)
-  laid_meet a b (inl h) = is.ways (tie a b) h
-  laid_meet a b (inr h) = turned_way w.ties (f.dot b) (f.dot a) (is.ways (tie b a) h)
-
   pub laid_way : (a b : Dot) → Way v.ties a b → Way w.ties (f.dot a) (f.dot b)
-  laid_way a b (here d) = here (f.dot d)
-  laid_way a b (along d e z meets way) =
-      joined_way w.ties (f.dot d) (f.dot e) (f.dot z) (laid_meet d e meets) (laid_way e z way)
+  laid_way a b way = mapped_way v.ties w.ties f.dot is.ways a b way
 
   -- and a way of the large one from a dot that stands for one is a way of the small one
   meets_there : (a b x : Dot) → f.back a ≡ Some x → Meet w.ties a b → Leads v.ties x (f.back b)
@@ -98,12 +92,11 @@ module _
       → (f.cut.part j ≡ i) × (contact_at c (PartEnd j h) ≡ Some k)
   inside_part i h j k number at =
       let known = is.numbers i j number in
-      let whole = is.parts j known.1.0 known.1.1 in
-      (
+      let whole = is.parts j known.1.0 known.1.1 in (
         known.0,
         ap (λ (o : Option Part). slice_get (contacts_of_part o) h)
-        (known.1.1 ∙ (sym whole.0 ∙ ap (λ n. slice_get r.parts n) known.0))
-        ∙ at,
+            (known.1.1 ∙ (sym whole.0 ∙ ap (λ n. slice_get r.parts n) known.0))
+            ∙ at,
       )
 
   outside_named : (e : End) → IsOutside f.cut e → (k : Contact) (y : Dot) → contact_at r e ≡ Some k → f.back (w.at e) ≡ Some y → Named e k
@@ -152,8 +145,7 @@ module _
   -- so what connects in the small web is a joint of the whole
   pub laid_joint : (a b : End) → Connects v c a b → Contains r.joints (joint (lies_at f.cut a) (lies_at f.cut b))
   laid_joint a b (q, m, asked, served, way) =
-      (is.whole.joints (lies_at f.cut a) (lies_at f.cut b)).1
-      (
+      (is.whole.joints (lies_at f.cut a) (lies_at f.cut b)).1 (
         q,
         m,
         laid_contact a (asks q m) asked,

@@ -3,3 +3,4 @@ pub mod FoldLemmas
 pub mod RegionLemmas
 pub mod PlanLemmas
 pub mod SmallFoldLemmas
+pub mod NumberedFoldLemmas

@@ -200,8 +200,7 @@ module _
   right_onto rest before j (Some o) (Some d) None asking serving fit first last further bs within = further bs (more_laid f bs before j within)
   right_onto rest before j (Some o) (Some d) (Some e) asking serving fit first last further bs within =
       let one = named_is f c j.asking d (name_of f.cut j.asking) asking in
-      let other = named_is f c j.serving e (name_of f.cut j.serving) serving in
-      (
+      let other = named_is f c j.serving e (name_of f.cut j.serving) serving in (
         (
           fits_own j d e one other fit,
           free_laid f d bs before within (subst (λ (x : End). IsTrue (is_free x before)) (sym one.lies) first),
@@ -241,15 +240,15 @@ module _
   from_joint a b has =
       let cutting = from_cut f w c r.joints (joint a b) (contained js (joint a b) has) in
       let lift =
-          folds.lifted_joint f ss w v r c is cutting.from.asking cutting.from.serving
-          (listed r.joints cutting.from cutting.is_in) cutting.dot (inl cutting.stands) in
+      folds.lifted_joint f ss w v r c is cutting.from.asking cutting.from.serving
+      (listed r.joints cutting.from cutting.is_in) cutting.dot (inl cutting.stands) in
       let con = lift.connects in
       let one =
-          folds.laid_one f ss w v r c is lift.first a (asks con.0 con.1) cutting.asking.contact con.2 cutting.asking.at
-          (lift.first_lies ∙ sym cutting.asking.lies) in
+      folds.laid_one f ss w v r c is lift.first a (asks con.0 con.1) cutting.asking.contact con.2 cutting.asking.at
+      (lift.first_lies ∙ sym cutting.asking.lies) in
       let other =
-          folds.laid_one f ss w v r c is lift.last b (serves con.0 con.1) cutting.serving.contact con.3 cutting.serving.at
-          (lift.last_lies ∙ sym cutting.serving.lies) in
+      folds.laid_one f ss w v r c is lift.last b (serves con.0 con.1) cutting.serving.contact con.3 cutting.serving.at
+      (lift.last_lies ∙ sym cutting.serving.lies) in
       connects_there a b
       (subst (λ (x : End). Connects v c x b) one (subst (λ (x : End). Connects v c lift.first x) other con))
 
@@ -257,7 +256,7 @@ module _
   to_joint a b con =
       let there = contained r.joints (joint (lies_at f.cut a) (lies_at f.cut b)) (folds.laid_joint f ss w v r c is a b con) in
       let folded =
-          folds.is_folded f ss w v r c is a b (asks con.0 con.1) (serves con.0 con.1) con.2 con.3 (folds.connects_two v c a b con) con.4 in
+      folds.is_folded f ss w v r c is a b (asks con.0 con.1) (serves con.0 con.1) con.2 con.3 (folds.connects_two v c a b con) con.4 in
       listed js (joint a b)
       (to_cut f w c r.joints (joint (lies_at f.cut a) (lies_at f.cut b)) (v.at a) a b there folded.1
       (own a (asks con.0 con.1) con.2) (own b (serves con.0 con.1) con.3))
@@ -293,8 +292,7 @@ module _
 
 pub fold_has_plan : FoldHasPlan
 fold_has_plan f ss w v r c is =
-    let web = of_web f ss w v r c is in
-    (
+    let web = of_web f ss w v r c is in (
       cut_joints f w c r.joints,
       web,
       folded_is_region f ss w v r (with_joints c (cut_joints f w c r.joints)) (same_fold f ss w v r c is) web,

@@ -85,7 +85,7 @@ module _
   inner_is e k port at (j, has, stands) =
       ap (port_if f.cut.outer c.joints (f.cut.outer e)) (is.ports e k port at).1
       ∙ kept (is_port e) (same_end (f.cut.outer e) (f.cut.outer e)) (is_free e c.joints) e (port_true e port) (same_itself (f.cut.outer e))
-          (free_of e c.joints j (contained c.joints j has) stands)
+      (free_of e c.joints j (contained c.joints j has) stands)
 
   -- an end from which no way leads stands in no joint
   alone_of : (e : End) (j : Joint) → IsAlone v c e → Contains c.joints j → (e ≡ j.asking) ⊎ (e ≡ j.serving) → ⊥

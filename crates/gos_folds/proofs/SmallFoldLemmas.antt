@@ -18,10 +18,10 @@ use Rattle.gos_folds.specs.SmallFolds.{call_dot, call_back, call_fold, CallIsFol
 use Rattle.gos_folds.proofs.WayLemmas.{unmet_way, unmet_is_alone}
 
 -- the ports
-abbrev Port : End → Contact → Type 0
+abbrev pub Port : End → Contact → Type 0
 Port e k = IsOutside call_out (call_outer e) × (call_inner (call_outer e) ≡ Some e) × (contact_at calls_plan (call_outer e) ≡ Some k)
 
-its_ports : (e : End) (k : Contact) → IsPortEnd e → contact_at call_plan e ≡ Some k → Port e k
+pub its_ports : (e : End) (k : Contact) → IsPortEnd e → contact_at call_plan e ≡ Some k → Port e k
 its_ports (PartEnd i h) k port at = absurd port
 its_ports (ImportEnd zero zero) k port at = (tt, refl, at)
 its_ports (ImportEnd zero (suc h)) k port at = absurd (none-some k at)
@@ -41,7 +41,7 @@ second_nothing : Nothing (served 0)
 second_nothing zero low = refl
 second_nothing (suc j) low = absurd (omega (arith, low))
 
-its_others : (e : End) → IsOther (served 0 ∷ []) e → call_back (Of e) ≡ None
+pub its_others : (e : End) → IsOther (served 0 ∷ []) e → call_back (Of e) ≡ None
 its_others e (n, j, has, low, is) =
     subst (λ (x : End). call_back (Of x) ≡ None) (sym is) (subst Nothing (only_served n has) second_nothing j low)
 
@@ -73,12 +73,12 @@ second_alone : IsAlone (own_web call_plan) call_plan (PartEnd 0 2)
 second_alone = unmet_is_alone (own_web call_plan) call_plan (PartEnd 0 2) unmet (λ d k at is. ap end_in is)
 
 -- the ends
-abbrev Known : End → Type 0
+abbrev pub Known : End → Type 0
 Known e =
     IsFolded call_fold (own_web calls_plan) (own_web call_plan) e
     ⊎ IsSpare call_fold (served 0 ∷ []) (own_web calls_plan) (own_web call_plan) call_plan e
 
-its_ends : (e : End) (k : Contact) → contact_at call_plan e ≡ Some k → Known e
+pub its_ends : (e : End) (k : Contact) → contact_at call_plan e ≡ Some k → Known e
 its_ends (PartEnd zero zero) k at = inl (refl, refl)
 its_ends (PartEnd zero (suc zero)) k at = inl (refl, refl)
 its_ends (PartEnd zero (suc (suc zero))) k at =
@@ -119,10 +119,10 @@ its_stays t (suc (suc (suc zero)), l, is) =
 its_stays t (suc (suc (suc (suc n))), l, is) = absurd (omega (arith, l))
 
 -- the ends outside
-abbrev Comes : End → Contact → Type 0
+abbrev pub Comes : End → Contact → Type 0
 Comes e k = (d : End) × IsPortEnd d × (call_outer d ≡ e) × (contact_at call_plan d ≡ Some k)
 
-its_comes : (e : End) (k : Contact) (y : Dot)
+pub its_comes : (e : End) (k : Contact) (y : Dot)
     → IsOutside call_out e → contact_at calls_plan e ≡ Some k → call_back (Of e) ≡ Some y → Comes e k
 its_comes (PartEnd zero zero) k y out at stands = (ResultEnd 0, tt, refl, at)
 its_comes (PartEnd zero (suc h)) k y out at stands = absurd (none-some y stands)

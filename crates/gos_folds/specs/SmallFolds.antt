@@ -1,4 +1,4 @@
--- Small folds: the first child of `c ; c`, with the Share for its supply.
+-- Small folds: the first child of `c ; c`, with the Share for its supply; with a dot between too.
 --
 -- Read first: Folds; SmallNodes of gos_windows. They show that these definitions can be met and can be missed.
 use Rattle.std.specs.Prelude.{zero, suc, [], ◌∷◌, Option, Some, None}
@@ -48,3 +48,30 @@ untied_web = record (own_web call_plan) { ties = tie (Of (PartEnd 0 0)) (Of (Imp
 
 abbrev pub UntiedIsNone : Type 0
 UntiedIsNone = IsFold call_fold (served 0 ∷ []) (own_web calls_plan) untied_web calls_plan call_plan → ⊥
+
+-- the web of the whole with a number between the Seq and the Share
+abbrev pub numbered_web : Web
+numbered_web =
+    record {
+      ties =
+          tie (Of (ResultEnd 0)) (Of (PartEnd 0 2)) ∷ tie (Of (PartEnd 0 0)) (Number 0 0) ∷ tie (Number 0 0) (Of (PartEnd 1 1))
+          ∷ tie (Of (PartEnd 0 1)) (Of (PartEnd 1 2)) ∷ tie (Of (PartEnd 1 0)) (Of (ImportEnd 0 0)) ∷ [];
+      at = Of;
+    }
+
+-- which stands for the result as well
+abbrev pub numbered_back : Dot → Option Dot
+numbered_back (Of e) = call_back (Of e)
+numbered_back (Number n h) = Some (Of (ResultEnd 0))
+numbered_back (Node n h) = None
+numbered_back (Within k d) = None
+
+abbrev pub numbered_fold : Fold
+numbered_fold = record call_fold { back = numbered_back }
+
+abbrev pub NumberedIsFold : Type 0
+NumberedIsFold = IsFold numbered_fold (served 0 ∷ []) numbered_web (own_web call_plan) calls_plan call_plan
+
+-- If it stands for nothing, the child isn't folded.
+abbrev pub UnnumberedIsNone : Type 0
+UnnumberedIsNone = IsFold call_fold (served 0 ∷ []) numbered_web (own_web call_plan) calls_plan call_plan → ⊥
