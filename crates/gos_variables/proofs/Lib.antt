@@ -1,0 +1,4 @@
+pub mod WaitLemmas
+pub mod PlacedBackLemmas
+pub mod VariableLemmas
+pub mod SmallLemmas
