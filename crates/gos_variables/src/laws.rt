@@ -7,6 +7,7 @@ ghost use Rattle.gos_variables.specs.Waits.{
   WaitsAreCounted,
 };
 ghost use Rattle.gos_variables.specs.PlacedBack.{PlacedMovesBack, PlacedWaits};
+ghost use Rattle.gos_variables.specs.Unfolded.{UnfoldingsMeet, ActsStay, WaitsBefore};
 ghost use Rattle.gos_variables.specs.SmallVariables.{OneWaits, WaitIsReached, LabelsAreCounted, AnswersAreNotActive};
 
 /// How many waits at a port stand in a term, move by move.
@@ -22,6 +23,13 @@ pub fn waits_at_ports()
 pub fn placed_moves()
     ensures back { PlacedMovesBack }
     ensures waits { PlacedWaits }
+{}
+
+/// A term that unfolds to one that can only wait can only wait.
+pub fn unfolded_terms()
+    ensures meet { UnfoldingsMeet }
+    ensures stay { ActsStay }
+    ensures waits { WaitsBefore }
 {}
 
 /// Small terms that meet the definitions of this crate, and others that miss them.

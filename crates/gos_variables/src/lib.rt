@@ -5,4 +5,4 @@
 
 mod laws;
 
-pub use laws::{placed_moves, small_variables, waits_at_ports};
+pub use laws::{placed_moves, small_variables, unfolded_terms, waits_at_ports};
