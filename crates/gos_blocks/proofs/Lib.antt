@@ -7,3 +7,5 @@ mod OpenLemmas
 mod OrderLemmas
 mod RegularLemmas
 mod SmallBlockLemmas
+mod InsideLemmas
+mod QuietLemmas
