@@ -227,7 +227,7 @@ module _ (own wide whole : Program) (y : Name) (w : ℕ) (among : AreAmong own.i
         inside = more.inside;
       }
 
-  silent_moves : (acts : List Act) (k n : ℕ) (inner next c : Config) → labels acts ≡ [] → Inside k n inner c → Moves own acts inner next → Shown k n next c
+  pub silent_moves : (acts : List Act) (k n : ℕ) (inner next c : Config) → labels acts ≡ [] → Inside k n inner c → Moves own acts inner next → Shown k n next c
   silent_moves acts k n inner next c none i moves =
       let (e, made, also) = inside_moves acts k n inner next c (silent_others acts none) i moves in
       record { acts = acts; to = e; silent = none; moves = made; inside = also }

@@ -9,3 +9,6 @@ mod RegularLemmas
 mod SmallBlockLemmas
 mod InsideLemmas
 mod QuietLemmas
+mod ImportLemmas
+mod MatchLemmas
+mod RealisesLemmas

@@ -1,10 +1,11 @@
 // What the plan of a block does. Each theorem is the contract of a function that does nothing.
-ghost use Rattle.gos_blocks.specs.Block.{BlockIsRegular};
+ghost use Rattle.gos_blocks.specs.Block.{BlockIsRegular, BlockRealises};
 ghost use Rattle.gos_blocks.specs.SmallBlocks.{NewSkipIsBlock, VariableIsNeeded, WidthIsNeeded, OtherPartIsNot};
 
-/// Where the body's plan is regular the whole is.
+/// Where the body's plan is regular the whole is, and where it realises the body the whole realises the block.
 pub fn blocks()
     ensures regular { BlockIsRegular }
+    ensures realises { BlockRealises }
 {}
 
 /// The plan of `new x : 1 in skip` is a block. Without an import for the variable, with a variable of another width, or with
