@@ -4,18 +4,16 @@
 -- a number that is read is the store's, and one that is written becomes it (`reads`, `writes`). A request to read and the answer to
 -- a write are unfoldings alone, and these stand before the next move.
 use Rattle.std.specs.Prelude.{◌≡◌, ◌≢◌, ℕ, zero, suc, ◌+◌, ◌&&◌, not, Bool, true, false, List, [], ◌∷◌, ◌++◌, Option, Some, None, if◌then◌else◌}
-use Rattle.std.specs.Str.{bytes_eq}
 use Rattle.std.proofs.Common.{arith, refl, sym, ap, subst, inl, inr, ◌∙◌}
 use Rattle.gos_types.specs.Types.{Type', Com, Exp, Var}
 use Rattle.gos_model.specs.Terms.{Name, Term, Import, Deref, New, Loc, Scope, Wait, Put}
 use Rattle.gos_model.specs.Typing.{Imports, Typed, import_type}
 use Rattle.gos_model.specs.Substitution.{instantiate}
-use Rattle.gos_model.specs.Stores.{Store, entry_at, without}
+use Rattle.gos_model.specs.Stores.{Store, without}
 use Rattle.gos_model.specs.Steps.{IsValue}
 use Rattle.gos_model.specs.Labels.{Port, Given, Taken, Label, taken, is_answer, IsAnswer}
 use Rattle.gos_model.specs.Moves.{Program, Config, Idle, Running, Act, Computing, Showing, Unfoldings, Answers, Move, Moves, labels, Stalled}
 use Rattle.gos_contexts.specs.Contexts.{ScopeBody}
-use Rattle.gos_contexts.specs.Plugged.{AreInner}
 use Rattle.gos_contexts.specs.Renaming.{IsInjective, IsFreeOf, beside}
 use Rattle.gos_contexts.specs.Widening.{AreAmong, Knows}
 use Rattle.gos_contexts.specs.LocalVariable.{placed, HasOthers, IsHome, IsElsewhere}

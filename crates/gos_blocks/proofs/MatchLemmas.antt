@@ -1,24 +1,23 @@
 -- A list of a block is matched by moves of `new x : w in M`, where that of its body is matched by moves of M with the import.
-use Rattle.std.specs.Prelude.{◌≡◌, ◌≢◌, ℕ, Bool, true, false, List, [], ◌∷◌, ◌++◌, Option, Some, None, All, slice_get}
-use Rattle.std.proofs.Common.{arith, refl, sym, ap, subst, inl, inr, ◌∙◌}
+use Rattle.std.specs.Prelude.{◌≡◌, ◌≢◌, ℕ, true, false, List, [], ◌∷◌, ◌++◌, Option, Some, None, All, slice_get}
+use Rattle.std.proofs.Common.{arith, refl, sym, ap, subst, inl, ◌∙◌}
 use Rattle.gos_netlist.specs.Events.{Direction, Request, Answer}
 use Rattle.gos_model.specs.Terms.{Name, Term, Import, New, Loc, Scope}
 use Rattle.gos_model.specs.Typing.{Imported, Typed}
 use Rattle.gos_model.specs.Substitution.{instantiate}
 use Rattle.gos_model.specs.Stores.{Store}
-use Rattle.gos_model.specs.Labels.{Port, Given, Taken, Label, given, taken, is_output}
-use Rattle.gos_model.specs.Moves.{Program, Config, Idle, Running, Act, Computing, Showing, Answers, Move, Moves, labels, Stalled}
+use Rattle.gos_model.specs.Labels.{Given, Taken, Label, given, taken}
+use Rattle.gos_model.specs.Moves.{Program, Config, Idle, Running, Act, Computing, Showing, Answers, Moves, labels, Stalled}
 use Rattle.gos_plan.specs.Kinds.{Contact, asks}
-use Rattle.gos_plan.specs.Firing.{Phase, Rest, Active, State, Slot, Req, Ans, Row, at}
-use Rattle.gos_plan.specs.Plans.{End, PartEnd, ImportEnd, ResultEnd, Plan, contact_at}
+use Rattle.gos_plan.specs.Firing.{Phase, Rest, Active, State, Req, Ans, Row, at}
+use Rattle.gos_plan.specs.Plans.{PartEnd, ImportEnd, ResultEnd, Plan, contact_at}
 use Rattle.gos_plan.specs.Tokens.{Tokens, Element, Fire, Out, In, held_at, token_at, with_token, firing_of, fired, Passes, Does, Runs, IsIdle, IsQuiet}
 use Rattle.gos_plan.specs.TokenBits.{LiteralFits, AllFit}
 use Rattle.gos_plan.proofs.DecidedLemmas.{one_state}
-use Rattle.gos_plan.proofs.TurnLemmas.{nat_eq_self}
 use Rattle.gos_sessions.specs.Sessions.{bits}
 use Rattle.gos_webs.specs.Cutting.{StandsIn, cut_tokens}
 use Rattle.gos_realises.specs.Regular.{Pass, way_in, way_out, is_open}
-use Rattle.gos_realises.specs.Matched.{port_if, event_number, label_at, shows, asks_on, GoesOn, Agrees, IsMatched, program_of}
+use Rattle.gos_realises.specs.Matched.{port_if, event_number, shows, asks_on, GoesOn, Agrees, IsMatched, program_of}
 use Rattle.gos_realises.specs.Realises.{AllGround, NamesDiffer}
 use Rattle.gos_realises.proofs.RingLemmas.{after}
 use Rattle.gos_realises.proofs.ToldLemmas.{one_name}
@@ -27,10 +26,10 @@ use Rattle.gos_contexts.specs.Widening.{Knows}
 use Rattle.gos_contexts.proofs.PlacedLemmas.{same_true}
 use Rattle.gos_contexts.proofs.WideningLemmas.{sources_known, runs_known}
 use Rattle.gos_parallel.proofs.ProtocolLemmas.{InTurn}
-use Rattle.gos_parallel.proofs.StepLemmas.{gate, Same, Local, fires, puts_out, takes_in, Sees, Unseen}
+use Rattle.gos_parallel.proofs.StepLemmas.{gate, Same, Local, fires, puts_out, takes_in}
 use Rattle.gos_parallel.proofs.LinkedLemmas.{Comes, first_comes, past_all}
 use Rattle.gos_parallel.proofs.QuietLemmas.{Neat, neat_step}
-use Rattle.gos_parallel.proofs.MoveLemmas.{AllTaken, inner_from, moves_then, request_begins, Ended, answer_ends}
+use Rattle.gos_parallel.proofs.MoveLemmas.{AllTaken, inner_from, request_begins, answer_ends}
 use Rattle.gos_blocks.specs.Block.{Block, IsBlock}
 use Rattle.gos_blocks.proofs.DriverLemmas.{begin_row, end_row}
 use Rattle.gos_blocks.proofs.RegionLemmas as region
@@ -40,35 +39,9 @@ use Rattle.gos_blocks.proofs.OutputLemmas.{import_real}
 use Rattle.gos_blocks.proofs.OpenLemmas.{firing_same}
 use Rattle.gos_blocks.proofs.OrderLemmas.{local_firing}
 use Rattle.gos_blocks.proofs.QuietLemmas.{body_quiet, whole_idle}
+use Rattle.gos_blocks.proofs.IdleLemmas.{idle_waits, idle_inner, no_moves, Came, came_on, matched_agrees}
 use Rattle.gos_blocks.proofs.ImportLemmas.{wide_imports, body_among, variable_typed, others_same, variable_new}
-use Rattle.gos_blocks.proofs.InsideLemmas.{home_store, AllOthers, Inside, Shown, inside_moves, silent_moves, reads, writes, Left, leaves, inside_waits, begins, first_step}
-
--- Idle can only wait
-idle_waits : (g : Program) → Stalled g Idle
-idle_waits g = ((λ e move. cc move.0), λ o e output move. shown o output (cc move.0))
-  where
-    shown : (o : Label) → is_output o ≡ true → o ≡ given 0 0 → ⊥
-    shown o output same = let bad : false ≡ true = sym (ap is_output same) ∙ output in cc bad
-
--- from Idle no inner move leads
-idle_inner : (g : Program) (acts : List Act) (c : Config) → AreInner acts → Moves g acts Idle c → (acts ≡ []) × (c ≡ Idle)
-idle_inner g [] c inner moves = (refl, sym moves)
-idle_inner g (Computing ∷ acts) c inner (b, (is, to), moves) = absurd (cc is)
-idle_inner g (Showing o ∷ acts) c inner (b, (is, to), moves) =
-    let one : o ≡ given 0 0 = cc is in absurd (inner.0 (ap (λ (l : Label). l.port) one))
-
-no_moves : (g : Program) (acts : List Act) (c : Config) → acts ≡ [] → Moves g acts c c
-no_moves g acts c none = subst (λ (as' : List Act). Moves g as' c c) (sym none) refl
-
-abbrev Came : Program → Config → Type 0
-Came g c = (acts : List Act) × Moves g acts Idle c
-
-came_on : (g : Program) (acts : List Act) (c e : Config) → Came g c → Moves g acts c e → Came g e
-came_on g acts c e (before, moves) more = (before ++ acts, moves_then g before acts Idle c e moves more)
-
-matched_agrees : (a : Plan) (g : Program) (ys : List Element) (s : Tokens) (c : Config) → IsMatched a g ys s c → Agrees a g s c
-matched_agrees a g [] s c matched = matched
-matched_agrees a g (y ∷ ys) s c matched = matched.0
+use Rattle.gos_blocks.proofs.InsideLemmas.{home_store, AllOthers, Inside, inside_moves, silent_moves, reads, writes, leaves, inside_waits, begins, first_step}
 
 others_taken : (y : Name) (ls : List Label) → AllOthers y ls → AllTaken ls
 others_taken y [] apart = tt
@@ -156,8 +129,8 @@ module _
       let tests = one_name b.body.imports names i b.place x b.variable at is.there in (
         not_given (slice_get b.body.imports i) x at,
         λ e. let one : Taken x.name ≡ Taken b.variable.name = sym (ap port_if at) ∙ e in
-        let name : x.name ≡ b.variable.name = cc one in
-        apart (grind (arith, tests, same_true x.name b.variable.name name)),
+            let name : x.name ≡ b.variable.name = cc one in
+            apart (grind (arith, tests, same_true x.name b.variable.name name)),
       )
 
   local_others : (x y : Element) → Local b.cut r b.body x y → AllOthers b.variable.name (shows b.body y)
@@ -398,7 +371,7 @@ module _
           moves = left.moves;
           shown = left.silent;
           goes_on = end_goes n s left.acts (local_firing r b is literals ground (Ans 0) (end_row n) Active s active refl);
-          stood = is_done v left.last left.store rest' (ask ∙ none) ans e.idle refl left.answers;
+          stood = is_done v left.last left.store rest' (ask ∙ none) ans e.idle (refl {a = Running left.last left.store}) left.answers;
           came = came_on on_body acts inner to came moves;
           matched = rest;
         }

@@ -6,7 +6,7 @@ use Rattle.gos_netlist.specs.Events.{Direction, Request, Answer}
 use Rattle.gos_plan.specs.Kinds.{Part, Contact}
 use Rattle.gos_plan.specs.Firing.{Rest, Active, Slot, Req, Ans, Row, at}
 use Rattle.gos_plan.specs.Plans.{End, PartEnd, ImportEnd, ResultEnd, Plan, contact_at}
-use Rattle.gos_plan.specs.Tokens.{Tokens, Element, Fire, Out, In, places_of, token_at, with_token, end_of, way_of, way_taken, firing_of, fired, Passes, Does, IsIdle, IsQuiet}
+use Rattle.gos_plan.specs.Tokens.{Tokens, Element, Fire, Out, places_of, token_at, with_token, end_of, way_of, way_taken, firing_of, fired, Passes, Does, IsIdle, IsQuiet}
 use Rattle.gos_plan.specs.TokenBits.{LiteralFits}
 use Rattle.gos_plan.proofs.JointLemmas.{contained, found}
 use Rattle.gos_plan.proofs.HeldLemmas.{nothing_there}

@@ -1,5 +1,5 @@
 -- The plan of a block realises it, where the plan of its body realises the body.
-use Rattle.std.specs.Prelude.{◌≡◌, List, [], All}
+use Rattle.std.specs.Prelude.{List, [], All}
 use Rattle.std.proofs.Common.{refl, sym, subst}
 use Rattle.gos_types.specs.Types.{Type', Com, Exp, IsDone}
 use Rattle.gos_model.specs.Terms.{Term, Import, New}
