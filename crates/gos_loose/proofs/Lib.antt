@@ -1,0 +1,11 @@
+pub mod PlacedLemmas
+pub mod TokenLemmas
+pub mod StillLemmas
+pub mod OrderLemmas
+pub mod TurnLemmas
+pub mod RegularLemmas
+pub mod ImportLemmas
+pub mod DoneLemmas
+pub mod SettledLemmas
+pub mod LooseLemmas
+mod SmallLemmas

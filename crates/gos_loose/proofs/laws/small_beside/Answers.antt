@@ -1,0 +1,8 @@
+use Rattle.gos_loose.proofs.SmallLemmas.{skip_is_beside, joined_is_not_beside}
+use Rattle.gos_loose.proofs.laws.small_beside.Goals as goal
+
+pub returns-clause-met : goal.returns-clause-met
+returns-clause-met c = skip_is_beside
+
+pub returns-clause-missed : goal.returns-clause-missed
+returns-clause-missed c = joined_is_not_beside

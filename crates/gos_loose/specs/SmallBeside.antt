@@ -1,0 +1,31 @@
+-- A small plan beside a loose part.
+--
+-- Read first: Beside; SmallPlans of gos_plan. It shows that the definition can be met and can be missed.
+use Rattle.std.specs.Prelude.{ℕ, zero, suc, [], ◌∷◌, Option, Some, None}
+use Rattle.gos_plan.specs.Kinds.{Skip}
+use Rattle.gos_plan.specs.Plans.{PartEnd, ResultEnd, Plan}
+use Rattle.gos_plan.specs.SmallPlans.{skip_plan}
+use Rattle.gos_webs.specs.Webs.{joint}
+use Rattle.gos_loose.specs.Beside.{Placing, IsBeside}
+
+-- the first part alone is the plan's, and it has no imports
+abbrev pub first_alone : ℕ → Option ℕ
+first_alone zero = Some zero
+first_alone (suc n) = None
+
+abbrev pub first_part : Placing
+first_part = record { part = λ i. i; number = first_alone; import = λ i. i; import_number = λ i. None }
+
+-- the plan of `skip` with another Skip, which nothing asks
+abbrev pub skip_and_loose : Plan
+skip_and_loose = record skip_plan { parts = Skip ∷ Skip ∷ [] }
+
+abbrev pub SkipIsBeside : Type 0
+SkipIsBeside = IsBeside first_part skip_and_loose skip_plan
+
+-- joined to the result it is not loose
+abbrev pub other_skip : Plan
+other_skip = record skip_and_loose { joints = joint (ResultEnd 0) (PartEnd 1 0) ∷ [] }
+
+abbrev pub JoinedIsNotBeside : Type 0
+JoinedIsNotBeside = IsBeside first_part other_skip skip_plan → ⊥
