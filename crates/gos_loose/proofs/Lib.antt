@@ -7,5 +7,9 @@ pub mod RegularLemmas
 pub mod ImportLemmas
 pub mod DoneLemmas
 pub mod SettledLemmas
+pub mod FrontLemmas
+pub mod LeftLemmas
+pub mod JoinedLemmas
+pub mod HigherLemmas
 pub mod LooseLemmas
 mod SmallLemmas

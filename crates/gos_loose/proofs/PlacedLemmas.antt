@@ -43,7 +43,24 @@ pub record IsPlaced (f : Placing) (r c : Plan) : Type 0 where
   pub joints : (a b : End) → Contains c.joints (joint a b) → Contains r.joints (joint (placed f a) (placed f b))
   pub all : (a b : End) → Contains r.joints (joint a b) → IsOwn f c a b ⊎ AreLoose f a b
 
--- an end of a part, of an import, or of the result is one of the plan's, or loose
+-- where numbers come from the parts and imports that have them
+pub own_end : (f : Placing) → ((i j : ℕ) → f.number i ≡ Some j → f.part j ≡ i) → ((i j : ℕ) → f.import_number i ≡ Some j → f.import j ≡ i)
+    → (e d : End) → end_in f e ≡ Some d → placed f d ≡ e
+own_end f part import (PartEnd i h) d own = by_number (f.number i) refl own
+  where
+    by_number : (o : Option ℕ) → f.number i ≡ o → part_if o h ≡ Some d → placed f d ≡ PartEnd i h
+    by_number None none e = absurd (cc e)
+    by_number (Some j) at e =
+        let same : PartEnd j h ≡ d = cc e in ap (placed f) (sym same) ∙ ap (λ (k : ℕ). PartEnd k h) (part i j at)
+own_end f part import (ImportEnd i h) d own = by_number (f.import_number i) refl own
+  where
+    by_number : (o : Option ℕ) → f.import_number i ≡ o → import_if o h ≡ Some d → placed f d ≡ ImportEnd i h
+    by_number None none e = absurd (cc e)
+    by_number (Some j) at e =
+        let same : ImportEnd j h ≡ d = cc e in ap (placed f) (sym same) ∙ ap (λ (k : ℕ). ImportEnd k h) (import i j at)
+own_end f part import (ResultEnd h) d own = let same : ResultEnd h ≡ d = cc own in ap (placed f) (sym same)
+
+-- where the end that names a place stands
 abbrev pub placed_if : Placing → Option End → Option End
 placed_if f None = None
 placed_if f (Some e) = Some (placed f e)
@@ -58,21 +75,7 @@ module _ (f : Placing) (r c : Plan) (is : IsPlaced f r c) where
   in_placed (ResultEnd h) = refl
 
   pub placed_in : (e d : End) → end_in f e ≡ Some d → placed f d ≡ e
-  placed_in (PartEnd i h) d own = by_number (f.number i) refl own
-    where
-      by_number : (o : Option ℕ) → f.number i ≡ o → part_if o h ≡ Some d → placed f d ≡ PartEnd i h
-      by_number None none e = absurd (cc e)
-      by_number (Some j) at e =
-          let same : PartEnd j h ≡ d = cc e in
-          ap (placed f) (sym same) ∙ ap (λ (k : ℕ). PartEnd k h) (is.number_part i j at)
-  placed_in (ImportEnd i h) d own = by_number (f.import_number i) refl own
-    where
-      by_number : (o : Option ℕ) → f.import_number i ≡ o → import_if o h ≡ Some d → placed f d ≡ ImportEnd i h
-      by_number None none e = absurd (cc e)
-      by_number (Some j) at e =
-          let same : ImportEnd j h ≡ d = cc e in
-          ap (placed f) (sym same) ∙ ap (λ (k : ℕ). ImportEnd k h) (is.number_import i j at)
-  placed_in (ResultEnd h) d own = let same : ResultEnd h ≡ d = cc own in ap (placed f) (sym same)
+  placed_in e d own = own_end f is.number_part is.number_import e d own
 
   -- no two ends stand in one
   pub one_end : (a b : End) → placed f a ≡ placed f b → a ≡ b

@@ -14,7 +14,7 @@ use Rattle.gos_webs.specs.Webs.{joint}
 use Rattle.gos_loose.specs.Beside.{Placing, placed, IsLoose, IsOwn, IsBeside}
 use Rattle.gos_loose.proofs.PlacedLemmas.{part_if, import_if, end_in, AreLoose, IsPlaced}
 
-element_at : {X : Type 0} (xs : List X) (i : ℕ) → i < length xs → (x : X) × (slice_get xs i ≡ Some x)
+pub element_at : {X : Type 0} (xs : List X) (i : ℕ) → i < length xs → (x : X) × (slice_get xs i ≡ Some x)
 element_at [] i small = absurd (omega (arith, small))
 element_at (x ∷ xs) zero small = (x, refl)
 element_at (x ∷ xs) (suc i) small = element_at xs i (omega (arith, small))
@@ -112,12 +112,12 @@ module _ {X : Type 0} (xs ys : List X) (to : ℕ → ℕ) (from : ℕ → Option
           high n m to j (omega (arith, same, large)) ∙ omega (arith, same, large)
 
 -- an end that is there is an end of a part or of an import that is there
-abbrev IsIn : Plan → End → Type 0
+abbrev pub IsIn : Plan → End → Type 0
 IsIn p (PartEnd i h) = i < length p.parts
 IsIn p (ImportEnd i h) = i < length p.imports
 IsIn p (ResultEnd h) = Unit {0}
 
-end_there : (p : Plan) (e : End) (k : Contact) → contact_at p e ≡ Some k → IsIn p e
+pub end_there : (p : Plan) (e : End) (k : Contact) → contact_at p e ≡ Some k → IsIn p e
 end_there p (PartEnd i h) k at = by_part (slice_get p.parts i) refl at
   where
     by_part : (o : Option Part) → slice_get p.parts i ≡ o → slice_get (contacts_of_part o) h ≡ Some k → i < length p.parts

@@ -1,5 +1,5 @@
 // What the definitions give. Each theorem is the contract of a function that does nothing.
-ghost use Rattle.gos_loose.specs.Loose.{LooseIsDone, LooseIsRegular};
+ghost use Rattle.gos_loose.specs.Loose.{LooseIsDone, LooseIsRealised, LooseIsRegular};
 ghost use Rattle.gos_loose.specs.SmallBeside.{JoinedIsNotBeside, SkipIsBeside};
 
 /// A plan with loose parts and ground loose imports beside it is regular where it is by itself.
@@ -10,6 +10,11 @@ pub fn loose_is_regular()
 /// And realises the programs of commands and expressions that it realises by itself.
 pub fn loose_is_done()
     ensures { LooseIsDone }
+{}
+
+/// And those of any type.
+pub fn loose_is_realised()
+    ensures { LooseIsRealised }
 {}
 
 /// The plan of `skip` stands beside another Skip, but not where that one is joined to the result.
