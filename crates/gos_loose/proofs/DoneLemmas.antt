@@ -1,7 +1,7 @@
 -- The whole realises what the plan realises, of commands and expressions.
 use Rattle.std.specs.Prelude.{◌≡◌, ℕ, List, [], ◌∷◌, ◌++◌, Option, Some, None, slice_get}
 use Rattle.std.proofs.Common.{refl, sym, ◌∙◌, ap, subst}
-use Rattle.gos_types.specs.Types.{Type', IsDone}
+use Rattle.gos_types.specs.Types.{Type'}
 use Rattle.gos_netlist.specs.Events.{Direction, Answer}
 use Rattle.gos_model.specs.Terms.{Term}
 use Rattle.gos_model.specs.Typing.{Imported, import_type}
@@ -13,10 +13,9 @@ use Rattle.gos_plan.specs.Firing.{Rest, Req, Ans}
 use Rattle.gos_plan.specs.Plans.{End, PartEnd, ImportEnd, ResultEnd, Plan, contact_at}
 use Rattle.gos_plan.specs.Tokens.{Tokens, Element, Fire, Out, In, Runs, IsIdle}
 use Rattle.gos_plan.specs.Orderly.{IsOrderly}
-use Rattle.gos_realises.specs.Regular.{way_in, way_out, IsRegular}
+use Rattle.gos_realises.specs.Regular.{way_in, way_out}
 use Rattle.gos_realises.specs.Matched.{port_if, event_number, label_at, shows, all_shown, GoesOn, Agrees, IsMatched, program_of, RealisesDone}
 use Rattle.gos_realises.specs.Realises.{AllGround, NamesDiffer}
-use Rattle.gos_realises.proofs.InputLemmas.{protocol_keeps_turns}
 use Rattle.gos_contexts.specs.Widening.{AreAmong, Knows}
 use Rattle.gos_contexts.proofs.WideningLemmas.{runs_known, move_widens, waits_widely}
 use Rattle.gos_renumbered.proofs.ImportLemmas.{at_of, of_at}
@@ -25,7 +24,7 @@ use Rattle.gos_loose.proofs.PlacedLemmas.{IsPlaced, end_in, placed_in, contact_p
 use Rattle.gos_loose.proofs.TokenLemmas.{set, set_list, own_tokens, own_idle, token_own, firing_own, does_own, runs_own, quiet_own}
 use Rattle.gos_loose.proofs.StillLemmas.{IsStill, idle_still, stays_still}
 use Rattle.gos_loose.proofs.OrderLemmas.{ordered_whole}
-use Rattle.gos_loose.proofs.RegularLemmas.{all_own, whole_regular}
+use Rattle.gos_loose.proofs.ProtocolLemmas.{none_shut, all_kept}
 use Rattle.gos_loose.proofs.ImportLemmas.{AllAmong, among, named_type}
 
 pub own_imports : (f : Placing) (r c : Plan) → IsPlaced f r c → AllAmong c.imports r.imports
@@ -166,12 +165,9 @@ module _ (f : Placing) (r c : Plan) (is : IsPlaced f r c) where
             ordered_whole f r c is xs s t (idle_still f r s idle) runs both.1,
           )
 
-      pub whole_done : AllGround r.imports → IsDone c.outcome → IsRegular c → RealisesDone c m → RealisesDone r m
-      whole_done ground is_done regular done s t xs idle runs keeps =
-          let turned =
-          protocol_keeps_turns r xs s t (whole_regular f r c is ground regular) ground names (subst IsDone (sym is.outcome) is_done) idle runs keeps
-          in
-          let (ys, e) = all_own f r c is ground xs s t [] (idle_still f r s idle) runs turned in
+      pub whole_done : AllGround r.imports → RealisesDone c m → RealisesDone r m
+      whole_done ground done s t xs idle runs keeps =
+          let (ys, e) = all_kept f r c is ground names xs s t [] (idle_still f r s idle) runs (none_shut f r c is ground names) keeps in
           subst (λ (zs : List Element). IsMatched r large zs s Idle × IsOrderly r zs s) (sym e)
           (placed_done done ys s t idle (subst (λ (zs : List Element). Runs r zs s t) e runs)
           (subst (λ (zs : List Element). KeepsProtocol r.imports (all_shown r zs)) e keeps))

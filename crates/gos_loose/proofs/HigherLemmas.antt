@@ -1,7 +1,7 @@
 -- The whole realises what the plan realises, at each type.
 use Rattle.std.specs.Prelude.{◌≡◌, ℕ, zero, suc, List, [], ◌∷◌, ◌++◌}
 use Rattle.std.proofs.Common.{refl, sym, ◌∙◌, ap, subst, arith}
-use Rattle.gos_types.specs.Types.{Type', Com, Exp, Var, Pair, Fun, IsDone}
+use Rattle.gos_types.specs.Types.{Type', Com, Exp, Var, Pair, Fun}
 use Rattle.gos_model.specs.Terms.{Term, Lit, App, Fst, Snd, Assign, Deref}
 use Rattle.gos_model.specs.Typing.{Imports}
 use Rattle.gos_plan.specs.Kinds as kinds
@@ -59,34 +59,33 @@ module _ (f : Placing) (r c : Plan) (is : IsPlaced f r c) (fine : Fine r.imports
         regular = whole_regular f r c is fine.0 suits.regular;
       }
 
-  done_whole : (t : Type') (m : Term) → IsDone t → Suits t c m → RealisesDone c m → RealisesDone r m
-  done_whole t m is_done suits done =
-      whole_done f r c is m fine.1 (sources_known c.imports [] m t suits.typed) fine.0 (subst IsDone (sym suits.outcome) is_done) suits.regular done
+  done_whole : (t : Type') (m : Term) → Suits t c m → RealisesDone c m → RealisesDone r m
+  done_whole t m suits done = whole_done f r c is m fine.1 (sources_known c.imports [] m t suits.typed) fine.0 done
 
 abbrev DoneToo : Type' → Plan → Term → Type 0
 DoneToo t r m = Suits t r m × RealisesDone r m
 
-done_too : (f : Placing) (r c : Plan) (t : Type') (m : Term) → IsPlaced f r c → Fine r.imports → IsDone t → DoneToo t c m → DoneToo t r m
-done_too f r c t m is fine is_done (suits, done) = (suits_whole f r c is fine t m suits, done_whole f r c is fine t m is_done suits done)
+done_too : (f : Placing) (r c : Plan) (t : Type') (m : Term) → IsPlaced f r c → Fine r.imports → DoneToo t c m → DoneToo t r m
+done_too f r c t m is fine (suits, done) = (suits_whole f r c is fine t m suits, done_whole f r c is fine t m suits done)
 
 -- the joinings with the whole and with the plan
 module _ (f : Placing) (p q : Plan) (is : IsPlaced f p q) (ps : List Plan) (ls : List Link) (plain : ArePlain ls) (giver skipped : ℕ) (t : Type') (r s : Plan)
     (of_p : IsJoined (wiring p ps ls giver skipped t) r) (of_q : IsJoined (wiring q ps ls giver skipped t) s)
   where
-  abbrev Joined : Type 0
-  Joined = (g : Placing) × IsPlaced g r s × Fine r.imports
+    abbrev Joined : Type 0
+    Joined = (g : Placing) × IsPlaced g r s × Fine r.imports
 
-  joined : Fine p.imports → Fine (all_imports ps) → HaveOtherNames p.imports (all_imports ps) → Joined
-  joined fine also apart = (
-    numbers f p q is ps ls plain giver skipped t,
-    joinings_placed f p q is ps ls plain giver skipped t r s of_p.joining of_q.joining,
-    subst Fine (sym (large_imports f p q is ps ls plain giver skipped t r s of_p.joining of_q.joining))
-        (more_fine p.imports (all_imports ps) fine also apart),
-  )
+    joined : Fine p.imports → Fine (all_imports ps) → HaveOtherNames p.imports (all_imports ps) → Joined
+    joined fine also apart = (
+      numbers f p q is ps ls plain giver skipped t,
+      joinings_placed f p q is ps ls plain giver skipped t r s of_p.joining of_q.joining,
+      subst Fine (sym (large_imports f p q is ps ls plain giver skipped t r s of_p.joining of_q.joining))
+          (more_fine p.imports (all_imports ps) fine also apart),
+    )
 
 means_whole : (t : Type') (f : Placing) (r c : Plan) (m : Term) → IsPlaced f r c → Fine r.imports → Suits t c m → Means t c m → Means t r m
-means_whole Com f r c m is fine suits means = done_whole f r c is fine Com m tt suits means
-means_whole (Exp w) f r c m is fine suits means = done_whole f r c is fine (Exp w) m tt suits means
+means_whole Com f r c m is fine suits means = done_whole f r c is fine Com m suits means
+means_whole (Exp w) f r c m is fine suits means = done_whole f r c is fine (Exp w) m suits means
 means_whole (Var w) f r c m is fine suits (reads, writes) = (
   λ x of_x.
       (let (y, of_y) = (variables_are_joined w 0 c suits.right suits.outcome).0 in
@@ -94,14 +93,14 @@ means_whole (Var w) f r c m is fine suits (reads, writes) = (
       joined f r c is (lone (kinds.Deref w) 1 (Exp w) ∷ []) (link 0 (ResultEnd 0) 1 (PartEnd 0 0) ∷ []) reading_plain 1 0 (Exp w) x y of_x of_y fine (tt, tt)
       (no_others r.imports)
       in
-      done_too g x y (Exp w) (Deref m) placed fine_x tt (reads y of_y)),
+      done_too g x y (Exp w) (Deref m) placed fine_x (reads y of_y)),
   λ x k small of_x.
       (let (y, of_y) = (variables_are_joined w k c suits.right suits.outcome).1 in
       let (g, placed, fine_x) =
       joined f r c is (lone (kinds.Assign w) 2 Com ∷ lone (kinds.Lit w k) 0 (Exp w) ∷ [])
       (link 0 (ResultEnd 1) 1 (PartEnd 0 1) ∷ link 1 (PartEnd 0 0) 2 (ResultEnd 0) ∷ []) writing_plain 1 0 Com x y of_x of_y fine (tt, tt) (no_others r.imports)
       in
-      done_too g x y Com (Assign m (Lit k w)) placed fine_x tt (writes y k small of_y)),
+      done_too g x y Com (Assign m (Lit k w)) placed fine_x (writes y k small of_y)),
 )
 means_whole (Pair a b) f r c m is fine suits (first, second) = (
   λ x of_x.

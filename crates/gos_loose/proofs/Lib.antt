@@ -4,6 +4,7 @@ pub mod StillLemmas
 pub mod OrderLemmas
 pub mod TurnLemmas
 pub mod RegularLemmas
+pub mod ProtocolLemmas
 pub mod ImportLemmas
 pub mod DoneLemmas
 pub mod SettledLemmas

@@ -9,8 +9,7 @@ pub loose_is_regular : LooseIsRegular
 loose_is_regular f r c is ground regular = whole_regular (settling f r c is) r c (settled_placed f r c is) ground regular
 
 pub loose_is_done : LooseIsDone
-loose_is_done f r c m is ground names done regular knows realises =
-    whole_done (settling f r c is) r c (settled_placed f r c is) m names knows ground done regular realises
+loose_is_done f r c m is ground names knows done = whole_done (settling f r c is) r c (settled_placed f r c is) m names knows ground done
 
 pub loose_is_realised : LooseIsRealised
 loose_is_realised f r c t m is ground names realised =

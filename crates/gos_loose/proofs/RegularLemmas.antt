@@ -22,7 +22,7 @@ module _ (f : Placing) (r c : Plan) (is : IsPlaced f r c) (ground : AllGround r.
   Own x = (y : Element) × (x ≡ set f y)
 
   -- what comes in at an import that is there is an answer
-  answers : (i h : ℕ) (k : Contact) → contact_at r (ImportEnd i h) ≡ Some k → way_in (contact_at r (ImportEnd i h)) ≡ Answer
+  pub answers : (i h : ℕ) (k : Contact) → contact_at r (ImportEnd i h) ≡ Some k → way_in (contact_at r (ImportEnd i h)) ≡ Answer
   answers i h k there = by_import (slice_get r.imports i) refl
     where
       by_import : (o : Option Imported) → slice_get r.imports i ≡ o → way_in (contact_at r (ImportEnd i h)) ≡ Answer

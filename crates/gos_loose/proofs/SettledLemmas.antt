@@ -57,59 +57,59 @@ module _ {X : Type 0} (xs ys : List X) (to : ℕ → ℕ) (from : ℕ → Option
     (forth : (i : ℕ) (x : X) → slice_get xs i ≡ Some x → (slice_get ys (to i) ≡ Some x) × (from (to i) ≡ Some i))
     (back : (i j : ℕ) → from i ≡ Some j → (to j ≡ i) × ((x : X) × (slice_get xs j ≡ Some x)))
   where
-  abbrev n : ℕ
-  n = length xs
+    abbrev n : ℕ
+    n = length xs
 
-  abbrev m : ℕ
-  m = length ys
+    abbrev m : ℕ
+    m = length ys
 
-  there : (i : ℕ) → i < n → (x : X) × (slice_get xs i ≡ Some x)
-  there i small = element_at xs i small
+    there : (i : ℕ) → i < n → (x : X) × (slice_get xs i ≡ Some x)
+    there i small = element_at xs i small
 
-  pub settled_get : (i : ℕ) → slice_get ys (settled n m to i) ≡ slice_get xs i
-  settled_get i = by_test (nat_lt i n) refl
-    where
-      by_test : (b : Bool) → nat_lt i n ≡ b → slice_get ys (settled n m to i) ≡ slice_get xs i
-      by_test true test =
-          let small : i < n = grind (arith, nat_tests, test) in
-          let (x, at) = there i small in
-          ap (slice_get ys) (low n m to i small) ∙ ((forth i x at).0 ∙ sym at)
-      by_test false test =
-          let large : n ≤ i = grind (arith, nat_tests, test) in
-          ap (slice_get ys) (high n m to i large) ∙ (slice_get_past ys (m + i) (omega arith) ∙ sym (slice_get_past xs i large))
+    pub settled_get : (i : ℕ) → slice_get ys (settled n m to i) ≡ slice_get xs i
+    settled_get i = by_test (nat_lt i n) refl
+      where
+        by_test : (b : Bool) → nat_lt i n ≡ b → slice_get ys (settled n m to i) ≡ slice_get xs i
+        by_test true test =
+            let small : i < n = grind (arith, nat_tests, test) in
+            let (x, at) = there i small in
+            ap (slice_get ys) (low n m to i small) ∙ ((forth i x at).0 ∙ sym at)
+        by_test false test =
+            let large : n ≤ i = grind (arith, nat_tests, test) in
+            ap (slice_get ys) (high n m to i large) ∙ (slice_get_past ys (m + i) (omega arith) ∙ sym (slice_get_past xs i large))
 
-  pub settled_forth : (i : ℕ) → settled_back n m from (settled n m to i) ≡ Some i
-  settled_forth i = by_test (nat_lt i n) refl
-    where
-      by_test : (b : Bool) → nat_lt i n ≡ b → settled_back n m from (settled n m to i) ≡ Some i
-      by_test true test =
-          let small : i < n = grind (arith, nat_tests, test) in
-          let (x, at) = there i small in
-          let both = forth i x at in
-          ap (settled_back n m from) (low n m to i small) ∙ (low_back n m from (to i) (slice_get_within ys (to i) x both.0) ∙ both.1)
-      by_test false test =
-          let large : n ≤ i = grind (arith, nat_tests, test) in
-          let same : m + i - m ≡ i = omega arith in
-          ap (settled_back n m from) (high n m to i large) ∙ (high_back n m from (m + i) (omega (arith, large)) ∙ ap Some same)
+    pub settled_forth : (i : ℕ) → settled_back n m from (settled n m to i) ≡ Some i
+    settled_forth i = by_test (nat_lt i n) refl
+      where
+        by_test : (b : Bool) → nat_lt i n ≡ b → settled_back n m from (settled n m to i) ≡ Some i
+        by_test true test =
+            let small : i < n = grind (arith, nat_tests, test) in
+            let (x, at) = there i small in
+            let both = forth i x at in
+            ap (settled_back n m from) (low n m to i small) ∙ (low_back n m from (to i) (slice_get_within ys (to i) x both.0) ∙ both.1)
+        by_test false test =
+            let large : n ≤ i = grind (arith, nat_tests, test) in
+            let same : m + i - m ≡ i = omega arith in
+            ap (settled_back n m from) (high n m to i large) ∙ (high_back n m from (m + i) (omega (arith, large)) ∙ ap Some same)
 
-  pub settled_return : (i j : ℕ) → settled_back n m from i ≡ Some j → settled n m to j ≡ i
-  settled_return i j is = by_test (nat_lt i m) (nat_lt i (m + n)) refl refl
-    where
-      by_test : (b d : Bool) → nat_lt i m ≡ b → nat_lt i (m + n) ≡ d → settled n m to j ≡ i
-      by_test true d test other =
-          let small : i < m = grind (arith, nat_tests, test) in
-          let (lands, (x, at)) = back i j (sym (low_back n m from i small) ∙ is) in
-          low n m to j (slice_get_within xs j x at) ∙ lands
-      by_test false true test other =
-          let large : m ≤ i = grind (arith, nat_tests, test) in
-          let small : i < m + n = grind (arith, nat_tests, other) in
-          let both : None ≡ Some j = sym (none_between n m from i large small) ∙ is in
-          absurd (cc both)
-      by_test false false test other =
-          let large : m + n ≤ i = grind (arith, nat_tests, other) in
-          let both : Some (i - m) ≡ Some j = sym (high_back n m from i large) ∙ is in
-          let same : i - m ≡ j = cc both in
-          high n m to j (omega (arith, same, large)) ∙ omega (arith, same, large)
+    pub settled_return : (i j : ℕ) → settled_back n m from i ≡ Some j → settled n m to j ≡ i
+    settled_return i j is = by_test (nat_lt i m) (nat_lt i (m + n)) refl refl
+      where
+        by_test : (b d : Bool) → nat_lt i m ≡ b → nat_lt i (m + n) ≡ d → settled n m to j ≡ i
+        by_test true d test other =
+            let small : i < m = grind (arith, nat_tests, test) in
+            let (lands, (x, at)) = back i j (sym (low_back n m from i small) ∙ is) in
+            low n m to j (slice_get_within xs j x at) ∙ lands
+        by_test false true test other =
+            let large : m ≤ i = grind (arith, nat_tests, test) in
+            let small : i < m + n = grind (arith, nat_tests, other) in
+            let both : None ≡ Some j = sym (none_between n m from i large small) ∙ is in
+            absurd (cc both)
+        by_test false false test other =
+            let large : m + n ≤ i = grind (arith, nat_tests, other) in
+            let both : Some (i - m) ≡ Some j = sym (high_back n m from i large) ∙ is in
+            let same : i - m ≡ j = cc both in
+            high n m to j (omega (arith, same, large)) ∙ omega (arith, same, large)
 
 -- an end that is there is an end of a part or of an import that is there
 abbrev pub IsIn : Plan → End → Type 0

@@ -80,7 +80,7 @@ module _ (f : Placing) (r c : Plan) (is : IsPlaced f r c) where
   out_own : (e : End) (v : ℕ) (o : Option Contact) (s t : Tokens) → Passes r (Out (placed f e) v) o s t
       → Passes c (Out e v) o (own_tokens f s) (own_tokens f t)
   out_own e v None s t h = h
-  out_own e v (Some k) s t (held, is_t) = 
+  out_own e v (Some k) s t (held, is_t) =
       (sym (token_own s e (way_taken k.role)) ∙ held, ap (own_tokens f) is_t ∙ token_filled e (way_taken k.role) None s)
 
   in_own : (e : End) (v : ℕ) (o : Option Contact) (s t : Tokens) → Passes r (In (placed f e) v) o s t

@@ -2,7 +2,7 @@
 --
 -- Read first: Beside; Realises of gos_realises. It is the weakening of the affine language: what isn't used is there, but
 -- nothing asks it.
-use Rattle.gos_types.specs.Types.{Type', IsDone}
+use Rattle.gos_types.specs.Types.{Type'}
 use Rattle.gos_model.specs.Terms.{Term}
 use Rattle.gos_plan.specs.Plans.{Plan}
 use Rattle.gos_realises.specs.Regular.{IsRegular}
@@ -15,12 +15,11 @@ use Rattle.gos_loose.specs.Beside.{Placing, IsBeside}
 abbrev pub LooseIsRegular : Type 0
 LooseIsRegular = (f : Placing) (r c : Plan) → IsBeside f r c → AllGround r.imports → IsRegular c → IsRegular r
 
--- It realises the programs of a command or an expression that the plan realises, where these know their names.
+-- It realises the programs of a ground type that the plan realises, where the plan's imports have all their names.
 abbrev pub LooseIsDone : Type 0
 LooseIsDone =
     (f : Placing) (r c : Plan) (m : Term)
-    → IsBeside f r c → AllGround r.imports → NamesDiffer r.imports → IsDone c.outcome → IsRegular c → Knows c.imports m
-    → RealisesDone c m → RealisesDone r m
+    → IsBeside f r c → AllGround r.imports → NamesDiffer r.imports → Knows c.imports m → RealisesDone c m → RealisesDone r m
 
 -- And at any type: whatever is joined to the whole is joined to the plan, with the same loose parts beside it.
 abbrev pub LooseIsRealised : Type 0
