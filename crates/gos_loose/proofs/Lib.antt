@@ -13,4 +13,5 @@ pub mod LeftLemmas
 pub mod JoinedLemmas
 pub mod HigherLemmas
 pub mod LooseLemmas
+pub mod HomeLemmas
 mod SmallLemmas

@@ -178,13 +178,13 @@ module _ (f : Placing) (r c : Plan) (is : IsBeside f r c) where
       record {
         whole_right = is.whole_right;
         right = is.right;
-        outcome = is.outcome;
-        parts = settled_get c.parts r.parts f.part f.number is.parts is.numbers;
-        part_number = settled_forth c.parts r.parts f.part f.number is.parts is.numbers;
-        number_part = settled_return c.parts r.parts f.part f.number is.parts is.numbers;
-        imports = settled_get c.imports r.imports f.import f.import_number is.imports is.import_numbers;
-        import_number = settled_forth c.imports r.imports f.import f.import_number is.imports is.import_numbers;
-        number_import = settled_return c.imports r.imports f.import f.import_number is.imports is.import_numbers;
+        outcome = is.lies.outcome;
+        parts = settled_get c.parts r.parts f.part f.number is.lies.parts is.lies.numbers;
+        part_number = settled_forth c.parts r.parts f.part f.number is.lies.parts is.lies.numbers;
+        number_part = settled_return c.parts r.parts f.part f.number is.lies.parts is.lies.numbers;
+        imports = settled_get c.imports r.imports f.import f.import_number is.lies.imports is.lies.import_numbers;
+        import_number = settled_forth c.imports r.imports f.import f.import_number is.lies.imports is.lies.import_numbers;
+        number_import = settled_return c.imports r.imports f.import f.import_number is.lies.imports is.lies.import_numbers;
         joints = joints;
         all = all;
       }

@@ -28,14 +28,12 @@ IsLoose f (PartEnd i h) = f.number i ≡ None
 IsLoose f (ImportEnd i h) = f.import_number i ≡ None
 IsLoose f (ResultEnd h) = ⊥
 
--- an end of the whole is one of the plan's
+-- the ends of a joint of the plan stand at these ends of the whole
 abbrev pub IsOwn : Placing → Plan → End → End → Type 0
 IsOwn f c a b = (d : End) × (e : End) × Contains c.joints (joint d e) × (placed f d ≡ a) × (placed f e ≡ b)
 
--- r is c with loose parts and imports beside it: each joint of r is one of c's, or both its ends are loose. Weights are free.
-pub record IsBeside (f : Placing) (r c : Plan) : Type 0 where
-  pub whole_right : IsRight r
-  pub right : IsRight c
+-- The numbers are right: the parts and the imports of c are some of those of r, and both have one outcome. Weights are free.
+pub record LiesIn (f : Placing) (r c : Plan) : Type 0 where
   pub outcome : r.outcome ≡ c.outcome
   pub parts : (i : ℕ) (k : Part) → slice_get c.parts i ≡ Some k → (slice_get r.parts (f.part i) ≡ Some k) × (f.number (f.part i) ≡ Some i)
   pub numbers : (i j : ℕ) → f.number i ≡ Some j → (f.part j ≡ i) × ((k : Part) × (slice_get c.parts j ≡ Some k))
@@ -44,5 +42,11 @@ pub record IsBeside (f : Placing) (r c : Plan) : Type 0 where
       → (slice_get r.imports (f.import i) ≡ Some x) × (f.import_number (f.import i) ≡ Some i)
   pub import_numbers :
       (i j : ℕ) → f.import_number i ≡ Some j → (f.import j ≡ i) × ((x : Imported) × (slice_get c.imports j ≡ Some x))
+
+-- r is c with loose parts and imports beside it: each joint of r is one of c's, or both its ends are loose.
+pub record IsBeside (f : Placing) (r c : Plan) : Type 0 where
+  pub lies : LiesIn f r c
+  pub whole_right : IsRight r
+  pub right : IsRight c
   pub joints : (a b : End) → Contains c.joints (joint a b) → Contains r.joints (joint (placed f a) (placed f b))
   pub all : (a b : End) → Contains r.joints (joint a b) → IsOwn f c a b ⊎ (IsLoose f a × IsLoose f b)

@@ -1,6 +1,12 @@
 // What the definitions give. Each theorem is the contract of a function that does nothing.
+ghost use Rattle.gos_loose.specs.Homes.{WebIsBeside};
 ghost use Rattle.gos_loose.specs.Loose.{LooseIsDone, LooseIsRealised, LooseIsRegular};
-ghost use Rattle.gos_loose.specs.SmallBeside.{JoinedIsNotBeside, SkipIsBeside};
+ghost use Rattle.gos_loose.specs.SmallBeside.{JoinedIsNotBeside, OtherIsNotHome, SkipIsBeside, SkipIsHome};
+
+/// The plan of a web stands beside what no tie joins to that web.
+pub fn web_is_beside()
+    ensures { WebIsBeside }
+{}
 
 /// A plan with loose parts and ground loose imports beside it is regular where it is by itself.
 pub fn loose_is_regular()
@@ -21,4 +27,6 @@ pub fn loose_is_realised()
 pub fn small_beside()
     ensures met { SkipIsBeside }
     ensures missed { JoinedIsNotBeside }
+    ensures home { SkipIsHome }
+    ensures other { OtherIsNotHome }
 {}

@@ -5,4 +5,4 @@
 
 mod laws;
 
-pub use laws::{loose_is_done, loose_is_realised, loose_is_regular, small_beside};
+pub use laws::{loose_is_done, loose_is_realised, loose_is_regular, small_beside, web_is_beside};
