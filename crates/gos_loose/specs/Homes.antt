@@ -1,7 +1,7 @@
 -- A plan of a web stands beside the rest of a larger web.
 --
--- Read first: Beside; Webs of gos_webs. So it is enough to look at each tie of the larger web: it is one of the smaller web, or
--- leads from one point outside it to another.
+-- Read first: Beside; Webs of gos_webs. So it is enough to look at each tie of the larger web: it is a way of the smaller one, or
+-- leads from one point outside that to another.
 use Rattle.std.specs.Prelude.{◌≡◌, Option, Some, None, Contains}
 use Rattle.gos_plan.specs.Kinds.{Contact}
 use Rattle.gos_plan.specs.Plans.{End, Plan, contact_at}
@@ -16,7 +16,7 @@ AreHome v (Some a) None = ⊥
 AreHome v (Some a) (Some b) = Way v.ties a b
 
 -- `home` says which point of v a point of w is, if it is one: no tie leads out of v, each end of c that there is stands at
--- its point, and no loose end at one.
+-- its point, no loose end stands at one, and each joint of c is a way of w.
 pub record IsHome (home : Dot → Option Dot) (f : Placing) (w v : Web) (r c : Plan) : Type 0 where
   pub ties : (a b : Dot) → Contains w.ties (tie a b) → AreHome v (home a) (home b)
   pub ends : (e : End) (k : Contact) → contact_at c e ≡ Some k → home (w.at (placed f e)) ≡ Some (v.at e)

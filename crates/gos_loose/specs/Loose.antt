@@ -15,7 +15,7 @@ use Rattle.gos_loose.specs.Beside.{Placing, IsBeside}
 abbrev pub LooseIsRegular : Type 0
 LooseIsRegular = (f : Placing) (r c : Plan) → IsBeside f r c → AllGround r.imports → IsRegular c → IsRegular r
 
--- It realises the programs of a ground type that the plan realises, where the plan's imports have all their names.
+-- It realises the commands and expressions that the plan realises, where the plan's imports have all their names.
 abbrev pub LooseIsDone : Type 0
 LooseIsDone =
     (f : Placing) (r c : Plan) (m : Term)
