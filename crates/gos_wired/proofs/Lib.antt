@@ -1,3 +1,6 @@
 pub mod NumberLemmas
 pub mod WayLemmas
 pub mod AwayLemmas
+pub mod PlacingLemmas
+pub mod TieLemmas
+pub mod TypeLemmas
