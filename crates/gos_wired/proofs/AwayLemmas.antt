@@ -10,7 +10,10 @@ use Rattle.gos_ties.specs.declared.points.Point.{Point}
 use Rattle.gos_ties.specs.declared.points.Tie.{Tie}
 use Rattle.gos_ties.specs.Ties.{point}
 use Rattle.gos_realises.specs.Regular.{count}
+use Rattle.gos_plan.specs.Plans.{PartEnd, ImportEnd, ResultEnd}
+use Rattle.gos_webs.specs.Webs.{Dot, Of, Number, Node, Within}
 use Rattle.gos_compile.specs.Wiring.{Types, row, led, share_ties, shares_ties, binder_part, one_part, two_part, parts_of, nodes, one_out, first_out, second_out, one_ties, two_ties, binder_ties, binder_out, ties_of}
+use Rattle.gos_wired.specs.Wired.{dot_of}
 
 -- a place is no import's
 abbrev pub IsAway : Place → Type 0
@@ -168,3 +171,22 @@ pub tie_away : (ts : List Tie) (t : Tie) → TiesAway ts → Contains ts t → I
 tie_away [] t all (n, small, e) = absurd (omega (arith, small))
 tie_away (u ∷ ts) t all (zero, small, e) = subst (λ (x : Tie). IsAway x.one.place × IsAway x.other.place) e (all.0, all.1)
 tie_away (u ∷ ts) t all (suc n, small, e) = tie_away ts t all.2 (n, omega (arith, small), e)
+
+-- in the place of an import's end its number's
+abbrev pub for_import : Dot → Dot
+for_import (Of (PartEnd i h)) = Of (PartEnd i h)
+for_import (Of (ImportEnd i h)) = Number i h
+for_import (Of (ResultEnd h)) = Of (ResultEnd h)
+for_import (Number n h) = Number n h
+for_import (Node n h) = Node n h
+for_import (Within k d) = Within k d
+
+pub stays_away : (q : Point) → IsAway q.place → for_import (dot_of q) ≡ dot_of q
+stays_away q away = by_place q.place q.shake away
+  where
+    by_place : (x : Place) (h : ℕ) → IsAway x → for_import (dot_of (point x h)) ≡ dot_of (point x h)
+    by_place (places.Part i) h away = refl
+    by_place (places.Import i) h away = absurd away
+    by_place places.Result h away = refl
+    by_place (places.Number n) h away = refl
+    by_place (places.Node n) h away = refl

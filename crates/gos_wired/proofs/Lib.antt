@@ -4,3 +4,4 @@ pub mod AwayLemmas
 pub mod PlacingLemmas
 pub mod TieLemmas
 pub mod TypeLemmas
+pub mod ModuleLemmas
