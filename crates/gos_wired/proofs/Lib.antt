@@ -5,3 +5,4 @@ pub mod PlacingLemmas
 pub mod TieLemmas
 pub mod TypeLemmas
 pub mod ModuleLemmas
+mod SmallWiredLemmas
