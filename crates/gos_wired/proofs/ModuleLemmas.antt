@@ -2,34 +2,33 @@
 --
 -- Read first: WayLemmas, PlacingLemmas, TieLemmas. In the union an import's end stands between its number and its supply's
 -- result; in the node's web it doesn't.
-use Rattle.std.specs.Prelude.{◌≡◌, ◌↔◌, ℕ, zero, suc, ◌+◌, ◌<◌, ◌≤◌, List, [], ◌∷◌, ◌++◌, ◌⊎◌, length, map, Option, Some, None, Contains, slice_get}
+use Rattle.std.specs.Prelude.{◌≡◌, ◌↔◌, ℕ, zero, suc, ◌+◌, ◌<◌, List, [], ◌∷◌, ◌⊎◌, length, Option, Some, None, Contains, slice_get}
 use Rattle.std.proofs.Common.{refl, sym, ◌∙◌, ap, subst, arith, inl, inr}
 use Rattle.std.proofs.lemmas.List.Elements.{Contains-append_left, Contains-append_right, Contains-append_cases}
 use Rattle.gos_types.specs.Types.{Type'}
 use Rattle.gos_model.specs.Typing.{Imports, Imported}
 use Rattle.gos_check.specs.Nodes.{Numbered, type_of_node}
-use Rattle.gos_plan.specs.Kinds.{Part, Contact, asks, serves}
+use Rattle.gos_plan.specs.Kinds.{Part, Contact}
 use Rattle.gos_plan.specs.Plans.{End, PartEnd, ImportEnd, ResultEnd, Joint, Plan, contact_at, contacts_of_part, contacts_of_import}
-use Rattle.gos_plan.specs.Joining.{Place, place, Link, LeftImport, all_left, left_place, part_place, origin, IsJoining}
+use Rattle.gos_plan.specs.Joining.{Place, place, Link, LeftImport, all_left, left_place, IsJoining}
 use Rattle.gos_ties.specs.declared.points.Place.TheVariants as places
-use Rattle.gos_ties.specs.declared.points.Point.{Point}
 use Rattle.gos_ties.specs.declared.points.Tie as point_ties
 use Rattle.gos_ties.specs.Ties as paths
 use Rattle.gos_realises.specs.Regular.{count}
 use Rattle.gos_realises.specs.Links.{IsJoined}
 use Rattle.gos_realises.specs.Modules.{Supply, plans_of, AreSupplied, imports_linked, supplying}
-use Rattle.gos_webs.specs.Webs.{Dot, Of, Number, Node, Within, Tie, tie, Web, Way, here, along, Connects, joint, IsOfWeb, own_web, SameWays}
+use Rattle.gos_webs.specs.Webs.{Dot, Of, Number, Node, Within, Tie, tie, Web, Way, here, along, joint, IsOfWeb, own_web, SameWays}
 use Rattle.gos_webs.proofs.WebLemmas.{same_ways, right_is_of_its_web}
 use Rattle.gos_unions.specs.Unions.{within, all_within, at_of, link_ties, union, AreOfWebs}
 use Rattle.gos_unions.specs.Unions as unions
 use Rattle.gos_unions.proofs.UnionLemmas.{Image, of_image, in_image, joining_is_union}
 use Rattle.gos_unions.proofs.FlatFitLemmas.{links_stand}
-use Rattle.gos_renumbered.proofs.SupplyLemmas.{supply_link, OfImports, of_imports, in_imports}
+use Rattle.gos_renumbered.proofs.SupplyLemmas.{supply_link, of_imports, in_imports}
 use Rattle.gos_compile.specs.Wiring.{Types, row, ties_of, import_ties, all_types, all_ties, all_parts, IsPlanOf}
-use Rattle.gos_wired.specs.Wired.{dot_of, dot_ties, Supplies, result_ties, supply_ties, all_supply_ties, Source, Placing, source_dot, dot_at, wired_web, IsWired}
+use Rattle.gos_wired.specs.Wired.{dot_of, dot_ties, Supplies, result_ties, all_supply_ties, Source, source_dot, wired_web}
 use Rattle.gos_wired.specs.Modules.{supply_at, numbers_from, PathsFit, MakesNoImport, SuppliedIsWired}
 use Rattle.gos_wired.proofs.NumberLemmas.{part_of, import_in}
-use Rattle.gos_wired.proofs.WayLemmas.{mapped_way, way_path, path_way, one_way, way_then}
+use Rattle.gos_wired.proofs.WayLemmas.{mapped_way, way_path, path_way, one_way}
 use Rattle.gos_wired.proofs.AwayLemmas.{for_import, stays_away, row_away, ties_away, tie_away}
 use Rattle.gos_wired.proofs.PlacingLemmas.{left_is, from_plan, source_of, one_less, origin_of, placing, import_numbered, numbered_import, supply_there, number_there, parts_there, no_more_parts, imports_there, left_at_number, no_more_imports}
 use Rattle.gos_wired.proofs.TieLemmas.{import_tie, of_import_ties, in_import_ties, result_tie, of_results, in_results, in_supplies, OfSupplies, of_supplies, webs_of, inside, OfWebs, in_webs, of_webs, web_at}

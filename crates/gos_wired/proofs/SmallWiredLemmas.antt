@@ -6,8 +6,8 @@ use Rattle.gos_types.specs.declared.shakes.Role.TheVariants.{Serve, Ask}
 use Rattle.gos_plan.specs.Kinds.{Part, Contact, asks, serves, turned_contact}
 use Rattle.gos_plan.specs.Plans.{End, PartEnd, ImportEnd, ResultEnd, Joint, contact_at}
 use Rattle.gos_plan.specs.SmallPlans.{skip_plan}
-use Rattle.gos_webs.specs.Webs.{Dot, Of, Number, Within, Tie, tie, Way, here, along, Connects, joint}
-use Rattle.gos_webs.proofs.SmallWebLemmas.{skip_is_right, skip_joint}
+use Rattle.gos_webs.specs.Webs.{Of, Number, Within, Tie, Way, here, along, Connects, joint}
+use Rattle.gos_webs.proofs.SmallWebLemmas.{skip_is_right}
 use Rattle.gos_wired.specs.Wired.{Source, Own, Supplied, IsFrom, placed, wired_ties, wired_web}
 use Rattle.gos_wired.specs.SmallWired.{commands, skips, one_use, from_first, UseIsWired, UnjoinedIsNotWired}
 

@@ -1,12 +1,8 @@
 -- The ties of imports, of supplies, and to supplies' results, one by one.
-use Rattle.std.specs.Prelude.{◌≡◌, ℕ, zero, suc, ◌+◌, ◌-◌, ◌<◌, ◌≤◌, List, [], ◌∷◌, ◌++◌, ◌⊎◌, length, Some, Contains, slice_get}
+use Rattle.std.specs.Prelude.{◌≡◌, ℕ, zero, suc, ◌+◌, ◌-◌, ◌<◌, ◌≤◌, List, [], ◌∷◌, ◌⊎◌, Some, Contains, slice_get}
 use Rattle.std.proofs.Common.{refl, sym, ◌∙◌, ap, subst, arith, inl, inr}
 use Rattle.std.proofs.lemmas.List.Elements.{Contains-append_left, Contains-append_right, Contains-append_cases}
-use Rattle.std.proofs.lemmas.Option.{slice_get_within}
 use Rattle.gos_model.specs.Typing.{Imports, Imported}
-use Rattle.gos_check.specs.Nodes.{Numbered}
-use Rattle.gos_check.specs.Linearity.{times, sides, made}
-use Rattle.gos_check.proofs.TimesLemmas.{eq_false, times_none, times-append}
 use Rattle.gos_plan.specs.Plans.{End, ResultEnd}
 use Rattle.gos_ties.specs.declared.points.Place.TheVariants as places
 use Rattle.gos_ties.specs.declared.points.Tie as point_ties

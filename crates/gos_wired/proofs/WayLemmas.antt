@@ -1,5 +1,5 @@
 -- Ways of ties: one after another, back, and from one web to another; and the ways of dots are the paths of points.
-use Rattle.std.specs.Prelude.{◌≡◌, ℕ, zero, suc, List, [], ◌∷◌, ◌⊎◌, map, Contains}
+use Rattle.std.specs.Prelude.{◌≡◌, ℕ, zero, suc, List, [], ◌∷◌, Contains}
 use Rattle.std.proofs.Common.{refl, sym, ◌∙◌, ap, subst, arith, inl, inr}
 use Rattle.gos_plan.specs.Plans.{End, PartEnd, ImportEnd, ResultEnd}
 use Rattle.gos_ties.specs.declared.points.Place.{Place}
@@ -9,7 +9,7 @@ use Rattle.gos_ties.specs.declared.points.Tie as point_ties
 use Rattle.gos_ties.specs.Ties as paths
 use Rattle.gos_ties.specs.Ties.{point, at, Path}
 use Rattle.gos_webs.specs.Webs.{Dot, Of, Number, Node, Within, Tie, tie, Meet, Way, here, along}
-use Rattle.gos_unions.proofs.UnionLemmas.{Image, of_image, in_image}
+use Rattle.gos_unions.proofs.UnionLemmas.{Image, of_image}
 use Rattle.gos_wired.specs.Wired.{dot_of_place, dot_of, dot_ties}
 
 pub way_then : (ts : List Tie) (a b c : Dot) → Way ts a b → Way ts b c → Way ts a c

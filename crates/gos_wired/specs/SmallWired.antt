@@ -1,11 +1,10 @@
 -- `import c : com; c` with the plan of `skip` for c, wired.
 --
 -- Read first: Wired; SmallPlans of gos_plan. It shows that `IsWired` can be met and can be missed.
-use Rattle.std.specs.Prelude.{ℕ, List, [], ◌∷◌}
+use Rattle.std.specs.Prelude.{[], ◌∷◌}
 use Rattle.gos_types.specs.Types.{Com}
 use Rattle.gos_model.specs.Terms as terms
 use Rattle.gos_check.specs.Nodes.{Numbered, Use}
-use Rattle.gos_plan.specs.Plans.{Plan}
 use Rattle.gos_plan.specs.SmallPlans.{skip_plan}
 use Rattle.gos_compile.specs.Wiring.{Types}
 use Rattle.gos_wired.specs.Wired.{Supplies, Placing, Supplied, IsWired}
