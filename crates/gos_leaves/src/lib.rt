@@ -1,0 +1,8 @@
+// A typed term's leaves, wired to what stands for their numbers, realise their terms.
+//
+// Definitions and laws alone. Read `specs/Leaves`, and then laws.rt.
+#![tactic(auto)]
+
+mod laws;
+
+pub use laws::{use_is_realised};
