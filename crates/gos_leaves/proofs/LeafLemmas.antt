@@ -7,11 +7,10 @@ use Rattle.gos_model.specs.Terms.{Term}
 use Rattle.gos_check.specs.Nodes.{Numbered, type_of_node}
 use Rattle.gos_plan.specs.Kinds.{Part, Contact, asks, serves}
 use Rattle.gos_plan.specs.Plans.{End, PartEnd, ImportEnd, ResultEnd, Plan, contact_at, contacts_of_part, contacts_of_import}
-use Rattle.gos_plan.proofs.JointLemmas.{fits, contained}
 use Rattle.gos_realises.specs.Realises.{AllGround, NamesDiffer, Realises}
 use Rattle.gos_webs.specs.Webs.{Dot, Of, Within, Tie, tie, Web, Way, joint, IsOfWeb}
 use Rattle.gos_compile.specs.Wiring.{Types, parts_of}
-use Rattle.gos_wired.specs.Wired.{Supplies, Source, Own, Supplied, Origin, Placing, IsFrom, placed, source_dot, dot_at, wired_ties, wired_web, IsWired}
+use Rattle.gos_wired.specs.Wired.{Supplies, Source, Origin, Placing, IsFrom, placed, source_dot, dot_at, wired_ties, wired_web, IsWired}
 use Rattle.gos_wired.proofs.WayLemmas.{way_then, way_back, mapped_way}
 use Rattle.gos_loose.specs.Beside as beside
 use Rattle.gos_loose.specs.Beside.{IsLoose, LiesIn, IsBeside}

@@ -1,2 +1,3 @@
+pub mod TieLemmas
 pub mod LeafLemmas
 pub mod UseLemmas
