@@ -1,3 +1,5 @@
 pub mod TieLemmas
 pub mod LeafLemmas
 pub mod UseLemmas
+pub mod ClosedLemmas
+pub mod ReadLemmas
