@@ -1,4 +1,5 @@
 pub mod TieLemmas
+pub mod SupplyLemmas
 pub mod LeafLemmas
 pub mod UseLemmas
 pub mod ClosedLemmas
