@@ -4,3 +4,5 @@ pub mod LeafLemmas
 pub mod UseLemmas
 pub mod ClosedLemmas
 pub mod ReadLemmas
+pub mod CountLemmas
+pub mod SplitLemmas
