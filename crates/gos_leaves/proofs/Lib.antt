@@ -6,3 +6,7 @@ pub mod ClosedLemmas
 pub mod ReadLemmas
 pub mod CountLemmas
 pub mod SplitLemmas
+pub mod LostLemmas
+pub mod StandLemmas
+pub mod WithinLemmas
+mod SmallLemmas

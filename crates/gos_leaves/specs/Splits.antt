@@ -3,9 +3,12 @@
 -- Read first: Linearity of gos_check. A split stands where two parts of a node both use a number. With one part each side
 -- would be used there, or in another split of the node, and some split would have both its sides in that part.
 use Rattle.std.specs.Prelude.{◌≡◌, ℕ, ◌<◌, ◌≤◌, List, []}
+use Rattle.gos_types.specs.Types.{Type'}
+use Rattle.gos_model.specs.Typing.{Typed}
+use Rattle.gos_model.specs.Moves.{Program}
 use Rattle.gos_check.specs.declared.linear.Split.{Split}
 use Rattle.gos_check.specs.Nodes.{Numbered, Closed, Use, Under, One, Two, If}
-use Rattle.gos_check.specs.Linearity.{times, sides, used, made, SidesApart}
+use Rattle.gos_check.specs.Linearity.{times, sides, used, made, SidesApart, StandsFor}
 
 -- only nodes of two and three parts have splits
 abbrev pub SplitsAtForks : Numbered → Type 0
@@ -31,3 +34,8 @@ SidesUsedWithin (If t ss m n p) = AreOnceIn ss (used (If t ss m n p)) × SidesUs
 
 abbrev pub LeavesHaveNoSplits : Type 0
 LeavesHaveNoSplits = (m : Numbered) → SidesUsedWithin m → ((k : ℕ) → times k (made m) ≤ 1) → SidesApart m → SplitsAtForks m
+
+-- A typed term that stands for a program with a type is so. That the program has a type excludes locations.
+abbrev pub StandingIsSplitAtForks : Type 0
+StandingIsSplitAtForks =
+    (p : Program) (m : Numbered) (t : Type') → StandsFor p m → Typed p.imports [] p.body t → SidesUsedWithin m × SplitsAtForks m

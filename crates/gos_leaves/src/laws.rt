@@ -1,6 +1,7 @@
 // Leaves realise their terms. Each theorem is the contract of a function that does nothing.
 ghost use Rattle.gos_leaves.specs.Leaves.{LiteralIsRealised, ReadIsRealised, SkipIsRealised, UseIsRealised};
-ghost use Rattle.gos_leaves.specs.Splits.{LeavesHaveNoSplits};
+ghost use Rattle.gos_leaves.specs.Splits.{LeavesHaveNoSplits, StandingIsSplitAtForks};
+ghost use Rattle.gos_leaves.specs.SmallSplits.{OwnSideIsNoFork, OwnSideIsNotWithin, OwnSideStands, TwiceIsSplit};
 
 /// A number that is used is its supply's plan, with the other supplies beside it.
 pub fn use_is_realised()
@@ -18,7 +19,17 @@ pub fn read_is_realised()
     ensures { ReadIsRealised }
 {}
 
-/// Where each side of a split is used in its node, only nodes of two parts or more have splits.
+/// Only nodes of two parts or more have splits: where each side of a split is used in its node, and so where a typed term stands
+/// for a program that has a type.
 pub fn no_splits()
-    ensures { LeavesHaveNoSplits }
+    ensures leaves { LeavesHaveNoSplits }
+    ensures standing { StandingIsSplitAtForks }
+{}
+
+/// A split with two uses is of a node of two parts. One whose side is its own source stands for a location, which has no type.
+pub fn small_splits()
+    ensures twice { TwiceIsSplit }
+    ensures stands { OwnSideStands }
+    ensures fork { OwnSideIsNoFork }
+    ensures within { OwnSideIsNotWithin }
 {}
