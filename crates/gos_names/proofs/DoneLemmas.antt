@@ -1,6 +1,6 @@
 -- The plan of a name of a command or an expression realises it: the track of its run, of the import's run and answer, and of its
 -- own answer, which has the import's number.
-use Rattle.std.specs.Prelude.{◌≡◌, ℕ, zero, suc, ◌^◌, ◌<◌, ◌||◌, Bool, true, false, IsTrue, List, [], ◌∷◌, ◌++◌, ◌⊎◌, Option, Some, None, Contains}
+use Rattle.std.specs.Prelude.{◌≡◌, ℕ, zero, suc, ◌^◌, ◌<◌, ◌||◌, Bool, true, false, List, [], ◌∷◌, ◌++◌, ◌⊎◌, Option, Some, None, Contains}
 use Rattle.std.specs.Str.{bytes_eq}
 use Rattle.std.proofs.lemmas.Slice.Eq.{bytes_eq-Decides}
 use Rattle.std.proofs.Common.{refl, sym, ◌∙◌, ap, subst, arith, inl, inr}
@@ -8,12 +8,11 @@ use Rattle.gos_netlist.specs.Events.{Direction, Request, Answer}
 use Rattle.gos_types.specs.Types.{Type', Com, Exp, Var, Pair, Fun, IsDone, IsGround}
 use Rattle.gos_model.specs.Terms as terms
 use Rattle.gos_model.specs.Terms.{Name, Term, Import, Wait}
-use Rattle.gos_model.specs.Typing.{Imported, Imports, import_type}
-use Rattle.gos_model.specs.Reach.{Unfolds}
-use Rattle.gos_model.specs.Labels.{Label, Taken, given, taken, is_output, IsAnswer, Emits}
+use Rattle.gos_model.specs.Typing.{Imported, import_type}
+use Rattle.gos_model.specs.Labels.{Label, Taken, given, taken, IsAnswer, Emits}
 use Rattle.gos_model.specs.Protocol as protocol
 use Rattle.gos_model.specs.Protocol.{shake_of}
-use Rattle.gos_model.specs.Moves.{Config, Idle, Running, Act, Computing, Showing, Moves, labels, Unfoldings, ActsTo, Answers, Stalled}
+use Rattle.gos_model.specs.Moves.{Config, Idle, Running, Act, Showing, Moves, labels, Answers, Stalled}
 use Rattle.gos_plan.specs.Kinds.{Contact, asks, serves}
 use Rattle.gos_plan.specs.Firing.{Slot, Req, Ans}
 use Rattle.gos_plan.specs.Plans.{End, PartEnd, ImportEnd, ResultEnd, contact_at, IsRight}
@@ -27,6 +26,8 @@ use Rattle.gos_realises.proofs.OneJointLemmas.{Lies, rests_alone, is_idle, with_
 use Rattle.gos_realises.proofs.SkipLemmas.{run_is_no_output, running_is_not_idle}
 use Rattle.gos_realises.proofs.RingLemmas.{after, told_open, OutputTurns, MayCome, IsFirst}
 use Rattle.gos_names.specs.Names.{name_plan, DoneNameIsRealised}
+use Rattle.gos_names.proofs.WaitLemmas.{wait_is_stalled}
+use Rattle.gos_names.proofs.PlaceLemmas.{true_is_not_false}
 use Rattle.gos_names.proofs.TrackLemmas.{IsTrack, IsProgramTrack, track_is_regular, track_realises}
 
 data Stage : Type 0 where
@@ -89,9 +90,6 @@ Opened Resting f = (f (ResultEnd 0) ≡ false) × (f (ImportEnd 0 0) ≡ false)
 Opened Asked f = (f (ResultEnd 0) ≡ true) × (f (ImportEnd 0 0) ≡ false)
 Opened Away f = (f (ResultEnd 0) ≡ true) × (f (ImportEnd 0 0) ≡ true)
 Opened (Back v) f = (f (ResultEnd 0) ≡ true) × (f (ImportEnd 0 0) ≡ false)
-
-true_is_not_false : (b : Bool) → b ≡ true → b ≡ false → ⊥
-true_is_not_false b up down = let both : true ≡ false = sym up ∙ down in cc both
 
 -- An output takes what lies on the joint.
 abbrev TakesAt : End → Direction → End → ℕ → Tokens → Tokens → Type 0
@@ -191,34 +189,9 @@ module _ (n : Name) where
   whole_keeps (Pair a b) done past within = absurd done
   whole_keeps (Fun a b) done past within = absurd done
 
-  -- where the plan is idle, and where the import runs, the program can only wait
+  -- where the plan is idle the program can only wait
   idle_is_stalled : (t : Type') → Stalled (program_of (name_plan n t) (Import n)) Idle
   idle_is_stalled t = (λ d move. let e = move.0 in cc e, λ o d out move. run_is_no_output o out move.0)
-
-  no_unfolding : (u : Term) → Unfolds (Wait n 1) u → ⊥
-  no_unfolding u h = grind (arith, h)
-
-  waiting : (k : ℕ) (u : Term) → Unfoldings k (Wait n 1) u → Wait n 1 ≡ u
-  waiting zero u h = h
-  waiting (suc k) u h = absurd (no_unfolding h.0 h.1)
-
-  computes_none : (i : Imports) (e : Config) → ActsTo i Computing [] (Wait n 1) e → ⊥
-  computes_none i Idle h = h
-  computes_none i (Running m s) h = grind (arith, h)
-
-  shows_none : (i : Imports) (o : Label) (e : Config) → IsTrue (is_output o) → ActsTo i (Showing o) [] (Wait n 1) e → ⊥
-  shows_none i o Idle out h = grind (arith, h)
-  shows_none i o (Running m s) out h = grind (arith, h, out)
-
-  away_is_stalled : (t : Type') → Stalled (program_of (name_plan n t) (Import n)) (Running (Wait n 1) [])
-  away_is_stalled t = (
-    λ e move. computes_none (name_plan n t).imports e (from move.0 move.1 Computing e move.2 move.3),
-    λ o e out move. shows_none (name_plan n t).imports o e out (from move.0 move.1 (Showing o) e move.2 move.3),
-  )
-    where
-      from : (k : ℕ) (u : Term) (a : Act) (e : Config)
-          → Unfoldings k (Wait n 1) u → ActsTo (name_plan n t).imports a [] u e → ActsTo (name_plan n t).imports a [] (Wait n 1) e
-      from k u a e us h = subst (λ v. ActsTo (name_plan n t).imports a [] v e) (sym (waiting k u us)) h
 
   -- the steps of the program, by the type
   asks_by_type : (t : Type') → IsDone t → import_type (name_plan n t).imports n ≡ Some t
@@ -524,7 +497,7 @@ module _ (n : Name) where
       λ quiet. absurd (quiet.1 (ImportEnd 0 0) 0 (with_token (name_plan n t) (ImportEnd 0 0) Request None s) (can_ask 0 s here.request)),
       λ e. absurd (running_is_not_idle (Import n) e),
     )
-    agrees Away s here = (λ quiet. away_is_stalled t, λ e. absurd (running_is_not_idle (Wait n 1) e))
+    agrees Away s here = (λ quiet. wait_is_stalled n 1 (name_plan n t).imports (Import n) refl, λ e. absurd (running_is_not_idle (Wait n 1) e))
     agrees (Back v) s (here, low) = (
       λ quiet. absurd (quiet.1 (ResultEnd 0) v (with_token (name_plan n t) (ResultEnd 0) Answer None s) (can_answer v s here.answer)),
       λ e. absurd (running_is_not_idle (left t v) e),

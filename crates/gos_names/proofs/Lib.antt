@@ -1,7 +1,10 @@
 pub mod TrackLemmas
-pub mod DoneLemmas
-pub mod ClassLemmas
-pub mod ReadingLemmas
 pub mod PlaceLemmas
 pub mod WaitLemmas
+pub mod DoneLemmas
+pub mod ClassLemmas
+pub mod SmallJoiningLemmas
+pub mod ReadingLemmas
 pub mod ReadLemmas
+pub mod WritingLemmas
+pub mod WriteLemmas

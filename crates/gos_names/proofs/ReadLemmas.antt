@@ -1,6 +1,6 @@
 -- A Deref that reads at an import realises the reading of the name: the track of its run, the Deref's firing, the import's read and
 -- its number, the Deref's second firing, and the answer.
-use Rattle.std.specs.Prelude.{◌≡◌, ℕ, zero, suc, ◌^◌, ◌<◌, ◌&&◌, ◌||◌, Bool, true, false, List, [], ◌∷◌, ◌++◌, ◌⊎◌, Option, Some, None, slice_get}
+use Rattle.std.specs.Prelude.{◌≡◌, ℕ, zero, suc, ◌^◌, ◌<◌, Bool, true, false, List, [], ◌∷◌, ◌++◌, ◌⊎◌, Option, Some, None, slice_get}
 use Rattle.std.specs.Str.{bytes_eq}
 use Rattle.std.proofs.lemmas.Slice.Eq.{bytes_eq-Decides}
 use Rattle.std.proofs.Common.{refl, sym, ◌∙◌, ap, subst, arith, inl, inr}
@@ -24,7 +24,7 @@ use Rattle.gos_realises.proofs.SkipLemmas.{run_is_no_output, running_is_not_idle
 use Rattle.gos_realises.proofs.RingLemmas.{after, told_open, OutputTurns, MayCome, IsFirst}
 use Rattle.gos_names.proofs.TrackLemmas.{IsTrack, IsProgramTrack, track_is_regular, track_realises}
 use Rattle.gos_names.proofs.WaitLemmas.{wait_is_stalled}
-use Rattle.gos_names.proofs.PlaceLemmas.{Places, nowhere, placed_at, Holds, put_there, turned_to, emptied, exchanged}
+use Rattle.gos_names.proofs.PlaceLemmas.{Places, nowhere, placed_at, Holds, put_there, turned_to, emptied, exchanged, true_is_not_false, or_false, none_open_at, not_both_open}
 use Rattle.gos_names.proofs.ReadingLemmas.{read_plan}
 
 data Stage : Type 0 where
@@ -111,9 +111,6 @@ Opened Reading f = (f (ResultEnd 0) ≡ true) × (f (ImportEnd 0 0) ≡ false) �
 Opened Away f = (f (ResultEnd 0) ≡ true) × (f (ImportEnd 0 0) ≡ true) × (f (ImportEnd 0 1) ≡ false)
 Opened (Read v) f = (f (ResultEnd 0) ≡ true) × (f (ImportEnd 0 0) ≡ false) × (f (ImportEnd 0 1) ≡ false)
 Opened (Back v) f = (f (ResultEnd 0) ≡ true) × (f (ImportEnd 0 0) ≡ false) × (f (ImportEnd 0 1) ≡ false)
-
-true_is_not_false : (b : Bool) → b ≡ true → b ≡ false → ⊥
-true_is_not_false b up down = let both : true ≡ false = sym up ∙ down in cc both
 
 -- the Deref's rows
 abbrev asks_row : ℕ → Row
@@ -399,19 +396,6 @@ module _ (n : Name) (w : ℕ) where
       subst (λ (y : Element). Opened (Back v) (told_open (read_plan n w) (shows (read_plan n w) y ++ past))) (sym next) o
   told (Back v) x past (next, small) o =
       subst (λ (y : Element). Opened Resting (told_open (read_plan n w) (shows (read_plan n w) y ++ past))) (sym next) (refl, o.1, o.2)
-
-  or_false : (b : Bool) → b ≡ true → (b || false) ≡ true
-  or_false true e = refl
-  or_false false e = e
-
-  none_open_at : (a b : Bool) → a ≡ false → b ≡ false → (a || (b || false)) ≡ true → ⊥
-  none_open_at true b e f g = cc e
-  none_open_at false true e f g = cc f
-  none_open_at false false e f g = cc g
-
-  not_both_open : (a b : Bool) → b ≡ false → (a && b) ≡ false
-  not_both_open true b e = e
-  not_both_open false b e = refl
 
   turns : (q : Stage) (x : Element) (past : List Pass) → Next w q x → Opened q (is_open past) → OutputTurns (read_plan n w) past x
   turns Resting x past next o = subst (OutputTurns (read_plan n w) past) (sym next) tt
