@@ -21,11 +21,11 @@ use Rattle.gos_plan.specs.Turns.{IsEmptyAt}
 use Rattle.gos_plan.specs.Orderly.{Open, named_by, handshake_at, with_open, after_taken, after_put, ComesWell, ComesInOrder, AllWelcome}
 use Rattle.gos_realises.specs.Regular.{Pass, pass, way_in, way_out, is_open, ComesInTurn, KeepsTurnsOf, KeepsTurns, whole_type, whole_end, IsRegular}
 use Rattle.gos_realises.specs.Matched.{label_at, shows, GoesOn, Agrees, program_of, RealisesDone}
-use Rattle.gos_realises.specs.Realises.{Suits, Means}
+use Rattle.gos_realises.specs.Realises.{Suits, Means, Realises}
 use Rattle.gos_realises.proofs.OneJointLemmas.{Lies, rests_alone, is_idle, with_request, with_answer, not_both}
 use Rattle.gos_realises.proofs.SkipLemmas.{run_is_no_output, running_is_not_idle}
 use Rattle.gos_realises.proofs.RingLemmas.{after, told_open, OutputTurns, MayCome, IsFirst}
-use Rattle.gos_names.specs.Names.{name_plan, DoneNameIsRealised}
+use Rattle.gos_names.specs.Names.{name_plan}
 use Rattle.gos_names.proofs.WaitLemmas.{wait_is_stalled}
 use Rattle.gos_names.proofs.PlaceLemmas.{true_is_not_false}
 use Rattle.gos_names.proofs.TrackLemmas.{IsTrack, IsProgramTrack, track_is_regular, track_realises}
@@ -226,7 +226,7 @@ module _ (n : Name) where
   is_right (Pair a b) done = absurd done
   is_right (Fun a b) done = absurd done
 
-  known : (t : Type') → import_type (name_plan n t).imports n ≡ Some t
+  pub known : (t : Type') → import_type (name_plan n t).imports n ≡ Some t
   known t = let same : bytes_eq n n ≡ true = (bytes_eq-Decides n n).1 refl in rw same refl
 
   module _ (t : Type') (done : IsDone t) where
@@ -537,7 +537,7 @@ module _ (n : Name) where
           leads = leads;
           fires = λ q i k s w here does. absurd (no_part t i k s w does);
           puts_out = puts_out;
-          in_turn = in_turn;
+          in_turn = λ q e v s u past does o here turn. in_turn q e v s u past does o turn.0;
           passed = passed;
           turns = turns;
           comes = comes;
@@ -579,7 +579,7 @@ done_is_ground (Var b) done = absurd done
 done_is_ground (Pair a b) done = absurd done
 done_is_ground (Fun a b) done = absurd done
 
-none_after : (j : Imported) → Contains [] j → ⊥
+pub none_after : (j : Imported) → Contains [] j → ⊥
 none_after j (k, l, e) = omega (arith, l)
 
 -- it suits its type
@@ -601,5 +601,5 @@ means n (Var b) done = absurd done
 means n (Pair a b) done = absurd done
 means n (Fun a b) done = absurd done
 
-pub done_name_is_realised : DoneNameIsRealised
+pub done_name_is_realised : (n : Name) (t : Type') → IsDone t → Realises t (name_plan n t) (Import n)
 done_name_is_realised n t done = record { suits = suits n t done; means = means n t done }

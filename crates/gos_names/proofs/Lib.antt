@@ -4,7 +4,9 @@ pub mod WaitLemmas
 pub mod DoneLemmas
 pub mod ClassLemmas
 pub mod SmallJoiningLemmas
+pub mod VariableLemmas
 pub mod ReadingLemmas
 pub mod ReadLemmas
 pub mod WritingLemmas
 pub mod WriteLemmas
+pub mod GroundLemmas

@@ -581,7 +581,7 @@ module _ (n : Name) (w : ℕ) where
         leads = leads;
         fires = fires;
         puts_out = puts_out;
-        in_turn = in_turn;
+        in_turn = λ q e v s u past does o here turn. in_turn q e v s u past does o turn.0;
         passed = passed;
         turns = turns;
         comes = comes;

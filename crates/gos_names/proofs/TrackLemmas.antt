@@ -11,7 +11,7 @@ use Rattle.gos_plan.specs.Firing.{Slot}
 use Rattle.gos_plan.specs.Plans.{End, Plan, contact_at}
 use Rattle.gos_plan.specs.Tokens.{Tokens, Element, Fire, Out, In, Does, Runs}
 use Rattle.gos_plan.specs.Orderly.{Open, none_open, ComesInOrder, AllWelcome, OrderlyFrom}
-use Rattle.gos_realises.specs.Regular.{Pass, way_in, is_open, ComesInTurn, InputsKeepTurns, OutputsKeepTurns, IsRegular}
+use Rattle.gos_realises.specs.Regular.{Pass, pass, way_in, is_open, KeepsTurns, InputsKeepTurns, OutputsKeepTurns, IsRegular}
 use Rattle.gos_realises.specs.Matched.{label_at, shows, all_shown, GoesOn, Agrees, IsMatched, program_of, RealisesDone}
 use Rattle.gos_realises.proofs.RingLemmas.{after, told_open, OutputTurns, MayCome, IsFirst}
 
@@ -25,7 +25,7 @@ pub record IsTrack
   pub puts_out : (q : S) (e : End) (v : ℕ) (s w : Tokens) → At q s → Does p (Out e v) s w → Next q (Out e v)
   pub in_turn :
       (q : S) (e : End) (v : ℕ) (s w : Tokens) (past : List Pass)
-      → Does p (In e v) s w → Opened q (is_open past) → ComesInTurn past e (way_in (contact_at p e)) → Next q (In e v)
+      → Does p (In e v) s w → Opened q (is_open past) → At q s → KeepsTurns p past (pass e (way_in (contact_at p e))) → Next q (In e v)
   pub passed :
       (q : S) (x : Element) (past : List Pass) → Next q x → Opened q (is_open past) → Opened (succ q x) (is_open (after p x past))
   pub turns : (q : S) (x : Element) (past : List Pass) → Next q x → Opened q (is_open past) → OutputTurns p past x
@@ -69,7 +69,7 @@ module _
         by_turns xs (succ q (Out a v)) w t (after p (Out a v) past) (track.leads q (Out a v) s w e here does) runs (track.passed q (Out a v) past e o) keeps,
       )
   by_turns (In a v ∷ xs) q s t past here (w, does, runs) o keeps =
-      let e = track.in_turn q a v s w past does o keeps.0.0 in (
+      let e = track.in_turn q a v s w past does o here keeps.0 in (
         e,
         by_turns xs (succ q (In a v)) w t (after p (In a v) past) (track.leads q (In a v) s w e here does) runs (track.passed q (In a v) past e o) keeps.1,
       )

@@ -2,7 +2,8 @@
 --
 -- Read first: Realises of gos_realises. It is the supply by which an import stays an import.
 use Rattle.std.specs.Prelude.{ℕ, zero, suc, List, [], ◌∷◌}
-use Rattle.gos_types.specs.Types.{Type', IsDone}
+use Rattle.gos_types.specs.Types.{Type', Var, IsGround}
+use Rattle.gos_types.specs.Widths.{IsWidth}
 use Rattle.gos_model.specs.Terms.{Name, Import}
 use Rattle.gos_model.specs.Typing.{Imported}
 use Rattle.gos_plan.specs.Plans.{ImportEnd, ResultEnd, Joint, Plan}
@@ -22,6 +23,11 @@ abbrev pub name_plan : Name → Type' → Plan
 name_plan x t =
     record { weight = 0; imports = imported x t ∷ []; outcome = t; parts = []; joints = passed_on 0 (count t) }
 
--- The plan of a name of a command or an expression realises it.
-abbrev pub DoneNameIsRealised : Type 0
-DoneNameIsRealised = (x : Name) (t : Type') → IsDone t → Realises t (name_plan x t) (Import x)
+-- the numbers of a variable fit a width
+abbrev pub HasWidth : Type' → Type 0
+HasWidth (Var w) = IsWidth w
+HasWidth t = Unit {0}
+
+-- The plan of a name of a ground type realises it.
+abbrev pub NameIsRealised : Type 0
+NameIsRealised = (x : Name) (t : Type') → IsGround t → HasWidth t → Realises t (name_plan x t) (Import x)

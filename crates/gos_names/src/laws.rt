@@ -1,7 +1,13 @@
 // What the plan of a name realises. Each theorem is the contract of a function that does nothing.
-ghost use Rattle.gos_names.specs.Names.{DoneNameIsRealised};
+ghost use Rattle.gos_names.specs.Names.{NameIsRealised};
 
-/// The plan of a name of a command or an expression realises it.
+use gos_plan::one_joining;
+use gos_realises::alone;
+
+/// The plan of a name of a ground type realises it: a command's, an expression's, and a variable's.
 pub fn names()
-    ensures { DoneNameIsRealised }
-{}
+    ensures { NameIsRealised }
+{
+    one_joining();
+    alone();
+}
