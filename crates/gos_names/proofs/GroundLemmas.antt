@@ -1,19 +1,19 @@
 -- The plan of a name realises it, at each ground type.
-use Rattle.std.specs.Prelude.{◌≡◌, ℕ, ◌^◌, ◌<◌, [], ◌∷◌, Some, Contains}
-use Rattle.std.proofs.Common.{refl, sym, ◌∙◌, ap, subst, arith}
-use Rattle.gos_types.specs.Types.{Type', Com, Exp, Var, Pair, Fun, IsGround}
+use Rattle.std.specs.Prelude.{◌≡◌, ℕ, ◌^◌, ◌<◌, [], ◌∷◌}
+use Rattle.std.proofs.Common.{refl, sym, ◌∙◌, subst}
+use Rattle.gos_types.specs.Types.{Type', Com, Exp, Var, Pair, Fun}
 use Rattle.gos_types.specs.Widths.{IsWidth}
 use Rattle.gos_model.specs.Terms.{Name, Term, Import, Deref, Assign, Lit}
-use Rattle.gos_model.specs.Typing.{Imported, Imports, Typed}
+use Rattle.gos_model.specs.Typing.{Imports, Typed}
 use Rattle.gos_plan.specs.Plans.{Plan, IsRight}
 use Rattle.gos_plan.specs.Joining.{IsSameButOrder, JoiningIsOne}
 use Rattle.gos_realises.specs.Regular.{IsRegular}
 use Rattle.gos_realises.specs.Matched.{RealisesDone}
 use Rattle.gos_realises.specs.Links.{IsJoined}
 use Rattle.gos_realises.specs.Wirings.{reading, writing}
-use Rattle.gos_realises.specs.Realises.{AllGround, NamesDiffer, Suits, Means, Realises}
+use Rattle.gos_realises.specs.Realises.{AllGround, NamesDiffer, Suits}
 use Rattle.gos_realises.specs.Alone.{OrderIsFree}
-use Rattle.gos_names.specs.Names.{imported, name_plan, HasWidth, NameIsRealised}
+use Rattle.gos_names.specs.Names.{imported, name_plan, NameIsRealised}
 use Rattle.gos_names.proofs.DoneLemmas.{known, none_after, done_name_is_realised}
 use Rattle.gos_names.proofs.ReadingLemmas.{read_plan, read_joining}
 use Rattle.gos_names.proofs.ReadLemmas.{read_is_regular, read_realises}

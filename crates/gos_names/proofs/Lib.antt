@@ -10,3 +10,4 @@ pub mod ReadLemmas
 pub mod WritingLemmas
 pub mod WriteLemmas
 pub mod GroundLemmas
+pub mod SmallNameLemmas

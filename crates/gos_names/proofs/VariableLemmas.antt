@@ -1,5 +1,5 @@
 -- The plan of a variable's name is regular: a track that is entered by a read or by a write.
-use Rattle.std.specs.Prelude.{◌≡◌, ℕ, zero, suc, ◌^◌, ◌<◌, ◌&&◌, ◌||◌, Bool, true, false, List, [], ◌∷◌, ◌⊎◌, Option, Some, None}
+use Rattle.std.specs.Prelude.{◌≡◌, ℕ, zero, suc, ◌<◌, ◌&&◌, ◌||◌, Bool, true, false, List, ◌⊎◌, Option, Some, None}
 use Rattle.std.proofs.Common.{refl, sym, ◌∙◌, ap, subst, arith, inl, inr}
 use Rattle.gos_netlist.specs.Events.{Direction, Request, Answer}
 use Rattle.gos_types.specs.Types.{Var}
@@ -11,7 +11,7 @@ use Rattle.gos_plan.specs.Tokens.{Tokens, Element, Fire, Out, In, with_place, wa
 use Rattle.gos_plan.specs.Orderly.{Open, with_open, after_taken, after_put, ComesWell, ComesInOrder, AllWelcome}
 use Rattle.gos_realises.specs.Regular.{Pass, pass, way_in, is_open, KeepsTurns, IsRegular}
 use Rattle.gos_realises.proofs.OneJointLemmas.{not_both}
-use Rattle.gos_realises.proofs.RingLemmas.{after, told_open, OutputTurns, IsFirst}
+use Rattle.gos_realises.proofs.RingLemmas.{after, OutputTurns, IsFirst}
 use Rattle.gos_names.specs.Names.{name_plan}
 use Rattle.gos_names.proofs.PlaceLemmas.{Places, nowhere, placed_at, Holds, put_there, emptied, true_is_not_false, not_both_open}
 use Rattle.gos_names.proofs.TrackLemmas.{IsTrack, track_is_regular}

@@ -1,19 +1,18 @@
 -- An Assign that writes a Lit's number at an import realises the writing of the name: the ring of its run, the number's request and
 -- answer, the write and its answer, and its own answer.
-use Rattle.std.specs.Prelude.{◌≡◌, ℕ, zero, suc, ◌^◌, ◌<◌, ◌&&◌, ◌||◌, Bool, true, false, List, [], ◌∷◌, ◌++◌, ◌⊎◌, Option, Some, None, slice_get}
+use Rattle.std.specs.Prelude.{◌≡◌, ℕ, zero, suc, ◌<◌, ◌&&◌, Bool, true, false, List, [], ◌∷◌, ◌++◌, ◌⊎◌, Option, Some, None, slice_get}
 use Rattle.std.specs.Str.{bytes_eq}
 use Rattle.std.proofs.lemmas.Slice.Eq.{bytes_eq-Decides}
 use Rattle.std.proofs.Common.{refl, sym, ◌∙◌, ap, subst, arith, inl, inr}
 use Rattle.gos_netlist.specs.Events.{Direction, Request, Answer}
-use Rattle.gos_types.specs.Types.{Type', Var, Com}
+use Rattle.gos_types.specs.Types.{Type', Var}
 use Rattle.gos_model.specs.Terms as terms
 use Rattle.gos_model.specs.Terms.{Name, Term, Import, Assign, Put, Wait, Lit}
 use Rattle.gos_model.specs.Typing.{import_type}
-use Rattle.gos_model.specs.Labels.{Label, Port, Given, Taken, given, taken, is_output, IsAnswer}
-use Rattle.gos_model.specs.Protocol as protocol
+use Rattle.gos_model.specs.Labels.{Label, given, taken, IsAnswer}
 use Rattle.gos_model.specs.Moves.{Program, Config, Idle, Running, Act, Computing, Showing, Moves, labels, Stalled}
 use Rattle.gos_plan.specs.Kinds.{Contact, asks, serves}
-use Rattle.gos_plan.specs.Firing.{Phase, Rest, Value, Writing, State, Slot, Req, Ans, Row, row, at, put}
+use Rattle.gos_plan.specs.Firing.{Phase, Rest, Value, Writing, Slot, Req, Ans, Row, row, at, put}
 use Rattle.gos_plan.specs.Plans.{End, PartEnd, ImportEnd, ResultEnd, contact_at}
 use Rattle.gos_plan.specs.Tokens.{Tokens, Element, Fire, Out, In, with_place, with_state, with_token, token_at, firing_of, fired, end_of, way_of, way_taken, way_put, Does, IsIdle}
 use Rattle.gos_plan.specs.Turns.{IsEmptyAt}

@@ -1,7 +1,9 @@
 // What the plan of a name realises. Each theorem is the contract of a function that does nothing.
 ghost use Rattle.gos_names.specs.Names.{NameIsRealised};
+ghost use Rattle.gos_names.specs.SmallNames.{UnjoinedIsNone};
 
 use gos_plan::one_joining;
+use gos_progress::realisers;
 use gos_realises::alone;
 
 /// The plan of a name of a ground type realises it: a command's, an expression's, and a variable's.
@@ -10,4 +12,11 @@ pub fn names()
 {
     one_joining();
     alone();
+}
+
+/// The plan of a name without its joint doesn't realise it.
+pub fn small_names()
+    ensures { UnjoinedIsNone }
+{
+    realisers();
 }

@@ -5,4 +5,4 @@
 
 mod laws;
 
-pub use laws::names;
+pub use laws::{names, small_names};
