@@ -1,0 +1,4 @@
+-- In reading order: a file uses only files above it.
+mod ShadowLemmas
+mod OwnLemmas
+mod PortLemmas

@@ -1,0 +1,38 @@
+// What the definitions give. Each theorem is the contract of a function that does nothing.
+ghost use Rattle.gos_ports.specs.Paced.{ModuleIsPlanFor, ModulesKeepPace};
+ghost use Rattle.gos_ports.specs.Ports.{OpenIsDone, OpenIsRealised};
+ghost use Rattle.gos_ports.specs.SmallPorts.{ByteHasWidth, NameIsOpen, NoBitsHaveNone, UnjoinedIsNotOpen};
+
+use gos_names::{names, small_names};
+use gos_pace::keeps_pace;
+
+/// A plan with ground imports of different names realises its term where it does so with any supplies. So the plan
+/// of a command or an expression is regular, and its lists are matched.
+pub fn ports()
+    ensures realised { OpenIsRealised }
+    ensures done { OpenIsDone }
+{
+    names();
+}
+
+/// A plan that realises a module of a command or an expression with ground imports is such as pace asks for, and its
+/// netlist keeps pace with the module's program.
+pub fn modules_keep_pace()
+    ensures plan { ModuleIsPlanFor }
+    ensures pace { ModulesKeepPace }
+{
+    ports();
+    keeps_pace();
+}
+
+/// The plan of a name realises it with any supply, and that of a command's name doesn't without its joint. A byte has
+/// a width, and no bits have none.
+pub fn small_ports()
+    ensures name { NameIsOpen }
+    ensures unjoined { UnjoinedIsNotOpen }
+    ensures byte { ByteHasWidth }
+    ensures no_bits { NoBitsHaveNone }
+{
+    ports();
+    small_names();
+}
