@@ -2,3 +2,5 @@
 mod ShadowLemmas
 mod OwnLemmas
 mod PortLemmas
+mod GivenLemmas
+mod SmallLemmas

@@ -4,6 +4,8 @@ use Rattle.std.specs.Str.{bytes_eq}
 use Rattle.std.proofs.Common.{refl, sym, ◌∙◌, ap, subst, arith, inl, inr}
 use Rattle.std.proofs.lemmas.Option.{slice_get_within}
 use Rattle.std.proofs.lemmas.List.{append-nil}
+use Rattle.gos_types.specs.Types.{Type', Com, Exp, Var, Pair, Fun}
+use Rattle.gos_types.specs.Widths.{HasWidths}
 use Rattle.gos_model.specs.Terms.{Name, Term, Skip, Lit, Bound, Import, Lam, App, Both, Fst, Snd, Seq, Par, If, While, Assign, Deref, New, Not, Bin, Loc, Scope, Wait, Held, Put}
 use Rattle.gos_model.specs.Typing.{Imported}
 use Rattle.gos_model.specs.Linking.{or_import, supplied}
@@ -20,9 +22,23 @@ use Rattle.gos_renumbered.proofs.ImportLemmas.{name_is}
 use Rattle.gos_renumbered.proofs.SupplyLemmas.{supply_link, OfImports, of_imports, in_imports, plan_at, supply_at}
 use Rattle.gos_typing.specs.Supplied.{imports_of}
 use Rattle.gos_typing.proofs.LeftLemmas.{left_joined, first_joined, supply_free}
-use Rattle.gos_names.specs.Names.{passed_on, name_plan, NameIsRealised}
-use Rattle.gos_ports.specs.Ports.{HaveWidths, own_supply, own_supplies}
+use Rattle.gos_names.specs.Names.{passed_on, name_plan, HasWidth, NameIsRealised}
+use Rattle.gos_ports.specs.Ports.{HaveWidths, WidthsAreHad, own_supply, own_supplies}
 use Rattle.gos_ports.proofs.ShadowLemmas.{Near, OfJoint, joint_near, IsShadow}
+
+type_has : (t : Type') → HasWidths t → HasWidth t
+type_has Com wide = tt
+type_has (Exp w) wide = tt
+type_has (Var w) wide = wide
+type_has (Pair a b) wide = tt
+type_has (Fun a b) wide = tt
+
+pub widths_are_had : WidthsAreHad
+widths_are_had [] all = tt
+widths_are_had (i ∷ is) all = (type_has i.ty (all i (0, omega arith, refl)), widths_are_had is (λ j has. all j (later j has)))
+  where
+    later : (j : Imported) → Contains is j → Contains (i ∷ is) j
+    later j (k, small, at) = (suc k, omega (arith, small), at)
 
 pub own_are : NameIsRealised → (is : List Imported) → AllGround is → HaveWidths is → AreSupplied is (own_supplies is)
 own_are named [] ground wide = tt

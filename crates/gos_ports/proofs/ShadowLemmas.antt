@@ -89,8 +89,7 @@ module _ (w : Wiring) (q r : Plan) (stand : End → Place) (home : Place → End
     from a b has =
         let (x, v, asked, served, way) = (own.joints a b).0 has in
         let (n, path) = is.reach a b (asks x v) (serves x v) asked served has in
-        (joining.joints a b).1
-        (
+        (joining.joints a b).1 (
           x,
           v,
           n,

@@ -1,8 +1,9 @@
 -- A plan whose imports are ground realises its term where it does so with any supplies.
 --
 -- Read first: Modules of gos_realises; Names of gos_names. Each import is supplied with the plan of its own name.
-use Rattle.std.specs.Prelude.{List, [], ◌∷◌}
+use Rattle.std.specs.Prelude.{List, [], ◌∷◌, Contains}
 use Rattle.gos_types.specs.Types.{IsDone}
+use Rattle.gos_types.specs.Widths.{HasWidths}
 use Rattle.gos_model.specs.Terms.{Term, Import}
 use Rattle.gos_model.specs.Typing.{Imported}
 use Rattle.gos_plan.specs.Plans.{Plan, IsRight}
@@ -16,6 +17,10 @@ use Rattle.gos_names.specs.Names.{name_plan, HasWidth}
 abbrev pub HaveWidths : List Imported → Type 0
 HaveWidths [] = Unit {0}
 HaveWidths (i ∷ is) = HasWidth i.ty × HaveWidths is
+
+-- they do where the numbers of all types of imports do
+abbrev pub WidthsAreHad : Type 0
+WidthsAreHad = (is : List Imported) → ((i : Imported) → Contains is i → HasWidths i.ty) → HaveWidths is
 
 -- the supplies by which imports stay imports
 abbrev pub own_supply : Imported → Supply

@@ -1,16 +1,17 @@
 // What the definitions give. Each theorem is the contract of a function that does nothing.
 ghost use Rattle.gos_ports.specs.Paced.{ModuleIsPlanFor, ModulesKeepPace};
-ghost use Rattle.gos_ports.specs.Ports.{OpenIsDone, OpenIsRealised};
+ghost use Rattle.gos_ports.specs.Ports.{OpenIsDone, OpenIsRealised, WidthsAreHad};
 ghost use Rattle.gos_ports.specs.SmallPorts.{ByteHasWidth, NameIsOpen, NoBitsHaveNone, UnjoinedIsNotOpen};
 
 use gos_names::{names, small_names};
 use gos_pace::keeps_pace;
 
 /// A plan with ground imports of different names realises its term where it does so with any supplies. So the plan
-/// of a command or an expression is regular, and its lists are matched.
+/// of a command or an expression is regular, and its lists are matched. Its variables fit where all its imports do.
 pub fn ports()
     ensures realised { OpenIsRealised }
     ensures done { OpenIsDone }
+    ensures widths { WidthsAreHad }
 {
     names();
 }
