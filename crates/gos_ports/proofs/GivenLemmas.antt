@@ -5,17 +5,19 @@ use Rattle.std.proofs.Common.{refl, sym, ◌∙◌, ap, subst, arith, inl, inr}
 use Rattle.std.proofs.lemmas.Slice.Eq.{bytes_eq-Decides}
 use Rattle.std.proofs.lemmas.Option.{slice_get_within}
 use Rattle.std.proofs.lemmas.List.{append-nil}
-use Rattle.gos_types.specs.Types.{Type'}
-use Rattle.gos_model.specs.Terms.{Name}
+use Rattle.gos_types.specs.Types.{Type', Com}
+use Rattle.gos_model.specs.Terms.{Name, Import}
 use Rattle.gos_model.specs.Typing.{Imported}
 use Rattle.gos_model.specs.Linking.{or_import}
+use Rattle.gos_model.specs.SmallPrograms.{c}
 use Rattle.gos_plan.specs.Kinds.{Contact, contacts_of}
 use Rattle.gos_plan.specs.Plans.{End, PartEnd, ImportEnd, ResultEnd, Joint, Plan, contact_at, turned_if}
 use Rattle.gos_plan.specs.Joining.{Place, place, Link, Wiring, LeftImport, left_in, all_left, left_place, part_place, origin}
 use Rattle.gos_realises.specs.Regular.{count}
 use Rattle.gos_realises.specs.Links.{IsJoined}
 use Rattle.gos_realises.specs.Realises.{Realises}
-use Rattle.gos_realises.specs.Modules.{Supply, imports_linked, supplying}
+use Rattle.gos_realises.specs.Modules.{Supply, imports_linked, supplying, RealisesOpen}
+use Rattle.gos_realises.specs.SmallRealisers.{NameIsRealised}
 use Rattle.gos_realises.proofs.LeftLemmas.{left_list, left_all, left_at}
 use Rattle.gos_joined.proofs.ReachLemmas.{Step, Paths, paths_then, paths_back}
 use Rattle.gos_webs.specs.Webs.{joint}
@@ -25,7 +27,7 @@ use Rattle.gos_renumbered.proofs.HigherLemmas.{renumbered_is_realised}
 use Rattle.gos_renumbered.proofs.SupplyLemmas.{supply_link, OfImports, of_imports, in_imports}
 use Rattle.gos_typing.proofs.LeftLemmas.{left_joined, first_joined, supply_free, imports_are_of_supplies}
 use Rattle.gos_names.specs.Names.{imported, name_plan}
-use Rattle.gos_ports.specs.SmallPorts.{NameIsOpen}
+use Rattle.gos_ports.specs.SmallPorts.{NameIsOpen, CallIsModule}
 use Rattle.gos_ports.proofs.ShadowLemmas.{Near, OfJoint, joint_near, IsShadow, shadow_is_it}
 use Rattle.gos_ports.proofs.OwnLemmas.{passing, of_passed, in_passed, part_in_range, import_there}
 
@@ -51,12 +53,16 @@ result_there t h c e = by_contact (slice_get (contacts_of t) h) refl e
     by_contact None none there = absurd (cc there)
     by_contact (Some d) at there = slice_get_within (contacts_of t) h d at
 
-module _ (x : Name) (t : Type') (s : Supply) (outcome : s.plan.outcome ≡ t) where
+-- of any weight
+abbrev called : ℕ → Name → Type' → Plan
+called n x t = record (name_plan x t) { weight = n }
+
+module _ (n : ℕ) (x : Name) (t : Type') (s : Supply) (outcome : s.plan.outcome ≡ t) where
   abbrev only : List Imported
   only = imported x t ∷ []
 
   abbrev given : Wiring
-  given = supplying (name_plan x t) (s ∷ [])
+  given = supplying (called n x t) (s ∷ [])
 
   given_left : all_left given ≡ left_list 1 0 s.plan.imports ++ []
   given_left =
@@ -67,13 +73,13 @@ module _ (x : Name) (t : Type') (s : Supply) (outcome : s.plan.outcome ≡ t) wh
   stands : (e : End) (c : Contact) → contact_at s.plan e ≡ Some c → origin given e ≡ given_stand e
   stands (PartEnd i h) c there =
       let zeros : i ≡ 0 + i = omega arith in
-      ap (λ (n : ℕ). part_place 0 given.plans n h) zeros ∙ place_of_part 0 given.plans 1 i h s.plan refl (part_in_range s.plan i h c there)
+      ap (λ (m : ℕ). part_place 0 given.plans m h) zeros ∙ place_of_part 0 given.plans 1 i h s.plan refl (part_in_range s.plan i h c there)
   stands (ImportEnd i h) c there =
       let (y, at, low) = import_there s.plan.imports i h c there in
       let zeros : 0 + i ≡ i = omega arith in
       ap (λ (l : List LeftImport). left_place (slice_get l i) h) given_left
-      ∙ (ap (λ (o : Option LeftImport). left_place o h) (left_at 1 0 s.plan.imports i y at) ∙ ap (λ (n : ℕ). place 1 (ImportEnd n h)) zeros)
-  stands (ResultEnd h) c there = let zeros : 0 + h ≡ h = omega arith in ap (λ (n : ℕ). place 0 (ResultEnd n)) zeros
+      ∙ (ap (λ (o : Option LeftImport). left_place o h) (left_at 1 0 s.plan.imports i y at) ∙ ap (λ (m : ℕ). place 1 (ImportEnd m h)) zeros)
+  stands (ResultEnd h) c there = let zeros : 0 + h ≡ h = omega arith in ap (λ (m : ℕ). place 0 (ResultEnd m)) zeros
 
   returns : (e : End) → given_home (given_stand e) ≡ e
   returns (PartEnd i h) = refl
@@ -89,7 +95,7 @@ module _ (x : Name) (t : Type') (s : Supply) (outcome : s.plan.outcome ≡ t) wh
   within_near : (k : ℕ) (e f : End) (q : Plan) (j : Joint) → slice_get given.plans k ≡ Some q → Contains q.joints j → OfJoint j e f
       → Near s.plan (given_end k e) (given_end k f)
   within_near zero e f q j is has ways =
-      let plans : name_plan x t ≡ q = cc is in
+      let plans : called n x t ≡ q = cc is in
       let (h, passes) = of_passed 0 (count t) j (subst (λ (y : Plan). Contains y.joints j) (sym plans) has) in
       inl (passing_home h j e f passes ways)
   within_near (suc zero) e f q j is has ways =
@@ -113,7 +119,7 @@ module _ (x : Name) (t : Type') (s : Supply) (outcome : s.plan.outcome ≡ t) wh
         2,
         (
           place 0 (ImportEnd 0 h),
-          inl (name_plan x t, passing h, refl, refl, in_passed (count t) h low, inl (refl, refl)),
+          inl (called n x t, passing h, refl, refl, in_passed (count t) h low, inl (refl, refl)),
           (place 1 (ResultEnd h), inr (supply_link 0 h, in_imports 0 only 0 h (imported x t) refl low, inl (refl, refl)), refl),
         ),
       )
@@ -132,7 +138,7 @@ module _ (x : Name) (t : Type') (s : Supply) (outcome : s.plan.outcome ≡ t) wh
   is_given r joined realised =
       let parts : r.parts ≡ s.plan.parts = joined.joining.parts ∙ append-nil s.plan.parts in
       let imports : r.imports ≡ s.plan.imports =
-      imports_are_of_supplies (name_plan x t) r (s ∷ []) joined.joining ∙ append-nil s.plan.imports
+      imports_are_of_supplies (called n x t) r (s ∷ []) joined.joining ∙ append-nil s.plan.imports
       in
       renumbered_is_realised unchanged r s.plan t s.term
       (shadow_is_it given s.plan r given_stand given_home realised.suits.right joined.joining parts imports
@@ -141,11 +147,25 @@ module _ (x : Name) (t : Type') (s : Supply) (outcome : s.plan.outcome ≡ t) wh
 same_name : (x : Name) → bytes_eq x x ≡ true
 same_name x = grind (arith, bytes_eq-Decides)
 
-pub name_is_open : NameIsOpen
-name_is_open x t [] r are joined names = absurd are
-name_is_open x t (s ∷ []) r are joined names =
+pub called_is_open : (n : ℕ) (x : Name) (t : Type') → RealisesOpen (called n x t) (Import x)
+called_is_open n x t [] r are joined names = absurd are
+called_is_open n x t (s ∷ []) r are joined names =
     let term : or_import x (if bytes_eq x x then Some s.term else None) ≡ s.term =
     ap (λ (b : Bool). or_import x (if b then Some s.term else None)) (same_name x)
     in
-    subst (Realises t r) (sym term) (is_given x t s are.0.suits.outcome r joined are.0)
-name_is_open x t (s ∷ u ∷ us) r are joined names = absurd are.1
+    subst (Realises t r) (sym term) (is_given n x t s are.0.suits.outcome r joined are.0)
+called_is_open n x t (s ∷ u ∷ us) r are joined names = absurd are.1
+
+pub name_is_open : NameIsOpen
+name_is_open x t = called_is_open 0 x t
+
+pub call_is_module : NameIsRealised → CallIsModule
+call_is_module realised =
+    record {
+      right = realised.suits.right;
+      names = realised.suits.names;
+      typed = realised.suits.typed;
+      regular = realised.suits.regular;
+      slim = record { joints = omega arith; ends = omega arith; imports = omega arith };
+      open_imports = called_is_open 6 c Com;
+    }

@@ -1,4 +1,4 @@
-use Rattle.gos_ports.proofs.GivenLemmas.{name_is_open}
+use Rattle.gos_ports.proofs.GivenLemmas.{name_is_open, call_is_module}
 use Rattle.gos_ports.proofs.SmallLemmas.{unjoined_is_not_open, byte_has_width, no_bits_have_none}
 use Rattle.gos_ports.proofs.laws.small_ports.Goals as goal
 
@@ -13,3 +13,6 @@ returns-clause-byte c = byte_has_width
 
 pub returns-clause-no_bits : goal.returns-clause-no_bits
 returns-clause-no_bits c = no_bits_have_none
+
+pub returns-clause-call : goal.returns-clause-call
+returns-clause-call c = call_is_module c.small_realisers.ensures.name
