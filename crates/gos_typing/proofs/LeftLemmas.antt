@@ -15,7 +15,7 @@ use Rattle.gos_renumbered.proofs.SupplyLemmas.{supply_link, OfImports, of_import
 use Rattle.gos_typing.specs.Supplied.{imports_of, ImportsAreOfSupplies}
 
 -- a type has a handshake
-some_shake : (t : Type') → 0 < count t
+pub some_shake : (t : Type') → 0 < count t
 some_shake Com = omega arith
 some_shake (Exp w) = omega arith
 some_shake (Var w) = omega arith
@@ -29,7 +29,7 @@ some_shake (Fun a b) =
     omega (arith, h, e)
 
 -- imports that are all joined
-left_joined : (ls : List Link) (k i : ℕ) (xs : List Imported) → ((j : ℕ) (z : Imported) → slice_get xs j ≡ Some z → is_joined ls k (i + j) ≡ true)
+pub left_joined : (ls : List Link) (k i : ℕ) (xs : List Imported) → ((j : ℕ) (z : Imported) → slice_get xs j ≡ Some z → is_joined ls k (i + j) ≡ true)
     → left_in ls k i xs ≡ []
 left_joined ls k i [] all = refl
 left_joined ls k i (x ∷ xs) all =
@@ -38,11 +38,11 @@ left_joined ls k i (x ∷ xs) all =
     let rest = left_joined ls k (suc i) xs (λ j z at. (let sum : suc i + j ≡ i + suc j = omega arith in ap (is_joined ls k) sum ∙ all (suc j) z at)) in
     (λ j. if here j then left_in ls k (suc i) xs else record { plan = k; number = i; import = x } ∷ left_in ls k (suc i) xs) ∙ rest
 
-first_joined : (is : List Imported) (j : ℕ) (z : Imported) → slice_get is j ≡ Some z → is_joined (imports_linked 0 is) 0 (0 + j) ≡ true
+pub first_joined : (is : List Imported) (j : ℕ) (z : Imported) → slice_get is j ≡ Some z → is_joined (imports_linked 0 is) 0 (0 + j) ≡ true
 first_joined is j z at = by_joined (imports_linked 0 is) 0 (0 + j) (supply_link (0 + j) 0, in_imports 0 is j 0 z at (some_shake z.ty), inl (0, refl))
 
 -- no import of a supply is joined
-supply_free : (is : List Imported) (k j : ℕ) → is_joined (imports_linked 0 is) (suc k) j ≡ false
+pub supply_free : (is : List Imported) (k j : ℕ) → is_joined (imports_linked 0 is) (suc k) j ≡ false
 supply_free is k j = by_test (is_joined (imports_linked 0 is) (suc k) j) refl
   where
     at_link : (l : Link) → OfImports 0 is l → IsAt (suc k) j l.one ⊎ IsAt (suc k) j l.other → ⊥

@@ -1,5 +1,5 @@
 pub mod NameLemmas
 pub mod WhenceLemmas
-mod LeftLemmas
+pub mod LeftLemmas
 mod SupplyLemmas
 mod SmallLemmas
