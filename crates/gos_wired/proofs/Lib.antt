@@ -5,4 +5,9 @@ pub mod PlacingLemmas
 pub mod TieLemmas
 pub mod TypeLemmas
 pub mod ModuleLemmas
+pub mod FlowLemmas
+pub mod FlowedLemmas
+pub mod OutLemmas
+pub mod SightLemmas
+pub mod FormLemmas
 mod SmallWiredLemmas
