@@ -10,4 +10,6 @@ pub mod FlowedLemmas
 pub mod OutLemmas
 pub mod SightLemmas
 pub mod FormLemmas
+pub mod TableLemmas
+pub mod TermFlowLemmas
 mod SmallWiredLemmas
