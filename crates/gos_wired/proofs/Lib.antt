@@ -12,4 +12,6 @@ pub mod SightLemmas
 pub mod FormLemmas
 pub mod TableLemmas
 pub mod TermFlowLemmas
+pub mod CountLemmas
+pub mod WeightLemmas
 mod SmallWiredLemmas
