@@ -14,4 +14,5 @@ pub mod TableLemmas
 pub mod TermFlowLemmas
 pub mod CountLemmas
 pub mod WeightLemmas
+pub mod TermCountLemmas
 mod SmallWiredLemmas

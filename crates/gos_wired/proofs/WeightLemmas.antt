@@ -47,19 +47,25 @@ module _ (types : Types) (r : Role) (q : Point) (U M N : ℕ → ℕ) (no_part :
     (makes : (n k : ℕ) → occurs r q (seen (types n)) (row (places.Number n) 0 k) ≤ M n)
     (nodes_few : (j k : ℕ) (cs : List Contact) → occurs r q cs (row (places.Node j) 0 k) + occurs r q (other_side cs) (row (places.Node j) 0 k) ≤ N j)
   where
-    to_part : (cs : List Contact) (ps : List Point) (i h : ℕ) → meets r q (flowing cs ps (places.Part i) h) ≡ occurs r q cs ps
+    pub to_part : (cs : List Contact) (ps : List Point) (i h : ℕ) → meets r q (flowing cs ps (places.Part i) h) ≡ occurs r q cs ps
     to_part cs ps i h =
         let all = meets_flowing r q cs ps (places.Part i) h in
         let none = row_none r q (other_side cs) (places.Part i) h (length ps) (no_part i) in
         omega (arith, all, none)
 
-    of_part : (cs : List Contact) (i h : ℕ) → occurs r q cs (point (places.Part i) h ∷ []) ≡ 0
+    pub of_part : (cs : List Contact) (i h : ℕ) → occurs r q cs (point (places.Part i) h ∷ []) ≡ 0
     of_part cs i h = row_none r q cs (places.Part i) h 1 (no_part i)
 
     side_makes : (n k : ℕ) (t : Type') → types n ≡ t → occurs r q (seen t) (row (places.Number n) 0 k) ≤ M n
     side_makes n k t e = subst (λ (u : Type'). occurs r q (seen u) (row (places.Number n) 0 k) ≤ M n) e (makes n k)
 
-    shares_count : (i : ℕ) (ss : List Split) → SidesTyped types ss → meets r q (shares_flows i ss types) ≤ splits U M N ss
+    pub side_uses : (n k : ℕ) (t : Type') → types n ≡ t → occurs r q (contacts_of t) (row (places.Number n) 0 k) ≤ U n
+    side_uses n k t e = subst (λ (u : Type'). occurs r q (contacts_of u) (row (places.Number n) 0 k) ≤ U n) e (uses n k)
+
+    pub turned_occurs : (t : Type') (ps : List Point) → occurs r q (other_side (seen t)) ps ≡ occurs r q (contacts_of t) ps
+    turned_occurs t ps = ap (λ (cs : List Contact). occurs r q cs ps) (sides_turn_back (contacts_of t))
+
+    pub shares_count : (i : ℕ) (ss : List Split) → SidesTyped types ss → meets r q (shares_flows i ss types) ≤ splits U M N ss
     shares_count i [] sides = omega arith
     shares_count i (s ∷ ss) (left, right, sides) =
         let t : Type' = types s.of in
@@ -112,7 +118,7 @@ module _ (types : Types) (r : Role) (q : Point) (U M N : ℕ → ℕ) (no_part :
         row_size place h zero = refl
         row_size place h (suc k) = ap suc (row_size place (suc h) k)
 
-    binder_count : (b : Binding) (t u : Type') (i n : ℕ) (out : List Point) → BinderTyped types b t n u → length out ≡ count t → BinderCount b t u i n out
+    pub binder_count : (b : Binding) (t u : Type') (i n : ℕ) (out : List Point) → BinderTyped types b t n u → length out ≡ count t → BinderCount b t u i n out
     binder_count OfFun t u i n out e size =
         subst (λ (x : Type'). length out ≡ count x → BinderCount OfFun x u i n out) (sym e) (fun_count u i n out) size
     binder_count (OfNew w) t u i n out (done, there, body) size =
@@ -157,7 +163,7 @@ module _ (types : Types) (r : Role) (q : Point) (U M N : ℕ → ℕ) (no_part :
         let few = nodes_few j k (seen a) in
         omega (arith, two, whole, few)
 
-    one_count : (f : OneForm) (t u : Type') (i j : ℕ) (out : List Point) → OneTyped f t u → length out ≡ count t → OneCount f t u i j out
+    pub one_count : (f : OneForm) (t u : Type') (i j : ℕ) (out : List Point) → OneTyped f t u → length out ≡ count t → OneCount f t u i j out
     one_count OfFst t u i j out (b, e) size = subst (λ (x : Type'). OneCount OfFst t x i j out) (sym e) (fst_count t b i j out size)
     one_count OfSnd t u i j out (a, e) size = subst (λ (x : Type'). OneCount OfSnd t x i j out) (sym e) (snd_count a t i j out)
     one_count OfDeref t u i j out (w, e, f) size =
@@ -199,7 +205,7 @@ module _ (types : Types) (r : Role) (q : Point) (U M N : ℕ → ℕ) (no_part :
         let second = of_part (seen v) i 1 in
         omega (arith, flows, first, second)
 
-    two_count : (f : TwoForm) (t u v : Type') (i j : ℕ) (out : List Point) → TwoTyped f t u v → TwoCount f t u v i j out
+    pub two_count : (f : TwoForm) (t u v : Type') (i j : ℕ) (out : List Point) → TwoTyped f t u v → TwoCount f t u v i j out
     two_count OfApp t u v i j out e = subst (λ (x : Type'). TwoCount OfApp t x v i j out) (sym e) (app_count t v i j out)
     two_count OfBoth t u v i j out e = subst (λ (x : Type'). TwoCount OfBoth x u v i j out) (sym e) (both_count u v i j out)
     two_count OfSeq t u v i j out e = driven t u v i j out
