@@ -5,7 +5,7 @@ mod WalkLemmas
 mod PlanLemmas
 mod TallyLemmas
 mod ShakeLemmas
-mod ThinLemmas
+pub mod ThinLemmas
 mod RangeLemmas
 mod SmallPlanLemmas
 mod KnownLemmas

@@ -15,4 +15,6 @@ pub mod TermFlowLemmas
 pub mod CountLemmas
 pub mod WeightLemmas
 pub mod TermCountLemmas
+pub mod InnerCountLemmas
+pub mod FairLemmas
 mod SmallWiredLemmas
