@@ -1,15 +1,16 @@
 -- The flows of a typed term are fair: each of its points is met in each role once at most, and sees one handshake.
 --
 -- Read first: FlowLemmas, InnerCountLemmas.
-use Rattle.std.specs.Prelude.{◌≡◌, ◌≢◌, ℕ, zero, suc, ◌+◌, ◌≤◌, ◌<◌, Bool, true, false, List, [], ◌∷◌, ◌++◌, ◌⊎◌, length, map, Option, Some, None, Contains, slice_get, nat_eq, if◌then◌else◌, option_map}
+use Rattle.std.specs.Prelude.{◌≡◌, ◌≢◌, ℕ, zero, suc, ◌+◌, ◌≤◌, Bool, true, false, List, [], ◌∷◌, ◌⊎◌, map, Option, Some, None, slice_get, if◌then◌else◌, option_map}
 use Rattle.std.proofs.Common.{refl, sym, ◌∙◌, ap, subst, arith, inl, inr}
-use Rattle.std.proofs.lemmas.Option.{slice_get-map, slice_get_within}
+use Rattle.std.proofs.lemmas.Option.{slice_get-map}
 use Rattle.gos_types.specs.declared.shakes.Role.{Role}
 use Rattle.gos_types.specs.declared.shakes.Role.TheVariants.{Serve, Ask}
 use Rattle.gos_types.specs.Types.{Type', type_of}
 use Rattle.gos_model.specs.Typing.{Imports, Imported}
 use Rattle.gos_model.specs.Moves.{Program}
-use Rattle.gos_check.specs.Nodes.{Numbered, type_of_node}
+use Rattle.gos_check.specs.Nodes.{Numbered, type_of_node, node_seen}
+use Rattle.gos_check.specs.Checked.{program_in}
 use Rattle.gos_check.specs.Linearity.{StandsFor}
 use Rattle.gos_check.proofs.TimesLemmas.{eq_true}
 use Rattle.gos_plan.specs.Kinds.{Part, Contact, contacts_of, turned_contact}
@@ -19,12 +20,12 @@ use Rattle.gos_ties.specs.declared.points.Place.TheVariants as places
 use Rattle.gos_ties.specs.declared.points.Point.{Point}
 use Rattle.gos_ties.specs.declared.points.Tie.{Tie}
 use Rattle.gos_ties.specs.Ties.{at, end_at, Path}
-use Rattle.gos_ties.specs.Counted.{place_once, once, meetings, IsThin}
+use Rattle.gos_ties.specs.Counted.{place_once, once, meetings}
 use Rattle.gos_realises.specs.Regular.{count}
 use Rattle.gos_compile.specs.Wiring.{Types, row, parts_of, all_types, all_ties, import_ties, ties_of, IsPlanOf}
-use Rattle.gos_compile.specs.Typed.{NodesTyped}
+use Rattle.gos_compile.specs.Typed.{NodesTyped, CheckedIsTyped}
 use Rattle.gos_compile.proofs.ThinLemmas.{thin}
-use Rattle.gos_wired.specs.Fitting.{TypedTiesFit}
+use Rattle.gos_wired.specs.Fitting.{TypedTiesFit, CheckedFits, CheckedIsWired}
 use Rattle.gos_wired.proofs.TypeLemmas.{type_is}
 use Rattle.gos_wired.proofs.FlowLemmas.{Flow, tie_in, Leaves, AreFair, twice_turned, ends_fit}
 use Rattle.gos_wired.proofs.FlowedLemmas.{seen, flows_of, import_flows, all_flows}
@@ -34,6 +35,7 @@ use Rattle.gos_wired.proofs.TableLemmas.{table_of, table_fits}
 use Rattle.gos_wired.proofs.TermFlowLemmas.{flows_good, imports_good}
 use Rattle.gos_wired.proofs.CountLemmas.{alike, held, meets}
 use Rattle.gos_wired.proofs.InnerCountLemmas.{number_once, node_once}
+use Rattle.gos_wired.proofs.ModuleLemmas.{supplied_is_wired}
 
 -- a point that sees a handshake in this role is held once
 alike_self : (r : Role) → alike r r ≡ true
@@ -259,3 +261,13 @@ module _ (program : Program) (t : Type') (w : ℕ) (m : Numbered) (p : Plan) (st
 
 pub typed_ties_fit : TypedTiesFit
 typed_ties_fit program t w m p stands typed plan type = paths_fit program t w m p stands typed plan type
+
+pub checked_fits : CheckedIsTyped → CheckedFits
+checked_fits law l w p c plan =
+    let (typed, same) = law l c in
+    (sym same, c.term.no_import, typed_ties_fit (program_in l) (type_of l.result) w (node_seen l.term) p c.term typed plan (sym same))
+
+pub checked_is_wired : CheckedIsTyped → CheckedIsWired
+checked_is_wired law l w p r ss c plan are joined =
+    let (type, makes, fit) = checked_fits law l w p c plan in
+    supplied_is_wired (program_in l).imports (type_of l.result) w (node_seen l.term) p r ss plan type makes fit are joined

@@ -1,17 +1,15 @@
 -- Flows: ties with the handshake that is seen at their one side. What a path of ties connects fits, where each point has a
 -- tie for either role at most and what is seen at a point from its two sides is one handshake, turned.
-use Rattle.std.specs.Prelude.{◌≡◌, ◌≢◌, ℕ, suc, List, [], ◌∷◌, ◌⊎◌, map, Some, Contains}
+use Rattle.std.specs.Prelude.{◌≡◌, ◌≢◌, suc, List, [], ◌∷◌, ◌⊎◌, map, Some, Contains}
 use Rattle.std.proofs.Common.{refl, sym, ◌∙◌, ap, subst, arith, inl, inr}
 use Rattle.gos_types.specs.declared.shakes.Role.{Role}
 use Rattle.gos_types.specs.declared.shakes.Role.TheVariants.{Serve, Ask}
 use Rattle.gos_types.specs.Handshakes.{turned}
 use Rattle.gos_plan.specs.Kinds.{Contact, turned_contact}
 use Rattle.gos_plan.specs.Plans.{End, PartEnd, ImportEnd, ResultEnd, Plan, contact_at}
-use Rattle.gos_ties.specs.declared.points.Place.{Place}
-use Rattle.gos_ties.specs.declared.points.Place.TheVariants as places
 use Rattle.gos_ties.specs.declared.points.Point.{Point}
 use Rattle.gos_ties.specs.declared.points.Tie.{Tie}
-use Rattle.gos_ties.specs.Ties.{at, tie, Meet, Path, here, along, end_of_place, end_at}
+use Rattle.gos_ties.specs.Ties.{at, tie, Meet, Path, here, along, end_at}
 
 -- a tie, with the handshake that is seen at its one side
 pub record Flow : Type 0 where

@@ -3,7 +3,7 @@
 -- Read first: TermCountLemmas. In one role a number is met where it is used, and in the other where it is made; a node is met from
 -- its two sides.
 use Rattle.std.specs.Prelude.{◌≡◌, ℕ, zero, suc, ◌+◌, ◌≤◌, ◌<◌, Bool, true, false, List, [], ◌∷◌, ◌++◌, length, Some, slice_get, nat_eq, if◌then◌else◌}
-use Rattle.std.proofs.Common.{refl, sym, ◌∙◌, ap, subst, arith}
+use Rattle.std.proofs.Common.{refl, ◌∙◌, ap, subst, arith}
 use Rattle.gos_types.specs.declared.shakes.Role.{Role}
 use Rattle.gos_types.specs.Types.{Type'}
 use Rattle.gos_model.specs.Typing.{Imports, Imported}
@@ -17,14 +17,13 @@ use Rattle.gos_ties.specs.declared.points.Point.{Point}
 use Rattle.gos_ties.specs.Ties.{point}
 use Rattle.gos_ties.specs.Counted.{place_once}
 use Rattle.gos_realises.specs.Regular.{count}
-use Rattle.gos_compile.specs.Wiring.{Types, row, parts_of, nodes, all_types}
+use Rattle.gos_compile.specs.Wiring.{Types, row, parts_of, nodes}
 use Rattle.gos_compile.specs.Typed.{NodesTyped}
 use Rattle.gos_wired.proofs.FlowLemmas.{Flow}
 use Rattle.gos_wired.proofs.FlowedLemmas.{seen, flowing, flows_of, import_flows}
 use Rattle.gos_wired.proofs.SightLemmas as sight
 use Rattle.gos_wired.proofs.TableLemmas.{TableFits}
-use Rattle.gos_wired.proofs.TermFlowLemmas as flows
-use Rattle.gos_wired.proofs.CountLemmas.{meets, occurs, meets_two, meets_flowing, row_none, row_at, is_it, place_held, place_few, place_none, turned_few}
+use Rattle.gos_wired.proofs.CountLemmas.{meets, occurs, meets_two, meets_flowing, row_none, row_at, is_it, place_few, place_none, turned_few}
 use Rattle.gos_wired.proofs.WeightLemmas.{splits, weight}
 use Rattle.gos_wired.proofs.TermCountLemmas.{term_count}
 

@@ -1,9 +1,9 @@
 -- Where a node's parts lead: as many points as their types have handshakes, which see what the parts' handshakes are from the
 -- other side.
-use Rattle.std.specs.Prelude.{◌≡◌, ℕ, zero, suc, ◌+◌, ◌-◌, ◌≤◌, List, [], ◌∷◌, ◌++◌, ◌⊎◌, length, take, drop, map, Option, Some, None, slice_get}
-use Rattle.std.proofs.Common.{refl, sym, ◌∙◌, ap, subst, arith, inl, inr, length-append}
+use Rattle.std.specs.Prelude.{◌≡◌, List, ◌++◌, length}
+use Rattle.std.proofs.Common.{◌∙◌, ap}
 use Rattle.std.proofs.lemmas.List.{map-append, length-map}
-use Rattle.gos_types.specs.Types.{Type', Com, Exp, Var, Pair, Fun, IsDone}
+use Rattle.gos_types.specs.Types.{Type', Pair, Fun}
 use Rattle.gos_plan.specs.Kinds.{Contact, contacts_of, other_side, turned_contact}
 use Rattle.gos_plan.proofs.SideLemmas.{pairs_join, functions_join, sides_turn_back}
 use Rattle.gos_realises.specs.Regular.{count}

@@ -10,13 +10,12 @@ use Rattle.gos_check.specs.declared.linear.Split.{Split}
 use Rattle.gos_check.specs.Nodes.{Numbered, Closed, Use, Under, One, Two, If, type_of_node}
 use Rattle.gos_plan.specs.Kinds as kinds
 use Rattle.gos_plan.specs.Kinds.{Part, Contact, contacts_of, other_side}
-use Rattle.gos_plan.proofs.SideLemmas.{sides_turn_back}
 use Rattle.gos_ties.specs.declared.points.Place.TheVariants as places
 use Rattle.gos_ties.specs.declared.points.Point.{Point}
 use Rattle.gos_ties.specs.Ties.{point}
 use Rattle.gos_ties.specs.Counted.{place_once}
 use Rattle.gos_realises.specs.Regular.{count}
-use Rattle.gos_compile.specs.Wiring.{Types, row, answer_bits, shares, closed_part, binder_part, one_part, two_part, parts_of, nodes, binder_out, one_out, first_out, second_out}
+use Rattle.gos_compile.specs.Wiring.{Types, row, answer_bits, shares, binder_part, one_part, two_part, parts_of, nodes, binder_out, one_out, first_out, second_out}
 use Rattle.gos_compile.specs.Typed.{NodesTyped}
 use Rattle.gos_wired.proofs.FlowLemmas.{Flow}
 use Rattle.gos_wired.proofs.FlowedLemmas.{seen, flowing, shares_flows, binder_flows, one_flows, two_flows, flows_of}

@@ -1,13 +1,12 @@
 -- How often a point inside a term is met in a role, at most: by its uses, by where it is made, and by its node.
 --
 -- Read first: CountLemmas, TermFlowLemmas.
-use Rattle.std.specs.Prelude.{◌≡◌, ℕ, zero, suc, ◌+◌, ◌-◌, ◌≤◌, List, [], ◌∷◌, ◌++◌, length, take, drop}
+use Rattle.std.specs.Prelude.{◌≡◌, ℕ, zero, suc, ◌+◌, ◌-◌, ◌≤◌, List, [], ◌∷◌, ◌++◌, length, take}
 use Rattle.std.proofs.Common.{refl, sym, ◌∙◌, ap, subst, arith, length-append}
 use Rattle.gos_types.specs.declared.shakes.Role.{Role}
-use Rattle.gos_types.specs.Types.{Type', Com, Exp, Var, Pair, Fun}
-use Rattle.gos_model.specs.Typing.{Imports}
+use Rattle.gos_types.specs.Types.{Type', Var, Pair, Fun}
 use Rattle.gos_check.specs.declared.linear.Split.{Split}
-use Rattle.gos_check.specs.Nodes.{Numbered, Closed, Use, Under, One, Two, If, Binding, OfFun, OfNew, OneForm, OfFst, OfSnd, OfDeref, OfNot, TwoForm, OfApp, OfBoth, OfSeq, OfPar, OfWhile, OfAssign, OfBin, argument_of, type_of_node}
+use Rattle.gos_check.specs.Nodes.{Numbered, Closed, Use, Under, One, Two, If, Binding, OfFun, OfNew, OneForm, OfFst, OfSnd, OfDeref, OfNot, TwoForm, OfApp, OfBoth, OfSeq, OfPar, OfWhile, OfAssign, OfBin}
 use Rattle.gos_plan.specs.Kinds as kinds
 use Rattle.gos_plan.specs.Kinds.{Part, Contact, contacts_of, other_side}
 use Rattle.gos_plan.proofs.SideLemmas.{sides_turn_back}
@@ -17,15 +16,11 @@ use Rattle.gos_ties.specs.declared.points.Point.{Point}
 use Rattle.gos_ties.specs.Ties.{point}
 use Rattle.gos_ties.specs.Counted.{place_once}
 use Rattle.gos_realises.specs.Regular.{count}
-use Rattle.gos_compile.specs.Wiring.{Types, row, answer_bits, shares, closed_part, binder_part, one_part, two_part, parts_of, nodes, binder_out, one_out, first_out, second_out}
-use Rattle.gos_compile.specs.Typed.{SidesTyped, BinderTyped, OneTyped, TwoTyped, NodesTyped}
+use Rattle.gos_compile.specs.Wiring.{Types, row, nodes, binder_out, one_out, first_out, second_out}
+use Rattle.gos_compile.specs.Typed.{SidesTyped, BinderTyped, OneTyped, TwoTyped}
 use Rattle.gos_wired.proofs.FlowLemmas.{Flow}
-use Rattle.gos_wired.proofs.FlowedLemmas.{seen, flowing, share_flows, shares_flows, binder_flows, one_flows, two_flows, flows_of, import_flows}
+use Rattle.gos_wired.proofs.FlowedLemmas.{seen, flowing, shares_flows, binder_flows, one_flows, two_flows}
 use Rattle.gos_wired.proofs.OutLemmas.{seen_pair, seen_fun, contacts_fun, seen_length}
-use Rattle.gos_wired.proofs.SightLemmas as sight
-use Rattle.gos_wired.proofs.FormLemmas as forms
-use Rattle.gos_wired.proofs.TableLemmas.{TableFits}
-use Rattle.gos_wired.proofs.TermFlowLemmas.{shares_length}
 use Rattle.gos_wired.proofs.CountLemmas.{meets, occurs, meets_two, meets_flowing, occurs_two, occurs_front, occurs_parted, row_none}
 
 module _ (U M N : ℕ → ℕ) where
