@@ -5,13 +5,14 @@ mod WalkLemmas
 mod PlanLemmas
 mod TallyLemmas
 mod ShakeLemmas
-mod ThinLemmas
+pub mod ThinLemmas
 mod RangeLemmas
 mod SmallPlanLemmas
 mod KnownLemmas
 mod BoundLemmas
 mod AgreeLemmas
 mod LoadLemmas
+mod TypedLemmas
 mod EndLemmas
 mod SlimLemmas
 mod TextLemmas
