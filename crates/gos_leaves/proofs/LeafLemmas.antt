@@ -77,9 +77,10 @@ module _ (types : Types) (i j : ℕ) (m : Numbered) (ns : List ℕ) (env : Suppl
         → (slice_get r.parts (placed pl (leaf.source k)) ≡ Some x) × (placing.number (placing.part k) ≡ Some k)
     part_lies k x at =
         let (from, picked) = leaf.parts k x at in
-        let (there, source) = is.parts x (leaf.source k) from in
-        (there,
-        ap (λ (o : Option Part). number_of o (leaf.pick (pl.source (placing.part k)))) there ∙ (ap leaf.pick source ∙ picked))
+        let (there, source) = is.parts x (leaf.source k) from in (
+          there,
+          ap (λ (o : Option Part). number_of o (leaf.pick (pl.source (placing.part k)))) there ∙ (ap leaf.pick source ∙ picked),
+        )
 
     number_lies : (k n : ℕ) → placing.number k ≡ Some n → (placing.part n ≡ k) × ((x : Part) × (slice_get c.parts n ≡ Some x))
     number_lies k n own = by_part (slice_get r.parts k) refl
@@ -99,9 +100,10 @@ module _ (types : Types) (i j : ℕ) (m : Numbered) (ns : List ℕ) (env : Suppl
         → (slice_get r.imports (placing.import k) ≡ Some x) × (placing.import_number (placing.import k) ≡ Some k)
     import_lies k x at =
         let (among, from, picked) = leaf.imports k x at in
-        let (there, origin) = is.imports (leaf.origin k).number (leaf.origin k).import x among from in
-        (there,
-        ap (λ (o : Option Imported). number_of o (leaf.pick_import (pl.origin (placing.import k)))) there ∙ (ap leaf.pick_import origin ∙ picked))
+        let (there, origin) = is.imports (leaf.origin k).number (leaf.origin k).import x among from in (
+          there,
+          ap (λ (o : Option Imported). number_of o (leaf.pick_import (pl.origin (placing.import k)))) there ∙ (ap leaf.pick_import origin ∙ picked),
+        )
 
     import_number_lies : (k n : ℕ) → placing.import_number k ≡ Some n → (placing.import n ≡ k) × ((x : Imported) × (slice_get c.imports n ≡ Some x))
     import_number_lies k n own = by_import (slice_get r.imports k) refl

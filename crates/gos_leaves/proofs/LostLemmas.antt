@@ -1,14 +1,14 @@
 -- Splits of what stands for nothing: where a term's numbers stand for what has a type there are none.
 --
 -- A number that is made further in stands for a location (`import_at`). Such a number is lost, and so are the sides of a split of it.
-use Rattle.std.specs.Prelude.{◌≡◌, ◌≢◌, ℕ, zero, suc, ◌+◌, ◌<◌, ◌≤◌, Bool, true, false, ◌||◌, List, [], ◌∷◌, ◌++◌, length, nat_eq, if◌then◌else◌}
-use Rattle.std.proofs.Common.{refl, sym, ◌∙◌, ap, subst, arith}
+use Rattle.std.specs.Prelude.{◌≡◌, ◌≢◌, ℕ, ◌+◌, ◌≤◌, Bool, true, false, List, [], ◌∷◌, ◌++◌, if◌then◌else◌}
+use Rattle.std.proofs.Common.{refl, sym, ◌∙◌, ap, arith}
 use Rattle.gos_types.specs.Types.{Type', Var}
 use Rattle.gos_model.specs.Terms.{Term, Bound, Loc}
 use Rattle.gos_model.specs.Typing.{Imports, Typed}
 use Rattle.gos_check.specs.declared.linear.Split.{Split}
 use Rattle.gos_check.specs.Nodes.{Numbered, Closed, Use, Under, One, Two, If, OfFun, OfNew, OfFst, OfSnd, OfDeref, OfNot, OfApp, OfBoth, OfSeq, OfPar, OfWhile, OfAssign, OfBin, Meaning, meaning, shifted, argument_of, below, inside, inside_one}
-use Rattle.gos_check.specs.Linearity.{times, split_in, sides, used, all_sides, made, import_at}
+use Rattle.gos_check.specs.Linearity.{times, split_in, sides, all_sides, made}
 use Rattle.gos_check.proofs.TimesLemmas.{eq_false, number_cases, times_none, times_other, times-append, split_in-append, sides-append, one_other, one_left, one_right}
 use Rattle.gos_leaves.proofs.CountLemmas.{behind}
 
@@ -52,10 +52,10 @@ uses_stand i g env (Two t ss OfWhile m n) u typed = (uses_stand i g (inside ss e
 uses_stand i g env (Two t ss OfAssign m n) u typed = (uses_stand i g (inside ss env) m _ typed.2, uses_stand i g (inside ss env) n _ typed.3)
 uses_stand i g env (Two t ss (OfBin op) m n) u typed = (uses_stand i g (inside ss env) m _ typed.2, uses_stand i g (inside ss env) n _ typed.3)
 uses_stand i g env (If t ss m n p) u typed = (
-      uses_stand i g (inside ss env) m _ typed.1,
-      uses_stand i g (inside ss env) n _ typed.2,
-      uses_stand i g (inside ss env) p _ typed.3,
-    )
+  uses_stand i g (inside ss env) m _ typed.1,
+  uses_stand i g (inside ss env) n _ typed.2,
+  uses_stand i g (inside ss env) p _ typed.3,
+)
 
 -- the splits of lost numbers
 abbrev pub kept : Bool → Split → List Split → List Split
@@ -175,8 +175,8 @@ row_uses k env (s ∷ ss) loc same =
     still of = number_cases k s.left
         (λ e t. ap (λ (a : ℕ). is_loc (inside_one s env a)) e ∙ (ap is_loc (one_left s env) ∙ of))
         (λ e f. number_cases k s.right
-          (λ d t. ap (λ (a : ℕ). is_loc (inside_one s env a)) d ∙ (ap is_loc (one_right s env) ∙ of))
-          (λ d g. ap is_loc (one_other s env k e d) ∙ loc))
+        (λ d t. ap (λ (a : ℕ). is_loc (inside_one s env a)) d ∙ (ap is_loc (one_right s env) ∙ of))
+        (λ d g. ap is_loc (one_other s env k e d) ∙ loc))
 
     by_test : (b : Bool) → is_loc (env s.of) ≡ b → times k (sides (s ∷ ss)) ≡ times k (sides (kept b s (lost_in (inside_one s env) ss))) → times k (sides (lost_in (inside_one s env) ss)) ≤ times k (sides ss)
         → (is_loc (inside_one s env k) ≡ true → times k (sides ss) ≡ times k (sides (lost_in (inside_one s env) ss)) → RowUses k (inside_one s env) ss)

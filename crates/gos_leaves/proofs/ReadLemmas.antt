@@ -245,29 +245,33 @@ module _ (types : Types) (i j w n : ℕ) (ns : List ℕ) (env : Supplies) (has :
       where
         by_sort : IsFirst k x ⊎ IsReader k x → IsFrom (kinds.Deref w ∷ []) ns env x (source k) × (pick n size (source k) ≡ Some k)
         by_sort (inl first) =
-            let from = sym (first_source k x first) in
-            (subst (IsFrom (kinds.Deref w ∷ []) ns env x) from (has, first.0),
-            subst (λ (a : Source). pick n size a ≡ Some k) from (same_number n n k refl))
+            let from = sym (first_source k x first) in (
+              subst (IsFrom (kinds.Deref w ∷ []) ns env x) from (has, first.0),
+              subst (λ (a : Source). pick n size a ≡ Some k) from (same_number n n k refl),
+            )
         by_sort (inr reads) =
-            let from = sym (reader_source k x reads) in
-            (subst (IsFrom (kinds.Deref w ∷ []) ns env x) from (ap Some reads.1),
-            subst (λ (a : Source). pick n size a ≡ Some k) from (ap Some (sym reads.0)))
+            let from = sym (reader_source k x reads) in (
+              subst (IsFrom (kinds.Deref w ∷ []) ns env x) from (ap Some reads.1),
+              subst (λ (a : Source). pick n size a ≡ Some k) from (ap Some (sym reads.0)),
+            )
 
     -- and each of these is one
     first_there : (k : ℕ) (x : Part) → slice_get p.parts k ≡ Some x → (source k ≡ Supplied n k) × (slice_get s.parts k ≡ Some x)
     first_there k x there =
         let zeros : 0 + k ≡ k = omega arith in
-        let low = slice_get_within p.parts k x there in
-        (subst (λ (a : ℕ). source a ≡ Supplied n k) zeros (ap (source_of n) (place_of_part 0 ps 0 k 0 p refl low)),
-        ap (λ (ks : List Part). slice_get ks k) joined.joining.parts
-        ∙ subst (λ (a : ℕ). slice_get (all_parts ps) a ≡ Some x) zeros (part_there ps 0 k p x refl there))
+        let low = slice_get_within p.parts k x there in (
+          subst (λ (a : ℕ). source a ≡ Supplied n k) zeros (ap (source_of n) (place_of_part 0 ps 0 k 0 p refl low)),
+          ap (λ (ks : List Part). slice_get ks k) joined.joining.parts
+              ∙ subst (λ (a : ℕ). slice_get (all_parts ps) a ≡ Some x) zeros (part_there ps 0 k p x refl there),
+        )
 
     reader_there : (x : Part) → slice_get (kinds.Deref w ∷ []) 0 ≡ Some x → (source size ≡ Own 0) × (slice_get s.parts size ≡ Some x)
     reader_there x there =
-        let zeros : size + 0 + 0 ≡ size = omega arith in
-        (subst (λ (a : ℕ). source a ≡ Own 0) zeros (ap (source_of n) (place_of_part 0 ps 1 0 0 (reader w) refl (omega arith))),
-        ap (λ (ks : List Part). slice_get ks size) joined.joining.parts
-        ∙ subst (λ (a : ℕ). slice_get (all_parts ps) a ≡ Some x) zeros (part_there ps 1 0 (reader w) x refl there))
+        let zeros : size + 0 + 0 ≡ size = omega arith in (
+          subst (λ (a : ℕ). source a ≡ Own 0) zeros (ap (source_of n) (place_of_part 0 ps 1 0 0 (reader w) refl (omega arith))),
+          ap (λ (ks : List Part). slice_get ks size) joined.joining.parts
+              ∙ subst (λ (a : ℕ). slice_get (all_parts ps) a ≡ Some x) zeros (part_there ps 1 0 (reader w) x refl there),
+        )
 
     parts_back : (a : Source) (x : Part) (k : ℕ) → IsFrom (kinds.Deref w ∷ []) ns env x a → pick n size a ≡ Some k
         → (source k ≡ a) × (slice_get s.parts k ≡ Some x)
@@ -336,9 +340,12 @@ module _ (types : Types) (i j w n : ℕ) (ns : List ℕ) (env : Supplies) (has :
         → AreHome v (if_number k n (Within 0 t.one)) (if_number k n (Within 0 t.other))
     inner k among t there =
         both_home v n k (Within 0 t.one) (Within 0 t.other) (if_number k n (Within 0 t.one)) (if_number k n (Within 0 t.other))
-        (λ e. (same_number k n (Within 0 t.one) e, same_number k n (Within 0 t.other) e,
-        one_way v.ties (Within 0 t.one) (Within 0 t.other)
-        (inl (of_variable t (subst (λ (m : ℕ). Contains (own_web (env m).plan).ties t) e there)))))
+        (λ e. (
+          same_number k n (Within 0 t.one) e,
+          same_number k n (Within 0 t.other) e,
+          one_way v.ties (Within 0 t.one) (Within 0 t.other)
+              (inl (of_variable t (subst (λ (m : ℕ). Contains (own_web (env m).plan).ties t) e there))),
+        ))
         (λ e. (other_number k n (Within 0 t.one) e, other_number k n (Within 0 t.other) e))
 
     outer : (k h : ℕ) → Contains ns k → AreHome v (if_number k n (Within 0 (Of (ResultEnd h)))) (if_number k n (Within 0 (Of (ResultEnd h))))

@@ -103,9 +103,9 @@ leaves_have_no_splits (Under t ss b n m) within once apart =
       leaves_have_no_splits m within.1 (λ k. let all = rest k in let more = behind k n (made m) in omega (arith, all, more)) apart.1,
     )
 leaves_have_no_splits (One t ss f m) within once apart = (
-      none_alone ss m within.0 (first_once (sides ss) (made m) once) apart.0 ss refl,
-      leaves_have_no_splits m within.1 (rest_once (sides ss) (made m) once) apart.1,
-    )
+  none_alone ss m within.0 (first_once (sides ss) (made m) once) apart.0 ss refl,
+  leaves_have_no_splits m within.1 (rest_once (sides ss) (made m) once) apart.1,
+)
 leaves_have_no_splits (Two t ss f m n) within once apart =
     let rest = rest_once (sides ss) (made m ++ made n) once in (
       leaves_have_no_splits m within.1 (first_once (made m) (made n) rest) apart.2,

@@ -1,13 +1,12 @@
 -- A typed term that stands for a typed program uses each side of a split in the split's own node.
-use Rattle.std.specs.Prelude.{◌≡◌, ◌≢◌, ℕ, zero, suc, ◌+◌, ◌<◌, ◌≤◌, Bool, true, false, List, [], ◌∷◌, ◌++◌, length}
+use Rattle.std.specs.Prelude.{◌≡◌, ◌≢◌, ℕ, zero, suc, ◌+◌, ◌<◌, ◌≤◌, true, false, [], ◌∷◌, ◌++◌, length}
 use Rattle.std.proofs.Common.{refl, sym, ◌∙◌, ap, subst, arith}
 use Rattle.gos_model.specs.Typing.{Imports}
-use Rattle.gos_check.specs.declared.linear.Split.{Split}
 use Rattle.gos_check.specs.Nodes.{Numbered, Closed, Use, Under, One, Two, If, Meaning, below, inside}
 use Rattle.gos_check.specs.Linearity.{times, split_in, sides, used, all_sides, made, import_at}
 use Rattle.gos_check.proofs.TimesLemmas.{times_same, times_other, times-append}
 use Rattle.gos_leaves.proofs.CountLemmas.{behind, no_splits}
-use Rattle.gos_leaves.proofs.LostLemmas.{is_loc, UsesStand, uses_stand, lost_in, lost, sides_plus, split_plus, row_fewer, fewer, sides_made, row_uses, below_loc}
+use Rattle.gos_leaves.proofs.LostLemmas.{is_loc, UsesStand, lost_in, lost, sides_plus, split_plus, row_fewer, fewer, sides_made, row_uses, below_loc}
 
 -- a number that is used by itself isn't lost
 not_used : (k n : ℕ) (env : Meaning) → is_loc (env n) ≡ false → is_loc (env k) ≡ true → n ≢ k
@@ -34,7 +33,7 @@ lost_uses k env (Under t ss b n m) stands loc same =
     let own : times k (n ∷ made m) ≡ times k (made m) = omega (arith, same, parted, lost_two, first, second, more) in
     let (row, still) = row_uses k env ss loc (omega (arith, same, parted, lost_two, first, second, more)) in
     let part = lost_uses k (below n (inside ss env)) m stands (below_loc n k (inside ss env) (other own) still)
-        (omega (arith, same, parted, lost_two, first, second, more)) in
+    (omega (arith, same, parted, lost_two, first, second, more)) in
     let uses = times-append k (split_in ss) (used m) in
     let splits = split_plus k (lost_in env ss) (lost (below n (inside ss env)) m) in
     omega (arith, row, part, uses, splits)
@@ -80,8 +79,8 @@ lost_uses k env (If t ss m n p) stands loc same =
     let third = few k (inside ss env) n in
     let fourth = few k (inside ss env) p in
     let made_all : times k (sides ss) + (times k (made m) + (times k (made n) + times k (made p)))
-            ≡ times k (sides (lost_in env ss)) + (times k (sides (lost (inside ss env) m)) + (times k (sides (lost (inside ss env) n)) + times k (sides (lost (inside ss env) p)))) =
-        omega (arith, same, parted, parted_two, parted_three, lost_two, lost_more, lost_last) in
+    ≡ times k (sides (lost_in env ss)) + (times k (sides (lost (inside ss env) m)) + (times k (sides (lost (inside ss env) n)) + times k (sides (lost (inside ss env) p)))) =
+    omega (arith, same, parted, parted_two, parted_three, lost_two, lost_more, lost_last) in
     let (row, still) = row_uses k env ss loc (omega (arith, made_all, first, second, third, fourth)) in
     let part = lost_uses k (inside ss env) m stands.0 still (omega (arith, made_all, first, second, third, fourth)) in
     let other = lost_uses k (inside ss env) n stands.1 still (omega (arith, made_all, first, second, third, fourth)) in

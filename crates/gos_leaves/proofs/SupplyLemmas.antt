@@ -16,17 +16,19 @@ import_by n o = if_number o.number n o.import
 pub part_is : (env : Supplies) (n m l k : ℕ) (x : Part) → slice_get (env m).plan.parts l ≡ Some x → if_number m n l ≡ Some k
     → (Supplied n k ≡ Supplied m l) × (slice_get (env n).plan.parts k ≡ Some x)
 part_is env n m l k x from picked =
-    let (number, part) = is_number m n l k picked in
-    ((λ a. Supplied (sym number a) (sym part a)),
-    subst (λ (a : ℕ). slice_get (env a).plan.parts k ≡ Some x) number (subst (λ (a : ℕ). slice_get (env m).plan.parts a ≡ Some x) part from))
+    let (number, part) = is_number m n l k picked in (
+      (λ a. Supplied (sym number a) (sym part a)),
+      subst (λ (a : ℕ). slice_get (env a).plan.parts k ≡ Some x) number (subst (λ (a : ℕ). slice_get (env m).plan.parts a ≡ Some x) part from),
+    )
 
 pub import_is : (env : Supplies) (n : ℕ) (o : Origin) (x : Imported) (k : ℕ) → slice_get (env o.number).plan.imports o.import ≡ Some x → import_by n o ≡ Some k
     → (record { number = n; import = k } ≡ o) × (slice_get (env n).plan.imports k ≡ Some x)
 import_is env n o x k from picked =
-    let (number, part) = is_number o.number n o.import k picked in
-    ((λ a. record { number = sym number a; import = sym part a }),
-    subst (λ (a : ℕ). slice_get (env a).plan.imports k ≡ Some x) number
-    (subst (λ (a : ℕ). slice_get (env o.number).plan.imports a ≡ Some x) part from))
+    let (number, part) = is_number o.number n o.import k picked in (
+      (λ a. record { number = sym number a; import = sym part a }),
+      subst (λ (a : ℕ). slice_get (env a).plan.imports k ≡ Some x) number
+          (subst (λ (a : ℕ). slice_get (env o.number).plan.imports a ≡ Some x) part from),
+    )
 
 -- what isn't of this number is of another
 pub other_one : {A : Type 0} (m n : ℕ) (x : A) → if_number m n x ≡ None → m ≢ n

@@ -65,8 +65,11 @@ module _ (types : Types) (i j n : ℕ) (t : Type') (ns : List ℕ) (env : Suppli
         → AreHome v (if_number k n s.one) (if_number k n s.other)
     inner k among s there =
         both_home v n k s.one s.other (if_number k n s.one) (if_number k n s.other)
-        (λ e. (same_number k n s.one e, same_number k n s.other e,
-        one_way v.ties s.one s.other (inl (subst (λ (m : ℕ). Contains (own_web (env m).plan).ties s) e there))))
+        (λ e. (
+          same_number k n s.one e,
+          same_number k n s.other e,
+          one_way v.ties s.one s.other (inl (subst (λ (m : ℕ). Contains (own_web (env m).plan).ties s) e there)),
+        ))
         (λ e. (other_number k n s.one e, other_number k n s.other e))
 
     outer : (k h : ℕ) → Contains ns k → AreHome v (if_number k n (Of (ResultEnd h))) (if_number k n (Of (ResultEnd h)))

@@ -1,5 +1,5 @@
 -- Where no number is lost, each side of a split is used in the split's own node.
-use Rattle.std.specs.Prelude.{◌≡◌, ◌≢◌, ℕ, zero, suc, ◌+◌, ◌<◌, ◌≤◌, true, false, List, [], ◌∷◌, ◌++◌, length}
+use Rattle.std.specs.Prelude.{◌≡◌, ◌≢◌, ℕ, zero, suc, ◌+◌, ◌<◌, ◌≤◌, true, false, List, [], ◌∷◌, ◌++◌}
 use Rattle.std.proofs.Common.{refl, sym, ◌∙◌, ap, subst, arith}
 use Rattle.gos_check.specs.declared.linear.Split.{Split}
 use Rattle.gos_types.specs.Types.{Type'}
@@ -129,86 +129,90 @@ known_within env (Use t ss n) is = (is.sides_used, by_times (times n (sides ss))
     by_times zero e = e
     by_times (suc a) e =
         let loc = is.loc n (omega (arith, e)) in let both : true ≡ false = sym loc ∙ is.stands in absurd (cc both)
-known_within env (Under t ss b n m) is =
-    (λ k small. (let two = times-append k (sides ss) (all_sides m) in is.sides_used k (omega (arith, small, two))),
-    known_within (below n (inside ss env)) m (under_known t ss env b n m is))
-known_within env (One t ss f m) is =
-    (λ k small. (let two = times-append k (sides ss) (all_sides m) in is.sides_used k (omega (arith, small, two))),
-    known_within (inside ss env) m (one_known t ss env f m is))
+known_within env (Under t ss b n m) is = (
+  λ k small. (let two = times-append k (sides ss) (all_sides m) in is.sides_used k (omega (arith, small, two))),
+  known_within (below n (inside ss env)) m (under_known t ss env b n m is),
+)
+known_within env (One t ss f m) is = (
+  λ k small. (let two = times-append k (sides ss) (all_sides m) in is.sides_used k (omega (arith, small, two))),
+  known_within (inside ss env) m (one_known t ss env f m is),
+)
 known_within env (Two t ss f m n) is =
     let (none, both) = two_none (lost_in env ss) (lost (inside ss env) m ++ lost (inside ss env) n) is.none in
     let (none_first, none_second) = two_none (lost (inside ss env) m) (lost (inside ss env) n) both in
     let counted : (k : ℕ) → times k (made (Two t ss f m n)) ≡ times k (sides ss) + (times k (made m) + times k (made n)) =
-        (λ k. (let one = times-append k (sides ss) (made m ++ made n) in let two = times-append k (made m) (made n) in omega (arith, one, two))) in
+    (λ k. (let one = times-append k (sides ss) (made m ++ made n) in let two = times-append k (made m) (made n) in omega (arith, one, two))) in
     let counted_sides : (k : ℕ) → times k (all_sides (Two t ss f m n)) ≡ times k (sides ss) + (times k (all_sides m) + times k (all_sides n)) =
-        (λ k. (let one = times-append k (sides ss) (all_sides m ++ all_sides n) in let two = times-append k (all_sides m) (all_sides n) in omega (arith, one, two))) in
+    (λ k. (let one = times-append k (sides ss) (all_sides m ++ all_sides n) in let two = times-append k (all_sides m) (all_sides n) in omega (arith, one, two))) in
     let counted_uses : (k : ℕ) → times k (used (Two t ss f m n)) ≡ times k (split_in ss) + (times k (used m) + times k (used n)) =
-        (λ k. (let one = times-append k (split_in ss) (used m ++ used n) in let two = times-append k (used m) (used n) in omega (arith, one, two))) in
-    (λ k small. (let two = counted_sides k in is.sides_used k (omega (arith, small, two))),
-    known_within (inside ss env) m
-    (part_known t ss env m (λ k. times k (made n)) (λ k. times k (used n)) is.stands.0 none_first none
-    (λ k. (let all = is.once k in let c = counted k in omega (arith, all, c)))
-    (λ k small. (let c = counted k in is.loc k (omega (arith, small, c))))
-    (λ k small. (let c = counted_sides k in let d = counted_uses k in let whole = is.sides_used k (omega (arith, small, c)) in omega (arith, d, whole)))
-    (λ k loc free. unused k (inside ss env) n is.stands.1 none_second loc free)),
-    known_within (inside ss env) n
-    (part_known t ss env n (λ k. times k (made m)) (λ k. times k (used m)) is.stands.1 none_second none
-    (λ k. (let all = is.once k in let c = counted k in omega (arith, all, c)))
-    (λ k small. (let c = counted k in is.loc k (omega (arith, small, c))))
-    (λ k small. (let c = counted_sides k in let d = counted_uses k in let whole = is.sides_used k (omega (arith, small, c)) in omega (arith, d, whole)))
-    (λ k loc free. unused k (inside ss env) m is.stands.0 none_first loc free)))
+    (λ k. (let one = times-append k (split_in ss) (used m ++ used n) in let two = times-append k (used m) (used n) in omega (arith, one, two))) in (
+      λ k small. (let two = counted_sides k in is.sides_used k (omega (arith, small, two))),
+      known_within (inside ss env) m
+          (part_known t ss env m (λ k. times k (made n)) (λ k. times k (used n)) is.stands.0 none_first none
+          (λ k. (let all = is.once k in let c = counted k in omega (arith, all, c)))
+          (λ k small. (let c = counted k in is.loc k (omega (arith, small, c))))
+          (λ k small. (let c = counted_sides k in let d = counted_uses k in let whole = is.sides_used k (omega (arith, small, c)) in omega (arith, d, whole)))
+          (λ k loc free. unused k (inside ss env) n is.stands.1 none_second loc free)),
+      known_within (inside ss env) n
+          (part_known t ss env n (λ k. times k (made m)) (λ k. times k (used m)) is.stands.1 none_second none
+          (λ k. (let all = is.once k in let c = counted k in omega (arith, all, c)))
+          (λ k small. (let c = counted k in is.loc k (omega (arith, small, c))))
+          (λ k small. (let c = counted_sides k in let d = counted_uses k in let whole = is.sides_used k (omega (arith, small, c)) in omega (arith, d, whole)))
+          (λ k loc free. unused k (inside ss env) m is.stands.0 none_first loc free)),
+    )
 known_within env (If t ss m n p) is =
     let (none, more) = two_none (lost_in env ss) (lost (inside ss env) m ++ (lost (inside ss env) n ++ lost (inside ss env) p)) is.none in
     let (none_first, both) = two_none (lost (inside ss env) m) (lost (inside ss env) n ++ lost (inside ss env) p) more in
     let (none_second, none_third) = two_none (lost (inside ss env) n) (lost (inside ss env) p) both in
     let counted : (k : ℕ) → times k (made (If t ss m n p)) ≡ times k (sides ss) + (times k (made m) + (times k (made n) + times k (made p))) =
-        (λ k. (let one = times-append k (sides ss) (made m ++ (made n ++ made p)) in
-        let two = times-append k (made m) (made n ++ made p) in let three = times-append k (made n) (made p) in omega (arith, one, two, three))) in
+    (λ k. (let one = times-append k (sides ss) (made m ++ (made n ++ made p)) in
+    let two = times-append k (made m) (made n ++ made p) in let three = times-append k (made n) (made p) in omega (arith, one, two, three))) in
     let counted_sides : (k : ℕ) → times k (all_sides (If t ss m n p)) ≡ times k (sides ss) + (times k (all_sides m) + (times k (all_sides n) + times k (all_sides p))) =
-        (λ k. (let one = times-append k (sides ss) (all_sides m ++ (all_sides n ++ all_sides p)) in
-        let two = times-append k (all_sides m) (all_sides n ++ all_sides p) in let three = times-append k (all_sides n) (all_sides p) in omega (arith, one, two, three))) in
+    (λ k. (let one = times-append k (sides ss) (all_sides m ++ (all_sides n ++ all_sides p)) in
+    let two = times-append k (all_sides m) (all_sides n ++ all_sides p) in let three = times-append k (all_sides n) (all_sides p) in omega (arith, one, two, three))) in
     let counted_uses : (k : ℕ) → times k (used (If t ss m n p)) ≡ times k (split_in ss) + (times k (used m) + (times k (used n) + times k (used p))) =
-        (λ k. (let one = times-append k (split_in ss) (used m ++ (used n ++ used p)) in
-        let two = times-append k (used m) (used n ++ used p) in let three = times-append k (used n) (used p) in omega (arith, one, two, three))) in
-    (λ k small. (let two = counted_sides k in is.sides_used k (omega (arith, small, two))),
-    known_within (inside ss env) m
-    (part_known t ss env m (λ k. times k (made n) + times k (made p)) (λ k. times k (used n) + times k (used p)) is.stands.0 none_first none
-    (λ k. (let all = is.once k in let c = counted k in omega (arith, all, c)))
-    (λ k small. (let c = counted k in is.loc k (omega (arith, small, c))))
-    (λ k small. (let c = counted_sides k in let d = counted_uses k in let whole = is.sides_used k (omega (arith, small, c)) in omega (arith, d, whole)))
-    (λ k loc free. (
-    let one = unused k (inside ss env) n is.stands.1 none_second loc (omega (arith, free)) in
-    let two = unused k (inside ss env) p is.stands.2 none_third loc (omega (arith, free)) in
-    omega (arith, one, two)))),
-    known_within (inside ss env) n
-    (part_known t ss env n (λ k. times k (made m) + times k (made p)) (λ k. times k (used m) + times k (used p)) is.stands.1 none_second none
-    (λ k. (let all = is.once k in let c = counted k in omega (arith, all, c)))
-    (λ k small. (let c = counted k in is.loc k (omega (arith, small, c))))
-    (λ k small. (let c = counted_sides k in let d = counted_uses k in let whole = is.sides_used k (omega (arith, small, c)) in omega (arith, d, whole)))
-    (λ k loc free. (
-    let one = unused k (inside ss env) m is.stands.0 none_first loc (omega (arith, free)) in
-    let two = unused k (inside ss env) p is.stands.2 none_third loc (omega (arith, free)) in
-    omega (arith, one, two)))),
-    known_within (inside ss env) p
-    (part_known t ss env p (λ k. times k (made m) + times k (made n)) (λ k. times k (used m) + times k (used n)) is.stands.2 none_third none
-    (λ k. (let all = is.once k in let c = counted k in omega (arith, all, c)))
-    (λ k small. (let c = counted k in is.loc k (omega (arith, small, c))))
-    (λ k small. (let c = counted_sides k in let d = counted_uses k in let whole = is.sides_used k (omega (arith, small, c)) in omega (arith, d, whole)))
-    (λ k loc free. (
-    let one = unused k (inside ss env) m is.stands.0 none_first loc (omega (arith, free)) in
-    let two = unused k (inside ss env) n is.stands.1 none_second loc (omega (arith, free)) in
-    omega (arith, one, two)))))
+    (λ k. (let one = times-append k (split_in ss) (used m ++ (used n ++ used p)) in
+    let two = times-append k (used m) (used n ++ used p) in let three = times-append k (used n) (used p) in omega (arith, one, two, three))) in (
+      λ k small. (let two = counted_sides k in is.sides_used k (omega (arith, small, two))),
+      known_within (inside ss env) m
+          (part_known t ss env m (λ k. times k (made n) + times k (made p)) (λ k. times k (used n) + times k (used p)) is.stands.0 none_first none
+          (λ k. (let all = is.once k in let c = counted k in omega (arith, all, c)))
+          (λ k small. (let c = counted k in is.loc k (omega (arith, small, c))))
+          (λ k small. (let c = counted_sides k in let d = counted_uses k in let whole = is.sides_used k (omega (arith, small, c)) in omega (arith, d, whole)))
+          (λ k loc free. (
+          let one = unused k (inside ss env) n is.stands.1 none_second loc (omega (arith, free)) in
+          let two = unused k (inside ss env) p is.stands.2 none_third loc (omega (arith, free)) in
+          omega (arith, one, two)))),
+      known_within (inside ss env) n
+          (part_known t ss env n (λ k. times k (made m) + times k (made p)) (λ k. times k (used m) + times k (used p)) is.stands.1 none_second none
+          (λ k. (let all = is.once k in let c = counted k in omega (arith, all, c)))
+          (λ k small. (let c = counted k in is.loc k (omega (arith, small, c))))
+          (λ k small. (let c = counted_sides k in let d = counted_uses k in let whole = is.sides_used k (omega (arith, small, c)) in omega (arith, d, whole)))
+          (λ k loc free. (
+          let one = unused k (inside ss env) m is.stands.0 none_first loc (omega (arith, free)) in
+          let two = unused k (inside ss env) p is.stands.2 none_third loc (omega (arith, free)) in
+          omega (arith, one, two)))),
+      known_within (inside ss env) p
+          (part_known t ss env p (λ k. times k (made m) + times k (made n)) (λ k. times k (used m) + times k (used n)) is.stands.2 none_third none
+          (λ k. (let all = is.once k in let c = counted k in omega (arith, all, c)))
+          (λ k small. (let c = counted k in is.loc k (omega (arith, small, c))))
+          (λ k small. (let c = counted_sides k in let d = counted_uses k in let whole = is.sides_used k (omega (arith, small, c)) in omega (arith, d, whole)))
+          (λ k loc free. (
+          let one = unused k (inside ss env) m is.stands.0 none_first loc (omega (arith, free)) in
+          let two = unused k (inside ss env) n is.stands.1 none_second loc (omega (arith, free)) in
+          omega (arith, one, two)))),
+    )
 
 pub standing_is_split_at_forks : StandingIsSplitAtForks
 standing_is_split_at_forks p m t stands typed =
     let uses = uses_stand p.imports [] (import_at p.imports) m t (subst (λ (x : Term). Typed p.imports [] x t) (sym stands.body) typed) in
     let none = none_lost p.imports m uses stands.made_once stands.no_import stands.sides_used in
     let within = known_within (import_at p.imports) m
-        (record {
-          stands = uses;
-          none = none;
-          once = stands.made_once;
-          loc = λ k small. loc_first p.imports k (stands.no_import k small);
-          sides_used = stands.sides_used;
-        }) in
+    (record {
+      stands = uses;
+      none = none;
+      once = stands.made_once;
+      loc = λ k small. loc_first p.imports k (stands.no_import k small);
+      sides_used = stands.sides_used;
+    }) in
     (within, leaves_have_no_splits m within stands.made_once stands.apart)
