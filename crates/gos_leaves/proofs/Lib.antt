@@ -10,3 +10,4 @@ pub mod LostLemmas
 pub mod StandLemmas
 pub mod WithinLemmas
 mod SmallLemmas
+mod SmallLeafLemmas

@@ -5,4 +5,6 @@
 
 mod laws;
 
-pub use laws::{closed_is_realised, no_splits, read_is_realised, small_splits, use_is_realised};
+pub use laws::{
+    closed_is_realised, no_splits, read_is_realised, small_leaves, small_splits, use_is_realised,
+};
