@@ -1,0 +1,12 @@
+pub mod AskedLemmas
+pub mod OwnLemmas
+pub mod StageLemmas
+pub mod FollowLemmas
+pub mod WholeLemmas
+pub mod PlaceLemmas
+pub mod WindowLemmas
+pub mod QuietLemmas
+pub mod OutputLemmas
+pub mod ClosedLemmas
+pub mod MatchLemmas
+pub mod OrderLemmas

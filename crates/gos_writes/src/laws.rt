@@ -1,0 +1,16 @@
+// What the definitions give. Each theorem is the contract of a function that does nothing.
+ghost use Rattle.gos_writes.specs.Windows.{AssignCan, QuietIsWithin, WritesAreStaged};
+ghost use Rattle.gos_writes.specs.Writes.{WriteIsRegular};
+
+/// From the request of N to its answer, and from the write to its answer, what the plan does is a list of that stage's,
+/// from an idle state of it. Where the whole is quiet the stage is quiet too, and the Assign and the answer never wait.
+pub fn writes()
+    ensures staged { WritesAreStaged }
+    ensures quiet { QuietIsWithin }
+    ensures own { AssignCan }
+{}
+
+/// The plan of `M := N` is regular, and rests after its answer.
+pub fn writes_are_regular()
+    ensures { WriteIsRegular }
+{}

@@ -1,0 +1,8 @@
+// The plan of `M := N`, where M is any plan of a variable, and N any of an expression; their supplies may be shared.
+//
+// Definitions and laws alone. Read `specs/Writes`, `specs/Windows`, and then laws.rt.
+#![tactic(auto)]
+
+mod laws;
+
+pub use laws::{writes, writes_are_regular};
