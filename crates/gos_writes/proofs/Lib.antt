@@ -10,3 +10,6 @@ pub mod OutputLemmas
 pub mod ClosedLemmas
 pub mod MatchLemmas
 pub mod OrderLemmas
+pub mod RegionLemmas
+pub mod SessionLemmas
+pub mod MatchedLemmas

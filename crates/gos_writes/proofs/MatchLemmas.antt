@@ -23,7 +23,7 @@ use Rattle.gos_windows.proofs.InlayLemmas.{inlay, Agree, place_agrees, agree_tok
 use Rattle.gos_windows.proofs.PortLemmas.{stands_place}
 use Rattle.gos_writes.proofs.OwnLemmas.{takes_answer}
 use Rattle.gos_windows.proofs.NodeLemmas.{answer_slot}
-use Rattle.gos_windows.proofs.WindowLemmas.{Standing}
+use Rattle.gos_writes.specs.Windows.{Standing}
 use Rattle.gos_writes.proofs.StageLemmas.{stage, cut, InStage, OnStage, Ran, lies, end_is, seen_state, fires_agree, own_contact}
 
 module _

@@ -34,7 +34,7 @@ use Rattle.gos_writes.proofs.WholeLemmas as whole
 use Rattle.gos_windows.proofs.WholeLemmas.{only_there, idle_token, other_state}
 use Rattle.gos_writes.proofs.WholeLemmas.{done, result_place, own_place, at_own_joint, run_stands, Going, Led}
 use Rattle.gos_windows.proofs.NodeLemmas.{InTurn, first_turn, turns_after, request_slot}
-use Rattle.gos_windows.proofs.WindowLemmas.{Standing}
+use Rattle.gos_writes.specs.Windows.{Standing}
 use Rattle.gos_writes.proofs.PlaceLemmas.{Place, AtRest, AtAsked, AtStage, AtAnswer, Holds, rest_step, asked_step, answer_step, own_slot}
 use Rattle.gos_writes.proofs.WindowLemmas.{StageStep, OwnStep, stage_step, fit_after}
 use Rattle.gos_writes.proofs.OutputLemmas.{outputs_in_turn, is_restful}

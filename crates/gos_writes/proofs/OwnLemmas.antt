@@ -62,3 +62,27 @@ takes_request w n = (_, refl)
 -- at rest it waits for nothing
 pub none_at_rest : (p : Phase) (h : ℕ) → p ≡ Rest → waits_at p ≡ Some h → ⊥
 none_at_rest p h rests is = none-some h (ap waits_at (sym rests) ∙ is)
+
+-- what it puts
+waiting : (p : Phase) (h : ℕ) → waits_at p ≡ Some h → ((p ≡ Value) × (h ≡ 0)) ⊎ ((p ≡ Writing) × (h ≡ 1))
+waiting Value h is = inl (refl, sym (same_Some 0 h is))
+waiting Writing h is = inr (refl, sym (same_Some 1 h is))
+waiting p h is = absurd (none-some h is)
+
+pub asks_number : (w : ℕ) (q : State) (r : Row) → q.phase ≡ Rest → firing (Assign w) q (Req 2) ≡ Some r → r.puts 0 ≡ put (Req 0) 0 ∷ []
+asks_number w q r rests by =
+    ((assigns_do w).begins q.number 0 r (subst (λ (p : Phase). firing (Assign w) (at p q.number) (Req 2) ≡ Some r) rests by)).1
+
+pub asks_write : (w : ℕ) (q : State) (v : ℕ) (r : Row) → waits_at q.phase ≡ Some 0 → firing (Assign w) q (Ans 0) ≡ Some r → r.puts v ≡ put (Req 1) v ∷ []
+asks_write w q v r is by =
+    elim (waiting q.phase 0 is) [
+      | inl value ↦ ((assigns_do w).writes q.number v r (subst (λ (p : Phase). firing (Assign w) (at p q.number) (Ans 0) ≡ Some r) value.0 by)).1
+      | inr writing ↦ absurd (omega (arith, writing.1))
+    ]
+
+pub answers_zero : (w : ℕ) (q : State) (v : ℕ) (r : Row) → waits_at q.phase ≡ Some 1 → firing (Assign w) q (Ans 1) ≡ Some r → r.puts v ≡ put (Ans 2) 0 ∷ []
+answers_zero w q v r is by =
+    elim (waiting q.phase 1 is) [
+      | inl value ↦ absurd (omega (arith, value.1))
+      | inr writing ↦ ((assigns_do w).ends q.number v r (subst (λ (p : Phase). firing (Assign w) (at p q.number) (Ans 1) ≡ Some r) writing.0 by)).1
+    ]

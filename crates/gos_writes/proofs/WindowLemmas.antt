@@ -21,7 +21,7 @@ use Rattle.gos_windows.proofs.PortLemmas.{stands_contact}
 use Rattle.gos_windows.proofs.TurnLemmas.{Turned, turns_before, way_in_of, OnlyResult, NoneOpen}
 use Rattle.gos_windows.proofs.WholeLemmas.{other_state}
 use Rattle.gos_windows.proofs.NodeLemmas.{InTurn, first_turn, turns_after}
-use Rattle.gos_windows.proofs.WindowLemmas.{Standing}
+use Rattle.gos_writes.specs.Windows.{Standing}
 use Rattle.gos_writes.specs.Writes.{answer_bits, waits_at, IsWriteStage, IsWrite}
 use Rattle.gos_writes.specs.Windows as windows
 use Rattle.gos_writes.specs.Windows.{StirsOnly, Where, Resting, Asked, Within, Answered, to_session, to_answer, Staged, rests, waits, stays, holds, is_asked, begins, stirs, goes_on, WritesAreStaged}
@@ -359,7 +359,7 @@ module _ (r : Plan) (d : ℕ) (wide : ℕ) (gs : List Stage) (node : IsWrite r d
               step.y ∷ ys,
               end,
               subst (λ (z : Element). Staged r d wide gs (Within g (step.y ∷ ys)) (z ∷ xs) s) step.is
-                  (stirs s w xs ys g step.y has going.stirs step.does (subst (λ (z : Element). Does r z s w) (sym step.is) does) staged),
+                  (stirs s w xs ys g step.y has going.stirs step.does step.standing (subst (λ (z : Element). Does r z s w) (sym step.is) does) staged),
               (seen g w, step.does, ran),
               turns_before g.plan (passed g.plan [] hs) step.y ys step.turn (subst (λ (l : List Pass). InputsKeepTurns g.plan l ys) (passed_then g.plan [] hs step.y) kept),
             )

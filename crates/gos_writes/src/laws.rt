@@ -1,4 +1,5 @@
 // What the definitions give. Each theorem is the contract of a function that does nothing.
+ghost use Rattle.gos_writes.specs.Realised.{WriteRealises, WriteRealisesByType};
 ghost use Rattle.gos_writes.specs.Windows.{AssignCan, QuietIsWithin, WritesAreStaged};
 ghost use Rattle.gos_writes.specs.Writes.{WriteIsRegular};
 
@@ -13,4 +14,10 @@ pub fn writes()
 /// The plan of `M := N` is regular, and rests after its answer.
 pub fn writes_are_regular()
     ensures { WriteIsRegular }
+{}
+
+/// It realises `M := N` where the stage of N realises N, and where M's stage does what `M := k` does, for each number k.
+pub fn writes_realise()
+    ensures realises { WriteRealises }
+    ensures by_type { WriteRealisesByType }
 {}
