@@ -1,3 +1,4 @@
+pub mod OneSessionLemmas
 pub mod AskedLemmas
 pub mod OwnLemmas
 pub mod StageLemmas

@@ -23,7 +23,8 @@ use Rattle.gos_windows.proofs.InlayLemmas.{inlay, Agree, place_agrees, agree_tok
 use Rattle.gos_windows.proofs.PortLemmas.{stands_place}
 use Rattle.gos_writes.proofs.OwnLemmas.{takes_answer}
 use Rattle.gos_windows.proofs.NodeLemmas.{answer_slot}
-use Rattle.gos_writes.specs.Windows.{Standing}
+use Rattle.gos_writes.specs.OneSession.{Stays}
+use Rattle.gos_writes.proofs.OneSessionLemmas.{out_stands, in_stands}
 use Rattle.gos_writes.proofs.StageLemmas.{stage, cut, InStage, OnStage, Ran, lies, end_is, seen_state, fires_agree, own_contact}
 
 module _
@@ -240,13 +241,13 @@ module _
           (put_opens own o opens e (port_own g.plan e port stands) (stands_agree e port stands) (way_put c.role)),
     )
 
-    pub stage_order : (y : Element) → Standing g.plan y → Does g.plan y (seen g s) (seen g t) → Does r (whole_element g.cut y) s t
+    pub stage_order : (y : Element) → Stays g.plan y → Does g.plan y (seen g s) (seen g t) → Does r (whole_element g.cut y) s t
         → ComesInOrder g.plan y (seen g s) own mown → (m : Open) × ComesInOrder r (whole_element g.cut y) s o m × Opens mown m
     stage_order (Fire j slot) stands own_does does comes = fire_order j slot own_does does comes
     stage_order (Out e v) stands own_does does comes =
-        let (c, at_e) = out_there g.plan e v (seen g s) (seen g t) own_does in out_order e v c own_does.0 stands at_e comes
+        let (c, at_e) = out_there g.plan e v (seen g s) (seen g t) own_does in out_order e v c own_does.0 (out_stands g.plan e v stands) at_e comes
     stage_order (In e v) stands own_does does comes =
-        let (c, at_e) = in_there g.plan e v (seen g s) (seen g t) own_does in in_order_at e v c own_does.0 stands at_e comes
+        let (c, at_e) = in_there g.plan e v (seen g s) (seen g t) own_does in in_order_at e v c own_does.0 (in_stands g.plan e v stands) at_e comes
 
   -- what lies is welcome
   pub stage_welcome : (t : Tokens) → StirsOnly d g t → AllWelcome g.plan (seen g t) → AllWelcome r t

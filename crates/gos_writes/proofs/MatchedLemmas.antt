@@ -28,8 +28,9 @@ use Rattle.gos_windows.proofs.PortLemmas.{ground_within}
 use Rattle.gos_nodes.proofs.SilentLemmas.{labels_then, unfold_first, silent_inner}
 use Rattle.gos_nodes.proofs.FrameLemmas.{framed, framed_waits}
 use Rattle.gos_nodes.proofs.PortLemmas.{request_shown, answer_shown, answers_value}
+use Rattle.gos_writes.specs.OneSession.{Stays}
 use Rattle.gos_writes.specs.Writes.{asked_type, answer_bits, IsWriteStage, IsWrite}
-use Rattle.gos_writes.specs.Windows.{Standing, StirsOnly, Begins, Where, Resting, Asked, Within, Answered, LeadsTo, to_session, to_answer, Staged, rests, waits, stays, holds, is_asked, begins, stirs, goes_on, replies}
+use Rattle.gos_writes.specs.Windows.{StirsOnly, Begins, Where, Resting, Asked, Within, Answered, LeadsTo, to_session, to_answer, Staged, rests, waits, stays, holds, is_asked, begins, stirs, goes_on, replies}
 use Rattle.gos_writes.specs.Realised.{SessionIsRealised, AreWritten, WriteRealises, WriteRealisesByType}
 use Rattle.gos_writes.proofs.OwnLemmas.{asks_number, asks_write, answers_zero}
 use Rattle.gos_writes.proofs.QuietLemmas.{quiet_is_within, assign_can}
@@ -246,7 +247,7 @@ module _
 
   -- an element of a stage
   stirred_on : (s t : Tokens) (xs ys : List Element) (g : Stage) (y : Element)
-      → Contains gs g → StirsOnly d g s → Does g.plan y (seen g s) (seen g t) → Standing g.plan y → Does r (whole_element g.cut y) s t
+      → Contains gs g → StirsOnly d g s → Does g.plan y (seen g s) (seen g t) → Stays g.plan y → Does r (whole_element g.cut y) s t
       → Matches (Within g ys) xs t → Matches (Within g (y ∷ ys)) (whole_element g.cut y ∷ xs) s
   stirred_on s t xs ys g y has only does_there stands does rest e b st inner =
       let went = goes_within r d wide m n whole g y ys s t e b st node.names refl (node.stages g has) does_there stands does inner in

@@ -34,7 +34,8 @@ use Rattle.gos_writes.proofs.WholeLemmas as whole
 use Rattle.gos_windows.proofs.WholeLemmas.{only_there, idle_token, other_state}
 use Rattle.gos_writes.proofs.WholeLemmas.{done, result_place, own_place, at_own_joint, run_stands, Going, Led}
 use Rattle.gos_windows.proofs.NodeLemmas.{InTurn, first_turn, turns_after, request_slot}
-use Rattle.gos_writes.specs.Windows.{Standing}
+use Rattle.gos_writes.specs.OneSession.{Stays}
+use Rattle.gos_writes.proofs.OneSessionLemmas.{open_is_one, ended_is_one}
 use Rattle.gos_writes.proofs.PlaceLemmas.{Place, AtRest, AtAsked, AtStage, AtAnswer, Holds, rest_step, asked_step, answer_step, own_slot}
 use Rattle.gos_writes.proofs.WindowLemmas.{StageStep, OwnStep, stage_step, fit_after}
 use Rattle.gos_writes.proofs.OutputLemmas.{outputs_in_turn, is_restful}
@@ -196,10 +197,10 @@ module _ (r : Plan) (d : ℕ) (wide : ℕ) (gs : List Stage) (node : IsWrite r d
       by_place None = refl
       by_place (Some x) = empty.places way x
 
-  standing_asks : (g : Stage) (has : Contains gs g) (y : Element) → Standing g.plan y → AsksOnly g.asked_at (y ∷ [])
+  standing_asks : (g : Stage) (has : Contains gs g) (y : Element) → Stays g.plan y → AsksOnly g.asked_at (y ∷ [])
   standing_asks g has (Fire i t) stands = tt
   standing_asks g has (Out e v) stands = tt
-  standing_asks g has (In e v) stands = ((λ k is. (there g has).only k (subst (λ (x : End). StandsIn g.plan x) is stands)), tt)
+  standing_asks g has (In e v) stands = ((λ k is. absurd (subst (λ (x : End). Stays g.plan (In x v)) is stands)), tt)
 
   -- where the whole is, what is open there, and that what lies is welcome
   record OrderNext (x : Element) (s t : Tokens) (past : List Pass) (o : Open) : Type 0 where
@@ -264,7 +265,7 @@ module _ (r : Plan) (d : ℕ) (wide : ℕ) (gs : List Stage) (node : IsWrite r d
       shut = shut_at (after_taken r (end_of d slot) (way_of slot) o) only (PartEnd d g.asked_at) (λ is. cc is)
 
       all : IsOrderly g.plan (In (ResultEnd g.asked_at) n ∷ []) before
-      all = let both = (there g has).regular before (seen g t) (In (ResultEnd g.asked_at) n ∷ []) going.ran.idle (seen g t, does, refl) going.ran.turns in both.0
+      all = let both = (there g has).regular before (seen g t) (In (ResultEnd g.asked_at) n ∷ []) going.ran.tidy going.ran.idle (open_is_one g.asked_at g.plan (In (ResultEnd g.asked_at) n ∷ []) going.ran.session) (seen g t, does, refl) going.ran.turns in both.0
 
       last : (m : Open) × ComesInOrder g.plan (In (ResultEnd g.asked_at) n) before none_open m × AllWelcome g.plan (seen g t)
       last = last_order g.plan [] (In (ResultEnd g.asked_at) n) none_open all.0 none_open before all.1 before (seen g t) all.2 (refl, refl) does
@@ -389,7 +390,7 @@ module _ (r : Plan) (d : ℕ) (wide : ℕ) (gs : List Stage) (node : IsWrite r d
         }
       where
         all : IsOrderly g.plan (hs ++ step.y ∷ []) before
-        all = let both = (there g has).regular before (seen g t) (hs ++ step.y ∷ []) step.going.ran.idle step.going.ran.ran step.going.ran.turns in both.0
+        all = let both = (there g has).regular before (seen g t) (hs ++ step.y ∷ []) step.going.ran.tidy step.going.ran.idle (open_is_one g.asked_at g.plan (hs ++ step.y ∷ []) step.going.ran.session) step.going.ran.ran step.going.ran.turns in both.0
 
         last : (m : Open) × ComesInOrder g.plan step.y (seen g s) order.own m × AllWelcome g.plan (seen g t)
         last = last_order g.plan hs step.y none_open all.0 order.own before all.1 (seen g s) (seen g t) all.2 order.orderly step.does
@@ -407,7 +408,8 @@ module _ (r : Plan) (d : ℕ) (wide : ℕ) (gs : List Stage) (node : IsWrite r d
         all : IsOrderly g.plan (hs ++ Out (ResultEnd g.asked_at) step.v ∷ []) before
         all =
             let both =
-            (there g has).regular before step.end (hs ++ Out (ResultEnd g.asked_at) step.v ∷ []) going.ran.idle
+            (there g has).regular before step.end (hs ++ Out (ResultEnd g.asked_at) step.v ∷ []) going.ran.tidy going.ran.idle
+            (ended_is_one g.asked_at g.plan hs step.v going.ran.session)
             (runs_then g.plan hs (Out (ResultEnd g.asked_at) step.v) before (seen g s) step.end going.ran.ran step.does)
             (inputs_then g.plan [] hs (Out (ResultEnd g.asked_at) step.v ∷ []) going.ran.turns tt) in
             both.0

@@ -21,6 +21,7 @@ use Rattle.gos_windows.proofs.TurnLemmas.{Turned, way_out_of, result_out, OnlyRe
 use Rattle.gos_windows.proofs.GroundLemmas.{closed_turned, turned_shut, Shut, shut_turned, one_place}
 use Rattle.gos_windows.proofs.NodeLemmas.{InTurn, first_turn, turns_after}
 use Rattle.gos_writes.specs.Writes.{IsWriteStage, IsWrite}
+use Rattle.gos_writes.proofs.OneSessionLemmas.{then_one}
 use Rattle.gos_writes.proofs.AskedLemmas.{ground_role, asked_ground}
 use Rattle.gos_writes.proofs.StageLemmas.{stage, ground_stage, InStage, out_in}
 use Rattle.gos_writes.proofs.FollowLemmas.{Follows}
@@ -161,7 +162,8 @@ module _ (r : Plan) (d : ℕ) (wide : ℕ) (gs : List Stage) (node : IsWrite r d
 
       closed : is_open past b ≡ false
       closed =
-          let turn = stage_out_turned r d wide gs node g has hs before s t past going (ImportEnd port.0 port.1) v port.4 in
+          let turn = stage_out_turned r d wide gs node g has hs before s t past going (ImportEnd port.0 port.1) v
+          (then_one g.asked_at g.plan hs (Out (ImportEnd port.0 port.1) v) going.ran.session port.2) port.4 in
           let shut : is_open (passed g.plan [] hs) (ImportEnd port.0 port.1) ≡ false =
           (subst (λ (way : Direction). KeepsTurns g.plan (passed g.plan [] hs) (pass (ImportEnd port.0 port.1) way)) own_asked turn).0 in
           ap (is_open past) (sym port.3) ∙ (sym (going.follows.same port.0 port.1 port.2) ∙ shut)

@@ -17,6 +17,7 @@ use Rattle.gos_windows.proofs.PortLemmas.{port_role}
 use Rattle.gos_windows.proofs.TurnLemmas.{result_in, result_out, OnlyResult, NoneOpen}
 use Rattle.gos_windows.proofs.WholeLemmas.{put_only, taken_empty, only_there, held_beside, idle_token, nat_eq_same}
 use Rattle.gos_windows.proofs.NodeLemmas.{InTurn, request_slot, answer_slot}
+use Rattle.gos_writes.specs.OneSession.{EndsWell}
 use Rattle.gos_writes.specs.Writes.{IsWrite}
 use Rattle.gos_writes.specs.Windows.{Resting, Asked, Within, Answered, Staged}
 use Rattle.gos_writes.proofs.OwnLemmas as table
@@ -46,7 +47,7 @@ module _ (r : Plan) (d : ℕ) (wide : ℕ) (gs : List Stage) (node : IsWrite r d
   Result AtAsked xs s = Staged r d wide gs Asked xs s
   Result (AtStage g has hs before) xs s =
       (ys : List Element) × (end : Tokens) × Staged r d wide gs (Within g ys) xs s × Runs g.plan ys (seen g s) end
-      × InputsKeepTurns g.plan (passed g.plan [] hs) ys
+      × InputsKeepTurns g.plan (passed g.plan [] hs) ys × EndsWell g.asked_at g.plan ys
   Result (AtAnswer v) xs s = Staged r d wide gs (Answered v) xs s
 
   -- at rest the request alone can come

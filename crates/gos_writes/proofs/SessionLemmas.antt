@@ -8,13 +8,12 @@ use Rattle.gos_model.specs.Stores.{Store}
 use Rattle.gos_model.specs.Steps.{IsValue}
 use Rattle.gos_model.specs.Labels.{given}
 use Rattle.gos_model.specs.Moves.{Program, Config, Idle, Running, Act, Showing, Unfoldings, Moves, labels}
-use Rattle.gos_plan.specs.Plans.{End, PartEnd, ImportEnd, ResultEnd, Plan, contact_at}
-use Rattle.gos_plan.specs.Tokens.{Tokens, Element, Fire, Out, In, IsPortEnd, Does}
+use Rattle.gos_plan.specs.Plans.{PartEnd, ImportEnd, ResultEnd, Plan, contact_at}
+use Rattle.gos_plan.specs.Tokens.{Tokens, Element, Fire, Out, In, Does}
 use Rattle.gos_realises.specs.Regular.{way_in, way_out}
 use Rattle.gos_realises.specs.Matched.{label_at, shows, GoesOn, Agrees, IsMatched, program_of, RealisesDone}
 use Rattle.gos_realises.specs.Realises.{AllGround, NamesDiffer}
 use Rattle.gos_realises.proofs.InputLemmas.{in_there}
-use Rattle.gos_webs.specs.Cutting.{StandsIn}
 use Rattle.gos_sessions.specs.Sessions.{Session, session, value_of}
 use Rattle.gos_contexts.specs.Contexts.{AssignRight}
 use Rattle.gos_contexts.specs.Plugged.{AreInner}
@@ -32,7 +31,8 @@ use Rattle.gos_nodes.proofs.SilentLemmas.{silent_inner, one_inner, inner_stays, 
 use Rattle.gos_nodes.proofs.FrameLemmas.{IsFrame, framed, framed_unfolds}
 use Rattle.gos_nodes.proofs.PortLemmas.{request_shown, answer_shown, no_other_out, out_held, among, import_port}
 use Rattle.gos_writes.specs.Writes.{IsWriteStage}
-use Rattle.gos_writes.specs.Windows.{Standing, Begins}
+use Rattle.gos_writes.specs.OneSession.{Stays}
+use Rattle.gos_writes.specs.Windows.{Begins}
 use Rattle.gos_writes.specs.Realised.{session_shows, IsSessionMatched, SessionIsRealised}
 use Rattle.gos_writes.proofs.RegionLemmas.{fires_goes_on, out_shown, in_shown}
 
@@ -98,7 +98,7 @@ as_session p g done (x ∷ xs) s c (agrees, next) = (
 )
 
 pub done_session : (p : Plan) (n : Term) → AllGround p.imports → NamesDiffer p.imports → IsDone p.outcome → RealisesDone p n → SessionIsRealised p 0 0 n
-done_session p n ground names done realises s u t ys idle does runs turns =
+done_session p n ground names done realises s u t ys tidy idle well does runs turns =
     let list : List Element = In (ResultEnd 0) 0 ∷ ys in
     let keeps = turns_keep_protocol p list s t ground names done (u, does, runs) turns in
     let (acts, c, moves, shows_so, goes, rest) = (realises s t list idle (u, does, runs) keeps).0.1 u does in
@@ -119,7 +119,7 @@ pub opens : (w : ℕ) (m n : Term) (g : Stage) (k : ℕ) (ys : List Element) (s 
     → IsSession w m n e → e.asked_at ≡ g.asked_at → Typed g.plan.imports [] e.term e.ty → SessionIsRealised g.plan g.asked_at k e.term → Begins g k ys s
     → Opened w m n g ys s e
 opens w m n g k ys s e at asked typed realised begins =
-    let first = realised begins.before (seen g s) begins.after ys begins.idle begins.asked begins.runs begins.turns in
+    let first = realised begins.before (seen g s) begins.after ys begins.tidy begins.idle begins.well begins.asked begins.runs begins.turns in
     let stays = inner_stays (child g e) first.0 e.term [] first.1 (silent_inner first.0 first.3) first.2 in
     let moves : Moves (child g e) first.0 (Running e.term []) (Running stays.0 stays.1) =
     moves_at (child g e) first.0 (Running e.term []) first.1 (Running stays.0 stays.1) stays.2 first.2 in
@@ -147,15 +147,8 @@ pub record Stirred (r : Plan) (g : Stage) (y : Element) (s : Tokens) (acts : Lis
   pub shown : labels acts ≡ shows r (whole_element g.cut y)
   pub goes : GoesOn r s (whole_element g.cut y) acts
 
--- no element of a stage is at its result
-result_inside : (r : Plan) (d wide : ℕ) (g : Stage) → IsWriteStage r d wide g → (h : ℕ) → StandsIn g.plan (ResultEnd h) → IsPortEnd (g.cut.outer (ResultEnd h)) → ⊥
-result_inside r d wide g is h stands port =
-    let same = is.only h stands in
-    let here = subst (λ (k : ℕ). StandsIn g.plan (ResultEnd k)) same stands in
-    subst (λ (x : End). IsPortEnd x) (ap (λ (k : ℕ). g.cut.outer (ResultEnd k)) same ∙ is.run_by here) port
-
 stirred : (r : Plan) (d wide : ℕ) (g : Stage) → IsWriteStage r d wide g → (y : Element) (s u t : Tokens) (acts : List Act)
-    → Does g.plan y (seen g s) u → Standing g.plan y → Does r (whole_element g.cut y) s t → labels acts ≡ session_shows g.plan y
+    → Does g.plan y (seen g s) u → Stays g.plan y → Does r (whole_element g.cut y) s t → labels acts ≡ session_shows g.plan y
     → GoesOn g.plan (seen g s) y acts → Stirred r g y s acts
 stirred r d wide g is (Fire i slot) s u t acts does stands whole shown goes =
     record { inner = silent_inner acts shown; shown = shown; goes = fires_goes_on r d wide g is i slot s u t acts does goes }
@@ -168,7 +161,7 @@ stirred r d wide g is (Out (ImportEnd i h) v) s u t acts does stands whole shown
       shown = shown ∙ sym (out_shown r d wide g is i h v stands);
       goes = tt;
     }
-stirred r d wide g is (Out (ResultEnd h) v) s u t acts does stands whole shown goes = absurd (result_inside r d wide g is h stands whole.0)
+stirred r d wide g is (Out (ResultEnd h) v) s u t acts does stands whole shown goes = absurd stands
 stirred r d wide g is (In (PartEnd i h) v) s u t acts does stands whole shown goes = absurd does.0
 stirred r d wide g is (In (ImportEnd i h) v) s u t acts does stands whole shown goes =
     let (k, at) = in_there g.plan (ImportEnd i h) v (seen g s) u does in
@@ -178,7 +171,7 @@ stirred r d wide g is (In (ImportEnd i h) v) s u t acts does stands whole shown 
       shown = shown ∙ sym (in_shown r d wide g is i h v stands);
       goes = tt;
     }
-stirred r d wide g is (In (ResultEnd h) v) s u t acts does stands whole shown goes = absurd (result_inside r d wide g is h stands whole.0)
+stirred r d wide g is (In (ResultEnd h) v) s u t acts does stands whole shown goes = absurd stands
 
 -- what an element of a stage is in the whole
 pub record Went (r : Plan) (w : ℕ) (m n : Term) (q : Program) (g : Stage) (y : Element) (ys : List Element) (s t : Tokens) (e : Session) (b : Term) (st : Store) : Type 0 where
@@ -191,7 +184,7 @@ pub record Went (r : Plan) (w : ℕ) (m n : Term) (q : Program) (g : Stage) (y :
   pub inner : Inner w m n g ys t e term store
 
 pub goes_within : (r : Plan) (d w : ℕ) (m n : Term) (q : Program) (g : Stage) (y : Element) (ys : List Element) (s t : Tokens) (e : Session) (b : Term) (st : Store)
-    → NamesDiffer r.imports → q.imports ≡ r.imports → IsWriteStage r d w g → Does g.plan y (seen g s) (seen g t) → Standing g.plan y
+    → NamesDiffer r.imports → q.imports ≡ r.imports → IsWriteStage r d w g → Does g.plan y (seen g s) (seen g t) → Stays g.plan y
     → Does r (whole_element g.cut y) s t → Inner w m n g (y ∷ ys) s e b st → Went r w m n q g y ys s t e b st
 goes_within r d w m n q g y ys s t e b st differ same is does stands whole inner =
     let p = child g e in

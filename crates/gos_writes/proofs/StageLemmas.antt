@@ -18,6 +18,7 @@ use Rattle.gos_webs.specs.Cutting.{lies_at, StandsIn, IsCut, asks_in, out_if, in
 use Rattle.gos_webs.proofs.CutLemmas.{Owns, outside_name, asks_there, place_there, number_at, fire_cut, taken_out, put_in, element_is_cut}
 use Rattle.gos_windows.specs.Regions.{Serving, IsOther}
 use Rattle.gos_windows.specs.Nodes.{Stage}
+use Rattle.gos_writes.specs.OneSession.{IsTidy, IsOpenSession}
 use Rattle.gos_writes.specs.Writes.{request_bits, answer_bits, IsWriteStage, IsWrite}
 use Rattle.gos_windows.specs.Windows.{seen}
 use Rattle.gos_windows.proofs.InlayLemmas.{laid, inlay, same_contact, from_laid, inlay_cut, inlay_place, place_agrees, Agree, agree_token, agree_put, AllAgree, agree_fired, agrees_or_other, LiesOn, lies_on}
@@ -177,6 +178,8 @@ module _
     pub idle : IsIdle g.plan before
     pub ran : Runs g.plan hs before (seen g s)
     pub turns : InputsKeepTurns g.plan [] hs
+    pub tidy : IsTidy g.plan before
+    pub session : IsOpenSession g.asked_at g.plan hs
 
   module _
       (before s : Tokens) (hs : List Element) (ran : Ran before hs s) (i j : ℕ) (number : g.cut.number i ≡ Some j) (slot : Slot) (v : ℕ) (row : Row)
@@ -220,7 +223,7 @@ module _
         loyal : shake_of slot < count o.n.ty → (s.state i).number ≡ o.n.side
         loyal low =
             sym (ap (λ (q : State). q.number) (seen_state s i j number))
-            ∙ stage.loyal o.n j o.is_side o.number before (seen g s) (seen g inlaid) hs slot ran.idle ran.ran ran.turns fires_first low
+            ∙ stage.loyal o.n j o.is_side o.number before (seen g s) (seen g inlaid) hs slot ran.tidy ran.idle ran.session ran.ran ran.turns fires_first low
 
     pub fires_agree : AllAgree g.cut g.sides r g.plan stage.region i (row.puts v)
     fires_agree = all_agree i j number (row.puts v) never_other

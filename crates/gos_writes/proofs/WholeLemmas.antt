@@ -5,7 +5,7 @@ use Rattle.gos_types.specs.declared.shakes.Role.TheVariants.{Serve, Ask}
 use Rattle.gos_types.specs.Types.{IsDone}
 use Rattle.gos_netlist.specs.Events.{Direction, Request, Answer}
 use Rattle.gos_plan.specs.Kinds.{Contact}
-use Rattle.gos_plan.specs.Firing.{Rest, State, Req, Ans, Token, Row, put}
+use Rattle.gos_plan.specs.Firing.{Rest, State, Req, Ans, Token, Row, at, put}
 use Rattle.gos_plan.specs.Plans.{End, PartEnd, ImportEnd, ResultEnd, Joint, Plan, contact_at, stands_in}
 use Rattle.gos_plan.specs.Tokens.{Tokens, Element, In, places_of, with_token, with_state, with_puts, end_of, way_of, way_put, bits_of, Passes, Does}
 use Rattle.gos_plan.proofs.JointLemmas.{IsIn, Found, found, one_joint, stands_there, contained}
@@ -22,6 +22,7 @@ use Rattle.gos_windows.proofs.PortLemmas.{port_role}
 use Rattle.gos_windows.proofs.TurnLemmas.{Turned, way_in_of, OnlyResult}
 use Rattle.gos_windows.proofs.WholeLemmas.{no_bits, zero_only, other_state, put_only, held_beside}
 use Rattle.gos_writes.specs.Writes.{request_bits, waits_at, IsWriteStage, IsWrite}
+use Rattle.gos_writes.specs.OneSession.{IsTidy}
 use Rattle.gos_writes.specs.Windows.{StirsOnly}
 use Rattle.gos_writes.proofs.AskedLemmas.{asked_first, asked_in}
 use Rattle.gos_writes.proofs.OwnLemmas.{LeadsOn}
@@ -206,10 +207,13 @@ module _ (r : Plan) (d : ℕ) (wide : ℕ) (gs : List Stage) (node : IsWrite r d
         turn : KeepsTurns g.plan [] (pass (ResultEnd g.asked_at) (way_in (contact_at g.plan (ResultEnd g.asked_at))))
         turn = subst (λ (way : Direction). KeepsTurns g.plan [] (pass (ResultEnd g.asked_at) way)) (sym comes) (refl, first)
 
+        tidy : IsTidy g.plan (seen g between)
+        tidy i beyond = ap (λ (b : Bool). if b then between.state (g.cut.part i) else at Rest 0) beyond
+
         going : Going g has (In (ResultEnd g.asked_at) n ∷ []) (seen g between) t past
         going =
             record {
-              ran = record { idle = idle_seen r d wide gs node g has between empty_between; ran = (seen g t, does, refl); turns = (turn, tt) };
+              ran = record { idle = idle_seen r d wide gs node g has between empty_between; ran = (seen g t, does, refl); turns = (turn, tt); tidy = tidy; session = (refl, tt) };
               turned = turn.1;
               stirs = stirring;
               follows = subst (λ (way : Direction). Follows g (pass (ResultEnd g.asked_at) way ∷ []) past) (sym comes) (follows_first r d wide gs node g has past only);

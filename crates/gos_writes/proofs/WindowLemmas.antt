@@ -21,7 +21,8 @@ use Rattle.gos_windows.proofs.PortLemmas.{stands_contact}
 use Rattle.gos_windows.proofs.TurnLemmas.{Turned, turns_before, way_in_of, OnlyResult, NoneOpen}
 use Rattle.gos_windows.proofs.WholeLemmas.{other_state}
 use Rattle.gos_windows.proofs.NodeLemmas.{InTurn, first_turn, turns_after}
-use Rattle.gos_writes.specs.Windows.{Standing}
+use Rattle.gos_writes.specs.OneSession.{Stays, IsOneSession}
+use Rattle.gos_writes.proofs.OneSessionLemmas.{open_then, then_one, ended_is_one, well_before}
 use Rattle.gos_writes.specs.Writes.{answer_bits, waits_at, IsWriteStage, IsWrite}
 use Rattle.gos_writes.specs.Windows as windows
 use Rattle.gos_writes.specs.Windows.{StirsOnly, Where, Resting, Asked, Within, Answered, to_session, to_answer, Staged, rests, waits, stays, holds, is_asked, begins, stirs, goes_on, WritesAreStaged}
@@ -43,7 +44,7 @@ module _ (r : Plan) (d : ℕ) (wide : ℕ) (gs : List Stage) (node : IsWrite r d
     pub is : whole_element g.cut y ≡ x
     pub does : Does g.plan y (seen g s) (seen g t)
     pub turn : OneTurn g.plan (passed g.plan [] hs) y
-    pub standing : Standing g.plan y
+    pub standing : Stays g.plan y
     pub going : Going r d wide gs node g has (hs ++ y ∷ []) before t past
 
   -- the own part takes the stage's answer
@@ -64,11 +65,11 @@ module _ (r : Plan) (d : ℕ) (wide : ℕ) (gs : List Stage) (node : IsWrite r d
     pub led : Led r d wide gs node row v t past
 
   pub stage_out_turned : (g : Stage) (has : Contains gs g) (hs : List Element) (before s t : Tokens) (past : List Pass) → Going r d wide gs node g has hs before s past
-      → (e : End) (v : ℕ) → Does g.plan (Out e v) (seen g s) (seen g t) → KeepsTurns g.plan (passed g.plan [] hs) (pass e (way_out (contact_at g.plan e)))
-  stage_out_turned g has hs before s t past going e v does =
+      → (e : End) (v : ℕ) → IsOneSession g.asked_at g.plan (hs ++ Out e v ∷ []) → Does g.plan (Out e v) (seen g s) (seen g t) → KeepsTurns g.plan (passed g.plan [] hs) (pass e (way_out (contact_at g.plan e)))
+  stage_out_turned g has hs before s t past going e v session does =
       let ran = runs_then g.plan hs (Out e v) before (seen g s) (seen g t) going.ran.ran does in
       let turns = inputs_then g.plan [] hs (Out e v ∷ []) going.ran.turns tt in
-      let all = (stage r d wide gs node g has).regular before (seen g t) (hs ++ Out e v ∷ []) going.ran.idle ran turns in
+      let all = (stage r d wide gs node g has).regular before (seen g t) (hs ++ Out e v ∷ []) going.ran.tidy going.ran.idle session ran turns in
       (outputs_last g.plan [] hs (Out e v ∷ []) all.1).0
 
   module _
@@ -81,7 +82,7 @@ module _ (r : Plan) (d : ℕ) (wide : ℕ) (gs : List Stage) (node : IsWrite r d
     within = going.stirs.places
 
     -- the stage goes on
-    on_by : (x y : Element) (later : List Pass) → whole_element g.cut y ≡ x → Does g.plan y (seen g s) (seen g t) → OneTurn g.plan own y → Standing g.plan y → Turned g.plan (after g.plan y own)
+    on_by : (x y : Element) (later : List Pass) → whole_element g.cut y ≡ x → Does g.plan y (seen g s) (seen g t) → OneTurn g.plan own y → Stays g.plan y → Turned g.plan (after g.plan y own)
         → InStage r d wide gs node g has t → t.state d ≡ s.state d → ((i : ℕ) → g.cut.number i ≡ None → t.state i ≡ s.state i)
         → Follows g (after g.plan y own) later → StageStep g has hs before s t later x
     on_by x y later is does turn standing turned in_stage own_state others follows =
@@ -98,6 +99,8 @@ module _ (r : Plan) (d : ℕ) (wide : ℕ) (gs : List Stage) (node : IsWrite r d
                       idle = going.ran.idle;
                       ran = runs_then g.plan hs y before (seen g s) (seen g t) going.ran.ran does;
                       turns = inputs_then g.plan [] hs (y ∷ []) going.ran.turns turn;
+                      tidy = going.ran.tidy;
+                      session = open_then g.asked_at g.plan hs y going.ran.session standing;
                     };
                 turned = subst (Turned g.plan) (sym (passed_then g.plan [] hs y)) turned;
                 stirs =
@@ -137,7 +140,7 @@ module _ (r : Plan) (d : ℕ) (wide : ℕ) (gs : List Stage) (node : IsWrite r d
         let state = λ (n : ℕ). ap (λ (x : Tokens). x.state n) passes.1 ∙ token_state r b (way_taken c.role) None s n in
         let ways = ap way_out (port_contact i h b stands at) in
         on_by (Out b v) (Out (ImportEnd i h) v) (after r (Out b v) past) (ap (λ (e : End). Out e v) at) own_does tt stands
-        (stage_out_turned g has hs before s t past going (ImportEnd i h) v own_does).1 in_stage (state d) (λ n out. state n)
+        (stage_out_turned g has hs before s t past going (ImportEnd i h) v (then_one g.asked_at g.plan hs (Out (ImportEnd i h) v) going.ran.session stands) own_does).1 in_stage (state d) (λ n out. state n)
         (subst (λ (way : Direction). Follows g (after g.plan (Out (ImportEnd i h) v) own) (pass b way ∷ past)) (sym ways)
         (follows_step r d wide gs node g has own past going.follows i h b stands at (way_out (contact_at g.plan (ImportEnd i h)))))
 
@@ -234,7 +237,7 @@ module _ (r : Plan) (d : ℕ) (wide : ℕ) (gs : List Stage) (node : IsWrite r d
 
         idle : IsIdle g.plan (seen g (with_token r (PartEnd d g.asked_at) Answer None s))
         idle =
-            (stage r d wide gs node g has).restful before (seen g (with_token r (PartEnd d g.asked_at) Answer None s)) hs v going.ran.idle
+            (stage r d wide gs node g has).restful before (seen g (with_token r (PartEnd d g.asked_at) Answer None s)) hs v going.ran.tidy going.ran.idle going.ran.session
             (runs_then g.plan hs (Out (ResultEnd g.asked_at) v) before (seen g s) (seen g (with_token r (PartEnd d g.asked_at) Answer None s)) going.ran.ran own_does.0)
             (inputs_then g.plan [] hs (Out (ResultEnd g.asked_at) v ∷ []) going.ran.turns tt)
 
@@ -247,7 +250,7 @@ module _ (r : Plan) (d : ℕ) (wide : ℕ) (gs : List Stage) (node : IsWrite r d
         answered =
             subst (λ (w : Direction). Turned g.plan (pass (ResultEnd g.asked_at) w ∷ own))
             (asked_out g.plan g.asked_at wide (stage r d wide gs node g has).low (stage r d wide gs node g has).outcome)
-            (stage_out_turned g has hs before s (with_token r (PartEnd d g.asked_at) Answer None s) past going (ResultEnd g.asked_at) v own_does.0).1
+            (stage_out_turned g has hs before s (with_token r (PartEnd d g.asked_at) Answer None s) past going (ResultEnd g.asked_at) v (ended_is_one g.asked_at g.plan hs v going.ran.session) own_does.0).1
 
         none_open : (k : ℕ) → is_open (pass (ResultEnd g.asked_at) Answer ∷ own) (ResultEnd k) ≡ false
         none_open k = by_test (nat_eq g.asked_at k) refl
@@ -293,7 +296,7 @@ module _ (r : Plan) (d : ℕ) (wide : ℕ) (gs : List Stage) (node : IsWrite r d
   led_on : (xs : List Element) → Rest' xs → (row : Row) (v : ℕ) (w t : Tokens) (past : List Pass) → AllFit r w → Led r d wide gs node row v w past → Runs r xs w t
       → InputsKeepTurns r past xs → (there : Where) × windows.LeadsTo r d gs row v w there × Staged r d wide gs there xs w
   led_on xs rest row v w t past fit (asks g has n before going does puts) runs turns =
-      let (ys, end, staged, ran, kept) = rest (AtStage g has (In (ResultEnd g.asked_at) n ∷ []) before) w t past fit going runs turns in (
+      let (ys, end, staged, ran, kept, well) = rest (AtStage g has (In (ResultEnd g.asked_at) n ∷ []) before) w t past fit going runs turns in (
         Within g ys,
         to_session g n ys has going.stirs
             (record {
@@ -303,6 +306,8 @@ module _ (r : Plan) (d : ℕ) (wide : ℕ) (gs : List Stage) (node : IsWrite r d
               asked = does;
               runs = ran;
               turns = turns_before g.plan [] (In (ResultEnd g.asked_at) n) ys going.ran.turns kept;
+              tidy = going.ran.tidy;
+              well = well;
             }) puts,
         staged,
       )
@@ -354,7 +359,7 @@ module _ (r : Plan) (d : ℕ) (wide : ℕ) (gs : List Stage) (node : IsWrite r d
         by_step : StageStep g has hs before s w (after r x past) x ⊎ OwnStep g has hs before s w (after r x past) x
             → Result r d wide gs node (AtStage g has hs before) (x ∷ xs) s
         by_step (inl step) =
-            let (ys, end, staged, ran, kept) =
+            let (ys, end, staged, ran, kept, well) =
             rest (AtStage g has (hs ++ step.y ∷ []) before) w t (after r x past) (fit_after x s w fit does) step.going runs (turns_after r past x xs turns) in (
               step.y ∷ ys,
               end,
@@ -362,6 +367,7 @@ module _ (r : Plan) (d : ℕ) (wide : ℕ) (gs : List Stage) (node : IsWrite r d
                   (stirs s w xs ys g step.y has going.stirs step.does step.standing (subst (λ (z : Element). Does r z s w) (sym step.is) does) staged),
               (seen g w, step.does, ran),
               turns_before g.plan (passed g.plan [] hs) step.y ys step.turn (subst (λ (l : List Pass). InputsKeepTurns g.plan l ys) (passed_then g.plan [] hs step.y) kept),
+              well_before g.asked_at g.plan step.y ys step.standing well,
             )
         by_step (inr step) =
             let (there, leads, staged) = led_on xs rest step.row step.v w t (after r x past) (fit_after x s w fit does) step.led runs (turns_after r past x xs turns) in (
@@ -372,6 +378,7 @@ module _ (r : Plan) (d : ℕ) (wide : ℕ) (gs : List Stage) (node : IsWrite r d
                   (subst (λ (z : Element). Does r z s w) step.is does) step.state leads staged),
               (step.end, step.does, refl),
               tt,
+              inr ([], step.v, tt, refl),
             )
 
   step_case : (x : Element) (xs : List Element) → Rest' xs → Rest' (x ∷ xs)
@@ -384,7 +391,7 @@ module _ (r : Plan) (d : ℕ) (wide : ℕ) (gs : List Stage) (node : IsWrite r d
   end_case : Rest' []
   end_case AtRest s t past fit holding is turns = rests s holding.0
   end_case AtAsked s t past fit holding is turns = waits s holding.0
-  end_case (AtStage g has hs before) s t past fit going is turns = ([], seen g s, stays s g has going.stirs, refl, tt)
+  end_case (AtStage g has hs before) s t past fit going is turns = ([], seen g s, stays s g has going.stirs, refl, tt, inl tt)
   end_case (AtAnswer k) s t past fit holding is turns = holds s k holding.0
 
   pub along : (xs : List Element) → Rest' xs

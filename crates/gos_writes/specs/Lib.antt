@@ -1,3 +1,4 @@
+pub mod OneSession
 pub mod Writes
 pub mod Windows
 pub mod Realised

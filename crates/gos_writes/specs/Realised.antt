@@ -13,6 +13,7 @@ use Rattle.gos_realises.specs.Regular.{InputsKeepTurns}
 use Rattle.gos_realises.specs.Matched.{shows, GoesOn, Agrees, program_of, RealisesDone}
 use Rattle.gos_realises.specs.Realises.{Realises}
 use Rattle.gos_windows.specs.Nodes.{Stage}
+use Rattle.gos_writes.specs.OneSession.{IsTidy, EndsWell}
 use Rattle.gos_writes.specs.Writes.{IsWrite}
 
 -- What an element shows in a session: the answer of the result, at whatever handshake, is that of the program.
@@ -33,7 +34,7 @@ IsSessionMatched p g (x ∷ xs) s c =
 abbrev pub SessionIsRealised : Plan → ℕ → ℕ → Term → Type 0
 SessionIsRealised p h k n =
     (s u t : Tokens) (ys : List Element)
-    → IsIdle p s → Does p (In (ResultEnd h) k) s u → Runs p ys u t → InputsKeepTurns p [] (In (ResultEnd h) k ∷ ys)
+    → IsTidy p s → IsIdle p s → EndsWell h p ys → Does p (In (ResultEnd h) k) s u → Runs p ys u t → InputsKeepTurns p [] (In (ResultEnd h) k ∷ ys)
     → (acts : List Act) × (c : Config) × Moves (program_of p n) acts (Running n []) c × (labels acts ≡ []) × (h ≡ 1 → acts ≢ [])
     × IsSessionMatched p (program_of p n) ys u c
 

@@ -9,10 +9,11 @@ use Rattle.gos_plan.specs.Firing.{Rest, Req, Ans, Row, put, firing}
 use Rattle.gos_plan.specs.Plans.{End, PartEnd, ResultEnd, Plan}
 use Rattle.gos_plan.specs.Tokens.{Tokens, Element, Fire, Out, In, token_at, Does, Runs, IsIdle, IsQuiet}
 use Rattle.gos_realises.specs.Regular.{InputsKeepTurns}
-use Rattle.gos_webs.specs.Cutting.{lies_at, StandsIn, asks_in}
+use Rattle.gos_webs.specs.Cutting.{lies_at, asks_in}
 use Rattle.gos_windows.specs.Regions.{whole_element}
 use Rattle.gos_windows.specs.Nodes.{Stage}
 use Rattle.gos_windows.specs.Windows.{seen, HoldsOnly}
+use Rattle.gos_writes.specs.OneSession.{IsTidy, Stays, EndsWell}
 use Rattle.gos_writes.specs.Writes.{answer_bits, waits_at, IsWrite}
 
 -- All but the Assign, number d, and the stage is idle: the Assign waits for the stage's answer, no other part has begun, and
@@ -33,12 +34,8 @@ pub record Begins (g : Stage) (n : ℕ) (ys : List Element) (s : Tokens) : Type 
   pub asked : Does g.plan (In (ResultEnd g.asked_at) n) before (seen g s)
   pub runs : Runs g.plan ys (seen g s) after
   pub turns : InputsKeepTurns g.plan [] (In (ResultEnd g.asked_at) n ∷ ys)
-
--- the ends at which an element passes stand in joints
-abbrev pub Standing : Plan → Element → Type 0
-Standing p (Fire i t) = Unit {0}
-Standing p (Out e v) = StandsIn p e
-Standing p (In e v) = StandsIn p e
+  pub tidy : IsTidy g.plan before
+  pub well : EndsWell g.asked_at g.plan ys
 
 -- where a list of the whole begins: at rest; asked; within a session, of which so much is left; answered, with a number
 pub data Where : Type 0 where
@@ -70,7 +67,7 @@ pub data Staged (r : Plan) (d w : ℕ) (gs : List Stage) : Where → List Elemen
       → t.state d ≡ row.next 0 → LeadsTo r d gs row 0 t l → Staged r d w gs l xs t → Staged r d w gs Asked (Fire d (Req 2) ∷ xs) s
   stirs :
       (s t : Tokens) (xs ys : List Element) (g : Stage) (y : Element)
-      → Contains gs g → StirsOnly d g s → Does g.plan y (seen g s) (seen g t) → Standing g.plan y → Does r (whole_element g.cut y) s t
+      → Contains gs g → StirsOnly d g s → Does g.plan y (seen g s) (seen g t) → Stays g.plan y → Does r (whole_element g.cut y) s t
       → Staged r d w gs (Within g ys) xs t → Staged r d w gs (Within g (y ∷ ys)) (whole_element g.cut y ∷ xs) s
   goes_on :
       (s t : Tokens) (xs : List Element) (g : Stage) (v : ℕ) (u : Tokens) (row : Row) (l : Where)

@@ -2,20 +2,20 @@
 --
 -- Read first: Regions and Nodes of gos_windows; Tables of gos_assigned. N is asked for a number by handshake 0 of the Assign,
 -- and M is written by handshake 1: it is the plan of a variable, of which the write alone is joined.
-use Rattle.std.specs.Prelude.{◌≡◌, ℕ, zero, suc, ◌<◌, List, [], ◌∷◌, ◌++◌, ◌⊎◌, Option, Some, None, All, slice_get, Contains}
+use Rattle.std.specs.Prelude.{◌≡◌, ℕ, zero, suc, ◌<◌, List, ◌⊎◌, Option, Some, None, All, slice_get, Contains}
 use Rattle.gos_types.specs.Types.{Type', Com, Exp, Var}
 use Rattle.gos_model.specs.Typing.{Imported}
 use Rattle.gos_plan.specs.Kinds.{Assign}
 use Rattle.gos_plan.specs.Firing.{Phase, Value, Writing}
 use Rattle.gos_plan.specs.Plans.{End, PartEnd, ImportEnd, ResultEnd, Plan, IsRight}
-use Rattle.gos_plan.specs.Tokens.{Tokens, Element, Out, Runs, IsIdle}
 use Rattle.gos_plan.specs.TokenBits.{LiteralFits}
-use Rattle.gos_realises.specs.Regular.{InputsKeepTurns, IsRegular}
+use Rattle.gos_realises.specs.Regular.{IsRegular}
 use Rattle.gos_realises.specs.Realises.{AllGround, NamesDiffer}
 use Rattle.gos_webs.specs.Webs.{joint}
 use Rattle.gos_webs.specs.Cutting.{StandsIn}
-use Rattle.gos_windows.specs.Regions.{Serving, IsRegion, IsLoyal}
+use Rattle.gos_windows.specs.Regions.{Serving, IsRegion}
 use Rattle.gos_windows.specs.Nodes.{Stage, IsRestful, IsOfStage}
+use Rattle.gos_writes.specs.OneSession.{IsRegularAt, IsRestfulAt, IsLoyalAt}
 
 -- The result of which an Assign of w bits asks handshake h: of an expression its one handshake, of a variable the write.
 -- The bits of its request, and of its answer.
@@ -37,13 +37,6 @@ waits_at Value = Some 0
 waits_at Writing = Some 1
 waits_at p = None
 
--- A plan rests after the answer of handshake h of its result: over every list from an idle state whose inputs keep turns and
--- that ends with this answer, all is idle.
-abbrev pub IsRestfulAt : ℕ → Plan → Type 0
-IsRestfulAt h p =
-    (s t : Tokens) (xs : List Element) (v : ℕ)
-    → IsIdle p s → Runs p (xs ++ Out (ResultEnd h) v ∷ []) s t → InputsKeepTurns p [] (xs ++ Out (ResultEnd h) v ∷ []) → IsIdle p t
-
 -- A stage of the whole r, whose part d is an Assign of w bits. It is asked by one handshake of its plan's result alone: no
 -- other handshake of that stands in a joint.
 pub record IsWriteStage (r : Plan) (d w : ℕ) (g : Stage) : Type 0 where
@@ -52,9 +45,9 @@ pub record IsWriteStage (r : Plan) (d w : ℕ) (g : Stage) : Type 0 where
   pub low : g.asked_at < 2
   pub outcome : g.plan.outcome ≡ asked_type g.asked_at w
   pub only : (h : ℕ) → StandsIn g.plan (ResultEnd h) → h ≡ g.asked_at
-  pub regular : IsRegular g.plan
+  pub regular : IsRegularAt g.asked_at g.plan
   pub restful : IsRestfulAt g.asked_at g.plan
-  pub loyal : (n : Serving) (i : ℕ) → Contains g.sides n → g.cut.number n.part ≡ Some i → IsLoyal i n.ty n.side g.plan
+  pub loyal : (n : Serving) (i : ℕ) → Contains g.sides n → g.cut.number n.part ≡ Some i → IsLoyalAt g.asked_at i n.ty n.side g.plan
   pub run_by : StandsIn g.plan (ResultEnd g.asked_at) → g.cut.outer (ResultEnd g.asked_at) ≡ PartEnd d g.asked_at
   pub imports : (i : Imported) → Contains g.plan.imports i → Contains r.imports i
   pub names : NamesDiffer g.plan.imports
