@@ -303,15 +303,15 @@ module _
       replied s1 t ys v fits here does (matches Resting ys t rest (next_fits (Out (ResultEnd 0) v) s1 t fits does))
 
 pub write_realises : WriteRealises
-write_realises r d wide gs m n node real =
-    let is_regular = (write_is_regular r d wide gs node).0 in
+write_realises r d wide gs m n node restful real =
+    let is_regular = (write_is_regular r d wide gs node restful).0 in
     let done_so = subst IsDone (sym node.outcome) tt in
     matching_suffices r (Assign m n) is_regular node.ground node.names done_so (λ s t xs idle runs keeps.
     let turns = protocol_keeps_turns r xs s t is_regular node.ground node.names done_so idle runs keeps in
-    matches r d wide gs node m n real Resting xs s (writes_are_staged r d wide gs s t xs node idle runs turns) (idle_fits r s idle))
+    matches r d wide gs node m n real Resting xs s (writes_are_staged r d wide gs s t xs node restful idle runs turns) (idle_fits r s idle))
 
 pub write_realises_by_type : WriteRealisesByType
-write_realises_by_type r d wide gs m n node real typed =
+write_realises_by_type r d wide gs m n node restful real typed =
     record {
       suits =
           record {
@@ -320,7 +320,7 @@ write_realises_by_type r d wide gs m n node real typed =
             all_ground = node.ground;
             names = node.names;
             typed = typed;
-            regular = (write_is_regular r d wide gs node).0;
+            regular = (write_is_regular r d wide gs node restful).0;
           };
-      means = write_realises r d wide gs m n node real;
+      means = write_realises r d wide gs m n node restful real;
     }

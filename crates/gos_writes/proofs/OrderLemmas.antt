@@ -23,7 +23,7 @@ use Rattle.gos_webs.proofs.CutLemmas.{Owns}
 use Rattle.gos_types.specs.Types.{IsGround}
 use Rattle.gos_windows.specs.Regions.{whole_element}
 use Rattle.gos_windows.specs.Nodes.{Stage}
-use Rattle.gos_writes.specs.Writes.{request_bits, answer_bits, IsWriteStage, IsWrite, WriteIsRegular}
+use Rattle.gos_writes.specs.Writes.{request_bits, answer_bits, IsWriteStage, IsWrite, AreRestful, WriteIsRegular}
 use Rattle.gos_writes.proofs.AskedLemmas.{asked_contact, asked_ground, asked_role}
 use Rattle.gos_windows.specs.Windows.{seen, HoldsOnly}
 use Rattle.gos_windows.proofs.PortLemmas.{stands_contact}
@@ -72,7 +72,7 @@ shut_at o only x apart = by_test (o x) refl
     by_test false t = refl
     by_test true up = absurd (apart (only.1 x up))
 
-module _ (r : Plan) (d : ℕ) (wide : ℕ) (gs : List Stage) (node : IsWrite r d wide gs) where
+module _ (r : Plan) (d : ℕ) (wide : ℕ) (gs : List Stage) (node : IsWrite r d wide gs) (restful : AreRestful gs) where
   abbrev run : ℕ
   run = 2
 
@@ -370,7 +370,7 @@ module _ (r : Plan) (d : ℕ) (wide : ℕ) (gs : List Stage) (node : IsWrite r d
   module _
       (g : Stage) (has : Contains gs g) (hs : List Element) (before s t : Tokens) (past : List Pass) (o : Open) (x : Element)
       (going : Going r d wide gs node g has hs before s past) (order : Orders g has hs before s o) (does : Does r x s t) where
-    stage_next : StageStep r d wide gs node g has hs before s t (after r x past) x → OrderNext x s t (after r x past) o
+    stage_next : StageStep r d wide gs node restful g has hs before s t (after r x past) x → OrderNext x s t (after r x past) o
     stage_next step =
         record {
           place = AtStage g has (hs ++ step.y ∷ []) before;
@@ -400,7 +400,7 @@ module _ (r : Plan) (d : ℕ) (wide : ℕ) (gs : List Stage) (node : IsWrite r d
             stage_order r d wide gs node g has before s t hs going.ran going.stirs.places order.own last.0 o order.opens step.y step.standing step.does
             (subst (λ (z : Element). Does r z s t) (sym step.is) does) last.1
 
-    own_next : OwnStep r d wide gs node g has hs before s t (after r x past) x → OrderNext x s t (after r x past) o
+    own_next : OwnStep r d wide gs node restful g has hs before s t (after r x past) x → OrderNext x s t (after r x past) o
     own_next step =
         subst (λ (y : Element). OrderNext y s t (after r x past) o) (sym step.is)
         (led_order (Ans g.asked_at) step.v step.row s t (after r x past) o step.held step.by only (empty_taken (Ans g.asked_at) step.row s step.by step.empty) step.led)
@@ -466,7 +466,7 @@ module _ (r : Plan) (d : ℕ) (wide : ℕ) (gs : List Stage) (node : IsWrite r d
   order_next AtAsked x s t past o fit holding order does turn = asked_next x s t past o holding order does turn
   order_next (AtAnswer k) x s t past o fit holding order does turn = answer_next k x s t past o holding order does turn
   order_next (AtStage g has hs before) x s t past o fit going order does turn =
-      elim (stage_step r d wide gs node g has hs before s t past going fit x does turn) [
+      elim (stage_step r d wide gs node restful g has hs before s t past going fit x does turn) [
         | inl step ↦ stage_next g has hs before s t past o x going order does step
         | inr step ↦ own_next g has hs before s t past o x going order does step
       ]
@@ -477,7 +477,7 @@ module _ (r : Plan) (d : ℕ) (wide : ℕ) (gs : List Stage) (node : IsWrite r d
   ordered (x ∷ xs) pl s t past o fit holding order (w, does, runs) turns =
       let next = order_next pl x s w past o fit holding order does (first_turn r past x xs turns) in
       let (u, z, rest) =
-      ordered xs next.place w t (after r x past) next.now (fit_after r d wide gs node x s w fit does) next.holds next.order runs (turns_after r past x xs turns) in
+      ordered xs next.place w t (after r x past) next.now (fit_after r d wide gs node restful x s w fit does) next.holds next.order runs (turns_after r past x xs turns) in
       (u, z, (next.now, w, does, next.comes, next.welcome, rest))
 
   pub node_orderly : (s t : Tokens) (xs : List Element) → IsIdle r s → Runs r xs s t → InputsKeepTurns r [] xs → IsOrderly r xs s
@@ -485,5 +485,5 @@ module _ (r : Plan) (d : ℕ) (wide : ℕ) (gs : List Stage) (node : IsWrite r d
       ordered xs AtRest s t [] none_open (idle_fits r s idle) (idle, (refl, λ k h. refl)) (λ x. refl) runs turns
 
 pub write_is_regular : WriteIsRegular
-write_is_regular r d wide gs node =
-    ((λ s t xs idle runs turns. (node_orderly r d wide gs node s t xs idle runs turns, outputs_in_turn r d wide gs node s t xs idle runs turns)), is_restful r d wide gs node)
+write_is_regular r d wide gs node restful =
+    ((λ s t xs idle runs turns. (node_orderly r d wide gs node restful s t xs idle runs turns, outputs_in_turn r d wide gs node restful s t xs idle runs turns)), is_restful r d wide gs node restful)

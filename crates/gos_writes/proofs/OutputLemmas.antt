@@ -20,7 +20,7 @@ use Rattle.gos_windows.proofs.PortLemmas.{stands_contact}
 use Rattle.gos_windows.proofs.TurnLemmas.{Turned, way_out_of, result_out, OnlyResult}
 use Rattle.gos_windows.proofs.GroundLemmas.{closed_turned, turned_shut, Shut, shut_turned, one_place}
 use Rattle.gos_windows.proofs.NodeLemmas.{InTurn, first_turn, turns_after}
-use Rattle.gos_writes.specs.Writes.{IsWriteStage, IsWrite}
+use Rattle.gos_writes.specs.Writes.{IsWriteStage, IsWrite, AreRestful}
 use Rattle.gos_writes.proofs.OneSessionLemmas.{then_one}
 use Rattle.gos_writes.proofs.AskedLemmas.{ground_role, asked_ground}
 use Rattle.gos_writes.proofs.StageLemmas.{stage, ground_stage, InStage, out_in}
@@ -41,7 +41,7 @@ outputs_before p past (Fire i t) xs one others = others
 outputs_before p past (Out e v) xs one others = (one, others)
 outputs_before p past (In e v) xs one others = others
 
-module _ (r : Plan) (d : ℕ) (wide : ℕ) (gs : List Stage) (node : IsWrite r d wide gs) where
+module _ (r : Plan) (d : ℕ) (wide : ℕ) (gs : List Stage) (node : IsWrite r d wide gs) (restful : AreRestful gs) where
   -- where the whole is after an element
   pub record Next (t : Tokens) (past : List Pass) : Type 0 where
     pub place : Place gs
@@ -57,9 +57,9 @@ module _ (r : Plan) (d : ℕ) (wide : ℕ) (gs : List Stage) (node : IsWrite r d
       let (is, holding, only) = rest_step r d wide gs node x s t past idle closed does turn in record { place = AtAsked; holds = (holding, only) }
   next AtAsked x s t past fit (holding, only) does turn =
       let step = asked_step r d wide gs node x s t past holding only does turn in after_led step.row 0 t (after r x past) step.led
-  next (AtStage g has hs before) x s t past fit going does turn = of_step (stage_step r d wide gs node g has hs before s t past going fit x does turn)
+  next (AtStage g has hs before) x s t past fit going does turn = of_step (stage_step r d wide gs node restful g has hs before s t past going fit x does turn)
     where
-      of_step : StageStep r d wide gs node g has hs before s t (after r x past) x ⊎ OwnStep r d wide gs node g has hs before s t (after r x past) x → Next t (after r x past)
+      of_step : StageStep r d wide gs node restful g has hs before s t (after r x past) x ⊎ OwnStep r d wide gs node restful g has hs before s t (after r x past) x → Next t (after r x past)
       of_step (inl step) = record { place = AtStage g has (hs ++ step.y ∷ []) before; holds = step.going }
       of_step (inr step) = after_led step.row step.v t (after r x past) step.led
   next (AtAnswer k) x s t past fit (holding, only) does turn =
@@ -72,7 +72,7 @@ module _ (r : Plan) (d : ℕ) (wide : ℕ) (gs : List Stage) (node : IsWrite r d
       (s, pl, past, fit, holding, subst (λ (y : Tokens). Does r x s y) (sym is) does, first_turn r past x [] turns)
   reached (y ∷ ys) x pl s t past fit holding (w, does, runs) turns =
       let now = next pl y s w past fit holding does (first_turn r past y (ys ++ x ∷ []) turns) in
-      reached ys x now.place w t (after r y past) (fit_after r d wide gs node y s w fit does) now.holds runs (turns_after r past y (ys ++ x ∷ []) turns)
+      reached ys x now.place w t (after r y past) (fit_after r d wide gs node restful y s w fit does) now.holds runs (turns_after r past y (ys ++ x ∷ []) turns)
 
   -- the answer leads to rest
   rests_after : (v : ℕ) (pl : Place gs) (s t : Tokens) (past : List Pass) → AllFit r s → Holds r d wide gs node pl s past → Does r (Out (ResultEnd 0) v) s t → IsIdle r t
@@ -131,7 +131,7 @@ module _ (r : Plan) (d : ℕ) (wide : ℕ) (gs : List Stage) (node : IsWrite r d
             (import_at 0 first.0 first.1 first.2 ∙ (sym (import_at 1 second.0 second.1 second.2) ∙ import.1))
 
   stage_out : (g : Stage) (has : Contains gs g) (hs : List Element) (before s t : Tokens) (past : List Pass) (b : End) (v : ℕ) → AllFit r s
-      → Going r d wide gs node g has hs before s past → StageStep r d wide gs node g has hs before s t (after r (Out b v) past) (Out b v) → Does r (Out b v) s t
+      → Going r d wide gs node g has hs before s past → StageStep r d wide gs node restful g has hs before s t (after r (Out b v) past) (Out b v) → Does r (Out b v) s t
       → KeepsTurns r past (pass b (way_out (contact_at r b)))
   stage_out g has hs before s t past b v fit going step does =
       subst (λ (way : Direction). KeepsTurns r past (pass b way)) (sym asked) (
@@ -162,7 +162,7 @@ module _ (r : Plan) (d : ℕ) (wide : ℕ) (gs : List Stage) (node : IsWrite r d
 
       closed : is_open past b ≡ false
       closed =
-          let turn = stage_out_turned r d wide gs node g has hs before s t past going (ImportEnd port.0 port.1) v
+          let turn = stage_out_turned r d wide gs node restful g has hs before s t past going (ImportEnd port.0 port.1) v
           (then_one g.asked_at g.plan hs (Out (ImportEnd port.0 port.1) v) going.ran.session port.2) port.4 in
           let shut : is_open (passed g.plan [] hs) (ImportEnd port.0 port.1) ≡ false =
           (subst (λ (way : Direction). KeepsTurns g.plan (passed g.plan [] hs) (pass (ImportEnd port.0 port.1) way)) own_asked turn).0 in
@@ -182,9 +182,9 @@ module _ (r : Plan) (d : ℕ) (wide : ℕ) (gs : List Stage) (node : IsWrite r d
   out_turn AtAsked (Out b v) s t past fit (holding, only) does turn =
       let step = asked_step r d wide gs node (Out b v) s t past holding only does turn in
       let clash : Out b v ≡ Fire d (Req 2) = step.is in absurd (cc clash)
-  out_turn (AtStage g has hs before) (Out b v) s t past fit going does turn = of_step (stage_step r d wide gs node g has hs before s t past going fit (Out b v) does turn)
+  out_turn (AtStage g has hs before) (Out b v) s t past fit going does turn = of_step (stage_step r d wide gs node restful g has hs before s t past going fit (Out b v) does turn)
     where
-      of_step : StageStep r d wide gs node g has hs before s t (after r (Out b v) past) (Out b v) ⊎ OwnStep r d wide gs node g has hs before s t (after r (Out b v) past) (Out b v)
+      of_step : StageStep r d wide gs node restful g has hs before s t (after r (Out b v) past) (Out b v) ⊎ OwnStep r d wide gs node restful g has hs before s t (after r (Out b v) past) (Out b v)
           → KeepsTurns r past (pass b (way_out (contact_at r b)))
       of_step (inl step) = stage_out g has hs before s t past b v fit going step does
       of_step (inr step) = let clash : Out b v ≡ Fire d (Ans g.asked_at) = step.is in absurd (cc clash)
@@ -201,7 +201,7 @@ module _ (r : Plan) (d : ℕ) (wide : ℕ) (gs : List Stage) (node : IsWrite r d
       let turn = first_turn r past x xs turns in
       let now = next pl x s w past fit holding does turn in
       outputs_before r past x xs (out_turn pl x s w past fit holding does turn)
-      (outputs xs now.place w t (after r x past) (fit_after r d wide gs node x s w fit does) now.holds runs (turns_after r past x xs turns))
+      (outputs xs now.place w t (after r x past) (fit_after r d wide gs node restful x s w fit does) now.holds runs (turns_after r past x xs turns))
 
   pub outputs_in_turn : OutputsInTurn r
   outputs_in_turn s t xs idle runs turns = outputs xs AtRest s t [] (idle_fits r s idle) (idle, (refl, λ k h. refl)) runs turns

@@ -23,7 +23,7 @@ use Rattle.gos_windows.proofs.WholeLemmas.{other_state}
 use Rattle.gos_windows.proofs.NodeLemmas.{InTurn, first_turn, turns_after}
 use Rattle.gos_writes.specs.OneSession.{Stays, IsOneSession}
 use Rattle.gos_writes.proofs.OneSessionLemmas.{open_then, then_one, ended_is_one, well_before}
-use Rattle.gos_writes.specs.Writes.{answer_bits, waits_at, IsWriteStage, IsWrite}
+use Rattle.gos_writes.specs.Writes.{answer_bits, waits_at, IsWriteStage, IsWrite, AreRestful}
 use Rattle.gos_writes.specs.Windows as windows
 use Rattle.gos_writes.specs.Windows.{StirsOnly, Where, Resting, Asked, Within, Answered, to_session, to_answer, Staged, rests, waits, stays, holds, is_asked, begins, stirs, goes_on, WritesAreStaged}
 use Rattle.gos_writes.proofs.AskedLemmas.{ground_role, asked_ground, asked_answer, asked_out, asked_shut}
@@ -37,7 +37,7 @@ use Rattle.gos_writes.proofs.PlaceLemmas.{Place, AtRest, AtAsked, AtStage, AtAns
 abbrev OneTurn : Plan → List Pass → Element → Type 0
 OneTurn p past y = InputsKeepTurns p past (y ∷ [])
 
-module _ (r : Plan) (d : ℕ) (wide : ℕ) (gs : List Stage) (node : IsWrite r d wide gs) where
+module _ (r : Plan) (d : ℕ) (wide : ℕ) (gs : List Stage) (node : IsWrite r d wide gs) (restful : AreRestful gs) where
   -- what an element of a stage is: one of its plan, in turn, after which the stage still runs
   pub record StageStep (g : Stage) (has : Contains gs g) (hs : List Element) (before s t : Tokens) (past : List Pass) (x : Element) : Type 0 where
     pub y : Element
@@ -237,7 +237,7 @@ module _ (r : Plan) (d : ℕ) (wide : ℕ) (gs : List Stage) (node : IsWrite r d
 
         idle : IsIdle g.plan (seen g (with_token r (PartEnd d g.asked_at) Answer None s))
         idle =
-            (stage r d wide gs node g has).restful before (seen g (with_token r (PartEnd d g.asked_at) Answer None s)) hs v going.ran.tidy going.ran.idle going.ran.session
+            restful g has before (seen g (with_token r (PartEnd d g.asked_at) Answer None s)) hs v going.ran.tidy going.ran.idle going.ran.session
             (runs_then g.plan hs (Out (ResultEnd g.asked_at) v) before (seen g s) (seen g (with_token r (PartEnd d g.asked_at) Answer None s)) going.ran.ran own_does.0)
             (inputs_then g.plan [] hs (Out (ResultEnd g.asked_at) v ∷ []) going.ran.turns tt)
 
@@ -399,5 +399,5 @@ module _ (r : Plan) (d : ℕ) (wide : ℕ) (gs : List Stage) (node : IsWrite r d
   along (x ∷ xs) = step_case x xs (along xs)
 
 pub writes_are_staged : WritesAreStaged
-writes_are_staged r d wide gs s t xs node idle runs turns =
-    along r d wide gs node xs AtRest s t [] (idle_fits r s idle) (idle, (refl, λ k h. refl)) runs turns
+writes_are_staged r d wide gs s t xs node restful idle runs turns =
+    along r d wide gs node restful xs AtRest s t [] (idle_fits r s idle) (idle, (refl, λ k h. refl)) runs turns

@@ -14,7 +14,7 @@ use Rattle.gos_realises.specs.Matched.{shows, GoesOn, Agrees, program_of, Realis
 use Rattle.gos_realises.specs.Realises.{Realises}
 use Rattle.gos_windows.specs.Nodes.{Stage}
 use Rattle.gos_writes.specs.OneSession.{IsTidy, EndsWell}
-use Rattle.gos_writes.specs.Writes.{IsWrite}
+use Rattle.gos_writes.specs.Writes.{IsWrite, AreRestful}
 
 -- What an element shows in a session: the answer of the result, at whatever handshake, is that of the program.
 abbrev pub session_shows : Plan → Element → List Label
@@ -48,9 +48,9 @@ pub record AreWritten (w : ℕ) (m n : Term) (gs : List Stage) : Type 0 where
 -- Then the plan realises `M := N`.
 abbrev pub WriteRealises : Type 0
 WriteRealises =
-    (r : Plan) (d w : ℕ) (gs : List Stage) (m n : Term) → IsWrite r d w gs → AreWritten w m n gs → RealisesDone r (Assign m n)
+    (r : Plan) (d w : ℕ) (gs : List Stage) (m n : Term) → IsWrite r d w gs → AreRestful gs → AreWritten w m n gs → RealisesDone r (Assign m n)
 
 abbrev pub WriteRealisesByType : Type 0
 WriteRealisesByType =
     (r : Plan) (d w : ℕ) (gs : List Stage) (m n : Term)
-    → IsWrite r d w gs → AreWritten w m n gs → Typed r.imports [] (Assign m n) Com → Realises Com r (Assign m n)
+    → IsWrite r d w gs → AreRestful gs → AreWritten w m n gs → Typed r.imports [] (Assign m n) Com → Realises Com r (Assign m n)

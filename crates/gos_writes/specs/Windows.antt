@@ -14,7 +14,7 @@ use Rattle.gos_windows.specs.Regions.{whole_element}
 use Rattle.gos_windows.specs.Nodes.{Stage}
 use Rattle.gos_windows.specs.Windows.{seen, HoldsOnly}
 use Rattle.gos_writes.specs.OneSession.{IsTidy, Stays, EndsWell}
-use Rattle.gos_writes.specs.Writes.{answer_bits, waits_at, IsWrite}
+use Rattle.gos_writes.specs.Writes.{answer_bits, waits_at, IsWrite, AreRestful}
 
 -- All but the Assign, number d, and the stage is idle: the Assign waits for the stage's answer, no other part has begun, and
 -- no token lies but on the stage's joints.
@@ -84,7 +84,7 @@ pub data Staged (r : Plan) (d w : ℕ) (gs : List Stage) : Where → List Elemen
 abbrev pub WritesAreStaged : Type 0
 WritesAreStaged =
     (r : Plan) (d w : ℕ) (gs : List Stage) (s t : Tokens) (xs : List Element)
-    → IsWrite r d w gs → IsIdle r s → Runs r xs s t → InputsKeepTurns r [] xs → Staged r d w gs Resting xs s
+    → IsWrite r d w gs → AreRestful gs → IsIdle r s → Runs r xs s t → InputsKeepTurns r [] xs → Staged r d w gs Resting xs s
 
 -- Within a session, where the whole is quiet so is the stage.
 abbrev pub QuietIsWithin : Type 0

@@ -46,7 +46,6 @@ pub record IsWriteStage (r : Plan) (d w : ℕ) (g : Stage) : Type 0 where
   pub outcome : g.plan.outcome ≡ asked_type g.asked_at w
   pub only : (h : ℕ) → StandsIn g.plan (ResultEnd h) → h ≡ g.asked_at
   pub regular : IsRegularAt g.asked_at g.plan
-  pub restful : IsRestfulAt g.asked_at g.plan
   pub loyal : (n : Serving) (i : ℕ) → Contains g.sides n → g.cut.number n.part ≡ Some i → IsLoyalAt g.asked_at i n.ty n.side g.plan
   pub run_by : StandsIn g.plan (ResultEnd g.asked_at) → g.cut.outer (ResultEnd g.asked_at) ≡ PartEnd d g.asked_at
   pub imports : (i : Imported) → Contains g.plan.imports i → Contains r.imports i
@@ -71,6 +70,10 @@ pub record IsWrite (r : Plan) (d w : ℕ) (gs : List Stage) : Type 0 where
   pub joints :
       (a b : End) → Contains r.joints (joint a b) → ((a ≡ ResultEnd 0) × (b ≡ PartEnd d 2)) ⊎ IsOfStage gs a b
 
+-- each stage rests after the answer of a session
+abbrev pub AreRestful : List Stage → Type 0
+AreRestful gs = (g : Stage) → Contains gs g → IsRestfulAt g.asked_at g.plan
+
 -- Such a plan is regular, and rests after its answer.
 abbrev pub WriteIsRegular : Type 0
-WriteIsRegular = (r : Plan) (d w : ℕ) (gs : List Stage) → IsWrite r d w gs → IsRegular r × IsRestful r
+WriteIsRegular = (r : Plan) (d w : ℕ) (gs : List Stage) → IsWrite r d w gs → AreRestful gs → IsRegular r × IsRestful r
