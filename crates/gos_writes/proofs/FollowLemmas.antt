@@ -10,7 +10,7 @@ use Rattle.gos_webs.proofs.CutLemmas.{same_lies}
 use Rattle.gos_windows.specs.Nodes.{Stage}
 use Rattle.gos_windows.proofs.InlayLemmas.{inlay}
 use Rattle.gos_windows.proofs.TurnLemmas.{OnlyResult}
-use Rattle.gos_writes.specs.Writes.{IsWrite}
+use Rattle.gos_writes.specs.Writes.{HasStages}
 use Rattle.gos_writes.proofs.AskedLemmas.{OnlyAt}
 use Rattle.gos_writes.proofs.StageLemmas.{stage, cut}
 
@@ -25,7 +25,7 @@ pub record Follows (g : Stage) (own past : List Pass) : Type 0 where
       → (i : ℕ) × StandsIn g.plan (ImportEnd i h) × (g.cut.outer (ImportEnd i h) ≡ ImportEnd k h)
 
 module _
-    (r : Plan) (d : ℕ) (wide : ℕ) (gs : List Stage) (node : IsWrite r d wide gs) (g : Stage) (has : Contains gs g) where
+    (r : Plan) (d : ℕ) (wide : ℕ) (gs : List Stage) (node : HasStages r d wide gs) (g : Stage) (has : Contains gs g) where
   pub follows_first : (past : List Pass) → OnlyResult past → Follows g (pass (ResultEnd g.asked_at) Request ∷ []) past
   follows_first past (result, closed) =
       record {

@@ -30,13 +30,13 @@ use Rattle.gos_writes.proofs.StageLemmas.{stage, cut, InStage, OnStage, Ran, lie
 module _
     (r : Plan) (d : ℕ) (wide : ℕ) (gs : List Stage) (node : IsWrite r d wide gs) (g : Stage) (has : Contains gs g) where
   abbrev there : IsWriteStage r d wide g
-  there = stage r d wide gs node g has
+  there = stage r d wide gs node.base g has
 
   abbrev whole : Plan
   whole = inlay g.cut r g.plan
 
   abbrev Agrees : End → Type 0
-  Agrees e = Agree g.cut g.sides r g.plan (stage r d wide gs node g has).region e
+  Agrees e = Agree g.cut g.sides r g.plan (stage r d wide gs node.base g has).region e
 
   -- names
   names : (e : End) → Owns g.plan e → Agrees (lies_at g.cut e)
@@ -48,20 +48,20 @@ module _
       by_place (Some a) named =
           let here : handshake_at g.plan e ≡ a = ap (λ (x : Option End). named_by x e) named in
           let in_whole : handshake_at r (lies_at g.cut e) ≡ lies_at g.cut a =
-          ap (λ (x : Option End). named_by x (lies_at g.cut e)) (sym agrees ∙ place_there g.cut whole g.plan (cut r d wide gs node g has) e a named) in (
+          ap (λ (x : Option End). named_by x (lies_at g.cut e)) (sym agrees ∙ place_there g.cut whole g.plan (cut r d wide gs node.base g has) e a named) in (
             in_whole ∙ ap (lies_at g.cut) (sym here),
             subst (λ (x : End). Owns g.plan x) (sym here) (asker_own g.plan there.region.right a (asker_asks g.plan e a named)),
           )
       by_place None none =
           let here : handshake_at g.plan e ≡ e = ap (λ (x : Option End). named_by x e) none in
           let in_whole : handshake_at r (lies_at g.cut e) ≡ lies_at g.cut e =
-          ap (λ (x : Option End). named_by x (lies_at g.cut e)) (sym agrees ∙ no_place g.cut whole g.plan (cut r d wide gs node g has) e own none) in
+          ap (λ (x : Option End). named_by x (lies_at g.cut e)) (sym agrees ∙ no_place g.cut whole g.plan (cut r d wide gs node.base g has) e own none) in
           (in_whole ∙ ap (lies_at g.cut) (sym here), subst (λ (x : End). Owns g.plan x) (sym here) own)
 
   pub stands_agree : (e : End) → IsPortEnd e → StandsIn g.plan e → Agrees (lies_at g.cut e)
   stands_agree e port stands =
       let (a, named) = stands_place g.plan there.region.right e stands in
-      place_agrees g.cut g.sides r g.plan there.region (lies_at g.cut e) (lies_at g.cut a) (place_there g.cut whole g.plan (cut r d wide gs node g has) e a named)
+      place_agrees g.cut g.sides r g.plan there.region (lies_at g.cut e) (lies_at g.cut a) (place_there g.cut whole g.plan (cut r d wide gs node.base g has) e a named)
 
   pub not_result : (a : End) → Owns g.plan a → ResultEnd 0 ≡ lies_at g.cut a → ⊥
   not_result (PartEnd i h) own is = cc is
@@ -85,7 +85,7 @@ module _
       record {
         result = by_result (same_end (ResultEnd 0) (lies_at g.cut a)) refl;
         same = λ e also.
-            (λ l. if same_lies g.cut whole g.plan (cut r d wide gs node g has) e a also owned l then b else opens.same e also l);
+            (λ l. if same_lies g.cut whole g.plan (cut r d wide gs node.base g has) e a also owned l then b else opens.same e also l);
         only = λ x up. by_end x (same_end x (lies_at g.cut a)) refl up;
       }
     where
@@ -123,18 +123,18 @@ module _
         ap o named ∙ (opens.same (handshake_at g.plan e) also ∙ well.0),
         λ w.
             sym (agree_token g.cut g.sides r g.plan there.region (lies_at g.cut e) agrees s w)
-            ∙ (sym (token_cut g.cut whole g.plan (cut r d wide gs node g has) e owned s w) ∙ well.1 w),
+            ∙ (sym (token_cut g.cut whole g.plan (cut r d wide gs node.base g has) e owned s w) ∙ well.1 w),
       )
 
   -- a firing
-  all_come : (j : ℕ) (k : Part) → slice_get g.plan.parts j ≡ Some k → (ts : List Token) → AllAgree g.cut g.sides r g.plan (stage r d wide gs node g has).region (g.cut.part j) ts
+  all_come : (j : ℕ) (k : Part) → slice_get g.plan.parts j ≡ Some k → (ts : List Token) → AllAgree g.cut g.sides r g.plan (stage r d wide gs node.base g has).region (g.cut.part j) ts
       → (own o : Open) → Opens own o → (s : Tokens) → AllComeWell g.plan j ts own (seen g s)
       → AllComeWell r (g.cut.part j) ts o s × Opens (after_puts g.plan j ts own) (after_puts r (g.cut.part j) ts o)
   all_come j k is [] agrees own o opens s well = (tt, opens)
   all_come j k is (t ∷ ts) (one, others) own o opens s (well, more) =
       let owned : Owns g.plan (end_of j t.slot) = (k, is) in
       let same =
-      token_put g.cut whole g.plan (cut r d wide gs node g has) (end_of j t.slot) owned (way_of t.slot) (Some t.value) s
+      token_put g.cut whole g.plan (cut r d wide gs node.base g has) (end_of j t.slot) owned (way_of t.slot) (Some t.value) s
       ∙ ap (seen g) (agree_put g.cut g.sides r g.plan there.region (end_of (g.cut.part j) t.slot) one (way_of t.slot) (Some t.value) s) in
       let rest =
       all_come j k is ts others (after_put g.plan (end_of j t.slot) (way_of t.slot) own) (after_put r (end_of (g.cut.part j) t.slot) (way_of t.slot) o)
@@ -143,7 +143,7 @@ module _
       ((comes_well own o opens (end_of j t.slot) owned one (way_of t.slot) s well, rest.0), rest.1)
 
   module _
-      (before s t : Tokens) (hs : List Element) (ran : Ran r d wide gs node g has before hs s) (within : InStage r d wide gs node g has s) (own mown o : Open) (opens : Opens own o) where
+      (before s t : Tokens) (hs : List Element) (ran : Ran r d wide gs node.base g has before hs s) (within : InStage r d wide gs node.base g has s) (own mown o : Open) (opens : Opens own o) where
     fire_order : (j : ℕ) (slot : Slot) → Does g.plan (Fire j slot) (seen g s) (seen g t) → Does r (Fire (g.cut.part j) slot) s t
         → ComesInOrder g.plan (Fire j slot) (seen g s) own mown → (m : Open) × ComesInOrder r (Fire (g.cut.part j) slot) s o m × Opens mown m
     fire_order j slot own_does (v, row, held, by, leads) comes = (m, in_order, subst (λ (z : Open). Opens z m) (sym now.1) all.1)
@@ -160,15 +160,15 @@ module _
         owned : (h : ℕ) → Owns g.plan (PartEnd j h)
         owned h = part
 
-        on : OnStage r d wide gs node g has (end_of (g.cut.part j) slot)
-        on = lies r d wide gs node g has s within (end_of (g.cut.part j) slot) (way_of slot) v held
+        on : OnStage r d wide gs node.base g has (end_of (g.cut.part j) slot)
+        on = lies r d wide gs node.base g has s within (end_of (g.cut.part j) slot) (way_of slot) v held
 
         held_so : token_at whole s (end_of (g.cut.part j) slot) (way_of slot) ≡ Some v
         held_so = agree_token g.cut g.sides r g.plan there.region (end_of (g.cut.part j) slot) on.agrees s (way_of slot) ∙ held
 
         by_own : firing_of (slice_get g.plan.parts j) ((seen g s).state j) slot ≡ Some row
         by_own =
-            (λ l. firing_of ((part.1 ∙ sym in_whole) l) (seen_state r d wide gs node g has s (g.cut.part j) j number l) slot) ∙ by
+            (λ l. firing_of ((part.1 ∙ sym in_whole) l) (seen_state r d wide gs node.base g has s (g.cut.part j) j number l) slot) ∙ by
 
         taken_agrees : Agrees (end_of (g.cut.part j) row.takes)
         taken_agrees =
@@ -180,21 +180,21 @@ module _
         now : AllComeWell g.plan j (row.puts v) (after_taken g.plan (end_of j slot) (way_of slot) own)
             (with_state j (row.next v) (with_token g.plan (end_of j row.takes) (way_of row.takes) None (seen g s)))
             × (mown ≡ after_puts g.plan j (row.puts v) (after_taken g.plan (end_of j slot) (way_of slot) own))
-        now = comes v row (token_cut g.cut whole g.plan (cut r d wide gs node g has) (end_of j slot) part s (way_of slot) ∙ held_so) by_own
+        now = comes v row (token_cut g.cut whole g.plan (cut r d wide gs node.base g has) (end_of j slot) part s (way_of slot) ∙ held_so) by_own
 
         same : with_state j (row.next v) (with_token g.plan (end_of j row.takes) (way_of row.takes) None (seen g s)) ≡ seen g (between v row)
         same =
             ap (with_state j (row.next v))
-            (token_put g.cut whole g.plan (cut r d wide gs node g has) (end_of j row.takes) part (way_of row.takes) None s
+            (token_put g.cut whole g.plan (cut r d wide gs node.base g has) (end_of j row.takes) part (way_of row.takes) None s
             ∙ ap (seen g) (agree_put g.cut g.sides r g.plan there.region (end_of (g.cut.part j) row.takes) taken_agrees (way_of row.takes) None s))
-            ∙ state_put g.cut whole g.plan (cut r d wide gs node g has) j part.0 part.1 (row.next v)
+            ∙ state_put g.cut whole g.plan (cut r d wide gs node.base g has) j part.0 part.1 (row.next v)
             (with_token r (end_of (g.cut.part j) row.takes) (way_of row.takes) None s)
 
         all : AllComeWell r (g.cut.part j) (row.puts v) (after_taken r (end_of (g.cut.part j) slot) (way_of slot) o) (between v row)
             × Opens (after_puts g.plan j (row.puts v) (after_taken g.plan (end_of j slot) (way_of slot) own))
             (after_puts r (g.cut.part j) (row.puts v) (after_taken r (end_of (g.cut.part j) slot) (way_of slot) o))
         all =
-            all_come j part.0 part.1 (row.puts v) (fires_agree r d wide gs node g has before s hs ran (g.cut.part j) j number slot v row held_so by)
+            all_come j part.0 part.1 (row.puts v) (fires_agree r d wide gs node.base g has before s hs ran (g.cut.part j) j number slot v row held_so by)
             (after_taken g.plan (end_of j slot) (way_of slot) own) (after_taken r (end_of (g.cut.part j) slot) (way_of slot) o)
             (taken_opens own o opens (end_of j slot) part on.agrees (way_of slot)) (between v row)
             (subst (λ (x : Tokens). AllComeWell g.plan j (row.puts v) (after_taken g.plan (end_of j slot) (way_of slot) own) x) same now.0)
@@ -252,13 +252,13 @@ module _
   -- what lies is welcome
   pub stage_welcome : (t : Tokens) → StirsOnly d g t → AllWelcome g.plan (seen g t) → AllWelcome r t
   stage_welcome t stirs welcome i slot c v at_end way held =
-      elim (end_is r d wide gs node g has i (shake_of slot) on.own on.owned on.stands on.lies) [
+      elim (end_is r d wide gs node.base g has i (shake_of slot) on.own on.owned on.stands on.lies) [
         | inl (j, number) ↦ in_region j number
         | inr (part, shake, stands) ↦ of_own part shake stands
       ]
     where
-      on : OnStage r d wide gs node g has (end_of i slot)
-      on = lies r d wide gs node g has t stirs.places (end_of i slot) (way_of slot) v held
+      on : OnStage r d wide gs node.base g has (end_of i slot)
+      on = lies r d wide gs node.base g has t stirs.places (end_of i slot) (way_of slot) v held
 
       in_region : (j : ℕ) → g.cut.number i ≡ Some j → (row : Row) × (firing_of (slice_get r.parts i) (t.state i) slot ≡ Some row)
       in_region j number =
@@ -270,18 +270,18 @@ module _
           let own_at : contact_at g.plan (end_of j slot) ≡ Some c = ap (λ (o : Option Part). slice_get (contacts_of_part o) (shake_of slot)) (sym parts) ∙ at_end in
           let ends : lies_at g.cut (end_of j slot) ≡ end_of i slot = ap (λ (n : ℕ). PartEnd n (shake_of slot)) numbered.0 in
           let own_held : token_at g.plan (seen g t) (end_of j slot) (way_of slot) ≡ Some v =
-          token_cut g.cut whole g.plan (cut r d wide gs node g has) (end_of j slot) (k, is) t (way_of slot)
+          token_cut g.cut whole g.plan (cut r d wide gs node.base g has) (end_of j slot) (k, is) t (way_of slot)
           ∙ (ap (λ (e : End). token_at whole t e (way_of slot)) ends
           ∙ (agree_token g.cut g.sides r g.plan there.region (end_of i slot) on.agrees t (way_of slot) ∙ held)) in
           let (row, fires) = welcome j slot c v own_at way own_held in
-          (row, (λ l. firing_of (parts l) (sym (seen_state r d wide gs node g has t i j number) l) slot) ∙ fires)
+          (row, (λ l. firing_of (parts l) (sym (seen_state r d wide gs node.base g has t i j number) l) slot) ∙ fires)
 
       of_own : i ≡ d → shake_of slot ≡ g.asked_at → StandsIn g.plan (ResultEnd g.asked_at) → (row : Row) × (firing_of (slice_get r.parts i) (t.state i) slot ≡ Some row)
       of_own part shake stands =
           let ends : end_of i slot ≡ PartEnd d g.asked_at = λ l. PartEnd (part l) (shake l) in
-          let asks = asked_role g.plan g.asked_at wide there.low there.outcome c (sym (own_contact r d wide gs node g has stands) ∙ (ap (contact_at r) (sym ends) ∙ at_end)) in
+          let asks = asked_role g.plan g.asked_at wide there.low there.outcome c (sym (own_contact r d wide gs node.base g has stands) ∙ (ap (contact_at r) (sym ends) ∙ at_end)) in
           let answer : way_of slot ≡ Answer = sym way ∙ ap way_taken (sym asks) in
           let slot_is : slot ≡ Ans g.asked_at = answer_slot slot g.asked_at answer shake in
           let (row, own_fires) = takes_answer wide (t.state d) g.asked_at stirs.session in
-          let at_own : firing_of (slice_get r.parts d) (t.state d) (Ans g.asked_at) ≡ Some row = ap (λ (o : Option Part). firing_of o (t.state d) (Ans g.asked_at)) node.own ∙ own_fires in
+          let at_own : firing_of (slice_get r.parts d) (t.state d) (Ans g.asked_at) ≡ Some row = ap (λ (o : Option Part). firing_of o (t.state d) (Ans g.asked_at)) node.base.own ∙ own_fires in
           (row, (λ l. firing_of (slice_get r.parts (part l)) (t.state (part l)) (slot_is l)) ∙ at_own)

@@ -98,7 +98,7 @@ module _
       → Contains gs g → StirsOnly d g s → Inner wide m n g ys s e b st → Agrees r whole s (Running (e.frame b) st)
   within_agrees g ys s e b st has only inner = (
     λ q.
-        framed_waits (child g e) whole e.frame b st (frame_is wide m n e inner.at) (stage_among r d wide g node.names (node.stages g has))
+        framed_waits (child g e) whole e.frame b st (frame_is wide m n e inner.at) (stage_among r d wide g node.names (node.base.stages g has))
         (runs_known (child g e) inner.acts b st (sources_known g.plan.imports [] e.term e.ty inner.typed) inner.ran)
         ((agrees_here g.plan (child g e) ys (seen g s) (Running b st) inner.matched).0 (quiet_is_within r d wide gs g s node has only q)),
     λ x. absurd (running_is_not_idle (e.frame b) st x),
@@ -124,17 +124,17 @@ module _
         o = opened;
         moves =
             framed (child g e) whole e.frame opened.acts e.term opened.term [] opened.store (frame_is wide m n e at)
-            (stage_among r d wide g node.names (node.stages g has)) (silent_inner opened.acts opened.silent) opened.moves;
+            (stage_among r d wide g node.names (node.base.stages g has)) (silent_inner opened.acts opened.silent) opened.moves;
       }
 
   -- N is asked
   of_number : (g : Stage) (k : ℕ) (ys : List Element) (s : Tokens) → Contains gs g → 0 ≡ g.asked_at → 0 ≡ k → Begins g k ys s → Entered g ys s (number_session wide m n)
   of_number g k ys s has at none start =
       let (typed, realises) = real.number g has (sym at) in
-      let there : IsWriteStage r d wide g = node.stages g has in
+      let there : IsWriteStage r d wide g = node.base.stages g has in
       let outcome = there.outcome ∙ ap (λ (h : ℕ). asked_type h wide) (sym at) in
       let realised : SessionIsRealised g.plan 0 0 n =
-      done_session g.plan n (ground_within g.plan.imports r.imports node.ground there.imports) there.names (subst IsDone (sym outcome) tt) realises in
+      done_session g.plan n (ground_within g.plan.imports r.imports node.base.ground there.imports) there.names (subst IsDone (sym outcome) tt) realises in
       enters g k ys s (number_session wide m n) has (inl refl) at typed
       (subst (λ (h : ℕ). SessionIsRealised g.plan h k n) at (subst (λ (x : ℕ). SessionIsRealised g.plan 0 x n) none realised)) start
 
@@ -163,7 +163,7 @@ module _
   firing_own : (s : Tokens) (slot : Slot) (line row : Row) → firing (kinds.Assign wide) (s.state d) slot ≡ Some row
       → firing_of (slice_get r.parts d) (s.state d) slot ≡ Some line → line ≡ row
   firing_own s slot line row fires other =
-      some_row line row (sym (ap (λ (o : Option Part). firing_of o (s.state d) slot) (sym node.own) ∙ other) ∙ fires)
+      some_row line row (sym (ap (λ (o : Option Part). firing_of o (s.state d) slot) (sym node.base.own) ∙ other) ∙ fires)
     where
       some_row : (a b : Row) → Some a ≡ Some b → a ≡ b
       some_row a b e = cc e
@@ -233,7 +233,7 @@ module _
       → Does r (Fire d (Ans g.asked_at)) s t → LeadsTo r d gs row v t w → Matches w xs t
       → Matches (Within g (Out (ResultEnd g.asked_at) v ∷ [])) (Fire d (Ans g.asked_at) ∷ xs) s
   gone_on s t xs g v u row w has only answer fits held fires does to rest e b st inner =
-      let over : Ended whole e b st v = ends r d wide m n whole g s u e b st v node.names refl (node.stages g has) answer inner in
+      let over : Ended whole e b st v = ends r d wide m n whole g s u e b st v node.names refl (node.base.stages g has) answer inner in
       let led = leads g v row s t w xs e over.count over.term only fits fires inner.at inner.asked over.unfolds to rest in
       step (Fire d (Ans g.asked_at)) xs s t (Running (e.frame b) st)
       (within_agrees g (Out (ResultEnd g.asked_at) v ∷ []) s e b st has only inner) does (
@@ -250,7 +250,7 @@ module _
       → Contains gs g → StirsOnly d g s → Does g.plan y (seen g s) (seen g t) → Stays g.plan y → Does r (whole_element g.cut y) s t
       → Matches (Within g ys) xs t → Matches (Within g (y ∷ ys)) (whole_element g.cut y ∷ xs) s
   stirred_on s t xs ys g y has only does_there stands does rest e b st inner =
-      let went = goes_within r d wide m n whole g y ys s t e b st node.names refl (node.stages g has) does_there stands does inner in
+      let went = goes_within r d wide m n whole g y ys s t e b st node.names refl (node.base.stages g has) does_there stands does inner in
       step (whole_element g.cut y) xs s t (Running (e.frame b) st) (within_agrees g (y ∷ ys) s e b st has only inner) does
       (went.acts, Running (e.frame went.term) went.store, went.moves, went.shown, went.goes, rest e went.term went.store went.inner)
 
@@ -284,7 +284,7 @@ module _
 
   -- numbers fit all along
   next_fits : (x : Element) (s t : Tokens) → AllFit r s → Does r x s t → AllFit r t
-  next_fits x s t fits does = all_stay_fit r (x ∷ []) s t node.right node.literals fits (t, does, refl)
+  next_fits x s t fits does = all_stay_fit r (x ∷ []) s t node.base.right node.base.literals fits (t, does, refl)
 
   matches : (w : Where) (xs : List Element) (s : Tokens) → Staged r d wide gs w xs s → AllFit r s → Matches w xs s
   matches w xs s (rests s1 idle) fits = (λ q. idle_is_stalled whole, λ e. idle)
@@ -306,8 +306,8 @@ pub write_realises : WriteRealises
 write_realises r d wide gs m n node restful real =
     let is_regular = (write_is_regular r d wide gs node restful).0 in
     let done_so = subst IsDone (sym node.outcome) tt in
-    matching_suffices r (Assign m n) is_regular node.ground node.names done_so (λ s t xs idle runs keeps.
-    let turns = protocol_keeps_turns r xs s t is_regular node.ground node.names done_so idle runs keeps in
+    matching_suffices r (Assign m n) is_regular node.base.ground node.names done_so (λ s t xs idle runs keeps.
+    let turns = protocol_keeps_turns r xs s t is_regular node.base.ground node.names done_so idle runs keeps in
     matches r d wide gs node m n real Resting xs s (writes_are_staged r d wide gs s t xs node restful idle runs turns) (idle_fits r s idle))
 
 pub write_realises_by_type : WriteRealisesByType
@@ -315,9 +315,9 @@ write_realises_by_type r d wide gs m n node restful real typed =
     record {
       suits =
           record {
-            right = node.right;
+            right = node.base.right;
             outcome = node.outcome;
-            all_ground = node.ground;
+            all_ground = node.base.ground;
             names = node.names;
             typed = typed;
             regular = (write_is_regular r d wide gs node restful).0;

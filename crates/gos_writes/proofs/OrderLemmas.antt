@@ -101,11 +101,11 @@ module _ (r : Plan) (d : ℕ) (wide : ℕ) (gs : List Stage) (node : IsWrite r d
 
   module _ (g : Stage) (has : Contains gs g) where
     there : IsWriteStage r d wide g
-    there = stage r d wide gs node g has
+    there = stage r d wide gs node.base g has
 
     stage_named : handshake_at g.plan (ResultEnd g.asked_at) ≡ ResultEnd g.asked_at
     stage_named =
-        asks_itself g.plan there.region.right (ground_stage r d wide gs node g has) (asked_ground g.plan g.asked_at wide there.low there.outcome) g.asked_at (ResultEnd g.asked_at)
+        asks_itself g.plan there.region.right (ground_stage r d wide gs node.base g has) (asked_ground g.plan g.asked_at wide there.low there.outcome) g.asked_at (ResultEnd g.asked_at)
         (asks (request_bits g.asked_at wide) (answer_bits g.asked_at wide)) (asked_contact g.plan g.asked_at wide there.low there.outcome) refl
 
     asked_named : ((x : End) → places_of r (PartEnd d g.asked_at) ≡ Some x → StandsIn g.plan (ResultEnd g.asked_at)) → handshake_at r (PartEnd d g.asked_at) ≡ PartEnd d g.asked_at
@@ -116,7 +116,7 @@ module _ (r : Plan) (d : ℕ) (wide : ℕ) (gs : List Stage) (node : IsWrite r d
             let (c, at_end) = stands_contact g.plan there.region.right (ResultEnd g.asked_at) stands in
             let role = sym (asked_role g.plan g.asked_at wide there.low there.outcome c at_end) in
             let in_whole = ap (contact_at r) (sym (there.run_by stands)) ∙ (there.region.contacts (ResultEnd g.asked_at) tt stands ∙ at_end) in
-            asks_itself r node.right node.ground whole_ground 0 (PartEnd d g.asked_at) c in_whole role
+            asks_itself r node.base.right node.base.ground whole_ground 0 (PartEnd d g.asked_at) c in_whole role
 
         by_place : (o : Option End) → places_of r (PartEnd d g.asked_at) ≡ o → handshake_at r (PartEnd d g.asked_at) ≡ PartEnd d g.asked_at
         by_place None none = ap (λ (x : Option End). named_by x (PartEnd d g.asked_at)) none
@@ -218,7 +218,7 @@ module _ (r : Plan) (d : ℕ) (wide : ℕ) (gs : List Stage) (node : IsWrite r d
       let (part, shake) = own_slot r d wide gs node i slot Answer is_answer (places ∙ result_place r d wide gs node) in
       let ends : end_of i slot ≡ PartEnd d run = λ l. PartEnd (part l) (shake l) in
       let is_in : IsIn (joint (ResultEnd 0) (PartEnd d run)) r.joints = contained r.joints (joint (ResultEnd 0) (PartEnd d run)) node.result in
-      let serves = serving_role r (joint (ResultEnd 0) (PartEnd d run)) c (fits r [] r.joints (joint (ResultEnd 0) (PartEnd d run)) node.right is_in) (ap (contact_at r) (sym ends) ∙ at_end) in
+      let serves = serving_role r (joint (ResultEnd 0) (PartEnd d run)) c (fits r [] r.joints (joint (ResultEnd 0) (PartEnd d run)) node.base.right is_in) (ap (contact_at r) (sym ends) ∙ at_end) in
       let clash : Request ≡ Answer = sym (ap way_taken serves) ∙ (way ∙ is_answer) in absurd (cc clash)
 
   asked_welcome : (t : Tokens) → HoldsOnly r (PartEnd d run) Request 0 t → AllWelcome r t
@@ -228,7 +228,7 @@ module _ (r : Plan) (d : ℕ) (wide : ℕ) (gs : List Stage) (node : IsWrite r d
       let slot_is = request_slot slot run is_request shake in
       let (row, fires) = takes_request wide (t.state d).number in
       let by = ap (λ (p : Phase). firing (Assign wide) (at p (t.state d).number) (Req run)) (holding.states d) ∙ fires in
-      (row, (λ l. firing_of (slice_get r.parts (part l)) (t.state (part l)) (slot_is l)) ∙ (ap (λ (o : Option Part). firing_of o (t.state d) (Req run)) node.own ∙ by))
+      (row, (λ l. firing_of (slice_get r.parts (part l)) (t.state (part l)) (slot_is l)) ∙ (ap (λ (o : Option Part). firing_of o (t.state d) (Req run)) node.base.own ∙ by))
 
   -- after the own part's firing
   led_order : (slot : Slot) (v : ℕ) (row : Row) (s t : Tokens) (past : List Pass) (o : Open) → token_at r s (end_of d slot) (way_of slot) ≡ Some v
@@ -433,13 +433,13 @@ module _ (r : Plan) (d : ℕ) (wide : ℕ) (gs : List Stage) (node : IsWrite r d
         closed : (e : End) → last.0 e ≡ false
         closed =
             ground_closed g.plan g.asked_at (hs ++ Out (ResultEnd g.asked_at) step.v ∷ []) last.0 before step.end (there g has).region.right
-            (ground_stage r d wide gs node g has) (asked_ground g.plan g.asked_at wide (there g has).low (there g has).outcome)
+            (ground_stage r d wide gs node.base g has) (asked_ground g.plan g.asked_at wide (there g has).low (there g has).outcome)
             (asks_then g.asked_at hs (Out (ResultEnd g.asked_at) step.v ∷ []) order.asks_only tt) going.ran.idle
             (orderly_append g.plan hs (Out (ResultEnd g.asked_at) step.v ∷ []) none_open order.own last.0 before (seen g s) step.end order.orderly
             (last.0, step.end, step.does, last.1, last.2, (refl, refl))) step.idle closing_shut
 
         stands : StandsIn g.plan (ResultEnd g.asked_at)
-        stands = own_stands r d wide gs node g has s going.stirs.places Answer step.v step.held
+        stands = own_stands r d wide gs node.base g has s going.stirs.places Answer step.v step.held
 
         opens : Opens r d wide gs node g has last.0 (after_taken r (PartEnd d g.asked_at) Answer o)
         opens =

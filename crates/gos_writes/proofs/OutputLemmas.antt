@@ -83,8 +83,8 @@ module _ (r : Plan) (d : ℕ) (wide : ℕ) (gs : List Stage) (node : IsWrite r d
       let step = asked_step r d wide gs node (Out (ResultEnd 0) v) s t past holding only does tt in
       let clash : Out (ResultEnd 0) v ≡ Fire d (Req 2) = step.is in absurd (cc clash)
   rests_after v (AtStage g has hs before) s t past fit going does =
-      let (i, h, stands, at, own_does, in_stage) = out_in r d wide gs node g has (ResultEnd 0) v s t fit going.stirs.places does in
-      let (k, there, is) = (stage r d wide gs node g has).ports i h stands in
+      let (i, h, stands, at, own_does, in_stage) = out_in r d wide gs node.base g has (ResultEnd 0) v s t fit going.stirs.places does in
+      let (k, there, is) = (stage r d wide gs node.base g has).ports i h stands in
       let clash : ImportEnd k h ≡ ResultEnd 0 = sym there ∙ at in absurd (cc clash)
   rests_after v (AtAnswer k) s t past fit (holding, only) does =
       (answer_step r d wide gs node k (Out (ResultEnd 0) v) s t past holding only does tt).1
@@ -99,7 +99,7 @@ module _ (r : Plan) (d : ℕ) (wide : ℕ) (gs : List Stage) (node : IsWrite r d
   module _ (g : Stage) (has : Contains gs g) (own past : List Pass) (follows : Follows g own past) (turned : Turned g.plan own) where
     of_ends : (i j : ℕ) (n : ℕ) (c : Contact) → contact_at g.plan (ImportEnd i 1) ≡ Some c → i ≡ j → is_open own (ImportEnd j 0) ≡ true → is_open own (ImportEnd i 1) ≡ true → ⊥
     of_ends i j n c there same one two =
-        turned_shut g.plan (ground_stage r d wide gs node g has) own turned i c there (ap (λ (m : ℕ). is_open own (ImportEnd m 0)) same ∙ one) two
+        turned_shut g.plan (ground_stage r d wide gs node.base g has) own turned i c there (ap (λ (m : ℕ). is_open own (ImportEnd m 0)) same ∙ one) two
 
     pub stage_shut : (n : ℕ) → Shut past n
     stage_shut n one two =
@@ -113,11 +113,11 @@ module _ (r : Plan) (d : ℕ) (wide : ℕ) (gs : List Stage) (node : IsWrite r d
         second = follows.only n 1 two
 
         contact : (c : Contact) × (contact_at g.plan (ImportEnd second.0 1) ≡ Some c)
-        contact = stands_contact g.plan (stage r d wide gs node g has).region.right (ImportEnd second.0 1) second.1
+        contact = stands_contact g.plan (stage r d wide gs node.base g has).region.right (ImportEnd second.0 1) second.1
 
         import_at : (h i : ℕ) → StandsIn g.plan (ImportEnd i h) → g.cut.outer (ImportEnd i h) ≡ ImportEnd n h → slice_get g.plan.imports i ≡ slice_get r.imports n
         import_at h i stands at =
-            let (k, there, is) = (stage r d wide gs node g has).ports i h stands in
+            let (k, there, is) = (stage r d wide gs node.base g has).ports i h stands in
             let both : ImportEnd k h ≡ ImportEnd n h = sym there ∙ at in
             let same_import : k ≡ n = cc both in
             sym is ∙ ap (slice_get r.imports) same_import
@@ -127,7 +127,7 @@ module _ (r : Plan) (d : ℕ) (wide : ℕ) (gs : List Stage) (node : IsWrite r d
 
         same : second.0 ≡ first.0
         same =
-            one_place g.plan.imports (stage r d wide gs node g has).names second.0 first.0 import.0 import.1
+            one_place g.plan.imports (stage r d wide gs node.base g has).names second.0 first.0 import.0 import.1
             (import_at 0 first.0 first.1 first.2 ∙ (sym (import_at 1 second.0 second.1 second.2) ∙ import.1))
 
   stage_out : (g : Stage) (has : Contains gs g) (hs : List Element) (before s t : Tokens) (past : List Pass) (b : End) (v : ℕ) → AllFit r s
@@ -136,29 +136,29 @@ module _ (r : Plan) (d : ℕ) (wide : ℕ) (gs : List Stage) (node : IsWrite r d
   stage_out g has hs before s t past b v fit going step does =
       subst (λ (way : Direction). KeepsTurns r past (pass b way)) (sym asked) (
         closed,
-        shut_turned r node.ground (done r d wide gs node) (pass b Request ∷ past)
+        shut_turned r node.base.ground (done r d wide gs node) (pass b Request ∷ past)
             (λ n. subst (λ (way : Direction). Shut (pass b way ∷ past) n) asked
             (stage_shut g has (passed g.plan [] (hs ++ step.y ∷ [])) (after r (Out b v) past) step.going.follows step.going.turned n))
             (subst (λ (way : Direction). is_open (pass b way ∷ past) (ResultEnd 0) ≡ true) asked step.going.follows.result),
       )
     where
-      port : (i h : ℕ) × StandsIn g.plan (ImportEnd i h) × (g.cut.outer (ImportEnd i h) ≡ b) × Does g.plan (Out (ImportEnd i h) v) (seen g s) (seen g t) × InStage r d wide gs node g has t
-      port = out_in r d wide gs node g has b v s t fit going.stirs.places does
+      port : (i h : ℕ) × StandsIn g.plan (ImportEnd i h) × (g.cut.outer (ImportEnd i h) ≡ b) × Does g.plan (Out (ImportEnd i h) v) (seen g s) (seen g t) × InStage r d wide gs node.base g has t
+      port = out_in r d wide gs node.base g has b v s t fit going.stirs.places does
 
       c : (c : Contact) × (contact_at g.plan (ImportEnd port.0 port.1) ≡ Some c)
-      c = stands_contact g.plan (stage r d wide gs node g has).region.right (ImportEnd port.0 port.1) port.2
+      c = stands_contact g.plan (stage r d wide gs node.base g has).region.right (ImportEnd port.0 port.1) port.2
 
       own_asked : way_out (contact_at g.plan (ImportEnd port.0 port.1)) ≡ Request
       own_asked =
-          let here : IsWriteStage r d wide g = stage r d wide gs node g has in
-          elim (ground_role g.plan (ground_stage r d wide gs node g has) (asked_ground g.plan g.asked_at wide here.low here.outcome) (ImportEnd port.0 port.1) c.0 tt c.1) [
+          let here : IsWriteStage r d wide g = stage r d wide gs node.base g has in
+          elim (ground_role g.plan (ground_stage r d wide gs node.base g has) (asked_ground g.plan g.asked_at wide here.low here.outcome) (ImportEnd port.0 port.1) c.0 tt c.1) [
             | inl result ↦ (let clash : ImportEnd port.0 port.1 ≡ ResultEnd result.0 = result.1 in absurd (cc clash))
             | inr import ↦ way_out_of g.plan (ImportEnd port.0 port.1) c.0 c.1 ∙ ap way_taken import.3
           ]
 
       asked : way_out (contact_at r b) ≡ Request
       asked =
-          ap way_out (ap (contact_at r) (sym port.3) ∙ (stage r d wide gs node g has).region.contacts (ImportEnd port.0 port.1) tt port.2) ∙ own_asked
+          ap way_out (ap (contact_at r) (sym port.3) ∙ (stage r d wide gs node.base g has).region.contacts (ImportEnd port.0 port.1) tt port.2) ∙ own_asked
 
       closed : is_open past b ≡ false
       closed =
@@ -171,7 +171,7 @@ module _ (r : Plan) (d : ℕ) (wide : ℕ) (gs : List Stage) (node : IsWrite r d
   answer_out : (k : ℕ) (past : List Pass) → OnlyResult past → KeepsTurns r past (pass (ResultEnd 0) (way_out (contact_at r (ResultEnd 0))))
   answer_out k past only =
       subst (λ (way : Direction). KeepsTurns r past (pass (ResultEnd 0) way)) (sym (result_out r (done r d wide gs node)))
-      (only.0, closed_turned r node.ground (done r d wide gs node) (pass (ResultEnd 0) Answer ∷ past) only.1)
+      (only.0, closed_turned r node.base.ground (done r d wide gs node) (pass (ResultEnd 0) Answer ∷ past) only.1)
 
   out_turn : (pl : Place gs) (x : Element) (s t : Tokens) (past : List Pass) → AllFit r s → Holds r d wide gs node pl s past → Does r x s t → InTurn r past x → OutTurn r past x
   out_turn pl (Fire i slot) s t past fit holding does turn = tt

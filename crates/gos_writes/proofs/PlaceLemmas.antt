@@ -114,7 +114,7 @@ module _ (r : Plan) (d : ℕ) (wide : ℕ) (gs : List Stage) (node : IsWrite r d
 
       taken_so : Answer ≡ way_taken c.0.role
       taken_so =
-          elim (port_role r node.ground (done r d wide gs node) b c.0 does.0 c.1) [
+          elim (port_role r node.base.ground (done r d wide gs node) b c.0 does.0 c.1) [
             | inl result ↦ ap way_taken (sym result.1)
             | inr import ↦ (let clash : ResultEnd 0 ≡ ImportEnd import.0 import.1 = sym at_result ∙ import.2 in absurd (cc clash))
           ]
@@ -130,13 +130,13 @@ module _ (r : Plan) (d : ℕ) (wide : ℕ) (gs : List Stage) (node : IsWrite r d
     leads
         ∙ ap (λ (x : Slot). with_puts r d (row.puts v) (with_state d (row.next v) (with_token r (end_of d x) (way_of x) None s)))
         (takes_of (slice_get r.parts d) (s.state d) slot row by),
-    subst (λ (o : Option Part). firing_of o (s.state d) slot ≡ Some row) node.own by,
+    subst (λ (o : Option Part). firing_of o (s.state d) slot ≡ Some row) node.base.own by,
     ap (λ (x : Tokens). x.state d) leads
         ∙ (fired_state r d row v s d ∙ ap (λ (b : Bool). if b then row.next v else s.state d) (nat_eq_same d)),
   )
 
   pub own_firing : (slot : Slot) (row : Row) (s : Tokens) → firing_of (slice_get r.parts d) (s.state d) slot ≡ Some row → firing (Assign wide) (s.state d) slot ≡ Some row
-  own_firing slot row s by = subst (λ (o : Option Part). firing_of o (s.state d) slot ≡ Some row) node.own by
+  own_firing slot row s by = subst (λ (o : Option Part). firing_of o (s.state d) slot ≡ Some row) node.base.own by
 
   -- asked: the own part alone can fire
   pub record AskedStep (x : Element) (s t : Tokens) (past : List Pass) : Type 0 where
@@ -226,7 +226,7 @@ module _ (r : Plan) (d : ℕ) (wide : ℕ) (gs : List Stage) (node : IsWrite r d
 
       by_own : firing (Assign wide) (s.state d) (Ans 2) ≡ Some row
       by_own =
-          subst (λ (o : Option Part). firing_of o (s.state d) (Ans 2) ≡ Some row) node.own
+          subst (λ (o : Option Part). firing_of o (s.state d) (Ans 2) ≡ Some row) node.base.own
           ((λ l. firing_of (slice_get r.parts (sym which.0 l)) (s.state (sym which.0 l)) (sym slot_is l)) ∙ by)
   answer_step k (Out b v) s t past holding only does turn = (
     (λ l. Out (out.0 l) (out.2 l)),

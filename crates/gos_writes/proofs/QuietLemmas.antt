@@ -30,12 +30,12 @@ module _
   held_whole e own way v held = by_place (places_of (inlay g.cut r g.plan) (lies_at g.cut e)) refl
     where
       inlaid : token_at (inlay g.cut r g.plan) s (lies_at g.cut e) way ≡ Some v
-      inlaid = sym (token_cut g.cut (inlay g.cut r g.plan) g.plan (cut r d wide gs node g has) e own s way) ∙ held
+      inlaid = sym (token_cut g.cut (inlay g.cut r g.plan) g.plan (cut r d wide gs node.base g has) e own s way) ∙ held
 
       by_place : (o : Option End) → places_of (inlay g.cut r g.plan) (lies_at g.cut e) ≡ o → token_at r s (lies_at g.cut e) way ≡ Some v
       by_place None none = absurd (nothing_there (inlay g.cut r g.plan) (lies_at g.cut e) way v s inlaid none)
       by_place (Some x) named =
-          let region = (stage r d wide gs node g has).region in
+          let region = (stage r d wide gs node.base g has).region in
           sym (agree_token g.cut g.sides r g.plan region (lies_at g.cut e) (place_agrees g.cut g.sides r g.plan region (lies_at g.cut e) x named) s way) ∙ inlaid
 
   stage_stands : (e : End) (way : Direction) (v : ℕ) → token_at g.plan (seen g s) e way ≡ Some v → StandsIn g.plan e
@@ -59,25 +59,25 @@ module _
 
       by_whole : firing_of (slice_get r.parts (g.cut.part j)) (s.state (g.cut.part j)) t ≡ Some row
       by_whole =
-          let there = ((stage r d wide gs node g has).region.parts j part.0 part.1).0 in
+          let there = ((stage r d wide gs node.base g has).region.parts j part.0 part.1).0 in
           ap (λ (o : Option Part). firing_of o (s.state (g.cut.part j)) t) (there ∙ sym part.1) ∙ in_state
 
   answer_not : (v : ℕ) → token_at g.plan (seen g s) (ResultEnd g.asked_at) Answer ≡ Some v → ⊥
   answer_not v held =
-      quiet.0 d (Ans g.asked_at) (fired r d takes.0 v s) (v, takes.0, at_own, ap (λ (o : Option Part). firing_of o (s.state d) (Ans g.asked_at)) node.own ∙ takes.1, refl)
+      quiet.0 d (Ans g.asked_at) (fired r d takes.0 v s) (v, takes.0, at_own, ap (λ (o : Option Part). firing_of o (s.state d) (Ans g.asked_at)) node.base.own ∙ takes.1, refl)
     where
       stands : StandsIn g.plan (ResultEnd g.asked_at)
       stands = stage_stands (ResultEnd g.asked_at) Answer v held
 
       at_own : token_at r s (PartEnd d g.asked_at) Answer ≡ Some v
-      at_own = ap (λ (e : End). token_at r s e Answer) (sym ((stage r d wide gs node g has).run_by stands)) ∙ held_whole (ResultEnd g.asked_at) stands Answer v held
+      at_own = ap (λ (e : End). token_at r s e Answer) (sym ((stage r d wide gs node.base g has).run_by stands)) ∙ held_whole (ResultEnd g.asked_at) stands Answer v held
 
       takes : (row : Row) × (firing (Assign wide) (s.state d) (Ans g.asked_at) ≡ Some row)
       takes = takes_answer wide (s.state d) g.asked_at stirs.session
 
   outs_not : (e : End) (v : ℕ) (w : Tokens) → Does g.plan (Out e v) (seen g s) w → ⊥
   outs_not e v w does =
-      elim (ground_role g.plan (ground_stage r d wide gs node g has) (asked_ground g.plan g.asked_at wide here.low here.outcome) e there.0 does.0 there.1) [
+      elim (ground_role g.plan (ground_stage r d wide gs node.base g has) (asked_ground g.plan g.asked_at wide here.low here.outcome) e there.0 does.0 there.1) [
         | inl result ↦
             (let at_end : token_at g.plan (seen g s) (ResultEnd result.0) Answer ≡ Some v =
             ap (λ (x : End). token_at g.plan (seen g s) x Answer) (sym result.1)
@@ -88,7 +88,7 @@ module _
       ]
     where
       here : IsWriteStage r d wide g
-      here = stage r d wide gs node g has
+      here = stage r d wide gs node.base g has
 
       there : (c : Contact) × (contact_at g.plan e ≡ Some c)
       there = out_there g.plan e v (seen g s) w does
@@ -111,10 +111,10 @@ module _
           stands = stage_stands (ImportEnd i h) (way_taken there.0.role) v here
 
           port : (k : ℕ) × (g.cut.outer (ImportEnd i h) ≡ ImportEnd k h) × (slice_get r.imports k ≡ slice_get g.plan.imports i)
-          port = (stage r d wide gs node g has).ports i h stands
+          port = (stage r d wide gs node.base g has).ports i h stands
 
           whole : contact_at r (g.cut.outer (ImportEnd i h)) ≡ Some there.0
-          whole = (stage r d wide gs node g has).region.contacts (ImportEnd i h) tt stands ∙ (ap (contact_at g.plan) (sym is) ∙ there.1)
+          whole = (stage r d wide gs node.base g has).region.contacts (ImportEnd i h) tt stands ∙ (ap (contact_at g.plan) (sym is) ∙ there.1)
 
 pub quiet_is_within : QuietIsWithin
 quiet_is_within r d wide gs g s node has stirs quiet = (fires_not r d wide gs node g has s stirs quiet, outs_not r d wide gs node g has s stirs quiet)
@@ -128,7 +128,7 @@ assign_can r d wide gs s node = (own_fires, goes_out)
         let takes = takes_request wide (s.state d).number in
         let by = ap (λ (p : Phase). firing (Assign wide) (at p (s.state d).number) (Req 2)) (holds.states d) ∙ takes.1 in
         quiet.0 d (Req 2) (fired r d takes.0 0 s)
-        (0, takes.0, holds.held, ap (λ (o : Option Part). firing_of o (s.state d) (Req 2)) node.own ∙ by, refl)
+        (0, takes.0, holds.held, ap (λ (o : Option Part). firing_of o (s.state d) (Req 2)) node.base.own ∙ by, refl)
 
     done : IsDone r.outcome
     done = subst IsDone (sym node.outcome) tt
@@ -139,7 +139,7 @@ assign_can r d wide gs s node = (own_fires, goes_out)
         by_contact : (o : Option Contact) → contact_at r (ResultEnd 0) ≡ o → ⊥
         by_contact None none = result_there r.outcome done none
         by_contact (Some c) there =
-            elim (port_role r node.ground done (ResultEnd 0) c tt there) [
+            elim (port_role r node.base.ground done (ResultEnd 0) c tt there) [
               | inl result ↦
                   quiet.1 (ResultEnd 0) v (with_token r (ResultEnd 0) (way_taken c.role) None s) (
                     tt,

@@ -19,7 +19,7 @@ use Rattle.gos_webs.proofs.CutLemmas.{Owns, outside_name, asks_there, place_ther
 use Rattle.gos_windows.specs.Regions.{Serving, IsOther}
 use Rattle.gos_windows.specs.Nodes.{Stage}
 use Rattle.gos_writes.specs.OneSession.{IsTidy, IsOpenSession}
-use Rattle.gos_writes.specs.Writes.{request_bits, answer_bits, IsWriteStage, IsWrite}
+use Rattle.gos_writes.specs.Writes.{request_bits, answer_bits, IsWriteStage, HasStages}
 use Rattle.gos_windows.specs.Windows.{seen}
 use Rattle.gos_windows.proofs.InlayLemmas.{laid, inlay, same_contact, from_laid, inlay_cut, inlay_place, place_agrees, Agree, agree_token, agree_put, AllAgree, agree_fired, agrees_or_other, LiesOn, lies_on}
 use Rattle.gos_windows.proofs.ShareLemmas.{share_puts, not_source, not_branch}
@@ -58,7 +58,7 @@ record Other (r : Plan) (g : Stage) (i h j : ℕ) : Type 0 where
   number : g.cut.number n.part ≡ Some j
 
 module _
-    (r : Plan) (d : ℕ) (wide : ℕ) (gs : List Stage) (node : IsWrite r d wide gs) (g : Stage) (has : Contains gs g) where
+    (r : Plan) (d : ℕ) (wide : ℕ) (gs : List Stage) (node : HasStages r d wide gs) (g : Stage) (has : Contains gs g) where
   pub stage : IsWriteStage r d wide g
   stage = node.stages g has
 

@@ -42,16 +42,16 @@ module _ (r : Plan) (d : ℕ) (wide : ℕ) (gs : List Stage) (node : IsWrite r d
   own_is_in = contained r.joints (joint (ResultEnd 0) own_end) node.result
 
   pub result_place : places_of r (ResultEnd 0) ≡ Some (ResultEnd 0)
-  result_place = stands_there r (joint (ResultEnd 0) own_end) (ResultEnd 0) node.right own_is_in (first_stands (joint (ResultEnd 0) own_end))
+  result_place = stands_there r (joint (ResultEnd 0) own_end) (ResultEnd 0) node.base.right own_is_in (first_stands (joint (ResultEnd 0) own_end))
 
   pub own_place : places_of r own_end ≡ Some (ResultEnd 0)
-  own_place = stands_there r (joint (ResultEnd 0) own_end) own_end node.right own_is_in (last_stands (joint (ResultEnd 0) own_end))
+  own_place = stands_there r (joint (ResultEnd 0) own_end) own_end node.base.right own_is_in (last_stands (joint (ResultEnd 0) own_end))
 
   pub at_own_joint : (b : End) → places_of r b ≡ Some (ResultEnd 0) → (b ≡ ResultEnd 0) ⊎ (b ≡ own_end)
   at_own_joint b named =
       let at = found r.joints b (ResultEnd 0) named in
       let same : at.joint ≡ joint (ResultEnd 0) own_end =
-      one_joint r [] r.joints at.joint (joint (ResultEnd 0) own_end) (ResultEnd 0) node.right at.is_in own_is_in
+      one_joint r [] r.joints at.joint (joint (ResultEnd 0) own_end) (ResultEnd 0) node.base.right at.is_in own_is_in
       (stands_by (ResultEnd 0) at.joint (inl (sym at.named))) (first_stands (joint (ResultEnd 0) own_end)) in
       which_end b (joint (ResultEnd 0) own_end) (subst (λ (x : Joint). stands_in b x ≡ true) same at.stands)
 
@@ -60,7 +60,7 @@ module _ (r : Plan) (d : ℕ) (wide : ℕ) (gs : List Stage) (node : IsWrite r d
       → ((b ≡ ResultEnd 0) × (v ≡ 0) × (is_open past (ResultEnd 0) ≡ false) × (t ≡ with_token r (ResultEnd 0) Request (Some 0) s))
       ⊎ ((k h : ℕ) × (b ≡ ImportEnd k h) × (is_open past (ImportEnd k h) ≡ true))
   in_turn_at b v s t past does turn =
-      elim (port_role r node.ground done b c does.0 at_b) [
+      elim (port_role r node.base.ground done b c does.0 at_b) [
         | inl result ↦ inl (at_result result.0 result.1)
         | inr import ↦ inr (import.0, import.1, import.2, at_import import.0 import.1 import.2 import.3)
       ]
@@ -99,9 +99,9 @@ module _ (r : Plan) (d : ℕ) (wide : ℕ) (gs : List Stage) (node : IsWrite r d
     of_other : (e : Stage) → Contains gs e → (x : End) (j : Joint) → Contains e.plan.joints j → stands_in x j ≡ true → lies_at e.cut x ≡ PartEnd d g.asked_at
         → StandsIn g.plan (ResultEnd g.asked_at)
     of_other e also x j in_joints stands lies =
-        let there : IsWriteStage r d wide e = stage r d wide gs node e also in
+        let there : IsWriteStage r d wide e = stage r d wide gs node.base e also in
         let owned = stands_own e.plan j x there.region.right (contained e.plan.joints j in_joints) stands in
-        elim (end_is r d wide gs node e also d g.asked_at x owned (j, in_joints, stands) lies) [
+        elim (end_is r d wide gs node.base e also d g.asked_at x owned (j, in_joints, stands) lies) [
           | inl inside ↦ (let clash : None ≡ Some inside.0 = sym there.outside ∙ inside.1 in absurd (cc clash))
           | inr at ↦ subst (λ (y : Stage). StandsIn y.plan (ResultEnd y.asked_at)) (sym (node.one g e has also at.1)) at.2
         ]
@@ -130,7 +130,7 @@ module _ (r : Plan) (d : ℕ) (wide : ℕ) (gs : List Stage) (node : IsWrite r d
 
   -- A stage runs: its list so far, from an idle state; its turns, and what passed its ports.
   pub record Going (g : Stage) (has : Contains gs g) (hs : List Element) (before s : Tokens) (past : List Pass) : Type 0 where
-    pub ran : Ran r d wide gs node g has before hs s
+    pub ran : Ran r d wide gs node.base g has before hs s
     pub turned : Turned g.plan (passed g.plan [] hs)
     pub stirs : StirsOnly d g s
     pub follows : Follows g (passed g.plan [] hs) past
@@ -174,15 +174,15 @@ module _ (r : Plan) (d : ℕ) (wide : ℕ) (gs : List Stage) (node : IsWrite r d
         t_is = after_one (put (Req g.asked_at) n) asked_so
 
         there : IsWriteStage r d wide g
-        there = stage r d wide gs node g has
+        there = stage r d wide gs node.base g has
 
         apart : g.asked_at ≡ 2 → ⊥
         apart run = let low = there.low in omega (arith, run, low)
 
         begun : Does g.plan (In (ResultEnd g.asked_at) n) (seen g between) (seen g (with_token r (PartEnd d g.asked_at) Request (Some n) between))
-            × InStage r d wide gs node g has (with_token r (PartEnd d g.asked_at) Request (Some n) between)
+            × InStage r d wide gs node.base g has (with_token r (PartEnd d g.asked_at) Request (Some n) between)
         begun =
-            asked r d wide gs node g has n (subst (λ (k : ℕ). n < 2 ^ request_bits k wide) (sym same) fits) between empty_between (run_stands g has apart)
+            asked r d wide gs node.base g has n (subst (λ (k : ℕ). n < 2 ^ request_bits k wide) (sym same) fits) between empty_between (run_stands g has apart)
 
         does : Does g.plan (In (ResultEnd g.asked_at) n) (seen g between) (seen g t)
         does = subst (λ (x : Tokens). Does g.plan (In (ResultEnd g.asked_at) n) (seen g between) (seen g x)) (sym t_is) begun.0
@@ -195,11 +195,11 @@ module _ (r : Plan) (d : ℕ) (wide : ℕ) (gs : List Stage) (node : IsWrite r d
             record {
               session = ap (λ (q : State). waits_at q.phase) (state d ∙ at_own) ∙ (is ∙ ap (λ (k : ℕ). Some k) (sym same));
               states = λ i other out. ap (λ (q : State). q.phase) (state i) ∙ empty_between.states i other;
-              places = subst (λ (x : Tokens). InStage r d wide gs node g has x) (sym t_is) begun.1;
+              places = subst (λ (x : Tokens). InStage r d wide gs node.base g has x) (sym t_is) begun.1;
             }
 
         first : Turned g.plan (pass (ResultEnd g.asked_at) Request ∷ [])
-        first = asked_first g.plan g.asked_at wide there.low there.outcome (ground_stage r d wide gs node g has)
+        first = asked_first g.plan g.asked_at wide there.low there.outcome (ground_stage r d wide gs node.base g has)
 
         comes : way_in (contact_at g.plan (ResultEnd g.asked_at)) ≡ Request
         comes = asked_in g.plan g.asked_at wide there.low there.outcome
@@ -213,10 +213,10 @@ module _ (r : Plan) (d : ℕ) (wide : ℕ) (gs : List Stage) (node : IsWrite r d
         going : Going g has (In (ResultEnd g.asked_at) n ∷ []) (seen g between) t past
         going =
             record {
-              ran = record { idle = idle_seen r d wide gs node g has between empty_between; ran = (seen g t, does, refl); turns = (turn, tt); tidy = tidy; session = (refl, tt) };
+              ran = record { idle = idle_seen r d wide gs node.base g has between empty_between; ran = (seen g t, does, refl); turns = (turn, tt); tidy = tidy; session = (refl, tt) };
               turned = turn.1;
               stirs = stirring;
-              follows = subst (λ (way : Direction). Follows g (pass (ResultEnd g.asked_at) way ∷ []) past) (sym comes) (follows_first r d wide gs node g has past only);
+              follows = subst (λ (way : Direction). Follows g (pass (ResultEnd g.asked_at) way ∷ []) past) (sym comes) (follows_first r d wide gs node.base g has past only);
             }
 
     to_reply : (k : ℕ) → (row.next v).phase ≡ Rest → row.puts v ≡ put (Ans 2) k ∷ [] → Led row v t past

@@ -69,7 +69,7 @@ module _ (r : Plan) (d : ℕ) (wide : ℕ) (gs : List Stage) (node : IsWrite r d
   stage_out_turned g has hs before s t past going e v session does =
       let ran = runs_then g.plan hs (Out e v) before (seen g s) (seen g t) going.ran.ran does in
       let turns = inputs_then g.plan [] hs (Out e v ∷ []) going.ran.turns tt in
-      let all = (stage r d wide gs node g has).regular before (seen g t) (hs ++ Out e v ∷ []) going.ran.tidy going.ran.idle session ran turns in
+      let all = (stage r d wide gs node.base g has).regular before (seen g t) (hs ++ Out e v ∷ []) going.ran.tidy going.ran.idle session ran turns in
       (outputs_last g.plan [] hs (Out e v ∷ []) all.1).0
 
   module _
@@ -78,12 +78,12 @@ module _ (r : Plan) (d : ℕ) (wide : ℕ) (gs : List Stage) (node : IsWrite r d
     abbrev own : List Pass
     own = passed g.plan [] hs
 
-    within : InStage r d wide gs node g has s
+    within : InStage r d wide gs node.base g has s
     within = going.stirs.places
 
     -- the stage goes on
     on_by : (x y : Element) (later : List Pass) → whole_element g.cut y ≡ x → Does g.plan y (seen g s) (seen g t) → OneTurn g.plan own y → Stays g.plan y → Turned g.plan (after g.plan y own)
-        → InStage r d wide gs node g has t → t.state d ≡ s.state d → ((i : ℕ) → g.cut.number i ≡ None → t.state i ≡ s.state i)
+        → InStage r d wide gs node.base g has t → t.state d ≡ s.state d → ((i : ℕ) → g.cut.number i ≡ None → t.state i ≡ s.state i)
         → Follows g (after g.plan y own) later → StageStep g has hs before s t later x
     on_by x y later is does turn standing turned in_stage own_state others follows =
         record {
@@ -123,18 +123,18 @@ module _ (r : Plan) (d : ℕ) (wide : ℕ) (gs : List Stage) (node : IsWrite r d
 
     fire_step : (i j : ℕ) (slot : Slot) → g.cut.number i ≡ Some j → Does r (Fire i slot) s t → StageStep g has hs before s t past (Fire i slot)
     fire_step i j slot number does =
-        let at_j = (stage r d wide gs node g has).region.numbers i j number in
-        let (own_does, in_stage) = fires_in r d wide gs node g has before s t hs going.ran within i j number slot does in
+        let at_j = (stage r d wide gs node.base g has).region.numbers i j number in
+        let (own_does, in_stage) = fires_in r d wide gs node.base g has before s t hs going.ran within i j number slot does in
         on_by (Fire i slot) (Fire j slot) past (ap (λ (n : ℕ). Fire n slot) at_j.0) own_does tt tt going.turned in_stage
-        (own_kept i j slot number does d (stage r d wide gs node g has).outside) (own_kept i j slot number does) going.follows
+        (own_kept i j slot number does d (stage r d wide gs node.base g has).outside) (own_kept i j slot number does) going.follows
 
     -- an output at a port
     port_contact : (i h : ℕ) (b : End) → StandsIn g.plan (ImportEnd i h) → g.cut.outer (ImportEnd i h) ≡ b → contact_at r b ≡ contact_at g.plan (ImportEnd i h)
-    port_contact i h b stands at = ap (contact_at r) (sym at) ∙ (stage r d wide gs node g has).region.contacts (ImportEnd i h) tt stands
+    port_contact i h b stands at = ap (contact_at r) (sym at) ∙ (stage r d wide gs node.base g has).region.contacts (ImportEnd i h) tt stands
 
     out_step : (b : End) (v : ℕ) → Does r (Out b v) s t → StageStep g has hs before s t (after r (Out b v) past) (Out b v)
     out_step b v does =
-        let (i, h, stands, at, own_does, in_stage) = out_in r d wide gs node g has b v s t fit within does in
+        let (i, h, stands, at, own_does, in_stage) = out_in r d wide gs node.base g has b v s t fit within does in
         let (c, there) = out_there r b v s t does in
         let passes = subst (λ (o : Option Contact). Passes r (Out b v) o s t) there does.1 in
         let state = λ (n : ℕ). ap (λ (x : Tokens). x.state n) passes.1 ∙ token_state r b (way_taken c.role) None s n in
@@ -142,7 +142,7 @@ module _ (r : Plan) (d : ℕ) (wide : ℕ) (gs : List Stage) (node : IsWrite r d
         on_by (Out b v) (Out (ImportEnd i h) v) (after r (Out b v) past) (ap (λ (e : End). Out e v) at) own_does tt stands
         (stage_out_turned g has hs before s t past going (ImportEnd i h) v (then_one g.asked_at g.plan hs (Out (ImportEnd i h) v) going.ran.session stands) own_does).1 in_stage (state d) (λ n out. state n)
         (subst (λ (way : Direction). Follows g (after g.plan (Out (ImportEnd i h) v) own) (pass b way ∷ past)) (sym ways)
-        (follows_step r d wide gs node g has own past going.follows i h b stands at (way_out (contact_at g.plan (ImportEnd i h)))))
+        (follows_step r d wide gs node.base g has own past going.follows i h b stands at (way_out (contact_at g.plan (ImportEnd i h)))))
 
     -- an input at a port
     in_at : (b : End) (v k h : ℕ) → Does r (In b v) s t → b ≡ ImportEnd k h → is_open past (ImportEnd k h) ≡ true
@@ -150,7 +150,7 @@ module _ (r : Plan) (d : ℕ) (wide : ℕ) (gs : List Stage) (node : IsWrite r d
     in_at b v k h does is up =
         let (i, stands, at) = going.follows.only k h up in
         let at_b : g.cut.outer (ImportEnd i h) ≡ b = at ∙ sym is in
-        let (own_does, in_stage) = in_in r d wide gs node g has b v s t i h fit within stands at_b does in
+        let (own_does, in_stage) = in_in r d wide gs node.base g has b v s t i h fit within stands at_b does in
         let (c, there) = in_there r b v s t does in
         let passes = subst (λ (o : Option Contact). Passes r (In b v) o s t) there does.1 in
         let state = λ (n : ℕ). ap (λ (x : Tokens). x.state n) passes.1 ∙ token_state r b (way_put c.role) (Some v) s n in
@@ -159,19 +159,19 @@ module _ (r : Plan) (d : ℕ) (wide : ℕ) (gs : List Stage) (node : IsWrite r d
         let turn = in_turn i h stands open_there in
         on_by (In b v) (In (ImportEnd i h) v) (after r (In b v) past) (ap (λ (e : End). In e v) at_b) own_does (turn, tt) stands turn.1 in_stage (state d) (λ n out. state n)
         (subst (λ (way : Direction). Follows g (after g.plan (In (ImportEnd i h) v) own) (pass b way ∷ past)) (sym ways)
-        (follows_step r d wide gs node g has own past going.follows i h b stands at_b (way_in (contact_at g.plan (ImportEnd i h)))))
+        (follows_step r d wide gs node.base g has own past going.follows i h b stands at_b (way_in (contact_at g.plan (ImportEnd i h)))))
       where
         in_turn : (i h : ℕ) → StandsIn g.plan (ImportEnd i h) → is_open own (ImportEnd i h) ≡ true
             → KeepsTurns g.plan own (pass (ImportEnd i h) (way_in (contact_at g.plan (ImportEnd i h))))
         in_turn i h stands up =
-            let (c, there) = stands_contact g.plan (stage r d wide gs node g has).region.right (ImportEnd i h) stands in
-            let here : IsWriteStage r d wide g = stage r d wide gs node g has in
-            elim (ground_role g.plan (ground_stage r d wide gs node g has) (asked_ground g.plan g.asked_at wide here.low here.outcome) (ImportEnd i h) c tt there) [
+            let (c, there) = stands_contact g.plan (stage r d wide gs node.base g has).region.right (ImportEnd i h) stands in
+            let here : IsWriteStage r d wide g = stage r d wide gs node.base g has in
+            elim (ground_role g.plan (ground_stage r d wide gs node.base g has) (asked_ground g.plan g.asked_at wide here.low here.outcome) (ImportEnd i h) c tt there) [
               | inl result ↦ (let clash : ImportEnd i h ≡ ResultEnd result.0 = result.1 in absurd (cc clash))
               | inr import ↦
                   (let way : way_in (contact_at g.plan (ImportEnd i h)) ≡ Answer = way_in_of g.plan (ImportEnd i h) c there ∙ ap way_put import.3 in
                   subst (λ (w : Direction). KeepsTurns g.plan own (pass (ImportEnd i h) w)) (sym way)
-                  (up, asked_answer g.plan g.asked_at wide here.low here.outcome (ground_stage r d wide gs node g has) i h own going.follows.of_stage going.turned))
+                  (up, asked_answer g.plan g.asked_at wide here.low here.outcome (ground_stage r d wide gs node.base g has) i h own going.follows.of_stage going.turned))
             ]
 
     in_step : (b : End) (v : ℕ) → Does r (In b v) s t → ComesInTurn past b (way_in (contact_at r b)) → StageStep g has hs before s t (after r (In b v) past) (In b v)
@@ -192,7 +192,7 @@ module _ (r : Plan) (d : ℕ) (wide : ℕ) (gs : List Stage) (node : IsWrite r d
           is = λ l. Fire (which.0 l) (slot_is l);
           does = own_does.0;
           idle = idle;
-          fits = answer_fits r d wide gs node g has s fit within v held_so;
+          fits = answer_fits r d wide gs node.base g has s fit within v held_so;
           held = held_so;
           empty = empty;
           by = ap (λ (x : Slot). firing_of (slice_get r.parts d) (s.state d) x) (sym slot_is) ∙ by_own;
@@ -202,12 +202,12 @@ module _ (r : Plan) (d : ℕ) (wide : ℕ) (gs : List Stage) (node : IsWrite r d
           led = led;
         }
       where
-        on : OnStage r d wide gs node g has (end_of i slot)
-        on = lies r d wide gs node g has s within (end_of i slot) (way_of slot) v held
+        on : OnStage r d wide gs node.base g has (end_of i slot)
+        on = lies r d wide gs node.base g has s within (end_of i slot) (way_of slot) v held
 
         which : (i ≡ d) × (shake_of slot ≡ g.asked_at) × StandsIn g.plan (ResultEnd g.asked_at)
         which =
-            elim (end_is r d wide gs node g has i (shake_of slot) on.own on.owned on.stands on.lies) [
+            elim (end_is r d wide gs node.base g has i (shake_of slot) on.own on.owned on.stands on.lies) [
               | inl inside ↦ (let clash : None ≡ Some inside.0 = sym out ∙ inside.1 in absurd (cc clash))
               | inr at ↦ at
             ]
@@ -232,8 +232,8 @@ module _ (r : Plan) (d : ℕ) (wide : ℕ) (gs : List Stage) (node : IsWrite r d
             (leads ∙ ap (λ (n : ℕ). fired r n row v s) which.0)
 
         own_does : Does g.plan (Out (ResultEnd g.asked_at) v) (seen g s) (seen g (with_token r (PartEnd d g.asked_at) Answer None s))
-            × InStage r d wide gs node g has (with_token r (PartEnd d g.asked_at) Answer None s)
-        own_does = answers r d wide gs node g has s within v held_so
+            × InStage r d wide gs node.base g has (with_token r (PartEnd d g.asked_at) Answer None s)
+        own_does = answers r d wide gs node.base g has s within v held_so
 
         idle : IsIdle g.plan (seen g (with_token r (PartEnd d g.asked_at) Answer None s))
         idle =
@@ -243,13 +243,13 @@ module _ (r : Plan) (d : ℕ) (wide : ℕ) (gs : List Stage) (node : IsWrite r d
 
         empty : Emptied d (with_token r (PartEnd d g.asked_at) Answer None s)
         empty =
-            emptied r d wide gs node g has (with_token r (PartEnd d g.asked_at) Answer None s) own_does.1
+            emptied r d wide gs node.base g has (with_token r (PartEnd d g.asked_at) Answer None s) own_does.1
             (λ n apart outside. ap (λ (q : State). q.phase) (token_state r (PartEnd d g.asked_at) Answer None s n) ∙ going.stirs.states n apart outside) idle
 
         answered : Turned g.plan (pass (ResultEnd g.asked_at) Answer ∷ own)
         answered =
             subst (λ (w : Direction). Turned g.plan (pass (ResultEnd g.asked_at) w ∷ own))
-            (asked_out g.plan g.asked_at wide (stage r d wide gs node g has).low (stage r d wide gs node g has).outcome)
+            (asked_out g.plan g.asked_at wide (stage r d wide gs node.base g has).low (stage r d wide gs node.base g has).outcome)
             (stage_out_turned g has hs before s (with_token r (PartEnd d g.asked_at) Answer None s) past going (ResultEnd g.asked_at) v (ended_is_one g.asked_at g.plan hs v going.ran.session) own_does.0).1
 
         none_open : (k : ℕ) → is_open (pass (ResultEnd g.asked_at) Answer ∷ own) (ResultEnd k) ≡ false
@@ -273,16 +273,16 @@ module _ (r : Plan) (d : ℕ) (wide : ℕ) (gs : List Stage) (node : IsWrite r d
             closed k h false shut = refl
             closed k h true up =
                 let (i, stands, at) = going.follows.only k h up in
-                let (c, there) = stands_contact g.plan (stage r d wide gs node g has).region.right (ImportEnd i h) stands in
+                let (c, there) = stands_contact g.plan (stage r d wide gs node.base g has).region.right (ImportEnd i h) stands in
                 let own_up : is_open own (ImportEnd i h) ≡ true = going.follows.same i h stands ∙ (ap (is_open past) at ∙ up) in
                 sym own_up
-                ∙ asked_shut g.plan g.asked_at wide (stage r d wide gs node g has).low (stage r d wide gs node g has).outcome (pass (ResultEnd g.asked_at) Answer ∷ own) answered none_open
+                ∙ asked_shut g.plan g.asked_at wide (stage r d wide gs node.base g has).low (stage r d wide gs node.base g has).outcome (pass (ResultEnd g.asked_at) Answer ∷ own) answered none_open
                 i h c there
 
         led : Led r d wide gs node row v t past
         led =
             own_leads r d wide gs node (with_token r (PartEnd d g.asked_at) Answer None s) t row v past empty fires.0 only
-            (table.goes_on wide (s.state d) g.asked_at v row going.stirs.session (answer_fits r d wide gs node g has s fit within v held_so) fires.1)
+            (table.goes_on wide (s.state d) g.asked_at v row going.stirs.session (answer_fits r d wide gs node.base g has s fit within v held_so) fires.1)
 
   -- the rest of a list
   abbrev Rest' : List Element → Type 0
@@ -291,7 +291,7 @@ module _ (r : Plan) (d : ℕ) (wide : ℕ) (gs : List Stage) (node : IsWrite r d
       → AllFit r s → Holds r d wide gs node pl s past → Runs r xs s t → InputsKeepTurns r past xs → Result r d wide gs node pl xs s
 
   pub fit_after : (x : Element) (s w : Tokens) → AllFit r s → Does r x s w → AllFit r w
-  fit_after x s w fit does = all_stay_fit r (x ∷ []) s w node.right node.literals fit (w, does, refl)
+  fit_after x s w fit does = all_stay_fit r (x ∷ []) s w node.base.right node.base.literals fit (w, does, refl)
 
   led_on : (xs : List Element) → Rest' xs → (row : Row) (v : ℕ) (w t : Tokens) (past : List Pass) → AllFit r w → Led r d wide gs node row v w past → Runs r xs w t
       → InputsKeepTurns r past xs → (there : Where) × windows.LeadsTo r d gs row v w there × Staged r d wide gs there xs w

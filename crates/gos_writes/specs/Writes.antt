@@ -54,16 +54,20 @@ pub record IsWriteStage (r : Plan) (d w : ℕ) (g : Stage) : Type 0 where
       (i h : ℕ) → StandsIn g.plan (ImportEnd i h)
       → (k : ℕ) × (g.cut.outer (ImportEnd i h) ≡ ImportEnd k h) × (slice_get r.imports k ≡ slice_get g.plan.imports i)
 
--- The whole is an Assign of w bits, its part d, and its stages: that of N, which it asks at handshake 0, and that of M, which
--- it writes at handshake 1. Each joint of the whole is of the Assign or of a stage.
-pub record IsWrite (r : Plan) (d w : ℕ) (gs : List Stage) : Type 0 where
+-- The whole has an Assign of w bits, its part d, and these are stages of it.
+pub record HasStages (r : Plan) (d w : ℕ) (gs : List Stage) : Type 0 where
   pub right : IsRight r
   pub own : slice_get r.parts d ≡ Some (Assign w)
-  pub outcome : r.outcome ≡ Com
   pub literals : All LiteralFits r.parts
   pub ground : AllGround r.imports
-  pub names : NamesDiffer r.imports
   pub stages : (g : Stage) → Contains gs g → IsWriteStage r d w g
+
+-- The whole is the Assign and its stages: that of N, which it asks at handshake 0, and that of M, which it writes at handshake 1.
+-- Each joint of the whole is of the Assign or of a stage.
+pub record IsWrite (r : Plan) (d w : ℕ) (gs : List Stage) : Type 0 where
+  pub base : HasStages r d w gs
+  pub outcome : r.outcome ≡ Com
+  pub names : NamesDiffer r.imports
   pub one : (g e : Stage) → Contains gs g → Contains gs e → g.asked_at ≡ e.asked_at → g ≡ e
   pub staged : (h : ℕ) → h < 2 → (g : Stage) × Contains gs g × (g.asked_at ≡ h)
   pub result : Contains r.joints (joint (ResultEnd 0) (PartEnd d 2))
