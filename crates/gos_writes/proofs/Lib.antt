@@ -2,6 +2,7 @@ pub mod OneSessionLemmas
 pub mod AskedLemmas
 pub mod OwnLemmas
 pub mod StageLemmas
+pub mod LiftLemmas
 pub mod FollowLemmas
 pub mod WholeLemmas
 pub mod PlaceLemmas

@@ -1,76 +1,43 @@
 -- Where the whole is quiet the running stage is, and the Assign and the answer never wait. As in gos_windows.
-use Rattle.std.specs.Prelude.{None, slice_get, Contains, length}
-use Rattle.std.proofs.Common.{◌≡◌, ℕ, Bool, List, Option, Some, inl, inr, refl, sym, ◌∙◌, ap, subst, if◌then◌else◌}
-use Rattle.std.proofs.lemmas.Option.{slice_get_within}
+use Rattle.std.specs.Prelude.{None, slice_get, Contains}
+use Rattle.std.proofs.Common.{◌≡◌, ℕ, List, Option, Some, inl, inr, refl, sym, ◌∙◌, ap, subst}
 use Rattle.gos_types.specs.Types.{IsDone}
 use Rattle.gos_netlist.specs.Events.{Direction, Request, Answer}
 use Rattle.gos_plan.specs.Kinds.{Part, Contact, Assign}
-use Rattle.gos_plan.specs.Firing.{Phase, Rest, Slot, Req, Ans, Row, at, firing}
+use Rattle.gos_plan.specs.Firing.{Phase, Slot, Req, Ans, Row, at, firing}
 use Rattle.gos_plan.specs.Plans.{End, PartEnd, ImportEnd, ResultEnd, Plan, contact_at}
-use Rattle.gos_plan.specs.Tokens.{Tokens, Fire, Out, IsPortEnd, places_of, token_at, with_token, end_of, way_of, way_taken, fired, firing_of, Passes, Does, IsQuiet}
-use Rattle.gos_plan.proofs.HeldLemmas.{nothing_there}
+use Rattle.gos_plan.specs.Tokens.{Tokens, Fire, Out, IsPortEnd, token_at, with_token, end_of, way_of, way_taken, fired, firing_of, Passes, Does, IsQuiet}
 use Rattle.gos_realises.proofs.InputLemmas.{out_there}
-use Rattle.gos_webs.specs.Cutting.{lies_at, StandsIn}
-use Rattle.gos_webs.proofs.CutLemmas.{Owns, part_there, token_cut}
+use Rattle.gos_webs.specs.Cutting.{StandsIn}
+use Rattle.gos_webs.proofs.CutLemmas.{part_there}
 use Rattle.gos_windows.specs.Nodes.{Stage}
 use Rattle.gos_windows.specs.Windows.{seen, HoldsOnly}
-use Rattle.gos_windows.proofs.InlayLemmas.{inlay, place_agrees, agree_token}
-use Rattle.gos_windows.proofs.PortLemmas.{port_role, place_stands, result_there, below_so}
+use Rattle.gos_windows.proofs.PortLemmas.{port_role, result_there}
 use Rattle.gos_writes.specs.Writes.{IsWriteStage, IsWrite}
 use Rattle.gos_writes.specs.Windows.{StirsOnly, QuietIsWithin, AssignCan}
 use Rattle.gos_writes.proofs.AskedLemmas.{ground_role, asked_ground}
 use Rattle.gos_writes.proofs.OwnLemmas.{takes_answer, takes_request}
-use Rattle.gos_writes.proofs.StageLemmas.{stage, cut, ground_stage}
+use Rattle.gos_writes.proofs.StageLemmas.{stage, ground_stage}
+use Rattle.gos_writes.proofs.LiftLemmas.{held_whole, stage_stands, fires_whole}
 
 module _
     (r : Plan) (d : ℕ) (wide : ℕ) (gs : List Stage) (node : IsWrite r d wide gs) (g : Stage) (has : Contains gs g) (s : Tokens)
     (stirs : StirsOnly d g s) (quiet : IsQuiet r s) where
-  -- a token of the stage lies in the whole
-  held_whole : (e : End) → Owns g.plan e → (way : Direction) (v : ℕ) → token_at g.plan (seen g s) e way ≡ Some v → token_at r s (lies_at g.cut e) way ≡ Some v
-  held_whole e own way v held = by_place (places_of (inlay g.cut r g.plan) (lies_at g.cut e)) refl
-    where
-      inlaid : token_at (inlay g.cut r g.plan) s (lies_at g.cut e) way ≡ Some v
-      inlaid = sym (token_cut g.cut (inlay g.cut r g.plan) g.plan (cut r d wide gs node.base g has) e own s way) ∙ held
-
-      by_place : (o : Option End) → places_of (inlay g.cut r g.plan) (lies_at g.cut e) ≡ o → token_at r s (lies_at g.cut e) way ≡ Some v
-      by_place None none = absurd (nothing_there (inlay g.cut r g.plan) (lies_at g.cut e) way v s inlaid none)
-      by_place (Some x) named =
-          let region = (stage r d wide gs node.base g has).region in
-          sym (agree_token g.cut g.sides r g.plan region (lies_at g.cut e) (place_agrees g.cut g.sides r g.plan region (lies_at g.cut e) x named) s way) ∙ inlaid
-
-  stage_stands : (e : End) (way : Direction) (v : ℕ) → token_at g.plan (seen g s) e way ≡ Some v → StandsIn g.plan e
-  stage_stands e way v held = by_place (places_of g.plan e) refl
-    where
-      by_place : (o : Option End) → places_of g.plan e ≡ o → StandsIn g.plan e
-      by_place None none = absurd (nothing_there g.plan e way v (seen g s) held none)
-      by_place (Some x) named = place_stands g.plan e x named
-
   fires_not : (j : ℕ) (t : Slot) (w : Tokens) → Does g.plan (Fire j t) (seen g s) w → ⊥
   fires_not j t w (v, row, held, by, leads) =
-      quiet.0 (g.cut.part j) t (fired r (g.cut.part j) row v s) (v, row, held_whole (end_of j t) part (way_of t) v held, by_whole, refl)
-    where
-      part : (k : Part) × (slice_get g.plan.parts j ≡ Some k)
-      part = part_there (slice_get g.plan.parts j) ((seen g s).state j) t row by
-
-      in_state : firing_of (slice_get g.plan.parts j) (s.state (g.cut.part j)) t ≡ Some row
-      in_state =
-          let within = below_so j (length g.plan.parts) (slice_get_within g.plan.parts j part.0 part.1) in
-          sym (ap (λ (b : Bool). firing_of (slice_get g.plan.parts j) (if b then s.state (g.cut.part j) else at Rest 0) t) within) ∙ by
-
-      by_whole : firing_of (slice_get r.parts (g.cut.part j)) (s.state (g.cut.part j)) t ≡ Some row
-      by_whole =
-          let there = ((stage r d wide gs node.base g has).region.parts j part.0 part.1).0 in
-          ap (λ (o : Option Part). firing_of o (s.state (g.cut.part j)) t) (there ∙ sym part.1) ∙ in_state
+      let part = part_there (slice_get g.plan.parts j) ((seen g s).state j) t row by in
+      quiet.0 (g.cut.part j) t (fired r (g.cut.part j) row v s)
+      (v, row, held_whole r d wide gs node.base g has s (end_of j t) part (way_of t) v held, fires_whole r d wide gs node.base g has s j t row by, refl)
 
   answer_not : (v : ℕ) → token_at g.plan (seen g s) (ResultEnd g.asked_at) Answer ≡ Some v → ⊥
   answer_not v held =
       quiet.0 d (Ans g.asked_at) (fired r d takes.0 v s) (v, takes.0, at_own, ap (λ (o : Option Part). firing_of o (s.state d) (Ans g.asked_at)) node.base.own ∙ takes.1, refl)
     where
       stands : StandsIn g.plan (ResultEnd g.asked_at)
-      stands = stage_stands (ResultEnd g.asked_at) Answer v held
+      stands = stage_stands r d wide gs node.base g has s (ResultEnd g.asked_at) Answer v held
 
       at_own : token_at r s (PartEnd d g.asked_at) Answer ≡ Some v
-      at_own = ap (λ (e : End). token_at r s e Answer) (sym ((stage r d wide gs node.base g has).run_by stands)) ∙ held_whole (ResultEnd g.asked_at) stands Answer v held
+      at_own = ap (λ (e : End). token_at r s e Answer) (sym ((stage r d wide gs node.base g has).run_by stands)) ∙ held_whole r d wide gs node.base g has s (ResultEnd g.asked_at) stands Answer v held
 
       takes : (row : Row) × (firing (Assign wide) (s.state d) (Ans g.asked_at) ≡ Some row)
       takes = takes_answer wide (s.state d) g.asked_at stirs.session
@@ -82,7 +49,7 @@ module _
             (let at_end : token_at g.plan (seen g s) (ResultEnd result.0) Answer ≡ Some v =
             ap (λ (x : End). token_at g.plan (seen g s) x Answer) (sym result.1)
             ∙ (ap (λ (x : Direction). token_at g.plan (seen g s) e x) (sym (ap way_taken result.2)) ∙ held) in
-            let same : result.0 ≡ g.asked_at = here.only result.0 (stage_stands (ResultEnd result.0) Answer v at_end) in
+            let same : result.0 ≡ g.asked_at = here.only result.0 (stage_stands r d wide gs node.base g has s (ResultEnd result.0) Answer v at_end) in
             answer_not v (subst (λ (h : ℕ). token_at g.plan (seen g s) (ResultEnd h) Answer ≡ Some v) same at_end))
         | inr import ↦ at_import import.0 import.1 import.2
       ]
@@ -101,14 +68,14 @@ module _
           quiet.1 (g.cut.outer (ImportEnd i h)) v (with_token r (g.cut.outer (ImportEnd i h)) (way_taken there.0.role) None s) (
             subst (λ (x : End). IsPortEnd x) (sym port.1) tt,
             subst (λ (o : Option Contact). Passes r (Out (g.cut.outer (ImportEnd i h)) v) o s (with_token r (g.cut.outer (ImportEnd i h)) (way_taken there.0.role) None s)) (sym whole)
-                (held_whole (ImportEnd i h) stands (way_taken there.0.role) v here, refl),
+                (held_whole r d wide gs node.base g has s (ImportEnd i h) stands (way_taken there.0.role) v here, refl),
           )
         where
           here : token_at g.plan (seen g s) (ImportEnd i h) (way_taken there.0.role) ≡ Some v
           here = ap (λ (x : End). token_at g.plan (seen g s) x (way_taken there.0.role)) (sym is) ∙ held
 
           stands : StandsIn g.plan (ImportEnd i h)
-          stands = stage_stands (ImportEnd i h) (way_taken there.0.role) v here
+          stands = stage_stands r d wide gs node.base g has s (ImportEnd i h) (way_taken there.0.role) v here
 
           port : (k : ℕ) × (g.cut.outer (ImportEnd i h) ≡ ImportEnd k h) × (slice_get r.imports k ≡ slice_get g.plan.imports i)
           port = (stage r d wide gs node.base g has).ports i h stands

@@ -33,16 +33,16 @@ comes_state : (p : Plan) (e : End) (v d : ℕ) (c : Option Contact) (s t : Token
 comes_state p e v d None s t h = absurd h
 comes_state p e v d (Some c) s t (fits, is) = ap (λ (u : Tokens). u.state d) is ∙ token_state p e (way_put c.role) (Some v) s d
 
-pub own_stays : (r : Plan) (d wide : ℕ) (g : Stage) → IsWriteStage r d wide g → (y : Element) (s u t : Tokens)
-    → Does g.plan y (seen g s) u → Does r (whole_element g.cut y) s t → t.state d ≡ s.state d
-own_stays r d wide g is (Fire i slot) s u t (v, row, held, by, to) (w, line, lies, fires, is_t) =
+pub outside_stays : (r : Plan) (d wide : ℕ) (g : Stage) → IsWriteStage r d wide g → (n : ℕ) → g.cut.number n ≡ None → (y : Element) (s u t : Tokens)
+    → Does g.plan y (seen g s) u → Does r (whole_element g.cut y) s t → t.state n ≡ s.state n
+outside_stays r d wide g is n out (Fire i slot) s u t (v, row, held, by, to) (w, line, lies, fires, is_t) =
     let there = part_there (slice_get g.plan.parts i) ((seen g s).state i) slot row by in
-    let other : d ≢ g.cut.part i = apart_number g.cut (g.cut.part i) i d (is.region.parts i there.0 there.1).1 is.outside in
-    ap (λ (x : Tokens). x.state d) is_t
-    ∙ (fired_state r (g.cut.part i) line w s d
-    ∙ cond-false (nat_eq d (g.cut.part i)) (line.next w) (s.state d) (eq_false d (g.cut.part i) other))
-own_stays r d wide g is (Out e v) s u t does (port, passes) = passes_state r (lies_at g.cut e) v d (contact_at r (lies_at g.cut e)) s t passes
-own_stays r d wide g is (In e v) s u t does (port, passes) = comes_state r (lies_at g.cut e) v d (contact_at r (lies_at g.cut e)) s t passes
+    let other : n ≢ g.cut.part i = apart_number g.cut (g.cut.part i) i n (is.region.parts i there.0 there.1).1 out in
+    ap (λ (x : Tokens). x.state n) is_t
+    ∙ (fired_state r (g.cut.part i) line w s n
+    ∙ cond-false (nat_eq n (g.cut.part i)) (line.next w) (s.state n) (eq_false n (g.cut.part i) other))
+outside_stays r d wide g is n out (Out e v) s u t does (port, passes) = passes_state r (lies_at g.cut e) v n (contact_at r (lies_at g.cut e)) s t passes
+outside_stays r d wide g is n out (In e v) s u t does (port, passes) = comes_state r (lies_at g.cut e) v n (contact_at r (lies_at g.cut e)) s t passes
 
 -- the import at whose end it passes
 import_shown : (r c : Plan) (i k h : ℕ) (way : Option Contact → Direction) (v : ℕ) → slice_get r.imports k ≡ slice_get c.imports i

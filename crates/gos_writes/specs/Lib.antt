@@ -2,3 +2,4 @@ pub mod OneSession
 pub mod Writes
 pub mod Windows
 pub mod Realised
+pub mod Variables
