@@ -15,3 +15,4 @@ pub mod OrderLemmas
 pub mod RegionLemmas
 pub mod SessionLemmas
 pub mod MatchedLemmas
+pub mod PrefixLemmas

@@ -1,5 +1,6 @@
 // What the definitions give. Each theorem is the contract of a function that does nothing.
 ghost use Rattle.gos_writes.specs.Realised.{WriteRealises, WriteRealisesByType};
+ghost use Rattle.gos_writes.specs.Variables.{LoneWriteIsSession};
 ghost use Rattle.gos_writes.specs.Windows.{AssignCan, QuietIsWithin, WritesAreStaged};
 ghost use Rattle.gos_writes.specs.Writes.{WriteIsRegular};
 
@@ -20,4 +21,9 @@ pub fn writes_are_regular()
 pub fn writes_realise()
     ensures realises { WriteRealises }
     ensures by_type { WriteRealisesByType }
+{}
+
+/// Where a variable's plan joined to an Assign and a Lit of k realises `M := k`, so does the session in which k is written.
+pub fn variables()
+    ensures lone { LoneWriteIsSession }
 {}
