@@ -16,3 +16,6 @@ pub mod RegionLemmas
 pub mod SessionLemmas
 pub mod MatchedLemmas
 pub mod PrefixLemmas
+pub mod CourseLemmas
+pub mod EndLemmas
+pub mod LoneLemmas

@@ -65,11 +65,11 @@ asks_or_answers a b x j e = let slots : Req a ≡ Ans b = ap (λ t. t.slot) (fir
 no_asking : (ts : List Token) (a j : ℕ) → ts ≡ put (Ans a) j ∷ [] → asks_on ts ≡ true → ⊥
 no_asking ts a j e asks = let clash : asks_on (put (Ans a) j ∷ []) ≡ true = subst (λ (x : List Token). asks_on x ≡ true) e asks in cc clash
 
-more_some : (xs ys : List Act) → ys ≢ [] → xs ++ ys ≢ []
+pub more_some : (xs ys : List Act) → ys ≢ [] → xs ++ ys ≢ []
 more_some [] ys some e = some e
 more_some (x ∷ xs) ys some e = cc e
 
-both_silent : (xs ys : List Act) → labels xs ≡ [] → labels ys ≡ [] → labels (xs ++ ys) ≡ []
+pub both_silent : (xs ys : List Act) → labels xs ≡ [] → labels ys ≡ [] → labels (xs ++ ys) ≡ []
 both_silent xs ys e h = labels_then xs ys ∙ (ap (λ ls. ls ++ labels ys) e ∙ h)
 
 module _

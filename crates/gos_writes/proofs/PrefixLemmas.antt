@@ -38,17 +38,17 @@ taken_again r a b x way v s at_a at_b empty w y =
     by_test false = empty w y
 
 -- a token put at one end of a joint lies at the other
-lies_across : (r : Plan) (a b x : End) (way : Direction) (v : ℕ) (s : Tokens) → places_of r a ≡ Some x → places_of r b ≡ Some x
+pub lies_across : (r : Plan) (a b x : End) (way : Direction) (v : ℕ) (s : Tokens) → places_of r a ≡ Some x → places_of r b ≡ Some x
     → token_at r (with_token r a way (Some v) s) b way ≡ Some v
 lies_across r a b x way v s at_a at_b = ap (held_at (with_token r a way (Some v) s) way) (at_b ∙ sym at_a) ∙ lies_there r a x way v s at_a
 
 state_own : (i : ℕ) (q : State) (s : Tokens) → (with_state i q s).state i ≡ q
 state_own i q s = ap (λ (t : Bool). if t then q else s.state i) (nat_eq_self i)
 
-state_apart : (i j : ℕ) (q : State) (s : Tokens) → j ≢ i → (with_state i q s).state j ≡ s.state j
+pub state_apart : (i j : ℕ) (q : State) (s : Tokens) → j ≢ i → (with_state i q s).state j ≡ s.state j
 state_apart i j q s apart = ap (λ (t : Bool). if t then q else s.state j) (other_state j i apart)
 
-apart_if : (f : Cut) (i j : ℕ) → f.number i ≡ None → (n : ℕ) → f.number j ≡ Some n → j ≢ i
+pub apart_if : (f : Cut) (i j : ℕ) → f.number i ≡ None → (n : ℕ) → f.number j ≡ Some n → j ≢ i
 apart_if f i j none n some same = let clash : Some n ≡ None = sym some ∙ (ap f.number same ∙ none) in absurd (cc clash)
 
 -- the state of a part outside, or that of a part of the plan

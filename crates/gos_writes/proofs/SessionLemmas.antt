@@ -147,7 +147,7 @@ pub record Stirred (r : Plan) (g : Stage) (y : Element) (s : Tokens) (acts : Lis
   pub shown : labels acts ≡ shows r (whole_element g.cut y)
   pub goes : GoesOn r s (whole_element g.cut y) acts
 
-stirred : (r : Plan) (d wide : ℕ) (g : Stage) → IsWriteStage r d wide g → (y : Element) (s u t : Tokens) (acts : List Act)
+pub stirred : (r : Plan) (d wide : ℕ) (g : Stage) → IsWriteStage r d wide g → (y : Element) (s u t : Tokens) (acts : List Act)
     → Does g.plan y (seen g s) u → Stays g.plan y → Does r (whole_element g.cut y) s t → labels acts ≡ session_shows g.plan y
     → GoesOn g.plan (seen g s) y acts → Stirred r g y s acts
 stirred r d wide g is (Fire i slot) s u t acts does stands whole shown goes =

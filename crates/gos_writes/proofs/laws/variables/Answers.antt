@@ -1,5 +1,5 @@
-use Rattle.gos_writes.proofs.PrefixLemmas.{stirs}
+use Rattle.gos_writes.proofs.LoneLemmas as lone
 use Rattle.gos_writes.proofs.laws.variables.Goals as goal
 
 pub returns : goal.returns
-returns c = ?
+returns c = record { lone = lone.lone_write_is_session }
