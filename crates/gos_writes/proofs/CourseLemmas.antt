@@ -1,13 +1,13 @@
 -- The session of a variable's plan within a lone write: each element of it is one of the lone write, and is matched as this is.
-use Rattle.std.specs.Prelude.{◌≢◌, None, slice_get, Contains}
-use Rattle.std.proofs.Common.{◌≡◌, ℕ, Bool, true, List, [], ◌∷◌, ◌++◌, ◌⊎◌, Option, Some, inl, inr, refl, sym, ◌∙◌, ap, subst, arith, map}
+use Rattle.std.specs.Prelude.{None, slice_get, Contains}
+use Rattle.std.proofs.Common.{◌≡◌, ℕ, true, List, [], ◌∷◌, ◌++◌, Option, Some, inl, inr, refl, sym, ◌∙◌, ap, subst, arith, map}
 use Rattle.std.proofs.lemmas.Option.{same_Some}
 use Rattle.gos_types.specs.Types.{Com, IsDone}
-use Rattle.gos_netlist.specs.Events.{Direction, Request, Answer}
+use Rattle.gos_netlist.specs.Events.{Direction, Answer}
 use Rattle.gos_model.specs.Terms.{Term}
 use Rattle.gos_model.specs.Stores.{Store}
 use Rattle.gos_model.specs.Moves.{Program, Config, Idle, Running, Act}
-use Rattle.gos_plan.specs.Kinds.{Part, Contact, Assign}
+use Rattle.gos_plan.specs.Kinds.{Part, Assign}
 use Rattle.gos_plan.specs.Firing.{Slot, Ans, Row, State, firing}
 use Rattle.gos_plan.specs.Plans.{End, PartEnd, ImportEnd, ResultEnd, Plan, contact_at}
 use Rattle.gos_plan.specs.Tokens.{Tokens, Element, Fire, Out, In, token_at, end_of, way_of, shake_of, way_put, firing_of, Does, Runs, IsIdle, IsQuiet}
@@ -23,7 +23,7 @@ use Rattle.gos_windows.specs.Regions.{whole_element}
 use Rattle.gos_windows.specs.Nodes.{Stage}
 use Rattle.gos_windows.specs.Windows.{seen}
 use Rattle.gos_windows.proofs.TurnLemmas.{Turned, answer_turned, way_in_of}
-use Rattle.gos_writes.specs.OneSession.{IsTidy, Stays, AllStay}
+use Rattle.gos_writes.specs.OneSession.{Stays, AllStay}
 use Rattle.gos_writes.specs.Writes.{waits_at, IsWriteStage, HasStages}
 use Rattle.gos_writes.specs.Windows.{StirsOnly}
 use Rattle.gos_writes.specs.Realised.{session_shows, IsSessionMatched}
@@ -31,7 +31,7 @@ use Rattle.gos_writes.specs.Variables.{lone_stage}
 use Rattle.gos_writes.proofs.OneSessionLemmas.{open_then}
 use Rattle.gos_writes.proofs.AskedLemmas.{ground_role, asked_ground}
 use Rattle.gos_writes.proofs.OwnLemmas as table
-use Rattle.gos_writes.proofs.StageLemmas.{stage, ground_stage, InStage, Ran, OnStage, lies, end_is, fires_in, out_in, answers}
+use Rattle.gos_writes.proofs.StageLemmas.{stage, ground_stage, Ran, OnStage, lies, end_is, fires_in, out_in, answers}
 use Rattle.gos_writes.proofs.LiftLemmas.{Lifted, fire_up, out_up, in_up, goes_down}
 use Rattle.gos_writes.proofs.FollowLemmas.{Follows, follows_step}
 use Rattle.gos_writes.proofs.RegionLemmas.{outside_stays, out_shown, in_shown}

@@ -1,7 +1,6 @@
 -- How the session of a variable's plan ends within a lone write: the Assign takes the answer, and the lone write answers.
-use Rattle.std.specs.Prelude.{◌≢◌, ◌^◌, ◌<◌, ◌&&◌, None, slice_get, Contains, length, nat_lt, nat_eq}
+use Rattle.std.specs.Prelude.{◌≢◌, ◌&&◌, None, slice_get, Contains, length, nat_lt}
 use Rattle.std.proofs.Common.{◌≡◌, ℕ, Bool, true, false, List, [], ◌∷◌, ◌++◌, Option, Some, refl, sym, ◌∙◌, ap, subst, arith, if◌then◌else◌}
-use Rattle.std.proofs.lemmas.Option.{same_Some}
 use Rattle.gos_types.specs.Types.{Com}
 use Rattle.gos_netlist.specs.Events.{Direction, Answer}
 use Rattle.gos_model.specs.Terms.{Term}
@@ -9,16 +8,16 @@ use Rattle.gos_model.specs.Stores.{Store}
 use Rattle.gos_model.specs.Labels.{given}
 use Rattle.gos_model.specs.Moves.{Program, Config, Idle, Running, Act, Moves, labels, Stalled}
 use Rattle.gos_plan.specs.Kinds.{Part, Contact, Assign, asks, contacts_of}
-use Rattle.gos_plan.specs.Firing.{Rest, State, Slot, Ans, Row, Token, at, put, firing}
+use Rattle.gos_plan.specs.Firing.{Rest, State, Slot, Ans, Row, Token, at, firing}
 use Rattle.gos_plan.specs.Plans.{End, PartEnd, ImportEnd, ResultEnd, Plan, contact_at, same_end, turned_if}
-use Rattle.gos_plan.specs.Tokens.{Tokens, Element, Fire, Out, places_of, same_way, with_held, with_token, with_state, with_puts, token_at, end_of, way_of, way_taken, fired, firing_of, Passes, Does, Runs, IsIdle, IsQuiet}
+use Rattle.gos_plan.specs.Tokens.{Tokens, Element, Fire, Out, places_of, same_way, with_held, with_token, with_state, with_puts, token_at, end_of, way_of, way_taken, fired, firing_of, Passes, Does, IsIdle}
 use Rattle.gos_plan.proofs.DecidedLemmas.{one_state}
 use Rattle.gos_plan.proofs.HeldLemmas.{takes_of}
 use Rattle.gos_plan.proofs.JointLemmas.{IsIn, stands_there, contained, same_is}
 use Rattle.gos_plan.proofs.TurnLemmas.{token_state}
-use Rattle.gos_realises.specs.Regular.{InputsKeepTurns, IsRegular}
+use Rattle.gos_realises.specs.Regular.{IsRegular}
 use Rattle.gos_realises.specs.Matched.{shows, GoesOn, Agrees, IsMatched}
-use Rattle.gos_realises.proofs.InputLemmas.{passed, out_there}
+use Rattle.gos_realises.proofs.InputLemmas.{out_there}
 use Rattle.gos_results.proofs.ResultLemmas.{moves_then}
 use Rattle.gos_webs.specs.Webs.{joint}
 use Rattle.gos_webs.specs.Cutting as cutting
@@ -31,7 +30,6 @@ use Rattle.gos_windows.specs.Windows.{seen}
 use Rattle.gos_windows.proofs.InlayLemmas.{inlay}
 use Rattle.gos_windows.proofs.WholeLemmas.{zero_only}
 use Rattle.gos_writes.specs.Writes.{HasStages}
-use Rattle.gos_writes.specs.Realised.{IsSessionMatched}
 use Rattle.gos_writes.specs.Variables.{lone_stage}
 use Rattle.gos_writes.proofs.AskedLemmas.{asked_role}
 use Rattle.gos_writes.proofs.OwnLemmas as table

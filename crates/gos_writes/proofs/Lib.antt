@@ -19,3 +19,6 @@ pub mod PrefixLemmas
 pub mod CourseLemmas
 pub mod EndLemmas
 pub mod LoneLemmas
+pub mod SessionsRestLemmas
+pub mod JoinedLemmas
+pub mod WrittenLemmas

@@ -1,6 +1,6 @@
 -- A lone write that is regular and realises `M := k` matches the session in which k is written.
-use Rattle.std.specs.Prelude.{◌≢◌, Contains}
-use Rattle.std.proofs.Common.{◌≡◌, ℕ, true, List, [], ◌∷◌, ◌++◌, inl, inr, refl, sym, ◌∙◌, ap, subst, arith, map}
+use Rattle.std.specs.Prelude.{◌≢◌}
+use Rattle.std.proofs.Common.{◌≡◌, ℕ, List, [], ◌∷◌, ◌++◌, inl, inr, refl, sym, ◌∙◌, ap, subst, map}
 use Rattle.gos_types.specs.Types.{IsDone}
 use Rattle.gos_netlist.specs.Events.{Direction, Request}
 use Rattle.gos_model.specs.Terms as terms
@@ -9,8 +9,8 @@ use Rattle.gos_model.specs.Typing.{Imports}
 use Rattle.gos_model.specs.Stores.{Store}
 use Rattle.gos_model.specs.Labels.{given}
 use Rattle.gos_model.specs.Moves.{Program, Config, Idle, Running, Act, Moves, labels}
-use Rattle.gos_plan.specs.Firing.{Req, Ans, Writing, at, row, put}
-use Rattle.gos_plan.specs.Plans.{PartEnd, ResultEnd, Plan, contact_at}
+use Rattle.gos_plan.specs.Firing.{Req, Ans}
+use Rattle.gos_plan.specs.Plans.{ResultEnd, Plan, contact_at}
 use Rattle.gos_plan.specs.Tokens.{Tokens, Element, Fire, Out, In, Does, Runs, IsIdle}
 use Rattle.gos_plan.proofs.TokenBitsLemmas.{all_stay_fit, idle_fits}
 use Rattle.gos_realises.specs.Regular.{pass, way_in, KeepsTurns, InputsKeepTurns, IsRegular}
@@ -18,7 +18,7 @@ use Rattle.gos_realises.specs.Matched.{IsMatched, program_of, RealisesDone}
 use Rattle.gos_realises.proofs.InputLemmas.{passed}
 use Rattle.gos_results.proofs.ResultLemmas.{moves_then}
 use Rattle.gos_webs.specs.Cutting.{Cut}
-use Rattle.gos_nodes.proofs.SilentLemmas.{labels_then, silent_inner, inner_stays, asked_first}
+use Rattle.gos_nodes.proofs.SilentLemmas.{silent_inner, inner_stays, asked_first}
 use Rattle.gos_nodes.proofs.PortLemmas.{request_shown}
 use Rattle.gos_windows.specs.Regions.{whole_element}
 use Rattle.gos_windows.specs.Nodes.{Stage}
@@ -26,7 +26,7 @@ use Rattle.gos_windows.specs.Windows.{seen}
 use Rattle.gos_windows.proofs.KeepingLemmas.{turns_keep_protocol}
 use Rattle.gos_windows.proofs.TurnLemmas.{Turned, first_turned, result_in}
 use Rattle.gos_writes.specs.OneSession.{IsTidy, AllStay, EndsWell}
-use Rattle.gos_writes.specs.Realised.{IsSessionMatched, SessionIsRealised}
+use Rattle.gos_writes.specs.Realised.{IsSessionMatched}
 use Rattle.gos_writes.specs.Variables.{lone_stage, IsLoneWrite, LoneWriteIsSession}
 use Rattle.gos_writes.proofs.FollowLemmas.{Follows, follows_first}
 use Rattle.gos_writes.proofs.PrefixLemmas as prefix

@@ -1,13 +1,12 @@
 -- How a lone write begins: run, it asks the Lit, and writes the number; then the plan of the variable has been asked, and all else
 -- rests.
-use Rattle.std.specs.Prelude.{◌≢◌, ◌^◌, ◌<◌, ◌&&◌, None, nat_eq, nat_lt, slice_get, Contains, length}
-use Rattle.std.proofs.Common.{◌≡◌, ℕ, Bool, true, false, List, [], ◌∷◌, Option, Some, refl, sym, ◌∙◌, ap, subst, arith, if◌then◌else◌, pow_pos}
-use Rattle.gos_types.specs.Types.{IsDone}
+use Rattle.std.specs.Prelude.{◌≢◌, ◌&&◌, None, nat_eq, nat_lt, slice_get, Contains, length}
+use Rattle.std.proofs.Common.{◌≡◌, ℕ, Bool, true, false, [], ◌∷◌, Option, Some, refl, sym, ◌∙◌, ap, subst, arith, if◌then◌else◌, pow_pos}
 use Rattle.gos_netlist.specs.Events.{Direction, Request, Answer}
 use Rattle.gos_plan.specs.Kinds.{Part, Contact, Assign, Lit, asks, contacts_of}
 use Rattle.gos_plan.specs.Firing.{Phase, Rest, Value, Writing, State, Slot, Req, Ans, Row, row, at, put, firing}
 use Rattle.gos_plan.specs.Plans.{End, PartEnd, ResultEnd, Plan, contact_at, same_end, turned_if}
-use Rattle.gos_plan.specs.Tokens.{Tokens, Element, Fire, In, places_of, same_way, held_at, with_held, with_token, with_state, token_at, firing_of, Passes, Does, IsIdle}
+use Rattle.gos_plan.specs.Tokens.{Tokens, Fire, In, places_of, same_way, held_at, with_held, with_token, with_state, token_at, firing_of, Passes, Does, IsIdle}
 use Rattle.gos_plan.proofs.JointLemmas.{IsIn, stands_there, contained}
 use Rattle.gos_plan.proofs.DecidedLemmas.{one_state}
 use Rattle.gos_plan.proofs.TurnLemmas.{token_state, nat_eq_self}

@@ -3,3 +3,4 @@ pub mod Writes
 pub mod Windows
 pub mod Realised
 pub mod Variables
+pub mod Written

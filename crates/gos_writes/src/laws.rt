@@ -1,6 +1,7 @@
 // What the definitions give. Each theorem is the contract of a function that does nothing.
 ghost use Rattle.gos_writes.specs.Realised.{WriteRealises, WriteRealisesByType};
 ghost use Rattle.gos_writes.specs.Variables.{LoneWriteIsSession};
+ghost use Rattle.gos_writes.specs.Written.{JoinedIsLoneWrite, VariableIsWritten};
 ghost use Rattle.gos_writes.specs.Windows.{AssignCan, QuietIsWithin, WritesAreStaged};
 ghost use Rattle.gos_writes.specs.Writes.{WriteIsRegular};
 
@@ -26,4 +27,6 @@ pub fn writes_realise()
 /// Where a variable's plan joined to an Assign and a Lit of k realises `M := k`, so does the session in which k is written.
 pub fn variables()
     ensures lone { LoneWriteIsSession }
+    ensures joined { JoinedIsLoneWrite }
+    ensures written { VariableIsWritten }
 {}
