@@ -22,3 +22,4 @@ pub mod LoneLemmas
 pub mod SessionsRestLemmas
 pub mod JoinedLemmas
 pub mod WrittenLemmas
+pub mod SmallLemmas

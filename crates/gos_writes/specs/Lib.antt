@@ -4,3 +4,4 @@ pub mod Windows
 pub mod Realised
 pub mod Variables
 pub mod Written
+pub mod SmallWrites

@@ -1,5 +1,6 @@
 // What the definitions give. Each theorem is the contract of a function that does nothing.
 ghost use Rattle.gos_writes.specs.Realised.{WriteRealises, WriteRealisesByType};
+ghost use Rattle.gos_writes.specs.SmallWrites.{LitIsNone, OneIsWritten, ReadIsDropped, ReadIsNoSession, SevenBitsAreNone, StageIsMissing, WriteIsSession};
 ghost use Rattle.gos_writes.specs.Variables.{LoneWriteIsSession};
 ghost use Rattle.gos_writes.specs.Written.{JoinedIsLoneWrite, VariableIsWritten};
 ghost use Rattle.gos_writes.specs.Windows.{AssignCan, QuietIsWithin, WritesAreStaged};
@@ -29,4 +30,16 @@ pub fn variables()
     ensures lone { LoneWriteIsSession }
     ensures joined { JoinedIsLoneWrite }
     ensures written { VariableIsWritten }
+{}
+
+/// The plan of `x := 8:1` is a write of two stages, if these are regular. It is none of seven bits, none by the Lit, and none
+/// without the stage of x. Of the plan of x one joint is left where it isn't read; and what a session of it is, and is not.
+pub fn small_writes()
+    ensures met { OneIsWritten }
+    ensures bits { SevenBitsAreNone }
+    ensures part { LitIsNone }
+    ensures missing { StageIsMissing }
+    ensures unread { ReadIsDropped }
+    ensures session { WriteIsSession }
+    ensures no_session { ReadIsNoSession }
 {}
