@@ -23,3 +23,4 @@ pub mod SessionsRestLemmas
 pub mod JoinedLemmas
 pub mod WrittenLemmas
 pub mod SmallLemmas
+pub mod UnreadLemmas

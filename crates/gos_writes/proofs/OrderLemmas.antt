@@ -43,7 +43,7 @@ use Rattle.gos_writes.proofs.MatchLemmas.{Opens, stage_order, stage_welcome, tak
 use Rattle.gos_writes.proofs.ClosedLemmas.{AsksOnly, asks_then, ground_closed, asks_itself}
 
 -- the last element of an orderly list
-last_order : (p : Plan) (hs : List Element) (y : Element) (o u q : Open) (s t w z : Tokens) → OrderlyFrom p (hs ++ y ∷ []) o s u t → OrderlyFrom p hs o s q w → Does p y w z
+pub last_order : (p : Plan) (hs : List Element) (y : Element) (o u q : Open) (s t w z : Tokens) → OrderlyFrom p (hs ++ y ∷ []) o s u t → OrderlyFrom p hs o s q w → Does p y w z
     → (m : Open) × ComesInOrder p y w q m × AllWelcome p z
 last_order p [] y o u q s t w z (m, v, does, comes, welcome, rest) is also = (
   m,
