@@ -27,7 +27,7 @@ use Rattle.gos_windows.proofs.PortLemmas.{stands_place, place_stands}
 use Rattle.gos_writes.specs.OneSession.{IsRegularAt}
 use Rattle.gos_writes.specs.Writes.{IsWriteStage, HasStages}
 use Rattle.gos_writes.specs.Variables.{lone_stage, IsLoneWrite}
-use Rattle.gos_writes.specs.Written.{unread_joints, unread, if_there, written_cut, JoinedIsLoneWrite}
+use Rattle.gos_writes.specs.Written.{unread_joints, unread, if_there, written_cut}
 use Rattle.gos_writes.proofs.AskedLemmas.{ground_asks, asked_contact}
 
 -- joints without those of handshake 0
@@ -42,7 +42,7 @@ kept_in x (j ∷ js) apart (inr later) = by_test (same_end j.asking (ResultEnd 0
     by_test true there = there
     by_test false there = inr there
 
-was_in : (x : Joint) (js : List Joint) → IsIn x (unread_joints js) → IsIn x js × (same_end x.asking (ResultEnd 0) ≡ false)
+pub was_in : (x : Joint) (js : List Joint) → IsIn x (unread_joints js) → IsIn x js × (same_end x.asking (ResultEnd 0) ≡ false)
 was_in x [] none = absurd none
 was_in x (j ∷ js) there = by_test (same_end j.asking (ResultEnd 0)) refl there (λ later. was_in x js later)
   where
@@ -385,7 +385,3 @@ module _
         asks = (driven.joints (PartEnd n 0) (PartEnd (suc n) 0)).1 (inr (inr (inr (refl, refl))));
         written = written;
       }
-
-pub joined_is_lone_write : JoinedIsLoneWrite
-joined_is_lone_write w k p q m realises literals regular small join =
-    is_lone w k p q realises.suits.right realises.suits.outcome realises.suits.all_ground realises.suits.names literals regular small join

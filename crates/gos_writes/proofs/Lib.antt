@@ -21,6 +21,6 @@ pub mod EndLemmas
 pub mod LoneLemmas
 pub mod SessionsRestLemmas
 pub mod JoinedLemmas
+pub mod UnreadLemmas
 pub mod WrittenLemmas
 pub mod SmallLemmas
-pub mod UnreadLemmas

@@ -2,20 +2,18 @@
 --
 -- At that joint nothing lies, since its handshake isn't open: nobody asks there, and an answer comes where it is open alone.
 use Rattle.std.specs.Prelude.{◌^◌, ◌<◌, None, slice_get}
-use Rattle.std.proofs.Common.{◌≡◌, ℕ, zero, suc, Bool, true, false, List, [], ◌∷◌, ◌++◌, ◌⊎◌, Option, Some, inl, inr, refl, sym, ◌∙◌, ap, subst, arith, if◌then◌else◌}
-use Rattle.std.proofs.lemmas.Option.{same_Some}
+use Rattle.std.proofs.Common.{◌≡◌, ℕ, Bool, true, false, List, [], ◌∷◌, ◌++◌, ◌⊎◌, Option, Some, inl, inr, refl, sym, ◌∙◌, ap, subst, arith, if◌then◌else◌}
 use Rattle.gos_types.specs.declared.shakes.Role.TheVariants.{Serve, Ask}
 use Rattle.gos_types.specs.Types.{Type', Var, IsGround}
 use Rattle.gos_netlist.specs.Events.{Direction, Request, Answer}
 use Rattle.gos_plan.specs.Kinds.{Part, Contact, asks, serves}
-use Rattle.gos_plan.specs.Firing.{State, Slot, Req, Ans, Token, Row}
+use Rattle.gos_plan.specs.Firing.{Slot, Req, Ans, Token, Row}
 use Rattle.gos_plan.specs.Plans.{End, PartEnd, ImportEnd, ResultEnd, Joint, Plan, contact_at, same_end, stands_in, IsRight}
-use Rattle.gos_plan.specs.Tokens.{Tokens, Element, Fire, Out, In, IsPortEnd, asking_in, places_of, held_at, with_held, token_at, with_token, with_state, with_puts, end_of, way_of, way_taken, way_put, bits_of, fired, firing_of, Passes, Does, Runs, IsIdle}
-use Rattle.gos_plan.specs.Orderly.{named_by, handshake_at, Open, none_open, with_open, after_taken, after_put, after_puts, ComesWell, AllComeWell, ComesInOrder, AllWelcome, OrderlyFrom, IsOrderly}
+use Rattle.gos_plan.specs.Tokens.{Tokens, Element, Fire, Out, In, asking_in, places_of, held_at, with_held, token_at, with_token, with_state, with_puts, end_of, way_of, way_taken, way_put, bits_of, fired, firing_of, Passes, Does, Runs, IsIdle}
+use Rattle.gos_plan.specs.Orderly.{named_by, handshake_at, Open, none_open, with_open, after_taken, after_put, after_puts, ComesWell, AllComeWell, ComesInOrder, AllWelcome, OrderlyFrom}
 use Rattle.gos_plan.proofs.AskingLemmas.{RequestAsks, PutsAsking, row_asks}
-use Rattle.gos_plan.proofs.DecidedLemmas.{one_state}
 use Rattle.gos_plan.proofs.HeldLemmas.{nothing_there, takes_of}
-use Rattle.gos_plan.proofs.JointLemmas.{IsIn, Found, found, fits, stands_there, same_is}
+use Rattle.gos_plan.proofs.JointLemmas.{found, fits, stands_there, same_is}
 use Rattle.gos_plan.proofs.ProjectionLemmas.{named}
 use Rattle.gos_realises.specs.Regular.{Pass, InputsKeepTurns, IsRegular}
 use Rattle.gos_realises.specs.Realises.{AllGround}
@@ -26,8 +24,9 @@ use Rattle.gos_webs.specs.Cutting.{StandsIn}
 use Rattle.gos_webs.proofs.CutLemmas.{which_end, part_there}
 use Rattle.gos_windows.specs.Regions.{IsLoyal}
 use Rattle.gos_windows.proofs.PortLemmas.{stands_place}
-use Rattle.gos_writes.specs.OneSession.{AllStay, EndsWell, IsOneSession, IsOpenSession, IsRegularAt, IsLoyalAt}
+use Rattle.gos_writes.specs.OneSession.{AllStay, EndsWell, IsOneSession, IsRegularAt, IsLoyalAt}
 use Rattle.gos_writes.specs.Written.{unread_joints, unread}
+use Rattle.gos_writes.proofs.OneSessionLemmas.{open_is_one}
 use Rattle.gos_writes.proofs.AskedLemmas.{ground_asks, ground_role}
 use Rattle.gos_writes.proofs.ClosedLemmas.{asks_itself}
 use Rattle.gos_writes.proofs.JoinedLemmas.{was_in, unread_right}
@@ -414,3 +413,19 @@ module _ (p : Plan) (w : ℕ) (right : IsRight p) (outcome : p.outcome ≡ Var w
   unread_regular s t xs tidy idle one runs turns =
       let here = along xs [] s s t none_open (first_at s idle) turns (session_come c xs one) runs in
       (here.1, (regular s t xs idle here.0 turns).1)
+
+  -- where the list so far leads to
+  reach : (xs hs : List Element) (first s t : Tokens) (o : Open) → At first hs s o → InputsKeepTurns p (passed p [] hs) xs → AllCome c xs → Runs c xs s t
+      → (gs : List Element) × (u : Open) × At first gs t u
+  reach [] hs first s t o so turns come is = (hs, o, subst (λ (x : Tokens). At first hs x o) (sym is) so)
+  reach (y ∷ ys) hs first s t o so turns come (z, does, runs) =
+      let both = first_come y ys come in
+      let step = next first hs y s z o so (first_turns (passed p [] hs) y ys turns) both.0 does in
+      reach ys (hs ++ y ∷ []) first z t step.now step.at (later_turns hs y ys turns) both.1 runs
+
+  pub unread_loyal : (i : ℕ) (t : Type') (side : ℕ) → IsLoyal i t side p → IsLoyalAt 1 i t side c
+  unread_loyal i t side loyal s v u xs slot tidy idle begun runs turns does low =
+      let come = session_come c xs (open_is_one 1 c xs begun) in
+      let (gs, o, at_end) = reach xs [] s s v none_open (first_at s idle) turns come runs in
+      let here = along xs [] s s v none_open (first_at s idle) turns come runs in
+      let step = fire_next s gs i slot v u o at_end does in loyal s v u xs slot idle here.0 turns step.does low

@@ -1,18 +1,20 @@
 -- The plan of a variable without the joint by which it is read, and the stage that it is where it is written.
 --
 -- Read first: Variables; Wirings, Realises of gos_realises.
-use Rattle.std.specs.Prelude.{ℕ, suc, ◌^◌, ◌<◌, List, [], ◌∷◌, Option, Some, None, All, length, nat_eq, nat_lt, if◌then◌else◌}
-use Rattle.gos_types.specs.Types.{Com, Var}
+use Rattle.std.specs.Prelude.{◌≡◌, ℕ, suc, ◌^◌, ◌<◌, List, [], ◌∷◌, Option, Some, None, All, length, nat_eq, nat_lt, if◌then◌else◌}
+use Rattle.gos_types.specs.Types.{Type', Com, Exp, Var}
 use Rattle.gos_model.specs.Terms.{Term, Assign, Lit}
 use Rattle.gos_model.specs.Typing.{Typed}
-use Rattle.gos_plan.specs.Plans.{End, PartEnd, ImportEnd, ResultEnd, Joint, Plan, same_end}
+use Rattle.gos_plan.specs.Plans.{End, PartEnd, ImportEnd, ResultEnd, Joint, Plan, same_end, IsRight}
 use Rattle.gos_plan.specs.Tokens.{places_of}
 use Rattle.gos_plan.specs.TokenBits.{LiteralFits}
 use Rattle.gos_realises.specs.Wirings.{writing}
 use Rattle.gos_realises.specs.Links.{IsJoined}
-use Rattle.gos_realises.specs.Realises.{Realises}
+use Rattle.gos_realises.specs.Regular.{IsRegular}
+use Rattle.gos_realises.specs.Realises.{AllGround, Realises}
 use Rattle.gos_webs.specs.Cutting.{Cut}
-use Rattle.gos_writes.specs.OneSession.{IsRegularAt, IsRestfulAt}
+use Rattle.gos_windows.specs.Regions.{IsLoyal}
+use Rattle.gos_writes.specs.OneSession.{IsRegularAt, IsRestfulAt, IsLoyalAt}
 use Rattle.gos_writes.specs.Realised.{SessionIsRealised}
 use Rattle.gos_writes.specs.Variables.{IsLoneWrite}
 
@@ -49,18 +51,33 @@ written_cut p =
       inner = written_inner p;
     }
 
--- The joining is a lone write of the plan without that joint, if this is regular where it is written.
+-- Where the plan is regular, so is the plan without that joint in the sessions in which it is written; and a Share of it is loyal
+-- there to whom it is loyal in the plan.
+abbrev pub UnreadIsRegular : Type 0
+UnreadIsRegular =
+    (w : ℕ) (p : Plan)
+    → IsRight p → p.outcome ≡ Var w → AllGround p.imports → IsRegular p
+    → IsRegularAt 1 (unread p) × ((i : ℕ) (t : Type') (side : ℕ) → IsLoyal i t side p → IsLoyalAt 1 i t side (unread p))
+
+-- The joining is a lone write of the plan without that joint.
 abbrev pub JoinedIsLoneWrite : Type 0
 JoinedIsLoneWrite =
     (w k : ℕ) (p q : Plan) (m : Term)
-    → Realises (Var w) p m → All LiteralFits p.parts → IsRegularAt 1 (unread p) → k < 2 ^ w → IsJoined (writing w k p) q
+    → Realises (Var w) p m → All LiteralFits p.parts → k < 2 ^ w → IsJoined (writing w k p) q
     → IsLoneWrite q (length p.parts) (suc (length p.parts)) w k (written_cut (unread p)) (unread p)
 
--- So where a plan realises the variable M, the plan without that joint rests after each write, and does what `M := k` does where it
--- is written with k.
+-- So where a plan realises the variable M, the plan without that joint is regular where it is written, rests after each write, and
+-- does what `M := k` does where it is written with k: all that is asked of the stage of M, but how it lies in the whole.
 abbrev pub VariableIsWritten : Type 0
 VariableIsWritten =
     (w : ℕ) (p : Plan) (m : Term)
-    → Realises (Var w) p m → All LiteralFits p.parts → IsRegularAt 1 (unread p)
-    → IsRestfulAt 1 (unread p)
+    → Realises (Var w) p m → All LiteralFits p.parts
+    → IsRegularAt 1 (unread p) × IsRestfulAt 1 (unread p)
     × ((k : ℕ) → k < 2 ^ w → Typed p.imports [] (Assign m (Lit k w)) Com × SessionIsRealised (unread p) 1 k (Assign m (Lit k w)))
+
+-- The same of a plan that realises the expression N: it is the stage of N as it is.
+abbrev pub NumberIsAsked : Type 0
+NumberIsAsked =
+    (w : ℕ) (p : Plan) (n : Term)
+    → Realises (Exp w) p n
+    → IsRegularAt 0 p × IsRestfulAt 0 p × ((i : ℕ) (t : Type') (side : ℕ) → IsLoyal i t side p → IsLoyalAt 0 i t side p)

@@ -2,7 +2,7 @@
 ghost use Rattle.gos_writes.specs.Realised.{WriteRealises, WriteRealisesByType};
 ghost use Rattle.gos_writes.specs.SmallWrites.{LitIsNone, OneIsWritten, ReadIsDropped, ReadIsNoSession, SevenBitsAreNone, StageIsMissing, WriteIsSession};
 ghost use Rattle.gos_writes.specs.Variables.{LoneWriteIsSession};
-ghost use Rattle.gos_writes.specs.Written.{JoinedIsLoneWrite, VariableIsWritten};
+ghost use Rattle.gos_writes.specs.Written.{JoinedIsLoneWrite, NumberIsAsked, UnreadIsRegular, VariableIsWritten};
 ghost use Rattle.gos_writes.specs.Windows.{AssignCan, QuietIsWithin, WritesAreStaged};
 ghost use Rattle.gos_writes.specs.Writes.{WriteIsRegular};
 
@@ -25,11 +25,18 @@ pub fn writes_realise()
     ensures by_type { WriteRealisesByType }
 {}
 
-/// Where a variable's plan joined to an Assign and a Lit of k realises `M := k`, so does the session in which k is written.
+/// Where a plan realises the variable M, the plan without the joint by which it is read is what the stage of M has to be: regular
+/// where it is written, at rest after each write, and it does what `M := k` does where it is written with k.
 pub fn variables()
-    ensures lone { LoneWriteIsSession }
+    ensures unread { UnreadIsRegular }
     ensures joined { JoinedIsLoneWrite }
+    ensures lone { LoneWriteIsSession }
     ensures written { VariableIsWritten }
+{}
+
+/// A plan that realises the expression N is what the stage of N has to be.
+pub fn numbers()
+    ensures { NumberIsAsked }
 {}
 
 /// The plan of `x := 8:1` is a write of two stages, if these are regular. It is none of seven bits, none by the Lit, and none
