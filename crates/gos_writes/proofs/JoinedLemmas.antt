@@ -100,6 +100,41 @@ past_all [] i far = refl
 past_all (x ∷ xs) zero far = absurd (omega (arith, far))
 past_all (x ∷ xs) (suc i) far = past_all xs i (omega (arith, far))
 
+-- of the result handshake 1 alone is left
+module _ (w : ℕ) (p : Plan) (right : IsRight p) (outcome : p.outcome ≡ Var w) where
+  abbrev unread_plan : Plan
+  unread_plan = unread p
+
+  only_so : (h : ℕ) → StandsIn unread_plan (ResultEnd h) → h ≡ 1
+  only_so h (j, listing, stands) = by_joint j (was_in j p.joints (contained unread_plan.joints j listing)) (which_end (ResultEnd h) j stands)
+    where
+      var_contact : (h : ℕ) (x : Contact) → contact_at (record p { outcome = Var w }) (ResultEnd h) ≡ Some x → (h ≡ 0) ⊎ (h ≡ 1)
+      var_contact zero x is = inl refl
+      var_contact (suc zero) x is = inr refl
+      var_contact (suc (suc h)) x is = absurd (none-some x is)
+
+      at_var : (h : ℕ) → contact_at p (ResultEnd h) ≡ contact_at (record p { outcome = Var w }) (ResultEnd h)
+      at_var h = ap (λ t. contact_at (record p { outcome = t }) (ResultEnd h)) outcome
+
+      never_serves : (h x y : ℕ) → contact_at p (ResultEnd h) ≡ Some (serves x y) → ⊥
+      never_serves h x y is =
+          let role : Ask ≡ Serve = ground_asks p.outcome (subst IsGround (sym outcome) tt) h (serves x y) is in cc role
+
+      by_joint : (j : Joint) → IsIn j p.joints × (same_end j.asking (ResultEnd 0) ≡ false) → (ResultEnd h ≡ j.asking) ⊎ (ResultEnd h ≡ j.serving) → h ≡ 1
+      by_joint j (here, apart) (inl is) =
+          let fit = fits p [] p.joints j right here in
+          elim (var_contact h (asks fit.0 fit.1) (sym (at_var h) ∙ (ap (contact_at p) is ∙ fit.2))) [
+            | inl none ↦
+                (let end : j.asking ≡ ResultEnd 0 = sym is ∙ ap ResultEnd none in
+                let clash : same_end (ResultEnd 0) (ResultEnd 0) ≡ false = ap (λ (x : End). same_end x (ResultEnd 0)) (sym end) ∙ apart in absurd (cc clash))
+            | inr one ↦ one
+          ]
+      by_joint j (here, apart) (inr is) =
+          let fit = fits p [] p.joints j right here in absurd (never_serves h fit.0 fit.1 (ap (contact_at p) is ∙ fit.3))
+
+pub only_written : (w : ℕ) (p : Plan) → IsRight p → p.outcome ≡ Var w → (h : ℕ) → StandsIn (unread p) (ResultEnd h) → h ≡ 1
+only_written w p right outcome h stands = only_so w p right outcome h stands
+
 module _
     (w k : ℕ) (p q : Plan) (right : IsRight p) (outcome : p.outcome ≡ Var w) (ground : AllGround p.imports) (differ : NamesDiffer p.imports)
     (literals : All LiteralFits p.parts) (regular : IsRegularAt 1 (unread p)) (small : k < 2 ^ w) (join : IsJoined (writing w k p) q) where
@@ -149,31 +184,7 @@ module _
       none-some x (sym (ap (λ (o : Option Part). slice_get (contacts_of_part o) h) (past_all p.parts i far)) ∙ there)
 
   result_is : (h : ℕ) → StandsIn c (ResultEnd h) → h ≡ 1
-  result_is h (j, listing, stands) = by_joint j (was_in j p.joints (contained c.joints j listing)) (which_end (ResultEnd h) j stands)
-    where
-      var_contact : (h : ℕ) (x : Contact) → contact_at (record p { outcome = Var w }) (ResultEnd h) ≡ Some x → (h ≡ 0) ⊎ (h ≡ 1)
-      var_contact zero x is = inl refl
-      var_contact (suc zero) x is = inr refl
-      var_contact (suc (suc h)) x is = absurd (none-some x is)
-
-      at_var : (h : ℕ) → contact_at p (ResultEnd h) ≡ contact_at (record p { outcome = Var w }) (ResultEnd h)
-      at_var h = ap (λ t. contact_at (record p { outcome = t }) (ResultEnd h)) outcome
-
-      never_serves : (h x y : ℕ) → contact_at p (ResultEnd h) ≡ Some (serves x y) → ⊥
-      never_serves h x y is =
-          let role : Ask ≡ Serve = ground_asks p.outcome (subst IsGround (sym outcome) tt) h (serves x y) is in cc role
-
-      by_joint : (j : Joint) → IsIn j p.joints × (same_end j.asking (ResultEnd 0) ≡ false) → (ResultEnd h ≡ j.asking) ⊎ (ResultEnd h ≡ j.serving) → h ≡ 1
-      by_joint j (here, apart) (inl is) =
-          let fit = fits p [] p.joints j right here in
-          elim (var_contact h (asks fit.0 fit.1) (sym (at_var h) ∙ (ap (contact_at p) is ∙ fit.2))) [
-            | inl none ↦
-                (let end : j.asking ≡ ResultEnd 0 = sym is ∙ ap ResultEnd none in
-                let clash : same_end (ResultEnd 0) (ResultEnd 0) ≡ false = ap (λ (x : End). same_end x (ResultEnd 0)) (sym end) ∙ apart in absurd (cc clash))
-            | inr one ↦ one
-          ]
-      by_joint j (here, apart) (inr is) =
-          let fit = fits p [] p.joints j right here in absurd (never_serves h fit.0 fit.1 (ap (contact_at p) is ∙ fit.3))
+  result_is h stands = only_written w p right outcome h stands
 
   -- an end that serves is none of the result
   serves_plain : (a b : End) → IsIn (joint a b) p.joints → (lies_at f b ≡ b) × IsPlain b

@@ -23,4 +23,5 @@ pub mod SessionsRestLemmas
 pub mod JoinedLemmas
 pub mod UnreadLemmas
 pub mod WrittenLemmas
+pub mod AssignmentLemmas
 pub mod SmallLemmas

@@ -4,4 +4,5 @@ pub mod Windows
 pub mod Realised
 pub mod Variables
 pub mod Written
+pub mod Assignments
 pub mod SmallWrites

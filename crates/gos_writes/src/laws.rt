@@ -1,4 +1,5 @@
 // What the definitions give. Each theorem is the contract of a function that does nothing.
+ghost use Rattle.gos_writes.specs.Assignments.{AssignmentIsRealised};
 ghost use Rattle.gos_writes.specs.Realised.{WriteRealises, WriteRealisesByType};
 ghost use Rattle.gos_writes.specs.SmallWrites.{LitIsNone, OneIsWritten, ReadIsDropped, ReadIsNoSession, SevenBitsAreNone, StageIsMissing, WriteIsSession};
 ghost use Rattle.gos_writes.specs.Variables.{LoneWriteIsSession};
@@ -37,6 +38,11 @@ pub fn variables()
 /// A plan that realises the expression N is what the stage of N has to be.
 pub fn numbers()
     ensures { NumberIsAsked }
+{}
+
+/// The plan of `M := N` realises it, and rests after its answer, where the plans of N and of M realise these.
+pub fn assignments()
+    ensures { AssignmentIsRealised }
 {}
 
 /// The plan of `x := 8:1` is a write of two stages, if these are regular. It is none of seven bits, none by the Lit, and none
