@@ -242,9 +242,9 @@ module _
       by_joint (inr (inl (is_a, here))) =
           (ResultEnd 1, b, listed c.joints (joint (ResultEnd 1) b) (kept_in (joint (ResultEnd 1) b) p.joints refl here), sym is_a, (serves_plain (ResultEnd 1) b here).0)
       by_joint (inr (inr (inl (is_a, is_b)))) =
-          elim inside [ | inl x ↦ absurd (in_result a is_a x) | inr x ↦ absurd (in_own b n 2 is_b own_out x) ]
+          elim inside [ inl x ↦ absurd (in_result a is_a x) | inr x ↦ absurd (in_own b n 2 is_b own_out x) ]
       by_joint (inr (inr (inr (is_a, is_b)))) =
-          elim inside [ | inl x ↦ absurd (in_own a n 0 is_a own_out x) | inr x ↦ absurd (in_own b (suc n) 0 is_b lit_out x) ]
+          elim inside [ inl x ↦ absurd (in_own a n 0 is_a own_out x) | inr x ↦ absurd (in_own b (suc n) 0 is_b lit_out x) ]
 
   -- ports
   import_contact : (i h : ℕ) → contact_at q (ImportEnd i h) ≡ contact_at c (ImportEnd i h)
@@ -371,9 +371,11 @@ module _
           let fit = fits p [] p.joints j right here in absurd (no_part n 1 far (asks fit.0 fit.1) (ap (contact_at p) is ∙ fit.2))
       by_joint (inl (here, plain)) (inr is) =
           let fit = fits p [] p.joints j right here in absurd (no_part n 1 far (serves fit.0 fit.1) (ap (contact_at p) is ∙ fit.3))
-      by_joint (inr (inl (is_a, here))) which =
-          (joint (ResultEnd 1) j.serving, listed c.joints (joint (ResultEnd 1) j.serving) (kept_in (joint (ResultEnd 1) j.serving) p.joints refl here),
-          first_stands (joint (ResultEnd 1) j.serving))
+      by_joint (inr (inl (is_a, here))) which = (
+        joint (ResultEnd 1) j.serving,
+        listed c.joints (joint (ResultEnd 1) j.serving) (kept_in (joint (ResultEnd 1) j.serving) p.joints refl here),
+        first_stands (joint (ResultEnd 1) j.serving),
+      )
       by_joint (inr (inr (inl (is_a, is_b)))) (inl is) = let clash : PartEnd n 1 ≡ ResultEnd 0 = is ∙ is_a in absurd (cc clash)
       by_joint (inr (inr (inl (is_a, is_b)))) (inr is) =
           let clash : PartEnd n 1 ≡ PartEnd n 2 = is ∙ is_b in let shake : ◌≡◌ {A = ℕ} 1 2 = cc clash in absurd (omega (arith, shake))

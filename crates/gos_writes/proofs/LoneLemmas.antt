@@ -85,10 +85,19 @@ module _
   first_list = In (ResultEnd 0) 0 ∷ Fire d (Req 2) ∷ Fire l (Req 0) ∷ Fire d (Ans 0) ∷ []
 
   runs : Runs q first_list s0 s4
-  runs = (prefix.s1 q d l w k f p lone before u tidy idle does, prefix.does1 q d l w k f p lone before u tidy idle does,
-      (prefix.s2 q d l w k f p lone before u tidy idle does, prefix.does2 q d l w k f p lone before u tidy idle does,
-      (prefix.s3 q d l w k f p lone before u tidy idle does, prefix.does3 q d l w k f p lone before u tidy idle does,
-      (s4, prefix.does4 q d l w k f p lone before u tidy idle does, refl))))
+  runs = (
+    prefix.s1 q d l w k f p lone before u tidy idle does,
+    prefix.does1 q d l w k f p lone before u tidy idle does,
+    (
+      prefix.s2 q d l w k f p lone before u tidy idle does,
+      prefix.does2 q d l w k f p lone before u tidy idle does,
+      (
+        prefix.s3 q d l w k f p lone before u tidy idle does,
+        prefix.does3 q d l w k f p lone before u tidy idle does,
+        (s4, prefix.does4 q d l w k f p lone before u tidy idle does, refl),
+      ),
+    ),
+  )
 
   first : Turned q (pass (ResultEnd 0) Request ∷ [])
   first = first_turned q lone.base.ground done
@@ -139,10 +148,19 @@ module _
         (subst (λ (x : Tokens). Runs p (zs ++ tp) x t) (sym seen_is) later) turns
 
     whole_runs : Runs q (In (ResultEnd 0) 0 ∷ Fire d (Req 2) ∷ Fire l (Req 0) ∷ Fire d (Ans 0) ∷ rest) s0 raised.0
-    whole_runs = (prefix.s1 q d l w k f p lone before u tidy idle does, prefix.does1 q d l w k f p lone before u tidy idle does,
-      (prefix.s2 q d l w k f p lone before u tidy idle does, prefix.does2 q d l w k f p lone before u tidy idle does,
-      (prefix.s3 q d l w k f p lone before u tidy idle does, prefix.does3 q d l w k f p lone before u tidy idle does,
-      (s4, prefix.does4 q d l w k f p lone before u tidy idle does, raised.1))))
+    whole_runs = (
+      prefix.s1 q d l w k f p lone before u tidy idle does,
+      prefix.does1 q d l w k f p lone before u tidy idle does,
+      (
+        prefix.s2 q d l w k f p lone before u tidy idle does,
+        prefix.does2 q d l w k f p lone before u tidy idle does,
+        (
+          prefix.s3 q d l w k f p lone before u tidy idle does,
+          prefix.does3 q d l w k f p lone before u tidy idle does,
+          (s4, prefix.does4 q d l w k f p lone before u tidy idle does, raised.1),
+        ),
+      ),
+    )
 
     matched : IsMatched q G (In (ResultEnd 0) 0 ∷ Fire d (Req 2) ∷ Fire l (Req 0) ∷ Fire d (Ans 0) ∷ rest) s0 Idle
     matched =

@@ -1,9 +1,9 @@
 -- The plan of `x := 8:1` is a write of two stages, and what is none.
-use Rattle.std.specs.Prelude.{◌<◌, slice_get, slice_index_or, Contains}
+use Rattle.std.specs.Prelude.{length, ◌<◌, slice_get, slice_index_or, Contains}
 use Rattle.std.proofs.Common.{◌≡◌, ℕ, zero, suc, [], ◌∷◌, ◌⊎◌, Some, inl, inr, refl, sym, ◌∙◌, ap, subst, arith}
 use Rattle.std.proofs.lemmas.Option.{none-some, same_Some}
 use Rattle.gos_plan.specs.Kinds.{Part, Assign, Lit}
-use Rattle.gos_plan.specs.Plans.{End, PartEnd, ImportEnd, ResultEnd, Joint, contact_at, IsRight}
+use Rattle.gos_plan.specs.Plans.{End, PartEnd, ImportEnd, ResultEnd, Joint, Plan, contact_at, IsRight}
 use Rattle.gos_plan.specs.Tokens.{IsPortEnd, Out, In}
 use Rattle.gos_plan.specs.TokenBits.{LiteralFits}
 use Rattle.gos_realises.specs.Realises.{NamesDiffer}
@@ -17,7 +17,8 @@ use Rattle.gos_windows.specs.Regions.{IsRegion}
 use Rattle.gos_windows.specs.Nodes.{Stage, IsOfStage}
 use Rattle.gos_writes.specs.OneSession.{IsRegularAt}
 use Rattle.gos_writes.specs.Writes.{IsWriteStage}
-use Rattle.gos_writes.specs.SmallWrites.{x_written, x_inner, x_out, number_stage, variable_stage, OneIsWritten, SevenBitsAreNone, LitIsNone, StageIsMissing, ReadIsDropped, WriteIsSession, ReadIsNoSession}
+use Rattle.gos_writes.specs.Assignments.{IsLaid}
+use Rattle.gos_writes.specs.SmallWrites.{x_plan, OneIsAssigned, ReadStageIsNone, x_written, x_inner, x_out, number_stage, variable_stage, OneIsWritten, SevenBitsAreNone, LitIsNone, StageIsMissing, ReadIsDropped, WriteIsSession, ReadIsNoSession}
 
 no_member : {A : Type 0} (x : A) → Contains [] x → ⊥
 no_member x (i, less, is) = omega (arith, less)
@@ -123,7 +124,7 @@ x_region =
       inners = x_inners;
       contacts = λ e port stands. x_contacts e stands;
       joints = x_joints;
-      all = λ a b listing inside. elim inside [ | inl x ↦ absurd (nothing_inside a x) | inr x ↦ absurd (nothing_inside b x) ];
+      all = λ a b listing inside. elim inside [ inl x ↦ absurd (nothing_inside a x) | inr x ↦ absurd (nothing_inside b x) ];
       serving = λ x has. absurd (no_member x has);
       unused = λ x i j has. absurd (no_member x has);
     }
@@ -240,3 +241,50 @@ write_is_session = (refl, inr (Out (ImportEnd 0 1) 5 ∷ In (ImportEnd 0 1) 0 �
 
 pub read_is_no_session : ReadIsNoSession
 read_is_no_session (is, rest) = let shake : ◌≡◌ {A = ℕ} 0 1 = cc is in omega (arith, shake)
+
+-- as an assignment
+laid_number : IsLaid write_plan 0 number_stage one_plan
+laid_number =
+    record {
+      region = number_region;
+      outside = refl;
+      loyal = λ x i has. absurd (no_member x has);
+      run_by = λ stands. refl;
+      imports = λ i has. absurd (no_member i has);
+      ports = λ i h stands. absurd (no_import i h (one_port (ImportEnd i h) tt stands));
+    }
+
+laid_variable : IsLaid write_plan 0 variable_stage x_plan
+laid_variable =
+    record {
+      region = x_region;
+      outside = refl;
+      loyal = λ x i has. absurd (no_member x has);
+      run_by = λ stands. refl;
+      imports = λ i has. has;
+      ports = λ i h stands.
+          (let at = x_import i h (x_port (ImportEnd i h) stands) in
+          (0, ap (ImportEnd 0) (sym at.1), ap (λ (n : ℕ). slice_get x_written.imports n) (sym at.0)));
+    }
+
+pub one_is_assigned : OneIsAssigned
+one_is_assigned =
+    record {
+      right = one_is_written.cut.whole_right;
+      own = refl;
+      outcome = refl;
+      literals = fit;
+      ground = (tt, tt);
+      names = one_name;
+      asked = refl;
+      written = refl;
+      plan = refl;
+      own_literals = λ k d less. absurd (omega (arith, less));
+      laid_number = laid_number;
+      laid_variable = laid_variable;
+      result = (0, omega arith, refl);
+      joints = joints;
+    }
+
+pub read_stage_is_none : ReadStageIsNone
+read_stage_is_none is = let joints_so : ◌≡◌ {A = ℕ} 2 1 = ap (λ (x : Plan). length x.joints) is.plan in omega (arith, joints_so)

@@ -461,8 +461,8 @@ module _
 
           by_contact : (o : Option Contact) → contact_at g.plan (ResultEnd g.asked_at) ≡ o → Passes g.plan (In (ResultEnd g.asked_at) n) o (seen g s) (seen g s)
           by_contact None lost_there = (
-                let clash : None ≡ Some (asks (request_bits g.asked_at wide) (answer_bits g.asked_at wide)) = sym lost_there ∙ asked_contact g.plan g.asked_at wide stage.low stage.outcome in
-                absurd (cc clash)
+              let clash : None ≡ Some (asks (request_bits g.asked_at wide) (answer_bits g.asked_at wide)) = sym lost_there ∙ asked_contact g.plan g.asked_at wide stage.low stage.outcome in
+              absurd (cc clash)
               )
           by_contact (Some k) is = (
             subst (λ (way : Direction). n < 2 ^ bits_of k way) (small k is).0 (small k is).1,

@@ -1,6 +1,6 @@
 -- The plan of `x := 8:1`, with an import x of a variable, as a write of two stages; and what is none.
 --
--- Read first: Writes, Written; SmallWrites of gos_assigned.
+-- Read first: Writes, Written, Assignments; SmallWrites of gos_assigned.
 use Rattle.std.specs.Prelude.{◌≡◌, zero, suc, [], ◌∷◌, Option, Some, None}
 use Rattle.gos_types.specs.Types.{Var}
 use Rattle.gos_plan.specs.Plans.{End, PartEnd, ImportEnd, ResultEnd, Plan}
@@ -12,6 +12,7 @@ use Rattle.gos_windows.specs.Nodes.{Stage}
 use Rattle.gos_writes.specs.OneSession.{IsRegularAt, IsOneSession}
 use Rattle.gos_writes.specs.Writes.{IsWrite}
 use Rattle.gos_writes.specs.Written.{unread}
+use Rattle.gos_writes.specs.Assignments.{IsAssignment}
 
 -- the plan of x, and where it is written alone
 abbrev pub x_plan : Plan
@@ -77,3 +78,10 @@ WriteIsSession = IsOneSession 1 x_written (In (ResultEnd 1) 5 ∷ Out (ImportEnd
 
 abbrev pub ReadIsNoSession : Type 0
 ReadIsNoSession = IsOneSession 1 x_written (In (ResultEnd 0) 0 ∷ []) → ⊥
+
+-- With the plan of x for that of M it is an assignment; and none where the stage of x has the joint by which x is read.
+abbrev pub OneIsAssigned : Type 0
+OneIsAssigned = IsAssignment write_plan 0 8 number_stage variable_stage x_plan
+
+abbrev pub ReadStageIsNone : Type 0
+ReadStageIsNone = IsAssignment write_plan 0 8 number_stage (record variable_stage { plan = x_plan }) x_plan → ⊥

@@ -5,4 +5,6 @@
 
 mod laws;
 
-pub use laws::{assignments, numbers, small_writes, variables, writes, writes_are_regular, writes_realise};
+pub use laws::{
+    assignments, numbers, small_writes, variables, writes, writes_are_regular, writes_realise,
+};

@@ -21,3 +21,9 @@ returns-clause-session c = small.write_is_session
 
 pub returns-clause-no_session : goal.returns-clause-no_session
 returns-clause-no_session c = small.read_is_no_session
+
+pub returns-clause-assigned : goal.returns-clause-assigned
+returns-clause-assigned c = small.one_is_assigned
+
+pub returns-clause-read : goal.returns-clause-read
+returns-clause-read c = small.read_stage_is_none
