@@ -57,7 +57,7 @@ held_self q p c d e f =
     (λ i. held c.role q (e i) (f i)) ∙ (ap (λ (b : Bool). if b then once q q else 0) (alike_self c.role) ∙ once_self q)
 
 -- each flow from a point counts
-leaves_counted : (fs : List Flow) (q x : Point) (c : Contact) → Leaves fs q x c → 1 ≤ meets c.role q fs
+pub leaves_counted : (fs : List Flow) (q x : Point) (c : Contact) → Leaves fs q x c → 1 ≤ meets c.role q fs
 leaves_counted [] q x c (f, (n, small, e), ways) = absurd (omega (arith, small))
 leaves_counted (g ∷ fs) q x c (f, (zero, small, e), inl (a, b, d)) =
     let here = held_self q g.one c g.contact (ap (λ (h : Flow). h.one) e ∙ a) (ap (λ (h : Flow). h.contact) e ∙ d) in omega (arith, here)
@@ -93,7 +93,7 @@ one_flow g q x y c d e few (inr (a, b, f)) (inl (a', b', f')) =
 way_is : (g f : Flow) (q x : Point) (c : Contact) → g ≡ f → Way f q x c → Way g q x c
 way_is g f q x c e ways = subst (λ (h : Flow). Way h q x c) (sym e) ways
 
-one_leaves : (fs : List Flow) (q x y : Point) (c d : Contact) → c.role ≡ d.role → meets c.role q fs ≤ 1 → Leaves fs q x c → Leaves fs q y d → x ≡ y
+pub one_leaves : (fs : List Flow) (q x y : Point) (c d : Contact) → c.role ≡ d.role → meets c.role q fs ≤ 1 → Leaves fs q x c → Leaves fs q y d → x ≡ y
 one_leaves [] q x y c d e few (f, (n, small, is), ways) other = absurd (omega (arith, small))
 one_leaves (g ∷ fs) q x y c d e few (f, (zero, small, is), ways) (f', (zero, small', is'), ways') =
     one_flow g q x y c d e (omega (arith, few)) (way_is g f q x c is ways) (way_is g f' q y d is' ways')
@@ -118,7 +118,7 @@ held_few : (b : Bool) (x : ℕ) → (if b then x else 0) ≤ x
 held_few true x = omega arith
 held_few false x = omega arith
 
-meets_few : (r : Role) (q : Point) (fs : List Flow) → meets r q fs ≤ meetings q (map tie_in fs)
+pub meets_few : (r : Role) (q : Point) (fs : List Flow) → meets r q fs ≤ meetings q (map tie_in fs)
 meets_few r q [] = omega arith
 meets_few r q (f ∷ fs) =
     let first = held_few (alike r f.contact.role) (once q f.one) in
@@ -131,7 +131,7 @@ module _ (parts : List Part) (is : Imports) (outcome : Type') (types : Types) (t
   abbrev Has : Place → ℕ → Contact → Type 0
   Has = sight.Has parts is outcome types table
 
-  leaves_have : (fs : List Flow) → sight.AllHave parts is outcome types table fs → (q x : Point) (c : Contact) → Leaves fs q x c → Has q.place q.shake c
+  pub leaves_have : (fs : List Flow) → sight.AllHave parts is outcome types table fs → (q x : Point) (c : Contact) → Leaves fs q x c → Has q.place q.shake c
   leaves_have [] all q x c (f, (n, small, e), ways) = absurd (omega (arith, small))
   leaves_have (g ∷ fs) all q x c (f, (zero, small, e), inl (a, b, d)) =
       let point : g.one ≡ q = ap (λ (h : Flow). h.one) e ∙ a in
@@ -149,7 +149,7 @@ module _ (parts : List Part) (is : Imports) (outcome : Type') (types : Types) (t
   plain : (o : Option Contact) (c d : Contact) → (c.role ≡ d.role → ⊥) → o ≡ Some c → o ≡ Some d → d ≡ turned_contact c
   plain o c d differ e f = absurd (differ (ap (λ (k : Contact). k.role) (one_contact o c d e f)))
 
-  either : (o : Option Contact) (c d : Contact) → (c.role ≡ d.role → ⊥) → (o ≡ Some c) ⊎ (o ≡ Some (turned_contact c))
+  pub either : (o : Option Contact) (c d : Contact) → (c.role ≡ d.role → ⊥) → (o ≡ Some c) ⊎ (o ≡ Some (turned_contact c))
       → (o ≡ Some d) ⊎ (o ≡ Some (turned_contact d)) → d ≡ turned_contact c
   either o c d differ (inl e) (inl f) = plain o c d differ e f
   either o c d differ (inl e) (inr f) = sym (twice_turned d) ∙ ap turned_contact (sym (one_contact o c (turned_contact d) e f))
@@ -158,14 +158,14 @@ module _ (parts : List Part) (is : Imports) (outcome : Type') (types : Types) (t
       let same : c ≡ d = sym (twice_turned c) ∙ (ap turned_contact (one_contact o (turned_contact c) (turned_contact d) e f) ∙ twice_turned d) in
       absurd (differ (ap (λ (k : Contact). k.role) same))
 
-  through_at : (q : Place) (h : ℕ) (c d : Contact) → (c.role ≡ d.role → ⊥) → Has q h c → Has q h d → d ≡ turned_contact c
+  pub through_at : (q : Place) (h : ℕ) (c d : Contact) → (c.role ≡ d.role → ⊥) → Has q h c → Has q h d → d ≡ turned_contact c
   through_at (places.Part i) h c d differ e f = plain _ c d differ e f
   through_at (places.Import i) h c d differ e f = plain _ c d differ e f
   through_at places.Result h c d differ e f = plain _ c d differ e f
   through_at (places.Number n) h c d differ e f = either _ c d differ e f
   through_at (places.Node j) h c d differ e f = either _ c d differ e f
 
-turned_option : (o : Option Contact) → turned_if o ≡ option_map turned_contact o
+pub turned_option : (o : Option Contact) → turned_if o ≡ option_map turned_contact o
 turned_option None = refl
 turned_option (Some c) = refl
 
@@ -230,10 +230,10 @@ module _ (program : Program) (t : Type') (w : ℕ) (m : Numbered) (p : Plan) (st
         by_place places.Result h e = end_few r q (ResultEnd h) (ap end_at e)
         by_place (places.Number k) h e =
             subst (λ (x : Point). meets r x fs ≤ 1) (sym e)
-            (number_once p.parts p.imports p.outcome table types is m typed (table_fits 0 m) parts_at sees imports_typed r k h (stands.used_once k) (stands.made_once k) (stands.no_import k))
+            (number_once p.parts p.imports p.outcome table types is 0 0 m typed (table_fits 0 m) parts_at sees imports_typed r k h (stands.used_once k) (stands.made_once k) (stands.no_import k))
         by_place (places.Node k) h e =
             subst (λ (x : Point). meets r x fs ≤ 1) (sym e)
-            (node_once p.parts p.imports p.outcome table types is m typed (table_fits 0 m) parts_at sees imports_typed r k h)
+            (node_once p.parts p.imports p.outcome table types is 0 0 m typed (table_fits 0 m) parts_at sees imports_typed r k h)
 
     end_is : (e : End) (k c : Contact) → contact_at p e ≡ Some k → sight.Has p.parts p.imports p.outcome types table (at e).place (at e).shake c → k ≡ c
     end_is (PartEnd i h) k c there has = let both : Some k ≡ Some c = sym there ∙ has in cc both

@@ -49,7 +49,7 @@ role_cases Serve Ask = apart (λ e. cc e)
 role_cases Ask Serve = apart (λ e. cc e)
 role_cases Ask Ask = same refl
 
-leaves_back : (fs : List Flow) (q x : Point) (c : Contact) → Leaves fs q x c → Leaves fs x q (turned_contact c)
+pub leaves_back : (fs : List Flow) (q x : Point) (c : Contact) → Leaves fs q x c → Leaves fs x q (turned_contact c)
 leaves_back fs q x c (f, has, inl (a, b, e)) = (f, has, inr (b, a, ap turned_contact e))
 leaves_back fs q x c (f, has, inr (a, b, e)) =
     (f, has, inl (b, a, sym (twice_turned f.contact) ∙ ap turned_contact e))

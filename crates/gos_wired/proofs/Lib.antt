@@ -17,4 +17,6 @@ pub mod WeightLemmas
 pub mod TermCountLemmas
 pub mod InnerCountLemmas
 pub mod FairLemmas
+pub mod ChainLemmas
+pub mod WiredFitLemmas
 mod SmallWiredLemmas

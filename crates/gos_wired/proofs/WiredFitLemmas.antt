@@ -1,0 +1,240 @@
+-- What a wired node connects fits: what leads from a dot of its web is fair.
+--
+-- Read first: ChainLemmas, FairLemmas. From a dot lead the flows of the term, the joints of the supplies, and the ties between
+-- numbers and the supplies' results.
+use Rattle.std.specs.Prelude.{◌≡◌, ◌≢◌, ℕ, zero, suc, ◌+◌, ◌≤◌, ◌<◌, Bool, true, false, List, [], ◌∷◌, ◌++◌, ◌⊎◌, length, map, Option, Some, None, Contains, slice_get, if◌then◌else◌, option_map}
+use Rattle.std.proofs.Common.{refl, sym, ◌∙◌, ap, subst, arith, inl, inr}
+use Rattle.std.proofs.lemmas.List.Elements.{Contains-append_cases}
+use Rattle.std.proofs.lemmas.Option.{slice_get-map}
+use Rattle.gos_types.specs.declared.shakes.Role.{Role}
+use Rattle.gos_types.specs.declared.shakes.Role.TheVariants.{Serve, Ask}
+use Rattle.gos_types.specs.Handshakes.{turned}
+use Rattle.gos_types.specs.Types.{Type'}
+use Rattle.gos_model.specs.Typing.{Imports, Imported}
+use Rattle.gos_check.specs.Nodes.{Numbered, type_of_node}
+use Rattle.gos_check.specs.Linearity.{times, used, made}
+use Rattle.gos_plan.specs.Kinds as kinds
+use Rattle.gos_plan.specs.Kinds.{Part, Contact, asks, serves, contacts_of, turned_contact}
+use Rattle.gos_plan.specs.Plans.{End, PartEnd, ImportEnd, ResultEnd, Joint, Plan, contact_at, turned_if, IsRight}
+use Rattle.gos_plan.proofs.JointLemmas.{IsIn, fits, one_joint, contained}
+use Rattle.gos_ties.specs.declared.points.Place.TheVariants as places
+use Rattle.gos_ties.specs.declared.points.Place as point_places
+use Rattle.gos_ties.specs.declared.points.Point.{Point}
+use Rattle.gos_ties.specs.declared.points.Tie as point_ties
+use Rattle.gos_ties.specs.Ties.{point}
+use Rattle.gos_ties.specs.Counted.{meetings}
+use Rattle.gos_realises.specs.Regular.{count}
+use Rattle.gos_webs.specs.Webs.{Dot, Of, Number, Node, Within, Tie, tie, joint, own_web}
+use Rattle.gos_webs.proofs.WebLemmas.{asks_there, serves_there}
+use Rattle.gos_unions.proofs.UnionLemmas.{Image, of_image}
+use Rattle.gos_compile.specs.Wiring.{Types, row, parts_of, ties_of}
+use Rattle.gos_compile.specs.Typed.{NodesTyped}
+use Rattle.gos_compile.proofs.TallyLemmas as tallies
+use Rattle.gos_compile.proofs.ThinLemmas.{span_once, part_tells, outside_tells}
+use Rattle.gos_wired.specs.Wired.{dot_of, dot_ties, Supplies, result_ties, Source, Own, Supplied, Placing}
+use Rattle.gos_wired.specs.NodeFitting.{IsLinear, AreOfTypes}
+use Rattle.gos_wired.proofs.WayLemmas.{point_is}
+use Rattle.gos_wired.proofs.FlowLemmas.{Flow, tie_in, Leaves, leaves_back, twice_turned}
+use Rattle.gos_wired.proofs.FlowedLemmas.{seen, flows_of}
+use Rattle.gos_wired.proofs.OutLemmas.{seen_length}
+use Rattle.gos_wired.proofs.SightLemmas as sight
+use Rattle.gos_wired.proofs.TableLemmas.{table_of, table_fits}
+use Rattle.gos_wired.proofs.TermFlowLemmas.{flows_good}
+use Rattle.gos_wired.proofs.CountLemmas.{alike, meets, is_it}
+use Rattle.gos_wired.proofs.InnerCountLemmas.{number_once, number_made, node_once}
+use Rattle.gos_wired.proofs.FairLemmas.{leaves_counted, one_leaves, meets_few, leaves_have, either, through_at, turned_option}
+use Rattle.gos_wired.proofs.ChainLemmas.{IsFair}
+
+-- so many parts before those of the node
+abbrev pads : ℕ → List Part
+pads zero = []
+pads (suc n) = kinds.Skip ∷ pads n
+
+behind_pads : (i : ℕ) (ks : List Part) (k : ℕ) → slice_get (pads i ++ ks) (i + k) ≡ slice_get ks k
+behind_pads zero ks k = let zeros : 0 + k ≡ k = omega arith in ap (slice_get ks) zeros
+behind_pads (suc i) ks k = let sum : suc i + k ≡ suc (i + k) = omega arith in ap (slice_get (kinds.Skip ∷ (pads i ++ ks))) sum ∙ behind_pads i ks k
+
+abbrev web_of : Dot → ℕ
+web_of (Of e) = 0
+web_of (Number n h) = 0
+web_of (Node n h) = 0
+web_of (Within k d) = k
+
+other_webs : (n : ℕ) (a b : Dot) → Within 0 a ≡ Within (suc n) b → ⊥
+other_webs n a b e = let no : 0 ≡ suc n = ap web_of e in omega (arith, no)
+
+not_itself : (c : Contact) → c.role ≡ turned c.role → ⊥
+not_itself c e = by c.role e
+  where
+    by : (r : Role) → r ≡ turned r → ⊥
+    by Serve e = cc e
+    by Ask e = cc e
+
+not_alike : (r : Role) → alike r (turned r) ≡ false
+not_alike Serve = refl
+not_alike Ask = refl
+
+seen_at : (t : Type') (h : ℕ) (c : Contact) → slice_get (contacts_of t) h ≡ Some c → slice_get (seen t) h ≡ Some (turned_contact c)
+seen_at t h c e = slice_get-map turned_contact (contacts_of t) h ∙ ap (option_map turned_contact) e
+
+one_contact : (o : Option Contact) (c d : Contact) → o ≡ Some c → o ≡ Some d → c ≡ d
+one_contact o c d e f = let both : Some c ≡ Some d = sym e ∙ f in cc both
+
+-- what an end of a joint meets
+one_partner : (p : Plan) → IsRight p → (e f g : End) → Contains p.joints (joint e f) ⊎ Contains p.joints (joint f e)
+    → Contains p.joints (joint e g) ⊎ Contains p.joints (joint g e) → f ≡ g
+one_partner p right e f g (inl a) (inl b) =
+    ap (λ (j : Joint). j.serving) (one_joint p [] p.joints (joint e f) (joint e g) e right (contained p.joints (joint e f) a) (contained p.joints (joint e g) b) (asks_there e f) (asks_there e g))
+one_partner p right e f g (inr a) (inr b) =
+    ap (λ (j : Joint). j.asking) (one_joint p [] p.joints (joint f e) (joint g e) e right (contained p.joints (joint f e) a) (contained p.joints (joint g e) b) (serves_there f e) (serves_there g e))
+one_partner p right e f g (inl a) (inr b) =
+    let same = one_joint p [] p.joints (joint e f) (joint g e) e right (contained p.joints (joint e f) a) (contained p.joints (joint g e) b) (asks_there e f) (serves_there g e) in
+    ap (λ (j : Joint). j.serving) same ∙ ap (λ (j : Joint). j.asking) same
+one_partner p right e f g (inr a) (inl b) =
+    let same = one_joint p [] p.joints (joint f e) (joint e g) e right (contained p.joints (joint f e) a) (contained p.joints (joint e g) b) (serves_there f e) (asks_there e g) in
+    ap (λ (j : Joint). j.asking) same ∙ ap (λ (j : Joint). j.serving) same
+
+module _ (types : Types) (i j : ℕ) (m : Numbered) (ns : List ℕ) (env : Supplies) (typed : NodesTyped types m) (linear : IsLinear m ns)
+    (supplies : AreOfTypes types env ns)
+  where
+    abbrev parts : List Part
+    parts = pads i ++ parts_of types m
+
+    abbrev table : ℕ → List Contact
+    table = table_of j m
+
+    abbrev outcome : Type'
+    outcome = type_of_node m
+
+    abbrev out : List Point
+    out = row places.Result 0 (count (type_of_node m))
+
+    abbrev fs : List Flow
+    fs = flows_of types i j m out
+
+    abbrev own_ties : List point_ties.Tie
+    own_ties = ties_of types i j m out
+
+    parts_at : sight.PartsAt parts [] outcome types table i (parts_of types m)
+    parts_at k x there = behind_pads i (parts_of types m) k ∙ there
+
+    sees : sight.See parts [] outcome types table (seen outcome) out
+    sees =
+        sight.see_row parts [] outcome types table places.Result 0 (seen outcome) (count outcome) (sym (seen_length outcome))
+        (λ k c there. let start : 0 + k ≡ k = omega arith in ap (slice_get (seen outcome)) start ∙ there)
+
+    good : sight.Good parts [] outcome types table fs own_ties
+    good = flows_good parts [] outcome types table i j m out typed (table_fits j m) parts_at sees
+
+    no_imports : (k : ℕ) (x : Imported) → slice_get [] k ≡ Some x → types (0 + k) ≡ x.ty
+    no_imports k x there = absurd (cc there)
+
+    -- each point of the term is met in each role once
+    met_by_ties : (r : Role) (q : Point) → meetings q own_ties ≤ 1 → meets r q fs ≤ 1
+    met_by_ties r q few =
+        let all = meets_few r q fs in
+        let same : meetings q (map tie_in fs) ≡ meetings q own_ties = ap (meetings q) good.1 in
+        omega (arith, all, same, few)
+
+    met_once : (r : Role) (q : Point) → meets r q fs ≤ 1
+    met_once r q = by_place q.place q.shake refl
+      where
+        by_place : (x : point_places.Place) (h : ℕ) → q ≡ record { place = x; shake = h } → meets r q fs ≤ 1
+        by_place (places.Part k) h e =
+            subst (λ (x : Point). meets r x fs ≤ 1) (sym e)
+            (met_by_ties r (point (places.Part k) h)
+            (let all = tallies.tallied (point (places.Part k) h) types i j m out in
+            let none = tallies.row_once (point (places.Part k) h) places.Result 0 (count outcome) in
+            let tells = part_tells k types i j m in
+            let few = span_once k i (length (parts_of types m)) in
+            omega (arith, all, none, tells, few)))
+        by_place (places.Import k) h e =
+            subst (λ (x : Point). meets r x fs ≤ 1) (sym e)
+            (met_by_ties r (point (places.Import k) h)
+            (let all = tallies.tallied (point (places.Import k) h) types i j m out in
+            let none = tallies.row_once (point (places.Import k) h) places.Result 0 (count outcome) in
+            let tells = outside_tells (places.Import k) (λ n. refl) types i j m in
+            omega (arith, all, none, tells)))
+        by_place places.Result h e =
+            subst (λ (x : Point). meets r x fs ≤ 1) (sym e)
+            (met_by_ties r (point places.Result h)
+            (let all = tallies.tallied (point places.Result h) types i j m out in
+            let own = tallies.row_once (point places.Result h) places.Result 0 (count outcome) in
+            let tells = outside_tells places.Result (λ n. refl) types i j m in
+            omega (arith, all, own, tells)))
+        by_place (places.Number k) h e =
+            subst (λ (x : Point). meets r x fs ≤ 1) (sym e)
+            (number_once parts [] outcome table types [] i j m typed (table_fits j m) parts_at sees no_imports r k h (linear.used_once k) (linear.made_once k)
+            (λ some. omega arith))
+        by_place (places.Node k) h e =
+            subst (λ (x : Point). meets r x fs ≤ 1) (sym e)
+            (node_once parts [] outcome table types [] i j m typed (table_fits j m) parts_at sees no_imports r k h)
+
+    -- what leads from a dot
+    abbrev pub OfTerm : Dot → Dot → Contact → Type 0
+    OfTerm d x c = (q y : Point) × (d ≡ Within 0 (dot_of q)) × (x ≡ Within 0 (dot_of y)) × Leaves fs q y c
+
+    abbrev pub OfJoint : Dot → Dot → Contact → Type 0
+    OfJoint d x c =
+        (n : ℕ) × (e f : End) × Contains ns n × (d ≡ Within (suc n) (Of e)) × (x ≡ Within (suc n) (Of f)) × (contact_at (env n).plan e ≡ Some c)
+        × (contact_at (env n).plan f ≡ Some (turned_contact c)) × (Contains (env n).plan.joints (joint e f) ⊎ Contains (env n).plan.joints (joint f e))
+
+    abbrev pub ToResult : Dot → Dot → Contact → Type 0
+    ToResult d x c =
+        (n h : ℕ) × Contains ns n × (d ≡ Within 0 (Number n h)) × (x ≡ Within (suc n) (Of (ResultEnd h))) × (slice_get (seen (types n)) h ≡ Some c)
+
+    abbrev pub FromResult : Dot → Dot → Contact → Type 0
+    FromResult d x c =
+        (n h : ℕ) × Contains ns n × (d ≡ Within (suc n) (Of (ResultEnd h))) × (x ≡ Within 0 (Number n h)) × (slice_get (contacts_of (types n)) h ≡ Some c)
+
+    abbrev pub Leads : Dot → Dot → Contact → Type 0
+    Leads d x c = OfTerm d x c ⊎ OfJoint d x c ⊎ ToResult d x c ⊎ FromResult d x c
+
+    back : (d x : Dot) (c : Contact) → Leads d x c → Leads x d (turned_contact c)
+    back d x c (inl (q, y, at_d, at_x, leaves)) = inl (y, q, at_x, at_d, leaves_back fs q y c leaves)
+    back d x c (inr (inl (n, e, f, among, at_d, at_x, at_e, at_f, joins))) =
+        inr (inl (n, f, e, among, at_x, at_d, at_f, at_e ∙ ap (λ (k : Contact). Some k) (sym (twice_turned c)), turn joins))
+      where
+        turn : Contains (env n).plan.joints (joint e f) ⊎ Contains (env n).plan.joints (joint f e)
+            → Contains (env n).plan.joints (joint f e) ⊎ Contains (env n).plan.joints (joint e f)
+        turn (inl a) = inr a
+        turn (inr a) = inl a
+    back d x c (inr (inr (inl (n, h, among, at_d, at_x, at_h)))) =
+        inr (inr (inr (n, h, among, at_x, at_d, sight.turned_at (contacts_of (types n)) h c at_h)))
+    back d x c (inr (inr (inr (n, h, among, at_d, at_x, at_h)))) = inr (inr (inl (n, h, among, at_x, at_d, seen_at (types n) h c at_h)))
+
+    -- the point of a number, as a dot
+    number_is : (q : Point) (n h : ℕ) → Within 0 (dot_of q) ≡ Within 0 (Number n h) → q ≡ point (places.Number n) h
+    number_is q n h e = let inner : dot_of q ≡ Number n h = cc e in point_is q (point (places.Number n) h) inner
+
+    point_same : (q y : Point) → Within 0 (dot_of q) ≡ Within 0 (dot_of y) → q ≡ y
+    point_same q y e = let inner : dot_of q ≡ dot_of y = cc e in point_is q y inner
+
+    -- a number that has a supply is not made in the term, so nothing leads on in that role
+    not_made : (q y : Point) (n h : ℕ) (c d : Contact) → Contains ns n → q ≡ point (places.Number n) h → Leaves fs q y c → slice_get (seen (types n)) h ≡ Some d
+        → c.role ≡ d.role → ⊥
+    not_made q y n h c d among is leaves at_h e =
+        let there : Leaves fs (point (places.Number n) h) y c = subst (λ (z : Point). Leaves fs z y c) is leaves in
+        let some = leaves_counted fs (point (places.Number n) h) y c there in
+        let own : slice_get (contacts_of (types n)) h ≡ Some (turned_contact d) = sight.turned_at (contacts_of (types n)) h d at_h in
+        let differs : is_it c.role (slice_get (contacts_of (types n)) h) ≡ false =
+        ap (is_it c.role) own ∙ (ap (λ (r : Role). alike r (turned d.role)) e ∙ not_alike d.role)
+        in
+        let few = number_made parts [] outcome table types [] i j m typed (table_fits j m) parts_at sees no_imports c.role n h differs in
+        let none = linear.supplied n among in
+        omega (arith, some, few, none)
+
+    result_turned : (n h : ℕ) (c d : Contact) → Contains ns n → contact_at (env n).plan (ResultEnd h) ≡ Some c → slice_get (contacts_of (types n)) h ≡ Some d
+        → c ≡ turned_contact d
+    result_turned n h c d among at_c at_d =
+        let type = (supplies n among).1 in
+        let there : turned_if (slice_get (contacts_of (env n).plan.outcome) h) ≡ Some (turned_contact d) =
+        ap (λ (t : Type'). turned_if (slice_get (contacts_of t) h)) type ∙ ap turned_if at_d
+        in
+        one_contact (contact_at (env n).plan (ResultEnd h)) c (turned_contact d) at_c there
+
+    inner_is : (n k : ℕ) (e f : End) → Within (suc n) (Of e) ≡ Within (suc k) (Of f) → (n ≡ k) × (e ≡ f)
+    inner_is n k e f is = (cc is, cc is)
+
+    number_same : (n k h g : ℕ) → Within 0 (Number n h) ≡ Within 0 (Number k g) → (n ≡ k) × (h ≡ g)
+    number_same n k h g is = (cc is, cc is)
