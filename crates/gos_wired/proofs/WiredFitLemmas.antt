@@ -26,14 +26,16 @@ use Rattle.gos_ties.specs.Counted.{meetings}
 use Rattle.gos_realises.specs.Regular.{count}
 use Rattle.gos_webs.specs.Webs.{Dot, Of, Number, Node, Within, Tie, tie, joint, own_web}
 use Rattle.gos_webs.proofs.WebLemmas.{asks_there, serves_there}
+use Rattle.gos_unions.specs.Unions.{within}
 use Rattle.gos_unions.proofs.UnionLemmas.{Image, of_image}
 use Rattle.gos_compile.specs.Wiring.{Types, row, parts_of, ties_of}
 use Rattle.gos_compile.specs.Typed.{NodesTyped}
 use Rattle.gos_compile.proofs.TallyLemmas as tallies
 use Rattle.gos_compile.proofs.ThinLemmas.{span_once, part_tells, outside_tells}
-use Rattle.gos_wired.specs.Wired.{dot_of, dot_ties, Supplies, result_ties, Source, Own, Supplied, Placing}
+use Rattle.gos_wired.specs.Wired.{dot_of, dot_ties, Supplies, result_ties, all_supply_ties}
 use Rattle.gos_wired.specs.NodeFitting.{IsLinear, AreOfTypes}
 use Rattle.gos_wired.proofs.WayLemmas.{point_is}
+use Rattle.gos_wired.proofs.TieLemmas.{inside, of_results, OfSupplies, of_supplies}
 use Rattle.gos_wired.proofs.FlowLemmas.{Flow, tie_in, Leaves, leaves_back, twice_turned}
 use Rattle.gos_wired.proofs.FlowedLemmas.{seen, flows_of}
 use Rattle.gos_wired.proofs.OutLemmas.{seen_length}
@@ -238,3 +240,175 @@ module _ (types : Types) (i j : ℕ) (m : Numbered) (ns : List ℕ) (env : Suppl
 
     number_same : (n k h g : ℕ) → Within 0 (Number n h) ≡ Within 0 (Number k g) → (n ≡ k) × (h ≡ g)
     number_same n k h g is = (cc is, cc is)
+
+    joint_moved : (n k : ℕ) (e f g : End) → n ≡ k → e ≡ f → Contains (env k).plan.joints (joint f g) ⊎ Contains (env k).plan.joints (joint g f)
+        → Contains (env n).plan.joints (joint e g) ⊎ Contains (env n).plan.joints (joint g e)
+    joint_moved n k e f g numbers ends joins =
+        subst (λ (z : End). Contains (env n).plan.joints (joint z g) ⊎ Contains (env n).plan.joints (joint g z)) (sym ends)
+        (subst (λ (l : ℕ). Contains (env l).plan.joints (joint f g) ⊎ Contains (env l).plan.joints (joint g f)) (sym numbers) joins)
+
+    contact_moved : (n k : ℕ) (e f : End) (c : Contact) → n ≡ k → e ≡ f → contact_at (env n).plan e ≡ Some c → contact_at (env k).plan f ≡ Some c
+    contact_moved n k e f c numbers ends at =
+        subst (λ (l : ℕ). contact_at (env l).plan f ≡ Some c) numbers (subst (λ (z : End). contact_at (env n).plan z ≡ Some c) ends at)
+
+    once : (d x y : Dot) (c k : Contact) → Leads d x c → Leads d y k → c.role ≡ k.role → x ≡ y
+    once d x y c k (inl (q, u, at_d, at_x, leaves)) (inl (p, v, at_d', at_y, leaves')) e =
+        let same = point_same q p (sym at_d ∙ at_d') in
+        let there : Leaves fs q v k = subst (λ (z : Point). Leaves fs z v k) (sym same) leaves' in
+        let points : u ≡ v = one_leaves fs q u v c k e (met_once c.role q) leaves there in
+        at_x ∙ (ap (λ (z : Point). Within 0 (dot_of z)) points ∙ sym at_y)
+    once d x y c k (inl (q, u, at_d, at_x, leaves)) (inr (inl (n, a, b, among, at_d', at_y, at_a, at_b, joins))) e =
+        absurd (other_webs n (dot_of q) (Of a) (sym at_d ∙ at_d'))
+    once d x y c k (inl (q, u, at_d, at_x, leaves)) (inr (inr (inl (n, h, among, at_d', at_y, at_h)))) e =
+        absurd (not_made q u n h c k among (number_is q n h (sym at_d ∙ at_d')) leaves at_h e)
+    once d x y c k (inl (q, u, at_d, at_x, leaves)) (inr (inr (inr (n, h, among, at_d', at_y, at_h)))) e =
+        absurd (other_webs n (dot_of q) (Of (ResultEnd h)) (sym at_d ∙ at_d'))
+    once d x y c k (inr (inl (n, a, b, among, at_d, at_x, at_a, at_b, joins))) (inl (p, v, at_d', at_y, leaves')) e =
+        absurd (other_webs n (dot_of p) (Of a) (sym at_d' ∙ at_d))
+    once d x y c k (inr (inl (n, a, b, among, at_d, at_x, at_a, at_b, joins))) (inr (inl (n', a', b', among', at_d', at_y, at_a', at_b', joins'))) e =
+        let (numbers, ends) = inner_is n n' a a' (sym at_d ∙ at_d') in
+        let partners : b ≡ b' = one_partner (env n).plan (supplies n among).0 a b b' joins (joint_moved n n' a a' b' numbers ends joins') in
+        at_x ∙ ((λ t. Within (suc (numbers t)) (Of (partners t))) ∙ sym at_y)
+    once d x y c k (inr (inl (n, a, b, among, at_d, at_x, at_a, at_b, joins))) (inr (inr (inl (n', h, among', at_d', at_y, at_h)))) e =
+        absurd (other_webs n (Number n' h) (Of a) (sym at_d' ∙ at_d))
+    once d x y c k (inr (inl (n, a, b, among, at_d, at_x, at_a, at_b, joins))) (inr (inr (inr (n', h, among', at_d', at_y, at_h)))) e =
+        let (numbers, ends) = inner_is n n' a (ResultEnd h) (sym at_d ∙ at_d') in
+        let turned_k : c ≡ turned_contact k = result_turned n' h c k among' (contact_moved n n' a (ResultEnd h) c numbers ends at_a) at_h in
+        absurd (not_itself k (sym e ∙ ap (λ (z : Contact). z.role) turned_k))
+    once d x y c k (inr (inr (inl (n, h, among, at_d, at_x, at_h)))) (inl (p, v, at_d', at_y, leaves')) e =
+        absurd (not_made p v n h k c among (number_is p n h (sym at_d' ∙ at_d)) leaves' at_h (sym e))
+    once d x y c k (inr (inr (inl (n, h, among, at_d, at_x, at_h)))) (inr (inl (n', a', b', among', at_d', at_y, at_a', at_b', joins'))) e =
+        absurd (other_webs n' (Number n h) (Of a') (sym at_d ∙ at_d'))
+    once d x y c k (inr (inr (inl (n, h, among, at_d, at_x, at_h)))) (inr (inr (inl (n', h', among', at_d', at_y, at_h')))) e =
+        let (numbers, shakes) = number_same n n' h h' (sym at_d ∙ at_d') in
+        at_x ∙ ((λ t. Within (suc (numbers t)) (Of (ResultEnd (shakes t)))) ∙ sym at_y)
+    once d x y c k (inr (inr (inl (n, h, among, at_d, at_x, at_h)))) (inr (inr (inr (n', h', among', at_d', at_y, at_h')))) e =
+        absurd (other_webs n' (Number n h) (Of (ResultEnd h')) (sym at_d ∙ at_d'))
+    once d x y c k (inr (inr (inr (n, h, among, at_d, at_x, at_h)))) (inl (p, v, at_d', at_y, leaves')) e =
+        absurd (other_webs n (dot_of p) (Of (ResultEnd h)) (sym at_d' ∙ at_d))
+    once d x y c k (inr (inr (inr (n, h, among, at_d, at_x, at_h)))) (inr (inl (n', a', b', among', at_d', at_y, at_a', at_b', joins'))) e =
+        let (numbers, ends) = inner_is n' n a' (ResultEnd h) (sym at_d' ∙ at_d) in
+        let turned_c : k ≡ turned_contact c = result_turned n h k c among (contact_moved n' n a' (ResultEnd h) k numbers ends at_a') at_h in
+        absurd (not_itself c (e ∙ ap (λ (z : Contact). z.role) turned_c))
+    once d x y c k (inr (inr (inr (n, h, among, at_d, at_x, at_h)))) (inr (inr (inl (n', h', among', at_d', at_y, at_h')))) e =
+        absurd (other_webs n (Number n' h') (Of (ResultEnd h)) (sym at_d' ∙ at_d))
+    once d x y c k (inr (inr (inr (n, h, among, at_d, at_x, at_h)))) (inr (inr (inr (n', h', among', at_d', at_y, at_h')))) e =
+        let (numbers, ends) = inner_is n n' (ResultEnd h) (ResultEnd h') (sym at_d ∙ at_d') in
+        let shakes : h ≡ h' = cc ends in
+        at_x ∙ ((λ t. Within 0 (Number (numbers t) (shakes t))) ∙ sym at_y)
+
+    has_there : (q y : Point) (c : Contact) → Leaves fs q y c → sight.Has parts [] outcome types table q.place q.shake c
+    has_there q y c leaves = leaves_have parts [] outcome types table fs good.0 q y c leaves
+
+    has_number : (q y : Point) (n h : ℕ) (c : Contact) → q ≡ point (places.Number n) h → Leaves fs q y c
+        → (slice_get (contacts_of (types n)) h ≡ Some c) ⊎ (slice_get (contacts_of (types n)) h ≡ Some (turned_contact c))
+    has_number q y n h c is leaves = has_there (point (places.Number n) h) y c (subst (λ (z : Point). Leaves fs z y c) is leaves)
+
+    both_same : (c k : Contact) → (c.role ≡ k.role → ⊥) → c ≡ k → k ≡ turned_contact c
+    both_same c k differ e = absurd (differ (ap (λ (z : Contact). z.role) e))
+
+    through : (d x y : Dot) (c k : Contact) → Leads d x c → Leads d y k → (c.role ≡ k.role → ⊥) → k ≡ turned_contact c
+    through d x y c k (inl (q, u, at_d, at_x, leaves)) (inl (p, v, at_d', at_y, leaves')) differ =
+        let same = point_same q p (sym at_d ∙ at_d') in
+        through_at parts [] outcome types table q.place q.shake c k differ (has_there q u c leaves)
+        (has_there q v k (subst (λ (z : Point). Leaves fs z v k) (sym same) leaves'))
+    through d x y c k (inl (q, u, at_d, at_x, leaves)) (inr (inl (n, a, b, among, at_d', at_y, at_a, at_b, joins))) differ =
+        absurd (other_webs n (dot_of q) (Of a) (sym at_d ∙ at_d'))
+    through d x y c k (inl (q, u, at_d, at_x, leaves)) (inr (inr (inl (n, h, among, at_d', at_y, at_h)))) differ =
+        either parts [] outcome types table (slice_get (contacts_of (types n)) h) c k differ (has_number q u n h c (number_is q n h (sym at_d ∙ at_d')) leaves)
+        (inr (sight.turned_at (contacts_of (types n)) h k at_h))
+    through d x y c k (inl (q, u, at_d, at_x, leaves)) (inr (inr (inr (n, h, among, at_d', at_y, at_h)))) differ =
+        absurd (other_webs n (dot_of q) (Of (ResultEnd h)) (sym at_d ∙ at_d'))
+    through d x y c k (inr (inl (n, a, b, among, at_d, at_x, at_a, at_b, joins))) (inl (p, v, at_d', at_y, leaves')) differ =
+        absurd (other_webs n (dot_of p) (Of a) (sym at_d' ∙ at_d))
+    through d x y c k (inr (inl (n, a, b, among, at_d, at_x, at_a, at_b, joins))) (inr (inl (n', a', b', among', at_d', at_y, at_a', at_b', joins'))) differ =
+        let (numbers, ends) = inner_is n n' a a' (sym at_d ∙ at_d') in
+        both_same c k differ (one_contact (contact_at (env n').plan a') c k (contact_moved n n' a a' c numbers ends at_a) at_a')
+    through d x y c k (inr (inl (n, a, b, among, at_d, at_x, at_a, at_b, joins))) (inr (inr (inl (n', h, among', at_d', at_y, at_h)))) differ =
+        absurd (other_webs n (Number n' h) (Of a) (sym at_d' ∙ at_d))
+    through d x y c k (inr (inl (n, a, b, among, at_d, at_x, at_a, at_b, joins))) (inr (inr (inr (n', h, among', at_d', at_y, at_h)))) differ =
+        let (numbers, ends) = inner_is n n' a (ResultEnd h) (sym at_d ∙ at_d') in
+        let turned_k : c ≡ turned_contact k = result_turned n' h c k among' (contact_moved n n' a (ResultEnd h) c numbers ends at_a) at_h in
+        sym (ap turned_contact turned_k ∙ twice_turned k)
+    through d x y c k (inr (inr (inl (n, h, among, at_d, at_x, at_h)))) (inl (p, v, at_d', at_y, leaves')) differ =
+        either parts [] outcome types table (slice_get (contacts_of (types n)) h) c k differ (inr (sight.turned_at (contacts_of (types n)) h c at_h))
+        (has_number p v n h k (number_is p n h (sym at_d' ∙ at_d)) leaves')
+    through d x y c k (inr (inr (inl (n, h, among, at_d, at_x, at_h)))) (inr (inl (n', a', b', among', at_d', at_y, at_a', at_b', joins'))) differ =
+        absurd (other_webs n' (Number n h) (Of a') (sym at_d ∙ at_d'))
+    through d x y c k (inr (inr (inl (n, h, among, at_d, at_x, at_h)))) (inr (inr (inl (n', h', among', at_d', at_y, at_h')))) differ =
+        let (numbers, shakes) = number_same n n' h h' (sym at_d ∙ at_d') in
+        both_same c k differ (one_contact (slice_get (seen (types n)) h) c k at_h ((λ t. slice_get (seen (types (numbers t))) (shakes t)) ∙ at_h'))
+    through d x y c k (inr (inr (inl (n, h, among, at_d, at_x, at_h)))) (inr (inr (inr (n', h', among', at_d', at_y, at_h')))) differ =
+        absurd (other_webs n' (Number n h) (Of (ResultEnd h')) (sym at_d ∙ at_d'))
+    through d x y c k (inr (inr (inr (n, h, among, at_d, at_x, at_h)))) (inl (p, v, at_d', at_y, leaves')) differ =
+        absurd (other_webs n (dot_of p) (Of (ResultEnd h)) (sym at_d' ∙ at_d))
+    through d x y c k (inr (inr (inr (n, h, among, at_d, at_x, at_h)))) (inr (inl (n', a', b', among', at_d', at_y, at_a', at_b', joins'))) differ =
+        let (numbers, ends) = inner_is n' n a' (ResultEnd h) (sym at_d' ∙ at_d) in
+        result_turned n h k c among (contact_moved n' n a' (ResultEnd h) k numbers ends at_a') at_h
+    through d x y c k (inr (inr (inr (n, h, among, at_d, at_x, at_h)))) (inr (inr (inl (n', h', among', at_d', at_y, at_h')))) differ =
+        absurd (other_webs n (Number n' h') (Of (ResultEnd h)) (sym at_d' ∙ at_d))
+    through d x y c k (inr (inr (inr (n, h, among, at_d, at_x, at_h)))) (inr (inr (inr (n', h', among', at_d', at_y, at_h')))) differ =
+        let (numbers, ends) = inner_is n n' (ResultEnd h) (ResultEnd h') (sym at_d ∙ at_d') in
+        let shakes : h ≡ h' = cc ends in
+        both_same c k differ (one_contact (slice_get (contacts_of (types n)) h) c k at_h ((λ t. slice_get (contacts_of (types (numbers t))) (shakes t)) ∙ at_h'))
+
+    pub fair : IsFair Dot Leads
+    fair = record { back = back; once = once; through = through }
+
+    -- each tie leads from its one dot to the other
+    abbrev Leading : Tie → Type 0
+    Leading t = (c : Contact) × Leads t.one t.other c
+
+    own_leads : (v : point_ties.Tie) → Image tie_in fs v → Leading (tie (Within 0 (dot_of v.one)) (Within 0 (dot_of v.other)))
+    own_leads v (f, has, is) =
+        subst (λ (w : point_ties.Tie). Leading (tie (Within 0 (dot_of w.one)) (Within 0 (dot_of w.other)))) is
+        (f.contact, inl (f.one, f.other, refl, refl, (f, has, inl (refl, refl, refl))))
+
+    term_leads : (u : Tie) → Image (λ (v : point_ties.Tie). tie (dot_of v.one) (dot_of v.other)) own_ties u → Leading (tie (Within 0 u.one) (Within 0 u.other))
+    term_leads u (v, has, is) =
+        subst (λ (w : Tie). Leading (tie (Within 0 w.one) (Within 0 w.other))) is
+        (own_leads v (of_image tie_in fs v (subst (λ (ts : List point_ties.Tie). Contains ts v) (sym good.1) has)))
+
+    joint_leads : (n : ℕ) (u : Tie) → Contains ns n → Image (λ (jn : Joint). tie (Of jn.asking) (Of jn.serving)) (env n).plan.joints u
+        → Leading (tie (Within (suc n) u.one) (Within (suc n) u.other))
+    joint_leads n u among (jn, has, is) =
+        let there = fits (env n).plan [] (env n).plan.joints jn (supplies n among).0 (contained (env n).plan.joints jn has) in
+        subst (λ (w : Tie). Leading (tie (Within (suc n) w.one) (Within (suc n) w.other))) is
+        (asks there.0 there.1, inr (inl (n, jn.asking, jn.serving, among, refl, refl, there.2, there.3, inl has)))
+
+    some_at : (cs : List Contact) (h : ℕ) → h < length cs → (c : Contact) × (slice_get cs h ≡ Some c)
+    some_at [] h small = absurd (omega (arith, small))
+    some_at (c ∷ cs) zero small = (c, refl)
+    some_at (c ∷ cs) (suc h) small = some_at cs h (omega (arith, small))
+
+    result_leads : (n h : ℕ) → Contains ns n → h < count (types n) → Leading (tie (Within 0 (Number n h)) (Within (suc n) (Of (ResultEnd h))))
+    result_leads n h among small =
+        let size = seen_length (types n) in
+        let (c, at) = some_at (seen (types n)) h (omega (arith, small, size)) in
+        (c, inr (inr (inl (n, h, among, refl, refl, at))))
+
+    pub tie_leads : (t : Tie) → Contains (within 0 (dot_ties own_ties) ++ all_supply_ties types env ns) t → Leading t
+    tie_leads t has = by_part (Contains-append_cases (within 0 (dot_ties own_ties)) (all_supply_ties types env ns) t has)
+      where
+        of_own : Image (inside 0) (dot_ties own_ties) t → Leading t
+        of_own (u, among, is) = subst Leading is (term_leads u (of_image (λ (v : point_ties.Tie). tie (dot_of v.one) (dot_of v.other)) own_ties u among))
+
+        of_web : (n : ℕ) → Contains ns n → Image (inside (suc n)) (own_web (env n).plan).ties t → Leading t
+        of_web n number (u, among, is) =
+            subst Leading is (joint_leads n u number (of_image (λ (jn : Joint). tie (Of jn.asking) (Of jn.serving)) (env n).plan.joints u among))
+
+        of_result : (n : ℕ) → Contains ns n → Contains (result_ties n 0 (count (types n))) t → Leading t
+        of_result n number among =
+            let (g, low, high, is) = of_results n 0 (count (types n)) t among in subst Leading (sym is) (result_leads n g number (omega (arith, high)))
+
+        by_supply : (n : ℕ) → Contains ns n → Contains (within (suc n) (own_web (env n).plan).ties) t ⊎ Contains (result_ties n 0 (count (types n))) t → Leading t
+        by_supply n number (inl h) = of_web n number (of_image (inside (suc n)) (own_web (env n).plan).ties t h)
+        by_supply n number (inr h) = of_result n number h
+
+        of_some : OfSupplies types env ns t → Leading t
+        of_some (n, number, among) =
+            by_supply n number (Contains-append_cases (within (suc n) (own_web (env n).plan).ties) (result_ties n 0 (count (types n))) t among)
+
+        by_part : Contains (within 0 (dot_ties own_ties)) t ⊎ Contains (all_supply_ties types env ns) t → Leading t
+        by_part (inl h) = of_own (of_image (inside 0) (dot_ties own_ties) t h)
+        by_part (inr h) = of_some (of_supplies types env ns t h)
