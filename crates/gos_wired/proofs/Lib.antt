@@ -19,4 +19,5 @@ pub mod InnerCountLemmas
 pub mod FairLemmas
 pub mod ChainLemmas
 pub mod WiredFitLemmas
+pub mod NodeFitLemmas
 mod SmallWiredLemmas

@@ -48,7 +48,7 @@ use Rattle.gos_wired.proofs.FairLemmas.{leaves_counted, one_leaves, meets_few, l
 use Rattle.gos_wired.proofs.ChainLemmas.{IsFair}
 
 -- so many parts before those of the node
-abbrev pads : ℕ → List Part
+abbrev pub pads : ℕ → List Part
 pads zero = []
 pads (suc n) = kinds.Skip ∷ pads n
 
@@ -62,7 +62,7 @@ web_of (Number n h) = 0
 web_of (Node n h) = 0
 web_of (Within k d) = k
 
-other_webs : (n : ℕ) (a b : Dot) → Within 0 a ≡ Within (suc n) b → ⊥
+pub other_webs : (n : ℕ) (a b : Dot) → Within 0 a ≡ Within (suc n) b → ⊥
 other_webs n a b e = let no : 0 ≡ suc n = ap web_of e in omega (arith, no)
 
 not_itself : (c : Contact) → c.role ≡ turned c.role → ⊥
@@ -79,7 +79,7 @@ not_alike Ask = refl
 seen_at : (t : Type') (h : ℕ) (c : Contact) → slice_get (contacts_of t) h ≡ Some c → slice_get (seen t) h ≡ Some (turned_contact c)
 seen_at t h c e = slice_get-map turned_contact (contacts_of t) h ∙ ap (option_map turned_contact) e
 
-one_contact : (o : Option Contact) (c d : Contact) → o ≡ Some c → o ≡ Some d → c ≡ d
+pub one_contact : (o : Option Contact) (c d : Contact) → o ≡ Some c → o ≡ Some d → c ≡ d
 one_contact o c d e f = let both : Some c ≡ Some d = sym e ∙ f in cc both
 
 -- what an end of a joint meets
@@ -99,25 +99,25 @@ one_partner p right e f g (inr a) (inl b) =
 module _ (types : Types) (i j : ℕ) (m : Numbered) (ns : List ℕ) (env : Supplies) (typed : NodesTyped types m) (linear : IsLinear m ns)
     (supplies : AreOfTypes types env ns)
   where
-    abbrev parts : List Part
+    abbrev pub parts : List Part
     parts = pads i ++ parts_of types m
 
-    abbrev table : ℕ → List Contact
+    abbrev pub table : ℕ → List Contact
     table = table_of j m
 
-    abbrev outcome : Type'
+    abbrev pub outcome : Type'
     outcome = type_of_node m
 
-    abbrev out : List Point
+    abbrev pub out : List Point
     out = row places.Result 0 (count (type_of_node m))
 
-    abbrev fs : List Flow
+    abbrev pub fs : List Flow
     fs = flows_of types i j m out
 
     abbrev own_ties : List point_ties.Tie
     own_ties = ties_of types i j m out
 
-    parts_at : sight.PartsAt parts [] outcome types table i (parts_of types m)
+    pub parts_at : sight.PartsAt parts [] outcome types table i (parts_of types m)
     parts_at k x there = behind_pads i (parts_of types m) k ∙ there
 
     sees : sight.See parts [] outcome types table (seen outcome) out
@@ -192,7 +192,7 @@ module _ (types : Types) (i j : ℕ) (m : Numbered) (ns : List ℕ) (env : Suppl
     abbrev pub Leads : Dot → Dot → Contact → Type 0
     Leads d x c = OfTerm d x c ⊎ OfJoint d x c ⊎ ToResult d x c ⊎ FromResult d x c
 
-    back : (d x : Dot) (c : Contact) → Leads d x c → Leads x d (turned_contact c)
+    pub back : (d x : Dot) (c : Contact) → Leads d x c → Leads x d (turned_contact c)
     back d x c (inl (q, y, at_d, at_x, leaves)) = inl (y, q, at_x, at_d, leaves_back fs q y c leaves)
     back d x c (inr (inl (n, e, f, among, at_d, at_x, at_e, at_f, joins))) =
         inr (inl (n, f, e, among, at_x, at_d, at_f, at_e ∙ ap (λ (k : Contact). Some k) (sym (twice_turned c)), turn joins))
@@ -235,7 +235,7 @@ module _ (types : Types) (i j : ℕ) (m : Numbered) (ns : List ℕ) (env : Suppl
         in
         one_contact (contact_at (env n).plan (ResultEnd h)) c (turned_contact d) at_c there
 
-    inner_is : (n k : ℕ) (e f : End) → Within (suc n) (Of e) ≡ Within (suc k) (Of f) → (n ≡ k) × (e ≡ f)
+    pub inner_is : (n k : ℕ) (e f : End) → Within (suc n) (Of e) ≡ Within (suc k) (Of f) → (n ≡ k) × (e ≡ f)
     inner_is n k e f is = (cc is, cc is)
 
     number_same : (n k h g : ℕ) → Within 0 (Number n h) ≡ Within 0 (Number k g) → (n ≡ k) × (h ≡ g)
@@ -247,7 +247,7 @@ module _ (types : Types) (i j : ℕ) (m : Numbered) (ns : List ℕ) (env : Suppl
         subst (λ (z : End). Contains (env n).plan.joints (joint z g) ⊎ Contains (env n).plan.joints (joint g z)) (sym ends)
         (subst (λ (l : ℕ). Contains (env l).plan.joints (joint f g) ⊎ Contains (env l).plan.joints (joint g f)) (sym numbers) joins)
 
-    contact_moved : (n k : ℕ) (e f : End) (c : Contact) → n ≡ k → e ≡ f → contact_at (env n).plan e ≡ Some c → contact_at (env k).plan f ≡ Some c
+    pub contact_moved : (n k : ℕ) (e f : End) (c : Contact) → n ≡ k → e ≡ f → contact_at (env n).plan e ≡ Some c → contact_at (env k).plan f ≡ Some c
     contact_moved n k e f c numbers ends at =
         subst (λ (l : ℕ). contact_at (env l).plan f ≡ Some c) numbers (subst (λ (z : End). contact_at (env n).plan z ≡ Some c) ends at)
 
@@ -297,7 +297,7 @@ module _ (types : Types) (i j : ℕ) (m : Numbered) (ns : List ℕ) (env : Suppl
         let shakes : h ≡ h' = cc ends in
         at_x ∙ ((λ t. Within 0 (Number (numbers t) (shakes t))) ∙ sym at_y)
 
-    has_there : (q y : Point) (c : Contact) → Leaves fs q y c → sight.Has parts [] outcome types table q.place q.shake c
+    pub has_there : (q y : Point) (c : Contact) → Leaves fs q y c → sight.Has parts [] outcome types table q.place q.shake c
     has_there q y c leaves = leaves_have parts [] outcome types table fs good.0 q y c leaves
 
     has_number : (q y : Point) (n h : ℕ) (c : Contact) → q ≡ point (places.Number n) h → Leaves fs q y c
