@@ -3,7 +3,7 @@
 --
 -- It is the argument of FlowLemmas, of any points.
 use Rattle.std.specs.Prelude.{◌≡◌, ◌⊎◌}
-use Rattle.std.proofs.Common.{refl, sym, ◌∙◌, ap, subst, inl, inr}
+use Rattle.std.proofs.Common.{sym, ◌∙◌, ap, subst, inl, inr}
 use Rattle.gos_plan.specs.Kinds.{Contact, turned_contact}
 use Rattle.gos_wired.proofs.FlowLemmas.{twice_turned, Alike, same, apart, role_cases}
 

@@ -2,7 +2,7 @@
 -- have dots of their own.
 --
 -- Read first: WiredFitLemmas.
-use Rattle.std.specs.Prelude.{◌≡◌, ◌≢◌, ℕ, suc, ◌+◌, List, [], ◌++◌, ◌⊎◌, Option, Some, None, Contains, slice_get}
+use Rattle.std.specs.Prelude.{◌≡◌, ◌≢◌, ℕ, suc, ◌+◌, List, ◌⊎◌, zero, ◌≤◌, Bool, true, false, length, nat_eq, if◌then◌else◌, Option, Some, None, Contains, slice_get}
 use Rattle.std.proofs.Common.{refl, sym, ◌∙◌, ap, subst, arith, inl, inr}
 use Rattle.std.proofs.lemmas.Option.{slice_get-map}
 use Rattle.gos_types.specs.Types.{Type'}
@@ -17,14 +17,25 @@ use Rattle.gos_webs.specs.Webs.{Dot, Of, Number, Within, Tie, tie, Way, here, al
 use Rattle.gos_compile.specs.Wiring.{Types, parts_of}
 use Rattle.gos_compile.specs.Typed.{NodesTyped}
 use Rattle.gos_wired.specs.Wired.{dot_of, Supplies, Source, Own, Supplied, Placing, IsFrom, placed, source_dot, dot_at, wired_ties}
-use Rattle.gos_wired.specs.NodeFitting.{IsPlaced, IsLinear, AreOfTypes, WiredNodeFits}
-use Rattle.gos_wired.proofs.WayLemmas.{point_is}
+use Rattle.gos_wired.specs.NodeFitting.{IsPlaced, IsLinear, AreOfTypes, WiredNodeFits, WiredIsPlaced, FittingIsPlain, RealisedAreOfTypes, CheckedStarts, UseIsLinear, TwiceIsNotLinear}
+use Rattle.gos_wired.specs.Modules.{supply_at, numbers_from}
+use Rattle.gos_wired.proofs.WayLemmas.{point_is, way_then, way_back}
+use Rattle.gos_wired.proofs.TypeLemmas.{type_is}
+use Rattle.gos_wired.proofs.PlacingLemmas.{import_numbered, of_numbers, supply_there}
+use Rattle.gos_renumbered.proofs.SupplyLemmas.{supply_of}
+use Rattle.gos_joined.proofs.ReachLemmas.{Told, told_end}
+use Rattle.gos_check.specs.Linearity.{times, made}
+use Rattle.gos_check.specs.Checked.{program_in}
+use Rattle.gos_check.specs.Nodes.{node_seen}
+use Rattle.gos_realises.specs.Modules.{Supply}
+use Rattle.gos_realises.specs.Realises.{Realises}
+use Rattle.gos_compile.specs.Wiring.{all_types}
 use Rattle.gos_wired.proofs.FlowLemmas.{Leaves}
 use Rattle.gos_wired.proofs.FlowedLemmas.{seen, flows_of}
 use Rattle.gos_wired.proofs.FairLemmas.{turned_option}
 use Rattle.gos_wired.proofs.ChainLemmas.{Reached, step, reached_fits}
 use Rattle.gos_wired.proofs.WiredFitLemmas as wired
-use Rattle.gos_wired.proofs.WiredFitLemmas.{other_webs, one_contact}
+use Rattle.gos_wired.proofs.WiredFitLemmas.{other_webs, one_contact, not_itself}
 
 module _ (types : Types) (i j : ℕ) (m : Numbered) (ns : List ℕ) (env : Supplies) (pl : Placing) (c : Plan) (typed : NodesTyped types m) (linear : IsLinear m ns)
     (supplies : AreOfTypes types env ns) (there : IsPlaced types m ns env pl c)
@@ -186,3 +197,62 @@ module _ (types : Types) (i j : ℕ) (m : Numbered) (ns : List ℕ) (env : Suppl
 pub wired_node_fits : WiredNodeFits
 wired_node_fits types i j m ns env pl c typed linear supplies there a b k l at_a at_b differ way =
     fits types i j m ns env pl c typed linear supplies there a k at_a b l at_b differ way
+
+pub wired_is_placed : WiredIsPlaced
+wired_is_placed types i j m ns env pl r is = record { outcome = is.outcome; no_more = is.no_more; no_import = is.no_import }
+
+pub fitting_is_plain : FittingIsPlain
+fitting_is_plain v c fit a b d k l m at_a at_b at_d apart_b apart_d to_b to_d = by_end (told_end b d)
+  where
+    by_end : Told (b ≡ d) → b ≡ d
+    by_end (inl same) = same
+    by_end (inr differ) =
+        let first : l ≡ turned_contact k = fit a b k l at_a at_b apart_b to_b in
+        let second : m ≡ turned_contact k = fit a d k m at_a at_d apart_d to_d in
+        let both : m ≡ turned_contact l =
+        fit b d l m at_b at_d differ (way_then v.ties (v.at b) (v.at a) (v.at d) (way_back v.ties (v.at a) (v.at b) to_b) to_d)
+        in
+        absurd (not_itself l (ap (λ (z : Contact). z.role) (first ∙ (sym second ∙ both))))
+
+pub realised_are_of_types : RealisedAreOfTypes
+realised_are_of_types types env ns all n among = let suits = (all n among).suits in (suits.right, suits.outcome)
+
+pub checked_starts : CheckedStarts
+checked_starts l ss c are =
+    (record { used_once = c.term.used_once; made_once = c.term.made_once; supplied = not_made }, realised)
+  where
+    not_made : (n : ℕ) → Contains (numbers_from 0 (length (program_in l).imports)) n → times n (made (node_seen l.term)) ≡ 0
+    not_made n among = by_times (times n (made (node_seen l.term))) refl
+      where
+        by_times : (k : ℕ) → times n (made (node_seen l.term)) ≡ k → times n (made (node_seen l.term)) ≡ 0
+        by_times zero e = e
+        by_times (suc k) e =
+            let (low, high) = of_numbers 0 (length (program_in l).imports) n among in
+            let beyond = c.term.no_import n (omega (arith, e)) in
+            absurd (omega (arith, high, beyond))
+
+    realised : (n : ℕ) → Contains (numbers_from 0 (length (program_in l).imports)) n
+        → Realises (all_types (program_in l).imports (node_seen l.term) n) (supply_at ss n).plan (supply_at ss n).term
+    realised n among =
+        let (x, at_x) = import_numbered (program_in l).imports n among in
+        let (s, at_s, has) = supply_of (program_in l).imports ss n x are at_x in
+        let here : Some s ≡ Some (supply_at ss n) = sym at_s ∙ supply_there (program_in l).imports ss are n among in
+        let same : s ≡ supply_at ss n = cc here in
+        let type = type_is (program_in l).imports (node_seen l.term) c.term.no_import n x at_x in
+        subst (λ (t : Type'). Realises t (supply_at ss n).plan (supply_at ss n).term) (sym type)
+        (subst (λ (y : Supply). Realises x.ty y.plan y.term) same has)
+
+pub use_is_linear : UseIsLinear
+use_is_linear =
+    record {
+      used_once = λ k. few (nat_eq 0 k);
+      made_once = λ k. omega arith;
+      supplied = λ n among. refl;
+    }
+  where
+    few : (b : Bool) → (if b then 1 else 0) + 0 ≤ 1
+    few true = omega arith
+    few false = omega arith
+
+pub twice_is_not_linear : TwiceIsNotLinear
+twice_is_not_linear is = let twice = is.used_once 0 in omega (arith, twice)

@@ -2,7 +2,7 @@
 --
 -- Read first: ChainLemmas, FairLemmas. From a dot lead the flows of the term, the joints of the supplies, and the ties between
 -- numbers and the supplies' results.
-use Rattle.std.specs.Prelude.{◌≡◌, ◌≢◌, ℕ, zero, suc, ◌+◌, ◌≤◌, ◌<◌, Bool, true, false, List, [], ◌∷◌, ◌++◌, ◌⊎◌, length, map, Option, Some, None, Contains, slice_get, if◌then◌else◌, option_map}
+use Rattle.std.specs.Prelude.{◌≡◌, ℕ, zero, suc, ◌+◌, ◌≤◌, ◌<◌, false, List, [], ◌∷◌, ◌++◌, ◌⊎◌, length, map, Option, Some, Contains, slice_get, option_map}
 use Rattle.std.proofs.Common.{refl, sym, ◌∙◌, ap, subst, arith, inl, inr}
 use Rattle.std.proofs.lemmas.List.Elements.{Contains-append_cases}
 use Rattle.std.proofs.lemmas.Option.{slice_get-map}
@@ -10,13 +10,12 @@ use Rattle.gos_types.specs.declared.shakes.Role.{Role}
 use Rattle.gos_types.specs.declared.shakes.Role.TheVariants.{Serve, Ask}
 use Rattle.gos_types.specs.Handshakes.{turned}
 use Rattle.gos_types.specs.Types.{Type'}
-use Rattle.gos_model.specs.Typing.{Imports, Imported}
+use Rattle.gos_model.specs.Typing.{Imported}
 use Rattle.gos_check.specs.Nodes.{Numbered, type_of_node}
-use Rattle.gos_check.specs.Linearity.{times, used, made}
 use Rattle.gos_plan.specs.Kinds as kinds
 use Rattle.gos_plan.specs.Kinds.{Part, Contact, asks, serves, contacts_of, turned_contact}
-use Rattle.gos_plan.specs.Plans.{End, PartEnd, ImportEnd, ResultEnd, Joint, Plan, contact_at, turned_if, IsRight}
-use Rattle.gos_plan.proofs.JointLemmas.{IsIn, fits, one_joint, contained}
+use Rattle.gos_plan.specs.Plans.{End, ResultEnd, Joint, Plan, contact_at, turned_if, IsRight}
+use Rattle.gos_plan.proofs.JointLemmas.{fits, one_joint, contained}
 use Rattle.gos_ties.specs.declared.points.Place.TheVariants as places
 use Rattle.gos_ties.specs.declared.points.Place as point_places
 use Rattle.gos_ties.specs.declared.points.Point.{Point}
@@ -44,7 +43,7 @@ use Rattle.gos_wired.proofs.TableLemmas.{table_of, table_fits}
 use Rattle.gos_wired.proofs.TermFlowLemmas.{flows_good}
 use Rattle.gos_wired.proofs.CountLemmas.{alike, meets, is_it}
 use Rattle.gos_wired.proofs.InnerCountLemmas.{number_once, number_made, node_once}
-use Rattle.gos_wired.proofs.FairLemmas.{leaves_counted, one_leaves, meets_few, leaves_have, either, through_at, turned_option}
+use Rattle.gos_wired.proofs.FairLemmas.{leaves_counted, one_leaves, meets_few, leaves_have, either, through_at}
 use Rattle.gos_wired.proofs.ChainLemmas.{IsFair}
 
 -- so many parts before those of the node
@@ -65,7 +64,7 @@ web_of (Within k d) = k
 pub other_webs : (n : ℕ) (a b : Dot) → Within 0 a ≡ Within (suc n) b → ⊥
 other_webs n a b e = let no : 0 ≡ suc n = ap web_of e in omega (arith, no)
 
-not_itself : (c : Contact) → c.role ≡ turned c.role → ⊥
+pub not_itself : (c : Contact) → c.role ≡ turned c.role → ⊥
 not_itself c e = by c.role e
   where
     by : (r : Role) → r ≡ turned r → ⊥

@@ -1,16 +1,20 @@
 -- What a wired node connects fits.
 --
 -- Read first: Wired; Typed of gos_compile; Linearity of gos_check. It is said of any node, before its web has a plan.
-use Rattle.std.specs.Prelude.{◌≡◌, ℕ, ◌≤◌, List, Some, slice_get, Contains}
+use Rattle.std.specs.Prelude.{◌≡◌, ◌≢◌, ℕ, ◌≤◌, List, [], ◌∷◌, length, Some, slice_get, Contains}
+use Rattle.gos_types.specs.Types.{Com}
 use Rattle.gos_model.specs.Typing.{Imported}
-use Rattle.gos_check.specs.Nodes.{Numbered, type_of_node}
+use Rattle.gos_check.specs.Nodes.{Numbered, Use, Two, OfSeq, type_of_node, node_seen}
 use Rattle.gos_check.specs.Linearity.{times, used, made}
-use Rattle.gos_plan.specs.Kinds.{Part}
-use Rattle.gos_plan.specs.Plans.{Plan, IsRight}
-use Rattle.gos_webs.specs.Webs.{WaysFit}
-use Rattle.gos_compile.specs.Wiring.{Types, parts_of}
+use Rattle.gos_check.specs.Checked.{SeenLinear, IsChecked, program_in}
+use Rattle.gos_plan.specs.Kinds.{Part, Contact}
+use Rattle.gos_plan.specs.Plans.{End, Plan, contact_at, IsRight}
+use Rattle.gos_realises.specs.Modules.{Supply, AreSupplied}
+use Rattle.gos_webs.specs.Webs.{Web, Way, WaysFit}
+use Rattle.gos_compile.specs.Wiring.{Types, parts_of, all_types}
 use Rattle.gos_compile.specs.Typed.{NodesTyped}
-use Rattle.gos_wired.specs.Wired.{Supplies, Placing, Source, IsFrom, placed, wired_web}
+use Rattle.gos_wired.specs.Wired.{Supplies, Placing, IsFrom, placed, wired_web, IsWired, AreRealised}
+use Rattle.gos_wired.specs.Modules.{numbers_from, supply_at}
 
 -- A plan has the parts, imports and result of a node and its supplies, before its joints are spoken of.
 pub record IsPlaced (types : Types) (m : Numbered) (ns : List ℕ) (env : Supplies) (pl : Placing) (c : Plan) : Type 0 where
@@ -36,3 +40,34 @@ WiredNodeFits =
     (types : Types) (i j : ℕ) (m : Numbered) (ns : List ℕ) (env : Supplies) (pl : Placing) (c : Plan)
     → NodesTyped types m → IsLinear m ns → AreOfTypes types env ns → IsPlaced types m ns env pl c
     → WaysFit (wired_web types i j m ns env pl) c
+
+-- a wired node's plan is one with its parts, imports and result
+abbrev pub WiredIsPlaced : Type 0
+WiredIsPlaced =
+    (types : Types) (i j : ℕ) (m : Numbered) (ns : List ℕ) (env : Supplies) (pl : Placing) (r : Plan)
+    → IsWired types i j m ns env pl r → IsPlaced types m ns env pl r
+
+-- Where what ways connect fits, each end that there is is connected to one other at most.
+abbrev pub FittingIsPlain : Type 0
+FittingIsPlain =
+    (v : Web) (c : Plan) → WaysFit v c → (a b d : End) (k l m : Contact)
+    → contact_at c a ≡ Some k → contact_at c b ≡ Some l → contact_at c d ≡ Some m → a ≢ b → a ≢ d
+    → Way v.ties (v.at a) (v.at b) → Way v.ties (v.at a) (v.at d) → b ≡ d
+
+-- plans that realise terms are right, and of the terms' types
+abbrev pub RealisedAreOfTypes : Type 0
+RealisedAreOfTypes = (types : Types) (env : Supplies) (ns : List ℕ) → AreRealised types env ns → AreOfTypes types env ns
+
+-- Where the induction on a checked module's term starts: it is linear, and what is supplied realises the terms of its numbers.
+abbrev pub CheckedStarts : Type 0
+CheckedStarts =
+    (l : SeenLinear) (ss : List Supply) → IsChecked l → AreSupplied (program_in l).imports ss
+    → IsLinear (node_seen l.term) (numbers_from 0 (length (program_in l).imports))
+    × AreRealised (all_types (program_in l).imports (node_seen l.term)) (supply_at ss) (numbers_from 0 (length (program_in l).imports))
+
+-- A number that is used is, and one that is used twice is not.
+abbrev pub UseIsLinear : Type 0
+UseIsLinear = IsLinear (Use Com [] 0) (0 ∷ [])
+
+abbrev pub TwiceIsNotLinear : Type 0
+TwiceIsNotLinear = IsLinear (Two Com [] OfSeq (Use Com [] 0) (Use Com [] 0)) (0 ∷ []) → ⊥

@@ -3,6 +3,7 @@
 ghost use Rattle.gos_wired.specs.Modules.{SuppliedIsWired};
 ghost use Rattle.gos_wired.specs.SmallWired.{SeqDoesNotFit, SkipFits, UnjoinedIsNotWired, UseIsWired};
 ghost use Rattle.gos_wired.specs.Fitting.{CheckedFits, CheckedIsWired, TypedTiesFit};
+ghost use Rattle.gos_wired.specs.NodeFitting.{CheckedStarts, FittingIsPlain, RealisedAreOfTypes, TwiceIsNotLinear, UseIsLinear, WiredIsPlaced, WiredNodeFits};
 
 use gos_compile::typed_terms;
 
@@ -19,6 +20,21 @@ pub fn checked_modules()
 {
     typed_terms();
 }
+
+/// What any wired node connects fits, before its web has a plan; and so each of its ends meets one other at most.
+pub fn wired_nodes()
+    ensures fit { WiredNodeFits }
+    ensures placed { WiredIsPlaced }
+    ensures plain { FittingIsPlain }
+{}
+
+/// Where the induction on a checked module's term starts: its node is linear, and what is supplied realises its numbers' terms.
+pub fn starts()
+    ensures checked { CheckedStarts }
+    ensures types { RealisedAreOfTypes }
+    ensures met { UseIsLinear }
+    ensures missed { TwiceIsNotLinear }
+{}
 
 /// A use of a number, wired to the plan of `skip`, is that plan, and not the one without its joint. The ties of
 /// `skip` connect what fits in its plan, and not with a Seq in its Skip's place.

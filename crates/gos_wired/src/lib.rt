@@ -5,4 +5,4 @@
 
 mod laws;
 
-pub use laws::{checked_modules, small_wirings, supplied_modules};
+pub use laws::{checked_modules, small_wirings, starts, supplied_modules, wired_nodes};
