@@ -21,3 +21,4 @@ pub mod ChainLemmas
 pub mod WiredFitLemmas
 pub mod NodeFitLemmas
 mod SmallWiredLemmas
+mod LinearLemmas

@@ -199,7 +199,7 @@ wired_node_fits types i j m ns env pl c typed linear supplies there a b k l at_a
     fits types i j m ns env pl c typed linear supplies there a k at_a b l at_b differ way
 
 pub wired_is_placed : WiredIsPlaced
-wired_is_placed types i j m ns env pl r is = record { outcome = is.outcome; no_more = is.no_more; no_import = is.no_import }
+wired_is_placed types i j m ns env pl r is = record { outcome = is.outcome; parts = is.parts; no_more = is.no_more; imports = is.imports; no_import = is.no_import }
 
 pub fitting_is_plain : FittingIsPlain
 fitting_is_plain v c fit a b d k l m at_a at_b at_d apart_b apart_d to_b to_d = by_end (told_end b d)

@@ -3,7 +3,7 @@
 ghost use Rattle.gos_wired.specs.Modules.{SuppliedIsWired};
 ghost use Rattle.gos_wired.specs.SmallWired.{SeqDoesNotFit, SkipFits, UnjoinedIsNotWired, UseIsWired};
 ghost use Rattle.gos_wired.specs.Fitting.{CheckedFits, CheckedIsWired, TypedTiesFit};
-ghost use Rattle.gos_wired.specs.NodeFitting.{CheckedStarts, FittingIsPlain, RealisedAreOfTypes, TwiceIsNotLinear, UseIsLinear, WiredIsPlaced, WiredNodeFits};
+ghost use Rattle.gos_wired.specs.NodeFitting.{BodyIsLinear, CheckedStarts, ChoicesAreLinear, FittingIsPlain, PartIsLinear, PartsAreLinear, RealisedAreOfTypes, TwiceIsNotLinear, UseIsLinear, WiredIsPlaced, WiredNodeFits};
 
 use gos_compile::typed_terms;
 
@@ -34,6 +34,14 @@ pub fn starts()
     ensures types { RealisedAreOfTypes }
     ensures met { UseIsLinear }
     ensures missed { TwiceIsNotLinear }
+{}
+
+/// The parts of a linear node are linear.
+pub fn linear_parts()
+    ensures body { BodyIsLinear }
+    ensures one { PartIsLinear }
+    ensures two { PartsAreLinear }
+    ensures three { ChoicesAreLinear }
 {}
 
 /// A use of a number, wired to the plan of `skip`, is that plan, and not the one without its joint. The ties of
