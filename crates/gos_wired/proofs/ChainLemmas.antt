@@ -1,7 +1,5 @@
 -- Chains: where each point leads on in each role to one point at most, and sees one handshake from its two sides, the end of what
 -- leads on from an end is its other side.
---
--- It is the argument of FlowLemmas, of any points.
 use Rattle.std.specs.Prelude.{◌≡◌, ◌⊎◌}
 use Rattle.std.proofs.Common.{sym, ◌∙◌, ap, subst, inl, inr}
 use Rattle.gos_plan.specs.Kinds.{Contact, turned_contact}

@@ -19,7 +19,7 @@ use Rattle.gos_ties.specs.declared.points.Place.{Place}
 use Rattle.gos_ties.specs.declared.points.Place.TheVariants as places
 use Rattle.gos_ties.specs.declared.points.Point.{Point}
 use Rattle.gos_ties.specs.declared.points.Tie.{Tie}
-use Rattle.gos_ties.specs.Ties.{at, end_at, Path}
+use Rattle.gos_ties.specs.Ties.{at, end_at, Path, here, along}
 use Rattle.gos_ties.specs.Counted.{place_once, once, meetings}
 use Rattle.gos_realises.specs.Regular.{count}
 use Rattle.gos_compile.specs.Wiring.{Types, row, parts_of, all_types, all_ties, import_ties, ties_of, IsPlanOf}
@@ -27,7 +27,8 @@ use Rattle.gos_compile.specs.Typed.{NodesTyped, CheckedIsTyped}
 use Rattle.gos_compile.proofs.ThinLemmas.{thin}
 use Rattle.gos_wired.specs.Fitting.{TypedTiesFit, CheckedFits, CheckedIsWired}
 use Rattle.gos_wired.proofs.TypeLemmas.{type_is}
-use Rattle.gos_wired.proofs.FlowLemmas.{Flow, tie_in, Leaves, AreFair, twice_turned, ends_fit}
+use Rattle.gos_wired.proofs.FlowLemmas.{Flow, tie_in, Leaves, leaves_back, flow_of, at_is, twice_turned}
+use Rattle.gos_wired.proofs.ChainLemmas.{IsFair, Reached, step, reached_fits}
 use Rattle.gos_wired.proofs.FlowedLemmas.{seen, flows_of, import_flows, all_flows}
 use Rattle.gos_wired.proofs.OutLemmas.{seen_length}
 use Rattle.gos_wired.proofs.SightLemmas as sight
@@ -244,23 +245,42 @@ module _ (program : Program) (t : Type') (w : ℕ) (m : Numbered) (p : Plan) (st
         in
         let both : Some k ≡ Some c = sym there ∙ (turned ∙ has) in cc both
 
-    fair : AreFair fs p
+    fair : IsFair Point (Leaves fs)
     fair =
         record {
+          back = leaves_back fs;
           once = λ q x y c d first second e. one_leaves fs q x y c d e (met_once c.role q) first second;
           through = λ q x y c d first second differ.
               through_at p.parts p.imports p.outcome types table q.place q.shake c d differ (leaves_have p.parts p.imports p.outcome types table fs good.0 q x c first)
               (leaves_have p.parts p.imports p.outcome types table fs good.0 q y d second);
-          ends = λ e k c x there leaves. end_is e k c there (leaves_have p.parts p.imports p.outcome types table fs good.0 (at e) x c leaves);
         }
 
-    pub paths_fit : (a b : End) (c d : Contact) → contact_at p a ≡ Some c → contact_at p b ≡ Some d → a ≢ b → Path (all_ties is m) (at a) (at b)
-        → d ≡ turned_contact c
-    paths_fit a b c d at_a at_b differ path =
-        ends_fit fs p fair a c at_a b d at_b differ (subst (λ (ts : List Tie). Path ts (at a) (at b)) (sym good.1) path)
+    end_sees : (e : End) (k : Contact) → contact_at p e ≡ Some k → (x : Point) (c : Contact) → Leaves fs (at e) x c → k ≡ c
+    end_sees e k there x c leaves = end_is e k c there (leaves_have p.parts p.imports p.outcome types table fs good.0 (at e) x c leaves)
+
+    module _ (a : End) (k : Contact) (at_a : contact_at p a ≡ Some k) where
+      abbrev Found : Point → Type 0
+      Found = Reached Point (Leaves fs) fair (at a) k (end_sees a k at_a)
+
+      walk : (x y : Point) → Found x → Path (map tie_in fs) x y → Found y
+      walk x y found (here z) = found
+      walk x y found (along u v z meets path) =
+          let (c, leaves) = flow_of fs u v meets in
+          walk v z (step Point (Leaves fs) fair (at a) k (end_sees a k at_a) u v c found leaves) path
+
+      pub paths_fit : (b : End) (d : Contact) → contact_at p b ≡ Some d → a ≢ b → Path (all_ties is m) (at a) (at b) → d ≡ turned_contact k
+      paths_fit b d at_b differ path =
+          by_end
+          (reached_fits Point (Leaves fs) fair (at a) k (end_sees a k at_a) (at b) d (end_sees b d at_b)
+          (walk (at a) (at b) (inl refl) (subst (λ (ts : List Tie). Path ts (at a) (at b)) (sym good.1) path)))
+        where
+          by_end : (at b ≡ at a) ⊎ (d ≡ turned_contact k) → d ≡ turned_contact k
+          by_end (inl same) = absurd (differ (at_is a b (sym same)))
+          by_end (inr fit) = fit
 
 pub typed_ties_fit : TypedTiesFit
-typed_ties_fit program t w m p stands typed plan type = paths_fit program t w m p stands typed plan type
+typed_ties_fit program t w m p stands typed plan type a b c d at_a at_b differ path =
+    paths_fit program t w m p stands typed plan type a c at_a b d at_b differ path
 
 pub checked_fits : CheckedIsTyped → CheckedFits
 checked_fits law l w p c plan =
