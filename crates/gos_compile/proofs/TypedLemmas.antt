@@ -1,7 +1,7 @@
 -- The nodes of a checked module's term have the types of their rows.
 --
 -- Read first: AgreeLemmas. What the term means is typed, and each node has the type of what it means.
-use Rattle.std.specs.Prelude.{◌≡◌, ℕ, List, [], ◌∷◌, map}
+use Rattle.std.specs.Prelude.{◌≡◌, List, [], ◌∷◌}
 use Rattle.std.proofs.Common.{refl, ap, sym, ◌∙◌, subst}
 use Rattle.gos_types.specs.declared.types.Ty.{Ty}
 use Rattle.gos_types.specs.Types.{Type', Com, Exp, Var, Pair, Fun, IsDone, type_of}
@@ -12,7 +12,7 @@ use Rattle.gos_model.specs.Laws.{NodeHasType}
 use Rattle.gos_check.specs.declared.linear.Split.{Split}
 use Rattle.gos_check.specs.declared.linear.NodeForm.{NodeForm}
 use Rattle.gos_check.specs.declared.linear.NodeForm.TheVariants as forms
-use Rattle.gos_check.specs.Checked.{SeenLinear, IsChecked, program_in}
+use Rattle.gos_check.specs.Checked.{program_in}
 use Rattle.gos_check.specs.Linearity.{import_at}
 use Rattle.gos_check.specs.Nodes.{Numbered, Closed, Use, Under, One, Two, If, OfFun, OfNew, OfFst, OfSnd, OfDeref, OfNot, OfApp, OfBoth, OfSeq, OfPar, OfWhile, OfAssign, OfBin, Meaning, meaning, below, inside, HasTypes, argument_of, numbered_of, node_seen}
 use Rattle.gos_compile.specs.Wiring.{Types, type_of_node, all_types}

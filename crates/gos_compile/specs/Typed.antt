@@ -1,7 +1,7 @@
 -- Each node of a checked module's term has the types of its form's row, where numbers have the types of the wiring's table.
 --
 -- Read first: Wiring; Typing of gos_model; Nodes and Checked of gos_check.
-use Rattle.std.specs.Prelude.{◌≡◌, ℕ, List, [], ◌∷◌, map}
+use Rattle.std.specs.Prelude.{◌≡◌, ℕ, List, [], ◌∷◌}
 use Rattle.gos_types.specs.Types.{Type', Com, Exp, Var, Pair, Fun, IsDone, type_of}
 use Rattle.gos_model.specs.Terms as terms
 use Rattle.gos_model.specs.Terms.{Term, result_width}

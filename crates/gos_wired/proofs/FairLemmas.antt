@@ -19,7 +19,7 @@ use Rattle.gos_ties.specs.declared.points.Place.{Place}
 use Rattle.gos_ties.specs.declared.points.Place.TheVariants as places
 use Rattle.gos_ties.specs.declared.points.Point.{Point}
 use Rattle.gos_ties.specs.declared.points.Tie.{Tie}
-use Rattle.gos_ties.specs.Ties.{at, end_at, Path}
+use Rattle.gos_ties.specs.Ties.{at, end_at, Path, here, along}
 use Rattle.gos_ties.specs.Counted.{place_once, once, meetings}
 use Rattle.gos_realises.specs.Regular.{count}
 use Rattle.gos_compile.specs.Wiring.{Types, row, parts_of, all_types, all_ties, import_ties, ties_of, IsPlanOf}
@@ -27,7 +27,8 @@ use Rattle.gos_compile.specs.Typed.{NodesTyped, CheckedIsTyped}
 use Rattle.gos_compile.proofs.ThinLemmas.{thin}
 use Rattle.gos_wired.specs.Fitting.{TypedTiesFit, CheckedFits, CheckedIsWired}
 use Rattle.gos_wired.proofs.TypeLemmas.{type_is}
-use Rattle.gos_wired.proofs.FlowLemmas.{Flow, tie_in, Leaves, AreFair, twice_turned, ends_fit}
+use Rattle.gos_wired.proofs.FlowLemmas.{Flow, tie_in, Leaves, leaves_back, flow_of, at_is, twice_turned}
+use Rattle.gos_wired.proofs.ChainLemmas.{IsFair, Reached, step, reached_fits}
 use Rattle.gos_wired.proofs.FlowedLemmas.{seen, flows_of, import_flows, all_flows}
 use Rattle.gos_wired.proofs.OutLemmas.{seen_length}
 use Rattle.gos_wired.proofs.SightLemmas as sight
@@ -57,7 +58,7 @@ held_self q p c d e f =
     (λ i. held c.role q (e i) (f i)) ∙ (ap (λ (b : Bool). if b then once q q else 0) (alike_self c.role) ∙ once_self q)
 
 -- each flow from a point counts
-leaves_counted : (fs : List Flow) (q x : Point) (c : Contact) → Leaves fs q x c → 1 ≤ meets c.role q fs
+pub leaves_counted : (fs : List Flow) (q x : Point) (c : Contact) → Leaves fs q x c → 1 ≤ meets c.role q fs
 leaves_counted [] q x c (f, (n, small, e), ways) = absurd (omega (arith, small))
 leaves_counted (g ∷ fs) q x c (f, (zero, small, e), inl (a, b, d)) =
     let here = held_self q g.one c g.contact (ap (λ (h : Flow). h.one) e ∙ a) (ap (λ (h : Flow). h.contact) e ∙ d) in omega (arith, here)
@@ -93,7 +94,7 @@ one_flow g q x y c d e few (inr (a, b, f)) (inl (a', b', f')) =
 way_is : (g f : Flow) (q x : Point) (c : Contact) → g ≡ f → Way f q x c → Way g q x c
 way_is g f q x c e ways = subst (λ (h : Flow). Way h q x c) (sym e) ways
 
-one_leaves : (fs : List Flow) (q x y : Point) (c d : Contact) → c.role ≡ d.role → meets c.role q fs ≤ 1 → Leaves fs q x c → Leaves fs q y d → x ≡ y
+pub one_leaves : (fs : List Flow) (q x y : Point) (c d : Contact) → c.role ≡ d.role → meets c.role q fs ≤ 1 → Leaves fs q x c → Leaves fs q y d → x ≡ y
 one_leaves [] q x y c d e few (f, (n, small, is), ways) other = absurd (omega (arith, small))
 one_leaves (g ∷ fs) q x y c d e few (f, (zero, small, is), ways) (f', (zero, small', is'), ways') =
     one_flow g q x y c d e (omega (arith, few)) (way_is g f q x c is ways) (way_is g f' q y d is' ways')
@@ -118,7 +119,7 @@ held_few : (b : Bool) (x : ℕ) → (if b then x else 0) ≤ x
 held_few true x = omega arith
 held_few false x = omega arith
 
-meets_few : (r : Role) (q : Point) (fs : List Flow) → meets r q fs ≤ meetings q (map tie_in fs)
+pub meets_few : (r : Role) (q : Point) (fs : List Flow) → meets r q fs ≤ meetings q (map tie_in fs)
 meets_few r q [] = omega arith
 meets_few r q (f ∷ fs) =
     let first = held_few (alike r f.contact.role) (once q f.one) in
@@ -131,7 +132,7 @@ module _ (parts : List Part) (is : Imports) (outcome : Type') (types : Types) (t
   abbrev Has : Place → ℕ → Contact → Type 0
   Has = sight.Has parts is outcome types table
 
-  leaves_have : (fs : List Flow) → sight.AllHave parts is outcome types table fs → (q x : Point) (c : Contact) → Leaves fs q x c → Has q.place q.shake c
+  pub leaves_have : (fs : List Flow) → sight.AllHave parts is outcome types table fs → (q x : Point) (c : Contact) → Leaves fs q x c → Has q.place q.shake c
   leaves_have [] all q x c (f, (n, small, e), ways) = absurd (omega (arith, small))
   leaves_have (g ∷ fs) all q x c (f, (zero, small, e), inl (a, b, d)) =
       let point : g.one ≡ q = ap (λ (h : Flow). h.one) e ∙ a in
@@ -149,7 +150,7 @@ module _ (parts : List Part) (is : Imports) (outcome : Type') (types : Types) (t
   plain : (o : Option Contact) (c d : Contact) → (c.role ≡ d.role → ⊥) → o ≡ Some c → o ≡ Some d → d ≡ turned_contact c
   plain o c d differ e f = absurd (differ (ap (λ (k : Contact). k.role) (one_contact o c d e f)))
 
-  either : (o : Option Contact) (c d : Contact) → (c.role ≡ d.role → ⊥) → (o ≡ Some c) ⊎ (o ≡ Some (turned_contact c))
+  pub either : (o : Option Contact) (c d : Contact) → (c.role ≡ d.role → ⊥) → (o ≡ Some c) ⊎ (o ≡ Some (turned_contact c))
       → (o ≡ Some d) ⊎ (o ≡ Some (turned_contact d)) → d ≡ turned_contact c
   either o c d differ (inl e) (inl f) = plain o c d differ e f
   either o c d differ (inl e) (inr f) = sym (twice_turned d) ∙ ap turned_contact (sym (one_contact o c (turned_contact d) e f))
@@ -158,14 +159,14 @@ module _ (parts : List Part) (is : Imports) (outcome : Type') (types : Types) (t
       let same : c ≡ d = sym (twice_turned c) ∙ (ap turned_contact (one_contact o (turned_contact c) (turned_contact d) e f) ∙ twice_turned d) in
       absurd (differ (ap (λ (k : Contact). k.role) same))
 
-  through_at : (q : Place) (h : ℕ) (c d : Contact) → (c.role ≡ d.role → ⊥) → Has q h c → Has q h d → d ≡ turned_contact c
+  pub through_at : (q : Place) (h : ℕ) (c d : Contact) → (c.role ≡ d.role → ⊥) → Has q h c → Has q h d → d ≡ turned_contact c
   through_at (places.Part i) h c d differ e f = plain _ c d differ e f
   through_at (places.Import i) h c d differ e f = plain _ c d differ e f
   through_at places.Result h c d differ e f = plain _ c d differ e f
   through_at (places.Number n) h c d differ e f = either _ c d differ e f
   through_at (places.Node j) h c d differ e f = either _ c d differ e f
 
-turned_option : (o : Option Contact) → turned_if o ≡ option_map turned_contact o
+pub turned_option : (o : Option Contact) → turned_if o ≡ option_map turned_contact o
 turned_option None = refl
 turned_option (Some c) = refl
 
@@ -230,10 +231,10 @@ module _ (program : Program) (t : Type') (w : ℕ) (m : Numbered) (p : Plan) (st
         by_place places.Result h e = end_few r q (ResultEnd h) (ap end_at e)
         by_place (places.Number k) h e =
             subst (λ (x : Point). meets r x fs ≤ 1) (sym e)
-            (number_once p.parts p.imports p.outcome table types is m typed (table_fits 0 m) parts_at sees imports_typed r k h (stands.used_once k) (stands.made_once k) (stands.no_import k))
+            (number_once p.parts p.imports p.outcome table types is 0 0 m typed (table_fits 0 m) parts_at sees imports_typed r k h (stands.used_once k) (stands.made_once k) (stands.no_import k))
         by_place (places.Node k) h e =
             subst (λ (x : Point). meets r x fs ≤ 1) (sym e)
-            (node_once p.parts p.imports p.outcome table types is m typed (table_fits 0 m) parts_at sees imports_typed r k h)
+            (node_once p.parts p.imports p.outcome table types is 0 0 m typed (table_fits 0 m) parts_at sees imports_typed r k h)
 
     end_is : (e : End) (k c : Contact) → contact_at p e ≡ Some k → sight.Has p.parts p.imports p.outcome types table (at e).place (at e).shake c → k ≡ c
     end_is (PartEnd i h) k c there has = let both : Some k ≡ Some c = sym there ∙ has in cc both
@@ -244,23 +245,42 @@ module _ (program : Program) (t : Type') (w : ℕ) (m : Numbered) (p : Plan) (st
         in
         let both : Some k ≡ Some c = sym there ∙ (turned ∙ has) in cc both
 
-    fair : AreFair fs p
+    fair : IsFair Point (Leaves fs)
     fair =
         record {
+          back = leaves_back fs;
           once = λ q x y c d first second e. one_leaves fs q x y c d e (met_once c.role q) first second;
           through = λ q x y c d first second differ.
               through_at p.parts p.imports p.outcome types table q.place q.shake c d differ (leaves_have p.parts p.imports p.outcome types table fs good.0 q x c first)
               (leaves_have p.parts p.imports p.outcome types table fs good.0 q y d second);
-          ends = λ e k c x there leaves. end_is e k c there (leaves_have p.parts p.imports p.outcome types table fs good.0 (at e) x c leaves);
         }
 
-    pub paths_fit : (a b : End) (c d : Contact) → contact_at p a ≡ Some c → contact_at p b ≡ Some d → a ≢ b → Path (all_ties is m) (at a) (at b)
-        → d ≡ turned_contact c
-    paths_fit a b c d at_a at_b differ path =
-        ends_fit fs p fair a c at_a b d at_b differ (subst (λ (ts : List Tie). Path ts (at a) (at b)) (sym good.1) path)
+    end_sees : (e : End) (k : Contact) → contact_at p e ≡ Some k → (x : Point) (c : Contact) → Leaves fs (at e) x c → k ≡ c
+    end_sees e k there x c leaves = end_is e k c there (leaves_have p.parts p.imports p.outcome types table fs good.0 (at e) x c leaves)
+
+    module _ (a : End) (k : Contact) (at_a : contact_at p a ≡ Some k) where
+      abbrev Found : Point → Type 0
+      Found = Reached Point (Leaves fs) fair (at a) k (end_sees a k at_a)
+
+      walk : (x y : Point) → Found x → Path (map tie_in fs) x y → Found y
+      walk x y found (here z) = found
+      walk x y found (along u v z meets path) =
+          let (c, leaves) = flow_of fs u v meets in
+          walk v z (step Point (Leaves fs) fair (at a) k (end_sees a k at_a) u v c found leaves) path
+
+      pub paths_fit : (b : End) (d : Contact) → contact_at p b ≡ Some d → a ≢ b → Path (all_ties is m) (at a) (at b) → d ≡ turned_contact k
+      paths_fit b d at_b differ path =
+          by_end
+          (reached_fits Point (Leaves fs) fair (at a) k (end_sees a k at_a) (at b) d (end_sees b d at_b)
+          (walk (at a) (at b) (inl refl) (subst (λ (ts : List Tie). Path ts (at a) (at b)) (sym good.1) path)))
+        where
+          by_end : (at b ≡ at a) ⊎ (d ≡ turned_contact k) → d ≡ turned_contact k
+          by_end (inl same) = absurd (differ (at_is a b (sym same)))
+          by_end (inr fit) = fit
 
 pub typed_ties_fit : TypedTiesFit
-typed_ties_fit program t w m p stands typed plan type = paths_fit program t w m p stands typed plan type
+typed_ties_fit program t w m p stands typed plan type a b c d at_a at_b differ path =
+    paths_fit program t w m p stands typed plan type a c at_a b d at_b differ path
 
 pub checked_fits : CheckedIsTyped → CheckedFits
 checked_fits law l w p c plan =

@@ -206,8 +206,8 @@ imports_count types r q M no_import makes a (x ∷ xs) typed =
     omega (arith, all, flow, none, own, rest)
 
 -- numbers and nodes among flows of both
-module _ (parts : List Part) (is : Imports) (outcome : Type') (table : ℕ → List Contact) (types : Types) (xs : Imports) (m : Numbered)
-    (typed : NodesTyped types m) (fits : TableFits table 0 m) (all : sight.PartsAt parts is outcome types table 0 (parts_of types m))
+module _ (parts : List Part) (is : Imports) (outcome : Type') (table : ℕ → List Contact) (types : Types) (xs : Imports) (i j : ℕ) (m : Numbered)
+    (typed : NodesTyped types m) (fits : TableFits table j m) (all : sight.PartsAt parts is outcome types table i (parts_of types m))
     (see : sight.See parts is outcome types table (seen (type_of_node m)) (row places.Result 0 (count (type_of_node m))))
     (imports : (i : ℕ) (x : Imported) → slice_get xs i ≡ Some x → types (0 + i) ≡ x.ty)
   where
@@ -215,7 +215,7 @@ module _ (parts : List Part) (is : Imports) (outcome : Type') (table : ℕ → L
     out = row places.Result 0 (count (type_of_node m))
 
     abbrev both : List Flow
-    both = import_flows 0 xs ++ flows_of types 0 0 m out
+    both = import_flows 0 xs ++ flows_of types i j m out
 
     module _ (r : Role) (k h : ℕ) where
       abbrev q : Point
@@ -232,11 +232,11 @@ module _ (parts : List Part) (is : Imports) (outcome : Type') (table : ℕ → L
 
       counted : (U M : ℕ → ℕ) → ((n i : ℕ) → occurs r q (contacts_of (types n)) (row (places.Number n) 0 i) ≤ U n)
           → ((n i : ℕ) → occurs r q (seen (types n)) (row (places.Number n) 0 i) ≤ M n)
-          → meets r q both ≤ sum_from M 0 (length xs) + weight U M zeros 0 m
+          → meets r q both ≤ sum_from M 0 (length xs) + weight U M zeros j m
       counted U M uses makes =
-          let split = meets_two r q (import_flows 0 xs) (flows_of types 0 0 m out) in
+          let split = meets_two r q (import_flows 0 xs) (flows_of types i j m out) in
           let first = imports_count types r q M (λ i. refl) makes 0 xs imports in
-          let term = term_count parts is outcome table types r q U M zeros (λ i. refl) uses makes no_node 0 0 m out typed fits all see in
+          let term = term_count parts is outcome table types r q U M zeros (λ i. refl) uses makes no_node i j m out typed fits all see in
           let none = row_none r q (seen (type_of_node m)) places.Result 0 (count (type_of_node m)) refl in
           omega (arith, split, first, term, none)
 
@@ -295,6 +295,11 @@ module _ (parts : List Part) (is : Imports) (outcome : Type') (table : ℕ → L
           omega (arith, at, few, turned, same))
           (λ e t. let none = place_none r q (places.Number n) (slice_get (seen (types n)) h) (elsewhere n t) in omega (arith, at, none))
 
+      -- in the role in which it is made
+      pub number_made : is_it r (slice_get (contacts_of (types k)) h) ≡ false → meets r q both ≤ sum_from (one k) 0 (length xs) + times k (made m)
+      number_made differs =
+          let all_met = counted zeros (one k) (uses_none differs) makes_one in let weighs = weight_made k j m in omega (arith, all_met, weighs)
+
       pub number_once : times k (used m) ≤ 1 → times k (made m) ≤ 1 → (0 < times k (made m) → length xs ≤ k) → meets r q both ≤ 1
       number_once used_few made_few no_import = by_role (is_it r (slice_get (contacts_of (types k)) h)) refl
         where
@@ -307,11 +312,11 @@ module _ (parts : List Part) (is : Imports) (outcome : Type') (table : ℕ → L
           by_role true agrees =
               let all_met = counted (one k) zeros uses_one (makes_none agrees) in
               let none = sum_zeros 0 (length xs) in
-              let weighs = weight_used k 0 m in
+              let weighs = weight_used k j m in
               omega (arith, all_met, none, weighs, used_few)
           by_role false differs =
               let all_met = counted zeros (one k) (uses_none differs) makes_one in
-              let weighs = weight_made k 0 m in
+              let weighs = weight_made k j m in
               let few = by_made (times k (made m)) refl in
               omega (arith, all_met, weighs, few)
 
@@ -344,14 +349,14 @@ module _ (parts : List Part) (is : Imports) (outcome : Type') (table : ℕ → L
 
       pub node_once : meets r node both ≤ 1
       node_once =
-          let split = meets_two r node (import_flows 0 xs) (flows_of types 0 0 m out) in
+          let split = meets_two r node (import_flows 0 xs) (flows_of types i j m out) in
           let first = imports_count types r node zeros (λ i. refl) (λ n i. no_number (seen (types n)) n i) 0 xs imports in
           let none = sum_zeros 0 (length xs) in
           let term =
           term_count parts is outcome table types r node zeros zeros (one k) (λ i. refl) (λ n i. no_number (contacts_of (types n)) n i)
-          (λ n i. no_number (seen (types n)) n i) from_both 0 0 m out typed fits all see
+          (λ n i. no_number (seen (types n)) n i) from_both i j m out typed fits all see
           in
           let result = row_none r node (seen (type_of_node m)) places.Result 0 (count (type_of_node m)) refl in
-          let weighs = weight_nodes k 0 m in
-          let few = sum_once k 0 (nodes m) in
+          let weighs = weight_nodes k j m in
+          let few = sum_once k j (nodes m) in
           omega (arith, split, first, none, term, result, weighs, few)

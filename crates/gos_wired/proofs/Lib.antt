@@ -6,6 +6,7 @@ pub mod TieLemmas
 pub mod TypeLemmas
 pub mod ModuleLemmas
 pub mod FlowLemmas
+pub mod ChainLemmas
 pub mod FlowedLemmas
 pub mod OutLemmas
 pub mod SightLemmas
@@ -17,4 +18,7 @@ pub mod WeightLemmas
 pub mod TermCountLemmas
 pub mod InnerCountLemmas
 pub mod FairLemmas
+pub mod WiredFitLemmas
+pub mod NodeFitLemmas
 mod SmallWiredLemmas
+mod LinearLemmas

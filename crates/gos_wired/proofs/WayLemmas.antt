@@ -51,6 +51,9 @@ there_and_back places.Result h = refl
 there_and_back (places.Number n) h = refl
 there_and_back (places.Node n) h = refl
 
+pub point_is : (q y : Point) → dot_of q ≡ dot_of y → q ≡ y
+point_is q y e = sym (there_and_back q.place q.shake) ∙ (ap point_of e ∙ there_and_back y.place y.shake)
+
 pub dot_of_end : (e : End) → dot_of (at e) ≡ Of e
 dot_of_end (PartEnd i h) = refl
 dot_of_end (ImportEnd i h) = refl

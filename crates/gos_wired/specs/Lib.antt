@@ -2,4 +2,5 @@
 pub mod Wired
 pub mod Modules
 pub mod Fitting
+pub mod NodeFitting
 pub mod SmallWired

@@ -3,6 +3,7 @@
 ghost use Rattle.gos_wired.specs.Modules.{SuppliedIsWired};
 ghost use Rattle.gos_wired.specs.SmallWired.{SeqDoesNotFit, SkipFits, UnjoinedIsNotWired, UseIsWired};
 ghost use Rattle.gos_wired.specs.Fitting.{CheckedFits, CheckedIsWired, TypedTiesFit};
+ghost use Rattle.gos_wired.specs.NodeFitting.{BodyIsLinear, CheckedStarts, ChoicesAreLinear, FittingIsPlain, PartIsLinear, PartsAreLinear, RealisedAreOfTypes, TwiceIsNotLinear, UseIsLinear, WiredIsPlaced, WiredNodeFits};
 
 use gos_compile::typed_terms;
 
@@ -19,6 +20,29 @@ pub fn checked_modules()
 {
     typed_terms();
 }
+
+/// What any wired node connects fits, before its web has a plan; and so each of its ends meets one other at most.
+pub fn wired_nodes()
+    ensures fit { WiredNodeFits }
+    ensures placed { WiredIsPlaced }
+    ensures plain { FittingIsPlain }
+{}
+
+/// Where the induction on a checked module's term starts: its node is linear, and what is supplied realises its numbers' terms.
+pub fn starts()
+    ensures checked { CheckedStarts }
+    ensures types { RealisedAreOfTypes }
+    ensures met { UseIsLinear }
+    ensures missed { TwiceIsNotLinear }
+{}
+
+/// The parts of a linear node are linear.
+pub fn linear_parts()
+    ensures body { BodyIsLinear }
+    ensures one { PartIsLinear }
+    ensures two { PartsAreLinear }
+    ensures three { ChoicesAreLinear }
+{}
 
 /// A use of a number, wired to the plan of `skip`, is that plan, and not the one without its joint. The ties of
 /// `skip` connect what fits in its plan, and not with a Seq in its Skip's place.

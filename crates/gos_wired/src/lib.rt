@@ -5,4 +5,6 @@
 
 mod laws;
 
-pub use laws::{checked_modules, small_wirings, supplied_modules};
+pub use laws::{
+    checked_modules, linear_parts, small_wirings, starts, supplied_modules, wired_nodes,
+};
