@@ -1,0 +1,5 @@
+-- In reading order: a file uses only files above it.
+pub mod DotLemmas
+pub mod CrossingLemmas
+pub mod EndLemmas
+pub mod PlanLemmas
