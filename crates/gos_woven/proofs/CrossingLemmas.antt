@@ -1,5 +1,5 @@
 -- A way needs a tie once at most: so it is decided whether there is one.
-use Rattle.std.specs.Prelude.{◌≡◌, ℕ, zero, suc, List, [], ◌∷◌, ◌⊎◌, Contains}
+use Rattle.std.specs.Prelude.{◌≡◌, zero, suc, List, [], ◌∷◌, ◌⊎◌, Contains}
 use Rattle.std.proofs.Common.{refl, sym, ap, subst, arith, inl, inr}
 use Rattle.gos_webs.specs.Webs.{Dot, Tie, tie, Meet, Way, here, along}
 use Rattle.gos_woven.proofs.DotLemmas.{Decided, one_dot}

@@ -3,3 +3,5 @@ pub mod DotLemmas
 pub mod CrossingLemmas
 pub mod EndLemmas
 pub mod PlanLemmas
+pub mod ThinLemmas
+pub mod SmallLemmas

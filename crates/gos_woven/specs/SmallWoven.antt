@@ -6,7 +6,7 @@ use Rattle.gos_types.specs.Types.{Com}
 use Rattle.gos_plan.specs.Kinds.{Skip}
 use Rattle.gos_plan.specs.Plans.{PartEnd, ResultEnd, Joint, Plan}
 use Rattle.gos_plan.specs.SmallPlans.{skip_plan}
-use Rattle.gos_webs.specs.Webs.{Of, Number, tie, Web, WaysFit, IsOfWeb}
+use Rattle.gos_webs.specs.Webs.{Of, Number, tie, Web, IsOfWeb}
 use Rattle.gos_woven.specs.Woven.{IsPlain, IsThin}
 
 -- the result meets a number, and that a Skip

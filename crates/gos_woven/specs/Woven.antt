@@ -2,7 +2,7 @@
 --
 -- Read first: Webs of gos_webs. The joints are the pairs of ends that a way connects; since ties are finitely many, it is
 -- decided whether one does.
-use Rattle.std.specs.Prelude.{◌≡◌, ◌≢◌, ℕ, ◌+◌, ◌≤◌, Bool, true, false, ◌&&◌, List, [], ◌∷◌, Some, nat_eq, if◌then◌else◌}
+use Rattle.std.specs.Prelude.{◌≡◌, ◌≢◌, ℕ, ◌+◌, ◌≤◌, Bool, false, ◌&&◌, List, [], ◌∷◌, Some, nat_eq, if◌then◌else◌}
 use Rattle.gos_plan.specs.Kinds.{Contact}
 use Rattle.gos_plan.specs.Plans.{End, Joint, Plan, contact_at, same_end}
 use Rattle.gos_webs.specs.Webs.{Dot, Of, Number, Node, Within, Tie, Web, Way, WaysFit, IsOfWeb}
