@@ -1,0 +1,5 @@
+-- In reading order: a file uses only files above it.
+pub mod RenamedLemmas
+pub mod StandLemmas
+pub mod RowLemmas
+pub mod MatchingLemmas

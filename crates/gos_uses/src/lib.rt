@@ -1,0 +1,8 @@
+// Uses: a node that applies, projects or reads is joined of its children.
+//
+// Definitions and laws alone. Read `specs/Uses`, and then laws.rt.
+#![tactic(auto)]
+
+mod laws;
+
+pub use laws::{projections_are_sides};
