@@ -3,3 +3,6 @@ pub mod RenamedLemmas
 pub mod StandLemmas
 pub mod RowLemmas
 pub mod MatchingLemmas
+pub mod SupplyLemmas
+pub mod ChildLemmas
+pub mod SideLemmas
