@@ -6,3 +6,5 @@ pub mod MatchingLemmas
 pub mod SupplyLemmas
 pub mod ChildLemmas
 pub mod SideLemmas
+pub mod PermuteLemmas
+pub mod ChosenLemmas
