@@ -8,3 +8,4 @@ pub mod ChildLemmas
 pub mod SideLemmas
 pub mod PermuteLemmas
 pub mod ChosenLemmas
+pub mod ApplyWebLemmas

@@ -27,7 +27,7 @@ of_results n a zero t (k, small, e) = absurd (omega (arith, small))
 of_results n a (suc m) t (zero, small, e) = (a, e)
 of_results n a (suc m) t (suc k, small, e) = of_results n (suc a) m t (k, omega (arith, small), e)
 
-of_supply : (types : Types) (env : Supplies) (n : ℕ) (t : Tie) → Contains (supply_ties types env n) t → IsSupplyTie n t
+pub of_supply : (types : Types) (env : Supplies) (n : ℕ) (t : Tie) → Contains (supply_ties types env n) t → IsSupplyTie n t
 of_supply types env n t has =
     by_part (Contains-append_cases (within (suc n) (own_web (env n).plan).ties) (result_ties n 0 (count (types n))) t has)
   where
