@@ -9,3 +9,4 @@ pub mod SideLemmas
 pub mod PermuteLemmas
 pub mod ChosenLemmas
 pub mod ApplyWebLemmas
+pub mod ApplyLemmas

@@ -200,12 +200,12 @@ comes_last f (suc l) (suc n) low c =
     (λ k same. let is : n ≡ k = omega (arith, same) in subst (λ (x : ℕ). total (λ n. f (suc n)) l ≤ put (λ n. f (suc n)) l x) is more)
 
 -- the first of two lists, and the second
-front : {A : Type 0} (xs ys : List A) (n : ℕ) → n < length xs → slice_get (xs ++ ys) n ≡ slice_get xs n
+pub front : {A : Type 0} (xs ys : List A) (n : ℕ) → n < length xs → slice_get (xs ++ ys) n ≡ slice_get xs n
 front [] ys n low = absurd (omega (arith, low))
 front (x ∷ xs) ys zero low = refl
 front (x ∷ xs) ys (suc n) low = front xs ys n (omega (arith, low))
 
-behind : {A : Type 0} (xs ys : List A) (n : ℕ) → slice_get (xs ++ ys) (length xs + n) ≡ slice_get ys n
+pub behind : {A : Type 0} (xs ys : List A) (n : ℕ) → slice_get (xs ++ ys) (length xs + n) ≡ slice_get ys n
 behind [] ys n = let zeros : 0 + n ≡ n = omega arith in ap (slice_get ys) zeros
 behind (x ∷ xs) ys n =
     let sum : suc (length xs) + n ≡ suc (length xs + n) = omega arith in ap (slice_get (x ∷ (xs ++ ys))) sum ∙ behind xs ys n

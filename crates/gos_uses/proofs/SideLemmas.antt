@@ -311,7 +311,7 @@ moved_web : (types : Types) (i n : ℕ) (env : Supplies) (ns : List ℕ) (pl : P
 moved_web types i n env ns pl r ts us same is =
     subst (λ (xs : List point_ties.Tie). IsOfWeb (record { ties = within 0 (dot_ties xs) ++ all_supply_ties types env ns; at = dot_at i pl }) r) same is
 
-child_led : (types : Types) (i l j : ℕ) (m : Numbered) (to : ℕ → Point) (n k : ℕ) (out : List Point)
+pub child_led : (types : Types) (i l j : ℕ) (m : Numbered) (to : ℕ → Point) (n k : ℕ) (out : List Point)
     → l ≡ i → count (type_of_node m) ≡ n + k → map (renamed to) (row places.Result 0 (n + k)) ≡ out
     → ties_of types l (suc j) m out ≡ map (renamed_tie to) (child_ties types i (suc j) m)
 child_led types i l j m to n k out same counts led =

@@ -6,3 +6,9 @@ pub fn projections_are_sides()
     ensures first { FirstIsSide }
     ensures second { SecondIsSide }
 {}
+
+/// A node that applies, wired to its supplies, is the function's, applied to the argument's, each wired to its own, but for
+/// numbers.
+pub fn applications_are_joined()
+    ensures { ApplicationIsApplied }
+{}
