@@ -1,5 +1,5 @@
 -- A node that applies is the function's, applied to the argument's: its parts and imports are theirs.
-use Rattle.std.specs.Prelude.{◌≡◌, ℕ, zero, suc, ◌+◌, ◌-◌, ◌<◌, ◌≤◌, Bool, true, false, List, [], ◌∷◌, ◌++◌, ◌⊎◌, length, map, Option, Some, None, nat_lt, slice_get, Contains, if◌then◌else◌}
+use Rattle.std.specs.Prelude.{◌≡◌, ℕ, zero, suc, ◌+◌, ◌-◌, ◌<◌, ◌≤◌, Bool, true, false, List, [], ◌∷◌, ◌++◌, ◌⊎◌, length, map, Option, Some, nat_lt, slice_get, Contains, if◌then◌else◌}
 use Rattle.std.proofs.Common.{refl, sym, ◌∙◌, ap, subst, arith, inl, inr}
 use Rattle.std.proofs.lemmas.Option.{slice_get_within}
 use Rattle.std.proofs.lemmas.List.{append-nil}
@@ -10,7 +10,7 @@ use Rattle.gos_check.specs.Nodes.{Numbered, Two, OfApp, type_of_node}
 use Rattle.gos_check.specs.Linearity.{times}
 use Rattle.gos_plan.specs.Kinds.{Part, Contact}
 use Rattle.gos_plan.specs.Plans.{End, PartEnd, ImportEnd, ResultEnd, Joint, Plan, contact_at}
-use Rattle.gos_plan.specs.Joining.{Place as Spot, place, LeftImport, all_left, left_place, origin, IsJoining}
+use Rattle.gos_plan.specs.Joining.{Place as Spot, place, LeftImport, all_left, left_place, origin}
 use Rattle.gos_ties.specs.declared.points.Place.TheVariants as places
 use Rattle.gos_ties.specs.declared.points.Point.{Point}
 use Rattle.gos_ties.specs.declared.points.Tie as point_ties
@@ -20,8 +20,8 @@ use Rattle.gos_realises.specs.Links.{IsJoined}
 use Rattle.gos_realises.specs.Wirings.{applying}
 use Rattle.gos_realises.proofs.GroundTurnLemmas.{count_fun}
 use Rattle.gos_joined.proofs.WholeLemmas.{applied_is_joined}
-use Rattle.gos_webs.specs.Webs.{Dot, Of, Number, Node, Within, Tie, Web, Way, here, IsOfWeb}
-use Rattle.gos_webs.specs.Renumbering.{Renumber, IsOneToOne, IsRenumbered, moved_end}
+use Rattle.gos_webs.specs.Webs.{Dot, Of, Within, Tie, Web, Way, here, IsOfWeb}
+use Rattle.gos_webs.specs.Renumbering.{Renumber, IsOneToOne, moved_end}
 use Rattle.gos_unions.specs.Unions as unions
 use Rattle.gos_unions.specs.Unions.{within}
 use Rattle.gos_unions.proofs.UnionLemmas.{joining_is_union}
@@ -29,13 +29,13 @@ use Rattle.gos_unions.proofs.FlatFitLemmas.{links_stand}
 use Rattle.gos_applied.proofs.SeamLemmas.{listed, listed_at, listed_length, applied_left}
 use Rattle.gos_applied.proofs.TogetherLemmas.{imports_of}
 use Rattle.gos_compile.specs.Wiring.{Types, row, parts_of, nodes, ties_of}
-use Rattle.gos_wired.specs.Wired.{Supplies, Placing, Source, Own, Supplied, Origin, IsFrom, source_dot, dot_at, dot_of, dot_ties, all_supply_ties, wired_web, IsWired}
+use Rattle.gos_wired.specs.Wired.{Supplies, Placing, Source, Own, Supplied, IsFrom, source_dot, dot_at, dot_of, dot_ties, all_supply_ties, IsWired}
 use Rattle.gos_woven.proofs.CrossingLemmas.{still}
 use Rattle.gos_uses.specs.Uses.{CanBeWired, AreParted, AreApart, IsApplied, ApplicationIsApplied}
 use Rattle.gos_uses.proofs.RenamedLemmas.{renamed, renamed_tie, map_two, ties_renamed}
 use Rattle.gos_uses.proofs.RowLemmas.{to_second, rows_two}
 use Rattle.gos_uses.proofs.MatchingLemmas.{Matching, matched}
-use Rattle.gos_uses.proofs.ChildLemmas.{dot_tie, child_ties, node_ties}
+use Rattle.gos_uses.proofs.ChildLemmas.{dot_tie, child_ties}
 use Rattle.gos_uses.proofs.SupplyLemmas.{inside}
 use Rattle.gos_uses.proofs.SideLemmas.{its_part, its_import, child_led}
 use Rattle.gos_uses.proofs.PermuteLemmas.{chosen, others, total, put, taken, there_and_back, back_and_there, chosen_length, put_there, comes_last, front, behind, Standing, stands_first, stands_last}

@@ -1,5 +1,5 @@
 -- The web of a node that applies is, but for dots, the union of its children's webs.
-use Rattle.std.specs.Prelude.{◌≡◌, ℕ, zero, suc, ◌+◌, ◌-◌, ◌<◌, ◌≤◌, Bool, true, false, List, [], ◌∷◌, ◌++◌, ◌⊎◌, length, map, nat_eq, nat_lt, Contains, if◌then◌else◌}
+use Rattle.std.specs.Prelude.{◌≡◌, ℕ, zero, suc, ◌+◌, ◌-◌, ◌<◌, ◌≤◌, Bool, true, false, List, [], ◌∷◌, ◌++◌, ◌⊎◌, length, nat_eq, nat_lt, Contains, if◌then◌else◌}
 use Rattle.std.proofs.Common.{refl, sym, ◌∙◌, ap, subst, arith, inl, inr}
 use Rattle.std.proofs.lemmas.List.Elements.{Contains-append_left, Contains-append_right, Contains-append_cases}
 use Rattle.std.proofs.lemmas.Bool.Decides.{nat_tests}
@@ -7,7 +7,7 @@ use Rattle.gos_types.specs.Types.{Type'}
 use Rattle.gos_check.specs.Nodes.{Numbered, type_of_node}
 use Rattle.gos_check.specs.Linearity.{times, used, made}
 use Rattle.gos_check.proofs.TimesLemmas.{eq_true, eq_false, number_cases}
-use Rattle.gos_plan.specs.Plans.{End, PartEnd, ImportEnd, ResultEnd, Plan}
+use Rattle.gos_plan.specs.Plans.{PartEnd, ImportEnd, ResultEnd, Plan}
 use Rattle.gos_plan.specs.Joining.{Link}
 use Rattle.gos_ties.specs.declared.points.Place.{Place}
 use Rattle.gos_ties.specs.declared.points.Place.TheVariants as places
@@ -16,21 +16,21 @@ use Rattle.gos_ties.specs.declared.points.Tie as point_ties
 use Rattle.gos_ties.specs.Ties.{point}
 use Rattle.gos_realises.specs.Regular.{count}
 use Rattle.gos_realises.specs.Wirings.{link, results_linked, applying}
-use Rattle.gos_webs.specs.Webs.{Dot, Of, Number, Node, Within, Tie, tie, Web, Way, here}
+use Rattle.gos_webs.specs.Webs.{Dot, Of, Number, Node, Within, Tie, tie, Web, Way}
 use Rattle.gos_unions.specs.Unions as unions
 use Rattle.gos_unions.specs.Unions.{within, link_ties, union}
 use Rattle.gos_unions.proofs.UnionLemmas.{Image, of_image, in_image}
 use Rattle.gos_compile.specs.Wiring.{Types, parts_of, nodes}
-use Rattle.gos_wired.specs.Wired.{Supplies, Placing, dot_at, dot_of_place, dot_of, supply_ties, all_supply_ties, wired_web}
+use Rattle.gos_wired.specs.Wired.{Supplies, Placing, dot_at, dot_of_place, dot_of, all_supply_ties, wired_web}
 use Rattle.gos_wired.proofs.TieLemmas.{OfSupplies, of_supplies, in_supplies}
 use Rattle.gos_wired.proofs.WayLemmas.{way_then, way_back}
 use Rattle.gos_woven.proofs.CrossingLemmas.{still}
 use Rattle.gos_uses.specs.Uses.{Stands, AreParted, AreApart}
-use Rattle.gos_uses.proofs.RenamedLemmas.{renamed_at, renamed, renamed_tie}
+use Rattle.gos_uses.proofs.RenamedLemmas.{renamed_at}
 use Rattle.gos_uses.proofs.StandLemmas.{IsOf}
 use Rattle.gos_uses.proofs.RowLemmas.{to_two, to_first, to_second}
-use Rattle.gos_uses.proofs.SupplyLemmas.{inside, result_tie, IsSupplyTie, of_supply, tied_at}
-use Rattle.gos_uses.proofs.ChildLemmas.{dot_tie, lower, lowered, child_ties, own_ties, node_ties, own_tie, node_tie, of_own, in_own, of_node, in_node, one_stands, other_stands}
+use Rattle.gos_uses.proofs.SupplyLemmas.{inside, IsSupplyTie, of_supply, tied_at}
+use Rattle.gos_uses.proofs.ChildLemmas.{lower, lowered, child_ties, own_ties, node_ties, own_tie, node_tie, of_own, in_own, of_node, in_node, one_stands, other_stands}
 
 -- a dot of the function's web, or of the argument's
 abbrev pub pick : Bool → Dot → Dot

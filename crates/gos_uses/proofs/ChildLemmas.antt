@@ -1,20 +1,19 @@
 -- The dots of a node's child: where they stand in the node, and back.
-use Rattle.std.specs.Prelude.{◌≡◌, ℕ, zero, suc, ◌+◌, ◌<◌, ◌≤◌, Bool, List, [], ◌∷◌, ◌++◌, ◌⊎◌, length, map, nat_eq, Contains, if◌then◌else◌}
-use Rattle.std.proofs.Common.{refl, sym, ◌∙◌, ap, subst, arith, inl, inr}
+use Rattle.std.specs.Prelude.{◌≡◌, ℕ, List, map, Contains}
+use Rattle.std.proofs.Common.{refl, ◌∙◌, ap, inl, inr}
 use Rattle.gos_check.specs.Nodes.{Numbered, type_of_node}
-use Rattle.gos_check.proofs.TimesLemmas.{eq_false}
 use Rattle.gos_plan.specs.Plans.{PartEnd, ImportEnd, ResultEnd}
 use Rattle.gos_ties.specs.declared.points.Place.{Place}
 use Rattle.gos_ties.specs.declared.points.Place.TheVariants as places
 use Rattle.gos_ties.specs.declared.points.Point.{Point}
 use Rattle.gos_ties.specs.declared.points.Tie as point_ties
 use Rattle.gos_realises.specs.Regular.{count}
-use Rattle.gos_webs.specs.Webs.{Dot, Of, Number, Node, Within, Tie, tie, Way}
+use Rattle.gos_webs.specs.Webs.{Dot, Of, Number, Node, Within, Tie, tie}
 use Rattle.gos_unions.specs.Unions.{within}
 use Rattle.gos_unions.proofs.UnionLemmas.{Image, of_image, in_image}
 use Rattle.gos_compile.specs.Wiring.{Types, row, ties_of}
 use Rattle.gos_wired.specs.Wired.{dot_of_place, dot_of, dot_ties}
-use Rattle.gos_uses.proofs.RenamedLemmas.{renamed_at, renamed, renamed_tie}
+use Rattle.gos_uses.proofs.RenamedLemmas.{renamed_at, renamed_tie}
 use Rattle.gos_uses.proofs.StandLemmas.{IsOf, ties_stand}
 use Rattle.gos_uses.proofs.SupplyLemmas.{inside}
 

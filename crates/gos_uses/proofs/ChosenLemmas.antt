@@ -1,11 +1,10 @@
 -- A child of a node is placed where its parts and imports are chosen from the node's.
-use Rattle.std.specs.Prelude.{◌≡◌, ℕ, Bool, true, false, List, [], Some, slice_get, Contains}
-use Rattle.std.proofs.Common.{refl, sym, ◌∙◌, ap, subst}
+use Rattle.std.specs.Prelude.{◌≡◌, ℕ, Bool, List, [], Some, slice_get, Contains}
+use Rattle.std.proofs.Common.{refl, ◌∙◌, ap}
 use Rattle.gos_model.specs.Typing.{Imported}
 use Rattle.gos_check.specs.Nodes.{Numbered, type_of_node}
 use Rattle.gos_plan.specs.Kinds.{Part}
 use Rattle.gos_plan.specs.Plans.{Joint, Plan}
-use Rattle.gos_webs.specs.Webs.{IsOfWeb}
 use Rattle.gos_compile.specs.Wiring.{Types, parts_of}
 use Rattle.gos_wired.specs.Wired.{Supplies, Placing, Source, Own, Supplied, Origin, IsFrom, placed, wired_web, IsWired}
 use Rattle.gos_woven.proofs.PlanLemmas.{web_has_plan}

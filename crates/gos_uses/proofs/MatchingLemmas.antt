@@ -1,11 +1,11 @@
 -- Two plans of webs are one but for numbers, if the webs connect the same ends: each tie of one is a way of the other.
-use Rattle.std.specs.Prelude.{◌≡◌, ◌↔◌, ℕ, Option, Some, Contains, slice_get}
-use Rattle.std.proofs.Common.{refl, sym, ◌∙◌, ap, subst}
+use Rattle.std.specs.Prelude.{◌≡◌, ℕ, Option, Some, Contains, slice_get}
+use Rattle.std.proofs.Common.{sym, ◌∙◌, ap}
 use Rattle.gos_types.specs.Types.{Type'}
 use Rattle.gos_model.specs.Typing.{Imported}
 use Rattle.gos_plan.specs.Kinds.{Part, Contact, asks, serves, contacts_of}
 use Rattle.gos_plan.specs.Plans.{End, PartEnd, ImportEnd, ResultEnd, Plan, contact_at, contacts_of_part, contacts_of_import, turned_if}
-use Rattle.gos_webs.specs.Webs.{Dot, Tie, Web, Way, Connects, IsOfWeb, joint}
+use Rattle.gos_webs.specs.Webs.{Dot, Tie, Web, Way, Connects, IsOfWeb}
 use Rattle.gos_webs.specs.Renumbering.{Renumber, IsOneToOne, IsRenumbered, moved_end}
 use Rattle.gos_wired.proofs.WayLemmas.{way_then, way_back, mapped_way}
 
@@ -40,7 +40,7 @@ module _
         same_contact a ∙ at_a,
         same_contact b ∙ at_b,
         way_then u.ties (u.at (moved_end g a)) (is.forth (w.at a)) (u.at (moved_end g b)) first
-        (way_then u.ties (is.forth (w.at a)) (is.forth (w.at b)) (u.at (moved_end g b)) across last),
+            (way_then u.ties (is.forth (w.at a)) (is.forth (w.at b)) (u.at (moved_end g b)) across last),
       )
 
   from : (a b : End) → Connects u s (moved_end g a) (moved_end g b) → Connects w r a b
@@ -55,7 +55,7 @@ module _
         here,
         there,
         way_then w.ties (w.at a) (is.back (u.at (moved_end g a))) (w.at b) first
-        (way_then w.ties (is.back (u.at (moved_end g a))) (is.back (u.at (moved_end g b))) (w.at b) across last),
+            (way_then w.ties (is.back (u.at (moved_end g a))) (is.back (u.at (moved_end g b))) (w.at b) across last),
       )
 
   pub matched : IsRenumbered g r s

@@ -246,8 +246,7 @@ module _ {A : Type 0} (f : ℕ → Bool) (xs : List A) where
         outward = λ y x at.
             let low = slice_get_within (chosen f xs) y x at in
             let here : slice_get xs (from y) ≡ Some x = back_there y ∙ (front (chosen f xs) (others f xs) y low ∙ at) in
-            let round = back_and_there f (length xs) y in
-            (
+            let round = back_and_there f (length xs) y in (
               here,
               by_choice (from y) (λ is. is)
                   (λ is.
@@ -266,8 +265,7 @@ module _ {A : Type 0} (f : ℕ → Bool) (xs : List A) where
             let high = comes_last f (length xs) n low is in
             let same = chosen_length f xs in
             let sum : size + (to n - size) ≡ to n = omega (arith, high) in
-            let sum_two : length (chosen f xs) + (to n - size) ≡ to n = omega (arith, high, same) in
-            (
+            let sum_two : length (chosen f xs) + (to n - size) ≡ to n = omega (arith, high, same) in (
               sym (behind (chosen f xs) (others f xs) (to n - size))
                   ∙ (ap (slice_get (chosen f xs ++ others f xs)) sum_two ∙ (put_there f xs n ∙ at)),
               ap from sum ∙ there_and_back f (length xs) n,
@@ -278,8 +276,7 @@ module _ {A : Type 0} (f : ℕ → Bool) (xs : List A) where
             let here : slice_get xs (from (size + y)) ≡ Some x =
             back_there (size + y) ∙ (ap (slice_get (chosen f xs ++ others f xs)) sum ∙ (behind (chosen f xs) (others f xs) y ∙ at)) in
             let round = back_and_there f (length xs) (size + y) in
-            let less : (size + y) - size ≡ y = omega arith in
-            (
+            let less : (size + y) - size ≡ y = omega arith in (
               here,
               by_choice (from (size + y))
                   (λ is.

@@ -5,9 +5,9 @@ use Rattle.std.proofs.lemmas.Option.{none-some, slice_get_within}
 use Rattle.std.proofs.lemmas.List.{append-nil}
 use Rattle.std.proofs.lemmas.List.Elements.{Contains-append_left, Contains-append_right, Contains-append_cases}
 use Rattle.std.proofs.lemmas.Bool.Decides.{nat_tests}
-use Rattle.gos_types.specs.Types.{Type', Pair}
+use Rattle.gos_types.specs.Types.{Type'}
 use Rattle.gos_model.specs.Typing.{Imported}
-use Rattle.gos_check.specs.Nodes.{Numbered, One, OfFst, OfSnd, type_of_node}
+use Rattle.gos_check.specs.Nodes.{Numbered, type_of_node}
 use Rattle.gos_check.proofs.TimesLemmas.{eq_true, eq_false}
 use Rattle.gos_plan.specs.Kinds.{Part, Contact, contacts_of}
 use Rattle.gos_plan.specs.Plans.{End, PartEnd, ImportEnd, ResultEnd, Joint, Plan, contact_at, contacts_of_part, contacts_of_import, turned_if}
@@ -16,31 +16,30 @@ use Rattle.gos_ties.specs.declared.points.Place.{Place}
 use Rattle.gos_ties.specs.declared.points.Place.TheVariants as places
 use Rattle.gos_ties.specs.declared.points.Point.{Point}
 use Rattle.gos_ties.specs.declared.points.Tie as point_ties
-use Rattle.gos_ties.specs.Ties.{point}
 use Rattle.gos_realises.specs.Regular.{count}
 use Rattle.gos_realises.specs.Links.{IsJoined}
 use Rattle.gos_realises.specs.Wirings.{side}
 use Rattle.gos_joined.proofs.WholeLemmas.{sides_are_joined}
-use Rattle.gos_webs.specs.Webs.{Dot, Of, Number, Node, Within, Tie, tie, Web, Way, here, IsOfWeb}
+use Rattle.gos_webs.specs.Webs.{Dot, Of, Number, Node, Within, Tie, Web, Way, here, IsOfWeb}
 use Rattle.gos_unions.specs.Unions as unions
 use Rattle.gos_unions.specs.Unions.{within, union}
 use Rattle.gos_unions.proofs.UnionLemmas.{Image, of_image, in_image, joining_is_union}
 use Rattle.gos_webs.specs.Renumbering.{moved_end}
 use Rattle.gos_renumbered.specs.SmallRewirings.{unchanged}
 use Rattle.gos_renumbered.proofs.HigherLemmas.{unchanged_one}
-use Rattle.gos_applied.proofs.SeamLemmas.{listed, left_none, listed_at}
+use Rattle.gos_applied.proofs.SeamLemmas.{left_none, listed_at}
 use Rattle.gos_applied.proofs.SideLemmas.{side_imports}
 use Rattle.gos_compile.specs.Wiring.{Types, row, ties_of}
-use Rattle.gos_wired.specs.Wired.{Supplies, Placing, Source, Own, Supplied, source_dot, dot_at, dot_of_place, dot_of, dot_ties, all_supply_ties, wired_web, IsWired}
+use Rattle.gos_wired.specs.Wired.{Supplies, Placing, Source, Own, Supplied, source_dot, dot_at, dot_of_place, dot_of, dot_ties, all_supply_ties, wired_web}
 use Rattle.gos_woven.proofs.CrossingLemmas.{still}
 use Rattle.gos_woven.proofs.PlanLemmas.{web_has_plan}
-use Rattle.gos_uses.specs.Uses.{IsPlaced, CanBeWired, IsSide, FirstIsSide, SecondIsSide}
+use Rattle.gos_uses.specs.Uses.{IsPlaced, IsSide, FirstIsSide, SecondIsSide}
 use Rattle.gos_uses.proofs.RenamedLemmas.{renamed_at, renamed, renamed_tie, ties_renamed}
 use Rattle.gos_uses.proofs.StandLemmas.{IsOf}
 use Rattle.gos_uses.proofs.RowLemmas.{to_two, to_first, to_second, rows_two, count_pair}
 use Rattle.gos_uses.proofs.MatchingLemmas.{Matching, matched}
-use Rattle.gos_uses.proofs.SupplyLemmas.{inside, result_tie, IsSupplyTie, OfNumber, of_number, tied, tied_at}
-use Rattle.gos_uses.proofs.ChildLemmas.{dot_tie, lower, lowered, child_ties, own_ties, node_ties, own_tie, node_tie, of_own, in_own, of_node, in_node, one_stands, other_stands}
+use Rattle.gos_uses.proofs.SupplyLemmas.{inside, IsSupplyTie, OfNumber, of_number, tied_at}
+use Rattle.gos_uses.proofs.ChildLemmas.{lower, lowered, child_ties, own_ties, node_ties, own_tie, node_tie, of_own, in_own, of_node, in_node, one_stands, other_stands}
 
 -- an end that there is has a part, an import or a result's handshake
 pub its_part : (o : Option Part) (h : ℕ) (k : Contact) → slice_get (contacts_of_part o) h ≡ Some k → (x : Part) × (o ≡ Some x)

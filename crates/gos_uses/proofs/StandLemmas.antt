@@ -1,8 +1,7 @@
 -- Where the points of a node's ties stand: at its parts, its nodes, its numbers, or at the result.
-use Rattle.std.specs.Prelude.{◌≡◌, ℕ, zero, suc, ◌+◌, ◌<◌, ◌≤◌, Bool, true, false, List, [], ◌∷◌, ◌⊎◌, length, nat_eq, nat_lt, Contains, if◌then◌else◌}
+use Rattle.std.specs.Prelude.{◌≡◌, ℕ, zero, suc, ◌+◌, ◌<◌, ◌≤◌, Bool, true, false, List, [], ◌∷◌, ◌⊎◌, length, nat_lt, Contains}
 use Rattle.std.proofs.Common.{refl, sym, ◌∙◌, ap, subst, arith, inl, inr}
 use Rattle.gos_check.specs.Nodes.{Numbered}
-use Rattle.gos_check.specs.Linearity.{times, used, made}
 use Rattle.gos_check.proofs.TimesLemmas.{number_cases, eq_true}
 use Rattle.gos_ties.specs.declared.points.Place.{Place}
 use Rattle.gos_ties.specs.declared.points.Place.TheVariants as places
