@@ -44,7 +44,7 @@ sink to (Node n h) = Node n h
 sink to (Within zero d) = Within 0 (lower to d)
 sink to (Within (suc n) d) = Within (suc n) d
 
-supply_sink : (to : ℕ → Point) (n : ℕ) (t : Tie) → IsSupplyTie n t → (t.one ≡ sink to t.one) × (t.other ≡ sink to t.other)
+pub supply_sink : (to : ℕ → Point) (n : ℕ) (t : Tie) → IsSupplyTie n t → (t.one ≡ sink to t.one) × (t.other ≡ sink to t.other)
 supply_sink to n t (inl (y, same)) = (subst (λ (x : Tie). x.one ≡ sink to x.one) same refl, subst (λ (x : Tie). x.other ≡ sink to x.other) same refl)
 supply_sink to n t (inr (h, same)) = (subst (λ (x : Tie). x.one ≡ sink to x.one) same refl, subst (λ (x : Tie). x.other ≡ sink to x.other) same refl)
 

@@ -10,3 +10,5 @@ pub mod PermuteLemmas
 pub mod ChosenLemmas
 pub mod ApplyWebLemmas
 pub mod ApplyLemmas
+pub mod ReadWebLemmas
+pub mod ReadLemmas

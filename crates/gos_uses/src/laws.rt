@@ -12,3 +12,8 @@ pub fn projections_are_sides()
 pub fn applications_are_joined()
     ensures { ApplicationIsApplied }
 {}
+
+/// A node that reads a variable, wired to its supplies, is the variable's, joined to a Deref, but for numbers.
+pub fn derefs_are_readings()
+    ensures { DerefIsReading }
+{}
