@@ -12,3 +12,4 @@ pub mod ApplyWebLemmas
 pub mod ApplyLemmas
 pub mod ReadWebLemmas
 pub mod ReadLemmas
+pub mod SmallUseLemmas

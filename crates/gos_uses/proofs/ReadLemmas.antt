@@ -1,5 +1,5 @@
 -- A node that reads a variable is the variable's, joined to a Deref: its parts are the child's, and one more.
-use Rattle.std.specs.Prelude.{◌≡◌, ℕ, zero, suc, ◌+◌, ◌-◌, ◌<◌, ◌≤◌, Bool, true, false, ◌||◌, List, [], ◌∷◌, ◌++◌, length, map, Option, Some, nat_eq, nat_lt, slice_get, Contains, if◌then◌else◌}
+use Rattle.std.specs.Prelude.{◌≡◌, ℕ, zero, suc, ◌+◌, ◌-◌, Bool, true, false, ◌||◌, List, [], ◌∷◌, ◌++◌, length, map, Option, Some, nat_eq, nat_lt, slice_get, if◌then◌else◌}
 use Rattle.std.proofs.Common.{refl, sym, ◌∙◌, ap, subst, arith}
 use Rattle.std.proofs.lemmas.Option.{same_Some, slice_get_within}
 use Rattle.std.proofs.lemmas.List.{append-nil}
@@ -19,7 +19,7 @@ use Rattle.gos_realises.specs.Regular.{count}
 use Rattle.gos_realises.specs.Links.{IsJoined}
 use Rattle.gos_realises.specs.Wirings.{link, reading}
 use Rattle.gos_joined.proofs.WholeLemmas.{variables_are_joined}
-use Rattle.gos_webs.specs.Webs.{Dot, Of, Number, Node, Within, Tie, Web, Way, IsOfWeb, own_web}
+use Rattle.gos_webs.specs.Webs.{Dot, Of, Within, Web, IsOfWeb}
 use Rattle.gos_webs.specs.Renumbering.{Renumber, IsOneToOne, moved_end}
 use Rattle.gos_webs.proofs.WebLemmas.{right_is_of_its_web}
 use Rattle.gos_unions.specs.Unions as unions

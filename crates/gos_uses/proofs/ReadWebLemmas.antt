@@ -1,6 +1,6 @@
 -- The web of a node that reads a variable is, but for dots, the union of the variable's web and a Deref's.
-use Rattle.std.specs.Prelude.{◌≡◌, ℕ, zero, suc, ◌+◌, ◌≤◌, Bool, true, false, List, [], ◌∷◌, ◌++◌, ◌⊎◌, nat_eq, Contains, if◌then◌else◌}
-use Rattle.std.proofs.Common.{refl, sym, ◌∙◌, ap, subst, arith, inl, inr}
+use Rattle.std.specs.Prelude.{◌≡◌, ℕ, zero, suc, ◌+◌, ◌≤◌, Bool, false, List, [], ◌∷◌, ◌++◌, ◌⊎◌, nat_eq, Contains, if◌then◌else◌}
+use Rattle.std.proofs.Common.{refl, sym, ap, subst, arith, inl, inr}
 use Rattle.std.proofs.lemmas.List.Elements.{Contains-append_left, Contains-append_right, Contains-append_cases}
 use Rattle.gos_types.specs.Types.{Exp}
 use Rattle.gos_check.specs.Nodes.{Numbered, type_of_node}
@@ -10,7 +10,6 @@ use Rattle.gos_plan.specs.Plans.{PartEnd, ImportEnd, ResultEnd, Plan}
 use Rattle.gos_ties.specs.declared.points.Place.{Place}
 use Rattle.gos_ties.specs.declared.points.Place.TheVariants as places
 use Rattle.gos_ties.specs.declared.points.Point.{Point}
-use Rattle.gos_ties.specs.declared.points.Tie as point_ties
 use Rattle.gos_ties.specs.Ties.{point}
 use Rattle.gos_realises.specs.Regular.{count}
 use Rattle.gos_realises.specs.Wirings.{lone, reading}
@@ -21,7 +20,7 @@ use Rattle.gos_compile.specs.Wiring.{Types}
 use Rattle.gos_wired.specs.Wired.{Supplies, Placing, dot_at, dot_of_place, dot_of, all_supply_ties, wired_web}
 use Rattle.gos_wired.proofs.WayLemmas.{way_then, way_back}
 use Rattle.gos_woven.proofs.CrossingLemmas.{still, first_or_later}
-use Rattle.gos_uses.proofs.RenamedLemmas.{renamed_at, renamed_tie}
+use Rattle.gos_uses.proofs.RenamedLemmas.{renamed_at}
 use Rattle.gos_uses.proofs.StandLemmas.{IsOf}
 use Rattle.gos_uses.proofs.SupplyLemmas.{inside, IsSupplyTie, OfNumber, of_number, tied_at}
 use Rattle.gos_uses.proofs.ChildLemmas.{lowered, child_ties, own_ties, node_ties, own_tie, node_tie, of_own, in_own, of_node, in_node, one_stands, other_stands}

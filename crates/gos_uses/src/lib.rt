@@ -5,4 +5,4 @@
 
 mod laws;
 
-pub use laws::{applications_are_joined, derefs_are_readings, projections_are_sides};
+pub use laws::{applications_are_joined, derefs_are_readings, projections_are_sides, small_uses};
