@@ -9,7 +9,10 @@ pub mod SideLemmas
 pub mod PermuteLemmas
 pub mod ChosenLemmas
 pub mod ApplyWebLemmas
+pub mod PartedLemmas
 pub mod ApplyLemmas
 pub mod ReadWebLemmas
 pub mod ReadLemmas
+pub mod MeetingLemmas
+pub mod PlainLemmas
 pub mod SmallUseLemmas

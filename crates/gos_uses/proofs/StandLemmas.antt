@@ -32,7 +32,7 @@ place_itself (places.Node k) = rw (eq_true k k refl) refl
 once_itself : (q : Point) → once q q ≡ 1
 once_itself q = rw (eq_true q.shake q.shake refl) (place_itself q.place)
 
-once_at : (q p : Point) → q ≡ p → once q p ≡ 1
+pub once_at : (q p : Point) → q ≡ p → once q p ≡ 1
 once_at q p same = subst (λ (x : Point). once q x ≡ 1) same (once_itself q)
 
 pub counted : (ts : List Tie) (t : Tie) (q : Point) → (q ≡ t.one) ⊎ (q ≡ t.other) → Contains ts t → 1 ≤ meetings q ts

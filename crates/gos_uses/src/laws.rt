@@ -1,5 +1,6 @@
 // What the definitions give. Each theorem is the contract of a function that does nothing.
 ghost use Rattle.gos_uses.specs.Uses.{FirstIsSide, SecondIsSide, DerefIsReading, ApplicationIsApplied};
+ghost use Rattle.gos_uses.specs.Plain.{WiredIsThin};
 ghost use Rattle.gos_uses.specs.SmallUses.{TwoAreParted, OneIsNotParted, UsesAreApart, SameUsesAreNot, WrongIsPlaced, EmptyIsNotPlaced, SkipCanBeWired, WrongCannot};
 
 /// A node that projects, wired to its supplies, is its child, wired to them, with one side left unjoined, but for numbers.
@@ -17,6 +18,11 @@ pub fn applications_are_joined()
 /// A node that reads a variable, wired to its supplies, is the variable's, joined to a Deref, but for numbers.
 pub fn derefs_are_readings()
     ensures { DerefIsReading }
+{}
+
+/// The web of a node in which numbers are used once, wired to right supplies, is thin.
+pub fn wired_nodes_are_thin()
+    ensures { WiredIsThin }
 {}
 
 /// Two numbers are parted, and uses of them are apart; one number isn't, and two uses of it aren't. The node of `skip` can be

@@ -5,4 +5,7 @@
 
 mod laws;
 
-pub use laws::{applications_are_joined, derefs_are_readings, projections_are_sides, small_uses};
+pub use laws::{
+    applications_are_joined, derefs_are_readings, projections_are_sides, small_uses,
+    wired_nodes_are_thin,
+};
