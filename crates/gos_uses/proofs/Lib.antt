@@ -15,4 +15,5 @@ pub mod ReadWebLemmas
 pub mod ReadLemmas
 pub mod MeetingLemmas
 pub mod PlainLemmas
+pub mod RealisedLemmas
 pub mod SmallUseLemmas

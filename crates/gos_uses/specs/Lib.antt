@@ -2,3 +2,4 @@
 pub mod Uses
 pub mod SmallUses
 pub mod Plain
+pub mod Realised

@@ -1,6 +1,7 @@
 // What the definitions give. Each theorem is the contract of a function that does nothing.
 ghost use Rattle.gos_uses.specs.Uses.{FirstIsSide, SecondIsSide, DerefIsReading, ApplicationIsApplied};
 ghost use Rattle.gos_uses.specs.Plain.{WiredIsThin};
+ghost use Rattle.gos_uses.specs.Realised.{FirstIsRealised, SecondIsRealised, DerefIsRealised, ApplicationIsRealised};
 ghost use Rattle.gos_uses.specs.SmallUses.{TwoAreParted, OneIsNotParted, UsesAreApart, SameUsesAreNot, WrongIsPlaced, EmptyIsNotPlaced, SkipCanBeWired, WrongCannot};
 
 /// A node that projects, wired to its supplies, is its child, wired to them, with one side left unjoined, but for numbers.
@@ -23,6 +24,14 @@ pub fn derefs_are_readings()
 /// The web of a node in which numbers are used once, wired to right supplies, is thin.
 pub fn wired_nodes_are_thin()
     ensures { WiredIsThin }
+{}
+
+/// Such a node realises its term, if its children, wired to their supplies, realise theirs.
+pub fn uses_are_realised()
+    ensures first { FirstIsRealised }
+    ensures second { SecondIsRealised }
+    ensures deref { DerefIsRealised }
+    ensures application { ApplicationIsRealised }
 {}
 
 /// Two numbers are parted, and uses of them are apart; one number isn't, and two uses of it aren't. The node of `skip` can be

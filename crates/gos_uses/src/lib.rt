@@ -7,5 +7,5 @@ mod laws;
 
 pub use laws::{
     applications_are_joined, derefs_are_readings, projections_are_sides, small_uses,
-    wired_nodes_are_thin,
+    uses_are_realised, wired_nodes_are_thin,
 };
