@@ -6,4 +6,10 @@ mod OutputLemmas
 mod OpenLemmas
 mod OrderLemmas
 mod RegularLemmas
+mod InsideLemmas
+mod QuietLemmas
+mod IdleLemmas
+mod ImportLemmas
+mod MatchLemmas
+mod RealisesLemmas
 mod SmallBlockLemmas

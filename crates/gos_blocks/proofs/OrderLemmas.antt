@@ -114,7 +114,7 @@ module _ (r : Plan) (b : Block) (is : IsBlock r b) (literals : All LiteralFits r
           fits_open (o e) (s.in_place Request e) (subst (λ (x : Option ℕ). held.Fits (o e) (s.in_place Request e) x) here (fit e))
 
   -- the rows of the part
-  local_firing : (slot : Slot) (row : Row) (ph : Phase) (s : Tokens) → (s.state b.own).phase ≡ ph
+  pub local_firing : (slot : Slot) (row : Row) (ph : Phase) (s : Tokens) → (s.state b.own).phase ≡ ph
       → row_for slot (rows (kinds.Local b.width (sessions.bits r.outcome)) ph (s.state b.own).number) ≡ Some row
       → firing_of (slice_get r.parts b.own) (s.state b.own) slot ≡ Some row
   local_firing slot row ph s phase known =

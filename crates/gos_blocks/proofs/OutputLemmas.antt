@@ -51,7 +51,7 @@ back_turn past own a c Answer same turn = same ∙ turn
 module _
     (r : Plan) (b : Block) (is : IsBlock r b) (literals : All LiteralFits r.parts) (ground : AllGround r.imports) (names : NamesDiffer b.body.imports) where
   -- an import of the body that stands in a joint is there
-  import_real : (i k : ℕ) → StandsIn b.body (ImportEnd i k) → (x : Imported) × (slice_get b.body.imports i ≡ Some x) × (k < count x.ty)
+  pub import_real : (i k : ℕ) → StandsIn b.body (ImportEnd i k) → (x : Imported) × (slice_get b.body.imports i ≡ Some x) × (k < count x.ty)
   import_real i k (j, listing, stands) =
       let place = stands_there b.body j (ImportEnd i k) is.cut.right (contained b.body.joints j listing) stands in
       let one = joined b.body (ImportEnd i k) j.asking is.cut.right place in

@@ -1,17 +1,21 @@
 -- The plan of `new x : 1 in skip`.
-use Rattle.std.specs.Prelude.{◌≡◌, ◌⊎◌, ℕ, zero, suc, [], Some, Contains, slice_get}
+use Rattle.std.specs.Prelude.{◌≡◌, ◌⊎◌, ℕ, zero, suc, [], ◌∷◌, Some, All, Contains, slice_get}
 use Rattle.std.proofs.Common.{arith, refl, sym, ap, subst, inl, inr}
+use Rattle.std.proofs.lemmas.List.Elements.{All-nil, All-cons}
 use Rattle.std.proofs.lemmas.Option.{none-some, same_Some}
+use Rattle.gos_model.specs.Terms as terms
 use Rattle.gos_model.specs.Typing.{Imported}
-use Rattle.gos_plan.specs.Kinds.{Part, Skip}
+use Rattle.gos_plan.specs.Kinds.{Part, Skip, Local}
 use Rattle.gos_plan.specs.Plans.{End, PartEnd, ImportEnd, ResultEnd, Joint, contact_at, IsRight}
 use Rattle.gos_plan.specs.Tokens.{IsPortEnd}
+use Rattle.gos_plan.specs.TokenBits.{LiteralFits}
 use Rattle.gos_webs.specs.Webs.{joint}
 use Rattle.gos_webs.specs.Cutting.{lies_at, IsInside, IsOutside, StandsIn, IsCut}
 use Rattle.gos_webs.proofs.SmallWebLemmas.{one_port}
 use Rattle.gos_parallel.specs.Parallel.{IsJointOf, IsPartOf}
 use Rattle.gos_parallel.specs.SmallParallel.{skip_number}
-use Rattle.gos_blocks.specs.SmallBlocks.{one_bit, unused, new_skip, body_outer, body_inner, body_out, NewSkipIsBlock, VariableIsNeeded, WidthIsNeeded, OtherPartIsNot}
+use Rattle.gos_blocks.proofs.RealisesLemmas.{block_realises}
+use Rattle.gos_blocks.specs.SmallBlocks.{skip_block, one_bit, unused, new_skip, body_outer, body_inner, body_out, NewSkipIsBlock, NewSkipIsRealised, VariableIsNeeded, WidthIsNeeded, OtherPartIsNot}
 
 none_in : {A : Type 0} (x : A) → Contains [] x → ⊥
 none_in x (n, within, e) = omega (arith, within)
@@ -117,3 +121,10 @@ width_is_needed is = let e = is.type in cc e
 
 pub other_part_is_not : OtherPartIsNot
 other_part_is_not is = cc is.own
+
+-- what else the law asks for
+literals : All LiteralFits new_skip.parts
+literals = All-cons LiteralFits (Local 1 0) (Skip ∷ []) tt (All-cons LiteralFits Skip [] tt (All-nil LiteralFits))
+
+pub new_skip_is_realised : NewSkipIsRealised
+new_skip_is_realised body = block_realises new_skip skip_block terms.Skip new_skip_is_block literals tt tt (tt, (omega arith, omega arith), refl) body

@@ -2,9 +2,11 @@
 --
 -- Read first: Realises of gos_realises, Cutting of gos_webs; Parallel of gos_parallel. The body is taken with an import of a variable
 -- for x; its plan is closed but for ground imports, and all others of these are imports of the whole.
-use Rattle.std.specs.Prelude.{◌≡◌, ◌≢◌, ◌⊎◌, ℕ, suc, All, Contains, Some, None, slice_get}
+use Rattle.std.specs.Prelude.{◌≡◌, ◌≢◌, ◌⊎◌, ℕ, suc, [], All, Contains, Some, None, slice_get}
 use Rattle.gos_types.specs.Types.{Var, IsDone}
-use Rattle.gos_model.specs.Typing.{Imported}
+use Rattle.gos_model.specs.Terms.{Term, Import, New}
+use Rattle.gos_model.specs.Substitution.{instantiate}
+use Rattle.gos_model.specs.Typing.{Imported, Typed}
 use Rattle.gos_plan.specs.Kinds.{Part, Local}
 use Rattle.gos_plan.specs.Plans.{End, PartEnd, ImportEnd, ResultEnd, Plan}
 use Rattle.gos_plan.specs.TokenBits.{LiteralFits}
@@ -12,7 +14,7 @@ use Rattle.gos_sessions.specs.Sessions.{bits}
 use Rattle.gos_webs.specs.Webs.{joint}
 use Rattle.gos_webs.specs.Cutting.{Cut, StandsIn, IsCut}
 use Rattle.gos_realises.specs.Regular.{IsRegular}
-use Rattle.gos_realises.specs.Realises.{AllGround, NamesDiffer}
+use Rattle.gos_realises.specs.Realises.{AllGround, NamesDiffer, Realises}
 use Rattle.gos_parallel.specs.Parallel.{IsJointOf, IsPartOf}
 
 -- The number of the part Local, and the width of the variable; the body's plan, how it lies in the whole, and which of its imports
@@ -54,3 +56,10 @@ BlockIsRegular =
     (r : Plan) (b : Block)
     → IsBlock r b → All LiteralFits r.parts → AllGround r.imports → NamesDiffer r.imports → AllGround b.body.imports → NamesDiffer b.body.imports
     → IsRegular b.body → IsRegular r
+
+-- Where the body's plan realises M with the import in the place of the bound variable, the whole realises `new x : w in M`.
+abbrev pub BlockRealises : Type 0
+BlockRealises =
+    (r : Plan) (b : Block) (m : Term)
+    → IsBlock r b → All LiteralFits r.parts → AllGround r.imports → NamesDiffer r.imports → Typed r.imports [] (New b.width m) r.outcome
+    → Realises r.outcome b.body (instantiate m (Import b.variable.name)) → Realises r.outcome r (New b.width m)

@@ -3,6 +3,8 @@
 -- Read first: Block; SmallPlans of gos_plan, SmallParallel of gos_parallel.
 use Rattle.std.specs.Prelude.{zero, suc, [], ◌∷◌, Option, Some, None}
 use Rattle.gos_types.specs.Types.{Com, Var}
+use Rattle.gos_model.specs.Terms as terms
+use Rattle.gos_model.specs.Terms.{New}
 use Rattle.gos_model.specs.SmallPrograms.{c}
 use Rattle.gos_model.specs.Typing.{Imported}
 use Rattle.gos_plan.specs.Kinds.{Skip, Local}
@@ -10,6 +12,7 @@ use Rattle.gos_plan.specs.Plans.{End, PartEnd, ImportEnd, ResultEnd, Plan}
 use Rattle.gos_plan.specs.SmallPlans.{skip_plan}
 use Rattle.gos_webs.specs.Webs.{joint}
 use Rattle.gos_webs.specs.Cutting.{Cut}
+use Rattle.gos_realises.specs.Realises.{Realises}
 use Rattle.gos_parallel.specs.SmallParallel.{skip_number}
 use Rattle.gos_blocks.specs.Block.{Block, IsBlock}
 
@@ -63,3 +66,7 @@ WidthIsNeeded = IsBlock new_skip (record skip_block { width = 2 }) → ⊥
 
 abbrev pub OtherPartIsNot : Type 0
 OtherPartIsNot = IsBlock new_skip (record skip_block { own = 1 }) → ⊥
+
+-- So it realises the block, where the body's plan realises `skip`: all else that the law asks for is there.
+abbrev pub NewSkipIsRealised : Type 0
+NewSkipIsRealised = Realises Com unused terms.Skip → Realises Com new_skip (New 1 terms.Skip)

@@ -1,16 +1,18 @@
 // What the plan of a block does. Each theorem is the contract of a function that does nothing.
-ghost use Rattle.gos_blocks.specs.Block.{BlockIsRegular};
-ghost use Rattle.gos_blocks.specs.SmallBlocks.{NewSkipIsBlock, VariableIsNeeded, WidthIsNeeded, OtherPartIsNot};
+ghost use Rattle.gos_blocks.specs.Block.{BlockIsRegular, BlockRealises};
+ghost use Rattle.gos_blocks.specs.SmallBlocks.{NewSkipIsBlock, NewSkipIsRealised, VariableIsNeeded, WidthIsNeeded, OtherPartIsNot};
 
-/// Where the body's plan is regular the whole is.
+/// Where the body's plan is regular the whole is, and where it realises the body the whole realises the block.
 pub fn blocks()
     ensures regular { BlockIsRegular }
+    ensures realises { BlockRealises }
 {}
 
 /// The plan of `new x : 1 in skip` is a block. Without an import for the variable, with a variable of another width, or with
 /// another part in the place of Local it isn't.
 pub fn small_blocks()
     ensures block { NewSkipIsBlock }
+    ensures realised { NewSkipIsRealised }
     ensures variable { VariableIsNeeded }
     ensures width { WidthIsNeeded }
     ensures other { OtherPartIsNot }

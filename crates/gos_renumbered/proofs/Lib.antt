@@ -1,5 +1,5 @@
 pub mod ImportLemmas
-mod TurnLemmas
+pub mod TurnLemmas
 pub mod OrderLemmas
 mod SizeLemmas
 mod SplitLemmas

@@ -1,8 +1,11 @@
-use Rattle.gos_blocks.proofs.SmallBlockLemmas.{new_skip_is_block, variable_is_needed, width_is_needed, other_part_is_not}
+use Rattle.gos_blocks.proofs.SmallBlockLemmas.{new_skip_is_block, new_skip_is_realised, variable_is_needed, width_is_needed, other_part_is_not}
 use Rattle.gos_blocks.proofs.laws.small_blocks.Goals as goal
 
 pub returns-clause-block : goal.returns-clause-block
 returns-clause-block c = new_skip_is_block
+
+pub returns-clause-realised : goal.returns-clause-realised
+returns-clause-realised c = new_skip_is_realised
 
 pub returns-clause-variable : goal.returns-clause-variable
 returns-clause-variable c = variable_is_needed

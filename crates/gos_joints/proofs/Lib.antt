@@ -1,0 +1,5 @@
+pub mod TokenLemmas
+pub mod LostLemmas
+mod VariableLemmas
+mod GroundLemmas
+mod SmallLemmas

@@ -1,0 +1,5 @@
+-- In reading order: a file uses only files above it.
+pub mod Leaves
+pub mod SmallLeaves
+pub mod Splits
+pub mod SmallSplits

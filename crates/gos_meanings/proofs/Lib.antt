@@ -1,0 +1,4 @@
+pub mod MapLemmas
+pub mod StillLemmas
+pub mod BodyLemmas
+pub mod SuppliedLemmas

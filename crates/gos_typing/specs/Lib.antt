@@ -1,0 +1,4 @@
+-- In reading order: a file uses only files above it.
+pub mod Names
+pub mod Supplied
+pub mod SmallTypings

@@ -1,0 +1,5 @@
+pub mod WaitLemmas
+pub mod PlacedBackLemmas
+pub mod VariableLemmas
+pub mod UnfoldedLemmas
+pub mod SmallLemmas

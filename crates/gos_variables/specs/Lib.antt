@@ -1,0 +1,4 @@
+pub mod Waits
+pub mod PlacedBack
+pub mod Unfolded
+pub mod SmallVariables

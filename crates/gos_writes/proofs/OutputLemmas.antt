@@ -1,0 +1,207 @@
+-- The outputs of a write keep turns, and it rests after its answer. As in gos_windows.
+use Rattle.std.specs.Prelude.{slice_get, Contains}
+use Rattle.std.proofs.Common.{◌≡◌, ℕ, true, false, List, [], ◌∷◌, ◌++◌, ◌⊎◌, Some, inl, inr, refl, sym, ◌∙◌, ap, subst}
+use Rattle.gos_netlist.specs.Events.{Direction, Request, Answer}
+use Rattle.gos_model.specs.Typing.{Imported}
+use Rattle.gos_plan.specs.Kinds.{Contact}
+use Rattle.gos_plan.specs.Firing.{Row, Req, Ans}
+use Rattle.gos_plan.specs.Plans.{End, ImportEnd, ResultEnd, Plan, contact_at}
+use Rattle.gos_plan.specs.Tokens.{Tokens, Element, Fire, Out, In, way_taken, Does, Runs, IsIdle}
+use Rattle.gos_plan.specs.TokenBits.{AllFit}
+use Rattle.gos_plan.proofs.TokenBitsLemmas.{idle_fits}
+use Rattle.gos_realises.specs.Regular.{Pass, pass, way_out, is_open, KeepsTurns, InputsKeepTurns, OutputsKeepTurns}
+use Rattle.gos_realises.proofs.InputLemmas.{passed}
+use Rattle.gos_realises.proofs.RingLemmas.{after}
+use Rattle.gos_realises.proofs.ToldLemmas.{there_is}
+use Rattle.gos_webs.specs.Cutting.{StandsIn}
+use Rattle.gos_windows.specs.Nodes.{Stage, IsRestful, OutputsInTurn}
+use Rattle.gos_windows.specs.Windows.{seen}
+use Rattle.gos_windows.proofs.PortLemmas.{stands_contact}
+use Rattle.gos_windows.proofs.TurnLemmas.{Turned, way_out_of, result_out, OnlyResult}
+use Rattle.gos_windows.proofs.GroundLemmas.{closed_turned, turned_shut, Shut, shut_turned, one_place}
+use Rattle.gos_windows.proofs.NodeLemmas.{InTurn, first_turn, turns_after}
+use Rattle.gos_writes.specs.Writes.{IsWriteStage, IsWrite, AreRestful}
+use Rattle.gos_writes.proofs.OneSessionLemmas.{then_one}
+use Rattle.gos_writes.proofs.AskedLemmas.{ground_role, asked_ground}
+use Rattle.gos_writes.proofs.StageLemmas.{stage, ground_stage, InStage, out_in}
+use Rattle.gos_writes.proofs.FollowLemmas.{Follows}
+use Rattle.gos_writes.proofs.WholeLemmas as whole
+use Rattle.gos_writes.proofs.WholeLemmas.{done, Going, Led, asks}
+use Rattle.gos_writes.proofs.PlaceLemmas.{Place, AtRest, AtAsked, AtStage, AtAnswer, Holds, rest_step, asked_step, answer_step}
+use Rattle.gos_writes.proofs.WindowLemmas.{StageStep, OwnStep, stage_step, stage_out_turned, fit_after}
+
+-- an output of the element keeps turns
+abbrev OutTurn : Plan → List Pass → Element → Type 0
+OutTurn p past (Fire i t) = Unit {0}
+OutTurn p past (Out e v) = KeepsTurns p past (pass e (way_out (contact_at p e)))
+OutTurn p past (In e v) = Unit {0}
+
+outputs_before : (p : Plan) (past : List Pass) (x : Element) (xs : List Element) → OutTurn p past x → OutputsKeepTurns p (after p x past) xs → OutputsKeepTurns p past (x ∷ xs)
+outputs_before p past (Fire i t) xs one others = others
+outputs_before p past (Out e v) xs one others = (one, others)
+outputs_before p past (In e v) xs one others = others
+
+module _ (r : Plan) (d : ℕ) (wide : ℕ) (gs : List Stage) (node : IsWrite r d wide gs) (restful : AreRestful gs) where
+  -- where the whole is after an element
+  pub record Next (t : Tokens) (past : List Pass) : Type 0 where
+    pub place : Place gs
+    pub holds : Holds r d wide gs node place t past
+
+  after_led : (row : Row) (v : ℕ) (t : Tokens) (past : List Pass) → Led r d wide gs node row v t past → Next t past
+  after_led row v t past (asks g has n before going does puts) = record { place = AtStage g has (In (ResultEnd g.asked_at) n ∷ []) before; holds = going }
+  after_led row v t past (whole.replies k holding only puts) = record { place = AtAnswer k; holds = (holding, only) }
+
+  pub next : (pl : Place gs) (x : Element) (s t : Tokens) (past : List Pass) → AllFit r s → Holds r d wide gs node pl s past → Does r x s t → InTurn r past x
+      → Next t (after r x past)
+  next AtRest x s t past fit (idle, closed) does turn =
+      let (is, holding, only) = rest_step r d wide gs node x s t past idle closed does turn in record { place = AtAsked; holds = (holding, only) }
+  next AtAsked x s t past fit (holding, only) does turn =
+      let step = asked_step r d wide gs node x s t past holding only does turn in after_led step.row 0 t (after r x past) step.led
+  next (AtStage g has hs before) x s t past fit going does turn = of_step (stage_step r d wide gs node restful g has hs before s t past going fit x does turn)
+    where
+      of_step : StageStep r d wide gs node restful g has hs before s t (after r x past) x ⊎ OwnStep r d wide gs node restful g has hs before s t (after r x past) x → Next t (after r x past)
+      of_step (inl step) = record { place = AtStage g has (hs ++ step.y ∷ []) before; holds = step.going }
+      of_step (inr step) = after_led step.row step.v t (after r x past) step.led
+  next (AtAnswer k) x s t past fit (holding, only) does turn =
+      let (is, idle, closed) = answer_step r d wide gs node k x s t past holding only does turn in record { place = AtRest; holds = (idle, closed) }
+
+  pub reached : (xs : List Element) (x : Element) (pl : Place gs) (s t : Tokens) (past : List Pass) → AllFit r s → Holds r d wide gs node pl s past → Runs r (xs ++ x ∷ []) s t
+      → InputsKeepTurns r past (xs ++ x ∷ [])
+      → (w : Tokens) × (now : Place gs) × (gone : List Pass) × AllFit r w × Holds r d wide gs node now w gone × Does r x w t × InTurn r gone x
+  reached [] x pl s t past fit holding (w, does, is) turns =
+      (s, pl, past, fit, holding, subst (λ (y : Tokens). Does r x s y) (sym is) does, first_turn r past x [] turns)
+  reached (y ∷ ys) x pl s t past fit holding (w, does, runs) turns =
+      let now = next pl y s w past fit holding does (first_turn r past y (ys ++ x ∷ []) turns) in
+      reached ys x now.place w t (after r y past) (fit_after r d wide gs node restful y s w fit does) now.holds runs (turns_after r past y (ys ++ x ∷ []) turns)
+
+  -- the answer leads to rest
+  rests_after : (v : ℕ) (pl : Place gs) (s t : Tokens) (past : List Pass) → AllFit r s → Holds r d wide gs node pl s past → Does r (Out (ResultEnd 0) v) s t → IsIdle r t
+  rests_after v AtRest s t past fit (idle, closed) does =
+      let step = rest_step r d wide gs node (Out (ResultEnd 0) v) s t past idle closed does tt in
+      let clash : Out (ResultEnd 0) v ≡ In (ResultEnd 0) 0 = step.0 in absurd (cc clash)
+  rests_after v AtAsked s t past fit (holding, only) does =
+      let step = asked_step r d wide gs node (Out (ResultEnd 0) v) s t past holding only does tt in
+      let clash : Out (ResultEnd 0) v ≡ Fire d (Req 2) = step.is in absurd (cc clash)
+  rests_after v (AtStage g has hs before) s t past fit going does =
+      let (i, h, stands, at, own_does, in_stage) = out_in r d wide gs node.base g has (ResultEnd 0) v s t fit going.stirs.places does in
+      let (k, there, is) = (stage r d wide gs node.base g has).ports i h stands in
+      let clash : ImportEnd k h ≡ ResultEnd 0 = sym there ∙ at in absurd (cc clash)
+  rests_after v (AtAnswer k) s t past fit (holding, only) does =
+      (answer_step r d wide gs node k (Out (ResultEnd 0) v) s t past holding only does tt).1
+
+  pub is_restful : IsRestful r
+  is_restful s t xs v idle runs turns =
+      let (w, now, gone, fit, holding, does, turn) =
+      reached xs (Out (ResultEnd 0) v) AtRest s t [] (idle_fits r s idle) (idle, (refl, λ k h. refl)) runs turns in
+      rests_after v now w t gone fit holding does
+
+  -- an output of a stage
+  module _ (g : Stage) (has : Contains gs g) (own past : List Pass) (follows : Follows g own past) (turned : Turned g.plan own) where
+    of_ends : (i j : ℕ) (n : ℕ) (c : Contact) → contact_at g.plan (ImportEnd i 1) ≡ Some c → i ≡ j → is_open own (ImportEnd j 0) ≡ true → is_open own (ImportEnd i 1) ≡ true → ⊥
+    of_ends i j n c there same one two =
+        turned_shut g.plan (ground_stage r d wide gs node.base g has) own turned i c there (ap (λ (m : ℕ). is_open own (ImportEnd m 0)) same ∙ one) two
+
+    pub stage_shut : (n : ℕ) → Shut past n
+    stage_shut n one two =
+        of_ends second.0 first.0 n contact.0 contact.1 same (follows.same first.0 0 first.1 ∙ (ap (is_open past) first.2 ∙ one))
+        (follows.same second.0 1 second.1 ∙ (ap (is_open past) second.2 ∙ two))
+      where
+        first : (i : ℕ) × StandsIn g.plan (ImportEnd i 0) × (g.cut.outer (ImportEnd i 0) ≡ ImportEnd n 0)
+        first = follows.only n 0 one
+
+        second : (i : ℕ) × StandsIn g.plan (ImportEnd i 1) × (g.cut.outer (ImportEnd i 1) ≡ ImportEnd n 1)
+        second = follows.only n 1 two
+
+        contact : (c : Contact) × (contact_at g.plan (ImportEnd second.0 1) ≡ Some c)
+        contact = stands_contact g.plan (stage r d wide gs node.base g has).region.right (ImportEnd second.0 1) second.1
+
+        import_at : (h i : ℕ) → StandsIn g.plan (ImportEnd i h) → g.cut.outer (ImportEnd i h) ≡ ImportEnd n h → slice_get g.plan.imports i ≡ slice_get r.imports n
+        import_at h i stands at =
+            let (k, there, is) = (stage r d wide gs node.base g has).ports i h stands in
+            let both : ImportEnd k h ≡ ImportEnd n h = sym there ∙ at in
+            let same_import : k ≡ n = cc both in
+            sym is ∙ ap (slice_get r.imports) same_import
+
+        import : (x : Imported) × (slice_get g.plan.imports second.0 ≡ Some x)
+        import = there_is g.plan.imports second.0 1 contact.0 contact.1
+
+        same : second.0 ≡ first.0
+        same =
+            one_place g.plan.imports (stage r d wide gs node.base g has).names second.0 first.0 import.0 import.1
+            (import_at 0 first.0 first.1 first.2 ∙ (sym (import_at 1 second.0 second.1 second.2) ∙ import.1))
+
+  stage_out : (g : Stage) (has : Contains gs g) (hs : List Element) (before s t : Tokens) (past : List Pass) (b : End) (v : ℕ) → AllFit r s
+      → Going r d wide gs node g has hs before s past → StageStep r d wide gs node restful g has hs before s t (after r (Out b v) past) (Out b v) → Does r (Out b v) s t
+      → KeepsTurns r past (pass b (way_out (contact_at r b)))
+  stage_out g has hs before s t past b v fit going step does =
+      subst (λ (way : Direction). KeepsTurns r past (pass b way)) (sym asked) (
+        closed,
+        shut_turned r node.base.ground (done r d wide gs node) (pass b Request ∷ past)
+            (λ n. subst (λ (way : Direction). Shut (pass b way ∷ past) n) asked
+            (stage_shut g has (passed g.plan [] (hs ++ step.y ∷ [])) (after r (Out b v) past) step.going.follows step.going.turned n))
+            (subst (λ (way : Direction). is_open (pass b way ∷ past) (ResultEnd 0) ≡ true) asked step.going.follows.result),
+      )
+    where
+      port : (i h : ℕ) × StandsIn g.plan (ImportEnd i h) × (g.cut.outer (ImportEnd i h) ≡ b) × Does g.plan (Out (ImportEnd i h) v) (seen g s) (seen g t) × InStage r d wide gs node.base g has t
+      port = out_in r d wide gs node.base g has b v s t fit going.stirs.places does
+
+      c : (c : Contact) × (contact_at g.plan (ImportEnd port.0 port.1) ≡ Some c)
+      c = stands_contact g.plan (stage r d wide gs node.base g has).region.right (ImportEnd port.0 port.1) port.2
+
+      own_asked : way_out (contact_at g.plan (ImportEnd port.0 port.1)) ≡ Request
+      own_asked =
+          let here : IsWriteStage r d wide g = stage r d wide gs node.base g has in
+          elim (ground_role g.plan (ground_stage r d wide gs node.base g has) (asked_ground g.plan g.asked_at wide here.low here.outcome) (ImportEnd port.0 port.1) c.0 tt c.1) [
+            | inl result ↦ (let clash : ImportEnd port.0 port.1 ≡ ResultEnd result.0 = result.1 in absurd (cc clash))
+            | inr import ↦ way_out_of g.plan (ImportEnd port.0 port.1) c.0 c.1 ∙ ap way_taken import.3
+          ]
+
+      asked : way_out (contact_at r b) ≡ Request
+      asked =
+          ap way_out (ap (contact_at r) (sym port.3) ∙ (stage r d wide gs node.base g has).region.contacts (ImportEnd port.0 port.1) tt port.2) ∙ own_asked
+
+      closed : is_open past b ≡ false
+      closed =
+          let turn = stage_out_turned r d wide gs node restful g has hs before s t past going (ImportEnd port.0 port.1) v
+          (then_one g.asked_at g.plan hs (Out (ImportEnd port.0 port.1) v) going.ran.session port.2) port.4 in
+          let shut : is_open (passed g.plan [] hs) (ImportEnd port.0 port.1) ≡ false =
+          (subst (λ (way : Direction). KeepsTurns g.plan (passed g.plan [] hs) (pass (ImportEnd port.0 port.1) way)) own_asked turn).0 in
+          ap (is_open past) (sym port.3) ∙ (sym (going.follows.same port.0 port.1 port.2) ∙ shut)
+
+  answer_out : (k : ℕ) (past : List Pass) → OnlyResult past → KeepsTurns r past (pass (ResultEnd 0) (way_out (contact_at r (ResultEnd 0))))
+  answer_out k past only =
+      subst (λ (way : Direction). KeepsTurns r past (pass (ResultEnd 0) way)) (sym (result_out r (done r d wide gs node)))
+      (only.0, closed_turned r node.base.ground (done r d wide gs node) (pass (ResultEnd 0) Answer ∷ past) only.1)
+
+  out_turn : (pl : Place gs) (x : Element) (s t : Tokens) (past : List Pass) → AllFit r s → Holds r d wide gs node pl s past → Does r x s t → InTurn r past x → OutTurn r past x
+  out_turn pl (Fire i slot) s t past fit holding does turn = tt
+  out_turn pl (In b v) s t past fit holding does turn = tt
+  out_turn AtRest (Out b v) s t past fit (idle, closed) does turn =
+      let step = rest_step r d wide gs node (Out b v) s t past idle closed does turn in
+      let clash : Out b v ≡ In (ResultEnd 0) 0 = step.0 in absurd (cc clash)
+  out_turn AtAsked (Out b v) s t past fit (holding, only) does turn =
+      let step = asked_step r d wide gs node (Out b v) s t past holding only does turn in
+      let clash : Out b v ≡ Fire d (Req 2) = step.is in absurd (cc clash)
+  out_turn (AtStage g has hs before) (Out b v) s t past fit going does turn = of_step (stage_step r d wide gs node restful g has hs before s t past going fit (Out b v) does turn)
+    where
+      of_step : StageStep r d wide gs node restful g has hs before s t (after r (Out b v) past) (Out b v) ⊎ OwnStep r d wide gs node restful g has hs before s t (after r (Out b v) past) (Out b v)
+          → KeepsTurns r past (pass b (way_out (contact_at r b)))
+      of_step (inl step) = stage_out g has hs before s t past b v fit going step does
+      of_step (inr step) = let clash : Out b v ≡ Fire d (Ans g.asked_at) = step.is in absurd (cc clash)
+  out_turn (AtAnswer k) (Out b v) s t past fit (holding, only) does turn =
+      let step = answer_step r d wide gs node k (Out b v) s t past holding only does turn in
+      let same : Out b v ≡ Out (ResultEnd 0) k = step.0 in
+      let at : ResultEnd 0 ≡ b = cc same in
+      subst (λ (e : End). KeepsTurns r past (pass e (way_out (contact_at r e)))) at (answer_out k past only)
+
+  outputs : (xs : List Element) (pl : Place gs) (s t : Tokens) (past : List Pass) → AllFit r s → Holds r d wide gs node pl s past → Runs r xs s t → InputsKeepTurns r past xs
+      → OutputsKeepTurns r past xs
+  outputs [] pl s t past fit holding runs turns = tt
+  outputs (x ∷ xs) pl s t past fit holding (w, does, runs) turns =
+      let turn = first_turn r past x xs turns in
+      let now = next pl x s w past fit holding does turn in
+      outputs_before r past x xs (out_turn pl x s w past fit holding does turn)
+      (outputs xs now.place w t (after r x past) (fit_after r d wide gs node restful x s w fit does) now.holds runs (turns_after r past x xs turns))
+
+  pub outputs_in_turn : OutputsInTurn r
+  outputs_in_turn s t xs idle runs turns = outputs xs AtRest s t [] (idle_fits r s idle) (idle, (refl, λ k h. refl)) runs turns

@@ -1,0 +1,403 @@
+-- Within a stage, and whole lists. As in gos_windows.
+use Rattle.std.specs.Prelude.{◌≢◌, ◌^◌, ◌<◌, None, nat_eq, slice_get, Contains}
+use Rattle.std.proofs.Common.{◌≡◌, ℕ, Bool, true, false, List, [], ◌∷◌, ◌++◌, ◌⊎◌, Option, Some, inl, inr, refl, sym, ◌∙◌, ap, subst, arith, if◌then◌else◌}
+use Rattle.std.proofs.lemmas.Option.{same_Some}
+use Rattle.gos_netlist.specs.Events.{Direction, Request, Answer}
+use Rattle.gos_plan.specs.Kinds.{Contact, Assign}
+use Rattle.gos_plan.specs.Firing.{State, Slot, Ans, Row, at, firing}
+use Rattle.gos_plan.specs.Plans.{End, PartEnd, ImportEnd, ResultEnd, Plan, contact_at}
+use Rattle.gos_plan.specs.Tokens.{Tokens, Element, Fire, Out, In, with_token, with_state, with_puts, token_at, end_of, way_of, shake_of, way_taken, way_put, fired, firing_of, Passes, Does, Runs, IsIdle}
+use Rattle.gos_plan.specs.TokenBits.{AllFit}
+use Rattle.gos_plan.proofs.TurnLemmas.{token_state, fired_state}
+use Rattle.gos_plan.proofs.TokenBitsLemmas.{all_stay_fit, idle_fits}
+use Rattle.gos_realises.specs.Regular.{Pass, pass, way_in, way_out, is_open, ComesInTurn, KeepsTurns, InputsKeepTurns}
+use Rattle.gos_realises.proofs.InputLemmas.{passed, passed_then, inputs_then, outputs_last, runs_then, in_there, out_there}
+use Rattle.gos_realises.proofs.RingLemmas.{after}
+use Rattle.gos_webs.specs.Cutting.{StandsIn}
+use Rattle.gos_windows.specs.Regions.{whole_element}
+use Rattle.gos_windows.specs.Nodes.{Stage}
+use Rattle.gos_windows.specs.Windows.{seen, HoldsOnly}
+use Rattle.gos_windows.proofs.PortLemmas.{stands_contact}
+use Rattle.gos_windows.proofs.TurnLemmas.{Turned, turns_before, way_in_of, OnlyResult, NoneOpen}
+use Rattle.gos_windows.proofs.WholeLemmas.{other_state}
+use Rattle.gos_windows.proofs.NodeLemmas.{InTurn, first_turn, turns_after}
+use Rattle.gos_writes.specs.OneSession.{Stays, IsOneSession}
+use Rattle.gos_writes.proofs.OneSessionLemmas.{open_then, then_one, ended_is_one, well_before}
+use Rattle.gos_writes.specs.Writes.{answer_bits, waits_at, IsWriteStage, IsWrite, AreRestful}
+use Rattle.gos_writes.specs.Windows as windows
+use Rattle.gos_writes.specs.Windows.{StirsOnly, Where, Resting, Asked, Within, Answered, to_session, to_answer, Staged, rests, waits, stays, holds, is_asked, begins, stirs, goes_on, WritesAreStaged}
+use Rattle.gos_writes.proofs.AskedLemmas.{ground_role, asked_ground, asked_answer, asked_out, asked_shut}
+use Rattle.gos_writes.proofs.OwnLemmas as table
+use Rattle.gos_writes.proofs.StageLemmas.{Emptied, stage, ground_stage, InStage, OnStage, lies, end_is, fires_in, out_in, in_in, answers, answer_fits, emptied}
+use Rattle.gos_writes.proofs.FollowLemmas.{Follows, follows_step}
+use Rattle.gos_writes.proofs.WholeLemmas as whole
+use Rattle.gos_writes.proofs.WholeLemmas.{in_turn_at, Going, Led, asks, own_leads}
+use Rattle.gos_writes.proofs.PlaceLemmas.{Place, AtRest, AtAsked, AtStage, AtAnswer, Holds, Result, rest_step, asked_step, answer_step, own_fired, own_firing}
+
+abbrev OneTurn : Plan → List Pass → Element → Type 0
+OneTurn p past y = InputsKeepTurns p past (y ∷ [])
+
+module _ (r : Plan) (d : ℕ) (wide : ℕ) (gs : List Stage) (node : IsWrite r d wide gs) (restful : AreRestful gs) where
+  -- what an element of a stage is: one of its plan, in turn, after which the stage still runs
+  pub record StageStep (g : Stage) (has : Contains gs g) (hs : List Element) (before s t : Tokens) (past : List Pass) (x : Element) : Type 0 where
+    pub y : Element
+    pub is : whole_element g.cut y ≡ x
+    pub does : Does g.plan y (seen g s) (seen g t)
+    pub turn : OneTurn g.plan (passed g.plan [] hs) y
+    pub standing : Stays g.plan y
+    pub going : Going r d wide gs node g has (hs ++ y ∷ []) before t past
+
+  -- the own part takes the stage's answer
+  pub record OwnStep (g : Stage) (has : Contains gs g) (hs : List Element) (before s t : Tokens) (past : List Pass) (x : Element) : Type 0 where
+    pub v : ℕ
+    pub row : Row
+    pub end : Tokens
+    pub is : x ≡ Fire d (Ans g.asked_at)
+    pub does : Does g.plan (Out (ResultEnd g.asked_at) v) (seen g s) end
+    pub idle : IsIdle g.plan end
+    pub fits : v < 2 ^ answer_bits g.asked_at wide
+    pub held : token_at r s (PartEnd d g.asked_at) Answer ≡ Some v
+    pub empty : Emptied d (with_token r (PartEnd d g.asked_at) Answer None s)
+    pub by : firing_of (slice_get r.parts d) (s.state d) (Ans g.asked_at) ≡ Some row
+    pub leads : t ≡ fired r d row v s
+    pub fires : firing (Assign wide) (s.state d) (Ans g.asked_at) ≡ Some row
+    pub state : t.state d ≡ row.next v
+    pub led : Led r d wide gs node row v t past
+
+  pub stage_out_turned : (g : Stage) (has : Contains gs g) (hs : List Element) (before s t : Tokens) (past : List Pass) → Going r d wide gs node g has hs before s past
+      → (e : End) (v : ℕ) → IsOneSession g.asked_at g.plan (hs ++ Out e v ∷ []) → Does g.plan (Out e v) (seen g s) (seen g t) → KeepsTurns g.plan (passed g.plan [] hs) (pass e (way_out (contact_at g.plan e)))
+  stage_out_turned g has hs before s t past going e v session does =
+      let ran = runs_then g.plan hs (Out e v) before (seen g s) (seen g t) going.ran.ran does in
+      let turns = inputs_then g.plan [] hs (Out e v ∷ []) going.ran.turns tt in
+      let all = (stage r d wide gs node.base g has).regular before (seen g t) (hs ++ Out e v ∷ []) going.ran.tidy going.ran.idle session ran turns in
+      (outputs_last g.plan [] hs (Out e v ∷ []) all.1).0
+
+  module _
+      (g : Stage) (has : Contains gs g) (hs : List Element) (before s t : Tokens) (past : List Pass) (going : Going r d wide gs node g has hs before s past)
+      (fit : AllFit r s) where
+    abbrev own : List Pass
+    own = passed g.plan [] hs
+
+    within : InStage r d wide gs node.base g has s
+    within = going.stirs.places
+
+    -- the stage goes on
+    on_by : (x y : Element) (later : List Pass) → whole_element g.cut y ≡ x → Does g.plan y (seen g s) (seen g t) → OneTurn g.plan own y → Stays g.plan y → Turned g.plan (after g.plan y own)
+        → InStage r d wide gs node.base g has t → t.state d ≡ s.state d → ((i : ℕ) → g.cut.number i ≡ None → t.state i ≡ s.state i)
+        → Follows g (after g.plan y own) later → StageStep g has hs before s t later x
+    on_by x y later is does turn standing turned in_stage own_state others follows =
+        record {
+          y = y;
+          is = is;
+          does = does;
+          turn = turn;
+          standing = standing;
+          going =
+              record {
+                ran =
+                    record {
+                      idle = going.ran.idle;
+                      ran = runs_then g.plan hs y before (seen g s) (seen g t) going.ran.ran does;
+                      turns = inputs_then g.plan [] hs (y ∷ []) going.ran.turns turn;
+                      tidy = going.ran.tidy;
+                      session = open_then g.asked_at g.plan hs y going.ran.session standing;
+                    };
+                turned = subst (Turned g.plan) (sym (passed_then g.plan [] hs y)) turned;
+                stirs =
+                    record {
+                      session = ap (λ (q : State). waits_at q.phase) own_state ∙ going.stirs.session;
+                      states = λ i apart out. ap (λ (q : State). q.phase) (others i out) ∙ going.stirs.states i apart out;
+                      places = in_stage;
+                    };
+                follows = subst (λ (l : List Pass). Follows g l later) (sym (passed_then g.plan [] hs y)) follows;
+              };
+        }
+
+    own_kept : (i j : ℕ) (slot : Slot) → g.cut.number i ≡ Some j → Does r (Fire i slot) s t → (n : ℕ) → g.cut.number n ≡ None → t.state n ≡ s.state n
+    own_kept i j slot number (v, row, held, by, leads) n out =
+        ap (λ (x : Tokens). x.state n) leads
+        ∙ (fired_state r i row v s n ∙ ap (λ (b : Bool). if b then row.next v else s.state n) (other_state n i apart))
+      where
+        apart : n ≢ i
+        apart same = let clash : None ≡ Some j = sym out ∙ (ap g.cut.number same ∙ number) in absurd (cc clash)
+
+    fire_step : (i j : ℕ) (slot : Slot) → g.cut.number i ≡ Some j → Does r (Fire i slot) s t → StageStep g has hs before s t past (Fire i slot)
+    fire_step i j slot number does =
+        let at_j = (stage r d wide gs node.base g has).region.numbers i j number in
+        let (own_does, in_stage) = fires_in r d wide gs node.base g has before s t hs going.ran within i j number slot does in
+        on_by (Fire i slot) (Fire j slot) past (ap (λ (n : ℕ). Fire n slot) at_j.0) own_does tt tt going.turned in_stage
+        (own_kept i j slot number does d (stage r d wide gs node.base g has).outside) (own_kept i j slot number does) going.follows
+
+    -- an output at a port
+    port_contact : (i h : ℕ) (b : End) → StandsIn g.plan (ImportEnd i h) → g.cut.outer (ImportEnd i h) ≡ b → contact_at r b ≡ contact_at g.plan (ImportEnd i h)
+    port_contact i h b stands at = ap (contact_at r) (sym at) ∙ (stage r d wide gs node.base g has).region.contacts (ImportEnd i h) tt stands
+
+    out_step : (b : End) (v : ℕ) → Does r (Out b v) s t → StageStep g has hs before s t (after r (Out b v) past) (Out b v)
+    out_step b v does =
+        let (i, h, stands, at, own_does, in_stage) = out_in r d wide gs node.base g has b v s t fit within does in
+        let (c, there) = out_there r b v s t does in
+        let passes = subst (λ (o : Option Contact). Passes r (Out b v) o s t) there does.1 in
+        let state = λ (n : ℕ). ap (λ (x : Tokens). x.state n) passes.1 ∙ token_state r b (way_taken c.role) None s n in
+        let ways = ap way_out (port_contact i h b stands at) in
+        on_by (Out b v) (Out (ImportEnd i h) v) (after r (Out b v) past) (ap (λ (e : End). Out e v) at) own_does tt stands
+        (stage_out_turned g has hs before s t past going (ImportEnd i h) v (then_one g.asked_at g.plan hs (Out (ImportEnd i h) v) going.ran.session stands) own_does).1 in_stage (state d) (λ n out. state n)
+        (subst (λ (way : Direction). Follows g (after g.plan (Out (ImportEnd i h) v) own) (pass b way ∷ past)) (sym ways)
+        (follows_step r d wide gs node.base g has own past going.follows i h b stands at (way_out (contact_at g.plan (ImportEnd i h)))))
+
+    -- an input at a port
+    in_at : (b : End) (v k h : ℕ) → Does r (In b v) s t → b ≡ ImportEnd k h → is_open past (ImportEnd k h) ≡ true
+        → StageStep g has hs before s t (after r (In b v) past) (In b v)
+    in_at b v k h does is up =
+        let (i, stands, at) = going.follows.only k h up in
+        let at_b : g.cut.outer (ImportEnd i h) ≡ b = at ∙ sym is in
+        let (own_does, in_stage) = in_in r d wide gs node.base g has b v s t i h fit within stands at_b does in
+        let (c, there) = in_there r b v s t does in
+        let passes = subst (λ (o : Option Contact). Passes r (In b v) o s t) there does.1 in
+        let state = λ (n : ℕ). ap (λ (x : Tokens). x.state n) passes.1 ∙ token_state r b (way_put c.role) (Some v) s n in
+        let ways = ap way_in (port_contact i h b stands at_b) in
+        let open_there : is_open own (ImportEnd i h) ≡ true = going.follows.same i h stands ∙ (ap (is_open past) at ∙ up) in
+        let turn = in_turn i h stands open_there in
+        on_by (In b v) (In (ImportEnd i h) v) (after r (In b v) past) (ap (λ (e : End). In e v) at_b) own_does (turn, tt) stands turn.1 in_stage (state d) (λ n out. state n)
+        (subst (λ (way : Direction). Follows g (after g.plan (In (ImportEnd i h) v) own) (pass b way ∷ past)) (sym ways)
+        (follows_step r d wide gs node.base g has own past going.follows i h b stands at_b (way_in (contact_at g.plan (ImportEnd i h)))))
+      where
+        in_turn : (i h : ℕ) → StandsIn g.plan (ImportEnd i h) → is_open own (ImportEnd i h) ≡ true
+            → KeepsTurns g.plan own (pass (ImportEnd i h) (way_in (contact_at g.plan (ImportEnd i h))))
+        in_turn i h stands up =
+            let (c, there) = stands_contact g.plan (stage r d wide gs node.base g has).region.right (ImportEnd i h) stands in
+            let here : IsWriteStage r d wide g = stage r d wide gs node.base g has in
+            elim (ground_role g.plan (ground_stage r d wide gs node.base g has) (asked_ground g.plan g.asked_at wide here.low here.outcome) (ImportEnd i h) c tt there) [
+              | inl result ↦ (let clash : ImportEnd i h ≡ ResultEnd result.0 = result.1 in absurd (cc clash))
+              | inr import ↦
+                  (let way : way_in (contact_at g.plan (ImportEnd i h)) ≡ Answer = way_in_of g.plan (ImportEnd i h) c there ∙ ap way_put import.3 in
+                  subst (λ (w : Direction). KeepsTurns g.plan own (pass (ImportEnd i h) w)) (sym way)
+                  (up, asked_answer g.plan g.asked_at wide here.low here.outcome (ground_stage r d wide gs node.base g has) i h own going.follows.of_stage going.turned))
+            ]
+
+    in_step : (b : End) (v : ℕ) → Does r (In b v) s t → ComesInTurn past b (way_in (contact_at r b)) → StageStep g has hs before s t (after r (In b v) past) (In b v)
+    in_step b v does turn =
+        elim (in_turn_at r d wide gs node b v s t past does turn) [
+          | inl (is, none, shut, leads) ↦
+              (let clash : true ≡ false = sym going.follows.result ∙ shut in absurd (cc clash))
+          | inr (k, h, is, up) ↦ in_at b v k h does is up
+        ]
+
+    -- the own part
+    own_answer : (i : ℕ) (slot : Slot) → g.cut.number i ≡ None → Does r (Fire i slot) s t → OwnStep g has hs before s t past (Fire i slot)
+    own_answer i slot out (v, row, held, by, leads) =
+        record {
+          v = v;
+          row = row;
+          end = seen g (with_token r (PartEnd d g.asked_at) Answer None s);
+          is = λ l. Fire (which.0 l) (slot_is l);
+          does = own_does.0;
+          idle = idle;
+          fits = answer_fits r d wide gs node.base g has s fit within v held_so;
+          held = held_so;
+          empty = empty;
+          by = ap (λ (x : Slot). firing_of (slice_get r.parts d) (s.state d) x) (sym slot_is) ∙ by_own;
+          leads = leads ∙ ap (λ (n : ℕ). fired r n row v s) which.0;
+          fires = fires.1;
+          state = fires.2;
+          led = led;
+        }
+      where
+        on : OnStage r d wide gs node.base g has (end_of i slot)
+        on = lies r d wide gs node.base g has s within (end_of i slot) (way_of slot) v held
+
+        which : (i ≡ d) × (shake_of slot ≡ g.asked_at) × StandsIn g.plan (ResultEnd g.asked_at)
+        which =
+            elim (end_is r d wide gs node.base g has i (shake_of slot) on.own on.owned on.stands on.lies) [
+              | inl inside ↦ (let clash : None ≡ Some inside.0 = sym out ∙ inside.1 in absurd (cc clash))
+              | inr at ↦ at
+            ]
+
+        by_own : firing_of (slice_get r.parts d) (s.state d) slot ≡ Some row
+        by_own = ap (λ (n : ℕ). firing_of (slice_get r.parts n) (s.state n) slot) (sym which.0) ∙ by
+
+        slot_is : slot ≡ Ans g.asked_at
+        slot_is =
+            elim (table.no_other wide (s.state d) slot row (own_firing r d wide gs node slot row s by_own)) [
+              | inl (resting, is) ↦ absurd (table.none_at_rest (s.state d).phase g.asked_at resting going.stirs.session)
+              | inr (h, is, asked) ↦ asked ∙ ap Ans (same_Some h g.asked_at (sym is ∙ going.stirs.session))
+            ]
+
+        held_so : token_at r s (PartEnd d g.asked_at) Answer ≡ Some v
+        held_so = (λ l. token_at r s (end_of (sym which.0 l) (sym slot_is l)) (way_of (sym slot_is l))) ∙ held
+
+        fires : (t ≡ with_puts r d (row.puts v) (with_state d (row.next v) (with_token r (PartEnd d g.asked_at) Answer None s)))
+            × (firing (Assign wide) (s.state d) (Ans g.asked_at) ≡ Some row) × (t.state d ≡ row.next v)
+        fires =
+            own_fired r d wide gs node (Ans g.asked_at) v row s t (ap (λ (x : Slot). firing_of (slice_get r.parts d) (s.state d) x) (sym slot_is) ∙ by_own)
+            (leads ∙ ap (λ (n : ℕ). fired r n row v s) which.0)
+
+        own_does : Does g.plan (Out (ResultEnd g.asked_at) v) (seen g s) (seen g (with_token r (PartEnd d g.asked_at) Answer None s))
+            × InStage r d wide gs node.base g has (with_token r (PartEnd d g.asked_at) Answer None s)
+        own_does = answers r d wide gs node.base g has s within v held_so
+
+        idle : IsIdle g.plan (seen g (with_token r (PartEnd d g.asked_at) Answer None s))
+        idle =
+            restful g has before (seen g (with_token r (PartEnd d g.asked_at) Answer None s)) hs v going.ran.tidy going.ran.idle going.ran.session
+            (runs_then g.plan hs (Out (ResultEnd g.asked_at) v) before (seen g s) (seen g (with_token r (PartEnd d g.asked_at) Answer None s)) going.ran.ran own_does.0)
+            (inputs_then g.plan [] hs (Out (ResultEnd g.asked_at) v ∷ []) going.ran.turns tt)
+
+        empty : Emptied d (with_token r (PartEnd d g.asked_at) Answer None s)
+        empty =
+            emptied r d wide gs node.base g has (with_token r (PartEnd d g.asked_at) Answer None s) own_does.1
+            (λ n apart outside. ap (λ (q : State). q.phase) (token_state r (PartEnd d g.asked_at) Answer None s n) ∙ going.stirs.states n apart outside) idle
+
+        answered : Turned g.plan (pass (ResultEnd g.asked_at) Answer ∷ own)
+        answered =
+            subst (λ (w : Direction). Turned g.plan (pass (ResultEnd g.asked_at) w ∷ own))
+            (asked_out g.plan g.asked_at wide (stage r d wide gs node.base g has).low (stage r d wide gs node.base g has).outcome)
+            (stage_out_turned g has hs before s (with_token r (PartEnd d g.asked_at) Answer None s) past going (ResultEnd g.asked_at) v (ended_is_one g.asked_at g.plan hs v going.ran.session) own_does.0).1
+
+        none_open : (k : ℕ) → is_open (pass (ResultEnd g.asked_at) Answer ∷ own) (ResultEnd k) ≡ false
+        none_open k = by_test (nat_eq g.asked_at k) refl
+          where
+            by_open : (b : Bool) → is_open own (ResultEnd k) ≡ b → nat_eq g.asked_at k ≡ false → b ≡ false
+            by_open false shut t = refl
+            by_open true up t =
+                let same : k ≡ g.asked_at = going.follows.of_stage k up in
+                let clash : nat_eq g.asked_at k ≡ true = grind (arith, same) in absurd (cc (sym t ∙ clash))
+
+            by_test : (b : Bool) → nat_eq g.asked_at k ≡ b → (if b then false else is_open own (ResultEnd k)) ≡ false
+            by_test true t = refl
+            by_test false t = by_open (is_open own (ResultEnd k)) refl t
+
+        -- with the answer the stage closes what it opened
+        only : OnlyResult past
+        only = (going.follows.result, λ k h. closed k h (is_open past (ImportEnd k h)) refl)
+          where
+            closed : (k h : ℕ) (b : Bool) → is_open past (ImportEnd k h) ≡ b → b ≡ false
+            closed k h false shut = refl
+            closed k h true up =
+                let (i, stands, at) = going.follows.only k h up in
+                let (c, there) = stands_contact g.plan (stage r d wide gs node.base g has).region.right (ImportEnd i h) stands in
+                let own_up : is_open own (ImportEnd i h) ≡ true = going.follows.same i h stands ∙ (ap (is_open past) at ∙ up) in
+                sym own_up
+                ∙ asked_shut g.plan g.asked_at wide (stage r d wide gs node.base g has).low (stage r d wide gs node.base g has).outcome (pass (ResultEnd g.asked_at) Answer ∷ own) answered none_open
+                i h c there
+
+        led : Led r d wide gs node row v t past
+        led =
+            own_leads r d wide gs node (with_token r (PartEnd d g.asked_at) Answer None s) t row v past empty fires.0 only
+            (table.goes_on wide (s.state d) g.asked_at v row going.stirs.session (answer_fits r d wide gs node.base g has s fit within v held_so) fires.1)
+
+  -- the rest of a list
+  abbrev Rest' : List Element → Type 0
+  Rest' xs =
+      (pl : Place gs) (s t : Tokens) (past : List Pass)
+      → AllFit r s → Holds r d wide gs node pl s past → Runs r xs s t → InputsKeepTurns r past xs → Result r d wide gs node pl xs s
+
+  pub fit_after : (x : Element) (s w : Tokens) → AllFit r s → Does r x s w → AllFit r w
+  fit_after x s w fit does = all_stay_fit r (x ∷ []) s w node.base.right node.base.literals fit (w, does, refl)
+
+  led_on : (xs : List Element) → Rest' xs → (row : Row) (v : ℕ) (w t : Tokens) (past : List Pass) → AllFit r w → Led r d wide gs node row v w past → Runs r xs w t
+      → InputsKeepTurns r past xs → (there : Where) × windows.LeadsTo r d gs row v w there × Staged r d wide gs there xs w
+  led_on xs rest row v w t past fit (asks g has n before going does puts) runs turns =
+      let (ys, end, staged, ran, kept, well) = rest (AtStage g has (In (ResultEnd g.asked_at) n ∷ []) before) w t past fit going runs turns in (
+        Within g ys,
+        to_session g n ys has going.stirs
+            (record {
+              before = before;
+              after = end;
+              idle = going.ran.idle;
+              asked = does;
+              runs = ran;
+              turns = turns_before g.plan [] (In (ResultEnd g.asked_at) n) ys going.ran.turns kept;
+              tidy = going.ran.tidy;
+              well = well;
+            }) puts,
+        staged,
+      )
+  led_on xs rest row v w t past fit (whole.replies k holding only puts) runs turns =
+      (Answered k, to_answer k holding puts, rest (AtAnswer k) w t past fit (holding, only) runs turns)
+
+  rest_case : (x : Element) (xs : List Element) → Rest' xs → (s t : Tokens) (past : List Pass) → AllFit r s → IsIdle r s × NoneOpen past → Runs r (x ∷ xs) s t
+      → InputsKeepTurns r past (x ∷ xs) → Staged r d wide gs Resting (x ∷ xs) s
+  rest_case x xs rest s t past fit (idle, closed) (w, does, runs) turns =
+      let (is, holding, only) = rest_step r d wide gs node x s w past idle closed does (first_turn r past x xs turns) in
+      let later = rest AtAsked w t (after r x past) (fit_after x s w fit does) (holding, only) runs (turns_after r past x xs turns) in
+      subst (λ (y : Element). Staged r d wide gs Resting (y ∷ xs) s) (sym is) (is_asked s w xs idle (subst (λ (y : Element). Does r y s w) is does) later)
+
+  asked_case : (x : Element) (xs : List Element) → Rest' xs → (s t : Tokens) (past : List Pass) → AllFit r s
+      → HoldsOnly r (PartEnd d 2) Request 0 s × OnlyResult past → Runs r (x ∷ xs) s t → InputsKeepTurns r past (x ∷ xs)
+      → Staged r d wide gs Asked (x ∷ xs) s
+  asked_case x xs rest s t past fit (holding, only) (w, does, runs) turns =
+      let step = asked_step r d wide gs node x s w past holding only does (first_turn r past x xs turns) in
+      let (there, leads, staged) = led_on xs rest step.row 0 w t (after r x past) (fit_after x s w fit does) step.led runs (turns_after r past x xs turns) in
+      subst (λ (y : Element). Staged r d wide gs Asked (y ∷ xs) s) (sym step.is)
+      (begins s w xs step.row there holding step.fires (subst (λ (y : Element). Does r y s w) step.is does) step.state leads staged)
+
+  answer_case : (k : ℕ) (x : Element) (xs : List Element) → Rest' xs → (s t : Tokens) (past : List Pass) → AllFit r s
+      → HoldsOnly r (ResultEnd 0) Answer k s × OnlyResult past → Runs r (x ∷ xs) s t → InputsKeepTurns r past (x ∷ xs) → Staged r d wide gs (Answered k) (x ∷ xs) s
+  answer_case k x xs rest s t past fit (holding, only) (w, does, runs) turns =
+      let (is, idle, closed) = answer_step r d wide gs node k x s w past holding only does (first_turn r past x xs turns) in
+      let later = rest AtRest w t (after r x past) (fit_after x s w fit does) (idle, closed) runs (turns_after r past x xs turns) in
+      subst (λ (y : Element). Staged r d wide gs (Answered k) (y ∷ xs) s) (sym is)
+      (windows.replies s w xs k holding (subst (λ (y : Element). Does r y s w) is does) later)
+
+  module _
+      (g : Stage) (has : Contains gs g) (hs : List Element) (before s w : Tokens) (past : List Pass) (going : Going r d wide gs node g has hs before s past)
+      (fit : AllFit r s) where
+    pub stage_step : (x : Element) → Does r x s w → InTurn r past x
+        → StageStep g has hs before s w (after r x past) x ⊎ OwnStep g has hs before s w (after r x past) x
+    stage_step (Out b v) does turn = inl (out_step g has hs before s w past going fit b v does)
+    stage_step (In b v) does turn = inl (in_step g has hs before s w past going fit b v does turn)
+    stage_step (Fire i slot) does turn = by_number (g.cut.number i) refl
+      where
+        by_number : (o : Option ℕ) → g.cut.number i ≡ o
+            → StageStep g has hs before s w past (Fire i slot) ⊎ OwnStep g has hs before s w past (Fire i slot)
+        by_number None out = inr (own_answer g has hs before s w past going fit i slot out does)
+        by_number (Some j) number = inl (fire_step g has hs before s w past going fit i j slot number does)
+
+    stage_case : (x : Element) (xs : List Element) → Rest' xs → (t : Tokens) → Does r x s w → Runs r xs w t → InputsKeepTurns r past (x ∷ xs)
+        → Result r d wide gs node (AtStage g has hs before) (x ∷ xs) s
+    stage_case x xs rest t does runs turns = by_step (stage_step x does (first_turn r past x xs turns))
+      where
+        by_step : StageStep g has hs before s w (after r x past) x ⊎ OwnStep g has hs before s w (after r x past) x
+            → Result r d wide gs node (AtStage g has hs before) (x ∷ xs) s
+        by_step (inl step) =
+            let (ys, end, staged, ran, kept, well) =
+            rest (AtStage g has (hs ++ step.y ∷ []) before) w t (after r x past) (fit_after x s w fit does) step.going runs (turns_after r past x xs turns) in (
+              step.y ∷ ys,
+              end,
+              subst (λ (z : Element). Staged r d wide gs (Within g (step.y ∷ ys)) (z ∷ xs) s) step.is
+                  (stirs s w xs ys g step.y has going.stirs step.does step.standing (subst (λ (z : Element). Does r z s w) (sym step.is) does) staged),
+              (seen g w, step.does, ran),
+              turns_before g.plan (passed g.plan [] hs) step.y ys step.turn (subst (λ (l : List Pass). InputsKeepTurns g.plan l ys) (passed_then g.plan [] hs step.y) kept),
+              well_before g.asked_at g.plan step.y ys step.standing well,
+            )
+        by_step (inr step) =
+            let (there, leads, staged) = led_on xs rest step.row step.v w t (after r x past) (fit_after x s w fit does) step.led runs (turns_after r past x xs turns) in (
+              Out (ResultEnd g.asked_at) step.v ∷ [],
+              step.end,
+              subst (λ (z : Element). Staged r d wide gs (Within g (Out (ResultEnd g.asked_at) step.v ∷ [])) (z ∷ xs) s) (sym step.is)
+                  (goes_on s w xs g step.v step.end step.row there has going.stirs step.does step.idle step.fits step.held step.fires
+                  (subst (λ (z : Element). Does r z s w) step.is does) step.state leads staged),
+              (step.end, step.does, refl),
+              tt,
+              inr ([], step.v, tt, refl),
+            )
+
+  step_case : (x : Element) (xs : List Element) → Rest' xs → Rest' (x ∷ xs)
+  step_case x xs rest AtRest s t past fit holding runs turns = rest_case x xs rest s t past fit holding runs turns
+  step_case x xs rest AtAsked s t past fit holding runs turns = asked_case x xs rest s t past fit holding runs turns
+  step_case x xs rest (AtStage g has hs before) s t past fit going (w, does, runs) turns =
+      stage_case g has hs before s w past going fit x xs rest t does runs turns
+  step_case x xs rest (AtAnswer k) s t past fit holding runs turns = answer_case k x xs rest s t past fit holding runs turns
+
+  end_case : Rest' []
+  end_case AtRest s t past fit holding is turns = rests s holding.0
+  end_case AtAsked s t past fit holding is turns = waits s holding.0
+  end_case (AtStage g has hs before) s t past fit going is turns = ([], seen g s, stays s g has going.stirs, refl, tt, inl tt)
+  end_case (AtAnswer k) s t past fit holding is turns = holds s k holding.0
+
+  pub along : (xs : List Element) → Rest' xs
+  along [] = end_case
+  along (x ∷ xs) = step_case x xs (along xs)
+
+pub writes_are_staged : WritesAreStaged
+writes_are_staged r d wide gs s t xs node restful idle runs turns =
+    along r d wide gs node restful xs AtRest s t [] (idle_fits r s idle) (idle, (refl, λ k h. refl)) runs turns

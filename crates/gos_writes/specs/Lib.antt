@@ -1,0 +1,8 @@
+pub mod OneSession
+pub mod Writes
+pub mod Windows
+pub mod Realised
+pub mod Variables
+pub mod Written
+pub mod Assignments
+pub mod SmallWrites
