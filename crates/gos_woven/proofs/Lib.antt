@@ -5,3 +5,4 @@ pub mod EndLemmas
 pub mod PlanLemmas
 pub mod ThinLemmas
 pub mod SmallLemmas
+pub mod FlowLemmas

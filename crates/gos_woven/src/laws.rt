@@ -1,5 +1,6 @@
 // What the definitions give. Each theorem is the contract of a function that does nothing.
 ghost use Rattle.gos_woven.specs.Woven.{WebHasPlan, ThinIsPlain};
+ghost use Rattle.gos_woven.specs.Flows.{FairFits, AskedIsFair, AskingIsUnfair};
 ghost use Rattle.gos_woven.specs.SmallWoven.{NumberedIsThin, NumberedIsPlain, ForkedIsNotThin, ForkedIsNotPlain, ForkedHasNoPlan};
 
 /// A web has a plan, if what it connects fits and it connects each end to one other end at most.
@@ -19,4 +20,11 @@ pub fn small_webs_have_plans()
     ensures not_thin { ForkedIsNotThin }
     ensures not_plain { ForkedIsNotPlain }
     ensures no_plan { ForkedHasNoPlan }
+{}
+
+/// What fair flows connect fits. The one tie of the plan of `skip` is one if the Skip is asked, and not if it asks.
+pub fn fair_flows_fit()
+    ensures fits { FairFits }
+    ensures fair { AskedIsFair }
+    ensures unfair { AskingIsUnfair }
 {}

@@ -5,4 +5,4 @@
 
 mod laws;
 
-pub use laws::{small_webs_have_plans, thin_webs_are_plain, webs_have_plans};
+pub use laws::{fair_flows_fit, small_webs_have_plans, thin_webs_are_plain, webs_have_plans};
