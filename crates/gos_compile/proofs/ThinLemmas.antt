@@ -43,7 +43,7 @@ span_parted k i (suc a) b =
     let start_same = ap (λ (n : ℕ). span k n b) start in
     omega (arith, rest, count_same, start_same)
 
-span_beyond : (k i n : ℕ) → k < i → span k i n ≡ 0
+pub span_beyond : (k i n : ℕ) → k < i → span k i n ≡ 0
 span_beyond k i zero low = refl
 span_beyond k i (suc n) low =
     let rest = span_beyond k (suc i) n (omega (arith, low)) in
@@ -57,7 +57,7 @@ span_once k i (suc n) =
     (λ e t. let rest = span_beyond k (suc i) n (omega (arith, e)) in rw t (omega (arith, rest)))
     (λ e t. let rest = span_once k (suc i) n in rw t (omega (arith, rest)))
 
-span_past : (k i n : ℕ) → i + n ≤ k → span k i n ≡ 0
+pub span_past : (k i n : ℕ) → i + n ≤ k → span k i n ≡ 0
 span_past k i zero low = refl
 span_past k i (suc n) low =
     let rest = span_past k (suc i) n (omega (arith, low)) in
@@ -204,7 +204,7 @@ two_node k i j OfWhile = omega arith
 two_node k i j OfAssign = omega arith
 two_node k i j (OfBin op) = omega arith
 
-node_tells : (k : ℕ) (types : Types) (i j : ℕ) (m : Numbered) → tally (places.Node k) types i j m ≤ span k j (nodes m) + span k j (nodes m)
+pub node_tells : (k : ℕ) (types : Types) (i j : ℕ) (m : Numbered) → tally (places.Node k) types i j m ≤ span k j (nodes m) + span k j (nodes m)
 node_tells k types i j (Closed t ss c) = let tells = shares_node k i ss in omega (arith, tells)
 node_tells k types i j (Use t ss n) = let tells = shares_node k i ss in omega (arith, tells)
 node_tells k types i j (Under t ss b n m) =
@@ -261,7 +261,7 @@ two_number k i j OfWhile = refl
 two_number k i j OfAssign = refl
 two_number k i j (OfBin op) = refl
 
-number_tells : (k : ℕ) (types : Types) (i j : ℕ) (m : Numbered) → tally (places.Number k) types i j m ≤ times k (used m) + times k (made m)
+pub number_tells : (k : ℕ) (types : Types) (i j : ℕ) (m : Numbered) → tally (places.Number k) types i j m ≤ times k (used m) + times k (made m)
 number_tells k types i j (Closed t ss c) = let tells = shares_number k i ss in omega (arith, tells)
 number_tells k types i j (Use t ss n) =
     let tells = shares_number k i ss in let uses = times-append k (split_in ss) (n ∷ []) in omega (arith, tells, uses)
