@@ -1,0 +1,18 @@
+// What the definitions give. Each theorem is the contract of a function that does nothing.
+ghost use Rattle.gos_stages.specs.Inside.{InsideIsRealised, InsideMeans, OthersStay};
+ghost use Rattle.gos_stages.specs.SmallInside.{BothHaveShares, EmptyIsNone, UnboundIsNotSplit};
+
+/// Inside the splits of a node, what stands for its numbers realises the terms that they stand for there.
+pub fn supplies_inside()
+    ensures realised { InsideIsRealised }
+    ensures means { InsideMeans }
+    ensures others { OthersStay }
+{}
+
+/// Inside a split of `skip` both sides stand for it behind a Share. A number that nothing stands for isn't split; a plan
+/// without joints is no supply.
+pub fn small_insides()
+    ensures both { BothHaveShares }
+    ensures unbound { UnboundIsNotSplit }
+    ensures empty { EmptyIsNone }
+{}
