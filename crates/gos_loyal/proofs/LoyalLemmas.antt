@@ -1,10 +1,10 @@
 -- While a handshake of the source is open, the branch of a Share of one caller is that caller's. So what it takes of its source
 -- finds this branch.
 use Rattle.std.specs.Prelude.{◌⊎◌, ◌+◌, ◌-◌, ◌*◌, ◌<◌, None, nat_eq, slice_get}
-use Rattle.std.proofs.Common.{◌≡◌, ℕ, zero, suc, Bool, true, false, List, [], ◌∷◌, Option, Some, inl, inr, refl, sym, ◌∙◌, ap, subst, arith, if◌then◌else◌}
+use Rattle.std.proofs.Common.{◌≡◌, ℕ, Bool, true, false, List, [], ◌∷◌, Option, Some, inl, inr, refl, sym, ◌∙◌, ap, subst, arith, if◌then◌else◌}
 use Rattle.gos_types.specs.Types.{Type'}
 use Rattle.gos_types.specs.declared.shakes.Role.TheVariants.{Serve, Ask}
-use Rattle.gos_netlist.specs.Events.{Request, Answer}
+use Rattle.gos_netlist.specs.Events.{Answer}
 use Rattle.gos_realises.specs.Regular.{count}
 use Rattle.gos_plan.specs.Kinds.{Contact, Share, part_contacts}
 use Rattle.gos_plan.specs.Plans.{End, PartEnd, Plan}
@@ -16,12 +16,13 @@ use Rattle.gos_plan.proofs.HeldLemmas.{AllFit, step}
 use Rattle.gos_plan.proofs.RowLemmas.{role_taking}
 use Rattle.gos_plan.proofs.AskingLemmas.{RoleIs, row_roles}
 use Rattle.gos_plan.proofs.TurnLemmas.{fired_state}
+use Rattle.gos_plan.proofs.DecidedLemmas.{one_state}
 use Rattle.gos_webs.specs.Cutting.{StandsIn}
 use Rattle.gos_sharing.specs.Sharing.{source_end, IsForCaller}
 use Rattle.gos_sharing.proofs.ShareRowLemmas.{asked_there}
 use Rattle.gos_sharing.proofs.SeenKeptLemmas.{fit_none, not_both_so}
 use Rattle.gos_buffers.proofs.GroundLemmas.{OfCaller, source_asks, callers_serve, next_rests}
-use Rattle.gos_buffers.proofs.BranchLemmas.{Leaves, fire_leaves, out_leaves, in_leaves, contact_of, one_of_two, stands, none_fits, one_end}
+use Rattle.gos_buffers.proofs.BranchLemmas.{Leaves, fire_leaves, out_leaves, in_leaves, contact_of, one_of_two, stands, none_fits}
 use Rattle.gos_buffers.proofs.BufferedLemmas.{buffered_is_buffer}
 use Rattle.gos_loyal.specs.Loyal.{IsOfOne, SharesOfOneAreLoyal, BufferedIsOfOne}
 
@@ -117,6 +118,12 @@ branch_after i t c r is [] o v s w fit branch list =
     subst (λ (z : Tokens). AllFit v z × Branch i t c v z) (sym list.1) (subst (λ (z : Open). AllFit z s × Branch i t c z s) (sym list.0) (fit, branch))
 branch_after i t c r is (x ∷ xs) o v s w fit branch (m, u, does, comes, welcome, list) =
     branch_after i t c r is xs m v u w (step r x o m s u does comes fit) (branch_step i t c r is x o m s u fit branch does comes) list
+
+-- a list leads to one state
+one_end : (r : Plan) (xs : List Element) (o v : Open) (s w z : Tokens) → OrderlyFrom r xs o s v z → Runs r xs s w → z ≡ w
+one_end r [] o v s w z list runs = list.1 ∙ sym runs
+one_end r (x ∷ xs) o v s w z (m, u, does, comes, welcome, list) (y, also, runs) =
+    one_end r xs m v u w z list (subst (λ (k : Tokens). Runs r xs k w) (one_state r x s y u also does) runs)
 
 pub shares_of_one_are_loyal : SharesOfOneAreLoyal
 shares_of_one_are_loyal i t c r is regular s w u xs slot idle runs turns does lt = by_order (regular s w xs idle runs turns).0

@@ -1,7 +1,6 @@
 -- A Share of one caller, and one of two.
-use Rattle.std.specs.Prelude.{ℕ, zero, suc, ◌+◌, ◌*◌, ◌<◌}
+use Rattle.std.specs.Prelude.{zero, suc}
 use Rattle.std.proofs.Common.{refl, arith}
-use Rattle.gos_types.specs.Types.{Com}
 use Rattle.gos_plan.specs.Plans.{PartEnd}
 use Rattle.gos_webs.specs.Webs.{joint}
 use Rattle.gos_windows.proofs.SmallRegionLemmas.{call_is_region}
