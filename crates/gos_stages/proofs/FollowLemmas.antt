@@ -1,10 +1,9 @@
 -- The ties of a term follow where its handshakes lead.
-use Rattle.std.specs.Prelude.{◌+◌, length, map, take, drop, Some, None, slice_get}
-use Rattle.std.proofs.Common.{◌≡◌, ℕ, zero, suc, List, [], ◌∷◌, ◌++◌, Option, refl, sym, ◌∙◌, ap, subst, arith}
+use Rattle.std.specs.Prelude.{◌+◌, ◌-◌, length, map, take, drop, slice_get}
+use Rattle.std.proofs.Common.{◌≡◌, ℕ, zero, suc, List, [], ◌∷◌, ◌++◌, Option, refl, sym, ◌∙◌, ap, arith}
 use Rattle.gos_types.specs.Types.{Type'}
 use Rattle.gos_check.specs.declared.linear.Split.{Split}
 use Rattle.gos_check.specs.Nodes.{Numbered, Closed, Use, Under, One, Two, If, Binding, OfFun, OfNew, OneForm, OfFst, OfSnd, OfDeref, OfNot, TwoForm, OfApp, OfBoth, OfSeq, OfPar, OfWhile, OfAssign, OfBin, argument_of}
-use Rattle.gos_plan.specs.Plans.{End, PartEnd, ImportEnd, ResultEnd}
 use Rattle.gos_realises.specs.Regular.{count}
 use Rattle.gos_ties.specs.declared.points.Place.{Place}
 use Rattle.gos_ties.specs.declared.points.Place.TheVariants as places
@@ -137,10 +136,119 @@ module _ (f : Point → Point) (leaves : LeavesInner f) where
 
   -- the ties of a term
   follows : (types : Types) (i j : ℕ) (m : Numbered) (out : List Point) → ties_of types i j m (map f out) ≡ led_by f (ties_of types i j m out)
-  -- and of one whose handshakes lead to points that are mapped
-  onward : (types : Types) (i j : ℕ) (m : Numbered) (there out : List Point) → there ≡ map f out → ties_of types i j m there ≡ led_by f (ties_of types i j m out)
-  onward types i j m there out e = ap (λ (ps : List Point). ties_of types i j m ps) e ∙ follows types i j m out
   follows types i j (Closed t ss c) out =
       let of_shares : List Tie = shares_ties i ss types in
       two of_shares (led out (places.Part (i + length ss)) 0) of_shares (led (map f out) (places.Part (i + length ss)) 0)
       (shares_stay types i ss) (led_follows (places.Part (i + length ss)) (leaves.part (i + length ss)) out 0)
+  follows types i j (Use t ss n) out =
+      let of_shares : List Tie = shares_ties i ss types in
+      two of_shares (led out (places.Number n) 0) of_shares (led (map f out) (places.Number n) 0)
+      (shares_stay types i ss) (led_follows (places.Number n) (leaves.number n) out 0)
+  follows types i j (Under t ss b n m) out =
+      let of_shares : List Tie = shares_ties i ss types in
+      let own : ℕ = i + length ss in
+      let k : ℕ = own + length (binder_part b t) in
+      let out' : List Point = binder_out b t own out in
+      let there : List Point = binder_out b t own (map f out) in
+      two of_shares (binder_ties b t own n out ++ ties_of types k (suc j) m out')
+      of_shares (binder_ties b t own n (map f out) ++ ties_of types k (suc j) m there) (shares_stay types i ss)
+      (two (binder_ties b t own n out) (ties_of types k (suc j) m out') (binder_ties b t own n (map f out)) (ties_of types k (suc j) m there)
+      (binder_led b t own n out)
+      (ap (λ (ps : List Point). ties_of types k (suc j) m ps) (binder_onward b t own out) ∙ follows types k (suc j) m out'))
+  follows types i j (One t ss form m) out =
+      let of_shares : List Tie = shares_ties i ss types in
+      let own : ℕ = i + length ss in
+      let k : ℕ = own + length (one_part form t) in
+      let out' : List Point = one_out form t (type_of_node m) own j out in
+      let there : List Point = one_out form t (type_of_node m) own j (map f out) in
+      two of_shares (one_ties form own out ++ ties_of types k (suc j) m out')
+      of_shares (one_ties form own (map f out) ++ ties_of types k (suc j) m there) (shares_stay types i ss)
+      (two (one_ties form own out) (ties_of types k (suc j) m out') (one_ties form own (map f out)) (ties_of types k (suc j) m there)
+      (one_led form own out)
+      (ap (λ (ps : List Point). ties_of types k (suc j) m ps) (one_onward form t (type_of_node m) own j out) ∙ follows types k (suc j) m out'))
+  follows types i j (Two t ss form m n) out =
+      let of_shares : List Tie = shares_ties i ss types in
+      let own : ℕ = i + length ss in
+      let k : ℕ = own + length (two_part form t (type_of_node n)) in
+      let l : ℕ = k + length (parts_of types m) in
+      let first : List Point = first_out form (type_of_node m) (type_of_node n) own j out in
+      let first' : List Point = first_out form (type_of_node m) (type_of_node n) own j (map f out) in
+      let second : List Point = second_out form (type_of_node m) (type_of_node n) own j out in
+      let second' : List Point = second_out form (type_of_node m) (type_of_node n) own j (map f out) in
+      let left : List Tie = ties_of types k (suc j) m first in
+      let left' : List Tie = ties_of types k (suc j) m first' in
+      let right : List Tie = ties_of types l (suc j + nodes m) n second in
+      let right' : List Tie = ties_of types l (suc j + nodes m) n second' in
+      two of_shares (two_ties form own out ++ (left ++ right)) of_shares (two_ties form own (map f out) ++ (left' ++ right')) (shares_stay types i ss)
+      (two (two_ties form own out) (left ++ right) (two_ties form own (map f out)) (left' ++ right') (two_led form own out)
+      (two left right left' right'
+      (ap (λ (ps : List Point). ties_of types k (suc j) m ps) (first_onward form (type_of_node m) (type_of_node n) own j out)
+      ∙ follows types k (suc j) m first)
+      (ap (λ (ps : List Point). ties_of types l (suc j + nodes m) n ps) (second_onward form (type_of_node m) (type_of_node n) own j out)
+      ∙ follows types l (suc j + nodes m) n second)))
+  follows types i j (If t ss m n p) out =
+      let of_shares : List Tie = shares_ties i ss types in
+      let own : ℕ = i + length ss in
+      let k : ℕ = own + 1 in
+      let l : ℕ = k + length (parts_of types m) in
+      let o : ℕ = l + length (parts_of types n) in
+      let at : ℕ → List Point = λ h. point (places.Part own) h ∷ [] in
+      let test : List Tie = ties_of types k (suc j) m (at 0) in
+      let left : List Tie = ties_of types l (suc j + nodes m) n (at 1) in
+      let right : List Tie = ties_of types o (suc j + nodes m + nodes n) p (at 2) in
+      two of_shares (led out (places.Part own) 3 ++ (test ++ (left ++ right)))
+      of_shares (led (map f out) (places.Part own) 3 ++ (test ++ (left ++ right))) (shares_stay types i ss)
+      (two (led out (places.Part own) 3) (test ++ (left ++ right)) (led (map f out) (places.Part own) 3) (test ++ (left ++ right))
+      (led_follows (places.Part own) (leaves.part own) out 3)
+      (two test (left ++ right) test (left ++ right)
+      (ap (λ (ps : List Point). ties_of types k (suc j) m ps) (one_point own 0) ∙ follows types k (suc j) m (at 0))
+      (two left right left right
+      (ap (λ (ps : List Point). ties_of types l (suc j + nodes m) n ps) (one_point own 1) ∙ follows types l (suc j + nodes m) n (at 1))
+      (ap (λ (ps : List Point). ties_of types o (suc j + nodes m + nodes n) p ps) (one_point own 2) ∙ follows types o (suc j + nodes m + nodes n) p (at 2)))))
+
+pub ties_follow : TiesFollow
+ties_follow f types i j m out leaves = follows f leaves types i j m out
+
+-- a result leads to the points themselves
+leads_in : (all : List Point) (h : ℕ) (out : List Point) → ((k : ℕ) → slice_get all (h + k) ≡ slice_get out k)
+    → map (leading all) (row places.Result h (length out)) ≡ out
+leads_in all h [] at = refl
+leads_in all h (p ∷ ps) at =
+    let rest : map (leading all) (row places.Result (suc h) (length ps)) ≡ ps =
+    leads_in all (suc h) ps (λ k. let same : suc h + k ≡ h + suc k = omega arith in ap (slice_get all) same ∙ at (suc k))
+    in
+    λ n. here n ∷ rest n
+  where
+    here : or_point (slice_get all h) (point places.Result h) ≡ p
+    here =
+        let same : h + 0 ≡ h = omega arith in
+        ap (λ (x : Option Point). or_point x (point places.Result h)) (ap (slice_get all) (sym same) ∙ at 0)
+
+leads_all : (out : List Point) → map (leading out) (row places.Result 0 (length out)) ≡ out
+leads_all out = leads_in out 0 out (λ k. let same : 0 + k ≡ k = omega arith in ap (slice_get out) same)
+
+leading_leaves : (out : List Point) → LeavesInner (leading out)
+leading_leaves out = record { part = λ k h. refl; number = λ k h. refl; node = λ k h. refl }
+
+pub result_leads : ResultLeads
+result_leads types i j m out =
+    ap (λ (ps : List Point). ties_of types i j m ps) (sym (leads_all out))
+    ∙ ties_follow (leading out) types i j m (row places.Result 0 (length out)) (leading_leaves out)
+
+-- the same of dots
+dot_place : (out : List Point) (p : Place) (h : ℕ) → dot_of (at_place out p h) ≡ dot_leading out (dot_of_place p h)
+dot_place out (places.Part k) h = refl
+dot_place out (places.Import k) h = refl
+dot_place out places.Result h = refl
+dot_place out (places.Number k) h = refl
+dot_place out (places.Node k) h = refl
+
+dots_led : (out : List Point) (ts : List Tie)
+    → dot_ties (led_by (leading out) ts) ≡ map (λ (t : webs.Tie). webs.tie (dot_leading out t.one) (dot_leading out t.other)) (dot_ties ts)
+dots_led out [] = refl
+dots_led out (t ∷ ts) =
+    λ n. webs.tie (dot_place out t.one.place t.one.shake n) (dot_place out t.other.place t.other.shake n) ∷ dots_led out ts n
+
+pub dots_lead : DotsLead
+dots_lead types i j m out =
+    ap dot_ties (result_leads types i j m out) ∙ dots_led out (ties_of types i j m (row places.Result 0 (length out)))

@@ -10,14 +10,14 @@ use Rattle.gos_webs.proofs.WebLemmas.{asks_there}
 use Rattle.gos_sharing.specs.Sharing.{caller_end}
 use Rattle.gos_check.specs.declared.linear.Split.{Split}
 use Rattle.gos_check.specs.Nodes.{Meaning, inside, inside_one}
-use Rattle.gos_check.specs.Linearity.{times, sides}
+use Rattle.gos_check.specs.Linearity.{sides}
 use Rattle.gos_check.proofs.TimesLemmas.{number_cases, times_none, eq_false}
 use Rattle.gos_compile.specs.Wiring.{Types}
 use Rattle.gos_buffers.specs.Buffering.{buffered, ResultIsJoined}
 use Rattle.gos_buffers.proofs.BufferedLemmas.{caller_in}
 use Rattle.gos_buffers.proofs.VariableLemmas.{ground_is_buffered}
 use Rattle.gos_wired.specs.Wired.{Supplies, terms_of}
-use Rattle.gos_stages.specs.Inside.{behind_share, inside_one_supply, inside_supplies, AreSplit, AreGroundSupplies, InsideIsRealised, InsideMeans, OthersStay}
+use Rattle.gos_stages.specs.Inside.{behind_share, inside_one_supply, AreGroundSupplies, InsideIsRealised, InsideMeans, OthersStay}
 
 -- the result of a plan behind a Share is the Share's caller's
 pub buffered_joined : (t : Type') (c : ℕ) (p : Plan) → c < 2 → p.outcome ≡ t → IsRight p → IsGround t → ResultIsJoined (buffered t c p)

@@ -1,2 +1,3 @@
 pub mod InsideLemmas
-pub mod SmallInsideLemmas
+mod SmallInsideLemmas
+pub mod FollowLemmas

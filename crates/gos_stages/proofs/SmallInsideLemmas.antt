@@ -1,5 +1,5 @@
 -- Small splits of `skip`.
-use Rattle.std.specs.Prelude.{ℕ, zero, suc, ◌<◌, List, [], ◌∷◌}
+use Rattle.std.specs.Prelude.{zero, suc}
 use Rattle.std.proofs.Common.{refl, arith}
 use Rattle.gos_stages.specs.SmallInside.{BothHaveShares, UnboundIsNotSplit, EmptyIsNone}
 

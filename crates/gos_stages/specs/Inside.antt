@@ -4,7 +4,6 @@
 -- later split of the same node, so that a supply may stand behind several Shares.
 use Rattle.std.specs.Prelude.{◌≡◌, ℕ, List, [], ◌∷◌, nat_eq, Contains, if◌then◌else◌}
 use Rattle.gos_types.specs.Types.{Type', IsGround}
-use Rattle.gos_model.specs.Terms.{Term}
 use Rattle.gos_check.specs.declared.linear.Split.{Split}
 use Rattle.gos_check.specs.Nodes.{inside}
 use Rattle.gos_check.specs.Linearity.{times, sides}

@@ -10,7 +10,7 @@ use Rattle.gos_ties.specs.declared.points.Point.{Point}
 use Rattle.gos_ties.specs.declared.points.Tie as point_ties
 use Rattle.gos_ties.specs.Ties as ties
 use Rattle.gos_ties.specs.Ties.{point}
-use Rattle.gos_webs.specs.Webs.{Dot, Of, Number, Node, Within, Tie, tie}
+use Rattle.gos_webs.specs.Webs.{Dot, Of, Number, Node, Within, tie}
 use Rattle.gos_compile.specs.Wiring.{Types, row, ties_of}
 use Rattle.gos_wired.specs.Wired.{dot_of, dot_ties}
 

@@ -1,3 +1,4 @@
 -- In reading order: a file uses only files above it.
 pub mod Inside
 pub mod SmallInside
+pub mod Leading

@@ -1,5 +1,6 @@
 // What the definitions give. Each theorem is the contract of a function that does nothing.
 ghost use Rattle.gos_stages.specs.Inside.{InsideIsRealised, InsideMeans, OthersStay};
+ghost use Rattle.gos_stages.specs.Leading.{DotsLead, ResultLeads, TiesFollow};
 ghost use Rattle.gos_stages.specs.SmallInside.{BothHaveShares, EmptyIsNone, UnboundIsNotSplit};
 
 /// Inside the splits of a node, what stands for its numbers realises the terms that they stand for there.
@@ -15,4 +16,11 @@ pub fn small_insides()
     ensures both { BothHaveShares }
     ensures unbound { UnboundIsNotSplit }
     ensures empty { EmptyIsNone }
+{}
+
+/// The ties of a term whose handshakes lead elsewhere are those that lead to a result, with other points in its place.
+pub fn ties_lead()
+    ensures follow { TiesFollow }
+    ensures leads { ResultLeads }
+    ensures dots { DotsLead }
 {}
