@@ -2,3 +2,4 @@
 pub mod Inside
 pub mod SmallInside
 pub mod Leading
+pub mod Lodging
