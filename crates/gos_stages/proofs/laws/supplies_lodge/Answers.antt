@@ -1,14 +1,14 @@
-use Rattle.gos_stages.proofs.HomeLemmas.{plainly, way_behind, way_to_caller}
+use Rattle.gos_stages.proofs.LodgingLemmas.{lodged_are_inside, homes_are_kept, numbers_are_held}
 use Rattle.gos_stages.proofs.laws.supplies_lodge.Goals as goal
 
 pub returns-clause-inside : goal.returns-clause-inside
-returns-clause-inside c = ?
+returns-clause-inside c = lodged_are_inside
 
 pub returns-clause-kept : goal.returns-clause-kept
-returns-clause-kept c = ?
+returns-clause-kept c = homes_are_kept
 
 pub returns-clause-held : goal.returns-clause-held
-returns-clause-held c = ?
+returns-clause-held c = numbers_are_held
 
 pub returns-clause-home : goal.returns-clause-home
 returns-clause-home c = ?
