@@ -5,3 +5,4 @@ pub mod HomeLemmas
 pub mod StepLemmas
 pub mod ShareTieLemmas
 pub mod LodgingLemmas
+pub mod PartHomeLemmas

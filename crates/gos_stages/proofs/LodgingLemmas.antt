@@ -69,7 +69,7 @@ abbrev pub lifted : point_ties.Tie → Tie
 lifted u = tie (Within 0 (dot_of u.one)) (Within 0 (dot_of u.other))
 
 module _ (types : Types) (inner : ℕ → Bool) where
-  abbrev seen : List Split → Split → Option ℕ
+  abbrev pub seen : List Split → Split → Option ℕ
   seen ss s = seen_from (live ss inner s.left) (live ss inner s.right)
 
   pub final_held : (ss : List Split) (q x : ℕ) (l : Lodging) (gone : List ℕ) → IsTidy inner ss gone → Held inner ss gone l → (n h : ℕ)

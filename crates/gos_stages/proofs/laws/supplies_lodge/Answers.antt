@@ -1,4 +1,5 @@
 use Rattle.gos_stages.proofs.LodgingLemmas.{lodged_are_inside, homes_are_kept, numbers_are_held}
+use Rattle.gos_stages.proofs.PartHomeLemmas.{numbers_are_at_home}
 use Rattle.gos_stages.proofs.laws.supplies_lodge.Goals as goal
 
 pub returns-clause-inside : goal.returns-clause-inside
@@ -11,4 +12,4 @@ pub returns-clause-held : goal.returns-clause-held
 returns-clause-held c = numbers_are_held
 
 pub returns-clause-home : goal.returns-clause-home
-returns-clause-home c = ?
+returns-clause-home c = numbers_are_at_home
