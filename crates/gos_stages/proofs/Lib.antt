@@ -6,3 +6,4 @@ pub mod StepLemmas
 pub mod ShareTieLemmas
 pub mod LodgingLemmas
 pub mod PartHomeLemmas
+pub mod WayLemmas

@@ -1,7 +1,7 @@
 // What the definitions give. Each theorem is the contract of a function that does nothing.
 ghost use Rattle.gos_stages.specs.Inside.{InsideIsRealised, InsideMeans, OthersStay};
 ghost use Rattle.gos_stages.specs.Leading.{DotsLead, ResultLeads, TiesFollow};
-ghost use Rattle.gos_stages.specs.Lodging.{HomesAreKept, LodgedAreInside, NumbersAreAtHome, NumbersAreHeld};
+ghost use Rattle.gos_stages.specs.Lodging.{HomesAreKept, JointsAreWays, LodgedAreInside, NumbersAreAtHome, NumbersAreHeld};
 ghost use Rattle.gos_stages.specs.SmallInside.{BothHaveShares, EmptyIsNone, UnboundIsNotSplit};
 
 /// Inside the splits of a node, what stands for its numbers realises the terms that they stand for there.
@@ -33,4 +33,5 @@ pub fn supplies_lodge()
     ensures kept { HomesAreKept }
     ensures held { NumbersAreHeld }
     ensures home { NumbersAreAtHome }
+    ensures ways { JointsAreWays }
 {}

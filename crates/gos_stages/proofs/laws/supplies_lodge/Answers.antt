@@ -1,5 +1,6 @@
 use Rattle.gos_stages.proofs.LodgingLemmas.{lodged_are_inside, homes_are_kept, numbers_are_held}
 use Rattle.gos_stages.proofs.PartHomeLemmas.{numbers_are_at_home}
+use Rattle.gos_stages.proofs.WayLemmas.{joints_are_ways}
 use Rattle.gos_stages.proofs.laws.supplies_lodge.Goals as goal
 
 pub returns-clause-inside : goal.returns-clause-inside
@@ -13,3 +14,6 @@ returns-clause-held c = numbers_are_held
 
 pub returns-clause-home : goal.returns-clause-home
 returns-clause-home c = numbers_are_at_home
+
+pub returns-clause-ways : goal.returns-clause-ways
+returns-clause-ways c = joints_are_ways
