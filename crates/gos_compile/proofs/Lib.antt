@@ -3,9 +3,9 @@ mod TableLemmas
 mod NodeLemmas
 mod WalkLemmas
 mod PlanLemmas
-mod TallyLemmas
+pub mod TallyLemmas
 mod ShakeLemmas
-mod ThinLemmas
+pub mod ThinLemmas
 mod RangeLemmas
 mod SmallPlanLemmas
 mod KnownLemmas

@@ -1,9 +1,12 @@
 pub mod InsideLemmas
 mod SmallInsideLemmas
 pub mod FollowLemmas
+pub mod RangeLemmas
 pub mod HomeLemmas
 pub mod StepLemmas
 pub mod ShareTieLemmas
 pub mod LodgingLemmas
 pub mod PartHomeLemmas
 pub mod WayLemmas
+pub mod LiveLemmas
+pub mod ChildTieLemmas

@@ -2,4 +2,6 @@
 pub mod Inside
 pub mod SmallInside
 pub mod Leading
+pub mod Ranges
 pub mod Lodging
+pub mod Folding

@@ -188,3 +188,9 @@ JointsAreWays =
     → ((t : Tie) → Contains (within 0 (dot_ties (shares_ties i ss types)) ++ all_supply_ties types env ns) t → Contains ts t)
     → Contains (numbers_inside ss ns) n → Contains ((lodged types i inner ss env).env n).plan.joints j
     → Way ts (lies i (lodged types i inner ss env) n j.asking) (lies i (lodged types i inner ss env) n j.serving)
+
+-- What a dot stands for is of a live number.
+abbrev pub SpotsAreLive : Type 0
+SpotsAreLive =
+    (types : Types) (i : ℕ) (inner : ℕ → Bool) (ss : List Split) (env : Supplies) (d : Dot) (x : Spot)
+    → (lodged types i inner ss env).home d ≡ Some x → inner x.number ≡ true

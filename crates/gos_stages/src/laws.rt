@@ -1,7 +1,9 @@
 // What the definitions give. Each theorem is the contract of a function that does nothing.
 ghost use Rattle.gos_stages.specs.Inside.{InsideIsRealised, InsideMeans, OthersStay};
+ghost use Rattle.gos_stages.specs.Folding.{ChildStays, ChildWays};
 ghost use Rattle.gos_stages.specs.Leading.{DotsLead, ResultLeads, TiesFollow};
-ghost use Rattle.gos_stages.specs.Lodging.{HomesAreKept, JointsAreWays, LodgedAreInside, NumbersAreAtHome, NumbersAreHeld};
+ghost use Rattle.gos_stages.specs.Lodging.{HomesAreKept, JointsAreWays, LodgedAreInside, NumbersAreAtHome, NumbersAreHeld, SpotsAreLive};
+ghost use Rattle.gos_stages.specs.Ranges.{TiesStayWithin};
 ghost use Rattle.gos_stages.specs.SmallInside.{BothHaveShares, EmptyIsNone, UnboundIsNotSplit};
 
 /// Inside the splits of a node, what stands for its numbers realises the terms that they stand for there.
@@ -24,6 +26,7 @@ pub fn ties_lead()
     ensures follow { TiesFollow }
     ensures leads { ResultLeads }
     ensures dots { DotsLead }
+    ensures within { TiesStayWithin }
 {}
 
 /// What stands for numbers inside splits lies in the web of the node: the ties of Shares and of supplies connect what its
@@ -34,4 +37,11 @@ pub fn supplies_lodge()
     ensures held { NumbersAreHeld }
     ensures home { NumbersAreAtHome }
     ensures ways { JointsAreWays }
+    ensures live { SpotsAreLive }
+{}
+
+/// The ties of a child's web are ways of its node's, and those of the node's web that concern the child are ways of its own.
+pub fn children_fold()
+    ensures ways { ChildWays }
+    ensures stays { ChildStays }
 {}

@@ -1,0 +1,8 @@
+use Rattle.gos_stages.proofs.ChildTieLemmas.{child_ways}
+use Rattle.gos_stages.proofs.laws.children_fold.Goals as goal
+
+pub returns-clause-ways : goal.returns-clause-ways
+returns-clause-ways c = child_ways
+
+pub returns-clause-stays : goal.returns-clause-stays
+returns-clause-stays c = ?
