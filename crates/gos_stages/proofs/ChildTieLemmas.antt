@@ -28,7 +28,7 @@ use Rattle.gos_stages.proofs.FollowLemmas.{dots_lead}
 use Rattle.gos_stages.proofs.RangeLemmas.{ties_stay_within}
 use Rattle.gos_stages.proofs.WayLemmas.{by_tie, way_then, joints_are_ways}
 
-abbrev joint_tie : Joint → Tie
+abbrev pub joint_tie : Joint → Tie
 joint_tie j = tie (Of j.asking) (Of j.serving)
 
 abbrev pub dot_tie : point_ties.Tie → Tie
@@ -108,7 +108,7 @@ module _ (f : Child) (ts : List Tie) (pl : Placing) (is : IsChild f ts) where
       (subst (λ (vs : List Tie). Contains vs (tie (leads (dot_of u.one)) (leads (dot_of u.other)))) (sym led_ties)
       (in_image (λ (t : Tie). tie (leads t.one) (leads t.other)) (dot_ties mine) (dot_tie u) (in_image dot_tie mine u has)))
 
-  led_of : (t : Tie) → Contains (own_ties f) t → (u : point_ties.Tie) × Contains mine u × (tie (Within 0 (leads (dot_of u.one))) (Within 0 (leads (dot_of u.other))) ≡ t)
+  pub led_of : (t : Tie) → Contains (own_ties f) t → (u : point_ties.Tie) × Contains mine u × (tie (Within 0 (leads (dot_of u.one))) (Within 0 (leads (dot_of u.other))) ≡ t)
   led_of t has =
       let (v, there, at_v) = of_image (put_in 0) (dot_ties (ties_of f.types (f.first + f.off) f.node f.term (child_out f))) t has in
       let (w, listed, at_w) =

@@ -10,3 +10,4 @@ pub mod PartHomeLemmas
 pub mod WayLemmas
 pub mod LiveLemmas
 pub mod ChildTieLemmas
+pub mod ChildBackLemmas

@@ -52,7 +52,7 @@ Held inner ss gone l =
     (n h : ℕ) → times n (sides ss) ≡ 0 → times n gone ≡ 0 → l.home (Within 0 (Number n h)) ≡ spot_if (live ss inner n) n (ResultEnd h)
 
 -- points of a part that are led to
-led_listed : (place : Place) (q b n g : ℕ) (u : point_ties.Tie) → Contains (led (row place b n) (places.Part q) g) u
+pub led_listed : (place : Place) (q b n g : ℕ) (u : point_ties.Tie) → Contains (led (row place b n) (places.Part q) g) u
     → (j : ℕ) × (j < n) × (ties.tie (point place (b + j)) (point (places.Part q) (g + j)) ≡ u)
 led_listed place q b zero g u (k, lt, e) = absurd (omega (arith, lt))
 led_listed place q b (suc n) g u (zero, lt, e) =

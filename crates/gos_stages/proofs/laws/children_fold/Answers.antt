@@ -1,8 +1,9 @@
 use Rattle.gos_stages.proofs.ChildTieLemmas.{child_ways}
+use Rattle.gos_stages.proofs.ChildBackLemmas.{child_stays}
 use Rattle.gos_stages.proofs.laws.children_fold.Goals as goal
 
 pub returns-clause-ways : goal.returns-clause-ways
 returns-clause-ways c = child_ways
 
 pub returns-clause-stays : goal.returns-clause-stays
-returns-clause-stays c = ?
+returns-clause-stays c = child_stays
