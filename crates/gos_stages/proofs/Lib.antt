@@ -9,5 +9,6 @@ pub mod LodgingLemmas
 pub mod PartHomeLemmas
 pub mod WayLemmas
 pub mod LiveLemmas
+pub mod HousingLemmas
 pub mod ChildTieLemmas
 pub mod ChildBackLemmas

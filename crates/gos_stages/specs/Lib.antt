@@ -4,4 +4,5 @@ pub mod SmallInside
 pub mod Leading
 pub mod Ranges
 pub mod Lodging
+pub mod Housing
 pub mod Folding

@@ -1,6 +1,7 @@
 // What the definitions give. Each theorem is the contract of a function that does nothing.
 ghost use Rattle.gos_stages.specs.Inside.{InsideIsRealised, InsideMeans, OthersStay};
 ghost use Rattle.gos_stages.specs.Folding.{ChildStays, ChildWays};
+ghost use Rattle.gos_stages.specs.Housing.{HomesAreThere, ImportsAreFrom, PartsAreFrom, PartsAreOutsiders};
 ghost use Rattle.gos_stages.specs.Leading.{DotsLead, ResultLeads, TiesFollow};
 ghost use Rattle.gos_stages.specs.Lodging.{HomesAreKept, JointsAreWays, LodgedAreInside, NumbersAreAtHome, NumbersAreHeld, SpotsAreLive};
 ghost use Rattle.gos_stages.specs.Ranges.{TiesStayWithin};
@@ -44,4 +45,13 @@ pub fn supplies_lodge()
 pub fn children_fold()
     ensures ways { ChildWays }
     ensures stays { ChildStays }
+{}
+
+/// The parts and imports of what stands for numbers inside splits are parts of the node and of supplies outside, and what is
+/// at home there is one of its parts.
+pub fn parts_lodge()
+    ensures from { PartsAreFrom }
+    ensures imports { ImportsAreFrom }
+    ensures outsiders { PartsAreOutsiders }
+    ensures there { HomesAreThere }
 {}
