@@ -12,3 +12,4 @@ pub mod LiveLemmas
 pub mod HousingLemmas
 pub mod ChildTieLemmas
 pub mod ChildBackLemmas
+pub mod ServedLemmas

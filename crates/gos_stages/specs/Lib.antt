@@ -6,3 +6,4 @@ pub mod Ranges
 pub mod Lodging
 pub mod Housing
 pub mod Folding
+pub mod Served

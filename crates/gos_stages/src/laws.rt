@@ -5,6 +5,7 @@ ghost use Rattle.gos_stages.specs.Housing.{HomesAreThere, ImportsAreFrom, PartsA
 ghost use Rattle.gos_stages.specs.Leading.{DotsLead, ResultLeads, TiesFollow};
 ghost use Rattle.gos_stages.specs.Lodging.{HomesAreKept, JointsAreWays, LodgedAreInside, NumbersAreAtHome, NumbersAreHeld, SpotsAreLive};
 ghost use Rattle.gos_stages.specs.Ranges.{TiesStayWithin};
+ghost use Rattle.gos_stages.specs.Served.{ServingsServe, SparesAreOthers};
 ghost use Rattle.gos_stages.specs.SmallInside.{BothHaveShares, EmptyIsNone, UnboundIsNotSplit};
 
 /// Inside the splits of a node, what stands for its numbers realises the terms that they stand for there.
@@ -54,4 +55,10 @@ pub fn parts_lodge()
     ensures imports { ImportsAreFrom }
     ensures outsiders { PartsAreOutsiders }
     ensures there { HomesAreThere }
+{}
+
+/// The Shares that serve a child stand for what its supplies have of them, and what serves somebody else is spare.
+pub fn shares_serve()
+    ensures serve { ServingsServe }
+    ensures others { SparesAreOthers }
 {}
