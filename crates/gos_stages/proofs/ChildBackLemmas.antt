@@ -75,10 +75,10 @@ module _ (f : Child) (ts : List Tie) (pl : Placing) (is : IsChild f ts) where
   abbrev mine : List point_ties.Tie
   mine = ties_of f.types (f.first + f.off) f.node f.term (row places.Result 0 (count (type_of_node f.term)))
 
-  used_so : (n : ℕ) → Contains f.uses n → is_used f n ≡ true
+  pub used_so : (n : ℕ) → Contains f.uses n → is_used f n ≡ true
   used_so n there = low 0 (times n f.uses) (some_times n f.uses there)
 
-  used_in : (n : ℕ) → is_used f n ≡ true → Contains f.uses n
+  pub used_in : (n : ℕ) → is_used f n ≡ true → Contains f.uses n
   used_in n t = listed_times n f.uses (told_low 0 (times n f.uses) t)
 
   made_so : (n : ℕ) → 0 < times n (made f.term) → is_number f n ≡ true
@@ -92,7 +92,7 @@ module _ (f : Child) (ts : List Tie) (pl : Placing) (is : IsChild f ts) where
   uses_so n there = ap (λ (b : Bool). b || nat_lt 0 (times n (made f.term))) (used_so n there)
 
   -- the child's own points
-  own_back : (p : Place) (h : ℕ) → IsWithin f.types (f.first + f.off) f.node f.term (count (type_of_node f.term)) p h
+  pub own_back : (p : Place) (h : ℕ) → IsWithin f.types (f.first + f.off) f.node f.term (count (type_of_node f.term)) p h
       → child_back f (Within 0 (dot_leading (child_out f) (dot_of_place p h))) ≡ Some (Within 0 (dot_of_place p h))
   own_back (places.Part q) h (le, lt) =
       let far : nat_eq q (f.first + f.own) ≡ false =
@@ -171,7 +171,7 @@ module _ (f : Child) (ts : List Tie) (pl : Placing) (is : IsChild f ts) where
       (in_results n 0 (count (f.types n)) h (omega arith) (omega (arith, lt))))))
       (subst (λ (m : ℕ). Way web (Within (suc n) (Of (ResultEnd h))) (Within (suc m) (Of y.end))) same (supply_way n (ResultEnd h) y.end there way))
 
-  spot_used : (d : Dot) (x : Spot) → (lodge f).home d ≡ Some x → Contains f.uses x.number
+  pub spot_used : (d : Dot) (x : Spot) → (lodge f).home d ≡ Some x → Contains f.uses x.number
   spot_used d x at = used_in x.number (spots_are_live f.types f.first (is_used f) f.splits f.env d x at)
 
   -- A tie that is shared: its first dot is a number's or in a supply, its other one is no number's and no own part's.
@@ -215,7 +215,7 @@ module _ (f : Child) (ts : List Tie) (pl : Placing) (is : IsChild f ts) where
           (homes_are_kept f.types f.first (is_used f) f.splits f.env f.numbers (tie (Within 0 (Number n h)) d) is.tidy has))))
 
   -- the ties of the Shares
-  plain_share : (q h : ℕ) → q < f.first + length f.splits → Plainly (Within 0 (Of (PartEnd q h)))
+  pub plain_share : (q h : ℕ) → q < f.first + length f.splits → Plainly (Within 0 (Of (PartEnd q h)))
   plain_share q h lt =
       let less = is.shares_first in
       let more = is.own_first in

@@ -2,6 +2,7 @@
 use Rattle.std.specs.Prelude.{◌≢◌, ◌+◌, ◌<◌, ◌≤◌, ◌⊎◌, ◌||◌, length, nat_eq, slice_get, None, Contains}
 use Rattle.std.proofs.Common.{◌≡◌, ℕ, zero, suc, Bool, true, false, not, List, [], ◌∷◌, ◌++◌, Option, Some, inl, inr, refl, sym, ◌∙◌, ap, subst, arith, if◌then◌else◌}
 use Rattle.std.proofs.lemmas.Option.{slice_get_within}
+use Rattle.gos_types.specs.Types.{Type', Com, Exp, Var, Pair, Fun, IsGround}
 use Rattle.gos_check.specs.declared.linear.Split.{Split}
 use Rattle.gos_check.specs.Linearity.{times, split_in, sides}
 use Rattle.gos_check.proofs.TimesLemmas.{number_cases, eq_true, eq_false}
@@ -15,12 +16,12 @@ use Rattle.gos_buffers.specs.Buffering.{end_behind}
 use Rattle.gos_buffers.proofs.BufferedLemmas.{at_last, before_last}
 use Rattle.gos_buffers.proofs.DrivenLemmas.{one_longer}
 use Rattle.gos_wired.specs.Wired.{Supplies, Source, Own, Supplied, IsFrom, source_dot}
-use Rattle.gos_stages.specs.Inside.{numbers_inside, AreSplit, inside_one_supply}
+use Rattle.gos_stages.specs.Inside.{numbers_inside, AreSplit, SidesAgree, AreGroundSupplies, inside_one_supply}
 use Rattle.gos_stages.specs.Lodging.{Spot, spot, spot_if, Lodging, live, first_lodging, seen_from, side_number, is_side, serves_side, moved_spot, moved, share_spot, one_lodging, lodging, lodged, AreTidy}
-use Rattle.gos_stages.specs.Housing.{HasShares, PartsAreFrom, ImportsAreFrom, IsOutsider, PartsAreOutsiders, IsIn, IsThere, HomesAreThere}
-use Rattle.gos_stages.proofs.InsideLemmas.{of_cons, one_stays}
+use Rattle.gos_stages.specs.Housing.{HasShares, FarIsNothing, FirstIsKept, PartsAreFrom, ImportsAreFrom, IsOutsider, PartsAreOutsiders, IsIn, IsThere, HomesAreThere}
+use Rattle.gos_stages.proofs.InsideLemmas.{of_cons, one_stays, one_inside}
 use Rattle.gos_stages.proofs.HomeLemmas.{Untouched, IsOld, neither_side, no_side, plainly}
-use Rattle.gos_stages.proofs.StepLemmas.{differ, side_is, side_env, side_gone, seen_caller, IsCaller}
+use Rattle.gos_stages.proofs.StepLemmas.{serves_source, differ, side_is, side_env, side_gone, seen_caller, IsCaller}
 use Rattle.gos_stages.proofs.LodgingLemmas.{IsTidy, tidy_on, tidy_first, seen}
 
 no_number : {A : Type 0} (x : A) → None ≡ Some x → ⊥
@@ -107,19 +108,6 @@ module _ (types : Types) (q x : ℕ) (s : Split) (ss : List Split) (once : (k : 
           let root : next.root n ≡ l.root n = ap (λ (t : Bool). if t then l.root s.of else l.root n) (no_side s n left right) in
           subst (λ (r : ℕ). Contains ns r × ((next.env n).plan.imports ≡ (env r).plan.imports)) (sym root)
           ((are n own_number).0, ap (λ (e : Supply). e.plan.imports) (one_stays types s l.env n left right) ∙ (are n own_number).1)
-
-  -- Shares are the node's first parts
-  outsiders_on : ((n k : ℕ) → IsOutsider x (l.part n k)) → (n k : ℕ) → IsOutsider (suc x) (next.part n k)
-  outsiders_on are n k = by_side (is_side s n) (nat_eq k place)
-    where
-      later : (z : Source) → IsOutsider x z → IsOutsider (suc x) z
-      later (Own y) lt = omega (arith, lt)
-      later (Supplied m j) it = tt
-
-      by_side : (b c : Bool) → IsOutsider (suc x) (if b then if c then Own x else l.part s.of k else l.part n k)
-      by_side true true = omega arith
-      by_side true false = later (l.part s.of k) (are s.of k)
-      by_side false c = later (l.part n k) (are n k)
 
   -- a part that is at home in a supply
   longer : (c : ℕ) → c < 2 → length (next.env (side_number s c)).plan.parts ≡ suc place
@@ -299,6 +287,60 @@ module _ (types : Types) (inner : ℕ → Bool) where
           at_share r e =
               ap (λ (t : Bool). if t then share_spot (count (types s.of)) (length (l.env s.of).plan.parts) s (seen types inner ss s) h
                   else moved s (seen types inner ss s) (length (l.env s.of).plan.parts) (l.home (Within 0 (Of (PartEnd r h))))) (eq_true r q e)
+
+-- a part behind the Shares
+far_moved : (s : Split) (b : Option ℕ) (k : ℕ) → moved s b k None ≡ None
+far_moved s None k = refl
+far_moved s (Some c) k = refl
+
+far_on : (types : Types) (inner : ℕ → Bool) (i : ℕ) (ss : List Split) (q x : ℕ) → q ≡ i + x → (l : Lodging) (y h : ℕ) → x + length ss ≤ y
+    → l.home (source_dot i (Own y) h) ≡ None → (lodging types q x inner ss l).home (source_dot i (Own y) h) ≡ None
+far_on types inner i [] q x at_q l y h le none = none
+far_on types inner i (s ∷ ss) q x at_q l y h le none =
+    far_on types inner i ss (suc q) (suc x) (omega (arith, at_q)) (one_lodging types q x s (seen types inner ss s) l) y h (omega (arith, le)) next
+  where
+    apart : nat_eq (i + y) q ≡ false
+    apart = eq_false (i + y) q (λ e. let same : i + y ≡ q = e in omega (arith, same, at_q, le))
+
+    next : (one_lodging types q x s (seen types inner ss s) l).home (source_dot i (Own y) h) ≡ None
+    next =
+        ap (λ (t : Bool). if t then share_spot (count (types s.of)) (length (l.env s.of).plan.parts) s (seen types inner ss s) h
+            else moved s (seen types inner ss s) (length (l.env s.of).plan.parts) (l.home (Within 0 (Of (PartEnd (i + y) h))))) apart
+        ∙ (ap (moved s (seen types inner ss s) (length (l.env s.of).plan.parts)) none ∙ far_moved s (seen types inner ss s) (length (l.env s.of).plan.parts))
+
+pub far_is_nothing : FarIsNothing
+far_is_nothing types i inner ss env x h le =
+    far_on types inner i ss i 0 (omega arith) (first_lodging (live ss inner) env) x h (omega (arith, le)) refl
+
+-- the first handshake
+some_shake : (t : Type') → IsGround t → 0 < count t
+some_shake Com g = omega arith
+some_shake (Exp w) g = omega arith
+some_shake (Var w) g = omega arith
+some_shake (Pair a b) g = absurd g
+some_shake (Fun a b) g = absurd g
+
+first_on : (types : Types) (inner : ℕ → Bool) (ss : List Split) (q x : ℕ) (l : Lodging) (ms : List ℕ) → SidesAgree ss types → AreSplit ss ms → AreGroundSupplies types l.env ms
+    → ((n k : ℕ) → l.spare n k 0 ≡ false) → (n k : ℕ) → (lodging types q x inner ss l).spare n k 0 ≡ false
+first_on types inner [] q x l ms agree split are none n k = none n k
+first_on types inner (s ∷ ss) q x l ms (left, right, agree) (of, split) are none n k =
+    first_on types inner ss (suc q) (suc x) (one_lodging types q x s (seen types inner ss s) l) (s.left ∷ s.right ∷ ms) agree split
+    (one_inside types s l.env ms left right of are) next n k
+  where
+    next : (n k : ℕ) → (one_lodging types q x s (seen types inner ss s) l).spare n k 0 ≡ false
+    next n k = by_side (is_side s n) (nat_eq k (length (l.env s.of).plan.parts))
+      where
+        served : (c : ℕ) → not (serves_side (count (types s.of)) c 0) ≡ false
+        served c = ap not (serves_source (count (types s.of)) c 0 (some_shake (types s.of) (are.ground s.of of)))
+
+        by_side : (b d : Bool) → (if b then if d then not (serves_side (count (types s.of)) (if nat_eq n s.left then 0 else 1) 0) else l.spare s.of k 0 else l.spare n k 0) ≡ false
+        by_side true true = served (if nat_eq n s.left then 0 else 1)
+        by_side true false = none s.of k
+        by_side false d = none n k
+
+pub first_is_kept : FirstIsKept
+first_is_kept types i inner ss env ns n k agree split are =
+    first_on types inner ss i 0 (first_lodging (live ss inner) env) ns agree split are (λ n k. refl) n k
 
 pub parts_are_from : PartsAreFrom
 parts_are_from types i inner ss env ns own n k y tidy split has there at =

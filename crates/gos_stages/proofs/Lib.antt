@@ -13,3 +13,5 @@ pub mod HousingLemmas
 pub mod ChildTieLemmas
 pub mod ChildBackLemmas
 pub mod ServedLemmas
+pub mod SpareLemmas
+pub mod ChildPartLemmas

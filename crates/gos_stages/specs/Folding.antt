@@ -108,18 +108,18 @@ child_outer f pl plc (PartEnd k h) = PartEnd k h
 child_outer f pl plc (ImportEnd k h) = ImportEnd (pl.import ((lodge f).root (plc.origin k).number) (plc.origin k).import) h
 child_outer f pl plc (ResultEnd h) = PartEnd (pl.own f.own) f.shake
 
--- how it lies in the node, whose plan is numbered by pl, where its own plan is numbered by plc
-abbrev pub child_cut : Child → Placing → Placing → Cut
-child_cut f pl plc =
+-- how it lies in the node, whose plan has so many parts, numbered by pl, where its own plan is numbered by plc
+abbrev pub child_cut : Child → Placing → Placing → ℕ → Cut
+child_cut f pl plc size =
     record {
       part = λ j. placed pl (child_source f (plc.source j));
-      number = λ j. part_of_dot f plc (child_back f (source_dot f.first (pl.source j) 0));
+      number = λ j. if nat_lt j size then part_of_dot f plc (child_back f (source_dot f.first (pl.source j) 0)) else None;
       outer = child_outer f pl plc;
       inner = λ b. port_of_dot plc (child_back f (dot_at f.first pl b));
     }
 
-abbrev pub child_fold : Child → Placing → Placing → Fold
-child_fold f pl plc = record { cut = child_cut f pl plc; dot = child_dot f; back = child_back f }
+abbrev pub child_fold : Child → Placing → Placing → ℕ → Fold
+child_fold f pl plc size = record { cut = child_cut f pl plc size; dot = child_dot f; back = child_back f }
 
 -- the Shares that serve it
 abbrev pub serving_if : ℕ → Type' → Option ℕ → List Serving

@@ -2,13 +2,13 @@
 --
 -- Read first: Lodging. Parts of such a supply are parts of the node, or of a supply outside, and a part of these that is at home in it
 -- is one of its.
-use Rattle.std.specs.Prelude.{◌≡◌, ℕ, zero, suc, ◌+◌, ◌<◌, Bool, true, List, [], ◌∷◌, length, Option, Some, None, slice_get, Contains}
+use Rattle.std.specs.Prelude.{◌≡◌, ℕ, zero, suc, ◌+◌, ◌<◌, ◌≤◌, Bool, true, false, List, [], ◌∷◌, length, Option, Some, None, slice_get, Contains}
 use Rattle.gos_check.specs.declared.linear.Split.{Split}
 use Rattle.gos_plan.specs.Kinds.{Part}
 use Rattle.gos_plan.specs.Plans.{PartEnd}
 use Rattle.gos_compile.specs.Wiring.{Types, shares}
 use Rattle.gos_wired.specs.Wired.{Supplies, Source, Own, Supplied, IsFrom, source_dot}
-use Rattle.gos_stages.specs.Inside.{numbers_inside, AreSplit}
+use Rattle.gos_stages.specs.Inside.{numbers_inside, AreSplit, SidesAgree, AreGroundSupplies}
 use Rattle.gos_stages.specs.Lodging.{Spot, Lodging, lodged, AreTidy}
 
 -- the first parts of the node are the Shares of its splits
@@ -39,6 +39,17 @@ abbrev pub PartsAreOutsiders : Type 0
 PartsAreOutsiders =
     (types : Types) (i : ℕ) (inner : ℕ → Bool) (ss : List Split) (env : Supplies) (n k : ℕ)
     → IsOutsider (length ss) ((lodged types i inner ss env).part n k)
+
+-- A part of the node behind its Shares stands for nothing; and the first handshake of a part serves nobody else.
+abbrev pub FarIsNothing : Type 0
+FarIsNothing =
+    (types : Types) (i : ℕ) (inner : ℕ → Bool) (ss : List Split) (env : Supplies) (x h : ℕ)
+    → length ss ≤ x → (lodged types i inner ss env).home (source_dot i (Own x) h) ≡ None
+
+abbrev pub FirstIsKept : Type 0
+FirstIsKept =
+    (types : Types) (i : ℕ) (inner : ℕ → Bool) (ss : List Split) (env : Supplies) (ns : List ℕ) (n k : ℕ)
+    → SidesAgree ss types → AreSplit ss ns → AreGroundSupplies types env ns → (lodged types i inner ss env).spare n k 0 ≡ false
 
 -- the part of a supply where a handshake of this source is at home
 pub record IsIn (l : Lodging) (s : Source) (h : ℕ) (z : Spot) : Type 0 where

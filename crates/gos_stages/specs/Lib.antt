@@ -7,3 +7,4 @@ pub mod Lodging
 pub mod Housing
 pub mod Folding
 pub mod Served
+pub mod Folded

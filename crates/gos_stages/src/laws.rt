@@ -1,7 +1,8 @@
 // What the definitions give. Each theorem is the contract of a function that does nothing.
 ghost use Rattle.gos_stages.specs.Inside.{InsideIsRealised, InsideMeans, OthersStay};
+ghost use Rattle.gos_stages.specs.Folded.{ChildIsFolded, ChildIsPart};
 ghost use Rattle.gos_stages.specs.Folding.{ChildStays, ChildWays};
-ghost use Rattle.gos_stages.specs.Housing.{HomesAreThere, ImportsAreFrom, PartsAreFrom, PartsAreOutsiders};
+ghost use Rattle.gos_stages.specs.Housing.{FarIsNothing, FirstIsKept, HomesAreThere, ImportsAreFrom, PartsAreFrom, PartsAreOutsiders};
 ghost use Rattle.gos_stages.specs.Leading.{DotsLead, ResultLeads, TiesFollow};
 ghost use Rattle.gos_stages.specs.Lodging.{HomesAreKept, JointsAreWays, LodgedAreInside, NumbersAreAtHome, NumbersAreHeld, SpotsAreLive};
 ghost use Rattle.gos_stages.specs.Ranges.{TiesStayWithin};
@@ -46,6 +47,8 @@ pub fn supplies_lodge()
 pub fn children_fold()
     ensures ways { ChildWays }
     ensures stays { ChildStays }
+    ensures part { ChildIsPart }
+    ensures folded { ChildIsFolded }
 {}
 
 /// The parts and imports of what stands for numbers inside splits are parts of the node and of supplies outside, and what is
@@ -55,6 +58,8 @@ pub fn parts_lodge()
     ensures imports { ImportsAreFrom }
     ensures outsiders { PartsAreOutsiders }
     ensures there { HomesAreThere }
+    ensures far { FarIsNothing }
+    ensures first { FirstIsKept }
 {}
 
 /// The Shares that serve a child stand for what its supplies have of them, and what serves somebody else is spare.

@@ -1,5 +1,6 @@
 use Rattle.gos_stages.proofs.ChildTieLemmas.{child_ways}
 use Rattle.gos_stages.proofs.ChildBackLemmas.{child_stays}
+use Rattle.gos_stages.proofs.ChildPartLemmas.{child_is_part}
 use Rattle.gos_stages.proofs.laws.children_fold.Goals as goal
 
 pub returns-clause-ways : goal.returns-clause-ways
@@ -7,3 +8,9 @@ returns-clause-ways c = child_ways
 
 pub returns-clause-stays : goal.returns-clause-stays
 returns-clause-stays c = child_stays
+
+pub returns-clause-part : goal.returns-clause-part
+returns-clause-part c = child_is_part
+
+pub returns-clause-folded : goal.returns-clause-folded
+returns-clause-folded c = ?
