@@ -15,3 +15,5 @@ pub mod ChildBackLemmas
 pub mod ServedLemmas
 pub mod SpareLemmas
 pub mod ChildPartLemmas
+pub mod ImportHomeLemmas
+pub mod ChildFoldLemmas

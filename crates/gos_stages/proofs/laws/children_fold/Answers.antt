@@ -1,6 +1,7 @@
 use Rattle.gos_stages.proofs.ChildTieLemmas.{child_ways}
 use Rattle.gos_stages.proofs.ChildBackLemmas.{child_stays}
 use Rattle.gos_stages.proofs.ChildPartLemmas.{child_is_part}
+use Rattle.gos_stages.proofs.ChildFoldLemmas.{child_is_folded}
 use Rattle.gos_stages.proofs.laws.children_fold.Goals as goal
 
 pub returns-clause-ways : goal.returns-clause-ways
@@ -13,4 +14,4 @@ pub returns-clause-part : goal.returns-clause-part
 returns-clause-part c = child_is_part
 
 pub returns-clause-folded : goal.returns-clause-folded
-returns-clause-folded c = ?
+returns-clause-folded c = child_is_folded
