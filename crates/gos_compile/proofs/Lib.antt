@@ -12,6 +12,7 @@ mod KnownLemmas
 mod BoundLemmas
 mod AgreeLemmas
 mod LoadLemmas
+mod TypedLemmas
 mod EndLemmas
 mod SlimLemmas
 mod TextLemmas
