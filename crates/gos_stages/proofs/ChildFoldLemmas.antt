@@ -50,7 +50,7 @@ part_there : (a : Option Part) (h : ℕ) (k : Contact) → slice_get (contacts_o
 part_there None h k e = absurd (no_more_than k e)
 part_there (Some y) h k e = (y, refl)
 
-import_there : (a : Option Imported) (h : ℕ) (k : Contact) → slice_get (contacts_of_import a) h ≡ Some k → (y : Imported) × (a ≡ Some y)
+pub import_there : (a : Option Imported) (h : ℕ) (k : Contact) → slice_get (contacts_of_import a) h ≡ Some k → (y : Imported) × (a ≡ Some y)
 import_there None h k e = absurd (no_more_than k e)
 import_there (Some y) h k e = (y, refl)
 
@@ -62,7 +62,7 @@ some_shake (Var w) g = omega arith
 some_shake (Pair a b) g = absurd g
 some_shake (Fun a b) g = absurd g
 
-share_ground : (types : Types) (ss : List Split) (ns : List ℕ) (x : ℕ) (t : Type') → SidesAgree ss types → AreSplit ss ns → ((n : ℕ) → Contains ns n → IsGround (types n))
+pub share_ground : (types : Types) (ss : List Split) (ns : List ℕ) (x : ℕ) (t : Type') → SidesAgree ss types → AreSplit ss ns → ((n : ℕ) → Contains ns n → IsGround (types n))
     → slice_get (shares ss types) x ≡ Some (Share t) → IsGround t
 share_ground types [] ns x t agree split ground e = absurd (no_more_than (Share t) e)
 share_ground types (s ∷ ss) ns zero t agree (of, split) ground e = let same : types s.of ≡ t = cc e in subst IsGround same (ground s.of of)
@@ -115,7 +115,7 @@ module _ (f : Child) (own : List Part) (ts : List Tie) (pl plc : Placing) (r c :
   asks_no_part true = refl
   asks_no_part false = refl
 
-  own_outside : (child_cut f pl plc size).number (pl.own f.own) ≡ None
+  pub own_outside : (child_cut f pl plc size).number (pl.own f.own) ≡ None
   own_outside =
       ap (λ (b : Bool). if b then part_of_dot f plc (child_back f (source_dot f.first (pl.source (pl.own f.own)) 0)) else None)
       (low (pl.own f.own) size (slice_get_within r.parts (pl.own f.own) has.own_part.0 own_there))
@@ -141,7 +141,7 @@ module _ (f : Child) (own : List Part) (ts : List Tie) (pl plc : Placing) (r c :
         (h : ℕ) → child_back f (Within (suc ((lodge f).root (plc.origin q).number)) (Of (ImportEnd (plc.origin q).import h)))
         ≡ Some (Within (suc (plc.origin q).number) (Of (ImportEnd (plc.origin q).import h)))
 
-  import_of : (q : ℕ) (x : Imported) → slice_get c.imports q ≡ Some x → ImportOf q x
+  pub import_of : (q : ℕ) (x : Imported) → slice_get c.imports q ≡ Some x → ImportOf q x
   import_of q x at =
       let (used, listed, back) = laidc.no_import q x at in
       let n : ℕ = (plc.origin q).number in
@@ -193,7 +193,7 @@ module _ (f : Child) (own : List Part) (ts : List Tie) (pl plc : Placing) (r c :
   share_there : (x : ℕ) (t : Type') (side : ℕ) → Seen x t side → (slice_get r.parts (pl.own x) ≡ Some (Share t)) × (pl.source (pl.own x) ≡ Own x)
   share_there x t side it = laid.parts (Share t) (Own x) (has.shares x (Share t) it.share)
 
-  share_low : (x : ℕ) (t : Type') (side : ℕ) → Seen x t side → x < length f.splits
+  pub share_low : (x : ℕ) (t : Type') (side : ℕ) → Seen x t side → x < length f.splits
   share_low x t side it =
       let lt = slice_get_within (shares f.splits f.types) x (Share t) it.share in let size = shares_length f.types f.splits in omega (arith, lt, size)
 

@@ -17,3 +17,6 @@ pub mod SpareLemmas
 pub mod ChildPartLemmas
 pub mod ImportHomeLemmas
 pub mod ChildFoldLemmas
+pub mod LayoutLemmas
+pub mod ChildStageLemmas
+pub mod StageLemmas

@@ -8,3 +8,5 @@ pub mod Housing
 pub mod Folding
 pub mod Served
 pub mod Folded
+pub mod Regions
+pub mod Stages

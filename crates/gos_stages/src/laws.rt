@@ -6,7 +6,9 @@ ghost use Rattle.gos_stages.specs.Housing.{FarIsNothing, FirstIsKept, HomesAreTh
 ghost use Rattle.gos_stages.specs.Leading.{DotsLead, ResultLeads, TiesFollow};
 ghost use Rattle.gos_stages.specs.Lodging.{HomesAreKept, JointsAreWays, LodgedAreInside, NumbersAreAtHome, NumbersAreHeld, SpotsAreLive};
 ghost use Rattle.gos_stages.specs.Ranges.{TiesStayWithin};
+ghost use Rattle.gos_stages.specs.Regions.{ChildIsStaged};
 ghost use Rattle.gos_stages.specs.Served.{ServingsServe, SparesAreOthers};
+ghost use Rattle.gos_stages.specs.Stages.{ChildIsStage};
 ghost use Rattle.gos_stages.specs.SmallInside.{BothHaveShares, EmptyIsNone, UnboundIsNotSplit};
 
 /// Inside the splits of a node, what stands for its numbers realises the terms that they stand for there.
@@ -49,6 +51,8 @@ pub fn children_fold()
     ensures stays { ChildStays }
     ensures part { ChildIsPart }
     ensures folded { ChildIsFolded }
+    ensures staged { ChildIsStaged }
+    ensures stage { ChildIsStage }
 {}
 
 /// The parts and imports of what stands for numbers inside splits are parts of the node and of supplies outside, and what is
