@@ -1,37 +1,37 @@
 -- What a tie of the node's web connects stands for nothing of the child, or for what its own web connects.
-use Rattle.std.specs.Prelude.{◌≢◌, ◌+◌, ◌-◌, ◌*◌, ◌<◌, ◌≤◌, ◌⊎◌, ◌&&◌, ◌||◌, length, map, nat_eq, nat_lt, None, Contains}
-use Rattle.std.proofs.Common.{◌≡◌, ℕ, zero, suc, Bool, true, false, not, List, [], ◌∷◌, ◌++◌, Option, Some, inl, inr, refl, sym, ◌∙◌, ap, subst, arith, if◌then◌else◌}
+use Rattle.std.specs.Prelude.{◌+◌, ◌<◌, ◌≤◌, ◌⊎◌, ◌||◌, length, nat_eq, nat_lt, None, Contains}
+use Rattle.std.proofs.Common.{◌≡◌, ℕ, zero, suc, Bool, true, false, List, [], ◌∷◌, ◌++◌, Option, Some, inl, inr, refl, sym, ◌∙◌, ap, subst, arith, if◌then◌else◌}
 use Rattle.std.proofs.lemmas.Bool.Decides.{nat_tests}
 use Rattle.std.proofs.lemmas.List.Elements.{Contains-append_left, Contains-append_right, Contains-append_cases}
 use Rattle.gos_types.specs.Types.{Type'}
 use Rattle.gos_check.specs.declared.linear.Split.{Split}
-use Rattle.gos_check.specs.Nodes.{Numbered, type_of_node}
-use Rattle.gos_check.specs.Linearity.{times, split_in, sides, used, made}
+use Rattle.gos_check.specs.Nodes.{type_of_node}
+use Rattle.gos_check.specs.Linearity.{times, used, made}
 use Rattle.gos_check.proofs.TimesLemmas.{number_cases, eq_true, eq_false, times_same}
-use Rattle.gos_plan.specs.Plans.{End, PartEnd, ImportEnd, ResultEnd, Joint}
+use Rattle.gos_plan.specs.Plans.{End, PartEnd, ResultEnd}
 use Rattle.gos_realises.specs.Regular.{count}
 use Rattle.gos_ties.specs.declared.points.Place.{Place}
 use Rattle.gos_ties.specs.declared.points.Place.TheVariants as places
 use Rattle.gos_ties.specs.declared.points.Tie as point_ties
 use Rattle.gos_ties.specs.Ties as ties
 use Rattle.gos_ties.specs.Ties.{point}
-use Rattle.gos_webs.specs.Webs.{Dot, Of, Number, Node, Within, Tie, tie, Meet, Way, here, along, own_web}
+use Rattle.gos_webs.specs.Webs.{Dot, Of, Number, Node, Within, Tie, tie, Way, own_web}
 use Rattle.gos_unions.specs.Unions.{within}
 use Rattle.gos_unions.proofs.UnionLemmas.{of_image, in_image}
 use Rattle.gos_folds.specs.Folds.{Follows}
-use Rattle.gos_compile.specs.Wiring.{Types, row, led, parts_of, nodes, ties_of, share_ties, shares_ties}
-use Rattle.gos_wired.specs.Wired.{Supplies, Placing, dot_of_place, dot_of, dot_ties, result_ties, supply_ties, all_supply_ties}
+use Rattle.gos_compile.specs.Wiring.{row, led, parts_of, nodes, ties_of, share_ties, shares_ties}
+use Rattle.gos_wired.specs.Wired.{Placing, dot_of_place, dot_of, dot_ties, result_ties, supply_ties, all_supply_ties}
 use Rattle.gos_stages.specs.Inside.{numbers_inside, AreSplit, SidesAgree}
 use Rattle.gos_stages.specs.Leading.{dot_leading}
 use Rattle.gos_stages.specs.Ranges.{IsWithin}
-use Rattle.gos_stages.specs.Lodging.{spot, spot_if, Spot, Near, lodged}
-use Rattle.gos_stages.specs.Folding.{Child, is_used, lodge, child_out, child_web, child_dot, in_range, spot_dot, asks_child, is_number, child_back, shared_ties, own_ties, IsForeign, IsChild, ChildStays}
+use Rattle.gos_stages.specs.Lodging.{spot, spot_if, Spot, Near}
+use Rattle.gos_stages.specs.Folding.{Child, is_used, lodge, child_out, child_web, in_range, spot_dot, asks_child, is_number, child_back, shared_ties, own_ties, IsChild, ChildStays}
 use Rattle.gos_stages.proofs.RangeLemmas.{ties_stay_within}
 use Rattle.gos_stages.proofs.LodgingLemmas.{lifted, led_listed, homes_are_kept, numbers_are_held}
 use Rattle.gos_stages.proofs.LiveLemmas.{spots_are_live}
 use Rattle.gos_stages.proofs.WayLemmas.{by_tie, way_then}
 use Rattle.gos_stages.proofs.HomeLemmas.{way_mapped}
-use Rattle.gos_stages.proofs.ChildTieLemmas.{joint_tie, dot_tie, put_in, of_supplies, in_supplies, ResultTie, in_results, of_supply, led_of}
+use Rattle.gos_stages.proofs.ChildTieLemmas.{dot_tie, put_in, of_supplies, in_supplies, ResultTie, in_results, of_supply, led_of}
 
 low : (a b : ℕ) → a < b → nat_lt a b ≡ true
 low a b h = grind (arith, nat_tests)
@@ -99,15 +99,15 @@ module _ (f : Child) (ts : List Tie) (pl : Placing) (is : IsChild f ts) where
       eq_false q (f.first + f.own) (λ e. let same : q ≡ f.first + f.own = e in let less = is.own_first in omega (arith, same, less, le))
       in
       ap (λ (b : Bool). if b then asks_child f h
-          else if in_range (f.first + f.off) (length (parts_of f.types f.term)) q then Some (Within 0 (Of (PartEnd q h)))
-          else spot_dot ((lodge f).home (Within 0 (Of (PartEnd q h))))) far
+      else if in_range (f.first + f.off) (length (parts_of f.types f.term)) q then Some (Within 0 (Of (PartEnd q h)))
+      else spot_dot ((lodge f).home (Within 0 (Of (PartEnd q h))))) far
       ∙ ap (λ (b : Bool). if b then Some (Within 0 (Of (PartEnd q h))) else spot_dot ((lodge f).home (Within 0 (Of (PartEnd q h)))))
       (range_in (f.first + f.off) (length (parts_of f.types f.term)) q le lt)
   own_back (places.Import q) h inside = absurd inside
   own_back places.Result zero inside =
       ap (λ (b : Bool). if b then asks_child f f.shake
-          else if in_range (f.first + f.off) (length (parts_of f.types f.term)) (f.first + f.own) then Some (Within 0 (Of (PartEnd (f.first + f.own) f.shake)))
-          else spot_dot ((lodge f).home (Within 0 (Of (PartEnd (f.first + f.own) f.shake))))) (eq_true (f.first + f.own) (f.first + f.own) refl)
+      else if in_range (f.first + f.off) (length (parts_of f.types f.term)) (f.first + f.own) then Some (Within 0 (Of (PartEnd (f.first + f.own) f.shake)))
+      else spot_dot ((lodge f).home (Within 0 (Of (PartEnd (f.first + f.own) f.shake))))) (eq_true (f.first + f.own) (f.first + f.own) refl)
       ∙ ap (λ (b : Bool). if b then Some (Within 0 (Of (ResultEnd 0))) else None) (eq_true f.shake f.shake refl)
   own_back places.Result (suc h) inside = let one = is.one in absurd (omega (arith, inside, one))
   own_back (places.Number n) h some =
@@ -223,8 +223,8 @@ module _ (f : Child) (ts : List Tie) (pl : Placing) (is : IsChild f ts) where
       eq_false q (f.first + f.own) (λ e. let same : q ≡ f.first + f.own = e in omega (arith, same, less, lt))
       in
       ap (λ (b : Bool). if b then asks_child f h
-          else if in_range (f.first + f.off) (length (parts_of f.types f.term)) q then Some (Within 0 (Of (PartEnd q h)))
-          else spot_dot ((lodge f).home (Within 0 (Of (PartEnd q h))))) far
+      else if in_range (f.first + f.off) (length (parts_of f.types f.term)) q then Some (Within 0 (Of (PartEnd q h)))
+      else spot_dot ((lodge f).home (Within 0 (Of (PartEnd q h))))) far
       ∙ ap (λ (b : Bool). if b then Some (Within 0 (Of (PartEnd q h))) else spot_dot ((lodge f).home (Within 0 (Of (PartEnd q h)))))
       (range_below (f.first + f.off) (length (parts_of f.types f.term)) q (omega (arith, lt, less, more)))
 
@@ -258,14 +258,28 @@ module _ (f : Child) (ts : List Tie) (pl : Placing) (is : IsChild f ts) where
                   elim (Contains-append_cases lefts rights u more) [
                     | inl second ↦
                         (let (j, lt, e) = led_listed (places.Number s.left) q 0 (count (f.types s.of)) (count (f.types s.of)) u second in
-                        let low : 0 + j < count (f.types s.of) = omega (arith, lt) in
-                        (s.left, 0 + j, q, count (f.types s.of) + j, scope s.left (0, omega arith, refl),
-                          subst (λ (t : Type'). 0 + j < count t) (sym left) low, omega arith, e))
+                        let low : 0 + j < count (f.types s.of) = omega (arith, lt) in (
+                          s.left,
+                          0 + j,
+                          q,
+                          count (f.types s.of) + j,
+                          scope s.left (0, omega arith, refl),
+                          subst (λ (t : Type'). 0 + j < count t) (sym left) low,
+                          omega arith,
+                          e,
+                        ))
                     | inr third ↦
                         (let (j, lt, e) = led_listed (places.Number s.right) q 0 (count (f.types s.of)) (count (f.types s.of) + count (f.types s.of)) u third in
-                        let low : 0 + j < count (f.types s.of) = omega (arith, lt) in
-                        (s.right, 0 + j, q, count (f.types s.of) + count (f.types s.of) + j, scope s.right (1, omega arith, refl),
-                          subst (λ (t : Type'). 0 + j < count t) (sym right) low, omega arith, e))
+                        let low : 0 + j < count (f.types s.of) = omega (arith, lt) in (
+                          s.right,
+                          0 + j,
+                          q,
+                          count (f.types s.of) + count (f.types s.of) + j,
+                          scope s.right (1, omega arith, refl),
+                          subst (λ (t : Type'). 0 + j < count t) (sym right) low,
+                          omega arith,
+                          e,
+                        ))
                   ]
             ]
         | inr rest ↦

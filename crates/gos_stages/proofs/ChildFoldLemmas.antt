@@ -1,6 +1,6 @@
 -- The plan of a child lies as a fold in its node's: its ports, the Shares that serve it, and its ends.
-use Rattle.std.specs.Prelude.{◌≢◌, ◌+◌, ◌-◌, ◌*◌, ◌<◌, ◌≤◌, ◌⊎◌, ◌&&◌, length, nat_eq, nat_lt, slice_get, None, Contains}
-use Rattle.std.proofs.Common.{◌≡◌, ℕ, zero, suc, Bool, true, false, not, List, [], ◌∷◌, Option, Some, inl, inr, refl, sym, ◌∙◌, ap, subst, arith, if◌then◌else◌, true≢false}
+use Rattle.std.specs.Prelude.{◌+◌, ◌-◌, ◌*◌, ◌<◌, ◌≤◌, ◌⊎◌, length, nat_eq, nat_lt, slice_get, None, Contains}
+use Rattle.std.proofs.Common.{◌≡◌, ℕ, zero, suc, Bool, true, false, not, List, [], ◌∷◌, Option, Some, inl, inr, refl, sym, ◌∙◌, ap, subst, arith, if◌then◌else◌}
 use Rattle.std.proofs.lemmas.Option.{slice_get_within}
 use Rattle.std.proofs.lemmas.Bool.Decides.{nat_tests}
 use Rattle.std.proofs.lemmas.List.Elements.{Contains-append_cases}
@@ -8,38 +8,36 @@ use Rattle.gos_types.specs.Types.{Type', Com, Exp, Var, Pair, Fun, IsGround}
 use Rattle.gos_model.specs.Typing.{Imported}
 use Rattle.gos_check.specs.declared.linear.Split.{Split}
 use Rattle.gos_check.specs.Nodes.{type_of_node}
-use Rattle.gos_check.proofs.TimesLemmas.{eq_true, eq_false, true_eq}
+use Rattle.gos_check.proofs.TimesLemmas.{eq_true, true_eq}
 use Rattle.gos_plan.specs.Kinds.{Contact, Part, Share, contacts_of, turned_contact}
 use Rattle.gos_plan.specs.Plans.{End, PartEnd, ImportEnd, ResultEnd, Joint, Plan, contact_at, contacts_of_part, contacts_of_import, turned_if, stands_in}
 use Rattle.gos_plan.specs.Tokens.{IsPortEnd}
 use Rattle.gos_realises.specs.Regular.{count}
 use Rattle.gos_ties.specs.declared.points.Place.TheVariants as places
-use Rattle.gos_ties.specs.declared.points.Tie as point_ties
-use Rattle.gos_webs.specs.Webs.{Dot, Of, Number, Within, Tie, tie, Meet, Way, here, along, Web, IsOfWeb}
-use Rattle.gos_webs.specs.Cutting.{lies_at, IsOutside, StandsIn}
+use Rattle.gos_webs.specs.Webs.{Dot, Of, Number, Within, Tie, tie, Way, here, along, Web}
+use Rattle.gos_webs.specs.Cutting.{IsOutside, StandsIn}
 use Rattle.gos_webs.proofs.WebLemmas.{asks_there, serves_there}
 use Rattle.gos_unions.specs.Unions.{within}
 use Rattle.gos_unions.proofs.UnionLemmas.{of_image}
 use Rattle.gos_windows.specs.Regions.{Serving, IsOther}
-use Rattle.gos_sharing.specs.Sharing.{caller_end}
-use Rattle.gos_folds.specs.Folds.{IsFolded, IsAlone, IsSpare, IsFold}
+use Rattle.gos_folds.specs.Folds.{IsFolded, IsSpare}
 use Rattle.gos_compile.specs.Wiring.{Types, parts_of, shares, row, ties_of}
-use Rattle.gos_wired.specs.Wired.{Supplies, Origin, Source, Own, Supplied, Placing, IsFrom, placed, source_dot, dot_at, dot_ties, dot_of, all_supply_ties, supply_ties}
-use Rattle.gos_stages.specs.Inside.{numbers_inside, AreSplit, SidesAgree, AreGroundSupplies}
-use Rattle.gos_stages.specs.Lodging.{Spot, spot, spot_if, serves_side, lodged}
-use Rattle.gos_stages.specs.Folding.{Child, is_used, lodge, child_out, child_web, child_dot, in_range, spot_dot, asks_child, child_back, child_source, part_of_dot, port_of_dot, child_outer, child_cut, child_fold, child_servings, IsChild, IsLaid}
+use Rattle.gos_wired.specs.Wired.{Origin, Source, Own, Supplied, Placing, IsFrom, placed, source_dot, dot_at, dot_ties, all_supply_ties}
+use Rattle.gos_stages.specs.Inside.{AreSplit, SidesAgree}
+use Rattle.gos_stages.specs.Lodging.{Spot, spot_if, serves_side}
+use Rattle.gos_stages.specs.Folding.{Child, is_used, lodge, child_web, child_dot, in_range, spot_dot, asks_child, child_back, child_source, part_of_dot, port_of_dot, child_outer, child_cut, child_fold, child_servings, IsChild, IsLaid}
 use Rattle.gos_stages.specs.Housing.{IsThere}
 use Rattle.gos_stages.specs.Folded.{HasChild, ChildIsFolded}
-use Rattle.gos_stages.specs.Served.{IsSeenFrom, IsSpareOf}
+use Rattle.gos_stages.specs.Served.{IsSeenFrom}
 use Rattle.gos_stages.proofs.StepLemmas.{serves_source, serves_first_alone, serves_second_alone}
 use Rattle.gos_stages.proofs.PartHomeLemmas.{numbers_are_at_home}
 use Rattle.gos_stages.proofs.HousingLemmas.{imports_are_from, homes_are_there, far_is_nothing}
 use Rattle.gos_stages.proofs.ImportHomeLemmas.{imports_are_there, result_is_nowhere}
 use Rattle.gos_stages.proofs.ServedLemmas.{servings_serve}
 use Rattle.gos_stages.proofs.SpareLemmas.{spares_are_others}
-use Rattle.gos_stages.proofs.ChildTieLemmas.{put_in, dot_tie, of_supplies, of_supply, child_ways}
+use Rattle.gos_stages.proofs.ChildTieLemmas.{put_in, of_supplies, of_supply, child_ways}
 use Rattle.gos_stages.proofs.ChildBackLemmas.{own_back, used_so, spot_used, child_stays}
-use Rattle.gos_stages.proofs.ChildPartLemmas.{low, told_range, there_at, no_more_than, plain_source, supplied_back, own_source_back, source_from, part_lies, number_so, child_is_part}
+use Rattle.gos_stages.proofs.ChildPartLemmas.{low, there_at, no_more_than, plain_source, supplied_back, own_source_back, source_from, part_lies, number_so, child_is_part}
 
 -- contacts
 turned_some : (a : Option Contact) (k : Contact) → turned_if a ≡ Some k → (d : Contact) × (a ≡ Some d)
@@ -121,9 +119,9 @@ module _ (f : Child) (own : List Part) (ts : List Tie) (pl plc : Placing) (r c :
       (low (pl.own f.own) size (slice_get_within r.parts (pl.own f.own) has.own_part.0 own_there))
       ∙ (ap (λ (s : Source). part_of_dot f plc (child_back f (source_dot f.first s 0))) own_source
       ∙ (ap (λ (b : Bool). part_of_dot f plc
-          (if b then asks_child f 0
-          else if in_range (f.first + f.off) (length (parts_of f.types f.term)) (f.first + f.own) then Some (Within 0 (Of (PartEnd (f.first + f.own) 0)))
-          else spot_dot ((lodge f).home (Within 0 (Of (PartEnd (f.first + f.own) 0)))))) (eq_true (f.first + f.own) (f.first + f.own) refl)
+      (if b then asks_child f 0
+      else if in_range (f.first + f.off) (length (parts_of f.types f.term)) (f.first + f.own) then Some (Within 0 (Of (PartEnd (f.first + f.own) 0)))
+      else spot_dot ((lodge f).home (Within 0 (Of (PartEnd (f.first + f.own) 0)))))) (eq_true (f.first + f.own) (f.first + f.own) refl)
       ∙ asks_no_part (nat_eq 0 f.shake)))
 
   result_dot : dot_at f.first pl (PartEnd (pl.own f.own) f.shake) ≡ source_dot f.first (Own f.own) f.shake
@@ -158,9 +156,9 @@ module _ (f : Child) (own : List Part) (ts : List Tie) (pl plc : Placing) (r c :
         dot = λ h. ap (λ (o : Origin). Within (suc o.number) (Of (ImportEnd o.import h))) origin;
         home =
             λ h.
-                ap spot_dot
-                ((numbers_are_at_home f.types f.first (is_used f) f.splits f.env f.numbers (plc.origin q).number is.tidy scope.1 (used_so f ts pl is (plc.origin q).number used)).imports
-                (plc.origin q).import h);
+            ap spot_dot
+            ((numbers_are_at_home f.types f.first (is_used f) f.splits f.env f.numbers (plc.origin q).number is.tidy scope.1 (used_so f ts pl is (plc.origin q).number used)).imports
+            (plc.origin q).import h);
       }
 
   abbrev Port : End → Contact → Type 0

@@ -1,22 +1,18 @@
 -- The parts of a child's plan are parts of its node's, and are told by them.
-use Rattle.std.specs.Prelude.{◌≢◌, ◌+◌, ◌-◌, ◌<◌, ◌≤◌, ◌⊎◌, ◌&&◌, length, nat_eq, nat_lt, slice_get, None, Contains}
+use Rattle.std.specs.Prelude.{◌+◌, ◌-◌, ◌<◌, ◌≤◌, ◌⊎◌, length, nat_eq, nat_lt, slice_get, None, Contains}
 use Rattle.std.proofs.Common.{◌≡◌, ℕ, zero, suc, Bool, true, false, not, List, [], ◌∷◌, Option, Some, inl, inr, refl, sym, ◌∙◌, ap, subst, arith, if◌then◌else◌}
 use Rattle.std.proofs.lemmas.Bool.Decides.{nat_tests}
 use Rattle.std.proofs.lemmas.Option.{slice_get_within}
-use Rattle.gos_check.specs.Linearity.{times}
-use Rattle.gos_check.specs.Nodes.{type_of_node}
-use Rattle.gos_check.proofs.TimesLemmas.{number_cases, eq_true, eq_false}
 use Rattle.gos_plan.specs.Kinds.{Part}
-use Rattle.gos_plan.specs.Plans.{End, PartEnd, ImportEnd, ResultEnd, Plan}
-use Rattle.gos_realises.specs.Regular.{count}
+use Rattle.gos_plan.specs.Plans.{End, PartEnd, ResultEnd, Plan}
 use Rattle.gos_ties.specs.declared.points.Place.TheVariants as places
-use Rattle.gos_webs.specs.Webs.{Dot, Of, Within, Tie}
+use Rattle.gos_webs.specs.Webs.{Of, Within, Tie}
 use Rattle.gos_compile.specs.Wiring.{parts_of}
-use Rattle.gos_wired.specs.Wired.{Supplies, Source, Own, Supplied, Placing, IsFrom, placed, source_dot}
-use Rattle.gos_stages.specs.Lodging.{Spot, spot_if, Lodging, lodged}
-use Rattle.gos_stages.specs.Housing.{IsOutsider, IsIn, IsThere}
-use Rattle.gos_stages.specs.Folding.{Child, is_used, lodge, child_out, in_range, spot_dot, asks_child, child_back, child_source, part_of_dot, child_cut, IsChild, IsLaid}
-use Rattle.gos_stages.specs.Folded.{HasChild, IsPartOf, ChildIsPart}
+use Rattle.gos_wired.specs.Wired.{Source, Own, Supplied, Placing, IsFrom, placed, source_dot}
+use Rattle.gos_stages.specs.Lodging.{Spot, spot_if}
+use Rattle.gos_stages.specs.Housing.{IsOutsider, IsThere}
+use Rattle.gos_stages.specs.Folding.{Child, is_used, lodge, in_range, spot_dot, asks_child, child_back, child_source, part_of_dot, IsChild, IsLaid}
+use Rattle.gos_stages.specs.Folded.{HasChild, ChildIsPart}
 use Rattle.gos_stages.proofs.PartHomeLemmas.{numbers_are_at_home}
 use Rattle.gos_stages.proofs.HousingLemmas.{parts_are_from, parts_are_outsiders, homes_are_there, far_is_nothing, first_is_kept}
 use Rattle.gos_stages.proofs.ChildBackLemmas.{own_back, plain_share, spot_used, used_so}

@@ -1,6 +1,6 @@
 -- The plan of a child: its own parts, and those of its supplies one after another.
-use Rattle.std.specs.Prelude.{◌≢◌, ◌+◌, ◌-◌, ◌<◌, ◌≤◌, length, nat_lt, slice_get, None, Contains}
-use Rattle.std.proofs.Common.{◌≡◌, ℕ, zero, suc, Bool, true, false, List, [], ◌∷◌, ◌++◌, Option, Some, refl, sym, ◌∙◌, ap, subst, arith, if◌then◌else◌}
+use Rattle.std.specs.Prelude.{◌+◌, ◌-◌, ◌<◌, ◌≤◌, length, nat_lt, slice_get}
+use Rattle.std.proofs.Common.{◌≡◌, ℕ, Bool, true, false, List, [], ◌++◌, Some, refl, sym, ◌∙◌, ap, subst, arith, if◌then◌else◌}
 use Rattle.std.proofs.lemmas.Bool.Decides.{nat_tests}
 use Rattle.std.proofs.lemmas.Option.{slice_get_within}
 use Rattle.gos_model.specs.Typing.{Imported}
@@ -8,19 +8,19 @@ use Rattle.gos_check.specs.Nodes.{type_of_node}
 use Rattle.gos_check.specs.Linearity.{times}
 use Rattle.gos_plan.specs.Kinds.{Part}
 use Rattle.gos_plan.specs.Plans.{Plan, Joint}
-use Rattle.gos_webs.specs.Webs.{Tie, IsOfWeb}
+use Rattle.gos_webs.specs.Webs.{IsOfWeb}
 use Rattle.gos_unions.proofs.LeftLemmas.{front, behind}
 use Rattle.gos_folds.specs.Folds.{with_joints}
 use Rattle.gos_folds.proofs.PlanLemmas.{fold_has_plan}
 use Rattle.gos_compile.specs.Wiring.{parts_of}
-use Rattle.gos_wired.specs.Wired.{Supplies, Source, Own, Supplied, Origin, Placing, IsFrom, placed, IsWired, dot_at}
+use Rattle.gos_wired.specs.Wired.{Supplies, Source, Own, Supplied, Placing, IsFrom, placed, IsWired, dot_at}
 use Rattle.gos_stages.specs.Inside.{inside_supplies}
-use Rattle.gos_stages.specs.Folding.{Child, is_used, lodge, child_web, child_fold, child_servings, IsChild, IsLaid}
+use Rattle.gos_stages.specs.Folding.{is_used, lodge, child_web, child_fold, child_servings, IsLaid}
 use Rattle.gos_stages.specs.Folded.{HasChild}
-use Rattle.gos_stages.specs.Regions.{HasParts, IsStaged, ChildIsStaged}
+use Rattle.gos_stages.specs.Regions.{ChildIsStaged}
 use Rattle.gos_stages.proofs.LodgingLemmas.{lodged_are_inside}
 use Rattle.gos_stages.proofs.ChildFoldLemmas.{child_is_folded}
-use Rattle.gos_stages.proofs.LayoutLemmas.{Found, found, in_front, in_back, all, place, find, placed_there, placed_found, is_found}
+use Rattle.gos_stages.proofs.LayoutLemmas.{Found, in_front, in_back, all, place, find, placed_there, placed_found, is_found}
 
 low : (a b : ℕ) → a < b → nat_lt a b ≡ true
 low a b h = grind (arith, nat_tests)
@@ -82,14 +82,14 @@ module _ (own : List Part) (ns : List ℕ) (env : Supplies) (once : (k : ℕ) �
         by_size : (b : Bool) → nat_lt j (length own) ≡ b → IsFrom own ns env x (laying.source j) × (placed laying (laying.source j) ≡ j)
         by_size true t =
             subst (λ (b : Bool). IsFrom own ns env x (if b then Own j else source_at (find parts_for ns (j - length own)))
-                × (placed laying (if b then Own j else source_at (find parts_for ns (j - length own))) ≡ j)) (sym t)
+            × (placed laying (if b then Own j else source_at (find parts_for ns (j - length own))) ≡ j)) (sym t)
             (in_front own (all parts_for ns) j x listed (told_low t), refl)
         by_size false t =
             let le = told_high t in
             let it = is_found parts_for ns (j - length own) x once (in_back own (all parts_for ns) j x listed le) in
             let back = it.back in
             subst (λ (b : Bool). IsFrom own ns env x (if b then Own j else source_at (find parts_for ns (j - length own)))
-                × (placed laying (if b then Own j else source_at (find parts_for ns (j - length own))) ≡ j)) (sym t)
+            × (placed laying (if b then Own j else source_at (find parts_for ns (j - length own))) ≡ j)) (sym t)
             ((it.listed, it.there), ap (λ (m : ℕ). length own + m) back ∙ sum le)
           where
             sum : length own ≤ j → length own + (j - length own) ≡ j
@@ -107,8 +107,8 @@ module _ (own : List Part) (ns : List ℕ) (env : Supplies) (once : (k : ℕ) �
               );
           no_import =
               λ k x at.
-                  let it = is_found imports_for ns k x once (ap (λ (xs : List Imported). slice_get xs k) (sym imports) ∙ at) in
-                  (it.listed, it.there, it.back);
+              let it = is_found imports_for ns k x once (ap (λ (xs : List Imported). slice_get xs k) (sym imports) ∙ at) in
+              (it.listed, it.there, it.back);
         }
 
 pub child_is_staged : ChildIsStaged

@@ -1,32 +1,22 @@
 -- The ties of a child's web are ways of its node's, and back.
-use Rattle.std.specs.Prelude.{◌≢◌, ◌+◌, ◌-◌, ◌<◌, ◌≤◌, ◌⊎◌, ◌&&◌, ◌||◌, length, map, nat_eq, nat_lt, None, Contains}
-use Rattle.std.proofs.Common.{◌≡◌, ℕ, zero, suc, Bool, true, false, not, List, [], ◌∷◌, ◌++◌, Option, Some, inl, inr, refl, sym, ◌∙◌, ap, subst, arith, if◌then◌else◌}
-use Rattle.std.proofs.lemmas.Bool.Decides.{nat_tests}
+use Rattle.std.specs.Prelude.{◌≢◌, ◌+◌, ◌<◌, ◌≤◌, ◌⊎◌, map, Contains}
+use Rattle.std.proofs.Common.{◌≡◌, ℕ, zero, suc, List, [], ◌∷◌, inl, inr, refl, sym, ◌∙◌, ap, subst, arith}
 use Rattle.std.proofs.lemmas.List.Elements.{Contains-append_left, Contains-append_right, Contains-append_cases}
-use Rattle.gos_check.specs.declared.linear.Split.{Split}
-use Rattle.gos_check.specs.Nodes.{Numbered, type_of_node}
-use Rattle.gos_check.specs.Linearity.{times, split_in, sides, used, made}
-use Rattle.gos_check.proofs.TimesLemmas.{number_cases, eq_true, eq_false, times_same}
-use Rattle.gos_plan.specs.Plans.{End, PartEnd, ImportEnd, ResultEnd, Joint}
+use Rattle.gos_check.specs.Nodes.{type_of_node}
+use Rattle.gos_check.proofs.TimesLemmas.{number_cases}
+use Rattle.gos_plan.specs.Plans.{ResultEnd, Joint}
 use Rattle.gos_realises.specs.Regular.{count}
-use Rattle.gos_ties.specs.declared.points.Place.{Place}
 use Rattle.gos_ties.specs.declared.points.Place.TheVariants as places
-use Rattle.gos_ties.specs.declared.points.Point.{Point}
 use Rattle.gos_ties.specs.declared.points.Tie as point_ties
-use Rattle.gos_ties.specs.Ties.{point}
-use Rattle.gos_webs.specs.Webs.{Dot, Of, Number, Node, Within, Tie, tie, Meet, Way, here, along, own_web}
+use Rattle.gos_webs.specs.Webs.{Dot, Of, Number, Within, Tie, tie, Way, here, own_web}
 use Rattle.gos_unions.specs.Unions.{within}
 use Rattle.gos_unions.proofs.UnionLemmas.{of_image, in_image}
-use Rattle.gos_folds.specs.Folds.{Follows}
-use Rattle.gos_compile.specs.Wiring.{Types, row, parts_of, nodes, ties_of}
-use Rattle.gos_wired.specs.Wired.{Supplies, Placing, dot_of_place, dot_of, dot_ties, result_ties, supply_ties, all_supply_ties}
+use Rattle.gos_compile.specs.Wiring.{Types, row, ties_of}
+use Rattle.gos_wired.specs.Wired.{Supplies, Placing, dot_of, dot_ties, result_ties, supply_ties, all_supply_ties}
 use Rattle.gos_stages.specs.Leading.{dot_leading}
-use Rattle.gos_stages.specs.Ranges.{IsWithin}
-use Rattle.gos_stages.specs.Lodging.{spot, spot_if, Spot, Near, lodged, lies}
-use Rattle.gos_stages.specs.Folding.{Child, is_used, lodge, child_out, child_web, child_dot, in_range, spot_dot, asks_child, is_number, child_back, shared_ties, own_ties, IsForeign, IsChild, ChildWays, ChildStays}
+use Rattle.gos_stages.specs.Folding.{Child, is_used, lodge, child_out, child_web, child_dot, own_ties, IsChild, ChildWays}
 use Rattle.gos_stages.proofs.FollowLemmas.{dots_lead}
-use Rattle.gos_stages.proofs.RangeLemmas.{ties_stay_within}
-use Rattle.gos_stages.proofs.WayLemmas.{by_tie, way_then, joints_are_ways}
+use Rattle.gos_stages.proofs.WayLemmas.{by_tie, joints_are_ways}
 
 abbrev pub joint_tie : Joint → Tie
 joint_tie j = tie (Of j.asking) (Of j.serving)

@@ -1,27 +1,26 @@
 -- Parts and imports of supplies inside splits, split by split.
-use Rattle.std.specs.Prelude.{◌≢◌, ◌+◌, ◌<◌, ◌≤◌, ◌⊎◌, ◌||◌, length, nat_eq, slice_get, None, Contains}
-use Rattle.std.proofs.Common.{◌≡◌, ℕ, zero, suc, Bool, true, false, not, List, [], ◌∷◌, ◌++◌, Option, Some, inl, inr, refl, sym, ◌∙◌, ap, subst, arith, if◌then◌else◌}
-use Rattle.std.proofs.lemmas.Option.{slice_get_within}
+use Rattle.std.specs.Prelude.{◌≢◌, ◌+◌, ◌<◌, ◌≤◌, length, nat_eq, slice_get, None, Contains}
+use Rattle.std.proofs.Common.{◌≡◌, ℕ, suc, Bool, true, false, not, List, [], ◌∷◌, ◌++◌, Option, Some, inl, inr, refl, sym, ◌∙◌, ap, subst, arith, if◌then◌else◌}
 use Rattle.gos_types.specs.Types.{Type', Com, Exp, Var, Pair, Fun, IsGround}
 use Rattle.gos_check.specs.declared.linear.Split.{Split}
-use Rattle.gos_check.specs.Linearity.{times, split_in, sides}
+use Rattle.gos_check.specs.Linearity.{times, sides}
 use Rattle.gos_check.proofs.TimesLemmas.{number_cases, eq_true, eq_false}
 use Rattle.gos_plan.specs.Kinds.{Part, Share}
-use Rattle.gos_plan.specs.Plans.{End, PartEnd}
+use Rattle.gos_plan.specs.Plans.{PartEnd}
 use Rattle.gos_realises.specs.Regular.{count}
 use Rattle.gos_realises.specs.Modules.{Supply}
-use Rattle.gos_webs.specs.Webs.{Dot, Of, Within}
+use Rattle.gos_webs.specs.Webs.{Of, Within}
 use Rattle.gos_compile.specs.Wiring.{Types, shares}
 use Rattle.gos_buffers.specs.Buffering.{end_behind}
 use Rattle.gos_buffers.proofs.BufferedLemmas.{at_last, before_last}
 use Rattle.gos_buffers.proofs.DrivenLemmas.{one_longer}
 use Rattle.gos_wired.specs.Wired.{Supplies, Source, Own, Supplied, IsFrom, source_dot}
-use Rattle.gos_stages.specs.Inside.{numbers_inside, AreSplit, SidesAgree, AreGroundSupplies, inside_one_supply}
-use Rattle.gos_stages.specs.Lodging.{Spot, spot, spot_if, Lodging, live, first_lodging, seen_from, side_number, is_side, serves_side, moved_spot, moved, share_spot, one_lodging, lodging, lodged, AreTidy}
-use Rattle.gos_stages.specs.Housing.{HasShares, FarIsNothing, FirstIsKept, PartsAreFrom, ImportsAreFrom, IsOutsider, PartsAreOutsiders, IsIn, IsThere, HomesAreThere}
+use Rattle.gos_stages.specs.Inside.{numbers_inside, AreSplit, SidesAgree, AreGroundSupplies}
+use Rattle.gos_stages.specs.Lodging.{Spot, spot, spot_if, Lodging, live, first_lodging, side_number, is_side, serves_side, moved_spot, moved, share_spot, one_lodging, lodging, lodged}
+use Rattle.gos_stages.specs.Housing.{FarIsNothing, FirstIsKept, PartsAreFrom, ImportsAreFrom, IsOutsider, PartsAreOutsiders, IsIn, HomesAreThere}
 use Rattle.gos_stages.proofs.InsideLemmas.{of_cons, one_stays, one_inside}
 use Rattle.gos_stages.proofs.HomeLemmas.{Untouched, IsOld, neither_side, no_side, plainly}
-use Rattle.gos_stages.proofs.StepLemmas.{serves_source, differ, side_is, side_env, side_gone, seen_caller, IsCaller}
+use Rattle.gos_stages.proofs.StepLemmas.{serves_source, side_is, side_env, side_gone, seen_caller, IsCaller}
 use Rattle.gos_stages.proofs.LodgingLemmas.{IsTidy, tidy_on, tidy_first, seen}
 
 no_number : {A : Type 0} (x : A) → None ≡ Some x → ⊥
@@ -286,7 +285,7 @@ module _ (types : Types) (inner : ℕ → Bool) where
               → (one_lodging types q x s (seen types inner ss s) l).home (Within 0 (Of (PartEnd r h))) ≡ share_spot (count (types s.of)) (length (l.env s.of).plan.parts) s (seen types inner ss s) h
           at_share r e =
               ap (λ (t : Bool). if t then share_spot (count (types s.of)) (length (l.env s.of).plan.parts) s (seen types inner ss s) h
-                  else moved s (seen types inner ss s) (length (l.env s.of).plan.parts) (l.home (Within 0 (Of (PartEnd r h))))) (eq_true r q e)
+              else moved s (seen types inner ss s) (length (l.env s.of).plan.parts) (l.home (Within 0 (Of (PartEnd r h))))) (eq_true r q e)
 
 -- a part behind the Shares
 far_moved : (s : Split) (b : Option ℕ) (k : ℕ) → moved s b k None ≡ None
@@ -305,7 +304,7 @@ far_on types inner i (s ∷ ss) q x at_q l y h le none =
     next : (one_lodging types q x s (seen types inner ss s) l).home (source_dot i (Own y) h) ≡ None
     next =
         ap (λ (t : Bool). if t then share_spot (count (types s.of)) (length (l.env s.of).plan.parts) s (seen types inner ss s) h
-            else moved s (seen types inner ss s) (length (l.env s.of).plan.parts) (l.home (Within 0 (Of (PartEnd (i + y) h))))) apart
+        else moved s (seen types inner ss s) (length (l.env s.of).plan.parts) (l.home (Within 0 (Of (PartEnd (i + y) h))))) apart
         ∙ (ap (moved s (seen types inner ss s) (length (l.env s.of).plan.parts)) none ∙ far_moved s (seen types inner ss s) (length (l.env s.of).plan.parts))
 
 pub far_is_nothing : FarIsNothing

@@ -1,16 +1,15 @@
 -- Imports that are at home in a supply inside splits are its own, and the node's result is at home nowhere.
-use Rattle.std.specs.Prelude.{◌≢◌, ◌<◌, ◌≤◌, length, nat_eq, None, Contains}
-use Rattle.std.proofs.Common.{◌≡◌, ℕ, zero, suc, Bool, true, false, List, [], ◌∷◌, Option, Some, refl, sym, ◌∙◌, ap, subst, arith, if◌then◌else◌}
+use Rattle.std.specs.Prelude.{◌≤◌, length, nat_eq, None, Contains}
+use Rattle.std.proofs.Common.{◌≡◌, ℕ, suc, Bool, true, false, List, [], ◌∷◌, Option, Some, refl, sym, ◌∙◌, ap, subst, if◌then◌else◌}
 use Rattle.gos_check.specs.declared.linear.Split.{Split}
 use Rattle.gos_check.specs.Linearity.{times, sides}
 use Rattle.gos_check.proofs.TimesLemmas.{number_cases}
-use Rattle.gos_plan.specs.Plans.{End, ImportEnd, ResultEnd}
-use Rattle.gos_realises.specs.Regular.{count}
-use Rattle.gos_webs.specs.Webs.{Dot, Of, Within}
+use Rattle.gos_plan.specs.Plans.{ImportEnd, ResultEnd}
+use Rattle.gos_webs.specs.Webs.{Of, Within}
 use Rattle.gos_compile.specs.Wiring.{Types}
 use Rattle.gos_buffers.specs.Buffering.{end_behind}
 use Rattle.gos_wired.specs.Wired.{Supplies}
-use Rattle.gos_stages.specs.Lodging.{Spot, spot, spot_if, Lodging, live, first_lodging, seen_from, side_number, is_side, moved_spot, moved, one_lodging, lodging, lodged, AreTidy}
+use Rattle.gos_stages.specs.Lodging.{Spot, spot, spot_if, Lodging, live, first_lodging, side_number, moved_spot, moved, one_lodging, lodging, lodged, AreTidy}
 use Rattle.gos_stages.proofs.HomeLemmas.{IsOld, neither_side, no_side}
 use Rattle.gos_stages.proofs.StepLemmas.{side_is, side_gone}
 use Rattle.gos_stages.proofs.LodgingLemmas.{IsTidy, tidy_on, tidy_first, seen}
@@ -62,9 +61,9 @@ module _ (types : Types) (inner : ℕ → Bool) where
           subst (λ (w : Spot). IsImport (one_lodging types q x s (Some c) l) m k h w × IsOld ss (Some w)) same
           (number_cases y.number s.of
           (λ e t. subst (λ (b : Bool). IsImport (one_lodging types q x s (Some c) l) m k h (moved_spot b (side_number s c) (length (l.env s.of).plan.parts) y)
-              × IsOld ss (Some (moved_spot b (side_number s c) (length (l.env s.of).plan.parts) y))) (sym t) (goes c y (was y refl).0 e))
+          × IsOld ss (Some (moved_spot b (side_number s c) (length (l.env s.of).plan.parts) y))) (sym t) (goes c y (was y refl).0 e))
           (λ e t. subst (λ (b : Bool). IsImport (one_lodging types q x s (Some c) l) m k h (moved_spot b (side_number s c) (length (l.env s.of).plan.parts) y)
-              × IsOld ss (Some (moved_spot b (side_number s c) (length (l.env s.of).plan.parts) y))) (sym t) (stay (Some c) y (was y refl))))
+          × IsOld ss (Some (moved_spot b (side_number s c) (length (l.env s.of).plan.parts) y))) (sym t) (stay (Some c) y (was y refl))))
 
   final_comes : (ss : List Split) (q x : ℕ) (l : Lodging) (gone : List ℕ) → IsTidy inner ss gone → (m k h : ℕ) → Comes ss l m k h
       → (z : Spot) → (lodging types q x inner ss l).home (Within (suc m) (Of (ImportEnd k h))) ≡ Some z → IsImport (lodging types q x inner ss l) m k h z

@@ -1,8 +1,7 @@
 -- Lists, one for each number, laid one after another: where each element is, and what is there.
-use Rattle.std.specs.Prelude.{◌≢◌, ◌+◌, ◌-◌, ◌<◌, ◌≤◌, ◌⊎◌, length, nat_eq, nat_lt, slice_get, None, Contains}
-use Rattle.std.proofs.Common.{◌≡◌, ℕ, zero, suc, Bool, true, false, List, [], ◌∷◌, ◌++◌, Option, Some, inl, inr, refl, sym, ◌∙◌, ap, subst, arith, if◌then◌else◌}
+use Rattle.std.specs.Prelude.{◌≢◌, ◌+◌, ◌-◌, ◌<◌, ◌≤◌, length, nat_eq, nat_lt, slice_get, Contains}
+use Rattle.std.proofs.Common.{◌≡◌, ℕ, zero, suc, Bool, true, false, List, [], ◌∷◌, ◌++◌, Some, refl, sym, ◌∙◌, ap, subst, arith, if◌then◌else◌}
 use Rattle.std.proofs.lemmas.Bool.Decides.{nat_tests}
-use Rattle.std.proofs.lemmas.Option.{slice_get_within}
 use Rattle.gos_check.specs.Linearity.{times}
 use Rattle.gos_check.proofs.TimesLemmas.{number_cases, eq_true, eq_false, times_same}
 use Rattle.gos_unions.proofs.LeftLemmas.{front, behind}

@@ -1,14 +1,13 @@
 -- What a dot stands for is of a live number.
-use Rattle.std.specs.Prelude.{◌≢◌, ◌+◌, ◌||◌, length, nat_eq, None}
-use Rattle.std.proofs.Common.{◌≡◌, ℕ, zero, suc, Bool, true, false, List, [], ◌∷◌, Option, Some, refl, sym, ◌∙◌, ap, subst, arith, if◌then◌else◌, true≢false}
+use Rattle.std.specs.Prelude.{◌≢◌, ◌||◌, length, nat_eq, None}
+use Rattle.std.proofs.Common.{◌≡◌, ℕ, zero, suc, Bool, true, false, List, [], ◌∷◌, Option, Some, refl, sym, ◌∙◌, ap, subst, if◌then◌else◌, true≢false}
 use Rattle.gos_check.specs.declared.linear.Split.{Split}
 use Rattle.gos_check.proofs.TimesLemmas.{number_cases, eq_true, eq_false}
-use Rattle.gos_plan.specs.Plans.{End, PartEnd, ImportEnd, ResultEnd}
+use Rattle.gos_plan.specs.Plans.{End, PartEnd, ResultEnd}
 use Rattle.gos_realises.specs.Regular.{count}
-use Rattle.gos_webs.specs.Webs.{Dot, Of, Number, Node, Within}
+use Rattle.gos_webs.specs.Webs.{Dot, Of, Number, Within}
 use Rattle.gos_compile.specs.Wiring.{Types}
-use Rattle.gos_wired.specs.Wired.{Supplies}
-use Rattle.gos_stages.specs.Lodging.{Spot, spot, spot_if, Lodging, live, first_home, first_lodging, seen_from, side_number, is_side, serves_side, moved_spot, moved, share_spot, side_spot, one_home, one_lodging, lodging, lodged, SpotsAreLive}
+use Rattle.gos_stages.specs.Lodging.{Spot, spot_if, Lodging, live, first_home, first_lodging, seen_from, side_number, is_side, serves_side, moved_spot, moved, share_spot, side_spot, one_home, one_lodging, lodging, SpotsAreLive}
 use Rattle.gos_stages.proofs.LodgingLemmas.{seen}
 
 abbrev IsLive : (ℕ → Bool) → List Split → Option Spot → Type 0

@@ -1,6 +1,6 @@
 -- All splits of a node: what the ties of Shares and of supplies connect stays within a plan.
-use Rattle.std.specs.Prelude.{◌≢◌, ◌+◌, ◌*◌, ◌<◌, ◌≤◌, ◌⊎◌, ◌||◌, length, nat_eq, None, Contains}
-use Rattle.std.proofs.Common.{◌≡◌, ℕ, zero, suc, Bool, true, false, List, [], ◌∷◌, ◌++◌, Option, Some, inl, inr, refl, sym, ◌∙◌, ap, subst, arith}
+use Rattle.std.specs.Prelude.{◌+◌, ◌*◌, ◌<◌, ◌≤◌, Contains}
+use Rattle.std.proofs.Common.{◌≡◌, ℕ, zero, suc, Bool, true, false, List, [], ◌∷◌, ◌++◌, Option, inl, inr, refl, sym, ◌∙◌, ap, subst, arith}
 use Rattle.std.proofs.lemmas.List.Elements.{Contains-append_cases}
 use Rattle.gos_check.specs.declared.linear.Split.{Split}
 use Rattle.gos_check.specs.Linearity.{times, split_in, sides}
@@ -9,11 +9,10 @@ use Rattle.gos_plan.specs.Plans.{End, PartEnd, ResultEnd, Joint}
 use Rattle.gos_realises.specs.Regular.{count}
 use Rattle.gos_ties.specs.declared.points.Place.{Place}
 use Rattle.gos_ties.specs.declared.points.Place.TheVariants as places
-use Rattle.gos_ties.specs.declared.points.Point.{Point}
 use Rattle.gos_ties.specs.declared.points.Tie as point_ties
 use Rattle.gos_ties.specs.Ties as ties
 use Rattle.gos_ties.specs.Ties.{point}
-use Rattle.gos_webs.specs.Webs.{Dot, Of, Number, Within, Tie, tie, Way, here, along, own_web}
+use Rattle.gos_webs.specs.Webs.{Of, Number, Within, Tie, tie, here, along, own_web}
 use Rattle.gos_unions.specs.Unions.{within}
 use Rattle.gos_unions.proofs.UnionLemmas.{of_image, in_image}
 use Rattle.gos_compile.specs.Wiring.{Types, row, led, share_ties, shares_ties}

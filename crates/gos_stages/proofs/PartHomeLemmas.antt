@@ -1,5 +1,5 @@
 -- The parts and imports of what stands for a live number are at home there.
-use Rattle.std.specs.Prelude.{◌≢◌, ◌+◌, ◌<◌, ◌≤◌, ◌||◌, length, nat_eq, None, Contains}
+use Rattle.std.specs.Prelude.{◌≢◌, ◌+◌, ◌<◌, ◌≤◌, ◌||◌, length, nat_eq, None}
 use Rattle.std.proofs.Common.{◌≡◌, ℕ, zero, suc, Bool, true, false, not, List, [], ◌∷◌, ◌++◌, Option, Some, refl, sym, ◌∙◌, ap, subst, arith, if◌then◌else◌}
 use Rattle.gos_check.specs.declared.linear.Split.{Split}
 use Rattle.gos_check.specs.Linearity.{times, split_in, sides}
@@ -11,8 +11,8 @@ use Rattle.gos_realises.specs.Modules.{Supply}
 use Rattle.gos_webs.specs.Webs.{Dot, Of, Within}
 use Rattle.gos_compile.specs.Wiring.{Types}
 use Rattle.gos_buffers.proofs.DrivenLemmas.{one_longer}
-use Rattle.gos_wired.specs.Wired.{Supplies, Source, Own, Supplied, source_dot}
-use Rattle.gos_stages.specs.Lodging.{Spot, spot, spot_if, Lodging, live, first_lodging, seen_from, side_number, is_side, serves_side, moved_spot, moved, share_spot, one_lodging, lodging, lodged, AreTidy, IsAtHome, NumbersAreAtHome}
+use Rattle.gos_wired.specs.Wired.{Supplies, Source, Own, source_dot}
+use Rattle.gos_stages.specs.Lodging.{Spot, spot, spot_if, Lodging, live, first_lodging, seen_from, side_number, serves_side, moved_spot, moved, share_spot, one_lodging, lodging, IsAtHome, NumbersAreAtHome}
 use Rattle.gos_stages.proofs.InsideLemmas.{one_stays}
 use Rattle.gos_stages.proofs.HomeLemmas.{Untouched, no_side, untouched_later, plainly}
 use Rattle.gos_stages.proofs.StepLemmas.{differ, side_is, side_env}
@@ -126,15 +126,15 @@ module _ (types : Types) (i q x : ℕ) (at_q : q ≡ i + x) (s : Split) (ss : Li
         record {
           parts =
               λ k h lt.
-                  subst (λ (b : Bool). Placed i (suc q) ss next.home (next.part n k) b n k h) (sym (at_spare k h))
-                  (subst (λ (z : Source). Placed i (suc q) ss next.home z (spared k h (nat_eq k place)) n k h) (sym (at_part k))
-                  (chosen_part k h (longer k lt)));
+              subst (λ (b : Bool). Placed i (suc q) ss next.home (next.part n k) b n k h) (sym (at_spare k h))
+              (subst (λ (z : Source). Placed i (suc q) ss next.home z (spared k h (nat_eq k place)) n k h) (sym (at_part k))
+              (chosen_part k h (longer k lt)));
           imports =
               λ k h.
-                  ap (λ (r : ℕ). next.home (Within (suc r) (Of (ImportEnd k h)))) at_root
-                  ∙ (plain (Within (suc (l.root s.of)) (Of (ImportEnd k h))) tt
-                  ∙ (ap (λ (b : Option ℕ). moved s b place (l.home (Within (suc (l.root s.of)) (Of (ImportEnd k h))))) sees
-                  ∙ (ap (moved s (Some c) place) (was.imports k h) ∙ moved_import c k h)));
+              ap (λ (r : ℕ). next.home (Within (suc r) (Of (ImportEnd k h)))) at_root
+              ∙ (plain (Within (suc (l.root s.of)) (Of (ImportEnd k h))) tt
+              ∙ (ap (λ (b : Option ℕ). moved s b place (l.home (Within (suc (l.root s.of)) (Of (ImportEnd k h))))) sees
+              ∙ (ap (moved s (Some c) place) (was.imports k h) ∙ moved_import c k h)));
         }
 
   -- another number
@@ -167,14 +167,14 @@ module _ (types : Types) (i q x : ℕ) (at_q : q ≡ i + x) (s : Split) (ss : Li
         record {
           parts =
               λ k h lt.
-                  subst (λ (b : Bool). Placed i (suc q) ss next.home (next.part n k) b n k h) (sym (at_old_spare k h))
-                  (subst (λ (z : Source). Placed i (suc q) ss next.home z (l.spare n k h) n k h) (sym (at_old_part k))
-                  (kept_part k h (subst (λ (e : Supply). k < length e.plan.parts) (one_stays types s l.env n left right) lt)));
+              subst (λ (b : Bool). Placed i (suc q) ss next.home (next.part n k) b n k h) (sym (at_old_spare k h))
+              (subst (λ (z : Source). Placed i (suc q) ss next.home z (l.spare n k h) n k h) (sym (at_old_part k))
+              (kept_part k h (subst (λ (e : Supply). k < length e.plan.parts) (one_stays types s l.env n left right) lt)));
           imports =
               λ k h.
-                  ap (λ (r : ℕ). next.home (Within (suc r) (Of (ImportEnd k h)))) at_old_root
-                  ∙ (plain (Within (suc (l.root n)) (Of (ImportEnd k h))) tt
-                  ∙ (ap (moved s a place) (was.imports k h) ∙ stays_moved a n true (ImportEnd k h) far));
+              ap (λ (r : ℕ). next.home (Within (suc r) (Of (ImportEnd k h)))) at_old_root
+              ∙ (plain (Within (suc (l.root n)) (Of (ImportEnd k h))) tt
+              ∙ (ap (moved s a place) (was.imports k h) ∙ stays_moved a n true (ImportEnd k h) far));
         }
 
 -- all splits

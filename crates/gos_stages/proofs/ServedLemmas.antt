@@ -1,38 +1,22 @@
 -- The Shares that serve a child, split by split.
-use Rattle.std.specs.Prelude.{◌≢◌, ◌+◌, ◌-◌, ◌*◌, ◌<◌, ◌≤◌, ◌⊎◌, ◌||◌, length, map, nat_eq, slice_get, None, Contains}
-use Rattle.std.proofs.Common.{◌≡◌, ℕ, zero, suc, Bool, true, false, not, List, [], ◌∷◌, ◌++◌, Option, Some, inl, inr, refl, sym, ◌∙◌, ap, subst, arith, if◌then◌else◌, true≢false}
-use Rattle.std.proofs.lemmas.List.Elements.{Contains-append_left, Contains-append_right, Contains-append_cases}
-use Rattle.gos_types.specs.Types.{Type', IsGround}
-use Rattle.gos_types.specs.declared.shakes.Role.{Role}
-use Rattle.gos_types.specs.declared.shakes.Role.TheVariants.{Serve, Ask}
+use Rattle.std.specs.Prelude.{◌+◌, ◌<◌, length, nat_eq, slice_get, None, Contains}
+use Rattle.std.proofs.Common.{◌≡◌, ℕ, zero, suc, Bool, true, false, List, [], ◌∷◌, Option, Some, inl, inr, refl, sym, ◌∙◌, ap, subst, arith, if◌then◌else◌}
+use Rattle.std.proofs.lemmas.List.Elements.{Contains-append_cases}
+use Rattle.gos_types.specs.Types.{Type'}
 use Rattle.gos_check.specs.declared.linear.Split.{Split}
-use Rattle.gos_check.specs.Linearity.{times, split_in, sides}
-use Rattle.gos_check.proofs.TimesLemmas.{number_cases, eq_true, eq_false, times_none, times_other}
-use Rattle.gos_plan.specs.Kinds.{Contact, Part, Share, part_contacts}
-use Rattle.gos_plan.specs.Plans.{End, PartEnd, ImportEnd, ResultEnd, Joint, Plan, contact_at, contacts_of_part, IsRight}
+use Rattle.gos_check.proofs.TimesLemmas.{eq_true}
+use Rattle.gos_plan.specs.Kinds.{Share}
+use Rattle.gos_plan.specs.Plans.{PartEnd}
 use Rattle.gos_realises.specs.Regular.{count}
-use Rattle.gos_realises.specs.Modules.{Supply}
-use Rattle.gos_webs.specs.Webs.{Dot, Of, Within, joint}
-use Rattle.gos_webs.specs.Cutting.{StandsIn}
-use Rattle.gos_webs.proofs.CutLemmas.{which_end}
-use Rattle.gos_webs.proofs.WebLemmas.{asks_there, serves_there}
-use Rattle.gos_unions.proofs.UnionLemmas.{of_image}
+use Rattle.gos_webs.specs.Webs.{Of, Within}
 use Rattle.gos_windows.specs.Regions.{Serving}
 use Rattle.gos_compile.specs.Wiring.{Types, shares}
-use Rattle.gos_sharing.specs.Sharing.{caller_end}
-use Rattle.gos_buffers.specs.Buffering.{buffered, end_behind, joint_behind, callers_joined}
-use Rattle.gos_buffers.proofs.GroundLemmas.{source_asks, callers_serve}
-use Rattle.gos_buffers.proofs.BranchLemmas.{one_of_two}
-use Rattle.gos_buffers.proofs.BufferedLemmas.{at_last, before_last, buffered_is_buffer}
-use Rattle.gos_wired.specs.Wired.{Supplies, Source, Own, Supplied, Placing, source_dot}
-use Rattle.gos_stages.specs.Inside.{numbers_inside, AreSplit, SidesAgree, AreGroundSupplies, inside_one_supply}
-use Rattle.gos_stages.specs.Lodging.{Spot, spot, spot_if, Lodging, live, first_lodging, seen_from, side_number, is_side, serves_side, moved_spot, moved, share_spot, one_lodging, lodging, lodged, AreTidy}
+use Rattle.gos_wired.specs.Wired.{Own, Placing, source_dot}
+use Rattle.gos_stages.specs.Lodging.{Spot, spot, spot_if, Lodging, live, first_lodging, seen_from, side_number, serves_side, moved_spot, moved, share_spot, one_lodging, lodging}
 use Rattle.gos_stages.specs.Folding.{serving_if, servings}
-use Rattle.gos_stages.specs.Served.{IsSeenFrom, ServingsServe, IsSpareOf, SparesAreOthers}
-use Rattle.gos_stages.proofs.InsideLemmas.{of_cons, one_stays, one_inside}
-use Rattle.gos_stages.proofs.HomeLemmas.{Untouched, no_side, plainly}
-use Rattle.gos_stages.proofs.StepLemmas.{serves_source, serves_caller, differ, side_is, side_env, seen_caller}
-use Rattle.gos_stages.proofs.LodgingLemmas.{IsTidy, tidy_on, tidy_first, of_gone, seen}
+use Rattle.gos_stages.specs.Served.{ServingsServe}
+use Rattle.gos_stages.proofs.HomeLemmas.{plainly}
+use Rattle.gos_stages.proofs.LodgingLemmas.{seen}
 
 module _ (types : Types) (inner : ℕ → Bool) where
   -- what a dot of a Share stands for stays, or stays nothing
@@ -85,7 +69,7 @@ module _ (types : Types) (inner : ℕ → Bool) where
           ≡ spot_if (serves_side (count (types s.of)) c h) (side_number s c) (PartEnd (length (l.env s.of).plan.parts) h)
       at_share h c sees r e =
           ap (λ (t : Bool). if t then share_spot (count (types s.of)) (length (l.env s.of).plan.parts) s (seen types inner ss s) h
-              else moved s (seen types inner ss s) (length (l.env s.of).plan.parts) (l.home (Within 0 (Of (PartEnd r h))))) (eq_true r q e)
+          else moved s (seen types inner ss s) (length (l.env s.of).plan.parts) (l.home (Within 0 (Of (PartEnd r h))))) (eq_true r q e)
           ∙ ap (λ (b : Option ℕ). share_spot (count (types s.of)) (length (l.env s.of).plan.parts) s b h) sees
 
       rests : (h c : ℕ) → seen types inner ss s ≡ Some c → (b : Bool) → serves_side (count (types s.of)) c h ≡ b

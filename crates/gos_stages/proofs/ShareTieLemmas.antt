@@ -1,19 +1,19 @@
 -- The ties of a split's own Share, and what its numbers stand for then.
 use Rattle.std.specs.Prelude.{◌≢◌, ◌+◌, ◌*◌, ◌<◌, ◌≤◌, ◌||◌, length, nat_eq, None}
-use Rattle.std.proofs.Common.{◌≡◌, ℕ, zero, suc, Bool, true, false, List, [], ◌∷◌, Option, Some, refl, sym, ◌∙◌, ap, subst, arith, if◌then◌else◌}
+use Rattle.std.proofs.Common.{◌≡◌, ℕ, zero, suc, Bool, true, false, List, ◌∷◌, Option, Some, refl, sym, ◌∙◌, ap, subst, arith, if◌then◌else◌}
 use Rattle.gos_check.specs.declared.linear.Split.{Split}
 use Rattle.gos_check.specs.Linearity.{times, sides}
 use Rattle.gos_check.proofs.TimesLemmas.{number_cases, eq_true, eq_false, times_none, times_other}
 use Rattle.gos_plan.specs.Plans.{End, PartEnd, ResultEnd}
 use Rattle.gos_realises.specs.Regular.{count}
 use Rattle.gos_realises.specs.Modules.{Supply}
-use Rattle.gos_webs.specs.Webs.{Dot, Of, Number, Within, tie, Way, here, own_web}
+use Rattle.gos_webs.specs.Webs.{Of, Number, Within, tie, Way, here, own_web}
 use Rattle.gos_compile.specs.Wiring.{Types}
 use Rattle.gos_wired.specs.Wired.{Supplies}
 use Rattle.gos_stages.specs.Inside.{inside_one_supply}
-use Rattle.gos_stages.specs.Lodging.{Spot, spot, spot_if, Lodging, live, seen_from, side_number, is_side, serves_side, moved_spot, moved, share_spot, side_spot, one_lodging, Near}
-use Rattle.gos_stages.proofs.HomeLemmas.{way_to_caller, IsOld, neither_side, no_side, left_side, right_side, plainly}
-use Rattle.gos_stages.proofs.StepLemmas.{serves_source, serves_caller, serves_first_alone, serves_second_alone, seen_caller, IsKept, differ, side_gone, side_is, side_env, old_moved}
+use Rattle.gos_stages.specs.Lodging.{Spot, spot, spot_if, Lodging, live, seen_from, side_number, serves_side, moved_spot, moved, share_spot, side_spot, one_lodging, Near}
+use Rattle.gos_stages.proofs.HomeLemmas.{way_to_caller, IsOld, neither_side, no_side, plainly}
+use Rattle.gos_stages.proofs.StepLemmas.{serves_source, serves_caller, serves_first_alone, serves_second_alone, IsKept, differ, side_gone, side_is, side_env, old_moved}
 
 module _ (types : Types) (s : Split) (ss : List Split) (once : (k : ℕ) → times k (sides (s ∷ ss)) ≤ 1) where
   abbrev size : ℕ

@@ -1,5 +1,5 @@
 -- What serves somebody else is a handshake of a Share's other caller, and stands in no joint.
-use Rattle.std.specs.Prelude.{◌≢◌, ◌+◌, ◌-◌, ◌*◌, ◌<◌, ◌≤◌, ◌⊎◌, ◌||◌, length, map, nat_eq, slice_get, None, Contains}
+use Rattle.std.specs.Prelude.{◌≢◌, ◌+◌, ◌-◌, ◌*◌, ◌<◌, ◌≤◌, ◌⊎◌, ◌||◌, length, map, nat_eq, slice_get, Contains}
 use Rattle.std.proofs.Common.{◌≡◌, ℕ, zero, suc, Bool, true, false, not, List, [], ◌∷◌, ◌++◌, Option, Some, inl, inr, refl, sym, ◌∙◌, ap, subst, arith, if◌then◌else◌, true≢false}
 use Rattle.std.proofs.lemmas.List.Elements.{Contains-append_left, Contains-append_right, Contains-append_cases}
 use Rattle.gos_types.specs.Types.{Type', IsGround}
@@ -12,23 +12,21 @@ use Rattle.gos_plan.specs.Kinds.{Contact, Part, Share, part_contacts}
 use Rattle.gos_plan.specs.Plans.{End, PartEnd, ImportEnd, ResultEnd, Joint, Plan, contact_at, contacts_of_part, stands_in, IsRight}
 use Rattle.gos_realises.specs.Regular.{count}
 use Rattle.gos_realises.specs.Modules.{Supply}
-use Rattle.gos_webs.specs.Webs.{joint}
 use Rattle.gos_webs.specs.Cutting.{StandsIn}
 use Rattle.gos_webs.proofs.CutLemmas.{which_end}
 use Rattle.gos_webs.proofs.WebLemmas.{asks_there, serves_there}
 use Rattle.gos_unions.proofs.UnionLemmas.{of_image}
-use Rattle.gos_windows.specs.Regions.{Serving}
 use Rattle.gos_compile.specs.Wiring.{Types}
 use Rattle.gos_sharing.specs.Sharing.{caller_end}
 use Rattle.gos_buffers.specs.Buffering.{buffered, end_behind, joint_behind, callers_joined, ResultIsJoined}
 use Rattle.gos_buffers.proofs.GroundLemmas.{source_asks, callers_serve}
 use Rattle.gos_buffers.proofs.BranchLemmas.{one_of_two}
 use Rattle.gos_buffers.proofs.BufferedLemmas.{at_last, before_last, buffered_is_buffer}
-use Rattle.gos_wired.specs.Wired.{Supplies, Source, Own, Placing}
+use Rattle.gos_wired.specs.Wired.{Own, Placing}
 use Rattle.gos_stages.specs.Inside.{numbers_inside, AreSplit, SidesAgree, AreGroundSupplies}
-use Rattle.gos_stages.specs.Lodging.{Lodging, live, first_lodging, seen_from, side_number, is_side, serves_side, one_lodging, lodging, lodged, AreTidy}
+use Rattle.gos_stages.specs.Lodging.{Lodging, live, first_lodging, seen_from, side_number, serves_side, one_lodging, lodging}
 use Rattle.gos_stages.specs.Folding.{serving_if, servings}
-use Rattle.gos_stages.specs.Served.{IsSpareOf, SparesAreOthers}
+use Rattle.gos_stages.specs.Served.{SparesAreOthers}
 use Rattle.gos_stages.proofs.InsideLemmas.{of_cons, one_stays, one_inside}
 use Rattle.gos_stages.proofs.HomeLemmas.{no_side}
 use Rattle.gos_stages.proofs.StepLemmas.{serves_source, serves_caller, differ, side_is, side_env}
@@ -173,9 +171,9 @@ module _ (Known : ℕ → Type' → ℕ → Type 0) (types : Types) (q x : ℕ) 
               at = same;
               alone =
                   λ it.
-                      other_alone (types s.of) c (l.env s.of).plan two realised.suits.outcome realised.suits.right (are.ground s.of of) (are.joined s.of of) j low
-                      (subst (λ (m : ℕ). StandsIn (buffered (types s.of) c (l.env s.of).plan) (PartEnd place m)) same
-                      (subst (λ (m : ℕ). StandsIn (buffered (types s.of) c (l.env s.of).plan) (PartEnd m h)) e (stands it)));
+                  other_alone (types s.of) c (l.env s.of).plan two realised.suits.outcome realised.suits.right (are.ground s.of of) (are.joined s.of of) j low
+                  (subst (λ (m : ℕ). StandsIn (buffered (types s.of) c (l.env s.of).plan) (PartEnd place m)) same
+                  (subst (λ (m : ℕ). StandsIn (buffered (types s.of) c (l.env s.of).plan) (PartEnd m h)) e (stands it)));
             }
 
         old : k ≢ place → nat_eq k place ≡ false → Spare Known next n k h
@@ -218,7 +216,7 @@ module _ (Known : ℕ → Type' → ℕ → Type 0) (types : Types) (q x : ℕ) 
       }
 
 -- all splits
-module _ (Known : ℕ → Type' → ℕ → Type 0) (types : Types) (inner : ℕ → Bool) (pl : Placing)  where
+module _ (Known : ℕ → Type' → ℕ → Type 0) (types : Types) (inner : ℕ → Bool) (pl : Placing) where
   abbrev AllKnown : ℕ → List Split → Type 0
   AllKnown x ss = (y : ℕ) (t : Type') (c : ℕ) → Contains (servings types pl inner x ss) (record { part = pl.own y; ty = t; side = c }) → Known y t c
 

@@ -1,23 +1,18 @@
 -- A child of a wired node is a stage of it.
-use Rattle.std.specs.Prelude.{◌+◌, ◌<◌, ◌⊎◌, length, slice_get, Contains}
-use Rattle.std.proofs.Common.{◌≡◌, ℕ, zero, suc, List, [], ◌∷◌, Option, Some, inl, inr, refl, sym, ◌∙◌, ap, subst, arith}
-use Rattle.gos_model.specs.Typing.{Imported}
-use Rattle.gos_plan.specs.Kinds.{Contact, asks, serves, Part, Share, contacts_of}
-use Rattle.gos_plan.specs.Plans.{End, ImportEnd, ResultEnd, Joint, Plan, contact_at, turned_if}
+use Rattle.std.specs.Prelude.{◌⊎◌, length, slice_get, Contains}
+use Rattle.std.proofs.Common.{◌≡◌, ℕ, zero, suc, List, [], ◌∷◌, Some, inl, inr, refl, sym, ◌∙◌, ap, subst, arith}
+use Rattle.gos_plan.specs.Kinds.{Contact, asks, serves, Share, contacts_of}
+use Rattle.gos_plan.specs.Plans.{End, ImportEnd, contact_at, turned_if}
 use Rattle.gos_plan.proofs.JointLemmas.{fits, contained}
-use Rattle.gos_realises.specs.Regular.{IsRegular}
-use Rattle.gos_webs.specs.Webs.{Tie}
 use Rattle.gos_webs.specs.Cutting.{StandsIn}
 use Rattle.gos_webs.proofs.CutLemmas.{which_end}
 use Rattle.gos_unions.proofs.FlatFitLemmas.{contained_at}
 use Rattle.gos_windows.specs.Regions.{Serving, IsLoyal}
 use Rattle.gos_loyal.proofs.LoyalLemmas.{shares_of_one_are_loyal}
 use Rattle.gos_compile.specs.Wiring.{parts_of}
-use Rattle.gos_wired.specs.Wired.{Supplies, Placing}
-use Rattle.gos_stages.specs.Lodging.{lodged}
-use Rattle.gos_stages.specs.Folding.{Child, is_used, lodge, child_cut, child_servings, IsChild, IsLaid}
+use Rattle.gos_wired.specs.Wired.{Supplies}
+use Rattle.gos_stages.specs.Folding.{is_used, lodge, child_cut, child_servings, IsLaid}
 use Rattle.gos_stages.specs.Folded.{HasChild}
-use Rattle.gos_stages.specs.Regions.{HasParts, IsStaged}
 use Rattle.gos_stages.specs.Stages.{ChildIsStage}
 use Rattle.gos_stages.proofs.LodgingLemmas.{lodged_are_inside}
 use Rattle.gos_stages.proofs.ServedLemmas.{servings_serve}
@@ -40,9 +35,9 @@ child_is_stage f own ts pl plc r c is has laid staged done regular restful names
       run_by = λ stands. refl;
       imports =
           λ x listed.
-              let (q, at) = found_at c.imports x listed in
-              let it = import_of f own ts pl plc r c is has_child laid laidc q x at in
-              contained_at r.imports (pl.import ((lodge f).root (plc.origin q).number) (plc.origin q).import) x it.there;
+          let (q, at) = found_at c.imports x listed in
+          let it = import_of f own ts pl plc r c is has_child laid laidc q x at in
+          contained_at r.imports (pl.import ((lodge f).root (plc.origin q).number) (plc.origin q).import) x it.there;
       names = names;
       ports = ports;
     }
@@ -56,7 +51,7 @@ child_is_stage f own ts pl plc r c is has laid staged done regular restful names
           outcome = staged.wired.outcome;
           asks =
               λ k at.
-                  has.asks k (ap (λ t. turned_if (slice_get (contacts_of t) 0)) (sym staged.wired.outcome) ∙ at);
+              has.asks k (ap (λ t. turned_if (slice_get (contacts_of t) 0)) (sym staged.wired.outcome) ∙ at);
         }
 
     laidc : IsLaid (parts_of f.types f.term) f.uses (lodge f).env plc c

@@ -1,23 +1,21 @@
 -- One split more: the ties so far stay within plans, and so are those of the split's own Share.
-use Rattle.std.specs.Prelude.{◌≢◌, ◌+◌, ◌*◌, ◌<◌, ◌≤◌, ◌⊎◌, ◌&&◌, ◌||◌, length, nat_eq, nat_lt, None}
-use Rattle.std.proofs.Common.{◌≡◌, ℕ, zero, suc, Bool, true, false, not, List, [], ◌∷◌, Option, Some, inl, inr, refl, sym, ◌∙◌, ap, subst, arith, if◌then◌else◌}
+use Rattle.std.specs.Prelude.{◌≢◌, ◌+◌, ◌*◌, ◌<◌, ◌≤◌, length, nat_eq, nat_lt, None}
+use Rattle.std.proofs.Common.{◌≡◌, ℕ, zero, suc, Bool, true, false, List, ◌∷◌, Option, Some, refl, sym, ◌∙◌, ap, subst, arith}
 use Rattle.std.proofs.lemmas.Bool.Decides.{nat_tests}
-use Rattle.gos_types.specs.Types.{Type'}
 use Rattle.gos_check.specs.declared.linear.Split.{Split}
-use Rattle.gos_check.specs.Linearity.{times, split_in, sides}
+use Rattle.gos_check.specs.Linearity.{times, sides}
 use Rattle.gos_check.proofs.TimesLemmas.{number_cases, eq_true, eq_false, times_same}
-use Rattle.gos_plan.specs.Plans.{End, PartEnd, ResultEnd}
+use Rattle.gos_plan.specs.Plans.{End}
 use Rattle.gos_realises.specs.Regular.{count}
 use Rattle.gos_realises.specs.Modules.{Supply}
-use Rattle.gos_webs.specs.Webs.{Dot, Of, Number, Within, Tie, tie, Way, here, own_web}
-use Rattle.gos_sharing.specs.Sharing.{caller_end}
+use Rattle.gos_webs.specs.Webs.{Dot, Of, Tie, Way, own_web}
 use Rattle.gos_compile.specs.Wiring.{Types}
 use Rattle.gos_buffers.specs.Buffering.{end_behind}
 use Rattle.gos_wired.specs.Wired.{Supplies}
 use Rattle.gos_stages.specs.Inside.{behind_share, inside_one_supply}
-use Rattle.gos_stages.specs.Lodging.{Spot, spot, spot_if, Lodging, live, seen_from, side_number, is_side, serves_side, moved_spot, moved, share_spot, side_spot, one_lodging, Near, AreInOrder, AreApart}
+use Rattle.gos_stages.specs.Lodging.{Spot, Lodging, seen_from, side_number, is_side, serves_side, moved_spot, moved, one_lodging, Near}
 use Rattle.gos_stages.proofs.InsideLemmas.{one_stays}
-use Rattle.gos_stages.proofs.HomeLemmas.{way_behind, way_to_caller, Untouched, IsOld, neither_side, no_side, left_side, right_side, untouched_later, plainly}
+use Rattle.gos_stages.proofs.HomeLemmas.{way_behind, Untouched, IsOld, neither_side, left_side, right_side, untouched_later, plainly}
 
 -- the handshakes of a Share
 low : (a b : ℕ) → a < b → nat_lt a b ≡ true
@@ -114,8 +112,11 @@ module _ (types : Types) (s : Split) (ss : List Split) (once : (k : ℕ) → tim
       (same, subst (λ (e : Supply). Joined e x.end y.end) (other_env env x.number old) way)
   near_moved env (Some c) two (Some x) (Some y) (same, way) old =
       number_cases x.number s.of
-      (λ e t. both true t (refl, subst (λ (z : Supply). Joined z (end_behind k x.end) (end_behind k y.end)) (sym (side_env env c two))
-      (way_behind (types s.of) c (env s.of).plan x.end y.end (subst (λ (n : ℕ). Joined (env n) x.end y.end) e way))))
+      (λ e t. both true t (
+        refl,
+        subst (λ (z : Supply). Joined z (end_behind k x.end) (end_behind k y.end)) (sym (side_env env c two))
+            (way_behind (types s.of) c (env s.of).plan x.end y.end (subst (λ (n : ℕ). Joined (env n) x.end y.end) e way)),
+      ))
       (λ e t. both false t (same, subst (λ (z : Supply). Joined z x.end y.end) (other_env env x.number old) way))
     where
       k : ℕ

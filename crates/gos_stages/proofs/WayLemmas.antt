@@ -1,14 +1,14 @@
 -- A joint of what stands for a number inside splits is a way of the node's web.
-use Rattle.std.specs.Prelude.{◌≢◌, ◌+◌, ◌*◌, ◌<◌, ◌≤◌, ◌⊎◌, length, map, nat_eq, slice_get, Contains}
-use Rattle.std.proofs.Common.{◌≡◌, ℕ, zero, suc, Bool, true, false, not, List, [], ◌∷◌, ◌++◌, Option, Some, inl, inr, refl, sym, ◌∙◌, ap, subst, arith, if◌then◌else◌}
+use Rattle.std.specs.Prelude.{◌≢◌, ◌+◌, ◌*◌, ◌<◌, ◌≤◌, length, map, nat_eq, Contains}
+use Rattle.std.proofs.Common.{◌≡◌, ℕ, zero, suc, Bool, true, false, List, [], ◌∷◌, ◌++◌, Option, Some, inl, inr, refl, sym, ◌∙◌, ap, subst, arith, if◌then◌else◌}
 use Rattle.std.proofs.lemmas.List.Elements.{Contains-append_left, Contains-append_right, Contains-append_cases}
 use Rattle.gos_types.specs.Types.{Type', IsGround}
 use Rattle.gos_check.specs.declared.linear.Split.{Split}
-use Rattle.gos_check.specs.Linearity.{times, split_in, sides}
+use Rattle.gos_check.specs.Linearity.{times, sides}
 use Rattle.gos_check.proofs.TimesLemmas.{number_cases, eq_true, eq_false}
 use Rattle.gos_plan.specs.Kinds.{Contact, asks, serves}
 use Rattle.gos_plan.specs.Plans.{End, PartEnd, ImportEnd, ResultEnd, Joint, Plan, contact_at, IsRight}
-use Rattle.gos_plan.proofs.JointLemmas.{IsIn, fits, contained}
+use Rattle.gos_plan.proofs.JointLemmas.{fits, contained}
 use Rattle.gos_realises.specs.Regular.{count}
 use Rattle.gos_realises.specs.Modules.{Supply}
 use Rattle.gos_ties.specs.declared.points.Place.{Place}
@@ -21,14 +21,14 @@ use Rattle.gos_unions.specs.Unions.{within}
 use Rattle.gos_unions.proofs.UnionLemmas.{of_image, in_image}
 use Rattle.gos_compile.specs.Wiring.{Types, row, led, share_ties, shares_ties}
 use Rattle.gos_sharing.specs.Sharing.{caller_end}
-use Rattle.gos_buffers.specs.Buffering.{buffered, end_behind, joint_behind, callers_joined}
+use Rattle.gos_buffers.specs.Buffering.{end_behind, joint_behind, callers_joined}
 use Rattle.gos_buffers.proofs.BufferedLemmas.{known_part, result_within}
-use Rattle.gos_wired.specs.Wired.{Supplies, Source, Own, source_dot, dot_of, dot_ties, result_ties, supply_ties, all_supply_ties}
+use Rattle.gos_wired.specs.Wired.{Supplies, Own, source_dot, dot_of, dot_ties, result_ties, supply_ties, all_supply_ties}
 use Rattle.gos_stages.specs.Inside.{numbers_inside, AreSplit, SidesAgree, AreGroundSupplies}
-use Rattle.gos_stages.specs.Lodging.{Lodging, live, first_lodging, seen_from, side_number, is_side, one_lodging, lodging, lodged, lies, AreTidy, JointsAreWays}
+use Rattle.gos_stages.specs.Lodging.{Lodging, live, first_lodging, side_number, one_lodging, lodging, lies, JointsAreWays}
 use Rattle.gos_stages.proofs.InsideLemmas.{of_cons, one_stays, one_inside}
 use Rattle.gos_stages.proofs.HomeLemmas.{no_side}
-use Rattle.gos_stages.proofs.StepLemmas.{differ, side_is, side_env}
+use Rattle.gos_stages.proofs.StepLemmas.{side_is, side_env}
 use Rattle.gos_stages.proofs.LodgingLemmas.{IsTidy, tidy_on, tidy_first, lifted, seen}
 
 -- ways

@@ -1,13 +1,12 @@
 -- The plan of a child lies as a fold in the plan of its node.
 --
 -- Read first: Folding, Housing; Folds of gos_folds.
-use Rattle.std.specs.Prelude.{◌≡◌, ℕ, ◌+◌, List, length, Option, Some, None, slice_get, nat_lt, if◌then◌else◌}
+use Rattle.std.specs.Prelude.{◌≡◌, ℕ, ◌+◌, List, length, Some, slice_get}
 use Rattle.gos_check.specs.Nodes.{type_of_node}
 use Rattle.gos_plan.specs.Kinds.{Contact, Part}
 use Rattle.gos_plan.specs.Plans.{ResultEnd, Plan, contact_at, contacts_of_part}
-use Rattle.gos_webs.specs.Webs.{Tie, Web, IsOfWeb}
-use Rattle.gos_webs.specs.Cutting.{Cut}
-use Rattle.gos_folds.specs.Folds.{Fold, IsFold}
+use Rattle.gos_webs.specs.Webs.{Tie, IsOfWeb}
+use Rattle.gos_folds.specs.Folds.{IsFold}
 use Rattle.gos_compile.specs.Wiring.{parts_of}
 use Rattle.gos_wired.specs.Wired.{Placing, dot_at}
 use Rattle.gos_stages.specs.Folding.{Child, lodge, child_web, child_cut, child_fold, child_servings, IsChild, IsLaid}

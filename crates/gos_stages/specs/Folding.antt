@@ -3,25 +3,25 @@
 -- Read first: Lodging, Leading, Ranges; Folds of gos_folds. The child is one that its node's own part asks at one handshake. Its own
 -- points are the same in the node's web, but for its result, which is the own part's handshake. A number that it uses and
 -- that is split is the source of the Share from which the child's supply comes.
-use Rattle.std.specs.Prelude.{◌≡◌, ℕ, zero, suc, ◌+◌, ◌-◌, ◌<◌, ◌≤◌, Bool, true, false, not, ◌&&◌, ◌||◌, List, [], ◌∷◌, ◌++◌, ◌⊎◌, length, Option, Some, None, nat_eq, nat_lt, slice_get, Contains, if◌then◌else◌}
+use Rattle.std.specs.Prelude.{◌≡◌, ℕ, zero, suc, ◌+◌, ◌-◌, ◌<◌, ◌≤◌, Bool, not, ◌&&◌, ◌||◌, List, [], ◌∷◌, ◌++◌, ◌⊎◌, length, Option, Some, None, nat_eq, nat_lt, slice_get, Contains, if◌then◌else◌}
 use Rattle.gos_types.specs.Types.{Type'}
 use Rattle.gos_model.specs.Typing.{Imported}
 use Rattle.gos_check.specs.declared.linear.Split.{Split}
 use Rattle.gos_check.specs.Nodes.{Numbered, type_of_node}
-use Rattle.gos_check.specs.Linearity.{times, split_in, sides, used, made}
+use Rattle.gos_check.specs.Linearity.{times, split_in, used, made}
 use Rattle.gos_plan.specs.Kinds.{Part}
 use Rattle.gos_plan.specs.Plans.{End, PartEnd, ImportEnd, ResultEnd, Plan}
 use Rattle.gos_realises.specs.Regular.{count}
 use Rattle.gos_ties.specs.declared.points.Place.TheVariants as places
 use Rattle.gos_ties.specs.declared.points.Point.{Point}
 use Rattle.gos_ties.specs.Ties.{point}
-use Rattle.gos_webs.specs.Webs.{Dot, Of, Number, Node, Within, Tie, Way, Web, IsOfWeb}
+use Rattle.gos_webs.specs.Webs.{Dot, Of, Number, Node, Within, Tie, Way, Web}
 use Rattle.gos_webs.specs.Cutting.{Cut}
 use Rattle.gos_unions.specs.Unions.{within}
 use Rattle.gos_windows.specs.Regions.{Serving}
-use Rattle.gos_folds.specs.Folds.{Fold, Follows, IsFold}
+use Rattle.gos_folds.specs.Folds.{Fold, Follows}
 use Rattle.gos_compile.specs.Wiring.{Types, parts_of, nodes, shares_ties, ties_of}
-use Rattle.gos_wired.specs.Wired.{Supplies, Source, Own, Supplied, Origin, Placing, IsFrom, placed, source_dot, dot_at, dot_ties, all_supply_ties, wired_web}
+use Rattle.gos_wired.specs.Wired.{Supplies, Source, Own, Supplied, Placing, IsFrom, placed, source_dot, dot_at, dot_ties, all_supply_ties, wired_web}
 use Rattle.gos_stages.specs.Inside.{numbers_inside, AreSplit, SidesAgree, AreGroundSupplies}
 use Rattle.gos_stages.specs.Leading.{dot_leading}
 use Rattle.gos_stages.specs.Lodging.{Spot, Lodging, live, seen_from, lodged, lies, AreTidy}

@@ -3,13 +3,12 @@
 -- Read first: Inside. A part of such a supply is a part of a supply outside, or the Share of a split. A dot of the node's web may stand
 -- for an end of one of these plans. Numbers are live that a child uses, or of which it uses a side; a Share of a live number is
 -- seen from that side, and what serves the other one stands for nothing.
-use Rattle.std.specs.Prelude.{◌≡◌, ◌≢◌, ℕ, zero, suc, ◌+◌, ◌*◌, ◌<◌, ◌≤◌, Bool, true, false, not, ◌&&◌, ◌||◌, List, [], ◌∷◌, ◌++◌, length, Option, Some, None, nat_eq, nat_lt, slice_get, Contains, if◌then◌else◌}
+use Rattle.std.specs.Prelude.{◌≡◌, ℕ, zero, suc, ◌+◌, ◌*◌, ◌<◌, ◌≤◌, Bool, true, false, not, ◌&&◌, ◌||◌, List, [], ◌∷◌, ◌++◌, length, Option, Some, None, nat_eq, nat_lt, Contains, if◌then◌else◌}
 use Rattle.gos_check.specs.declared.linear.Split.{Split}
 use Rattle.gos_check.specs.Linearity.{times, split_in, sides}
-use Rattle.gos_plan.specs.Kinds.{Part}
 use Rattle.gos_plan.specs.Plans.{End, PartEnd, ImportEnd, ResultEnd, Joint}
 use Rattle.gos_realises.specs.Regular.{count}
-use Rattle.gos_webs.specs.Webs.{Dot, Of, Number, Node, Within, Tie, Way, own_web, joint}
+use Rattle.gos_webs.specs.Webs.{Dot, Of, Number, Within, Tie, Way, own_web}
 use Rattle.gos_unions.specs.Unions.{within}
 use Rattle.gos_compile.specs.Wiring.{Types, shares_ties}
 use Rattle.gos_buffers.specs.Buffering.{end_behind}
@@ -103,10 +102,10 @@ one_lodging types q x s c l =
       root = λ n. if is_side s n then l.root s.of else l.root n;
       spare =
           λ n k h.
-              if is_side s n then
-                if nat_eq k (length (l.env s.of).plan.parts) then not (serves_side (count (types s.of)) (if nat_eq n s.left then 0 else 1) h)
-                else l.spare s.of k h
-              else l.spare n k h;
+          if is_side s n then
+          if nat_eq k (length (l.env s.of).plan.parts) then not (serves_side (count (types s.of)) (if nat_eq n s.left then 0 else 1) h)
+          else l.spare s.of k h
+          else l.spare n k h;
       home = one_home q (count (types s.of)) (length (l.env s.of).plan.parts) s c l.home;
     }
 

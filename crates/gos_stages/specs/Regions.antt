@@ -1,7 +1,7 @@
 -- Each child of a wired node is a region of its plan, with a plan that is the child, wired.
 --
 -- Read first: Folded; Regions of gos_windows.
-use Rattle.std.specs.Prelude.{◌≡◌, ℕ, ◌+◌, ◌≤◌, List, length, Option, Some, slice_get}
+use Rattle.std.specs.Prelude.{◌≡◌, ℕ, ◌+◌, ◌≤◌, List, length, Some, slice_get}
 use Rattle.gos_check.specs.Nodes.{type_of_node}
 use Rattle.gos_check.specs.Linearity.{times}
 use Rattle.gos_plan.specs.Kinds.{Contact, Part, contacts_of}
@@ -13,7 +13,7 @@ use Rattle.gos_compile.specs.Wiring.{parts_of}
 use Rattle.gos_wired.specs.Wired.{Placing, IsWired, dot_at}
 use Rattle.gos_stages.specs.Inside.{inside_supplies}
 use Rattle.gos_stages.specs.Housing.{HasShares}
-use Rattle.gos_stages.specs.Folding.{Child, lodge, child_cut, child_servings, IsChild, IsLaid}
+use Rattle.gos_stages.specs.Folding.{Child, child_cut, child_servings, IsChild, IsLaid}
 
 -- The parts of the node: those of its splits first, its own, which asks the child at one handshake, and the child's.
 pub record HasParts (f : Child) (own : List Part) : Type 0 where

@@ -1,7 +1,7 @@
 -- A child of a wired node is a stage of it.
 --
 -- Read first: Regions; Nodes of gos_windows.
-use Rattle.std.specs.Prelude.{ℕ, List, length}
+use Rattle.std.specs.Prelude.{List, length}
 use Rattle.gos_types.specs.Types.{IsDone}
 use Rattle.gos_plan.specs.Kinds.{Part}
 use Rattle.gos_plan.specs.Plans.{Plan}
