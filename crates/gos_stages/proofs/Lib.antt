@@ -15,8 +15,10 @@ pub mod ChildBackLemmas
 pub mod ServedLemmas
 pub mod SpareLemmas
 pub mod ChildPartLemmas
+pub mod ContactLemmas
 pub mod ImportHomeLemmas
 pub mod ChildFoldLemmas
 pub mod LayoutLemmas
 pub mod ChildStageLemmas
 pub mod StageLemmas
+pub mod NodeLemmas

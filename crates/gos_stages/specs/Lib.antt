@@ -10,3 +10,4 @@ pub mod Served
 pub mod Folded
 pub mod Regions
 pub mod Stages
+pub mod Nodes

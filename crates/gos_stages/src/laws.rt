@@ -5,6 +5,7 @@ ghost use Rattle.gos_stages.specs.Folding.{ChildStays, ChildWays};
 ghost use Rattle.gos_stages.specs.Housing.{FarIsNothing, FirstIsKept, HomesAreThere, ImportsAreFrom, PartsAreFrom, PartsAreOutsiders};
 ghost use Rattle.gos_stages.specs.Leading.{DotsLead, ResultLeads, TiesFollow};
 ghost use Rattle.gos_stages.specs.Lodging.{HomesAreKept, JointsAreWays, LodgedAreInside, NumbersAreAtHome, NumbersAreHeld, SpotsAreLive};
+ghost use Rattle.gos_stages.specs.Nodes.{StagesMakeNode};
 ghost use Rattle.gos_stages.specs.Ranges.{TiesStayWithin};
 ghost use Rattle.gos_stages.specs.Regions.{ChildIsStaged};
 ghost use Rattle.gos_stages.specs.Served.{ServingsServe, SparesAreOthers};
@@ -70,4 +71,9 @@ pub fn parts_lodge()
 pub fn shares_serve()
     ensures serve { ServingsServe }
     ensures others { SparesAreOthers }
+{}
+
+/// A wired node whose children cover it is a node of their stages.
+pub fn stages_make_nodes()
+    ensures { StagesMakeNode }
 {}
