@@ -22,3 +22,4 @@ pub mod LayoutLemmas
 pub mod ChildStageLemmas
 pub mod StageLemmas
 pub mod NodeLemmas
+pub mod NumberLemmas

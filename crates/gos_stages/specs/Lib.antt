@@ -5,6 +5,7 @@ pub mod Leading
 pub mod Ranges
 pub mod Lodging
 pub mod Housing
+pub mod Numbers
 pub mod Folding
 pub mod Served
 pub mod Folded

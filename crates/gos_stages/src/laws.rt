@@ -6,6 +6,7 @@ ghost use Rattle.gos_stages.specs.Housing.{FarIsNothing, FirstIsKept, HomesAreTh
 ghost use Rattle.gos_stages.specs.Leading.{DotsLead, ResultLeads, TiesFollow};
 ghost use Rattle.gos_stages.specs.Lodging.{HomesAreKept, JointsAreWays, LodgedAreInside, NumbersAreAtHome, NumbersAreHeld, SpotsAreLive};
 ghost use Rattle.gos_stages.specs.Nodes.{StagesMakeNode};
+ghost use Rattle.gos_stages.specs.Numbers.{BetweenIsApart, ChildNumbersStand, FirstNumbersStand, NumbersAreFound, NumbersOnce};
 ghost use Rattle.gos_stages.specs.Ranges.{TiesStayWithin};
 ghost use Rattle.gos_stages.specs.Regions.{ChildIsStaged};
 ghost use Rattle.gos_stages.specs.Served.{ServingsServe, SparesAreOthers};
@@ -76,4 +77,14 @@ pub fn shares_serve()
 /// A wired node whose children cover it is a node of their stages.
 pub fn stages_make_nodes()
     ensures { StagesMakeNode }
+{}
+
+/// The numbers of a child stand for something and aren't split, each is there once, and the child uses one side of a
+/// split.
+pub fn numbers_of_children()
+    ensures stand { ChildNumbersStand }
+    ensures first { FirstNumbersStand }
+    ensures found { NumbersAreFound }
+    ensures once { NumbersOnce }
+    ensures apart { BetweenIsApart }
 {}
