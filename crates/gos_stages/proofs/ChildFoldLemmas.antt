@@ -1,12 +1,11 @@
 -- The plan of a child lies as a fold in its node's: its ports, the Shares that serve it, and its ends.
 use Rattle.std.specs.Prelude.{◌+◌, ◌-◌, ◌*◌, ◌<◌, ◌≤◌, ◌⊎◌, length, nat_eq, nat_lt, slice_get, None, Contains}
-use Rattle.std.proofs.Common.{◌≡◌, ℕ, zero, suc, Bool, true, false, not, List, [], ◌∷◌, Option, Some, inl, inr, refl, sym, ◌∙◌, ap, subst, arith, if◌then◌else◌}
+use Rattle.std.proofs.Common.{◌≡◌, ℕ, suc, Bool, true, false, not, List, Option, Some, inl, inr, refl, sym, ◌∙◌, ap, subst, arith, if◌then◌else◌}
 use Rattle.std.proofs.lemmas.Option.{slice_get_within}
 use Rattle.std.proofs.lemmas.Bool.Decides.{nat_tests}
 use Rattle.std.proofs.lemmas.List.Elements.{Contains-append_cases}
-use Rattle.gos_types.specs.Types.{Type', Com, Exp, Var, Pair, Fun, IsGround}
+use Rattle.gos_types.specs.Types.{Type'}
 use Rattle.gos_model.specs.Typing.{Imported}
-use Rattle.gos_check.specs.declared.linear.Split.{Split}
 use Rattle.gos_check.specs.Nodes.{type_of_node}
 use Rattle.gos_check.proofs.TimesLemmas.{eq_true, true_eq}
 use Rattle.gos_plan.specs.Kinds.{Contact, Part, Share, contacts_of, turned_contact}
@@ -21,15 +20,14 @@ use Rattle.gos_unions.specs.Unions.{within}
 use Rattle.gos_unions.proofs.UnionLemmas.{of_image}
 use Rattle.gos_windows.specs.Regions.{Serving, IsOther}
 use Rattle.gos_folds.specs.Folds.{IsFolded, IsSpare}
-use Rattle.gos_compile.specs.Wiring.{Types, parts_of, shares, row, ties_of}
+use Rattle.gos_compile.specs.Wiring.{parts_of, shares, row, ties_of}
 use Rattle.gos_wired.specs.Wired.{Origin, Source, Own, Supplied, Placing, IsFrom, placed, source_dot, dot_at, dot_ties, all_supply_ties}
-use Rattle.gos_stages.specs.Inside.{AreSplit, SidesAgree}
-use Rattle.gos_stages.specs.Lodging.{Spot, spot_if, serves_side}
+use Rattle.gos_stages.specs.Lodging.{Spot, spot_if}
 use Rattle.gos_stages.specs.Folding.{Child, is_used, lodge, child_web, child_dot, in_range, spot_dot, asks_child, child_back, child_source, part_of_dot, port_of_dot, child_outer, child_cut, child_fold, child_servings, IsChild, IsLaid}
 use Rattle.gos_stages.specs.Housing.{IsThere}
 use Rattle.gos_stages.specs.Folded.{HasChild, ChildIsFolded}
 use Rattle.gos_stages.specs.Served.{IsSeenFrom}
-use Rattle.gos_stages.proofs.StepLemmas.{serves_source, serves_first_alone, serves_second_alone}
+use Rattle.gos_stages.proofs.StepLemmas.{serves_source}
 use Rattle.gos_stages.proofs.PartHomeLemmas.{numbers_are_at_home}
 use Rattle.gos_stages.proofs.HousingLemmas.{imports_are_from, homes_are_there, far_is_nothing}
 use Rattle.gos_stages.proofs.ImportHomeLemmas.{imports_are_there, result_is_nowhere}

@@ -1,25 +1,20 @@
 -- Stages that cover a wired node make it a node.
 use Rattle.std.specs.Prelude.{◌⊎◌, length, map, slice_get, Contains}
-use Rattle.std.proofs.Common.{◌≡◌, ℕ, zero, suc, true, List, [], ◌∷◌, Some, inl, inr, refl, sym, ◌∙◌, ap, subst, arith}
-use Rattle.gos_plan.specs.Kinds.{Contact, asks, serves, Part}
-use Rattle.gos_plan.specs.Firing.{Phase}
+use Rattle.std.proofs.Common.{◌≡◌, ℕ, true, List, [], Some, inl, inr, refl, sym, ◌∙◌, ap, subst}
+use Rattle.gos_plan.specs.Kinds.{asks, Part}
 use Rattle.gos_plan.specs.Plans.{End, PartEnd, ImportEnd, ResultEnd, Joint, Plan, stands_in}
-use Rattle.gos_plan.proofs.JointLemmas.{IsIn, fits, one_joint, contained}
+use Rattle.gos_plan.proofs.JointLemmas.{fits, one_joint, contained}
 use Rattle.gos_webs.specs.Webs.{Dot, Tie, Web, IsOfWeb, joint}
 use Rattle.gos_webs.specs.Cutting.{lies_at}
 use Rattle.gos_webs.proofs.WebLemmas.{asks_there, serves_there}
 use Rattle.gos_unions.proofs.UnionLemmas.{of_image, in_image}
-use Rattle.gos_sessions.specs.Sessions.{Form, Session, own_part, own_type, run_shake, session_of}
-use Rattle.gos_windows.specs.Nodes.{Stage, IsStage, IsOfStage, IsNode}
+use Rattle.gos_sessions.specs.Sessions.{Form, own_part, run_shake}
+use Rattle.gos_windows.specs.Nodes.{Stage, IsStage, IsOfStage}
 use Rattle.gos_folds.specs.Folds.{IsFold}
 use Rattle.gos_folds.proofs.RegionLemmas.{folded_joint}
-use Rattle.gos_compile.specs.Wiring.{parts_of}
-use Rattle.gos_wired.specs.Wired.{Supplies, Placing, dot_at}
-use Rattle.gos_stages.specs.Lodging.{lodged}
-use Rattle.gos_stages.specs.Folding.{Child, is_used, lodge, child_web, child_back, child_fold, child_cut, child_servings, IsChild, IsLaid}
-use Rattle.gos_stages.specs.Folded.{HasChild}
+use Rattle.gos_wired.specs.Wired.{Placing, dot_at}
+use Rattle.gos_stages.specs.Folding.{child_web, child_back, child_fold, child_cut, child_servings}
 use Rattle.gos_stages.specs.Nodes.{Cared, stage, IsCared, AreCovering, IsFormed, StagesMakeNode}
-use Rattle.gos_stages.proofs.LodgingLemmas.{lodged_are_inside}
 use Rattle.gos_stages.proofs.ChildFoldLemmas.{child_is_folded}
 use Rattle.gos_stages.proofs.StageLemmas.{has_child_of, laid_of, web_of}
 

@@ -1,14 +1,14 @@
 -- The numbers of a child, and that it uses one side of a split.
-use Rattle.std.specs.Prelude.{◌+◌, ◌<◌, ◌≤◌, ◌⊎◌, ◌&&◌, ◌||◌, nat_eq, nat_lt, Contains}
+use Rattle.std.specs.Prelude.{◌+◌, ◌<◌, ◌≤◌, ◌&&◌, ◌||◌, nat_eq, nat_lt, Contains}
 use Rattle.std.proofs.Common.{◌≡◌, ℕ, zero, suc, Bool, true, false, List, [], ◌∷◌, inl, inr, refl, sym, ◌∙◌, ap, subst, arith, if◌then◌else◌}
 use Rattle.std.proofs.lemmas.Bool.Decides.{nat_tests}
 use Rattle.gos_check.specs.declared.linear.Split.{Split}
 use Rattle.gos_check.specs.Nodes.{Numbered}
 use Rattle.gos_check.specs.Linearity.{times, split_in, sides, used, IsOneOf, Comes, itself, by_left, by_right, IsSplitBetween}
-use Rattle.gos_check.proofs.TimesLemmas.{number_cases, times_same}
+use Rattle.gos_check.proofs.TimesLemmas.{times_same}
 use Rattle.gos_stages.specs.Inside.{numbers_inside}
 use Rattle.gos_stages.specs.Lodging.{live, AreApart}
-use Rattle.gos_stages.specs.Numbers.{those, child_numbers, first_numbers, ChildNumbersStand, FirstNumbersStand, NumbersAreFound, NumbersOnce, BetweenIsApart}
+use Rattle.gos_stages.specs.Numbers.{those, ChildNumbersStand, FirstNumbersStand, NumbersAreFound, NumbersOnce, BetweenIsApart}
 
 -- what passes a test
 of_those : (p : ℕ → Bool) (ns : List ℕ) (n : ℕ) → Contains (those p ns) n → Contains ns n × (p n ≡ true)

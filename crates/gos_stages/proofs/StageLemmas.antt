@@ -4,7 +4,7 @@ use Rattle.std.proofs.Common.{◌≡◌, ℕ, zero, suc, List, [], ◌∷◌, So
 use Rattle.gos_plan.specs.Kinds.{Contact, asks, serves, Part, Share, contacts_of}
 use Rattle.gos_plan.specs.Plans.{End, ImportEnd, Plan, contact_at, turned_if}
 use Rattle.gos_plan.proofs.JointLemmas.{fits, contained}
-use Rattle.gos_webs.specs.Webs.{Tie, IsOfWeb}
+use Rattle.gos_webs.specs.Webs.{IsOfWeb}
 use Rattle.gos_webs.specs.Cutting.{StandsIn}
 use Rattle.gos_webs.proofs.CutLemmas.{which_end}
 use Rattle.gos_unions.proofs.FlatFitLemmas.{contained_at}
@@ -12,7 +12,7 @@ use Rattle.gos_windows.specs.Regions.{Serving, IsLoyal}
 use Rattle.gos_loyal.proofs.LoyalLemmas.{shares_of_one_are_loyal}
 use Rattle.gos_compile.specs.Wiring.{parts_of}
 use Rattle.gos_wired.specs.Wired.{Supplies, Placing, wired_web}
-use Rattle.gos_stages.specs.Folding.{Child, is_used, lodge, child_web, child_cut, child_servings, IsChild, IsLaid}
+use Rattle.gos_stages.specs.Folding.{Child, is_used, lodge, child_web, child_cut, child_servings, IsLaid}
 use Rattle.gos_stages.specs.Folded.{HasChild}
 use Rattle.gos_stages.specs.Regions.{HasParts, IsStaged}
 use Rattle.gos_stages.specs.Stages.{ChildIsStage}

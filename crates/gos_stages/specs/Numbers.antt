@@ -1,7 +1,7 @@
 -- The numbers of a child: those for which it has supplies of its own.
 --
 -- Read first: Lodging; Linearity of gos_check. A number that no child uses is the first child's, so that no supply is left over.
-use Rattle.std.specs.Prelude.{◌≡◌, ℕ, ◌+◌, ◌<◌, ◌≤◌, Bool, true, List, [], ◌∷◌, ◌++◌, ◌&&◌, nat_eq, nat_lt, Contains, if◌then◌else◌}
+use Rattle.std.specs.Prelude.{◌≡◌, ℕ, ◌+◌, ◌<◌, ◌≤◌, Bool, true, List, [], ◌∷◌, ◌&&◌, nat_eq, nat_lt, Contains, if◌then◌else◌}
 use Rattle.gos_check.specs.declared.linear.Split.{Split}
 use Rattle.gos_check.specs.Nodes.{Numbered}
 use Rattle.gos_check.specs.Linearity.{times, split_in, sides, used, IsSplitBetween}
