@@ -97,7 +97,7 @@ stages_make_node f own ts first pl r d es web formed cared covers one staged =
       one = ones;
       staged =
           λ p n s e.
-              let (c, listed, at, ty) = staged p n s e in (stage pl r c, in_image (stage pl r) es c listed, at, ty);
+          let (c, listed, at, ty) = staged p n s e in (stage pl r c, in_image (stage pl r) es c listed, at, ty);
       result = formed.result;
       joints = joints_so f own ts first pl r d es web formed cared covers;
       parts = parts;
