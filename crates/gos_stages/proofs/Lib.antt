@@ -23,3 +23,4 @@ pub mod ChildStageLemmas
 pub mod StageLemmas
 pub mod NodeLemmas
 pub mod NumberLemmas
+pub mod CoverLemmas

@@ -12,3 +12,4 @@ pub mod Folded
 pub mod Regions
 pub mod Stages
 pub mod Nodes
+pub mod Covering

@@ -1,5 +1,6 @@
 // What the definitions give. Each theorem is the contract of a function that does nothing.
 ghost use Rattle.gos_stages.specs.Inside.{InsideIsRealised, InsideMeans, OthersStay};
+ghost use Rattle.gos_stages.specs.Covering.{LiveIsCovered, OwnIsCovered, ServedIsCovered};
 ghost use Rattle.gos_stages.specs.Folded.{ChildIsFolded, ChildIsPart};
 ghost use Rattle.gos_stages.specs.Folding.{ChildStays, ChildWays};
 ghost use Rattle.gos_stages.specs.Housing.{FarIsNothing, FirstIsKept, HomesAreThere, ImportsAreFrom, PartsAreFrom, PartsAreOutsiders};
@@ -87,4 +88,11 @@ pub fn numbers_of_children()
     ensures found { NumbersAreFound }
     ensures once { NumbersOnce }
     ensures apart { BetweenIsApart }
+{}
+
+/// A child covers the supplies of its live numbers, its own parts, and what its Shares do for it.
+pub fn children_cover()
+    ensures live { LiveIsCovered }
+    ensures served { ServedIsCovered }
+    ensures own { OwnIsCovered }
 {}
