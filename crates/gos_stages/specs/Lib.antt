@@ -13,3 +13,4 @@ pub mod Regions
 pub mod Stages
 pub mod Nodes
 pub mod Covering
+pub mod Sequence
