@@ -24,3 +24,4 @@ pub mod StageLemmas
 pub mod NodeLemmas
 pub mod NumberLemmas
 pub mod CoverLemmas
+pub mod SequenceLemmas

@@ -16,9 +16,9 @@ use Rattle.gos_windows.specs.Nodes.{IsRestful, IsNode}
 use Rattle.gos_compile.specs.Wiring.{Types, parts_of, nodes}
 use Rattle.gos_wired.specs.Wired.{Supplies, Placing, IsWired}
 use Rattle.gos_stages.specs.Inside.{inside_supplies, numbers_inside, AreSplit, SidesAgree, AreGroundSupplies}
-use Rattle.gos_stages.specs.Lodging.{AreInOrder}
+use Rattle.gos_stages.specs.Lodging.{AreInOrder, AreTidy}
 use Rattle.gos_stages.specs.Numbers.{child_numbers, first_numbers}
-use Rattle.gos_stages.specs.Folding.{Child}
+use Rattle.gos_stages.specs.Folding.{Child, is_used}
 use Rattle.gos_stages.specs.Regions.{IsStaged}
 use Rattle.gos_stages.specs.Stages.{stage_of}
 
@@ -92,3 +92,10 @@ SequenceIsStaged =
     × IsStaged (second_of types i j ss env ns m n) pl pln r d
     × IsNode r (pl.own (length ss)) (Sequence t a b)
     (stage_of (first_of types i j ss env ns m n) pl plm r c ∷ stage_of (second_of types i j ss env ns m n) pl pln r d ∷ [])
+
+-- Each of the two children uses one side of a split at most.
+abbrev pub SequenceIsTidy : Type 0
+SequenceIsTidy =
+    (types : Types) (i j : ℕ) (ss : List Split) (env : Supplies) (ns : List ℕ) (m n : Numbered)
+    → IsTidyNode types ss env ns m n
+    → AreTidy (is_used (first_of types i j ss env ns m n)) ss ns × AreTidy (is_used (second_of types i j ss env ns m n)) ss ns

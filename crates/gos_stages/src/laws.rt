@@ -10,6 +10,7 @@ ghost use Rattle.gos_stages.specs.Nodes.{StagesMakeNode};
 ghost use Rattle.gos_stages.specs.Numbers.{BetweenIsApart, ChildNumbersStand, FirstNumbersStand, NumbersAreFound, NumbersOnce};
 ghost use Rattle.gos_stages.specs.Ranges.{TiesStayWithin};
 ghost use Rattle.gos_stages.specs.Regions.{ChildIsStaged};
+ghost use Rattle.gos_stages.specs.Sequence.{SequenceIsTidy};
 ghost use Rattle.gos_stages.specs.Served.{ServingsServe, SparesAreOthers};
 ghost use Rattle.gos_stages.specs.Stages.{ChildIsStage};
 ghost use Rattle.gos_stages.specs.SmallInside.{BothHaveShares, EmptyIsNone, UnboundIsNotSplit};
@@ -95,4 +96,9 @@ pub fn children_cover()
     ensures live { LiveIsCovered }
     ensures served { ServedIsCovered }
     ensures own { OwnIsCovered }
+{}
+
+/// Of `m ; n`, whose numbers are used as in a term that stands for a program, each child uses one side of a split at most.
+pub fn sequences()
+    ensures { SequenceIsTidy }
 {}
