@@ -1,0 +1,16 @@
+-- In reading order: a file uses only files above it.
+pub mod Inside
+pub mod SmallInside
+pub mod Leading
+pub mod Ranges
+pub mod Lodging
+pub mod Housing
+pub mod Numbers
+pub mod Folding
+pub mod Served
+pub mod Folded
+pub mod Regions
+pub mod Stages
+pub mod Nodes
+pub mod Covering
+pub mod Sequence

@@ -1,0 +1,11 @@
+// The children of a node that is wired to supplies: each is wired to supplies of its own.
+//
+// Definitions and laws alone. Read `specs/Inside`, and then laws.rt.
+#![tactic(auto)]
+
+mod laws;
+
+pub use laws::{
+    children_cover, children_fold, numbers_of_children, parts_lodge, sequences, shares_serve,
+    small_insides, stages_make_nodes, supplies_inside, supplies_lodge, ties_lead,
+};
