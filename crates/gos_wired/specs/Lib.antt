@@ -1,3 +1,4 @@
 -- In reading order: a file uses only files above it.
 pub mod Wired
 pub mod Modules
+pub mod SmallWired

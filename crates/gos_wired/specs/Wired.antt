@@ -4,7 +4,6 @@
 -- for a supply: a plan, and the term that it realises. The web has the ties of the node, the joints of each supply,
 -- and ties from each such number to its supply's result. A node of the term is wired so with Shares in front of what its parts share.
 use Rattle.std.specs.Prelude.{◌≡◌, ℕ, zero, suc, ◌+◌, List, [], ◌∷◌, ◌++◌, map, Some, slice_get, Contains}
-use Rattle.gos_model.specs.Terms.{Term}
 use Rattle.gos_model.specs.Typing.{Imported}
 use Rattle.gos_check.specs.Nodes.{Numbered, Meaning, type_of_node}
 use Rattle.gos_plan.specs.Kinds.{Part}

@@ -5,4 +5,4 @@
 
 mod laws;
 
-pub use laws::supplied_modules;
+pub use laws::{small_wirings, supplied_modules};

@@ -1,0 +1,33 @@
+-- `import c : com; c` with the plan of `skip` for c, wired.
+--
+-- Read first: Wired; SmallPlans of gos_plan. It shows that `IsWired` can be met and can be missed.
+use Rattle.std.specs.Prelude.{[], ◌∷◌}
+use Rattle.gos_types.specs.Types.{Com}
+use Rattle.gos_model.specs.Terms as terms
+use Rattle.gos_check.specs.Nodes.{Numbered, Use}
+use Rattle.gos_plan.specs.SmallPlans.{skip_plan}
+use Rattle.gos_compile.specs.Wiring.{Types}
+use Rattle.gos_wired.specs.Wired.{Supplies, Placing, Supplied, IsWired}
+
+-- all numbers have the type of a command, and the plan of `skip`
+abbrev pub commands : Types
+commands n = Com
+
+abbrev pub skips : Supplies
+skips n = record { plan = skip_plan; term = terms.Skip }
+
+-- the node uses number 0
+abbrev pub one_use : Numbered
+one_use = Use Com [] 0
+
+-- each part is one of the supply of number 0
+abbrev pub from_first : Placing
+from_first =
+    record { own = λ k. k; supplied = λ n k. k; import = λ n k. k; source = λ k. Supplied 0 k; origin = λ k. record { number = 0; import = k } }
+
+-- wired it is the plan of `skip`, and not that without its joint
+abbrev pub UseIsWired : Type 0
+UseIsWired = IsWired commands 0 0 one_use (0 ∷ []) skips from_first skip_plan
+
+abbrev pub UnjoinedIsNotWired : Type 0
+UnjoinedIsNotWired = IsWired commands 0 0 one_use (0 ∷ []) skips from_first (record skip_plan { joints = [] }) → ⊥
