@@ -1,2 +1,4 @@
 -- In reading order: a file uses only files above it.
 pub mod SpanLemmas
+pub mod NumberingLemmas
+pub mod ChildLemmas

@@ -1,0 +1,2 @@
+-- x
+use Rattle.gos_frames.proofs.NumberingLemmas.{numbering}
