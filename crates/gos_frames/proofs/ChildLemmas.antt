@@ -1,2 +1,2 @@
 -- x
-use Rattle.gos_frames.proofs.NumberingLemmas.{numbering}
+use Rattle.gos_frames.proofs.FrameLemmas.{kept}
