@@ -180,7 +180,7 @@ module _
   abbrev FromWhole : Part → Source → Type 0
   FromWhole x o = IsFrom (parts_of f.types s.whole) s.numbers s.outside x o
 
-  by_name : {P : Type 0} (n : ℕ) → (f.named n ≡ true → P) → (f.named n ≡ false → P) → P
+  pub by_name : {P : Type 0} (n : ℕ) → (f.named n ≡ true → P) → (f.named n ≡ false → P) → P
   by_name {P} n holds unnamed = tested (f.named n) refl
     where
       tested : (b : Bool) → f.named n ≡ b → P
@@ -284,7 +284,7 @@ module _
   sum_dot : (k h : ℕ) → Within 0 (Of (PartEnd (f.first + f.shift + k) h)) ≡ Within 0 (Of (PartEnd (f.first + (f.shift + k)) h))
   sum_dot k h = let same : f.first + f.shift + k ≡ f.first + (f.shift + k) = omega arith in ap (λ (n : ℕ). Within 0 (Of (PartEnd n h))) same
 
-  laid_supplied : (n : ℕ) (e : End) → f.named n ≡ false → laid f (Within (suc n) (Of e)) ≡ Within (suc n) (Of e)
+  pub laid_supplied : (n : ℕ) (e : End) → f.named n ≡ false → laid f (Within (suc n) (Of e)) ≡ Within (suc n) (Of e)
   laid_supplied n e unnamed = ap (λ (b : Bool). laid_end b f.first n e) unnamed
 
   source_laid : (x : Part) (o : Source) (h : ℕ) → From x o → laid f (source_dot (f.first + f.shift) o h) ≡ source_dot f.first (raised f.shift o) h
@@ -356,7 +356,7 @@ module _
   its_port (ImportEnd i h) k port e = by_name (plc.origin i).number (λ holds. ports.variables i h k holds e) (λ unnamed. import_port i h k unnamed e)
   its_port (ResultEnd h) k port e = ports.results h k e
 
-  its_end : (e : End) (k : Contact) → contact_at c e ≡ Some k → IsFolded (its_fold s r) (whole_web s) (its_web s) e
+  pub its_end : (e : End) (k : Contact) → contact_at c e ≡ Some k → IsFolded (its_fold s r) (whole_web s) (its_web s) e
   its_end (PartEnd i h) k e = part_folded i h k e
   its_end (ImportEnd i h) k e = (its_port (ImportEnd i h) k tt e).folded
   its_end (ResultEnd h) k e = (its_port (ResultEnd h) k tt e).folded

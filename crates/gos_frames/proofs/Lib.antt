@@ -3,3 +3,4 @@ pub mod SpanLemmas
 pub mod NumberingLemmas
 pub mod FrameLemmas
 pub mod ChildLemmas
+pub mod FoldLemmas
