@@ -4,3 +4,5 @@ pub mod NumberingLemmas
 pub mod FrameLemmas
 pub mod ChildLemmas
 pub mod FoldLemmas
+pub mod CutLemmas
+pub mod SideLemmas
