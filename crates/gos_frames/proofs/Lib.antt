@@ -6,3 +6,5 @@ pub mod ChildLemmas
 pub mod FoldLemmas
 pub mod CutLemmas
 pub mod SideLemmas
+pub mod RegionLemmas
+pub mod ParallelLemmas

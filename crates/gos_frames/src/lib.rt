@@ -5,4 +5,4 @@
 
 mod laws;
 
-pub use laws::spans;
+pub use laws::{parallel_sides, regions_are_cut, spans};

@@ -1,6 +1,4 @@
 use Rattle.gos_frames.proofs.SpanLemmas.{ties_span}
-use Rattle.gos_frames.proofs.CutLemmas as cu
-use Rattle.gos_frames.proofs.SideLemmas as ch
 use Rattle.gos_frames.proofs.laws.spans.Goals as goal
 
 pub returns : goal.returns
