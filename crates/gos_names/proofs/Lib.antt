@@ -1,0 +1,13 @@
+pub mod TrackLemmas
+pub mod PlaceLemmas
+pub mod WaitLemmas
+pub mod DoneLemmas
+pub mod ClassLemmas
+pub mod SmallJoiningLemmas
+pub mod VariableLemmas
+pub mod ReadingLemmas
+pub mod ReadLemmas
+pub mod WritingLemmas
+pub mod WriteLemmas
+pub mod GroundLemmas
+pub mod SmallNameLemmas
