@@ -8,3 +8,4 @@ pub mod CutLemmas
 pub mod SideLemmas
 pub mod RegionLemmas
 pub mod ParallelLemmas
+pub mod BodyLemmas
