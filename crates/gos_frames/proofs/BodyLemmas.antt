@@ -208,7 +208,7 @@ module _
   pub run_in : Contains whole_dots (tie (Of (ResultEnd 0)) (Of (PartEnd i 3)))
   run_in = in_node (paths.tie (point places.Result 0) (point (places.Part i) 3)) (0, omega arith, refl)
 
-  variable_in : (h : ℕ) → h < 2 → Contains whole_dots (tie (Number n h) (Of (PartEnd i (suc h))))
+  pub variable_in : (h : ℕ) → h < 2 → Contains whole_dots (tie (Number n h) (Of (PartEnd i (suc h))))
   variable_in zero lt = in_node (paths.tie (point (places.Number n) 0) (point (places.Part i) 1)) (1, omega arith, refl)
   variable_in (suc zero) lt = in_node (paths.tie (point (places.Number n) 1) (point (places.Part i) 2)) (2, omega arith, refl)
   variable_in (suc (suc h)) lt = absurd (omega (arith, lt))
@@ -223,7 +223,7 @@ module _
       (within 0 (dot_ties (ties_of types (i + 1) (suc j) m (row places.Result 0 (count (type_of_node m))))))
       (all_supply_ties types inner numbers) u (in_supplies types inner numbers n u bound_in has)
 
-  two_handshakes : count (types n) ≡ 2
+  pub two_handshakes : count (types n) ≡ 2
   two_handshakes = ap count type_n
 
   result_in : (h : ℕ) → h < 2 → Contains (its_web s).ties (result_tie n h)
@@ -232,10 +232,10 @@ module _
       (Contains-append_right (within (suc n) (own_web (inner n).plan).ties) (result_ties n 0 (count (types n))) (result_tie n h)
       (in_results n 0 (count (types n)) h (omega arith) (omega (arith, two_handshakes, lt))))
 
-  abbrev name_web : List Tie
+  abbrev pub name_web : List Tie
   name_web = within (suc n) (own_web (name_plan x (Var w))).ties
 
-  abbrev name_tie : ℕ → Tie
+  abbrev pub name_tie : ℕ → Tie
   name_tie h = tie (Within (suc n) (Of (ResultEnd h))) (Within (suc n) (Of (ImportEnd 0 h)))
 
   name_has : (h : ℕ) → h < 2 → Contains name_web (name_tie h)
@@ -243,7 +243,7 @@ module _
   name_has (suc zero) lt = (1, omega arith, refl)
   name_has (suc (suc h)) lt = absurd (omega (arith, lt))
 
-  of_name : (u : Tie) → Contains name_web u → (h : ℕ) × (h < 2) × (name_tie h ≡ u)
+  pub of_name : (u : Tie) → Contains name_web u → (h : ℕ) × (h < 2) × (name_tie h ≡ u)
   of_name u (zero, lt, e) = (0, omega arith, e)
   of_name u (suc zero, lt, e) = (1, omega arith, e)
   of_name u (suc (suc a), lt, e) = absurd (omega (arith, lt))

@@ -9,3 +9,4 @@ pub mod SideLemmas
 pub mod RegionLemmas
 pub mod ParallelLemmas
 pub mod BodyLemmas
+pub mod BlockLemmas
