@@ -37,6 +37,7 @@ use Rattle.gos_wired.specs.Wired as origins
 use Rattle.gos_wired.proofs.TieLemmas.{result_tie, of_results}
 use Rattle.gos_frames.specs.Blocks.{with_name, IsBound, HasBody, BlockIsWired}
 use Rattle.gos_frames.proofs.NumberingLemmas.{origin, got_below, import_there, import_is}
+use Rattle.gos_frames.proofs.FrameLemmas as frames
 use Rattle.gos_frames.proofs.FrameLemmas.{size, in_range_true, out_of_range, itself_true, own_part, back, laid, laid_end, supply_each}
 use Rattle.gos_frames.proofs.ChildLemmas.{Sitting, child_parts, child_placing, child_plan, number_of, number_if, port_of, its_cut, its_outer, its_inner, its_fold, its_web, whole_web, IsPort, IsSitting, HasPorts}
 use Rattle.gos_frames.proofs.ChildLemmas as children
@@ -263,3 +264,168 @@ module _
         ways = ways;
         own = λ h c y stands con. own_ports h c y stands (sym (own_contact h) ∙ con);
       }
+
+  -- Whose a part is.
+  abbrev Whose : Source → Type 0
+  Whose o = IsIn s.frame o ⊎ (o ≡ Own 0)
+
+  whose : (y : Part) (o : Source) → IsFrom (parts_of types (Under t [] (OfNew w) n m)) ns env y o → Whose o
+  whose y (Own zero) has = inr refl
+  whose y (Own (suc a)) has =
+      let low = got_below (parts_of types (Under t [] (OfNew w) n m)) (suc a) y has in
+      let less : suc a < 1 + size s.frame = omega (arith, low) in inl (in_range_true 1 (size s.frame) (suc a) (omega arith) less)
+  whose y (Supplied a b) (has, at) = inl (bodies.outer_kept types i j w n t m ns env pl x done type_m type_n bound a has)
+
+  whole_result : (h : ℕ) → contact_at r (ResultEnd h) ≡ turned_if (slice_get (contacts_of t) h)
+  whole_result h = ap (λ (u : Type'). turned_if (slice_get (contacts_of u) h)) is.outcome
+
+  run_way : Way (whole_web s).ties (Within 0 (Of (ResultEnd 0))) (Within 0 (Of (PartEnd i 3)))
+  run_way =
+      along (Within 0 (Of (ResultEnd 0))) (Within 0 (Of (PartEnd i 3))) (Within 0 (Of (PartEnd i 3)))
+      (inl (whole_in (tie (Of (ResultEnd 0)) (Of (PartEnd i 3))) (bodies.run_in types i j w n t m ns env pl x done type_m type_n bound)))
+      (here (Within 0 (Of (PartEnd i 3))))
+
+  run_joint : Contains r.joints (joint (ResultEnd 0) (PartEnd (pl.own 0) 3))
+  run_joint =
+      (is.web.joints (ResultEnd 0) (PartEnd (pl.own 0) 3)).1
+      (0, v, whole_result 0 ∙ done_contact t done, own_contact 3,
+      subst (λ (d : Dot). Way (whole_web s).ties (Within 0 (Of (ResultEnd 0))) d) (sym (own_dot 3)) run_way)
+
+  only_run : (b : End) → Contains r.joints (joint (ResultEnd 0) b) → b ≡ PartEnd (pl.own 0) 3
+  only_run b has =
+      ap (λ (y : Joint). y.serving)
+      (one_joint r [] r.joints (joint (ResultEnd 0) b) (joint (ResultEnd 0) (PartEnd (pl.own 0) 3)) (ResultEnd 0) is.web.right
+      (contained r.joints (joint (ResultEnd 0) b) has) (contained r.joints (joint (ResultEnd 0) (PartEnd (pl.own 0) 3)) run_joint)
+      (asks_there (ResultEnd 0) b) (asks_there (ResultEnd 0) (PartEnd (pl.own 0) 3)))
+
+  -- What an end that asks stands for.
+  abbrev Asker : End → Type 0
+  Asker a = ((y : Dot) × (back s.frame ((whole_web s).at a) ≡ Some y)) ⊎ (a ≡ ResultEnd 0)
+
+  own_asker : (h q c : ℕ) → slice_get (part_contacts local_part) h ≡ Some (asks q c) → Asker (PartEnd (pl.own 0) h)
+  own_asker zero q c e = inl (Within 0 (Of (ResultEnd 0)), ap (back s.frame) (own_dot 0) ∙ own_part s.frame 0)
+  own_asker (suc zero) q c e = absurd (serves_not 0 w q c e)
+  own_asker (suc (suc zero)) q c e = absurd (serves_not w 0 q c e)
+  own_asker (suc (suc (suc zero))) q c e = absurd (serves_not 0 v q c e)
+  own_asker (suc (suc (suc (suc h)))) q c e = absurd (none-some (asks q c) e)
+
+  part_asker : (a h q c : ℕ) → contact_at r (PartEnd a h) ≡ Some (asks q c) → placed pl (pl.source a) ≡ a → Whose (pl.source a) → Asker (PartEnd a h)
+  part_asker a h q c con back_at (inl one) = inl (in_back s.frame (omega arith) (pl.source a) h one)
+  part_asker a h q c con back_at (inr own) =
+      let same : pl.own 0 ≡ a = ap (placed pl) (sym own) ∙ back_at in
+      subst (λ (b : ℕ). Asker (PartEnd b h)) same
+      (own_asker h q c (sym (own_contact h) ∙ (ap (λ (b : ℕ). contact_at r (PartEnd b h)) same ∙ con)))
+
+  result_asker : (h q c : ℕ) → turned_if (slice_get (contacts_of t) h) ≡ Some (asks q c) → Asker (ResultEnd h)
+  result_asker zero q c e = inr refl
+  result_asker (suc h) q c e = absurd (done_only t done h (asks q c) e)
+
+  asker : (a : End) (q c : ℕ) → contact_at r a ≡ Some (asks q c) → Asker a
+  asker (PartEnd a h) q c con =
+      let (y, at) = part_at (slice_get r.parts a) h (asks q c) con in
+      let (from, placed_at) = is.no_more a y at in part_asker a h q c con placed_at (whose y (pl.source a) from)
+  asker (ImportEnd a h) q c con =
+      let (y, at) = there_is r.imports a h (asks q c) con in
+      let (has, got, home) = is.no_import a y at in
+      let keep = bodies.outer_kept types i j w n t m ns env pl x done type_m type_n bound (pl.origin a).number has in
+      inl
+      (Within (suc (pl.origin a).number) (Of (ImportEnd (pl.origin a).import h)),
+      itself_true (frames.kept s.frame (pl.origin a).number) (Within (suc (pl.origin a).number) (Of (ImportEnd (pl.origin a).import h))) keep)
+  asker (ResultEnd h) q c con = result_asker h q c (sym (whole_result h) ∙ con)
+
+  -- another import of the body is one of the whole
+  record Other (a : ℕ) (y : Imported) : Type 0 where
+    unnamed : nat_eq (plc.origin a).number n ≡ false
+    at : slice_get r.imports (pl.import (plc.origin a).number (plc.origin a).import) ≡ Some y
+
+  which_import : (a : ℕ) (y : Imported) → slice_get (child_plan s).imports a ≡ Some y → ((place ≡ a) × (variable ≡ y)) ⊎ Other a y
+  which_import a y e = tested (nat_eq (plc.origin a).number n) refl
+    where
+      tested : (b : Bool) → nat_eq (plc.origin a).number n ≡ b → ((place ≡ a) × (variable ≡ y)) ⊎ Other a y
+      tested true named = inl (is_variable a y e named)
+      tested false unnamed = inr (record { unnamed = unnamed; at = (children.its_import s r sits ports is a y e unnamed).at })
+
+  module _ (fresh : (y : Imported) → Contains r.imports y → y.name ≢ x) (h : HasPlan s r sits ports is) where
+    abbrev body : Plan
+    body = with_joints (child_plan s) h.joints
+
+    abbrev cut : Cut
+    cut = joined_cut (its_cut s r) h.joints
+
+    abbrev block : Block
+    block = record { own = pl.own 0; width = w; body = body; cut = cut; place = place; variable = variable }
+
+    abbrev OneImport : ℕ → ℕ → Type 0
+    OneImport a g = (b : ℕ) × (cut.outer (ImportEnd a g) ≡ ImportEnd b g) × (slice_get body.imports a ≡ slice_get r.imports b)
+
+    one_import : (a g : ℕ) (y : Imported) → a ≢ place → slice_get body.imports a ≡ Some y → ((place ≡ a) × (variable ≡ y)) ⊎ Other a y → OneImport a g
+    one_import a g y other at (inl (same, is_y)) = absurd (other (sym same))
+    one_import a g y other at (inr there) = (
+      pl.import (plc.origin a).number (plc.origin a).import,
+      ap (λ (b : Bool). port_of b (pl.own 0) g (ImportEnd (pl.import (plc.origin a).number (plc.origin a).import) g)) there.unnamed,
+      at ∙ sym there.at,
+    )
+
+    its_imports : (a g : ℕ) → a ≢ place → StandsIn body (ImportEnd a g) → OneImport a g
+    its_imports a g other stands =
+        let (con, at) = stands_contact body h.region.right (ImportEnd a g) stands in
+        let (y, there) = there_is body.imports a g con at in one_import a g y other there (which_import a y there)
+
+    its_others : (y : Imported) → Contains body.imports y → (y ≡ variable) ⊎ Contains r.imports y
+    its_others y has =
+        let (a, at) = listed_at body.imports y has in by_case a (which_import a y at)
+      where
+        by_case : (a : ℕ) → ((place ≡ a) × (variable ≡ y)) ⊎ Other a y → (y ≡ variable) ⊎ Contains r.imports y
+        by_case a (inl (same, is_y)) = inl (sym is_y)
+        by_case a (inr there) = inr (at_listed r.imports (pl.import (plc.origin a).number (plc.origin a).import) y there.at)
+
+    abbrev Joined : End → End → Type 0
+    Joined a b = IsJointOf cut body a b ⊎ ((a ≡ ResultEnd 0) × (b ≡ PartEnd (pl.own 0) 3))
+
+    joined : (a b : End) → Contains r.joints (joint a b) → Asker a → Joined a b
+    joined a b has (inl (y, stands)) =
+        let (d, e, there, lies_d, lies_e) =
+        folded_joint (its_fold s r) [] (whole_web s) (its_web s) r body a b y h.fold h.wired.web has (inl stands) in
+        inl (d, e, there, lies_joined (its_cut s r) h.joints d ∙ lies_d, lies_joined (its_cut s r) h.joints e ∙ lies_e)
+    joined a b has (inr same) = inr (same, only_run b (subst (λ (d : End). Contains r.joints (joint d b)) same has))
+
+    part_of : (a : ℕ) (y : Part) → slice_get r.parts a ≡ Some y → Whose (pl.source a) → placed pl (pl.source a) ≡ a
+        → IsPartOf cut a ⊎ (a ≡ pl.own 0)
+    part_of a y at (inl one) back_at =
+        let (b, e) = in_number s.frame plc y (pl.source a) one in
+        inl (b, ap (λ (o : Option Part). number_of s.frame plc o (pl.source a)) at ∙ e)
+    part_of a y at (inr own) back_at = inr (sym back_at ∙ ap (placed pl) own)
+
+    is_block : IsBlock r block
+    is_block =
+        record {
+          cut = region_is_cut cut r body h.region;
+          done = subst IsDone (sym is.outcome) done;
+          outcome = type_m ∙ sym is.outcome;
+          own =
+              driver.0
+              ∙ ap (λ (b : ℕ). Some (kinds.Local w b)) (same_bits t done ∙ ap bits (sym is.outcome));
+          outside = own_outside;
+          result = refl;
+          there = variable_there.0;
+          type = refl;
+          served = outer_there;
+          imports = its_imports;
+          others = its_others;
+          fresh = fresh;
+          run = run_joint;
+          joints = λ a b has. (let (q, c, con, con_b, way) = (is.web.joints a b).0 has in joined a b has (asker a q c con));
+          parts =
+              λ a y at.
+                  let (from, back_at) = is.no_more a y at in part_of a y at (whose y (pl.source a) from) back_at;
+        }
+
+    has_body : HasBody types i j n m ns env (pl.own 0) w x r
+    has_body = record { block = block; placing = plc; at = refl; width = refl; name = refl; wired = h.wired; is_block = is_block }
+
+pub block_is_wired : BlockIsWired
+block_is_wired types i j w n t m ns env pl x r is done type_m type_n bound fresh =
+    has_body types i j w n t m ns env pl x r is done type_m type_n bound fresh
+    (has_plan (bodies.s types i j w n t m ns env pl x done type_m type_n bound) r
+    (bodies.is_sitting types i j w n t m ns env pl x done type_m type_n bound)
+    (ports types i j w n t m ns env pl x r is done type_m type_n bound) is)

@@ -1,4 +1,5 @@
 // What the definitions give. Each theorem is the contract of a function that does nothing.
+ghost use Rattle.gos_frames.specs.Blocks.{BlockIsWired};
 ghost use Rattle.gos_frames.specs.Frames.{ParallelIsWired, RegionIsCut};
 ghost use Rattle.gos_frames.specs.Spans.{TiesSpan};
 
@@ -15,4 +16,9 @@ pub fn regions_are_cut()
 /// A node `m || n` that is wired to supplies is made of its sides, each wired to the supplies of its own numbers.
 pub fn parallel_sides()
     ensures { ParallelIsWired }
+{}
+
+/// A node `new x : w in m` that is wired to supplies is made of its body, wired to them and to a name for x.
+pub fn block_bodies()
+    ensures { BlockIsWired }
 {}

@@ -5,4 +5,4 @@
 
 mod laws;
 
-pub use laws::{parallel_sides, regions_are_cut, spans};
+pub use laws::{block_bodies, parallel_sides, regions_are_cut, spans};

@@ -1,5 +1,4 @@
 use Rattle.gos_frames.proofs.SpanLemmas.{ties_span}
-use Rattle.gos_frames.proofs.BlockLemmas as ch
 use Rattle.gos_frames.proofs.laws.spans.Goals as goal
 
 pub returns : goal.returns
