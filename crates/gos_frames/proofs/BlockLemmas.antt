@@ -1,8 +1,8 @@
 -- A node `new x : w in m` that is wired to supplies is made of its body, wired to them and to a name.
-use Rattle.std.specs.Prelude.{◌≡◌, ◌≢◌, ℕ, zero, suc, ◌+◌, ◌-◌, ◌<◌, ◌≤◌, ◌⊎◌, Bool, true, false, List, [], ◌∷◌, ◌++◌, length, Option, Some, None, slice_get, nat_lt, nat_eq, Contains, if◌then◌else◌}
+use Rattle.std.specs.Prelude.{◌≡◌, ◌≢◌, ℕ, zero, suc, ◌+◌, ◌-◌, ◌<◌, ◌⊎◌, Bool, true, false, List, [], ◌∷◌, ◌++◌, Option, Some, None, slice_get, nat_eq, Contains, if◌then◌else◌}
 use Rattle.std.proofs.Common.{refl, sym, ◌∙◌, ap, subst, arith, inl, inr}
 use Rattle.std.proofs.lemmas.Option.{none-some, same_Some}
-use Rattle.std.proofs.lemmas.List.Elements.{Contains-append_left, Contains-append_right, Contains-append_cases}
+use Rattle.std.proofs.lemmas.List.Elements.{Contains-append_left, Contains-append_cases}
 use Rattle.gos_types.specs.Types.{Type', Com, Exp, Var, Pair, Fun, IsDone}
 use Rattle.gos_types.specs.declared.shakes.Role as roles
 use Rattle.gos_types.specs.declared.shakes.Role.TheVariants as sides
@@ -34,7 +34,7 @@ use Rattle.gos_blocks.specs.Block.{Block, IsBlock}
 use Rattle.gos_compile.specs.Wiring.{Types, parts_of, answer_bits}
 use Rattle.gos_wired.specs.Wired.{Supplies, Source, Own, Supplied, Placing, IsFrom, placed, source_dot, result_ties, supply_ties, all_supply_ties, IsWired}
 use Rattle.gos_wired.specs.Wired as origins
-use Rattle.gos_wired.proofs.TieLemmas.{result_tie, of_results}
+use Rattle.gos_wired.proofs.TieLemmas.{of_results}
 use Rattle.gos_frames.specs.Blocks.{with_name, IsBound, HasBody, BlockIsWired}
 use Rattle.gos_frames.proofs.NumberingLemmas.{origin, got_below, import_there, import_is}
 use Rattle.gos_frames.proofs.FrameLemmas as frames

@@ -1,41 +1,37 @@
 -- The body of `new x : w in M` sits in its node: its result and the name of its variable at handshakes of the node's own part.
-use Rattle.std.specs.Prelude.{◌≡◌, ◌≢◌, ℕ, zero, suc, ◌+◌, ◌-◌, ◌<◌, ◌≤◌, ◌⊎◌, Bool, true, false, not, ◌&&◌, List, [], ◌∷◌, ◌++◌, length, Option, Some, None, slice_get, nat_lt, nat_eq, Contains, if◌then◌else◌}
+use Rattle.std.specs.Prelude.{◌≡◌, ℕ, zero, suc, ◌+◌, ◌<◌, ◌≤◌, ◌⊎◌, Bool, true, false, List, [], ◌∷◌, ◌++◌, Option, Some, None, slice_get, nat_eq, Contains, if◌then◌else◌}
 use Rattle.std.proofs.Common.{refl, sym, ◌∙◌, ap, subst, arith, inl, inr}
-use Rattle.std.proofs.lemmas.Option.{none-some, same_Some}
+use Rattle.std.proofs.lemmas.Option.{none-some}
 use Rattle.std.proofs.lemmas.List.Elements.{Contains-append_left, Contains-append_right, Contains-append_cases}
 use Rattle.gos_types.specs.Types.{Type', Com, Exp, Var, Pair, Fun, IsDone}
 use Rattle.gos_model.specs.Terms.{Name, Import}
 use Rattle.gos_model.specs.Typing.{Imported}
 use Rattle.gos_check.specs.Nodes.{Numbered, Under, OfNew}
-use Rattle.gos_check.specs.Linearity.{times, made, used}
-use Rattle.gos_check.proofs.TimesLemmas.{eq_true, eq_false, true_eq, false_ne, times-append, times_same}
+use Rattle.gos_check.specs.Linearity.{times, made}
+use Rattle.gos_check.proofs.TimesLemmas.{eq_true, eq_false, false_ne, times-append, times_same}
 use Rattle.gos_plan.specs.Kinds as kinds
 use Rattle.gos_plan.specs.Kinds.{Part, Contact, asks, serves, contacts_of, part_contacts}
-use Rattle.gos_plan.specs.Plans.{End, PartEnd, ImportEnd, ResultEnd, Joint, Plan, contacts_of_part, contacts_of_import, turned_if, contact_at}
-use Rattle.gos_plan.specs.Tokens.{IsPortEnd}
+use Rattle.gos_plan.specs.Plans.{End, PartEnd, ImportEnd, ResultEnd, turned_if}
 use Rattle.gos_realises.specs.Regular.{count}
 use Rattle.gos_realises.specs.Modules.{Supply}
-use Rattle.gos_realises.proofs.ToldLemmas.{there_is}
 use Rattle.gos_ties.specs.declared.points.Place.TheVariants as places
-use Rattle.gos_ties.specs.declared.points.Point.{Point}
 use Rattle.gos_ties.specs.declared.points.Tie as point_ties
 use Rattle.gos_ties.specs.Ties as paths
 use Rattle.gos_ties.specs.Ties.{point}
-use Rattle.gos_webs.specs.Webs.{Dot, Of, Number, Node, Within, Tie, tie, Way, here, along, joint, own_web}
+use Rattle.gos_webs.specs.Webs.{Dot, Of, Number, Within, Tie, tie, Way, here, along, own_web}
 use Rattle.gos_unions.specs.Unions.{within}
 use Rattle.gos_unions.proofs.UnionLemmas.{of_image, in_image}
 use Rattle.gos_folds.specs.Folds as folds
 use Rattle.gos_names.specs.Names.{name_plan, imported}
-use Rattle.gos_compile.specs.Wiring.{Types, row, led, parts_of, nodes, type_of_node, ties_of, answer_bits}
-use Rattle.gos_wired.specs.Wired.{Supplies, Source, Own, Supplied, Placing, IsFrom, placed, source_dot, dot_of, dot_ties, result_ties, supply_ties, all_supply_ties, IsWired}
-use Rattle.gos_wired.specs.Wired as origins
-use Rattle.gos_wired.proofs.TieLemmas.{result_tie, of_results, in_results, in_supplies}
+use Rattle.gos_compile.specs.Wiring.{Types, row, led, parts_of, type_of_node, ties_of, answer_bits}
+use Rattle.gos_wired.specs.Wired.{Supplies, Placing, dot_of, dot_ties, result_ties, supply_ties, all_supply_ties}
+use Rattle.gos_wired.proofs.TieLemmas.{result_tie, in_results, in_supplies}
 use Rattle.gos_frames.specs.Blocks.{with_name, IsBound}
-use Rattle.gos_frames.proofs.NumberingLemmas.{origin, times_some, some_times, numbering, import_there, import_is}
+use Rattle.gos_frames.proofs.NumberingLemmas.{times_some, numbering}
 use Rattle.gos_frames.proofs.FrameLemmas as frames
 use Rattle.gos_frames.proofs.FrameLemmas.{Frame, kept, known, size, out_of_range, kept_true, own_part, back, laid, laid_end, Comes, its_ties_there}
 use Rattle.gos_frames.proofs.FoldLemmas.{follows_none}
-use Rattle.gos_frames.proofs.ChildLemmas.{Sitting, child_placing, child_plan, number_of, number_if, port_of, its_cut, its_outer, its_inner, its_fold, its_web, whole_web, whole_ties, IsPort, IsSitting, HasPorts}
+use Rattle.gos_frames.proofs.ChildLemmas.{Sitting, child_placing, its_web, IsSitting}
 
 -- what the handshakes of the block's own part stand for
 abbrev pub block_port : ℕ → ℕ → Option Dot

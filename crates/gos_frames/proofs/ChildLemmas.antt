@@ -1,33 +1,27 @@
 -- The plan of a child, with its supplies, without joints; how it is numbered, and that it lies in the plan of its node as a fold.
-use Rattle.std.specs.Prelude.{◌≡◌, ◌≢◌, ℕ, zero, suc, ◌+◌, ◌-◌, ◌<◌, ◌≤◌, ◌⊎◌, Bool, true, false, not, ◌&&◌, List, [], ◌∷◌, ◌++◌, length, map, Option, Some, None, slice_get, nat_lt, nat_eq, Contains, if◌then◌else◌}
-use Rattle.std.proofs.Common.{refl, sym, ◌∙◌, ap, subst, arith, inl, inr}
+use Rattle.std.specs.Prelude.{◌≡◌, ℕ, zero, suc, ◌+◌, ◌-◌, ◌<◌, ◌≤◌, ◌⊎◌, Bool, true, false, List, [], ◌∷◌, length, Option, Some, None, slice_get, nat_eq, Contains, if◌then◌else◌}
+use Rattle.std.proofs.Common.{refl, sym, ◌∙◌, ap, subst, arith}
 use Rattle.std.proofs.lemmas.Option.{none-some, same_Some}
-use Rattle.std.proofs.lemmas.List.Elements.{Contains-append_left, Contains-append_right, Contains-append_cases}
 use Rattle.gos_model.specs.Typing.{Imported}
 use Rattle.gos_check.specs.Nodes.{Numbered}
 use Rattle.gos_check.specs.Linearity.{times, made, used}
-use Rattle.gos_check.proofs.TimesLemmas.{number_cases}
 use Rattle.gos_plan.specs.Kinds.{Part, Contact}
-use Rattle.gos_plan.specs.Plans.{End, PartEnd, ImportEnd, ResultEnd, Plan, contacts_of_part, contacts_of_import, contact_at}
+use Rattle.gos_plan.specs.Plans.{End, PartEnd, ImportEnd, ResultEnd, Plan, contacts_of_import, contact_at}
 use Rattle.gos_plan.specs.Tokens.{IsPortEnd}
 use Rattle.gos_realises.specs.Regular.{count}
 use Rattle.gos_realises.specs.Modules.{Supply}
 use Rattle.gos_realises.proofs.ToldLemmas.{there_is}
 use Rattle.gos_ties.specs.declared.points.Place.TheVariants as places
-use Rattle.gos_webs.specs.Webs.{Dot, Of, Number, Node, Within, Tie, tie, Web, Way, here, along}
-use Rattle.gos_webs.specs.Cutting.{Cut, lies_at, IsOutside}
+use Rattle.gos_webs.specs.Webs.{Dot, Of, Within, Tie, Web, Way}
+use Rattle.gos_webs.specs.Cutting.{Cut, IsOutside}
 use Rattle.gos_webs.proofs.CutLemmas.{part_at}
-use Rattle.gos_unions.specs.Unions.{within}
-use Rattle.gos_unions.proofs.UnionLemmas.{of_image, in_image}
-use Rattle.gos_windows.specs.Regions.{Serving}
-use Rattle.gos_folds.specs.Folds.{Fold, Follows, IsFolded, IsSpare, IsFold}
-use Rattle.gos_compile.specs.Wiring.{Types, row, parts_of, nodes, type_of_node, ties_of}
+use Rattle.gos_folds.specs.Folds.{Fold, Follows, IsFolded}
+use Rattle.gos_compile.specs.Wiring.{row, parts_of, type_of_node, ties_of}
 use Rattle.gos_wired.specs.Wired as origins
 use Rattle.gos_wired.specs.Wired.{Supplies, Source, Own, Supplied, Placing, IsFrom, placed, source_dot, dot_ties, supply_ties, all_supply_ties, wired_web, IsWired}
-use Rattle.gos_wired.proofs.TieLemmas.{in_supplies, of_supplies}
 use Rattle.gos_frames.proofs.SpanLemmas.{EachPoint}
-use Rattle.gos_frames.proofs.NumberingLemmas.{origin, got_below, all_parts, all_imports, numbering, part_there, part_is, import_there, import_is}
-use Rattle.gos_frames.proofs.FrameLemmas.{Frame, kept, known, size, in_range, in_range_true, in_range_is, itself_is, itself_true, itself_false, kept_true, kept_is, known_of, lt_false, other_part, own_part, part_held, back, laid, laid_end, Held, Comes, Led, its_ties, its_ties_there, led, leads, lead_tie, OfSupply, supply_each}
+use Rattle.gos_frames.proofs.NumberingLemmas.{origin, got_below, all_parts, all_imports, numbering, part_there, part_is, import_is}
+use Rattle.gos_frames.proofs.FrameLemmas.{Frame, kept, known, size, in_range, in_range_true, in_range_is, itself_true, kept_true, kept_is, part_held, back, laid, laid_end, Comes, its_ties_there}
 
 -- a source of the child's is one of the node's
 abbrev pub raised : ℕ → Source → Source

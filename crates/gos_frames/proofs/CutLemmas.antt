@@ -1,10 +1,10 @@
 -- A region without Shares is cut.
 use Rattle.std.specs.Prelude.{[], ◌⊎◌, Contains}
 use Rattle.std.proofs.Common.{◌≡◌, inl, inr, arith}
-use Rattle.gos_plan.specs.Plans.{End, Plan}
+use Rattle.gos_plan.specs.Plans.{End}
 use Rattle.gos_webs.specs.Webs.{joint}
-use Rattle.gos_webs.specs.Cutting.{Cut, lies_at, IsInside, IsCut}
-use Rattle.gos_windows.specs.Regions.{IsOther, IsRegion}
+use Rattle.gos_webs.specs.Cutting.{lies_at, IsInside}
+use Rattle.gos_windows.specs.Regions.{IsOther}
 use Rattle.gos_frames.specs.Frames.{RegionIsCut}
 
 none_other : (e : End) → IsOther [] e → ⊥

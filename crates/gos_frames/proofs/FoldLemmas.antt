@@ -1,12 +1,12 @@
 -- A child that sits in its node is folded in it, so it has a plan, and is wired to its supplies.
-use Rattle.std.specs.Prelude.{◌≡◌, ◌≢◌, ℕ, zero, suc, ◌+◌, ◌-◌, ◌<◌, ◌≤◌, ◌⊎◌, Bool, true, false, List, [], ◌∷◌, ◌++◌, length, Option, Some, None, slice_get, nat_eq, Contains, if◌then◌else◌}
+use Rattle.std.specs.Prelude.{◌≡◌, ◌≢◌, ℕ, suc, ◌+◌, ◌-◌, ◌⊎◌, Bool, true, false, List, [], ◌++◌, Option, Some, None, slice_get, nat_eq, Contains}
 use Rattle.std.proofs.Common.{refl, sym, ◌∙◌, ap, subst, arith, inl, inr}
-use Rattle.std.proofs.lemmas.Option.{none-some, same_Some}
+use Rattle.std.proofs.lemmas.Option.{none-some}
 use Rattle.std.proofs.lemmas.List.Elements.{Contains-append_left, Contains-append_right, Contains-append_cases}
 use Rattle.gos_model.specs.Typing.{Imported}
 use Rattle.gos_check.proofs.TimesLemmas.{number_cases}
 use Rattle.gos_plan.specs.Kinds.{Part, Contact}
-use Rattle.gos_plan.specs.Plans.{End, PartEnd, ImportEnd, ResultEnd, Joint, Plan, contacts_of_part, contacts_of_import, contact_at}
+use Rattle.gos_plan.specs.Plans.{End, PartEnd, ImportEnd, ResultEnd, Joint, Plan, contacts_of_import, contact_at}
 use Rattle.gos_plan.specs.Tokens.{IsPortEnd}
 use Rattle.gos_realises.specs.Regular.{count}
 use Rattle.gos_realises.specs.Modules.{Supply}
@@ -14,20 +14,19 @@ use Rattle.gos_realises.proofs.ToldLemmas.{there_is}
 use Rattle.gos_ties.specs.declared.points.Place.TheVariants as places
 use Rattle.gos_webs.specs.Webs as webs
 use Rattle.gos_webs.specs.Webs.{Dot, Of, Number, Within, Tie, tie, Web, Way, here, along, joint, IsOfWeb}
-use Rattle.gos_webs.specs.Cutting.{Cut, lies_at, IsOutside}
-use Rattle.gos_webs.specs.Cutting as cutting
+use Rattle.gos_webs.specs.Cutting.{IsOutside}
 use Rattle.gos_webs.proofs.CutLemmas.{part_at}
 use Rattle.gos_unions.specs.Unions.{within}
 use Rattle.gos_unions.proofs.UnionLemmas.{of_image, in_image}
-use Rattle.gos_windows.specs.Regions.{Serving, IsOther, IsRegion}
-use Rattle.gos_folds.specs.Folds.{Fold, Follows, IsFold, joined_cut, with_joints}
-use Rattle.gos_folds.proofs.PlanLemmas.{fold_has_plan, same_fold}
-use Rattle.gos_compile.specs.Wiring.{row, parts_of, nodes, type_of_node, ties_of}
+use Rattle.gos_windows.specs.Regions.{IsOther, IsRegion}
+use Rattle.gos_folds.specs.Folds.{Follows, IsFold, joined_cut, with_joints}
+use Rattle.gos_folds.proofs.PlanLemmas.{fold_has_plan}
+use Rattle.gos_compile.specs.Wiring.{row, parts_of, type_of_node, ties_of}
 use Rattle.gos_wired.specs.Wired.{Supplies, Source, Own, Supplied, IsFrom, placed, source_dot, dot_ties, supply_ties, all_supply_ties, IsWired}
 use Rattle.gos_wired.specs.Wired as origins
 use Rattle.gos_wired.proofs.TieLemmas.{in_supplies, of_supplies}
-use Rattle.gos_frames.proofs.NumberingLemmas.{origin, part_there, part_is, import_there, import_is}
-use Rattle.gos_frames.proofs.FrameLemmas.{Frame, kept, known, size, in_range, in_range_true, in_range_is, itself_if, itself_is, itself_true, itself_false, kept_true, kept_is, known_of, other_part, own_part, back, laid, laid_end, Held, Led, its_ties, its_ties_there, led, leads, lead_tie, OfSupply, supply_each}
+use Rattle.gos_frames.proofs.NumberingLemmas.{part_there, part_is, import_there, import_is}
+use Rattle.gos_frames.proofs.FrameLemmas.{Frame, kept, known, size, in_range, in_range_true, in_range_is, itself_is, itself_true, itself_false, kept_is, known_of, other_part, own_part, back, laid, Held, its_ties, its_ties_there, led, leads, lead_tie, supply_each}
 use Rattle.gos_frames.proofs.ChildLemmas.{Sitting, child_parts, child_placing, child_plan, its_outer, its_inner, its_cut, its_fold, its_web, whole_web, whole_ties, number_of, number_if, port_of, IsPort, IsSitting, HasPorts}
 use Rattle.gos_frames.proofs.ChildLemmas as children
 

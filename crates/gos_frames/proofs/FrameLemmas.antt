@@ -1,27 +1,25 @@
 -- How the web of a child, with its supplies, lies in that of its node: what its dots stand for, there and back.
-use Rattle.std.specs.Prelude.{◌≡◌, ◌≢◌, ℕ, zero, suc, ◌+◌, ◌-◌, ◌<◌, ◌≤◌, ◌⊎◌, Bool, true, false, not, ◌&&◌, List, [], ◌∷◌, ◌++◌, length, map, Option, Some, None, slice_get, nat_lt, nat_eq, Contains, if◌then◌else◌}
+use Rattle.std.specs.Prelude.{◌≡◌, ◌≢◌, ℕ, zero, suc, ◌+◌, ◌<◌, ◌≤◌, ◌⊎◌, Bool, true, false, not, ◌&&◌, List, length, Option, Some, None, nat_lt, nat_eq, Contains, if◌then◌else◌}
 use Rattle.std.proofs.Common.{refl, sym, ◌∙◌, ap, subst, arith, inl, inr}
 use Rattle.std.proofs.lemmas.Option.{none-some}
 use Rattle.gos_check.specs.Nodes.{Numbered}
 use Rattle.gos_check.specs.Linearity.{times, made, used}
 use Rattle.gos_check.proofs.TimesLemmas.{eq_true, eq_false}
 use Rattle.gos_plan.specs.Plans.{End, PartEnd, ImportEnd, ResultEnd}
-use Rattle.gos_ties.specs.declared.points.Place.{Place}
 use Rattle.gos_ties.specs.declared.points.Place.TheVariants as places
 use Rattle.gos_ties.specs.declared.points.Point.{Point}
 use Rattle.gos_ties.specs.declared.points.Tie as point_ties
-use Rattle.gos_ties.specs.Ties.{point}
 use Rattle.gos_webs.specs.Webs.{Dot, Of, Number, Node, Within, Tie, tie, own_web}
 use Rattle.gos_realises.specs.Regular.{count}
 use Rattle.gos_unions.specs.Unions.{within}
 use Rattle.gos_unions.proofs.UnionLemmas.{of_image, in_image}
-use Rattle.std.proofs.lemmas.List.Elements.{Contains-append_left, Contains-append_right, Contains-append_cases}
+use Rattle.std.proofs.lemmas.List.Elements.{Contains-append_cases}
 use Rattle.gos_compile.specs.Wiring.{Types, row, parts_of, nodes, ties_of}
-use Rattle.gos_wired.specs.Wired.{Supplies, dot_of, dot_ties, result_ties, supply_ties, all_supply_ties}
-use Rattle.gos_wired.proofs.TieLemmas.{result_tie, of_results}
+use Rattle.gos_wired.specs.Wired.{Supplies, dot_of, dot_ties, result_ties, supply_ties}
+use Rattle.gos_wired.proofs.TieLemmas.{of_results}
 use Rattle.gos_stages.specs.Leading.{dot_leading}
 use Rattle.gos_stages.proofs.FollowLemmas.{dots_lead}
-use Rattle.gos_frames.proofs.SpanLemmas.{EachPoint, EachTie, Both, HoldsInside, spans, one_tie}
+use Rattle.gos_frames.proofs.SpanLemmas.{EachPoint, Both, HoldsInside, spans, one_tie}
 use Rattle.gos_frames.proofs.NumberingLemmas.{times_some, some_times}
 
 -- A child: the numbers for which it has supplies, of which some are names that only it knows; its node has parts from `first`

@@ -1,17 +1,16 @@
 -- A node `m || n` that is wired to supplies is made of its sides, wired to theirs.
-use Rattle.std.specs.Prelude.{◌≡◌, ◌≢◌, ℕ, zero, suc, ◌+◌, ◌-◌, ◌<◌, ◌≤◌, ◌⊎◌, Bool, true, false, List, [], ◌∷◌, ◌++◌, length, Option, Some, None, slice_get, nat_lt, nat_eq, Contains}
+use Rattle.std.specs.Prelude.{◌≡◌, ℕ, zero, suc, ◌+◌, ◌<◌, ◌≤◌, ◌⊎◌, Bool, true, false, List, [], ◌∷◌, ◌++◌, length, Option, Some, slice_get, nat_lt, Contains}
 use Rattle.std.proofs.Common.{refl, sym, ◌∙◌, ap, subst, arith, inl, inr, length-append}
 use Rattle.std.proofs.lemmas.Option.{none-some, same_Some}
 use Rattle.std.proofs.lemmas.List.Elements.{Contains-append_left, Contains-append_right, Contains-append_cases}
 use Rattle.gos_types.specs.Types.{Type', Com}
 use Rattle.gos_types.specs.declared.shakes.Role.{Role}
 use Rattle.gos_types.specs.declared.shakes.Role.TheVariants.{Serve, Ask}
-use Rattle.gos_model.specs.Typing.{Imported}
 use Rattle.gos_check.specs.Nodes.{Numbered, Two, OfPar}
-use Rattle.gos_check.specs.Linearity.{times, made, used}
+use Rattle.gos_check.specs.Linearity.{times}
 use Rattle.gos_plan.specs.Kinds as kinds
 use Rattle.gos_plan.specs.Kinds.{Part, Contact, asks, serves, contacts_of, part_contacts}
-use Rattle.gos_plan.specs.Plans.{End, PartEnd, ImportEnd, ResultEnd, Joint, Plan, contacts_of_part, turned_if, contact_at, stands_in}
+use Rattle.gos_plan.specs.Plans.{End, PartEnd, ImportEnd, ResultEnd, Joint, Plan, contacts_of_part, turned_if, contact_at}
 use Rattle.gos_plan.proofs.JointLemmas.{one_joint, contained}
 use Rattle.gos_realises.specs.Regular.{count}
 use Rattle.gos_realises.specs.Realises.{NamesDiffer, HaveOtherNames}
@@ -21,7 +20,7 @@ use Rattle.gos_ties.specs.declared.points.Point.{Point}
 use Rattle.gos_ties.specs.declared.points.Tie as point_ties
 use Rattle.gos_ties.specs.Ties as paths
 use Rattle.gos_ties.specs.Ties.{point}
-use Rattle.gos_webs.specs.Webs.{Dot, Of, Number, Within, Tie, tie, Web, Way, here, along, joint}
+use Rattle.gos_webs.specs.Webs.{Dot, Of, Within, Tie, tie, Way, here, along, joint}
 use Rattle.gos_webs.specs.Cutting.{Cut}
 use Rattle.gos_webs.proofs.CutLemmas.{part_at}
 use Rattle.gos_webs.proofs.WebLemmas.{asks_there}
@@ -35,11 +34,11 @@ use Rattle.gos_wired.specs.Wired.{Supplies, Source, Own, Supplied, Placing, IsFr
 use Rattle.gos_wired.specs.Wired as origins
 use Rattle.gos_frames.specs.Frames.{AreParted, AreSides, ParallelIsWired}
 use Rattle.gos_frames.proofs.NumberingLemmas.{got_below, times_some, some_times}
-use Rattle.gos_frames.proofs.FrameLemmas.{Frame, kept, size, in_range, in_range_true, in_range_is, itself_true, kept_true, kept_is, own_part, back}
-use Rattle.gos_frames.proofs.ChildLemmas.{Sitting, IsSitting, HasPorts, child_placing, child_plan, number_of, its_cut, whole_web, whole_ties}
+use Rattle.gos_frames.proofs.FrameLemmas.{Frame, kept, in_range_true, in_range_is, itself_true, kept_true, kept_is, own_part, back}
+use Rattle.gos_frames.proofs.ChildLemmas.{Sitting, IsSitting, HasPorts, child_placing, child_plan, number_of, its_cut, whole_web}
 use Rattle.gos_frames.proofs.FoldLemmas.{HasPlan}
 use Rattle.gos_frames.proofs.SideLemmas.{side_frame, side_sitting, IsSideOf, is_sitting, has_ports}
-use Rattle.gos_frames.proofs.RegionLemmas.{listed_at, at_listed, differ_at, IsIn, in_number, number_in, in_back, side_plan, ImportIn, import_in, is_side, joint_of}
+use Rattle.gos_frames.proofs.RegionLemmas.{listed_at, differ_at, IsIn, in_number, number_in, in_back, side_plan, import_in, is_side, joint_of}
 
 abbrev by_role : Role → Bool
 by_role Serve = false

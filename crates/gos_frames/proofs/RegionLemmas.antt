@@ -1,49 +1,29 @@
 -- A side of a node of two parts is a region of its plan, asked by the own part of the node.
-use Rattle.std.specs.Prelude.{◌≡◌, ◌≢◌, ℕ, zero, suc, ◌+◌, ◌-◌, ◌<◌, ◌≤◌, ◌⊎◌, Bool, true, false, List, [], ◌∷◌, ◌++◌, length, Option, Some, None, slice_get, nat_eq, Contains}
-use Rattle.std.proofs.Common.{refl, sym, ◌∙◌, ap, subst, arith, inl, inr}
+use Rattle.std.specs.Prelude.{◌≡◌, ℕ, zero, suc, ◌+◌, ◌-◌, ◌<◌, Bool, true, false, List, [], ◌∷◌, Option, Some, None, slice_get, Contains}
+use Rattle.std.proofs.Common.{refl, sym, ◌∙◌, ap, arith, inl}
 use Rattle.std.proofs.lemmas.Option.{none-some, same_Some}
-use Rattle.std.proofs.lemmas.List.Elements.{Contains-append_left, Contains-append_right, Contains-append_cases}
-use Rattle.gos_types.specs.Types.{Type', Com}
-use Rattle.gos_types.specs.declared.shakes.Role.{Role}
-use Rattle.gos_types.specs.declared.shakes.Role.TheVariants.{Serve, Ask}
 use Rattle.gos_model.specs.Typing.{Imported}
-use Rattle.gos_check.specs.Nodes.{Numbered, Two, OfPar}
-use Rattle.gos_check.specs.Linearity.{times, made, used}
-use Rattle.gos_plan.specs.Kinds as kinds
-use Rattle.gos_plan.specs.Kinds.{Part, Contact, asks, serves, contacts_of, part_contacts}
+use Rattle.gos_check.specs.Nodes.{Numbered}
+use Rattle.gos_plan.specs.Kinds.{Part, asks, part_contacts}
 use Rattle.gos_plan.specs.Plans as plans
 use Rattle.gos_plan.specs.Plans.{End, PartEnd, ImportEnd, ResultEnd, Plan, contacts_of_part, turned_if, contact_at, stands_in}
-use Rattle.gos_plan.proofs.JointLemmas.{same_itself, one_joint, contained}
-use Rattle.gos_realises.specs.Regular.{count}
-use Rattle.gos_realises.specs.Realises.{NamesDiffer, HaveOtherNames}
+use Rattle.gos_realises.specs.Realises.{NamesDiffer}
 use Rattle.gos_realises.proofs.ToldLemmas.{there_is}
-use Rattle.gos_ties.specs.declared.points.Place.TheVariants as places
-use Rattle.gos_ties.specs.declared.points.Point.{Point}
-use Rattle.gos_ties.specs.declared.points.Tie as point_ties
-use Rattle.gos_ties.specs.Ties as paths
-use Rattle.gos_ties.specs.Ties.{point}
-use Rattle.gos_webs.specs.Webs.{Dot, Of, Number, Within, Tie, tie, Web, Way, here, along, joint}
+use Rattle.gos_webs.specs.Webs.{Dot, Of, Within, Tie, joint}
 use Rattle.gos_webs.specs.Cutting.{Cut, lies_at}
-use Rattle.gos_webs.proofs.CutLemmas.{part_at}
-use Rattle.gos_webs.proofs.WebLemmas.{asks_there}
-use Rattle.gos_unions.proofs.UnionLemmas.{of_image, in_image}
-use Rattle.gos_unions.proofs.LeftLemmas.{front, behind}
 use Rattle.gos_windows.proofs.PortLemmas.{stands_contact}
 use Rattle.gos_nodes.proofs.PortLemmas.{among}
 use Rattle.gos_folds.specs.Folds.{joined_cut, with_joints}
 use Rattle.gos_folds.proofs.RegionLemmas.{folded_joint}
-use Rattle.gos_parallel.specs.Parallel.{IsSide, IsJointOf, IsPartOf, IsParallel}
-use Rattle.gos_compile.specs.Wiring.{Types, row, parts_of, nodes, type_of_node, ties_of}
-use Rattle.gos_wired.specs.Wired.{Supplies, Source, Own, Supplied, Placing, IsFrom, placed, source_dot, dot_of, dot_ties, IsWired}
-use Rattle.gos_wired.specs.Wired as origins
-use Rattle.gos_frames.specs.Frames.{AreParted, AreSides, ParallelIsWired}
-use Rattle.gos_frames.proofs.NumberingLemmas.{got_below, times_some, some_times}
-use Rattle.gos_frames.proofs.FrameLemmas.{Frame, kept, size, in_range, in_range_true, in_range_is, itself_true, kept_true, kept_is, part_held, own_part, back}
+use Rattle.gos_parallel.specs.Parallel.{IsSide, IsJointOf}
+use Rattle.gos_compile.specs.Wiring.{Types}
+use Rattle.gos_wired.specs.Wired.{Supplies, Source, Own, Supplied, Placing, source_dot, IsWired}
+use Rattle.gos_frames.proofs.FrameLemmas.{Frame, kept, size, in_range, in_range_is, itself_true, part_held, back}
 use Rattle.gos_frames.proofs.ChildLemmas.{Sitting, child_placing, child_plan, number_of, number_if, its_cut, its_fold, its_web, whole_web, IsSitting, HasPorts}
 use Rattle.gos_frames.proofs.ChildLemmas as children
 use Rattle.gos_frames.proofs.FoldLemmas.{HasPlan, has_plan}
 use Rattle.gos_frames.proofs.CutLemmas.{region_is_cut}
-use Rattle.gos_frames.proofs.SideLemmas.{side_frame, side_sitting, IsSideOf, is_sitting, has_ports, own_outside}
+use Rattle.gos_frames.proofs.SideLemmas.{side_sitting, IsSideOf, is_sitting, has_ports, own_outside}
 
 -- lists by number
 pub listed_at : {A : Type 0} (xs : List A) (x : A) → Contains xs x → (k : ℕ) × (slice_get xs k ≡ Some x)

@@ -1,31 +1,27 @@
 -- One side of a node of two parts that share nothing: it sits in the node, its result at a handshake of the node's own part.
-use Rattle.std.specs.Prelude.{◌≡◌, ◌≢◌, ℕ, zero, suc, ◌+◌, ◌-◌, ◌<◌, ◌≤◌, ◌⊎◌, Bool, true, false, not, ◌&&◌, List, [], ◌∷◌, ◌++◌, length, Option, Some, None, slice_get, nat_lt, nat_eq, Contains, if◌then◌else◌}
+use Rattle.std.specs.Prelude.{◌≡◌, ◌≢◌, ℕ, zero, suc, ◌+◌, ◌-◌, ◌<◌, ◌≤◌, ◌⊎◌, Bool, true, false, ◌&&◌, List, [], ◌∷◌, length, Option, Some, None, slice_get, nat_lt, nat_eq, Contains, if◌then◌else◌}
 use Rattle.std.proofs.Common.{refl, sym, ◌∙◌, ap, subst, arith, inl, inr}
 use Rattle.std.proofs.lemmas.Option.{none-some, same_Some}
-use Rattle.std.proofs.lemmas.List.Elements.{Contains-append_left, Contains-append_right, Contains-append_cases}
 use Rattle.gos_types.specs.Types.{Type', Com}
-use Rattle.gos_model.specs.Typing.{Imported}
 use Rattle.gos_check.specs.Nodes.{Numbered}
 use Rattle.gos_check.specs.Linearity.{times, made, used}
-use Rattle.gos_check.proofs.TimesLemmas.{number_cases, eq_true, true_eq}
+use Rattle.gos_check.proofs.TimesLemmas.{eq_true, true_eq}
 use Rattle.gos_plan.specs.Kinds.{Part, Contact, asks, contacts_of, part_contacts}
-use Rattle.gos_plan.specs.Plans.{End, PartEnd, ImportEnd, ResultEnd, Plan, contacts_of_part, turned_if, contact_at}
-use Rattle.gos_plan.specs.Tokens.{IsPortEnd}
+use Rattle.gos_plan.specs.Plans.{End, PartEnd, ResultEnd, Plan, contacts_of_part, turned_if, contact_at}
 use Rattle.gos_realises.specs.Regular.{count}
 use Rattle.gos_ties.specs.declared.points.Place.TheVariants as places
-use Rattle.gos_ties.specs.declared.points.Point.{Point}
 use Rattle.gos_ties.specs.declared.points.Tie as point_ties
 use Rattle.gos_ties.specs.Ties.{point}
 use Rattle.gos_webs.specs.Webs.{Dot, Of, Number, Node, Within, Tie, tie}
-use Rattle.gos_unions.proofs.UnionLemmas.{of_image, in_image}
+use Rattle.gos_unions.proofs.UnionLemmas.{of_image}
 use Rattle.gos_folds.specs.Folds as folds
 use Rattle.gos_compile.specs.Wiring.{Types, row, parts_of, nodes, type_of_node, ties_of}
-use Rattle.gos_wired.specs.Wired.{Supplies, Source, Own, Supplied, Placing, IsFrom, placed, source_dot, dot_of, dot_ties, IsWired}
-use Rattle.gos_frames.proofs.SpanLemmas.{EachPoint, Both, HoldsInside, spans, one_tie}
+use Rattle.gos_wired.specs.Wired.{Supplies, Source, Own, Placing, source_dot, dot_of, dot_ties}
+use Rattle.gos_frames.proofs.SpanLemmas.{Both, HoldsInside, spans, one_tie}
 use Rattle.gos_frames.proofs.NumberingLemmas.{times_some, some_times}
-use Rattle.gos_frames.proofs.FrameLemmas.{Frame, is_in, kept, known, size, in_range, itself_false, out_of_range, lt_true, lt_false, other_part, own_part, back, laid, Comes, Gone, its_ties_there}
+use Rattle.gos_frames.proofs.FrameLemmas.{Frame, is_in, kept, known, size, in_range, itself_false, out_of_range, lt_false, other_part, own_part, back, Gone, its_ties_there}
 use Rattle.gos_frames.proofs.FoldLemmas.{follows_none}
-use Rattle.gos_frames.proofs.ChildLemmas.{Sitting, child_placing, child_plan, number_of, number_if, its_cut, its_outer, its_inner, its_fold, its_web, whole_web, whole_ties, IsPort, IsSitting, HasPorts}
+use Rattle.gos_frames.proofs.ChildLemmas.{Sitting, child_placing, child_plan, number_of, number_if, its_cut, its_web, whole_web, IsPort, IsSitting, HasPorts}
 
 -- the child's result is asked at this handshake of the node's own part
 abbrev pub result_if : Bool → Option Dot

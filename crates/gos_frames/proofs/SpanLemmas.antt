@@ -1,5 +1,5 @@
 -- What holds of a term's own points, and of those to which its handshakes lead, holds of all points of its ties.
-use Rattle.std.specs.Prelude.{◌-◌, ◌<◌, ◌≤◌, ◌⊎◌, take, drop, length, Contains}
+use Rattle.std.specs.Prelude.{◌-◌, ◌<◌, ◌≤◌, take, drop, length, Contains}
 use Rattle.std.proofs.Common.{◌≡◌, ℕ, zero, suc, ◌+◌, List, [], ◌∷◌, ◌++◌, inl, inr, refl, sym, ◌∙◌, ap, subst, arith, length-append}
 use Rattle.gos_types.specs.Types.{Type'}
 use Rattle.gos_check.specs.declared.linear.Split.{Split}
@@ -17,7 +17,7 @@ use Rattle.gos_ties.specs.declared.points.Point.{Point}
 use Rattle.gos_ties.specs.declared.points.Tie.{Tie}
 use Rattle.gos_ties.specs.Ties.{point}
 use Rattle.gos_compile.specs.Wiring.{Types, row, led, shares, share_ties, shares_ties, ties_of, parts_of, type_of_node, nodes, closed_part, binder_part, binder_ties, binder_out, one_part, one_ties, one_out, two_part, two_ties, first_out, second_out, answer_bits}
-use Rattle.gos_frames.specs.Spans.{IsOwnPlace, IsSpoken, TiesSpan}
+use Rattle.gos_frames.specs.Spans.{IsSpoken, TiesSpan}
 
 -- all of a list
 abbrev pub EachPoint : (Point → Type 0) → List Point → Type 0
