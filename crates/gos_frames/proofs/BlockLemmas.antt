@@ -287,9 +287,13 @@ module _
 
   run_joint : Contains r.joints (joint (ResultEnd 0) (PartEnd (pl.own 0) 3))
   run_joint =
-      (is.web.joints (ResultEnd 0) (PartEnd (pl.own 0) 3)).1
-      (0, v, whole_result 0 ∙ done_contact t done, own_contact 3,
-      subst (λ (d : Dot). Way (whole_web s).ties (Within 0 (Of (ResultEnd 0))) d) (sym (own_dot 3)) run_way)
+      (is.web.joints (ResultEnd 0) (PartEnd (pl.own 0) 3)).1 (
+        0,
+        v,
+        whole_result 0 ∙ done_contact t done,
+        own_contact 3,
+        subst (λ (d : Dot). Way (whole_web s).ties (Within 0 (Of (ResultEnd 0))) d) (sym (own_dot 3)) run_way,
+      )
 
   only_run : (b : End) → Contains r.joints (joint (ResultEnd 0) b) → b ≡ PartEnd (pl.own 0) 3
   only_run b has =
@@ -328,9 +332,10 @@ module _
       let (y, at) = there_is r.imports a h (asks q c) con in
       let (has, got, home) = is.no_import a y at in
       let keep = bodies.outer_kept types i j w n t m ns env pl x done type_m type_n bound (pl.origin a).number has in
-      inl
-      (Within (suc (pl.origin a).number) (Of (ImportEnd (pl.origin a).import h)),
-      itself_true (frames.kept s.frame (pl.origin a).number) (Within (suc (pl.origin a).number) (Of (ImportEnd (pl.origin a).import h))) keep)
+      inl (
+        Within (suc (pl.origin a).number) (Of (ImportEnd (pl.origin a).import h)),
+        itself_true (frames.kept s.frame (pl.origin a).number) (Within (suc (pl.origin a).number) (Of (ImportEnd (pl.origin a).import h))) keep,
+      )
   asker (ResultEnd h) q c con = result_asker h q c (sym (whole_result h) ∙ con)
 
   -- another import of the body is one of the whole
@@ -417,7 +422,7 @@ module _
           joints = λ a b has. (let (q, c, con, con_b, way) = (is.web.joints a b).0 has in joined a b has (asker a q c con));
           parts =
               λ a y at.
-                  let (from, back_at) = is.no_more a y at in part_of a y at (whose y (pl.source a) from) back_at;
+              let (from, back_at) = is.no_more a y at in part_of a y at (whose y (pl.source a) from) back_at;
         }
 
     has_body : HasBody types i j n m ns env (pl.own 0) w x r

@@ -220,7 +220,7 @@ module _
         numbers = λ i j e. children.its_number s r sits ports is i j e;
         ports =
             λ e k port at.
-                let there = children.its_port s r sits ports is e k port at in (there.outside, there.inner, there.contact);
+            let there = children.its_port s r sits ports is e k port at in (there.outside, there.inner, there.contact);
         serving = λ n (i, lt, same). absurd (omega (arith, lt));
         others = λ e other. absurd (none_other e other);
         ends = λ e k at. inl (children.its_end s r sits ports is e k at);
@@ -249,7 +249,7 @@ module _
         stays = is_fold.stays;
         comes =
             λ e k y out at stands.
-                let (d, port, outer, con) = is_fold.comes e k y out at stands in (d, port, outer, same_contact js d ∙ con);
+            let (d, port, outer, con) = is_fold.comes e k y out at stands in (d, port, outer, same_contact js d ∙ con);
       }
 
   -- the child's plan, and that it is wired

@@ -194,7 +194,7 @@ module _
         parts = λ k h low high. part_held f some k h low high;
         nodes =
             λ k h low high.
-                itself_true (in_range f.node (nodes f.child) k) (Within 0 (Node k h)) (in_range_true f.node (nodes f.child) k low high);
+            itself_true (in_range f.node (nodes f.child) k) (Within 0 (Node k h)) (in_range_true f.node (nodes f.child) k low high);
         numbers =
             λ k h many. itself_true (known f k) (Within 0 (Number k h)) (lt_true 0 (times k (made f.child) + times k f.numbers) (by_use k many));
       }

@@ -10,3 +10,4 @@ pub mod RegionLemmas
 pub mod ParallelLemmas
 pub mod BodyLemmas
 pub mod BlockLemmas
+mod SmallFrameLemmas

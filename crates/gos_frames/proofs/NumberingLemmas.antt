@@ -69,16 +69,18 @@ module _ {A : Type 0} (of : ℕ → List A) where
       number_cases n a
       (λ same test.
       let lt : k < len a = subst (λ m. k < len m) same (got_below (of n) k x has) in
-      rw test
-      (front (of a) (all_in of ns) k x (subst (λ m. slice_get (of m) k ≡ Some x) same has),
-      rw (below_lt k (len a) lt) (ap (λ m. origin m k) (sym same))))
+      rw test (
+        front (of a) (all_in of ns) k x (subst (λ m. slice_get (of m) k ≡ Some x) same has),
+        rw (below_lt k (len a) lt) (ap (λ m. origin m k) (sym same)),
+      ))
       (λ other test.
       let rest = item_there ns n k x (contains_cons a ns n there (λ e. other (sym e))) has in
       let s : ℕ = spot len ns n k in
       let less : len a + s - len a ≡ s = omega arith in
-      rw test
-      (behind (of a) (all_in of ns) s ∙ rest.0,
-      rw (above_lt (len a + s) (len a) (omega arith)) (ap (item len ns) less ∙ rest.1)))
+      rw test (
+        behind (of a) (all_in of ns) s ∙ rest.0,
+        rw (above_lt (len a + s) (len a) (omega arith)) (ap (item len ns) less ∙ rest.1),
+      ))
 
   abbrev pub IsItem : List ℕ → ℕ → A → Origin → Type 0
   IsItem ns i x o = Contains ns o.number × (slice_get (of o.number) o.import ≡ Some x) × (spot len ns o.number o.import ≡ i)

@@ -283,9 +283,13 @@ module _
 
   run_joint : Contains r.joints (joint (ResultEnd 0) (PartEnd (pl.own 0) 2))
   run_joint =
-      (is.web.joints (ResultEnd 0) (PartEnd (pl.own 0) 2)).1
-      (0, 0, result_contact 0, own_contact 2,
-      subst (λ (d : Dot). Way (whole_web sl).ties (Within 0 (Of (ResultEnd 0))) d) (sym (own_dot 2)) run_way)
+      (is.web.joints (ResultEnd 0) (PartEnd (pl.own 0) 2)).1 (
+        0,
+        0,
+        result_contact 0,
+        own_contact 2,
+        subst (λ (d : Dot). Way (whole_web sl).ties (Within 0 (Of (ResultEnd 0))) d) (sym (own_dot 2)) run_way,
+      )
 
   only_run : (b : End) → Contains r.joints (joint (ResultEnd 0) b) → b ≡ PartEnd (pl.own 0) 2
   only_run b has =
@@ -322,14 +326,16 @@ module _
   import_asker : (a h : ℕ) → (kept fl (pl.origin a).number ≡ true) ⊎ (kept fr (pl.origin a).number ≡ true) → Asker (ImportEnd a h)
   import_asker a h (inl e) =
       inl
-      (inl
-      (Within (suc (pl.origin a).number) (Of (ImportEnd (pl.origin a).import h)),
-      itself_true (kept fl (pl.origin a).number) (Within (suc (pl.origin a).number) (Of (ImportEnd (pl.origin a).import h))) e))
+      (inl (
+        Within (suc (pl.origin a).number) (Of (ImportEnd (pl.origin a).import h)),
+        itself_true (kept fl (pl.origin a).number) (Within (suc (pl.origin a).number) (Of (ImportEnd (pl.origin a).import h))) e,
+      ))
   import_asker a h (inr e) =
       inl
-      (inr
-      (Within (suc (pl.origin a).number) (Of (ImportEnd (pl.origin a).import h)),
-      itself_true (kept fr (pl.origin a).number) (Within (suc (pl.origin a).number) (Of (ImportEnd (pl.origin a).import h))) e))
+      (inr (
+        Within (suc (pl.origin a).number) (Of (ImportEnd (pl.origin a).import h)),
+        itself_true (kept fr (pl.origin a).number) (Within (suc (pl.origin a).number) (Of (ImportEnd (pl.origin a).import h))) e,
+      ))
 
   asker : (a : End) (q v : ℕ) → contact_at r a ≡ Some (asks q v) → Asker a
   asker (PartEnd a h) q v con =
@@ -408,12 +414,12 @@ module _
           joints = λ a b has. (let (c, v, con, con_b, way) = (is.web.joints a b).0 has in joined a b has (asker a c v con));
           parts =
               λ a x at.
-                  let (from, back_at) = is.no_more a x at in
-                  part_of a x at (whose x (pl.source a) from) back_at;
+              let (from, back_at) = is.no_more a x at in
+              part_of a x at (whose x (pl.source a) from) back_at;
           apart =
               λ a (b, e) (c, d).
-                  source_apart (pl.source a) (number_in fl (child_placing sl) (slice_get r.parts a) (pl.source a) b e)
-                  (number_in fr (child_placing sr) (slice_get r.parts a) (pl.source a) c d);
+              source_apart (pl.source a) (number_in fl (child_placing sl) (slice_get r.parts a) (pl.source a) b e)
+              (number_in fr (child_placing sr) (slice_get r.parts a) (pl.source a) c d);
           names = names_apart;
         }
 

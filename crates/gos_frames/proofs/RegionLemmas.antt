@@ -127,13 +127,13 @@ module _
         result = refl;
         imports =
             λ a g stands.
-                let (con, at) = stands_contact (with_joints (child_plan s) h.joints) h.region.right (ImportEnd a g) stands in
-                let (y, there) = there_is (child_plan s).imports a g con at in
-                let one = children.its_import s r sits ports wired a y there refl in (
-                  pl.import ((child_placing s).origin a).number ((child_placing s).origin a).import,
-                  refl,
-                  there ∙ sym one.at,
-                );
+            let (con, at) = stands_contact (with_joints (child_plan s) h.joints) h.region.right (ImportEnd a g) stands in
+            let (y, there) = there_is (child_plan s).imports a g con at in
+            let one = children.its_import s r sits ports wired a y there refl in (
+              pl.import ((child_placing s).origin a).number ((child_placing s).origin a).import,
+              refl,
+              there ∙ sym one.at,
+            );
         among =
             among (child_plan s).imports r.imports differ
             (λ y has.

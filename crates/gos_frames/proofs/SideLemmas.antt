@@ -107,13 +107,13 @@ module _
       record {
         parts =
             λ a h low high.
-                let differ : a ≢ i = λ e. let some = is.other_shifted in omega (arith, e, some, low) in
-                other_part f a h differ
-                ∙ itself_false (in_range (i + shift) (size f) a) (Within 0 (Of (PartEnd a h)))
-                (out_of_range (i + shift) (size f) a (part_off a low high is.parts_apart));
+            let differ : a ≢ i = λ e. let some = is.other_shifted in omega (arith, e, some, low) in
+            other_part f a h differ
+            ∙ itself_false (in_range (i + shift) (size f) a) (Within 0 (Of (PartEnd a h)))
+            (out_of_range (i + shift) (size f) a (part_off a low high is.parts_apart));
         nodes =
             λ a h low high.
-                itself_false (in_range l (nodes m) a) (Within 0 (Node a h)) (out_of_range l (nodes m) a (node_off a low high is.nodes_apart));
+            itself_false (in_range l (nodes m) a) (Within 0 (Node a h)) (out_of_range l (nodes m) a (node_off a low high is.nodes_apart));
         numbers = λ a h some. itself_false (known f a) (Within 0 (Number a h)) (out_known a (number_off a some));
       }
     where
@@ -240,17 +240,17 @@ module _
         record {
           results =
               λ h c e.
-                  let (none, same) = result_is h c e in
-                  subst (λ (n : ℕ). IsPort s r (ResultEnd n) c) (sym none) (subst (λ (d : Contact). IsPort s r (ResultEnd 0) d) same result_port);
+              let (none, same) = result_is h c e in
+              subst (λ (n : ℕ). IsPort s r (ResultEnd n) c) (sym none) (subst (λ (d : Contact). IsPort s r (ResultEnd 0) d) same result_port);
           variables = λ a h c named e. absurd (cc named);
           ways = λ n t has named has_t. absurd (cc named);
           own =
               λ h c y stands con.
-                  let same : h ≡ asked = true_eq h asked (asked_is (nat_eq h asked) y stands) in
-                  let one : asks 0 0 ≡ c = same_Some (asks 0 0) c (sym own_contact ∙ (ap (λ (n : ℕ). contact_at r (PartEnd (pl.own 0) n)) (sym same) ∙ con)) in (
-                    ResultEnd 0,
-                    tt,
-                    ap (λ (n : ℕ). PartEnd (pl.own 0) n) (sym same),
-                    ap (λ (t : Type'). turned_if (slice_get (contacts_of t) 0)) is.type ∙ ap Some one,
-                  );
+              let same : h ≡ asked = true_eq h asked (asked_is (nat_eq h asked) y stands) in
+              let one : asks 0 0 ≡ c = same_Some (asks 0 0) c (sym own_contact ∙ (ap (λ (n : ℕ). contact_at r (PartEnd (pl.own 0) n)) (sym same) ∙ con)) in (
+                ResultEnd 0,
+                tt,
+                ap (λ (n : ℕ). PartEnd (pl.own 0) n) (sym same),
+                ap (λ (t : Type'). turned_if (slice_get (contacts_of t) 0)) is.type ∙ ap Some one,
+              );
         }

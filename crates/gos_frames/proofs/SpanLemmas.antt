@@ -206,11 +206,11 @@ module _ (P : Point → Type 0) where
       → HoldsInside P types i j m → parts_of types m ≡ shares ss types ++ rest → made m ≡ sides ss ++ ns → used m ≡ split_in ss ++ us
       → EachTie Both (shares_ties i ss types) × Parts (i + length ss) (length rest) × Numbers ns us
   front types i j m ss rest ns us inside own makes uses = (
-        shares_hold types i ss (λ k h low high. inside.parts k h low (omega (arith, high, long)))
+    shares_hold types i ss (λ k h low high. inside.parts k h low (omega (arith, high, long)))
         (λ k h some. inside.numbers k h (omega (arith, some, made_in k, used_in k))),
-        λ k h low high. inside.parts k h (omega (arith, low)) (omega (arith, high, long)),
-        λ k h some. inside.numbers k h (omega (arith, some, made_in k, used_in k)),
-      )
+    λ k h low high. inside.parts k h (omega (arith, low)) (omega (arith, high, long)),
+    λ k h some. inside.numbers k h (omega (arith, some, made_in k, used_in k)),
+  )
     where
       long : length (parts_of types m) ≡ length ss + length rest
       long = ap length own ∙ (length-append (shares ss types) rest ∙ ap (λ n. n + length rest) (length_shares ss types))
@@ -283,7 +283,7 @@ module _ (P : Point → Type 0) where
       let first : List Point = first_out form (type_of_node m) (type_of_node n) own j out in
       let second : List Point = second_out form (type_of_node m) (type_of_node n) own j out in
       let long : length (two_part form t (type_of_node n) ++ (parts_of types m ++ parts_of types n))
-          ≡ length (two_part form t (type_of_node n)) + length (parts_of types m ++ parts_of types n) =
+      ≡ length (two_part form t (type_of_node n)) + length (parts_of types m ++ parts_of types n) =
       length-append (two_part form t (type_of_node n)) (parts_of types m ++ parts_of types n) in
       let long' : length (parts_of types m ++ parts_of types n) ≡ length (parts_of types m) + length (parts_of types n) =
       length-append (parts_of types m) (parts_of types n) in

@@ -2,6 +2,7 @@
 ghost use Rattle.gos_frames.specs.Blocks.{BlockIsWired};
 ghost use Rattle.gos_frames.specs.Frames.{ParallelIsWired, RegionIsCut};
 ghost use Rattle.gos_frames.specs.Spans.{TiesSpan};
+ghost use Rattle.gos_frames.specs.SmallFrames.{NotOfParts, OtherIsNotBound, SharedIsNotParted, UseIsBound, UseSpeaksOfIt, UsesAreParted};
 
 /// The ties of a term speak of its own parts, nodes and numbers, and of where its handshakes lead.
 pub fn spans()
@@ -21,4 +22,15 @@ pub fn parallel_sides()
 /// A node `new x : w in m` that is wired to supplies is made of its body, wired to them and to a name for x.
 pub fn block_bodies()
     ensures { BlockIsWired }
+{}
+
+/// Two uses of two numbers have one each, and two of one number don't. A use of the bound number is bound, and that of
+/// another one isn't. The ties of a use speak of its number, and of no part.
+pub fn small_frames()
+    ensures parted { UsesAreParted }
+    ensures shared { SharedIsNotParted }
+    ensures bound { UseIsBound }
+    ensures unbound { OtherIsNotBound }
+    ensures spoken { UseSpeaksOfIt }
+    ensures unspoken { NotOfParts }
 {}
