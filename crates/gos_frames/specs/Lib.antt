@@ -2,4 +2,5 @@
 pub mod Spans
 pub mod Frames
 pub mod Blocks
+pub mod Scoped
 pub mod SmallFrames
