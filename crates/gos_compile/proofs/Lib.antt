@@ -3,15 +3,16 @@ mod TableLemmas
 mod NodeLemmas
 mod WalkLemmas
 mod PlanLemmas
-mod TallyLemmas
+pub mod TallyLemmas
 mod ShakeLemmas
-mod ThinLemmas
+pub mod ThinLemmas
 mod RangeLemmas
 mod SmallPlanLemmas
 mod KnownLemmas
 mod BoundLemmas
 mod AgreeLemmas
 mod LoadLemmas
+mod TypedLemmas
 mod EndLemmas
 mod SlimLemmas
 mod TextLemmas

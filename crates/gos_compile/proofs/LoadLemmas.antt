@@ -297,15 +297,17 @@ import_low (i ∷ is) zero h = omega arith
 import_low (i ∷ is) (suc k) h = let rest = import_low is k h in omega (arith, rest)
 
 -- what is known of a checked module's term
-record IsLight (l : SeenLinear) : Type 0 where
+pub record IsLight (l : SeenLinear) : Type 0 where
+  pub agrees : Agree (all_types (program_in l).imports (node_seen l.term)) (node_seen l.term)
   pub uses : UsesTyped (all_types (program_in l).imports (node_seen l.term)) (node_seen l.term)
   pub splits : of_splits (share_load (all_types (program_in l).imports (node_seen l.term))) (node_seen l.term)
       ≤ of_uses (share_load (all_types (program_in l).imports (node_seen l.term))) (node_seen l.term)
   pub weighs : burden (node_seen l.term) + sum_by (λ (x : Imported). weights.count x.ty) (program_in l).imports ≤ l.weight
 
-is_light : (l : SeenLinear) → IsChecked l → IsLight l
+pub is_light : (l : SeenLinear) → IsChecked l → IsLight l
 is_light l c =
     record {
+      agrees = agrees;
       uses = uses_typed is [] env m types known agrees bound uses c.term.types;
       splits = few_splits types m agrees c.term.made_once c.term.sides_used;
       weighs = (let w = weigh is [] env m (type_of l.result) c.term.types c.typed in let all = c.weight in omega (arith, w, all));

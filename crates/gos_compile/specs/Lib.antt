@@ -1,4 +1,5 @@
 -- In reading order: a file uses only files above it.
 pub mod Wiring
+pub mod Typed
 pub mod SmallPlans
 pub mod inner

@@ -1,27 +1,21 @@
 -- Inside one split: what is connected stays so, and the split's own ties are within one plan.
-use Rattle.std.specs.Prelude.{◌≢◌, ◌+◌, ◌*◌, ◌<◌, ◌≤◌, ◌⊎◌, ◌&&◌, ◌||◌, length, map, nat_eq, nat_lt, slice_get, None, Contains}
-use Rattle.std.proofs.Common.{◌≡◌, ℕ, zero, suc, Bool, true, false, not, List, [], ◌∷◌, ◌++◌, Option, Some, inl, inr, refl, sym, ◌∙◌, ap, subst, arith, if◌then◌else◌}
-use Rattle.std.proofs.lemmas.List.Elements.{Contains-append_left, Contains-append_right, Contains-append_cases}
+use Rattle.std.specs.Prelude.{◌≢◌, ◌+◌, ◌<◌, ◌≤◌, ◌||◌, length, map, nat_eq, None, Contains}
+use Rattle.std.proofs.Common.{◌≡◌, ℕ, zero, suc, Bool, true, false, List, ◌∷◌, Option, Some, inl, inr, refl, sym, ap, subst, arith, if◌then◌else◌}
+use Rattle.std.proofs.lemmas.List.Elements.{Contains-append_left, Contains-append_right}
 use Rattle.gos_types.specs.Types.{Type'}
 use Rattle.gos_check.specs.declared.linear.Split.{Split}
-use Rattle.gos_check.specs.Linearity.{times, split_in, sides}
-use Rattle.gos_check.proofs.TimesLemmas.{number_cases, eq_true, eq_false, true_eq, times_none, times_same}
-use Rattle.gos_plan.specs.Plans.{End, PartEnd, ImportEnd, ResultEnd, Joint, Plan}
+use Rattle.gos_check.specs.Linearity.{times, sides}
+use Rattle.gos_check.proofs.TimesLemmas.{number_cases, eq_true, eq_false, times_none}
+use Rattle.gos_plan.specs.Plans.{End, PartEnd, ResultEnd, Joint, Plan}
 use Rattle.gos_realises.specs.Regular.{count}
-use Rattle.gos_realises.specs.Modules.{Supply}
 use Rattle.gos_webs.specs.Webs.{Dot, Of, Number, Node, Within, Tie, tie, Meet, Way, here, along, own_web, joint}
-use Rattle.gos_unions.specs.Unions.{within}
-use Rattle.gos_unions.proofs.UnionLemmas.{Image, of_image, in_image}
+use Rattle.gos_unions.proofs.UnionLemmas.{of_image, in_image}
 use Rattle.gos_sharing.specs.Sharing.{caller_end}
-use Rattle.gos_compile.specs.Wiring.{Types}
 use Rattle.gos_buffers.specs.Buffering.{buffered, end_behind, joint_behind, callers_joined}
-use Rattle.gos_wired.specs.Wired.{Supplies}
-use Rattle.gos_stages.specs.Inside.{behind_share, inside_one_supply}
-use Rattle.gos_stages.proofs.InsideLemmas.{one_stays}
-use Rattle.gos_stages.specs.Lodging.{Spot, spot, spot_if, live, seen_from, side_number, is_side, serves_side, moved_spot, moved, share_spot, side_spot, one_home, Near}
+use Rattle.gos_stages.specs.Lodging.{Spot, is_side, moved, share_spot, side_spot, one_home}
 
 -- ways, with other dots
-way_mapped : (f : Dot → Dot) (ts us : List Tie) → ((t : Tie) → Contains ts t → Contains us (tie (f t.one) (f t.other)))
+pub way_mapped : (f : Dot → Dot) (ts us : List Tie) → ((t : Tie) → Contains ts t → Contains us (tie (f t.one) (f t.other)))
     → (a b : Dot) → Way ts a b → Way us (f a) (f b)
 way_mapped f ts us keeps a b (here x) = here (f x)
 way_mapped f ts us keeps a b (along x c y meet way) = along (f x) (f c) (f y) (meets meet) (way_mapped f ts us keeps c y way)

@@ -20,9 +20,9 @@ behind_share t c s = record s { plan = buffered t c s.plan }
 abbrev pub inside_one_supply : Types → Split → Supplies → Supplies
 inside_one_supply types s env =
     λ k.
-        if nat_eq k s.left then behind_share (types s.of) 0 (env s.of)
-        else if nat_eq k s.right then behind_share (types s.of) 1 (env s.of)
-        else env k
+    if nat_eq k s.left then behind_share (types s.of) 0 (env s.of)
+    else if nat_eq k s.right then behind_share (types s.of) 1 (env s.of)
+    else env k
 
 -- inside splits, in their order
 abbrev pub inside_supplies : Types → List Split → Supplies → Supplies

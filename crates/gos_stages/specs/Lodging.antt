@@ -3,18 +3,17 @@
 -- Read first: Inside. A part of such a supply is a part of a supply outside, or the Share of a split. A dot of the node's web may stand
 -- for an end of one of these plans. Numbers are live that a child uses, or of which it uses a side; a Share of a live number is
 -- seen from that side, and what serves the other one stands for nothing.
-use Rattle.std.specs.Prelude.{◌≡◌, ◌≢◌, ℕ, zero, suc, ◌+◌, ◌*◌, ◌<◌, ◌≤◌, Bool, true, false, not, ◌&&◌, ◌||◌, List, [], ◌∷◌, ◌++◌, length, Option, Some, None, nat_eq, nat_lt, slice_get, Contains, if◌then◌else◌}
+use Rattle.std.specs.Prelude.{◌≡◌, ℕ, zero, suc, ◌+◌, ◌*◌, ◌<◌, ◌≤◌, Bool, true, false, not, ◌&&◌, ◌||◌, List, [], ◌∷◌, ◌++◌, length, Option, Some, None, nat_eq, nat_lt, Contains, if◌then◌else◌}
 use Rattle.gos_check.specs.declared.linear.Split.{Split}
 use Rattle.gos_check.specs.Linearity.{times, split_in, sides}
-use Rattle.gos_plan.specs.Kinds.{Part}
-use Rattle.gos_plan.specs.Plans.{End, PartEnd, ImportEnd, ResultEnd}
+use Rattle.gos_plan.specs.Plans.{End, PartEnd, ImportEnd, ResultEnd, Joint}
 use Rattle.gos_realises.specs.Regular.{count}
-use Rattle.gos_webs.specs.Webs.{Dot, Of, Number, Node, Within, Tie, Way, own_web, joint}
+use Rattle.gos_webs.specs.Webs.{Dot, Of, Number, Within, Tie, Way, own_web}
 use Rattle.gos_unions.specs.Unions.{within}
 use Rattle.gos_compile.specs.Wiring.{Types, shares_ties}
 use Rattle.gos_buffers.specs.Buffering.{end_behind}
 use Rattle.gos_wired.specs.Wired.{Supplies, Source, Own, Supplied, source_dot, dot_ties, all_supply_ties}
-use Rattle.gos_stages.specs.Inside.{inside_one_supply, inside_supplies}
+use Rattle.gos_stages.specs.Inside.{inside_one_supply, inside_supplies, numbers_inside, AreSplit, SidesAgree, AreGroundSupplies}
 
 -- an end of the plan of a number's supply
 pub record Spot : Type 0 where
@@ -103,10 +102,10 @@ one_lodging types q x s c l =
       root = λ n. if is_side s n then l.root s.of else l.root n;
       spare =
           λ n k h.
-              if is_side s n then
-                if nat_eq k (length (l.env s.of).plan.parts) then not (serves_side (count (types s.of)) (if nat_eq n s.left then 0 else 1) h)
-                else l.spare s.of k h
-              else l.spare n k h;
+          if is_side s n then
+          if nat_eq k (length (l.env s.of).plan.parts) then not (serves_side (count (types s.of)) (if nat_eq n s.left then 0 else 1) h)
+          else l.spare s.of k h
+          else l.spare n k h;
       home = one_home q (count (types s.of)) (length (l.env s.of).plan.parts) s c l.home;
     }
 
@@ -173,3 +172,24 @@ abbrev pub NumbersAreAtHome : Type 0
 NumbersAreAtHome =
     (types : Types) (i : ℕ) (inner : ℕ → Bool) (ss : List Split) (env : Supplies) (ns : List ℕ) (n : ℕ)
     → AreTidy inner ss ns → times n (split_in ss) ≡ 0 → inner n ≡ true → IsAtHome i (lodged types i inner ss env) n
+
+-- where an end of the plan of a number's supply lies
+abbrev pub lies : ℕ → Lodging → ℕ → End → Dot
+lies i l n (PartEnd k h) = source_dot i (l.part n k) h
+lies i l n (ImportEnd k h) = Within (suc (l.root n)) (Of (ImportEnd k h))
+lies i l n (ResultEnd h) = Within 0 (Number n h)
+
+-- A joint of one of these plans is a way of the node's web, which has the ties of the Shares and of the supplies.
+abbrev pub JointsAreWays : Type 0
+JointsAreWays =
+    (types : Types) (i : ℕ) (inner : ℕ → Bool) (ss : List Split) (env : Supplies) (ns : List ℕ) (ts : List Tie) (n : ℕ) (j : Joint)
+    → AreTidy inner ss ns → SidesAgree ss types → AreSplit ss ns → AreGroundSupplies types env ns
+    → ((t : Tie) → Contains (within 0 (dot_ties (shares_ties i ss types)) ++ all_supply_ties types env ns) t → Contains ts t)
+    → Contains (numbers_inside ss ns) n → Contains ((lodged types i inner ss env).env n).plan.joints j
+    → Way ts (lies i (lodged types i inner ss env) n j.asking) (lies i (lodged types i inner ss env) n j.serving)
+
+-- What a dot stands for is of a live number.
+abbrev pub SpotsAreLive : Type 0
+SpotsAreLive =
+    (types : Types) (i : ℕ) (inner : ℕ → Bool) (ss : List Split) (env : Supplies) (d : Dot) (x : Spot)
+    → (lodged types i inner ss env).home d ≡ Some x → inner x.number ≡ true

@@ -5,4 +5,7 @@
 
 mod laws;
 
-pub use laws::{small_insides, supplies_inside, supplies_lodge, ties_lead};
+pub use laws::{
+    children_fold, numbers_of_children, parts_lodge, shares_serve, small_insides, stages_make_nodes, supplies_inside,
+    supplies_lodge, ties_lead,
+};

@@ -5,4 +5,16 @@ pub mod PlacingLemmas
 pub mod TieLemmas
 pub mod TypeLemmas
 pub mod ModuleLemmas
+pub mod FlowLemmas
+pub mod FlowedLemmas
+pub mod OutLemmas
+pub mod SightLemmas
+pub mod FormLemmas
+pub mod TableLemmas
+pub mod TermFlowLemmas
+pub mod CountLemmas
+pub mod WeightLemmas
+pub mod TermCountLemmas
+pub mod InnerCountLemmas
+pub mod FairLemmas
 mod SmallWiredLemmas

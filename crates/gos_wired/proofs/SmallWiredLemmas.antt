@@ -6,10 +6,11 @@ use Rattle.gos_types.specs.declared.shakes.Role.TheVariants.{Serve, Ask}
 use Rattle.gos_plan.specs.Kinds.{Part, Contact, asks, serves, turned_contact}
 use Rattle.gos_plan.specs.Plans.{End, PartEnd, ImportEnd, ResultEnd, Joint, contact_at}
 use Rattle.gos_plan.specs.SmallPlans.{skip_plan}
+use Rattle.gos_ties.specs.Ties as paths
 use Rattle.gos_webs.specs.Webs.{Of, Number, Within, Tie, Way, here, along, Connects, joint}
 use Rattle.gos_webs.proofs.SmallWebLemmas.{skip_is_right}
 use Rattle.gos_wired.specs.Wired.{Source, Own, Supplied, IsFrom, placed, wired_ties, wired_web}
-use Rattle.gos_wired.specs.SmallWired.{commands, skips, one_use, from_first, UseIsWired, UnjoinedIsNotWired}
+use Rattle.gos_wired.specs.SmallWired.{commands, skips, one_use, from_first, UseIsWired, UnjoinedIsNotWired, SkipFits, SeqDoesNotFit}
 
 -- the two ends of the plan of `skip`
 there : (e : End) (c : Contact) → contact_at skip_plan e ≡ Some c → ((e ≡ ResultEnd 0) × (c ≡ asks 0 0)) ⊎ ((e ≡ PartEnd 0 0) × (c ≡ serves 0 0))
@@ -109,3 +110,13 @@ unjoined_is_not_wired is = none ((is.web.joints (ResultEnd 0) (PartEnd 0 0)).1 (
   where
     none : Contains [] (joint (ResultEnd 0) (PartEnd 0 0)) → ⊥
     none (n, small, e) = omega (arith, small)
+
+pub skip_fits : SkipFits
+skip_fits a b c d at_a at_b differ path = fits a b c d at_a at_b differ
+
+pub seq_does_not_fit : SeqDoesNotFit
+seq_does_not_fit fit =
+    clash 0 0 0 0
+    (ap (λ (k : Contact). Some k)
+    (sym (fit (ResultEnd 0) (PartEnd 0 0) (asks 0 0) (asks 0 0) refl refl (λ e. cc e)
+    (paths.along (paths.at (ResultEnd 0)) (paths.at (PartEnd 0 0)) (paths.at (PartEnd 0 0)) (inl refl) (paths.here (paths.at (PartEnd 0 0)))))))

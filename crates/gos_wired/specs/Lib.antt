@@ -1,4 +1,5 @@
 -- In reading order: a file uses only files above it.
 pub mod Wired
 pub mod Modules
+pub mod Fitting
 pub mod SmallWired

@@ -1,13 +1,15 @@
 -- `import c : com; c` with the plan of `skip` for c, wired.
 --
--- Read first: Wired; SmallPlans of gos_plan. It shows that `IsWired` can be met and can be missed.
+-- Read first: Modules; SmallPlans of gos_plan. They show that these definitions can be met and can be missed.
 use Rattle.std.specs.Prelude.{[], ◌∷◌}
 use Rattle.gos_types.specs.Types.{Com}
 use Rattle.gos_model.specs.Terms as terms
-use Rattle.gos_check.specs.Nodes.{Numbered, Use}
+use Rattle.gos_check.specs.Nodes.{Numbered, Closed, Use}
+use Rattle.gos_plan.specs.Kinds.{Seq}
 use Rattle.gos_plan.specs.SmallPlans.{skip_plan}
-use Rattle.gos_compile.specs.Wiring.{Types}
+use Rattle.gos_compile.specs.Wiring.{Types, all_ties}
 use Rattle.gos_wired.specs.Wired.{Supplies, Placing, Supplied, IsWired}
+use Rattle.gos_wired.specs.Modules.{PathsFit}
 
 -- all numbers have the type of a command, and the plan of `skip`
 abbrev pub commands : Types
@@ -31,3 +33,10 @@ UseIsWired = IsWired commands 0 0 one_use (0 ∷ []) skips from_first skip_plan
 
 abbrev pub UnjoinedIsNotWired : Type 0
 UnjoinedIsNotWired = IsWired commands 0 0 one_use (0 ∷ []) skips from_first (record skip_plan { joints = [] }) → ⊥
+
+-- The ties of `skip` connect what fits in its plan, and not with a Seq in its Skip's place.
+abbrev pub SkipFits : Type 0
+SkipFits = PathsFit (all_ties [] (Closed Com [] terms.Skip)) skip_plan
+
+abbrev pub SeqDoesNotFit : Type 0
+SeqDoesNotFit = PathsFit (all_ties [] (Closed Com [] terms.Skip)) (record skip_plan { parts = Seq 0 ∷ [] }) → ⊥
