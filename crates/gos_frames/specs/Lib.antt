@@ -1,0 +1,6 @@
+-- In reading order: a file uses only files above it.
+pub mod Spans
+pub mod Frames
+pub mod Blocks
+pub mod Scoped
+pub mod SmallFrames
