@@ -1,0 +1,8 @@
+// The children of a node that is wired to supplies: each is wired to supplies of its own.
+//
+// Definitions and laws alone. Read `specs/Inside`, and then laws.rt.
+#![tactic(auto)]
+
+mod laws;
+
+pub use laws::{children_fold, parts_lodge, shares_serve, small_insides, supplies_inside, supplies_lodge, ties_lead};
