@@ -1,0 +1,5 @@
+pub mod ImportLemmas
+pub mod WhoseLemmas
+pub mod WiredLemmas
+pub mod LeafLemmas
+pub mod ParallelLemmas

@@ -1,0 +1,26 @@
+// What wired nodes of ground types realise, form by form. Each theorem is the contract of a function that does nothing.
+ghost use Rattle.gos_grounds.specs.Cases.{LiteralCase, ParallelCase, ReadCase, SkipCase, UseCase};
+
+use gos_frames::parallel_sides;
+use gos_leaves::{closed_is_realised, read_is_realised, use_is_realised};
+use gos_parallel::parallel;
+
+/// Nodes without parts, and a variable that is read.
+pub fn leaves()
+    ensures used { UseCase }
+    ensures skip { SkipCase }
+    ensures literal { LiteralCase }
+    ensures read { ReadCase }
+{
+    use_is_realised();
+    closed_is_realised();
+    read_is_realised();
+}
+
+/// Both sides of `||`.
+pub fn parallel_nodes()
+    ensures { ParallelCase }
+{
+    parallel_sides();
+    parallel();
+}

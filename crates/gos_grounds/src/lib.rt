@@ -1,0 +1,8 @@
+// Wired nodes of ground types realise their terms.
+//
+// Definitions and laws alone. Read `specs/Cases`, and then laws.rt.
+#![tactic(auto)]
+
+mod laws;
+
+pub use laws::{leaves, parallel_nodes};
