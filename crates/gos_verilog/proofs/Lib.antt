@@ -14,6 +14,14 @@ pub mod OneTextLemmas
 pub mod MeaningLemmas
 pub mod NumberLemmas
 pub mod ListLemmas
+pub mod RestLemmas
+pub mod HeadLemmas
+pub mod DeclaredLemmas
+pub mod LineLemmas
+pub mod NotedLemmas
+pub mod FoundLemmas
+pub mod WholeLemmas
+pub mod PlacedLemmas
 pub mod RunLemmas
 pub mod SlotLemmas
 pub mod KindTextLemmas

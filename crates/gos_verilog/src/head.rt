@@ -1,11 +1,13 @@
 // The head of a module: the names of its ports' nets.
-ghost use Rattle.std.specs.Prelude.{◌≡◌, ◌≤◌, IfOk, OnOk, length};
+ghost use Rattle.std.specs.Prelude.{◌≡◌, ◌≤◌, ◌↔◌, ◌++◌, ◌∷◌, ℕ, List, Some, false, IfOk, IsTrue, MatchResult, drop, length, slice_get, codes};
 ghost use Rattle.std.specs.List.{prefix_len};
 ghost use Rattle.gos_lex.specs.Bytes.{continues_name};
-ghost use Rattle.gos_lex.specs.Items.{Misses, IsJust};
 ghost use Rattle.gos_netlist.specs.NetItems.{Passed};
+ghost use Rattle.gos_verilog.specs.PortNets.{PortNet};
+ghost use Rattle.gos_verilog.specs.inner.Stages.{Rest, IsWant, AreNameBytes, HaveNames, AreNamesOf, listed};
 
 use crate::fault::VFault;
+use crate::slots::pass;
 use gos_lex::Cursor;
 use std::alloc::Global;
 
@@ -13,6 +15,9 @@ use std::alloc::Global;
 pub fn head<'a>(alloc: Global, text: &'a [u8], cursor: &mut Cursor) -> Result<Vec<&'a [u8]>, VFault>
     requires { cursor.now.text ≡ text.now }
     ensures text { cursor.new.text ≡ text.now }
+    ensures stands { (first : List ℕ) (nets : List PortNet) (x : List ℕ) → AreNameBytes first → HaveNames nets
+        → Rest cursor.old (codes "module gos_" ++ (first ++ (codes "(clk, rst" ++ (listed nets ++ (codes ");\n" ++ x)))))
+        → MatchResult result (λ names. AreNamesOf nets names.items × Rest cursor.new x) IsWant }
 {
     word(cursor, b"module gos_")?;
     name(text, cursor)?;
@@ -26,13 +31,11 @@ pub fn head<'a>(alloc: Global, text: &'a [u8], cursor: &mut Cursor) -> Result<Ve
 fn names<'a>(alloc: Global, text: &'a [u8], cursor: &mut Cursor) -> Result<Vec<&'a [u8]>, VFault>
     requires { cursor.now.text ≡ text.now }
     ensures text { cursor.new.text ≡ text.now }
+    ensures stands { (nets : List PortNet) (x : List ℕ) → HaveNames nets → Rest cursor.old (listed nets ++ (codes ")" ++ x))
+        → MatchResult result (λ names. AreNamesOf nets names.items × Rest cursor.new (codes ")" ++ x)) IsWant }
 {
     let mut names = Vec::new(alloc);
-    // Each name takes a byte at least.
-    for _ in 0..text.len() {
-        if !is_at(text, cursor.at(), b',') {
-            return Ok(names);
-        }
+    while is_at(text, cursor.at(), b',') {
         word(cursor, b", ")?;
         names.push(name(text, cursor)?)?;
     }
@@ -40,7 +43,9 @@ fn names<'a>(alloc: Global, text: &'a [u8], cursor: &mut Cursor) -> Result<Vec<&
 }
 
 // Whether the byte stands at this place.
-fn is_at(text: &[u8], at: usize, byte: u8) -> bool {
+fn is_at(text: &[u8], at: usize, byte: u8) -> bool
+    ensures { IsTrue result ↔ (slice_get text.now at ≡ Some byte) }
+{
     match text.get(at) {
         Some(found) => *found == byte,
         None => false,
@@ -52,6 +57,8 @@ fn name<'a>(text: &'a [u8], cursor: &mut Cursor) -> Result<&'a [u8], VFault>
     requires { cursor.now.text ≡ text.now }
     ensures text { cursor.new.text ≡ text.now }
     ensures forward { cursor.old.at ≤ cursor.new.at }
+    ensures stands { (bytes : List ℕ) (end : ℕ) (x : List ℕ) → AreNameBytes bytes → continues_name end ≡ false → Rest cursor.old (bytes ++ (end ∷ x))
+        → MatchResult result (λ name. (name.now ≡ bytes) × Rest cursor.new (end ∷ x)) (λ _. ⊥) }
 {
     let name = name_at(text, cursor.at());
     word(cursor, name)?;
@@ -61,6 +68,8 @@ fn name<'a>(text: &'a [u8], cursor: &mut Cursor) -> Result<&'a [u8], VFault>
 /// The bytes of names at this place, as many as there are.
 pub fn name_at(text: &[u8], at: usize) -> &[u8]
     requires { at ≤ length text.now }
+    ensures { (bytes : List ℕ) (end : ℕ) (x : List ℕ) → AreNameBytes bytes → continues_name end ≡ false → drop at text.now ≡ bytes ++ (end ∷ x)
+        → result.now ≡ bytes }
 {
     let rest = &text[at..];
     &rest[..name_length(rest)]
@@ -85,8 +94,9 @@ pub fn word(cursor: &mut Cursor, bytes: &[u8]) -> Result<(), VFault>
     ensures text { cursor.new.text ≡ cursor.old.text }
     ensures forward { cursor.old.at ≤ cursor.new.at }
     ensures passed { IfOk result (λ _. Passed cursor.old cursor.new bytes.now) }
+    ensures stands { (x : List ℕ) → Rest cursor.old (bytes.now ++ x) → MatchResult result (λ _. Rest cursor.new x) (λ _. ⊥) }
 {
-    match cursor.word(bytes) {
+    match pass(cursor, bytes) {
         Ok(()) => Ok(()),
         Err(at) => Err(VFault::Form { at }),
     }

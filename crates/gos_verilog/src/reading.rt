@@ -1,10 +1,12 @@
 // Reading a netlist from its Verilog text.
-ghost use Rattle.std.specs.Prelude.{IfOk, IsTrue, map};
+ghost use Rattle.std.specs.Prelude.{◌≡◌, IfOk, IfErr, IsTrue, MatchResult, map};
 ghost use Rattle.std.specs.List.{AllByRecursion};
 ghost use Rattle.gos_netlist.specs.Seen.{cell_of};
 ghost use Rattle.gos_netlist.specs.Writable.{IsWritableCell, IsWritablePort};
-ghost use Rattle.gos_verilog.specs.Readable.{IsRead, IsReadable};
+ghost use Rattle.gos_netlist.specs.Nets.{Netlist as Net};
+ghost use Rattle.gos_verilog.specs.Readable.{IsRead, IsReadable, IsRefused};
 ghost use Rattle.gos_verilog.specs.VerilogText.{IsVerilogOf};
+ghost use Rattle.gos_verilog.specs.inner.Stages.{IsWant};
 
 use crate::declared::{cell_declarations, port_declarations};
 use crate::driven::drivers;
@@ -21,9 +23,11 @@ use gos_netlist::{Cell, Netlist, Port};
 use gos_types::NoMemory;
 use std::alloc::Global;
 
-/// The netlist whose Verilog text this is. `write_verilog` is the way back.
+/// The netlist whose Verilog text this is. `Err` is that it's the text of none, or want of memory. `write_verilog` is the
+/// way back.
 pub fn read_verilog(alloc: Global, text: &[u8]) -> Result<Netlist, VFault>
     ensures read { IfOk result (IsRead text.now) }
+    ensures refused { IfErr result (IsRefused text.now) }
 {
     let net = parsed(alloc, text)?;
     if is_text_of(alloc, text, &net.cells, &net.ports)? {
@@ -39,6 +43,7 @@ fn is_text_of(alloc: Global, text: &[u8], cells: &[Cell], ports: &[Port]) -> Res
     requires ports { AllByRecursion IsWritablePort ports.now }
     ensures readable { IfOk result (λ is. IsTrue is → IsReadable (record { cells = map cell_of cells.now; ports = ports.now })) }
     ensures text { IfOk result (λ is. IsTrue is → IsVerilogOf (record { cells = map cell_of cells.now; ports = ports.now }) text.now) }
+    ensures whole { IfOk result (λ is. IsRead text.now (record { cells = map cell_of cells.now; ports = ports.now }) → IsTrue is) }
 {
     let nets = port_nets(alloc, ports)?;
     if !is_readable(alloc, cells, ports, &nets)? {
@@ -52,6 +57,7 @@ fn is_text_of(alloc: Global, text: &[u8], cells: &[Cell], ports: &[Port]) -> Res
 fn parsed(alloc: Global, text: &[u8]) -> Result<Netlist, VFault>
     ensures cells { IfOk result (λ net. AllByRecursion IsWritableCell net.cells) }
     ensures ports { IfOk result (λ net. AllByRecursion IsWritablePort net.ports) }
+    ensures stands { (net : Net) → IsRead text.now net → MatchResult result (λ found. found ≡ net) IsWant }
 {
     let mut cursor = Cursor::new(text);
     let names = head(alloc, text, &mut cursor)?;
@@ -62,7 +68,7 @@ fn parsed(alloc: Global, text: &[u8]) -> Result<Netlist, VFault>
     }
     let (shapes, stopped) = cell_declarations(alloc, &mut cursor)?;
     let mut inputs = Inputs::new(alloc, &declared)?;
-    let (cells, at) = match drivers(alloc, text, cursor.at(), &shapes, &mut inputs) {
+    let (cells, at) = match drivers(alloc, text, cursor.at(), &shapes, &declared, &mut inputs) {
         Ok(both) => both,
         Err(fault) => return Err(fault.not_before(stopped)),
     };
