@@ -113,6 +113,11 @@ not_none p nets seen (AtExp first value w ty at name input value_at width long) 
 not_none p nets seen (AtVar first value w ty at name input value_at width long) is run ask read =
     read long p.name (ap (λ (n : PortNet). n.name) (one_first nets seen first 0 is at) ∙ name)
 
+pub some_first : (p : NetPort) (nets : List PortNet) → View p nets → 0 < length nets
+some_first p nets (AtCom first ty at name input long) = omega (arith, long)
+some_first p nets (AtExp first value w ty at name input value_at width long) = omega (arith, long)
+some_first p nets (AtVar first value w ty at name input value_at width long) = omega (arith, long)
+
 -- the name and the side of a port, as its first net tells them
 pub record Told (p : NetPort) (seen : PortNet) : Type 0 where
   pub name : take (length seen.name - suffix_length p.ty) seen.name ≡ p.name
@@ -191,15 +196,19 @@ no_port_left nets at found ps end far all same = let known = far ps all same in 
     by [] are stands whole = sym (append-nil found) ∙ whole
     by (p ∷ left) are stands whole = absurd (some_net p left are.0 (sym stands ∙ end))
 
+-- the cell of a net of which only the declaration is known
+abbrev pub unread : ℕ → ℕ
+unread n = 0
+
 -- a port of which only the declarations are known
 abbrev pub declared_port : NetPort → NetPort
-declared_port p = record { name = p.name; side = p.side; ty = p.ty; nets = map (λ (n : ℕ). 0) p.nets }
+declared_port p = record { name = p.name; side = p.side; ty = p.ty; nets = map unread p.nets }
 
-zeros : (ns : List ℕ) → AllByRecursion IsNumber (map (λ (n : ℕ). 0) ns)
+zeros : (ns : List ℕ) → AllByRecursion IsNumber (map unread ns)
 zeros [] = tt
 zeros (n ∷ ns) = (omega arith, zeros ns)
 
-zeros_many : (ns : List ℕ) → length (map (λ (n : ℕ). 0) ns) ≡ length ns
+zeros_many : (ns : List ℕ) → length (map unread ns) ≡ length ns
 zeros_many [] = refl
 zeros_many (n ∷ ns) = ap suc (zeros_many ns)
 
@@ -208,7 +217,7 @@ declared_writable [] all = tt
 declared_writable (p ∷ ps) all =
     (record { name = all.0.name; ty = all.0.ty; many = zeros_many p.nets ∙ all.0.many; nets = zeros p.nets }, declared_writable ps all.1)
 
-declared_in_roles : (name : List ℕ) (side : Side) (w : ℕ) (ns : List ℕ) (rs : List Role) → map declared_net (nets_in_roles name side w ns rs) ≡ nets_in_roles name side w (map (λ (n : ℕ). 0) ns) rs
+declared_in_roles : (name : List ℕ) (side : Side) (w : ℕ) (ns : List ℕ) (rs : List Role) → map declared_net (nets_in_roles name side w ns rs) ≡ nets_in_roles name side w (map unread ns) rs
 declared_in_roles name side w [] rs = refl
 declared_in_roles name side w (n ∷ ns) [] = refl
 declared_in_roles name side w (n ∷ ns) (r ∷ rs) = ap (λ more. record { name = name ++ suffix r; input = is_input side (direction r); width = bits w r; cell = 0 } ∷ more) (declared_in_roles name side w ns rs)

@@ -22,6 +22,7 @@ pub mod NotedLemmas
 pub mod FoundLemmas
 pub mod WholeLemmas
 pub mod PlacedLemmas
+pub mod OutputLemmas
 pub mod RunLemmas
 pub mod SlotLemmas
 pub mod KindTextLemmas
