@@ -47,7 +47,7 @@ pub fn outputs(
 
 // The net of a port, as this cell.
 fn with_cell(alloc: Global, net: &PortNet, cell: NetId) -> Result<PortNet, VFault>
-    ensures { IfOk result (λ known. known ≡ record net.now { cell = cell.0 }) }
+    ensures { MatchResult result (λ known. known ≡ record net.now { cell = cell.0 }) IsWant }
 {
     Ok(PortNet {
         name: net.name.to_vec(alloc)?,
