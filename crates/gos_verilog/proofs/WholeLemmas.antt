@@ -13,6 +13,7 @@ use Rattle.gos_verilog.specs.Readable.{IsRead, IsReadable}
 use Rattle.gos_verilog.specs.inner.Stages.{AreNameBytes, HaveNames, IsNetName, HaveOwnNames, HaveWidths, HaveCellWidths, listed, declared_net, IsBody}
 use Rattle.gos_verilog.specs.inner.Inputs.{AreFed}
 use Rattle.gos_verilog.specs.inner.Noted.{HasPlaces, place_at, AreRight, AreDriven}
+use Rattle.gos_verilog.specs.inner.Parts.{Parts, whole_text}
 use Rattle.gos_verilog.proofs.SuffixLemmas as names
 use Rattle.gos_verilog.proofs.PortLemmas.{IsRightNet, right_nets}
 use Rattle.gos_verilog.proofs.FoundLemmas.{wide_nets, number_nets}
@@ -37,30 +38,10 @@ right_of net readable =
     }
 
 -- the parts of a text that is read as a netlist
-pub record Parts (net : Netlist) (text : List ℕ) : Type 0 where
-  pub first : List ℕ
-  pub nets : List PortNet
-  pub cells : List Cell
-  pub drivers : List ℕ
-  pub back : List ℕ
-  pub nets_are : nets ≡ port_nets net.ports
-  pub cells_are : cells ≡ net.cells
-  pub back_is : back ≡ flat_map output_assignment nets ++ codes "endmodule\n"
-  pub bytes : AreNameBytes first
-  pub names : HaveNames nets
-  pub wide : HaveWidths nets
-  pub numbers : AllByRecursion (λ (n : PortNet). IsNumber n.cell) nets
-  pub cell_wide : HaveCellWidths cells
-  pub few : length cells ≤ 4294967295
-  pub body : IsBody (drivers ++ back)
-  pub right : AreRight nets cells
-  pub are : AreDrivers IsItsNet nets 0 cells drivers
-  pub is : text ≡ codes "module gos_" ++ (first ++ (codes "(clk, rst" ++ (listed nets ++ (codes ");\n" ++ (clock_declarations ++ (flat_map port_declaration nets ++ (cell_declarations 0 cells ++ (drivers ++ back))))))))
-
-pub parts_of : (net : Netlist) (text : List ℕ) → IsRead text net → Parts net text
+pub parts_of : (net : Netlist) (text : List ℕ) → IsRead text net → (parts : Parts net) × (text ≡ whole_text parts)
 parts_of net text (readable, (drivers, are, is)) =
     let nets : List PortNet = port_nets net.ports in
-    let right = right_nets net.ports readable.writable.ports in
+    let right = right_nets net.ports readable.writable.ports in (
     record {
       first = first_name net.ports;
       nets = nets;
@@ -70,6 +51,7 @@ parts_of net text (readable, (drivers, are, is)) =
       nets_are = refl;
       cells_are = refl;
       back_is = refl;
+      ports = readable.writable.ports;
       bytes = first_bytes net.ports readable.writable.ports;
       names = names_of nets right;
       wide = wide_nets net.ports readable.writable.ports;
@@ -79,8 +61,8 @@ parts_of net text (readable, (drivers, are, is)) =
       body = drivers_body nets 0 net.cells drivers (outputs net) are (outputs_body nets);
       right = right_of net readable;
       are = are;
-      is = is ∙ text_parts net drivers;
-    }
+    },
+    is ∙ text_parts net drivers)
 
 -- the names and places that are known of declared nets
 undeclared : (nets : List PortNet) (k : ℕ) (a : PortNet) → slice_get (map declared_net nets) k ≡ Some a → (b : PortNet) × (slice_get nets k ≡ Some b) × (a ≡ declared_net b)

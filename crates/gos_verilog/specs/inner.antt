@@ -6,3 +6,4 @@ pub mod CellLines
 pub mod Inputs
 pub mod Stages
 pub mod Noted
+pub mod Parts
