@@ -1,12 +1,12 @@
 -- Numbers and names before a byte that they can't have: a text begins with one in one way.
-use Rattle.std.proofs.Common.{◌≡◌, inl, inr, ◌⊎◌, ℕ, ◌-◌, ◌^◌, ◌<◌, ◌≤◌, true, false, List, [], ◌∷◌, ◌++◌, length, refl, sym, ◌∙◌, ap, subst, arith, append_assoc, append-nil}
+use Rattle.std.proofs.Common.{◌≡◌, inl, inr, ℕ, ◌-◌, ◌^◌, ◌<◌, true, false, List, [], ◌∷◌, ◌++◌, length, refl, sym, ◌∙◌, ap, arith, append_assoc, append-nil}
 use Rattle.std.specs.Char.{is_ascii_digit}
 use Rattle.std.specs.Fmt.{decimal}
 use Rattle.std.specs.List.{list_all}
 use Rattle.std.proofs.lemmas.Bool.{and_parts}
 use Rattle.std.proofs.lemmas.Fmt.{decimal_injective, decimal_nonempty}
 use Rattle.std.proofs.lemmas.List.Folds.{list_all-append}
-use Rattle.gos_lex.specs.Bytes.{begins_name, continues_name}
+use Rattle.gos_lex.specs.Bytes.{continues_name}
 use Rattle.gos_lex.specs.Items.{Begins}
 use Rattle.gos_lex.specs.Decimals.{IsDecimalIn}
 use Rattle.gos_lex.proofs.DecimalLemmas.{digit_within}

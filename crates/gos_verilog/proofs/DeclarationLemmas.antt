@@ -1,5 +1,5 @@
 -- The declarations are known by their text.
-use Rattle.std.proofs.Common.{◌≡◌, ◌⊎◌, inl, inr, ℕ, zero, suc, ◌+◌, ◌-◌, ◌^◌, ◌<◌, ◌≤◌, Bool, true, false, if◌then◌else◌, List, [], ◌∷◌, ◌++◌, length, map, get_or, refl, sym, ◌∙◌, ap, subst, arith, append_assoc, codes}
+use Rattle.std.proofs.Common.{◌≡◌, inl, inr, ℕ, suc, ◌-◌, ◌≤◌, Bool, true, false, if◌then◌else◌, List, [], ◌∷◌, ◌++◌, get_or, refl, sym, ◌∙◌, ap, arith, append_assoc, codes}
 use Rattle.std.specs.Fmt.{decimal}
 use Rattle.std.specs.List.{AllByRecursion, flat_map}
 use Rattle.std.proofs.lemmas.List.{append_cancel_left}
@@ -9,7 +9,7 @@ use Rattle.gos_verilog.specs.PortNets.{PortNet}
 use Rattle.gos_verilog.specs.Lines.{declaration, direction_word, port_declaration, cell_net, kind_word, cell_declaration, cell_declarations, output_assignment, assignment}
 use Rattle.gos_verilog.specs.inner.Drivers.{is_register}
 pub use Rattle.gos_verilog.specs.inner.Stages.{word_of, IsBody, HaveNames, listed}
-use Rattle.gos_verilog.proofs.CodeLemmas.{number_code, AreNameBytes, name_code}
+use Rattle.gos_verilog.proofs.CodeLemmas.{number_code, name_code}
 use Rattle.gos_verilog.proofs.ExpressionLemmas.{IsSmall}
 
 -- a number of bits

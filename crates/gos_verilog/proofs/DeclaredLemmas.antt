@@ -1,5 +1,5 @@
 -- The declarations of nets of ports and of cells, one by one.
-use Rattle.std.proofs.Common.{◌≡◌, ℕ, zero, suc, ◌+◌, ◌-◌, ◌<◌, ◌≤◌, Bool, true, false, List, [], ◌∷◌, ◌++◌, length, map, drop, refl, sym, ◌∙◌, ap, subst, arith, append_assoc, append-nil, codes, Bor, length-append}
+use Rattle.std.proofs.Common.{◌≡◌, ℕ, suc, ◌+◌, ◌-◌, ◌≤◌, List, [], ◌∷◌, ◌++◌, length, map, drop, sym, ◌∙◌, ap, subst, arith, append_assoc, append-nil, codes, Bor, length-append}
 use Rattle.std.specs.Fmt.{decimal}
 use Rattle.std.specs.List.{flat_map}
 use Rattle.std.proofs.lemmas.List.{length-map}
@@ -11,7 +11,7 @@ use Rattle.gos_verilog.specs.PortNets.{PortNet}
 use Rattle.gos_verilog.specs.Lines.{direction_word, port_declaration, cell_net, cell_declaration, cell_declarations}
 use Rattle.gos_verilog.specs.inner.Drivers.{is_register}
 use Rattle.gos_verilog.specs.inner.Stages.{Rest, AreNamesOf, HaveWidths, HaveCellWidths, declared_net, word_of, shape_of, IsBody}
-use Rattle.gos_verilog.proofs.DeclarationLemmas.{declaration_text, cell_text, no_body}
+use Rattle.gos_verilog.proofs.DeclarationLemmas.{declaration_text, cell_text}
 use Rattle.gos_verilog.proofs.HeadLemmas.{values}
 
 -- the declaration of a net of a port, by its parts

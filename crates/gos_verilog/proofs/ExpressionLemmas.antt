@@ -1,14 +1,12 @@
 -- What drives a cell's net is known by its text.
-use Rattle.std.proofs.Common.{◌≡◌, inl, inr, ◌⊎◌, ℕ, ◌^◌, ◌<◌, ◌≤◌, Bool, true, false, List, [], ◌∷◌, ◌++◌, length, get_or, refl, sym, ◌∙◌, ap, subst, arith, append_assoc, codes}
+use Rattle.std.proofs.Common.{◌≡◌, inl, inr, ◌⊎◌, ℕ, ◌^◌, ◌<◌, true, false, List, [], ◌∷◌, ◌++◌, get_or, refl, sym, ◌∙◌, ap, subst, arith, append_assoc, codes}
 use Rattle.std.specs.Char.{is_ascii_digit}
 use Rattle.std.specs.Fmt.{decimal}
-use Rattle.std.specs.List.{list_all}
-use Rattle.std.proofs.lemmas.Bool.{and_parts}
-use Rattle.gos_lex.specs.Bytes.{begins_name, continues_name}
+use Rattle.gos_lex.specs.Bytes.{begins_name}
 use Rattle.gos_netlist.specs.Nets.{Function, Input, Const, Not, And, Or, Xor, Mux, Add, Sub, Eq, Less, Gate, Reg}
 use Rattle.gos_verilog.specs.Lines.{expression}
 pub use Rattle.gos_verilog.specs.inner.Stages.{IsNetName}
-use Rattle.gos_verilog.proofs.CodeLemmas.{AreNameBytes, digits_lack, same_before, number_code, digit_first, name_lacks, name_code}
+use Rattle.gos_verilog.proofs.CodeLemmas.{digits_lack, same_before, number_code, digit_first, name_lacks, name_code}
 
 -- numbers of a function, each of 64 bits
 abbrev pub IsSmall : ℕ → Type 0

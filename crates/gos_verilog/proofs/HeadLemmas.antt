@@ -1,21 +1,12 @@
 -- The head of a module and its declarations, as the reader passes them: what is left of them.
-use Rattle.std.proofs.Common.{◌≡◌, ◌⊎◌, inl, inr, ℕ, zero, suc, ◌+◌, ◌-◌, ◌<◌, ◌≤◌, Bool, true, false, Option, List, [], ◌∷◌, ◌++◌, length, map, drop, get_or, Some, refl, sym, ◌∙◌, ap, subst, arith, slice_get, append_assoc, append-nil, codes, Bor, length-append}
-use Rattle.std.specs.Fmt.{decimal}
-use Rattle.std.specs.List.{AllByRecursion, flat_map}
-use Rattle.std.proofs.lemmas.List.{length-map}
+use Rattle.std.proofs.Common.{◌≡◌, inl, inr, ℕ, Bool, true, false, List, [], ◌∷◌, ◌++◌, map, drop, get_or, Some, refl, sym, ◌∙◌, ap, arith, slice_get, append_assoc, append-nil, codes, Bor}
 use Rattle.std.proofs.lemmas.Option.{same_Some}
-use Rattle.gos_lex.specs.Bytes.{continues_name}
 use Rattle.gos_lex.specs.Items.{TextAt, IsJust, Misses, Passes}
-use Rattle.gos_types.specs.Widths.{IsWidth}
-use Rattle.gos_netlist.specs.Nets.{Cell}
 use Rattle.gos_netlist.specs.NetItems.{Passed}
 use Rattle.gos_netlist.proofs.PassedLemmas.{passed_item}
-use Rattle.gos_verilog.specs.declared.declared.Shape.{Shape}
 use Rattle.gos_verilog.specs.PortNets.{PortNet}
-use Rattle.gos_verilog.specs.Lines.{direction_word, port_declaration, cell_net, cell_declaration, cell_declarations}
-use Rattle.gos_verilog.specs.inner.Drivers.{is_register}
-use Rattle.gos_verilog.specs.inner.Stages.{Rest, AreNameBytes, HaveNames, AreNamesOf, listed, HaveWidths, HaveCellWidths, declared_net, word_of, shape_of, IsBody}
-use Rattle.gos_verilog.proofs.DeclarationLemmas.{declaration_text, cell_text, follows, no_body}
+use Rattle.gos_verilog.specs.Lines.{direction_word}
+use Rattle.gos_verilog.specs.inner.Stages.{Rest, AreNameBytes, HaveNames, AreNamesOf, listed, word_of, IsBody}
 use Rattle.gos_verilog.proofs.RestLemmas.{passed_rest, word_rest, word_stands, byte_at}
 
 pub passed_word : (old new : TextAt) (bytes : List ℕ) → new.text ≡ old.text → Passes (IsJust bytes) old.text old.at new.at → Passed old new bytes

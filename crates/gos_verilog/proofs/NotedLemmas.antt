@@ -1,11 +1,9 @@
 -- The lines that drive cells' nets, one by one: which cells are read, and which inputs are noted.
-use Rattle.std.proofs.Common.{◌≡◌, ◌≢◌, ◌⊎◌, inl, inr, ℕ, zero, suc, ◌+◌, ◌<◌, ◌≤◌, Bool, true, false, Option, List, [], ◌∷◌, ◌++◌, length, map, drop, set, get_or, Some, None, refl, sym, ◌∙◌, ap, subst, arith, slice_get, append_assoc, append-nil, length-append}
-use Rattle.std.specs.List.{AllByRecursion}
+use Rattle.std.proofs.Common.{◌≡◌, ◌≢◌, inl, inr, ℕ, zero, suc, ◌+◌, ◌<◌, List, [], ◌∷◌, ◌++◌, length, map, drop, set, get_or, Some, refl, sym, ◌∙◌, ap, subst, arith, slice_get, append_assoc, append-nil}
 use Rattle.std.proofs.lemmas.Bool.{cases_eq}
 use Rattle.std.proofs.lemmas.List.{length-map, get_or-set_same, get_or-set_other}
 use Rattle.std.proofs.lemmas.Option.{slice_get_within}
-use Rattle.gos_types.specs.Widths.{IsWidth}
-use Rattle.gos_netlist.specs.Nets.{Function, Input, Cell}
+use Rattle.gos_netlist.specs.Nets.{Input, Cell}
 use Rattle.gos_netlist.specs.declared.nets.Cell as seen
 use Rattle.gos_netlist.specs.Seen.{cell_of}
 use Rattle.gos_netlist.specs.Writable.{IsWritableCell}
@@ -15,7 +13,6 @@ use Rattle.gos_verilog.specs.declared.inputs.Places.{Places}
 use Rattle.gos_verilog.specs.PortNets.{PortNet}
 use Rattle.gos_verilog.specs.Lines.{driver}
 use Rattle.gos_verilog.specs.VerilogText.{IsFed, AreDrivers, IsItsNet}
-use Rattle.gos_verilog.specs.inner.Drivers.{is_register}
 use Rattle.gos_verilog.specs.inner.Stages.{IsNetName, declared_net, shape_of}
 use Rattle.gos_verilog.specs.inner.Noted.{place_at, HasPlaces, AreNoted, AreAllNoted, IsLineOf, IsKnown, IsNotedBy, AreRight, AreDriven}
 use Rattle.gos_verilog.proofs.LineLemmas.{is_input_or}

@@ -1,23 +1,23 @@
 -- A Verilog text is that of one accepted netlist at most, and an accepted netlist has one text at most.
-use Rattle.std.proofs.Common.{◌≡◌, ◌≢◌, ◌⊎◌, inl, inr, ℕ, zero, suc, ◌+◌, ◌^◌, ◌<◌, ◌≤◌, Bool, true, false, if◌then◌else◌, List, [], ◌∷◌, ◌++◌, length, map, take, get_or, Some, None, refl, sym, ◌∙◌, ap, subst, arith, slice_get, append_assoc, codes}
+use Rattle.std.proofs.Common.{◌≡◌, inl, inr, ℕ, zero, suc, ◌+◌, ◌^◌, ◌<◌, ◌≤◌, Bool, true, false, if◌then◌else◌, List, [], ◌∷◌, ◌++◌, get_or, Some, refl, sym, ◌∙◌, ap, subst, arith, slice_get, append_assoc, codes}
 use Rattle.std.specs.List.{AllByRecursion, flat_map}
 use Rattle.std.proofs.lemmas.Bool.{cases_lt}
 use Rattle.std.proofs.lemmas.List.{append_cancel_left}
 use Rattle.std.proofs.Math.Nat.{pow-le-pow_right}
 use Rattle.gos_netlist.specs.Nets.{Function, Input, Const, Not, And, Or, Xor, Mux, Add, Sub, Eq, Less, Gate, Reg, Cell, NetPort, Netlist}
 use Rattle.gos_types.specs.Widths.{IsWidth}
-use Rattle.gos_netlist.specs.Writable.{IsNumber, OperandsFit, IsWritableCell, IsWritablePort, IsWritable}
+use Rattle.gos_netlist.specs.Writable.{OperandsFit, IsWritableCell, IsWritablePort, IsWritable}
 use Rattle.gos_netcheck.specs.Accepted.{IsAccepted}
 use Rattle.gos_verilog.specs.PortNets.{PortNet, port_nets}
-use Rattle.gos_verilog.specs.Lines.{cell_net, module_head, clock_declarations, port_declaration, cell_declarations, expression, driver, driver_of, output_assignment, assignment}
+use Rattle.gos_verilog.specs.Lines.{cell_net, clock_declarations, port_declaration, cell_declarations, expression, driver, driver_of, output_assignment, assignment}
 use Rattle.gos_verilog.specs.VerilogText.{first_name, declarations, outputs, IsFed, AreDrivers, IsItsNet, IsVerilogOf}
 use Rattle.gos_verilog.specs.Readable.{IsReadable}
-use Rattle.gos_verilog.specs.OneText.{IsReadAsOne, IsReadBack, HasOneText, IsPrintable, IsOneNetlist}
+use Rattle.gos_verilog.specs.OneText.{IsReadAsOne, IsReadBack, HasOneText, IsOneNetlist}
 use Rattle.gos_verilog.specs.inner.Drivers.{is_register}
 use Rattle.gos_verilog.proofs.CodeLemmas.{AreNameBytes, name_code}
 use Rattle.gos_verilog.proofs.ExpressionLemmas.{IsSmall, AreSmall, IsNetName}
 use Rattle.gos_verilog.proofs.DriverLemmas.{front, driver_text, driver_code}
-use Rattle.gos_verilog.proofs.DeclarationLemmas.{IsBits, AreAlike, IsBody, HaveBits, cells_code, AreSameHeads, AreSameNames, HaveNetBits, nets_code, HaveNames, listed, names_code, AreSameOutputs, HaveSmallCells, outputs_code}
+use Rattle.gos_verilog.proofs.DeclarationLemmas.{IsBits, AreAlike, IsBody, HaveBits, cells_code, AreSameHeads, HaveNetBits, nets_code, HaveNames, listed, names_code, AreSameOutputs, HaveSmallCells, outputs_code}
 use Rattle.gos_verilog.proofs.SuffixLemmas.{AreNamesApart, nets_apart}
 use Rattle.gos_verilog.proofs.SuffixLemmas as names
 use Rattle.gos_verilog.proofs.InputLemmas.{input_cells, AreApart, inputs_apart}

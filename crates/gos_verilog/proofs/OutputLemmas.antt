@@ -1,5 +1,5 @@
 -- The assignments of outputs, one by one, with the cells of the inputs that were noted.
-use Rattle.std.proofs.Common.{◌≡◌, ℕ, zero, suc, ◌+◌, ◌<◌, Bool, true, false, if◌then◌else◌, List, [], ◌∷◌, ◌++◌, length, map, drop, get_or, Some, refl, sym, ◌∙◌, ap, subst, arith, slice_get, append_assoc, append-nil, codes}
+use Rattle.std.proofs.Common.{◌≡◌, ℕ, zero, suc, ◌+◌, Bool, true, false, if◌then◌else◌, List, [], ◌∷◌, ◌++◌, length, map, drop, get_or, Some, refl, sym, ◌∙◌, ap, subst, arith, slice_get, append_assoc, append-nil, codes}
 use Rattle.std.specs.List.{AllByRecursion, flat_map}
 use Rattle.gos_lex.specs.Items.{TextAt}
 use Rattle.gos_netlist.specs.Writable.{IsNumber}

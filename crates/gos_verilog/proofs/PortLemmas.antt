@@ -1,6 +1,6 @@
 -- Ports are known by their nets in the module.
-use Rattle.std.proofs.Common.{◌≡◌, ◌≢◌, ◌⊎◌, inl, inr, ℕ, zero, suc, ◌+◌, ◌^◌, ◌<◌, ◌≤◌, Bool, true, false, List, [], ◌∷◌, ◌++◌, length, map, drop, get_or, Some, refl, sym, ◌∙◌, ap, subst, arith, slice_get}
-use Rattle.std.specs.List.{AllByRecursion, list_all, flat_map}
+use Rattle.std.proofs.Common.{◌≡◌, ℕ, zero, suc, ◌<◌, Bool, true, false, List, [], ◌∷◌, ◌++◌, length, map, drop, get_or, Some, refl, sym, ◌∙◌, ap, subst, arith, slice_get}
+use Rattle.std.specs.List.{AllByRecursion, list_all}
 use Rattle.std.proofs.lemmas.Bool.{and_parts}
 use Rattle.std.proofs.lemmas.List.Folds.{list_all-append}
 use Rattle.gos_types.specs.Types.{Type', Com, Exp, Var, Pair, Fun}
@@ -14,7 +14,7 @@ use Rattle.gos_netcheck.specs.PortRules.{place, places, IsEnd, FitsAt, AllFit}
 use Rattle.gos_netcheck.specs.Rules.{Kept}
 use Rattle.gos_verilog.specs.declared.port_net.Role.{Role}
 use Rattle.gos_verilog.specs.declared.port_net.Role.TheVariants.{Run, Done, Ask, Ans, AnsValue, Read, Write, WriteValue}
-use Rattle.gos_verilog.specs.PortNets.{PortNet, suffix, direction, bits, roles, number_bits, net_in_role, nets_in_roles, nets_of_port, port_nets}
+use Rattle.gos_verilog.specs.PortNets.{PortNet, suffix, direction, bits, roles, number_bits, nets_in_roles, nets_of_port, port_nets}
 use Rattle.gos_verilog.proofs.CodeLemmas.{AreNameBytes}
 use Rattle.gos_verilog.proofs.ExpressionLemmas.{IsSmall, IsNetName}
 use Rattle.gos_verilog.proofs.DeclarationLemmas.{IsBits}

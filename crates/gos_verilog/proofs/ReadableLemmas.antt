@@ -1,15 +1,13 @@
 -- Inputs that are cells of their own, net by net.
-use Rattle.std.proofs.Common.{◌≡◌, ◌≢◌, ◌⊎◌, inl, inr, ℕ, zero, suc, ◌+◌, ◌<◌, ◌≤◌, Bool, true, false, List, [], ◌∷◌, length, map, replicate, take, Some, refl, sym, ◌∙◌, ap, subst, arith, slice_get}
-use Rattle.std.specs.List.{AllByRecursion}
+use Rattle.std.proofs.Common.{◌≡◌, ◌⊎◌, inl, inr, ℕ, zero, suc, ◌+◌, ◌<◌, ◌≤◌, Bool, true, false, List, [], ◌∷◌, length, replicate, take, Some, refl, sym, subst, arith, slice_get}
 use Rattle.std.specs.Prelude.{◌||◌}
 use Rattle.std.specs.Str.{bytes_eq}
 use Rattle.std.proofs.lemmas.Slice.Eq.{bytes_eq-Decides}
-use Rattle.std.proofs.lemmas.Bool.{cases_lt}
-use Rattle.std.proofs.lemmas.Option.{same_Some, slice_get_within}
-use Rattle.gos_netlist.specs.Nets.{Input, Cell, NetPort}
-use Rattle.gos_netcheck.specs.Rules.{KeptBefore, Kept}
+use Rattle.std.proofs.lemmas.Option.{slice_get_within}
+use Rattle.gos_netlist.specs.Nets.{Cell, NetPort}
+use Rattle.gos_netcheck.specs.Rules.{Kept}
 use Rattle.gos_netcheck.specs.inner.PortSearch.{is_named}
-use Rattle.gos_netcheck.proofs.RuleLemmas.{kept_more, kept_all}
+use Rattle.gos_netcheck.proofs.RuleLemmas.{kept_more}
 use Rattle.gos_verilog.specs.PortNets.{PortNet}
 use Rattle.gos_verilog.specs.Readable.{IsInputCell, HasOwnCell}
 use Rattle.gos_verilog.specs.inner.Inputs.{IsTaken, IsTakenInput, AreTaken, AreFed}

@@ -1,5 +1,5 @@
 -- What is left of a text once an item of it is passed, and that an item that stands is not missed.
-use Rattle.std.proofs.Common.{◌≡◌, ℕ, zero, suc, ◌+◌, ◌-◌, ◌^◌, ◌<◌, ◌≤◌, Bool, true, false, cond, List, [], ◌∷◌, ◌++◌, length, take, drop, get_or, Some, refl, sym, ◌∙◌, ap, subst, arith, slice_get, append_assoc, length-append, length-drop}
+use Rattle.std.proofs.Common.{◌≡◌, ℕ, zero, suc, ◌+◌, ◌-◌, ◌^◌, ◌<◌, ◌≤◌, Bool, false, cond, List, [], ◌∷◌, ◌++◌, length, take, drop, Some, refl, sym, ◌∙◌, ap, subst, arith, slice_get, append_assoc, length-append, length-drop}
 use Rattle.std.specs.List.{slice_range, list_all, prefix_len}
 use Rattle.std.specs.Fmt.{decimal}
 use Rattle.std.specs.Char.{is_ascii_digit}
@@ -8,7 +8,7 @@ use Rattle.std.proofs.lemmas.Bool.{and_parts}
 use Rattle.std.proofs.lemmas.List.{append_cancel_left, take-append-drop, drop-drop}
 use Rattle.gos_lex.specs.Bytes.{continues_name}
 use Rattle.gos_lex.specs.Items.{TextAt, IsJust, Misses}
-use Rattle.gos_netlist.specs.NetItems.{IsTextOf, IsInRange, IsNumberText, Passed, ended}
+use Rattle.gos_netlist.specs.NetItems.{IsInRange, IsNumberText, Passed, ended}
 use Rattle.gos_verilog.specs.inner.Stages.{Rest, AreNameBytes}
 use Rattle.gos_verilog.proofs.NumberLemmas.{number_code}
 

@@ -1,18 +1,16 @@
 -- A text of a netlist, from stage to stage of the reader; and that such a netlist has one text at most.
-use Rattle.std.proofs.Common.{◌≡◌, ◌⊎◌, inl, inr, ℕ, zero, suc, ◌+◌, ◌<◌, ◌≤◌, Bool, true, false, List, [], ◌∷◌, ◌++◌, length, map, drop, Some, refl, sym, ◌∙◌, ap, subst, arith, slice_get, codes}
-use Rattle.std.specs.List.{AllByRecursion, flat_map}
-use Rattle.std.proofs.lemmas.List.{length-map}
+use Rattle.std.proofs.Common.{◌≡◌, ℕ, zero, suc, ◌+◌, true, List, [], ◌∷◌, ◌++◌, length, map, Some, refl, sym, ◌∙◌, ap, subst, arith, slice_get}
+use Rattle.std.specs.List.{AllByRecursion}
 use Rattle.std.proofs.lemmas.Option.{slice_get_within}
-use Rattle.gos_netlist.specs.Nets.{Function, Input, Cell, NetPort, Netlist}
-use Rattle.gos_netlist.specs.Writable.{IsNumber, IsWritableCell, IsWritablePort}
+use Rattle.gos_netlist.specs.Nets.{Input, Cell, Netlist}
+use Rattle.gos_netlist.specs.Writable.{IsWritableCell}
 use Rattle.gos_verilog.specs.declared.inputs.Places.{Places}
 use Rattle.gos_verilog.specs.PortNets.{PortNet, port_nets}
-use Rattle.gos_verilog.specs.Lines.{clock_declarations, port_declaration, cell_declarations, output_assignment, driver_of}
 use Rattle.gos_verilog.specs.VerilogText.{first_name, declarations, outputs, IsFed, AreDrivers, IsItsNet, IsVerilogOf}
 use Rattle.gos_verilog.specs.Readable.{IsRead, IsReadable}
-use Rattle.gos_verilog.specs.inner.Stages.{AreNameBytes, HaveNames, IsNetName, HaveOwnNames, HaveWidths, HaveCellWidths, listed, declared_net, IsBody}
+use Rattle.gos_verilog.specs.inner.Stages.{IsNetName, HaveOwnNames, HaveCellWidths, declared_net}
 use Rattle.gos_verilog.specs.inner.Inputs.{AreFed}
-use Rattle.gos_verilog.specs.inner.Noted.{HasPlaces, place_at, AreRight, AreDriven}
+use Rattle.gos_verilog.specs.inner.Noted.{HasPlaces, AreRight}
 use Rattle.gos_verilog.specs.inner.Parts.{Parts, whole_text}
 use Rattle.gos_verilog.proofs.SuffixLemmas as names
 use Rattle.gos_verilog.proofs.PortLemmas.{IsRightNet, right_nets}
@@ -42,27 +40,28 @@ pub parts_of : (net : Netlist) (text : List ℕ) → IsRead text net → (parts 
 parts_of net text (readable, (drivers, are, is)) =
     let nets : List PortNet = port_nets net.ports in
     let right = right_nets net.ports readable.writable.ports in (
-    record {
-      first = first_name net.ports;
-      nets = nets;
-      cells = net.cells;
-      drivers = drivers;
-      back = outputs net;
-      nets_are = refl;
-      cells_are = refl;
-      back_is = refl;
-      ports = readable.writable.ports;
-      bytes = first_bytes net.ports readable.writable.ports;
-      names = names_of nets right;
-      wide = wide_nets net.ports readable.writable.ports;
-      numbers = number_nets net.ports readable.writable.ports;
-      cell_wide = cell_widths net.cells readable.writable.cells;
-      few = readable.writable.cell_count;
-      body = drivers_body nets 0 net.cells drivers (outputs net) are (outputs_body nets);
-      right = right_of net readable;
-      are = are;
-    },
-    is ∙ text_parts net drivers)
+      record {
+        first = first_name net.ports;
+        nets = nets;
+        cells = net.cells;
+        drivers = drivers;
+        back = outputs net;
+        nets_are = refl;
+        cells_are = refl;
+        back_is = refl;
+        ports = readable.writable.ports;
+        bytes = first_bytes net.ports readable.writable.ports;
+        names = names_of nets right;
+        wide = wide_nets net.ports readable.writable.ports;
+        numbers = number_nets net.ports readable.writable.ports;
+        cell_wide = cell_widths net.cells readable.writable.cells;
+        few = readable.writable.cell_count;
+        body = drivers_body nets 0 net.cells drivers (outputs net) are (outputs_body nets);
+        right = right_of net readable;
+        are = are;
+      },
+      is ∙ text_parts net drivers,
+    )
 
 -- the names and places that are known of declared nets
 undeclared : (nets : List PortNet) (k : ℕ) (a : PortNet) → slice_get (map declared_net nets) k ≡ Some a → (b : PortNet) × (slice_get nets k ≡ Some b) × (a ≡ declared_net b)

@@ -1,7 +1,7 @@
 -- The places of inputs by name, and the cells that were noted to read them.
 --
 -- Read first: Stages, VerilogText. Between the reader of the lines that drive cells' nets and its lemmas.
-use Rattle.std.specs.Prelude.{◌≡◌, ℕ, suc, ◌<◌, ◌≤◌, true, List, [], ◌∷◌, ◌++◌, Option, Some, if◌then◌else◌, get_or, length, set, map, drop, slice_get}
+use Rattle.std.specs.Prelude.{◌≡◌, ℕ, ◌<◌, true, List, ◌++◌, Option, Some, if◌then◌else◌, get_or, length, set, slice_get}
 use Rattle.std.specs.List.{AllByRecursion}
 use Rattle.std.specs.Str.{bytes_eq}
 use Rattle.indexmap.specs.IndexMap.{get_by}
@@ -12,7 +12,7 @@ use Rattle.gos_verilog.specs.declared.inputs.Inputs.{Inputs}
 use Rattle.gos_verilog.specs.PortNets.{PortNet}
 use Rattle.gos_verilog.specs.Lines.{driver_of}
 use Rattle.gos_verilog.specs.VerilogText.{AreDrivers, IsItsNet}
-use Rattle.gos_verilog.specs.inner.Stages.{IsNetName, HaveOwnNames, declared_net, shape_of}
+use Rattle.gos_verilog.specs.inner.Stages.{IsNetName, HaveOwnNames}
 use Rattle.gos_verilog.specs.inner.CellLines.{kind_of}
 use Rattle.gos_verilog.specs.declared.cell_line.Kind.{Kind}
 

@@ -3,7 +3,7 @@
 -- Read first: Noted, VerilogText.
 use Rattle.std.specs.Prelude.{◌≡◌, ℕ, ◌≤◌, List, ◌++◌, length, codes}
 use Rattle.std.specs.List.{AllByRecursion, flat_map}
-use Rattle.gos_netlist.specs.Nets.{Cell, NetPort, Netlist}
+use Rattle.gos_netlist.specs.Nets.{Cell, Netlist}
 use Rattle.gos_netlist.specs.Writable.{IsNumber, IsWritablePort}
 use Rattle.gos_verilog.specs.PortNets.{PortNet, port_nets}
 use Rattle.gos_verilog.specs.Lines.{clock_declarations, port_declaration, cell_declarations, output_assignment}

@@ -1,7 +1,7 @@
 -- What is left of a text from a cursor on, and what the stages of the reader find there.
 --
 -- Read first: Lines; Items of gos_lex. Between the reader and its lemmas.
-use Rattle.std.specs.Prelude.{◌≡◌, ◌⊎◌, ℕ, zero, Bool, true, false, List, [], ◌∷◌, ◌++◌, map, drop, get_or, Some, slice_get, codes}
+use Rattle.std.specs.Prelude.{◌≡◌, ◌⊎◌, ℕ, Bool, true, false, List, ◌∷◌, ◌++◌, map, drop, get_or, Some, slice_get, codes}
 use Rattle.std.specs.List.{AllByRecursion, list_all, flat_map}
 use Rattle.std.proofs.Common.{Bor}
 use Rattle.gos_lex.specs.Bytes.{begins_name, continues_name}

@@ -1,17 +1,16 @@
-use Rattle.std.proofs.Common.{◌≡◌, ◌++◌, ◌∷◌, ◌+◌, ◌-◌, ◌≤◌, ℕ, suc, Bool, List, [], length-append, drop, length, map, refl, sym, ◌∙◌, ap, subst, arith}
+use Rattle.std.proofs.Common.{◌≡◌, ◌++◌, ◌∷◌, ◌+◌, ◌-◌, ℕ, suc, Bool, List, [], length-append, length, map, sym, ◌∙◌, ap, subst, arith}
 use Rattle.std.specs.Prelude.{codes}
 use Rattle.std.specs.Fmt.{decimal}
 use Rattle.std.specs.List.{AllByRecursion}
 use Rattle.std.proofs.lemmas.Result.{err_from_is_err_and}
 use Rattle.gos_lex.specs.Items.{TextAt}
 use Rattle.gos_types.specs.Widths.{IsWidth}
-use Rattle.gos_netlist.specs.Nets.{Cell}
 use Rattle.gos_verilog.specs.declared.declared.Shape.{Shape}
 use Rattle.gos_verilog.specs.Lines.{cell_net, cell_declarations}
 use Rattle.gos_verilog.specs.inner.Drivers.{is_register}
-use Rattle.gos_verilog.specs.inner.Stages.{Rest, IsBody, HaveCellWidths, shape_of, word_of}
+use Rattle.gos_verilog.specs.inner.Stages.{Rest, IsBody, shape_of}
 use Rattle.gos_verilog.proofs.ListLemmas.{all_snoc}
-use Rattle.gos_verilog.proofs.DeclaredLemmas.{CellsSoFar, NextCell, NoCell, OneCell, next_cell, cells_more, no_cell_left}
+use Rattle.gos_verilog.proofs.DeclaredLemmas.{NoCell, OneCell, next_cell, cells_more, no_cell_left}
 use Rattle.gos_verilog.proofs.declared.cell_declarations.Goals as goal
 
 pub returns-in_err-cell_declaration-in-Ok-clause-stands : goal.returns-in_err-cell_declaration-in-Ok-clause-stands

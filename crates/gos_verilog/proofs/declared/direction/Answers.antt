@@ -1,4 +1,3 @@
-use Rattle.std.proofs.Common.{codes}
 use Rattle.gos_verilog.proofs.HeadLemmas.{input_passed}
 use Rattle.gos_verilog.proofs.declared.direction.Goals as goal
 

@@ -1,6 +1,5 @@
-use Rattle.std.proofs.Common.{subst, sym, List, ℕ}
+use Rattle.std.proofs.Common.{subst}
 use Rattle.gos_lex.specs.Items.{TextAt}
-use Rattle.gos_verilog.specs.inner.Stages.{IsBody}
 use Rattle.gos_verilog.proofs.HeadLemmas.{wire_passed, body_no_wire, body_no_reg}
 use Rattle.gos_netlist.specs.NetItems.{Passed}
 use Rattle.std.specs.Prelude.{codes}

@@ -1,4 +1,4 @@
-use Rattle.std.proofs.Common.{◌≡◌, ◌++◌, ◌∷◌, ◌+◌, ◌<◌, ℕ, suc, List, [], Bor, drop, length, map, get_or, refl, sym, ◌∙◌, ap, drop-cons, add-one}
+use Rattle.std.proofs.Common.{◌≡◌, ◌++◌, ◌∷◌, ◌+◌, ◌<◌, ℕ, List, [], Bor, drop, length, map, get_or, refl, sym, ◌∙◌, ap, drop-cons, add-one}
 use Rattle.std.proofs.Math.ListN.{drop_of_length-le}
 use Rattle.std.proofs.lemmas.Result.{err_from_is_err_and}
 use Rattle.std.specs.List.{flat_map}
@@ -7,7 +7,6 @@ use Rattle.gos_verilog.specs.Lines.{port_declaration}
 use Rattle.gos_verilog.specs.inner.Stages.{declared_net}
 use Rattle.gos_verilog.proofs.DeclaredLemmas.{next_net, nets_more, no_net_left}
 use Rattle.gos_verilog.proofs.declared.port_declarations.Goals as goal
-
 
 -- the name at a place, and those behind it
 cut : (names : List (Bor (List ℕ))) (k : ℕ) → k < length names → drop k names ≡ get_or names k (record { ref_ptr = (0, 0); now = [] }) ∷ drop (k + 1) names

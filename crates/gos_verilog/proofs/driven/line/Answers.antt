@@ -1,4 +1,4 @@
-use Rattle.std.proofs.Common.{◌≡◌, ◌++◌, [], ℕ, List, drop, refl, sym, ◌∙◌, ap, subst}
+use Rattle.std.proofs.Common.{◌≡◌, ◌++◌, [], ℕ, List, drop, sym, ◌∙◌, subst}
 use Rattle.std.proofs.lemmas.Result.{err_from_is_err_and}
 use Rattle.gos_lex.specs.Items.{TextAt, Misses}
 use Rattle.gos_netlist.specs.NetItems.{Passed}
@@ -6,7 +6,7 @@ use Rattle.gos_netlist.specs.Seen.{function_of}
 use Rattle.gos_verilog.specs.Lines.{driver_of}
 use Rattle.gos_verilog.specs.inner.CellLines.{IsKindLine}
 use Rattle.gos_verilog.proofs.RestLemmas.{passed_rest}
-use Rattle.gos_verilog.proofs.LineLemmas.{line_reads, line_wrong, kind_no_input}
+use Rattle.gos_verilog.proofs.LineLemmas.{line_reads, line_wrong}
 use Rattle.gos_verilog.proofs.driven.line.Goals as goal
 
 pub returns-in_err-gate-clause-wrong : goal.returns-in_err-gate-clause-wrong

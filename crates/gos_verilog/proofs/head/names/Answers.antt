@@ -1,10 +1,10 @@
-use Rattle.std.proofs.Common.{◌≡◌, ◌++◌, ◌∷◌, ◌+◌, ◌-◌, ◌<◌, ◌≤◌, ℕ, List, [], Some, Bor, drop, length, slice_get, refl, sym, ◌∙◌, ap, subst, arith, map}
-use Rattle.std.specs.Prelude.{codes, IsTrue, true, false}
+use Rattle.std.proofs.Common.{◌≡◌, ◌++◌, ◌∷◌, ℕ, List, Some, Bor, slice_get, sym, ◌∙◌, ap, map}
+use Rattle.std.specs.Prelude.{codes, true, false}
 use Rattle.gos_lex.specs.Items.{TextAt}
 use Rattle.gos_verilog.specs.PortNets.{PortNet}
-use Rattle.gos_verilog.specs.inner.Stages.{Rest, HaveNames, listed}
+use Rattle.gos_verilog.specs.inner.Stages.{Rest, listed}
 use Rattle.gos_verilog.proofs.DeclarationLemmas.{follows}
-use Rattle.gos_verilog.proofs.HeadLemmas.{NamesSoFar, NextName, next_name, names_more, no_name_left, values}
+use Rattle.gos_verilog.proofs.HeadLemmas.{next_name, names_more, no_name_left, values}
 use Rattle.gos_verilog.proofs.head.names.Goals as goal
 
 -- a comma stands at the cursor

@@ -1,6 +1,5 @@
 use Rattle.std.proofs.Common.{◌+◌, length, refl, sym, ◌∙◌, ap, subst}
 use Rattle.std.proofs.lemmas.Option.{slice_get_read}
-use Rattle.gos_verilog.specs.declared.inputs.Places.{Places}
 use Rattle.gos_verilog.specs.PortNets.{PortNet}
 use Rattle.gos_verilog.specs.inner.Noted.{HasPlaces}
 use Rattle.gos_verilog.proofs.PlacedLemmas.{place_passes, place_more}

@@ -1,12 +1,11 @@
-use Rattle.std.proofs.Common.{◌≡◌, ◌+◌, ◌++◌, ◌∷◌, [], ℕ, List, false, true, drop, length, refl, sym, ◌∙◌, ap, subst, length-append}
+use Rattle.std.proofs.Common.{◌≡◌, ◌+◌, ◌++◌, ◌∷◌, [], ℕ, List, false, length, sym, ◌∙◌, ap, subst, length-append}
 use Rattle.std.specs.List.{flat_map}
-use Rattle.std.proofs.lemmas.Result.{err_from_is_err_and}
 use Rattle.gos_lex.specs.Items.{TextAt}
 use Rattle.gos_verilog.specs.PortNets.{PortNet}
 use Rattle.gos_verilog.specs.Lines.{assignment, cell_net, output_assignment}
 use Rattle.gos_verilog.specs.inner.Stages.{Rest}
 use Rattle.gos_verilog.proofs.ListLemmas.{drop_at}
-use Rattle.gos_verilog.proofs.OutputLemmas.{last_line, OutputsLeft, NextOutput, next_output, outputs_more, no_output_left}
+use Rattle.gos_verilog.proofs.OutputLemmas.{last_line, OutputsLeft, NextOutput, next_output, outputs_more}
 use Rattle.gos_verilog.proofs.outputs.outputs.Goals as goal
 use Rattle.gos_verilog.proofs.outputs.outputs.Goals.{then-net, else-net+in_ok-cell}
 

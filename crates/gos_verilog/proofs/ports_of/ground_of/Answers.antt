@@ -1,8 +1,8 @@
-use Rattle.std.proofs.Common.{◌≡◌, ◌++◌, ◌≤◌, ◌<◌, ℕ, List, Some, length, get_or, true, false, refl, sym, ◌∙◌, ap, arith}
+use Rattle.std.proofs.Common.{◌≡◌, ◌++◌, ◌<◌, ℕ, List, Some, length, get_or, true, false, refl, sym, ◌∙◌, ap, arith}
 use Rattle.std.specs.Prelude.{slice_get}
 use Rattle.std.proofs.lemmas.Option.{slice_get_read}
 use Rattle.gos_types.specs.Types.{Exp, Var}
-use Rattle.gos_verilog.specs.declared.port_net.Role.TheVariants.{Run, Ask, Read}
+use Rattle.gos_verilog.specs.declared.port_net.Role.TheVariants.{Run, Ask}
 use Rattle.gos_verilog.specs.PortNets.{PortNet, suffix}
 use Rattle.gos_verilog.proofs.FoundLemmas.{view, not_short, is_com, is_exp, is_var, not_two, not_none}
 use Rattle.gos_verilog.proofs.ports_of.ground_of.Goals as goal

@@ -1,9 +1,9 @@
-use Rattle.std.proofs.Common.{◌≡◌, ◌-◌, List, [], ℕ, Some, Bool, true, false, length, take, map, refl, sym, ◌∙◌, ap, subst, arith, append-nil}
-use Rattle.std.specs.Prelude.{slice_get, get_or}
+use Rattle.std.proofs.Common.{◌≡◌, ◌-◌, List, [], ℕ, true, false, length, take, map, refl, sym, ◌∙◌, ap, subst, append-nil}
+use Rattle.std.specs.Prelude.{get_or}
 use Rattle.std.proofs.lemmas.Option.{slice_get_read}
 use Rattle.gos_lex.specs.Names.{IsNameOrWord}
 use Rattle.gos_types.specs.Types.{Type'}
-use Rattle.gos_netlist.specs.Nets.{NetPort, Side, Give, Take}
+use Rattle.gos_netlist.specs.Nets.{NetPort}
 use Rattle.gos_netlist.specs.Seen.{side_of, ground_type}
 use Rattle.gos_netlist.specs.Writable.{IsWritablePort, IsPortType}
 use Rattle.gos_verilog.specs.PortNets.{PortNet, nets_of_port}

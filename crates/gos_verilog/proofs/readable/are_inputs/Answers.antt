@@ -1,4 +1,4 @@
-use Rattle.std.proofs.Common.{length, map, refl, sym, ◌∙◌, subst, arith, Bool, List}
+use Rattle.std.proofs.Common.{length, map, refl, sym, ◌∙◌, subst, Bool, List}
 use Rattle.std.proofs.lemmas.Option.{slice_get_read}
 use Rattle.gos_netlist.specs.Nets.{Cell}
 use Rattle.gos_netlist.specs.Seen.{cell_of}

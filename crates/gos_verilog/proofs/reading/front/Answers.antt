@@ -1,8 +1,7 @@
-use Rattle.std.proofs.Common.{◌≡◌, ◌++◌, List, ℕ, Bor, true, false, map, refl, sym, ◌∙◌, ap, subst}
+use Rattle.std.proofs.Common.{◌≡◌, ◌++◌, List, ℕ, Bor, true, false, map, sym, ◌∙◌, ap, subst}
 use Rattle.std.specs.List.{flat_map}
 use Rattle.std.proofs.lemmas.Result.{err_from_is_err_and}
 use Rattle.gos_verilog.specs.Lines.{clock_declarations, port_declaration}
-use Rattle.gos_verilog.specs.PortNets.{PortNet}
 use Rattle.gos_verilog.specs.inner.Stages.{AreNamesOf, declared_net}
 use Rattle.gos_verilog.proofs.FoundLemmas.{declared_port, declared_writable, declared_nets}
 use Rattle.gos_verilog.proofs.reading.front.Goals as goal

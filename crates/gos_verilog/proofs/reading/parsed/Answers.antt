@@ -1,9 +1,7 @@
-use Rattle.std.proofs.Common.{◌≡◌, ◌++◌, List, ℕ, drop, length, map, refl, sym, ◌∙◌, ap, subst}
+use Rattle.std.proofs.Common.{◌≡◌, ◌++◌, List, ℕ, drop, sym, ◌∙◌}
 use Rattle.std.proofs.lemmas.Result.{err_from_is_err_and}
 use Rattle.gos_lex.specs.Items.{TextAt}
-use Rattle.gos_netlist.specs.Nets.{Netlist}
 use Rattle.gos_verilog.specs.Lines.{cell_declarations}
-use Rattle.gos_verilog.specs.Readable.{IsRead}
 use Rattle.gos_verilog.specs.inner.Stages.{Rest}
 use Rattle.gos_verilog.specs.inner.Parts.{Parts, whole_text}
 use Rattle.gos_verilog.proofs.WholeLemmas.{parts_of}
