@@ -28,3 +28,4 @@ pub mod SlotLemmas
 pub mod KindTextLemmas
 pub mod KindLemmas
 pub mod ReadableLemmas
+pub mod PlaceLemmas

@@ -1,10 +1,10 @@
 // The head of a module: the names of its ports' nets.
-ghost use Rattle.std.specs.Prelude.{◌≡◌, ◌≤◌, ◌↔◌, ◌++◌, ◌∷◌, ℕ, List, Some, false, IfOk, IsTrue, MatchResult, drop, length, slice_get, codes};
+ghost use Rattle.std.specs.Prelude.{◌≡◌, ◌≤◌, ◌↔◌, ◌++◌, ◌∷◌, ℕ, List, Some, false, IfOk, IfErr, IsTrue, MatchResult, drop, length, slice_get, codes};
 ghost use Rattle.std.specs.List.{prefix_len};
 ghost use Rattle.gos_lex.specs.Bytes.{continues_name};
 ghost use Rattle.gos_netlist.specs.NetItems.{Passed};
 ghost use Rattle.gos_verilog.specs.PortNets.{PortNet};
-ghost use Rattle.gos_verilog.specs.inner.Stages.{Rest, IsWant, AreNameBytes, HaveNames, AreNamesOf, listed};
+ghost use Rattle.gos_verilog.specs.inner.Stages.{Rest, BreaksAt, HasStart, first_word, IsWant, AreNameBytes, HaveNames, AreNamesOf, listed};
 
 use crate::fault::VFault;
 use crate::slots::pass;
@@ -18,6 +18,8 @@ pub fn head<'a>(alloc: Global, text: &'a [u8], cursor: &mut Cursor) -> Result<Ve
     ensures stands { (first : List ℕ) (nets : List PortNet) (x : List ℕ) → AreNameBytes first → HaveNames nets
         → Rest cursor.old (codes "module gos_" ++ (first ++ (codes "(clk, rst" ++ (listed nets ++ (codes ");\n" ++ x)))))
         → MatchResult result (λ names. AreNamesOf nets names.items × Rest cursor.new x) IsWant }
+    ensures begun { IfOk result (λ _. HasStart cursor.old) }
+    ensures starts { IfErr result (λ fault. (HasStart cursor.old → ⊥) → BreaksAt first_word cursor.old fault) }
 {
     word(cursor, b"module gos_")?;
     name(text, cursor)?;
@@ -95,6 +97,7 @@ pub fn word(cursor: &mut Cursor, bytes: &[u8]) -> Result<(), VFault>
     ensures forward { cursor.old.at ≤ cursor.new.at }
     ensures passed { IfOk result (λ _. Passed cursor.old cursor.new bytes.now) }
     ensures stands { (x : List ℕ) → Rest cursor.old (bytes.now ++ x) → MatchResult result (λ _. Rest cursor.new x) (λ _. ⊥) }
+    ensures wrong { IfErr result (BreaksAt bytes.now cursor.old) }
 {
     match pass(cursor, bytes) {
         Ok(()) => Ok(()),

@@ -5,7 +5,7 @@ use Rattle.std.specs.Prelude.{◌≡◌, ◌⊎◌, ℕ, Bool, true, false, List
 use Rattle.std.specs.List.{AllByRecursion, list_all, flat_map}
 use Rattle.std.proofs.Common.{Bor}
 use Rattle.gos_lex.specs.Bytes.{begins_name, continues_name}
-use Rattle.gos_lex.specs.Items.{TextAt}
+use Rattle.gos_lex.specs.Items.{TextAt, IsJust, Misses}
 use Rattle.gos_types.specs.Types.{Type', Var}
 use Rattle.gos_types.specs.Widths.{IsWidth}
 use Rattle.gos_netlist.specs.Nets.{Cell}
@@ -78,3 +78,15 @@ shape_of c = record { width = c.width; register = is_register c.gate }
 -- what stands behind the declarations begins as no declaration of a cell does
 abbrev pub IsBody : List ℕ → Type 0
 IsBody body = (get_or body 0 0 ≡ 101) ⊎ (get_or body 2 0 ≡ 97)
+
+-- the bytes break off at the fault's place
+abbrev pub BreaksAt : List ℕ → TextAt → VFault → Type 0
+BreaksAt bytes cursor (faults.Form place) = Misses (IsJust bytes) cursor.text cursor.at place
+BreaksAt bytes cursor faults.NoMemory = Unit {0}
+
+-- how each text begins
+abbrev pub first_word : List ℕ
+first_word = codes "module gos_"
+
+abbrev pub HasStart : TextAt → Type 0
+HasStart cursor = (x : List ℕ) × Rest cursor (first_word ++ x)

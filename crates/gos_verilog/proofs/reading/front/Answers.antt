@@ -4,6 +4,7 @@ use Rattle.std.proofs.lemmas.Result.{err_from_is_err_and}
 use Rattle.gos_verilog.specs.Lines.{clock_declarations, port_declaration}
 use Rattle.gos_verilog.specs.inner.Stages.{AreNamesOf, declared_net}
 use Rattle.gos_verilog.proofs.FoundLemmas.{declared_port, declared_writable, declared_nets}
+use Rattle.gos_verilog.proofs.PlaceLemmas.{after_start}
 use Rattle.gos_verilog.proofs.reading.front.Goals as goal
 
 pub returns-in_err-names-clause-stands : goal.returns-in_err-names-clause-stands
@@ -39,3 +40,9 @@ returns-clause-stands c net parts x left =
     let three = c.in_ok-declared.ensures.stands parts.nets x parts.wide named two in
     let are = c.in_ok-are_ports.ensures (map declared_port net.ports) (declared_writable net.ports parts.ports) (c.deref-2.ensures.value ∙ (three.0 ∙ (ap (map declared_net) parts.nets_are ∙ declared_nets net.ports))) in
     absurd (let both : false ≡ true = sym c.if-branch.false ∙ are in cc both)
+
+pub returns-in_err-word-clause-starts : goal.returns-in_err-word-clause-starts
+returns-in_err-word-clause-starts c = after_start c.from_residual-in_err-word.result c.args.cursor.now c.in_ok-names.ensures.begun
+
+pub returns-in_err-declared-clause-starts : goal.returns-in_err-declared-clause-starts
+returns-in_err-declared-clause-starts c = after_start c.from_residual-in_err-declared.result c.args.cursor.now c.in_ok-names.ensures.begun

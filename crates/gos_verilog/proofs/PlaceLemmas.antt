@@ -1,0 +1,137 @@
+-- Texts of the form of a netlist's, and where what begins like one breaks off.
+use Rattle.std.proofs.Common.{◌≡◌, ◌≢◌, ℕ, zero, suc, ◌+◌, ◌<◌, ◌≤◌, true, List, [], ◌∷◌, ◌++◌, length, drop, get_or, Some, Ok, Err, Result, refl, sym, ◌∙◌, ap, subst, arith, slice_get, codes}
+use Rattle.std.specs.Prelude.{IfErr}
+use Rattle.std.proofs.lemmas.Option.{slice_get_within}
+use Rattle.gos_lex.specs.Items.{TextAt, IsJust, Misses, StopsAt}
+use Rattle.gos_lex.proofs.ItemLemmas.{breaks_off_once, word_misses}
+use Rattle.gos_types.specs.Types.{Com}
+use Rattle.gos_netlist.specs.Nets.{Input, Cell, Take, NetPort, Netlist}
+use Rattle.gos_netlist.specs.Writable.{IsWritable}
+use Rattle.gos_netlist.specs.NetItems.{Passed}
+use Rattle.gos_netlist.proofs.SequenceLemmas.{Then, misses_as, then_first}
+use Rattle.gos_netcheck.specs.Rules.{Kept}
+use Rattle.gos_verilog.specs.declared.fault.VFault.{VFault}
+use Rattle.gos_verilog.specs.declared.fault.VFault.TheVariants as faults
+use Rattle.gos_verilog.specs.PortNets.{PortNet, port_nets}
+use Rattle.gos_verilog.specs.VerilogText.{first_name, declarations, outputs, AreDrivers, IsItsNet}
+use Rattle.gos_verilog.specs.Readable.{IsInputCell, IsRead}
+use Rattle.gos_verilog.specs.Place.{IsOfItsBits, IsFormed, IsFormedText, IsPlace, ReadIsFormed, HasOnePlace, HasOtherStart, HasPlace}
+use Rattle.gos_verilog.specs.inner.Stages.{Rest, BreaksAt, HasStart, first_word}
+use Rattle.gos_verilog.proofs.DeclarationLemmas.{listed}
+use Rattle.gos_verilog.proofs.RestLemmas.{passed_rest}
+use Rattle.gos_verilog.proofs.SlotLemmas.{no_word}
+use Rattle.gos_verilog.proofs.OneTextLemmas.{behind_head, text_parts}
+
+-- a text has one place
+pub one_place : HasOnePlace
+one_place text at other = breaks_off_once IsFormedText text 0 at other
+
+-- the lines that drive cells' nets, where each input is an Input cell
+drivers_formed : (all : List Cell) (nets : List PortNet) → Kept (λ _ n. IsInputCell all n) nets → (i : ℕ) (cells : List Cell) (lines : List ℕ)
+    → ((j : ℕ) (c : Cell) → slice_get cells j ≡ Some c → slice_get all (i + j) ≡ Some c) → AreDrivers IsItsNet nets i cells lines → AreDrivers IsOfItsBits nets i cells lines
+drivers_formed all nets inputs i [] lines here are = are
+drivers_formed all nets inputs i (c ∷ cells) lines here are = (
+  are.0,
+  are.1,
+  λ gate.
+      let fed = are.2 gate in
+      let e : i + 0 ≡ i = omega arith in
+      let there : slice_get all i ≡ Some c = subst (λ (n : ℕ). slice_get all n ≡ Some c) e (here 0 c refl) in
+      let found : slice_get all i ≡ Some (record { width = fed.1.width; gate = Input }) = subst (λ (n : ℕ). slice_get all n ≡ Some (record { width = fed.1.width; gate = Input })) fed.4 (inputs fed.0 fed.1 fed.2 fed.3) in
+      let both : Some (record { width = fed.1.width; gate = Input }) ≡ Some c = sym found ∙ there in
+      let same : record { width = fed.1.width; gate = Input } ≡ c = cc both in
+      (fed.0, fed.1, fed.2, fed.3, ap (λ (d : Cell). d.width) same, fed.5),
+  drivers_formed all nets inputs (suc i) cells are.1
+      (λ j d is. let e : i + suc j ≡ suc i + j = omega arith in subst (λ (n : ℕ). slice_get all n ≡ Some d) e (here (suc j) d is)) are.3,
+  are.4,
+)
+
+pub read_is_formed : ReadIsFormed
+read_is_formed text net (readable, (drivers, are, is)) = (
+  net,
+  record { writable = readable.writable; some = readable.some; names = readable.names },
+  (
+    drivers,
+    drivers_formed net.cells (port_nets net.ports) readable.inputs 0 net.cells drivers (λ j c at. let e : j ≡ 0 + j = omega arith in subst (λ (n : ℕ). slice_get net.cells n ≡ Some c) e at) are,
+    is,
+  ),
+)
+
+-- a netlist of one port and no cell
+simple_port : NetPort
+simple_port = record { name = codes "a"; side = Take; ty = Com; nets = 0 ∷ 0 ∷ [] }
+
+simple : Netlist
+simple = record { cells = []; ports = simple_port ∷ [] }
+
+simple_formed : IsFormed simple
+unfolding simple simple_port
+simple_formed =
+    record {
+      writable = record {
+        cells = tt;
+        cell_count = omega arith;
+        ports = (record { name = record { spelled = refl; short = omega arith }; ty = tt; many = refl; nets = (omega arith, (omega arith, tt)) }, tt);
+        port_count = omega arith;
+      };
+      some = omega arith;
+      names = λ k p at j q before at_q. absurd (omega (arith, before, slice_get_within (simple_port ∷ []) k p at));
+    }
+
+simple_drivers : AreDrivers IsOfItsBits (port_nets simple.ports) 0 simple.cells []
+unfolding simple
+simple_drivers = refl
+
+-- a text of the form begins with its first word
+simple_rest : List ℕ
+simple_rest = first_name simple.ports ++ (codes "(clk, rst" ++ (listed (port_nets simple.ports) ++ (codes ");\n" ++ behind_head (port_nets simple.ports) simple.cells [] (outputs simple))))
+
+some_text : IsFormedText (first_word ++ simple_rest)
+unfolding simple_rest
+some_text = subst IsFormedText (text_parts simple []) (simple, simple_formed, ([], simple_drivers, refl))
+
+starts_so : (text : List ℕ) → IsFormedText text → (rest : List ℕ) × (text ≡ first_word ++ rest)
+starts_so text (net, formed, (drivers, are, is)) =
+    (first_name net.ports ++ (codes "(clk, rst" ++ (listed (port_nets net.ports) ++ (codes ");\n" ++ behind_head (port_nets net.ports) net.cells drivers (outputs net)))), is ∙ text_parts net drivers)
+
+-- where the first word breaks off, the text does
+pub start_place : (text : List ℕ) (at : ℕ) → Misses (IsJust first_word) text 0 at → IsPlace text at
+start_place text at misses =
+    (misses_as Parts IsFormedText text 0 at joined cut
+    (then_first (Unit {0}) (λ _. Unit {0}) (λ _. first_word) (λ _ rest. IsFormedText (first_word ++ rest)) text 0 at (λ v is. (simple_rest, some_text)) (no_word first_word text 0 at misses))).stops
+  where
+    Parts : List ℕ → Type 0
+    Parts = Then (Unit {0}) (λ _. Unit {0}) (λ _. first_word) (λ _ rest. IsFormedText (first_word ++ rest))
+
+    joined : (bytes : List ℕ) → Parts bytes → IsFormedText bytes
+    joined bytes (u, rest, i, formed, whole) = subst IsFormedText (sym whole) formed
+
+    cut : (bytes : List ℕ) → IsFormedText bytes → Parts bytes
+    cut bytes formed = let known = starts_so bytes formed in (tt, known.0, tt, subst IsFormedText known.1 formed, known.1)
+
+-- so a fault there is at its place
+pub fault_place : (text : List ℕ) (fault : VFault) → BreaksAt first_word (record { text = text; at = 0 }) fault → HasPlace text fault
+fault_place text (faults.Form at) breaks = start_place text at breaks
+fault_place text faults.NoMemory breaks = tt
+
+-- behind the first word nothing is said of the place
+pub after_start : {T : Type 0} (r : Result T VFault) (cursor : TextAt) → HasStart cursor → IfErr r (λ fault. (HasStart cursor → ⊥) → BreaksAt first_word cursor fault)
+after_start (Ok x) cursor start = tt
+after_start (Err fault) cursor start = λ none. absurd (none start)
+
+-- what was passed stood there
+pub start_passed : (old new : TextAt) → Passed old new first_word → HasStart old
+start_passed old new passed = (drop new.at new.text, passed_rest old new first_word passed)
+
+pub start_at : (cursor : TextAt) (text : List ℕ) → cursor.text ≡ text → cursor.at ≡ 0 → cursor ≡ record { text = text; at = 0 }
+start_at cursor text same at = λ i. record { text = same i; at = at i }
+
+pub other_start : (text : List ℕ) → HasOtherStart text → HasStart (record { text = text; at = 0 }) → ⊥
+other_start text other start = other start.0 start.1
+
+-- "modul x" breaks off at its blank
+pub blank_is_place : IsPlace (codes "modul x") 5
+blank_is_place = start_place (codes "modul x") 5 (word_misses (codes "modul x") 0 first_word 5 (omega arith) (omega arith) refl (λ some same. let byte : 32 ≡ 101 = same in omega (arith, byte)))
+
+pub earlier_is_none : IsPlace (codes "modul x") 4 → ⊥
+earlier_is_none place = let same : 4 ≡ 5 = one_place (codes "modul x") 4 5 place blank_is_place in omega (arith, same)
