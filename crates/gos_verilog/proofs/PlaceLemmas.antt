@@ -1,22 +1,21 @@
 -- Texts of the form of a netlist's, and where what begins like one breaks off.
-use Rattle.std.proofs.Common.{◌≡◌, ◌≢◌, ℕ, zero, suc, ◌+◌, ◌<◌, ◌≤◌, true, List, [], ◌∷◌, ◌++◌, length, drop, get_or, Some, Ok, Err, Result, refl, sym, ◌∙◌, ap, subst, arith, slice_get, codes}
+use Rattle.std.proofs.Common.{◌≡◌, ℕ, suc, ◌+◌, List, [], ◌∷◌, ◌++◌, drop, Some, Ok, Err, Result, refl, sym, ◌∙◌, ap, subst, arith, slice_get, codes}
 use Rattle.std.specs.Prelude.{IfErr}
 use Rattle.std.proofs.lemmas.Option.{slice_get_within}
-use Rattle.gos_lex.specs.Items.{TextAt, IsJust, Misses, StopsAt}
+use Rattle.gos_lex.specs.Items.{TextAt, IsJust, Misses}
 use Rattle.gos_lex.proofs.ItemLemmas.{breaks_off_once, word_misses}
 use Rattle.gos_types.specs.Types.{Com}
 use Rattle.gos_netlist.specs.Nets.{Input, Cell, Take, NetPort, Netlist}
-use Rattle.gos_netlist.specs.Writable.{IsWritable}
 use Rattle.gos_netlist.specs.NetItems.{Passed}
 use Rattle.gos_netlist.proofs.SequenceLemmas.{Then, misses_as, then_first}
 use Rattle.gos_netcheck.specs.Rules.{Kept}
 use Rattle.gos_verilog.specs.declared.fault.VFault.{VFault}
 use Rattle.gos_verilog.specs.declared.fault.VFault.TheVariants as faults
 use Rattle.gos_verilog.specs.PortNets.{PortNet, port_nets}
-use Rattle.gos_verilog.specs.VerilogText.{first_name, declarations, outputs, AreDrivers, IsItsNet}
-use Rattle.gos_verilog.specs.Readable.{IsInputCell, IsRead}
+use Rattle.gos_verilog.specs.VerilogText.{first_name, outputs, AreDrivers, IsItsNet}
+use Rattle.gos_verilog.specs.Readable.{IsInputCell}
 use Rattle.gos_verilog.specs.Place.{IsOfItsBits, IsFormed, IsFormedText, IsPlace, ReadIsFormed, HasOnePlace, HasOtherStart, HasPlace}
-use Rattle.gos_verilog.specs.inner.Stages.{Rest, BreaksAt, HasStart, first_word}
+use Rattle.gos_verilog.specs.inner.Stages.{BreaksAt, HasStart, first_word}
 use Rattle.gos_verilog.proofs.DeclarationLemmas.{listed}
 use Rattle.gos_verilog.proofs.RestLemmas.{passed_rest}
 use Rattle.gos_verilog.proofs.SlotLemmas.{no_word}
