@@ -28,4 +28,5 @@ pub mod SlotLemmas
 pub mod KindTextLemmas
 pub mod KindLemmas
 pub mod ReadableLemmas
+pub mod StartLemmas
 pub mod PlaceLemmas

@@ -1,9 +1,10 @@
 -- A text of a netlist, from stage to stage of the reader; and that such a netlist has one text at most.
-use Rattle.std.proofs.Common.{◌≡◌, ℕ, zero, suc, ◌+◌, true, List, [], ◌∷◌, ◌++◌, length, map, Some, refl, sym, ◌∙◌, ap, subst, arith, slice_get}
+use Rattle.std.proofs.Common.{◌≡◌, ℕ, zero, suc, ◌+◌, ◌<◌, true, List, [], ◌∷◌, ◌++◌, length, map, Some, refl, sym, ◌∙◌, ap, subst, arith, slice_get}
 use Rattle.std.specs.List.{AllByRecursion}
 use Rattle.std.proofs.lemmas.Option.{slice_get_within}
-use Rattle.gos_netlist.specs.Nets.{Input, Cell, Netlist}
-use Rattle.gos_netlist.specs.Writable.{IsWritableCell}
+use Rattle.gos_lex.specs.Names.{IsNameOrWord}
+use Rattle.gos_netlist.specs.Nets.{Input, Cell, NetPort, Netlist}
+use Rattle.gos_netlist.specs.Writable.{IsWritableCell, IsWritablePort}
 use Rattle.gos_verilog.specs.declared.inputs.Places.{Places}
 use Rattle.gos_verilog.specs.PortNets.{PortNet, port_nets}
 use Rattle.gos_verilog.specs.VerilogText.{first_name, declarations, outputs, IsFed, AreDrivers, IsItsNet, IsVerilogOf}
@@ -15,7 +16,7 @@ use Rattle.gos_verilog.specs.inner.Parts.{Parts, whole_text}
 use Rattle.gos_verilog.proofs.SuffixLemmas as names
 use Rattle.gos_verilog.proofs.PortLemmas.{IsRightNet, right_nets}
 use Rattle.gos_verilog.proofs.FoundLemmas.{wide_nets, number_nets}
-use Rattle.gos_verilog.proofs.OneTextLemmas.{drivers_body, outputs_body, text_parts, first_bytes, names_of, no_source, readable_own, readable_apart}
+use Rattle.gos_verilog.proofs.OneTextLemmas.{drivers_body, outputs_body, text_parts, names_of, no_source, readable_own, readable_apart}
 
 cell_widths : (cells : List Cell) → AllByRecursion IsWritableCell cells → HaveCellWidths cells
 cell_widths [] all = tt
@@ -35,6 +36,10 @@ right_of net readable =
       fit = readable.writable.cells;
     }
 
+first_named : (ps : List NetPort) → 0 < length ps → AllByRecursion IsWritablePort ps → IsNameOrWord (first_name ps)
+first_named [] some all = absurd (omega (arith, some))
+first_named (p ∷ ps) some all = all.0.name
+
 -- the parts of a text that is read as a netlist
 pub parts_of : (net : Netlist) (text : List ℕ) → IsRead text net → (parts : Parts net) × (text ≡ whole_text parts)
 parts_of net text (readable, (drivers, are, is)) =
@@ -50,7 +55,7 @@ parts_of net text (readable, (drivers, are, is)) =
         cells_are = refl;
         back_is = refl;
         ports = readable.writable.ports;
-        bytes = first_bytes net.ports readable.writable.ports;
+        bytes = first_named net.ports readable.some readable.writable.ports;
         names = names_of nets right;
         wide = wide_nets net.ports readable.writable.ports;
         numbers = number_nets net.ports readable.writable.ports;

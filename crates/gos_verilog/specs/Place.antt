@@ -3,6 +3,7 @@
 -- Read first: Readable; Items of gos_lex. Which cell each input is, is judged last. Until then the line of an Input cell
 -- may name any input of its bits, so texts in which it does are counted here too.
 use Rattle.std.specs.Prelude.{◌≡◌, ℕ, ◌<◌, List, ◌++◌, length, codes}
+use Rattle.gos_lex.specs.Names.{IsNameOrWord}
 use Rattle.gos_lex.specs.Items.{Begins, StopsAt}
 use Rattle.gos_netlist.specs.Nets.{Netlist}
 use Rattle.gos_netlist.specs.Writable.{IsWritable}
@@ -42,9 +43,9 @@ ReadIsFormed = (text : List ℕ) (net : Netlist) → IsRead text net → IsForme
 abbrev pub HasOnePlace : Type 0
 HasOnePlace = (text : List ℕ) (at other : ℕ) → IsPlace text at → IsPlace text other → at ≡ other
 
--- the text doesn't begin as each text does
+-- the text doesn't begin as each text does: with the name of its module, the clock and the reset
 abbrev pub HasOtherStart : List ℕ → Type 0
-HasOtherStart text = (more : List ℕ) → text ≡ codes "module gos_" ++ more → ⊥
+HasOtherStart text = (name more : List ℕ) → IsNameOrWord name → text ≡ codes "module gos_" ++ (name ++ (codes "(clk, rst" ++ more)) → ⊥
 
 -- the fault is at its place
 abbrev pub HasPlace : List ℕ → VFault → Type 0

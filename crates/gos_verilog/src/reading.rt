@@ -9,7 +9,7 @@ ghost use Rattle.gos_verilog.specs.Readable.{IsRead, IsReadable, IsRefused};
 ghost use Rattle.gos_verilog.specs.Place.{HasOtherStart, HasPlace};
 ghost use Rattle.gos_verilog.specs.VerilogText.{IsVerilogOf};
 ghost use Rattle.gos_verilog.specs.PortNets.{port_nets as nets_of};
-ghost use Rattle.gos_verilog.specs.inner.Stages.{Rest, BreaksAt, HasStart, first_word, IsWant, declared_net, shape_of};
+ghost use Rattle.gos_verilog.specs.inner.Stages.{Rest, BreaksAt, HasStart, IsStart, IsWant, declared_net, shape_of};
 ghost use Rattle.gos_verilog.specs.inner.Parts.{Parts, front_text};
 
 use crate::declared::{Shape, cell_declarations, port_declarations};
@@ -64,7 +64,7 @@ fn parsed(alloc: Global, text: &[u8]) -> Result<Netlist, VFault>
     ensures ports { IfOk result (λ net. AllByRecursion IsWritablePort net.ports) }
     ensures stands { (net : Net) → IsRead text.now net → MatchResult result (λ found. found ≡ net) IsWant }
     ensures begun { IfOk result (λ _. HasStart (record { text = text.now; at = 0 })) }
-    ensures starts { IfErr result (λ fault. (HasStart (record { text = text.now; at = 0 }) → ⊥) → BreaksAt first_word (record { text = text.now; at = 0 }) fault) }
+    ensures starts { IfErr result (λ fault. (HasStart (record { text = text.now; at = 0 }) → ⊥) → BreaksAt IsStart (record { text = text.now; at = 0 }) fault) }
 {
     let mut cursor = Cursor::new(text);
     let declared = front(alloc, text, &mut cursor)?;
@@ -86,7 +86,7 @@ fn front(alloc: Global, text: &[u8], cursor: &mut Cursor) -> Result<Vec<PortNet>
     ensures stands { (net : Net) (parts : Parts net) (x : List ℕ) → Rest cursor.old (front_text parts x)
         → MatchResult result (λ declared. (declared.items ≡ map declared_net parts.nets) × Rest cursor.new x) IsWant }
     ensures begun { IfOk result (λ _. HasStart cursor.old) }
-    ensures starts { IfErr result (λ fault. (HasStart cursor.old → ⊥) → BreaksAt first_word cursor.old fault) }
+    ensures starts { IfErr result (λ fault. (HasStart cursor.old → ⊥) → BreaksAt IsStart cursor.old fault) }
 {
     let names = head(alloc, text, cursor)?;
     word(cursor, b"  input clk;\n  input rst;\n")?;

@@ -3,12 +3,13 @@
 -- Read first: Noted, VerilogText.
 use Rattle.std.specs.Prelude.{◌≡◌, ℕ, ◌≤◌, List, ◌++◌, length, codes}
 use Rattle.std.specs.List.{AllByRecursion, flat_map}
+use Rattle.gos_lex.specs.Names.{IsNameOrWord}
 use Rattle.gos_netlist.specs.Nets.{Cell, Netlist}
 use Rattle.gos_netlist.specs.Writable.{IsNumber, IsWritablePort}
 use Rattle.gos_verilog.specs.PortNets.{PortNet, port_nets}
 use Rattle.gos_verilog.specs.Lines.{clock_declarations, port_declaration, cell_declarations, output_assignment}
 use Rattle.gos_verilog.specs.VerilogText.{AreDrivers, IsItsNet}
-use Rattle.gos_verilog.specs.inner.Stages.{AreNameBytes, HaveNames, HaveWidths, HaveCellWidths, listed, IsBody}
+use Rattle.gos_verilog.specs.inner.Stages.{HaveNames, HaveWidths, HaveCellWidths, listed, IsBody}
 use Rattle.gos_verilog.specs.inner.Noted.{AreRight}
 
 -- the name of the module, the nets of ports, the cells, the lines that drive them, and what stands behind these
@@ -22,7 +23,7 @@ pub record Parts (net : Netlist) : Type 0 where
   pub cells_are : cells ≡ net.cells
   pub back_is : back ≡ flat_map output_assignment nets ++ codes "endmodule\n"
   pub ports : AllByRecursion IsWritablePort net.ports
-  pub bytes : AreNameBytes first
+  pub bytes : IsNameOrWord first
   pub names : HaveNames nets
   pub wide : HaveWidths nets
   pub numbers : AllByRecursion (λ n. IsNumber n.cell) nets

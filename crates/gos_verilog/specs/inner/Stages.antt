@@ -5,10 +5,12 @@ use Rattle.std.specs.Prelude.{◌≡◌, ◌⊎◌, ℕ, Bool, true, false, List
 use Rattle.std.specs.List.{AllByRecursion, list_all, flat_map}
 use Rattle.std.proofs.Common.{Bor}
 use Rattle.gos_lex.specs.Bytes.{begins_name, continues_name}
-use Rattle.gos_lex.specs.Items.{TextAt, IsJust, Misses}
+use Rattle.gos_lex.specs.Names.{IsNameOrWord}
+use Rattle.gos_lex.specs.Items.{TextAt, Misses}
 use Rattle.gos_types.specs.Types.{Type', Var}
 use Rattle.gos_types.specs.Widths.{IsWidth}
 use Rattle.gos_netlist.specs.Nets.{Cell}
+use Rattle.gos_netlist.specs.NetItems.{IsTextOf, ended}
 use Rattle.gos_verilog.specs.declared.fault.VFault.{VFault}
 use Rattle.gos_verilog.specs.declared.fault.VFault.TheVariants as faults
 use Rattle.gos_verilog.specs.declared.declared.Shape.{Shape}
@@ -79,14 +81,22 @@ shape_of c = record { width = c.width; register = is_register c.gate }
 abbrev pub IsBody : List ℕ → Type 0
 IsBody body = (get_or body 0 0 ≡ 101) ⊎ (get_or body 2 0 ≡ 97)
 
--- the bytes break off at the fault's place
-abbrev pub BreaksAt : List ℕ → TextAt → VFault → Type 0
-BreaksAt bytes cursor (faults.Form place) = Misses (IsJust bytes) cursor.text cursor.at place
-BreaksAt bytes cursor faults.NoMemory = Unit {0}
+-- the name of a module and the parenthesis behind it
+abbrev pub IsModuleName : List ℕ → Type 0
+IsModuleName = IsTextOf (List ℕ) IsNameOrWord (ended 40)
 
 -- how each text begins
-abbrev pub first_word : List ℕ
-first_word = codes "module gos_"
+abbrev pub start_text : List ℕ → List ℕ
+start_text name = codes "module gos_" ++ (ended 40 name ++ codes "clk, rst")
 
+abbrev pub IsStart : List ℕ → Type 0
+IsStart = IsTextOf (List ℕ) IsNameOrWord start_text
+
+-- an item breaks off at the fault's place
+abbrev pub BreaksAt : (List ℕ → Type 0) → TextAt → VFault → Type 0
+BreaksAt IsItem cursor (faults.Form place) = Misses IsItem cursor.text cursor.at place
+BreaksAt IsItem cursor faults.NoMemory = Unit {0}
+
+-- the start stands
 abbrev pub HasStart : TextAt → Type 0
-HasStart cursor = (x : List ℕ) × Rest cursor (first_word ++ x)
+HasStart cursor = (name x : List ℕ) × IsNameOrWord name × Rest cursor (start_text name ++ x)

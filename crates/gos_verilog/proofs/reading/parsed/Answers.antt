@@ -5,7 +5,7 @@ use Rattle.gos_verilog.specs.Lines.{cell_declarations}
 use Rattle.gos_verilog.specs.inner.Stages.{Rest}
 use Rattle.gos_verilog.specs.inner.Parts.{Parts, whole_text}
 use Rattle.gos_verilog.proofs.WholeLemmas.{parts_of}
-use Rattle.gos_verilog.specs.inner.Stages.{HasStart, BreaksAt, first_word}
+use Rattle.gos_verilog.specs.inner.Stages.{HasStart, BreaksAt, IsStart}
 use Rattle.gos_verilog.proofs.PlaceLemmas.{start_at}
 use Rattle.gos_verilog.proofs.reading.parsed.Goals as goal
 
@@ -80,6 +80,6 @@ returns-clause-stands c net read =
 pub returns-in_err-declared-clause-starts : goal.returns-in_err-declared-clause-starts
 returns-in_err-declared-clause-starts c =
     let here = start_at c.new-cursor.result c.args.text.now c.new-cursor.ensures.text c.new-cursor.ensures.at in
-    let known = subst (λ (cursor : TextAt). (HasStart cursor → ⊥) → BreaksAt first_word cursor c.in_err-declared.field-0.0) here c.in_err-declared.ensures.starts in
+    let known = subst (λ (cursor : TextAt). (HasStart cursor → ⊥) → BreaksAt IsStart cursor c.in_err-declared.field-0.0) here c.in_err-declared.ensures.starts in
     let p = err_from_is_err_and c.from_residual.result c.from_residual.ensures.1 in
     rw (p.1, p.2) known
