@@ -5,11 +5,13 @@ use Rattle.std.proofs.lemmas.Option.{slice_get_within}
 use Rattle.gos_lex.specs.Names.{IsNameOrWord}
 use Rattle.gos_netlist.specs.Nets.{Input, Cell, NetPort, Netlist}
 use Rattle.gos_netlist.specs.Writable.{IsWritableCell, IsWritablePort}
+use Rattle.gos_verilog.specs.declared.fault.VFault.{VFault}
+use Rattle.gos_verilog.specs.declared.fault.VFault.TheVariants as faults
 use Rattle.gos_verilog.specs.declared.inputs.Places.{Places}
 use Rattle.gos_verilog.specs.PortNets.{PortNet, port_nets}
 use Rattle.gos_verilog.specs.VerilogText.{first_name, declarations, outputs, IsFed, AreDrivers, IsItsNet, IsVerilogOf}
-use Rattle.gos_verilog.specs.Readable.{IsRead, IsReadable}
-use Rattle.gos_verilog.specs.inner.Stages.{IsNetName, HaveOwnNames, HaveCellWidths, declared_net}
+use Rattle.gos_verilog.specs.Readable.{IsRead, IsReadable, IsRefused}
+use Rattle.gos_verilog.specs.inner.Stages.{IsWant, IsNetName, HaveOwnNames, HaveCellWidths, declared_net}
 use Rattle.gos_verilog.specs.inner.Inputs.{AreFed}
 use Rattle.gos_verilog.specs.inner.Noted.{HasPlaces, AreRight}
 use Rattle.gos_verilog.specs.inner.Parts.{Parts, whole_text}
@@ -131,3 +133,8 @@ pub one_text : (net : Netlist) (text other : List ℕ) → IsReadable net → Is
 one_text net text other readable (drivers, are, is) (drivers_other, are_other, is_other) =
     let same = drivers_same net 0 net.cells drivers drivers_other readable are are_other in
     is ∙ (ap (λ lines. declarations net ++ lines ++ outputs net) same ∙ sym is_other)
+
+-- where a text of a netlist makes memory the want, a fault of form refuses none
+pub refused : (text : List ℕ) (fault : VFault) → ((net : Netlist) → IsRead text net → IsWant fault) → IsRefused text fault
+refused text (faults.Form at) want = λ net read. let wrong = want net read in cc wrong
+refused text faults.NoMemory want = tt

@@ -83,3 +83,8 @@ returns-in_err-declared-clause-starts c =
     let known = subst (λ (cursor : TextAt). (HasStart cursor → ⊥) → BreaksAt IsStart cursor c.in_err-declared.field-0.0) here c.in_err-declared.ensures.starts in
     let p = err_from_is_err_and c.from_residual.result c.from_residual.ensures.1 in
     rw (p.1, p.2) known
+
+pub returns-clause-starts : goal.returns-clause-starts
+returns-clause-starts c = λ none.
+    let here = start_at c.new-cursor.result c.args.text.now c.new-cursor.ensures.text c.new-cursor.ensures.at in
+    absurd (none (subst HasStart here c.in_ok-declared.ensures.begun))

@@ -1,4 +1,5 @@
 use Rattle.std.proofs.lemmas.Result.{err_from_is_err_and}
+use Rattle.gos_verilog.proofs.WholeLemmas.{refused}
 use Rattle.gos_verilog.proofs.PlaceLemmas.{fault_place, other_start}
 use Rattle.gos_verilog.proofs.reading.read_verilog.Goals as goal
 
@@ -10,3 +11,8 @@ returns-in_err-net-clause-start c =
 
 pub returns-else-branch-clause-start : goal.returns-else-branch-clause-start
 returns-else-branch-clause-start c = λ other. absurd (other_start c.args.text.now other c.in_ok-net.ensures.begun)
+
+pub returns-in_err-net-clause-refused : goal.returns-in_err-net-clause-refused
+returns-in_err-net-clause-refused c =
+    let p = err_from_is_err_and c.from_residual.result c.from_residual.ensures.1 in
+    rw (p.1, p.2) (refused c.args.text.now c.in_err-net.field-0.0 c.in_err-net.ensures.stands)
