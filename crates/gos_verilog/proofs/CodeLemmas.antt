@@ -1,16 +1,17 @@
 -- Numbers and names before a byte that they can't have: a text begins with one in one way.
-use Rattle.std.proofs.Common.{◌≡◌, inl, inr, ◌⊎◌, ℕ, ◌-◌, ◌^◌, ◌<◌, ◌≤◌, true, false, List, [], ◌∷◌, ◌++◌, length, refl, sym, ◌∙◌, ap, subst, arith, append_assoc, append-nil}
+use Rattle.std.proofs.Common.{◌≡◌, inl, inr, ℕ, ◌-◌, ◌^◌, ◌<◌, true, false, List, [], ◌∷◌, ◌++◌, length, refl, sym, ◌∙◌, ap, arith, append_assoc, append-nil}
 use Rattle.std.specs.Char.{is_ascii_digit}
 use Rattle.std.specs.Fmt.{decimal}
 use Rattle.std.specs.List.{list_all}
 use Rattle.std.proofs.lemmas.Bool.{and_parts}
 use Rattle.std.proofs.lemmas.Fmt.{decimal_injective, decimal_nonempty}
 use Rattle.std.proofs.lemmas.List.Folds.{list_all-append}
-use Rattle.gos_lex.specs.Bytes.{begins_name, continues_name}
+use Rattle.gos_lex.specs.Bytes.{continues_name}
 use Rattle.gos_lex.specs.Items.{Begins}
 use Rattle.gos_lex.specs.Decimals.{IsDecimalIn}
 use Rattle.gos_lex.proofs.DecimalLemmas.{digit_within}
 use Rattle.gos_netlist.proofs.SequenceLemmas.{fronts}
+pub use Rattle.gos_verilog.specs.inner.Stages.{AreNameBytes}
 
 -- the digits of a number have no other byte
 pub digits_lack : (n c : ℕ) (front more : List ℕ) → n < 2 ^ 64 → is_ascii_digit c ≡ false → decimal n ≡ front ++ c ∷ more → ⊥
@@ -46,10 +47,6 @@ digit_first n c x y small other same = by (decimal n) refl same
     by : (digits : List ℕ) → decimal n ≡ digits → digits ++ y ≡ c ∷ x → ⊥
     by [] is same = omega (arith, decimal_nonempty n small, ap length is)
     by (d ∷ digits) is same = let byte : d ≡ c = cc same in digits_lack n c [] digits small other (is ∙ ap (λ e. e ∷ digits) byte)
-
--- bytes of names
-abbrev pub AreNameBytes : List ℕ → Type 0
-AreNameBytes bytes = list_all continues_name bytes ≡ true
 
 pub name_lacks : (c : ℕ) (front more name : List ℕ) → AreNameBytes name → continues_name c ≡ false → name ≡ front ++ c ∷ more → ⊥
 name_lacks c front more name bytes other is =

@@ -1,5 +1,5 @@
 -- The declarations are known by their text.
-use Rattle.std.proofs.Common.{◌≡◌, ◌⊎◌, inl, inr, ℕ, zero, suc, ◌+◌, ◌-◌, ◌^◌, ◌<◌, ◌≤◌, Bool, true, false, if◌then◌else◌, List, [], ◌∷◌, ◌++◌, length, map, get_or, refl, sym, ◌∙◌, ap, subst, arith, append_assoc, codes}
+use Rattle.std.proofs.Common.{◌≡◌, inl, inr, ℕ, suc, ◌-◌, ◌≤◌, Bool, true, false, if◌then◌else◌, List, [], ◌∷◌, ◌++◌, get_or, refl, sym, ◌∙◌, ap, arith, append_assoc, codes}
 use Rattle.std.specs.Fmt.{decimal}
 use Rattle.std.specs.List.{AllByRecursion, flat_map}
 use Rattle.std.proofs.lemmas.List.{append_cancel_left}
@@ -8,7 +8,8 @@ use Rattle.gos_netlist.specs.Nets.{Function, Reg, Cell}
 use Rattle.gos_verilog.specs.PortNets.{PortNet}
 use Rattle.gos_verilog.specs.Lines.{declaration, direction_word, port_declaration, cell_net, kind_word, cell_declaration, cell_declarations, output_assignment, assignment}
 use Rattle.gos_verilog.specs.inner.Drivers.{is_register}
-use Rattle.gos_verilog.proofs.CodeLemmas.{number_code, AreNameBytes, name_code}
+pub use Rattle.gos_verilog.specs.inner.Stages.{word_of, IsBody, HaveNames, listed}
+use Rattle.gos_verilog.proofs.CodeLemmas.{number_code, name_code}
 use Rattle.gos_verilog.proofs.ExpressionLemmas.{IsSmall}
 
 -- a number of bits
@@ -19,7 +20,7 @@ same_bits : (v w : ℕ) → IsBits v → IsBits w → v - 1 ≡ w - 1 → v ≡ 
 same_bits v w is_v is_w same = omega (arith, same, is_v.0, is_w.0)
 
 -- a declaration, by its parts
-declaration_text : (kind name x : List ℕ) (w : ℕ) → declaration kind w name ++ x ≡ 32 ∷ 32 ∷ (kind ++ 32 ∷ 91 ∷ (decimal (w - 1) ++ 58 ∷ 48 ∷ 93 ∷ 32 ∷ (name ++ 59 ∷ 10 ∷ x)))
+pub declaration_text : (kind name x : List ℕ) (w : ℕ) → declaration kind w name ++ x ≡ 32 ∷ 32 ∷ (kind ++ 32 ∷ 91 ∷ (decimal (w - 1) ++ 58 ∷ 48 ∷ 93 ∷ 32 ∷ (name ++ 59 ∷ 10 ∷ x)))
 declaration_text kind name x w =
     append_assoc (codes "  " ++ kind ++ codes " [" ++ decimal (w - 1) ++ codes ":0] " ++ name) (codes ";\n") x
     ∙ (append_assoc (codes "  " ++ kind ++ codes " [" ++ decimal (w - 1) ++ codes ":0] ") name (59 ∷ 10 ∷ x)
@@ -37,16 +38,11 @@ same_kind kind name x y v w is_v is_w same =
     let last = append_cancel_left name (59 ∷ 10 ∷ x) (59 ∷ 10 ∷ y) (cc (known.1)) in
     (same_bits v w is_v is_w known.0, cc last)
 
--- the word for a kind
-abbrev word_of : Bool → List ℕ
-word_of true = codes "reg"
-word_of false = codes "wire"
-
 kind_is : (f : Function) → kind_word f ≡ word_of (is_register f)
 kind_is (Reg a) = refl
 kind_is f = refl
 
-cell_text : (i : ℕ) (cell : Cell) (x : List ℕ)
+pub cell_text : (i : ℕ) (cell : Cell) (x : List ℕ)
     → cell_declaration i cell ++ x ≡ declaration (word_of (is_register cell.gate)) cell.width (cell_net i) ++ x
 cell_text i cell x = ap (λ kind. declaration kind cell.width (cell_net i) ++ x) (kind_is cell.gate)
 
@@ -85,14 +81,10 @@ AreAlike [] (d ∷ ds) = ⊥
 AreAlike (c ∷ cs) [] = ⊥
 AreAlike (c ∷ cs) (d ∷ ds) = (is_register c.gate ≡ is_register d.gate) × (c.width ≡ d.width) × AreAlike cs ds
 
--- what stands behind the declarations begins as no declaration of a cell does
-abbrev pub IsBody : List ℕ → Type 0
-IsBody body = (get_or body 0 0 ≡ 101) ⊎ (get_or body 2 0 ≡ 97)
-
 abbrev pub HaveBits : List Cell → Type 0
 HaveBits = AllByRecursion (λ c. IsBits c.width)
 
-no_body : (i : ℕ) (c : Cell) (x body : List ℕ) → IsBody body → cell_declaration i c ++ x ≡ body → ⊥
+pub no_body : (i : ℕ) (c : Cell) (x body : List ℕ) → IsBody body → cell_declaration i c ++ x ≡ body → ⊥
 no_body i c x body is same = by (is_register c.gate) refl is
   where
     whole : (kind : Bool) → is_register c.gate ≡ kind → declaration (word_of kind) c.width (cell_net i) ++ x ≡ body
@@ -165,15 +157,8 @@ nets_code (n ∷ ns) (m ∷ ms) x y is_n is_m named same =
     let rest = nets_code ns ms x y is_n.1 is_m.1 named.1 one.2 in
     ((named.0, one.0, one.1, rest.0), rest.1)
 
--- the names in the module's head
-abbrev pub HaveNames : List PortNet → Type 0
-HaveNames = AllByRecursion (λ n. AreNameBytes n.name)
-
-abbrev pub listed : List PortNet → List ℕ
-listed = flat_map (λ n. codes ", " ++ n.name)
-
 -- what follows a name
-follows : (ns : List PortNet) (x : List ℕ) → (c : ℕ) × (rest : List ℕ) × (listed ns ++ 41 ∷ x ≡ c ∷ rest) × (continues_name c ≡ false)
+pub follows : (ns : List PortNet) (x : List ℕ) → (c : ℕ) × (rest : List ℕ) × (listed ns ++ 41 ∷ x ≡ c ∷ rest) × (continues_name c ≡ false)
 follows [] x = (41, x, refl, refl)
 follows (n ∷ ns) x = (44, 32 ∷ (n.name ++ listed ns ++ 41 ∷ x), refl, refl)
 
@@ -201,7 +186,7 @@ AreSameOutputs (n ∷ ns) (m ∷ ms) = (n.input ≡ false → n.cell ≡ m.cell)
 abbrev pub HaveSmallCells : List PortNet → Type 0
 HaveSmallCells = AllByRecursion (λ n. IsSmall n.cell)
 
-output_text : (n : PortNet) (x : List ℕ) → n.input ≡ false → output_assignment n ++ x ≡ codes "  assign " ++ (n.name ++ 32 ∷ 61 ∷ 32 ∷ 110 ∷ (decimal n.cell ++ 59 ∷ 10 ∷ x))
+pub output_text : (n : PortNet) (x : List ℕ) → n.input ≡ false → output_assignment n ++ x ≡ codes "  assign " ++ (n.name ++ 32 ∷ 61 ∷ 32 ∷ 110 ∷ (decimal n.cell ++ 59 ∷ 10 ∷ x))
 output_text n x is =
     ap (λ (b : Bool). (if b then [] else assignment n.name (cell_net n.cell)) ++ x) is
     ∙ (append_assoc (codes "  assign " ++ n.name ++ codes " = " ++ cell_net n.cell) (codes ";\n") x

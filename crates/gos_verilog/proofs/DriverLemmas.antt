@@ -1,13 +1,12 @@
 -- The lines that drive the nets of cells are known by their text.
-use Rattle.std.proofs.Common.{◌≡◌, ◌⊎◌, inl, inr, ℕ, suc, ◌^◌, ◌<◌, Bool, true, false, List, [], ◌∷◌, ◌++◌, length, refl, sym, ◌∙◌, ap, subst, arith, append_assoc, codes}
+use Rattle.std.proofs.Common.{◌≡◌, ℕ, Bool, true, false, List, ◌∷◌, ◌++◌, refl, sym, ◌∙◌, ap, subst, append_assoc, codes}
 use Rattle.std.specs.Fmt.{decimal}
-use Rattle.std.specs.List.{AllByRecursion}
 use Rattle.std.proofs.lemmas.List.{append_cancel_left}
-use Rattle.gos_netlist.specs.Nets.{Function, Input, Const, Not, And, Or, Xor, Mux, Add, Sub, Eq, Less, Gate, Reg, Cell}
-use Rattle.gos_verilog.specs.Lines.{cell_net, literal, expression, driver_of, driver, register, assignment}
+use Rattle.gos_netlist.specs.Nets.{Function, Input, Reg}
+use Rattle.gos_verilog.specs.Lines.{cell_net, literal, expression, driver_of}
 use Rattle.gos_verilog.specs.inner.Drivers.{is_register}
 use Rattle.gos_verilog.proofs.CodeLemmas.{number_code}
-use Rattle.gos_verilog.proofs.ExpressionLemmas.{IsSmall, AreSmall, Sort, Clocked, sort_of, IsNetName, expression_code}
+use Rattle.gos_verilog.proofs.ExpressionLemmas.{IsSmall, AreSmall, Clocked, sort_of, IsNetName, expression_code}
 
 -- what stands before the expression of a cell
 abbrev pub front : ℕ → ℕ → Bool → List ℕ

@@ -1,13 +1,12 @@
 -- What drives a cell's net is known by its text.
-use Rattle.std.proofs.Common.{◌≡◌, inl, inr, ◌⊎◌, ℕ, ◌^◌, ◌<◌, ◌≤◌, Bool, true, false, List, [], ◌∷◌, ◌++◌, length, get_or, refl, sym, ◌∙◌, ap, subst, arith, append_assoc, codes}
+use Rattle.std.proofs.Common.{◌≡◌, inl, inr, ◌⊎◌, ℕ, ◌^◌, ◌<◌, true, false, List, [], ◌∷◌, ◌++◌, get_or, refl, sym, ◌∙◌, ap, subst, arith, append_assoc, codes}
 use Rattle.std.specs.Char.{is_ascii_digit}
 use Rattle.std.specs.Fmt.{decimal}
-use Rattle.std.specs.List.{list_all}
-use Rattle.std.proofs.lemmas.Bool.{and_parts}
-use Rattle.gos_lex.specs.Bytes.{begins_name, continues_name}
+use Rattle.gos_lex.specs.Bytes.{begins_name}
 use Rattle.gos_netlist.specs.Nets.{Function, Input, Const, Not, And, Or, Xor, Mux, Add, Sub, Eq, Less, Gate, Reg}
 use Rattle.gos_verilog.specs.Lines.{expression}
-use Rattle.gos_verilog.proofs.CodeLemmas.{AreNameBytes, digits_lack, same_before, number_code, digit_first, name_lacks, name_code}
+pub use Rattle.gos_verilog.specs.inner.Stages.{IsNetName}
+use Rattle.gos_verilog.proofs.CodeLemmas.{digits_lack, same_before, number_code, digit_first, name_lacks, name_code}
 
 -- numbers of a function, each of 64 bits
 abbrev pub IsSmall : ℕ → Type 0
@@ -137,14 +136,6 @@ behind_code w (Gate s a) (Mux t c d) x y small is_f is_g p q first same =
     let wide : decimal w ++ 39 ∷ 100 ∷ (decimal 0 ++ 59 ∷ x) ≡ 110 ∷ (decimal d ++ 59 ∷ y) = cc (one.1) in
     absurd (digit_first w 110 (decimal d ++ 59 ∷ y) (39 ∷ 100 ∷ (decimal 0 ++ 59 ∷ x)) small refl wide)
 behind_code w f g x y small is_f is_g p q first same = let byte = ap (λ (bytes : List ℕ). get_or bytes 0 0) same in absurd (first_of (omega (arith, byte), cc (p, q)))
-
--- a name of a net of a port
-pub record IsNetName (name : List ℕ) : Type 0 where
-  pub bytes : AreNameBytes name
-  pub first : ℕ
-  pub rest : List ℕ
-  pub is : name ≡ first ∷ rest
-  pub begins : begins_name first ≡ true
 
 no_digit_begins : (b : ℕ) → begins_name b ≡ true → is_ascii_digit b ≡ false
 no_digit_begins b begins = grind (arith, begins)

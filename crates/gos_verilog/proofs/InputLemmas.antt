@@ -1,13 +1,13 @@
 -- The nets of ports that are inputs are different cells.
-use Rattle.std.proofs.Common.{◌≡◌, ◌≢◌, ◌⊎◌, inl, inr, ℕ, zero, suc, ◌+◌, ◌<◌, Bool, true, false, if◌then◌else◌, List, [], ◌∷◌, ◌++◌, length, map, take, get_or, Some, refl, sym, ◌∙◌, ap, subst, arith, slice_get, append_assoc, append-nil, Contains}
-use Rattle.std.specs.List.{AllByRecursion, flat_map}
+use Rattle.std.proofs.Common.{◌≡◌, ◌≢◌, ℕ, zero, suc, Bool, true, false, if◌then◌else◌, List, [], ◌∷◌, ◌++◌, length, map, take, Some, refl, sym, ◌∙◌, ap, subst, arith, slice_get, append_assoc, append-nil, Contains}
+use Rattle.std.specs.List.{AllByRecursion}
 use Rattle.std.proofs.lemmas.Grind.{flat_map-append}
 use Rattle.gos_types.specs.Types.{Type', Com, Exp, Var, Pair, Fun}
-use Rattle.gos_netlist.specs.Nets.{Side, Cell, NetPort}
+use Rattle.gos_netlist.specs.Nets.{Side, NetPort}
 use Rattle.gos_netlist.specs.Events.{is_input}
 use Rattle.gos_netcheck.specs.PortRules.{place, places, inputs_among, inputs_of, all_inputs, AreNew}
 use Rattle.gos_verilog.specs.declared.port_net.Role.{Role}
-use Rattle.gos_verilog.specs.PortNets.{PortNet, direction, bits, roles, number_bits, net_in_role, nets_in_roles, nets_of_port, port_nets}
+use Rattle.gos_verilog.specs.PortNets.{PortNet, direction, bits, roles, number_bits, nets_in_roles, nets_of_port, port_nets}
 
 -- the cells of the nets that are inputs
 abbrev pub input_cells : List PortNet → List ℕ

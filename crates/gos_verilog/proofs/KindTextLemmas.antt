@@ -2,10 +2,10 @@
 use Rattle.std.proofs.Common.{◌≡◌, ℕ, List, [], ◌∷◌, ◌++◌, sym, ◌∙◌, ap, arith, append_assoc, codes}
 use Rattle.std.proofs.lemmas.Fmt.{decimal_digit}
 use Rattle.std.specs.Fmt.{decimal}
-use Rattle.gos_netlist.specs.Nets.{Function, Input, Const, Not, Mux, Gate, Reg}
+use Rattle.gos_netlist.specs.Nets.{Const, Not, Mux, Gate, Reg}
 use Rattle.gos_verilog.specs.Lines.{assignment, cell_net, binary, driver_of}
 use Rattle.gos_verilog.specs.inner.Slots.{Slot', line_text}
-use Rattle.gos_verilog.specs.inner.CellLines.{exactly, net_behind, target_slot, const_slots, not_slots, binary_slots, mux_slots, gate_slots, reg_slots}
+use Rattle.gos_verilog.specs.inner.CellLines.{exactly, net_behind, const_slots, not_slots, binary_slots, mux_slots, gate_slots, reg_slots}
 
 const_parts : (p n e d t i w k : List ℕ)
     → (((p ++ n) ++ (i ++ 32 ∷ [])) ++ ((e ++ (w ++ 39 ∷ [])) ++ ((d ++ (k ++ 59 ∷ [])) ++ []))) ++ t

@@ -1,5 +1,5 @@
 -- Elements of a list, by place.
-use Rattle.std.proofs.Common.{◌≡◌, ℕ, zero, suc, ◌+◌, ◌<◌, List, [], ◌∷◌, ◌++◌, length, map, drop, get_or, sym, ◌∙◌, arith, subst, drop-cons, add-one}
+use Rattle.std.proofs.Common.{◌≡◌, ℕ, zero, suc, ◌+◌, ◌-◌, ◌<◌, ◌≤◌, List, [], ◌∷◌, ◌++◌, length, map, take, drop, get_or, refl, sym, ◌∙◌, ap, arith, subst, drop-cons, add-one, length-drop}
 use Rattle.std.specs.List.{AllByRecursion}
 use Rattle.gos_netlist.specs.declared.nets.Cell.{Cell}
 use Rattle.gos_netlist.specs.declared.nets.NetId.{NetId}
@@ -35,3 +35,13 @@ pub cells_snoc : (cells : List Cell) (cell : Cell) → AllByRecursion IsWritable
     → AllByRecursion IsWritableCell (map cell_of (cells ++ cell ∷ []))
 cells_snoc [] cell all is = (is, tt)
 cells_snoc (c ∷ cells) cell all is = (all.0, cells_snoc cells cell all.1 is)
+
+-- what is left from a place on, as the code takes it
+pub rest_all : (A : Type 0) (xs : List A) (n : ℕ) → take (length xs - n) (drop n xs) ≡ drop n xs
+rest_all A xs n = all (drop n xs) (length xs - n) (omega (arith, length-drop n xs))
+  where
+    all : (ys : List A) (k : ℕ) → length ys ≤ k → take k ys ≡ ys
+    all [] zero past = refl
+    all [] (suc k) past = refl
+    all (y ∷ ys) zero past = absurd (omega (arith, past))
+    all (y ∷ ys) (suc k) past = ap (λ rest. y ∷ rest) (all ys k (omega (arith, past)))

@@ -1,9 +1,8 @@
 -- The lines of a module mean what the cells show.
-use Rattle.std.proofs.Common.{◌≡◌, ℕ, zero, suc, ◌+◌, ◌<◌, ◌↔◌, Bool, true, false, if◌then◌else◌, List, [], length, Some, nat_eq, refl, sym, ◌∙◌, ap, subst, arith, slice_get}
-use Rattle.gos_netlist.specs.Nets.{Function, Input, Const, Not, And, Or, Xor, Mux, Add, Sub, Eq, Less, Gate, Reg, Cell}
-use Rattle.gos_netlist.specs.Settling.{Numbers, at, shown, Settling}
-use Rattle.gos_verilog.specs.Lines.{expression}
-use Rattle.gos_verilog.specs.Meaning.{text, value, expression_of, SelectorIsBit, is_clocked, MeetsLine, MeetLines, IsTextOfExpression, MeansSettling, MeansNext}
+use Rattle.std.proofs.Common.{◌≡◌, ℕ, zero, suc, ◌<◌, if◌then◌else◌, [], nat_eq, refl, sym, ◌∙◌, arith}
+use Rattle.gos_netlist.specs.Nets.{Function, Input, Const, Not, And, Or, Xor, Mux, Add, Sub, Eq, Less, Gate, Reg}
+use Rattle.gos_netlist.specs.Settling.{Numbers, at, shown}
+use Rattle.gos_verilog.specs.Meaning.{value, expression_of, SelectorIsBit, is_clocked, IsTextOfExpression, MeansSettling, MeansNext}
 
 pub text_is : IsTextOfExpression
 text_is w source Input = refl

@@ -1,23 +1,23 @@
 -- A Verilog text is that of one accepted netlist at most, and an accepted netlist has one text at most.
-use Rattle.std.proofs.Common.{◌≡◌, ◌≢◌, ◌⊎◌, inl, inr, ℕ, zero, suc, ◌+◌, ◌^◌, ◌<◌, ◌≤◌, Bool, true, false, if◌then◌else◌, List, [], ◌∷◌, ◌++◌, length, map, take, get_or, Some, None, refl, sym, ◌∙◌, ap, subst, arith, slice_get, append_assoc, codes}
+use Rattle.std.proofs.Common.{◌≡◌, inl, inr, ℕ, zero, suc, ◌+◌, ◌^◌, ◌<◌, ◌≤◌, Bool, true, false, if◌then◌else◌, List, [], ◌∷◌, ◌++◌, get_or, Some, refl, sym, ◌∙◌, ap, subst, arith, slice_get, append_assoc, codes}
 use Rattle.std.specs.List.{AllByRecursion, flat_map}
 use Rattle.std.proofs.lemmas.Bool.{cases_lt}
 use Rattle.std.proofs.lemmas.List.{append_cancel_left}
 use Rattle.std.proofs.Math.Nat.{pow-le-pow_right}
 use Rattle.gos_netlist.specs.Nets.{Function, Input, Const, Not, And, Or, Xor, Mux, Add, Sub, Eq, Less, Gate, Reg, Cell, NetPort, Netlist}
 use Rattle.gos_types.specs.Widths.{IsWidth}
-use Rattle.gos_netlist.specs.Writable.{IsNumber, OperandsFit, IsWritableCell, IsWritablePort, IsWritable}
+use Rattle.gos_netlist.specs.Writable.{OperandsFit, IsWritableCell, IsWritablePort, IsWritable}
 use Rattle.gos_netcheck.specs.Accepted.{IsAccepted}
 use Rattle.gos_verilog.specs.PortNets.{PortNet, port_nets}
-use Rattle.gos_verilog.specs.Lines.{cell_net, module_head, clock_declarations, port_declaration, cell_declarations, expression, driver, driver_of, output_assignment, assignment}
+use Rattle.gos_verilog.specs.Lines.{cell_net, clock_declarations, port_declaration, cell_declarations, expression, driver, driver_of, output_assignment, assignment}
 use Rattle.gos_verilog.specs.VerilogText.{first_name, declarations, outputs, IsFed, AreDrivers, IsItsNet, IsVerilogOf}
 use Rattle.gos_verilog.specs.Readable.{IsReadable}
-use Rattle.gos_verilog.specs.OneText.{IsReadAsOne, IsReadBack, HasOneText, IsPrintable, IsOneNetlist}
+use Rattle.gos_verilog.specs.OneText.{IsReadAsOne, IsReadBack, HasOneText, IsOneNetlist}
 use Rattle.gos_verilog.specs.inner.Drivers.{is_register}
 use Rattle.gos_verilog.proofs.CodeLemmas.{AreNameBytes, name_code}
 use Rattle.gos_verilog.proofs.ExpressionLemmas.{IsSmall, AreSmall, IsNetName}
 use Rattle.gos_verilog.proofs.DriverLemmas.{front, driver_text, driver_code}
-use Rattle.gos_verilog.proofs.DeclarationLemmas.{IsBits, AreAlike, IsBody, HaveBits, cells_code, AreSameHeads, AreSameNames, HaveNetBits, nets_code, HaveNames, listed, names_code, AreSameOutputs, HaveSmallCells, outputs_code}
+use Rattle.gos_verilog.proofs.DeclarationLemmas.{IsBits, AreAlike, IsBody, HaveBits, cells_code, AreSameHeads, HaveNetBits, nets_code, HaveNames, listed, names_code, AreSameOutputs, HaveSmallCells, outputs_code}
 use Rattle.gos_verilog.proofs.SuffixLemmas.{AreNamesApart, nets_apart}
 use Rattle.gos_verilog.proofs.SuffixLemmas as names
 use Rattle.gos_verilog.proofs.InputLemmas.{input_cells, AreApart, inputs_apart}
@@ -25,7 +25,7 @@ use Rattle.gos_verilog.proofs.InputLemmas as inputs
 use Rattle.gos_verilog.proofs.PortLemmas.{name_bytes, IsRightNet, right_nets, IsInputCell, IsOpen, open_nets, ports_code}
 
 -- what stands behind the drivers begins as no declaration
-outputs_body : (ns : List PortNet) → IsBody (flat_map output_assignment ns ++ codes "endmodule\n")
+pub outputs_body : (ns : List PortNet) → IsBody (flat_map output_assignment ns ++ codes "endmodule\n")
 outputs_body [] = inl refl
 outputs_body (n ∷ ns) = by n.input (outputs_body ns)
   where
@@ -34,7 +34,7 @@ outputs_body (n ∷ ns) = by n.input (outputs_body ns)
     by true rest = rest
     by false rest = inr refl
 
-drivers_body : (nets : List PortNet) (i : ℕ) (cells : List Cell) (drivers more : List ℕ) → AreDrivers IsItsNet nets i cells drivers → IsBody more → IsBody (drivers ++ more)
+pub drivers_body : (nets : List PortNet) (i : ℕ) (cells : List Cell) (drivers more : List ℕ) → AreDrivers IsItsNet nets i cells drivers → IsBody more → IsBody (drivers ++ more)
 drivers_body nets i [] drivers more are body = subst (λ (lines : List ℕ). IsBody (lines ++ more)) (sym are) body
 drivers_body nets i (c ∷ cells) drivers more are body =
     inr
@@ -46,17 +46,17 @@ drivers_body nets i (c ∷ cells) drivers more are body =
     third false x = refl
 
 -- the numbers of functions
-width_bits : (w : ℕ) → IsWidth w → IsBits w
+pub width_bits : (w : ℕ) → IsWidth w → IsBits w
 width_bits w is = (is.0, omega (arith, is.1))
 
-have_bits : (cells : List Cell) → AllByRecursion IsWritableCell cells → HaveBits cells
+pub have_bits : (cells : List Cell) → AllByRecursion IsWritableCell cells → HaveBits cells
 have_bits [] all = tt
 have_bits (c ∷ cells) all = (width_bits c.width all.0.0, have_bits cells all.1)
 
-power : (w k : ℕ) → IsWidth w → k < 2 ^ w → IsSmall k
+pub power : (w k : ℕ) → IsWidth w → k < 2 ^ w → IsSmall k
 power w k wide fit = let most : 2 ^ w ≤ 2 ^ 32 = pow-le-pow_right {n = 2} (omega arith) {i = w} {j = 32} wide.1 in omega (arith, fit, most)
 
-small_function : (w : ℕ) (f : Function) → IsWidth w → OperandsFit w f → AreSmall f
+pub small_function : (w : ℕ) (f : Function) → IsWidth w → OperandsFit w f → AreSmall f
 small_function w Input wide fit = tt
 small_function w (Const k) wide fit = power w k wide fit
 small_function w (Not a) wide fit = omega (arith, fit.0)
@@ -71,12 +71,12 @@ small_function w (Less a b) wide fit = (omega (arith, fit.0), omega (arith, fit.
 small_function w (Gate s a) wide fit = (omega (arith, fit.0), omega (arith, fit.1.0))
 small_function w (Reg a) wide fit = omega (arith, fit.0)
 
-small_cells : (cells : List Cell) → AllByRecursion IsWritableCell cells → AllByRecursion (λ c. AreSmall c.gate) cells
+pub small_cells : (cells : List Cell) → AllByRecursion IsWritableCell cells → AllByRecursion (λ c. AreSmall c.gate) cells
 small_cells [] all = tt
 small_cells (c ∷ cells) all = (small_function c.width c.gate all.0.0 all.0.1, small_cells cells all.1)
 
 -- what the nets of ports have
-names_of : (ns : List PortNet) → AllByRecursion IsRightNet ns → HaveNames ns
+pub names_of : (ns : List PortNet) → AllByRecursion IsRightNet ns → HaveNames ns
 names_of [] all = tt
 names_of (n ∷ ns) all = (all.0.name.bytes, names_of ns all.1)
 
@@ -88,7 +88,7 @@ cells_of : (ns : List PortNet) → AllByRecursion IsRightNet ns → HaveSmallCel
 cells_of [] all = tt
 cells_of (n ∷ ns) all = (all.0.cell, cells_of ns all.1)
 
-get_all : (A : Type 0) (P : A → Type 0) (xs : List A) (k : ℕ) (x : A) → AllByRecursion P xs → slice_get xs k ≡ Some x → P x
+pub get_all : (A : Type 0) (P : A → Type 0) (xs : List A) (k : ℕ) (x : A) → AllByRecursion P xs → slice_get xs k ≡ Some x → P x
 get_all A P [] k x all is = absurd (cc is)
 get_all A P (y ∷ xs) zero x all is = let same : y ≡ x = cc is in subst P same all.0
 get_all A P (y ∷ xs) (suc k) x all is = get_all A P xs k x all.1 is
@@ -191,7 +191,7 @@ nets_same (n ∷ ns) (m ∷ ms) heads outs ins =
     by false is = outs.0 is
 
 -- the text by its parts
-abbrev behind_head : List PortNet → List Cell → List ℕ → List ℕ → List ℕ
+abbrev pub behind_head : List PortNet → List Cell → List ℕ → List ℕ → List ℕ
 behind_head nets cells drivers back = clock_declarations ++ (flat_map port_declaration nets ++ (cell_declarations 0 cells ++ (drivers ++ back)))
 
 nested : (a n c l e k p d b o : List ℕ) → a ++ n ++ c ++ l ++ e ++ k ++ p ++ d ++ b ++ o ≡ a ++ (n ++ (c ++ (l ++ (e ++ (k ++ (p ++ (d ++ (b ++ o))))))))
@@ -205,12 +205,12 @@ nested a n c l e k p d b o =
     ∙ (append_assoc (a ++ n) c (l ++ (e ++ (k ++ (p ++ (d ++ (b ++ o))))))
     ∙ append_assoc a n (c ++ (l ++ (e ++ (k ++ (p ++ (d ++ (b ++ o)))))))))))))
 
-text_parts : (net : Netlist) (drivers : List ℕ) → declarations net ++ drivers ++ outputs net
+pub text_parts : (net : Netlist) (drivers : List ℕ) → declarations net ++ drivers ++ outputs net
     ≡ codes "module gos_" ++ (first_name net.ports ++ (codes "(clk, rst" ++ (listed (port_nets net.ports) ++ (codes ");\n" ++ behind_head (port_nets net.ports) net.cells drivers (outputs net)))))
 text_parts net drivers =
     nested (codes "module gos_") (first_name net.ports) (codes "(clk, rst") (listed (port_nets net.ports)) (codes ");\n") clock_declarations (flat_map port_declaration (port_nets net.ports)) (cell_declarations 0 net.cells) drivers (outputs net)
 
-first_bytes : (ps : List NetPort) → AllByRecursion IsWritablePort ps → AreNameBytes (first_name ps)
+pub first_bytes : (ps : List NetPort) → AllByRecursion IsWritablePort ps → AreNameBytes (first_name ps)
 first_bytes [] all = refl
 first_bytes (p ∷ ps) all = name_bytes p.name all.0.name
 
@@ -258,7 +258,7 @@ one_netlist text net other (writable, accepted) (writable_other, accepted_other)
 readable_open : (net : Netlist) → IsReadable net → AreOpen net.cells (port_nets net.ports)
 readable_open net readable k a is input = (record { width = a.width; gate = Input }, readable.inputs k a is input, refl)
 
-readable_own : (net : Netlist) → IsReadable net → HaveOwnCells (port_nets net.ports)
+pub readable_own : (net : Netlist) → IsReadable net → HaveOwnCells (port_nets net.ports)
 readable_own net readable j k a b is_a is_b in_a in_b same =
     elim (cases_lt j k) [
       | inl before ↦ absurd (readable.once k b is_b in_b j a before is_a in_a same)
@@ -268,7 +268,7 @@ readable_own net readable j k a b is_a is_b in_a in_b same =
       ]
     ]
 
-readable_apart : (net : Netlist) → IsReadable net → AreNamesApart (port_nets net.ports)
+pub readable_apart : (net : Netlist) → IsReadable net → AreNamesApart (port_nets net.ports)
 readable_apart net readable = nets_apart net.ports (λ k j p q got before earlier. readable.names k p got j q before earlier)
 
 -- what a text is read as is one netlist
@@ -282,18 +282,18 @@ read_back net text other (writable, accepted) is (readable, is_other) =
     one_circuit text net other writable readable.writable (accepted_open net accepted) (accepted_own net accepted) (readable_apart other readable) is is_other
 
 -- a line is the same whatever is named, but for an Input cell
-no_source : (i w : ℕ) (s t : List ℕ) (f : Function) → (f ≡ Input → s ≡ t) → driver_of i w s f ≡ driver_of i w t f
+pub no_source : (i w : ℕ) (s t : List ℕ) (f : Function) → (f ≡ Input → s ≡ t) → driver_of i w s f ≡ driver_of i w t f
 no_source i w s t Input same = ap (λ source. driver_of i w source Input) (same refl)
 no_source i w s t f same = refl
 
-one_source : (ns : List PortNet) (i : ℕ) (c : Cell) (s t : List ℕ) → AreApart (input_cells ns) → IsFed IsItsNet ns i c s → IsFed IsItsNet ns i c t → s ≡ t
+pub one_source : (ns : List PortNet) (i : ℕ) (c : Cell) (s t : List ℕ) → AreApart (input_cells ns) → IsFed IsItsNet ns i c s → IsFed IsItsNet ns i c t → s ≡ t
 one_source ns i c s t apart one other =
     let here = inputs.one_place ns one.0 other.0 one.1 other.1 apart one.2 other.2 one.3 other.3 (one.4 ∙ sym other.4) in
     let is : slice_get ns other.0 ≡ Some one.1 = subst (λ (n : ℕ). slice_get ns n ≡ Some one.1) here one.2 in
     let same : one.1 ≡ other.1 = let found : Some one.1 ≡ Some other.1 = sym is ∙ other.2 in cc found in
     one.5 ∙ (ap (λ (p : PortNet). p.name) same ∙ sym other.5)
 
-drivers_same : (ns : List PortNet) (i : ℕ) (cells : List Cell) (one other : List ℕ) → AreApart (input_cells ns) → AreDrivers IsItsNet ns i cells one → AreDrivers IsItsNet ns i cells other → one ≡ other
+pub drivers_same : (ns : List PortNet) (i : ℕ) (cells : List Cell) (one other : List ℕ) → AreApart (input_cells ns) → AreDrivers IsItsNet ns i cells one → AreDrivers IsItsNet ns i cells other → one ≡ other
 drivers_same ns i [] one other apart are_one are_other = are_one ∙ sym are_other
 drivers_same ns i (c ∷ cells) one other apart are_one are_other =
     let line = no_source i c.width are_one.0 are_other.0 c.gate (λ gate. one_source ns i c are_one.0 are_other.0 apart (are_one.2 gate) (are_other.2 gate)) in

@@ -1,6 +1,6 @@
 -- Ports are known by their nets in the module.
-use Rattle.std.proofs.Common.{◌≡◌, ◌≢◌, ◌⊎◌, inl, inr, ℕ, zero, suc, ◌+◌, ◌^◌, ◌<◌, ◌≤◌, Bool, true, false, List, [], ◌∷◌, ◌++◌, length, map, drop, get_or, Some, refl, sym, ◌∙◌, ap, subst, arith, slice_get}
-use Rattle.std.specs.List.{AllByRecursion, list_all, flat_map}
+use Rattle.std.proofs.Common.{◌≡◌, ℕ, zero, suc, ◌<◌, Bool, true, false, List, [], ◌∷◌, ◌++◌, length, map, drop, get_or, Some, refl, sym, ◌∙◌, ap, subst, arith, slice_get}
+use Rattle.std.specs.List.{AllByRecursion, list_all}
 use Rattle.std.proofs.lemmas.Bool.{and_parts}
 use Rattle.std.proofs.lemmas.List.Folds.{list_all-append}
 use Rattle.gos_types.specs.Types.{Type', Com, Exp, Var, Pair, Fun}
@@ -14,7 +14,7 @@ use Rattle.gos_netcheck.specs.PortRules.{place, places, IsEnd, FitsAt, AllFit}
 use Rattle.gos_netcheck.specs.Rules.{Kept}
 use Rattle.gos_verilog.specs.declared.port_net.Role.{Role}
 use Rattle.gos_verilog.specs.declared.port_net.Role.TheVariants.{Run, Done, Ask, Ans, AnsValue, Read, Write, WriteValue}
-use Rattle.gos_verilog.specs.PortNets.{PortNet, suffix, direction, bits, roles, number_bits, net_in_role, nets_in_roles, nets_of_port, port_nets}
+use Rattle.gos_verilog.specs.PortNets.{PortNet, suffix, direction, bits, roles, number_bits, nets_in_roles, nets_of_port, port_nets}
 use Rattle.gos_verilog.proofs.CodeLemmas.{AreNameBytes}
 use Rattle.gos_verilog.proofs.ExpressionLemmas.{IsSmall, IsNetName}
 use Rattle.gos_verilog.proofs.DeclarationLemmas.{IsBits}
@@ -117,7 +117,7 @@ open_nets cells (p ∷ ps) rule =
     all_append (IsOpen cells) (nets_of_port p) (port_nets ps) (open_of_type cells p.name p.side p.nets p.ty (rule zero p refl)) (open_nets cells ps (λ k q is. rule (suc k) q is))
 
 -- the side is known by the direction of requests
-side_code : (s t : Side) → is_input s Request ≡ is_input t Request → s ≡ t
+pub side_code : (s t : Side) → is_input s Request ≡ is_input t Request → s ≡ t
 side_code Give Give same = refl
 side_code Take Take same = refl
 side_code Give Take same = absurd (cc same)
@@ -246,7 +246,7 @@ type_code a b s t one (Pair c d) ns ms x y p q n m same = absurd q
 type_code a b s t one (Fun c d) ns ms x y p q n m same = absurd q
 
 -- a port has a net
-some_net : (p : NetPort) (ps : List NetPort) → IsWritablePort p → port_nets (p ∷ ps) ≡ [] → ⊥
+pub some_net : (p : NetPort) (ps : List NetPort) → IsWritablePort p → port_nets (p ∷ ps) ≡ [] → ⊥
 some_net p ps is same = by p.ty p.nets is.ty is.many same
   where
     by : (t : Type') (ns : List ℕ) → IsPortType t → length ns ≡ net_count t → nets_in_roles p.name p.side (number_bits t) ns (roles t) ++ port_nets ps ≡ [] → ⊥

@@ -2,7 +2,7 @@
 use Rattle.std.proofs.Common.{◌≡◌, ℕ, zero, suc, ◌≤◌, List, [], ◌∷◌, length, drop, refl, arith}
 use Rattle.gos_netlist.specs.Nets.{Side}
 use Rattle.gos_verilog.specs.declared.port_net.Role.{Role}
-use Rattle.gos_verilog.specs.PortNets.{PortNet, nets_in_roles}
+use Rattle.gos_verilog.specs.PortNets.{nets_in_roles}
 
 none_in_no_role : (name : List ℕ) (side : Side) (w : ℕ) (cells : List ℕ) → nets_in_roles name side w cells [] ≡ []
 none_in_no_role name side w [] = refl

@@ -1,5 +1,5 @@
 -- What is written one behind the other, by its parts.
-use Rattle.std.proofs.Common.{◌≡◌, ℕ, true, List, [], ◌++◌, sym, ◌∙◌, ap, codes, append_assoc}
+use Rattle.std.proofs.Common.{◌≡◌, ℕ, true, List, [], ◌++◌, ◌∙◌, ap, codes, append_assoc}
 use Rattle.std.specs.List.{flat_map}
 use Rattle.gos_netlist.specs.Nets.{Cell}
 use Rattle.gos_verilog.specs.PortNets.{PortNet}

@@ -1,15 +1,15 @@
 -- A slot, and a line of slots: where a part of it breaks off, it does.
-use Rattle.std.proofs.Common.{◌≡◌, ℕ, ◌≤◌, List, [], ◌∷◌, ◌++◌, length, refl, sym, ◌∙◌, ap, subst, arith, append_assoc}
+use Rattle.std.proofs.Common.{◌≡◌, ℕ, ◌≤◌, List, [], ◌∷◌, ◌++◌, length, refl, sym, ◌∙◌, ap, arith, append_assoc}
 use Rattle.std.specs.Fmt.{decimal}
-use Rattle.std.specs.List.{AllByRecursion, slice_range}
+use Rattle.std.specs.List.{slice_range}
 use Rattle.std.proofs.lemmas.List.{append_cancel_left}
-use Rattle.gos_lex.specs.Items.{TextAt, IsJust, Misses}
-use Rattle.gos_netlist.specs.NetItems.{IsTextOf, Passed, IsFixed, IsNumberText, ended}
+use Rattle.gos_lex.specs.Items.{IsJust, Misses}
+use Rattle.gos_netlist.specs.NetItems.{IsTextOf, IsFixed, IsNumberText, ended}
 use Rattle.gos_netlist.proofs.SequenceLemmas.{Then, IsCode, misses_as, then_first, then_rest}
 use Rattle.gos_verilog.specs.inner.Runs.{IsRun, run_text}
-use Rattle.gos_verilog.specs.inner.Slots.{Slot', IsSlot, IsRightSlot, AreSlots, FitSlots, slot_text, line_text, IsLine}
+use Rattle.gos_verilog.specs.inner.Slots.{Slot', IsSlot, IsRightSlot, AreSlots, FitSlots, slot_text, IsLine}
 use Rattle.gos_verilog.proofs.NumberLemmas.{number_code}
-use Rattle.gos_verilog.proofs.RunLemmas.{Some, Codes, some_run, run_code}
+use Rattle.gos_verilog.proofs.RunLemmas.{Some, Codes, run_code}
 
 -- these bytes as an item
 pub no_word : (bytes text : List ℕ) (at place : ℕ) → Misses (IsJust bytes) text at place → Misses (IsFixed bytes) text at place

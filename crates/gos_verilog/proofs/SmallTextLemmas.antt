@@ -1,5 +1,5 @@
 -- The latch has one text.
-use Rattle.std.proofs.Common.{◌≡◌, ℕ, zero, suc, ◌+◌, true, false, List, [], ◌∷◌, ◌++◌, length, Some, None, refl, sym, ◌∙◌, ap, arith, slice_get, codes}
+use Rattle.std.proofs.Common.{◌≡◌, ℕ, zero, suc, true, false, List, [], ◌++◌, length, refl, sym, ◌∙◌, ap, arith, codes}
 use Rattle.std.specs.Fmt.{digits}
 use Rattle.gos_netlist.specs.Nets.{Input, Or, Reg}
 use Rattle.gos_netlist.specs.SmallNets.{bit, latch}

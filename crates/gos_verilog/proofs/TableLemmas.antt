@@ -1,6 +1,6 @@
 -- The table from Input cells to the nets of ports, and that each Input cell of an accepted netlist is fed.
-use Rattle.std.proofs.Common.{◌≡◌, ◌≢◌, ◌⊎◌, inl, inr, ℕ, zero, suc, ◌+◌, ◌<◌, ◌≤◌, Bool, true, false, List, [], ◌∷◌, ◌++◌, length, get_or, Some, refl, sym, ◌∙◌, ap, subst, arith, slice_get}
-use Rattle.std.proofs.lemmas.Bool.{cases_lt, cases_eq}
+use Rattle.std.proofs.Common.{◌≡◌, ◌⊎◌, inl, inr, ℕ, ◌+◌, ◌<◌, Bool, true, false, List, length, get_or, Some, refl, sym, ◌∙◌, ap, subst, arith, slice_get}
+use Rattle.std.proofs.lemmas.Bool.{cases_eq}
 use Rattle.gos_verilog.specs.PortNets.{PortNet}
 use Rattle.gos_verilog.specs.inner.Drivers.{FeedsAt, LeadsToFeeds}
 

@@ -5,5 +5,6 @@ pub mod VerilogText
 pub mod SmallTexts
 pub mod Readable
 pub mod OneText
+pub mod Place
 pub mod Meaning
 pub mod inner

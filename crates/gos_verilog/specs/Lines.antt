@@ -3,7 +3,7 @@
 -- Read first: PortNets; Nets of gos_netlist. The net that cell I drives is named nI. In IEEE 1364-2005 a continuous
 -- assignment holds at all times; a non-blocking assignment at a clock edge takes its right side from before the edge;
 -- and with all operands and the target of W bits `+` and `-` drop the carry.
-use Rattle.std.specs.Prelude.{ℕ, zero, suc, ◌-◌, Bool, true, false, if◌then◌else◌, List, [], ◌∷◌, ◌++◌, codes}
+use Rattle.std.specs.Prelude.{ℕ, suc, ◌-◌, Bool, true, false, if◌then◌else◌, List, [], ◌∷◌, ◌++◌, codes}
 use Rattle.std.specs.List.{flat_map}
 use Rattle.std.specs.Fmt.{decimal}
 use Rattle.gos_netlist.specs.Nets.{Function, Input, Const, Not, And, Or, Xor, Mux, Add, Sub, Eq, Less, Gate, Reg, Cell}

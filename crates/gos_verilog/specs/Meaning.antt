@@ -3,7 +3,7 @@
 -- Read first: Lines; Settling of gos_netlist. Nets are unsigned. An operand of `~`, `&`, `|`, `^`, `+` and `-` has the
 -- size of the net that is assigned, so a carry is dropped. A comparison is that of numbers, and gives one bit. A choice
 -- takes its second part where its first is not 0. Says nothing of x and z: no net of these modules has them after reset.
-use Rattle.std.specs.Prelude.{◌≡◌, ℕ, ◌+◌, ◌-◌, ◌^◌, ◌%◌, ◌<◌, ◌↔◌, Bool, true, false, if◌then◌else◌, List, [], ◌∷◌, ◌++◌, length, Some, slice_get, bit_and, bit_or, bit_xor, nat_eq, nat_lt, codes}
+use Rattle.std.specs.Prelude.{◌≡◌, ℕ, ◌+◌, ◌-◌, ◌^◌, ◌%◌, ◌<◌, ◌↔◌, Bool, true, false, if◌then◌else◌, List, [], ◌++◌, length, Some, slice_get, bit_and, bit_or, bit_xor, nat_eq, nat_lt, codes}
 use Rattle.gos_netlist.specs.Nets.{Function, Input, Const, Not, And, Or, Xor, Mux, Add, Sub, Eq, Less, Gate, Reg, Cell}
 use Rattle.gos_netlist.specs.Settling.{Numbers, at, next_of, Settling}
 use Rattle.gos_verilog.specs.Lines.{cell_net, literal, expression}

@@ -6,6 +6,8 @@ use Rattle.std.specs.Prelude.{◌≡◌, ◌≢◌, ℕ, ◌<◌, true, List, le
 use Rattle.gos_netlist.specs.Nets.{Input, Cell, NetPort, Netlist}
 use Rattle.gos_netlist.specs.Writable.{IsWritable}
 use Rattle.gos_netcheck.specs.Rules.{KeptBefore, Kept}
+use Rattle.gos_verilog.specs.declared.fault.VFault.{VFault}
+use Rattle.gos_verilog.specs.declared.fault.VFault.TheVariants.{Form, NoMemory}
 use Rattle.gos_verilog.specs.PortNets.{PortNet, port_nets}
 use Rattle.gos_verilog.specs.VerilogText.{IsVerilogOf}
 
@@ -33,3 +35,8 @@ pub record IsReadable (net : Netlist) : Type 0 where
 -- the text is that of this netlist, which texts are read as
 abbrev pub IsRead : List ℕ → Netlist → Type 0
 IsRead text net = IsReadable net × IsVerilogOf net text
+
+-- the fault is right to refuse the text: it is that of no netlist, or memory was wanting
+abbrev pub IsRefused : List ℕ → VFault → Type 0
+IsRefused text (Form at) = (net : Netlist) → IsRead text net → ⊥
+IsRefused text NoMemory = Unit {0}

@@ -2,9 +2,9 @@
 --
 -- Read first: Lines. One module, whose lines stand in a fixed order: its head; the declarations of the clock, the reset,
 -- the nets of ports and the nets of cells; what drives each cell's net; the assignments of the outputs; its end.
-use Rattle.std.specs.Prelude.{◌≡◌, ℕ, suc, Bool, true, List, [], ◌∷◌, ◌++◌, Some, slice_get, codes}
+use Rattle.std.specs.Prelude.{◌≡◌, ℕ, suc, true, List, [], ◌∷◌, ◌++◌, Some, slice_get, codes}
 use Rattle.std.specs.List.{flat_map}
-use Rattle.gos_netlist.specs.Nets.{Function, Input, Cell, NetPort, Netlist}
+use Rattle.gos_netlist.specs.Nets.{Input, Cell, NetPort, Netlist}
 use Rattle.gos_verilog.specs.PortNets.{PortNet, port_nets}
 use Rattle.gos_verilog.specs.Lines.{module_head, clock_declarations, port_declaration, cell_declarations, driver, output_assignment}
 

@@ -4,3 +4,6 @@ pub mod Runs
 pub mod Slots
 pub mod CellLines
 pub mod Inputs
+pub mod Stages
+pub mod Noted
+pub mod Parts

@@ -1,28 +1,36 @@
 // The lines that drive the nets of cells.
-ghost use Rattle.std.specs.Prelude.{◌≡◌, ◌≤◌, IfOk, OnOk, length, map};
+ghost use Rattle.std.specs.Prelude.{◌≡◌, ◌≤◌, ◌<◌, ◌++◌, ℕ, List, false, IfOk, IfErr, IfSome, MatchResult, length, map, drop};
 ghost use Rattle.std.specs.List.{AllByRecursion};
 ghost use Rattle.gos_types.specs.Widths.{IsWidth};
-ghost use Rattle.gos_netlist.specs.Seen.{cell_of};
+ghost use Rattle.gos_netlist.specs.Nets.{Function, Input, Cell as NetCell};
+ghost use Rattle.gos_netlist.specs.Seen.{cell_of, function_of};
 ghost use Rattle.gos_netlist.specs.Writable.{IsWritableCell};
+ghost use Rattle.gos_verilog.specs.PortNets.{PortNet as Net};
+ghost use Rattle.gos_verilog.specs.Lines.{driver_of};
+ghost use Rattle.gos_verilog.specs.inner.Drivers.{is_register};
+ghost use Rattle.gos_verilog.specs.inner.Stages.{IsWant, IsNetName, declared_net, shape_of};
+ghost use Rattle.gos_verilog.specs.inner.Noted.{AreAllNoted, HasPlaces, IsLineOf, IsNoLine, IsKnown, IsNotedBy, AreDriven};
 
 use crate::cell_line::{Kind, kind_line};
 use crate::declared::{Shape, further};
 use crate::fault::VFault;
 use crate::head::name_at;
 use crate::inputs::Inputs;
-use crate::slots::number;
+use crate::port_net::PortNet;
+use crate::slots::{number, pass};
 use gos_lex::Cursor;
 use gos_netlist::{Cell, Gate};
 use std::alloc::Global;
 
-/// Reads the lines that drive the nets of cells of these shapes, from `at` on. The numbers of Input cells are noted. It
-/// gives the cells and the place behind the lines.
+/// Reads the lines that drive the nets of cells of these shapes, from `at` on. The numbers of Input cells are noted at
+/// the nets of ports that they read. It gives the cells and the place behind the lines.
 #[tactic(auto, using(crate::proofs::ListLemmas::cells_snoc))]
 pub fn drivers(
     alloc: Global,
     text: &[u8],
     at: usize,
     shapes: &[Shape],
+    nets: &[PortNet],
     inputs: &mut Inputs,
 ) -> Result<(Vec<Cell>, usize), VFault>
     requires within { at ≤ length text.now }
@@ -31,11 +39,14 @@ pub fn drivers(
     ensures cells { IfOk result (λ both. AllByRecursion IsWritableCell (map cell_of both.0.items)) }
     ensures count { IfOk result (λ both. length both.0.items ≡ length shapes.now) }
     ensures within { IfOk result (λ both. both.1 ≤ length text.now) }
+    ensures stands { (known : List Net) (all : List NetCell) (x : List ℕ) → nets.now ≡ map declared_net known → shapes.now ≡ map shape_of all
+        → HasPlaces known (length known) inputs.old.places → length inputs.old.cells.items ≡ length known → AreDriven (drop at text.now) known all x
+        → MatchResult result (λ both. (map cell_of both.0.items ≡ all) × (drop both.1 text.now ≡ x) × AreAllNoted known inputs.new.cells.items) IsWant }
 {
     let mut cells = Vec::new(alloc);
     let mut at = at;
     for (i, shape) in shapes.iter().enumerate() {
-        match driver(alloc, &text[at..], i as u32, *shape, inputs) {
+        match driver(alloc, &text[at..], i as u32, *shape, nets, inputs) {
             Ok((gate, len)) => {
                 cells.push(Cell {
                     width: shape.width,
@@ -57,16 +68,20 @@ fn driver(
     rest: &[u8],
     i: u32,
     shape: Shape,
+    nets: &[PortNet],
     inputs: &mut Inputs,
 ) -> Result<(Gate, usize), usize>
     requires { IsWidth shape.width }
     ensures cell { IfOk result (λ both. IsWritableCell (cell_of (record { width = shape.width; gate = both.0 }))) }
     ensures within { IfOk result (λ both. both.1 ≤ length rest.now) }
+    ensures stands { (f : Function) (name x : List ℕ) → is_register f ≡ shape.register → IsLineOf rest.now i shape.width f name x
+        → (f ≡ Input → IsKnown nets.now inputs.old shape.width name)
+        → MatchResult result (λ both. (function_of both.0 ≡ f) × (drop both.1 rest.now ≡ x) × IsNotedBy inputs.old inputs.new i f name) (λ _. ⊥) }
 {
     if shape.register {
         line(alloc, rest, Kind::Reg, i, shape.width)
     } else {
-        wire(alloc, rest, i, shape.width, inputs)
+        wire(alloc, rest, i, shape.width, nets, inputs)
     }
 }
 
@@ -76,11 +91,15 @@ fn wire(
     rest: &[u8],
     i: u32,
     width: u32,
+    nets: &[PortNet],
     inputs: &mut Inputs,
 ) -> Result<(Gate, usize), usize>
     requires { IsWidth width }
     ensures cell { IfOk result (λ both. IsWritableCell (cell_of (record { width = width; gate = both.0 }))) }
     ensures within { IfOk result (λ both. both.1 ≤ length rest.now) }
+    ensures stands { (f : Function) (name x : List ℕ) → is_register f ≡ false → IsLineOf rest.now i width f name x
+        → (f ≡ Input → IsKnown nets.now inputs.old width name)
+        → MatchResult result (λ both. (function_of both.0 ≡ f) × (drop both.1 rest.now ≡ x) × IsNotedBy inputs.old inputs.new i f name) (λ _. ⊥) }
 {
     let one = match any_line(alloc, rest, i, width) {
         Ok(both) => return Ok(both),
@@ -88,7 +107,7 @@ fn wire(
     };
     match source(rest, i) {
         Ok((name, len)) => {
-            if inputs.note(name, width, i) {
+            if inputs.note(nets, name, width, i) {
                 Ok((Gate::Input, len))
             } else {
                 Err(further(one, len))
@@ -100,15 +119,17 @@ fn wire(
 
 // Reads the line of an Input cell, and gives the name of the net of a port that it reads, with its length.
 fn source(rest: &[u8], i: u32) -> Result<(&[u8], usize), usize>
-    ensures { IfOk result (λ both. both.1 ≤ length rest.now) }
+    ensures within { IfOk result (λ both. both.1 ≤ length rest.now) }
+    ensures stands { (name x : List ℕ) → IsLineOf rest.now i 1 Input name x
+        → MatchResult result (λ both. (both.0.now ≡ name) × (drop both.1 rest.now ≡ x)) (λ _. ⊥) }
 {
     let mut cursor = Cursor::new(rest);
-    cursor.word(b"  assign n")?;
+    pass(&mut cursor, b"  assign n")?;
     number(&mut cursor, i, i, b' ')?;
-    cursor.word(b"= ")?;
+    pass(&mut cursor, b"= ")?;
     let name = name_at(rest, cursor.at());
-    cursor.word(name)?;
-    cursor.word(b";\n")?;
+    pass(&mut cursor, name)?;
+    pass(&mut cursor, b";\n")?;
     Ok((name, cursor.at()))
 }
 
@@ -117,6 +138,9 @@ fn any_line(alloc: Global, rest: &[u8], i: u32, width: u32) -> Result<(Gate, usi
     requires { IsWidth width }
     ensures cell { IfOk result (λ both. IsWritableCell (cell_of (record { width = width; gate = both.0 }))) }
     ensures within { IfOk result (λ both. both.1 ≤ length rest.now) }
+    ensures no_input { IfOk result (λ both. function_of both.0 ≡ Input → ⊥) }
+    ensures reads { IfOk result (λ both. (f : Function) (name x : List ℕ) → IsLineOf rest.now i width f name x → (function_of both.0 ≡ f) × (drop both.1 rest.now ≡ x)) }
+    ensures wrong { IfErr result (λ _. (f : Function) (name x : List ℕ) → is_register f ≡ false → (f ≡ Input → ⊥) → IsLineOf rest.now i width f name x → ⊥) }
 {
     let kinds = [
         likely(rest),
@@ -147,6 +171,9 @@ fn line(alloc: Global, rest: &[u8], kind: Kind, i: u32, width: u32) -> Result<(G
     requires { IsWidth width }
     ensures cell { IfOk result (λ both. IsWritableCell (cell_of (record { width = width; gate = both.0 }))) }
     ensures within { IfOk result (λ both. both.1 ≤ length rest.now) }
+    ensures no_input { IfOk result (λ both. function_of both.0 ≡ Input → ⊥) }
+    ensures reads { IfOk result (λ both. (f : Function) (name x : List ℕ) → IsLineOf rest.now i width f name x → (function_of both.0 ≡ f) × (drop both.1 rest.now ≡ x)) }
+    ensures wrong { IfErr result (λ _. IsNoLine kind i width rest.now) }
 {
     let mut cursor = Cursor::new(rest);
     let gate = kind_line(alloc, &mut cursor, kind, i, width)?;

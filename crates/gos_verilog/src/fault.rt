@@ -1,4 +1,6 @@
 // Why a text is no Verilog text of a netlist.
+ghost use Rattle.gos_verilog.specs.inner.Stages.{IsWant};
+
 use crate::declared::further;
 use gos_types::NoMemory;
 use std::alloc::{AllocError, AllocFailed};
@@ -17,7 +19,9 @@ pub enum VFault {
 
 impl VFault {
     /// The fault, whose place was counted from `at`.
-    pub(crate) fn behind(self, at: usize) -> VFault {
+    pub(crate) fn behind(self, at: usize) -> VFault
+        ensures { IsWant self → IsWant result }
+    {
         match self {
             VFault::Form { at: place } => VFault::Form {
                 at: at.saturating_add(place),
@@ -27,7 +31,9 @@ impl VFault {
     }
 
     /// The fault, at this place where it was found out earlier.
-    pub(crate) fn not_before(self, at: usize) -> VFault {
+    pub(crate) fn not_before(self, at: usize) -> VFault
+        ensures { IsWant self → IsWant result }
+    {
         match self {
             VFault::Form { at: place } => VFault::Form {
                 at: further(at, place),

@@ -1,5 +1,9 @@
 // The inputs of a module, by name, and the cells that read them.
-ghost use Rattle.std.specs.Prelude.{◌≡◌, ◌≤◌, IfOk, OnOk, length};
+ghost use Rattle.std.specs.Prelude.{◌≡◌, ◌<◌, ℕ, List, Some, true, IfOk, OnOk, get_or, length, set, slice_get};
+ghost use Rattle.std.specs.List.{AllByRecursion};
+ghost use Rattle.gos_verilog.specs.PortNets.{PortNet as Net};
+ghost use Rattle.gos_verilog.specs.inner.Stages.{HaveOwnNames};
+ghost use Rattle.gos_verilog.specs.inner.Noted.{place_at, added, HasPlaces};
 
 use crate::port_net::PortNet;
 use gos_netlist::NetId;
@@ -7,38 +11,78 @@ use gos_types::NoMemory;
 use indexmap::IndexMap;
 use std::alloc::Global;
 
-/// An input of a module: its bits, and the last cell that was noted to read it.
-#[derive(Debug, Clone, Copy)]
-struct Input {
-    width: u32,
-    cell: u32,
+/// The places of inputs among the nets of ports, by name.
+#[derive(Drop)]
+pub struct Places {
+    by_name: IndexMap<Vec<u8>, usize>,
 }
 
-/// The inputs of a module.
+/// The inputs of a module, and for each net of a port the last cell that was noted to read it, or else 0.
 #[derive(Drop)]
 pub struct Inputs {
-    by_name: IndexMap<Vec<u8>, Input>,
+    places: Places,
+    cells: Vec<u32>,
+}
+
+impl Places {
+    // The place of the input of this name.
+    fn get(&self, name: &[u8]) -> Option<usize>
+        ensures { result ≡ place_at self.now name.now }
+    {
+        self.by_name.get(name).copied()
+    }
+
+    // Adds an input with its place.
+    fn add(&mut self, name: Vec<u8>, place: usize) -> Result<(), NoMemory>
+        ensures { OnOk result ((other : List ℕ) → place_at self.new other ≡ added name.items place (place_at self.old other) other) }
+    {
+        self.by_name.insert(name, place)?;
+        Ok(())
+    }
+}
+
+// The places of the inputs among these nets of ports.
+fn known_places(alloc: Global, nets: &[PortNet]) -> Result<Places, NoMemory>
+    ensures { IfOk result (λ places. HaveOwnNames nets.now → HasPlaces nets.now (length nets.now) places) }
+{
+    let mut places = Places {
+        by_name: IndexMap::new(alloc),
+    };
+    for (k, net) in nets.iter().enumerate() {
+        if net.input {
+            places.add(net.name.to_vec(alloc)?, k)?;
+        }
+    }
+    Ok(places)
 }
 
 impl Inputs {
     /// The inputs among these nets of ports, none of which is read yet.
-    pub fn new(alloc: Global, nets: &[PortNet]) -> Result<Inputs, NoMemory> {
-        let mut by_name = IndexMap::new(alloc);
-        for net in nets {
-            if net.input {
-                let width = net.width;
-                by_name.insert(net.name.to_vec(alloc)?, Input { width, cell: 0 })?;
-            }
-        }
-        Ok(Inputs { by_name })
+    pub fn new(alloc: Global, nets: &[PortNet]) -> Result<Inputs, NoMemory>
+        ensures places { IfOk result (λ inputs. HaveOwnNames nets.now → HasPlaces nets.now (length nets.now) inputs.places) }
+        ensures count { IfOk result (λ inputs. length inputs.cells.items ≡ length nets.now) }
+    {
+        let places = known_places(alloc, nets)?;
+        let cells = vec![in alloc; 0; nets.len()]?;
+        Ok(Inputs { places, cells })
     }
 
-    /// Notes that a cell of so many bits reads the input of this name. It says whether there is such an input.
-    pub fn note(&mut self, name: &[u8], width: u32, cell: u32) -> bool {
-        match self.by_name.get_mut(name) {
-            Some(input) => {
-                if input.width == width {
-                    input.cell = cell;
+    /// Notes that a cell of so many bits reads the input of this name among the nets. It says whether there is such an
+    /// input.
+    pub fn note(&mut self, nets: &[PortNet], name: &[u8], width: u32, cell: u32) -> bool
+        ensures places { self.new.places ≡ self.old.places }
+        ensures count { length self.new.cells.items ≡ length self.old.cells.items }
+        ensures noted { (k : ℕ) (net : Net) → place_at self.old.places name.now ≡ Some k → slice_get nets.now k ≡ Some net → net.width ≡ width
+            → k < length self.old.cells.items → (result ≡ true) × (self.new.cells.items ≡ set self.old.cells.items k cell) }
+    {
+        match self.places.get(name) {
+            Some(k) => {
+                if k >= nets.len() || k >= self.cells.len() {
+                    return false;
+                }
+                let net = &nets[k];
+                if net.width == width {
+                    self.cells[k] = cell;
                     true
                 } else {
                     false
@@ -48,10 +92,12 @@ impl Inputs {
         }
     }
 
-    /// The last cell that was noted to read the input of this name; 0 where there is none.
-    pub fn cell(&self, name: &[u8]) -> NetId {
-        match self.by_name.get(name) {
-            Some(input) => NetId(input.cell),
+    /// The last cell that was noted to read the net at this place; 0 where there is none.
+    pub fn cell(&self, place: usize) -> NetId
+        ensures { result.0 ≡ get_or self.now.cells.items place 0 }
+    {
+        match self.cells.get(place) {
+            Some(cell) => NetId(*cell),
             None => NetId(0),
         }
     }

@@ -1,8 +1,9 @@
 // What the definitions say. Each theorem is the contract of a function that does nothing.
-ghost use Rattle.std.specs.Prelude.{List, ℕ};
+ghost use Rattle.std.specs.Prelude.{List, ℕ, codes};
 ghost use Rattle.gos_netlist.specs.Nets.{Netlist};
 ghost use Rattle.gos_verilog.specs.Meaning.{IsTextOfExpression, MeansNext, MeansSettling};
 ghost use Rattle.gos_verilog.specs.OneText.{HasOneText, IsOneNetlist, IsReadAsOne, IsReadBack};
+ghost use Rattle.gos_verilog.specs.Place.{HasOnePlace, IsPlace, ReadIsFormed};
 ghost use Rattle.gos_verilog.specs.SmallTexts.{LatchText, LongerIsNoText, UnresetIsNoText};
 
 /// The latch has its text, and neither one in which a register has no reset nor one with a blank more.
@@ -31,4 +32,13 @@ pub fn meaning()
     ensures text { IsTextOfExpression }
     ensures settling { MeansSettling }
     ensures edge { MeansNext }
+{}
+
+/// What begins like a text breaks off at one place, and a text that is read is of the form. For example `modul x` breaks
+/// off at its sixth byte, and not at its fifth.
+pub fn places()
+    ensures one { HasOnePlace }
+    ensures read { ReadIsFormed }
+    ensures blank { IsPlace (codes "modul x") 5 }
+    ensures earlier { IsPlace (codes "modul x") 4 → ⊥ }
 {}

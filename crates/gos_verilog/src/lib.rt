@@ -26,6 +26,6 @@ mod tests;
 mod writing;
 
 pub use fault::VFault;
-pub use laws::{meaning, one_reading, one_text, small_texts};
+pub use laws::{meaning, one_reading, one_text, places, small_texts};
 pub use reading::read_verilog;
 pub use writing::write_verilog;

@@ -1,10 +1,13 @@
 // The ports whose nets these are.
-ghost use Rattle.std.specs.Prelude.{◌≡◌, ◌≤◌, ◌<◌, IfOk, IfSome, IsTrue, length, map};
+ghost use Rattle.std.specs.Prelude.{◌≡◌, ◌≤◌, ◌<◌, ◌↔◌, ◌++◌, ℕ, List, IfOk, IfSome, IsTrue, MatchOption, length, map};
 ghost use Rattle.std.specs.List.{AllByRecursion};
 ghost use Rattle.gos_lex.specs.Names.{IsNameOrWord};
 ghost use Rattle.gos_netlist.specs.Seen.{ground_type, number_of};
 ghost use Rattle.gos_netlist.specs.Writable.{IsNumber, IsPortType, IsWritablePort};
 ghost use Rattle.gos_netlist.specs.Events.{net_count};
+ghost use Rattle.gos_netlist.specs.Nets.{NetPort};
+ghost use Rattle.gos_verilog.specs.PortNets.{PortNet as Net, nets_of_port, port_nets};
+ghost use Rattle.gos_verilog.specs.inner.Stages.{suffix_length};
 
 use crate::port_net::PortNet;
 use gos_lex::{Name, is_name_or_word};
@@ -16,6 +19,8 @@ use std::alloc::Global;
 #[tactic(auto, using(crate::proofs::ListLemmas::all_snoc))]
 pub fn ports_of(alloc: Global, nets: &[PortNet]) -> Result<Option<Vec<Port>>, NoMemory>
     ensures writable { IfOk result (λ found. IfSome found (λ ports. AllByRecursion IsWritablePort ports.items)) }
+    ensures stands { IfOk result (λ found. (ports : List NetPort) → AllByRecursion IsWritablePort ports → nets.now ≡ port_nets ports
+        → MatchOption found ⊥ (λ list. list.items ≡ ports)) }
 {
     let mut ports = Vec::new(alloc);
     let mut at = 0;
@@ -35,50 +40,85 @@ pub fn ports_of(alloc: Global, nets: &[PortNet]) -> Result<Option<Vec<Port>>, No
 fn port_at(alloc: Global, nets: &[PortNet]) -> Result<Option<(Port, usize)>, NoMemory>
     ensures writable { IfOk result (λ found. IfSome found (λ both. IsWritablePort both.0)) }
     ensures count { IfOk result (λ found. IfSome found (λ both. (0 < both.1) × (both.1 ≤ length nets.now))) }
+    ensures stands { IfOk result (λ found. (p : NetPort) (behind : List Net) → IsWritablePort p → nets.now ≡ nets_of_port p ++ behind
+        → MatchOption found ⊥ (λ both. (both.0 ≡ p) × (both.1 ≡ net_count p.ty))) }
 {
-    match nets {
-        [run, done, ..] if ends_with(&run.name, b"__run") => {
-            let nets = [run.cell, done.cell];
-            port(alloc, run, 5, Ground::Com, &nets)
+    match ground_of(nets) {
+        Some(ground) => {
+            let count = count(ground);
+            match port(alloc, &nets[..count], ground)? {
+                Some(port) => Ok(Some((port, count))),
+                None => Ok(None),
+            }
         }
-        [ask, ans, value, ..] if ends_with(&ask.name, b"__ask") => {
-            let nets = [ask.cell, ans.cell, value.cell];
-            port(alloc, ask, 5, Ground::Exp(value.width), &nets)
-        }
-        [read, ans, value, write, written, done, ..] if ends_with(&read.name, b"__read") => {
-            let nets = [
-                read.cell,
-                ans.cell,
-                value.cell,
-                write.cell,
-                written.cell,
-                done.cell,
-            ];
-            port(alloc, read, 6, Ground::Var(value.width), &nets)
-        }
-        _ => Ok(None),
+        None => Ok(None),
+    }
+}
+
+// The type of the port whose nets stand first, by the name of the first.
+fn ground_of(nets: &[PortNet]) -> Option<Ground>
+    ensures count { IfSome result (λ carried. net_count (ground_type carried) ≤ length nets.now) }
+    ensures stands { (p : NetPort) (behind : List Net) → IsWritablePort p → nets.now ≡ nets_of_port p ++ behind
+        → MatchOption result ⊥ (λ carried. ground_type carried ≡ p.ty) }
+{
+    if nets.len() < 2 {
+        return None;
+    }
+    let first = &nets[0];
+    if ends_with(&first.name, b"__run") {
+        return Some(Ground::Com);
+    }
+    if nets.len() < 3 {
+        return None;
+    }
+    let value = &nets[2];
+    if ends_with(&first.name, b"__ask") {
+        Some(Ground::Exp(value.width))
+    } else if nets.len() >= 6 && ends_with(&first.name, b"__read") {
+        Some(Ground::Var(value.width))
+    } else {
+        None
+    }
+}
+
+// How many nets a port of this type has.
+fn count(ground: Ground) -> usize
+    ensures { result ≡ net_count (ground_type ground) }
+{
+    match ground {
+        Ground::Com => 2,
+        Ground::Exp(_) => 3,
+        Ground::Var(_) => 6,
+    }
+}
+
+// How many bytes stand behind the name of a port of this type in that of its first net.
+fn suffix(ground: Ground) -> usize
+    ensures { result ≡ suffix_length (ground_type ground) }
+{
+    match ground {
+        Ground::Com | Ground::Exp(_) => 5,
+        Ground::Var(_) => 6,
     }
 }
 
 // Whether the bytes end with these.
-fn ends_with(bytes: &[u8], end: &[u8]) -> bool {
+fn ends_with(bytes: &[u8], end: &[u8]) -> bool
+    ensures is { (front : List ℕ) → bytes.now ≡ front ++ end.now → IsTrue result }
+    ensures only { IsTrue result → (front : List ℕ) × (bytes.now ≡ front ++ end.now) }
+{
     bytes.len() >= end.len() && &bytes[bytes.len() - end.len()..] == end
 }
 
-// The port whose first net is this one, whose name is the port's and a suffix of so many bytes. None where it has no right
-// name or no right type.
-fn port(
-    alloc: Global,
-    first: &PortNet,
-    suffix: usize,
-    ground: Ground,
-    nets: &[NetId],
-) -> Result<Option<(Port, usize)>, NoMemory>
+// The port of this type whose nets these are. None where it has no right name or no right type.
+fn port(alloc: Global, nets: &[PortNet], ground: Ground) -> Result<Option<Port>, NoMemory>
     requires { length nets.now ≡ net_count (ground_type ground) }
-    ensures writable { IfOk result (λ found. IfSome found (λ both. IsWritablePort both.0)) }
-    ensures count { IfOk result (λ found. IfSome found (λ both. both.1 ≡ length nets.now)) }
+    ensures writable { IfOk result (λ found. IfSome found IsWritablePort) }
+    ensures stands { IfOk result (λ found. (p : NetPort) → IsWritablePort p → nets.now ≡ nets_of_port p → ground_type ground ≡ p.ty
+        → MatchOption found ⊥ (λ port. port ≡ p)) }
 {
-    let name = &first.name[..first.name.len().saturating_sub(suffix)];
+    let first = &nets[0];
+    let name = &first.name[..first.name.len().saturating_sub(suffix(ground))];
     if !is_name_or_word(name) || !is_port_type(ground) {
         return Ok(None);
     }
@@ -89,17 +129,18 @@ fn port(
         ground,
         nets: listed(alloc, nets)?,
     };
-    Ok(Some((port, nets.len())))
+    Ok(Some(port))
 }
 
-// The nets as a list.
-fn listed(alloc: Global, nets: &[NetId]) -> Result<Vec<NetId>, NoMemory>
+// The cells that the nets are.
+fn listed(alloc: Global, nets: &[PortNet]) -> Result<Vec<NetId>, NoMemory>
     ensures count { IfOk result (λ list. length list.items ≡ length nets.now) }
     ensures numbers { IfOk result (λ list. AllByRecursion IsNumber (map number_of list.items)) }
+    ensures cells { IfOk result (λ list. map number_of list.items ≡ map (λ (net : Net). net.cell) nets.now) }
 {
     let mut list = Vec::new(alloc);
     for net in nets {
-        list.push(net_id(net.0))?;
+        list.push(net_id(net.cell.0))?;
     }
     Ok(list)
 }
@@ -125,7 +166,7 @@ fn new_name(alloc: Global, bytes: &[u8]) -> Result<Name, NoMemory>
 
 // Whether a port may have this type.
 fn is_port_type(ground: Ground) -> bool
-    ensures { IsTrue result → IsPortType (ground_type ground) }
+    ensures { IsTrue result ↔ IsPortType (ground_type ground) }
 {
     match ground {
         Ground::Com => true,

@@ -33,6 +33,7 @@ pub fn is_readable(
     requires nets { nets.now ≡ nets_of ports.now }
     ensures readable { IfOk result (λ is. IsTrue is → IsReadable (record { cells = map cell_of cells.now; ports = ports.now })) }
     ensures fed { IfOk result (λ is. IsTrue is → AreFed (nets_of ports.now) (map cell_of cells.now)) }
+    ensures whole { IfOk result (λ is. IsReadable (record { cells = map cell_of cells.now; ports = ports.now }) → AreFed (nets_of ports.now) (map cell_of cells.now) → IsTrue is) }
 {
     if ports.is_empty() || ports.len() > LAST_COUNT || cells.len() > LAST_COUNT {
         return Ok(false);
@@ -45,7 +46,7 @@ pub fn is_readable(
 
 // Whether no two ports have one name.
 fn have_own_names(alloc: Global, ports: &[Port]) -> Result<bool, NoMemory>
-    ensures { IfOk result (λ own. IsTrue own → Kept (HasOwnName ports.now) ports.now) }
+    ensures { IfOk result (λ own. IsTrue own ↔ Kept (HasOwnName ports.now) ports.now) }
 {
     let mut names = HashSet::new(alloc);
     for port in ports {
@@ -69,6 +70,7 @@ fn are_inputs(alloc: Global, cells: &[Cell], nets: &[PortNet]) -> Result<bool, N
     ensures inputs { IfOk result (λ are. IsTrue are → Kept (λ _ n. IsInputCell (map cell_of cells.now) n) nets.now) }
     ensures once { IfOk result (λ are. IsTrue are → Kept (HasOwnCell nets.now) nets.now) }
     ensures fed { IfOk result (λ are. IsTrue are → AreFed nets.now (map cell_of cells.now)) }
+    ensures whole { IfOk result (λ are. Kept (λ _ n. IsInputCell (map cell_of cells.now) n) nets.now → Kept (HasOwnCell nets.now) nets.now → AreFed nets.now (map cell_of cells.now) → IsTrue are) }
 {
     let mut taken = vec![in alloc; false; cells.len()]?;
     for net in nets {
@@ -88,6 +90,7 @@ fn take(cells: &[Cell], taken: &mut Vec<bool>, net: &PortNet) -> bool
     ensures new { IsTrue result → net.now.input ≡ true → IsTaken taken.old.items net.now.cell → ⊥ }
     ensures marks { IsTrue result → net.now.input ≡ true → IsTaken taken.new.items net.now.cell }
     ensures kept { IsTrue result → (n : ℕ) → IsTaken taken.old.items n → IsTaken taken.new.items n }
+    ensures whole { IsInputCell (map cell_of cells.now) net.now → (net.now.input ≡ true → IsTaken taken.old.items net.now.cell → ⊥) → IsTrue result }
     ensures only { (n : ℕ) → IsTaken taken.new.items n → IsTaken taken.old.items n ⊎ ((net.now.input ≡ true) × (net.now.cell ≡ n)) }
 {
     if !net.input {
@@ -104,7 +107,7 @@ fn take(cells: &[Cell], taken: &mut Vec<bool>, net: &PortNet) -> bool
 // Whether each Input cell is taken.
 fn all_taken(cells: &[Cell], taken: &[bool]) -> bool
     requires { length taken.now ≡ length cells.now }
-    ensures { IsTrue result → Kept (IsTakenInput taken.now) (map cell_of cells.now) }
+    ensures { IsTrue result ↔ Kept (IsTakenInput taken.now) (map cell_of cells.now) }
 {
     for (n, cell) in cells.iter().enumerate() {
         if is_input(cell.gate) && !taken[n] {

@@ -1,18 +1,24 @@
 // Reading a netlist from its Verilog text.
-ghost use Rattle.std.specs.Prelude.{IfOk, IsTrue, map};
+ghost use Rattle.std.specs.Prelude.{◌≡◌, ◌≤◌, ◌++◌, ℕ, List, IfOk, IfErr, IsTrue, MatchResult, drop, length, map};
 ghost use Rattle.std.specs.List.{AllByRecursion};
 ghost use Rattle.gos_netlist.specs.Seen.{cell_of};
 ghost use Rattle.gos_netlist.specs.Writable.{IsWritableCell, IsWritablePort};
-ghost use Rattle.gos_verilog.specs.Readable.{IsRead, IsReadable};
+ghost use Rattle.gos_types.specs.Widths.{IsWidth};
+ghost use Rattle.gos_netlist.specs.Nets.{NetPort, Netlist as Net};
+ghost use Rattle.gos_verilog.specs.Readable.{IsRead, IsReadable, IsRefused};
+ghost use Rattle.gos_verilog.specs.Place.{HasOtherStart, HasPlace};
 ghost use Rattle.gos_verilog.specs.VerilogText.{IsVerilogOf};
+ghost use Rattle.gos_verilog.specs.PortNets.{port_nets as nets_of};
+ghost use Rattle.gos_verilog.specs.inner.Stages.{Rest, BreaksAt, HasStart, IsStart, IsWant, declared_net, shape_of};
+ghost use Rattle.gos_verilog.specs.inner.Parts.{Parts, front_text};
 
-use crate::declared::{cell_declarations, port_declarations};
+use crate::declared::{Shape, cell_declarations, port_declarations};
 use crate::driven::drivers;
 use crate::fault::VFault;
 use crate::head::{head, word};
 use crate::inputs::Inputs;
 use crate::outputs::outputs;
-use crate::port_net::port_nets;
+use crate::port_net::{PortNet, port_nets};
 use crate::ports_of::ports_of;
 use crate::readable::is_readable;
 use crate::writing::module_text;
@@ -21,9 +27,12 @@ use gos_netlist::{Cell, Netlist, Port};
 use gos_types::NoMemory;
 use std::alloc::Global;
 
-/// The netlist whose Verilog text this is. `write_verilog` is the way back.
+/// The netlist whose Verilog text this is. `Err` is that it's the text of none, or want of memory. `write_verilog` is the
+/// way back.
 pub fn read_verilog(alloc: Global, text: &[u8]) -> Result<Netlist, VFault>
     ensures read { IfOk result (IsRead text.now) }
+    ensures refused { IfErr result (IsRefused text.now) }
+    ensures start { IfErr result (λ fault. HasOtherStart text.now → HasPlace text.now fault) }
 {
     let net = parsed(alloc, text)?;
     if is_text_of(alloc, text, &net.cells, &net.ports)? {
@@ -39,6 +48,7 @@ fn is_text_of(alloc: Global, text: &[u8], cells: &[Cell], ports: &[Port]) -> Res
     requires ports { AllByRecursion IsWritablePort ports.now }
     ensures readable { IfOk result (λ is. IsTrue is → IsReadable (record { cells = map cell_of cells.now; ports = ports.now })) }
     ensures text { IfOk result (λ is. IsTrue is → IsVerilogOf (record { cells = map cell_of cells.now; ports = ports.now }) text.now) }
+    ensures whole { IfOk result (λ is. IsRead text.now (record { cells = map cell_of cells.now; ports = ports.now }) → IsTrue is) }
 {
     let nets = port_nets(alloc, ports)?;
     if !is_readable(alloc, cells, ports, &nets)? {
@@ -52,26 +62,73 @@ fn is_text_of(alloc: Global, text: &[u8], cells: &[Cell], ports: &[Port]) -> Res
 fn parsed(alloc: Global, text: &[u8]) -> Result<Netlist, VFault>
     ensures cells { IfOk result (λ net. AllByRecursion IsWritableCell net.cells) }
     ensures ports { IfOk result (λ net. AllByRecursion IsWritablePort net.ports) }
+    ensures stands { (net : Net) → IsRead text.now net → MatchResult result (λ found. found ≡ net) IsWant }
+    ensures begun { IfOk result (λ _. HasStart (record { text = text.now; at = 0 })) }
+    ensures starts { IfErr result (λ fault. (HasStart (record { text = text.now; at = 0 }) → ⊥) → BreaksAt IsStart (record { text = text.now; at = 0 }) fault) }
 {
     let mut cursor = Cursor::new(text);
-    let names = head(alloc, text, &mut cursor)?;
-    word(&mut cursor, b"  input clk;\n  input rst;\n")?;
-    let declared = port_declarations(alloc, &mut cursor, &names)?;
-    if ports_of(alloc, &declared)?.is_none() {
-        return Err(VFault::Form { at: cursor.at() });
-    }
+    let declared = front(alloc, text, &mut cursor)?;
     let (shapes, stopped) = cell_declarations(alloc, &mut cursor)?;
-    let mut inputs = Inputs::new(alloc, &declared)?;
-    let (cells, at) = match drivers(alloc, text, cursor.at(), &shapes, &mut inputs) {
+    let (cells, nets) = match body(alloc, text, cursor.at(), &shapes, &declared) {
         Ok(both) => both,
         Err(fault) => return Err(fault.not_before(stopped)),
-    };
-    let nets = match outputs(alloc, &text[at..], &declared, &inputs) {
-        Ok(nets) => nets,
-        Err(fault) => return Err(fault.behind(at).not_before(stopped)),
     };
     match ports_of(alloc, &nets)? {
         Some(ports) => Ok(Netlist { cells, ports }),
         None => Err(VFault::Form { at: text.len() }),
+    }
+}
+
+// Passes the head of a module and the declarations of its ports' nets, and gives these nets.
+fn front(alloc: Global, text: &[u8], cursor: &mut Cursor) -> Result<Vec<PortNet>, VFault>
+    requires { cursor.now.text ≡ text.now }
+    ensures text { cursor.new.text ≡ text.now }
+    ensures stands { (net : Net) (parts : Parts net) (x : List ℕ) → Rest cursor.old (front_text parts x)
+        → MatchResult result (λ declared. (declared.items ≡ map declared_net parts.nets) × Rest cursor.new x) IsWant }
+    ensures begun { IfOk result (λ _. HasStart cursor.old) }
+    ensures starts { IfErr result (λ fault. (HasStart cursor.old → ⊥) → BreaksAt IsStart cursor.old fault) }
+{
+    let names = head(alloc, text, cursor)?;
+    word(cursor, b"  input clk;\n  input rst;\n")?;
+    let declared = port_declarations(alloc, cursor, &names)?;
+    if are_ports(alloc, &declared)? {
+        Ok(declared)
+    } else {
+        Err(VFault::Form { at: cursor.at() })
+    }
+}
+
+// Whether these are the nets of ports.
+fn are_ports(alloc: Global, nets: &[PortNet]) -> Result<bool, NoMemory>
+    ensures { IfOk result (λ are. (ports : List NetPort) → AllByRecursion IsWritablePort ports → nets.now ≡ nets_of ports → IsTrue are) }
+{
+    match ports_of(alloc, nets)? {
+        Some(_) => Ok(true),
+        None => Ok(false),
+    }
+}
+
+// Reads the lines behind the declarations, from `at` on, and gives the cells, and the nets of ports with the cells that
+// they are.
+fn body(
+    alloc: Global,
+    text: &[u8],
+    at: usize,
+    shapes: &[Shape],
+    declared: &[PortNet],
+) -> Result<(Vec<Cell>, Vec<PortNet>), VFault>
+    requires within { at ≤ length text.now }
+    requires few { length shapes.now ≤ 4294967295 }
+    requires widths { AllByRecursion (λ shape. IsWidth shape.width) shapes.now }
+    ensures cells { IfOk result (λ both. AllByRecursion IsWritableCell (map cell_of both.0.items)) }
+    ensures stands { (net : Net) (parts : Parts net) → declared.now ≡ map declared_net parts.nets → shapes.now ≡ map shape_of parts.cells
+        → drop at text.now ≡ parts.drivers ++ parts.back
+        → MatchResult result (λ both. (map cell_of both.0.items ≡ parts.cells) × (both.1.items ≡ parts.nets)) IsWant }
+{
+    let mut inputs = Inputs::new(alloc, declared)?;
+    let (cells, end) = drivers(alloc, text, at, shapes, declared, &mut inputs)?;
+    match outputs(alloc, &text[end..], declared, &inputs) {
+        Ok(nets) => Ok((cells, nets)),
+        Err(fault) => Err(fault.behind(end)),
     }
 }

@@ -1,10 +1,11 @@
 // Lines of words and numbers. `Err` is the place of the first byte that can't go on as the line, or the end of the text.
-ghost use Rattle.std.specs.Prelude.{◌≡◌, ◌≤◌, ℕ, false, IfOk, IfErr, length};
+ghost use Rattle.std.specs.Prelude.{◌≡◌, ◌≤◌, ◌++◌, ◌∷◌, ℕ, List, false, IfOk, IfErr, OnErr, MatchResult, length};
 ghost use Rattle.std.specs.Char.{is_ascii_digit};
 ghost use Rattle.std.specs.Fmt.{decimal};
-ghost use Rattle.gos_lex.specs.Items.{Misses};
+ghost use Rattle.gos_lex.specs.Items.{Misses, IsJust};
 ghost use Rattle.gos_netlist.specs.NetItems.{Passed, IsTextOf, IsInRange, IsNumberText, ended};
 ghost use Rattle.gos_verilog.specs.inner.Runs.{IsRun, run_text};
+ghost use Rattle.gos_verilog.specs.inner.Stages.{Rest};
 ghost use Rattle.gos_verilog.specs.inner.Slots.{IsSlot, IsRightSlot, AreSlots, FitSlots, slot_text, line_text, IsLine, Slot'};
 
 use gos_lex::Cursor;
@@ -90,8 +91,23 @@ pub fn number(cursor: &mut Cursor, low: u32, high: u32, end: u8) -> Result<u32, 
     ensures range { IfOk result (IsInRange low high) }
     ensures passed { IfOk result (λ n. Passed cursor.old cursor.new (ended end (decimal n))) }
     ensures wrong { IfErr result (Misses (IsNumberText low high end) cursor.old.text cursor.old.at) }
+    ensures stands { (n : ℕ) (x : List ℕ) → low ≤ n → n ≤ high → Rest cursor.old (decimal n ++ (end ∷ x))
+        → MatchResult result (λ found. (found ≡ n) × Rest cursor.new x) (λ _. ⊥) }
 {
     let n = cursor.number(low as u64, high as u64)?;
     cursor.word(&[end])?;
     Ok(n as u32)
+}
+
+/// Passes exactly these bytes.
+pub fn pass(cursor: &mut Cursor, bytes: &[u8]) -> Result<(), usize>
+    ensures text { cursor.new.text ≡ cursor.old.text }
+    ensures forward { cursor.old.at ≤ cursor.new.at }
+    ensures passed { IfOk result (λ _. Passed cursor.old cursor.new bytes.now) }
+    ensures wrong { IfErr result (Misses (IsJust bytes.now) cursor.old.text cursor.old.at) }
+    ensures stays { OnErr result (cursor.new ≡ cursor.old) }
+    ensures stands { (x : List ℕ) → Rest cursor.old (bytes.now ++ x) → MatchResult result (λ _. Rest cursor.new x) (λ _. ⊥) }
+{
+    cursor.word(bytes)?;
+    Ok(())
 }

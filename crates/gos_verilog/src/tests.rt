@@ -249,3 +249,18 @@ fn tells_a_wrong_byte(rt: HostRuntime) -> Result<(), Fail> {
     }
     Ok(())
 }
+
+#[test]
+fn tells_a_wrong_start(rt: HostRuntime) -> Result<(), Fail> {
+    let alloc = rt.alloc();
+    assert_eq!(rt; refused_at(alloc, b"module gas_main"), Some(8));
+    assert_eq!(rt; refused_at(alloc, b"module gos_1ab"), Some(11));
+    assert_eq!(rt; refused_at(alloc, b"module gos_main(clk; rst"), Some(19));
+    // The 256th byte of a name can't belong to one.
+    let mut long = b"module gos_".as_slice().to_vec(alloc)?;
+    for _ in 0..300 {
+        long.push(b'a')?;
+    }
+    assert_eq!(rt; refused_at(alloc, &long), Some(266));
+    Ok(())
+}

@@ -25,4 +25,4 @@ pub record AreTaken (cells : List Cell) (nets : List PortNet) (i : ℕ) (taken :
   pub inputs : KeptBefore (λ _ n. IsInputCell cells n) nets i
   pub once : KeptBefore (HasOwnCell nets) nets i
   pub marks : KeptBefore (λ _ n. n.input ≡ true → IsTaken taken n.cell) nets i
-  pub only : (n : ℕ) → IsTaken taken n → (k : ℕ) × FeedsAt nets k n
+  pub only : (n : ℕ) → IsTaken taken n → (k : ℕ) × (k < i) × FeedsAt nets k n

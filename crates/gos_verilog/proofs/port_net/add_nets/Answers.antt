@@ -1,4 +1,4 @@
-use Rattle.std.proofs.Common.{◌≡◌, ◌≤◌, ◌++◌, length, drop, sym, ◌∙◌, ap, arith, append-nil}
+use Rattle.std.proofs.Common.{◌≤◌, ◌++◌, length, drop, sym, ◌∙◌, ap, arith, append-nil}
 use Rattle.std.proofs.lemmas.Bool.Decides.{nat_tests}
 use Rattle.gos_verilog.proofs.PortNetLemmas.{none_past_roles}
 use Rattle.gos_verilog.proofs.port_net.add_nets.Goals as goal

@@ -1,5 +1,4 @@
-use Rattle.std.proofs.Common.{◌≡◌, ◌++◌, map, drop}
-use Rattle.gos_netlist.specs.Seen.{number_of}
+use Rattle.std.proofs.Common.{◌≡◌, ◌++◌, drop}
 use Rattle.gos_verilog.specs.PortNets.{nets_in_roles, nets_of_port}
 use Rattle.gos_verilog.proofs.port_net.add_nets.Given as goal
 

@@ -1,4 +1,3 @@
-use Rattle.std.proofs.Common.{rules, arith, append_assoc}
 use Rattle.gos_verilog.proofs.PrintLemmas.{target_parts}
 use Rattle.gos_verilog.proofs.printing.add_target.Goals as goal
 

@@ -1,9 +1,10 @@
-use Rattle.std.proofs.Common.{arith, ◌∷◌, [], subst, List, ℕ}
+use Rattle.std.proofs.Common.{arith, ◌∷◌, ◌^◌, ◌<◌, [], subst, List, ℕ}
 use Rattle.std.specs.Fmt.{decimal}
 use Rattle.std.proofs.lemmas.Result.{err_from_is_err_and}
 use Rattle.gos_lex.specs.Items.{IsJust, Misses}
 use Rattle.gos_lex.specs.Decimals.{IsDecimalIn}
 use Rattle.gos_verilog.proofs.NumberLemmas.{no_number, number_not_ended}
+use Rattle.gos_verilog.proofs.RestLemmas.{number_rest, number_stands}
 use Rattle.gos_netlist.proofs.PassedLemmas.{passed_both, passed_item}
 use Rattle.gos_verilog.proofs.slots.number.Goals as goal
 
@@ -31,3 +32,24 @@ returns-clause-passed c =
     passed_both old mid new (decimal c.in_ok-n.n) (c.args.end ∷ [])
     (passed_item (IsDecimalIn c.args.low c.args.high) old mid (decimal c.in_ok-n.n) c.in_ok-n.ensures.text c.in_ok-n.ensures.value c.in_ok-n.ensures.passes)
     (passed_item (IsJust (c.args.end ∷ [])) mid new (c.args.end ∷ []) c.in_ok-word.ensures.text c.in_ok-word.ensures.passes.item c.in_ok-word.ensures.passes)
+
+pub returns-in_err-n-clause-stands : goal.returns-in_err-n-clause-stands
+returns-in_err-n-clause-stands c n x above below left =
+    let old = c.args.cursor.now in
+    let known = no_number c.args.low c.args.high c.args.end old.text old.at c.in_err-n.field-0.0 (omega (arith, c.ranges.high.fits)) c.requires.no_digit c.in_err-n.ensures.wrong in
+    absurd (number_stands old.text old.at c.in_err-n.field-0.0 c.args.low c.args.high c.args.end n x known above below left)
+
+pub returns-in_err-word-clause-stands : goal.returns-in_err-word-clause-stands
+returns-in_err-word-clause-stands c n x above below left =
+    let old = c.args.cursor.now in
+    let mid = c.number.new.self in
+    let missed = subst (λ (text : List ℕ). Misses (IsJust (c.args.end ∷ [])) text mid.at c.in_err-word.field-0.0) c.in_ok-n.ensures.text c.in_err-word.ensures.wrong in
+    let known = number_not_ended c.args.low c.args.high c.args.end old.text old.at mid.at c.in_err-word.field-0.0 c.in_ok-n.n (omega (arith, c.ranges.high.fits)) c.requires.no_digit c.in_ok-n.ensures.range.0 c.in_ok-n.ensures.range.1 c.in_ok-n.ensures.value c.in_ok-n.ensures.passes missed in
+    absurd (number_stands old.text old.at c.in_err-word.field-0.0 c.args.low c.args.high c.args.end n x known above below left)
+
+pub returns-clause-stands : goal.returns-clause-stands
+returns-clause-stands c n x above below left =
+    let old = c.args.cursor.now in
+    let new = c.word.new.self in
+    let fits : c.args.high < 2 ^ 64 = omega (arith, c.ranges.high.fits) in
+    number_rest old new c.args.low c.args.high c.args.end c.in_ok-n.n n x fits c.requires.no_digit c.in_ok-n.ensures.range above below (returns-clause-passed c) left

@@ -1,8 +1,6 @@
-use Rattle.std.proofs.Common.{rules, ◌≡◌, ◌+◌, ◌++◌, ◌∷◌, [], ℕ, List, length, drop, sym, ◌∙◌, ap, subst, arith, length-append}
+use Rattle.std.proofs.Common.{rules, ◌≡◌, ◌+◌, ◌∷◌, [], ℕ, List, length, drop, sym, ◌∙◌, ap, subst, arith, length-append}
 use Rattle.std.proofs.Math.Seq.{drop-length}
 use Rattle.std.proofs.lemmas.Result.{err_from_is_err_and}
-use Rattle.gos_lex.specs.Items.{Misses}
-use Rattle.gos_verilog.specs.inner.Runs.{IsRun}
 use Rattle.gos_verilog.specs.inner.Slots.{Slot', IsSlot, IsRightSlot, slot_text}
 use Rattle.gos_verilog.proofs.ListLemmas.{drop_at, all_at, all_drop}
 use Rattle.gos_verilog.proofs.RunLemmas.{RunSoFar, none_yet, one_more, no_more, all_fit, all_passed}

@@ -1,0 +1,140 @@
+-- A text of a netlist, from stage to stage of the reader; and that such a netlist has one text at most.
+use Rattle.std.proofs.Common.{◌≡◌, ℕ, zero, suc, ◌+◌, ◌<◌, true, List, [], ◌∷◌, ◌++◌, length, map, Some, refl, sym, ◌∙◌, ap, subst, arith, slice_get}
+use Rattle.std.specs.List.{AllByRecursion}
+use Rattle.std.proofs.lemmas.Option.{slice_get_within}
+use Rattle.gos_lex.specs.Names.{IsNameOrWord}
+use Rattle.gos_netlist.specs.Nets.{Input, Cell, NetPort, Netlist}
+use Rattle.gos_netlist.specs.Writable.{IsWritableCell, IsWritablePort}
+use Rattle.gos_verilog.specs.declared.fault.VFault.{VFault}
+use Rattle.gos_verilog.specs.declared.fault.VFault.TheVariants as faults
+use Rattle.gos_verilog.specs.declared.inputs.Places.{Places}
+use Rattle.gos_verilog.specs.PortNets.{PortNet, port_nets}
+use Rattle.gos_verilog.specs.VerilogText.{first_name, declarations, outputs, IsFed, AreDrivers, IsItsNet, IsVerilogOf}
+use Rattle.gos_verilog.specs.Readable.{IsRead, IsReadable, IsRefused}
+use Rattle.gos_verilog.specs.inner.Stages.{IsWant, IsNetName, HaveOwnNames, HaveCellWidths, declared_net}
+use Rattle.gos_verilog.specs.inner.Inputs.{AreFed}
+use Rattle.gos_verilog.specs.inner.Noted.{HasPlaces, AreRight}
+use Rattle.gos_verilog.specs.inner.Parts.{Parts, whole_text}
+use Rattle.gos_verilog.proofs.SuffixLemmas as names
+use Rattle.gos_verilog.proofs.PortLemmas.{IsRightNet, right_nets}
+use Rattle.gos_verilog.proofs.FoundLemmas.{wide_nets, number_nets}
+use Rattle.gos_verilog.proofs.OneTextLemmas.{drivers_body, outputs_body, text_parts, names_of, no_source, readable_own, readable_apart}
+
+cell_widths : (cells : List Cell) → AllByRecursion IsWritableCell cells → HaveCellWidths cells
+cell_widths [] all = tt
+cell_widths (c ∷ cells) all = (all.0.0, cell_widths cells all.1)
+
+net_names : (nets : List PortNet) → AllByRecursion IsRightNet nets → AllByRecursion (λ n. IsNetName n.name) nets
+net_names [] all = tt
+net_names (n ∷ nets) all = (all.0.name, net_names nets all.1)
+
+pub right_of : (net : Netlist) → IsReadable net → AreRight (port_nets net.ports) net.cells
+right_of net readable =
+    record {
+      names = net_names (port_nets net.ports) (right_nets net.ports readable.writable.ports);
+      own = λ j k a b is_a is_b same. names.one_place (port_nets net.ports) j k a b (readable_apart net readable) is_a is_b same;
+      inputs = readable.inputs;
+      apart = readable_own net readable;
+      fit = readable.writable.cells;
+    }
+
+first_named : (ps : List NetPort) → 0 < length ps → AllByRecursion IsWritablePort ps → IsNameOrWord (first_name ps)
+first_named [] some all = absurd (omega (arith, some))
+first_named (p ∷ ps) some all = all.0.name
+
+-- the parts of a text that is read as a netlist
+pub parts_of : (net : Netlist) (text : List ℕ) → IsRead text net → (parts : Parts net) × (text ≡ whole_text parts)
+parts_of net text (readable, (drivers, are, is)) =
+    let nets : List PortNet = port_nets net.ports in
+    let right = right_nets net.ports readable.writable.ports in (
+      record {
+        first = first_name net.ports;
+        nets = nets;
+        cells = net.cells;
+        drivers = drivers;
+        back = outputs net;
+        nets_are = refl;
+        cells_are = refl;
+        back_is = refl;
+        ports = readable.writable.ports;
+        bytes = first_named net.ports readable.some readable.writable.ports;
+        names = names_of nets right;
+        wide = wide_nets net.ports readable.writable.ports;
+        numbers = number_nets net.ports readable.writable.ports;
+        cell_wide = cell_widths net.cells readable.writable.cells;
+        few = readable.writable.cell_count;
+        body = drivers_body nets 0 net.cells drivers (outputs net) are (outputs_body nets);
+        right = right_of net readable;
+        are = are;
+      },
+      is ∙ text_parts net drivers,
+    )
+
+-- the names and places that are known of declared nets
+undeclared : (nets : List PortNet) (k : ℕ) (a : PortNet) → slice_get (map declared_net nets) k ≡ Some a → (b : PortNet) × (slice_get nets k ≡ Some b) × (a ≡ declared_net b)
+undeclared [] k a is = absurd (cc is)
+undeclared (n ∷ nets) zero a is = let same : declared_net n ≡ a = cc is in (n, refl, sym same)
+undeclared (n ∷ nets) (suc k) a is = undeclared nets k a is
+
+pub own_declared : (nets : List PortNet) → HaveOwnNames nets → HaveOwnNames (map declared_net nets)
+own_declared nets own j k a b is_a is_b same =
+    let one = undeclared nets j a is_a in
+    let other = undeclared nets k b is_b in
+    own j k one.0 other.0 one.1 other.1 (ap (λ (n : PortNet). n.name) (sym one.2) ∙ (same ∙ ap (λ (n : PortNet). n.name) other.2))
+
+get_declared : (nets : List PortNet) (k : ℕ) (net : PortNet) → slice_get nets k ≡ Some net → slice_get (map declared_net nets) k ≡ Some (declared_net net)
+get_declared [] k net is = absurd (cc is)
+get_declared (n ∷ nets) zero net is = let same : n ≡ net = cc is in ap (λ (m : PortNet). Some (declared_net m)) same
+get_declared (n ∷ nets) (suc k) net is = get_declared nets k net is
+
+pub places_known : (nets seen : List PortNet) (places : Places) → seen ≡ map declared_net nets → HaveOwnNames nets → (HaveOwnNames seen → HasPlaces seen (length seen) places) → HasPlaces nets (length nets) places
+places_known nets seen places is own has k net inside at input =
+    let known = has (subst HaveOwnNames (sym is) (own_declared nets own)) in
+    let there : slice_get seen k ≡ Some (declared_net net) = subst (λ (ns : List PortNet). slice_get ns k ≡ Some (declared_net net)) (sym is) (get_declared nets k net at) in
+    known k (declared_net net) (slice_get_within seen k (declared_net net) there) there input
+
+-- each Input cell of a netlist with a text is fed
+fed_from : (nets : List PortNet) (i : ℕ) (cells : List Cell) (lines : List ℕ) → AreDrivers IsItsNet nets i cells lines → (j : ℕ) (c : Cell) → slice_get cells j ≡ Some c → c.gate ≡ Input
+    → (k : ℕ) × (net : PortNet) × (slice_get nets k ≡ Some net) × (net.input ≡ true) × (net.cell ≡ i + j)
+fed_from nets i [] lines are j c is gate = absurd (cc is)
+fed_from nets i (d ∷ cells) lines are zero c is gate =
+    let same : d ≡ c = cc is in
+    let e : i ≡ i + 0 = omega arith in
+    let fed = are.2 (ap (λ (x : Cell). x.gate) same ∙ gate) in
+    (fed.0, fed.1, fed.2, fed.3, fed.4 ∙ e)
+fed_from nets i (d ∷ cells) lines are (suc j) c is gate =
+    let e : suc i + j ≡ i + suc j = omega arith in
+    let rest = fed_from nets (suc i) cells are.1 are.3 j c is gate in
+    (rest.0, rest.1, rest.2, rest.3, rest.4 ∙ e)
+
+pub text_fed : (net : Netlist) (text : List ℕ) → IsVerilogOf net text → AreFed (port_nets net.ports) net.cells
+text_fed net text (drivers, are, is) j c at gate =
+    let e : 0 + j ≡ j = omega arith in
+    let fed = fed_from (port_nets net.ports) 0 net.cells drivers are j c at gate in
+    (fed.0, (fed.1, fed.2, fed.3, fed.4 ∙ e))
+
+-- two texts of one netlist
+one_source : (net : Netlist) (i : ℕ) (c : Cell) (s t : List ℕ) → IsReadable net → IsFed IsItsNet (port_nets net.ports) i c s → IsFed IsItsNet (port_nets net.ports) i c t → s ≡ t
+one_source net i c s t readable one other =
+    let ns : List PortNet = port_nets net.ports in
+    let here = readable_own net readable one.0 other.0 one.1 other.1 one.2 other.2 one.3 other.3 (one.4 ∙ sym other.4) in
+    let is : slice_get ns other.0 ≡ Some one.1 = subst (λ (n : ℕ). slice_get ns n ≡ Some one.1) here one.2 in
+    let same : one.1 ≡ other.1 = let found : Some one.1 ≡ Some other.1 = sym is ∙ other.2 in cc found in
+    one.5 ∙ (ap (λ (p : PortNet). p.name) same ∙ sym other.5)
+
+drivers_same : (net : Netlist) (i : ℕ) (cells : List Cell) (one other : List ℕ) → IsReadable net → AreDrivers IsItsNet (port_nets net.ports) i cells one → AreDrivers IsItsNet (port_nets net.ports) i cells other → one ≡ other
+drivers_same net i [] one other readable are_one are_other = are_one ∙ sym are_other
+drivers_same net i (c ∷ cells) one other readable are_one are_other =
+    let line = no_source i c.width are_one.0 are_other.0 c.gate (λ gate. one_source net i c are_one.0 are_other.0 readable (are_one.2 gate) (are_other.2 gate)) in
+    let rest = drivers_same net (suc i) cells are_one.1 are_other.1 readable are_one.3 are_other.3 in
+    are_one.4 ∙ ((λ j. line j ++ rest j) ∙ sym are_other.4)
+
+pub one_text : (net : Netlist) (text other : List ℕ) → IsReadable net → IsVerilogOf net text → IsVerilogOf net other → text ≡ other
+one_text net text other readable (drivers, are, is) (drivers_other, are_other, is_other) =
+    let same = drivers_same net 0 net.cells drivers drivers_other readable are are_other in
+    is ∙ (ap (λ lines. declarations net ++ lines ++ outputs net) same ∙ sym is_other)
+
+-- where a text of a netlist makes memory the want, a fault of form refuses none
+pub refused : (text : List ℕ) (fault : VFault) → ((net : Netlist) → IsRead text net → IsWant fault) → IsRefused text fault
+refused text (faults.Form at) want = λ net read. let wrong = want net read in cc wrong
+refused text faults.NoMemory want = tt

@@ -1,0 +1,90 @@
+use Rattle.std.proofs.Common.{◌≡◌, ◌++◌, List, ℕ, drop, sym, ◌∙◌, subst}
+use Rattle.std.proofs.lemmas.Result.{err_from_is_err_and}
+use Rattle.gos_lex.specs.Items.{TextAt}
+use Rattle.gos_verilog.specs.Lines.{cell_declarations}
+use Rattle.gos_verilog.specs.inner.Stages.{Rest}
+use Rattle.gos_verilog.specs.inner.Parts.{Parts, whole_text}
+use Rattle.gos_verilog.proofs.WholeLemmas.{parts_of}
+use Rattle.gos_verilog.specs.inner.Stages.{HasStart, BreaksAt, IsStart}
+use Rattle.gos_verilog.proofs.PlaceLemmas.{start_at}
+use Rattle.gos_verilog.proofs.reading.parsed.Goals as goal
+
+-- the text stands at the cursor
+begins : (cursor : TextAt) (text whole : List ℕ) → cursor.text ≡ text → cursor.at ≡ 0 → text ≡ whole → Rest cursor whole
+begins cursor text whole same at is = (λ i. drop (at i) (same i)) ∙ is
+
+-- what is left stands at the place of the cursor
+at_place : (cursor : TextAt) (text bytes : List ℕ) (at : ℕ) → cursor.text ≡ text → at ≡ cursor.at → Rest cursor bytes → drop at text ≡ bytes
+at_place cursor text bytes at same place left = (λ i. drop (place i) (sym same i)) ∙ left
+
+pub returns-in_err-declared-clause-stands : goal.returns-in_err-declared-clause-stands
+returns-in_err-declared-clause-stands c net read =
+    let text = c.args.text.now in
+    let known = parts_of net text read in
+    let parts : Parts net = known.0 in
+    let start = begins c.new-cursor.result text (whole_text parts) c.new-cursor.ensures.text c.new-cursor.ensures.at known.1 in
+    let p = err_from_is_err_and c.from_residual.result c.from_residual.ensures.1 in
+    rw (p.1, p.2) (c.in_err-declared.ensures.stands net parts (cell_declarations 0 parts.cells ++ (parts.drivers ++ parts.back)) start)
+
+pub returns-in_err-shapes-clause-stands : goal.returns-in_err-shapes-clause-stands
+returns-in_err-shapes-clause-stands c net read =
+    let text = c.args.text.now in
+    let known = parts_of net text read in
+    let parts : Parts net = known.0 in
+    let start = begins c.new-cursor.result text (whole_text parts) c.new-cursor.ensures.text c.new-cursor.ensures.at known.1 in
+    let one = c.in_ok-declared.ensures.stands net parts (cell_declarations 0 parts.cells ++ (parts.drivers ++ parts.back)) start in
+    let p = err_from_is_err_and c.from_residual-in_err-shapes.result c.from_residual-in_err-shapes.ensures.1 in
+    rw (p.1, p.2) (c.in_err-shapes.ensures.stands parts.cells (parts.drivers ++ parts.back) parts.cell_wide parts.few parts.body one.1)
+
+pub returns-in-Err-clause-stands : goal.returns-in-Err-clause-stands
+returns-in-Err-clause-stands c net read =
+    let text = c.args.text.now in
+    let known = parts_of net text read in
+    let parts : Parts net = known.0 in
+    let start = begins c.new-cursor.result text (whole_text parts) c.new-cursor.ensures.text c.new-cursor.ensures.at known.1 in
+    let one = c.in_ok-declared.ensures.stands net parts (cell_declarations 0 parts.cells ++ (parts.drivers ++ parts.back)) start in
+    let two = c.in_ok-shapes.ensures.stands parts.cells (parts.drivers ++ parts.back) parts.cell_wide parts.few parts.body one.1 in
+    let same : c.cell_declarations.new.cursor.text ≡ text = c.in_ok-shapes.ensures.text ∙ c.in_ok-declared.ensures.text in
+    let left = at_place c.cell_declarations.new.cursor text (parts.drivers ++ parts.back) c.at.result same c.at.ensures.at two.1 in
+    c.not_before.ensures (c.in-Err.ensures.stands net parts (c.deref-2.ensures.value ∙ one.0) (c.deref.ensures.value ∙ two.0) left)
+
+pub returns-in-Some-clause-stands : goal.returns-in-Some-clause-stands
+returns-in-Some-clause-stands c net read =
+    let text = c.args.text.now in
+    let known = parts_of net text read in
+    let parts : Parts net = known.0 in
+    let start = begins c.new-cursor.result text (whole_text parts) c.new-cursor.ensures.text c.new-cursor.ensures.at known.1 in
+    let one = c.in_ok-declared.ensures.stands net parts (cell_declarations 0 parts.cells ++ (parts.drivers ++ parts.back)) start in
+    let two = c.in_ok-shapes.ensures.stands parts.cells (parts.drivers ++ parts.back) parts.cell_wide parts.few parts.body one.1 in
+    let same : c.cell_declarations.new.cursor.text ≡ text = c.in_ok-shapes.ensures.text ∙ c.in_ok-declared.ensures.text in
+    let left = at_place c.cell_declarations.new.cursor text (parts.drivers ++ parts.back) c.at.result same c.at.ensures.at two.1 in
+    let three = c.in-Ok.ensures.stands net parts (c.deref-2.ensures.value ∙ one.0) (c.deref.ensures.value ∙ two.0) left in
+    let found = c.in_ok-ports.ensures.stands net.ports parts.ports (c.deref-3.ensures.value ∙ (three.1 ∙ parts.nets_are)) in
+    let ports = rw c.in-Some.is at found in
+    (λ i. record { cells = (three.0 ∙ parts.cells_are) i; ports = ports i })
+
+pub returns-clause-stands : goal.returns-clause-stands
+returns-clause-stands c net read =
+    let text = c.args.text.now in
+    let known = parts_of net text read in
+    let parts : Parts net = known.0 in
+    let start = begins c.new-cursor.result text (whole_text parts) c.new-cursor.ensures.text c.new-cursor.ensures.at known.1 in
+    let one = c.in_ok-declared.ensures.stands net parts (cell_declarations 0 parts.cells ++ (parts.drivers ++ parts.back)) start in
+    let two = c.in_ok-shapes.ensures.stands parts.cells (parts.drivers ++ parts.back) parts.cell_wide parts.few parts.body one.1 in
+    let same : c.cell_declarations.new.cursor.text ≡ text = c.in_ok-shapes.ensures.text ∙ c.in_ok-declared.ensures.text in
+    let left = at_place c.cell_declarations.new.cursor text (parts.drivers ++ parts.back) c.at.result same c.at.ensures.at two.1 in
+    let three = c.in-Ok.ensures.stands net parts (c.deref-2.ensures.value ∙ one.0) (c.deref.ensures.value ∙ two.0) left in
+    let found = c.in_ok-ports.ensures.stands net.ports parts.ports (c.deref-3.ensures.value ∙ (three.1 ∙ parts.nets_are)) in
+    absurd (rw c.in-None.is at found)
+
+pub returns-in_err-declared-clause-starts : goal.returns-in_err-declared-clause-starts
+returns-in_err-declared-clause-starts c =
+    let here = start_at c.new-cursor.result c.args.text.now c.new-cursor.ensures.text c.new-cursor.ensures.at in
+    let known = subst (λ (cursor : TextAt). (HasStart cursor → ⊥) → BreaksAt IsStart cursor c.in_err-declared.field-0.0) here c.in_err-declared.ensures.starts in
+    let p = err_from_is_err_and c.from_residual.result c.from_residual.ensures.1 in
+    rw (p.1, p.2) known
+
+pub returns-clause-starts : goal.returns-clause-starts
+returns-clause-starts c = λ none.
+    let here = start_at c.new-cursor.result c.args.text.now c.new-cursor.ensures.text c.new-cursor.ensures.at in
+    absurd (none (subst HasStart here c.in_ok-declared.ensures.begun))
