@@ -139,7 +139,8 @@ fn any_line(alloc: Global, rest: &[u8], i: u32, width: u32) -> Result<(Gate, usi
     ensures cell { IfOk result (λ both. IsWritableCell (cell_of (record { width = width; gate = both.0 }))) }
     ensures within { IfOk result (λ both. both.1 ≤ length rest.now) }
     ensures no_input { IfOk result (λ both. function_of both.0 ≡ Input → ⊥) }
-    ensures reads { IfOk result (λ both. (f : Function) (name x : List ℕ) → IsLineOf rest.now i width f name x → (function_of both.0 ≡ f) × (drop both.1 rest.now ≡ x)) }
+    ensures reads { IfOk result (λ both. (f : Function) (name x : List ℕ) → IsLineOf rest.now i width f name x
+        → (function_of both.0 ≡ f) × (drop both.1 rest.now ≡ x)) }
     ensures wrong { IfErr result (λ _. (f : Function) (name x : List ℕ) → is_register f ≡ false → (f ≡ Input → ⊥) → IsLineOf rest.now i width f name x → ⊥) }
 {
     let kinds = [
@@ -172,7 +173,8 @@ fn line(alloc: Global, rest: &[u8], kind: Kind, i: u32, width: u32) -> Result<(G
     ensures cell { IfOk result (λ both. IsWritableCell (cell_of (record { width = width; gate = both.0 }))) }
     ensures within { IfOk result (λ both. both.1 ≤ length rest.now) }
     ensures no_input { IfOk result (λ both. function_of both.0 ≡ Input → ⊥) }
-    ensures reads { IfOk result (λ both. (f : Function) (name x : List ℕ) → IsLineOf rest.now i width f name x → (function_of both.0 ≡ f) × (drop both.1 rest.now ≡ x)) }
+    ensures reads { IfOk result (λ both. (f : Function) (name x : List ℕ) → IsLineOf rest.now i width f name x
+        → (function_of both.0 ≡ f) × (drop both.1 rest.now ≡ x)) }
     ensures wrong { IfErr result (λ _. IsNoLine kind i width rest.now) }
 {
     let mut cursor = Cursor::new(rest);

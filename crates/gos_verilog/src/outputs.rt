@@ -24,7 +24,8 @@ pub fn outputs(
     nets: &[PortNet],
     inputs: &Inputs,
 ) -> Result<Vec<PortNet>, VFault>
-    ensures stands { (known : List Net) → nets.now ≡ map declared_net known → AllByRecursion (λ n. IsNumber n.cell) known → AreAllNoted known inputs.now.cells.items
+    ensures stands { (known : List Net) → nets.now ≡ map declared_net known
+        → AllByRecursion (λ n. IsNumber n.cell) known → AreAllNoted known inputs.now.cells.items
         → rest.now ≡ flat_map output_assignment known ++ codes "endmodule\n" → MatchResult result (λ found. found.items ≡ known) IsWant }
 {
     let mut cursor = Cursor::new(rest);

@@ -33,7 +33,8 @@ pub fn is_readable(
     requires nets { nets.now ≡ nets_of ports.now }
     ensures readable { IfOk result (λ is. IsTrue is → IsReadable (record { cells = map cell_of cells.now; ports = ports.now })) }
     ensures fed { IfOk result (λ is. IsTrue is → AreFed (nets_of ports.now) (map cell_of cells.now)) }
-    ensures whole { IfOk result (λ is. IsReadable (record { cells = map cell_of cells.now; ports = ports.now }) → AreFed (nets_of ports.now) (map cell_of cells.now) → IsTrue is) }
+    ensures whole { IfOk result (λ is. IsReadable (record { cells = map cell_of cells.now; ports = ports.now })
+        → AreFed (nets_of ports.now) (map cell_of cells.now) → IsTrue is) }
 {
     if ports.is_empty() || ports.len() > LAST_COUNT || cells.len() > LAST_COUNT {
         return Ok(false);
@@ -70,7 +71,8 @@ fn are_inputs(alloc: Global, cells: &[Cell], nets: &[PortNet]) -> Result<bool, N
     ensures inputs { IfOk result (λ are. IsTrue are → Kept (λ _ n. IsInputCell (map cell_of cells.now) n) nets.now) }
     ensures once { IfOk result (λ are. IsTrue are → Kept (HasOwnCell nets.now) nets.now) }
     ensures fed { IfOk result (λ are. IsTrue are → AreFed nets.now (map cell_of cells.now)) }
-    ensures whole { IfOk result (λ are. Kept (λ _ n. IsInputCell (map cell_of cells.now) n) nets.now → Kept (HasOwnCell nets.now) nets.now → AreFed nets.now (map cell_of cells.now) → IsTrue are) }
+    ensures whole { IfOk result (λ are. Kept (λ _ n. IsInputCell (map cell_of cells.now) n) nets.now → Kept (HasOwnCell nets.now) nets.now
+        → AreFed nets.now (map cell_of cells.now) → IsTrue are) }
 {
     let mut taken = vec![in alloc; false; cells.len()]?;
     for net in nets {
