@@ -1,0 +1,44 @@
+-- A bound import: a plan with the plan that serves one of its imports.
+--
+-- Read first: Modules of gos_realises; Linking of gos_model. The handshakes of the import are joined to those of the other
+-- plan's result. The imports of both stay but for the one that is served.
+use Rattle.std.specs.Prelude.{◌≡◌, ℕ, List, [], ◌∷◌, ◌++◌, length, Option, Some, None, if◌then◌else◌}
+use Rattle.std.specs.Str.{bytes_eq}
+use Rattle.gos_types.specs.Types.{Type'}
+use Rattle.gos_model.specs.Terms.{Name, Term}
+use Rattle.gos_model.specs.Typing.{Imported, Typed}
+use Rattle.gos_model.specs.Linking.{supplied}
+use Rattle.gos_plan.specs.Plans.{Plan, IsRight}
+use Rattle.gos_plan.specs.Joining.{Wiring}
+use Rattle.gos_realises.specs.Regular.{count, IsRegular}
+use Rattle.gos_realises.specs.Links.{IsJoined}
+use Rattle.gos_realises.specs.Realises.{NamesDiffer}
+use Rattle.gos_realises.specs.Slim.{IsSlim}
+use Rattle.gos_realises.specs.Modules.{Supply, AreSupplied, import_linked, supplying, RealisesOpen, RealisesModule}
+use Rattle.gos_webs.specs.Renumbering.{Renumber, IsRenumbered}
+
+-- q serves import k of p, which is of this type
+abbrev pub serving : ℕ → Type' → Plan → Plan → Wiring
+serving k t p q = record { plans = p ∷ q ∷ []; links = import_linked k 1 0 (count t); giver = 0; skipped = 0; outcome = p.outcome }
+
+-- the giver's term for this name, and none for others
+abbrev pub bound_to : Name → Term → Name → Option Term
+bound_to x n y = if bytes_eq x y then Some n else None
+
+-- The plan s of both, with supplies, is one but for numbers with p that has q, with q's part of the supplies, as a supply: both
+-- are the joining of the two plans and all supplies.
+abbrev pub ServedIsSupplied : Type 0
+ServedIsSupplied =
+    (is js : List Imported) (x : Imported) (p q s y r z : Plan) (n : Term) (fs bs ts : List Supply)
+    → p.imports ≡ is ++ (x ∷ js) → IsJoined (serving (length is) x.ty p q) s → AreSupplied is fs → AreSupplied js bs → AreSupplied q.imports ts
+    → IsJoined (supplying q ts) y → IsJoined (supplying p (fs ++ (record { plan = y; term = n } ∷ bs))) r
+    → IsJoined (supplying s ((fs ++ bs) ++ ts)) z → (g : Renumber) × IsRenumbered g z r
+
+-- So it realises the term of p with that of q in it, with any supplies, where p and q realise theirs. The names of p's imports
+-- differ, as do those of all that stay, and each term has its type under the imports of its own plan.
+abbrev pub ServedIsOpen : Type 0
+ServedIsOpen =
+    (is js : List Imported) (x : Imported) (p q s : Plan) (m n : Term)
+    → IsRight p → IsRight q → p.imports ≡ is ++ (x ∷ js) → q.outcome ≡ x.ty → NamesDiffer p.imports → NamesDiffer s.imports
+    → Typed p.imports [] m p.outcome → Typed q.imports [] n q.outcome → IsJoined (serving (length is) x.ty p q) s
+    → RealisesOpen p m → RealisesOpen q n → RealisesOpen s (supplied (bound_to x.name n) m)
