@@ -5,3 +5,4 @@ pub mod RowLemmas
 pub mod SeamLemmas
 pub mod TogetherLemmas
 pub mod OpenLemmas
+pub mod TypeLemmas

@@ -42,3 +42,17 @@ ServedIsOpen =
     → IsRight p → IsRight q → p.imports ≡ is ++ (x ∷ js) → q.outcome ≡ x.ty → NamesDiffer p.imports → NamesDiffer s.imports
     → Typed p.imports [] m p.outcome → Typed q.imports [] n q.outcome → IsJoined (serving (length is) x.ty p q) s
     → RealisesOpen p m → RealisesOpen q n → RealisesOpen s (supplied (bound_to x.name n) m)
+
+-- A module whose import is served is a module. That the plan of both is regular and slim is asked: joining alone doesn't give it.
+abbrev pub ServedIsModule : Type 0
+ServedIsModule =
+    (is js : List Imported) (x : Imported) (p q s : Plan) (m n : Term)
+    → p.imports ≡ is ++ (x ∷ js) → q.outcome ≡ x.ty → NamesDiffer s.imports → IsJoined (serving (length is) x.ty p q) s
+    → RealisesModule p m → RealisesModule q n → IsRegular s → IsSlim s → RealisesModule s (supplied (bound_to x.name n) m)
+
+-- Its term has the type of p's term under the imports that stay.
+abbrev pub ServedIsTyped : Type 0
+ServedIsTyped =
+    (is js qs : List Imported) (x : Imported) (m n : Term) (t : Type')
+    → NamesDiffer (is ++ (x ∷ js)) → NamesDiffer ((is ++ js) ++ qs) → Typed (is ++ (x ∷ js)) [] m t → Typed qs [] n x.ty
+    → Typed ((is ++ js) ++ qs) [] (supplied (bound_to x.name n) m) t

@@ -1,9 +1,16 @@
 // What the definitions give. Each theorem is the contract of a function that does nothing.
-ghost use Rattle.gos_served.specs.Served.{ServedIsOpen, ServedIsSupplied};
+ghost use Rattle.gos_served.specs.Served.{ServedIsModule, ServedIsOpen, ServedIsSupplied, ServedIsTyped};
 
 /// The plan of two of which the one serves an import of the other, with supplies, is one but for numbers with the other plan that
 /// has the first, with its part of the supplies, as a supply. So it realises the term with the giver's term put in.
 pub fn servings()
     ensures supplied { ServedIsSupplied }
     ensures open_imports { ServedIsOpen }
+{}
+
+/// The term has its type under the imports that stay; so a module whose import is served by a module is a module, where its plan is
+/// regular and slim.
+pub fn modules()
+    ensures typed { ServedIsTyped }
+    ensures served { ServedIsModule }
 {}

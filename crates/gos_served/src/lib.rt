@@ -5,4 +5,4 @@
 
 mod laws;
 
-pub use laws::{servings};
+pub use laws::{modules, servings};
