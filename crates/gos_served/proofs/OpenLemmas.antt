@@ -21,7 +21,7 @@ use Rattle.gos_served.specs.Served.{bound_to, ServedIsOpen}
 use Rattle.gos_served.proofs.TermLemmas.{supplied_then, supplied_twice, agrees}
 use Rattle.gos_served.proofs.TogetherLemmas.{served_leaves, served_is_supplied}
 
-imports_two : (ss ts : List Supply) → imports_of (ss ++ ts) ≡ imports_of ss ++ imports_of ts
+pub imports_two : (ss ts : List Supply) → imports_of (ss ++ ts) ≡ imports_of ss ++ imports_of ts
 imports_two [] ts = refl
 imports_two (s ∷ ss) ts =
     let rest = imports_two ss ts in

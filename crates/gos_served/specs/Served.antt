@@ -2,7 +2,7 @@
 --
 -- Read first: Modules of gos_realises; Linking of gos_model. The handshakes of the import are joined to those of the other
 -- plan's result. The imports of both stay but for the one that is served.
-use Rattle.std.specs.Prelude.{◌≡◌, ℕ, List, [], ◌∷◌, ◌++◌, length, Option, Some, None, if◌then◌else◌}
+use Rattle.std.specs.Prelude.{◌≡◌, ℕ, List, [], ◌∷◌, ◌++◌, length, Option, Some, None, slice_get, if◌then◌else◌}
 use Rattle.std.specs.Str.{bytes_eq}
 use Rattle.gos_types.specs.Types.{Type'}
 use Rattle.gos_model.specs.Terms.{Name, Term}
@@ -11,7 +11,7 @@ use Rattle.gos_model.specs.Linking.{supplied}
 use Rattle.gos_plan.specs.Plans.{Plan, IsRight}
 use Rattle.gos_plan.specs.Joining.{Wiring}
 use Rattle.gos_realises.specs.Regular.{count, IsRegular}
-use Rattle.gos_realises.specs.Links.{IsJoined}
+use Rattle.gos_realises.specs.Links.{LinksFit, IsJoined}
 use Rattle.gos_realises.specs.Realises.{NamesDiffer}
 use Rattle.gos_realises.specs.Slim.{IsSlim}
 use Rattle.gos_realises.specs.Modules.{Supply, AreSupplied, import_linked, supplying, RealisesOpen, RealisesModule}
@@ -20,6 +20,12 @@ use Rattle.gos_webs.specs.Renumbering.{Renumber, IsRenumbered}
 -- q serves import k of p, which is of this type
 abbrev pub serving : ℕ → Type' → Plan → Plan → Wiring
 serving k t p q = record { plans = p ∷ q ∷ []; links = import_linked k 1 0 (count t); giver = 0; skipped = 0; outcome = p.outcome }
+
+-- The links fit, and so there is a joining, where the import is there and the giver is of its type.
+abbrev pub ServingFits : Type 0
+ServingFits =
+    (k : ℕ) (x : Imported) (p q : Plan)
+    → IsRight p → IsRight q → slice_get p.imports k ≡ Some x → q.outcome ≡ x.ty → LinksFit (serving k x.ty p q)
 
 -- the giver's term for this name, and none for others
 abbrev pub bound_to : Name → Term → Name → Option Term

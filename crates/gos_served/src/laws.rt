@@ -1,9 +1,11 @@
 // What the definitions give. Each theorem is the contract of a function that does nothing.
-ghost use Rattle.gos_served.specs.Served.{ServedIsModule, ServedIsOpen, ServedIsSupplied, ServedIsTyped};
+ghost use Rattle.gos_served.specs.Served.{ServedIsModule, ServedIsOpen, ServedIsSupplied, ServedIsTyped, ServingFits};
+ghost use Rattle.gos_served.specs.Trees.{ServedIsBy, TreeIsJoined, TreeIsRealised};
 
 /// The plan of two of which the one serves an import of the other, with supplies, is one but for numbers with the other plan that
 /// has the first, with its part of the supplies, as a supply. So it realises the term with the giver's term put in.
 pub fn servings()
+    ensures fits { ServingFits }
     ensures supplied { ServedIsSupplied }
     ensures open_imports { ServedIsOpen }
 {}
@@ -13,4 +15,12 @@ pub fn servings()
 pub fn modules()
     ensures typed { ServedIsTyped }
     ensures served { ServedIsModule }
+{}
+
+/// The plans of instances of which each but the first serves an import, all joined, realise what the instances' terms make of the
+/// supplies. Two instances may have imports of one name.
+pub fn trees()
+    ensures served { ServedIsBy }
+    ensures joined { TreeIsJoined }
+    ensures realised { TreeIsRealised }
 {}
