@@ -8,3 +8,5 @@ pub mod TogetherLemmas
 pub mod OpenLemmas
 pub mod TypeLemmas
 pub mod ByLemmas
+pub mod SameLemmas
+pub mod TreeLemmas

@@ -1,11 +1,12 @@
 use Rattle.gos_served.proofs.ByLemmas.{served_is_by}
+use Rattle.gos_served.proofs.TreeLemmas.{tree_is_joined, tree_is_realised}
 use Rattle.gos_served.proofs.laws.trees.Goals as goal
 
 pub returns-clause-served : goal.returns-clause-served
 returns-clause-served c = served_is_by
 
 pub returns-clause-joined : goal.returns-clause-joined
-returns-clause-joined c = ?
+returns-clause-joined c = tree_is_joined
 
 pub returns-clause-realised : goal.returns-clause-realised
-returns-clause-realised c = ?
+returns-clause-realised c = tree_is_realised
