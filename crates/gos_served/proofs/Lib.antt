@@ -10,3 +10,4 @@ pub mod TypeLemmas
 pub mod ByLemmas
 pub mod SameLemmas
 pub mod TreeLemmas
+pub mod BodyLemmas

@@ -8,7 +8,7 @@ use Rattle.gos_model.specs.Typing.{Imported}
 use Rattle.gos_model.specs.Linking.{supplied}
 use Rattle.gos_plan.specs.Kinds.{Contact, contacts_of}
 use Rattle.gos_plan.specs.Plans.{End, ImportEnd, ResultEnd, Plan, IsRight}
-use Rattle.gos_plan.specs.Joining.{Place, Link, Wiring}
+use Rattle.gos_plan.specs.Joining.{Place, Link, Wiring, IsJoining}
 use Rattle.gos_realises.specs.Regular.{count}
 use Rattle.gos_realises.specs.Links.{StandsIn, IsJoined}
 use Rattle.gos_realises.specs.Wirings.{side}
@@ -121,3 +121,6 @@ pub tree_is_realised : TreeIsRealised
 tree_is_realised t r is joining =
     let there = tree_holds t is in
     same_by r there.plan (joinings_same (wired t) r there.plan joining there.joined.joining) joining.right there.joined.joining.right (meaning t) there.by
+
+pub tree_imports : (t : Tree) (r : Plan) → IsTree t → IsJoining (wired t) r → r.imports ≡ left_of t
+tree_imports t r is joining = let there = tree_holds t is in joining.imports ∙ (sym there.joined.joining.imports ∙ there.imports)

@@ -5,8 +5,8 @@
 use Rattle.std.specs.Prelude.{◌≡◌, ℕ, zero, suc, ◌+◌, List, [], ◌∷◌, ◌++◌, length, Option, Some, None, slice_get, if◌then◌else◌}
 use Rattle.std.specs.Str.{bytes_eq}
 use Rattle.gos_types.specs.Types.{Type'}
-use Rattle.gos_model.specs.Terms.{Name, Term}
-use Rattle.gos_model.specs.Typing.{Imported}
+use Rattle.gos_model.specs.Terms.{Name, Term, Import}
+use Rattle.gos_model.specs.Typing.{Imported, Typed}
 use Rattle.gos_model.specs.Linking.{supplied}
 use Rattle.gos_plan.specs.Plans.{Plan, IsRight}
 use Rattle.gos_plan.specs.Joining.{Wiring, IsJoining}
@@ -93,3 +93,21 @@ TreeIsJoined = (t : Tree) → IsTree t → (r : Plan) × IsJoined (wired t) r
 
 abbrev pub TreeIsRealised : Type 0
 TreeIsRealised = (t : Tree) (r : Plan) → IsTree t → IsJoining (wired t) r → RealisesBy r (meaning t)
+
+-- What is made of the imports' own names is the substituted program of the tree.
+abbrev pub names_of : List Imported → List Term
+names_of [] = []
+names_of (i ∷ is) = Import i.name ∷ names_of is
+
+abbrev pub body_of : Tree → Term
+body_of t = meaning t (names_of (left_of t))
+
+-- each instance's term has its plan's type
+abbrev pub HasTypes : Tree → Type 0
+HasTypes (Alone p m) = Typed p.imports [] m p.outcome
+HasTypes (Serve is js x t u) = HasTypes t × HasTypes u
+
+-- So the joining realises the substituted program, where the names of the imports that stay differ.
+abbrev pub TreeIsOpen : Type 0
+TreeIsOpen =
+    (t : Tree) (r : Plan) → IsTree t → HasTypes t → NamesDiffer (left_of t) → IsJoining (wired t) r → RealisesOpen r (body_of t)

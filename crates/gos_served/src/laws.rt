@@ -1,6 +1,6 @@
 // What the definitions give. Each theorem is the contract of a function that does nothing.
 ghost use Rattle.gos_served.specs.Served.{ServedIsModule, ServedIsOpen, ServedIsSupplied, ServedIsTyped, ServingFits};
-ghost use Rattle.gos_served.specs.Trees.{ServedIsBy, TreeIsJoined, TreeIsRealised};
+ghost use Rattle.gos_served.specs.Trees.{ServedIsBy, TreeIsJoined, TreeIsOpen, TreeIsRealised};
 
 /// The plan of two of which the one serves an import of the other, with supplies, is one but for numbers with the other plan that
 /// has the first, with its part of the supplies, as a supply. So it realises the term with the giver's term put in.
@@ -23,4 +23,5 @@ pub fn trees()
     ensures served { ServedIsBy }
     ensures joined { TreeIsJoined }
     ensures realised { TreeIsRealised }
+    ensures open_imports { TreeIsOpen }
 {}
