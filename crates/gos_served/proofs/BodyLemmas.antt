@@ -10,11 +10,14 @@ use Rattle.gos_model.specs.Typing.{Imported, import_type}
 use Rattle.gos_model.specs.Linking.{or_import, supplied}
 use Rattle.gos_realises.specs.Realises.{NamesDiffer, Realises}
 use Rattle.gos_realises.specs.Modules.{Supply, AreSupplied, term_for}
-use Rattle.gos_renumbered.proofs.ImportLemmas.{name_is, of_at}
+use Rattle.gos_renumbered.proofs.ImportLemmas.{names_same, name_is, of_at}
+use Rattle.gos_renumbered.proofs.OrderLemmas.{reordered}
+use Rattle.gos_renumbered.proofs.RewireLemmas.{rewired_is_renumbered}
+use Rattle.gos_renumbered.specs.Open.{RenumberedIsOpen}
 use Rattle.gos_applied.proofs.TermLemmas.{supplied_same}
-use Rattle.gos_served.specs.Trees.{terms_of, first, after, served_by, term_among, Tree, Alone, Serve, left_of, meaning, IsTree, names_of, body_of, HasTypes, TreeIsOpen}
+use Rattle.gos_served.specs.Trees.{terms_of, first, after, served_by, term_among, Tree, Alone, Serve, left_of, meaning, IsTree, wired, names_of, body_of, HasTypes, TreeIsOpen, RewiredTreeIsOpen}
 use Rattle.gos_served.proofs.TermLemmas.{or_supplied, supplied_then, supplied_twice}
-use Rattle.gos_served.proofs.TreeLemmas.{tree_imports, tree_is_realised}
+use Rattle.gos_served.proofs.TreeLemmas.{tree_imports, tree_is_joined, tree_is_realised}
 
 -- the first terms and those behind, with something put in each
 module _ (h : Term → Term) where
@@ -141,3 +144,11 @@ tree_is_open t r is types names joining ss z are of_z names_z =
     sym given ∙ ap (λ (l : List Imported). supplied (term_for l ss) (body_of t)) (sym imports)
     in
     subst (λ (m : Term). Realises r.outcome z m) terms (tree_is_realised t r is joining ss z are of_z names_z)
+
+pub rewired_tree_is_open : RenumberedIsOpen → RewiredTreeIsOpen
+rewired_tree_is_open renumbered_is_open t w forth back f r is types rewired joining names =
+    let (q, of_q) = tree_is_joined t is in
+    let (g, same) = rewired_is_renumbered forth back f w (wired t) r q rewired joining of_q.joining in
+    let names_q : NamesDiffer q.imports = names_same g.import g.import_back r.imports q.imports (reordered g r q same) names in
+    let names_left : NamesDiffer (left_of t) = subst NamesDiffer (tree_imports t q is of_q.joining) names_q in
+    renumbered_is_open g r q (body_of t) same names (tree_is_open t q is types names_left of_q.joining)

@@ -11,3 +11,4 @@ pub mod ByLemmas
 pub mod SameLemmas
 pub mod TreeLemmas
 pub mod BodyLemmas
+mod SmallServingLemmas

@@ -15,7 +15,9 @@ use Rattle.gos_realises.specs.Links.{IsJoined}
 use Rattle.gos_realises.specs.Wirings.{side}
 use Rattle.gos_realises.specs.Realises.{NamesDiffer, Realises}
 use Rattle.gos_realises.specs.Modules.{Supply, AreSupplied, import_linked, supplying, RealisesOpen}
+use Rattle.gos_webs.specs.Renumbering.{Renumber}
 use Rattle.gos_unions.specs.Flat.{flat}
+use Rattle.gos_renumbered.specs.Rewired.{IsRewired}
 use Rattle.gos_served.specs.Served.{serving}
 
 abbrev pub terms_of : List Supply → List Term
@@ -111,3 +113,10 @@ HasTypes (Serve is js x t u) = HasTypes t × HasTypes u
 abbrev pub TreeIsOpen : Type 0
 TreeIsOpen =
     (t : Tree) (r : Plan) → IsTree t → HasTypes t → NamesDiffer (left_of t) → IsJoining (wired t) r → RealisesOpen r (body_of t)
+
+-- The same of any wiring that is the tree's but for numbers: so the order of the instances, and that in which they are joined, is
+-- free.
+abbrev pub RewiredTreeIsOpen : Type 0
+RewiredTreeIsOpen =
+    (t : Tree) (w : Wiring) (forth back : ℕ → ℕ) (f : ℕ → Renumber) (r : Plan)
+    → IsTree t → HasTypes t → IsRewired forth back f w (wired t) → IsJoining w r → NamesDiffer r.imports → RealisesOpen r (body_of t)

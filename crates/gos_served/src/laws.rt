@@ -1,6 +1,9 @@
 // What the definitions give. Each theorem is the contract of a function that does nothing.
 ghost use Rattle.gos_served.specs.Served.{ServedIsModule, ServedIsOpen, ServedIsSupplied, ServedIsTyped, ServingFits};
-ghost use Rattle.gos_served.specs.Trees.{ServedIsBy, TreeIsJoined, TreeIsOpen, TreeIsRealised};
+ghost use Rattle.gos_served.specs.SmallServings.{FunctionIsApplied, OneNameTwice, OtherNameStays, SkipIsNoGiver, SkipServesNot, SmallServingFits, SmallServingIs, SmallTreeIs};
+ghost use Rattle.gos_served.specs.Trees.{RewiredTreeIsOpen, ServedIsBy, TreeIsJoined, TreeIsOpen, TreeIsRealised};
+
+use gos_renumbered::open_renumberings;
 
 /// The plan of two of which the one serves an import of the other, with supplies, is one but for numbers with the other plan that
 /// has the first, with its part of the supplies, as a supply. So it realises the term with the giver's term put in.
@@ -24,4 +27,23 @@ pub fn trees()
     ensures joined { TreeIsJoined }
     ensures realised { TreeIsRealised }
     ensures open_imports { TreeIsOpen }
+{}
+
+/// So does any plan that is the joining of the same instances but for numbers: their order, and that of the joining, is free.
+pub fn rewired_trees()
+    ensures { RewiredTreeIsOpen }
+{
+    open_renumberings();
+}
+
+/// Small servings: a function that an import calls, and a giver that is none.
+pub fn small_servings()
+    ensures links { SmallServingIs }
+    ensures fits { SmallServingFits }
+    ensures unfit { SkipServesNot }
+    ensures applied { FunctionIsApplied }
+    ensures stays { OtherNameStays }
+    ensures tree { SmallTreeIs }
+    ensures no_giver { SkipIsNoGiver }
+    ensures twice { OneNameTwice }
 {}

@@ -5,4 +5,4 @@
 
 mod laws;
 
-pub use laws::{modules, servings, trees};
+pub use laws::{modules, rewired_trees, servings, small_servings, trees};
