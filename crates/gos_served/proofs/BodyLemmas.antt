@@ -1,5 +1,5 @@
 -- The joining of a tree of instances realises the tree's substituted program.
-use Rattle.std.specs.Prelude.{◌≡◌, ℕ, zero, suc, ◌+◌, ◌-◌, ◌≤◌, Bool, true, false, List, [], ◌∷◌, ◌++◌, length, map, Option, Some, Contains, slice_get, if◌then◌else◌}
+use Rattle.std.specs.Prelude.{◌≡◌, ℕ, zero, suc, ◌+◌, ◌≤◌, Bool, true, false, List, [], ◌∷◌, ◌++◌, length, map, Option, Some, slice_get, if◌then◌else◌}
 use Rattle.std.specs.Str.{bytes_eq}
 use Rattle.std.proofs.Common.{refl, sym, ◌∙◌, ap, subst, arith}
 use Rattle.std.proofs.lemmas.Slice.Eq.{bytes_eq-Decides}
@@ -15,7 +15,7 @@ use Rattle.gos_renumbered.proofs.OrderLemmas.{reordered}
 use Rattle.gos_renumbered.proofs.RewireLemmas.{rewired_is_renumbered}
 use Rattle.gos_renumbered.specs.Open.{RenumberedIsOpen}
 use Rattle.gos_applied.proofs.TermLemmas.{supplied_same}
-use Rattle.gos_served.specs.Trees.{terms_of, first, after, served_by, term_among, Tree, Alone, Serve, left_of, meaning, IsTree, wired, names_of, body_of, HasTypes, TreeIsOpen, RewiredTreeIsOpen}
+use Rattle.gos_served.specs.Trees.{terms_of, first, after, term_among, Tree, Alone, Serve, left_of, meaning, IsTree, wired, names_of, body_of, HasTypes, TreeIsOpen, RewiredTreeIsOpen}
 use Rattle.gos_served.proofs.TermLemmas.{or_supplied, supplied_then, supplied_twice}
 use Rattle.gos_served.proofs.TreeLemmas.{tree_imports, tree_is_joined, tree_is_realised}
 

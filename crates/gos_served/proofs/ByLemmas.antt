@@ -1,14 +1,14 @@
 -- The plan of a plan and its giver realises what the plan makes of the giver's term among the supplies.
-use Rattle.std.specs.Prelude.{◌≡◌, ℕ, zero, suc, List, [], ◌∷◌, ◌++◌, length}
+use Rattle.std.specs.Prelude.{◌≡◌, suc, List, [], ◌∷◌, ◌++◌, length}
 use Rattle.std.proofs.Common.{refl, sym, ◌∙◌, ap, subst}
 use Rattle.std.proofs.lemmas.List.{append_assoc}
 use Rattle.gos_types.specs.Types.{Type'}
 use Rattle.gos_model.specs.Terms.{Term}
 use Rattle.gos_model.specs.Typing.{Imported}
-use Rattle.gos_plan.specs.Plans.{Plan, IsRight}
+use Rattle.gos_plan.specs.Plans.{IsRight}
 use Rattle.gos_realises.specs.Links.{IsJoined}
 use Rattle.gos_realises.specs.Realises.{NamesDiffer, Realises}
-use Rattle.gos_realises.specs.Modules.{Supply, AreSupplied, plans_of, supplying}
+use Rattle.gos_realises.specs.Modules.{Supply, AreSupplied, supplying}
 use Rattle.gos_joined.proofs.WholeLemmas.{supplied_is_joined}
 use Rattle.gos_renumbered.proofs.ImportLemmas.{names_same}
 use Rattle.gos_renumbered.proofs.OrderLemmas.{reordered}
@@ -17,7 +17,7 @@ use Rattle.gos_typing.specs.Supplied.{imports_of}
 use Rattle.gos_typing.proofs.LeftLemmas.{imports_are_of_supplies}
 use Rattle.gos_applied.proofs.TogetherLemmas.{supplied_two, supplied_length, plans_length}
 use Rattle.gos_applied.proofs.TermLemmas.{differ_second, supplies_split}
-use Rattle.gos_served.specs.Trees.{terms_of, first, after, served_by, RealisesBy, ServedIsBy}
+use Rattle.gos_served.specs.Trees.{terms_of, first, after, served_by, ServedIsBy}
 use Rattle.gos_served.proofs.TogetherLemmas.{served_leaves, served_is_supplied}
 use Rattle.gos_served.proofs.OpenLemmas.{imports_two}
 

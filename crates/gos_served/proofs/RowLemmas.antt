@@ -1,6 +1,6 @@
 -- Supplies in a row of wirings, with one other wiring between them.
-use Rattle.std.specs.Prelude.{◌≡◌, ℕ, zero, suc, ◌+◌, ◌<◌, List, [], ◌∷◌, ◌++◌, ◌⊎◌, length, Some, slice_get}
-use Rattle.std.proofs.Common.{refl, sym, ◌∙◌, ap, subst, arith, inl, inr}
+use Rattle.std.specs.Prelude.{◌≡◌, ℕ, zero, suc, ◌+◌, ◌<◌, List, [], ◌∷◌, ◌++◌, length, Some, slice_get}
+use Rattle.std.proofs.Common.{refl, sym, ◌∙◌, ap, subst, arith}
 use Rattle.std.proofs.lemmas.List.{length-map}
 use Rattle.gos_plan.specs.Plans.{Plan, IsRight}
 use Rattle.gos_plan.specs.Joining.{Wiring, IsJoining}
@@ -10,7 +10,6 @@ use Rattle.gos_unions.specs.Flat.{all_plans, first_of, AreJoinings, AllLinksStan
 use Rattle.gos_unions.proofs.LeftLemmas.{front, behind}
 use Rattle.gos_applied.proofs.SeamLemmas.{single, singles, single_plans, single_first, single_at}
 use Rattle.gos_applied.proofs.SingleLemmas.{singles_join, singles_stand}
-use Rattle.gos_applied.proofs.TogetherLemmas.{plans_length}
 
 row_plans : (fs : List Supply) (ws : List Wiring) → all_plans (singles fs ++ ws) ≡ plans_of fs ++ all_plans ws
 row_plans [] ws = refl
@@ -75,4 +74,3 @@ module _ (fs bs : List Supply) (w : Wiring) where
         row_at fs (w ∷ singles bs) (suc i) ∙ at,
         row_behind fs (w ∷ singles bs) (suc i) ∙ ap (λ (n : ℕ). length fs + (length w.plans + n)) first,
       )
-

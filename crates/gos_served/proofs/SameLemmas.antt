@@ -14,7 +14,7 @@ use Rattle.gos_joined.proofs.ReachLemmas.{place_is}
 use Rattle.gos_joined.proofs.WholeLemmas.{supplied_is_joined}
 use Rattle.gos_webs.specs.Webs.{joint}
 use Rattle.gos_webs.specs.Renumbering.{Renumber, IsRenumbered, moved_end}
-use Rattle.gos_renumbered.specs.Rewired.{rewired, IsRewired}
+use Rattle.gos_renumbered.specs.Rewired.{rewired}
 use Rattle.gos_renumbered.specs.SmallRewirings.{unchanged}
 use Rattle.gos_renumbered.proofs.ImportLemmas.{names_same}
 use Rattle.gos_renumbered.proofs.OrderLemmas.{reordered}

@@ -5,12 +5,11 @@ use Rattle.std.proofs.Common.{refl, sym, ◌∙◌, ap, subst, arith, inl, inr}
 use Rattle.std.proofs.lemmas.Option.{slice_get_within}
 use Rattle.std.proofs.lemmas.List.{append-nil, length-append, length-map}
 use Rattle.gos_model.specs.Typing.{Imported}
-use Rattle.gos_model.specs.Terms.{Term}
 use Rattle.gos_plan.specs.Plans.{ImportEnd, ResultEnd, Plan}
-use Rattle.gos_plan.specs.Joining.{Place, place, Link, Wiring, LeftImport, left_in, all_left, left_place}
+use Rattle.gos_plan.specs.Joining.{place, Link, Wiring, LeftImport, left_in, all_left, left_place}
 use Rattle.gos_realises.specs.Regular.{count}
 use Rattle.gos_realises.specs.Wirings.{link, side}
-use Rattle.gos_realises.specs.Modules.{Supply, plans_of, import_linked, supplying}
+use Rattle.gos_realises.specs.Modules.{Supply, plans_of, supplying}
 use Rattle.gos_unions.specs.Flat.{first_of, later, later_link, origin_if, deeper, deeper_link, flat}
 use Rattle.gos_unions.proofs.LeftLemmas.{front, behind}
 use Rattle.gos_unions.proofs.LinkLemmas.{flat_inner, flat_outer, OfWiring, OfOuter, of_flat}
@@ -18,7 +17,6 @@ use Rattle.gos_unions.proofs.FlatFitLemmas.{InTwo, in_two}
 use Rattle.gos_renumbered.proofs.SupplyLemmas.{supply_link, OfImports, of_imports, in_imports}
 use Rattle.gos_applied.proofs.SeamLemmas.{single, singles, single_first, single_at, single_links, listed, left_none, listed_at}
 use Rattle.gos_applied.proofs.SideLemmas.{plain}
-use Rattle.gos_applied.proofs.TogetherLemmas.{plans_length}
 use Rattle.gos_served.specs.Served.{serving}
 use Rattle.gos_served.proofs.BoundLemmas.{bound_link, of_bound, in_bound, left_first, left_behind, left_second}
 use Rattle.gos_served.proofs.RowLemmas.{row, before_at, middle_at, behind_at}

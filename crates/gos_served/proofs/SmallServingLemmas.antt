@@ -1,9 +1,7 @@
 -- Small servings, met and missed.
-use Rattle.std.specs.Prelude.{◌≡◌, [], ◌∷◌, Some, None}
-use Rattle.std.proofs.Common.{refl, sym, ◌∙◌}
-use Rattle.gos_types.specs.Types.{Com, Fun}
+use Rattle.std.proofs.Common.{refl}
 use Rattle.gos_plan.specs.Plans.{ImportEnd, ResultEnd}
-use Rattle.gos_plan.specs.SmallPlans.{skip_plan, same_plan}
+use Rattle.gos_plan.specs.SmallPlans.{same_plan}
 use Rattle.gos_realises.specs.Wirings.{link}
 use Rattle.gos_served.specs.SmallServings.{called, user_plan, SmallServingIs, SmallServingFits, SkipServesNot, FunctionIsApplied, OtherNameStays, SmallTreeIs, SkipIsNoGiver, OneNameTwice}
 use Rattle.gos_served.proofs.FitLemmas.{serving_fits}

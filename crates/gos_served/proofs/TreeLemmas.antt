@@ -6,7 +6,7 @@ use Rattle.gos_types.specs.Types.{Type'}
 use Rattle.gos_model.specs.Terms.{Name, Term}
 use Rattle.gos_model.specs.Typing.{Imported}
 use Rattle.gos_model.specs.Linking.{supplied}
-use Rattle.gos_plan.specs.Kinds.{Contact, contacts_of}
+use Rattle.gos_plan.specs.Kinds.{contacts_of}
 use Rattle.gos_plan.specs.Plans.{End, ImportEnd, ResultEnd, Plan, IsRight}
 use Rattle.gos_plan.specs.Joining.{Place, Link, Wiring, IsJoining}
 use Rattle.gos_realises.specs.Regular.{count}

@@ -1,12 +1,12 @@
 -- The term with the giver's term in it has its type under the imports that stay, and the plan of both realises a module.
-use Rattle.std.specs.Prelude.{◌≡◌, ◌≢◌, ℕ, zero, suc, Bool, true, false, List, [], ◌∷◌, ◌++◌, Option, Some, None, Contains, if◌then◌else◌}
+use Rattle.std.specs.Prelude.{◌≡◌, ◌≢◌, zero, suc, Bool, true, false, List, [], ◌∷◌, ◌++◌, Option, Some, None, Contains, if◌then◌else◌}
 use Rattle.std.specs.Str.{bytes_eq}
 use Rattle.std.proofs.Common.{refl, sym, ◌∙◌, ap, subst, arith}
 use Rattle.std.proofs.lemmas.Slice.Eq.{bytes_eq-Decides}
-use Rattle.std.proofs.lemmas.List.Elements.{Contains-append_left, Contains-append_right}
+use Rattle.std.proofs.lemmas.List.Elements.{Contains-append_right}
 use Rattle.gos_types.specs.Types.{Type'}
 use Rattle.gos_model.specs.Terms.{Name, Term, Skip, Lit, Bound, Import, Lam, App, Both, Fst, Snd, Seq, Par, If, While, Assign, Deref, New, Not, Bin, Loc, Scope, Wait, Held, Put}
-use Rattle.gos_model.specs.Typing.{Imported, import_type, Thing, Named, things, Apart, Typed}
+use Rattle.gos_model.specs.Typing.{Imported, import_type, Named, things, Apart, Typed}
 use Rattle.gos_model.specs.Linking.{or_import, supplied}
 use Rattle.gos_realises.specs.Realises.{NamesDiffer}
 use Rattle.gos_renumbered.proofs.ImportLemmas.{has_type, name_is}
