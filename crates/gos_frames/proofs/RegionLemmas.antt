@@ -1,0 +1,150 @@
+-- A side of a node of two parts is a region of its plan, asked by the own part of the node.
+use Rattle.std.specs.Prelude.{◌≡◌, ℕ, zero, suc, ◌+◌, ◌-◌, ◌<◌, Bool, true, false, List, [], ◌∷◌, Option, Some, None, slice_get, Contains}
+use Rattle.std.proofs.Common.{refl, sym, ◌∙◌, ap, arith, inl}
+use Rattle.std.proofs.lemmas.Option.{none-some, same_Some}
+use Rattle.gos_model.specs.Typing.{Imported}
+use Rattle.gos_check.specs.Nodes.{Numbered}
+use Rattle.gos_plan.specs.Kinds.{Part, asks, part_contacts}
+use Rattle.gos_plan.specs.Plans as plans
+use Rattle.gos_plan.specs.Plans.{End, PartEnd, ImportEnd, ResultEnd, Plan, contacts_of_part, turned_if, contact_at, stands_in}
+use Rattle.gos_realises.specs.Realises.{NamesDiffer}
+use Rattle.gos_realises.proofs.ToldLemmas.{there_is}
+use Rattle.gos_webs.specs.Webs.{Dot, Of, Within, Tie, joint}
+use Rattle.gos_webs.specs.Cutting.{Cut, lies_at}
+use Rattle.gos_windows.proofs.PortLemmas.{stands_contact}
+use Rattle.gos_nodes.proofs.PortLemmas.{among}
+use Rattle.gos_folds.specs.Folds.{joined_cut, with_joints}
+use Rattle.gos_folds.proofs.RegionLemmas.{folded_joint}
+use Rattle.gos_parallel.specs.Parallel.{IsSide, IsJointOf}
+use Rattle.gos_compile.specs.Wiring.{Types}
+use Rattle.gos_wired.specs.Wired.{Supplies, Source, Own, Supplied, Placing, source_dot, IsWired}
+use Rattle.gos_frames.proofs.FrameLemmas.{Frame, kept, size, in_range, in_range_is, itself_true, part_held, back}
+use Rattle.gos_frames.proofs.ChildLemmas.{Sitting, child_placing, child_plan, number_of, number_if, its_cut, its_fold, its_web, whole_web, IsSitting, HasPorts}
+use Rattle.gos_frames.proofs.ChildLemmas as children
+use Rattle.gos_frames.proofs.FoldLemmas.{HasPlan, has_plan}
+use Rattle.gos_frames.proofs.CutLemmas.{region_is_cut}
+use Rattle.gos_frames.proofs.SideLemmas.{side_sitting, IsSideOf, is_sitting, has_ports, own_outside}
+
+-- lists by number
+pub listed_at : {A : Type 0} (xs : List A) (x : A) → Contains xs x → (k : ℕ) × (slice_get xs k ≡ Some x)
+listed_at [] x (k, lt, e) = absurd (omega (arith, lt))
+listed_at (y ∷ xs) x (zero, lt, e) = (0, ap Some e)
+listed_at (y ∷ xs) x (suc k, lt, e) = let (n, at) = listed_at xs x (k, omega (arith, lt), e) in (suc n, at)
+
+pub at_listed : {A : Type 0} (xs : List A) (k : ℕ) (x : A) → slice_get xs k ≡ Some x → Contains xs x
+at_listed [] k x e = absurd (none-some x e)
+at_listed (y ∷ xs) zero x e = (0, omega arith, same_Some y x e)
+at_listed (y ∷ xs) (suc k) x e = let (n, lt, at) = at_listed xs k x e in (suc n, omega (arith, lt), at)
+
+pub differ_at : (is : List Imported) → NamesDiffer is → (a b : ℕ) (x y : Imported) → slice_get is a ≡ Some x → slice_get is b ≡ Some y → x.name ≡ y.name → a ≡ b
+differ_at [] differ a b x y at_a at_b e = absurd (none-some x at_a)
+differ_at (z ∷ is) differ zero zero x y at_a at_b e = refl
+differ_at (z ∷ is) differ zero (suc b) x y at_a at_b e =
+    absurd (differ.0 y (at_listed is b y at_b) (ap (λ (i : Imported). i.name) (same_Some z x at_a) ∙ e))
+differ_at (z ∷ is) differ (suc a) zero x y at_a at_b e =
+    absurd (differ.0 x (at_listed is a x at_a) (ap (λ (i : Imported). i.name) (same_Some z y at_b) ∙ sym e))
+differ_at (z ∷ is) differ (suc a) (suc b) x y at_a at_b e = ap suc (differ_at is differ.1 a b x y at_a at_b e)
+
+pub lies_joined : (f : Cut) (js : List plans.Joint) (e : End) → lies_at (joined_cut f js) e ≡ lies_at f e
+lies_joined f js (PartEnd i h) = refl
+lies_joined f js (ImportEnd i h) = refl
+lies_joined f js (ResultEnd h) = refl
+
+-- a source is the child's
+abbrev pub IsIn : Frame → Source → Type 0
+IsIn f (Own k) = in_range f.shift (size f) k ≡ true
+IsIn f (Supplied n k) = kept f n ≡ true
+
+pub in_number : (f : Frame) (pl : Placing) (x : Part) (o : Source) → IsIn f o → (k : ℕ) × (number_of f pl (Some x) o ≡ Some k)
+in_number f pl x (Own k) e = (k - f.shift, ap (λ (b : Bool). number_if b (k - f.shift)) e)
+in_number f pl x (Supplied n k) e = (pl.supplied n k, ap (λ (b : Bool). number_if b (pl.supplied n k)) e)
+
+pub number_in : (f : Frame) (pl : Placing) (p : Option Part) (o : Source) (k : ℕ) → number_of f pl p o ≡ Some k → IsIn f o
+number_in f pl None o k e = absurd (none-some k e)
+number_in f pl (Some x) (Own a) k e = by_test (in_range f.shift (size f) a) e
+  where
+    by_test : (b : Bool) → number_if b (a - f.shift) ≡ Some k → b ≡ true
+    by_test true e = refl
+    by_test false e = absurd (none-some k e)
+number_in f pl (Some x) (Supplied n a) k e = by_test (kept f n) e
+  where
+    by_test : (b : Bool) → number_if b (pl.supplied n a) ≡ Some k → b ≡ true
+    by_test true e = refl
+    by_test false e = absurd (none-some k e)
+
+pub in_back : (f : Frame) → 0 < f.shift → (o : Source) (h : ℕ) → IsIn f o → (y : Dot) × (back f (source_dot f.first o h) ≡ Some y)
+in_back f some (Own k) h e =
+    let (low, high) = in_range_is f.shift (size f) k e in
+    (Within 0 (Of (PartEnd (f.first + k) h)), part_held f some (f.first + k) h (omega (arith, low)) (omega (arith, high)))
+in_back f some (Supplied n k) h e = (Within (suc n) (Of (PartEnd k h)), itself_true (kept f n) (Within (suc n) (Of (PartEnd k h))) e)
+
+-- One side is a region that is asked.
+module _
+    (types : Types) (i asked shift l : ℕ) (m : Numbered) (ms : List ℕ) (other_asked other_shift k : ℕ) (o : Numbered) (ks : List ℕ)
+    (j : ℕ) (whole : Numbered) (ns : List ℕ) (run : Tie) (env : Supplies) (pl : Placing)
+    (of : IsSideOf types i asked shift l m ms other_asked other_shift k o ks j whole ns run)
+    (r : Plan) (wired : IsWired types i j whole ns env pl r) (differ : NamesDiffer r.imports)
+    (x : Part) (own : slice_get r.parts (pl.own 0) ≡ Some x) (source : pl.source (pl.own 0) ≡ Own 0)
+    (asked_there : slice_get (part_contacts x) asked ≡ Some (asks 0 0)) where
+  abbrev s : Sitting
+  s = side_sitting types i asked shift l m ms j whole ns env pl
+
+  abbrev sits : IsSitting s
+  sits = is_sitting types i asked shift l m ms other_asked other_shift k o ks j whole ns run env pl of
+
+  abbrev ports : HasPorts s r
+  ports = has_ports types i asked shift l m ms other_asked other_shift k o ks j whole ns run env pl of r x own source asked_there
+
+  pub side_plan : HasPlan s r sits ports wired
+  side_plan = has_plan s r sits ports wired
+
+  -- an import of the side is one of the whole
+  pub record ImportIn (a : ℕ) (y : Imported) : Type 0 where
+    pub number : ℕ
+    pub import : ℕ
+    pub has : Contains ms number
+    pub at : slice_get r.imports (pl.import number import) ≡ Some y
+    pub origin : pl.origin (pl.import number import) ≡ record { number = number; import = import }
+
+  pub import_in : (a : ℕ) (y : Imported) → slice_get (child_plan s).imports a ≡ Some y → ImportIn a y
+  import_in a y e =
+      let there = children.its_import s r sits ports wired a y e refl in
+      record {
+        number = ((child_placing s).origin a).number;
+        import = ((child_placing s).origin a).import;
+        has = there.own;
+        at = there.at;
+        origin = there.from;
+      }
+
+  pub is_side : (h : HasPlan s r sits ports wired)
+      → IsSide (pl.own 0) asked (joined_cut (its_cut s r) h.joints) r (with_joints (child_plan s) h.joints)
+  is_side h =
+      record {
+        cut = region_is_cut (joined_cut (its_cut s r) h.joints) r (with_joints (child_plan s) h.joints) h.region;
+        outcome = of.type;
+        outside = own_outside types i asked shift l m ms other_asked other_shift k o ks j whole ns run env pl of r x own source asked_there;
+        result = refl;
+        imports =
+            λ a g stands.
+                let (con, at) = stands_contact (with_joints (child_plan s) h.joints) h.region.right (ImportEnd a g) stands in
+                let (y, there) = there_is (child_plan s).imports a g con at in
+                let one = children.its_import s r sits ports wired a y there refl in (
+                  pl.import ((child_placing s).origin a).number ((child_placing s).origin a).import,
+                  refl,
+                  there ∙ sym one.at,
+                );
+        among =
+            among (child_plan s).imports r.imports differ
+            (λ y has.
+            (let (a, at) = listed_at (child_plan s).imports y has in
+            let one = import_in a y at in at_listed r.imports (pl.import one.number one.import) y one.at));
+      }
+
+  pub joint_of : (h : HasPlan s r sits ports wired) (a b : End) (y : Dot)
+      → Contains r.joints (joint a b) → back s.frame ((whole_web s).at a) ≡ Some y
+      → IsJointOf (joined_cut (its_cut s r) h.joints) (with_joints (child_plan s) h.joints) a b
+  joint_of h a b y has stands =
+      let (d, e, there, lies_d, lies_e) =
+      folded_joint (its_fold s r) [] (whole_web s) (its_web s) r (with_joints (child_plan s) h.joints) a b y h.fold h.wired.web has (inl stands) in
+      (d, e, there, lies_joined (its_cut s r) h.joints d ∙ lies_d, lies_joined (its_cut s r) h.joints e ∙ lies_e)

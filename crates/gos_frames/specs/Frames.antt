@@ -1,0 +1,45 @@
+-- The parts of `M || N` that is wired to supplies: the plans of M and N, each wired to the supplies of its own numbers, are regions of its plan.
+--
+-- Read first: Wired of gos_wired; Parallel of gos_parallel; Linearity of gos_check (`made`, `used`, `times`).
+use Rattle.std.specs.Prelude.{◌≡◌, ℕ, suc, ◌+◌, ◌<◌, ◌≤◌, List, [], length}
+use Rattle.gos_types.specs.Types.{Com}
+use Rattle.gos_check.specs.Nodes.{Numbered, Two, OfPar, type_of_node}
+use Rattle.gos_check.specs.Linearity.{times, made, used}
+use Rattle.gos_plan.specs.Plans.{Plan}
+use Rattle.gos_webs.specs.Cutting.{Cut, IsCut}
+use Rattle.gos_windows.specs.Regions.{IsRegion}
+use Rattle.gos_realises.specs.Realises.{NamesDiffer}
+use Rattle.gos_parallel.specs.Parallel.{IsParallel}
+use Rattle.gos_compile.specs.Wiring.{Types, parts_of, nodes}
+use Rattle.gos_wired.specs.Wired.{Supplies, Placing, IsWired}
+
+-- a region without Shares is cut
+abbrev pub RegionIsCut : Type 0
+RegionIsCut = (f : Cut) (r c : Plan) → IsRegion f [] r c → IsCut f r c
+
+-- The numbers ns, split into those of m and those of n: each number is there once, or made once, and what m or n uses and doesn't
+-- make is among its own.
+pub record AreParted (m n : Numbered) (ns ms ks : List ℕ) : Type 0 where
+  pub once : (k : ℕ) → times k (made m) + times k (made n) + times k ns ≤ 1
+  pub split : (k : ℕ) → times k ms + times k ks ≡ times k ns
+  pub left : (k : ℕ) → 0 < times k (used m) → 0 < times k (made m) + times k ms
+  pub right : (k : ℕ) → 0 < times k (used n) → 0 < times k (made n) + times k ks
+
+-- What `m || n` is made of: a plan for each side, wired to the supplies of its numbers, and where it lies.
+pub record AreSides (types : Types) (i j : ℕ) (m n : Numbered) (ms ks : List ℕ) (env : Supplies) (own : ℕ) (r : Plan) : Type 0 where
+  pub left : Plan
+  pub right : Plan
+  pub left_placing : Placing
+  pub right_placing : Placing
+  pub left_cut : Cut
+  pub right_cut : Cut
+  pub left_wired : IsWired types (i + 1) (suc j) m ms env left_placing left
+  pub right_wired : IsWired types (i + 1 + length (parts_of types m)) (suc j + nodes m) n ks env right_placing right
+  pub parallel : IsParallel own left_cut right_cut r left right
+
+-- A node `m || n` that is wired to supplies is made of its sides, wired to theirs.
+abbrev pub ParallelIsWired : Type 0
+ParallelIsWired =
+    (types : Types) (i j : ℕ) (m n : Numbered) (ns ms ks : List ℕ) (env : Supplies) (pl : Placing) (r : Plan)
+    → IsWired types i j (Two Com [] OfPar m n) ns env pl r → type_of_node m ≡ Com → type_of_node n ≡ Com → AreParted m n ns ms ks
+    → NamesDiffer r.imports → AreSides types i j m n ms ks env (pl.own 0) r

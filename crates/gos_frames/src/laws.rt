@@ -1,0 +1,24 @@
+// What the definitions give. Each theorem is the contract of a function that does nothing.
+ghost use Rattle.gos_frames.specs.Blocks.{BlockIsWired};
+ghost use Rattle.gos_frames.specs.Frames.{ParallelIsWired, RegionIsCut};
+ghost use Rattle.gos_frames.specs.Spans.{TiesSpan};
+
+/// The ties of a term speak of its own parts, nodes and numbers, and of where its handshakes lead.
+pub fn spans()
+    ensures { TiesSpan }
+{}
+
+/// A region without Shares is cut.
+pub fn regions_are_cut()
+    ensures { RegionIsCut }
+{}
+
+/// A node `m || n` that is wired to supplies is made of its sides, each wired to the supplies of its own numbers.
+pub fn parallel_sides()
+    ensures { ParallelIsWired }
+{}
+
+/// A node `new x : w in m` that is wired to supplies is made of its body, wired to them and to a name for x.
+pub fn block_bodies()
+    ensures { BlockIsWired }
+{}

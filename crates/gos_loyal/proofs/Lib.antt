@@ -1,0 +1,2 @@
+pub mod LoyalLemmas
+pub mod SmallLoyalLemmas

@@ -1,0 +1,4 @@
+pub mod InsideLemmas
+mod SmallInsideLemmas
+pub mod FollowLemmas
+pub mod HomeLemmas

@@ -1,0 +1,14 @@
+-- Small splits of `skip`.
+use Rattle.std.specs.Prelude.{zero, suc}
+use Rattle.std.proofs.Common.{refl, arith}
+use Rattle.gos_stages.specs.SmallInside.{BothHaveShares, UnboundIsNotSplit, EmptyIsNone}
+
+pub both_have_shares : BothHaveShares
+both_have_shares = (refl, refl, refl)
+
+pub unbound_is_not_split : UnboundIsNotSplit
+unbound_is_not_split ((zero, lt, e), rest) = omega (arith, e)
+unbound_is_not_split ((suc n, lt, e), rest) = omega (arith, lt)
+
+pub empty_is_none : EmptyIsNone
+empty_is_none are = let (j, (k, within, is), stands) = are.joined 0 (0, omega arith, refl) 0 (omega arith) in omega (arith, within)

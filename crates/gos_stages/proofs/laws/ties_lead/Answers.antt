@@ -1,0 +1,11 @@
+use Rattle.gos_stages.proofs.FollowLemmas.{ties_follow, result_leads, dots_lead}
+use Rattle.gos_stages.proofs.laws.ties_lead.Goals as goal
+
+pub returns-clause-follow : goal.returns-clause-follow
+returns-clause-follow c = ties_follow
+
+pub returns-clause-leads : goal.returns-clause-leads
+returns-clause-leads c = result_leads
+
+pub returns-clause-dots : goal.returns-clause-dots
+returns-clause-dots c = dots_lead
