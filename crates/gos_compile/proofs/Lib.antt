@@ -3,7 +3,7 @@ mod TableLemmas
 mod NodeLemmas
 mod WalkLemmas
 mod PlanLemmas
-mod TallyLemmas
+pub mod TallyLemmas
 mod ShakeLemmas
 pub mod ThinLemmas
 mod RangeLemmas

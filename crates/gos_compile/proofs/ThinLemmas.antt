@@ -24,7 +24,7 @@ use Rattle.gos_ties.specs.Counted.{place_once, meetings, IsThin}
 use Rattle.gos_compile.proofs.TallyLemmas.{meetings-append, led_row, row_once, shares_tally, binder_tally, one_tally, two_tally, tally, tallied}
 
 -- 1 where k is one of the n numbers from i on, and else 0
-abbrev span : ℕ → ℕ → ℕ → ℕ
+abbrev pub span : ℕ → ℕ → ℕ → ℕ
 span k i zero = 0
 span k i (suc n) = (if nat_eq i k then 1 else 0) + span k (suc i) n
 
@@ -43,7 +43,7 @@ span_parted k i (suc a) b =
     let start_same = ap (λ (n : ℕ). span k n b) start in
     omega (arith, rest, count_same, start_same)
 
-span_beyond : (k i n : ℕ) → k < i → span k i n ≡ 0
+pub span_beyond : (k i n : ℕ) → k < i → span k i n ≡ 0
 span_beyond k i zero low = refl
 span_beyond k i (suc n) low =
     let rest = span_beyond k (suc i) n (omega (arith, low)) in
@@ -57,7 +57,7 @@ span_once k i (suc n) =
     (λ e t. let rest = span_beyond k (suc i) n (omega (arith, e)) in rw t (omega (arith, rest)))
     (λ e t. let rest = span_once k (suc i) n in rw t (omega (arith, rest)))
 
-span_past : (k i n : ℕ) → i + n ≤ k → span k i n ≡ 0
+pub span_past : (k i n : ℕ) → i + n ≤ k → span k i n ≡ 0
 span_past k i zero low = refl
 span_past k i (suc n) low =
     let rest = span_past k (suc i) n (omega (arith, low)) in
@@ -96,7 +96,7 @@ two_tells k i j OfWhile t u = omega arith
 two_tells k i j OfAssign t u = omega arith
 two_tells k i j (OfBin op) t u = omega arith
 
-part_tells : (k : ℕ) (types : Types) (i j : ℕ) (m : Numbered) → tally (places.Part k) types i j m ≡ span k i (length (parts_of types m))
+pub part_tells : (k : ℕ) (types : Types) (i j : ℕ) (m : Numbered) → tally (places.Part k) types i j m ≡ span k i (length (parts_of types m))
 part_tells k types i j (Closed t ss c) =
     let all = length-append (shares ss types) (closed_part c) in
     let own = closed_length c in
@@ -204,7 +204,7 @@ two_node k i j OfWhile = omega arith
 two_node k i j OfAssign = omega arith
 two_node k i j (OfBin op) = omega arith
 
-node_tells : (k : ℕ) (types : Types) (i j : ℕ) (m : Numbered) → tally (places.Node k) types i j m ≤ span k j (nodes m) + span k j (nodes m)
+pub node_tells : (k : ℕ) (types : Types) (i j : ℕ) (m : Numbered) → tally (places.Node k) types i j m ≤ span k j (nodes m) + span k j (nodes m)
 node_tells k types i j (Closed t ss c) = let tells = shares_node k i ss in omega (arith, tells)
 node_tells k types i j (Use t ss n) = let tells = shares_node k i ss in omega (arith, tells)
 node_tells k types i j (Under t ss b n m) =
@@ -261,7 +261,7 @@ two_number k i j OfWhile = refl
 two_number k i j OfAssign = refl
 two_number k i j (OfBin op) = refl
 
-number_tells : (k : ℕ) (types : Types) (i j : ℕ) (m : Numbered) → tally (places.Number k) types i j m ≤ times k (used m) + times k (made m)
+pub number_tells : (k : ℕ) (types : Types) (i j : ℕ) (m : Numbered) → tally (places.Number k) types i j m ≤ times k (used m) + times k (made m)
 number_tells k types i j (Closed t ss c) = let tells = shares_number k i ss in omega (arith, tells)
 number_tells k types i j (Use t ss n) =
     let tells = shares_number k i ss in let uses = times-append k (split_in ss) (n ∷ []) in omega (arith, tells, uses)
@@ -305,7 +305,7 @@ number_tells k types i j (If t ss m n p) =
     omega (arith, tells, test, left, right, uses, uses_three, uses_two, makes, makes_three, makes_two)
 
 -- An end of the plan itself is in no tie of a term, beside where its handshakes lead.
-abbrev IsOutside : Place → Type 0
+abbrev pub IsOutside : Place → Type 0
 IsOutside q = (n : ℕ) → place_once q (places.Part n) + place_once q (places.Number n) + place_once q (places.Node n) ≡ 0
 
 shares_outside : (q : Place) → IsOutside q → (i : ℕ) (ss : List Split) → shares_tally q i ss ≡ 0
@@ -337,7 +337,7 @@ two_outside q out i j OfWhile = let part = out i in omega (arith, part)
 two_outside q out i j OfAssign = let part = out i in let node = out j in omega (arith, part, node)
 two_outside q out i j (OfBin op) = let part = out i in omega (arith, part)
 
-outside_tells : (q : Place) → IsOutside q → (types : Types) (i j : ℕ) (m : Numbered) → tally q types i j m ≡ 0
+pub outside_tells : (q : Place) → IsOutside q → (types : Types) (i j : ℕ) (m : Numbered) → tally q types i j m ≡ 0
 outside_tells q out types i j (Closed t ss c) =
     let tells = shares_outside q out i ss in let part = out (i + length ss) in omega (arith, tells, part)
 outside_tells q out types i j (Use t ss n) = let tells = shares_outside q out i ss in let number = out n in omega (arith, tells, number)

@@ -21,7 +21,7 @@ use Rattle.gos_stages.proofs.InsideLemmas.{one_stays}
 use Rattle.gos_stages.specs.Lodging.{Spot, spot, spot_if, live, seen_from, side_number, is_side, serves_side, moved_spot, moved, share_spot, side_spot, one_home, Near}
 
 -- ways, with other dots
-way_mapped : (f : Dot → Dot) (ts us : List Tie) → ((t : Tie) → Contains ts t → Contains us (tie (f t.one) (f t.other)))
+pub way_mapped : (f : Dot → Dot) (ts us : List Tie) → ((t : Tie) → Contains ts t → Contains us (tie (f t.one) (f t.other)))
     → (a b : Dot) → Way ts a b → Way us (f a) (f b)
 way_mapped f ts us keeps a b (here x) = here (f x)
 way_mapped f ts us keeps a b (along x c y meet way) = along (f x) (f c) (f y) (meets meet) (way_mapped f ts us keeps c y way)

@@ -77,7 +77,7 @@ module _ (types : Types) (s : Split) (env : Supplies) (ns : List ℕ) (left : ty
       (λ e t. subst (λ (b : Bool). Chosen n false b) (sym t) (side_stands n 1 (omega arith) (ap types e ∙ right)))
       (λ r g. subst (λ (b : Bool). Chosen n false b) (sym g) (known n (apart s ns n l r there)))))
 
-  one_inside : AreGroundSupplies types (inside_one_supply types s env) (s.left ∷ s.right ∷ ns)
+  pub one_inside : AreGroundSupplies types (inside_one_supply types s env) (s.left ∷ s.right ∷ ns)
   one_inside =
       record {
         realised = λ n there. (chosen n there).0;

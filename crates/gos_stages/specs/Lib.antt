@@ -2,4 +2,11 @@
 pub mod Inside
 pub mod SmallInside
 pub mod Leading
+pub mod Ranges
 pub mod Lodging
+pub mod Housing
+pub mod Folding
+pub mod Served
+pub mod Folded
+pub mod Regions
+pub mod Stages

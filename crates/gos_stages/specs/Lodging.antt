@@ -7,14 +7,14 @@ use Rattle.std.specs.Prelude.{◌≡◌, ◌≢◌, ℕ, zero, suc, ◌+◌, ◌
 use Rattle.gos_check.specs.declared.linear.Split.{Split}
 use Rattle.gos_check.specs.Linearity.{times, split_in, sides}
 use Rattle.gos_plan.specs.Kinds.{Part}
-use Rattle.gos_plan.specs.Plans.{End, PartEnd, ImportEnd, ResultEnd}
+use Rattle.gos_plan.specs.Plans.{End, PartEnd, ImportEnd, ResultEnd, Joint}
 use Rattle.gos_realises.specs.Regular.{count}
 use Rattle.gos_webs.specs.Webs.{Dot, Of, Number, Node, Within, Tie, Way, own_web, joint}
 use Rattle.gos_unions.specs.Unions.{within}
 use Rattle.gos_compile.specs.Wiring.{Types, shares_ties}
 use Rattle.gos_buffers.specs.Buffering.{end_behind}
 use Rattle.gos_wired.specs.Wired.{Supplies, Source, Own, Supplied, source_dot, dot_ties, all_supply_ties}
-use Rattle.gos_stages.specs.Inside.{inside_one_supply, inside_supplies}
+use Rattle.gos_stages.specs.Inside.{inside_one_supply, inside_supplies, numbers_inside, AreSplit, SidesAgree, AreGroundSupplies}
 
 -- an end of the plan of a number's supply
 pub record Spot : Type 0 where
@@ -173,3 +173,24 @@ abbrev pub NumbersAreAtHome : Type 0
 NumbersAreAtHome =
     (types : Types) (i : ℕ) (inner : ℕ → Bool) (ss : List Split) (env : Supplies) (ns : List ℕ) (n : ℕ)
     → AreTidy inner ss ns → times n (split_in ss) ≡ 0 → inner n ≡ true → IsAtHome i (lodged types i inner ss env) n
+
+-- where an end of the plan of a number's supply lies
+abbrev pub lies : ℕ → Lodging → ℕ → End → Dot
+lies i l n (PartEnd k h) = source_dot i (l.part n k) h
+lies i l n (ImportEnd k h) = Within (suc (l.root n)) (Of (ImportEnd k h))
+lies i l n (ResultEnd h) = Within 0 (Number n h)
+
+-- A joint of one of these plans is a way of the node's web, which has the ties of the Shares and of the supplies.
+abbrev pub JointsAreWays : Type 0
+JointsAreWays =
+    (types : Types) (i : ℕ) (inner : ℕ → Bool) (ss : List Split) (env : Supplies) (ns : List ℕ) (ts : List Tie) (n : ℕ) (j : Joint)
+    → AreTidy inner ss ns → SidesAgree ss types → AreSplit ss ns → AreGroundSupplies types env ns
+    → ((t : Tie) → Contains (within 0 (dot_ties (shares_ties i ss types)) ++ all_supply_ties types env ns) t → Contains ts t)
+    → Contains (numbers_inside ss ns) n → Contains ((lodged types i inner ss env).env n).plan.joints j
+    → Way ts (lies i (lodged types i inner ss env) n j.asking) (lies i (lodged types i inner ss env) n j.serving)
+
+-- What a dot stands for is of a live number.
+abbrev pub SpotsAreLive : Type 0
+SpotsAreLive =
+    (types : Types) (i : ℕ) (inner : ℕ → Bool) (ss : List Split) (env : Supplies) (d : Dot) (x : Spot)
+    → (lodged types i inner ss env).home d ≡ Some x → inner x.number ≡ true

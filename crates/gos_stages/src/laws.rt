@@ -1,7 +1,14 @@
 // What the definitions give. Each theorem is the contract of a function that does nothing.
 ghost use Rattle.gos_stages.specs.Inside.{InsideIsRealised, InsideMeans, OthersStay};
+ghost use Rattle.gos_stages.specs.Folded.{ChildIsFolded, ChildIsPart};
+ghost use Rattle.gos_stages.specs.Folding.{ChildStays, ChildWays};
+ghost use Rattle.gos_stages.specs.Housing.{FarIsNothing, FirstIsKept, HomesAreThere, ImportsAreFrom, PartsAreFrom, PartsAreOutsiders};
 ghost use Rattle.gos_stages.specs.Leading.{DotsLead, ResultLeads, TiesFollow};
-ghost use Rattle.gos_stages.specs.Lodging.{HomesAreKept, LodgedAreInside, NumbersAreAtHome, NumbersAreHeld};
+ghost use Rattle.gos_stages.specs.Lodging.{HomesAreKept, JointsAreWays, LodgedAreInside, NumbersAreAtHome, NumbersAreHeld, SpotsAreLive};
+ghost use Rattle.gos_stages.specs.Ranges.{TiesStayWithin};
+ghost use Rattle.gos_stages.specs.Regions.{ChildIsStaged};
+ghost use Rattle.gos_stages.specs.Served.{ServingsServe, SparesAreOthers};
+ghost use Rattle.gos_stages.specs.Stages.{ChildIsStage};
 ghost use Rattle.gos_stages.specs.SmallInside.{BothHaveShares, EmptyIsNone, UnboundIsNotSplit};
 
 /// Inside the splits of a node, what stands for its numbers realises the terms that they stand for there.
@@ -24,6 +31,7 @@ pub fn ties_lead()
     ensures follow { TiesFollow }
     ensures leads { ResultLeads }
     ensures dots { DotsLead }
+    ensures within { TiesStayWithin }
 {}
 
 /// What stands for numbers inside splits lies in the web of the node: the ties of Shares and of supplies connect what its
@@ -33,4 +41,33 @@ pub fn supplies_lodge()
     ensures kept { HomesAreKept }
     ensures held { NumbersAreHeld }
     ensures home { NumbersAreAtHome }
+    ensures ways { JointsAreWays }
+    ensures live { SpotsAreLive }
+{}
+
+/// The ties of a child's web are ways of its node's, and those of the node's web that concern the child are ways of its own.
+pub fn children_fold()
+    ensures ways { ChildWays }
+    ensures stays { ChildStays }
+    ensures part { ChildIsPart }
+    ensures folded { ChildIsFolded }
+    ensures staged { ChildIsStaged }
+    ensures stage { ChildIsStage }
+{}
+
+/// The parts and imports of what stands for numbers inside splits are parts of the node and of supplies outside, and what is
+/// at home there is one of its parts.
+pub fn parts_lodge()
+    ensures from { PartsAreFrom }
+    ensures imports { ImportsAreFrom }
+    ensures outsiders { PartsAreOutsiders }
+    ensures there { HomesAreThere }
+    ensures far { FarIsNothing }
+    ensures first { FirstIsKept }
+{}
+
+/// The Shares that serve a child stand for what its supplies have of them, and what serves somebody else is spare.
+pub fn shares_serve()
+    ensures serve { ServingsServe }
+    ensures others { SparesAreOthers }
 {}

@@ -5,4 +5,4 @@
 
 mod laws;
 
-pub use laws::{small_insides, supplies_inside, supplies_lodge, ties_lead};
+pub use laws::{children_fold, parts_lodge, shares_serve, small_insides, supplies_inside, supplies_lodge, ties_lead};

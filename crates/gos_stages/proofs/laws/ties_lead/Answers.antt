@@ -1,4 +1,5 @@
 use Rattle.gos_stages.proofs.FollowLemmas.{ties_follow, result_leads, dots_lead}
+use Rattle.gos_stages.proofs.RangeLemmas.{ties_stay_within}
 use Rattle.gos_stages.proofs.laws.ties_lead.Goals as goal
 
 pub returns-clause-follow : goal.returns-clause-follow
@@ -9,3 +10,6 @@ returns-clause-leads c = result_leads
 
 pub returns-clause-dots : goal.returns-clause-dots
 returns-clause-dots c = dots_lead
+
+pub returns-clause-within : goal.returns-clause-within
+returns-clause-within c = ties_stay_within

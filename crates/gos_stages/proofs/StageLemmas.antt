@@ -1,0 +1,96 @@
+-- A child of a wired node is a stage of it.
+use Rattle.std.specs.Prelude.{◌+◌, ◌<◌, ◌⊎◌, length, slice_get, Contains}
+use Rattle.std.proofs.Common.{◌≡◌, ℕ, zero, suc, List, [], ◌∷◌, Option, Some, inl, inr, refl, sym, ◌∙◌, ap, subst, arith}
+use Rattle.gos_model.specs.Typing.{Imported}
+use Rattle.gos_plan.specs.Kinds.{Contact, asks, serves, Part, Share, contacts_of}
+use Rattle.gos_plan.specs.Plans.{End, ImportEnd, ResultEnd, Joint, Plan, contact_at, turned_if}
+use Rattle.gos_plan.proofs.JointLemmas.{fits, contained}
+use Rattle.gos_realises.specs.Regular.{IsRegular}
+use Rattle.gos_webs.specs.Webs.{Tie}
+use Rattle.gos_webs.specs.Cutting.{StandsIn}
+use Rattle.gos_webs.proofs.CutLemmas.{which_end}
+use Rattle.gos_unions.proofs.FlatFitLemmas.{contained_at}
+use Rattle.gos_windows.specs.Regions.{Serving, IsLoyal}
+use Rattle.gos_loyal.proofs.LoyalLemmas.{shares_of_one_are_loyal}
+use Rattle.gos_compile.specs.Wiring.{parts_of}
+use Rattle.gos_wired.specs.Wired.{Supplies, Placing}
+use Rattle.gos_stages.specs.Lodging.{lodged}
+use Rattle.gos_stages.specs.Folding.{Child, is_used, lodge, child_cut, child_servings, IsChild, IsLaid}
+use Rattle.gos_stages.specs.Folded.{HasChild}
+use Rattle.gos_stages.specs.Regions.{HasParts, IsStaged}
+use Rattle.gos_stages.specs.Stages.{ChildIsStage}
+use Rattle.gos_stages.proofs.LodgingLemmas.{lodged_are_inside}
+use Rattle.gos_stages.proofs.ServedLemmas.{servings_serve}
+use Rattle.gos_stages.proofs.ChildFoldLemmas.{share_ground, import_there, own_outside, import_of}
+
+found_at : {X : Type 0} (xs : List X) (x : X) → Contains xs x → (k : ℕ) × (slice_get xs k ≡ Some x)
+found_at [] x (k, lt, e) = absurd (omega (arith, lt))
+found_at (y ∷ xs) x (zero, lt, e) = (0, ap Some e)
+found_at (y ∷ xs) x (suc k, lt, e) = let (j, at) = found_at xs x (k, omega (arith, lt), e) in (suc j, at)
+
+pub child_is_stage : ChildIsStage
+child_is_stage f own ts pl plc r c is has laid staged done regular restful names =
+    record {
+      region = staged.region;
+      outside = own_outside f own ts pl plc r c is has_child laid laidc;
+      outcome = done;
+      regular = regular;
+      restful = restful;
+      loyal = loyal;
+      run_by = λ stands. refl;
+      imports =
+          λ x listed.
+              let (q, at) = found_at c.imports x listed in
+              let it = import_of f own ts pl plc r c is has_child laid laidc q x at in
+              contained_at r.imports (pl.import ((lodge f).root (plc.origin q).number) (plc.origin q).import) x it.there;
+      names = names;
+      ports = ports;
+    }
+  where
+    has_child : HasChild f own c
+    has_child =
+        record {
+          shares = has.shares;
+          own_part = has.own_part;
+          child = has.child;
+          outcome = staged.wired.outcome;
+          asks =
+              λ k at.
+                  has.asks k (ap (λ t. turned_if (slice_get (contacts_of t) 0)) (sym staged.wired.outcome) ∙ at);
+        }
+
+    laidc : IsLaid (parts_of f.types f.term) f.uses (lodge f).env plc c
+    laidc =
+        subst (λ (e : Supplies). IsLaid (parts_of f.types f.term) f.uses e plc c) (sym (lodged_are_inside f.types f.first (is_used f) f.splits f.env))
+        (record { parts = staged.wired.parts; no_more = staged.wired.no_more; imports = staged.wired.imports; no_import = staged.wired.no_import })
+
+    loyal : (n : Serving) (i : ℕ) → Contains (child_servings f pl) n → (child_cut f pl plc (length r.parts)).number n.part ≡ Some i → IsLoyal i n.ty n.side c
+    loyal n i listed at =
+        let (two, at_region) = staged.region.serving n listed in
+        let (k, known, share) = at_region in
+        let both : Some k ≡ Some i = sym known ∙ at in
+        let same : k ≡ i = cc both in
+        let (x, place, it) = servings_serve f.types f.first (is_used f) f.splits f.env f.numbers pl n is.tidy listed in
+        shares_of_one_are_loyal i n.ty n.side c
+        (record {
+          right = staged.region.right;
+          share = subst (λ (m : ℕ). slice_get c.parts m ≡ Some (Share n.ty)) same share;
+          ground = share_ground f.types f.splits f.numbers x n.ty is.agree is.split is.supplies.ground it.share;
+          caller = two;
+          alone = λ j low. staged.region.unused n i j listed at low;
+        }) regular
+
+    contact_of : (e : End) → StandsIn c e → (k : Contact) × (contact_at c e ≡ Some k)
+    contact_of e (j, listed, stands) = by_end (which_end e j stands)
+      where
+        by_end : (e ≡ j.asking) ⊎ (e ≡ j.serving) → (k : Contact) × (contact_at c e ≡ Some k)
+        by_end (inl is) = let it = fits c [] c.joints j staged.region.right (contained c.joints j listed) in (asks it.0 it.1, ap (contact_at c) is ∙ it.2)
+        by_end (inr is) = let it = fits c [] c.joints j staged.region.right (contained c.joints j listed) in (serves it.0 it.1, ap (contact_at c) is ∙ it.3)
+
+    ports : (i h : ℕ) → StandsIn c (ImportEnd i h)
+        → (k : ℕ) × (ImportEnd (pl.import ((lodge f).root (plc.origin i).number) (plc.origin i).import) h ≡ ImportEnd k h) × (slice_get r.imports k ≡ slice_get c.imports i)
+    ports i h stands =
+        let (k, at) = contact_of (ImportEnd i h) stands in
+        let (x, listed) = import_there (slice_get c.imports i) h k at in
+        let it = import_of f own ts pl plc r c is has_child laid laidc i x listed in
+        (pl.import ((lodge f).root (plc.origin i).number) (plc.origin i).import, refl, it.there ∙ sym listed)

@@ -1,0 +1,46 @@
+-- The plan of a child lies as a fold in the plan of its node.
+--
+-- Read first: Folding, Housing; Folds of gos_folds.
+use Rattle.std.specs.Prelude.{◌≡◌, ℕ, ◌+◌, List, length, Option, Some, None, slice_get, nat_lt, if◌then◌else◌}
+use Rattle.gos_check.specs.Nodes.{type_of_node}
+use Rattle.gos_plan.specs.Kinds.{Contact, Part}
+use Rattle.gos_plan.specs.Plans.{ResultEnd, Plan, contact_at, contacts_of_part}
+use Rattle.gos_webs.specs.Webs.{Tie, Web, IsOfWeb}
+use Rattle.gos_webs.specs.Cutting.{Cut}
+use Rattle.gos_folds.specs.Folds.{Fold, IsFold}
+use Rattle.gos_compile.specs.Wiring.{parts_of}
+use Rattle.gos_wired.specs.Wired.{Placing, dot_at}
+use Rattle.gos_stages.specs.Folding.{Child, lodge, child_web, child_cut, child_fold, child_servings, IsChild, IsLaid}
+use Rattle.gos_stages.specs.Housing.{HasShares}
+
+-- The parts of the node: those of its splits first, its own, which asks the child at one handshake, and the child's.
+pub record HasChild (f : Child) (own : List Part) (c : Plan) : Type 0 where
+  pub shares : HasShares f.types f.splits own
+  pub own_part : (y : Part) × (slice_get own f.own ≡ Some y)
+  pub child : (x : ℕ) (y : Part) → slice_get (parts_of f.types f.term) x ≡ Some y → slice_get own (f.off + x) ≡ Some y
+  pub outcome : c.outcome ≡ type_of_node f.term
+  pub asks : (k : Contact) → contact_at c (ResultEnd 0) ≡ Some k → slice_get (contacts_of_part (slice_get own f.own)) f.shake ≡ Some k
+
+-- Each part of the child's plan is one of the node's, and is told by it.
+pub record IsPartOf (f : Child) (pl plc : Placing) (r c : Plan) : Type 0 where
+  pub parts :
+      (j : ℕ) (y : Part) → slice_get c.parts j ≡ Some y
+      → (slice_get r.parts ((child_cut f pl plc (length r.parts)).part j) ≡ Some y)
+      × ((child_cut f pl plc (length r.parts)).number ((child_cut f pl plc (length r.parts)).part j) ≡ Some j)
+  pub numbers :
+      (i j : ℕ) → (child_cut f pl plc (length r.parts)).number i ≡ Some j
+      → ((child_cut f pl plc (length r.parts)).part j ≡ i) × ((y : Part) × (slice_get c.parts j ≡ Some y))
+
+abbrev pub ChildIsPart : Type 0
+ChildIsPart =
+    (f : Child) (own : List Part) (ts : List Tie) (pl plc : Placing) (r c : Plan)
+    → IsChild f ts → HasChild f own c → IsLaid own f.numbers f.env pl r → IsLaid (parts_of f.types f.term) f.uses (lodge f).env plc c
+    → IsPartOf f pl plc r c
+
+-- So the plan is a fold.
+abbrev pub ChildIsFolded : Type 0
+ChildIsFolded =
+    (f : Child) (own : List Part) (ts : List Tie) (pl plc : Placing) (r c : Plan)
+    → IsChild f ts → HasChild f own c → IsLaid own f.numbers f.env pl r → IsLaid (parts_of f.types f.term) f.uses (lodge f).env plc c
+    → IsOfWeb (record { ties = ts; at = dot_at f.first pl }) r
+    → IsFold (child_fold f pl plc (length r.parts)) (child_servings f pl) (record { ties = ts; at = dot_at f.first pl }) (child_web f plc) r c

@@ -1,0 +1,37 @@
+-- Each child of a wired node is a region of its plan, with a plan that is the child, wired.
+--
+-- Read first: Folded; Regions of gos_windows.
+use Rattle.std.specs.Prelude.{◌≡◌, ℕ, ◌+◌, ◌≤◌, List, length, Option, Some, slice_get}
+use Rattle.gos_check.specs.Nodes.{type_of_node}
+use Rattle.gos_check.specs.Linearity.{times}
+use Rattle.gos_plan.specs.Kinds.{Contact, Part, contacts_of}
+use Rattle.gos_plan.specs.Plans.{Plan, contacts_of_part, turned_if}
+use Rattle.gos_webs.specs.Webs.{Tie, IsOfWeb}
+use Rattle.gos_windows.specs.Regions.{IsRegion}
+use Rattle.gos_folds.specs.Folds.{joined_cut}
+use Rattle.gos_compile.specs.Wiring.{parts_of}
+use Rattle.gos_wired.specs.Wired.{Placing, IsWired, dot_at}
+use Rattle.gos_stages.specs.Inside.{inside_supplies}
+use Rattle.gos_stages.specs.Housing.{HasShares}
+use Rattle.gos_stages.specs.Folding.{Child, lodge, child_cut, child_servings, IsChild, IsLaid}
+
+-- The parts of the node: those of its splits first, its own, which asks the child at one handshake, and the child's.
+pub record HasParts (f : Child) (own : List Part) : Type 0 where
+  pub shares : HasShares f.types f.splits own
+  pub own_part : (y : Part) × (slice_get own f.own ≡ Some y)
+  pub child : (x : ℕ) (y : Part) → slice_get (parts_of f.types f.term) x ≡ Some y → slice_get own (f.off + x) ≡ Some y
+  pub asks :
+      (k : Contact) → turned_if (slice_get (contacts_of (type_of_node f.term)) 0) ≡ Some k
+      → slice_get (contacts_of_part (slice_get own f.own)) f.shake ≡ Some k
+
+-- the child's plan, numbered by plc, is wired to its supplies and lies in the node's
+pub record IsStaged (f : Child) (pl plc : Placing) (r c : Plan) : Type 0 where
+  pub wired : IsWired f.types (f.first + f.off) f.node f.term f.uses (inside_supplies f.types f.splits f.env) plc c
+  pub region : IsRegion (joined_cut (child_cut f pl plc (length r.parts)) c.joints) (child_servings f pl) r c
+
+abbrev pub ChildIsStaged : Type 0
+ChildIsStaged =
+    (f : Child) (own : List Part) (ts : List Tie) (pl : Placing) (r : Plan)
+    → IsChild f ts → HasParts f own → ((k : ℕ) → times k f.uses ≤ 1) → IsLaid own f.numbers f.env pl r
+    → IsOfWeb (record { ties = ts; at = dot_at f.first pl }) r
+    → (plc : Placing) × (c : Plan) × IsStaged f pl plc r c
