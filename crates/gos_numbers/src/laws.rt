@@ -1,4 +1,5 @@
 // What is kept of a typed term's numbers. Each theorem is the contract of a function that does nothing.
+use gos_compile::typed_terms;
 ghost use Rattle.gos_numbers.specs.Kept.{CheckedIsKept};
 ghost use Rattle.gos_numbers.specs.Inherited.{BodyIsKept, PartIsKept, BothAreKept, BothAreParted, ThreeAreKept};
 ghost use Rattle.gos_numbers.specs.SmallKept.{TwiceIsKept, NoneIsNotKept};
@@ -6,7 +7,9 @@ ghost use Rattle.gos_numbers.specs.SmallKept.{TwiceIsKept, NoneIsNotKept};
 /// It is kept at first, in a checked module of ground nodes.
 pub fn checked_is_kept()
     ensures { CheckedIsKept }
-{}
+{
+    typed_terms();
+}
 
 /// The parts of a node inherit it, with the numbers that they use.
 pub fn parts_are_kept()
