@@ -1,5 +1,5 @@
 -- What is kept of the numbers of a checked module: each that is used or split stands for something there.
-use Rattle.std.specs.Prelude.{◌≡◌, ◌≢◌, ℕ, zero, suc, ◌+◌, ◌<◌, ◌≤◌, Bool, true, List, [], ◌∷◌, ◌++◌, length, nat_eq, if◌then◌else◌}
+use Rattle.std.specs.Prelude.{◌≡◌, ◌≢◌, ℕ, zero, suc, ◌+◌, ◌<◌, ◌≤◌, Bool, true, false, List, [], ◌∷◌, ◌++◌, length, nat_eq, if◌then◌else◌}
 use Rattle.std.proofs.Common.{refl, sym, ◌∙◌, ap, subst, arith}
 use Rattle.gos_types.specs.Types.{type_of}
 use Rattle.gos_model.specs.Terms as terms
@@ -11,18 +11,18 @@ use Rattle.gos_check.specs.Linearity.{times, made, import_at}
 use Rattle.gos_check.specs.Checked.{SeenLinear, IsChecked, program_in}
 use Rattle.gos_check.proofs.TimesLemmas.{number_cases, times_same, times_other, times-append, one_other}
 use Rattle.gos_compile.specs.Typed.{CheckedIsTyped}
-use Rattle.gos_compile.proofs.KnownLemmas.{is_bound, UsesBound, none_lost}
-use Rattle.gos_compile.proofs.BoundLemmas.{SplitsBound, AllBound, all_bound, uses_bound, import_names}
 use Rattle.gos_leaves.proofs.CountLemmas.{behind}
+use Rattle.gos_leaves.proofs.LostLemmas.{is_loc, UsesStand, uses_stand, lost_in, lost, kept}
+use Rattle.gos_leaves.proofs.StandLemmas.{none_lost}
 use Rattle.gos_leaves.proofs.WithinLemmas.{standing_is_split_at_forks}
 use Rattle.gos_wired.specs.Modules.{numbers_from}
 use Rattle.gos_numbers.specs.Numbers.{numbers_inside, AreSplit}
 use Rattle.gos_numbers.specs.Kept.{InScope, NodesGround, IsKept, CheckedIsKept}
 use Rattle.gos_numbers.proofs.ListLemmas.{some_times, times_inside}
 
--- what stands for a variable or an import is there
+-- what stands for no location is there
 abbrev AllThere : Meaning → List ℕ → Type 0
-AllThere env ns = (k : ℕ) → is_bound (env k) ≡ true → 0 < times k ns
+AllThere env ns = (k : ℕ) → is_loc (env k) ≡ false → 0 < times k ns
 
 split_there : (s : Split) (env : Meaning) (ns : List ℕ) → AllThere env ns → AllThere (inside_one s env) (s.left ∷ s.right ∷ ns)
 split_there s env ns there k bound = number_cases k s.left
@@ -30,60 +30,80 @@ split_there s env ns there k bound = number_cases k s.left
     (λ l f. number_cases k s.right
     (λ e t. let one = times_same s.right ns in let more = behind s.right s.left (s.right ∷ ns) in
     subst (λ (a : ℕ). 0 < times a (s.left ∷ s.right ∷ ns)) (sym e) (omega (arith, one, more)))
-    (λ r g. let here = there k (ap is_bound (sym (one_other s env k l r)) ∙ bound) in
+    (λ r g. let here = there k (ap is_loc (sym (one_other s env k l r)) ∙ bound) in
     let one = behind k s.left (s.right ∷ ns) in let two = behind k s.right ns in omega (arith, here, one, two)))
 
 inside_there : (ss : List Split) (env : Meaning) (ns : List ℕ) → AllThere env ns → AllThere (inside ss env) (numbers_inside ss ns)
 inside_there [] env ns there = there
 inside_there (s ∷ ss) env ns there = inside_there ss (inside_one s env) (s.left ∷ s.right ∷ ns) (split_there s env ns there)
 
-shifted_bound : (m : Term) → is_bound (shifted m) ≡ true → is_bound m ≡ true
-shifted_bound (terms.Bound i) h = refl
-shifted_bound m h = h
+shifted_stands : (m : Term) → is_loc (shifted m) ≡ false → is_loc m ≡ false
+shifted_stands (terms.Bound i) h = refl
+shifted_stands m h = h
 
 below_there : (n : ℕ) (env : Meaning) (ns : List ℕ) → AllThere env ns → AllThere (below n env) (ns ++ n ∷ [])
 below_there n env ns there k bound =
     let two = times-append k ns (n ∷ []) in
     number_cases k n
     (λ e t. let one = times_same n [] in let here : times k (n ∷ []) ≡ 1 = subst (λ (a : ℕ). times a (n ∷ []) ≡ 1) (sym e) (omega (arith, one)) in omega (arith, two, here))
-    (λ e f. let here = there k (shifted_bound (env k) (subst (λ (b : Bool). is_bound (if b then terms.Bound 0 else shifted (env k)) ≡ true) f bound)) in
+    (λ e f. let here = there k (shifted_stands (env k) (subst (λ (b : Bool). is_loc (if b then terms.Bound 0 else shifted (env k)) ≡ false) f bound)) in
     omega (arith, two, here))
 
-splits_there : (ss : List Split) (env : Meaning) (ns : List ℕ) → AllThere env ns → SplitsBound env ss → AreSplit ss ns
-splits_there [] env ns there bound = tt
-splits_there (s ∷ ss) env ns there bound = (
-  some_times ns s.of (there s.of bound.0),
-  splits_there ss (inside_one s env) (s.left ∷ s.right ∷ ns) (split_there s env ns there) bound.1,
-)
+-- where no split is lost
+kept_none : (b : Bool) (s : Split) (ss : List Split) → kept b s ss ≡ [] → (b ≡ false) × (ss ≡ [])
+kept_none true s ss e = absurd (cc e)
+kept_none false s ss e = (refl, e)
 
-in_scope : (m : Numbered) (env : Meaning) (ns : List ℕ) → AllThere env ns → UsesBound env m → AllBound env m → InScope ns m
-in_scope (Closed t ss c) env ns there uses bound = splits_there ss env ns there bound
-in_scope (Use t ss n) env ns there uses bound = (
-  splits_there ss env ns there bound,
+pub two_none : (ss ts : List Split) → ss ++ ts ≡ [] → (ss ≡ []) × (ts ≡ [])
+two_none [] ts e = (refl, e)
+two_none (s ∷ ss) ts e = absurd (cc e)
+
+pub first_kept : (env : Meaning) (s : Split) (ss : List Split) → lost_in env (s ∷ ss) ≡ [] → (is_loc (env s.of) ≡ false) × (lost_in (inside_one s env) ss ≡ [])
+first_kept env s ss e = kept_none (is_loc (env s.of)) s (lost_in (inside_one s env) ss) e
+
+splits_there : (ss : List Split) (env : Meaning) (ns : List ℕ) → AllThere env ns → lost_in env ss ≡ [] → AreSplit ss ns
+splits_there [] env ns there none = tt
+splits_there (s ∷ ss) env ns there none =
+    let (stands, rest) = first_kept env s ss none in (
+      some_times ns s.of (there s.of stands),
+      splits_there ss (inside_one s env) (s.left ∷ s.right ∷ ns) (split_there s env ns there) rest,
+    )
+
+in_scope : (m : Numbered) (env : Meaning) (ns : List ℕ) → AllThere env ns → UsesStand env m → lost env m ≡ [] → InScope ns m
+in_scope (Closed t ss c) env ns there uses none = splits_there ss env ns there none
+in_scope (Use t ss n) env ns there uses none = (
+  splits_there ss env ns there none,
   some_times (numbers_inside ss ns) n (let here = there n uses in let more = times_inside n ss ns in omega (arith, here, more)),
 )
-in_scope (Under t ss b n m) env ns there uses bound = (
-  splits_there ss env ns there bound.0,
-  in_scope m (below n (inside ss env)) (numbers_inside ss ns ++ n ∷ []) (below_there n (inside ss env) (numbers_inside ss ns) (inside_there ss env ns there)) uses bound.1,
-)
-in_scope (One t ss f m) env ns there uses bound = (
-  splits_there ss env ns there bound.0,
-  in_scope m (inside ss env) (numbers_inside ss ns) (inside_there ss env ns there) uses bound.1,
-)
-in_scope (Two t ss f m n) env ns there uses bound = (
-  splits_there ss env ns there bound.0,
-  in_scope m (inside ss env) (numbers_inside ss ns) (inside_there ss env ns there) uses.0 bound.1,
-  in_scope n (inside ss env) (numbers_inside ss ns) (inside_there ss env ns there) uses.1 bound.2,
-)
-in_scope (If t ss m n p) env ns there uses bound = (
-  splits_there ss env ns there bound.0,
-  in_scope m (inside ss env) (numbers_inside ss ns) (inside_there ss env ns there) uses.0 bound.1,
-  in_scope n (inside ss env) (numbers_inside ss ns) (inside_there ss env ns there) uses.1 bound.2,
-  in_scope p (inside ss env) (numbers_inside ss ns) (inside_there ss env ns there) uses.2 bound.3,
-)
+in_scope (Under t ss b n m) env ns there uses none =
+    let (row, rest) = two_none (lost_in env ss) (lost (below n (inside ss env)) m) none in (
+      splits_there ss env ns there row,
+      in_scope m (below n (inside ss env)) (numbers_inside ss ns ++ n ∷ []) (below_there n (inside ss env) (numbers_inside ss ns) (inside_there ss env ns there)) uses rest,
+    )
+in_scope (One t ss f m) env ns there uses none =
+    let (row, rest) = two_none (lost_in env ss) (lost (inside ss env) m) none in (
+      splits_there ss env ns there row,
+      in_scope m (inside ss env) (numbers_inside ss ns) (inside_there ss env ns there) uses rest,
+    )
+in_scope (Two t ss f m n) env ns there uses none =
+    let (row, both) = two_none (lost_in env ss) (lost (inside ss env) m ++ lost (inside ss env) n) none in
+    let (first, second) = two_none (lost (inside ss env) m) (lost (inside ss env) n) both in (
+      splits_there ss env ns there row,
+      in_scope m (inside ss env) (numbers_inside ss ns) (inside_there ss env ns there) uses.0 first,
+      in_scope n (inside ss env) (numbers_inside ss ns) (inside_there ss env ns there) uses.1 second,
+    )
+in_scope (If t ss m n p) env ns there uses none =
+    let (row, three) = two_none (lost_in env ss) (lost (inside ss env) m ++ (lost (inside ss env) n ++ lost (inside ss env) p)) none in
+    let (first, both) = two_none (lost (inside ss env) m) (lost (inside ss env) n ++ lost (inside ss env) p) three in
+    let (second, third) = two_none (lost (inside ss env) n) (lost (inside ss env) p) both in (
+      splits_there ss env ns there row,
+      in_scope m (inside ss env) (numbers_inside ss ns) (inside_there ss env ns there) uses.0 first,
+      in_scope n (inside ss env) (numbers_inside ss ns) (inside_there ss env ns there) uses.1 second,
+      in_scope p (inside ss env) (numbers_inside ss ns) (inside_there ss env ns there) uses.2 third,
+    )
 
 -- the numbers of the imports
-import_low : (is : Imports) (k : ℕ) → is_bound (import_at is k) ≡ true → k < length is
+import_low : (is : Imports) (k : ℕ) → is_loc (import_at is k) ≡ false → k < length is
 import_low [] k h = absurd (cc h)
 import_low (i ∷ is) zero h = omega arith
 import_low (i ∷ is) (suc k) h = let less = import_low is k h in omega (arith, less)
@@ -117,8 +137,8 @@ number_once (suc m) n k = number_cases n k
 
 pub checked_is_kept : CheckedIsTyped → CheckedIsKept
 checked_is_kept law l c ground =
-    let uses = uses_bound (program_in l).imports [] (import_at (program_in l).imports) (node_seen l.term) (type_of l.result) (import_names (program_in l).imports) c.typed in
-    let lost = none_lost (program_in l) (node_seen l.term) c.term uses in
+    let uses = uses_stand (program_in l).imports [] (import_at (program_in l).imports) (node_seen l.term) (type_of l.result) c.typed in
+    let lost = none_lost (program_in l).imports (node_seen l.term) uses c.term.made_once c.term.no_import c.term.sides_used in
     let (within, forks) = standing_is_split_at_forks (program_in l) (node_seen l.term) (type_of l.result) c.term c.typed in
     record {
       once = λ k. once k (times k (made (node_seen l.term))) refl;
@@ -126,7 +146,7 @@ checked_is_kept law l c ground =
       scope =
           in_scope (node_seen l.term) (import_at (program_in l).imports) (numbers_from 0 (length (program_in l).imports))
           (λ k bound. (let low = import_low (program_in l).imports k bound in number_there (length (program_in l).imports) 0 k (omega arith) (omega (arith, low))))
-          uses (all_bound (import_at (program_in l).imports) (node_seen l.term) lost);
+          uses lost;
       within = within;
       apart = c.term.apart;
       forks = forks;

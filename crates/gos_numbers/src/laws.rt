@@ -1,5 +1,6 @@
 // What is kept of a typed term's numbers. Each theorem is the contract of a function that does nothing.
 use gos_compile::typed_terms;
+use gos_leaves::small_splits;
 ghost use Rattle.gos_numbers.specs.Kept.{CheckedIsKept};
 ghost use Rattle.gos_numbers.specs.Inherited.{BodyIsKept, PartIsKept, BothAreKept, BothAreParted, ThreeAreKept};
 ghost use Rattle.gos_numbers.specs.SmallKept.{TwiceIsKept, NoneIsNotKept};
@@ -24,4 +25,6 @@ pub fn parts_are_kept()
 pub fn small_kept()
     ensures met { TwiceIsKept }
     ensures missed { NoneIsNotKept }
-{}
+{
+    small_splits();
+}
