@@ -12,7 +12,7 @@ or_true true y e = inl refl
 or_true false y e = inr e
 
 -- with one split more
-further : (s : Split) (ss : List Split) (n a : ℕ) → Comes ss n a → Comes (s ∷ ss) n a
+pub further : (s : Split) (ss : List Split) (n a : ℕ) → Comes ss n a → Comes (s ∷ ss) n a
 further s ss n a (itself _) = itself n
 further s ss n a (by_left t _ one c) = by_left t a (inr one) (further s ss t.left a c)
 further s ss n a (by_right t _ one c) = by_right t a (inr one) (further s ss t.right a c)

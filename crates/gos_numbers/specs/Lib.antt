@@ -3,3 +3,4 @@ pub mod Numbers
 pub mod Kept
 pub mod Inherited
 pub mod SmallKept
+pub mod Unsplit
