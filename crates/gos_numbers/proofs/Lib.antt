@@ -1,0 +1,7 @@
+mod ListLemmas
+mod ScopeLemmas
+mod ApartLemmas
+mod PartLemmas
+mod InheritedLemmas
+mod RootLemmas
+mod SmallKeptLemmas

@@ -1,0 +1,6 @@
+-- In reading order: a file uses only files above it.
+pub mod Numbers
+pub mod Kept
+pub mod Inherited
+pub mod SmallKept
+pub mod Unsplit

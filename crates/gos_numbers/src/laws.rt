@@ -1,0 +1,30 @@
+// What is kept of a typed term's numbers. Each theorem is the contract of a function that does nothing.
+use gos_compile::typed_terms;
+use gos_leaves::small_splits;
+ghost use Rattle.gos_numbers.specs.Kept.{CheckedIsKept};
+ghost use Rattle.gos_numbers.specs.Inherited.{BodyIsKept, PartIsKept, BothAreKept, BothAreParted, ThreeAreKept};
+ghost use Rattle.gos_numbers.specs.SmallKept.{TwiceIsKept, NoneIsNotKept};
+
+/// It is kept at first, in a checked module of ground nodes.
+pub fn checked_is_kept()
+    ensures { CheckedIsKept }
+{
+    typed_terms();
+}
+
+/// The parts of a node inherit it, with the numbers that they use.
+pub fn parts_are_kept()
+    ensures body { BodyIsKept }
+    ensures one { PartIsKept }
+    ensures both { BothAreKept }
+    ensures parted { BothAreParted }
+    ensures three { ThreeAreKept }
+{}
+
+/// A number that is used twice is split, where it is there; and where it isn't, that is no term whose numbers are kept.
+pub fn small_kept()
+    ensures met { TwiceIsKept }
+    ensures missed { NoneIsNotKept }
+{
+    small_splits();
+}
