@@ -49,8 +49,8 @@ pub are_apart : (ss : List Split) (inner : ℕ → Bool)
 are_apart [] inner between = tt
 are_apart (s ∷ ss) inner between = (
   λ left right. (
-  let (a, c, i) = lives ss inner s.left left in
-  let (b, d, j) = lives ss inner s.right right in
-  between s a b (inl refl) (further s ss s.left a c) (further s ss s.right b d) i j),
+      let (a, c, i) = lives ss inner s.left left in
+      let (b, d, j) = lives ss inner s.right right in
+      between s a b (inl refl) (further s ss s.left a c) (further s ss s.right b d) i j),
   are_apart ss inner (λ t a b one c d i j. between t a b (inr one) (further s ss t.left a c) (further s ss t.right b d) i j),
 )

@@ -166,8 +166,8 @@ both_are_kept types ns t ss f m n is = (
         sides = λ k side small. own_used ss ns n k small;
       }),
   λ k none. by_zero (times k (used n))
-  (λ e. (let first = first_all ss ns (used n) k (omega (arith, none, e)) in let own = own_none ss ns n k e in omega (arith, first, own)))
-  (λ e. (let first = first_none ss ns (used n) k (omega (arith, none, e)) in let own = own_all ss ns n k e in omega (arith, first, own))),
+      (λ e. (let first = first_all ss ns (used n) k (omega (arith, none, e)) in let own = own_none ss ns n k e in omega (arith, first, own)))
+      (λ e. (let first = first_none ss ns (used n) k (omega (arith, none, e)) in let own = own_all ss ns n k e in omega (arith, first, own))),
 )
   where
     made_all : (k : ℕ) → times k (made (Two t ss f m n)) ≡ times k (sides ss) + (times k (made m) + times k (made n))
@@ -247,16 +247,16 @@ three_are_kept types ns t ss m n p is = (
         sides = λ k side small. own_used ss ns p k small;
       }),
   λ k none. by_zero (times k (used n))
-  (λ e. by_zero (times k (used p))
-  (λ d. (let two = times-append k (used n) (used p) in
-  let first = first_all ss ns (used n ++ used p) k (omega (arith, none, e, d, two)) in
-  let own = own_none ss ns n k e in let last = own_none ss ns p k d in omega (arith, first, own, last)))
-  (λ d. (let two = times-append k (used n) (used p) in
-  let first = first_none ss ns (used n ++ used p) k (omega (arith, none, d, two)) in
-  let own = own_none ss ns n k e in let last = own_all ss ns p k d in omega (arith, first, own, last))))
-  (λ e. (let two = times-append k (used n) (used p) in let all = used_all k in let one = is.used_once k in
-  let first = first_none ss ns (used n ++ used p) k (omega (arith, none, e, two)) in
-  let own = own_all ss ns n k e in let last = own_none ss ns p k (omega (arith, e, all, one)) in omega (arith, first, own, last))),
+      (λ e. by_zero (times k (used p))
+      (λ d. (let two = times-append k (used n) (used p) in
+      let first = first_all ss ns (used n ++ used p) k (omega (arith, none, e, d, two)) in
+      let own = own_none ss ns n k e in let last = own_none ss ns p k d in omega (arith, first, own, last)))
+      (λ d. (let two = times-append k (used n) (used p) in
+      let first = first_none ss ns (used n ++ used p) k (omega (arith, none, d, two)) in
+      let own = own_none ss ns n k e in let last = own_all ss ns p k d in omega (arith, first, own, last))))
+      (λ e. (let two = times-append k (used n) (used p) in let all = used_all k in let one = is.used_once k in
+      let first = first_none ss ns (used n ++ used p) k (omega (arith, none, e, two)) in
+      let own = own_all ss ns n k e in let last = own_none ss ns p k (omega (arith, e, all, one)) in omega (arith, first, own, last))),
 )
   where
     made_all : (k : ℕ) → times k (made (If t ss m n p)) ≡ times k (sides ss) + (times k (made m) + (times k (made n) + times k (made p)))

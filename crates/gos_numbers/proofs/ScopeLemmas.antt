@@ -95,39 +95,46 @@ covered (Under t ss b n m) ns there k small =
     let has : times k (n ∷ made m) ≡ times k (n ∷ []) + times k (made m) = omega arith in
     let more = times-append k (numbers_inside ss ns) (n ∷ []) in
     let at = times_inside k ss ns in
-    elim (either (times k (split_in ss)) (times k (used m)) (let two = times-append k (split_in ss) (used m) in omega (arith, small, two)))
-    [ inl h ↦ (let here = split_covered ss ns there.0 k h in omega (arith, here, all))
-    | inr h ↦ (let here = covered m (numbers_inside ss ns ++ n ∷ []) there.1 k h in omega (arith, here, all, has, more, at)) ]
+    elim (either (times k (split_in ss)) (times k (used m)) (let two = times-append k (split_in ss) (used m) in omega (arith, small, two))) [
+      | inl h ↦ (let here = split_covered ss ns there.0 k h in omega (arith, here, all))
+      | inr h ↦ (let here = covered m (numbers_inside ss ns ++ n ∷ []) there.1 k h in omega (arith, here, all, has, more, at))
+    ]
 covered (One t ss f m) ns there k small =
     let all = times-append k (sides ss) (made m) in
     let at = times_inside k ss ns in
-    elim (either (times k (split_in ss)) (times k (used m)) (let two = times-append k (split_in ss) (used m) in omega (arith, small, two)))
-    [ inl h ↦ (let here = split_covered ss ns there.0 k h in omega (arith, here, all))
-    | inr h ↦ (let here = covered m (numbers_inside ss ns) there.1 k h in omega (arith, here, all, at)) ]
+    elim (either (times k (split_in ss)) (times k (used m)) (let two = times-append k (split_in ss) (used m) in omega (arith, small, two))) [
+      | inl h ↦ (let here = split_covered ss ns there.0 k h in omega (arith, here, all))
+      | inr h ↦ (let here = covered m (numbers_inside ss ns) there.1 k h in omega (arith, here, all, at))
+    ]
 covered (Two t ss f m n) ns there k small =
     let all = times-append k (sides ss) (made m ++ made n) in
     let more = times-append k (made m) (made n) in
     let at = times_inside k ss ns in
-    elim (either (times k (split_in ss)) (times k (used m ++ used n)) (let two = times-append k (split_in ss) (used m ++ used n) in omega (arith, small, two)))
-    [ inl h ↦ (let here = split_covered ss ns there.0 k h in omega (arith, here, all))
-    | inr j ↦
-        elim (either (times k (used m)) (times k (used n)) (let two = times-append k (used m) (used n) in omega (arith, j, two)))
-        [ inl h ↦ (let here = covered m (numbers_inside ss ns) there.1 k h in omega (arith, here, all, more, at))
-        | inr h ↦ (let here = covered n (numbers_inside ss ns) there.2 k h in omega (arith, here, all, more, at)) ] ]
+    elim (either (times k (split_in ss)) (times k (used m ++ used n)) (let two = times-append k (split_in ss) (used m ++ used n) in omega (arith, small, two))) [
+      | inl h ↦ (let here = split_covered ss ns there.0 k h in omega (arith, here, all))
+      | inr j ↦
+          elim (either (times k (used m)) (times k (used n)) (let two = times-append k (used m) (used n) in omega (arith, j, two))) [
+            | inl h ↦ (let here = covered m (numbers_inside ss ns) there.1 k h in omega (arith, here, all, more, at))
+            | inr h ↦ (let here = covered n (numbers_inside ss ns) there.2 k h in omega (arith, here, all, more, at))
+          ]
+    ]
 covered (If t ss m n p) ns there k small =
     let all = times-append k (sides ss) (made m ++ (made n ++ made p)) in
     let more = times-append k (made m) (made n ++ made p) in
     let last = times-append k (made n) (made p) in
     let at = times_inside k ss ns in
-    elim (either (times k (split_in ss)) (times k (used m ++ (used n ++ used p))) (let two = times-append k (split_in ss) (used m ++ (used n ++ used p)) in omega (arith, small, two)))
-    [ inl h ↦ (let here = split_covered ss ns there.0 k h in omega (arith, here, all))
-    | inr j ↦
-        elim (either (times k (used m)) (times k (used n ++ used p)) (let two = times-append k (used m) (used n ++ used p) in omega (arith, j, two)))
-        [ inl h ↦ (let here = covered m (numbers_inside ss ns) there.1 k h in omega (arith, here, all, more, last, at))
-        | inr i ↦
-            elim (either (times k (used n)) (times k (used p)) (let two = times-append k (used n) (used p) in omega (arith, i, two)))
-            [ inl h ↦ (let here = covered n (numbers_inside ss ns) there.2 k h in omega (arith, here, all, more, last, at))
-            | inr h ↦ (let here = covered p (numbers_inside ss ns) there.3 k h in omega (arith, here, all, more, last, at)) ] ] ]
+    elim (either (times k (split_in ss)) (times k (used m ++ (used n ++ used p))) (let two = times-append k (split_in ss) (used m ++ (used n ++ used p)) in omega (arith, small, two))) [
+      | inl h ↦ (let here = split_covered ss ns there.0 k h in omega (arith, here, all))
+      | inr j ↦
+          elim (either (times k (used m)) (times k (used n ++ used p)) (let two = times-append k (used m) (used n ++ used p) in omega (arith, j, two))) [
+            | inl h ↦ (let here = covered m (numbers_inside ss ns) there.1 k h in omega (arith, here, all, more, last, at))
+            | inr i ↦
+                elim (either (times k (used n)) (times k (used p)) (let two = times-append k (used n) (used p) in omega (arith, i, two))) [
+                  | inl h ↦ (let here = covered n (numbers_inside ss ns) there.2 k h in omega (arith, here, all, more, last, at))
+                  | inr h ↦ (let here = covered p (numbers_inside ss ns) there.3 k h in omega (arith, here, all, more, last, at))
+                ]
+          ]
+    ]
 
 -- what is split was there before
 pub in_order : (ss : List Split) (ns : List ℕ) → ((k : ℕ) → times k (sides ss) + times k ns ≤ 1) → AreSplit ss ns → AreInOrder ss

@@ -3,4 +3,3 @@ pub mod Numbers
 pub mod Kept
 pub mod Inherited
 pub mod SmallKept
-pub mod Unsplit

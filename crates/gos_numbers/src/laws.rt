@@ -1,9 +1,10 @@
 // What is kept of a typed term's numbers. Each theorem is the contract of a function that does nothing.
-use gos_compile::typed_terms;
-use gos_leaves::small_splits;
 ghost use Rattle.gos_numbers.specs.Kept.{CheckedIsKept};
 ghost use Rattle.gos_numbers.specs.Inherited.{BodyIsKept, PartIsKept, BothAreKept, BothAreParted, ThreeAreKept};
 ghost use Rattle.gos_numbers.specs.SmallKept.{TwiceIsKept, NoneIsNotKept};
+
+use gos_compile::typed_terms;
+use gos_leaves::small_splits;
 
 /// It is kept at first, in a checked module of ground nodes.
 pub fn checked_is_kept()
