@@ -1,4 +1,5 @@
 -- In reading order: a file uses only files above it.
 pub mod Kept
 pub mod Inherited
+pub mod Unsplit
 pub mod SmallKept
