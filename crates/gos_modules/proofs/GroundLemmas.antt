@@ -12,7 +12,6 @@ use Rattle.gos_compile.specs.Typed.{NodesTyped}
 use Rattle.gos_stages.specs.Inside.{numbers_inside}
 use Rattle.gos_numbers.specs.Kept.{InScope, IsKept}
 use Rattle.gos_numbers.specs.Inherited.{own_numbers, first_numbers, BodyIsKept, PartIsKept, BothAreKept, BothAreParted, ThreeAreKept}
-use Rattle.gos_numbers.specs.Unsplit.{ParallelsAreUnsplit}
 use Rattle.gos_grounds.specs.Cases.{RealisesWired, UseCase, SkipCase, LiteralCase, ReadCase, ParallelCase}
 use Rattle.gos_modules.specs.Premises.{BlockCase, SequenceCase, LoopCase, OperatorCase, ChoiceCase, ComplementCase, rest_numbers, RestIsKept, AssignCase}
 use Rattle.gos_modules.specs.Modules.{GroundIsRealised}

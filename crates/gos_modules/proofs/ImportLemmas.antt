@@ -1,7 +1,7 @@
 -- The imports of a checked module have different names, widths, and supplies with their terms.
 use Rattle.std.specs.Prelude.{◌≡◌, ◌≢◌, ℕ, zero, suc, List, [], ◌∷◌, map, Some, Contains, slice_get}
 use Rattle.std.proofs.Common.{refl, sym, ◌∙◌, ap, subst, arith}
-use Rattle.gos_types.specs.Types.{IsGround, type_of}
+use Rattle.gos_types.specs.Types.{IsGround}
 use Rattle.gos_types.specs.Widths.{HasWidths}
 use Rattle.gos_syntax.specs.Modules.{SeenImport}
 use Rattle.gos_model.specs.Terms as terms

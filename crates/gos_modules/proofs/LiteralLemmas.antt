@@ -1,5 +1,5 @@
 -- The literals of a typed term's parts fit their widths, and so do those of a plan that is joined to supplies.
-use Rattle.std.specs.Prelude.{◌≡◌, List, [], ◌∷◌, ◌++◌, All}
+use Rattle.std.specs.Prelude.{List, [], ◌∷◌, ◌++◌, All}
 use Rattle.std.proofs.Common.{sym, subst}
 use Rattle.std.proofs.lemmas.List.Elements.{All-from_recursion, All-append}
 use Rattle.gos_types.specs.Types.{Type', Var}

@@ -1,12 +1,12 @@
 -- The plan of a checked module of ground types, joined to supplies, is its term's node wired to them, and realises what it means with these.
-use Rattle.std.specs.Prelude.{◌≡◌, ℕ, true, List, Option, Some, Contains, All, length, slice_get}
+use Rattle.std.specs.Prelude.{◌≡◌, ℕ, true, List, [], Option, Some, Contains, All, length, slice_get}
 use Rattle.std.specs.Str.{bytes_eq}
-use Rattle.std.proofs.Common.{refl, sym, ◌∙◌, ap, subst, arith}
+use Rattle.std.proofs.Common.{sym, ◌∙◌, ap, subst, arith}
 use Rattle.std.proofs.lemmas.Slice.Eq.{bytes_eq-Decides}
 use Rattle.gos_types.specs.Types.{Type', IsGround, type_of}
 use Rattle.gos_model.specs.Terms as terms
 use Rattle.gos_model.specs.Terms.{Term, Name}
-use Rattle.gos_model.specs.Typing.{Imported, Imports, import_type, Typed}
+use Rattle.gos_model.specs.Typing.{Imports, import_type, Typed}
 use Rattle.gos_model.specs.Linking.{or_import, supplied}
 use Rattle.gos_check.specs.Nodes.{Numbered, Meaning, meaning, type_of_node, node_seen}
 use Rattle.gos_check.specs.Linearity.{import_at}
@@ -22,8 +22,8 @@ use Rattle.gos_renumbered.proofs.SupplyLemmas.{supply_of, import_for, at_term}
 use Rattle.gos_typing.specs.Supplied.{SuppliedIsTyped}
 use Rattle.gos_joints.specs.Joints.{GroundResultIsJoined}
 use Rattle.gos_ports.specs.Ports.{HaveWidths, WidthsAreHad, OpenIsRealised}
-use Rattle.gos_meanings.specs.Meanings.{term_or, ModuleIsSupplied}
-use Rattle.gos_wired.specs.Wired.{Supplies, Placing, IsWired, terms_of}
+use Rattle.gos_meanings.specs.Meanings.{ModuleIsSupplied}
+use Rattle.gos_wired.specs.Wired.{Supplies, terms_of}
 use Rattle.gos_wired.specs.Modules.{supply_at, numbers_from}
 use Rattle.gos_wired.specs.Fitting.{CheckedFits, CheckedIsWired}
 use Rattle.gos_wired.specs.NodeFitting.{CheckedStarts}

@@ -1,6 +1,6 @@
 -- What the rows of types say of nodes: leaves are `skip` and literals, and a variable of a ground term is a number that is used.
 use Rattle.std.specs.Prelude.{◌≡◌, ℕ, List, [], ◌∷◌, ◌++◌, Contains}
-use Rattle.std.proofs.Common.{refl, sym, ◌∙◌, subst}
+use Rattle.std.proofs.Common.{sym, ◌∙◌, subst}
 use Rattle.gos_types.specs.Types.{Type', Com, Exp, Var, IsGround, IsDone}
 use Rattle.gos_model.specs.Terms as terms
 use Rattle.gos_model.specs.Terms.{Term}

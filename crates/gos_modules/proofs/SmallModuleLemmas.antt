@@ -1,10 +1,10 @@
 -- Modules of ground types, and one that isn't.
-use Rattle.std.specs.Prelude.{ℕ, List, [], ◌∷◌, map}
+use Rattle.std.specs.Prelude.{List, [], ◌∷◌, map}
 use Rattle.std.proofs.Common.{sym, subst}
-use Rattle.gos_types.specs.Types.{Type', Com, IsGround}
+use Rattle.gos_types.specs.Types.{Com, IsGround}
 use Rattle.gos_syntax.specs.Modules.{SeenImport}
 use Rattle.gos_model.specs.Sources.{import_of}
-use Rattle.gos_check.specs.Nodes.{Numbered, node_seen}
+use Rattle.gos_check.specs.Nodes.{node_seen}
 use Rattle.gos_realises.specs.Realises.{AllGround}
 use Rattle.gos_leaves.specs.SmallSplits.{twice}
 use Rattle.gos_numbers.specs.Kept.{NodesGround}

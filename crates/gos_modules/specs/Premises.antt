@@ -1,6 +1,6 @@
 -- The cases of the induction that other crates prove.
-use Rattle.std.specs.Prelude.{◌≡◌, ℕ, ◌+◌, List, [], ◌∷◌, ◌++◌, nat_eq, ◌&&◌, not, filter}
-use Rattle.gos_types.specs.Types.{Type', Com, Exp, Var, IsDone}
+use Rattle.std.specs.Prelude.{◌≡◌, ℕ, List, [], ◌∷◌, ◌++◌, nat_eq, ◌&&◌, not, filter}
+use Rattle.gos_types.specs.Types.{Type', Com, Var, IsDone}
 use Rattle.gos_check.specs.declared.linear.Split.{Split}
 use Rattle.gos_check.specs.Nodes.{Numbered, Use, Under, One, Two, If, OfNew, OfNot, OfSeq, OfWhile, OfAssign, OfBin, type_of_node}
 use Rattle.gos_check.specs.Linearity.{times, split_in, used}

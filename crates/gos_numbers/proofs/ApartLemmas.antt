@@ -1,6 +1,6 @@
 -- No split has two live sides, as a part that uses what comes from both would be on both sides.
 use Rattle.std.specs.Prelude.{◌≡◌, ℕ, ◌<◌, ◌⊎◌, ◌||◌, Bool, true, false, List, [], ◌∷◌, nat_eq, if◌then◌else◌}
-use Rattle.std.proofs.Common.{refl, sym, ap, subst, inl, inr}
+use Rattle.std.proofs.Common.{refl, sym, subst, inl, inr}
 use Rattle.gos_check.specs.declared.linear.Split.{Split}
 use Rattle.gos_check.specs.Linearity.{times, sides, IsOneOf, Comes, itself, by_left, by_right}
 use Rattle.gos_check.proofs.TimesLemmas.{true_eq}

@@ -1,6 +1,6 @@
 -- What a number stands for is free in a term that uses the number.
-use Rattle.std.specs.Prelude.{◌≡◌, ◌≢◌, ℕ, zero, suc, ◌+◌, ◌-◌, ◌<◌, ◌≤◌, ◌⊎◌, Bool, true, false, List, [], ◌∷◌, ◌++◌, nat_lt, Contains, if◌then◌else◌}
-use Rattle.std.proofs.Common.{refl, sym, ◌∙◌, ap, subst, arith, inl, inr}
+use Rattle.std.specs.Prelude.{◌≡◌, ◌≢◌, ℕ, suc, ◌+◌, ◌-◌, ◌<◌, ◌≤◌, Bool, false, List, [], ◌∷◌, ◌++◌, nat_lt, Contains, if◌then◌else◌}
+use Rattle.std.proofs.Common.{sym, ◌∙◌, ap, subst, arith, inl, inr}
 use Rattle.std.proofs.lemmas.Bool.Decides.{nat_tests}
 use Rattle.std.proofs.lemmas.List.Elements.{Contains-append_left, Contains-append_right}
 use Rattle.gos_types.specs.Types.{Type'}
@@ -18,7 +18,7 @@ use Rattle.gos_numbers.specs.Inherited.{own_numbers, first_numbers}
 use Rattle.gos_numbers.proofs.ListLemmas.{either}
 use Rattle.gos_numbers.proofs.ScopeLemmas.{in_order}
 use Rattle.gos_numbers.proofs.InheritedLemmas.{body_is_kept, part_is_kept, both_are_kept, three_are_kept}
-use Rattle.gos_numbers.proofs.ReachLemmas.{Reached, Used, reach, comes_none}
+use Rattle.gos_numbers.proofs.ReachLemmas.{Used, reach, comes_none}
 
 -- a term under d binders is this thing
 abbrev pub IsThing : ℕ → Term → Thing → Type 0
@@ -146,11 +146,12 @@ free types ns (Two t ss f m n) env d k th is small unmade thing =
     let made_two = times-append a (made m) (made n) in
     let thing_a : IsThing d (inside ss env a) th = subst (λ (x : Term). IsThing d x th) (sym same) thing in
     two_free d f (meaning (inside ss env) m) (meaning (inside ss env) n) th
-    (elim (either (times a (used m)) (times a (used n)) u)
-    [ inl h ↦ Contains-append_left (things d (meaning (inside ss env) m)) (things d (meaning (inside ss env) n)) th
-        (free types (first_numbers ss ns (used n)) m (inside ss env) d a th first.kept h (omega (arith, away, made_two)) thing_a)
-    | inr h ↦ Contains-append_right (things d (meaning (inside ss env) m)) (things d (meaning (inside ss env) n)) th
-        (free types (own_numbers ss ns n) n (inside ss env) d a th second.kept h (omega (arith, away, made_two)) thing_a) ])
+    (elim (either (times a (used m)) (times a (used n)) u) [
+      | inl h ↦ Contains-append_left (things d (meaning (inside ss env) m)) (things d (meaning (inside ss env) n)) th
+          (free types (first_numbers ss ns (used n)) m (inside ss env) d a th first.kept h (omega (arith, away, made_two)) thing_a)
+      | inr h ↦ Contains-append_right (things d (meaning (inside ss env) m)) (things d (meaning (inside ss env) n)) th
+          (free types (own_numbers ss ns n) n (inside ss env) d a th second.kept h (omega (arith, away, made_two)) thing_a)
+    ])
 free types ns (If t ss m n p) env d k th is small unmade thing =
     let (first, second, third, rest) = three_are_kept types ns t ss m n p is in
     let all = times-append k (sides ss) (made m ++ (made n ++ made p)) in
@@ -163,13 +164,15 @@ free types ns (If t ss m n p) env d k th is small unmade thing =
     let made_two = times-append a (made m) (made n ++ made p) in
     let made_three = times-append a (made n) (made p) in
     let thing_a : IsThing d (inside ss env a) th = subst (λ (x : Term). IsThing d x th) (sym same) thing in
-    elim (either (times a (used m)) (times a (used n) + times a (used p)) u)
-    [ inl h ↦ Contains-append_left (things d (meaning (inside ss env) m)) (things d (meaning (inside ss env) n) ++ things d (meaning (inside ss env) p)) th
-        (free types (first_numbers ss ns (used n ++ used p)) m (inside ss env) d a th first.kept h (omega (arith, away, made_two)) thing_a)
-    | inr j ↦
-        Contains-append_right (things d (meaning (inside ss env) m)) (things d (meaning (inside ss env) n) ++ things d (meaning (inside ss env) p)) th
-        (elim (either (times a (used n)) (times a (used p)) j)
-        [ inl h ↦ Contains-append_left (things d (meaning (inside ss env) n)) (things d (meaning (inside ss env) p)) th
-            (free types (own_numbers ss ns n) n (inside ss env) d a th second.kept h (omega (arith, away, made_two, made_three)) thing_a)
-        | inr h ↦ Contains-append_right (things d (meaning (inside ss env) n)) (things d (meaning (inside ss env) p)) th
-            (free types (own_numbers ss ns p) p (inside ss env) d a th third.kept h (omega (arith, away, made_two, made_three)) thing_a) ]) ]
+    elim (either (times a (used m)) (times a (used n) + times a (used p)) u) [
+      | inl h ↦ Contains-append_left (things d (meaning (inside ss env) m)) (things d (meaning (inside ss env) n) ++ things d (meaning (inside ss env) p)) th
+          (free types (first_numbers ss ns (used n ++ used p)) m (inside ss env) d a th first.kept h (omega (arith, away, made_two)) thing_a)
+      | inr j ↦
+          Contains-append_right (things d (meaning (inside ss env) m)) (things d (meaning (inside ss env) n) ++ things d (meaning (inside ss env) p)) th
+          (elim (either (times a (used n)) (times a (used p)) j) [
+            | inl h ↦ Contains-append_left (things d (meaning (inside ss env) n)) (things d (meaning (inside ss env) p)) th
+                (free types (own_numbers ss ns n) n (inside ss env) d a th second.kept h (omega (arith, away, made_two, made_three)) thing_a)
+            | inr h ↦ Contains-append_right (things d (meaning (inside ss env) n)) (things d (meaning (inside ss env) p)) th
+                (free types (own_numbers ss ns p) p (inside ss env) d a th third.kept h (omega (arith, away, made_two, made_three)) thing_a)
+          ])
+    ]

@@ -1,20 +1,19 @@
 -- The parts of a node inherit what is kept of its numbers.
 use Rattle.std.specs.Prelude.{◌≡◌, ℕ, zero, suc, ◌+◌, ◌<◌, ◌≤◌, List, [], ◌∷◌, ◌++◌}
-use Rattle.std.proofs.Common.{refl, sym, ◌∙◌, ap, subst, arith}
+use Rattle.std.proofs.Common.{refl, subst, arith}
 use Rattle.gos_types.specs.Types.{Type'}
 use Rattle.gos_check.specs.declared.linear.Split.{Split}
-use Rattle.gos_check.specs.Nodes.{Numbered, Under, One, Two, If, Binding, OneForm, TwoForm}
+use Rattle.gos_check.specs.Nodes.{Numbered, Under, One, Two, If, Binding, OneForm}
 use Rattle.gos_check.specs.Linearity.{times, split_in, sides, used, made}
 use Rattle.gos_check.proofs.TimesLemmas.{times-append}
 use Rattle.gos_compile.specs.Wiring.{Types}
 use Rattle.gos_stages.specs.Inside.{numbers_inside}
-use Rattle.gos_frames.specs.Frames.{AreParted}
 use Rattle.gos_frames.specs.Blocks.{IsBound}
 use Rattle.gos_numbers.specs.Kept.{IsKept}
 use Rattle.gos_numbers.specs.Inherited.{own_numbers, first_numbers, IsPart, BodyIsKept, PartIsKept, BothAreKept, BothAreParted, ThreeAreKept}
-use Rattle.gos_numbers.proofs.ListLemmas.{times_inside, passed, stopped, none_passed, some_stopped}
+use Rattle.gos_numbers.proofs.ListLemmas.{passed, stopped, none_passed, some_stopped}
 use Rattle.gos_numbers.proofs.ScopeLemmas.{covered}
-use Rattle.gos_numbers.proofs.PartLemmas.{Beside, is_part}
+use Rattle.gos_numbers.proofs.PartLemmas.{is_part}
 
 -- a binder, without splits
 plain_body : (types : Types) (ns : List ℕ) (t : Type') (b : Binding) (n : ℕ) (m : Numbered)

@@ -1,6 +1,6 @@
 -- From a number that a node uses or splits, one comes that a part of it uses; both stand for the same.
-use Rattle.std.specs.Prelude.{◌≡◌, ◌≢◌, ℕ, zero, suc, ◌+◌, ◌<◌, ◌≤◌, List, [], ◌∷◌}
-use Rattle.std.proofs.Common.{refl, sym, ◌∙◌, ap, subst, arith, inl, inr}
+use Rattle.std.specs.Prelude.{◌≡◌, ◌≢◌, ℕ, ◌+◌, ◌<◌, ◌≤◌, List, [], ◌∷◌}
+use Rattle.std.proofs.Common.{refl, ◌∙◌, subst, arith, inl}
 use Rattle.gos_check.specs.declared.linear.Split.{Split}
 use Rattle.gos_check.specs.Nodes.{Meaning, inside, inside_one}
 use Rattle.gos_check.specs.Linearity.{times, split_in, sides, Comes, itself, by_left, by_right}

@@ -1,6 +1,6 @@
 -- A node `m || n` of a typed term has no splits: what is split would be free on both sides.
-use Rattle.std.specs.Prelude.{◌≡◌, ◌≢◌, ℕ, zero, suc, ◌+◌, ◌-◌, ◌<◌, ◌≤◌, ◌⊎◌, ◌||◌, Bool, true, false, List, [], ◌∷◌, ◌++◌, length, nat_eq, if◌then◌else◌}
-use Rattle.std.proofs.Common.{refl, sym, ◌∙◌, ap, subst, arith, inl, inr}
+use Rattle.std.specs.Prelude.{◌≡◌, ℕ, zero, suc, ◌+◌, ◌-◌, ◌<◌, ◌||◌, Bool, true, false, List, [], ◌∷◌, ◌++◌, length, nat_eq, if◌then◌else◌}
+use Rattle.std.proofs.Common.{refl, sym, subst, arith, inl, inr}
 use Rattle.gos_types.specs.Types.{Type', Var, type_of}
 use Rattle.gos_model.specs.Terms as terms
 use Rattle.gos_model.specs.Terms.{Term}
@@ -8,7 +8,7 @@ use Rattle.gos_model.specs.Typing.{Imports, Typed, Apart, Thing, Variable, Named
 use Rattle.gos_check.specs.declared.linear.Split.{Split}
 use Rattle.gos_check.specs.Nodes.{Numbered, Closed, Use, Under, One, Two, If, OfFun, OfNew, OfFst, OfSnd, OfDeref, OfNot, OfApp, OfBoth, OfSeq, OfPar, OfWhile, OfAssign, OfBin, Meaning, meaning, below, shifted, inside, inside_one, argument_of, node_seen}
 use Rattle.gos_check.specs.Linearity.{times, used, made, sides, import_at}
-use Rattle.gos_check.specs.Checked.{SeenLinear, IsChecked, program_in}
+use Rattle.gos_check.specs.Checked.{program_in}
 use Rattle.gos_check.proofs.TimesLemmas.{times-append}
 use Rattle.gos_compile.specs.Wiring.{Types, all_types}
 use Rattle.gos_compile.specs.Typed.{CheckedIsTyped}
@@ -23,7 +23,7 @@ use Rattle.gos_numbers.proofs.ListLemmas.{either}
 use Rattle.gos_numbers.proofs.ApartLemmas.{side_comes}
 use Rattle.gos_numbers.proofs.InheritedLemmas.{body_is_kept, part_is_kept, both_are_kept, three_are_kept}
 use Rattle.gos_numbers.proofs.RootLemmas.{two_none, first_kept, checked_is_kept}
-use Rattle.gos_numbers.proofs.ReachLemmas.{Reached, Used, reach_left, reach_right, comes_none}
+use Rattle.gos_numbers.proofs.ReachLemmas.{reach_left, reach_right}
 use Rattle.gos_numbers.proofs.FreeLemmas.{IsThing, free, two_used, two_away}
 
 -- numbers stand for variables, imports and locations alone
@@ -83,19 +83,22 @@ parallel_unsplit types ns t (s ∷ ss) m n env is names none apart =
     let thing_b : IsThing 0 (inside (s ∷ ss) env b) th = subst (λ (x : Term). IsThing 0 x th) (sym again) thing in
     let away_a = unmade a (side_comes (s ∷ ss) s.left a c (left_in s (s ∷ ss) (inl refl))) in
     let away_b = unmade b (side_comes (s ∷ ss) s.right b d (right_in s (s ∷ ss) (inl refl))) in
-    elim (either (times a (used m)) (times a (used n)) u)
-    [ inl h ↦
-        elim (either (times b (used m)) (times b (used n)) v)
-        [ inl j ↦ absurd (is.apart.0 s a b (inl refl) c d h j)
-        | inr j ↦ absurd (apart th
-            (free types (first_numbers (s ∷ ss) ns (used n)) m (inside (s ∷ ss) env) 0 a th first.kept h away_a.0 thing_a)
-            (free types (own_numbers (s ∷ ss) ns n) n (inside (s ∷ ss) env) 0 b th second.kept j away_b.1 thing_b)) ]
-    | inr h ↦
-        elim (either (times b (used m)) (times b (used n)) v)
-        [ inl j ↦ absurd (apart th
-            (free types (first_numbers (s ∷ ss) ns (used n)) m (inside (s ∷ ss) env) 0 b th first.kept j away_b.0 thing_b)
-            (free types (own_numbers (s ∷ ss) ns n) n (inside (s ∷ ss) env) 0 a th second.kept h away_a.1 thing_a))
-        | inr j ↦ absurd (is.apart.1 s a b (inl refl) c d h j) ] ]
+    elim (either (times a (used m)) (times a (used n)) u) [
+      | inl h ↦
+          elim (either (times b (used m)) (times b (used n)) v) [
+            | inl j ↦ absurd (is.apart.0 s a b (inl refl) c d h j)
+            | inr j ↦ absurd (apart th
+                (free types (first_numbers (s ∷ ss) ns (used n)) m (inside (s ∷ ss) env) 0 a th first.kept h away_a.0 thing_a)
+                (free types (own_numbers (s ∷ ss) ns n) n (inside (s ∷ ss) env) 0 b th second.kept j away_b.1 thing_b))
+          ]
+      | inr h ↦
+          elim (either (times b (used m)) (times b (used n)) v) [
+            | inl j ↦ absurd (apart th
+                (free types (first_numbers (s ∷ ss) ns (used n)) m (inside (s ∷ ss) env) 0 b th first.kept j away_b.0 thing_b)
+                (free types (own_numbers (s ∷ ss) ns n) n (inside (s ∷ ss) env) 0 a th second.kept h away_a.1 thing_a))
+            | inr j ↦ absurd (is.apart.1 s a b (inl refl) c d h j)
+          ]
+    ]
   where
     unmade : (k : ℕ) → 0 < times k (sides (s ∷ ss)) → (times k (made m) ≡ 0) × (times k (made n) ≡ 0)
     unmade k small =
