@@ -3,3 +3,4 @@ pub mod WhoseLemmas
 pub mod WiredLemmas
 pub mod LeafLemmas
 pub mod ParallelLemmas
+pub mod PutLemmas
