@@ -1,6 +1,6 @@
 -- A name that no import has: it is longer than all of theirs together.
-use Rattle.std.specs.Prelude.{◌≡◌, ◌≢◌, ℕ, zero, suc, ◌+◌, ◌≤◌, [], ◌∷◌, ◌++◌, length, Contains}
-use Rattle.std.proofs.Common.{sym, ap, arith}
+use Rattle.std.specs.Prelude.{◌≡◌, ◌≢◌, zero, suc, ◌≤◌, [], ◌∷◌, ◌++◌, length, Contains}
+use Rattle.std.proofs.Common.{ap, arith}
 use Rattle.std.proofs.lemmas.List.{length-append}
 use Rattle.gos_model.specs.Terms.{Name}
 use Rattle.gos_model.specs.Typing.{Imported, Imports}
