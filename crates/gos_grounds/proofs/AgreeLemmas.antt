@@ -50,7 +50,7 @@ meaning_agrees (Two t ss g m n) ns e f (split, one, other) same =
     λ i. two_term g (left i) (right i)
 meaning_agrees (If t ss m n p) ns e f (split, first, second, third) same =
     let inner = inside_agrees ss ns e f split same in
-    let test = meaning_agrees m (numbers_inside ss ns) (inside ss e) (inside ss f) first inner in
-    let then = meaning_agrees n (numbers_inside ss ns) (inside ss e) (inside ss f) second inner in
-    let otherwise = meaning_agrees p (numbers_inside ss ns) (inside ss e) (inside ss f) third inner in
-    λ i. terms.If (test i) (then i) (otherwise i)
+    let first_same = meaning_agrees m (numbers_inside ss ns) (inside ss e) (inside ss f) first inner in
+    let second_same = meaning_agrees n (numbers_inside ss ns) (inside ss e) (inside ss f) second inner in
+    let third_same = meaning_agrees p (numbers_inside ss ns) (inside ss e) (inside ss f) third inner in
+    λ i. terms.If (first_same i) (second_same i) (third_same i)

@@ -1,12 +1,12 @@
 -- A block: its body realises its term where a name that no import has stands for the variable.
-use Rattle.std.specs.Prelude.{◌≡◌, ◌≢◌, ℕ, zero, suc, ◌<◌, Bool, true, false, List, [], ◌∷◌, ◌++◌, ◌⊎◌, Some, None, All, Contains, slice_get, nat_eq, nat_lt, if◌then◌else◌}
+use Rattle.std.specs.Prelude.{◌≡◌, ◌≢◌, ℕ, zero, suc, ◌+◌, ◌<◌, Bool, true, false, List, [], ◌∷◌, ◌++◌, ◌⊎◌, Some, All, Contains, slice_get, nat_eq, nat_lt, if◌then◌else◌}
 use Rattle.std.specs.Str.{bytes_eq}
 use Rattle.std.proofs.Common.{refl, sym, ◌∙◌, ap, subst, arith, inl, inr}
 use Rattle.std.proofs.lemmas.Option.{none-some, same_Some}
 use Rattle.std.proofs.lemmas.Bool.Decides.{nat_tests}
 use Rattle.std.proofs.lemmas.Slice.Eq.{bytes_eq-Decides}
 use Rattle.std.proofs.lemmas.List.Elements.{Contains-append_left, Contains-append_right}
-use Rattle.gos_types.specs.Types.{Type', Com, Var, IsGround, IsDone}
+use Rattle.gos_types.specs.Types.{Type', Com, Var, IsGround}
 use Rattle.gos_types.specs.Widths.{IsWidth}
 use Rattle.gos_model.specs.Terms.{Term, Name, Import, New, Skip}
 use Rattle.gos_model.specs.Typing.{Imported, import_type, Named, things, Typed}
@@ -203,15 +203,15 @@ module _
     total : Meaning
     total k = if nat_lt 0 (times k ns) then (env k).term else Skip
 
-    unfolding total
     total_is : AgreeAt ns (terms_of env) total
+    unfolding total
     total_is k has =
         let some = some_times k ns has in
         let test : nat_lt 0 (times k ns) ≡ true = grind (arith, nat_tests, some) in
         sym (ap (λ (c : Bool). if c then (env k).term else Skip) test)
 
-    unfolding total
     total_typed : (k : ℕ) → (u : Type') × Typed body.imports [] (total k) u
+    unfolding total
     total_typed k = by_test (nat_lt 0 (times k ns)) refl
       where
         by_test : (c : Bool) → nat_lt 0 (times k ns) ≡ c → (u : Type') × Typed body.imports [] (if c then (env k).term else Skip) u
