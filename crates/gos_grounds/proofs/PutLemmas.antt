@@ -6,9 +6,7 @@ use Rattle.gos_types.specs.Types.{Type', Com, Exp, Var, Pair, Fun}
 use Rattle.gos_model.specs.Terms.{Term, Name, Skip, Lit, Bound, Import, Lam, App, Both, Fst, Snd, Seq, Par, If, While, Assign, Deref, New, Not, Bin, Loc, Scope, Wait, Held, Put}
 use Rattle.gos_model.specs.Typing.{Imports, import_type, Thing, Variable, Named, things, Apart, Typed}
 use Rattle.gos_model.specs.Substitution.{put_at}
-
-none : (X : Type 0) (x : X) → Contains [] x → ⊥
-none X x (k, small, at) = omega (arith, small)
+use Rattle.gos_grounds.proofs.WhoseLemmas.{bound_names}
 
 alone : (a y : Thing) → Contains (a ∷ []) y → a ≡ y
 alone a y (zero, small, at) = at
@@ -43,7 +41,11 @@ bound_kept e d j x y true is h =
     let at : j ≡ e + d = grind (arith, is) in
     let no : nat_lt j e ≡ false = not_below j e (omega (arith, at)) in
     let less : j - e ≡ d = omega (arith, at) in
-    inr (sym (alone (Named x) y h), subst (λ (c : Bool). Contains (if c then [] else Variable (j - e) ∷ []) (Variable d)) (sym no) (0, omega arith, ap (λ (k : ℕ). Variable k) less))
+    inr (
+      sym (alone (Named x) y h),
+      subst (λ (c : Bool). Contains (if c then [] else Variable (j - e) ∷ []) (Variable d)) (sym no)
+          (0, omega arith, ap (λ (k : ℕ). Variable k) less),
+    )
   where
     not_below : (j e : ℕ) → e ≤ j → nat_lt j e ≡ false
     not_below j e l = by_test (nat_lt j e) refl
@@ -87,48 +89,42 @@ kept (Wait z s) e d x y h = inl h
 kept (Held k op m) e d x y h = kept m e d x y h
 kept (Put m k) e d x y h = kept m e d x y h
 
--- a name is free under however many binders
-no_name : (e j : ℕ) (x : Name) → Contains (things e (Bound j)) (Named x) → ⊥
-no_name e j x = by_test (nat_lt j e)
-  where
-    by_test : (b : Bool) → Contains (if b then [] else Variable (j - e) ∷ []) (Named x) → ⊥
-    by_test true h = none Thing (Named x) h
-    by_test false h = let no = alone (Variable (j - e)) (Named x) h in cc no
-
-two_any : (xs ys us vs : List Thing) (y : Thing) → (Contains xs y → Contains us y) → (Contains ys y → Contains vs y) → Contains (xs ++ ys) y → Contains (us ++ vs) y
-two_any xs ys us vs y f g has =
+of_two : (xs ys us vs : List Thing) (y : Thing)
+    → (Contains xs y → Contains us y) → (Contains ys y → Contains vs y) → Contains (xs ++ ys) y → Contains (us ++ vs) y
+of_two xs ys us vs y f g has =
     elim (Contains-append_cases xs ys y has) [
       | inl h ↦ Contains-append_left us vs y (f h)
       | inr h ↦ Contains-append_right us vs y (g h)
     ]
 
-any : (m : Term) (e f : ℕ) (x : Name) → Contains (things e m) (Named x) → Contains (things f m) (Named x)
-any Skip e f x h = h
-any (Lit k w) e f x h = h
-any (Bound j) e f x h = absurd (no_name e j x h)
-any (Import z) e f x h = h
-any (Lam a m) e f x h = any m (suc e) (suc f) x h
-any (App m n) e f x h = two_any (things e m) (things e n) (things f m) (things f n) (Named x) (any m e f x) (any n e f x) h
-any (Both m n) e f x h = two_any (things e m) (things e n) (things f m) (things f n) (Named x) (any m e f x) (any n e f x) h
-any (Fst m) e f x h = any m e f x h
-any (Snd m) e f x h = any m e f x h
-any (Seq m n) e f x h = two_any (things e m) (things e n) (things f m) (things f n) (Named x) (any m e f x) (any n e f x) h
-any (Par m n) e f x h = two_any (things e m) (things e n) (things f m) (things f n) (Named x) (any m e f x) (any n e f x) h
-any (If m n p) e f x h =
-    two_any (things e m) (things e n ++ things e p) (things f m) (things f n ++ things f p) (Named x) (any m e f x)
-    (two_any (things e n) (things e p) (things f n) (things f p) (Named x) (any n e f x) (any p e f x)) h
-any (While m n) e f x h = two_any (things e m) (things e n) (things f m) (things f n) (Named x) (any m e f x) (any n e f x) h
-any (Assign m n) e f x h = two_any (things e m) (things e n) (things f m) (things f n) (Named x) (any m e f x) (any n e f x) h
-any (Deref m) e f x h = any m e f x h
-any (New w m) e f x h = any m (suc e) (suc f) x h
-any (Not m) e f x h = any m e f x h
-any (Bin op m n) e f x h = two_any (things e m) (things e n) (things f m) (things f n) (Named x) (any m e f x) (any n e f x) h
-any (Loc l) e f x h = h
-any (Scope l m) e f x (zero, small, at) = absurd (cc at)
-any (Scope l m) e f x (suc k, small, at) = let (n, less, is) = any m e f x (k, omega (arith, small), at) in (suc n, omega (arith, less), is)
-any (Wait z s) e f x h = h
-any (Held k op m) e f x h = any m e f x h
-any (Put m k) e f x h = any m e f x h
+-- a name is free under however many binders
+under_any : (m : Term) (e f : ℕ) (x : Name) → Contains (things e m) (Named x) → Contains (things f m) (Named x)
+under_any Skip e f x h = h
+under_any (Lit k w) e f x h = h
+under_any (Bound j) e f x h = absurd (bound_names e j x h)
+under_any (Import z) e f x h = h
+under_any (Lam a m) e f x h = under_any m (suc e) (suc f) x h
+under_any (App m n) e f x h = of_two (things e m) (things e n) (things f m) (things f n) (Named x) (under_any m e f x) (under_any n e f x) h
+under_any (Both m n) e f x h = of_two (things e m) (things e n) (things f m) (things f n) (Named x) (under_any m e f x) (under_any n e f x) h
+under_any (Fst m) e f x h = under_any m e f x h
+under_any (Snd m) e f x h = under_any m e f x h
+under_any (Seq m n) e f x h = of_two (things e m) (things e n) (things f m) (things f n) (Named x) (under_any m e f x) (under_any n e f x) h
+under_any (Par m n) e f x h = of_two (things e m) (things e n) (things f m) (things f n) (Named x) (under_any m e f x) (under_any n e f x) h
+under_any (If m n p) e f x h =
+    of_two (things e m) (things e n ++ things e p) (things f m) (things f n ++ things f p) (Named x) (under_any m e f x)
+    (of_two (things e n) (things e p) (things f n) (things f p) (Named x) (under_any n e f x) (under_any p e f x)) h
+under_any (While m n) e f x h = of_two (things e m) (things e n) (things f m) (things f n) (Named x) (under_any m e f x) (under_any n e f x) h
+under_any (Assign m n) e f x h = of_two (things e m) (things e n) (things f m) (things f n) (Named x) (under_any m e f x) (under_any n e f x) h
+under_any (Deref m) e f x h = under_any m e f x h
+under_any (New w m) e f x h = under_any m (suc e) (suc f) x h
+under_any (Not m) e f x h = under_any m e f x h
+under_any (Bin op m n) e f x h = of_two (things e m) (things e n) (things f m) (things f n) (Named x) (under_any m e f x) (under_any n e f x) h
+under_any (Loc l) e f x h = h
+under_any (Scope l m) e f x (zero, small, at) = absurd (cc at)
+under_any (Scope l m) e f x (suc k, small, at) = let (n, less, is) = under_any m e f x (k, omega (arith, small), at) in (suc n, omega (arith, less), is)
+under_any (Wait z s) e f x h = h
+under_any (Held k op m) e f x h = under_any m e f x h
+under_any (Put m k) e f x h = under_any m e f x h
 
 -- the term hasn't the name
 abbrev pub IsWithout : Name → Term → Type 0
@@ -141,7 +137,7 @@ right_without : (x : Name) (m n : Term) → (Contains (things 0 m ++ things 0 n)
 right_without x m n free h = free (Contains-append_right (things 0 m) (things 0 n) (Named x) h)
 
 under_without : (x : Name) (m : Term) → (Contains (things 1 m) (Named x) → ⊥) → IsWithout x m
-under_without x m free h = free (any m 0 1 x h)
+under_without x m free h = free (under_any m 0 1 x h)
 
 -- what two parts don't share they don't share with the name either
 apart : (m n : Term) (d : ℕ) (x : Name) → IsWithout x m → IsWithout x n → Apart m n → Apart (put_at d (Import x) m) (put_at d (Import x) n)
@@ -199,8 +195,12 @@ module _ (i : Imports) (x : Name) (a : Type') (known : import_type i x ≡ Some 
     apart m n (length g) x (left_without x m n free) (right_without x m n free) old,
   )
   put_typed (If m n p) g t free (done, h, k, l) =
-      let rest = right_without x m (Seq n p) free in
-      (done, put_typed m g (Exp 1) (left_without x m (Seq n p) free) h, put_typed n g t (left_without x n p rest) k, put_typed p g t (right_without x n p rest) l)
+      let rest = right_without x m (Seq n p) free in (
+        done,
+        put_typed m g (Exp 1) (left_without x m (Seq n p) free) h,
+        put_typed n g t (left_without x n p rest) k,
+        put_typed p g t (right_without x n p rest) l,
+      )
   put_typed (While m n) g t free (e, h, k) = (e, put_typed m g (Exp 1) (left_without x m n free) h, put_typed n g Com (right_without x m n free) k)
   put_typed (Assign m n) g t free (w, e, h, k) =
       (w, e, put_typed m g (Var w) (left_without x m n free) h, put_typed n g (Exp w) (right_without x m n free) k)

@@ -16,7 +16,7 @@ pub none : (X : Type 0) (x : X) → Contains [] x → ⊥
 none X x (k, small, at) = omega (arith, small)
 
 -- a variable has no name
-bound_names : (f j : ℕ) (x : Name) → Contains (things f (terms.Bound j)) (Named x) → ⊥
+pub bound_names : (f j : ℕ) (x : Name) → Contains (things f (terms.Bound j)) (Named x) → ⊥
 bound_names f j x = by_test (nat_lt j f)
   where
     by_test : (b : Bool) → Contains (if b then [] else Variable (j - f) ∷ []) (Named x) → ⊥
