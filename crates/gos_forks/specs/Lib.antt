@@ -1,0 +1,5 @@
+-- In reading order: a file uses only files above it.
+pub mod Forks
+pub mod Forms
+pub mod Covers
+pub mod Runs
