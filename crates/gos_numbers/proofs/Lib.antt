@@ -4,4 +4,7 @@ mod ApartLemmas
 mod PartLemmas
 mod InheritedLemmas
 mod RootLemmas
+mod ReachLemmas
+mod FreeLemmas
+mod UnsplitLemmas
 mod SmallKeptLemmas
