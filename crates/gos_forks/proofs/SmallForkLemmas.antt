@@ -27,10 +27,10 @@ skip_is_part =
             once = λ k. omega arith;
             used_once = λ k. omega arith;
             scope = tt;
-            within = tt;
+            within = λ k some. absurd (omega (arith, some));
             apart = tt;
             forks = refl;
-            typed = tt;
+            typed = (tt, refl);
             ground = tt;
           };
       tidy =
@@ -51,9 +51,6 @@ skip_is_part =
 pub none_is_left : NoneIsLeft
 none_is_left = record { parts = each (branch skip [] ∷ branch skip [] ∷ []) alike; covers = λ k none. refl; once = λ k. omega arith }
   where
-    is : Branch → Type 0
-    is b = IsPart commands [] [] b.uses b.term
-
     alike : (b : Branch) → Contains (branch skip [] ∷ branch skip [] ∷ []) b → branch skip [] ≡ b
     alike b (zero, lt, e) = e
     alike b (suc zero, lt, e) = e
