@@ -123,7 +123,7 @@ module _ (types : Types) (i j : ℕ) (ss : List Split) (env : Supplies) (ns : Li
     pub parts :
         (k : ℕ) → x ≤ k → k < x + length (branch_parts types bs)
         → (i + length ss < k) × (in_range (child.first + child.off) (length (parts_of types b.term)) k ≡ false)
-    pub nodes : (k : ℕ) → y ≤ k → k < y + branch_nodes bs → in_range (suc j + branch_nodes before) (nodes b.term) k ≡ false
+    pub inner : (k : ℕ) → y ≤ k → k < y + branch_nodes bs → in_range (suc j + branch_nodes before) (nodes b.term) k ≡ false
     pub numbers : (k : ℕ) → 0 < times k (branch_made bs) + times k (branch_uses bs) → IsOthers ss b k
 
   module _ (tidy : AreTidy (is_used child) ss ns) (c x y : ℕ) (bs : List Branch) (apart : AreApart c x y bs) where
@@ -134,7 +134,7 @@ module _ (types : Types) (i j : ℕ) (ss : List Split) (env : Supplies) (ns : Li
     aside_nothing (places.Import k) h aside = absurd aside
     aside_nothing places.Result h aside = absurd aside
     aside_nothing (places.Number k) h aside = number_nothing k h tidy (apart.numbers k aside)
-    aside_nothing (places.Node k) h (le, lt) = node_nothing k h (apart.nodes k le lt)
+    aside_nothing (places.Node k) h (le, lt) = node_nothing k h (apart.inner k le lt)
 
     foreign_ties : ((a : Branch) → Contains bs a → Knows a) → (u : point_ties.Tie) → Contains (branch_ties types (i + length ss) c x y bs) u
         → IsForeign child (lifted u)
@@ -176,7 +176,7 @@ module _ (types : Types) (i j : ℕ) (m : Numbered) (ss : List Split) (own : Par
         parts =
             λ k le lt.
             (omega (arith, le), range_below (me.first + me.off) (length (parts_of types b.term)) k (omega (arith, lt)));
-        nodes = λ k le lt. range_below (suc j + branch_nodes before) (nodes b.term) k lt;
+        inner = λ k le lt. range_below (suc j + branch_nodes before) (nodes b.term) k lt;
         numbers =
             λ k some.
             let one = all_made before after b k in
@@ -193,7 +193,7 @@ module _ (types : Types) (i j : ℕ) (m : Numbered) (ss : List Split) (own : Par
         parts =
             λ k le lt.
             (omega (arith, le), range_past (me.first + me.off) (length (parts_of types b.term)) k le);
-        nodes = λ k le lt. range_past (suc j + branch_nodes before) (nodes b.term) k le;
+        inner = λ k le lt. range_past (suc j + branch_nodes before) (nodes b.term) k le;
         numbers =
             λ k some.
             let one = all_made before after b k in
