@@ -1,6 +1,6 @@
 -- A fork realises its term, where its branches realise theirs.
 --
--- Read first: Covers; Cases of gos_grounds; Sessions of gos_sessions, Realised of gos_nodes.
+-- Read first: Forks of gos_forks; Cases of gos_grounds; Sessions of gos_sessions, Realised of gos_nodes.
 use Rattle.std.specs.Prelude.{◌≡◌, ◌≢◌, ℕ, List, [], ◌∷◌, ◌++◌, All, Some, Contains, length}
 use Rattle.gos_model.specs.Typing.{Typed}
 use Rattle.gos_check.specs.declared.linear.Split.{Split}
