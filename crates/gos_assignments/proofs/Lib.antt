@@ -1,0 +1,1 @@
+-- In reading order: a file uses only files above it.
