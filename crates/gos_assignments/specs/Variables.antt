@@ -3,7 +3,7 @@
 -- Read first: Lodging and Served of gos_stages; Written of gos_writes; Folds of gos_folds. The first child of `M := N` is the use of a number, which
 -- a Share of the node may split. What stands for it inside the splits is a plan whose parts are parts of the node; its handshake 1 is the own
 -- part's, and its handshake 0 meets nothing more. So without the joint by which it is read that plan is a region.
-use Rattle.std.specs.Prelude.{◌≡◌, ℕ, suc, ◌+◌, ◌≤◌, ◌⊎◌, Bool, List, [], ◌∷◌, ◌++◌, length, Option, Some, None, nat_eq, nat_lt, slice_get, Contains, if◌then◌else◌}
+use Rattle.std.specs.Prelude.{◌≡◌, ℕ, zero, suc, ◌+◌, ◌≤◌, ◌⊎◌, Bool, List, [], ◌∷◌, ◌++◌, length, Option, Some, None, nat_eq, nat_lt, slice_get, Contains, if◌then◌else◌}
 use Rattle.gos_types.specs.Types.{Var}
 use Rattle.gos_check.specs.declared.linear.Split.{Split}
 use Rattle.gos_check.specs.Linearity.{times, split_in}
