@@ -2,3 +2,4 @@
 pub mod ReadLemmas
 pub mod TargetBackLemmas
 pub mod TargetFoldLemmas
+pub mod LaidLemmas

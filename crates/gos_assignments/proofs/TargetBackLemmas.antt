@@ -10,7 +10,7 @@ use Rattle.gos_check.proofs.TimesLemmas.{eq_true, eq_false, true_eq}
 use Rattle.gos_plan.specs.Kinds.{Contact, asks, contacts_of}
 use Rattle.gos_plan.specs.Plans.{End, PartEnd, ImportEnd, ResultEnd, Joint, Plan, contact_at, same_end, stands_in, turned_if, IsRight}
 use Rattle.gos_plan.proofs.JointLemmas.{IsIn, fits, contained}
-use Rattle.gos_realises.specs.Regular.{count}
+use Rattle.gos_realises.specs.Regular.{count, IsRegular}
 use Rattle.gos_realises.specs.Realises.{Realises}
 use Rattle.gos_ties.specs.declared.points.Place.TheVariants as places
 use Rattle.gos_ties.specs.declared.points.Tie as point_ties
@@ -93,6 +93,9 @@ module _ (f : Target) (ts : List Tie) (w : ℕ) (is : IsTarget f ts w) where
 
   pub plan_right : IsRight (target_plan f)
   plan_right = realised.suits.right
+
+  pub plan_regular : IsRegular (target_plan f)
+  plan_regular = realised.suits.regular
 
   pub plan_outcome : (target_plan f).outcome ≡ Var w
   plan_outcome = realised.suits.outcome ∙ is.width

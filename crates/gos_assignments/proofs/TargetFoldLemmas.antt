@@ -61,7 +61,7 @@ some_shake (Var w) g = omega arith
 some_shake (Pair a b) g = absurd g
 some_shake (Fun a b) g = absurd g
 
-other_unserved : (m c j : ℕ) → c < 2 → j < m → serves_side m c (m + (1 - c) * m + j) ≡ false
+pub other_unserved : (m c j : ℕ) → c < 2 → j < m → serves_side m c (m + (1 - c) * m + j) ≡ false
 other_unserved m zero j two lt = serves_first_alone m j
 other_unserved m (suc zero) j two lt = serves_second_alone m j lt
 other_unserved m (suc (suc c)) j two lt = absurd (omega (arith, two))
@@ -106,7 +106,7 @@ module _ (f : Target) (ts : List Tie) (w : ℕ) (is : IsTarget f ts w) (read : E
   fold = record { cut = target_cut f pl size; dot = target_dot f; back = target_back f read }
 
   -- what is at home
-  part_home : (k h : ℕ) → k < length p.parts → l.home (source_dot f.first (l.part x k) h) ≡ spot_if (not (l.spare x k h)) x (PartEnd k h)
+  pub part_home : (k h : ℕ) → k < length p.parts → l.home (source_dot f.first (l.part x k) h) ≡ spot_if (not (l.spare x k h)) x (PartEnd k h)
   part_home k h lt = (numbers_are_at_home f.types f.first (is_target f) f.splits f.env f.numbers x is.tidy is.unsplit (itself f ts w is)).parts k h lt
 
   import_home : (k h : ℕ) → l.home (Within (suc (l.root x)) (Of (ImportEnd k h))) ≡ Some (spot x (ImportEnd k h))
@@ -120,7 +120,7 @@ module _ (f : Target) (ts : List Tie) (w : ℕ) (is : IsTarget f ts w) (read : E
   outsider k = parts_are_outsiders f.types f.first (is_target f) f.splits f.env x k
 
   -- parts
-  part_lies : (k : ℕ) (y : Part) → slice_get p.parts k ≡ Some y → (slice_get r.parts (placed pl (l.part x k)) ≡ Some y) × (pl.source (placed pl (l.part x k)) ≡ l.part x k)
+  pub part_lies : (k : ℕ) (y : Part) → slice_get p.parts k ≡ Some y → (slice_get r.parts (placed pl (l.part x k)) ≡ Some y) × (pl.source (placed pl (l.part x k)) ≡ l.part x k)
   part_lies k y at =
       laid.parts y (l.part x k) (parts_are_from f.types f.first (is_target f) f.splits f.env f.numbers own x k y is.tidy is.split has.shares is.there at)
 

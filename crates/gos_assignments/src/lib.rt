@@ -5,4 +5,4 @@
 
 mod laws;
 
-pub use laws::targets_lie;
+pub use laws::{assignments_are_made, targets_lie};
