@@ -1,0 +1,5 @@
+-- In reading order: a file uses only files above it.
+pub mod ReadLemmas
+pub mod TargetBackLemmas
+pub mod TargetFoldLemmas
+pub mod LaidLemmas
