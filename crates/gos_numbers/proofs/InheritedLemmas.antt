@@ -7,7 +7,9 @@ use Rattle.gos_check.specs.Nodes.{Numbered, Under, One, Two, If, Binding, OneFor
 use Rattle.gos_check.specs.Linearity.{times, split_in, sides, used, made}
 use Rattle.gos_check.proofs.TimesLemmas.{times-append}
 use Rattle.gos_compile.specs.Wiring.{Types}
-use Rattle.gos_numbers.specs.Numbers.{numbers_inside, AreParted, IsBound}
+use Rattle.gos_stages.specs.Inside.{numbers_inside}
+use Rattle.gos_frames.specs.Frames.{AreParted}
+use Rattle.gos_frames.specs.Blocks.{IsBound}
 use Rattle.gos_numbers.specs.Kept.{IsKept}
 use Rattle.gos_numbers.specs.Inherited.{own_numbers, first_numbers, IsPart, BodyIsKept, PartIsKept, BothAreKept, BothAreParted, ThreeAreKept}
 use Rattle.gos_numbers.proofs.ListLemmas.{times_inside, passed, stopped, none_passed, some_stopped}

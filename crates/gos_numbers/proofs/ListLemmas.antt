@@ -5,7 +5,7 @@ use Rattle.std.proofs.lemmas.Bool.Decides.{nat_tests}
 use Rattle.gos_check.specs.declared.linear.Split.{Split}
 use Rattle.gos_check.specs.Linearity.{times, split_in, sides}
 use Rattle.gos_check.proofs.TimesLemmas.{number_cases, eq_true, eq_false, true_eq, times_same, times_other}
-use Rattle.gos_numbers.specs.Numbers.{numbers_inside}
+use Rattle.gos_stages.specs.Inside.{numbers_inside}
 
 -- a number is in a list where it is there some times
 pub times_some : (ns : List ℕ) (n : ℕ) → Contains ns n → 0 < times n ns

@@ -8,7 +8,7 @@ use Rattle.gos_leaves.specs.Splits.{SidesUsedWithin, SplitsAtForks}
 use Rattle.gos_leaves.proofs.CountLemmas.{left_in, right_in}
 use Rattle.gos_compile.specs.Wiring.{Types}
 use Rattle.gos_compile.specs.Typed.{NodesTyped, SidesTyped}
-use Rattle.gos_numbers.specs.Numbers.{numbers_inside, AreSplit, SidesAgree}
+use Rattle.gos_stages.specs.Inside.{numbers_inside, AreSplit, SidesAgree}
 use Rattle.gos_numbers.specs.Kept.{InScope, NodesGround, IsKept}
 use Rattle.gos_numbers.specs.Inherited.{IsPart, is_in}
 use Rattle.gos_numbers.proofs.ListLemmas.{times_some, some_times, either, times_inside, true_lt}

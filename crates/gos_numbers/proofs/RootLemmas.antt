@@ -16,7 +16,7 @@ use Rattle.gos_leaves.proofs.LostLemmas.{is_loc, UsesStand, uses_stand, lost_in,
 use Rattle.gos_leaves.proofs.StandLemmas.{none_lost}
 use Rattle.gos_leaves.proofs.WithinLemmas.{standing_is_split_at_forks}
 use Rattle.gos_wired.specs.Modules.{numbers_from}
-use Rattle.gos_numbers.specs.Numbers.{numbers_inside, AreSplit}
+use Rattle.gos_stages.specs.Inside.{numbers_inside, AreSplit}
 use Rattle.gos_numbers.specs.Kept.{InScope, NodesGround, IsKept, CheckedIsKept}
 use Rattle.gos_numbers.proofs.ListLemmas.{some_times, times_inside}
 
