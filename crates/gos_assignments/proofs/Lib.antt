@@ -3,3 +3,4 @@ pub mod ReadLemmas
 pub mod TargetBackLemmas
 pub mod TargetFoldLemmas
 pub mod LaidLemmas
+pub mod MadeLemmas
