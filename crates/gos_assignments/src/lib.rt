@@ -1,8 +1,8 @@
-// The parts of an assignment that is wired to supplies: the variable that it writes.
+// Assignments that are wired to supplies: the variable that they write, their two sides, and that they realise their terms.
 //
-// Definitions and laws alone. Read `specs/Variables`, and then laws.rt.
+// Definitions and laws alone. Read `specs/Variables`, `specs/Made`, `specs/Sides`, `specs/Cases`, and then laws.rt.
 #![tactic(auto)]
 
 mod laws;
 
-pub use laws::{assignments_are_made, targets_lie};
+pub use laws::{assignment_case, assignments_are_made, targets_lie};
