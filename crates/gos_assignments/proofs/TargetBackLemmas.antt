@@ -88,7 +88,7 @@ module _ (f : Target) (ts : List Tie) (w : ℕ) (is : IsTarget f ts w) where
       (sym (lodged_are_inside f.types f.first (is_target f) f.splits f.env))
       (inside_is_realised f.types f.splits f.env f.numbers is.agree is.split is.supplies)
 
-  realised : Realises (f.types f.variable) (target_plan f) ((target_lodge f).env f.variable).term
+  pub realised : Realises (f.types f.variable) (target_plan f) ((target_lodge f).env f.variable).term
   realised = supplied.realised f.variable is.there
 
   pub plan_right : IsRight (target_plan f)

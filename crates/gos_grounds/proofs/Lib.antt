@@ -1,5 +1,6 @@
 pub mod ImportLemmas
 pub mod WhoseLemmas
 pub mod WiredLemmas
+pub mod ChildLemmas
 pub mod LeafLemmas
 pub mod ParallelLemmas
