@@ -75,24 +75,24 @@ module _ (ss : List Split) (ns others : List ℕ) where
   abbrev taken : ℕ → ℕ
   taken k = times k (split_in ss) + times k others
 
-  first_few : (k : ℕ) → times k (first_numbers ss ns others) ≤ times k (numbers_inside ss ns)
+  pub first_few : (k : ℕ) → times k (first_numbers ss ns others) ≤ times k (numbers_inside ss ns)
   first_few k = by_number (taken k) refl
     where
       by_number : (a : ℕ) → taken k ≡ a → times k (first_numbers ss ns others) ≤ times k (numbers_inside ss ns)
       by_number zero e = let same = none_passed taken (numbers_inside ss ns) k e in omega (arith, same)
       by_number (suc a) e = let none = some_stopped taken (numbers_inside ss ns) k (omega (arith, e)) in omega (arith, none)
 
-  first_free : (k : ℕ) → 0 < times k (first_numbers ss ns others) → taken k ≡ 0
+  pub first_free : (k : ℕ) → 0 < times k (first_numbers ss ns others) → taken k ≡ 0
   first_free k small = by_number (taken k) refl
     where
       by_number : (a : ℕ) → taken k ≡ a → taken k ≡ 0
       by_number zero e = e
       by_number (suc a) e = let none = some_stopped taken (numbers_inside ss ns) k (omega (arith, e)) in absurd (omega (arith, none, small))
 
-  first_all : (k : ℕ) → taken k ≡ 0 → times k (first_numbers ss ns others) ≡ times k (numbers_inside ss ns)
+  pub first_all : (k : ℕ) → taken k ≡ 0 → times k (first_numbers ss ns others) ≡ times k (numbers_inside ss ns)
   first_all k e = none_passed taken (numbers_inside ss ns) k e
 
-  first_none : (k : ℕ) → 0 < taken k → times k (first_numbers ss ns others) ≡ 0
+  pub first_none : (k : ℕ) → 0 < taken k → times k (first_numbers ss ns others) ≡ 0
   first_none k e = some_stopped taken (numbers_inside ss ns) k e
 
 -- the numbers of another part
