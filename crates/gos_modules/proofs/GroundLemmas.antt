@@ -12,8 +12,10 @@ use Rattle.gos_compile.specs.Typed.{NodesTyped}
 use Rattle.gos_stages.specs.Inside.{numbers_inside}
 use Rattle.gos_numbers.specs.Kept.{InScope, IsKept}
 use Rattle.gos_numbers.specs.Inherited.{own_numbers, first_numbers, BodyIsKept, PartIsKept, BothAreKept, BothAreParted, ThreeAreKept}
-use Rattle.gos_grounds.specs.Cases.{RealisesWired, UseCase, SkipCase, LiteralCase, ReadCase, ParallelCase}
-use Rattle.gos_modules.specs.Premises.{BlockCase, SequenceCase, LoopCase, OperatorCase, ChoiceCase, ComplementCase, rest_numbers, RestIsKept, AssignCase}
+use Rattle.gos_grounds.specs.Cases.{RealisesWired, UseCase, SkipCase, LiteralCase, ReadCase, ParallelCase, BlockCase}
+use Rattle.gos_runs.specs.Cases.{SequenceCase, ChoiceCase, LoopCase, OperatorCase, ComplementCase}
+use Rattle.gos_assignments.specs.Sides.{assigning, other_numbers, NumberIsKept}
+use Rattle.gos_assignments.specs.Cases.{AssignCase}
 use Rattle.gos_modules.specs.Modules.{GroundIsRealised}
 use Rattle.gos_modules.proofs.NodeLemmas.{has_leaves, node_ground, in_scope, is_use}
 
@@ -31,7 +33,7 @@ pub record Laws : Type 0 where
   pub operator : OperatorCase
   pub complement : ComplementCase
   pub assignment : AssignCase
-  pub rest : RestIsKept
+  pub rest : NumberIsKept
   pub body : BodyIsKept
   pub one : PartIsKept
   pub both : BothAreKept
@@ -106,12 +108,12 @@ ground_is_realised laws types ns (Two t ss OfWhile m n) kept unsplit =
 ground_is_realised laws types ns (Two t ss OfAssign m n) kept unsplit =
     let (w, is_com, is_var, is_exp) = kept.typed.1 in
     let (x, is) = is_use types w m kept.typed.2 kept.ground.1 kept.forks.0 is_var in
-    let path : Two t ss OfAssign m n ≡ Two Com ss OfAssign (Use (Var w) [] x) n = λ i. Two (is_com i) ss OfAssign (is i) n in
-    let plain : IsKept types ns (Two Com ss OfAssign (Use (Var w) [] x) n) = subst (λ (y : Numbered). IsKept types ns y) path kept in
+    let path : Two t ss OfAssign m n ≡ assigning ss w x n = λ i. Two (is_com i) ss OfAssign (is i) n in
+    let plain : IsKept types ns (assigning ss w x n) = subst (λ (y : Numbered). IsKept types ns y) path kept in
     let rest = laws.rest types ns ss w x n plain in
-    same laws types ns (Two t ss OfAssign m n) (Two Com ss OfAssign (Use (Var w) [] x) n) path
+    same laws types ns (Two t ss OfAssign m n) (assigning ss w x n) path
     (laws.assignment types ns ss w x n plain (has_leaves types n rest.kept.typed)
-    (ground_is_realised laws types (rest_numbers ss ns x) n rest.kept unsplit.2))
+    (ground_is_realised laws types (other_numbers ss ns x) n rest.kept unsplit.2))
 ground_is_realised laws types ns (Two t ss (OfBin op) m n) kept unsplit =
     let (first, second, all) = laws.both types ns t ss (OfBin op) m n kept in
     laws.operator types ns t ss op m n kept (has_leaves types m first.kept.typed) (has_leaves types n second.kept.typed)

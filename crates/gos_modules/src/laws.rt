@@ -2,11 +2,13 @@
 ghost use Rattle.gos_modules.specs.Modules.{CheckedIsOpen, CheckedIsRealised, GroundIsRealised};
 ghost use Rattle.gos_modules.specs.SmallModules.{FunctionIsNotGround, SkipIsGround, TwiceIsRealised};
 
-use gos_grounds::{leaves, parallel_nodes};
+use gos_assignments::assignment_case;
+use gos_grounds::{blocks, leaves, parallel_nodes};
 use gos_joints::ground;
 use gos_meanings::meanings;
 use gos_numbers::{checked_is_kept, parallels_are_unsplit, parts_are_kept, small_kept};
 use gos_ports::ports;
+use gos_runs::fork_cases;
 use gos_typing::supplies;
 use gos_wired::{checked_modules, starts};
 
@@ -17,6 +19,9 @@ pub fn ground_terms()
     parts_are_kept();
     leaves();
     parallel_nodes();
+    blocks();
+    fork_cases();
+    assignment_case();
 }
 
 /// The plan of a checked module of ground types realises its program with any supplies.
