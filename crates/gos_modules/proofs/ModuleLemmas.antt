@@ -33,8 +33,8 @@ use Rattle.gos_stages.specs.Inside.{AreGroundSupplies}
 use Rattle.gos_numbers.specs.Kept.{CheckedIsKept}
 use Rattle.gos_numbers.specs.Unsplit.{CheckedIsUnsplit}
 use Rattle.gos_grounds.proofs.ImportLemmas.{contained_at, type_has}
-use Rattle.gos_modules.specs.Modules.{GroundIsRealised, IsGroundModule, CheckedIsOpen, CheckedIsRealised}
-use Rattle.gos_modules.proofs.NodeLemmas.{has_leaves}
+use Rattle.gos_modules.specs.Modules.{GroundIsRealised, IsGroundModule, CheckedIsOpen, CheckedIsRealised, PortsAreGround}
+use Rattle.gos_modules.proofs.NodeLemmas.{has_leaves, node_ground}
 use Rattle.gos_modules.proofs.LiteralLemmas.{literals_fit, joined_fit}
 use Rattle.gos_modules.proofs.ImportLemmas.{names_differ, widths_are_had, ground_at, import_there, term_there}
 
@@ -149,11 +149,17 @@ module _ (l : SeenLinear) (w : ℕ) (p : Plan) (c : IsChecked l) (of : IsPlanOf 
 pub checked_is_open : ModuleLaws → CheckedIsOpen
 checked_is_open laws l w p c ground of ss r are join differ = whole_realises l w p c of laws ground ss r are join differ
 
-pub checked_is_realised : CheckedIsOpen → OpenIsRealised → WidthsAreHad → CheckedIsRealised
-checked_is_realised law as_ports had l w p c ground of slim =
+pub ports_are_ground : CheckedFits → WidthsAreHad → PortsAreGround
+ports_are_ground fits had l w p c ground of = (
+  subst AllGround (sym of.imports) ground.imports,
+  subst HaveWidths (sym of.imports) (had (program_in l).imports (widths_are_had l.imports c.imports)),
+  subst IsGround (sym (of.outcome ∙ (fits l w p c of).0)) (node_ground (node_seen l.term) ground.nodes),
+)
+
+pub checked_is_realised : CheckedIsOpen → OpenIsRealised → PortsAreGround → CheckedIsRealised
+checked_is_realised law as_ports are l w p c ground of slim =
     let any : RealisesOpen p (program_in l).body = law l w p c ground of in
-    let all_ground : AllGround p.imports = subst AllGround (sym of.imports) ground.imports in
-    let wide : HaveWidths p.imports = subst HaveWidths (sym of.imports) (had (program_in l).imports (widths_are_had l.imports c.imports)) in
+    let (all_ground, wide, outcome) = are l w p c ground of in
     record {
       right = of.right;
       names = differ_there l w p c of;

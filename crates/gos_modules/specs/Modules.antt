@@ -2,7 +2,7 @@
 --
 -- Read first: Kept and Unsplit of gos_numbers; Cases of gos_grounds; Modules of gos_realises; Checked of gos_check.
 use Rattle.std.specs.Prelude.{ℕ, List}
-use Rattle.gos_types.specs.Types.{type_of}
+use Rattle.gos_types.specs.Types.{IsGround, type_of}
 use Rattle.gos_check.specs.Nodes.{Numbered, node_seen}
 use Rattle.gos_check.specs.Checked.{SeenLinear, IsChecked, program_in}
 use Rattle.gos_plan.specs.Plans.{Plan}
@@ -10,6 +10,7 @@ use Rattle.gos_realises.specs.Realises.{AllGround}
 use Rattle.gos_realises.specs.Modules.{RealisesOpen, RealisesModule}
 use Rattle.gos_realises.specs.Slim.{IsSlim}
 use Rattle.gos_compile.specs.Wiring.{Types, IsPlanOf}
+use Rattle.gos_ports.specs.Ports.{HaveWidths}
 use Rattle.gos_numbers.specs.Kept.{NodesGround, IsKept}
 use Rattle.gos_numbers.specs.Unsplit.{ParallelsAreUnsplit}
 use Rattle.gos_grounds.specs.Cases.{RealisesWired}
@@ -36,3 +37,10 @@ CheckedIsRealised =
     (l : SeenLinear) (w : ℕ) (p : Plan)
     → IsChecked l → IsGroundModule l → IsPlanOf (program_in l).imports (type_of l.result) w (node_seen l.term) p → IsSlim p
     → RealisesModule p (program_in l).body
+
+-- The imports of its plan, and its outcome, are such as ports of a circuit may be.
+abbrev pub PortsAreGround : Type 0
+PortsAreGround =
+    (l : SeenLinear) (w : ℕ) (p : Plan)
+    → IsChecked l → IsGroundModule l → IsPlanOf (program_in l).imports (type_of l.result) w (node_seen l.term) p
+    → AllGround p.imports × HaveWidths p.imports × IsGround p.outcome

@@ -1,5 +1,5 @@
 // The plan of a checked module of ground types realises it. Each theorem is the contract of a function that does nothing.
-ghost use Rattle.gos_modules.specs.Modules.{CheckedIsOpen, CheckedIsRealised, GroundIsRealised};
+ghost use Rattle.gos_modules.specs.Modules.{CheckedIsOpen, CheckedIsRealised, GroundIsRealised, PortsAreGround};
 ghost use Rattle.gos_modules.specs.SmallModules.{FunctionIsNotGround, SkipIsGround, TwiceIsRealised};
 
 use gos_assignments::assignment_case;
@@ -38,11 +38,13 @@ pub fn open_modules()
     ground();
 }
 
-/// So it realises the module, if it is slim.
+/// So it realises the module, if it is slim. Its imports and its outcome may be ports of a circuit.
 pub fn ground_modules()
-    ensures { CheckedIsRealised }
+    ensures realised { CheckedIsRealised }
+    ensures ports { PortsAreGround }
 {
     open_modules();
+    checked_modules();
     ports();
 }
 
