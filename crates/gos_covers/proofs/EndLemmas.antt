@@ -238,7 +238,8 @@ module _ (f : Form) (types : Types) (i j : ℕ) (m : Numbered) (ss : List Split)
     inr (branch_counted q y p x at lt (from ∙ ap Own e)),
   )
 
-  by_source : (q : ℕ) (y : Part) (s : Source) → slice_get r.parts q ≡ Some y → pl.source q ≡ s → placed pl s ≡ q → IsFrom (parts_of types m) ns env y s → AreAll q y
+  by_source : (q : ℕ) (y : Part) (s : Source) → slice_get r.parts q ≡ Some y → pl.source q ≡ s → placed pl s ≡ q
+      → IsFrom (parts_of types m) ns env y s → AreAll q y
   by_source q y (Own k) at from back listed =
       by_kind q y k at from back (of_fork types ss bs (own_part f) y k (subst (λ (ps : List Part). slice_get ps k ≡ Some y) fork.parts listed))
   by_source q y (Supplied n k) at from back (there, listed) =
