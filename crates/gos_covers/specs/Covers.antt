@@ -2,7 +2,7 @@
 --
 -- Read first: Forks; Nodes and Covering of gos_stages. A Share of the node serves two branches, each from its side; a supply whose
 -- number is split is seen by each branch that uses a side of it.
-use Rattle.std.specs.Prelude.{◌≡◌, ◌≢◌, ℕ, ⊥, List, [], ◌∷◌, ◌++◌, length}
+use Rattle.std.specs.Prelude.{◌≡◌, ◌≢◌, ℕ, List, [], ◌∷◌, ◌++◌, length}
 use Rattle.gos_check.specs.declared.linear.Split.{Split}
 use Rattle.gos_check.specs.Nodes.{Numbered}
 use Rattle.gos_plan.specs.Plans.{Plan}
@@ -23,7 +23,8 @@ AreBranchChildren types i j ss env ns before (b ∷ bs) (e ∷ es) =
 
 abbrev pub BranchesCover : Type 0
 BranchesCover =
-    (f : Form) (types : Types) (i j : ℕ) (m : Numbered) (ss : List Split) (bs : List Branch) (ns : List ℕ) (env : Supplies) (pl : Placing) (r : Plan) (es : List Cared)
+    (f : Form) (types : Types) (i j : ℕ) (m : Numbered) (ss : List Split) (bs : List Branch) (ns : List ℕ) (env : Supplies) (pl : Placing) (r : Plan)
+    (es : List Cared)
     → IsFork types m ss (own_part f) bs → AreBranches types ss ns bs → AreGroundSupplies types env ns → bs ≢ []
     → IsWired types i j m ns env pl r → AreBranchChildren types i j ss env ns [] bs es
     → AreCovering f i pl r (pl.own (length ss)) es
