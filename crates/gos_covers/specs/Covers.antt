@@ -2,7 +2,7 @@
 --
 -- Read first: Forks; Nodes and Covering of gos_stages. A Share of the node serves two branches, each from its side; a supply whose
 -- number is split is seen by each branch that uses a side of it.
-use Rattle.std.specs.Prelude.{◌≡◌, ◌≢◌, ℕ, ⊥, List, [], ◌∷◌, ◌++◌, length}
+use Rattle.std.specs.Prelude.{◌≡◌, ◌≢◌, ℕ, List, [], ◌∷◌, ◌++◌, length}
 use Rattle.gos_check.specs.declared.linear.Split.{Split}
 use Rattle.gos_check.specs.Nodes.{Numbered}
 use Rattle.gos_plan.specs.Plans.{Plan}
