@@ -150,8 +150,7 @@ module _ (child : BranchIsChild) (parts : BranchHasParts) (cover : BranchesCover
   found before [] at (d ∷ mid) after b e = absurd (cc e)
   found before (c ∷ rest) at [] after b e =
       let it : c ≡ b = cc e in
-      let sum : length before ≡ length before + 0 = omega arith in
-      (
+      let sum : length before ≡ length before + 0 = omega arith in (
         cared before rest c at,
         (0, omega arith, refl),
         subst (λ (h : ℕ). Runs b h (cared before rest c at)) sum (subst (λ (d : Branch). Runs d (length before) (cared before rest c at)) it (runs before rest c at)),
@@ -182,8 +181,7 @@ module _ (child : BranchIsChild) (parts : BranchHasParts) (cover : BranchesCover
   served : (p : Phase) (n : ℕ) (s : Session) → session_of f p n ≡ Some s → (x : Cared) × Served s x
   served p n s e =
       let (before, after, b, at, asked, term, ty) = sessions.session p n s e in
-      let (x, listed, it) = found [] bs refl before after b at in
-      (
+      let (x, listed, it) = found [] bs refl before after b at in (
         x,
         record {
           listed = listed;
@@ -282,8 +280,7 @@ module _ (child : BranchIsChild) (parts : BranchHasParts) (cover : BranchesCover
 
   realised : AreRealised f (map (stage pl r) es)
   realised p n s e =
-      let (x, it) = served p n s e in
-      (
+      let (x, it) = served p n s e in (
         stage pl r x,
         in_image (stage pl r) es x it.listed,
         it.shake,
