@@ -101,8 +101,8 @@ module _ (f : Form) (types : Types) (i j : ℕ) (m : Numbered) (ss : List Split)
   abbrev user : Standing bs → ℕ → Bool
   user p = is_used (child p)
 
-  used : AreUsed user ss ns []
-  used k there none =
+  all_used : AreUsed user ss ns []
+  all_used k there none =
       let few = are.covers k (omega (arith, none)) in
       let is = some_times k (numbers_inside ss ns) there in
       let (p, lt) = standing_used bs k (omega (arith, few, is)) in
@@ -120,7 +120,7 @@ module _ (f : Form) (types : Types) (i j : ℕ) (m : Numbered) (ss : List Split)
     pub home : (lodge (child standing)).home (source_dot i s h) ≡ Some at
 
   live_number : (n : ℕ) → Contains ns n → (p : Standing bs) × (live ss (user p) n ≡ true)
-  live_number n there = all_live user ss ns [] used order none_old n there refl
+  live_number n there = all_live user ss ns [] all_used order none_old n there refl
 
   supply_housed : (n k h : ℕ) → Contains ns n → IsHoused (Supplied n k) h
   supply_housed n k h there =
@@ -140,9 +140,9 @@ module _ (f : Form) (types : Types) (i j : ℕ) (m : Numbered) (ss : List Split)
   share_housed x h t share lt =
       let (c, two, serves) = served_side (count t) h lt in
       let (p, listed) =
-      all_serve user types pl ss ns [] used order none_old (λ p. (its_child p).tidy.apart) 0 x x t c (omega arith) share two
+      all_serve user types pl ss ns [] all_used order none_old (λ p. (its_child p).tidy.apart) 0 x x t c (omega arith) share two
       in
-      let (y, same, seen) = servings_serve types i (user p) ss env ns pl _ (its_child p).tidy listed in
+      let (y, same, seen) = servings_serve types i (user p) ss env ns pl (record { part = pl.own x; ty = t; side = c }) (its_child p).tidy listed in
       let (z, home) = seen.seen h serves in
       let one : pl.source (pl.own x) ≡ Own x = share_source x (Share t) share in
       let other : pl.source (pl.own y) ≡ Own y = share_source y (Share t) seen.share in
@@ -238,7 +238,8 @@ module _ (f : Form) (types : Types) (i j : ℕ) (m : Numbered) (ss : List Split)
     inr (branch_counted q y p x at lt (from ∙ ap Own e)),
   )
 
-  by_source : (q : ℕ) (y : Part) (s : Source) → slice_get r.parts q ≡ Some y → pl.source q ≡ s → placed pl s ≡ q → IsFrom (parts_of types m) ns env y s → AreAll q y
+  by_source : (q : ℕ) (y : Part) (s : Source) → slice_get r.parts q ≡ Some y → pl.source q ≡ s → placed pl s ≡ q
+      → IsFrom (parts_of types m) ns env y s → AreAll q y
   by_source q y (Own k) at from back listed =
       by_kind q y k at from back (of_fork types ss bs (own_part f) y k (subst (λ (ps : List Part). slice_get ps k ≡ Some y) fork.parts listed))
   by_source q y (Supplied n k) at from back (there, listed) =

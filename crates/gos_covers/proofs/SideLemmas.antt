@@ -48,14 +48,14 @@ served_side n h lt = by_tests (nat_lt h n) (nat_lt h (n + n)) refl refl
 
 -- each of these uses numbers
 module _ {P : Type 0} (inner : P → ℕ → Bool) where
-  abbrev IsUsed : ℕ → Type 0
+  abbrev pub IsUsed : ℕ → Type 0
   IsUsed k = (p : P) × (inner p k ≡ true)
 
   -- What is there inside the splits is used, but for what they split, or was split before.
-  abbrev AreUsed : List Split → List ℕ → List ℕ → Type 0
+  abbrev pub AreUsed : List Split → List ℕ → List ℕ → Type 0
   AreUsed ss ns old = (k : ℕ) → Contains (numbers_inside ss ns) k → times k old + times k (split_in ss) ≡ 0 → IsUsed k
 
-  abbrev AreOld : List Split → List ℕ → Type 0
+  abbrev pub AreOld : List Split → List ℕ → Type 0
   AreOld ss old = (k : ℕ) → 0 < times k (sides ss) → times k old ≡ 0
 
   -- so it is behind the first split
@@ -65,16 +65,13 @@ module _ {P : Type 0} (inner : P → ℕ → Bool) where
   old_behind : (s : Split) (ss : List Split) (old : List ℕ) → AreInOrder (s ∷ ss) → AreOld (s ∷ ss) old → AreOld ss (s.of ∷ old)
   old_behind s ss old (apart, order) far k some = number_cases s.of k same other
     where
-      behind : times k (s.left ∷ s.right ∷ sides ss) ≡ (if nat_eq s.left k then 1 else 0) + ((if nat_eq s.right k then 1 else 0) + times k (sides ss))
-      behind = refl
-
       same : s.of ≡ k → nat_eq s.of k ≡ true → times k (s.of ∷ old) ≡ 0
       same e t =
           let none = subst (λ (m : ℕ). times m (s.left ∷ s.right ∷ sides ss) ≡ 0) e apart in
-          absurd (omega (arith, none, some, behind))
+          absurd (omega (arith, none, some))
 
       other : s.of ≢ k → nat_eq s.of k ≡ false → times k (s.of ∷ old) ≡ 0
-      other e t = times_other k s.of old e ∙ far k (omega (arith, some, behind))
+      other e t = times_other k s.of old e ∙ far k (omega (arith, some))
 
   -- the sides are new
   left_new : (s : Split) (ss : List Split) (old : List ℕ) → AreInOrder (s ∷ ss) → AreOld (s ∷ ss) old → times s.left (s.of ∷ old) ≡ 0
@@ -88,10 +85,9 @@ module _ {P : Type 0} (inner : P → ℕ → Bool) where
       let (not_left, rest) = times_none s.of s.left (s.right ∷ sides ss) apart in
       let (not_right, more) = times_none s.of s.right (sides ss) rest in
       let here = times_same s.right (sides ss) in
-      let all : times s.right (s.left ∷ s.right ∷ sides ss) ≡ (if nat_eq s.left s.right then 1 else 0) + times s.right (s.right ∷ sides ss) = refl in
-      times_other s.right s.of old not_right ∙ far s.right (omega (arith, here, all))
+      times_other s.right s.of old not_right ∙ far s.right (omega (arith, here))
 
-  abbrev Lives : List Split → ℕ → Type 0
+  abbrev pub Lives : List Split → ℕ → Type 0
   Lives ss n = (p : P) × (live ss (inner p) n ≡ true)
 
   one_live : (s : Split) (ss : List Split) (ns old : List ℕ) → AreInOrder (s ∷ ss) → AreOld (s ∷ ss) old

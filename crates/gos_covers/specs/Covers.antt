@@ -23,7 +23,8 @@ AreBranchChildren types i j ss env ns before (b ∷ bs) (e ∷ es) =
 
 abbrev pub BranchesCover : Type 0
 BranchesCover =
-    (f : Form) (types : Types) (i j : ℕ) (m : Numbered) (ss : List Split) (bs : List Branch) (ns : List ℕ) (env : Supplies) (pl : Placing) (r : Plan) (es : List Cared)
+    (f : Form) (types : Types) (i j : ℕ) (m : Numbered) (ss : List Split) (bs : List Branch) (ns : List ℕ) (env : Supplies) (pl : Placing) (r : Plan)
+    (es : List Cared)
     → IsFork types m ss (own_part f) bs → AreBranches types ss ns bs → AreGroundSupplies types env ns → bs ≢ []
     → IsWired types i j m ns env pl r → AreBranchChildren types i j ss env ns [] bs es
     → AreCovering f i pl r (pl.own (length ss)) es
