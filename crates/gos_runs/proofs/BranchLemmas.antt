@@ -66,7 +66,7 @@ module _ (child : BranchIsChild) (parts : BranchHasParts) (types : Types) (i j :
   abbrev pub all_parts : List Part
   all_parts = parts_of types m
 
-  laid : IsLaid all_parts ns env pl r
+  pub laid : IsLaid all_parts ns env pl r
   laid = record { parts = w.parts; no_more = w.no_more; imports = w.imports; no_import = w.no_import }
 
   module _ (before after : List Branch) (b : Branch) (at : bs ≡ before ++ b ∷ after) where
@@ -76,19 +76,19 @@ module _ (child : BranchIsChild) (parts : BranchHasParts) (types : Types) (i j :
     listed : Contains bs b
     listed = subst (λ (xs : List Branch). Contains xs b) (sym at) (Contains-append_right before (b ∷ after) b (0, omega arith, refl))
 
-    is_child : IsChild its_child ties
+    pub is_child : IsChild its_child ties
     is_child = child types i j m ss own bs before after b ns env fork branches supplies at
 
-    has_parts : HasParts its_child all_parts
+    pub has_parts : HasParts its_child all_parts
     has_parts = parts types i j m ss own bs before after b ns env fork at
 
-    once : (k : ℕ) → times k b.uses ≤ 1
+    pub once : (k : ℕ) → times k b.uses ≤ 1
     once k = let all = (branches.parts b listed).kept.once k in omega (arith, all)
 
-    found : (plc : Placing) × (c : Plan) × IsStaged its_child pl plc r c
+    abbrev found : (plc : Placing) × (c : Plan) × IsStaged its_child pl plc r c
     found = child_is_staged its_child all_parts ties pl r is_child has_parts once laid w.web
 
-    pub cared : Cared
+    abbrev pub cared : Cared
     cared = record { child = its_child; placing = found.0; plan = found.1 }
 
     pub realises : Realises (type_of_node b.term) cared.plan (meaning (inside ss (terms_of env)) b.term)

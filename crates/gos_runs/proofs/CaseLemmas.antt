@@ -45,7 +45,7 @@ of_one : (P : Branch → Type 0) (a : Branch) → P a → (x : Branch) → Conta
 of_one P a pa x (zero, small, at) = subst P at pa
 of_one P a pa x (suc k, small, at) = absurd (omega (arith, small))
 
-of_two : (P : Branch → Type 0) (a b : Branch) → P a → P b → (x : Branch) → Contains (a ∷ b ∷ []) x → P x
+pub of_two : (P : Branch → Type 0) (a b : Branch) → P a → P b → (x : Branch) → Contains (a ∷ b ∷ []) x → P x
 of_two P a b pa pb x (zero, small, at) = subst P at pa
 of_two P a b pa pb x (suc zero, small, at) = subst P at pb
 of_two P a b pa pb x (suc (suc k), small, at) = absurd (omega (arith, small))

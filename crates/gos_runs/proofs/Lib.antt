@@ -4,3 +4,4 @@ pub mod BranchLemmas
 pub mod RunLemmas
 pub mod SessionLemmas
 pub mod CaseLemmas
+pub mod SmallLemmas

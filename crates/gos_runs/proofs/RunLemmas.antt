@@ -88,7 +88,7 @@ module _ (child : BranchIsChild) (parts : BranchHasParts) (cover : BranchesCover
   abbrev its_ties : List Tie
   its_ties = wired_ties types i j m ns env
 
-  cared : (before after : List Branch) (b : Branch) → bs ≡ before ++ b ∷ after → Cared
+  abbrev cared : (before after : List Branch) (b : Branch) → bs ≡ before ++ b ∷ after → Cared
   cared = branch_lemmas.cared child parts types i j m ss (own_part f) bs ns env pl r fork branches w supplies differ fit sessions.typed leaves real
 
   abbrev IsCaredHere : Cared → Type 0
@@ -116,7 +116,7 @@ module _ (child : BranchIsChild) (parts : BranchHasParts) (cover : BranchesCover
   onward : (before after : List Branch) (b : Branch) → bs ≡ before ++ b ∷ after → bs ≡ (before ++ b ∷ []) ++ after
   onward before after b at = at ∙ sym (append_assoc before (b ∷ []) after)
 
-  cares : (before rest : List Branch) → bs ≡ before ++ rest → List Cared
+  abbrev cares : (before rest : List Branch) → bs ≡ before ++ rest → List Cared
   cares before [] at = []
   cares before (b ∷ after) at = cared before after b at ∷ cares (before ++ b ∷ []) after (onward before after b at)
 
@@ -142,7 +142,7 @@ module _ (child : BranchIsChild) (parts : BranchHasParts) (cover : BranchesCover
   are_children before (b ∷ after) at = (refl, are_children (before ++ b ∷ []) after (onward before after b at))
 
   -- the one that runs a branch
-  Found : (before rest : List Branch) (at : bs ≡ before ++ rest) (mid : List Branch) (b : Branch) → Type 0
+  abbrev Found : (before rest : List Branch) (at : bs ≡ before ++ rest) (mid : List Branch) (b : Branch) → Type 0
   Found before rest at mid b = (x : Cared) × Contains (cares before rest at) x × Runs b (length before + length mid) x
 
   found : (before rest : List Branch) (at : bs ≡ before ++ rest) (mid after : List Branch) (b : Branch) → rest ≡ mid ++ b ∷ after → Found before rest at mid b
@@ -150,8 +150,7 @@ module _ (child : BranchIsChild) (parts : BranchHasParts) (cover : BranchesCover
   found before [] at (d ∷ mid) after b e = absurd (cc e)
   found before (c ∷ rest) at [] after b e =
       let it : c ≡ b = cc e in
-      let sum : length before ≡ length before + 0 = omega arith in
-      (
+      let sum : length before ≡ length before + 0 = omega arith in (
         cared before rest c at,
         (0, omega arith, refl),
         subst (λ (h : ℕ). Runs b h (cared before rest c at)) sum (subst (λ (d : Branch). Runs d (length before) (cared before rest c at)) it (runs before rest c at)),
@@ -182,12 +181,11 @@ module _ (child : BranchIsChild) (parts : BranchHasParts) (cover : BranchesCover
   served : (p : Phase) (n : ℕ) (s : Session) → session_of f p n ≡ Some s → (x : Cared) × Served s x
   served p n s e =
       let (before, after, b, at, asked, term, ty) = sessions.session p n s e in
-      let (x, listed, it) = found [] bs refl before after b at in
-      (
+      let (x, listed, it) = found [] bs refl before after b at in (
         x,
         record {
           listed = listed;
-          shake = it.shake ∙ sym asked;
+          shake = let at = it.shake in omega (arith, at, asked);
           realises =
               subst (λ (u : Type'). Realises u x.plan s.term) (sym ty) (subst (λ (z : Term). Realises (type_of_node b.term) x.plan z) (sym term) it.realises);
           is_run = subst (λ (z : Term). RealisesDone x.plan z) (sym term) it.is_run;
@@ -220,7 +218,7 @@ module _ (child : BranchIsChild) (parts : BranchHasParts) (cover : BranchesCover
   outcome = w.outcome ∙ sym same
 
   -- the tie at which it is run
-  run_tie : Tie
+  abbrev run_tie : Tie
   run_tie = tie (Within 0 (Of (ResultEnd 0))) (Within 0 (Of (PartEnd (i + length ss) (length bs))))
 
   run_tied : Contains its_ties run_tie
@@ -282,8 +280,7 @@ module _ (child : BranchIsChild) (parts : BranchHasParts) (cover : BranchesCover
 
   realised : AreRealised f (map (stage pl r) es)
   realised p n s e =
-      let (x, it) = served p n s e in
-      (
+      let (x, it) = served p n s e in (
         stage pl r x,
         in_image (stage pl r) es x it.listed,
         it.shake,

@@ -13,7 +13,7 @@ use Rattle.gos_forks.specs.Forms.{branch}
 none_given : (s : Session) → None ≡ Some s → ⊥
 none_given s e = cc e
 
-session_or : Session → Option Session → Session
+abbrev session_or : Session → Option Session → Session
 session_or d None = d
 session_or d (Some s) = s
 

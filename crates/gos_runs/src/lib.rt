@@ -5,4 +5,4 @@
 
 mod laws;
 
-pub use laws::{fork_cases, forks_realise};
+pub use laws::{fork_cases, forks_realise, small_runs};
