@@ -36,7 +36,7 @@ use Rattle.gos_assignments.proofs.NumberSideLemmas.{number_is_child, assign_at}
 use Rattle.gos_assignments.proofs.LivingLemmas.{AreShared, all_live, all_serve, Serves, live_stands}
 
 -- what serves doesn't ask
-role_at : Option Contact → Role
+abbrev role_at : Option Contact → Role
 role_at None = Serve
 role_at (Some k) = k.role
 

@@ -1,8 +1,8 @@
 -- A wired assignment is made of its two sides: each joint of its plan is its number's, its variable's, or the one at which it is run.
-use Rattle.std.specs.Prelude.{◌⊎◌, length, slice_get, All, Contains}
+use Rattle.std.specs.Prelude.{◌+◌, ◌⊎◌, length, slice_get, All, Contains}
 use Rattle.std.specs.List.{AllByRecursion}
 use Rattle.std.proofs.lemmas.List.Elements.{All-from_recursion, All-contains}
-use Rattle.std.proofs.Common.{◌≡◌, ℕ, zero, suc, List, [], ◌∷◌, Option, Some, inl, inr, refl, sym, ◌∙◌, ap, subst, arith}
+use Rattle.std.proofs.Common.{◌≡◌, ℕ, zero, suc, true, List, [], ◌∷◌, Option, Some, inl, inr, refl, sym, ◌∙◌, ap, subst, arith}
 use Rattle.gos_types.specs.Types.{Type', Com, Exp, IsDone}
 use Rattle.gos_model.specs.Terms.{Term}
 use Rattle.gos_plan.specs.Kinds.{Part, Assign, asks, serves, contacts_of}
@@ -65,9 +65,10 @@ module _ (f : Child) (node x : ℕ) (own : List Part) (ts : List Tie) (w : ℕ) 
   abbrev whole : Web
   whole = record { ties = ts; at = dot_at f.first pl }
 
+  abbrev it_reads : (e : End) × IsIn (joint (ResultEnd 0) e) p.joints
   it_reads = reads p (plan_right g ts w is.variable) (plan_ground g ts w is.variable) (plan_joined g ts w is.variable 0 (omega arith))
 
-  read : End
+  abbrev read : End
   read = it_reads.0
 
   -- the own part

@@ -33,38 +33,18 @@ use Rattle.gos_stages.proofs.ImportHomeLemmas.{imports_are_there, result_is_nowh
 use Rattle.gos_stages.proofs.ServedLemmas.{servings_serve}
 use Rattle.gos_stages.proofs.SpareLemmas.{spares_are_others}
 use Rattle.gos_stages.proofs.ChildPartLemmas.{low, there_at, no_more_than}
-use Rattle.gos_stages.proofs.ChildFoldLemmas.{import_there, share_ground}
+use Rattle.gos_stages.proofs.ContactLemmas.{part_there, import_there, some_shake, share_ground, shares_length, other_unserved}
 use Rattle.gos_writes.specs.Written.{unread}
 use Rattle.gos_writes.proofs.JoinedLemmas.{unread_right}
 use Rattle.gos_assignments.specs.Variables.{Target, is_target, target_lodge, target_plan, end_part, spot_part, spot_end, target_outer, target_inner, target_cut, target_servings, kept, target_back, IsTarget, HasAssign, TargetIsRegion}
 use Rattle.gos_assignments.proofs.ReadLemmas.{no_result, reads, unmet}
 use Rattle.gos_assignments.proofs.TargetBackLemmas.{target_dot, plan_right, plan_outcome, plan_ground, plan_joined, itself, spot_is, result_low, plain_share, own_back, stays_so, ways_so}
 
-part_there : (a : Option Part) (h : ℕ) (k : Contact) → slice_get (contacts_of_part a) h ≡ Some k → (y : Part) × (a ≡ Some y)
-part_there None h k e = absurd (no_more_than k e)
-part_there (Some y) h k e = (y, refl)
-
 -- the own part asks as the user of a variable does
 assign_contact : (w h : ℕ) (k : Contact) → turned_if (slice_get (contacts_of (Var w)) h) ≡ Some k → slice_get (part_contacts (Assign w)) h ≡ Some k
 assign_contact w zero k e = e
 assign_contact w (suc zero) k e = e
 assign_contact w (suc (suc h)) k e = absurd (no_more_than k e)
-
-shares_length : (types : ℕ → Type') (ss : List Split) → length (shares ss types) ≡ length ss
-shares_length types [] = refl
-shares_length types (s ∷ ss) = ap suc (shares_length types ss)
-
-some_shake : (t : Type') → IsGround t → 0 < count t
-some_shake Com g = omega arith
-some_shake (Exp w) g = omega arith
-some_shake (Var w) g = omega arith
-some_shake (Pair a b) g = absurd g
-some_shake (Fun a b) g = absurd g
-
-pub other_unserved : (m c j : ℕ) → c < 2 → j < m → serves_side m c (m + (1 - c) * m + j) ≡ false
-other_unserved m zero j two lt = serves_first_alone m j
-other_unserved m (suc zero) j two lt = serves_second_alone m j lt
-other_unserved m (suc (suc c)) j two lt = absurd (omega (arith, two))
 
 told : (a b : ℕ) → nat_lt a b ≡ true → a < b
 told a b h = grind (arith, nat_tests)

@@ -40,7 +40,7 @@ module _ (types : Types) (i j : ℕ) (ss : List Split) (w x : ℕ) (n : Numbered
   abbrev g : Target
   g = target_of (number_side types i j ss env ns x n) j x
 
-  abbrev all_ties : List Tie
+  abbrev pub all_ties : List Tie
   all_ties = wired_ties types i j (assigning ss w x n) ns env
 
   abbrev wiring : List point_ties.Tie

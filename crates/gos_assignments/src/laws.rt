@@ -4,6 +4,8 @@ ghost use Rattle.gos_assignments.specs.Made.{AssignmentIsMade, TargetIsLaid};
 ghost use Rattle.gos_assignments.specs.Sides.{NodeIsAssignment, NumberIsKept};
 ghost use Rattle.gos_assignments.specs.Variables.{TargetIsRegion};
 
+use gos_model::types_of_terms;
+
 /// The plan of the variable that a wired assignment writes is a region of its plan, but for the joint by which it is read.
 pub fn targets_lie()
     ensures region { TargetIsRegion }
@@ -20,4 +22,6 @@ pub fn assignments_are_made()
 pub fn assignment_case()
     ensures kept { NumberIsKept }
     ensures realised { AssignCase }
-{}
+{
+    types_of_terms();
+}

@@ -39,7 +39,7 @@ used_so : (n : ℕ) (ns : List ℕ) → Contains ns n → nat_lt 0 (times n ns) 
 used_so n ns has = let some : 0 < times n ns = some_times n ns has in grind (arith, nat_tests, some)
 
 -- the number of an end's plan
-number_at : Option Spot → ℕ
+abbrev number_at : Option Spot → ℕ
 number_at None = 0
 number_at (Some z) = z.number
 
