@@ -8,7 +8,7 @@ use Rattle.gos_model.specs.Terms.{Name, Term, Assign}
 use Rattle.gos_model.specs.Typing.{import_type, Named, things, Typed}
 use Rattle.gos_model.specs.Laws.{OneType}
 use Rattle.gos_check.specs.declared.linear.Split.{Split}
-use Rattle.gos_check.specs.Nodes.{Numbered, Closed, Use, Under, One, Two, If, inside, meaning, type_of_node}
+use Rattle.gos_check.specs.Nodes.{Numbered, Closed, Use, Under, One, Two, If, inside, meaning}
 use Rattle.gos_plan.specs.Kinds.{Part}
 use Rattle.gos_plan.specs.Plans.{End, ResultEnd, Plan}
 use Rattle.gos_plan.proofs.JointLemmas.{IsIn}

@@ -1,14 +1,12 @@
 -- The variable's stage: its Shares are loyal, and its imports are those of the node's plan.
-use Rattle.std.specs.Prelude.{◌+◌, ◌-◌, ◌*◌, ◌<◌, ◌⊎◌, length, slice_get, None, Contains}
-use Rattle.std.proofs.Common.{◌≡◌, ℕ, zero, suc, Bool, true, false, not, List, [], ◌∷◌, Option, Some, inl, inr, refl, sym, ◌∙◌, ap, subst, arith, true≢false}
+use Rattle.std.specs.Prelude.{◌+◌, ◌-◌, ◌*◌, ◌⊎◌, length, slice_get, None, Contains}
+use Rattle.std.proofs.Common.{◌≡◌, ℕ, zero, suc, Bool, true, false, not, List, [], ◌∷◌, Some, inl, inr, refl, sym, ◌∙◌, ap, subst, arith}
 use Rattle.std.proofs.lemmas.Option.{slice_get_within}
-use Rattle.gos_types.specs.Types.{Type'}
-use Rattle.gos_model.specs.Typing.{Imported}
-use Rattle.gos_plan.specs.Kinds.{Contact, Part, Share, asks, serves}
-use Rattle.gos_plan.specs.Plans.{End, PartEnd, ImportEnd, ResultEnd, Joint, Plan, contact_at, IsRight}
+use Rattle.gos_plan.specs.Kinds.{Contact, Share, asks, serves}
+use Rattle.gos_plan.specs.Plans.{End, PartEnd, ImportEnd, ResultEnd, Plan, contact_at, IsRight}
 use Rattle.gos_plan.proofs.JointLemmas.{IsIn, fits, contained}
 use Rattle.gos_realises.specs.Regular.{count}
-use Rattle.gos_webs.specs.Webs.{Tie, IsOfWeb, joint}
+use Rattle.gos_webs.specs.Webs.{joint}
 use Rattle.gos_webs.specs.Cutting.{StandsIn}
 use Rattle.gos_webs.proofs.CutLemmas.{which_end}
 use Rattle.gos_unions.proofs.FlatFitLemmas.{contained_at}
@@ -16,16 +14,15 @@ use Rattle.gos_windows.specs.Regions.{Serving, IsLoyal, IsRegion}
 use Rattle.gos_sharing.specs.Sharing.{caller_end}
 use Rattle.gos_folds.specs.Folds.{joined_cut}
 use Rattle.gos_loyal.proofs.LoyalLemmas.{shares_of_one_are_loyal}
-use Rattle.gos_wired.specs.Wired.{Source, Own, Placing, placed, source_dot, dot_at}
-use Rattle.gos_stages.specs.Lodging.{Spot, spot_if}
-use Rattle.gos_stages.specs.Folding.{IsLaid}
+use Rattle.gos_wired.specs.Wired.{Source, Own, source_dot}
+use Rattle.gos_stages.specs.Lodging.{spot_if}
 use Rattle.gos_stages.proofs.SpareLemmas.{spares_are_others}
 use Rattle.gos_stages.proofs.ServedLemmas.{servings_serve}
 use Rattle.gos_stages.proofs.ChildPartLemmas.{no_more_than}
 use Rattle.gos_stages.proofs.ContactLemmas.{import_there, share_ground, other_unserved}
 use Rattle.gos_writes.specs.Written.{unread}
-use Rattle.gos_assignments.specs.Variables.{Target, is_target, target_lodge, target_plan, target_cut, target_servings, IsTarget, HasAssign}
-use Rattle.gos_assignments.specs.Made.{target_stage, TargetIsLaid}
+use Rattle.gos_assignments.specs.Variables.{is_target, target_lodge, target_plan, target_cut, target_servings}
+use Rattle.gos_assignments.specs.Made.{TargetIsLaid}
 use Rattle.gos_assignments.proofs.ReadLemmas.{reads}
 use Rattle.gos_assignments.proofs.TargetBackLemmas.{plan_right, plan_ground, plan_joined, plan_regular, itself}
 use Rattle.gos_assignments.proofs.TargetFoldLemmas.{part_home, part_lies, own_outside, import_of, target_is_region}

@@ -1,10 +1,10 @@
 -- The numbers of the two sides of an assignment: the variable's is neither split nor the other side's, and no split has two sides that it uses.
-use Rattle.std.specs.Prelude.{◌≡◌, ◌≢◌, ℕ, zero, suc, ◌+◌, ◌<◌, ◌≤◌, ◌⊎◌, Bool, true, false, List, [], ◌∷◌, ◌++◌, nat_eq, nat_lt, Contains}
-use Rattle.std.proofs.Common.{refl, sym, ◌∙◌, ap, subst, arith, inl, inr}
-use Rattle.gos_types.specs.Types.{Type', Com, Exp, Var}
+use Rattle.std.specs.Prelude.{◌≡◌, ℕ, zero, suc, ◌+◌, ◌<◌, ◌⊎◌, false, List, [], ◌∷◌, ◌++◌, nat_eq, Contains}
+use Rattle.std.proofs.Common.{refl, sym, subst, arith, inl, inr}
+use Rattle.gos_types.specs.Types.{Type', Com, Var}
 use Rattle.gos_model.specs.Terms as terms
 use Rattle.gos_check.specs.declared.linear.Split.{Split}
-use Rattle.gos_check.specs.Nodes.{Numbered, Closed, Use, Two, TwoForm, type_of_node}
+use Rattle.gos_check.specs.Nodes.{Numbered, Closed, Use, Two, TwoForm}
 use Rattle.gos_check.specs.Linearity.{times, split_in, sides, used, made}
 use Rattle.gos_check.proofs.TimesLemmas.{number_cases, eq_false, true_eq, times_same, times_other, times-append}
 use Rattle.gos_compile.specs.Wiring.{Types}

@@ -1,18 +1,17 @@
 -- The variable's plan, without the joint by which it is read, lies as a fold in the node's plan: so it is a region of it.
-use Rattle.std.specs.Prelude.{◌≢◌, ◌+◌, ◌-◌, ◌*◌, ◌<◌, ◌≤◌, ◌⊎◌, length, nat_eq, nat_lt, slice_get, None, Contains}
-use Rattle.std.proofs.Common.{◌≡◌, ℕ, zero, suc, Bool, true, false, not, List, [], ◌∷◌, Option, Some, inl, inr, refl, sym, ◌∙◌, ap, subst, arith, if◌then◌else◌}
+use Rattle.std.specs.Prelude.{◌+◌, ◌-◌, ◌*◌, ◌<◌, ◌≤◌, ◌⊎◌, length, nat_eq, nat_lt, slice_get, None, Contains}
+use Rattle.std.proofs.Common.{◌≡◌, ℕ, zero, suc, Bool, true, false, not, List, Option, Some, inl, inr, refl, sym, ◌∙◌, ap, subst, arith, if◌then◌else◌}
 use Rattle.std.proofs.lemmas.Option.{slice_get_within}
 use Rattle.std.proofs.lemmas.Bool.Decides.{nat_tests}
-use Rattle.gos_types.specs.Types.{Type', Com, Exp, Var, Pair, Fun, IsGround}
+use Rattle.gos_types.specs.Types.{Type', Var}
 use Rattle.gos_model.specs.Typing.{Imported}
-use Rattle.gos_check.specs.declared.linear.Split.{Split}
-use Rattle.gos_check.proofs.TimesLemmas.{eq_true, eq_false, true_eq}
+use Rattle.gos_check.proofs.TimesLemmas.{eq_true, true_eq}
 use Rattle.gos_plan.specs.Kinds.{Contact, Part, Share, Assign, contacts_of, part_contacts}
 use Rattle.gos_plan.specs.Plans.{End, PartEnd, ImportEnd, ResultEnd, Joint, Plan, contact_at, contacts_of_part, contacts_of_import, same_end, stands_in, turned_if}
 use Rattle.gos_plan.specs.Tokens.{IsPortEnd}
 use Rattle.gos_plan.proofs.JointLemmas.{IsIn}
 use Rattle.gos_realises.specs.Regular.{count}
-use Rattle.gos_webs.specs.Webs.{Dot, Of, Number, Node, Within, Tie, Way, Web, IsOfWeb, own_web, joint}
+use Rattle.gos_webs.specs.Webs.{Dot, Of, Within, Tie, Web, IsOfWeb, own_web, joint}
 use Rattle.gos_webs.specs.Cutting.{Cut, IsOutside, StandsIn}
 use Rattle.gos_webs.proofs.WebLemmas.{asks_there, serves_there, right_is_of_its_web}
 use Rattle.gos_webs.proofs.MovedLemmas.{listed}
@@ -22,11 +21,11 @@ use Rattle.gos_folds.proofs.WayLemmas.{unmet_is_alone}
 use Rattle.gos_folds.proofs.RegionLemmas.{folded_is_region}
 use Rattle.gos_compile.specs.Wiring.{shares}
 use Rattle.gos_wired.specs.Wired.{Origin, Source, Own, Supplied, Placing, IsFrom, placed, source_dot, dot_at}
-use Rattle.gos_stages.specs.Lodging.{Spot, spot, spot_if, serves_side, Lodging}
+use Rattle.gos_stages.specs.Lodging.{Spot, spot, spot_if, Lodging}
 use Rattle.gos_stages.specs.Housing.{IsOutsider, IsThere}
 use Rattle.gos_stages.specs.Folding.{IsLaid}
 use Rattle.gos_stages.specs.Served.{IsSeenFrom}
-use Rattle.gos_stages.proofs.StepLemmas.{serves_source, serves_first_alone, serves_second_alone}
+use Rattle.gos_stages.proofs.StepLemmas.{serves_source}
 use Rattle.gos_stages.proofs.PartHomeLemmas.{numbers_are_at_home}
 use Rattle.gos_stages.proofs.HousingLemmas.{parts_are_from, imports_are_from, parts_are_outsiders, homes_are_there, far_is_nothing, first_is_kept}
 use Rattle.gos_stages.proofs.ImportHomeLemmas.{imports_are_there, result_is_nowhere}

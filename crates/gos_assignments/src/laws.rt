@@ -2,6 +2,7 @@
 ghost use Rattle.gos_assignments.specs.Cases.{AssignCase};
 ghost use Rattle.gos_assignments.specs.Made.{AssignmentIsMade, TargetIsLaid};
 ghost use Rattle.gos_assignments.specs.Sides.{NodeIsAssignment, NumberIsKept};
+ghost use Rattle.gos_assignments.specs.SmallAssignments.{AssignWrites, CommandIsNoTarget, NodeIsRead, NothingWrites, OneIsKept, OtherIsLeft, OtherIsNotRead, SecondIsNoNumber, SevenIsNotKept, SideIsLeft};
 ghost use Rattle.gos_assignments.specs.Variables.{TargetIsRegion};
 
 use gos_model::types_of_terms;
@@ -25,3 +26,18 @@ pub fn assignment_case()
 {
     types_of_terms();
 }
+
+/// `x := 1` has its numbers kept, but not as a variable of seven bits. What x doesn't use is left to the other side. The node's
+/// own handshake is where x is read, and an Assign writes it. A command is no target, and what is asked second no number's side.
+pub fn small_assignments()
+    ensures kept { OneIsKept }
+    ensures seven { SevenIsNotKept }
+    ensures left { OtherIsLeft }
+    ensures side { SideIsLeft }
+    ensures read { NodeIsRead }
+    ensures other { OtherIsNotRead }
+    ensures writes { AssignWrites }
+    ensures nothing { NothingWrites }
+    ensures command { CommandIsNoTarget }
+    ensures second { SecondIsNoNumber }
+{}
