@@ -6,14 +6,15 @@ use Rattle.std.proofs.lemmas.Slice.Eq.{bytes_eq-Decides}
 use Rattle.gos_types.specs.Types.{Type', Com, Exp, Var}
 use Rattle.gos_model.specs.Terms.{Name, Term, Assign}
 use Rattle.gos_model.specs.Typing.{import_type, Named, things, Typed}
-use Rattle.gos_model.proofs.TypingLemmas.{one_type}
+use Rattle.gos_model.specs.Laws.{OneType}
 use Rattle.gos_check.specs.declared.linear.Split.{Split}
-use Rattle.gos_check.specs.Nodes.{Numbered, Closed, Use, Under, One, Two, If, inside, meaning, type_of_node}
+use Rattle.gos_check.specs.Nodes.{Numbered, Closed, Use, Under, One, Two, If, inside, meaning}
 use Rattle.gos_plan.specs.Kinds.{Part}
-use Rattle.gos_plan.specs.Plans.{Plan}
+use Rattle.gos_plan.specs.Plans.{End, ResultEnd, Plan}
+use Rattle.gos_plan.proofs.JointLemmas.{IsIn}
 use Rattle.gos_plan.specs.TokenBits.{LiteralFits}
 use Rattle.gos_realises.specs.Realises.{NamesDiffer, Realises}
-use Rattle.gos_webs.specs.Webs.{Tie}
+use Rattle.gos_webs.specs.Webs.{Tie, joint}
 use Rattle.gos_typing.proofs.WhenceLemmas.{named}
 use Rattle.gos_typing.proofs.NameLemmas.{typed_under_fewer}
 use Rattle.gos_compile.specs.Wiring.{Types, parts_of}
@@ -92,6 +93,7 @@ module _ (types : Types) (ns : List ℕ) (ss : List Split) (w x : ℕ) (n : Numb
   variable_typed : Typed r.imports [] variable (Var w)
   variable_typed = typed_under_fewer (target_plan g).imports r.imports [] variable (Var w) agree variable_realised.suits.typed
     where
+      it_reads : (e : End) × IsIn (joint (ResultEnd 0) e) (target_plan g).joints
       it_reads =
           reads (target_plan g) (plan_right g ts w made.variable) (plan_ground g ts w made.variable) (plan_joined g ts w made.variable 0 (omega arith))
 
@@ -104,17 +106,17 @@ module _ (types : Types) (ns : List ℕ) (ss : List Split) (w x : ℕ) (n : Numb
           type_has r.imports differ y name.import (contained_at r.imports (pl.import ((target_lodge g).root x) q) name.import it.there) is_y
           ∙ sym (type_has (target_plan g).imports variable_realised.suits.names y name.import name.has is_y)
 
-  one_width : (v : ℕ) → Typed r.imports [] (inside ss (terms_of env) x) (Var v) → v ≡ w
-  one_width v typed =
+  one_width : OneType → (v : ℕ) → Typed r.imports [] (inside ss (terms_of env) x) (Var v) → v ≡ w
+  one_width one_type v typed =
       let same = one_type r.imports [] variable (Var v) (Var w) (subst (λ (m : Term). Typed r.imports [] m (Var v)) (sym variable_is) typed) variable_typed in
       cc same
 
-pub assign_case : AssignCase
-assign_case types ns ss w x n is leaves real i j env pl r wired supplies differ fit (v, com, typed_variable, typed_number) =
+pub assign_case : OneType → AssignCase
+assign_case one_type types ns ss w x n is leaves real i j env pl r wired supplies differ fit (v, is_com, typed_variable, typed_number) =
     let it = made types ns ss w x n is i j env pl r wired supplies differ fit in
     let part = number_part types ns ss w x n is in
     let of_number = number_type types i j ss w x n ns env is in
-    let width = one_width types ns ss w x n is i j env pl r wired supplies differ fit v typed_variable in
+    let width = one_width types ns ss w x n is i j env pl r wired supplies differ fit one_type v typed_variable in
     let typed : Typed r.imports [] (meaning (inside ss (terms_of env)) n) (Exp w) =
     subst (λ (u : ℕ). Typed r.imports [] (meaning (inside ss (terms_of env)) n) (Exp u)) width typed_number
     in

@@ -1,6 +1,6 @@
 -- What asks in the plan of a wired assignment to a variable's number is its result, or stands for something of one of the two sides.
-use Rattle.std.specs.Prelude.{◌≢◌, ◌+◌, ◌-◌, ◌<◌, ◌≤◌, ◌⊎◌, length, nat_eq, nat_lt, slice_get, None, Contains, if◌then◌else◌}
-use Rattle.std.proofs.Common.{◌≡◌, ℕ, zero, suc, Bool, true, false, List, [], ◌∷◌, ◌++◌, Option, Some, inl, inr, refl, sym, ◌∙◌, ap, subst, arith}
+use Rattle.std.specs.Prelude.{◌≢◌, ◌+◌, ◌-◌, ◌<◌, ◌⊎◌, length, nat_eq, nat_lt, slice_get, None, Contains, if◌then◌else◌}
+use Rattle.std.proofs.Common.{◌≡◌, ℕ, zero, suc, Bool, true, false, List, [], ◌∷◌, Option, Some, inl, inr, refl, sym, ◌∙◌, ap, subst, arith}
 use Rattle.std.proofs.lemmas.Bool.Decides.{nat_tests}
 use Rattle.std.proofs.lemmas.Option.{slice_get_within}
 use Rattle.gos_types.specs.declared.shakes.Role.{Role}
@@ -8,16 +8,15 @@ use Rattle.gos_types.specs.declared.shakes.Role.TheVariants.{Serve, Ask}
 use Rattle.gos_types.specs.Types.{Type', Com, Exp, Var, Pair, Fun, IsGround}
 use Rattle.gos_check.specs.declared.linear.Split.{Split}
 use Rattle.gos_check.specs.Nodes.{Numbered, type_of_node}
-use Rattle.gos_check.specs.Linearity.{times, split_in}
+use Rattle.gos_check.specs.Linearity.{times}
 use Rattle.gos_check.proofs.TimesLemmas.{number_cases, eq_true, eq_false}
 use Rattle.gos_plan.specs.Kinds.{Contact, Part, Share, Assign, asks, serves, contacts_of, part_contacts}
-use Rattle.gos_plan.specs.Plans.{End, PartEnd, ImportEnd, ResultEnd, Plan, contact_at, contacts_of_part, turned_if}
+use Rattle.gos_plan.specs.Plans.{End, PartEnd, ImportEnd, ResultEnd, Plan, contacts_of_part, turned_if}
 use Rattle.gos_realises.specs.Regular.{count}
 use Rattle.gos_webs.specs.Webs.{Dot, Of, Within}
 use Rattle.gos_compile.specs.Wiring.{Types, answer_bits, shares, parts_of}
-use Rattle.gos_wired.specs.Wired.{Supplies, Source, Own, Supplied, Placing, IsFrom, source_dot, dot_at}
-use Rattle.gos_stages.specs.Inside.{numbers_inside, AreGroundSupplies}
-use Rattle.gos_stages.specs.Lodging.{Spot}
+use Rattle.gos_wired.specs.Wired.{Supplies, Source, Own, Supplied, Placing, IsFrom, source_dot}
+use Rattle.gos_stages.specs.Inside.{AreGroundSupplies}
 use Rattle.gos_stages.specs.Folding.{Child, is_used, child_back, IsChild, IsLaid}
 use Rattle.gos_stages.proofs.StepLemmas.{serves_source}
 use Rattle.gos_stages.proofs.ServedLemmas.{servings_serve}
@@ -33,10 +32,10 @@ use Rattle.gos_assignments.specs.Sides.{assigning, other_numbers, number_side}
 use Rattle.gos_assignments.proofs.NumberLemmas.{number_part, variable_tidy, either_side}
 use Rattle.gos_assignments.proofs.TieLemmas.{all_ties}
 use Rattle.gos_assignments.proofs.NumberSideLemmas.{number_is_child, assign_at}
-use Rattle.gos_assignments.proofs.LivingLemmas.{AreShared, all_live, all_serve, Serves, live_stands}
+use Rattle.gos_assignments.proofs.LivingLemmas.{AreShared, all_live, all_serve, live_stands}
 
 -- what serves doesn't ask
-role_at : Option Contact → Role
+abbrev role_at : Option Contact → Role
 role_at None = Serve
 role_at (Some k) = k.role
 

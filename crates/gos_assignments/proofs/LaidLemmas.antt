@@ -1,14 +1,12 @@
 -- The variable's stage: its Shares are loyal, and its imports are those of the node's plan.
-use Rattle.std.specs.Prelude.{◌+◌, ◌-◌, ◌*◌, ◌<◌, ◌⊎◌, length, slice_get, None, Contains}
-use Rattle.std.proofs.Common.{◌≡◌, ℕ, zero, suc, Bool, true, false, not, List, [], ◌∷◌, Option, Some, inl, inr, refl, sym, ◌∙◌, ap, subst, arith, true≢false}
+use Rattle.std.specs.Prelude.{◌+◌, ◌-◌, ◌*◌, ◌⊎◌, length, slice_get, None, Contains}
+use Rattle.std.proofs.Common.{◌≡◌, ℕ, zero, suc, Bool, true, false, not, List, [], ◌∷◌, Some, inl, inr, refl, sym, ◌∙◌, ap, subst, arith}
 use Rattle.std.proofs.lemmas.Option.{slice_get_within}
-use Rattle.gos_types.specs.Types.{Type'}
-use Rattle.gos_model.specs.Typing.{Imported}
-use Rattle.gos_plan.specs.Kinds.{Contact, Part, Share, asks, serves}
-use Rattle.gos_plan.specs.Plans.{End, PartEnd, ImportEnd, ResultEnd, Joint, Plan, contact_at, IsRight}
-use Rattle.gos_plan.proofs.JointLemmas.{fits, contained}
+use Rattle.gos_plan.specs.Kinds.{Contact, Share, asks, serves}
+use Rattle.gos_plan.specs.Plans.{End, PartEnd, ImportEnd, ResultEnd, Plan, contact_at, IsRight}
+use Rattle.gos_plan.proofs.JointLemmas.{IsIn, fits, contained}
 use Rattle.gos_realises.specs.Regular.{count}
-use Rattle.gos_webs.specs.Webs.{Tie, IsOfWeb}
+use Rattle.gos_webs.specs.Webs.{joint}
 use Rattle.gos_webs.specs.Cutting.{StandsIn}
 use Rattle.gos_webs.proofs.CutLemmas.{which_end}
 use Rattle.gos_unions.proofs.FlatFitLemmas.{contained_at}
@@ -16,19 +14,18 @@ use Rattle.gos_windows.specs.Regions.{Serving, IsLoyal, IsRegion}
 use Rattle.gos_sharing.specs.Sharing.{caller_end}
 use Rattle.gos_folds.specs.Folds.{joined_cut}
 use Rattle.gos_loyal.proofs.LoyalLemmas.{shares_of_one_are_loyal}
-use Rattle.gos_wired.specs.Wired.{Source, Own, Placing, placed, source_dot, dot_at}
-use Rattle.gos_stages.specs.Lodging.{Spot, spot_if}
-use Rattle.gos_stages.specs.Folding.{IsLaid}
+use Rattle.gos_wired.specs.Wired.{Source, Own, source_dot}
+use Rattle.gos_stages.specs.Lodging.{spot_if}
 use Rattle.gos_stages.proofs.SpareLemmas.{spares_are_others}
 use Rattle.gos_stages.proofs.ServedLemmas.{servings_serve}
 use Rattle.gos_stages.proofs.ChildPartLemmas.{no_more_than}
-use Rattle.gos_stages.proofs.ChildFoldLemmas.{import_there, share_ground}
+use Rattle.gos_stages.proofs.ContactLemmas.{import_there, share_ground, other_unserved}
 use Rattle.gos_writes.specs.Written.{unread}
-use Rattle.gos_assignments.specs.Variables.{Target, is_target, target_lodge, target_plan, target_cut, target_servings, IsTarget, HasAssign}
-use Rattle.gos_assignments.specs.Made.{target_stage, TargetIsLaid}
+use Rattle.gos_assignments.specs.Variables.{is_target, target_lodge, target_plan, target_cut, target_servings}
+use Rattle.gos_assignments.specs.Made.{TargetIsLaid}
 use Rattle.gos_assignments.proofs.ReadLemmas.{reads}
 use Rattle.gos_assignments.proofs.TargetBackLemmas.{plan_right, plan_ground, plan_joined, plan_regular, itself}
-use Rattle.gos_assignments.proofs.TargetFoldLemmas.{other_unserved, part_home, part_lies, own_outside, import_of, target_is_region}
+use Rattle.gos_assignments.proofs.TargetFoldLemmas.{part_home, part_lies, own_outside, import_of, target_is_region}
 
 found_at : {X : Type 0} (xs : List X) (x : X) → Contains xs x → (k : ℕ) × (slice_get xs k ≡ Some x)
 found_at [] x (k, lt, e) = absurd (omega (arith, lt))
@@ -62,11 +59,13 @@ target_is_laid f own ts w pl r is has laid web =
       ports = ports;
     }
   where
+    it_reads : (e : End) × IsIn (joint (ResultEnd 0) e) (target_plan f).joints
     it_reads = reads (target_plan f) (plan_right f ts w is) (plan_ground f ts w is) (plan_joined f ts w is 0 (omega arith))
 
     read : End
     read = it_reads.0
 
+    joined : IsIn (joint (ResultEnd 0) read) (target_plan f).joints
     joined = it_reads.1
 
     region : IsRegion (joined_cut (target_cut f pl (length r.parts)) (unread (target_plan f)).joints) (target_servings f pl) r (unread (target_plan f))

@@ -12,3 +12,4 @@ pub mod LivingLemmas
 pub mod CoveredLemmas
 pub mod NodeLemmas
 pub mod CaseLemmas
+pub mod SmallLemmas

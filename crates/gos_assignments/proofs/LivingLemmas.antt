@@ -1,5 +1,5 @@
 -- What is there outside splits is live for one of two, where each number that isn't split is one's; and each Share serves one of them.
-use Rattle.std.specs.Prelude.{◌≢◌, ◌+◌, ◌<◌, ◌⊎◌, ◌||◌, length, nat_eq, slice_get, None, Contains, if◌then◌else◌}
+use Rattle.std.specs.Prelude.{◌+◌, ◌<◌, ◌⊎◌, ◌||◌, length, nat_eq, slice_get, None, Contains, if◌then◌else◌}
 use Rattle.std.proofs.Common.{◌≡◌, ℕ, zero, suc, Bool, true, false, List, [], ◌∷◌, Option, Some, inl, inr, refl, sym, ◌∙◌, ap, subst, arith}
 use Rattle.std.proofs.lemmas.List.Elements.{Contains-append_left, Contains-append_right}
 use Rattle.gos_types.specs.Types.{Type'}
@@ -7,8 +7,7 @@ use Rattle.gos_check.specs.declared.linear.Split.{Split}
 use Rattle.gos_check.specs.Linearity.{times, split_in, sides}
 use Rattle.gos_check.proofs.TimesLemmas.{number_cases, times_same, times_other, times_none}
 use Rattle.gos_plan.specs.Kinds.{Share}
-use Rattle.gos_webs.specs.Webs.{Dot, Of, Within}
-use Rattle.gos_windows.specs.Regions.{Serving}
+use Rattle.gos_webs.specs.Webs.{Of, Within}
 use Rattle.gos_compile.specs.Wiring.{Types, shares}
 use Rattle.gos_wired.specs.Wired.{Supplies, Placing}
 use Rattle.gos_plan.specs.Plans.{End}

@@ -1,21 +1,18 @@
 -- A wired assignment is made of its two sides: each joint of its plan is its number's, its variable's, or the one at which it is run.
-use Rattle.std.specs.Prelude.{◌⊎◌, length, slice_get, All, Contains}
-use Rattle.std.specs.List.{AllByRecursion}
-use Rattle.std.proofs.lemmas.List.Elements.{All-from_recursion, All-contains}
-use Rattle.std.proofs.Common.{◌≡◌, ℕ, zero, suc, List, [], ◌∷◌, Option, Some, inl, inr, refl, sym, ◌∙◌, ap, subst, arith}
-use Rattle.gos_types.specs.Types.{Type', Com, Exp, IsDone}
+use Rattle.std.specs.Prelude.{◌+◌, ◌⊎◌, length, slice_get, Contains}
+use Rattle.std.proofs.Common.{◌≡◌, ℕ, true, List, [], ◌∷◌, Option, Some, inl, inr, refl, sym, ◌∙◌, ap, subst, arith}
+use Rattle.gos_types.specs.Types.{Type', Exp, IsDone}
 use Rattle.gos_model.specs.Terms.{Term}
-use Rattle.gos_plan.specs.Kinds.{Part, Assign, asks, serves, contacts_of}
+use Rattle.gos_plan.specs.Kinds.{Part, Assign, contacts_of}
 use Rattle.gos_plan.specs.Plans.{End, PartEnd, ImportEnd, ResultEnd, Joint, Plan, contacts_of_part, stands_in, turned_if}
-use Rattle.gos_plan.specs.TokenBits.{LiteralFits}
 use Rattle.gos_plan.proofs.JointLemmas.{IsIn, fits, one_joint, contained}
 use Rattle.gos_realises.specs.Realises.{Realises}
-use Rattle.gos_webs.specs.Webs.{Dot, Of, Within, Tie, tie, Web, Way, joint, own_web}
+use Rattle.gos_webs.specs.Webs.{Dot, Of, Within, Tie, Web, Way, joint, own_web}
 use Rattle.gos_webs.specs.Cutting.{lies_at}
-use Rattle.gos_webs.proofs.WebLemmas.{asks_there, serves_there, right_is_of_its_web}
+use Rattle.gos_webs.proofs.WebLemmas.{asks_there, right_is_of_its_web}
 use Rattle.gos_windows.specs.Nodes.{Stage, IsStage, IsOfStage}
 use Rattle.gos_nodes.proofs.RestLemmas.{realisers_rest}
-use Rattle.gos_folds.specs.Folds.{Fold, IsFold}
+use Rattle.gos_folds.specs.Folds.{IsFold}
 use Rattle.gos_folds.proofs.RegionLemmas.{folded_joint}
 use Rattle.gos_wired.specs.Wired.{Source, Own, Placing, source_dot, dot_at}
 use Rattle.gos_stages.specs.Folding.{Child, child_web, child_back, child_cut, child_fold, child_servings}
@@ -24,6 +21,7 @@ use Rattle.gos_stages.specs.Stages.{stage_of}
 use Rattle.gos_stages.proofs.WayLemmas.{by_tie}
 use Rattle.gos_stages.proofs.ChildFoldLemmas.{child_is_folded}
 use Rattle.gos_stages.proofs.StageLemmas.{has_child_of, laid_of, web_of, child_is_stage}
+use Rattle.gos_grounds.proofs.ChildLemmas.{literals_among}
 use Rattle.gos_writes.specs.Written.{unread}
 use Rattle.gos_writes.proofs.JoinedLemmas.{unread_right}
 use Rattle.gos_writes.specs.Assignments as assignments
@@ -33,23 +31,6 @@ use Rattle.gos_assignments.proofs.ReadLemmas.{reads}
 use Rattle.gos_assignments.proofs.TargetBackLemmas.{target_dot, plan_right, plan_ground, plan_joined}
 use Rattle.gos_assignments.proofs.TargetFoldLemmas.{target_is_fold, target_is_region}
 use Rattle.gos_assignments.proofs.LaidLemmas.{target_is_laid}
-
--- the literals of parts that are among those of a plan
-pub literals_among : (part : ℕ → ℕ) (r c : Plan) → ((k : ℕ) (x : Part) → slice_get c.parts k ≡ Some x → slice_get r.parts (part k) ≡ Some x)
-    → All LiteralFits r.parts → All LiteralFits c.parts
-literals_among part r c among fit = All-from_recursion LiteralFits c.parts (each c.parts one)
-  where
-    part_there : (xs : List Part) (k : ℕ) (x : Part) → slice_get xs k ≡ Some x → Contains xs x
-    part_there [] k x at = absurd (cc at)
-    part_there (y ∷ xs) zero x at = (0, omega arith, cc at)
-    part_there (y ∷ xs) (suc k) x at = let (n, l, e) = part_there xs k x at in (suc n, omega (arith, l), e)
-
-    one : (k : ℕ) (x : Part) → slice_get c.parts k ≡ Some x → LiteralFits x
-    one k x at = All-contains LiteralFits r.parts x fit (part_there r.parts (part k) x (among k x at))
-
-    each : (xs : List Part) → ((k : ℕ) (x : Part) → slice_get xs k ≡ Some x → LiteralFits x) → AllByRecursion LiteralFits xs
-    each [] all = tt
-    each (x ∷ xs) all = (all 0 x refl, each xs (λ k y at. all (suc k) y at))
 
 module _ (f : Child) (node x : ℕ) (own : List Part) (ts : List Tie) (w : ℕ) (pl plc : Placing) (r c : Plan) (is : IsWiredAssignment f node x own ts w pl r)
     (staged : IsStaged f pl plc r c) where
@@ -65,9 +46,10 @@ module _ (f : Child) (node x : ℕ) (own : List Part) (ts : List Tie) (w : ℕ) 
   abbrev whole : Web
   whole = record { ties = ts; at = dot_at f.first pl }
 
+  abbrev it_reads : (e : End) × IsIn (joint (ResultEnd 0) e) p.joints
   it_reads = reads p (plan_right g ts w is.variable) (plan_ground g ts w is.variable) (plan_joined g ts w is.variable 0 (omega arith))
 
-  read : End
+  abbrev read : End
   read = it_reads.0
 
   -- the own part

@@ -1,9 +1,5 @@
 -- A wired node that writes a variable's number is a wired assignment.
-use Rattle.std.specs.Prelude.{ℕ, suc, length, All, Contains}
 use Rattle.std.proofs.Common.{refl}
-use Rattle.gos_check.specs.Nodes.{type_of_node}
-use Rattle.gos_plan.specs.Plans.{Plan}
-use Rattle.gos_wired.specs.Wired.{Supplies, Placing, IsWired}
 use Rattle.gos_stages.specs.Folding.{IsLaid}
 use Rattle.gos_compile.specs.Wiring.{parts_of}
 use Rattle.gos_grounds.proofs.WiredLemmas.{imports_are_ground}

@@ -1,18 +1,18 @@
 -- The numbers of the two sides of an assignment: the variable's is neither split nor the other side's, and no split has two sides that it uses.
-use Rattle.std.specs.Prelude.{◌≡◌, ◌≢◌, ℕ, zero, suc, ◌+◌, ◌<◌, ◌≤◌, ◌⊎◌, Bool, true, false, List, [], ◌∷◌, ◌++◌, nat_eq, nat_lt, Contains}
-use Rattle.std.proofs.Common.{refl, sym, ◌∙◌, ap, subst, arith, inl, inr}
-use Rattle.gos_types.specs.Types.{Type', Com, Exp, Var}
+use Rattle.std.specs.Prelude.{◌≡◌, ℕ, zero, suc, ◌+◌, ◌<◌, ◌⊎◌, false, List, [], ◌∷◌, ◌++◌, nat_eq, Contains}
+use Rattle.std.proofs.Common.{refl, sym, subst, arith, inl, inr}
+use Rattle.gos_types.specs.Types.{Type', Com, Var}
 use Rattle.gos_model.specs.Terms as terms
 use Rattle.gos_check.specs.declared.linear.Split.{Split}
-use Rattle.gos_check.specs.Nodes.{Numbered, Closed, Use, Two, TwoForm, type_of_node}
+use Rattle.gos_check.specs.Nodes.{Numbered, Closed, Use, Two, TwoForm}
 use Rattle.gos_check.specs.Linearity.{times, split_in, sides, used, made}
 use Rattle.gos_check.proofs.TimesLemmas.{number_cases, eq_false, true_eq, times_same, times_other, times-append}
 use Rattle.gos_compile.specs.Wiring.{Types}
 use Rattle.gos_stages.specs.Inside.{numbers_inside}
 use Rattle.gos_stages.specs.Lodging.{AreTidy}
+use Rattle.gos_stages.proofs.ChildBackLemmas.{some_times}
 use Rattle.gos_numbers.specs.Kept.{IsKept}
 use Rattle.gos_numbers.specs.Inherited.{first_numbers, IsPart}
-use Rattle.gos_numbers.proofs.ListLemmas.{times_some}
 use Rattle.gos_numbers.proofs.ScopeLemmas.{covered}
 use Rattle.gos_numbers.proofs.ApartLemmas.{are_apart}
 use Rattle.gos_numbers.proofs.PartLemmas.{is_part}
@@ -123,4 +123,4 @@ module _ (types : Types) (ns : List ℕ) (ss : List Split) (w x : ℕ) (n : Numb
   either_side k there unsplit =
       number_cases x k (λ e t. inl (sym e))
       (λ e t. let less = times_other k x [] e in let same = first_all ss ns (x ∷ []) k (omega (arith, unsplit, less)) in
-      let some = times_some (numbers_inside ss ns) k there in inr (omega (arith, same, some)))
+      let some = some_times k (numbers_inside ss ns) there in inr (omega (arith, same, some)))

@@ -1,24 +1,24 @@
 -- The number's side of an assignment to a variable's number is a child of the node, and its parts are among the node's.
 use Rattle.std.specs.Prelude.{◌+◌, ◌⊎◌, ◌||◌, length, nat_eq, nat_lt, slice_get, None, Contains, if◌then◌else◌}
-use Rattle.std.proofs.Common.{◌≡◌, ℕ, zero, suc, Bool, true, false, List, [], ◌∷◌, ◌++◌, Some, Option, inl, inr, refl, sym, ◌∙◌, ap, subst, arith}
-use Rattle.gos_types.specs.Types.{Type', Exp, Var}
+use Rattle.std.proofs.Common.{◌≡◌, ℕ, suc, Bool, false, List, ◌∷◌, Some, Option, inl, inr, refl, sym, ◌∙◌, ap, subst, arith}
+use Rattle.gos_types.specs.Types.{Type', Exp}
 use Rattle.gos_check.specs.declared.linear.Split.{Split}
 use Rattle.gos_check.specs.Nodes.{Numbered, type_of_node}
 use Rattle.gos_check.specs.Linearity.{times, made}
 use Rattle.gos_check.proofs.TimesLemmas.{eq_true}
-use Rattle.gos_plan.specs.Kinds.{Part, Contact, Assign, contacts_of}
+use Rattle.gos_plan.specs.Kinds.{Part, Assign, contacts_of}
 use Rattle.gos_plan.specs.Plans.{PartEnd, ResultEnd, contacts_of_part, turned_if}
 use Rattle.gos_realises.specs.Regular.{count}
-use Rattle.gos_webs.specs.Webs.{Dot, Of, Number, Node, Within, Tie}
+use Rattle.gos_webs.specs.Webs.{Of, Number, Node, Within, Tie}
 use Rattle.gos_unions.proofs.LeftLemmas.{front, behind}
 use Rattle.gos_compile.specs.Wiring.{Types, answer_bits, shares, parts_of, nodes}
 use Rattle.gos_wired.specs.Wired.{Supplies}
 use Rattle.gos_stages.specs.Inside.{AreGroundSupplies}
 use Rattle.gos_stages.specs.Lodging.{spot_if}
 use Rattle.gos_stages.specs.Housing.{HasShares}
-use Rattle.gos_stages.specs.Folding.{Child, is_used, lodge, in_range, asks_child, spot_dot, is_number, child_back, shared_ties, own_ties, IsForeign, IsChild}
+use Rattle.gos_stages.specs.Folding.{Child, is_used, lodge, in_range, asks_child, spot_dot, child_back, shared_ties, own_ties, IsForeign, IsChild}
 use Rattle.gos_stages.specs.Regions.{HasParts}
-use Rattle.gos_stages.proofs.LodgingLemmas.{lifted, numbers_are_held}
+use Rattle.gos_stages.proofs.LodgingLemmas.{numbers_are_held}
 use Rattle.gos_stages.proofs.ImportHomeLemmas.{result_is_nowhere}
 use Rattle.gos_stages.proofs.ChildBackLemmas.{range_below}
 use Rattle.gos_stages.proofs.ContactLemmas.{shares_length}
@@ -26,7 +26,7 @@ use Rattle.gos_numbers.specs.Kept.{IsKept}
 use Rattle.gos_numbers.specs.Inherited.{IsPart}
 use Rattle.gos_assignments.specs.Sides.{assigning, other_numbers, number_side}
 use Rattle.gos_assignments.proofs.NumberLemmas.{number_part, variable_unsplit, variable_unmade, variable_other}
-use Rattle.gos_assignments.proofs.TieLemmas.{all_ties, run_tie, read_tie, write_tie, shared_in, own_in, IsOneOf, of_ties}
+use Rattle.gos_assignments.proofs.TieLemmas.{all_ties, shared_in, own_in, IsOneOf, of_ties}
 
 module _ (types : Types) (i j : ℕ) (ss : List Split) (w x : ℕ) (n : Numbered) (ns : List ℕ) (env : Supplies) (kept : IsKept types ns (assigning ss w x n)) where
   abbrev f : Child

@@ -1,9 +1,9 @@
 -- The ways of a plan of a variable, where what asks to read stands for the end that serves it: they are those of the plan without that joint.
-use Rattle.std.specs.Prelude.{◌+◌, ◌<◌, None, Contains}
-use Rattle.std.proofs.Common.{◌≡◌, ℕ, zero, suc, Bool, true, false, List, [], ◌∷◌, ◌⊎◌, Option, Some, inl, inr, refl, sym, ◌∙◌, ap, subst, arith, if◌then◌else◌}
+use Rattle.std.specs.Prelude.{Contains}
+use Rattle.std.proofs.Common.{◌≡◌, ℕ, Bool, true, false, List, [], ◌∷◌, ◌⊎◌, inl, inr, refl, sym, ◌∙◌, ap, subst, if◌then◌else◌}
 use Rattle.gos_types.specs.declared.shakes.Role.TheVariants.{Serve, Ask}
 use Rattle.gos_types.specs.Types.{IsGround}
-use Rattle.gos_plan.specs.Kinds.{asks, serves}
+use Rattle.gos_plan.specs.Kinds.{serves}
 use Rattle.gos_plan.specs.Plans.{End, PartEnd, ImportEnd, ResultEnd, Joint, Plan, contact_at, same_end, stands_in, IsRight}
 use Rattle.gos_plan.proofs.JointLemmas.{IsIn, same_is, fits, one_joint, contained}
 use Rattle.gos_webs.specs.Webs.{Dot, Of, Number, Node, Within, Tie, tie, Meet, Way, here, own_web, joint}

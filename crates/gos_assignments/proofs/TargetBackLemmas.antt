@@ -1,14 +1,13 @@
 -- What a tie of the node's web connects stands for nothing of the variable's plan, or for what its own web connects; and a joint
 -- of that plan is a way of the node's web.
-use Rattle.std.specs.Prelude.{◌≢◌, ◌+◌, ◌<◌, ◌≤◌, ◌⊎◌, length, map, nat_eq, slice_get, None, Contains}
-use Rattle.std.proofs.Common.{◌≡◌, ℕ, zero, suc, Bool, true, false, not, List, [], ◌∷◌, ◌++◌, Option, Some, inl, inr, refl, sym, ◌∙◌, ap, subst, arith, if◌then◌else◌}
+use Rattle.std.specs.Prelude.{◌+◌, ◌<◌, length, nat_eq, slice_get, None, Contains}
+use Rattle.std.proofs.Common.{◌≡◌, ℕ, zero, suc, Bool, true, false, List, [], ◌∷◌, ◌++◌, Option, Some, inl, inr, refl, sym, ◌∙◌, ap, subst, arith, if◌then◌else◌}
 use Rattle.std.proofs.lemmas.List.Elements.{Contains-append_cases}
 use Rattle.gos_types.specs.Types.{Type', Var, IsGround}
 use Rattle.gos_check.specs.declared.linear.Split.{Split}
-use Rattle.gos_check.specs.Linearity.{times, split_in}
 use Rattle.gos_check.proofs.TimesLemmas.{eq_true, eq_false, true_eq}
 use Rattle.gos_plan.specs.Kinds.{Contact, asks, contacts_of}
-use Rattle.gos_plan.specs.Plans.{End, PartEnd, ImportEnd, ResultEnd, Joint, Plan, contact_at, same_end, stands_in, turned_if, IsRight}
+use Rattle.gos_plan.specs.Plans.{End, PartEnd, ImportEnd, ResultEnd, Joint, contact_at, same_end, stands_in, turned_if, IsRight}
 use Rattle.gos_plan.proofs.JointLemmas.{IsIn, fits, contained}
 use Rattle.gos_realises.specs.Regular.{count, IsRegular}
 use Rattle.gos_realises.specs.Realises.{Realises}
@@ -22,9 +21,9 @@ use Rattle.gos_unions.specs.Unions.{within}
 use Rattle.gos_unions.proofs.UnionLemmas.{of_image}
 use Rattle.gos_folds.specs.Folds.{Follows}
 use Rattle.gos_compile.specs.Wiring.{Types, row, led, share_ties, shares_ties}
-use Rattle.gos_wired.specs.Wired.{Supplies, Source, Own, Supplied, source_dot, dot_ties, all_supply_ties}
+use Rattle.gos_wired.specs.Wired.{Supplies, source_dot, dot_ties, all_supply_ties}
 use Rattle.gos_stages.specs.Inside.{numbers_inside, AreGroundSupplies}
-use Rattle.gos_stages.specs.Lodging.{Spot, spot, spot_if, Near, Lodging, lies}
+use Rattle.gos_stages.specs.Lodging.{Spot, spot, spot_if, Near, lies}
 use Rattle.gos_stages.proofs.InsideLemmas.{inside_is_realised}
 use Rattle.gos_stages.proofs.LodgingLemmas.{lifted, led_listed, homes_are_kept, numbers_are_held, lodged_are_inside}
 use Rattle.gos_stages.proofs.LiveLemmas.{spots_are_live}
@@ -33,7 +32,7 @@ use Rattle.gos_stages.proofs.ChildTieLemmas.{joint_tie, dot_tie, put_in, of_supp
 use Rattle.gos_stages.proofs.ChildPartLemmas.{no_more_than}
 use Rattle.gos_writes.specs.Written.{unread_joints, unread}
 use Rattle.gos_writes.proofs.JoinedLemmas.{was_in}
-use Rattle.gos_assignments.specs.Variables.{Target, is_target, target_lodge, target_plan, kept_end, kept, target_back, target_shared, target_ties, IsAway, IsTarget}
+use Rattle.gos_assignments.specs.Variables.{Target, is_target, target_lodge, target_plan, kept, target_back, target_shared, target_ties, IsTarget}
 use Rattle.gos_assignments.proofs.ReadLemmas.{no_result, end_way}
 
 -- a tie of a Share

@@ -1,18 +1,17 @@
 -- The variable's plan, without the joint by which it is read, lies as a fold in the node's plan: so it is a region of it.
-use Rattle.std.specs.Prelude.{◌≢◌, ◌+◌, ◌-◌, ◌*◌, ◌<◌, ◌≤◌, ◌⊎◌, length, nat_eq, nat_lt, slice_get, None, Contains}
-use Rattle.std.proofs.Common.{◌≡◌, ℕ, zero, suc, Bool, true, false, not, List, [], ◌∷◌, Option, Some, inl, inr, refl, sym, ◌∙◌, ap, subst, arith, if◌then◌else◌}
+use Rattle.std.specs.Prelude.{◌+◌, ◌-◌, ◌*◌, ◌<◌, ◌≤◌, ◌⊎◌, length, nat_eq, nat_lt, slice_get, None, Contains}
+use Rattle.std.proofs.Common.{◌≡◌, ℕ, zero, suc, Bool, true, false, not, List, Option, Some, inl, inr, refl, sym, ◌∙◌, ap, subst, arith, if◌then◌else◌}
 use Rattle.std.proofs.lemmas.Option.{slice_get_within}
 use Rattle.std.proofs.lemmas.Bool.Decides.{nat_tests}
-use Rattle.gos_types.specs.Types.{Type', Com, Exp, Var, Pair, Fun, IsGround}
+use Rattle.gos_types.specs.Types.{Type', Var}
 use Rattle.gos_model.specs.Typing.{Imported}
-use Rattle.gos_check.specs.declared.linear.Split.{Split}
-use Rattle.gos_check.proofs.TimesLemmas.{eq_true, eq_false, true_eq}
+use Rattle.gos_check.proofs.TimesLemmas.{eq_true, true_eq}
 use Rattle.gos_plan.specs.Kinds.{Contact, Part, Share, Assign, contacts_of, part_contacts}
 use Rattle.gos_plan.specs.Plans.{End, PartEnd, ImportEnd, ResultEnd, Joint, Plan, contact_at, contacts_of_part, contacts_of_import, same_end, stands_in, turned_if}
 use Rattle.gos_plan.specs.Tokens.{IsPortEnd}
 use Rattle.gos_plan.proofs.JointLemmas.{IsIn}
 use Rattle.gos_realises.specs.Regular.{count}
-use Rattle.gos_webs.specs.Webs.{Dot, Of, Number, Node, Within, Tie, Way, Web, IsOfWeb, own_web, joint}
+use Rattle.gos_webs.specs.Webs.{Dot, Of, Within, Tie, Web, IsOfWeb, own_web, joint}
 use Rattle.gos_webs.specs.Cutting.{Cut, IsOutside, StandsIn}
 use Rattle.gos_webs.proofs.WebLemmas.{asks_there, serves_there, right_is_of_its_web}
 use Rattle.gos_webs.proofs.MovedLemmas.{listed}
@@ -22,49 +21,29 @@ use Rattle.gos_folds.proofs.WayLemmas.{unmet_is_alone}
 use Rattle.gos_folds.proofs.RegionLemmas.{folded_is_region}
 use Rattle.gos_compile.specs.Wiring.{shares}
 use Rattle.gos_wired.specs.Wired.{Origin, Source, Own, Supplied, Placing, IsFrom, placed, source_dot, dot_at}
-use Rattle.gos_stages.specs.Lodging.{Spot, spot, spot_if, serves_side, Lodging}
+use Rattle.gos_stages.specs.Lodging.{Spot, spot, spot_if, Lodging}
 use Rattle.gos_stages.specs.Housing.{IsOutsider, IsThere}
 use Rattle.gos_stages.specs.Folding.{IsLaid}
 use Rattle.gos_stages.specs.Served.{IsSeenFrom}
-use Rattle.gos_stages.proofs.StepLemmas.{serves_source, serves_first_alone, serves_second_alone}
+use Rattle.gos_stages.proofs.StepLemmas.{serves_source}
 use Rattle.gos_stages.proofs.PartHomeLemmas.{numbers_are_at_home}
 use Rattle.gos_stages.proofs.HousingLemmas.{parts_are_from, imports_are_from, parts_are_outsiders, homes_are_there, far_is_nothing, first_is_kept}
 use Rattle.gos_stages.proofs.ImportHomeLemmas.{imports_are_there, result_is_nowhere}
 use Rattle.gos_stages.proofs.ServedLemmas.{servings_serve}
 use Rattle.gos_stages.proofs.SpareLemmas.{spares_are_others}
 use Rattle.gos_stages.proofs.ChildPartLemmas.{low, there_at, no_more_than}
-use Rattle.gos_stages.proofs.ChildFoldLemmas.{import_there, share_ground}
+use Rattle.gos_stages.proofs.ContactLemmas.{part_there, import_there, some_shake, share_ground, shares_length, other_unserved}
 use Rattle.gos_writes.specs.Written.{unread}
 use Rattle.gos_writes.proofs.JoinedLemmas.{unread_right}
 use Rattle.gos_assignments.specs.Variables.{Target, is_target, target_lodge, target_plan, end_part, spot_part, spot_end, target_outer, target_inner, target_cut, target_servings, kept, target_back, IsTarget, HasAssign, TargetIsRegion}
 use Rattle.gos_assignments.proofs.ReadLemmas.{no_result, reads, unmet}
 use Rattle.gos_assignments.proofs.TargetBackLemmas.{target_dot, plan_right, plan_outcome, plan_ground, plan_joined, itself, spot_is, result_low, plain_share, own_back, stays_so, ways_so}
 
-part_there : (a : Option Part) (h : ℕ) (k : Contact) → slice_get (contacts_of_part a) h ≡ Some k → (y : Part) × (a ≡ Some y)
-part_there None h k e = absurd (no_more_than k e)
-part_there (Some y) h k e = (y, refl)
-
 -- the own part asks as the user of a variable does
 assign_contact : (w h : ℕ) (k : Contact) → turned_if (slice_get (contacts_of (Var w)) h) ≡ Some k → slice_get (part_contacts (Assign w)) h ≡ Some k
 assign_contact w zero k e = e
 assign_contact w (suc zero) k e = e
 assign_contact w (suc (suc h)) k e = absurd (no_more_than k e)
-
-shares_length : (types : ℕ → Type') (ss : List Split) → length (shares ss types) ≡ length ss
-shares_length types [] = refl
-shares_length types (s ∷ ss) = ap suc (shares_length types ss)
-
-some_shake : (t : Type') → IsGround t → 0 < count t
-some_shake Com g = omega arith
-some_shake (Exp w) g = omega arith
-some_shake (Var w) g = omega arith
-some_shake (Pair a b) g = absurd g
-some_shake (Fun a b) g = absurd g
-
-pub other_unserved : (m c j : ℕ) → c < 2 → j < m → serves_side m c (m + (1 - c) * m + j) ≡ false
-other_unserved m zero j two lt = serves_first_alone m j
-other_unserved m (suc zero) j two lt = serves_second_alone m j lt
-other_unserved m (suc (suc c)) j two lt = absurd (omega (arith, two))
 
 told : (a b : ℕ) → nat_lt a b ≡ true → a < b
 told a b h = grind (arith, nat_tests)

@@ -1,7 +1,7 @@
 -- The ties of a wired assignment to a variable's number: those of Shares and supplies, the one at which it is run, two of the variable, and
 -- those of the number's side.
 use Rattle.std.specs.Prelude.{◌+◌, ◌⊎◌, length, Contains}
-use Rattle.std.proofs.Common.{◌≡◌, ℕ, zero, suc, List, [], ◌∷◌, ◌++◌, inl, inr, refl, sym, ◌∙◌, ap, subst, arith}
+use Rattle.std.proofs.Common.{◌≡◌, ℕ, zero, suc, List, ◌∷◌, ◌++◌, inl, inr, refl, sym, ◌∙◌, ap, subst, arith}
 use Rattle.std.proofs.lemmas.List.Elements.{Contains-append_left, Contains-append_right, Contains-append_cases}
 use Rattle.gos_types.specs.Types.{Com}
 use Rattle.gos_check.specs.declared.linear.Split.{Split}
@@ -40,7 +40,7 @@ module _ (types : Types) (i j : ℕ) (ss : List Split) (w x : ℕ) (n : Numbered
   abbrev g : Target
   g = target_of (number_side types i j ss env ns x n) j x
 
-  abbrev all_ties : List Tie
+  abbrev pub all_ties : List Tie
   all_ties = wired_ties types i j (assigning ss w x n) ns env
 
   abbrev wiring : List point_ties.Tie

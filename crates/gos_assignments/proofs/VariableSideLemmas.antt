@@ -1,7 +1,6 @@
 -- The variable of an assignment to a variable's number is a target of the node.
 use Rattle.std.specs.Prelude.{◌+◌, ◌-◌, ◌<◌, ◌≤◌, ◌⊎◌, length, nat_eq, None, Contains, if◌then◌else◌}
 use Rattle.std.proofs.Common.{◌≡◌, ℕ, zero, suc, Bool, false, List, Option, Some, inl, inr, refl, sym, ◌∙◌, ap, subst, arith}
-use Rattle.gos_types.specs.Types.{Com}
 use Rattle.gos_check.specs.declared.linear.Split.{Split}
 use Rattle.gos_check.specs.Nodes.{Numbered, type_of_node}
 use Rattle.gos_check.specs.Linearity.{times, used, made}
@@ -10,13 +9,13 @@ use Rattle.gos_plan.specs.Plans.{End, PartEnd, ResultEnd}
 use Rattle.gos_realises.specs.Regular.{count}
 use Rattle.gos_ties.specs.declared.points.Place.{Place}
 use Rattle.gos_ties.specs.declared.points.Place.TheVariants as places
-use Rattle.gos_webs.specs.Webs.{Dot, Of, Number, Node, Within, Tie}
+use Rattle.gos_webs.specs.Webs.{Dot, Of, Number, Within, Tie}
 use Rattle.gos_compile.specs.Wiring.{Types, parts_of}
-use Rattle.gos_wired.specs.Wired.{Supplies, Own, Placing, source_dot, dot_of_place}
+use Rattle.gos_wired.specs.Wired.{Supplies, Placing, dot_of_place}
 use Rattle.gos_stages.specs.Inside.{AreGroundSupplies}
 use Rattle.gos_stages.specs.Leading.{dot_leading}
 use Rattle.gos_stages.specs.Ranges.{IsWithin}
-use Rattle.gos_stages.specs.Lodging.{Spot, spot_if}
+use Rattle.gos_stages.specs.Lodging.{spot_if}
 use Rattle.gos_stages.specs.Folding.{Child, child_out, own_ties, IsChild}
 use Rattle.gos_stages.proofs.RangeLemmas.{ties_stay_within}
 use Rattle.gos_stages.proofs.LodgingLemmas.{numbers_are_held}

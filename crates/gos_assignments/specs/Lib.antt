@@ -3,3 +3,4 @@ pub mod Variables
 pub mod Made
 pub mod Sides
 pub mod Cases
+pub mod SmallAssignments

@@ -1,7 +1,7 @@
 -- A wired assignment is made of its two sides, as regions.
 --
 -- Read first: Variables; Assignments of gos_writes; Stages of gos_stages. The number's side is a child of the node, asked at the own part's handshake 0.
-use Rattle.std.specs.Prelude.{◌≡◌, ℕ, ◌×◌, ◌+◌, ◌⊎◌, List, length, Some, All, Contains}
+use Rattle.std.specs.Prelude.{◌≡◌, ℕ, ◌+◌, ◌⊎◌, List, length, Some, All, Contains}
 use Rattle.gos_types.specs.Types.{Com, Exp}
 use Rattle.gos_model.specs.Terms.{Term}
 use Rattle.gos_plan.specs.Kinds.{Part, asks}

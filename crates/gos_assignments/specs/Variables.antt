@@ -3,19 +3,19 @@
 -- Read first: Lodging and Served of gos_stages; Written of gos_writes; Folds of gos_folds. The first child of `M := N` is the use of a number, which
 -- a Share of the node may split. What stands for it inside the splits is a plan whose parts are parts of the node; its handshake 1 is the own
 -- part's, and its handshake 0 meets nothing more. So without the joint by which it is read that plan is a region.
-use Rattle.std.specs.Prelude.{◌≡◌, ℕ, zero, suc, ◌+◌, ◌≤◌, ◌⊎◌, Bool, List, [], ◌∷◌, ◌++◌, length, Option, Some, None, nat_eq, nat_lt, slice_get, Contains, if◌then◌else◌}
+use Rattle.std.specs.Prelude.{◌≡◌, ℕ, zero, ◌+◌, ◌≤◌, ◌⊎◌, Bool, List, [], ◌∷◌, ◌++◌, length, Option, Some, None, nat_eq, nat_lt, slice_get, Contains, if◌then◌else◌}
 use Rattle.gos_types.specs.Types.{Var}
 use Rattle.gos_check.specs.declared.linear.Split.{Split}
 use Rattle.gos_check.specs.Linearity.{times, split_in}
 use Rattle.gos_plan.specs.Kinds.{Part, Assign}
 use Rattle.gos_plan.specs.Plans.{End, PartEnd, ImportEnd, ResultEnd, Plan, same_end}
-use Rattle.gos_webs.specs.Webs.{Dot, Of, Number, Node, Within, Tie, tie, IsOfWeb, joint}
+use Rattle.gos_webs.specs.Webs.{Dot, Of, Number, Node, Within, Tie, tie, IsOfWeb}
 use Rattle.gos_webs.specs.Cutting.{Cut}
 use Rattle.gos_unions.specs.Unions.{within}
 use Rattle.gos_windows.specs.Regions.{Serving, IsRegion}
 use Rattle.gos_folds.specs.Folds.{joined_cut}
 use Rattle.gos_compile.specs.Wiring.{Types, shares_ties}
-use Rattle.gos_wired.specs.Wired.{Supplies, Source, Placing, placed, source_dot, dot_at, dot_ties, all_supply_ties}
+use Rattle.gos_wired.specs.Wired.{Supplies, Placing, placed, source_dot, dot_at, dot_ties, all_supply_ties}
 use Rattle.gos_stages.specs.Inside.{numbers_inside, AreSplit, SidesAgree, AreGroundSupplies}
 use Rattle.gos_stages.specs.Lodging.{Spot, Lodging, lodged, AreTidy}
 use Rattle.gos_stages.specs.Housing.{HasShares}

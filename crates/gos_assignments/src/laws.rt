@@ -2,7 +2,10 @@
 ghost use Rattle.gos_assignments.specs.Cases.{AssignCase};
 ghost use Rattle.gos_assignments.specs.Made.{AssignmentIsMade, TargetIsLaid};
 ghost use Rattle.gos_assignments.specs.Sides.{NodeIsAssignment, NumberIsKept};
+ghost use Rattle.gos_assignments.specs.SmallAssignments.{AssignWrites, CommandIsNoTarget, NodeIsRead, NothingWrites, OneIsKept, OtherIsLeft, OtherIsNotRead, SecondIsNoNumber, SevenIsNotKept, SideIsLeft};
 ghost use Rattle.gos_assignments.specs.Variables.{TargetIsRegion};
+
+use gos_model::types_of_terms;
 
 /// The plan of the variable that a wired assignment writes is a region of its plan, but for the joint by which it is read.
 pub fn targets_lie()
@@ -20,4 +23,21 @@ pub fn assignments_are_made()
 pub fn assignment_case()
     ensures kept { NumberIsKept }
     ensures realised { AssignCase }
+{
+    types_of_terms();
+}
+
+/// `x := 1` has its numbers kept, but not as a variable of seven bits. What x doesn't use is left to the other side. The node's
+/// own handshake is where x is read, and an Assign writes it. A command is no target, and what is asked second no number's side.
+pub fn small_assignments()
+    ensures kept { OneIsKept }
+    ensures seven { SevenIsNotKept }
+    ensures left { OtherIsLeft }
+    ensures side { SideIsLeft }
+    ensures read { NodeIsRead }
+    ensures other { OtherIsNotRead }
+    ensures writes { AssignWrites }
+    ensures nothing { NothingWrites }
+    ensures command { CommandIsNoTarget }
+    ensures second { SecondIsNoNumber }
 {}

@@ -5,4 +5,4 @@
 
 mod laws;
 
-pub use laws::{assignment_case, assignments_are_made, targets_lie};
+pub use laws::{assignment_case, assignments_are_made, small_assignments, targets_lie};
