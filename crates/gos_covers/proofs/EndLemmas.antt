@@ -17,8 +17,8 @@ use Rattle.gos_sessions.specs.Sessions.{Form, own_part, run_shake}
 use Rattle.gos_compile.specs.Wiring.{Types, shares, parts_of}
 use Rattle.gos_unions.proofs.LeftLemmas.{front}
 use Rattle.gos_wired.specs.Wired.{Supplies, Source, Own, Supplied, Placing, IsFrom, IsWired, placed, source_dot, dot_at, wired_ties}
-use Rattle.gos_stages.specs.Inside.{AreGroundSupplies}
-use Rattle.gos_stages.specs.Lodging.{Spot, live}
+use Rattle.gos_stages.specs.Inside.{numbers_inside, AreGroundSupplies}
+use Rattle.gos_stages.specs.Lodging.{Spot, live, AreInOrder}
 use Rattle.gos_stages.specs.Housing.{IsOutsider, IsThere}
 use Rattle.gos_stages.specs.Folding.{Child, is_used, lodge, spot_dot, child_back, child_cut, part_of_dot, IsChild}
 use Rattle.gos_stages.specs.Nodes.{Cared, AreCovering}
