@@ -46,7 +46,7 @@ served_side n h lt = by_tests (nat_lt h n) (nat_lt h (n + n)) refl refl
         let ends : nat_lt h (n + 1 * n + n) ≡ true = low h (n + 1 * n + n) (omega (arith, lt)) in
         (1, omega arith, rw (one, begins, ends) refl)
 
--- each of these uses numbers
+-- Each p uses some numbers, as a branch does.
 module _ {P : Type 0} (inner : P → ℕ → Bool) where
   abbrev pub IsUsed : ℕ → Type 0
   IsUsed k = (p : P) × (inner p k ≡ true)
@@ -55,6 +55,7 @@ module _ {P : Type 0} (inner : P → ℕ → Bool) where
   abbrev pub AreUsed : List Split → List ℕ → List ℕ → Type 0
   AreUsed ss ns old = (k : ℕ) → Contains (numbers_inside ss ns) k → times k old + times k (split_in ss) ≡ 0 → IsUsed k
 
+  -- what was split before is no side
   abbrev pub AreOld : List Split → List ℕ → Type 0
   AreOld ss old = (k : ℕ) → 0 < times k (sides ss) → times k old ≡ 0
 
@@ -87,6 +88,7 @@ module _ {P : Type 0} (inner : P → ℕ → Bool) where
       let here = times_same s.right (sides ss) in
       times_other s.right s.of old not_right ∙ far s.right (omega (arith, here))
 
+  -- a number is live for one of them
   abbrev pub Lives : List Split → ℕ → Type 0
   Lives ss n = (p : P) × (live ss (inner p) n ≡ true)
 
@@ -117,11 +119,11 @@ module _ {P : Type 0} (inner : P → ℕ → Bool) where
       (λ k has fresh. all_live ss (s.left ∷ s.right ∷ ns) (s.of ∷ old) (used_behind s ss ns old used) order.1 (old_behind s ss old order far) k has fresh)
       n there new
 
-  -- Share x + y of the node, of type t, serves somebody from side c
   module _ (types : Types) (pl : Placing) where
     abbrev serving : ℕ → Type' → ℕ → Serving
     serving x t c = record { part = pl.own x; ty = t; side = c }
 
+    -- Share q of the node, of type t, serves one of them from side c; the Shares have numbers from x on
     abbrev Serves : List Split → ℕ → ℕ → Type' → ℕ → Type 0
     Serves ss x q t c = (p : P) × Contains (servings types pl (inner p) x ss) (serving q t c)
 
