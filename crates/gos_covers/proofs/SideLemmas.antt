@@ -1,12 +1,12 @@
 -- Each number that is there outside splits is live for somebody, and each Share serves somebody from either side.
-use Rattle.std.specs.Prelude.{◌≢◌, ◌+◌, ◌*◌, ◌<◌, ◌≤◌, ◌||◌, length, nat_eq, nat_lt, slice_get, None, Option, Contains}
-use Rattle.std.proofs.Common.{◌≡◌, ℕ, zero, suc, Bool, true, false, List, [], ◌∷◌, ◌++◌, Some, refl, sym, ◌∙◌, ap, subst, arith, if◌then◌else◌}
+use Rattle.std.specs.Prelude.{◌≢◌, ◌+◌, ◌*◌, ◌<◌, ◌≤◌, ◌||◌, nat_eq, nat_lt, slice_get, Option, Contains}
+use Rattle.std.proofs.Common.{◌≡◌, ℕ, zero, suc, Bool, true, false, List, [], ◌∷◌, Some, refl, sym, ◌∙◌, ap, subst, arith, if◌then◌else◌}
 use Rattle.std.proofs.lemmas.Bool.Decides.{nat_tests}
 use Rattle.std.proofs.lemmas.List.Elements.{Contains-append_left, Contains-append_right}
 use Rattle.gos_types.specs.Types.{Type'}
 use Rattle.gos_check.specs.declared.linear.Split.{Split}
 use Rattle.gos_check.specs.Linearity.{times, split_in, sides}
-use Rattle.gos_check.proofs.TimesLemmas.{number_cases, eq_true, eq_false, times_same, times_other, times_none}
+use Rattle.gos_check.proofs.TimesLemmas.{number_cases, times_same, times_other, times_none}
 use Rattle.gos_plan.specs.Kinds.{Share}
 use Rattle.gos_windows.specs.Regions.{Serving}
 use Rattle.gos_compile.specs.Wiring.{Types, shares}
@@ -46,7 +46,7 @@ served_side n h lt = by_tests (nat_lt h n) (nat_lt h (n + n)) refl refl
         let ends : nat_lt h (n + 1 * n + n) ≡ true = low h (n + 1 * n + n) (omega (arith, lt)) in
         (1, omega arith, rw (one, begins, ends) refl)
 
--- each of these uses numbers
+-- Each p uses some numbers, as a branch does.
 module _ {P : Type 0} (inner : P → ℕ → Bool) where
   abbrev pub IsUsed : ℕ → Type 0
   IsUsed k = (p : P) × (inner p k ≡ true)
@@ -55,6 +55,7 @@ module _ {P : Type 0} (inner : P → ℕ → Bool) where
   abbrev pub AreUsed : List Split → List ℕ → List ℕ → Type 0
   AreUsed ss ns old = (k : ℕ) → Contains (numbers_inside ss ns) k → times k old + times k (split_in ss) ≡ 0 → IsUsed k
 
+  -- what was split before is no side
   abbrev pub AreOld : List Split → List ℕ → Type 0
   AreOld ss old = (k : ℕ) → 0 < times k (sides ss) → times k old ≡ 0
 
@@ -87,6 +88,7 @@ module _ {P : Type 0} (inner : P → ℕ → Bool) where
       let here = times_same s.right (sides ss) in
       times_other s.right s.of old not_right ∙ far s.right (omega (arith, here))
 
+  -- a number is live for one of them
   abbrev pub Lives : List Split → ℕ → Type 0
   Lives ss n = (p : P) × (live ss (inner p) n ≡ true)
 
@@ -97,11 +99,10 @@ module _ {P : Type 0} (inner : P → ℕ → Bool) where
     where
       split : n ≡ s.of → nat_eq n s.of ≡ true → Lives (s ∷ ss) n
       split e t =
-          let (p, alive) = behind s.left (0, omega arith, refl) (left_new s ss old order far) in
-          (
+          let (p, alive) = behind s.left (0, omega arith, refl) (left_new s ss old order far) in (
             p,
             ap (λ (b : Bool). if b then live ss (inner p) s.left || live ss (inner p) s.right else live ss (inner p) n) t
-            ∙ ap (λ (b : Bool). b || live ss (inner p) s.right) alive,
+                ∙ ap (λ (b : Bool). b || live ss (inner p) s.right) alive,
           )
 
       stays : n ≢ s.of → nat_eq n s.of ≡ false → Lives (s ∷ ss) n
@@ -118,24 +119,23 @@ module _ {P : Type 0} (inner : P → ℕ → Bool) where
       (λ k has fresh. all_live ss (s.left ∷ s.right ∷ ns) (s.of ∷ old) (used_behind s ss ns old used) order.1 (old_behind s ss old order far) k has fresh)
       n there new
 
-  -- Share x + y of the node, of type t, serves somebody from side c
   module _ (types : Types) (pl : Placing) where
     abbrev serving : ℕ → Type' → ℕ → Serving
     serving x t c = record { part = pl.own x; ty = t; side = c }
 
+    -- Share q of the node, of type t, serves one of them from side c; the Shares have numbers from x on
     abbrev Serves : List Split → ℕ → ℕ → Type' → ℕ → Type 0
     Serves ss x q t c = (p : P) × Contains (servings types pl (inner p) x ss) (serving q t c)
 
     -- the first one
     seen : (s : Split) (ss : List Split) (x c : ℕ) (p : P) → seen_from (live ss (inner p) s.left) (live ss (inner p) s.right) ≡ Some c
         → Serves (s ∷ ss) x x (types s.of) c
-    seen s ss x c p sees =
-        (
-          p,
-          Contains-append_left (serving_if (pl.own x) (types s.of) (seen_from (live ss (inner p) s.left) (live ss (inner p) s.right)))
+    seen s ss x c p sees = (
+      p,
+      Contains-append_left (serving_if (pl.own x) (types s.of) (seen_from (live ss (inner p) s.left) (live ss (inner p) s.right)))
           (servings types pl (inner p) (suc x) ss) (serving x (types s.of) c)
           (subst (λ (b : Option ℕ). Contains (serving_if (pl.own x) (types s.of) b) (serving x (types s.of) c)) (sym sees) (0, omega arith, refl)),
-        )
+    )
 
     right_alone : (a b : Bool) → b ≡ true → (a ≡ true → b ≡ true → ⊥) → seen_from a b ≡ Some 1
     right_alone true b right apart = absurd (apart refl right)
@@ -167,9 +167,8 @@ module _ {P : Type 0} (inner : P → ℕ → Bool) where
         let (p, listed) =
         all_serve ss (s.left ∷ s.right ∷ ns) (s.of ∷ old) (used_behind s ss ns old used) order.1 (old_behind s ss old order far) (λ p. (apart p).1)
         (suc x) y q t c (omega (arith, at)) share two
-        in
-        (
+        in (
           p,
           Contains-append_right (serving_if (pl.own x) (types s.of) (seen_from (live ss (inner p) s.left) (live ss (inner p) s.right)))
-          (servings types pl (inner p) (suc x) ss) (serving q t c) listed,
+              (servings types pl (inner p) (suc x) ss) (serving q t c) listed,
         )
