@@ -1,24 +1,23 @@
 -- Each end and each part of a wired fork is a branch's, but for those at which it is run.
 use Rattle.std.specs.Prelude.{◌≢◌, ◌+◌, ◌-◌, ◌<◌, ◌≤◌, ◌⊎◌, length, nat_lt, slice_get, None, Option, Contains}
-use Rattle.std.proofs.Common.{◌≡◌, ℕ, zero, suc, Bool, true, false, List, [], ◌∷◌, ◌++◌, Some, inl, inr, refl, sym, ◌∙◌, ap, subst, arith, if◌then◌else◌}
+use Rattle.std.proofs.Common.{◌≡◌, ℕ, suc, Bool, true, false, List, [], ◌∷◌, ◌++◌, Some, inl, inr, refl, sym, ◌∙◌, ap, subst, arith, if◌then◌else◌}
 use Rattle.std.proofs.lemmas.Bool.Decides.{nat_tests}
 use Rattle.std.proofs.lemmas.List.{length-append, length-map}
 use Rattle.std.proofs.lemmas.Option.{slice_get_within}
-use Rattle.gos_types.specs.Types.{Type', Com, Exp, Var, Pair, Fun, IsDone, IsGround}
+use Rattle.gos_types.specs.Types.{Type', Com, Exp, Var, Pair, Fun, IsDone}
 use Rattle.gos_check.specs.declared.linear.Split.{Split}
 use Rattle.gos_check.specs.Nodes.{Numbered}
-use Rattle.gos_check.specs.Linearity.{times, split_in}
+use Rattle.gos_check.specs.Linearity.{times}
 use Rattle.gos_plan.specs.Kinds.{Contact, Part, Share, contacts_of, other_side, part_contacts}
 use Rattle.gos_plan.specs.Plans.{End, PartEnd, ImportEnd, ResultEnd, Plan, contacts_of_part, contact_at}
 use Rattle.gos_realises.specs.Regular.{count}
 use Rattle.gos_webs.specs.Webs.{Dot, Of, Within, Tie}
-use Rattle.gos_windows.specs.Regions.{Serving}
 use Rattle.gos_sessions.specs.Sessions.{Form, own_part, run_shake}
 use Rattle.gos_compile.specs.Wiring.{Types, shares, parts_of}
 use Rattle.gos_unions.proofs.LeftLemmas.{front}
 use Rattle.gos_wired.specs.Wired.{Supplies, Source, Own, Supplied, Placing, IsFrom, IsWired, placed, source_dot, dot_at, wired_ties}
-use Rattle.gos_stages.specs.Inside.{AreGroundSupplies}
-use Rattle.gos_stages.specs.Lodging.{Spot, live}
+use Rattle.gos_stages.specs.Inside.{numbers_inside, AreGroundSupplies}
+use Rattle.gos_stages.specs.Lodging.{Spot, live, AreInOrder}
 use Rattle.gos_stages.specs.Housing.{IsOutsider, IsThere}
 use Rattle.gos_stages.specs.Folding.{Child, is_used, lodge, spot_dot, child_back, child_cut, part_of_dot, IsChild}
 use Rattle.gos_stages.specs.Nodes.{Cared, AreCovering}
@@ -28,8 +27,7 @@ use Rattle.gos_stages.proofs.ServedLemmas.{servings_serve}
 use Rattle.gos_stages.proofs.ChildPartLemmas.{low, no_more_than, plain_source, own_source_back}
 use Rattle.gos_stages.proofs.ContactLemmas.{turned_some, part_there, import_there, some_shake, share_ground, shares_length}
 use Rattle.gos_stages.proofs.CoverLemmas.{live_is_covered, own_is_covered}
-use Rattle.gos_numbers.specs.Inherited.{is_in}
-use Rattle.gos_forks.specs.Forks.{Branch, IsFork, AreBranches, BranchIsChild, branch_parts, branch_uses, branch_child}
+use Rattle.gos_forks.specs.Forks.{Branch, IsFork, AreBranches, BranchIsChild, branch_parts, branch_child}
 use Rattle.gos_covers.specs.Covers.{AreBranchChildren, BranchesCover}
 use Rattle.gos_covers.proofs.BranchLemmas.{Standing, IsOfFork, some_standing, standing_at, standing_used, of_fork, child_of}
 use Rattle.gos_covers.proofs.SideLemmas.{served_side, AreUsed, AreOld, all_live, all_serve}
@@ -86,15 +84,14 @@ module _ (f : Form) (types : Types) (i j : ℕ) (m : Numbered) (ss : List Split)
   counted_by : (p : Standing bs) (q : ℕ) (y : Part) → slice_get r.parts q ≡ Some y → Told p (pl.source q) → Counted q
   counted_by p q y at told =
       let (e, listed, same) = child_of types i j ss env ns bs es p cared in
-      let (x, number) = told e.placing in
-      (
+      let (x, number) = told e.placing in (
         e,
         x,
         listed,
         subst (λ (c : Child). (child_cut c pl e.placing (length r.parts)).number q ≡ Some x) (sym same)
-        (ap (λ (b : Bool). if b then part_of_dot (child p) e.placing (child_back (child p) (source_dot i (pl.source q) 0)) else None)
-        (low q (length r.parts) (slice_get_within r.parts q y at))
-        ∙ number),
+            (ap (λ (b : Bool). if b then part_of_dot (child p) e.placing (child_back (child p) (source_dot i (pl.source q) 0)) else None)
+            (low q (length r.parts) (slice_get_within r.parts q y at))
+            ∙ number),
       )
 
   -- what stands for the numbers, and the Shares
@@ -163,7 +160,7 @@ module _ (f : Form) (types : Types) (i j : ℕ) (m : Numbered) (ss : List Split)
       (λ plc. (
         plc.supplied it.at.number home.part,
         ap (part_of_dot (child p) plc) (plain_source (child p) ties pl pl (its_child p) (pl.source q) 0 outside ∙ ap spot_dot it.home)
-        ∙ ap (λ (a : End). part_of_dot (child p) plc (Some (Within (suc it.at.number) (Of a)))) home.end,
+            ∙ ap (λ (a : End). part_of_dot (child p) plc (Some (Within (suc it.at.number) (Of a)))) home.end,
       ))
 
   -- the parts of the branches, and where they are asked
@@ -180,7 +177,7 @@ module _ (f : Form) (types : Types) (i j : ℕ) (m : Numbered) (ss : List Split)
       (λ plc. (
         plc.own (i + (child p).off + x - (i + (child p).off)),
         ap (λ (s : Source). part_of_dot (child p) plc (child_back (child p) (source_dot i s 0))) from
-        ∙ ap (part_of_dot (child p) plc) (own_source_back (child p) ties pl pl (its_child p) x 0 lt),
+            ∙ ap (part_of_dot (child p) plc) (own_source_back (child p) ties pl pl (its_child p) x 0 lt),
       ))
 
   -- the own part, by handshake
@@ -212,7 +209,7 @@ module _ (f : Form) (types : Types) (i j : ℕ) (m : Numbered) (ss : List Split)
   housed_all q y s at from outside there each first = (
     (λ h lt. inr (housed_covered q h (subst (IsOutsider (length ss)) (sym from) outside) (subst (λ (z : Source). IsHoused z h) (sym from) (each h lt)))),
     inr (housed_counted q y at (subst (IsOutsider (length ss)) (sym from) outside) (subst (IsThere (length ss) ns env) (sym from) there)
-    (subst (λ (z : Source). IsHoused z 0) (sym from) first)),
+        (subst (λ (z : Source). IsHoused z 0) (sym from) first)),
   )
 
   share_all : (q : ℕ) (y : Part) (k : ℕ) (t : Type') → slice_get r.parts q ≡ Some y → pl.source q ≡ Own k → y ≡ Share t

@@ -1,12 +1,12 @@
 -- Each number that is there outside splits is live for somebody, and each Share serves somebody from either side.
-use Rattle.std.specs.Prelude.{◌≢◌, ◌+◌, ◌*◌, ◌<◌, ◌≤◌, ◌||◌, length, nat_eq, nat_lt, slice_get, None, Option, Contains}
-use Rattle.std.proofs.Common.{◌≡◌, ℕ, zero, suc, Bool, true, false, List, [], ◌∷◌, ◌++◌, Some, refl, sym, ◌∙◌, ap, subst, arith, if◌then◌else◌}
+use Rattle.std.specs.Prelude.{◌≢◌, ◌+◌, ◌*◌, ◌<◌, ◌≤◌, ◌||◌, nat_eq, nat_lt, slice_get, Option, Contains}
+use Rattle.std.proofs.Common.{◌≡◌, ℕ, zero, suc, Bool, true, false, List, [], ◌∷◌, Some, refl, sym, ◌∙◌, ap, subst, arith, if◌then◌else◌}
 use Rattle.std.proofs.lemmas.Bool.Decides.{nat_tests}
 use Rattle.std.proofs.lemmas.List.Elements.{Contains-append_left, Contains-append_right}
 use Rattle.gos_types.specs.Types.{Type'}
 use Rattle.gos_check.specs.declared.linear.Split.{Split}
 use Rattle.gos_check.specs.Linearity.{times, split_in, sides}
-use Rattle.gos_check.proofs.TimesLemmas.{number_cases, eq_true, eq_false, times_same, times_other, times_none}
+use Rattle.gos_check.proofs.TimesLemmas.{number_cases, times_same, times_other, times_none}
 use Rattle.gos_plan.specs.Kinds.{Share}
 use Rattle.gos_windows.specs.Regions.{Serving}
 use Rattle.gos_compile.specs.Wiring.{Types, shares}
@@ -97,11 +97,10 @@ module _ {P : Type 0} (inner : P → ℕ → Bool) where
     where
       split : n ≡ s.of → nat_eq n s.of ≡ true → Lives (s ∷ ss) n
       split e t =
-          let (p, alive) = behind s.left (0, omega arith, refl) (left_new s ss old order far) in
-          (
+          let (p, alive) = behind s.left (0, omega arith, refl) (left_new s ss old order far) in (
             p,
             ap (λ (b : Bool). if b then live ss (inner p) s.left || live ss (inner p) s.right else live ss (inner p) n) t
-            ∙ ap (λ (b : Bool). b || live ss (inner p) s.right) alive,
+                ∙ ap (λ (b : Bool). b || live ss (inner p) s.right) alive,
           )
 
       stays : n ≢ s.of → nat_eq n s.of ≡ false → Lives (s ∷ ss) n
@@ -129,13 +128,12 @@ module _ {P : Type 0} (inner : P → ℕ → Bool) where
     -- the first one
     seen : (s : Split) (ss : List Split) (x c : ℕ) (p : P) → seen_from (live ss (inner p) s.left) (live ss (inner p) s.right) ≡ Some c
         → Serves (s ∷ ss) x x (types s.of) c
-    seen s ss x c p sees =
-        (
-          p,
-          Contains-append_left (serving_if (pl.own x) (types s.of) (seen_from (live ss (inner p) s.left) (live ss (inner p) s.right)))
+    seen s ss x c p sees = (
+      p,
+      Contains-append_left (serving_if (pl.own x) (types s.of) (seen_from (live ss (inner p) s.left) (live ss (inner p) s.right)))
           (servings types pl (inner p) (suc x) ss) (serving x (types s.of) c)
           (subst (λ (b : Option ℕ). Contains (serving_if (pl.own x) (types s.of) b) (serving x (types s.of) c)) (sym sees) (0, omega arith, refl)),
-        )
+    )
 
     right_alone : (a b : Bool) → b ≡ true → (a ≡ true → b ≡ true → ⊥) → seen_from a b ≡ Some 1
     right_alone true b right apart = absurd (apart refl right)
@@ -167,9 +165,8 @@ module _ {P : Type 0} (inner : P → ℕ → Bool) where
         let (p, listed) =
         all_serve ss (s.left ∷ s.right ∷ ns) (s.of ∷ old) (used_behind s ss ns old used) order.1 (old_behind s ss old order far) (λ p. (apart p).1)
         (suc x) y q t c (omega (arith, at)) share two
-        in
-        (
+        in (
           p,
           Contains-append_right (serving_if (pl.own x) (types s.of) (seen_from (live ss (inner p) s.left) (live ss (inner p) s.right)))
-          (servings types pl (inner p) (suc x) ss) (serving q t c) listed,
+              (servings types pl (inner p) (suc x) ss) (serving q t c) listed,
         )

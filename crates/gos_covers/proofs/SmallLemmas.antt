@@ -1,5 +1,5 @@
 -- Children of one branch, and what are none.
-use Rattle.std.proofs.Common.{◌≡◌, ℕ, zero, suc, refl, sym, ◌∙◌, ap, arith}
+use Rattle.std.proofs.Common.{◌≡◌, refl, sym, ◌∙◌, ap, arith}
 use Rattle.gos_stages.specs.Folding.{Child}
 use Rattle.gos_covers.specs.SmallCovers.{OneIsItsChild, NoneIsLeftOut, NoneIsTwice}
 
@@ -10,5 +10,5 @@ pub none_is_left_out : NoneIsLeftOut
 none_is_left_out types i j ss env ns b none = none
 
 pub none_is_twice : NoneIsTwice
-none_is_twice types i j ss env ns a b e (one, other, rest) =
+none_is_twice types i j ss env ns a b e (one, (other, rest)) =
     let same : 0 ≡ 1 = ap (λ (c : Child). c.shake) (sym one ∙ other) in absurd (omega (arith, same))

@@ -1,7 +1,7 @@
 -- Children of one branch, and what are none.
 --
 -- Read first: Covers. They show that its definition can be met and can be missed.
-use Rattle.std.specs.Prelude.{◌≡◌, ℕ, List, [], ◌∷◌}
+use Rattle.std.specs.Prelude.{ℕ, List, [], ◌∷◌}
 use Rattle.gos_check.specs.declared.linear.Split.{Split}
 use Rattle.gos_plan.specs.Plans.{Plan}
 use Rattle.gos_compile.specs.Wiring.{Types}

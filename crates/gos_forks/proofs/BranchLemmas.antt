@@ -1,6 +1,6 @@
 -- The ties of branches: a branch's own are among them, and those of other branches speak of these alone.
 use Rattle.std.specs.Prelude.{◌+◌, ◌<◌, ◌≤◌, ◌⊎◌, length, Contains}
-use Rattle.std.proofs.Common.{◌≡◌, ℕ, zero, suc, List, [], ◌∷◌, ◌++◌, inl, inr, refl, sym, subst, arith}
+use Rattle.std.proofs.Common.{◌≡◌, ℕ, zero, suc, List, [], ◌∷◌, ◌++◌, inl, inr, refl, subst, arith}
 use Rattle.std.proofs.lemmas.List.{length-append}
 use Rattle.std.proofs.lemmas.List.Elements.{Contains-append_left, Contains-append_right, Contains-append_cases}
 use Rattle.gos_check.specs.Nodes.{Numbered}
@@ -13,7 +13,7 @@ use Rattle.gos_ties.specs.declared.points.Tie.{Tie}
 use Rattle.gos_ties.specs.Ties.{point, tie}
 use Rattle.gos_unions.proofs.UnionLemmas.{of_image}
 use Rattle.gos_compile.specs.Wiring.{Types, row, parts_of, nodes, ties_of}
-use Rattle.gos_stages.specs.Leading.{at_place, leading, led_by}
+use Rattle.gos_stages.specs.Leading.{at_place, leading}
 use Rattle.gos_stages.specs.Ranges.{IsWithin}
 use Rattle.gos_stages.proofs.RangeLemmas.{ties_stay_within}
 use Rattle.gos_stages.proofs.FollowLemmas.{result_leads}

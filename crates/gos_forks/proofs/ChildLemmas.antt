@@ -1,13 +1,13 @@
 -- A branch of a fork is a child of the node.
-use Rattle.std.specs.Prelude.{◌≢◌, ◌+◌, ◌-◌, ◌<◌, ◌≤◌, ◌⊎◌, ◌||◌, ◌&&◌, not, length, nat_eq, nat_lt, None, Contains}
-use Rattle.std.proofs.Common.{◌≡◌, ℕ, zero, suc, Bool, true, false, List, [], ◌∷◌, ◌++◌, Option, Some, inl, inr, refl, sym, ◌∙◌, ap, subst, arith, if◌then◌else◌}
+use Rattle.std.specs.Prelude.{◌≢◌, ◌+◌, ◌-◌, ◌<◌, ◌≤◌, ◌⊎◌, ◌||◌, ◌&&◌, not, length, nat_lt, None, Contains}
+use Rattle.std.proofs.Common.{◌≡◌, ℕ, suc, Bool, true, false, List, ◌∷◌, ◌++◌, Some, inl, inr, refl, sym, ◌∙◌, ap, subst, arith, if◌then◌else◌}
 use Rattle.std.proofs.lemmas.Bool.Decides.{nat_tests}
 use Rattle.std.proofs.lemmas.List.{length-append}
 use Rattle.std.proofs.lemmas.List.Elements.{Contains-append_left, Contains-append_right, Contains-append_cases}
 use Rattle.gos_types.specs.Types.{Type', Com, Exp, Var, Pair, Fun, IsDone}
 use Rattle.gos_check.specs.declared.linear.Split.{Split}
 use Rattle.gos_check.specs.Nodes.{Numbered, type_of_node}
-use Rattle.gos_check.specs.Linearity.{times, split_in, made}
+use Rattle.gos_check.specs.Linearity.{times, made}
 use Rattle.gos_check.proofs.TimesLemmas.{eq_true, eq_false}
 use Rattle.gos_plan.specs.Kinds.{Part}
 use Rattle.gos_plan.specs.Plans.{PartEnd, ResultEnd}
@@ -16,7 +16,6 @@ use Rattle.gos_ties.specs.declared.points.Place.{Place}
 use Rattle.gos_ties.specs.declared.points.Place.TheVariants as places
 use Rattle.gos_ties.specs.declared.points.Point.{Point}
 use Rattle.gos_ties.specs.declared.points.Tie as point_ties
-use Rattle.gos_ties.specs.Ties.{point}
 use Rattle.gos_webs.specs.Webs.{Dot, Of, Number, Node, Within, Tie}
 use Rattle.gos_unions.specs.Unions.{within}
 use Rattle.gos_unions.proofs.UnionLemmas.{of_image, in_image}

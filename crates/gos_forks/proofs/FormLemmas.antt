@@ -1,5 +1,5 @@
 -- The five forms are forks: their own parts ask what their branches serve.
-use Rattle.std.specs.Prelude.{◌+◌, length, slice_get, None, Contains}
+use Rattle.std.specs.Prelude.{◌+◌, length, slice_get, Contains}
 use Rattle.std.proofs.Common.{◌≡◌, ℕ, zero, suc, List, [], ◌∷◌, ◌++◌, Some, refl, sym, ◌∙◌, ap, subst, arith}
 use Rattle.std.proofs.lemmas.List.{append-nil}
 use Rattle.gos_types.specs.Types.{Type', Com, Exp, Var, Pair, Fun, IsDone}
@@ -8,10 +8,9 @@ use Rattle.gos_plan.specs.Kinds as kinds
 use Rattle.gos_plan.specs.Kinds.{Contact, Part, asks, contacts_of}
 use Rattle.gos_plan.specs.Plans.{turned_if}
 use Rattle.gos_ties.specs.declared.points.Place.TheVariants as places
-use Rattle.gos_ties.specs.declared.points.Point.{Point}
 use Rattle.gos_ties.specs.declared.points.Tie.{Tie}
 use Rattle.gos_ties.specs.Ties.{point}
-use Rattle.gos_compile.specs.Wiring.{Types, answer_bits, led, shares, shares_ties, parts_of, ties_of, nodes}
+use Rattle.gos_compile.specs.Wiring.{answer_bits, led, shares, shares_ties, parts_of, ties_of, nodes}
 use Rattle.gos_forks.specs.Forks.{Branch}
 use Rattle.gos_forks.specs.Forms.{branch, SequenceIsFork, ChoiceIsFork, LoopIsFork, OperatorIsFork, ComplementIsFork}
 

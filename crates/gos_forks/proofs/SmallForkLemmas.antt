@@ -1,9 +1,7 @@
 -- Small forks of `skip`.
-use Rattle.std.specs.Prelude.{◌+◌, ◌<◌, ◌≤◌, Contains}
-use Rattle.std.proofs.Common.{◌≡◌, ℕ, zero, suc, List, [], ◌∷◌, refl, sym, subst, arith}
+use Rattle.std.specs.Prelude.{Contains}
+use Rattle.std.proofs.Common.{◌≡◌, ℕ, zero, suc, List, [], ◌∷◌, refl, subst, arith}
 use Rattle.gos_types.specs.Types.{Com}
-use Rattle.gos_check.specs.Nodes.{Numbered}
-use Rattle.gos_check.specs.Linearity.{times}
 use Rattle.gos_forks.specs.Forks.{Branch}
 use Rattle.gos_forks.specs.Forms.{branch}
 use Rattle.gos_forks.specs.SmallForks.{commands, skip, BothAreBranches, OneIsNotAll, NoneIsLeft, ZeroIsLeft}
