@@ -1,12 +1,12 @@
 -- The cases of the forms that run their parts one at a time.
-use Rattle.std.specs.Prelude.{◌≡◌, ◌≢◌, ℕ, zero, suc, ◌+◌, ◌≤◌, List, [], ◌∷◌, ◌++◌, Contains}
-use Rattle.std.proofs.Common.{refl, sym, ◌∙◌, ap, subst, arith, inr}
+use Rattle.std.specs.Prelude.{◌≡◌, ◌≢◌, ℕ, zero, suc, ◌+◌, List, [], ◌∷◌, ◌++◌, Contains}
+use Rattle.std.proofs.Common.{refl, sym, ◌∙◌, subst, arith, inr}
 use Rattle.gos_types.specs.Types.{Type', Com, Exp, Var, Pair, Fun}
 use Rattle.gos_model.specs.Terms.{Op, result_width}
 use Rattle.gos_model.specs.Typing.{Typed}
 use Rattle.gos_check.specs.declared.linear.Split.{Split}
 use Rattle.gos_check.specs.Nodes.{Numbered, One, Two, If, OfNot, TwoForm, OfSeq, OfWhile, OfBin, inside, meaning, type_of_node}
-use Rattle.gos_check.specs.Linearity.{times, split_in, sides, used, made}
+use Rattle.gos_check.specs.Linearity.{times, sides, used, made}
 use Rattle.gos_check.proofs.TimesLemmas.{times-append}
 use Rattle.gos_plan.specs.Kinds as kinds
 use Rattle.gos_plan.specs.Plans.{Plan}
@@ -21,9 +21,9 @@ use Rattle.gos_grounds.specs.Cases.{RealisesWired}
 use Rattle.gos_leaves.specs.Splits.{SplitsAtForks}
 use Rattle.gos_numbers.specs.Kept.{InScope, IsKept}
 use Rattle.gos_numbers.specs.Inherited.{own_numbers, first_numbers, IsPart, PartIsKept, BothAreKept, ThreeAreKept}
-use Rattle.gos_forks.specs.Forks.{Branch, IsFork, AreBranches, branch_made, branch_uses}
+use Rattle.gos_forks.specs.Forks.{Branch, IsFork, AreBranches}
 use Rattle.gos_forks.specs.Forms.{branch, SequenceIsFork, ChoiceIsFork, LoopIsFork, OperatorIsFork, ComplementIsFork}
-use Rattle.gos_runs.specs.Runs.{AreSessionsOf, ForkRealises}
+use Rattle.gos_runs.specs.Runs.{ForkRealises}
 use Rattle.gos_runs.specs.Cases.{SequenceCase, ChoiceCase, LoopCase, OperatorCase, ComplementCase}
 use Rattle.gos_runs.proofs.TypeLemmas.{known, inside_types, type_is, supplies_have}
 use Rattle.gos_runs.proofs.BranchLemmas.{scope_there}

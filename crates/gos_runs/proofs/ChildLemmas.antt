@@ -10,7 +10,7 @@ use Rattle.gos_types.specs.Types.{Type'}
 use Rattle.gos_model.specs.Terms.{Name}
 use Rattle.gos_model.specs.Typing.{Imported, Imports, import_type, Named, things, Typed}
 use Rattle.gos_check.specs.Nodes.{Meaning, inside, meaning, type_of_node}
-use Rattle.gos_check.specs.Linearity.{times, split_in}
+use Rattle.gos_check.specs.Linearity.{times}
 use Rattle.gos_plan.specs.Kinds.{Part}
 use Rattle.gos_plan.specs.Plans.{ImportEnd, Plan}
 use Rattle.gos_plan.specs.TokenBits.{LiteralFits}
@@ -18,9 +18,9 @@ use Rattle.gos_realises.specs.Realises.{NamesDiffer, Realises}
 use Rattle.gos_webs.specs.Webs.{Of, Within, Tie}
 use Rattle.gos_typing.proofs.WhenceLemmas.{named}
 use Rattle.gos_typing.proofs.NameLemmas.{typed_under_fewer}
-use Rattle.gos_wired.specs.Wired.{Supplies, Placing, Origin, AreRealised, terms_of}
+use Rattle.gos_wired.specs.Wired.{Supplies, Placing, Origin, terms_of}
 use Rattle.gos_stages.specs.Inside.{inside_supplies, numbers_inside, AreGroundSupplies}
-use Rattle.gos_stages.specs.Lodging.{Spot, lodged}
+use Rattle.gos_stages.specs.Lodging.{Spot}
 use Rattle.gos_stages.specs.Folding.{Child, is_used, lodge, IsChild, IsLaid}
 use Rattle.gos_stages.specs.Regions.{IsStaged}
 use Rattle.gos_stages.proofs.InsideLemmas.{inside_is_realised, inside_means}

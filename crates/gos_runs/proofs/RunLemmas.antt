@@ -1,15 +1,14 @@
 -- A fork is a node of its branches, and so it realises its term.
-use Rattle.std.specs.Prelude.{◌≡◌, ◌≢◌, ℕ, zero, suc, ◌+◌, ◌-◌, ◌<◌, List, [], ◌∷◌, ◌++◌, All, Option, Some, Contains, length, map, slice_get}
+use Rattle.std.specs.Prelude.{◌≡◌, ◌≢◌, ℕ, zero, suc, ◌+◌, List, [], ◌∷◌, ◌++◌, All, Option, Some, Contains, length, map, slice_get}
 use Rattle.std.proofs.Common.{refl, sym, ◌∙◌, ap, subst, arith, inl, append_assoc, length-append}
 use Rattle.std.proofs.lemmas.List.Elements.{Contains-append_left, Contains-append_right}
 use Rattle.gos_types.specs.Types.{Type', Com, Exp, Var, Pair, Fun, IsDone}
 use Rattle.gos_model.specs.Terms.{Term}
-use Rattle.gos_model.specs.Typing.{Typed}
 use Rattle.gos_check.specs.declared.linear.Split.{Split}
 use Rattle.gos_check.specs.Nodes.{Numbered, inside, meaning, type_of_node}
 use Rattle.gos_plan.specs.Kinds.{asks, serves, Part, contacts_of, part_contacts}
 use Rattle.gos_plan.specs.Firing.{Phase}
-use Rattle.gos_plan.specs.Plans.{End, PartEnd, ResultEnd, Plan, contact_at, contacts_of_part, turned_if}
+use Rattle.gos_plan.specs.Plans.{PartEnd, ResultEnd, Plan, contacts_of_part, turned_if}
 use Rattle.gos_plan.specs.TokenBits.{LiteralFits}
 use Rattle.gos_realises.specs.Regular.{count}
 use Rattle.gos_realises.specs.Matched.{RealisesDone}
@@ -24,13 +23,13 @@ use Rattle.gos_unions.specs.Unions.{within}
 use Rattle.gos_unions.proofs.UnionLemmas.{in_image}
 use Rattle.gos_unions.proofs.LeftLemmas.{behind}
 use Rattle.gos_sessions.specs.Sessions.{Form, Sequence, Choice, Loop, Binary, Complement, Session, bits, own_part, own_term, own_type, run_shake, session_of}
-use Rattle.gos_windows.specs.Nodes.{Stage, IsNode}
+use Rattle.gos_windows.specs.Nodes.{IsNode}
 use Rattle.gos_nodes.specs.Realised.{AreRealised}
 use Rattle.gos_nodes.proofs.SuitLemmas.{node_realises_by_type}
 use Rattle.gos_compile.specs.Wiring.{Types, row, led, shares, shares_ties, parts_of, ties_of}
 use Rattle.gos_wired.specs.Wired.{Supplies, Source, Own, Placing, IsWired, source_dot, dot_of, dot_ties, all_supply_ties, wired_ties, terms_of}
 use Rattle.gos_stages.specs.Inside.{AreGroundSupplies}
-use Rattle.gos_stages.specs.Nodes.{Cared, stage, IsCared, AreCovering, IsFormed}
+use Rattle.gos_stages.specs.Nodes.{Cared, stage, IsCared, IsFormed}
 use Rattle.gos_stages.proofs.ContactLemmas.{shares_length}
 use Rattle.gos_stages.proofs.NodeLemmas.{stages_make_node}
 use Rattle.gos_meanings.specs.Meanings.{HasLeaves}

@@ -1,12 +1,12 @@
 -- The sessions of each form run the branches of its fork.
-use Rattle.std.specs.Prelude.{◌≡◌, ℕ, zero, suc, Bool, true, false, List, [], ◌∷◌, ◌++◌, Option, Some, None, Contains, length, nat_eq, if◌then◌else◌}
-use Rattle.std.proofs.Common.{refl, sym, ◌∙◌, ap, arith}
+use Rattle.std.specs.Prelude.{◌≡◌, ℕ, Bool, true, false, List, [], ◌∷◌, ◌++◌, Option, Some, None, length, nat_eq, if◌then◌else◌}
+use Rattle.std.proofs.Common.{refl, sym, ◌∙◌, ap}
 use Rattle.gos_types.specs.Types.{Type', Com, Exp}
 use Rattle.gos_model.specs.Terms as terms
 use Rattle.gos_model.specs.Terms.{Op, Term}
 use Rattle.gos_check.specs.Nodes.{Numbered, Meaning, meaning, type_of_node}
-use Rattle.gos_plan.specs.Firing.{Phase, Rest, First, Second, Both, LeftOnly, RightOnly, Test, Branch as Branched, Body, Left, Right, Waiting, Value, Writing, Active}
-use Rattle.gos_sessions.specs.Sessions.{Form, Sequence, Choice, Loop, Binary, Complement, Session, session, session_of}
+use Rattle.gos_plan.specs.Firing.{Phase, First, Second, Test, Branch as Branched, Body, Left, Right, Waiting}
+use Rattle.gos_sessions.specs.Sessions.{Sequence, Choice, Loop, Binary, Complement, Session, session, session_of}
 use Rattle.gos_forks.specs.Forks.{Branch}
 use Rattle.gos_forks.specs.Forms.{branch}
 

@@ -1,5 +1,5 @@
 -- The sessions of `skip ; skip`.
-use Rattle.std.specs.Prelude.{◌≡◌, suc, ◌+◌, List, [], ◌∷◌, ◌++◌, length}
+use Rattle.std.specs.Prelude.{◌≡◌, suc, List, [], ◌∷◌, ◌++◌, length}
 use Rattle.std.proofs.Common.{refl, ap, arith, length-append}
 use Rattle.gos_types.specs.Types.{Com}
 use Rattle.gos_model.specs.Terms as terms
