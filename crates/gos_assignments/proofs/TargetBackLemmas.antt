@@ -138,7 +138,7 @@ module _ (f : Target) (ts : List Tie) (w : ℕ) (is : IsTarget f ts w) where
     pub own_back : (h : ℕ) → target_back f read (Within 0 (Of (PartEnd (f.first + f.own) h))) ≡ (if nat_eq h 1 then Some (Of (ResultEnd 1)) else None)
     own_back h =
         ap (λ (b : Bool). if b then (if nat_eq h 1 then Some (Of (ResultEnd 1)) else None)
-            else kept read ((target_lodge f).home (Within 0 (Of (PartEnd (f.first + f.own) h))))) (eq_true (f.first + f.own) (f.first + f.own) refl)
+        else kept read ((target_lodge f).home (Within 0 (Of (PartEnd (f.first + f.own) h))))) (eq_true (f.first + f.own) (f.first + f.own) refl)
 
     -- shared ties
     near_follows : (a b : Option Spot) → ((x : Spot) → a ≡ Some x → x.number ≡ f.variable) → Near (target_lodge f).env a b → Follows us (kept read a) (kept read b)
