@@ -78,7 +78,9 @@ target_is_laid f own ts w pl r is has laid web =
         let (k, known, share) = at_region in
         let both : Some k ≡ Some i = sym known ∙ at in
         let same : k ≡ i = cc both in
-        let share_at : slice_get (target_plan f).parts i ≡ Some (Share n.ty) = subst (λ (m : ℕ). slice_get (target_plan f).parts m ≡ Some (Share n.ty)) same share in
+        let share_at : slice_get (target_plan f).parts i ≡ Some (Share n.ty) =
+        subst (λ (m : ℕ). slice_get (target_plan f).parts m ≡ Some (Share n.ty)) same share
+        in
         let (s, place, it) = servings_serve f.types f.first (is_target f) f.splits f.env f.numbers pl n is.tidy listed in
         let lies = region.numbers n.part i at in
         let source : (target_lodge f).part f.variable i ≡ Own s =
@@ -107,14 +109,16 @@ target_is_laid f own ts w pl r is has laid web =
               (PartEnd i (count n.ty + (1 - n.side) * count n.ty + j)) none
               in
               let other =
-              spares_are_others f.types f.first (is_target f) f.splits f.env f.numbers pl f.variable i (count n.ty + (1 - n.side) * count n.ty + j) k is.tidy is.agree
+              spares_are_others f.types f.first (is_target f) f.splits f.env f.numbers pl f.variable i (count n.ty + (1 - n.side) * count n.ty + j) k
+              is.tidy is.agree
               is.split is.supplies is.there is.unsplit (itself f ts w is) contact spare
               in
               other.alone stands;
         }) (plan_regular f ts w is)
 
     ports : (i h : ℕ) → StandsIn (unread (target_plan f)) (ImportEnd i h)
-        → (k : ℕ) × (ImportEnd (pl.import ((target_lodge f).root f.variable) i) h ≡ ImportEnd k h) × (slice_get r.imports k ≡ slice_get (target_plan f).imports i)
+        → (k : ℕ) × (ImportEnd (pl.import ((target_lodge f).root f.variable) i) h ≡ ImportEnd k h)
+        × (slice_get r.imports k ≡ slice_get (target_plan f).imports i)
     ports i h stands =
         let (k, at) = contact_of (unread (target_plan f)) region.right (ImportEnd i h) stands in
         let (y, listed) = import_there (slice_get (target_plan f).imports i) h k at in

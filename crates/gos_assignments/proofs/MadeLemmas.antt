@@ -96,7 +96,8 @@ module _ (f : Child) (node x : ℕ) (own : List Part) (ts : List Tie) (w : ℕ) 
   number_joint : (a b : End) (y : Dot) → Contains r.joints (joint a b) → child_back f (dot_at f.first pl a) ≡ Some y → IsOfStage Stages a b
   number_joint a b y has at =
       let (one, other, there, lies, ends) =
-      folded_joint (child_fold f pl plc (length r.parts)) (child_servings f pl) whole (child_web f plc) r c a b y number_fold (web_of f pl plc r c staged) has (inl at)
+      folded_joint (child_fold f pl plc (length r.parts)) (child_servings f pl) whole (child_web f plc) r c a b y
+      number_fold (web_of f pl plc r c staged) has (inl at)
       in
       (stage_of f pl plc r c, one, other, (0, omega arith, refl), there, lying one ∙ lies, lying other ∙ ends)
     where
