@@ -36,7 +36,7 @@ use Rattle.gos_assignments.specs.Variables.{Target, is_target, target_lodge, tar
 use Rattle.gos_assignments.specs.Made.{target_stage, target_of, IsWiredAssignment}
 use Rattle.gos_assignments.specs.Sides.{assigning, other_numbers, number_side}
 use Rattle.gos_assignments.specs.Cases.{AssignCase}
-use Rattle.gos_assignments.proofs.TargetBackLemmas.{realised, plan_joined, plan_right, plan_ground}
+use Rattle.gos_assignments.proofs.TargetBackLemmas.{plan_realised, plan_joined, plan_right, plan_ground}
 use Rattle.gos_assignments.proofs.TargetFoldLemmas.{import_of}
 use Rattle.gos_assignments.proofs.ReadLemmas.{reads}
 use Rattle.gos_assignments.proofs.MadeLemmas.{assignment_is_made}
@@ -89,7 +89,7 @@ module _ (types : Types) (ns : List ℕ) (ss : List Split) (w x : ℕ) (n : Numb
   variable_is = ap (λ (e : Supplies). (e x).term) (lodged_are_inside types i (is_target g) ss env) ∙ inside_means types ss env x
 
   variable_realised : Realises (Var w) (target_plan g) variable
-  variable_realised = subst (λ (t : Type'). Realises t (target_plan g) variable) made.variable.width (realised g ts w made.variable)
+  variable_realised = subst (λ (t : Type'). Realises t (target_plan g) variable) made.variable.width (plan_realised g ts w made.variable)
 
   variable_typed : Typed r.imports [] variable (Var w)
   variable_typed = typed_under_fewer (target_plan g).imports r.imports [] variable (Var w) agree variable_realised.suits.typed

@@ -87,17 +87,17 @@ module _ (f : Target) (ts : List Tie) (w : ℕ) (is : IsTarget f ts w) where
       (sym (lodged_are_inside f.types f.first (is_target f) f.splits f.env))
       (inside_is_realised f.types f.splits f.env f.numbers is.agree is.split is.supplies)
 
-  pub realised : Realises (f.types f.variable) (target_plan f) ((target_lodge f).env f.variable).term
-  realised = supplied.realised f.variable is.there
+  pub plan_realised : Realises (f.types f.variable) (target_plan f) ((target_lodge f).env f.variable).term
+  plan_realised = supplied.realised f.variable is.there
 
   pub plan_right : IsRight (target_plan f)
-  plan_right = realised.suits.right
+  plan_right = plan_realised.suits.right
 
   pub plan_regular : IsRegular (target_plan f)
-  plan_regular = realised.suits.regular
+  plan_regular = plan_realised.suits.regular
 
   pub plan_outcome : (target_plan f).outcome ≡ Var w
-  plan_outcome = realised.suits.outcome ∙ is.width
+  plan_outcome = plan_realised.suits.outcome ∙ is.width
 
   pub plan_ground : IsGround (target_plan f).outcome
   plan_ground = subst IsGround (sym plan_outcome) tt

@@ -4,3 +4,7 @@ pub mod WiredLemmas
 pub mod ChildLemmas
 pub mod LeafLemmas
 pub mod ParallelLemmas
+pub mod AgreeLemmas
+pub mod FreshLemmas
+pub mod PutLemmas
+pub mod BlockLemmas
