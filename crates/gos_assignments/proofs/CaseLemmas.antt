@@ -36,7 +36,7 @@ use Rattle.gos_assignments.specs.Variables.{Target, is_target, target_lodge, tar
 use Rattle.gos_assignments.specs.Made.{target_stage, target_of, IsWiredAssignment}
 use Rattle.gos_assignments.specs.Sides.{assigning, other_numbers, number_side}
 use Rattle.gos_assignments.specs.Cases.{AssignCase}
-use Rattle.gos_assignments.proofs.TargetBackLemmas.{realised, plan_joined, plan_right, plan_ground}
+use Rattle.gos_assignments.proofs.TargetBackLemmas.{plan_realised, plan_joined, plan_right, plan_ground}
 use Rattle.gos_assignments.proofs.TargetFoldLemmas.{import_of}
 use Rattle.gos_assignments.proofs.ReadLemmas.{reads}
 use Rattle.gos_assignments.proofs.MadeLemmas.{assignment_is_made}
@@ -62,7 +62,8 @@ in_scope (If t ss m n p) ns forks (split, one, other, last) = (
   in_scope p (numbers_inside ss ns) forks.2 last,
 )
 
-module _ (types : Types) (ns : List ℕ) (ss : List Split) (w x : ℕ) (n : Numbered) (is : IsKept types ns (assigning ss w x n)) (i j : ℕ) (env : Supplies) (pl : Placing)
+module _ (types : Types) (ns : List ℕ) (ss : List Split) (w x : ℕ) (n : Numbered) (is : IsKept types ns (assigning ss w x n))
+    (i j : ℕ) (env : Supplies) (pl : Placing)
     (r : Plan) (wired : IsWired types i j (assigning ss w x n) ns env pl r) (supplies : AreGroundSupplies types env ns) (differ : NamesDiffer r.imports)
     (fit : All LiteralFits r.parts) where
   abbrev f : Child
@@ -88,7 +89,7 @@ module _ (types : Types) (ns : List ℕ) (ss : List Split) (w x : ℕ) (n : Numb
   variable_is = ap (λ (e : Supplies). (e x).term) (lodged_are_inside types i (is_target g) ss env) ∙ inside_means types ss env x
 
   variable_realised : Realises (Var w) (target_plan g) variable
-  variable_realised = subst (λ (t : Type'). Realises t (target_plan g) variable) made.variable.width (realised g ts w made.variable)
+  variable_realised = subst (λ (t : Type'). Realises t (target_plan g) variable) made.variable.width (plan_realised g ts w made.variable)
 
   variable_typed : Typed r.imports [] variable (Var w)
   variable_typed = typed_under_fewer (target_plan g).imports r.imports [] variable (Var w) agree variable_realised.suits.typed
@@ -121,11 +122,13 @@ assign_case one_type types ns ss w x n is leaves real i j env pl r wired supplie
     subst (λ (u : ℕ). Typed r.imports [] (meaning (inside ss (terms_of env)) n) (Exp u)) width typed_number
     in
     let (plc, c, staged) =
-    child_is_staged (number_side types i j ss env ns x n) (parts_of types (assigning ss w x n)) (wired_ties types i j (assigning ss w x n) ns env) pl r it.number it.parts
+    child_is_staged (number_side types i j ss env ns x n) (parts_of types (assigning ss w x n)) (wired_ties types i j (assigning ss w x n) ns env)
+    pl r it.number it.parts
     (λ k. let one = part.kept.once k in omega (arith, one)) it.laid it.web
     in
     let realises =
-    child_realises (number_side types i j ss env ns x n) (parts_of types (assigning ss w x n)) (wired_ties types i j (assigning ss w x n) ns env) pl plc r c it.number it.laid staged
+    child_realises (number_side types i j ss env ns x n) (parts_of types (assigning ss w x n)) (wired_ties types i j (assigning ss w x n) ns env)
+    pl plc r c it.number it.laid staged
     real differ fit leaves (in_scope n (other_numbers ss ns x) part.kept.forks part.kept.scope)
     (subst (λ (t : Type'). Typed r.imports [] (meaning (inside ss (terms_of env)) n) t) (sym of_number) typed)
     in
@@ -136,7 +139,8 @@ assign_case one_type types ns ss w x n is leaves real i j env pl r wired supplie
     assignment_is_realised r (pl.own (length ss)) w (stage_of (number_side types i j ss env ns x n) pl plc r c)
     (target_stage (target_of (number_side types i j ss env ns x n) j x) pl r) (target_plan (target_of (number_side types i j ss env ns x n) j x))
     (variable types ns ss w x n is i j env pl r wired supplies differ fit) (meaning (inside ss (terms_of env)) n)
-    (assignment_is_made (number_side types i j ss env ns x n) j x (parts_of types (assigning ss w x n)) (wired_ties types i j (assigning ss w x n) ns env) w pl plc r c
+    (assignment_is_made (number_side types i j ss env ns x n) j x (parts_of types (assigning ss w x n))
+    (wired_ties types i j (assigning ss w x n) ns env) w pl plc r c
     (meaning (inside ss (terms_of env)) n) it staged side_realises)
     side_realises (variable_realised types ns ss w x n is i j env pl r wired supplies differ fit)
     (w, refl, variable_typed types ns ss w x n is i j env pl r wired supplies differ fit, typed)

@@ -136,9 +136,15 @@ module _ (types : Types) (i j : ℕ) (ss : List Split) (w x : ℕ) (n : Numbered
             inl (subst (λ (m : ℕ). (d : Dot) × (child_back f (source_dot i (Own m) h) ≡ Some d)) (sym same) (covers h (serves_source (count t) c h low))))
         | inr other ↦
             (let (c, listed) = other in
-            let (y, same, it) = servings_serve types i (is_target g) ss env ns plainly (record { part = k; ty = t; side = c }) (variable_tidy types ns ss w x n is) listed in
+            let (y, same, it) =
+            servings_serve types i (is_target g) ss env ns plainly (record { part = k; ty = t; side = c }) (variable_tidy types ns ss w x n is) listed
+            in
             let (z, at) = it.seen h (serves_source (count t) c h low) in
-            inr (λ read. (Of (kept_end read z.end), plain read ∙ ap (kept read) (subst (λ (m : ℕ). (target_lodge g).home (source_dot i (Own m) h) ≡ Some z) (sym same) at))))
+            inr (λ read. (
+              Of (kept_end read z.end),
+              plain read ∙ ap (kept read)
+                  (subst (λ (m : ℕ). (target_lodge g).home (source_dot i (Own m) h) ≡ Some z) (sym same) at),
+            )))
       ]
     where
       low : h < count t
@@ -148,8 +154,11 @@ module _ (types : Types) (i j : ℕ) (ss : List Split) (w x : ℕ) (n : Numbered
       plain read =
           let small = slice_get_within (shares ss types) k (Share t) share in
           let size = shares_length types ss in
-          let far : nat_eq (i + k) (i + length ss) ≡ false = eq_false (i + k) (i + length ss) (λ e. let sum : i + k ≡ i + length ss = e in omega (arith, sum, small, size)) in
-          ap (λ (b : Bool). if b then (if nat_eq h 1 then Some (Of (ResultEnd 1)) else None) else kept read ((target_lodge g).home (source_dot i (Own k) h))) far
+          let far : nat_eq (i + k) (i + length ss) ≡ false =
+          eq_false (i + k) (i + length ss) (λ e. let sum : i + k ≡ i + length ss = e in omega (arith, sum, small, size))
+          in
+          ap (λ (b : Bool). if b then (if nat_eq h 1 then Some (Of (ResultEnd 1)) else None)
+          else kept read ((target_lodge g).home (source_dot i (Own k) h))) far
 
   -- its own part
   assign_covered : (h q v : ℕ) → slice_get (part_contacts (Assign w)) h ≡ Some (asks q v) → Covered (source_dot i (Own (length ss)) h)
@@ -203,7 +212,8 @@ module _ (types : Types) (i j : ℕ) (ss : List Split) (w x : ℕ) (n : Numbered
           own_source_back f (all_ties types i j ss w x n ns env) plainly plainly child (k - (length ss + 1)) h
           (slice_get_within (parts_of types n) (k - (length ss + 1)) y its)
           in
-          inl (subst (λ (m : ℕ). (d : Dot) × (child_back f (source_dot i (Own m) h) ≡ Some d)) same (source_dot (i + (length ss + 1)) (Own (k - (length ss + 1))) h, covers))
+          inl (subst (λ (m : ℕ). (d : Dot) × (child_back f (source_dot i (Own m) h) ≡ Some d)) same
+          (source_dot (i + (length ss + 1)) (Own (k - (length ss + 1))) h, covers))
 
   -- by its source
   source_covered : (s : Source) (y : Part) (h q v : ℕ) → IsFrom own ns env y s → slice_get (part_contacts y) h ≡ Some (asks q v) → Covered (source_dot i s h)

@@ -53,9 +53,9 @@ target_is_laid f own ts w pl r is has laid web =
       run_by = λ stands. refl;
       imports =
           λ y listed.
-              let (q, at) = found_at (target_plan f).imports y listed in
-              let it = import_of f ts w is read joined own pl r has laid q y at in
-              contained_at r.imports (pl.import ((target_lodge f).root f.variable) q) y it.there;
+          let (q, at) = found_at (target_plan f).imports y listed in
+          let it = import_of f ts w is read joined own pl r has laid q y at in
+          contained_at r.imports (pl.import ((target_lodge f).root f.variable) q) y it.there;
       ports = ports;
     }
   where
@@ -78,7 +78,9 @@ target_is_laid f own ts w pl r is has laid web =
         let (k, known, share) = at_region in
         let both : Some k ≡ Some i = sym known ∙ at in
         let same : k ≡ i = cc both in
-        let share_at : slice_get (target_plan f).parts i ≡ Some (Share n.ty) = subst (λ (m : ℕ). slice_get (target_plan f).parts m ≡ Some (Share n.ty)) same share in
+        let share_at : slice_get (target_plan f).parts i ≡ Some (Share n.ty) =
+        subst (λ (m : ℕ). slice_get (target_plan f).parts m ≡ Some (Share n.ty)) same share
+        in
         let (s, place, it) = servings_serve f.types f.first (is_target f) f.splits f.env f.numbers pl n is.tidy listed in
         let lies = region.numbers n.part i at in
         let source : (target_lodge f).part f.variable i ≡ Own s =
@@ -93,28 +95,30 @@ target_is_laid f own ts w pl r is has laid web =
           caller = two;
           alone =
               λ j low stands.
-                  let h : ℕ = count n.ty + (1 - n.side) * count n.ty + j in
-                  let (k, contact) = contact_of (target_plan f) (plan_right f ts w is) (caller_end i n.ty (1 - n.side) j) stands in
-                  let none : spot_if (not ((target_lodge f).spare f.variable i (count n.ty + (1 - n.side) * count n.ty + j))) f.variable
-                      (PartEnd i (count n.ty + (1 - n.side) * count n.ty + j)) ≡ None =
-                  sym (part_home f ts w is read joined own pl r has laid i (count n.ty + (1 - n.side) * count n.ty + j)
-                      (slice_get_within (target_plan f).parts i (Share n.ty) share_at))
-                  ∙ (ap (λ (o : Source). (target_lodge f).home (source_dot f.first o (count n.ty + (1 - n.side) * count n.ty + j))) source
-                  ∙ it.unseen (count n.ty + (1 - n.side) * count n.ty + j) (other_unserved (count n.ty) n.side j it.side low))
-                  in
-                  let spare =
-                  spare_so ((target_lodge f).spare f.variable i (count n.ty + (1 - n.side) * count n.ty + j)) f.variable
-                  (PartEnd i (count n.ty + (1 - n.side) * count n.ty + j)) none
-                  in
-                  let other =
-                  spares_are_others f.types f.first (is_target f) f.splits f.env f.numbers pl f.variable i (count n.ty + (1 - n.side) * count n.ty + j) k is.tidy is.agree
-                  is.split is.supplies is.there is.unsplit (itself f ts w is) contact spare
-                  in
-                  other.alone stands;
+              let h : ℕ = count n.ty + (1 - n.side) * count n.ty + j in
+              let (k, contact) = contact_of (target_plan f) (plan_right f ts w is) (caller_end i n.ty (1 - n.side) j) stands in
+              let none : spot_if (not ((target_lodge f).spare f.variable i (count n.ty + (1 - n.side) * count n.ty + j))) f.variable
+              (PartEnd i (count n.ty + (1 - n.side) * count n.ty + j)) ≡ None =
+              sym (part_home f ts w is read joined own pl r has laid i (count n.ty + (1 - n.side) * count n.ty + j)
+              (slice_get_within (target_plan f).parts i (Share n.ty) share_at))
+              ∙ (ap (λ (o : Source). (target_lodge f).home (source_dot f.first o (count n.ty + (1 - n.side) * count n.ty + j))) source
+              ∙ it.unseen (count n.ty + (1 - n.side) * count n.ty + j) (other_unserved (count n.ty) n.side j it.side low))
+              in
+              let spare =
+              spare_so ((target_lodge f).spare f.variable i (count n.ty + (1 - n.side) * count n.ty + j)) f.variable
+              (PartEnd i (count n.ty + (1 - n.side) * count n.ty + j)) none
+              in
+              let other =
+              spares_are_others f.types f.first (is_target f) f.splits f.env f.numbers pl f.variable i (count n.ty + (1 - n.side) * count n.ty + j) k
+              is.tidy is.agree
+              is.split is.supplies is.there is.unsplit (itself f ts w is) contact spare
+              in
+              other.alone stands;
         }) (plan_regular f ts w is)
 
     ports : (i h : ℕ) → StandsIn (unread (target_plan f)) (ImportEnd i h)
-        → (k : ℕ) × (ImportEnd (pl.import ((target_lodge f).root f.variable) i) h ≡ ImportEnd k h) × (slice_get r.imports k ≡ slice_get (target_plan f).imports i)
+        → (k : ℕ) × (ImportEnd (pl.import ((target_lodge f).root f.variable) i) h ≡ ImportEnd k h)
+        × (slice_get r.imports k ≡ slice_get (target_plan f).imports i)
     ports i h stands =
         let (k, at) = contact_of (unread (target_plan f)) region.right (ImportEnd i h) stands in
         let (y, listed) = import_there (slice_get (target_plan f).imports i) h k at in

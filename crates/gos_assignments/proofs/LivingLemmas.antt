@@ -56,9 +56,11 @@ module _ (first second : ℕ → Bool) where
 
   raised : (s : Split) (ss : List Split) (k : ℕ) → nat_eq k s.of ≡ true → Lives ss s.left → Lives (s ∷ ss) k
   raised s ss k t (inl lives) =
-      inl (ap (λ (b : Bool). if b then live ss first s.left || live ss first s.right else live ss first k) t ∙ ap (λ (b : Bool). b || live ss first s.right) lives)
+      inl (ap (λ (b : Bool). if b then live ss first s.left || live ss first s.right else live ss first k) t
+      ∙ ap (λ (b : Bool). b || live ss first s.right) lives)
   raised s ss k t (inr lives) =
-      inr (ap (λ (b : Bool). if b then live ss second s.left || live ss second s.right else live ss second k) t ∙ ap (λ (b : Bool). b || live ss second s.right) lives)
+      inr (ap (λ (b : Bool). if b then live ss second s.left || live ss second s.right else live ss second k) t
+      ∙ ap (λ (b : Bool). b || live ss second s.right) lives)
 
   stays : (s : Split) (ss : List Split) (k : ℕ) → nat_eq k s.of ≡ false → Lives ss k → Lives (s ∷ ss) k
   stays s ss k t (inl lives) = inl (ap (λ (b : Bool). if b then live ss first s.left || live ss first s.right else live ss first k) t ∙ lives)
@@ -68,7 +70,8 @@ module _ (first second : ℕ → Bool) where
   all_live [] ns gone are k there none = are.ones k there (omega (arith, none))
   all_live (s ∷ ss) ns gone are k (m, lt, at) none =
       number_cases k s.of
-      (λ e t. raised s ss k t (all_live ss (s.left ∷ s.right ∷ ns) (s.of ∷ gone) (behind s ss ns gone are) s.left (0, omega arith, refl) (left_new s ss ns gone are)))
+      (λ e t. raised s ss k t
+      (all_live ss (s.left ∷ s.right ∷ ns) (s.of ∷ gone) (behind s ss ns gone are) s.left (0, omega arith, refl) (left_new s ss ns gone are)))
       (λ e t. stays s ss k t
       (all_live ss (s.left ∷ s.right ∷ ns) (s.of ∷ gone) (behind s ss ns gone are) k (suc (suc m), omega (arith, lt), at)
       (times_other k s.of gone (λ same. e (sym same)) ∙ none)))
@@ -83,7 +86,8 @@ module _ (first second : ℕ → Bool) where
       0,
       Contains-append_left (serving_if (pl.own x) (types s.of) (seen_from (live ss inner s.left) (live ss inner s.right))) (servings types pl inner (suc x) ss)
           (record { part = pl.own x; ty = types s.of; side = 0 })
-          (subst (λ (b : Bool). Contains (serving_if (pl.own x) (types s.of) (seen_from b (live ss inner s.right))) (record { part = pl.own x; ty = types s.of; side = 0 }))
+          (subst (λ (b : Bool). Contains (serving_if (pl.own x) (types s.of) (seen_from b (live ss inner s.right)))
+          (record { part = pl.own x; ty = types s.of; side = 0 }))
           (sym lives) (0, omega arith, refl)),
     )
 
@@ -105,7 +109,8 @@ module _ (first second : ℕ → Bool) where
     goes_on s ss x q t (inl it) = inl (later first s ss x q t it)
     goes_on s ss x q t (inr it) = inr (later second s ss x q t it)
 
-    pub all_serve : (ss : List Split) (ns gone : List ℕ) → AreShared ss ns gone → (x y q : ℕ) (t : Type') → q ≡ x + y → slice_get (shares ss types) y ≡ Some (Share t)
+    pub all_serve : (ss : List Split) (ns gone : List ℕ) → AreShared ss ns gone → (x y q : ℕ) (t : Type')
+        → q ≡ x + y → slice_get (shares ss types) y ≡ Some (Share t)
         → ServesOne ss x q t
     all_serve [] ns gone are x y q t at share = absurd (no_more_than (Share t) share)
     all_serve (s ∷ ss) ns gone are x zero q t at share =

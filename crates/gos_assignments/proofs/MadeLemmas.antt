@@ -21,14 +21,13 @@ use Rattle.gos_stages.specs.Stages.{stage_of}
 use Rattle.gos_stages.proofs.WayLemmas.{by_tie}
 use Rattle.gos_stages.proofs.ChildFoldLemmas.{child_is_folded}
 use Rattle.gos_stages.proofs.StageLemmas.{has_child_of, laid_of, web_of, child_is_stage}
-use Rattle.gos_grounds.proofs.ChildLemmas.{literals_among}
 use Rattle.gos_writes.specs.Written.{unread}
 use Rattle.gos_writes.proofs.JoinedLemmas.{unread_right}
 use Rattle.gos_writes.specs.Assignments as assignments
 use Rattle.gos_assignments.specs.Variables.{Target, target_plan, target_cut, target_servings, target_back}
 use Rattle.gos_assignments.specs.Made.{target_stage, target_of, IsWiredAssignment, AssignmentIsMade}
 use Rattle.gos_assignments.proofs.ReadLemmas.{reads}
-use Rattle.gos_assignments.proofs.TargetBackLemmas.{target_dot, plan_right, plan_ground, plan_joined}
+use Rattle.gos_assignments.proofs.TargetBackLemmas.{plan_realised, target_dot, plan_right, plan_ground, plan_joined}
 use Rattle.gos_assignments.proofs.TargetFoldLemmas.{target_is_fold, target_is_region}
 use Rattle.gos_assignments.proofs.LaidLemmas.{target_is_laid}
 
@@ -96,7 +95,8 @@ module _ (f : Child) (node x : ℕ) (own : List Part) (ts : List Tie) (w : ℕ) 
   number_joint : (a b : End) (y : Dot) → Contains r.joints (joint a b) → child_back f (dot_at f.first pl a) ≡ Some y → IsOfStage Stages a b
   number_joint a b y has at =
       let (one, other, there, lies, ends) =
-      folded_joint (child_fold f pl plc (length r.parts)) (child_servings f pl) whole (child_web f plc) r c a b y number_fold (web_of f pl plc r c staged) has (inl at)
+      folded_joint (child_fold f pl plc (length r.parts)) (child_servings f pl) whole (child_web f plc) r c a b y
+      number_fold (web_of f pl plc r c staged) has (inl at)
       in
       (stage_of f pl plc r c, one, other, (0, omega arith, refl), there, lying one ∙ lies, lying other ∙ ends)
     where
@@ -163,9 +163,7 @@ assignment_is_made f node x own ts w pl plc r c n is staged realised =
       asked = is.asked;
       written = refl;
       plan = refl;
-      own_literals =
-          literals_among (target_cut (target_of f node x) pl (length r.parts)).part r (target_plan (target_of f node x))
-          (λ k y at. ((target_is_region (target_of f node x) own ts w pl r is.variable is.assign is.laid is.web).parts k y at).0) is.literals;
+      own_literals = (plan_realised (target_of f node x) ts w is.variable).suits.literals;
       laid_number = number_laid f node x own ts w pl plc r c is staged n realised;
       laid_variable = target_is_laid (target_of f node x) own ts w pl r is.variable is.assign is.laid is.web;
       result = result f node x own ts w pl plc r c is staged;

@@ -50,7 +50,8 @@ module _ (types : Types) (i j : ℕ) (ss : List Split) (w x : ℕ) (n : Numbered
 
   variable_home : (h : ℕ) → (lodge f).home (Within 0 (Number x h)) ≡ None
   variable_home h =
-      numbers_are_held types i (is_used f) ss env ns x h part.tidy (variable_unsplit types ns ss w x n kept) ∙ ap (λ (b : Bool). spot_if b x (ResultEnd h)) unused
+      numbers_are_held types i (is_used f) ss env ns x h part.tidy (variable_unsplit types ns ss w x n kept)
+      ∙ ap (λ (b : Bool). spot_if b x (ResultEnd h)) unused
 
   pub variable_foreign : (h : ℕ) → child_back f (Within 0 (Number x h)) ≡ None
   variable_foreign h =

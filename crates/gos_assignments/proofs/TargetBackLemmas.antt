@@ -87,17 +87,17 @@ module _ (f : Target) (ts : List Tie) (w : ℕ) (is : IsTarget f ts w) where
       (sym (lodged_are_inside f.types f.first (is_target f) f.splits f.env))
       (inside_is_realised f.types f.splits f.env f.numbers is.agree is.split is.supplies)
 
-  pub realised : Realises (f.types f.variable) (target_plan f) ((target_lodge f).env f.variable).term
-  realised = supplied.realised f.variable is.there
+  pub plan_realised : Realises (f.types f.variable) (target_plan f) ((target_lodge f).env f.variable).term
+  plan_realised = supplied.realised f.variable is.there
 
   pub plan_right : IsRight (target_plan f)
-  plan_right = realised.suits.right
+  plan_right = plan_realised.suits.right
 
   pub plan_regular : IsRegular (target_plan f)
-  plan_regular = realised.suits.regular
+  plan_regular = plan_realised.suits.regular
 
   pub plan_outcome : (target_plan f).outcome ≡ Var w
-  plan_outcome = realised.suits.outcome ∙ is.width
+  plan_outcome = plan_realised.suits.outcome ∙ is.width
 
   pub plan_ground : IsGround (target_plan f).outcome
   plan_ground = subst IsGround (sym plan_outcome) tt
@@ -132,16 +132,20 @@ module _ (f : Target) (ts : List Tie) (w : ℕ) (is : IsTarget f ts w) where
     pub plain_share : (q h : ℕ) → q < f.first + length f.splits → Plainly (Within 0 (Of (PartEnd q h)))
     plain_share q h lt =
         let less = is.shares_first in
-        let far : nat_eq q (f.first + f.own) ≡ false = eq_false q (f.first + f.own) (λ e. let same : q ≡ f.first + f.own = e in omega (arith, same, less, lt)) in
-        ap (λ (b : Bool). if b then (if nat_eq h 1 then Some (Of (ResultEnd 1)) else None) else kept read ((target_lodge f).home (Within 0 (Of (PartEnd q h))))) far
+        let far : nat_eq q (f.first + f.own) ≡ false =
+        eq_false q (f.first + f.own) (λ e. let same : q ≡ f.first + f.own = e in omega (arith, same, less, lt))
+        in
+        ap (λ (b : Bool). if b then (if nat_eq h 1 then Some (Of (ResultEnd 1)) else None)
+        else kept read ((target_lodge f).home (Within 0 (Of (PartEnd q h))))) far
 
     pub own_back : (h : ℕ) → target_back f read (Within 0 (Of (PartEnd (f.first + f.own) h))) ≡ (if nat_eq h 1 then Some (Of (ResultEnd 1)) else None)
     own_back h =
         ap (λ (b : Bool). if b then (if nat_eq h 1 then Some (Of (ResultEnd 1)) else None)
-            else kept read ((target_lodge f).home (Within 0 (Of (PartEnd (f.first + f.own) h))))) (eq_true (f.first + f.own) (f.first + f.own) refl)
+        else kept read ((target_lodge f).home (Within 0 (Of (PartEnd (f.first + f.own) h))))) (eq_true (f.first + f.own) (f.first + f.own) refl)
 
     -- shared ties
-    near_follows : (a b : Option Spot) → ((x : Spot) → a ≡ Some x → x.number ≡ f.variable) → Near (target_lodge f).env a b → Follows us (kept read a) (kept read b)
+    near_follows : (a b : Option Spot) → ((x : Spot) → a ≡ Some x → x.number ≡ f.variable)
+        → Near (target_lodge f).env a b → Follows us (kept read a) (kept read b)
     near_follows None None lives near = tt
     near_follows None (Some y) lives near = near
     near_follows (Some x) None lives near = near
@@ -149,7 +153,8 @@ module _ (f : Target) (ts : List Tie) (w : ℕ) (is : IsTarget f ts w) where
         end_way (target_plan f) read plan_right plan_ground joined x.end y.end
         (subst (λ (n : ℕ). Way (own_web ((target_lodge f).env n).plan).ties (Of x.end) (Of y.end)) (lives x refl) way)
 
-    plain_stays : (t : Tie) → Contains (target_shared f) t → Plainly t.one → Plainly t.other → Follows us (target_back f read t.one) (target_back f read t.other)
+    plain_stays : (t : Tie) → Contains (target_shared f) t → Plainly t.one → Plainly t.other
+        → Follows us (target_back f read t.one) (target_back f read t.other)
     plain_stays t has one other =
         subst (λ (z : Option Dot). Follows us z (target_back f read t.other)) (sym one)
         (subst (λ (z : Option Dot). Follows us (kept read ((target_lodge f).home t.one)) z) (sym other)
@@ -185,7 +190,8 @@ module _ (f : Target) (ts : List Tie) (w : ℕ) (is : IsTarget f ts w) where
         (ap (λ (b : Bool). if b then Some (Of read) else None) (eq_true f.node f.node refl)) (ap (kept read) (held 0)) (here (Of read)))
     own_stays t (suc zero, lt, e) =
         subst (λ (x : Tie). Follows us (target_back f read x.one) (target_back f read x.other)) e
-        (follows_by us (target_back f read (Within 0 (Of (PartEnd (f.first + f.own) 1)))) (target_back f read (Within 0 (Number f.variable 1))) (Of (ResultEnd 1))
+        (follows_by us (target_back f read (Within 0 (Of (PartEnd (f.first + f.own) 1))))
+        (target_back f read (Within 0 (Number f.variable 1))) (Of (ResultEnd 1))
         (Of (ResultEnd 1)) (own_back 1) (ap (kept read) (held 1)) (here (Of (ResultEnd 1))))
     own_stays t (suc (suc k), lt, e) = absurd (omega (arith, lt))
 
@@ -221,7 +227,8 @@ module _ (f : Target) (ts : List Tie) (w : ℕ) (is : IsTarget f ts w) where
       (is.has_own (tie (Within 0 (Of (PartEnd (f.first + f.own) 1))) (Within 0 (Number f.variable 1))) (1, omega arith, refl))
   asking_way (ResultEnd (suc (suc h))) c apart at = let low = result_low (suc (suc h)) c at in absurd (omega (arith, low))
 
-  joint_lies : (j : Joint) → IsIn j (target_plan f).joints → same_end j.asking (ResultEnd 0) ≡ false → Way ts (target_dot f (Of j.asking)) (target_dot f (Of j.serving))
+  joint_lies : (j : Joint) → IsIn j (target_plan f).joints → same_end j.asking (ResultEnd 0) ≡ false
+      → Way ts (target_dot f (Of j.asking)) (target_dot f (Of j.serving))
   joint_lies j there apart =
       let fit = fits (target_plan f) [] (target_plan f).joints j plan_right there in
       subst (λ (d : Dot). Way ts (target_dot f (Of j.asking)) d)

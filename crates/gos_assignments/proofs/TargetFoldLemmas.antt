@@ -99,7 +99,8 @@ module _ (f : Target) (ts : List Tie) (w : ℕ) (is : IsTarget f ts w) (read : E
   outsider k = parts_are_outsiders f.types f.first (is_target f) f.splits f.env x k
 
   -- parts
-  pub part_lies : (k : ℕ) (y : Part) → slice_get p.parts k ≡ Some y → (slice_get r.parts (placed pl (l.part x k)) ≡ Some y) × (pl.source (placed pl (l.part x k)) ≡ l.part x k)
+  pub part_lies : (k : ℕ) (y : Part) → slice_get p.parts k ≡ Some y
+      → (slice_get r.parts (placed pl (l.part x k)) ≡ Some y) × (pl.source (placed pl (l.part x k)) ≡ l.part x k)
   part_lies k y at =
       laid.parts y (l.part x k) (parts_are_from f.types f.first (is_target f) f.splits f.env f.numbers own x k y is.tidy is.split has.shares is.there at)
 
@@ -140,7 +141,8 @@ module _ (f : Target) (ts : List Tie) (w : ℕ) (is : IsTarget f ts w) (read : E
       let same : it.part ≡ j = cc number in
       subst (Told i) same (ap (placed pl) it.from ∙ at_i, (it.kind, it.listed))
 
-  by_source : (s : Source) (y : Part) (i j : ℕ) → IsFrom own f.numbers f.env y s → placed pl s ≡ i → spot_part (l.home (source_dot f.first s 0)) ≡ Some j → Told i j
+  by_source : (s : Source) (y : Part) (i j : ℕ) → IsFrom own f.numbers f.env y s → placed pl s ≡ i
+      → spot_part (l.home (source_dot f.first s 0)) ≡ Some j → Told i j
   by_source (Own q) y i j from at_i e =
       elim (low_or_high q (length f.splits)) [
         | inl lt ↦ by_spot (Own q) i j lt at_i (l.home (source_dot f.first (Own q) 0)) refl e
@@ -249,7 +251,8 @@ module _ (f : Target) (ts : List Tie) (w : ℕ) (is : IsTarget f ts w) (read : E
   abbrev Ends : End → Type 0
   Ends e = IsFolded fold whole (own_web c) e ⊎ IsSpare fold (target_servings f pl) whole (own_web c) c e
 
-  alone_so : (e : End) → ((j : Joint) → IsIn j p.joints → same_end j.asking (ResultEnd 0) ≡ false → (j.asking ≡ e) ⊎ (j.serving ≡ e) → ⊥) → IsAlone (own_web c) c e
+  alone_so : (e : End) → ((j : Joint) → IsIn j p.joints → same_end j.asking (ResultEnd 0) ≡ false → (j.asking ≡ e) ⊎ (j.serving ≡ e) → ⊥)
+      → IsAlone (own_web c) c e
   alone_so e none = unmet_is_alone (own_web c) c e (unmet p e none) (λ d k at same. cc same)
 
   stands_so : (e : End) (j : Joint) → IsIn j p.joints → (j.asking ≡ e) ⊎ (j.serving ≡ e) → StandsIn p e
@@ -261,7 +264,8 @@ module _ (f : Target) (ts : List Tie) (w : ℕ) (is : IsTarget f ts w) (read : E
       let clash : true ≡ false = sym (ap (λ (e : End). same_end e (ResultEnd 0)) at) ∙ apart in cc clash
   never_read j there apart (inr at) = no_result p (plan_right f ts w is) (plan_ground f ts w is) 0 j there at
 
-  part_ends : (k h : ℕ) (y : Part) (d : Contact) → slice_get p.parts k ≡ Some y → contact_at p (PartEnd k h) ≡ Some d → (b : Bool) → l.spare x k h ≡ b → Ends (PartEnd k h)
+  part_ends : (k h : ℕ) (y : Part) (d : Contact) → slice_get p.parts k ≡ Some y → contact_at p (PartEnd k h) ≡ Some d
+      → (b : Bool) → l.spare x k h ≡ b → Ends (PartEnd k h)
   part_ends k h y d known contact false spare =
       let there = ap (λ (s : Source). source_dot f.first s h) (part_lies k y known).1 in
       inl (
@@ -273,7 +277,8 @@ module _ (f : Target) (ts : List Tie) (w : ℕ) (is : IsTarget f ts w) (read : E
   part_ends k h y d known contact true spare =
       let there = ap (λ (s : Source). source_dot f.first s h) (part_lies k y known).1 in
       let it =
-      spares_are_others f.types f.first (is_target f) f.splits f.env f.numbers pl x k h d is.tidy is.agree is.split is.supplies is.there is.unsplit (itself f ts w is)
+      spares_are_others f.types f.first (is_target f) f.splits f.env f.numbers pl x k h d
+      is.tidy is.agree is.split is.supplies is.there is.unsplit (itself f ts w is)
       contact spare
       in
       let place : placed pl (l.part x k) ≡ pl.own it.number = ap (placed pl) it.from in
@@ -328,7 +333,8 @@ module _ (f : Target) (ts : List Tie) (w : ℕ) (is : IsTarget f ts w) (read : E
       by_shake same false t e = absurd (no_more_than y e)
 
       by_asking : (b : Bool) → nat_eq (f.first + q) (f.first + f.own) ≡ b
-          → (if b then (if nat_eq h 1 then Some (Of (ResultEnd 1)) else None) else kept read (l.home (source_dot f.first (Own q) h))) ≡ Some y → Comes (PartEnd i h) k
+          → (if b then (if nat_eq h 1 then Some (Of (ResultEnd 1)) else None) else kept read (l.home (source_dot f.first (Own q) h))) ≡ Some y
+          → Comes (PartEnd i h) k
       by_asking true t e =
           let sum : f.first + q ≡ f.first + f.own = true_eq (f.first + q) (f.first + f.own) t in by_shake (omega (arith, sum)) (nat_eq h 1) refl e
       by_asking false t e =

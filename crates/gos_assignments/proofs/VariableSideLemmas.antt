@@ -48,7 +48,8 @@ module _ (types : Types) (i j : ℕ) (ss : List Split) (w x : ℕ) (n : Numbered
 
     at_own : (h : ℕ) → nat_eq h 1 ≡ false → back (Within 0 (Of (PartEnd (i + length ss) h))) ≡ None
     at_own h apart =
-        ap (λ (b : Bool). if b then (if nat_eq h 1 then Some (Of (ResultEnd 1)) else None) else kept read ((target_lodge g).home (Within 0 (Of (PartEnd (i + length ss) h)))))
+        ap (λ (b : Bool). if b then (if nat_eq h 1 then Some (Of (ResultEnd 1)) else None)
+        else kept read ((target_lodge g).home (Within 0 (Of (PartEnd (i + length ss) h)))))
         (eq_true (i + length ss) (i + length ss) refl)
         ∙ ap (λ (b : Bool). if b then Some (Of (ResultEnd 1)) else None) apart
 
@@ -60,7 +61,8 @@ module _ (types : Types) (i j : ℕ) (ss : List Split) (w x : ℕ) (n : Numbered
     beyond q h le =
         let apart : nat_eq q (i + length ss) ≡ false = eq_false q (i + length ss) (λ e. let same : q ≡ i + length ss = e in omega (arith, same, le)) in
         let place : i + (q - i) ≡ q = omega (arith, le) in
-        ap (λ (b : Bool). if b then (if nat_eq h 1 then Some (Of (ResultEnd 1)) else None) else kept read ((target_lodge g).home (Within 0 (Of (PartEnd q h))))) apart
+        ap (λ (b : Bool). if b then (if nat_eq h 1 then Some (Of (ResultEnd 1)) else None)
+        else kept read ((target_lodge g).home (Within 0 (Of (PartEnd q h))))) apart
         ∙ ap (kept read)
         (subst (λ (m : ℕ). (target_lodge g).home (Within 0 (Of (PartEnd m h))) ≡ None) place
         (far_is_nothing types i (is_target g) ss env (q - i) h (omega (arith, le))))
@@ -76,7 +78,8 @@ module _ (types : Types) (i j : ℕ) (ss : List Split) (w x : ℕ) (n : Numbered
     at_place (places.Part q) h (le, lt) = beyond q h le
     at_place (places.Import q) h inside = absurd inside
     at_place places.Result zero inside = at_own 0 refl
-    at_place places.Result (suc h) inside = let one : count (type_of_node n) ≡ 1 = ap count (number_type types i j ss w x n ns env is) in absurd (omega (arith, inside, one))
+    at_place places.Result (suc h) inside =
+        let one : count (type_of_node n) ≡ 1 = ap count (number_type types i j ss w x n ns env is) in absurd (omega (arith, inside, one))
     at_place (places.Number m) h some = at_number m h some
     at_place (places.Node q) h (le, lt) =
         ap (λ (b : Bool). if b then Some (Of read) else None) (eq_false q j (λ e. let same : q ≡ j = e in omega (arith, same, le)))

@@ -1,19 +1,17 @@
 -- The plan of a child of a node: its imports, its literals and the type of its term, and so what it realises.
-use Rattle.std.specs.Prelude.{◌≡◌, ℕ, zero, suc, ◌+◌, ◌<◌, true, List, [], ◌∷◌, Option, Some, None, Contains, length, nat_lt, slice_get, All}
-use Rattle.std.specs.List.{AllByRecursion}
+use Rattle.std.specs.Prelude.{◌≡◌, ℕ, zero, suc, ◌+◌, ◌<◌, true, List, [], Option, Some, None, Contains, length, nat_lt, slice_get, All}
 use Rattle.std.specs.Str.{bytes_eq}
 use Rattle.std.proofs.Common.{refl, sym, ◌∙◌, ap, subst, arith}
 use Rattle.std.proofs.lemmas.Bool.Decides.{nat_tests}
-use Rattle.std.proofs.lemmas.List.Elements.{All-from_recursion, All-contains}
 use Rattle.std.proofs.lemmas.Slice.Eq.{bytes_eq-Decides}
 use Rattle.gos_types.specs.Types.{Type'}
 use Rattle.gos_model.specs.Terms.{Name}
 use Rattle.gos_model.specs.Typing.{Imported, Imports, import_type, Named, things, Typed}
 use Rattle.gos_check.specs.Nodes.{Meaning, inside, meaning, type_of_node}
 use Rattle.gos_check.specs.Linearity.{times, split_in}
-use Rattle.gos_plan.specs.Kinds.{Part}
 use Rattle.gos_plan.specs.Plans.{ImportEnd, Plan}
 use Rattle.gos_plan.specs.TokenBits.{LiteralFits}
+use Rattle.gos_realises.proofs.LiteralLemmas.{literals_among}
 use Rattle.gos_realises.specs.Realises.{NamesDiffer, Realises}
 use Rattle.gos_webs.specs.Webs.{Of, Within, Tie}
 use Rattle.gos_typing.proofs.WhenceLemmas.{named}
@@ -42,23 +40,6 @@ used_so n ns has = let some : 0 < times n ns = some_times n ns has in grind (ari
 abbrev number_at : Option Spot → ℕ
 number_at None = 0
 number_at (Some z) = z.number
-
--- the literals of parts that are among those of a plan
-pub literals_among : (part : ℕ → ℕ) (r c : Plan) → ((k : ℕ) (x : Part) → slice_get c.parts k ≡ Some x → slice_get r.parts (part k) ≡ Some x)
-    → All LiteralFits r.parts → All LiteralFits c.parts
-literals_among part r c among fit = All-from_recursion LiteralFits c.parts (each c.parts one)
-  where
-    part_there : (xs : List Part) (k : ℕ) (x : Part) → slice_get xs k ≡ Some x → Contains xs x
-    part_there [] k x at = absurd (cc at)
-    part_there (y ∷ xs) zero x at = (0, omega arith, cc at)
-    part_there (y ∷ xs) (suc k) x at = let (n, l, e) = part_there xs k x at in (suc n, omega (arith, l), e)
-
-    one : (k : ℕ) (x : Part) → slice_get c.parts k ≡ Some x → LiteralFits x
-    one k x at = All-contains LiteralFits r.parts x fit (part_there r.parts (part k) x (among k x at))
-
-    each : (xs : List Part) → ((k : ℕ) (x : Part) → slice_get xs k ≡ Some x → LiteralFits x) → AllByRecursion LiteralFits xs
-    each [] all = tt
-    each (x ∷ xs) all = (all 0 x refl, each xs (λ k y at. all (suc k) y at))
 
 module _ (f : Child) (own : List Part) (ts : List Tie) (pl plc : Placing) (r c : Plan) (is : IsChild f ts) (laid : IsLaid own f.numbers f.env pl r)
     (staged : IsStaged f pl plc r c) where
@@ -104,8 +85,10 @@ module _ (f : Child) (own : List Part) (ts : List Tie) (pl plc : Placing) (r c :
           let (in_k, from_k) = outside (plc.origin k).number (plc.origin k).import x has_k there_k in
           let (in_l, from_l) = outside (plc.origin l).number (plc.origin l).import y has_l there_l in
           let same =
-          differ_at r.imports differ (pl.import (root (plc.origin k).number) (plc.origin k).import) (pl.import (root (plc.origin l).number) (plc.origin l).import) x y in_k in_l e in
-          let origins : record { number = root (plc.origin k).number; import = (plc.origin k).import } ≡ record { number = root (plc.origin l).number; import = (plc.origin l).import } =
+          differ_at r.imports differ (pl.import (root (plc.origin k).number) (plc.origin k).import) (pl.import (root (plc.origin l).number) (plc.origin l).import)
+          x y in_k in_l e in
+          let origins : record { number = root (plc.origin k).number; import = (plc.origin k).import }
+          ≡ record { number = root (plc.origin l).number; import = (plc.origin l).import } =
           sym from_k ∙ (ap pl.origin same ∙ from_l) in
           let numbers = told (plc.origin k).number (plc.origin l).number 0 has_k has_l (ap (λ (o : Origin). o.number) origins) in
           let imports : (plc.origin k).import ≡ (plc.origin l).import = ap (λ (o : Origin). o.import) origins in
@@ -132,7 +115,7 @@ module _ (f : Child) (own : List Part) (ts : List Tie) (pl plc : Placing) (r c :
           ∙ sym (type_has r.imports differ x name.import (contained_at r.imports (pl.import (root k) q) name.import there.0) is_x)
 
   literals_below : All LiteralFits r.parts → All LiteralFits c.parts
-  literals_below fit = literals_among (child_cut f pl plc (length r.parts)).part r c (λ k x at. (staged.region.parts k x at).0) fit
+  literals_below fit = literals_among (child_cut f pl plc (length r.parts)).part c.parts r.parts (λ k x at. (staged.region.parts k x at).0) fit
 
   pub child_realises : RealisesWired f.types f.uses f.term → NamesDiffer r.imports → All LiteralFits r.parts → HasLeaves f.term → InScope f.uses f.term
       → Typed r.imports [] (meaning (inside f.splits (terms_of f.env)) f.term) (type_of_node f.term)
