@@ -55,8 +55,9 @@ means_run (Var w) p m done h = absurd done
 means_run (Pair a b) p m done h = absurd done
 means_run (Fun a b) p m done h = absurd done
 
-module _ (child : BranchIsChild) (parts : BranchHasParts) (types : Types) (i j : ℕ) (m : Numbered) (ss : List Split) (own : Part) (bs : List Branch) (ns : List ℕ) (env : Supplies)
-    (pl : Placing) (r : Plan) (fork : IsFork types m ss own bs) (branches : AreBranches types ss ns bs) (w : IsWired types i j m ns env pl r) (supplies : AreGroundSupplies types env ns)
+module _ (child : BranchIsChild) (parts : BranchHasParts) (types : Types) (i j : ℕ) (m : Numbered) (ss : List Split) (own : Part)
+    (bs : List Branch) (ns : List ℕ) (env : Supplies) (pl : Placing) (r : Plan) (fork : IsFork types m ss own bs) (branches : AreBranches types ss ns bs)
+    (w : IsWired types i j m ns env pl r) (supplies : AreGroundSupplies types env ns)
     (differ : NamesDiffer r.imports) (fit : All LiteralFits r.parts)
     (typed : (b : Branch) → Contains bs b → Typed r.imports [] (meaning (inside ss (terms_of env)) b.term) (type_of_node b.term))
     (leaves : (b : Branch) → Contains bs b → HasLeaves b.term) (real : (b : Branch) → Contains bs b → RealisesWired types b.uses b.term) where

@@ -155,7 +155,8 @@ Leaved b = HasLeaves b.term
 abbrev Real : Types → Branch → Type 0
 Real types b = RealisesWired types b.uses b.term
 
-its_type : (ss : List Split) (env : Supplies) (r : Plan) (m : Numbered) (t : Type') → type_of_node m ≡ t → HasType ss env r m t → HasType ss env r m (type_of_node m)
+its_type : (ss : List Split) (env : Supplies) (r : Plan) (m : Numbered) (t : Type')
+    → type_of_node m ≡ t → HasType ss env r m t → HasType ss env r m (type_of_node m)
 its_type ss env r m t e typed = subst (λ (u : Type'). HasType ss env r m u) (sym e) typed
 
 pub sequence_case : SequenceIsFork → BothAreKept → ForkRealises → SequenceCase
@@ -183,7 +184,8 @@ sequence_case fork kept law types ns t ss m n is leaves_m leaves_n rm rn i j env
 
 pub choice_case : ChoiceIsFork → ThreeAreKept → ForkRealises → ChoiceCase
 choice_case fork kept law types ns t ss m n p is leaves_m leaves_n leaves_p rm rn rp i j env pl r w supplies differ fit (done, typed_m, typed_n, typed_p) =
-    law (Choice t (meaning (inside ss (terms_of env)) m) (meaning (inside ss (terms_of env)) n) (meaning (inside ss (terms_of env)) p)) types i j (If t ss m n p) ss
+    law (Choice t (meaning (inside ss (terms_of env)) m) (meaning (inside ss (terms_of env)) n) (meaning (inside ss (terms_of env)) p))
+    types i j (If t ss m n p) ss
     (a ∷ b ∷ c ∷ []) ns env pl r
     (subst (λ (v : ℕ). IsFork types (If t ss m n p) ss (kinds.If v) (a ∷ b ∷ c ∷ [])) (same_bits t)
     (fork types t ss m n p a.uses b.uses c.uses done em en ep))
@@ -244,7 +246,8 @@ loop_case fork kept law types ns t ss m n is leaves_m leaves_n rm rn =
     subst (λ (u : Type'). RealisesWired types ns (Two u ss OfWhile m n)) (sym e)
     (plain_loop fork kept law types ns ss m n (subst (λ (u : Type'). IsKept types ns (Two u ss OfWhile m n)) e is) leaves_m leaves_n rm rn)
 
-module _ (fork : OperatorIsFork) (kept : BothAreKept) (law : ForkRealises) (types : Types) (ns : List ℕ) (ss : List Split) (op : Op) (w : ℕ) (m n : Numbered) where
+module _ (fork : OperatorIsFork) (kept : BothAreKept) (law : ForkRealises) (types : Types) (ns : List ℕ) (ss : List Split)
+    (op : Op) (w : ℕ) (m n : Numbered) where
   abbrev operation : Numbered
   operation = Two (Exp (result_width op w)) ss (OfBin op) m n
 

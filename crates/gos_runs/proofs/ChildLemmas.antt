@@ -87,8 +87,12 @@ module _ (f : Child) (own : List Part) (ts : List Tie) (pl plc : Placing) (r c :
           let (in_k, from_k) = outside (plc.origin k).number (plc.origin k).import x has_k there_k in
           let (in_l, from_l) = outside (plc.origin l).number (plc.origin l).import y has_l there_l in
           let same =
-          differ_at r.imports differ (pl.import (root (plc.origin k).number) (plc.origin k).import) (pl.import (root (plc.origin l).number) (plc.origin l).import) x y in_k in_l e in
-          let origins : record { number = root (plc.origin k).number; import = (plc.origin k).import } ≡ record { number = root (plc.origin l).number; import = (plc.origin l).import } =
+          differ_at r.imports differ (pl.import (root (plc.origin k).number) (plc.origin k).import)
+          (pl.import (root (plc.origin l).number) (plc.origin l).import) x y in_k in_l e in
+          let origins :
+          record { number = root (plc.origin k).number; import = (plc.origin k).import }
+          ≡ record { number = root (plc.origin l).number; import = (plc.origin l).import }
+          =
           sym from_k ∙ (ap pl.origin same ∙ from_l) in
           let numbers = told (plc.origin k).number (plc.origin l).number 0 has_k has_l (ap (λ (o : Origin). o.number) origins) in
           let imports : (plc.origin k).import ≡ (plc.origin l).import = ap (λ (o : Origin). o.import) origins in

@@ -76,8 +76,9 @@ led_first : (n : ℕ) (place : Place) (h : ℕ) → n ≡ 1 → Contains (led (r
 led_first zero place h e = absurd (omega (arith, e))
 led_first (suc n) place h e = (0, omega arith, refl)
 
-module _ (child : BranchIsChild) (parts : BranchHasParts) (cover : BranchesCover) (f : Form) (types : Types) (i j : ℕ) (m : Numbered) (ss : List Split) (bs : List Branch)
-    (ns : List ℕ) (env : Supplies) (pl : Placing) (r : Plan) (fork : IsFork types m ss (own_part f) bs) (branches : AreBranches types ss ns bs) (some : bs ≢ [])
+module _ (child : BranchIsChild) (parts : BranchHasParts) (cover : BranchesCover) (f : Form) (types : Types) (i j : ℕ) (m : Numbered)
+    (ss : List Split) (bs : List Branch) (ns : List ℕ) (env : Supplies) (pl : Placing) (r : Plan)
+    (fork : IsFork types m ss (own_part f) bs) (branches : AreBranches types ss ns bs) (some : bs ≢ [])
     (same : own_type f ≡ type_of_node m) (w : IsWired types i j m ns env pl r) (supplies : AreGroundSupplies types env ns) (differ : NamesDiffer r.imports)
     (fit : All LiteralFits r.parts) (sessions : AreSessionsOf f ss bs env r) (leaves : (b : Branch) → Contains bs b → HasLeaves b.term)
     (real : (b : Branch) → Contains bs b → RealisesWired types b.uses b.term) where
@@ -104,11 +105,16 @@ module _ (child : BranchIsChild) (parts : BranchHasParts) (cover : BranchesCover
 
   runs : (before after : List Branch) (b : Branch) (at : bs ≡ before ++ b ∷ after) → Runs b (length before) (cared before after b at)
   runs before after b at =
-      let it = branch_lemmas.realises child parts types i j m ss (own_part f) bs ns env pl r fork branches w supplies differ fit sessions.typed leaves real before after b at in
+      let it =
+      branch_lemmas.realises child parts types i j m ss (own_part f) bs ns env pl r fork branches w supplies differ fit sessions.typed leaves real before
+      after b at
+      in
       record {
         shake = refl;
         realises = it;
-        is_run = branch_lemmas.is_run child parts types i j m ss (own_part f) bs ns env pl r fork branches w supplies differ fit sessions.typed leaves real before after b at;
+        is_run =
+            branch_lemmas.is_run child parts types i j m ss (own_part f) bs ns env pl r fork branches w supplies differ fit sessions.typed leaves real before
+            after b at;
       }
 
   -- the children that the branches are
@@ -128,7 +134,8 @@ module _ (child : BranchIsChild) (parts : BranchHasParts) (cover : BranchesCover
   longer : (before : List Branch) (b : Branch) → length (before ++ b ∷ []) ≡ suc (length before)
   longer before b = let sum = length-append before (b ∷ []) in omega (arith, sum)
 
-  shake_of : (before rest : List Branch) (at : bs ≡ before ++ rest) (x : Cared) (has : Contains (cares before rest at) x) → x.child.shake ≡ length before + has.0
+  shake_of : (before rest : List Branch) (at : bs ≡ before ++ rest) (x : Cared) (has : Contains (cares before rest at) x)
+      → x.child.shake ≡ length before + has.0
   shake_of before [] at x (k, small, is) = absurd (omega (arith, small))
   shake_of before (b ∷ after) at x (zero, small, is) =
       let it : x.child.shake ≡ length before = ap (λ (y : Cared). y.child.shake) (sym is) in omega (arith, it)
@@ -152,7 +159,8 @@ module _ (child : BranchIsChild) (parts : BranchHasParts) (cover : BranchesCover
       let sum : length before ≡ length before + 0 = omega arith in (
         cared before rest c at,
         (0, omega arith, refl),
-        subst (λ (h : ℕ). Runs b h (cared before rest c at)) sum (subst (λ (d : Branch). Runs d (length before) (cared before rest c at)) it (runs before rest c at)),
+        subst (λ (h : ℕ). Runs b h (cared before rest c at)) sum
+            (subst (λ (d : Branch). Runs d (length before) (cared before rest c at)) it (runs before rest c at)),
       )
   found before (c ∷ rest) at (d ∷ mid) after b e =
       let more : rest ≡ mid ++ b ∷ after = cc e in
@@ -224,7 +232,8 @@ module _ (child : BranchIsChild) (parts : BranchHasParts) (cover : BranchesCover
   run_tied =
       Contains-append_left (within 0 (dot_ties its_points)) (all_supply_ties types env ns) run_tie
       (in_image (λ (t : Tie). tie (Within 0 t.one) (Within 0 t.other)) (dot_ties its_points) (tie (Of (ResultEnd 0)) (Of (PartEnd (i + length ss) (length bs))))
-      (in_image (λ (t : point_ties.Tie). tie (dot_of t.one) (dot_of t.other)) its_points (points.tie (point places.Result 0) (point (places.Part (i + length ss)) (length bs))) listed))
+      (in_image (λ (t : point_ties.Tie). tie (dot_of t.one) (dot_of t.other)) its_points
+      (points.tie (point places.Result 0) (point (places.Part (i + length ss)) (length bs))) listed))
     where
       its_points : List point_ties.Tie
       its_points = ties_of types i j m (row places.Result 0 (count (type_of_node m)))

@@ -106,7 +106,8 @@ module _ (i : Imports) where
         by_list (inl h) = h
         by_list (inr h) = none (in_list [] k n is h)
 
-    below_types : (b : Type') (g : List Type') (n : ℕ) (ns : List ℕ) (e : Meaning) → b ≡ types n → HaveTypes g ns e → HaveTypes (b ∷ g) (ns ++ n ∷ []) (below n e)
+    below_types : (b : Type') (g : List Type') (n : ℕ) (ns : List ℕ) (e : Meaning)
+        → b ≡ types n → HaveTypes g ns e → HaveTypes (b ∷ g) (ns ++ n ∷ []) (below n e)
     below_types b g n ns e same have k has = one_below b g n ns e same have k has (nat_eq k n) refl
 
     closed_type : (g : List Type') (c : Term) (t : Type') → ClosedTyped c t → node_type i g c ≡ t
