@@ -9,6 +9,7 @@ use Rattle.gos_model.specs.Terms.{Name}
 use Rattle.gos_model.specs.Typing.{Imported, Imports, import_type, Named, things, Typed}
 use Rattle.gos_check.specs.Nodes.{Meaning, inside, meaning, type_of_node}
 use Rattle.gos_check.specs.Linearity.{times, split_in}
+use Rattle.gos_plan.specs.Kinds.{Part}
 use Rattle.gos_plan.specs.Plans.{ImportEnd, Plan}
 use Rattle.gos_plan.specs.TokenBits.{LiteralFits}
 use Rattle.gos_realises.proofs.LiteralLemmas.{literals_among}
