@@ -28,7 +28,7 @@ use Rattle.gos_assignments.specs.Variables.{Target, target_plan, target_cut, tar
 use Rattle.gos_assignments.specs.Made.{target_stage, target_of, IsWiredAssignment, AssignmentIsMade}
 use Rattle.gos_assignments.proofs.ReadLemmas.{reads}
 use Rattle.gos_assignments.proofs.TargetBackLemmas.{plan_realised, target_dot, plan_right, plan_ground, plan_joined}
-use Rattle.gos_assignments.proofs.TargetFoldLemmas.{target_is_fold, target_is_region}
+use Rattle.gos_assignments.proofs.TargetFoldLemmas.{target_is_fold}
 use Rattle.gos_assignments.proofs.LaidLemmas.{target_is_laid}
 
 module _ (f : Child) (node x : ℕ) (own : List Part) (ts : List Tie) (w : ℕ) (pl plc : Placing) (r c : Plan) (is : IsWiredAssignment f node x own ts w pl r)
