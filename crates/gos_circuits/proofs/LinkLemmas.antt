@@ -58,21 +58,26 @@ says_build told own read b whole is =
     (λ files h. subst (λ (text : List ℕ). IsBuildFile text own b) (h.whole is.short) is) whole
 
 -- the build file is rejected for its form
+pub form_fault : (own : Word) (read file : List ℕ) (why : LinkFault) (fault : Fault) (line : List ℕ) → IsReadWhole 65536 read file
+    → (why ≢ faults.NoMemory → (n : ℕ) × (why ≡ faults.Form n) × IsFirstWrong read own n) → IsRealCause (Link why)
+    → fault ≡ record { file = own; cause = Link why } → line ≡ fault_line None fault → IsBuildFault own (IsFormCause file own) fault line
+form_fault own read file why fault line whole first real is says =
+    record {
+      file = ap (λ (f : Fault). f.file) is;
+      cause =
+          let one = first real in
+          let cause : fault.cause ≡ Link (faults.Form one.0) = ap (λ (f : Fault). f.cause) is ∙ ap Link one.1 in
+          subst (λ (c : Cause). IsFormCause file own c) (sym cause) (wrong_file own read file one.0 whole one.2);
+      says = says;
+    }
+
 pub wrong_form : (told : Option Files) (own : Word) (read : List ℕ) (why : LinkFault) (fault : Fault) (line : List ℕ)
     → IfSome told (λ files. IsReadWhole 65536 read (bytes_at files own))
     → (why ≢ faults.NoMemory → (n : ℕ) × (why ≡ faults.Form n) × IsFirstWrong read own n) → IsRealCause (Link why)
     → fault ≡ record { file = own; cause = Link why } → line ≡ fault_line None fault → IfSome told (λ files. RejectsLink files own fault line)
 wrong_form told own read why fault line whole first real is says =
     of_some (λ files. IsReadWhole 65536 read (bytes_at files own)) (λ files. RejectsLink files own fault line) told
-    (λ files h. inl (record {
-      file = ap (λ (f : Fault). f.file) is;
-      cause =
-          let one = first real in
-          let cause : fault.cause ≡ Link (faults.Form one.0) = ap (λ (f : Fault). f.cause) is ∙ ap Link one.1 in
-          subst (λ (c : Cause). IsFormCause (bytes_at files own) own c) (sym cause) (wrong_file own read (bytes_at files own) one.0 h one.2);
-      says = says;
-    }))
-    whole
+    (λ files h. inl (form_fault own read (bytes_at files own) why fault line h first real is says)) whole
 
 -- a rejection once the build file is read
 pub rejected_later : (old mid : Option Files) (own : Word) (b : Build) (fault : Fault) (line : List ℕ) → mid ≡ old → IfSome old (λ files. SaysBuild files own b)

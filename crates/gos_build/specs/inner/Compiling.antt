@@ -1,15 +1,17 @@
 -- What is known while the sources of instances are compiled one after another.
-use Rattle.std.specs.Prelude.{ℕ, List, [], ◌∷◌}
+use Rattle.std.specs.Prelude.{ℕ, List, [], ◌∷◌, Option}
+use Rattle.gos_outside.specs.Files.{Files}
 use Rattle.gos_outside.specs.OtherFiles.{IsApart}
 use Rattle.gos_lines.specs.Lines.{Word}
 use Rattle.gos_syntax.specs.Modules.{SeenModule}
 use Rattle.gos_check.specs.Checked.{SeenLinear}
 use Rattle.gos_plan.specs.Plans.{Plan}
+use Rattle.gos_plan.specs.Seen.{SeenPlan}
 use Rattle.gos_link.specs.declared.build.Instance.{Instance}
 use Rattle.gos_objects.specs.Typed.{IsTypedAs}
 use Rattle.gos_objects.specs.Compiled.{IsPlanOfModule}
 use Rattle.gos_build.specs.Ground.{IsGroundModule}
-use Rattle.gos_build.specs.Objects.{SaysGround, objects_of}
+use Rattle.gos_build.specs.Objects.{SaysGround, objects_of, AreWritten}
 
 -- the source of each of these instances is none of these files
 abbrev pub EachApart : List Instance → List Word → Type 0
@@ -30,3 +32,8 @@ pub record IsCompiledAs (text : List ℕ) (plan : Plan) : Type 0 where
   pub made : SeenModule
   pub says : SaysGround text made
   pub compiled : IsPlanOfModule made plan
+
+-- the objects of the first instances were written with these plans
+pub record AreSoFar (files : Files) (new : Option Files) (is : List Instance) (plans : List SeenPlan) : Type 0 where
+  pub modules : List SeenModule
+  pub written : AreWritten files new is modules plans
