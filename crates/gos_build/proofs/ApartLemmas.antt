@@ -120,6 +120,7 @@ apart_item own before item apart new =
   where
     same : AreApart (instances_in before ++ [])
     same = subst AreApart (sym (append-nil (instances_in before))) apart
+
     by : (line : ℕ) (said : Said) → IsTrue (is_new own before said) → AreApart (instances_in before ++ instance_in line said)
     by line says.Version new = same
     by line (says.Inst name source object) new =

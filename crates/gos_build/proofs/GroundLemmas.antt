@@ -105,8 +105,10 @@ of_leaf i g t m e leaf = by leaf
   where
     there : (n : Term) → m ≡ n → (IsGround (node_type i g n) → NodesGround i g n) → IsGround t → NodesGround i g m
     there n is step h = subst (NodesGround i g) (sym is) (step (subst (λ (x : Term). IsGround (node_type i g x)) is (subst IsGround e h)))
+
     back : (n : Term) → m ≡ n → (NodesGround i g n → IsGround (node_type i g n)) → NodesGround i g m → IsGround t
     back n is step h = subst IsGround (sym e) (subst (λ (x : Term). IsGround (node_type i g x)) (sym is) (step (subst (NodesGround i g) is h)))
+
     by : IsLeaf m → Both (IsGround t) (NodesGround i g m)
     by (inl (n, is)) = (there (Bound n) is (λ h. h), back (Bound n) is (λ h. h))
     by (inr (inl (x, is))) = (there (Import x) is (λ h. h), back (Import x) is (λ h. h))
@@ -120,6 +122,7 @@ of_closed i g t m e closed = by closed
       λ _. subst (NodesGround i g) (sym is) k,
       λ _. subst IsGround (sym e) (subst (λ (x : Term). IsGround (node_type i g x)) (sym is) h),
     )
+
     by : IsClosed m → Both (IsGround t) (NodesGround i g m)
     by (inl is) = at Skip is tt tt
     by (inr (k, w, is)) = at (Lit k w) is tt tt

@@ -178,11 +178,13 @@ calls old mid new is plans i fault apart same at before call =
     ground files h others =
         moved (λ files. (m : SeenModule) × SaysGround (bytes_at files i.source) m) i.source (objects_of is) (Some files) mid
         (λ now files e h. (h.0, subst (λ (t : List ℕ). SaysGround t h.0) e h.1)) (apart_at is (objects_of is) (length plans) i at apart) others h
+
     there : (files : Files) → OthersSame (objects_of is) (Some files) mid
         → IsInstanceCall mid new i (IfSome mid (λ files. (m : SeenModule) × SaysGround (bytes_at files i.source) m)) fault
         → IsInstanceCall mid new i ((m : SeenModule) × SaysGround (bytes_at files i.source) m) fault
     there files others (inl read) = inl read
     there files others (inr (failed, kept, h)) = inr (failed, kept, ground files h others)
+
     here : (told : Option Files) → OthersSame (objects_of is) told mid
         → IsInstanceCall mid new i (IfSome mid (λ files. (m : SeenModule) × SaysGround (bytes_at files i.source) m)) fault
         → IfSome told (λ files. IsInstanceCall mid new i ((m : SeenModule) × SaysGround (bytes_at files i.source) m) fault)

@@ -54,7 +54,7 @@ simulation_call old mid new b plans weight net pulses trace fault same_pulses sa
       mid,
       done,
       subst (λ (n : Word). IsSimulationCall mid new net b.pulses n fault) same_trace
-      (subst (λ (n : Word). IsSimulationCall mid new net n trace fault) same_pulses call),
+          (subst (λ (n : Word). IsSimulationCall mid new net n trace fault) same_pulses call),
     )
 
 pub has_circuit : (old mid new : Option Files) (b : Build) (plans : List SeenPlan) (weight : ℕ) (net : Netlist)

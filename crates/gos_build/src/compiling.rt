@@ -58,11 +58,7 @@ pub fn compile_all<S: Store>(
 }
 
 // Compiles the source of an instance, and writes its object.
-fn compile_one<S: Store>(
-    alloc: Global,
-    instance: &Instance,
-    store: &mut S,
-) -> Result<Plan, Stop>
+fn compile_one<S: Store>(alloc: Global, instance: &Instance, store: &mut S) -> Result<Plan, Stop>
     ensures made { IfOk result (λ plan. IfSome (S.contents store.old) (λ files.
         IsCompiledAs (bytes_at files instance.now.source) (plan_of plan))) }
     ensures wrote { IfOk result (λ plan. S.contents store.new ≡ with_file instance.now.object (text_of (plan_of plan)) (S.contents store.old)) }

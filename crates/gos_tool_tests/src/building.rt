@@ -166,7 +166,10 @@ fn ground_modules_are_built(rt: HostRuntime) -> Result<(), Fail> {
 fn instances_are_compiled_and_linked(rt: HostRuntime) -> Result<(), Fail> {
     let alloc = rt.alloc();
     let sources = [
-        (b"main.gos".as_slice(), b"import e : com export e : com".as_slice()),
+        (
+            b"main.gos".as_slice(),
+            b"import e : com export e : com".as_slice(),
+        ),
         (b"k.gos".as_slice(), b"export skip : com".as_slice()),
     ];
     let two = built(alloc, files(alloc, TWO, &sources, RUN)?)?;
@@ -174,7 +177,10 @@ fn instances_are_compiled_and_linked(rt: HostRuntime) -> Result<(), Fail> {
     assert!(rt; two.out.bytes() == b"ok weight 11 cycles 2000 pulses 2 unused 0\n".as_slice());
     assert!(rt; two.store.get(b"k.obj").unwrap_or(b"") == SKIP_OBJECT);
     let sources = [
-        (b"main.gos".as_slice(), b"import a : com import b : com export a ; b : com".as_slice()),
+        (
+            b"main.gos".as_slice(),
+            b"import a : com import b : com export a ; b : com".as_slice(),
+        ),
         (b"k.gos".as_slice(), b"export skip : com".as_slice()),
     ];
     let twice = built(alloc, files(alloc, TWICE, &sources, RUN)?)?;
@@ -208,7 +214,12 @@ fn higher_modules_are_not_built(rt: HostRuntime) -> Result<(), Fail> {
 fn later_files_are_rejected(rt: HostRuntime) -> Result<(), Fail> {
     let alloc = rt.alloc();
     let rows = [
-        ("import e : com export e : com", "", "k.gos: S1 at 0\n", false),
+        (
+            "import e : com export e : com",
+            "",
+            "k.gos: S1 at 0\n",
+            false,
+        ),
         (
             "import e : com export e : com",
             "export fun a : com . a : com -> com",
@@ -247,7 +258,10 @@ fn later_files_are_rejected(rt: HostRuntime) -> Result<(), Fail> {
 fn pulse_files_are_told(rt: HostRuntime) -> Result<(), Fail> {
     let alloc = rt.alloc();
     let rows = [
-        ("cycles 100\nat 0 c.done\n", "in.pls: P5 c.done at cycle 0\n"),
+        (
+            "cycles 100\nat 0 c.done\n",
+            "in.pls: P5 c.done at cycle 0\n",
+        ),
         ("cycles 9\n\nnext 0 e.done\n", "in.pls: P2 line 3\n"),
     ];
     for (pulses, line) in rows {
@@ -355,7 +369,10 @@ fn no_words_are_answered_with_the_usage(rt: HostRuntime) -> Result<(), Fail> {
 fn each_failing_call_is_told(rt: HostRuntime) -> Result<(), Fail> {
     let alloc = rt.alloc();
     let sources = [
-        (b"main.gos".as_slice(), b"import e : com export e : com".as_slice()),
+        (
+            b"main.gos".as_slice(),
+            b"import e : com export e : com".as_slice(),
+        ),
         (b"k.gos".as_slice(), b"export skip : com".as_slice()),
     ];
     let calls: [u64; 10] = [1, 2, 3, 4, 5, 6, 7, 8, 9, 10];

@@ -12,4 +12,3 @@ use Rattle.gos_build.specs.inner.Compiling.{AreSoFar}
 use Rattle.gos_build.proofs.ObjectLemmas.{instance_at, so_far, some_written, rejects, calls, all_written, objects_same}
 use Rattle.gos_build.proofs.compiling.compile_all.Given.{Over}
 use Rattle.gos_build.proofs.compiling.compile_all.Goals as goal
-
