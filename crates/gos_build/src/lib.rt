@@ -7,7 +7,9 @@
 #![tactic(auto)]
 
 pub use building::build;
+pub use laws::small_terms;
 
 mod building;
 mod compiling;
 mod ground;
+mod laws;

@@ -68,10 +68,8 @@ pub fn module_in<S: Store>(alloc: Global, source: &[u8], store: &mut S) -> Resul
 }
 
 // The checked module of a text, or why it has none.
-#[tactic(auto, using(crate::proofs::CompiledLemmas::few))]
 fn typed_module(alloc: Global, text: &[u8]) -> Result<Linear, Cause>
     ensures typed { IfOk result (IsTypedAs text.now) }
-    ensures few_imports { IfOk result (λ linear. length linear.imports ≤ 64) }
     ensures refused { IfErr result (λ cause. IsRealCause cause → IsSourceCause text.now cause) }
 {
     let module = match module_of(alloc, text) {
