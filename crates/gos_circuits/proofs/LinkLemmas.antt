@@ -13,6 +13,7 @@ use Rattle.gos_plan.specs.Seen.{SeenPlan}
 use Rattle.gos_link.specs.BuildFile.{IsBuildFile, IsFirstWrong}
 use Rattle.gos_link.specs.Linked.{IsLinked, IsUnlinked}
 use Rattle.gos_link.specs.declared.build.Build.{Build}
+use Rattle.gos_link.specs.declared.build.Instance.{Instance}
 use Rattle.gos_link.specs.declared.fault.LinkFault.{LinkFault}
 use Rattle.gos_link.specs.declared.fault.LinkFault.TheVariants as faults
 use Rattle.gos_verilog.specs.VerilogText.{IsVerilogOf}
@@ -104,6 +105,13 @@ pub rejected_plans : (old : Option Files) (own : Word) (b : Build) (plans : List
 rejected_plans old own b plans fault line held wrong =
     of_some (λ files. HoldPlans files b.instances.items plans) (λ files. RejectsWhole files own b fault line) old
     (λ files h. inr (record { file = wrong.file; cause = (plans, h, wrong.cause); says = wrong.says })) held
+
+-- the plans that were read are those that are linked
+pub held_as : (old : Option Files) (is js : List Instance) (ps plans : List SeenPlan) → is ≡ js → plans ≡ ps
+    → IfSome old (λ files. HoldPlans files is ps) → IfSome old (λ files. HoldPlans files js plans)
+held_as old is js ps plans same linked held =
+    subst (λ (qs : List SeenPlan). IfSome old (λ files. HoldPlans files js qs)) (sym linked)
+    (subst (λ (ks : List Instance). IfSome old (λ files. HoldPlans files ks ps)) same held)
 
 -- the whole was written
 pub whole_done : (old mid new : Option Files) (b : Build) (plans : List SeenPlan) (weight : ℕ) (net : Netlist) (report : Report) → mid ≡ old
