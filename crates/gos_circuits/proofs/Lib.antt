@@ -2,4 +2,4 @@ mod PortLemmas
 mod CircuitLemmas
 mod ObjectLemmas
 mod WholeLemmas
-mod LinkLemmas
+pub mod LinkLemmas

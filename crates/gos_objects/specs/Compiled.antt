@@ -20,16 +20,20 @@ use Rattle.gos_compile.specs.Wiring.{IsPlanOf}
 use Rattle.gos_command.specs.declared.report.Report.{Report}
 use Rattle.gos_objects.specs.Checked.{SaysModule}
 
--- The text is that of the plan of a module: the parts and the joints are those of a typed term that stands for it. The plan is slim,
--- and it is what the text is read as.
-pub record IsObjectOf (text : List ℕ) (m : SeenModule) : Type 0 where
+-- The plan of a module: its parts and joints are those of a typed term that stands for the module. The plan is slim, and its
+-- text is read as it.
+pub record IsPlanOfModule (m : SeenModule) (plan : Plan) : Type 0 where
   pub term : Numbered
-  pub plan : Plan
   pub stands : StandsFor (program_of m) term
   pub made : IsPlanOf (program_of m).imports (type_of m.result) (weighed m) term plan
-  pub is : text ≡ text_of plan
   pub slim : IsSlim plan
-  pub read : IsRead text plan
+  pub read : IsRead (text_of plan) plan
+
+-- the text is that of the plan of a module
+pub record IsObjectOf (text : List ℕ) (m : SeenModule) : Type 0 where
+  pub plan : Plan
+  pub compiled : IsPlanOfModule m plan
+  pub is : text ≡ text_of plan
 
 -- The source file says a module that is accepted, the text of its plan is written over the files before, and the report
 -- has its weight.

@@ -5,7 +5,8 @@ use Rattle.gos_netlist.specs.Nets.{Netlist}
 use Rattle.gos_plan.specs.Plans.{Plan}
 use Rattle.gos_link.specs.declared.build.Build.{Build}
 use Rattle.gos_command.specs.declared.report.Report.{Report}
-use Rattle.gos_circuits.specs.Linked.{IsWhole, IsWritten}
+use Rattle.gos_circuits.specs.Plans.{IsWritten}
+use Rattle.gos_circuits.specs.Linked.{IsWhole}
 
 -- the circuit of the linked plan was written, and the report has its weight
 pub record IsWholeDone (old new : Option Files) (b : Build) (report : Report) : Type 0 where

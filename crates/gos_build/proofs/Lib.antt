@@ -1,0 +1,5 @@
+mod ApartLemmas
+mod GroundLemmas
+mod ObjectLemmas
+mod PlansLemmas
+mod BuildLemmas

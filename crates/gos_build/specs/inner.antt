@@ -1,0 +1,4 @@
+-- What stands between this crate's own functions and lemmas, and no public clause cites.
+pub mod GroundNodes
+pub mod Compiling
+pub mod Instances
