@@ -5,4 +5,6 @@
 
 mod laws;
 
-pub use laws::{ground_modules, ground_programs, ground_terms, open_modules, small_modules, small_terms};
+pub use laws::{
+    ground_modules, ground_programs, ground_terms, open_modules, small_modules, small_terms,
+};
