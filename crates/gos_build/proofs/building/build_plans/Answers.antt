@@ -1,4 +1,4 @@
-use Rattle.std.proofs.Common.{◌≡◌, Err, inl, inr, refl, ap}
+use Rattle.std.proofs.Common.{◌≡◌, Err, inl, refl, ap}
 use Rattle.std.proofs.lemmas.Result.{err_from_is_err_and}
 use Rattle.gos_command.specs.declared.stop.Stop.TheVariants.{StoreFailed, NoMemory}
 use Rattle.gos_command.proofs.EndLemmas.{of_stopped_both}

@@ -1,4 +1,4 @@
-use Rattle.std.proofs.Common.{◌≡◌, ◌+◌, ◌∙◌, ◌∷◌, ◌++◌, refl, [], ℕ, List, Err, Some, None, length, slice_get, ap, sym, subst, arith}
+use Rattle.std.proofs.Common.{◌≡◌, ◌∙◌, ◌∷◌, ◌++◌, refl, [], ℕ, List, Err, Some, length, slice_get, ap, sym, subst, arith}
 use Rattle.std.specs.Prelude.{IfSome}
 use Rattle.std.proofs.lemmas.List.{length-append}
 use Rattle.std.proofs.lemmas.Result.{err_from_is_err_and}
@@ -9,7 +9,6 @@ use Rattle.gos_command.proofs.EndLemmas.{of_stopped_both}
 use Rattle.gos_build.specs.Objects.{RejectsModule}
 use Rattle.gos_build.specs.inner.Compiling.{AreSoFar}
 use Rattle.gos_build.proofs.ObjectLemmas.{instance_at, so_far, some_written, rejects, calls, all_written, objects_same}
-use Rattle.gos_build.proofs.compiling.compile_all.Given.{Over}
 use Rattle.gos_build.proofs.compiling.compile_all.Goals as goal
 
 pub loop-instance-preserved : goal.loop-instance-preserved
