@@ -2,17 +2,15 @@
 --
 -- A line's source is no object before it, its object is no source before it, and they differ (`is_new` of gos_link). So the
 -- instances of the lines so far stay apart, line by line.
-use Rattle.std.proofs.Common.{◌≡◌, ◌≢◌, ◌∙◌, ℕ, Bool, true, false, true≢false, List, [], ◌∷◌, ◌++◌, ◌&&◌, ◌||◌, Option, Some, None, not, IsTrue, map, refl, ap, sym, subst}
-use Rattle.std.specs.List.{list_any}
+use Rattle.std.proofs.Common.{◌≡◌, ◌≢◌, ◌∙◌, ℕ, Bool, true, false, true≢false, List, [], ◌∷◌, ◌++◌, ◌&&◌, ◌||◌, None, not, IsTrue, refl, ap, sym, subst}
 use Rattle.std.specs.Str.{bytes_eq}
 use Rattle.std.proofs.lemmas.Slice.Eq.{bytes_eq-Decides}
 use Rattle.std.proofs.lemmas.List.{append-nil, append_assoc, map-append}
 use Rattle.gos_outside.specs.OtherFiles.{IsApart}
 use Rattle.gos_lines.specs.Lines.{Word, Statement, statements_of}
-use Rattle.gos_link.specs.BuildFile.{Sum, nothing, sum_of, with_said, with_file, has_source, has_no_source, is_source, is_no_source, is_new, is_new_file, is_new_source, ReadsOn, IsBuildFile}
+use Rattle.gos_link.specs.BuildFile.{Sum, nothing, sum_of, with_said, has_source, has_no_source, is_source, is_no_source, is_new, ReadsOn, IsBuildFile}
 use Rattle.gos_link.specs.declared.build.Build.{Build}
 use Rattle.gos_link.specs.declared.build.Instance.{Instance}
-use Rattle.gos_link.specs.declared.said.Role.{Role}
 use Rattle.gos_link.specs.declared.said.Role.TheVariants as roles
 use Rattle.gos_link.specs.declared.said.Said.{Said}
 use Rattle.gos_link.specs.declared.said.Said.TheVariants as says

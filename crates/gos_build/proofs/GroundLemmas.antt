@@ -2,7 +2,7 @@
 --
 -- A typed term and what it means have the same nodes of the same types: a number stands for a leaf, and each other node for
 -- one of its own form.
-use Rattle.std.proofs.Common.{◌≡◌, ◌⊎◌, inl, inr, ℕ, zero, suc, Bool, true, false, List, [], ◌∷◌, ◌||◌, Option, Some, None, if◌then◌else◌, map, nat_eq, refl, ap, sym, subst}
+use Rattle.std.proofs.Common.{◌≡◌, ◌⊎◌, inl, inr, ℕ, zero, suc, Bool, true, false, List, [], ◌∷◌, ◌||◌, Option, None, if◌then◌else◌, map, nat_eq, refl, ap, sym, subst}
 use Rattle.std.specs.Prelude.{IfSome}
 use Rattle.gos_outside.specs.Files.{Files, bytes_at}
 use Rattle.gos_lines.specs.Lines.{Word}
@@ -95,6 +95,26 @@ has_closed t ss (forms.Assign' p a qs f q b rs g) = (has_closed a qs.items f, ha
 has_closed t ss (forms.Deref' p a qs f) = has_closed a qs.items f
 has_closed t ss (forms.Not' p a qs f) = has_closed a qs.items f
 has_closed t ss (forms.Bin' op p a qs f q b rs g) = (has_closed a qs.items f, has_closed b rs.items g)
+
+-- where all nodes are ground, the first is
+pub own_ground : (t : Ty) (ss : List Split) (form : NodeForm) → NumberedGround (numbered_of t ss form) → IsGround (type_of t)
+own_ground t ss forms.Skip all = all
+own_ground t ss (forms.Lit k w) all = all
+own_ground t ss (forms.Use n) all = all
+own_ground t ss (forms.Fun' n p a qs f) all = all.0
+own_ground t ss (forms.New' n w p a qs f) all = all.0
+own_ground t ss (forms.App' p a qs f q b rs g) all = all.0
+own_ground t ss (forms.Pair' p a qs f q b rs g) all = all.0
+own_ground t ss (forms.Fst' p a qs f) all = all.0
+own_ground t ss (forms.Snd' p a qs f) all = all.0
+own_ground t ss (forms.Seq' p a qs f q b rs g) all = all.0
+own_ground t ss (forms.Par' p a qs f q b rs g) all = all.0
+own_ground t ss (forms.If' p a qs f q b rs g r c us h) all = all.0
+own_ground t ss (forms.While' p a qs f q b rs g) all = all.0
+own_ground t ss (forms.Assign' p a qs f q b rs g) all = all.0
+own_ground t ss (forms.Deref' p a qs f) all = all.0
+own_ground t ss (forms.Not' p a qs f) all = all.0
+own_ground t ss (forms.Bin' op p a qs f q b rs g) all = all.0
 
 -- each holds where the other does
 abbrev Both : Type 0 → Type 0 → Type 0

@@ -6,19 +6,23 @@ use Rattle.std.proofs.Common.{◌≡◌, ◌≢◌, ◌<◌, ◌∙◌, inl, inr
 use Rattle.std.specs.Prelude.{IfSome}
 use Rattle.gos_outside.specs.Files.{Files, bytes_at, with_file, SameBut}
 use Rattle.gos_outside.specs.OtherFiles.{IsApart, OthersSame}
-use Rattle.gos_outside.specs.Faults.{LastFault}
+use Rattle.gos_outside.specs.Faults.{LastFault, WriteFault}
 use Rattle.gos_outside.proofs.OtherFilesLemmas.{one_more}
 use Rattle.gos_lines.specs.Lines.{Word}
 use Rattle.gos_syntax.specs.Modules.{SeenModule}
+use Rattle.gos_check.specs.Checked.{SeenLinear}
 use Rattle.gos_plan.specs.ObjectText.{text_of}
+use Rattle.gos_plan.specs.Plans.{Plan}
 use Rattle.gos_plan.specs.Seen.{SeenPlan, plan_of}
 use Rattle.gos_link.specs.declared.build.Instance.{Instance}
 use Rattle.gos_command.specs.declared.status.Fault.{Fault}
 use Rattle.gos_command.proofs.EndLemmas.{of_some, of_some_both}
 use Rattle.gos_objects.specs.Checked.{SaysModule, IsSourceCause}
+use Rattle.gos_objects.specs.Typed.{IsPlanFor}
 use Rattle.gos_objects.specs.Compiled.{IsPlanOfModule}
+use Rattle.gos_objects.proofs.CompiledLemmas.{plan_is}
 use Rattle.gos_build.specs.Objects.{SaysGround, BeginWith, HavePlans, objects_of, with_objects, AllWritten, SomeWritten, IsModuleFault, RejectsModule, IsInstanceCall, IsModuleCall}
-use Rattle.gos_build.specs.inner.Compiling.{EachApart, AreApart, IsCompiledAs, AreSoFar}
+use Rattle.gos_build.specs.inner.Compiling.{EachApart, AreApart, IsGroundAs, IsCompiledAs, AreSoFar}
 
 -- an instance at its place
 pub instance_at : (is : List Instance) (k : ℕ) (i : Instance) → k < length is → i ≡ slice_index_or is k i → slice_get is k ≡ Some i
@@ -134,6 +138,32 @@ some_written old mid new is plans kept before =
       written = record { say = far.written.say; plans = far.written.plans; wrote = kept ∙ far.written.wrote };
     })
     before
+
+-- the source of an instance is compiled, and the write of its object fails
+pub compiled_as : (told : Option Files) (name source : Word) → name ≡ source → (linear : SeenLinear) (plan : Plan)
+    → IfSome told (λ files. IsGroundAs (bytes_at files name) linear) → IsPlanFor linear plan → IfSome told (λ files. IsCompiledAs (bytes_at files source) plan)
+compiled_as told name source same linear plan ground is =
+    subst (λ (n : Word). IfSome told (λ files. IsCompiledAs (bytes_at files n) plan)) same
+    (of_some (λ files. IsGroundAs (bytes_at files name) linear) (λ files. IsCompiledAs (bytes_at files name) plan) told
+    (λ files h. record {
+      made = h.typed.made;
+      says = record { says = h.typed.says; ground = h.ground };
+      compiled = plan_is (bytes_at files name) linear h.typed plan is;
+    })
+    ground)
+
+pub instance_call : (old mid new : Option Files) (i : Instance) (name object : Word) (linear : SeenLinear) (fault : LastFault)
+    → name ≡ i.source → object ≡ i.object → mid ≡ old → IfSome old (λ files. IsGroundAs (bytes_at files name) linear)
+    → fault ≡ WriteFault object → SameBut object mid new
+    → IsInstanceCall old new i (IfSome old (λ files. (m : SeenModule) × SaysGround (bytes_at files i.source) m)) fault
+instance_call old mid new i name object linear fault same_source same_object kept ground is others =
+    inr (
+      subst (λ (n : Word). fault ≡ WriteFault n) same_object is,
+      subst (λ (n : Word). SameBut n old new) same_object (subst (λ (told : Option Files). SameBut object told new) kept others),
+      subst (λ (n : Word). IfSome old (λ files. (m : SeenModule) × SaysGround (bytes_at files n) m)) same_source
+          (of_some (λ files. IsGroundAs (bytes_at files name) linear) (λ files. (m : SeenModule) × SaysGround (bytes_at files name) m) old
+          (λ files h. (h.typed.made, record { says = h.typed.says; ground = h.ground })) ground),
+    )
 
 -- the next is rejected
 pub rejects : (old mid new : Option Files) (is : List Instance) (plans : List SeenPlan) (i : Instance) (fault : Fault) (line : List ℕ)

@@ -1,7 +1,7 @@
 -- Small terms that are ground, and some that are not.
 --
 -- Read first: Ground.
-use Rattle.std.specs.Prelude.{List, [], ◌∷◌, codes}
+use Rattle.std.specs.Prelude.{[], ◌∷◌, codes}
 use Rattle.gos_types.specs.Types.{Type', Com, Var, Fun, Pair}
 use Rattle.gos_model.specs.Terms.{Skip, Lit, Bound, Import, Lam, App, Fst, Assign}
 use Rattle.gos_model.specs.Typing.{Imports}

@@ -8,5 +8,4 @@ pub fn small_terms()
     ensures function { FunctionIsHigher }
     ensures call { CallIsHigher }
     ensures side { SideIsHigher }
-{
-}
+{}

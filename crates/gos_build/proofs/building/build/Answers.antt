@@ -1,18 +1,16 @@
-use Rattle.std.proofs.Common.{ℕ, List, Option, Some, None, Err, inr, ap, sym, subst}
+use Rattle.std.proofs.Common.{ℕ, List, Option, inr, sym, subst}
 use Rattle.std.specs.Prelude.{IfSome}
-use Rattle.std.proofs.lemmas.Result.{err_from_is_err_and}
 use Rattle.gos_outside.specs.Files.{Files, bytes_at}
 use Rattle.gos_outside.specs.OtherFiles.{OthersSame}
 use Rattle.gos_command.specs.Files.{IsReadWhole}
 use Rattle.gos_command.specs.declared.report.Report.{Report}
-use Rattle.gos_command.specs.declared.stop.Stop.TheVariants.{StoreFailed, NoMemory}
-use Rattle.gos_command.proofs.EndLemmas.{of_some, of_result, of_stop, of_stopped}
+use Rattle.gos_command.proofs.EndLemmas.{of_some, of_result, of_stop}
 use Rattle.gos_circuits.specs.Linked.{SaysBuild}
 use Rattle.gos_circuits.proofs.LinkLemmas.{says_build}
 use Rattle.gos_build.specs.Built.{IsBuilt, RejectsInstances, RejectsBuild, written_by}
 use Rattle.gos_build.specs.inner.Instances.{AreInstancesBuilt}
 use Rattle.gos_build.proofs.ApartLemmas.{sources_apart}
-use Rattle.gos_build.proofs.BuildLemmas.{built, instances_rejected, instances_call, instances_cut_short, read_call, nothing_written, form_rejected}
+use Rattle.gos_build.proofs.BuildLemmas.{built, instances_rejected, instances_call, instances_cut_short}
 use Rattle.gos_build.proofs.building.build.Given.{Over}
 use Rattle.gos_build.proofs.building.build.Goals as goal
 

@@ -1,4 +1,4 @@
-use Rattle.std.proofs.Common.{Err, inl, inr, refl, ap}
+use Rattle.std.proofs.Common.{◌≡◌, Err, inl, refl, ap}
 use Rattle.std.proofs.lemmas.Result.{err_from_is_err_and}
 use Rattle.gos_command.specs.declared.stop.Stop.TheVariants.{StoreFailed, NoMemory}
 use Rattle.gos_command.proofs.EndLemmas.{of_stopped_both}
@@ -16,19 +16,19 @@ pub returns-in_err-linked-clause-rejected : goal.returns-in_err-linked-clause-re
 returns-in_err-linked-clause-rejected g c =
     let old = g.S.Store.contents c.args.store.now in
     let new = g.S.Store.contents c.link_plans.new.store in
-    let p = err_from_is_err_and c.from_residual-in_err-linked.result c.from_residual-in_err-linked.ensures.1 in
+    let p = err_from_is_err_and c.from_residual.result c.from_residual.ensures.1 in
     rw (p.1, p.2)
     (of_stopped_both _ _ (RejectsPlans old new c.args.own.now c.args.build.now c.args.plans.now) c.in_err-linked.field-0.0
     (λ fault line why kept. inl (why, kept)) c.in_err-linked.ensures.rejected c.in_err-linked.ensures.rejected_files)
 
 pub returns-in_err-linked-clause-failed_call : goal.returns-in_err-linked-clause-failed_call
 returns-in_err-linked-clause-failed_call g c =
-    let p = err_from_is_err_and c.from_residual-in_err-linked.result c.from_residual-in_err-linked.ensures.1 in
+    let p = err_from_is_err_and c.from_residual.result c.from_residual.ensures.1 in
     rw (p.1, p.2) (λ failed. let at : c.in_err-linked.field-0.0 ≡ StoreFailed = cc in inl (c.in_err-linked.ensures.failed_call (ap Err at)))
 
 pub returns-in_err-linked-clause-memory_files : goal.returns-in_err-linked-clause-memory_files
 returns-in_err-linked-clause-memory_files g c =
-    let p = err_from_is_err_and c.from_residual-in_err-linked.result c.from_residual-in_err-linked.ensures.1 in
+    let p = err_from_is_err_and c.from_residual.result c.from_residual.ensures.1 in
     rw (p.1, p.2) (λ failed. let at : c.in_err-linked.field-0.0 ≡ NoMemory = cc in inl (c.in_err-linked.ensures.memory_files (ap Err at)))
 
 pub returns-in_err-linked-clause-others : goal.returns-in_err-linked-clause-others

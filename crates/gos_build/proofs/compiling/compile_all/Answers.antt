@@ -1,4 +1,4 @@
-use Rattle.std.proofs.Common.{◌≡◌, ◌+◌, ◌∙◌, ◌∷◌, [], ℕ, List, Err, Some, None, length, slice_get, ap, sym, subst, arith}
+use Rattle.std.proofs.Common.{◌≡◌, ◌∙◌, ◌∷◌, ◌++◌, refl, [], ℕ, List, Err, Some, length, slice_get, ap, sym, subst, arith}
 use Rattle.std.specs.Prelude.{IfSome}
 use Rattle.std.proofs.lemmas.List.{length-append}
 use Rattle.std.proofs.lemmas.Result.{err_from_is_err_and}
@@ -9,7 +9,6 @@ use Rattle.gos_command.proofs.EndLemmas.{of_stopped_both}
 use Rattle.gos_build.specs.Objects.{RejectsModule}
 use Rattle.gos_build.specs.inner.Compiling.{AreSoFar}
 use Rattle.gos_build.proofs.ObjectLemmas.{instance_at, so_far, some_written, rejects, calls, all_written, objects_same}
-use Rattle.gos_build.proofs.compiling.compile_all.Given.{Over}
 use Rattle.gos_build.proofs.compiling.compile_all.Goals as goal
 
 pub loop-instance-preserved : goal.loop-instance-preserved
@@ -25,7 +24,7 @@ loop-instance-preserved g c =
     let items = ap (λ (ps : List SeenPlan). length ps) c.in-Ok.ensures.items in
     let joined = length-append plans (p ∷ []) in (
       subst (λ (ps : List SeenPlan). IfSome old (λ files. AreSoFar files new all ps)) (sym c.in-Ok.ensures.items)
-      (so_far old mid new all plans i p c.requires c.loop-instance.invariant.2 at c.in_ok-plan.ensures.wrote c.loop-instance.invariant.0 c.in_ok-plan.ensures.made),
+          (so_far old mid new all plans i p c.requires c.loop-instance.invariant.2 at c.in_ok-plan.ensures.wrote c.loop-instance.invariant.0 c.in_ok-plan.ensures.made),
       omega (arith, items, joined, c.loop-instance.invariant.1),
       objects_same all (length plans) i old mid new at c.loop-instance.invariant.2 c.in_ok-plan.ensures.others,
       c.in_ok-plan.ensures.same_count (λ e. cc e) ∙ c.loop-instance.invariant.3,
@@ -89,3 +88,27 @@ returns-clause-written g c =
     let plans = c.loop-instance.plans.items in
     let each : length plans ≡ length all = omega (arith, c.loop-instance-test.false, c.loop-instance.auto.instance-index-end, c.loop-instance.invariant.1) in
     all_written (g.S.Store.contents c.args.store.now) (g.S.Store.contents c.loop-instance.store) all plans each c.loop-instance.invariant.0
+
+pub returns-in_default-clause-memory_files : goal.returns-in_default-clause-memory_files
+returns-in_default-clause-memory_files g c = λ failed.
+    let old = g.S.Store.contents c.args.store.now in
+    let mid = g.S.Store.contents c.loop-instance.store in
+    let new = g.S.Store.contents c.compile_one.new.store in
+    let all = c.args.instances.now in
+    let i = c.instance-item.result in
+    let plans = c.loop-instance.plans.items in
+    let p = c.in_ok-plan.plan in
+    let at : slice_get all (length plans) ≡ Some i = subst (λ (n : ℕ). slice_get all n ≡ Some i) (sym c.loop-instance.invariant.1) (instance_at all c.loop-instance.instance-index i c.loop-instance-test.true c.instance-item.is) in
+    some_written old new new all (plans ++ p ∷ []) refl
+    (so_far old mid new all plans i p c.requires c.loop-instance.invariant.2 at c.in_ok-plan.ensures.wrote c.loop-instance.invariant.0 c.in_ok-plan.ensures.made)
+
+pub returns-in_default-clause-others : goal.returns-in_default-clause-others
+returns-in_default-clause-others g c =
+    let old = g.S.Store.contents c.args.store.now in
+    let mid = g.S.Store.contents c.loop-instance.store in
+    let new = g.S.Store.contents c.compile_one.new.store in
+    let all = c.args.instances.now in
+    let i = c.instance-item.result in
+    let plans = c.loop-instance.plans.items in
+    let at : slice_get all (length plans) ≡ Some i = subst (λ (n : ℕ). slice_get all n ≡ Some i) (sym c.loop-instance.invariant.1) (instance_at all c.loop-instance.instance-index i c.loop-instance-test.true c.instance-item.is) in
+    objects_same all (length plans) i old mid new at c.loop-instance.invariant.2 c.in_ok-plan.ensures.others
