@@ -3,3 +3,4 @@ mod GroundLemmas
 mod ObjectLemmas
 mod PlansLemmas
 mod BuildLemmas
+mod PacedLemmas

@@ -1,6 +1,5 @@
 -- In reading order: a file uses only files above it.
-pub mod Ground
-pub mod SmallTerms
+pub mod Paced
 pub mod Objects
 pub mod Built
 pub mod inner

@@ -1,11 +1,13 @@
-// Laws of the definitions: functions that do nothing, whose contracts they are.
+// What the circuits of modules do: a theorem, as the contract of a function that does nothing.
 
-ghost use Rattle.gos_build.specs.SmallTerms.{AssignmentIsGround, FunctionIsHigher, CallIsHigher, SideIsHigher};
+ghost use Rattle.gos_build.specs.Paced.{GroundCircuitsKeepPace};
 
-/// Small terms that are ground, and some that are not.
-pub fn small_terms()
-    ensures assignment { AssignmentIsGround }
-    ensures function { FunctionIsHigher }
-    ensures call { CallIsHigher }
-    ensures side { SideIsHigher }
-{}
+use gos_circuits::paced_circuits;
+
+/// The circuit of a plan of a ground module, whose result is a command or an expression, keeps pace with the module's
+/// program.
+pub fn ground_circuits()
+    ensures { GroundCircuitsKeepPace }
+{
+    paced_circuits();
+}

@@ -5,4 +5,4 @@ mod GroundLemmas
 mod ImportLemmas
 mod ModuleLemmas
 mod SmallModuleLemmas
-mod SourceLemmas
+pub mod SourceLemmas
