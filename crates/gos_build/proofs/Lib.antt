@@ -2,5 +2,5 @@ mod ApartLemmas
 mod GroundLemmas
 mod ObjectLemmas
 mod PlansLemmas
-mod BuildLemmas
 mod PacedLemmas
+mod BuildLemmas

@@ -1,13 +1,16 @@
-// What the circuits of modules do: a theorem, as the contract of a function that does nothing.
+// What the circuits of ground modules do. Each theorem is the contract of a function that does nothing.
 
-ghost use Rattle.gos_build.specs.Paced.{GroundCircuitsKeepPace};
+ghost use Rattle.gos_build.specs.Paced.{BuildKeepsPace, ModuleKeepsPace};
 
 use gos_circuits::paced_circuits;
+use gos_linked::linked_modules;
 
-/// The circuit of a plan of a ground module, whose result is a command or an expression, keeps pace with the module's
-/// program.
-pub fn ground_circuits()
-    ensures { GroundCircuitsKeepPace }
+/// The circuit of a ground module keeps pace with the module's program, and that of a build's linked plan with the
+/// program of its linked modules.
+pub fn paced_modules()
+    ensures one { ModuleKeepsPace }
+    ensures linked { BuildKeepsPace }
 {
     paced_circuits();
+    linked_modules();
 }
