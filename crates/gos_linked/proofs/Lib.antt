@@ -1,0 +1,5 @@
+mod CountLemmas
+mod ChainLemmas
+mod SoundLemmas
+mod NamedLemmas
+mod GrowLemmas

@@ -1,0 +1,71 @@
+-- That the linked plan of a build realises the substituted program.
+--
+-- Read first: Linked of gos_link; Linking of gos_model; Modules of gos_realises. The instances are programs by their numbers, and
+-- a service binds the import of its number, which is told by its name there.
+use Rattle.std.specs.Prelude.{◌≡◌, ℕ, List, [], ◌∷◌, length, Option, Some, None, slice_get}
+use Rattle.gos_model.specs.Terms.{Name, Term}
+use Rattle.gos_model.specs.Typing.{Imported, Typed}
+use Rattle.gos_model.specs.Moves.{Program}
+use Rattle.gos_model.specs.Linking.{Instances, Bind, substituted}
+use Rattle.gos_plan.specs.Plans.{Plan, IsRight}
+use Rattle.gos_plan.specs.Seen.{SeenPlan}
+use Rattle.gos_realises.specs.Realises.{AllGround, NamesDiffer}
+use Rattle.gos_realises.specs.Modules.{RealisesOpen}
+use Rattle.gos_link.specs.declared.build.Build.{Build}
+use Rattle.gos_link.specs.declared.services.Service.{Service}
+use Rattle.gos_link.specs.Linked.{imports_of, plans_of, IsLinked}
+
+-- the programs of the instances: the imports of their plans, and their terms
+abbrev pub programs_of : List Plan → List Term → Instances
+programs_of [] ms = []
+programs_of (p ∷ ps) [] = []
+programs_of (p ∷ ps) (m ∷ ms) = record { imports = p.imports; body = m } ∷ programs_of ps ms
+
+-- what a service binds
+abbrev pub name_if : Option Imported → Name
+name_if None = []
+name_if (Some x) = x.name
+
+abbrev pub bind_of : List Plan → Service → Bind
+bind_of ps s =
+    record { user = s.user; import = name_if (slice_get (imports_of (slice_get ps s.user)) s.import); giver = s.giver }
+
+abbrev pub binds_of : List Plan → List Service → List Bind
+binds_of ps [] = []
+binds_of ps (s ∷ ss) = bind_of ps s ∷ binds_of ps ss
+
+-- the substituted program of instances with these plans and terms
+abbrev pub substituted_along : List Plan → List Service → ℕ → List Term → Program
+substituted_along ps ss root ms = substituted (programs_of ps ms) (binds_of ps ss) root
+
+abbrev pub program_of : (b : Build) (ps : List SeenPlan) (p : Plan) → IsLinked b ps p → List Term → Program
+program_of b ps p l ms = substituted_along (plans_of ps) l.services l.root ms
+
+-- the plan realises the term, whatever is put in for its imports
+pub record IsRealised (p : Plan) (m : Term) : Type 0 where
+  pub right : IsRight p
+  pub names : NamesDiffer p.imports
+  pub typed : Typed p.imports [] m p.outcome
+  pub open_imports : RealisesOpen p m
+
+abbrev pub AreRealised : List Plan → List Term → Type 0
+AreRealised [] [] = Unit {0}
+AreRealised [] (m ∷ ms) = ⊥
+AreRealised (p ∷ ps) [] = ⊥
+AreRealised (p ∷ ps) (m ∷ ms) = IsRealised p m × AreRealised ps ms
+
+-- So does the linked plan the substituted program. There is a plan for each instance.
+abbrev pub LinkedIsRealised : Type 0
+LinkedIsRealised =
+    (b : Build) (ps : List SeenPlan) (p : Plan) (ms : List Term) (l : IsLinked b ps p)
+    → length ps ≡ length b.instances.items → AreRealised (plans_of ps) ms → IsRealised p (program_of b ps p l ms).body
+
+-- Its imports are those of the substituted program.
+abbrev pub LinkedHasImports : Type 0
+LinkedHasImports =
+    (b : Build) (ps : List SeenPlan) (p : Plan) (ms : List Term) (l : IsLinked b ps p)
+    → length ps ≡ length b.instances.items → AreRealised (plans_of ps) ms → p.imports ≡ (program_of b ps p l ms).imports
+
+-- They are ground.
+abbrev pub LinkedIsGround : Type 0
+LinkedIsGround = (b : Build) (ps : List SeenPlan) (p : Plan) → IsLinked b ps p → AllGround p.imports
