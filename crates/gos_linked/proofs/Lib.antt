@@ -3,3 +3,5 @@ mod ChainLemmas
 mod SoundLemmas
 mod NamedLemmas
 mod GrowLemmas
+mod WholeLemmas
+mod RewiredLemmas
