@@ -5,3 +5,4 @@ mod NamedLemmas
 mod GrowLemmas
 mod WholeLemmas
 mod RewiredLemmas
+mod BodyLemmas
