@@ -6,3 +6,5 @@ mod GrowLemmas
 mod WholeLemmas
 mod RewiredLemmas
 mod BodyLemmas
+mod OpenLemmas
+mod LinkedLemmas

@@ -105,7 +105,7 @@ module _ (ps : List Plan) (M : ℕ → Term) (ss : List Service) (root : ℕ) (r
   abbrev n : ℕ
   n = length ps
 
-  abbrev T : Grown
+  abbrev pub T : Grown
   T = grow P M ss n root
 
   abbrev ns : List ℕ
@@ -140,10 +140,10 @@ module _ (ps : List Plan) (M : ℕ → Term) (ss : List Service) (root : ℕ) (r
       let (i, few, up) = reached ps ss root rooted s.user (user_low ps ss root rooted s has) in
       all_services ps M ss root rooted realised n root i s has up few
 
-  abbrev to : ℕ → ℕ
+  abbrev pub to : ℕ → ℕ
   to = forth ns n
 
-  abbrev from : ℕ → ℕ
+  abbrev pub from : ℕ → ℕ
   from = back ns n
 
   abbrev moves : Place → Place
@@ -228,7 +228,7 @@ module _ (ps : List Plan) (M : ℕ → Term) (ss : List Service) (root : ℕ) (r
       )
 
   pub tree_rewired : IsRewired to from (λ k. unchanged) W V
-  tree_rewired =
+  pub tree_rewired =
       record {
         returns = from_to;
         comes = to_from;

@@ -98,10 +98,10 @@ pub import_here : (is xs ys : List Imported) (x : Imported) (k : ℕ) → ys ≡
 import_here is xs ys x k imports size =
     let end : k ≡ length is + 0 = omega (arith, size) in (λ l. slice_get (imports l) (end l)) ∙ behind is (x ∷ xs) 0
 
-next_size : (is : List Imported) (x : Imported) (k : ℕ) → length is ≡ k → length (is ++ x ∷ []) ≡ suc k
+pub next_size : (is : List Imported) (x : Imported) (k : ℕ) → length is ≡ k → length (is ++ x ∷ []) ≡ suc k
 next_size is x k size = let sum = length-append is (x ∷ []) in omega (arith, sum, size)
 
-next_imports : (is xs ys : List Imported) (x : Imported) → ys ≡ is ++ (x ∷ xs) → ys ≡ (is ++ x ∷ []) ++ xs
+pub next_imports : (is xs ys : List Imported) (x : Imported) → ys ≡ is ++ (x ∷ xs) → ys ≡ (is ++ x ∷ []) ++ xs
 next_imports is xs ys x imports = imports ∙ sym (append_assoc is (x ∷ []) xs)
 
 module _ (ps : List Plan) (M : ℕ → Term) (ss : List Service) (root : ℕ) (rooted : IsRooted ps ss root)

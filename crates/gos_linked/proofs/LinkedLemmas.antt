@@ -1,0 +1,75 @@
+-- The linked plan of a build realises the substituted program.
+use Rattle.std.specs.Prelude.{◌≡◌, ◌<◌, ◌+◌, ℕ, zero, suc, List, [], ◌∷◌, length}
+use Rattle.std.proofs.Common.{refl, sym, ◌∙◌, ap, subst, arith}
+use Rattle.gos_model.specs.Terms.{Term}
+use Rattle.gos_model.specs.Typing.{Typed}
+use Rattle.gos_model.specs.Linking.{Instances, body_at, linked}
+use Rattle.gos_plan.specs.Plans.{Plan}
+use Rattle.gos_plan.specs.Seen.{SeenPlan}
+use Rattle.gos_realises.specs.Modules.{RealisesOpen}
+use Rattle.gos_link.specs.declared.build.Build.{Build}
+use Rattle.gos_link.specs.declared.services.Service.{Service}
+use Rattle.gos_link.specs.Linked.{plans_of, wiring_of, whole_of, IsLinked}
+use Rattle.gos_renumbered.specs.SmallRewirings.{unchanged}
+use Rattle.gos_served.specs.Trees.{wired, body_of, RewiredTreeIsOpen}
+use Rattle.gos_linked.specs.Linked.{programs_of, binds_of, program_of, IsRealised, AreRealised, LinkedIsRealised, LinkedHasImports}
+use Rattle.gos_linked.proofs.ChainLemmas.{IsRooted}
+use Rattle.gos_linked.proofs.SoundLemmas.{linked_rooted}
+use Rattle.gos_linked.proofs.GrowLemmas.{plan_at}
+use Rattle.gos_linked.proofs.WholeLemmas.{grow_grown}
+use Rattle.gos_linked.proofs.RewiredLemmas.{T, to, from, tree_rewired}
+use Rattle.gos_linked.proofs.BodyLemmas.{body_same}
+use Rattle.gos_linked.proofs.OpenLemmas.{linked_differ, open_same}
+
+programs_size : (ps : List Plan) (ms : List Term) → AreRealised ps ms → length (programs_of ps ms) ≡ length ps
+programs_size [] [] all = refl
+programs_size [] (m ∷ ms) all = absurd all
+programs_size (p ∷ ps) [] all = absurd all
+programs_size (p ∷ ps) (m ∷ ms) (one, all) = ap suc (programs_size ps ms all)
+
+each_realised : (ps : List Plan) (ms : List Term) → AreRealised ps ms → (k : ℕ) → k < length ps → IsRealised (plan_at ps k) (body_at (programs_of ps ms) k)
+each_realised [] ms all k low = absurd (omega (arith, low))
+each_realised (p ∷ ps) [] all k low = absurd all
+each_realised (p ∷ ps) (m ∷ ms) (one, all) zero low = one
+each_realised (p ∷ ps) (m ∷ ms) (one, all) (suc k) low = each_realised ps ms all k (omega (arith, low))
+
+module _ (rewired_is_open : RewiredTreeIsOpen) (b : Build) (ps : List SeenPlan) (p : Plan) (ms : List Term) (l : IsLinked b ps p)
+    (each : length ps ≡ length b.instances.items) (all : AreRealised (plans_of ps) ms)
+  where
+  abbrev Plans : List Plan
+  Plans = plans_of ps
+
+  abbrev Programs : Instances
+  Programs = programs_of Plans ms
+
+  rooted : IsRooted Plans l.services l.root
+  rooted = linked_rooted b ps p l each
+
+  realised : (k : ℕ) → k < length Plans → IsRealised (plan_at Plans k) (body_at Programs k)
+  realised = each_realised Plans ms all
+
+  body : body_of (T Plans (body_at Programs) l.services l.root rooted realised).tree ≡ (program_of b ps p l ms).body
+  body =
+      let none : 0 + length Plans ≡ length Plans = omega arith in
+      body_same Plans Programs l.services l.root rooted realised (length Plans) l.root 0 rooted.low refl none
+      ∙ ap (λ (n : ℕ). linked Programs (binds_of Plans l.services) n l.root) (sym (programs_size Plans ms all))
+
+  opens : RealisesOpen p (program_of b ps p l ms).body
+  opens =
+      let grown = grow_grown Plans (body_at Programs) l.services l.root rooted realised (length Plans) l.root rooted.low in
+      subst (RealisesOpen p) body
+      (rewired_is_open (T Plans (body_at Programs) l.services l.root rooted realised).tree (whole_of ps l.services l.root)
+      (to Plans (body_at Programs) l.services l.root rooted realised) (from Plans (body_at Programs) l.services l.root rooted realised) (λ k. unchanged) p
+      grown.tree grown.types (tree_rewired Plans (body_at Programs) l.services l.root rooted realised) l.joining (linked_differ b ps p l))
+
+pub linked_has_imports : LinkedHasImports
+linked_has_imports b ps p ms l each all = l.joining.imports ∙ open_same (plans_of ps) l.services (linked_rooted b ps p l each).sound ms all
+
+pub linked_is_realised : RewiredTreeIsOpen → LinkedIsRealised
+linked_is_realised rewired_is_open b ps p ms l each all =
+    record {
+      right = l.joining.right;
+      names = linked_differ b ps p l;
+      typed = ?;
+      open_imports = opens rewired_is_open b ps p ms l each all;
+    }
