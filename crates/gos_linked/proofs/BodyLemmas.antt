@@ -50,11 +50,11 @@ names_length [] = refl
 names_length (i ∷ is) = ap suc (names_length is)
 
 -- what stands for imports, from number k on
-abbrev given_one : (ℕ → Term) → Imported → Option Service → Term
+abbrev pub given_one : (ℕ → Term) → Imported → Option Service → Term
 given_one b x None = Import x.name
 given_one b x (Some s) = b s.giver
 
-abbrev given : (ℕ → Option Service) → (ℕ → Term) → ℕ → List Imported → List Term
+abbrev pub given : (ℕ → Option Service) → (ℕ → Term) → ℕ → List Imported → List Term
 given gs b k [] = []
 given gs b k (x ∷ xs) = given_one b x (gs k) ∷ given gs b (suc k) xs
 
@@ -102,7 +102,7 @@ at_names (z ∷ is) differ (suc i) zero x y at_x at_y e =
     let here : z ≡ y = cc at_y in absurd (differ.0 x (of_at is i x at_x) (ap (λ (r : Imported). r.name) here ∙ sym e))
 at_names (z ∷ is) differ (suc i) (suc j) x y at_x at_y e = ap suc (at_names is differ.1 i j x y at_x at_y e)
 
-own_name : (x : Name) → bytes_eq x x ≡ true
+pub own_name : (x : Name) → bytes_eq x x ≡ true
 own_name x = grind (arith, bytes_eq-Decides)
 
 other_name : (x y : Name) → x ≢ y → bytes_eq x y ≡ false
@@ -207,7 +207,7 @@ module _ (ps : List Plan) (programs : Instances) (ss : List Service) (root : ℕ
         by_test true test h rest = one_same k x y (import_here is xs (P u).imports x k imports size) (name_is x.name y test) (service_at ss u k) refl
         by_test false test h rest = rest h
 
-    all_same : supplied (term_among (P u).imports (given (service_at ss u) b 0 (P u).imports)) (M u) ≡ put (suc n) u
+    pub all_same : supplied (term_among (P u).imports (given (service_at ss u) b 0 (P u).imports)) (M u) ≡ put (suc n) u
     all_same =
         let f : Name → Option Term = term_among (P u).imports (given (service_at ss u) b 0 (P u).imports) in
         let g : Name → Option Term = λ y. with_giver (put n) (giver_of (binds_of ps ss) u y) in

@@ -6,5 +6,6 @@ mod GrowLemmas
 mod WholeLemmas
 mod RewiredLemmas
 mod BodyLemmas
+mod TypedLemmas
 mod OpenLemmas
 mod LinkedLemmas

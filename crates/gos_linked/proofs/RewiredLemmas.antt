@@ -228,7 +228,7 @@ module _ (ps : List Plan) (M : ℕ → Term) (ss : List Service) (root : ℕ) (r
       )
 
   pub tree_rewired : IsRewired to from (λ k. unchanged) W V
-  pub tree_rewired =
+  tree_rewired =
       record {
         returns = from_to;
         comes = to_from;
