@@ -1,11 +1,11 @@
 -- The services of right bind lines: from each instance so many services lead up to the root.
-use Rattle.std.specs.Prelude.{◌≡◌, ◌≢◌, ◌⊎◌, ◌<◌, ◌≤◌, ◌+◌, ◌-◌, ◌&&◌, ℕ, zero, suc, Bool, true, false, List, [], ◌∷◌, ◌++◌, length, Option, Some, None, slice_get, nat_eq, if◌then◌else◌}
-use Rattle.std.proofs.Common.{refl, sym, ◌∙◌, ap, subst, arith, inl, inr}
+use Rattle.std.specs.Prelude.{◌≡◌, ◌≢◌, ◌<◌, ◌≤◌, ◌+◌, ◌-◌, ℕ, zero, suc, Bool, true, false, List, [], ◌∷◌, length, Some, slice_get, nat_eq}
+use Rattle.std.proofs.Common.{refl, sym, ◌∙◌, subst, arith, inl, inr}
 use Rattle.gos_model.specs.Typing.{Imported}
 use Rattle.gos_plan.specs.Plans.{Plan}
 use Rattle.gos_link.specs.declared.services.Service.{Service}
-use Rattle.gos_link.specs.Services.{HasService, Gives, once, on, HasRing, first_bound, first_used}
-use Rattle.gos_linked.proofs.CountLemmas.{In, Distinct, short, same, other, is_same, is_other}
+use Rattle.gos_link.specs.Services.{HasService, Gives, once, on, HasRing}
+use Rattle.gos_linked.proofs.CountLemmas.{In, Distinct, short, is_same, is_other}
 
 -- Each service is between plans that there are, and fits; no import is served twice, no instance serves twice, and there is no ring.
 pub record IsSound (ps : List Plan) (ss : List Service) : Type 0 where

@@ -39,9 +39,10 @@ in_either (x ∷ xs) ys k (inr h) = elim (in_either xs ys k h) [ inl a ↦ inl (
 
 pub distinct_both : (xs ys : List ℕ) → Distinct xs → Distinct ys → ((k : ℕ) → In xs k → In ys k → ⊥) → Distinct (xs ++ ys)
 distinct_both [] ys first second apart = second
-distinct_both (x ∷ xs) ys (fresh, first) second apart =
-    (λ h. elim (in_either xs ys x h) [ inl a ↦ fresh a | inr b ↦ apart x (inl refl) b ],
-    distinct_both xs ys first second (λ k a b. apart k (inr a) b))
+distinct_both (x ∷ xs) ys (fresh, first) second apart = (
+  λ h. elim (in_either xs ys x h) [ inl a ↦ fresh a | inr b ↦ apart x (inl refl) b ],
+  distinct_both xs ys first second (λ k a b. apart k (inr a) b),
+)
 
 -- without the first place of a number
 abbrev without : ℕ → List ℕ → List ℕ

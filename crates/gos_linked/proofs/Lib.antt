@@ -9,3 +9,5 @@ mod BodyLemmas
 mod TypedLemmas
 mod OpenLemmas
 mod LinkedLemmas
+mod ModuleLemmas
+mod SmallLemmas

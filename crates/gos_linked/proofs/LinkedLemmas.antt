@@ -10,15 +10,14 @@ use Rattle.gos_plan.specs.Seen.{SeenPlan}
 use Rattle.gos_realises.specs.Realises.{NamesDiffer}
 use Rattle.gos_realises.specs.Modules.{RealisesOpen}
 use Rattle.gos_link.specs.declared.build.Build.{Build}
-use Rattle.gos_link.specs.declared.services.Service.{Service}
-use Rattle.gos_link.specs.Linked.{outcome_of, plans_of, wiring_of, whole_of, IsLinked}
+use Rattle.gos_link.specs.Linked.{outcome_of, plans_of, whole_of, IsLinked}
 use Rattle.gos_renumbered.specs.SmallRewirings.{unchanged}
 use Rattle.gos_renumbered.proofs.ImportLemmas.{imports_back, typed_same, names_same, reordered_same}
 use Rattle.gos_renumbered.proofs.OrderLemmas.{reordered}
 use Rattle.gos_renumbered.proofs.RewireLemmas.{rewired_is_renumbered}
 use Rattle.gos_served.proofs.TreeLemmas.{tree_is_joined, tree_imports}
 use Rattle.gos_served.specs.Trees.{Tree, wired, body_of, RewiredTreeIsOpen}
-use Rattle.gos_linked.specs.Linked.{programs_of, binds_of, program_of, IsRealised, AreRealised, LinkedIsRealised, LinkedHasImports}
+use Rattle.gos_linked.specs.Linked.{programs_of, binds_of, linked_program, IsRealised, AreRealised, LinkedIsRealised, LinkedHasImports}
 use Rattle.gos_linked.proofs.ChainLemmas.{IsRooted}
 use Rattle.gos_linked.proofs.SoundLemmas.{linked_rooted}
 use Rattle.gos_linked.proofs.GrowLemmas.{plan_at}
@@ -43,59 +42,59 @@ each_realised (p ∷ ps) (m ∷ ms) (one, all) (suc k) low = each_realised ps ms
 module _ (rewired_is_open : RewiredTreeIsOpen) (b : Build) (ps : List SeenPlan) (p : Plan) (ms : List Term) (l : IsLinked b ps p)
     (each : length ps ≡ length b.instances.items) (all : AreRealised (plans_of ps) ms)
   where
-  abbrev Plans : List Plan
-  Plans = plans_of ps
+    abbrev Plans : List Plan
+    Plans = plans_of ps
 
-  abbrev Programs : Instances
-  Programs = programs_of Plans ms
+    abbrev Programs : Instances
+    Programs = programs_of Plans ms
 
-  rooted : IsRooted Plans l.services l.root
-  rooted = linked_rooted b ps p l each
+    rooted : IsRooted Plans l.services l.root
+    rooted = linked_rooted b ps p l each
 
-  realised : (k : ℕ) → k < length Plans → IsRealised (plan_at Plans k) (body_at Programs k)
-  realised = each_realised Plans ms all
+    realised : (k : ℕ) → k < length Plans → IsRealised (plan_at Plans k) (body_at Programs k)
+    realised = each_realised Plans ms all
 
-  body : body_of (T Plans (body_at Programs) l.services l.root rooted realised).tree ≡ (program_of b ps p l ms).body
-  body =
-      let none : 0 + length Plans ≡ length Plans = omega arith in
-      body_same Plans Programs l.services l.root rooted realised (length Plans) l.root 0 rooted.low refl none
-      ∙ ap (λ (n : ℕ). linked Programs (binds_of Plans l.services) n l.root) (sym (programs_size Plans ms all))
+    body : body_of (T Plans (body_at Programs) l.services l.root rooted realised).tree ≡ (linked_program b ps p l ms).body
+    body =
+        let none : 0 + length Plans ≡ length Plans = omega arith in
+        body_same Plans Programs l.services l.root rooted realised (length Plans) l.root 0 rooted.low refl none
+        ∙ ap (λ (n : ℕ). linked Programs (binds_of Plans l.services) n l.root) (sym (programs_size Plans ms all))
 
-  opens : RealisesOpen p (program_of b ps p l ms).body
-  opens =
-      let grown = grow_grown Plans (body_at Programs) l.services l.root rooted realised (length Plans) l.root rooted.low in
-      subst (RealisesOpen p) body
-      (rewired_is_open (T Plans (body_at Programs) l.services l.root rooted realised).tree (whole_of ps l.services l.root)
-      (to Plans (body_at Programs) l.services l.root rooted realised) (from Plans (body_at Programs) l.services l.root rooted realised) (λ k. unchanged) p
-      grown.tree grown.types (tree_rewired Plans (body_at Programs) l.services l.root rooted realised) l.joining (linked_differ b ps p l))
+    opens : RealisesOpen p (linked_program b ps p l ms).body
+    opens =
+        let grown = grow_grown Plans (body_at Programs) l.services l.root rooted realised (length Plans) l.root rooted.low in
+        subst (RealisesOpen p) body
+        (rewired_is_open (T Plans (body_at Programs) l.services l.root rooted realised).tree (whole_of ps l.services l.root)
+        (to Plans (body_at Programs) l.services l.root rooted realised) (from Plans (body_at Programs) l.services l.root rooted realised) (λ k. unchanged) p
+        grown.tree grown.types (tree_rewired Plans (body_at Programs) l.services l.root rooted realised) l.joining (linked_differ b ps p l))
 
-  -- the imports that stay of the tree are those of the plan, in another order
-  typed : Typed p.imports [] (program_of b ps p l ms).body p.outcome
-  typed =
-      let grown = grow_grown Plans (body_at Programs) l.services l.root rooted realised (length Plans) l.root rooted.low in
-      let tree : Tree = (T Plans (body_at Programs) l.services l.root rooted realised).tree in
-      let (q, of_q) = tree_is_joined tree grown.tree in
-      let (g, same) =
-      rewired_is_renumbered (to Plans (body_at Programs) l.services l.root rooted realised) (from Plans (body_at Programs) l.services l.root rooted realised)
-      (λ k. unchanged) (whole_of ps l.services l.root) (wired tree) p q (tree_rewired Plans (body_at Programs) l.services l.root rooted realised) l.joining
-      of_q.joining
-      in
-      let order = reordered g p q same in
-      let names : NamesDiffer p.imports = linked_differ b ps p l in
-      let left : q.imports ≡ (T Plans (body_at Programs) l.services l.root rooted realised).behind = tree_imports tree q grown.tree of_q.joining ∙ grown.left in
-      let differ = subst NamesDiffer left (names_same g.import g.import_back p.imports q.imports order names) in
-      let none : 0 + length Plans ≡ length Plans = omega arith in
-      let of_tree = body_typed Plans Programs l.services l.root rooted realised (length Plans) l.root 0 rooted.low refl none differ in
-      let body : Term = linked Programs (binds_of Plans l.services) (length Plans) l.root in
-      let of_q_imports : Typed q.imports [] body (plan_at Plans l.root).outcome =
-      subst (λ (is : List Imported). Typed is [] body (plan_at Plans l.root).outcome) (sym left) of_tree
-      in
-      let of_p = typed_same q.imports p.imports (imports_back p.imports q.imports (reordered_same g.import g.import_back p.imports q.imports order names)) [] body
-      (plan_at Plans l.root).outcome of_q_imports
-      in
-      let outcome : (plan_at Plans l.root).outcome ≡ p.outcome = ap outcome_of (sym (plan_there Plans l.root rooted.low)) ∙ sym l.joining.outcome in
-      let size = ap (λ (n : ℕ). linked Programs (binds_of Plans l.services) n l.root) (sym (programs_size Plans ms all)) in
-      subst (λ (m : Term). Typed p.imports [] m p.outcome) size (subst (λ (t : Type'). Typed p.imports [] body t) outcome of_p)
+    -- the imports that stay of the tree are those of the plan, in another order
+    typed : Typed p.imports [] (linked_program b ps p l ms).body p.outcome
+    typed =
+        let grown = grow_grown Plans (body_at Programs) l.services l.root rooted realised (length Plans) l.root rooted.low in
+        let tree : Tree = (T Plans (body_at Programs) l.services l.root rooted realised).tree in
+        let (q, of_q) = tree_is_joined tree grown.tree in
+        let (g, same) =
+        rewired_is_renumbered (to Plans (body_at Programs) l.services l.root rooted realised) (from Plans (body_at Programs) l.services l.root rooted realised)
+        (λ k. unchanged) (whole_of ps l.services l.root) (wired tree) p q (tree_rewired Plans (body_at Programs) l.services l.root rooted realised) l.joining
+        of_q.joining
+        in
+        let order = reordered g p q same in
+        let names : NamesDiffer p.imports = linked_differ b ps p l in
+        let left : q.imports ≡ (T Plans (body_at Programs) l.services l.root rooted realised).behind = tree_imports tree q grown.tree of_q.joining ∙ grown.left in
+        let differ = subst NamesDiffer left (names_same g.import g.import_back p.imports q.imports order names) in
+        let none : 0 + length Plans ≡ length Plans = omega arith in
+        let of_tree = body_typed Plans Programs l.services l.root rooted realised (length Plans) l.root 0 rooted.low refl none differ in
+        let body : Term = linked Programs (binds_of Plans l.services) (length Plans) l.root in
+        let of_q_imports : Typed q.imports [] body (plan_at Plans l.root).outcome =
+        subst (λ (is : List Imported). Typed is [] body (plan_at Plans l.root).outcome) (sym left) of_tree
+        in
+        let of_p = typed_same q.imports p.imports (imports_back p.imports q.imports (reordered_same g.import g.import_back p.imports q.imports order names)) [] body
+        (plan_at Plans l.root).outcome of_q_imports
+        in
+        let outcome : (plan_at Plans l.root).outcome ≡ p.outcome = ap outcome_of (sym (plan_there Plans l.root rooted.low)) ∙ sym l.joining.outcome in
+        let size = ap (λ (n : ℕ). linked Programs (binds_of Plans l.services) n l.root) (sym (programs_size Plans ms all)) in
+        subst (λ (m : Term). Typed p.imports [] m p.outcome) size (subst (λ (t : Type'). Typed p.imports [] body t) outcome of_p)
 
 pub linked_has_imports : LinkedHasImports
 linked_has_imports b ps p ms l each all = l.joining.imports ∙ open_same (plans_of ps) l.services (linked_rooted b ps p l each).sound ms all

@@ -1,5 +1,5 @@
 -- The links of a tree's wiring, with each plan named by the number of its instance.
-use Rattle.std.specs.Prelude.{◌≡◌, ◌<◌, ◌≤◌, ◌+◌, ◌&&◌, ◌||◌, ℕ, zero, suc, Bool, true, false, List, [], ◌∷◌, ◌++◌, length, map, Option, Some, None, slice_get, nat_eq, if◌then◌else◌}
+use Rattle.std.specs.Prelude.{◌≡◌, ◌<◌, ◌≤◌, ◌+◌, ◌||◌, ℕ, zero, suc, false, List, [], ◌∷◌, ◌++◌, length, map, Option, Some, slice_get, nat_eq}
 use Rattle.std.proofs.Common.{refl, sym, ◌∙◌, ap, subst, arith}
 use Rattle.gos_model.specs.Typing.{Imported}
 use Rattle.gos_plan.specs.Plans.{End, ImportEnd, ResultEnd, Plan}
@@ -10,7 +10,7 @@ use Rattle.gos_link.specs.declared.services.Service.{Service}
 use Rattle.gos_link.specs.Linked.{link_at, links_from}
 use Rattle.gos_unions.specs.Flat.{later, later_link, deeper, deeper_link}
 use Rattle.gos_unions.proofs.LeftLemmas.{front}
-use Rattle.gos_linked.proofs.CountLemmas.{back, back_first, back_second, same, other}
+use Rattle.gos_linked.proofs.CountLemmas.{back, back_first, back_second, other}
 
 abbrev pub named : ℕ → List ℕ → Place → Place
 named n ns a = place (back ns n a.plan) a.end
@@ -112,44 +112,44 @@ module _ (n : ℕ) where
 module _ (v w : Wiring) (k : ℕ) (x : Imported) (at : slice_get (all_left v) k ≡ Some (record { plan = 0; number = k; import = x })) (giver : w.giver ≡ 0)
     (skipped : w.skipped ≡ 0)
   where
-  abbrev both : List Wiring
-  both = v ∷ w ∷ []
+    abbrev both : List Wiring
+    both = v ∷ w ∷ []
 
-  abbrev between : ℕ → Link
-  between h = record { one = place 0 (ImportEnd k h); other = place (length v.plans) (ResultEnd h) }
+    abbrev between : ℕ → Link
+    between h = record { one = place 0 (ImportEnd k h); other = place (length v.plans) (ResultEnd h) }
 
-  pub bound_between : (h : ℕ) → deeper_link both (link 0 (ImportEnd k h) 1 (ResultEnd h)) ≡ between h
-  bound_between h =
-      let one : deeper both (place 0 (ImportEnd k h)) ≡ place 0 (ImportEnd k h) = ap (λ (o : Option LeftImport). later 0 (left_place o h)) at in
-      let sum : length v.plans + 0 + w.giver ≡ length v.plans = omega (arith, giver) in
-      let shake : w.skipped + h ≡ h = omega (arith, skipped) in
-      λ i. record { one = one i; other = place (sum i) (ResultEnd (shake i)) }
+    pub bound_between : (h : ℕ) → deeper_link both (link 0 (ImportEnd k h) 1 (ResultEnd h)) ≡ between h
+    bound_between h =
+        let one : deeper both (place 0 (ImportEnd k h)) ≡ place 0 (ImportEnd k h) = ap (λ (o : Option LeftImport). later 0 (left_place o h)) at in
+        let sum : length v.plans + 0 + w.giver ≡ length v.plans = omega (arith, giver) in
+        let shake : w.skipped + h ≡ h = omega (arith, skipped) in
+        λ i. record { one = one i; other = place (sum i) (ResultEnd (shake i)) }
 
-  pub all_between : (n : ℕ) (ns : List ℕ) (s : Service) → back ns n 0 ≡ s.user → back ns n (length v.plans) ≡ s.giver → k ≡ s.import → (h m : ℕ)
-      → map (named_link n ns) (map (deeper_link both) (import_linked k 1 h m)) ≡ links_from s h m
-  all_between n ns s user serves import h zero = refl
-  all_between n ns s user serves import h (suc m) =
-      let one : named_link n ns (deeper_link both (link 0 (ImportEnd k h) 1 (ResultEnd h))) ≡ link_at s h =
-      ap (named_link n ns) (bound_between h) ∙ (λ i. record { one = place (user i) (ImportEnd (import i) h); other = place (serves i) (ResultEnd h) })
-      in
-      let rest = all_between n ns s user serves import (suc h) m in
-      λ i. one i ∷ rest i
+    pub all_between : (n : ℕ) (ns : List ℕ) (s : Service) → back ns n 0 ≡ s.user → back ns n (length v.plans) ≡ s.giver → k ≡ s.import → (h m : ℕ)
+        → map (named_link n ns) (map (deeper_link both) (import_linked k 1 h m)) ≡ links_from s h m
+    all_between n ns s user serves import h zero = refl
+    all_between n ns s user serves import h (suc m) =
+        let one : named_link n ns (deeper_link both (link 0 (ImportEnd k h) 1 (ResultEnd h))) ≡ link_at s h =
+        ap (named_link n ns) (bound_between h) ∙ (λ i. record { one = place (user i) (ImportEnd (import i) h); other = place (serves i) (ResultEnd h) })
+        in
+        let rest = all_between n ns s user serves import (suc h) m in
+        λ i. one i ∷ rest i
 
-  pub between_within : (n : ℕ) → length v.plans < n → (h m : ℕ) → AllWithin n (map (deeper_link both) (import_linked k 1 h m))
-  between_within n low h zero = tt
-  between_within n low h (suc m) =
-      let is = bound_between h in (
-        subst (λ (l : Link). l.one.plan < n) (sym is) (let some : 0 < n = omega (arith, low) in some),
-        subst (λ (l : Link). l.other.plan < n) (sym is) low,
-        between_within n low (suc h) m,
-      )
+    pub between_within : (n : ℕ) → length v.plans < n → (h m : ℕ) → AllWithin n (map (deeper_link both) (import_linked k 1 h m))
+    between_within n low h zero = tt
+    between_within n low h (suc m) =
+        let is = bound_between h in (
+          subst (λ (l : Link). l.one.plan < n) (sym is) (let some : 0 < n = omega (arith, low) in some),
+          subst (λ (l : Link). l.other.plan < n) (sym is) low,
+          between_within n low (suc h) m,
+        )
 
-  pub between_free : (i : ℕ) → i < k → 0 < length v.plans → (h m : ℕ) → AllFree i (map (deeper_link both) (import_linked k 1 h m))
-  between_free i low some h zero = tt
-  between_free i low some h (suc m) =
-      let is = bound_between h in
-      let apart : nat_eq k i ≡ false = other k i (λ e. omega (arith, low, e)) in (
-        subst (λ (l : Link). is_at_import 0 i l.one ≡ false) (sym is) apart,
-        subst (λ (l : Link). is_at_import 0 i l.other ≡ false) (sym is) (not_first i (length v.plans) (ResultEnd h) some),
-        between_free i low some (suc h) m,
-      )
+    pub between_free : (i : ℕ) → i < k → 0 < length v.plans → (h m : ℕ) → AllFree i (map (deeper_link both) (import_linked k 1 h m))
+    between_free i low some h zero = tt
+    between_free i low some h (suc m) =
+        let is = bound_between h in
+        let apart : nat_eq k i ≡ false = other k i (λ e. omega (arith, low, e)) in (
+          subst (λ (l : Link). is_at_import 0 i l.one ≡ false) (sym is) apart,
+          subst (λ (l : Link). is_at_import 0 i l.other ≡ false) (sym is) (not_first i (length v.plans) (ResultEnd h) some),
+          between_free i low some (suc h) m,
+        )

@@ -1,12 +1,11 @@
 -- The imports of a linked plan: their names differ, they are ground, and they are those of the substituted program.
-use Rattle.std.specs.Prelude.{◌≡◌, ◌≢◌, ◌<◌, ◌≤◌, ◌+◌, ◌&&◌, ◌||◌, ℕ, zero, suc, Bool, true, false, List, [], ◌∷◌, ◌++◌, length, map, Option, Some, None, option_map, slice_get, nat_eq, if◌then◌else◌}
+use Rattle.std.specs.Prelude.{◌≡◌, ◌≢◌, ◌<◌, ◌+◌, ◌&&◌, ◌||◌, ℕ, zero, suc, Bool, true, false, List, [], ◌∷◌, ◌++◌, length, map, Option, Some, None, option_map, slice_get, nat_eq, if◌then◌else◌}
 use Rattle.std.proofs.Common.{refl, sym, ◌∙◌, ap, subst, arith, inl, inr}
 use Rattle.std.proofs.lemmas.List.{map-append}
 use Rattle.std.proofs.lemmas.Option.{slice_get-map, slice_get_within}
-use Rattle.gos_types.specs.Types.{IsGround}
 use Rattle.gos_model.specs.Terms.{Term}
 use Rattle.gos_model.specs.Typing.{Imported}
-use Rattle.gos_model.specs.Linking.{add_open, giver_of, open_of, open_from}
+use Rattle.gos_model.specs.Linking.{add_open, open_of, open_from}
 use Rattle.gos_plan.specs.Plans.{Plan, contacts_of_import}
 use Rattle.gos_plan.specs.Seen.{SeenPlan}
 use Rattle.gos_plan.specs.Joining.{Link, is_at_import, is_joined, LeftImport, left_in, left_among, all_left}
@@ -14,13 +13,12 @@ use Rattle.gos_realises.specs.Regular.{count}
 use Rattle.gos_realises.specs.Realises.{AllGround, NamesDiffer}
 use Rattle.gos_applied.proofs.OpenedLemmas.{some_shake}
 use Rattle.gos_renumbered.proofs.ImportLemmas.{at_of}
-use Rattle.gos_unions.proofs.LeftLemmas.{behind}
 use Rattle.gos_link.specs.declared.build.Build.{Build}
 use Rattle.gos_link.specs.declared.build.Instance.{Instance}
 use Rattle.gos_link.specs.declared.services.Service.{Service}
 use Rattle.gos_link.specs.Services.{HasService}
 use Rattle.gos_link.specs.Linked.{Port, port_of, AreDifferent, AreGround, imports_of, shakes_at, link_at, links_from, links_of, whole_of, IsLinked}
-use Rattle.gos_linked.specs.Linked.{programs_of, binds_of, IsRealised, AreRealised, LinkedIsGround}
+use Rattle.gos_linked.specs.Linked.{programs_of, binds_of, AreRealised, LinkedIsGround}
 use Rattle.gos_linked.proofs.ChainLemmas.{IsSound}
 use Rattle.gos_linked.proofs.GrowLemmas.{plan_at, service_at}
 use Rattle.gos_linked.proofs.WholeLemmas.{import_here, next_size, next_imports}
@@ -39,12 +37,13 @@ differ_in : (ls : List LeftImport)
     → ((i j : ℕ) (x y : LeftImport) → i < j → slice_get ls i ≡ Some x → slice_get ls j ≡ Some y → x.import.name ≢ y.import.name)
     → NamesDiffer (map import_of ls)
 differ_in [] apart = tt
-differ_in (l ∷ ls) apart =
-    (λ z has.
-    let (n, at) = at_of (map import_of ls) z has in
-    let (y, at_y, is) = image import_of ls n z at in
-    λ e. apart 0 (suc n) l y (omega arith) refl at_y (e ∙ ap (λ (r : Imported). r.name) (sym is)),
-    differ_in ls (λ i j x y less at_x at_y. apart (suc i) (suc j) x y (omega (arith, less)) at_x at_y))
+differ_in (l ∷ ls) apart = (
+  λ z has.
+      let (n, at) = at_of (map import_of ls) z has in
+      let (y, at_y, is) = image import_of ls n z at in
+      λ e. apart 0 (suc n) l y (omega arith) refl at_y (e ∙ ap (λ (r : Imported). r.name) (sym is)),
+  differ_in ls (λ i j x y less at_x at_y. apart (suc i) (suc j) x y (omega (arith, less)) at_x at_y),
+)
 
 ports_differ : (is : List Instance) (root : Port) (ls : List LeftImport) → AreDifferent (length (root ∷ map (port_of is) ls)) (root ∷ map (port_of is) ls)
     → NamesDiffer (map import_of ls)

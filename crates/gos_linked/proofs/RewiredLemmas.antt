@@ -1,22 +1,22 @@
 -- The wiring of a build is that of the tree below its root, but for the numbers of the plans.
-use Rattle.std.specs.Prelude.{◌≡◌, ◌⊎◌, ◌↔◌, ◌<◌, ◌≤◌, ◌+◌, ℕ, zero, suc, Bool, true, false, List, [], ◌∷◌, ◌++◌, length, map, Option, Some, None, option_map, slice_get, nat_eq, nat_lt, if◌then◌else◌, Contains}
+use Rattle.std.specs.Prelude.{◌≡◌, ◌⊎◌, ◌<◌, ◌≤◌, ℕ, zero, suc, Bool, true, false, List, [], ◌∷◌, ◌++◌, length, map, Some, option_map, slice_get, nat_lt, if◌then◌else◌, Contains}
 use Rattle.std.proofs.Common.{refl, sym, ◌∙◌, ap, subst, arith, inl, inr}
 use Rattle.std.proofs.lemmas.Bool.Decides.{nat_tests}
 use Rattle.std.proofs.lemmas.Option.{slice_get-map}
 use Rattle.gos_model.specs.Terms.{Term}
-use Rattle.gos_plan.specs.Plans.{End, Plan}
+use Rattle.gos_plan.specs.Plans.{Plan, IsRight}
 use Rattle.gos_plan.specs.Joining.{Place, place, Link, Linked, Wiring}
 use Rattle.gos_link.specs.declared.services.Service.{Service}
 use Rattle.gos_link.specs.Services.{HasService}
 use Rattle.gos_link.specs.Linked.{outcome_of, links_of, links_from, shakes_at, wiring_of}
-use Rattle.gos_webs.specs.Renumbering.{Renumber, IsRenumbered, moved_end}
+use Rattle.gos_webs.specs.Renumbering.{IsRenumbered}
 use Rattle.gos_renumbered.specs.Rewired.{rewired, IsRewired}
 use Rattle.gos_renumbered.specs.SmallRewirings.{unchanged}
 use Rattle.gos_renumbered.proofs.HigherLemmas.{unchanged_end, unchanged_one, is_itself}
 use Rattle.gos_served.specs.Trees.{wired}
 use Rattle.gos_linked.specs.Linked.{IsRealised}
-use Rattle.gos_linked.proofs.CountLemmas.{In, Distinct, back, forth, forth_back, back_forth, at_forth, back_at, same}
-use Rattle.gos_linked.proofs.ChainLemmas.{IsSound, IsRooted, Below, reached, user_low, giver_low}
+use Rattle.gos_linked.proofs.CountLemmas.{In, back, forth, forth_back, back_forth, at_forth, back_at, same}
+use Rattle.gos_linked.proofs.ChainLemmas.{IsRooted, Below, reached, user_low, giver_low}
 use Rattle.gos_linked.proofs.NamedLemmas.{named, named_link}
 use Rattle.gos_linked.proofs.GrowLemmas.{plan_at, Grown, grow, IsGrown}
 use Rattle.gos_linked.proofs.WholeLemmas.{plan_is, plan_there, IsBelow, IsListed, grow_grown, grow_listed, all_numbers, all_services}
@@ -99,146 +99,146 @@ below_low ps ss root rooted (suc i) v u low (s, has, e, up) = subst (λ (n : ℕ
 module _ (ps : List Plan) (M : ℕ → Term) (ss : List Service) (root : ℕ) (rooted : IsRooted ps ss root)
     (realised : (k : ℕ) → k < length ps → IsRealised (plan_at ps k) (M k))
   where
-  abbrev P : ℕ → Plan
-  P = plan_at ps
+    abbrev P : ℕ → Plan
+    P = plan_at ps
 
-  abbrev n : ℕ
-  n = length ps
+    abbrev n : ℕ
+    n = length ps
 
-  abbrev pub T : Grown
-  T = grow P M ss n root
+    abbrev pub T : Grown
+    T = grow P M ss n root
 
-  abbrev ns : List ℕ
-  ns = T.numbers
+    abbrev ns : List ℕ
+    ns = T.numbers
 
-  abbrev V : Wiring
-  V = wired T.tree
+    abbrev V : Wiring
+    V = wired T.tree
 
-  abbrev W : Wiring
-  W = wiring_of ps ss root
+    abbrev W : Wiring
+    W = wiring_of ps ss root
 
-  grown : IsGrown ps P M n root [] T
-  grown = grow_grown ps M ss root rooted realised n root rooted.low
+    grown : IsGrown ps P M n root [] T
+    grown = grow_grown ps M ss root rooted realised n root rooted.low
 
-  listed : IsListed ps M ss root rooted realised root 0 T
-  listed = grow_listed ps M ss root rooted realised n root
+    listed : IsListed ps M ss root rooted realised root 0 T
+    listed = grow_listed ps M ss root rooted realised n root
 
-  numbers_low : (k : ℕ) → In ns k → k < n
-  numbers_low k has = by_place (listed.below k has)
-    where
-      by_place : IsBelow ps M ss root rooted realised root 0 k → k < n
-      by_place (inl e) = subst (λ (m : ℕ). m < n) (sym e) rooted.low
-      by_place (inr (t, i, has_t, user, high, up)) = below_low ps ss root rooted i k t.giver (giver_low ps ss root rooted t has_t) up
+    numbers_low : (k : ℕ) → In ns k → k < n
+    numbers_low k has = by_place (listed.below k has)
+      where
+        by_place : IsBelow ps M ss root rooted realised root 0 k → k < n
+        by_place (inl e) = subst (λ (m : ℕ). m < n) (sym e) rooted.low
+        by_place (inr (t, i, has_t, user, high, up)) = below_low ps ss root rooted i k t.giver (giver_low ps ss root rooted t has_t) up
 
-  numbers_all : (k : ℕ) → k < n → In ns k
-  numbers_all k low =
-      let (i, few, up) = reached ps ss root rooted k low in
-      all_numbers ps M ss root rooted realised n root i k rooted.low up (omega (arith, few))
+    numbers_all : (k : ℕ) → k < n → In ns k
+    numbers_all k low =
+        let (i, few, up) = reached ps ss root rooted k low in
+        all_numbers ps M ss root rooted realised n root i k rooted.low up (omega (arith, few))
 
-  services_all : (s : Service) → HasService ss s → HasService T.services s
-  services_all s has =
-      let (i, few, up) = reached ps ss root rooted s.user (user_low ps ss root rooted s has) in
-      all_services ps M ss root rooted realised n root i s has up few
+    services_all : (s : Service) → HasService ss s → HasService T.services s
+    services_all s has =
+        let (i, few, up) = reached ps ss root rooted s.user (user_low ps ss root rooted s has) in
+        all_services ps M ss root rooted realised n root i s has up few
 
-  abbrev pub to : ℕ → ℕ
-  to = forth ns n
+    abbrev pub to : ℕ → ℕ
+    to = forth ns n
 
-  abbrev pub from : ℕ → ℕ
-  from = back ns n
+    abbrev pub from : ℕ → ℕ
+    from = back ns n
 
-  abbrev moves : Place → Place
-  moves = rewired to (λ k. unchanged)
+    abbrev moves : Place → Place
+    moves = rewired to (λ k. unchanged)
 
-  from_to : (k : ℕ) → from (to k) ≡ k
-  from_to k = back_forth n ns k (elim (order k n) as (λ _. In ns k ⊎ (n ≤ k)) [ inl low ↦ inl (numbers_all k low) | inr high ↦ inr high ])
+    from_to : (k : ℕ) → from (to k) ≡ k
+    from_to k = back_forth n ns k (elim (order k n) as (λ _. In ns k ⊎ (n ≤ k)) [ inl low ↦ inl (numbers_all k low) | inr high ↦ inr high ])
 
-  to_from : (k : ℕ) → to (from k) ≡ k
-  to_from = forth_back n ns listed.distinct numbers_low
+    to_from : (k : ℕ) → to (from k) ≡ k
+    to_from = forth_back n ns listed.distinct numbers_low
 
-  named_moved : (a : Place) → named n ns (moves a) ≡ a
-  named_moved a =
-      let plan = from_to a.plan in
-      let end = unchanged_end a.end in
-      λ i. place (plan i) (end i)
+    named_moved : (a : Place) → named n ns (moves a) ≡ a
+    named_moved a =
+        let plan = from_to a.plan in
+        let end = unchanged_end a.end in
+        λ i. place (plan i) (end i)
 
-  moved_named : (a : Place) → moves (named n ns a) ≡ a
-  moved_named a =
-      let plan = to_from a.plan in
-      let end = unchanged_end a.end in
-      λ i. place (plan i) (end i)
+    moved_named : (a : Place) → moves (named n ns a) ≡ a
+    moved_named a =
+        let plan = to_from a.plan in
+        let end = unchanged_end a.end in
+        λ i. place (plan i) (end i)
 
-  plan_to : (k : ℕ) (p : Plan) → slice_get ps k ≡ Some p → k < n → slice_get V.plans (to k) ≡ Some p
-  plan_to k p at low =
-      ap (λ (l : List Plan). slice_get l (to k)) grown.plans
-      ∙ (slice_get-map P ns (to k) ∙ (ap (option_map P) (at_forth n ns k (numbers_all k low)) ∙ ap Some (plan_is ps k p at)))
+    plan_to : (k : ℕ) (p : Plan) → slice_get ps k ≡ Some p → k < n → slice_get V.plans (to k) ≡ Some p
+    plan_to k p at low =
+        ap (λ (l : List Plan). slice_get l (to k)) grown.plans
+        ∙ (slice_get-map P ns (to k) ∙ (ap (option_map P) (at_forth n ns k (numbers_all k low)) ∙ ap Some (plan_is ps k p at)))
 
-  low_of : (qs : List Plan) (k : ℕ) (p : Plan) → slice_get qs k ≡ Some p → k < length qs
-  low_of [] k p e = absurd (cc e)
-  low_of (q ∷ qs) zero p e = omega arith
-  low_of (q ∷ qs) (suc k) p e = let h = low_of qs k p e in omega (arith, h)
+    low_of : (qs : List Plan) (k : ℕ) (p : Plan) → slice_get qs k ≡ Some p → k < length qs
+    low_of [] k p e = absurd (cc e)
+    low_of (q ∷ qs) zero p e = omega arith
+    low_of (q ∷ qs) (suc k) p e = let h = low_of qs k p e in omega (arith, h)
 
-  abbrev PlanThere : ℕ → Plan → Type 0
-  PlanThere k p = (q : Plan) × (slice_get V.plans (to k) ≡ Some q) × IsRenumbered unchanged p q
+    abbrev PlanThere : ℕ → Plan → Type 0
+    PlanThere k p = (q : Plan) × (slice_get V.plans (to k) ≡ Some q) × IsRenumbered unchanged p q
 
-  plans : (k : ℕ) (p : Plan) → slice_get W.plans k ≡ Some p → PlanThere k p
-  plans k p at =
-      let low : k < n = low_of ps k p at in
-      let right = (realised k low).right in
-      (p, plan_to k p at low, is_itself p (subst Rattle.gos_plan.specs.Plans.IsRight (plan_is ps k p at) right))
+    plans : (k : ℕ) (p : Plan) → slice_get W.plans k ≡ Some p → PlanThere k p
+    plans k p at =
+        let low : k < n = low_of ps k p at in
+        let right = (realised k low).right in
+        (p, plan_to k p at low, is_itself p (subst IsRight (plan_is ps k p at) right))
 
-  no_more : (j : ℕ) (q : Plan) → slice_get V.plans j ≡ Some q → (p : Plan) × (slice_get W.plans (from j) ≡ Some p)
-  no_more j q at =
-      let (k, found) = there ns P j q (ap (λ (l : List Plan). slice_get l j) (sym grown.plans) ∙ at) in
-      let (is_k, has) = back_at n ns j k found in
-      (P k, ap (slice_get ps) is_k ∙ plan_there ps k (numbers_low k has))
+    no_more : (j : ℕ) (q : Plan) → slice_get V.plans j ≡ Some q → (p : Plan) × (slice_get W.plans (from j) ≡ Some p)
+    no_more j q at =
+        let (k, found) = there ns P j q (ap (λ (l : List Plan). slice_get l j) (sym grown.plans) ∙ at) in
+        let (is_k, has) = back_at n ns j k found in
+        (P k, ap (slice_get ps) is_k ∙ plan_there ps k (numbers_low k has))
 
-  link_there : (l : Link) → HasLink W.links l → (m : Link) × HasLink V.links m × (named_link n ns m ≡ l)
-  link_there l has =
-      mapped_has (named_link n ns) V.links l
-      (subst (λ (ls : List Link). HasLink ls l) (sym grown.links) (links_among ps ss T.services services_all l has))
+    link_there : (l : Link) → HasLink W.links l → (m : Link) × HasLink V.links m × (named_link n ns m ≡ l)
+    link_there l has =
+        mapped_has (named_link n ns) V.links l
+        (subst (λ (ls : List Link). HasLink ls l) (sym grown.links) (links_among ps ss T.services services_all l has))
 
-  link_here : (m : Link) → HasLink V.links m → HasLink W.links (named_link n ns m)
-  link_here m has =
-      links_among ps T.services ss listed.services (named_link n ns m)
-      (subst (λ (ls : List Link). HasLink ls (named_link n ns m)) grown.links (has_mapped (named_link n ns) V.links m has))
+    link_here : (m : Link) → HasLink V.links m → HasLink W.links (named_link n ns m)
+    link_here m has =
+        links_among ps T.services ss listed.services (named_link n ns m)
+        (subst (λ (ls : List Link). HasLink ls (named_link n ns m)) grown.links (has_mapped (named_link n ns) V.links m has))
 
-  links_to : (a b : Place) → Linked W a b → Linked V (moves a) (moves b)
-  links_to a b (l, has, ends) =
-      let (m, has_m, e) = link_there l (has_contained W.links l has) in
-      let one : moves l.one ≡ m.one = ap (λ (r : Link). moves r.one) (sym e) ∙ moved_named m.one in
-      let other : moves l.other ≡ m.other = ap (λ (r : Link). moves r.other) (sym e) ∙ moved_named m.other in (
-        m,
-        contains_has V.links m has_m,
-        elim ends as (λ _. ((moves a ≡ m.one) × (moves b ≡ m.other)) ⊎ ((moves a ≡ m.other) × (moves b ≡ m.one))) [
-          | inl (f, g) ↦ inl (ap moves f ∙ one, ap moves g ∙ other)
-          | inr (f, g) ↦ inr (ap moves f ∙ other, ap moves g ∙ one)
-        ],
-      )
+    links_to : (a b : Place) → Linked W a b → Linked V (moves a) (moves b)
+    links_to a b (l, has, ends) =
+        let (m, has_m, e) = link_there l (has_contained W.links l has) in
+        let one : moves l.one ≡ m.one = ap (λ (r : Link). moves r.one) (sym e) ∙ moved_named m.one in
+        let other : moves l.other ≡ m.other = ap (λ (r : Link). moves r.other) (sym e) ∙ moved_named m.other in (
+          m,
+          contains_has V.links m has_m,
+          elim ends as (λ _. ((moves a ≡ m.one) × (moves b ≡ m.other)) ⊎ ((moves a ≡ m.other) × (moves b ≡ m.one))) [
+            | inl (f, g) ↦ inl (ap moves f ∙ one, ap moves g ∙ other)
+            | inr (f, g) ↦ inr (ap moves f ∙ other, ap moves g ∙ one)
+          ],
+        )
 
-  links_back : (a b : Place) → Linked V (moves a) (moves b) → Linked W a b
-  links_back a b (m, has, ends) =
-      let l : Link = named_link n ns m in
-      let name : (c d : Place) → moves c ≡ d → c ≡ named n ns d = λ c d e. sym (named_moved c) ∙ ap (named n ns) e in (
-        l,
-        contains_has W.links l (link_here m (has_contained V.links m has)),
-        elim ends as (λ _. ((a ≡ l.one) × (b ≡ l.other)) ⊎ ((a ≡ l.other) × (b ≡ l.one))) [
-          | inl (f, g) ↦ inl (name a m.one f, name b m.other g)
-          | inr (f, g) ↦ inr (name a m.other f, name b m.one g)
-        ],
-      )
+    links_back : (a b : Place) → Linked V (moves a) (moves b) → Linked W a b
+    links_back a b (m, has, ends) =
+        let l : Link = named_link n ns m in
+        let name : (c d : Place) → moves c ≡ d → c ≡ named n ns d = λ c d e. sym (named_moved c) ∙ ap (named n ns) e in (
+          l,
+          contains_has W.links l (link_here m (has_contained V.links m has)),
+          elim ends as (λ _. ((a ≡ l.one) × (b ≡ l.other)) ⊎ ((a ≡ l.other) × (b ≡ l.one))) [
+            | inl (f, g) ↦ inl (name a m.one f, name b m.other g)
+            | inr (f, g) ↦ inr (name a m.other f, name b m.one g)
+          ],
+        )
 
-  pub tree_rewired : IsRewired to from (λ k. unchanged) W V
-  tree_rewired =
-      record {
-        returns = from_to;
-        comes = to_from;
-        one_to_one = λ k. unchanged_one;
-        plans = plans;
-        no_more = no_more;
-        links = λ a b. (links_to a b, links_back a b);
-        giver =
-            (let first : to root ≡ 0 = ap (λ (l : List ℕ). forth l n root) grown.first.1 ∙ ap (λ (b : Bool). if b then zero else suc (forth grown.first.0 n root)) (same root root refl) in
-            grown.giver ∙ sym first);
-        skipped = grown.skipped;
-        outcome = grown.result ∙ ap outcome_of (sym (plan_there ps root rooted.low));
-      }
+    pub tree_rewired : IsRewired to from (λ k. unchanged) W V
+    tree_rewired =
+        record {
+          returns = from_to;
+          comes = to_from;
+          one_to_one = λ k. unchanged_one;
+          plans = plans;
+          no_more = no_more;
+          links = λ a b. (links_to a b, links_back a b);
+          giver =
+              (let first : to root ≡ 0 = ap (λ (l : List ℕ). forth l n root) grown.first.1 ∙ ap (λ (b : Bool). if b then zero else suc (forth grown.first.0 n root)) (same root root refl) in
+              grown.giver ∙ sym first);
+          skipped = grown.skipped;
+          outcome = grown.result ∙ ap outcome_of (sym (plan_there ps root rooted.low));
+        }

@@ -1,5 +1,5 @@
 -- What right bind lines mean is sound, and in a linked build each instance but the root serves.
-use Rattle.std.specs.Prelude.{◌≡◌, ◌≢◌, ◌⊎◌, ◌<◌, ◌+◌, ◌&&◌, ◌||◌, ℕ, zero, suc, Bool, true, false, List, [], ◌∷◌, ◌++◌, length, map, Option, Some, None, option_map, slice_get, nat_eq, if◌then◌else◌}
+use Rattle.std.specs.Prelude.{◌≡◌, ◌≢◌, ◌⊎◌, ◌<◌, ◌+◌, ◌&&◌, ◌||◌, ℕ, zero, suc, Bool, true, false, List, [], ◌∷◌, ◌++◌, length, Option, Some, None, option_map, slice_get, nat_eq, if◌then◌else◌}
 use Rattle.std.proofs.Common.{refl, sym, ◌∙◌, ap, subst, arith, inl, inr, append-nil, append_assoc}
 use Rattle.std.proofs.lemmas.List.{length-map}
 use Rattle.std.proofs.lemmas.List.Quantifiers.{position-Some}
@@ -12,9 +12,9 @@ use Rattle.gos_link.specs.declared.build.Build.{Build}
 use Rattle.gos_link.specs.declared.build.Instance.{Instance}
 use Rattle.gos_link.specs.declared.build.Bind.{Bind}
 use Rattle.gos_link.specs.declared.services.Service.{Service}
-use Rattle.gos_link.specs.Services.{HasService, Gives, once, on, HasRing, first_bound, first_used, IsRightBind, BindsOn, instance_named}
+use Rattle.gos_link.specs.Services.{HasService, Gives, once, on, first_bound, first_used, IsRightBind, BindsOn}
 use Rattle.gos_link.specs.Linked.{plans_of, is_used, is_placed, first_unplaced, IsPlaced, IsLinked}
-use Rattle.gos_linked.proofs.CountLemmas.{same, other, is_same, is_other}
+use Rattle.gos_linked.proofs.CountLemmas.{same, other, is_same}
 use Rattle.gos_linked.proofs.ChainLemmas.{IsSound, IsRooted}
 
 -- services, one more at the end

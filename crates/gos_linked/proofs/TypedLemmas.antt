@@ -1,12 +1,12 @@
 -- The substituted program has the root's type under the imports that stay, where their names differ.
-use Rattle.std.specs.Prelude.{◌≡◌, ◌≢◌, ◌<◌, ◌≤◌, ◌+◌, ℕ, zero, suc, Bool, true, false, List, [], ◌∷◌, ◌++◌, length, Option, Some, None, slice_get, Contains, if◌then◌else◌}
+use Rattle.std.specs.Prelude.{◌≡◌, ◌≢◌, ◌<◌, ◌+◌, ℕ, zero, suc, Bool, true, false, List, [], ◌∷◌, ◌++◌, length, Option, Some, None, slice_get, Contains, if◌then◌else◌}
 use Rattle.std.specs.Str.{bytes_eq}
 use Rattle.std.proofs.Common.{refl, sym, ◌∙◌, ap, subst, arith}
 use Rattle.std.proofs.lemmas.List.Elements.{Contains-append_left, Contains-append_right}
 use Rattle.gos_types.specs.Types.{Type'}
 use Rattle.gos_model.specs.Terms.{Name, Term, Import}
-use Rattle.gos_model.specs.Typing.{Imported, Imports, import_type, Thing, Named, things, Apart, Typed}
-use Rattle.gos_model.specs.Linking.{supplied, Instances, body_at, linked}
+use Rattle.gos_model.specs.Typing.{Imported, Imports, import_type, Named, things, Apart, Typed}
+use Rattle.gos_model.specs.Linking.{Instances, body_at, linked}
 use Rattle.gos_plan.specs.Plans.{Plan}
 use Rattle.gos_realises.specs.Realises.{NamesDiffer}
 use Rattle.gos_link.specs.declared.services.Service.{Service}
@@ -133,87 +133,87 @@ among_share (x ∷ xs) (k ∷ ks) (first, share) y z t u m n of_y of_z is_m is_n
 module _ (ps : List Plan) (programs : Instances) (ss : List Service) (root : ℕ) (rooted : IsRooted ps ss root)
     (realised : (k : ℕ) → k < length ps → IsRealised (plan_at ps k) (body_at programs k))
   where
-  abbrev P : ℕ → Plan
-  P = plan_at ps
+    abbrev P : ℕ → Plan
+    P = plan_at ps
 
-  abbrev M : ℕ → Term
-  M = body_at programs
+    abbrev M : ℕ → Term
+    M = body_at programs
 
-  abbrev put : ℕ → ℕ → Term
-  put = linked programs (binds_of ps ss)
+    abbrev put : ℕ → ℕ → Term
+    put = linked programs (binds_of ps ss)
 
-  module _ (n u : ℕ)
-      (children : (s : Service) → HasService ss s → s.user ≡ u → NamesDiffer (grow P M ss n s.giver).behind
-      → Typed (grow P M ss n s.giver).behind [] (put n s.giver) (P s.giver).outcome)
-    where
-    abbrev f : ℕ → Grown
-    f = grow P M ss n
-
-    abbrev Good : Imports → List Imported → List Term → Type 0
-    Good is xs ts = AllTyped is xs ts × ShareNone ts
-
-    one_typed : (k : ℕ) (is xs : List Imported) (x : Imported) (w : Grown) (ts : List Term) → slice_get (P u).imports k ≡ Some x
-        → (NamesDiffer w.behind → Good w.behind xs ts) → (o : Option Service) → service_at ss u k ≡ o → NamesDiffer (with_import o f is x w).behind
-        → Good (with_import o f is x w).behind (x ∷ xs) (given_one (put n) x o ∷ ts)
-    one_typed k is xs x w ts at rest None found (fresh, differ) =
-        let (typed, share) = rest differ in
-        let own : (js : List Imported) → Typed (x ∷ js) [] (Import x.name) x.ty = λ js.
-        ap (λ (b : Bool). if b then Some x.ty else import_type js x.name) (own_name x.name)
-        in
-        let apart : (i j : Imported) → Contains (x ∷ []) i → Contains w.behind j → i.name ≢ j.name = λ i j of_i of_j.
-        subst (λ (y : Imported). y.name ≢ j.name) (only i of_i) (fresh j of_j)
-        in (
-          (own w.behind, all_more w.behind (x ∷ w.behind) (λ i has. Contains-append_right (x ∷ []) w.behind i has) differ (fresh, differ) xs ts typed),
-          (all_apart (x ∷ []) w.behind (Import x.name) x.ty apart (own []) xs ts typed, share),
-        )
+    module _ (n u : ℕ)
+        (children : (s : Service) → HasService ss s → s.user ≡ u → NamesDiffer (grow P M ss n s.giver).behind
+        → Typed (grow P M ss n s.giver).behind [] (put n s.giver) (P s.giver).outcome)
       where
-        only : (i : Imported) → Contains (x ∷ []) i → x ≡ i
-        only i (zero, small, e) = e
-        only i (suc j, small, e) = absurd (omega (arith, small))
-    one_typed k is xs x w ts at rest (Some s) found differ =
-        let r = serves ps ss rooted.sound u k x s at found in
-        let cs : List Imported = (f s.giver).behind in
-        let differ_w = differ_first w.behind cs differ in
-        let differ_c = differ_second w.behind cs differ in
-        let (typed, share) = rest differ_w in
-        let giver : Typed cs [] (put n s.giver) x.ty = subst (λ (t : Type'). Typed cs [] (put n s.giver) t) r.type (children s r.has r.user differ_c) in
-        let apart : (i j : Imported) → Contains cs i → Contains w.behind j → i.name ≢ j.name = λ i j of_i of_j e.
-        differ_between w.behind cs differ j i of_j of_i (sym e)
-        in (
-          (
-            more_imports cs (w.behind ++ cs) (λ i has. Contains-append_right w.behind cs i has) differ_c differ (put n s.giver) x.ty giver,
-            all_more w.behind (w.behind ++ cs) (λ i has. Contains-append_left w.behind cs i has) differ_w differ xs ts typed,
-          ),
-          (all_apart cs w.behind (put n s.giver) x.ty apart giver xs ts typed, share),
-        )
+        abbrev f : ℕ → Grown
+        f = grow P M ss n
 
-    from_typed : (k : ℕ) (is xs : List Imported) → (P u).imports ≡ is ++ xs → length is ≡ k
-        → NamesDiffer (grown_from (service_at ss u) f (alone (P u) (M u) u []) k is xs).behind
-        → Good (grown_from (service_at ss u) f (alone (P u) (M u) u []) k is xs).behind xs (given (service_at ss u) (put n) k xs)
-    from_typed k is [] imports size differ = (tt, tt)
-    from_typed k is (x ∷ xs) imports size differ =
-        one_typed k is xs x (grown_from (service_at ss u) f (alone (P u) (M u) u []) (suc k) (is ++ x ∷ []) xs) (given (service_at ss u) (put n) (suc k) xs)
-        (import_here is xs (P u).imports x k imports size)
-        (from_typed (suc k) (is ++ x ∷ []) xs (next_imports is xs (P u).imports x imports) (next_size is x k size)) (service_at ss u k) refl differ
+        abbrev Good : Imports → List Imported → List Term → Type 0
+        Good is xs ts = AllTyped is xs ts × ShareNone ts
 
-    all_typed : u < length ps → NamesDiffer (grow P M ss (suc n) u).behind → Typed (grow P M ss (suc n) u).behind [] (put (suc n) u) (P u).outcome
-    all_typed low differ =
-        let opens : List Imported = (grow P M ss (suc n) u).behind in
-        let terms : List Term = given (service_at ss u) (put n) 0 (P u).imports in
-        let (typed, share) = from_typed 0 [] (P u).imports refl refl differ in
-        subst (λ (m : Term). Typed opens [] m (P u).outcome) (all_same ps programs ss root rooted realised n u low (put n) (λ s has user. refl))
-        (with_supplies (P u).imports opens (term_among (P u).imports terms) (among_typed opens (P u).imports terms typed)
-        (among_share (P u).imports terms share) (M u) [] (P u).outcome (realised u low).typed)
+        one_typed : (k : ℕ) (is xs : List Imported) (x : Imported) (w : Grown) (ts : List Term) → slice_get (P u).imports k ≡ Some x
+            → (NamesDiffer w.behind → Good w.behind xs ts) → (o : Option Service) → service_at ss u k ≡ o → NamesDiffer (with_import o f is x w).behind
+            → Good (with_import o f is x w).behind (x ∷ xs) (given_one (put n) x o ∷ ts)
+        one_typed k is xs x w ts at rest None found (fresh, differ) =
+            let (typed, share) = rest differ in
+            let own : (js : List Imported) → Typed (x ∷ js) [] (Import x.name) x.ty = λ js.
+            ap (λ (b : Bool). if b then Some x.ty else import_type js x.name) (own_name x.name)
+            in
+            let apart : (i j : Imported) → Contains (x ∷ []) i → Contains w.behind j → i.name ≢ j.name = λ i j of_i of_j.
+            subst (λ (y : Imported). y.name ≢ j.name) (only i of_i) (fresh j of_j)
+            in (
+              (own w.behind, all_more w.behind (x ∷ w.behind) (λ i has. Contains-append_right (x ∷ []) w.behind i has) differ (fresh, differ) xs ts typed),
+              (all_apart (x ∷ []) w.behind (Import x.name) x.ty apart (own []) xs ts typed, share),
+            )
+          where
+            only : (i : Imported) → Contains (x ∷ []) i → x ≡ i
+            only i (zero, small, e) = e
+            only i (suc j, small, e) = absurd (omega (arith, small))
+        one_typed k is xs x w ts at rest (Some s) found differ =
+            let r = serves ps ss rooted.sound u k x s at found in
+            let cs : List Imported = (f s.giver).behind in
+            let differ_w = differ_first w.behind cs differ in
+            let differ_c = differ_second w.behind cs differ in
+            let (typed, share) = rest differ_w in
+            let giver : Typed cs [] (put n s.giver) x.ty = subst (λ (t : Type'). Typed cs [] (put n s.giver) t) r.type (children s r.has r.user differ_c) in
+            let apart : (i j : Imported) → Contains cs i → Contains w.behind j → i.name ≢ j.name = λ i j of_i of_j e.
+            differ_between w.behind cs differ j i of_j of_i (sym e)
+            in (
+              (
+                more_imports cs (w.behind ++ cs) (λ i has. Contains-append_right w.behind cs i has) differ_c differ (put n s.giver) x.ty giver,
+                all_more w.behind (w.behind ++ cs) (λ i has. Contains-append_left w.behind cs i has) differ_w differ xs ts typed,
+              ),
+              (all_apart cs w.behind (put n s.giver) x.ty apart giver xs ts typed, share),
+            )
 
-  pub body_typed : (n u i : ℕ) → u < length ps → Below ss i u root → i + n ≡ length ps → NamesDiffer (grow P M ss n u).behind
-      → Typed (grow P M ss n u).behind [] (put n u) (P u).outcome
-  body_typed zero u i low up sum differ =
-      let (j, few, up_j) = reached ps ss root rooted u low in
-      let level = same_level ps ss rooted.sound i j u root up up_j in
-      absurd (omega (arith, few, level, sum))
-  body_typed (suc n) u i low up sum differ =
-      let more : suc i + n ≡ length ps = omega (arith, sum) in
-      all_typed n u
-      (λ s has user.
-      body_typed n s.giver (suc i) (giver_low ps ss root rooted s has) (s, has, refl, subst (λ (v : ℕ). Below ss i v root) (sym user) up) more)
-      low differ
+        from_typed : (k : ℕ) (is xs : List Imported) → (P u).imports ≡ is ++ xs → length is ≡ k
+            → NamesDiffer (grown_from (service_at ss u) f (alone (P u) (M u) u []) k is xs).behind
+            → Good (grown_from (service_at ss u) f (alone (P u) (M u) u []) k is xs).behind xs (given (service_at ss u) (put n) k xs)
+        from_typed k is [] imports size differ = (tt, tt)
+        from_typed k is (x ∷ xs) imports size differ =
+            one_typed k is xs x (grown_from (service_at ss u) f (alone (P u) (M u) u []) (suc k) (is ++ x ∷ []) xs) (given (service_at ss u) (put n) (suc k) xs)
+            (import_here is xs (P u).imports x k imports size)
+            (from_typed (suc k) (is ++ x ∷ []) xs (next_imports is xs (P u).imports x imports) (next_size is x k size)) (service_at ss u k) refl differ
+
+        all_typed : u < length ps → NamesDiffer (grow P M ss (suc n) u).behind → Typed (grow P M ss (suc n) u).behind [] (put (suc n) u) (P u).outcome
+        all_typed low differ =
+            let opens : List Imported = (grow P M ss (suc n) u).behind in
+            let terms : List Term = given (service_at ss u) (put n) 0 (P u).imports in
+            let (typed, share) = from_typed 0 [] (P u).imports refl refl differ in
+            subst (λ (m : Term). Typed opens [] m (P u).outcome) (all_same ps programs ss root rooted realised n u low (put n) (λ s has user. refl))
+            (with_supplies (P u).imports opens (term_among (P u).imports terms) (among_typed opens (P u).imports terms typed)
+            (among_share (P u).imports terms share) (M u) [] (P u).outcome (realised u low).typed)
+
+    pub body_typed : (n u i : ℕ) → u < length ps → Below ss i u root → i + n ≡ length ps → NamesDiffer (grow P M ss n u).behind
+        → Typed (grow P M ss n u).behind [] (put n u) (P u).outcome
+    body_typed zero u i low up sum differ =
+        let (j, few, up_j) = reached ps ss root rooted u low in
+        let level = same_level ps ss rooted.sound i j u root up up_j in
+        absurd (omega (arith, few, level, sum))
+    body_typed (suc n) u i low up sum differ =
+        let more : suc i + n ≡ length ps = omega (arith, sum) in
+        all_typed n u
+        (λ s has user.
+        body_typed n s.giver (suc i) (giver_low ps ss root rooted s has) (s, has, refl, subst (λ (v : ℕ). Below ss i v root) (sym user) up) more)
+        low differ

@@ -1,6 +1,6 @@
 -- The tree below the root has each instance once, and each service.
-use Rattle.std.specs.Prelude.{◌≡◌, ◌≢◌, ◌⊎◌, ◌<◌, ◌≤◌, ◌+◌, ◌-◌, ◌&&◌, ℕ, zero, suc, Bool, true, false, List, [], ◌∷◌, ◌++◌, length, map, Option, Some, None, slice_get, nat_eq, if◌then◌else◌}
-use Rattle.std.proofs.Common.{refl, sym, ◌∙◌, ap, subst, arith, inl, inr, append-nil, append_assoc}
+use Rattle.std.specs.Prelude.{◌≡◌, ◌⊎◌, ◌<◌, ◌≤◌, ◌+◌, ◌&&◌, ℕ, zero, suc, Bool, true, false, List, [], ◌∷◌, ◌++◌, length, Option, Some, None, slice_get, nat_eq, if◌then◌else◌}
+use Rattle.std.proofs.Common.{refl, sym, ◌∙◌, ap, subst, arith, inl, inr, append_assoc}
 use Rattle.std.proofs.lemmas.List.{length-append}
 use Rattle.std.proofs.lemmas.Option.{slice_get_within}
 use Rattle.gos_model.specs.Terms.{Term}
@@ -12,7 +12,7 @@ use Rattle.gos_link.specs.Services.{HasService}
 use Rattle.gos_link.specs.Linked.{imports_of, shakes_at}
 use Rattle.gos_unions.proofs.LeftLemmas.{behind}
 use Rattle.gos_linked.specs.Linked.{IsRealised}
-use Rattle.gos_linked.proofs.CountLemmas.{In, Distinct, distinct_both, in_first, in_second, in_either, same, other, is_same, is_other}
+use Rattle.gos_linked.proofs.CountLemmas.{In, Distinct, distinct_both, in_first, in_second, in_either, same, is_same}
 use Rattle.gos_linked.proofs.ChainLemmas.{IsSound, IsRooted, Below, below_then, from_top, no_ring, same_level, same_top, giver_low}
 use Rattle.gos_linked.proofs.GrowLemmas.{plan_at, service_at, Grown, alone, with_import, grown_from, grow, IsGrown, alone_grown, unserved_grown, served_grown}
 
@@ -107,194 +107,194 @@ next_imports is xs ys x imports = imports ∙ sym (append_assoc is (x ∷ []) xs
 module _ (ps : List Plan) (M : ℕ → Term) (ss : List Service) (root : ℕ) (rooted : IsRooted ps ss root)
     (realised : (k : ℕ) → k < length ps → IsRealised (plan_at ps k) (M k))
   where
-  abbrev P : ℕ → Plan
-  P = plan_at ps
+    abbrev P : ℕ → Plan
+    P = plan_at ps
 
-  abbrev Holds : ℕ → List Imported → Grown → Type 0
-  Holds = IsGrown ps P M (length ps)
+    abbrev Holds : ℕ → List Imported → Grown → Type 0
+    Holds = IsGrown ps P M (length ps)
 
-  one_grown : (u : ℕ) (f : ℕ → Grown) → ((g : ℕ) → g < length ps → Holds g [] (f g)) → (k : ℕ) (is xs : List Imported) (x : Imported) (w : Grown)
-      → (P u).imports ≡ is ++ (x ∷ xs) → length is ≡ k → Holds u (is ++ x ∷ []) w → (o : Option Service) → service_at ss u k ≡ o
-      → Holds u is (with_import o f is x w)
-  one_grown u f children k is xs x w imports size h None found = unserved_grown ps P M (length ps) u f is x w h
-  one_grown u f children k is xs x w imports size h (Some s) found =
-      let r = serves ps ss rooted.sound u k x s (import_here is xs (P u).imports x k imports size) found in
-      served_grown ps P M (length ps) u f is xs x w s h (children s.giver (giver_low ps ss root rooted s r.has)) r.user (r.import ∙ sym size) r.shakes imports
-      r.type
+    one_grown : (u : ℕ) (f : ℕ → Grown) → ((g : ℕ) → g < length ps → Holds g [] (f g)) → (k : ℕ) (is xs : List Imported) (x : Imported) (w : Grown)
+        → (P u).imports ≡ is ++ (x ∷ xs) → length is ≡ k → Holds u (is ++ x ∷ []) w → (o : Option Service) → service_at ss u k ≡ o
+        → Holds u is (with_import o f is x w)
+    one_grown u f children k is xs x w imports size h None found = unserved_grown ps P M (length ps) u f is x w h
+    one_grown u f children k is xs x w imports size h (Some s) found =
+        let r = serves ps ss rooted.sound u k x s (import_here is xs (P u).imports x k imports size) found in
+        served_grown ps P M (length ps) u f is xs x w s h (children s.giver (giver_low ps ss root rooted s r.has)) r.user (r.import ∙ sym size) r.shakes imports
+        r.type
 
-  from_grown : (u : ℕ) (f : ℕ → Grown) → u < length ps → ((g : ℕ) → g < length ps → Holds g [] (f g)) → (k : ℕ) (is xs : List Imported)
-      → (P u).imports ≡ is ++ xs → length is ≡ k → Holds u is (grown_from (service_at ss u) f (alone (P u) (M u) u []) k is xs)
-  from_grown u f low children k is [] imports size =
-      let of = realised u low in alone_grown ps P M (length ps) u is [] of.right of.open_imports of.typed imports
-  from_grown u f low children k is (x ∷ xs) imports size =
-      one_grown u f children k is xs x (grown_from (service_at ss u) f (alone (P u) (M u) u []) (suc k) (is ++ x ∷ []) xs) imports size
-      (from_grown u f low children (suc k) (is ++ x ∷ []) xs (next_imports is xs (P u).imports x imports) (next_size is x k size)) (service_at ss u k) refl
+    from_grown : (u : ℕ) (f : ℕ → Grown) → u < length ps → ((g : ℕ) → g < length ps → Holds g [] (f g)) → (k : ℕ) (is xs : List Imported)
+        → (P u).imports ≡ is ++ xs → length is ≡ k → Holds u is (grown_from (service_at ss u) f (alone (P u) (M u) u []) k is xs)
+    from_grown u f low children k is [] imports size =
+        let of = realised u low in alone_grown ps P M (length ps) u is [] of.right of.open_imports of.typed imports
+    from_grown u f low children k is (x ∷ xs) imports size =
+        one_grown u f children k is xs x (grown_from (service_at ss u) f (alone (P u) (M u) u []) (suc k) (is ++ x ∷ []) xs) imports size
+        (from_grown u f low children (suc k) (is ++ x ∷ []) xs (next_imports is xs (P u).imports x imports) (next_size is x k size)) (service_at ss u k) refl
 
-  pub grow_grown : (n u : ℕ) → u < length ps → Holds u [] (grow P M ss n u)
-  grow_grown zero u low =
-      let of = realised u low in alone_grown ps P M (length ps) u [] (P u).imports of.right of.open_imports of.typed refl
-  grow_grown (suc n) u low = from_grown u (grow P M ss n) low (grow_grown n) 0 [] (P u).imports refl refl
+    pub grow_grown : (n u : ℕ) → u < length ps → Holds u [] (grow P M ss n u)
+    grow_grown zero u low =
+        let of = realised u low in alone_grown ps P M (length ps) u [] (P u).imports of.right of.open_imports of.typed refl
+    grow_grown (suc n) u low = from_grown u (grow P M ss n) low (grow_grown n) 0 [] (P u).imports refl refl
 
-  -- the numbers of a tree: that of its first instance, and those below it, by services of its imports from number k on
-  abbrev pub IsBelow : ℕ → ℕ → ℕ → Type 0
-  IsBelow u k v = (v ≡ u) ⊎ ((t : Service) × (i : ℕ) × HasService ss t × (t.user ≡ u) × (k ≤ t.import) × Below ss i v t.giver)
+    -- the numbers of a tree: that of its first instance, and those below it, by services of its imports from number k on
+    abbrev pub IsBelow : ℕ → ℕ → ℕ → Type 0
+    IsBelow u k v = (v ≡ u) ⊎ ((t : Service) × (i : ℕ) × HasService ss t × (t.user ≡ u) × (k ≤ t.import) × Below ss i v t.giver)
 
-  pub record IsListed (u k : ℕ) (w : Grown) : Type 0 where
-    pub below : (v : ℕ) → In w.numbers v → IsBelow u k v
-    pub distinct : Distinct w.numbers
-    pub services : (s : Service) → HasService w.services s → HasService ss s
+    pub record IsListed (u k : ℕ) (w : Grown) : Type 0 where
+      pub below : (v : ℕ) → In w.numbers v → IsBelow u k v
+      pub distinct : Distinct w.numbers
+      pub services : (s : Service) → HasService w.services s → HasService ss s
 
-  one_below : (u k v : ℕ) → IsBelow u k v → (i : ℕ) × Below ss i v u
-  one_below u k v (inl e) = (0, e)
-  one_below u k v (inr (t, i, has, user, high, up)) =
-      (i + 1, below_then ss i 1 v t.giver u up (t, has, refl, user))
+    one_below : (u k v : ℕ) → IsBelow u k v → (i : ℕ) × Below ss i v u
+    one_below u k v (inl e) = (0, e)
+    one_below u k v (inr (t, i, has, user, high, up)) =
+        (i + 1, below_then ss i 1 v t.giver u up (t, has, refl, user))
 
-  alone_listed : (u k : ℕ) (is : List Imported) → IsListed u k (alone (P u) (M u) u is)
-  alone_listed u k is =
-      record {
-        below = λ v h. elim h as (λ _. IsBelow u k v) [ inl e ↦ inl (sym e) | inr h ↦ absurd h ];
-        distinct = (λ h. h, tt);
-        services = λ s h. absurd h;
-      }
-
-  has_first : (ts us : List Service) (s : Service) → HasService ts s → HasService (ts ++ us) s
-  has_first [] us s h = absurd h
-  has_first (t ∷ ts) us s (inl e) = inl e
-  has_first (t ∷ ts) us s (inr h) = inr (has_first ts us s h)
-
-  has_second : (ts us : List Service) (s : Service) → HasService us s → HasService (ts ++ us) s
-  has_second [] us s h = h
-  has_second (t ∷ ts) us s h = inr (has_second ts us s h)
-
-  has_of : (ts us : List Service) (s : Service) → HasService (ts ++ us) s → HasService ts s ⊎ HasService us s
-  has_of [] us s h = inr h
-  has_of (t ∷ ts) us s (inl e) = inl (inl e)
-  has_of (t ∷ ts) us s (inr h) = elim (has_of ts us s h) [ inl a ↦ inl (inr a) | inr b ↦ inr b ]
-
-  module _ (u k : ℕ) (f : ℕ → Grown) (is : List Imported) (x : Imported) (w : Grown) (children : (g : ℕ) → IsListed g 0 (f g)) (h : IsListed u (suc k) w) where
-    later_below : (v : ℕ) → IsBelow u (suc k) v → IsBelow u k v
-    later_below v (inl e) = inl e
-    later_below v (inr (t, i, has, user, high, up)) = inr (t, i, has, user, omega (arith, high), up)
-
-    apart : (s : Service) → Finds ss u k s → (v : ℕ) → IsBelow u (suc k) v → (i : ℕ) × Below ss i v s.giver → ⊥
-    apart s (has, user, import) v (inl e) (i, up) =
-        let sum : i + 1 ≡ suc i = omega arith in
-        no_ring ps ss rooted.sound i u
-        (subst (λ (n : ℕ). Below ss n u u) sum
-        (below_then ss i 1 u s.giver u (subst (λ (a : ℕ). Below ss i a s.giver) e up) (s, has, refl, user)))
-    apart s (has, user, import) v (inr (t, j, has_t, user_t, high, up_t)) (i, up) =
-        let one : Below ss (i + 1) v u = below_then ss i 1 v s.giver u up (s, has, refl, user) in
-        let two : Below ss (j + 1) v u = below_then ss j 1 v t.giver u up_t (t, has_t, refl, user_t) in
-        let level : i + 1 ≡ j + 1 = same_level ps ss rooted.sound (i + 1) (j + 1) v u one two in
-        let levels : i ≡ j = omega (arith, level) in
-        let givers : s.giver ≡ t.giver = same_top ps ss rooted.sound j v s.giver t.giver (subst (λ (n : ℕ). Below ss n v s.giver) levels up) up_t in
-        let both : s ≡ t = rooted.sound.one_giver s t has has_t givers in
-        let number : s.import ≡ t.import = ap (λ (r : Service). r.import) both in
-        omega (arith, number, import, high)
-
-    with_listed : (o : Option Service) → service_at ss u k ≡ o → IsListed u k (with_import o f is x w)
-    with_listed None found = record { below = λ v has. later_below v (h.below v has); distinct = h.distinct; services = h.services }
-    with_listed (Some s) found =
-        let finds : Finds ss u k s = service_found ss u k s found in
-        let c = children s.giver in
+    alone_listed : (u k : ℕ) (is : List Imported) → IsListed u k (alone (P u) (M u) u is)
+    alone_listed u k is =
         record {
-          below = λ v has.
-              elim (in_either w.numbers (f s.giver).numbers v has) as (λ _. IsBelow u k v) [
-                | inl a ↦ later_below v (h.below v a)
-                | inr b ↦
-                    (let (i, up) = one_below s.giver 0 v (c.below v b) in
-                    let high : k ≤ s.import = (let same_k = finds.2 in omega (arith, same_k)) in
-                    inr (s, i, finds.0, finds.1, high, up))
-              ];
-          distinct =
-              distinct_both w.numbers (f s.giver).numbers h.distinct c.distinct
-              (λ v a b. apart s finds v (h.below v a) (one_below s.giver 0 v (c.below v b)));
-          services = λ t has.
-              elim (has_of (w.services ++ (f s.giver).services) (s ∷ []) t has) as (λ _. HasService ss t) [
-                | inl a ↦ elim (has_of w.services (f s.giver).services t a) as (λ _. HasService ss t) [ inl b ↦ h.services t b | inr b ↦ c.services t b ]
-                | inr b ↦ elim b as (λ _. HasService ss t) [ inl e ↦ subst (HasService ss) e finds.0 | inr d ↦ absurd d ]
-              ];
+          below = λ v h. elim h as (λ _. IsBelow u k v) [ inl e ↦ inl (sym e) | inr h ↦ absurd h ];
+          distinct = (λ h. h, tt);
+          services = λ s h. absurd h;
         }
 
-  from_listed : (u : ℕ) (f : ℕ → Grown) → ((g : ℕ) → IsListed g 0 (f g)) → (k : ℕ) (is xs : List Imported)
-      → IsListed u k (grown_from (service_at ss u) f (alone (P u) (M u) u []) k is xs)
-  from_listed u f children k is [] = alone_listed u k []
-  from_listed u f children k is (x ∷ xs) =
-      with_listed u k f is x (grown_from (service_at ss u) f (alone (P u) (M u) u []) (suc k) (is ++ x ∷ []) xs) children
-      (from_listed u f children (suc k) (is ++ x ∷ []) xs) (service_at ss u k) refl
+    has_first : (ts us : List Service) (s : Service) → HasService ts s → HasService (ts ++ us) s
+    has_first [] us s h = absurd h
+    has_first (t ∷ ts) us s (inl e) = inl e
+    has_first (t ∷ ts) us s (inr h) = inr (has_first ts us s h)
 
-  pub grow_listed : (n u : ℕ) → IsListed u 0 (grow P M ss n u)
-  grow_listed zero u = alone_listed u 0 (P u).imports
-  grow_listed (suc n) u = from_listed u (grow P M ss n) (grow_listed n) 0 [] (P u).imports
+    has_second : (ts us : List Service) (s : Service) → HasService us s → HasService (ts ++ us) s
+    has_second [] us s h = h
+    has_second (t ∷ ts) us s h = inr (has_second ts us s h)
 
-  -- the tree of a giver is in that of its user
-  record HasChild (s : Service) (c w : Grown) : Type 0 where
-    numbers : (v : ℕ) → In c.numbers v → In w.numbers v
-    services : (t : Service) → HasService c.services t → HasService w.services t
-    own : HasService w.services s
+    has_of : (ts us : List Service) (s : Service) → HasService (ts ++ us) s → HasService ts s ⊎ HasService us s
+    has_of [] us s h = inr h
+    has_of (t ∷ ts) us s (inl e) = inl (inl e)
+    has_of (t ∷ ts) us s (inr h) = elim (has_of ts us s h) [ inl a ↦ inl (inr a) | inr b ↦ inr b ]
 
-  still_child : (s : Service) (c : Grown) (o : Option Service) (f : ℕ → Grown) (is : List Imported) (x : Imported) (w : Grown) → HasChild s c w
-      → HasChild s c (with_import o f is x w)
-  still_child s c None f is x w h = record { numbers = h.numbers; services = h.services; own = h.own }
-  still_child s c (Some r) f is x w h =
-      let more : (t : Service) → HasService w.services t → HasService ((w.services ++ (f r.giver).services) ++ r ∷ []) t = λ t has.
-      has_first (w.services ++ (f r.giver).services) (r ∷ []) t (has_first w.services (f r.giver).services t has)
-      in
-      record {
-        numbers = λ v has. in_first w.numbers (f r.giver).numbers v (h.numbers v has);
-        services = λ t has. more t (h.services t has);
-        own = more s h.own;
-      }
+    module _ (u k : ℕ) (f : ℕ → Grown) (is : List Imported) (x : Imported) (w : Grown) (children : (g : ℕ) → IsListed g 0 (f g)) (h : IsListed u (suc k) w) where
+      later_below : (v : ℕ) → IsBelow u (suc k) v → IsBelow u k v
+      later_below v (inl e) = inl e
+      later_below v (inr (t, i, has, user, high, up)) = inr (t, i, has, user, omega (arith, high), up)
 
-  new_child : (s : Service) (f : ℕ → Grown) (is : List Imported) (x : Imported) (w : Grown) → HasChild s (f s.giver) (with_import (Some s) f is x w)
-  new_child s f is x w =
-      record {
-        numbers = λ v has. in_second w.numbers (f s.giver).numbers v has;
-        services = λ t has. has_first (w.services ++ (f s.giver).services) (s ∷ []) t (has_second w.services (f s.giver).services t has);
-        own = has_second (w.services ++ (f s.giver).services) (s ∷ []) s (inl refl);
-      }
+      apart : (s : Service) → Finds ss u k s → (v : ℕ) → IsBelow u (suc k) v → (i : ℕ) × Below ss i v s.giver → ⊥
+      apart s (has, user, import) v (inl e) (i, up) =
+          let sum : i + 1 ≡ suc i = omega arith in
+          no_ring ps ss rooted.sound i u
+          (subst (λ (n : ℕ). Below ss n u u) sum
+          (below_then ss i 1 u s.giver u (subst (λ (a : ℕ). Below ss i a s.giver) e up) (s, has, refl, user)))
+      apart s (has, user, import) v (inr (t, j, has_t, user_t, high, up_t)) (i, up) =
+          let one : Below ss (i + 1) v u = below_then ss i 1 v s.giver u up (s, has, refl, user) in
+          let two : Below ss (j + 1) v u = below_then ss j 1 v t.giver u up_t (t, has_t, refl, user_t) in
+          let level : i + 1 ≡ j + 1 = same_level ps ss rooted.sound (i + 1) (j + 1) v u one two in
+          let levels : i ≡ j = omega (arith, level) in
+          let givers : s.giver ≡ t.giver = same_top ps ss rooted.sound j v s.giver t.giver (subst (λ (n : ℕ). Below ss n v s.giver) levels up) up_t in
+          let both : s ≡ t = rooted.sound.one_giver s t has has_t givers in
+          let number : s.import ≡ t.import = ap (λ (r : Service). r.import) both in
+          omega (arith, number, import, high)
 
-  from_child : (gs : ℕ → Option Service) (f : ℕ → Grown) (base : Grown) (s : Service) (k : ℕ) (is xs : List Imported) (j : ℕ) → gs (k + j) ≡ Some s → j < length xs
-      → HasChild s (f s.giver) (grown_from gs f base k is xs)
-  from_child gs f base s k is [] j found low = absurd (omega (arith, low))
-  from_child gs f base s k is (x ∷ xs) zero found low =
-      let none : k ≡ k + 0 = omega arith in
-      let here : gs k ≡ Some s = ap gs none ∙ found in
-      let W : Grown = grown_from gs f base (suc k) (is ++ x ∷ []) xs in
-      subst (λ (o : Option Service). HasChild s (f s.giver) (with_import o f is x W)) (sym here) (new_child s f is x W)
-  from_child gs f base s k is (x ∷ xs) (suc j) found low =
-      let sum : suc k + j ≡ k + suc j = omega arith in
-      still_child s (f s.giver) (gs k) f is x (grown_from gs f base (suc k) (is ++ x ∷ []) xs)
-      (from_child gs f base s (suc k) (is ++ x ∷ []) xs j (ap gs sum ∙ found) (omega (arith, low)))
+      with_listed : (o : Option Service) → service_at ss u k ≡ o → IsListed u k (with_import o f is x w)
+      with_listed None found = record { below = λ v has. later_below v (h.below v has); distinct = h.distinct; services = h.services }
+      with_listed (Some s) found =
+          let finds : Finds ss u k s = service_found ss u k s found in
+          let c = children s.giver in
+          record {
+            below = λ v has.
+                elim (in_either w.numbers (f s.giver).numbers v has) as (λ _. IsBelow u k v) [
+                  | inl a ↦ later_below v (h.below v a)
+                  | inr b ↦
+                      (let (i, up) = one_below s.giver 0 v (c.below v b) in
+                      let high : k ≤ s.import = (let same_k = finds.2 in omega (arith, same_k)) in
+                      inr (s, i, finds.0, finds.1, high, up))
+                ];
+            distinct =
+                distinct_both w.numbers (f s.giver).numbers h.distinct c.distinct
+                (λ v a b. apart s finds v (h.below v a) (one_below s.giver 0 v (c.below v b)));
+            services = λ t has.
+                elim (has_of (w.services ++ (f s.giver).services) (s ∷ []) t has) as (λ _. HasService ss t) [
+                  | inl a ↦ elim (has_of w.services (f s.giver).services t a) as (λ _. HasService ss t) [ inl b ↦ h.services t b | inr b ↦ c.services t b ]
+                  | inr b ↦ elim b as (λ _. HasService ss t) [ inl e ↦ subst (HasService ss) e finds.0 | inr d ↦ absurd d ]
+                ];
+          }
 
-  import_low : (s : Service) → HasService ss s → s.import < length (P s.user).imports
-  import_low s has =
-      let (p, q, x, at_p, at_q, at_x, type) = rooted.sound.fits s has in
-      let plan : p ≡ P s.user = sym (plan_is ps s.user p at_p) in
-      subst (λ (r : Plan). s.import < length r.imports) plan (slice_get_within p.imports s.import x at_x)
+    from_listed : (u : ℕ) (f : ℕ → Grown) → ((g : ℕ) → IsListed g 0 (f g)) → (k : ℕ) (is xs : List Imported)
+        → IsListed u k (grown_from (service_at ss u) f (alone (P u) (M u) u []) k is xs)
+    from_listed u f children k is [] = alone_listed u k []
+    from_listed u f children k is (x ∷ xs) =
+        with_listed u k f is x (grown_from (service_at ss u) f (alone (P u) (M u) u []) (suc k) (is ++ x ∷ []) xs) children
+        (from_listed u f children (suc k) (is ++ x ∷ []) xs) (service_at ss u k) refl
 
-  child : (n u : ℕ) (s : Service) → HasService ss s → s.user ≡ u → HasChild s (grow P M ss n s.giver) (grow P M ss (suc n) u)
-  child n u s has user =
-      let none : 0 + s.import ≡ s.import = omega arith in
-      let found : service_at ss u (0 + s.import) ≡ Some s =
-      ap (service_at ss u) none ∙ (ap (λ (v : ℕ). service_at ss v s.import) (sym user) ∙ service_there ps ss rooted.sound s has)
-      in
-      from_child (service_at ss u) (grow P M ss n) (alone (P u) (M u) u []) s 0 [] (P u).imports s.import found
-      (subst (λ (v : ℕ). s.import < length (P v).imports) user (import_low s has))
+    pub grow_listed : (n u : ℕ) → IsListed u 0 (grow P M ss n u)
+    grow_listed zero u = alone_listed u 0 (P u).imports
+    grow_listed (suc n) u = from_listed u (grow P M ss n) (grow_listed n) 0 [] (P u).imports
 
-  own_number : (n u : ℕ) → u < length ps → In (grow P M ss n u).numbers u
-  own_number n u low = let (ns, first) = (grow_grown n u low).first in subst (λ (l : List ℕ). In l u) (sym first) (inl refl)
+    -- the tree of a giver is in that of its user
+    record HasChild (s : Service) (c w : Grown) : Type 0 where
+      numbers : (v : ℕ) → In c.numbers v → In w.numbers v
+      services : (t : Service) → HasService c.services t → HasService w.services t
+      own : HasService w.services s
 
-  pub all_numbers : (n u i k : ℕ) → u < length ps → Below ss i k u → i ≤ n → In (grow P M ss n u).numbers k
-  all_numbers n u zero k low e few = subst (In (grow P M ss n u).numbers) (sym e) (own_number n u low)
-  all_numbers zero u (suc i) k low up few = absurd (omega (arith, few))
-  all_numbers (suc n) u (suc i) k low up few =
-      let (s, has, user, up_s) = from_top ss i k u up in
-      (child n u s has user).numbers k (all_numbers n s.giver i k (giver_low ps ss root rooted s has) up_s (omega (arith, few)))
+    still_child : (s : Service) (c : Grown) (o : Option Service) (f : ℕ → Grown) (is : List Imported) (x : Imported) (w : Grown) → HasChild s c w
+        → HasChild s c (with_import o f is x w)
+    still_child s c None f is x w h = record { numbers = h.numbers; services = h.services; own = h.own }
+    still_child s c (Some r) f is x w h =
+        let more : (t : Service) → HasService w.services t → HasService ((w.services ++ (f r.giver).services) ++ r ∷ []) t = λ t has.
+        has_first (w.services ++ (f r.giver).services) (r ∷ []) t (has_first w.services (f r.giver).services t has)
+        in
+        record {
+          numbers = λ v has. in_first w.numbers (f r.giver).numbers v (h.numbers v has);
+          services = λ t has. more t (h.services t has);
+          own = more s h.own;
+        }
 
-  pub all_services : (n u i : ℕ) (s : Service) → HasService ss s → Below ss i s.user u → i < n → HasService (grow P M ss n u).services s
-  all_services zero u i s has up few = absurd (omega (arith, few))
-  all_services (suc n) u zero s has e few = (child n u s has e).own
-  all_services (suc n) u (suc i) s has up few =
-      let (t, has_t, user, up_t) = from_top ss i s.user u up in
-      (child n u t has_t user).services s (all_services n t.giver i s has up_t (omega (arith, few)))
+    new_child : (s : Service) (f : ℕ → Grown) (is : List Imported) (x : Imported) (w : Grown) → HasChild s (f s.giver) (with_import (Some s) f is x w)
+    new_child s f is x w =
+        record {
+          numbers = λ v has. in_second w.numbers (f s.giver).numbers v has;
+          services = λ t has. has_first (w.services ++ (f s.giver).services) (s ∷ []) t (has_second w.services (f s.giver).services t has);
+          own = has_second (w.services ++ (f s.giver).services) (s ∷ []) s (inl refl);
+        }
+
+    from_child : (gs : ℕ → Option Service) (f : ℕ → Grown) (base : Grown) (s : Service) (k : ℕ) (is xs : List Imported) (j : ℕ) → gs (k + j) ≡ Some s → j < length xs
+        → HasChild s (f s.giver) (grown_from gs f base k is xs)
+    from_child gs f base s k is [] j found low = absurd (omega (arith, low))
+    from_child gs f base s k is (x ∷ xs) zero found low =
+        let none : k ≡ k + 0 = omega arith in
+        let here : gs k ≡ Some s = ap gs none ∙ found in
+        let W : Grown = grown_from gs f base (suc k) (is ++ x ∷ []) xs in
+        subst (λ (o : Option Service). HasChild s (f s.giver) (with_import o f is x W)) (sym here) (new_child s f is x W)
+    from_child gs f base s k is (x ∷ xs) (suc j) found low =
+        let sum : suc k + j ≡ k + suc j = omega arith in
+        still_child s (f s.giver) (gs k) f is x (grown_from gs f base (suc k) (is ++ x ∷ []) xs)
+        (from_child gs f base s (suc k) (is ++ x ∷ []) xs j (ap gs sum ∙ found) (omega (arith, low)))
+
+    import_low : (s : Service) → HasService ss s → s.import < length (P s.user).imports
+    import_low s has =
+        let (p, q, x, at_p, at_q, at_x, type) = rooted.sound.fits s has in
+        let plan : p ≡ P s.user = sym (plan_is ps s.user p at_p) in
+        subst (λ (r : Plan). s.import < length r.imports) plan (slice_get_within p.imports s.import x at_x)
+
+    child : (n u : ℕ) (s : Service) → HasService ss s → s.user ≡ u → HasChild s (grow P M ss n s.giver) (grow P M ss (suc n) u)
+    child n u s has user =
+        let none : 0 + s.import ≡ s.import = omega arith in
+        let found : service_at ss u (0 + s.import) ≡ Some s =
+        ap (service_at ss u) none ∙ (ap (λ (v : ℕ). service_at ss v s.import) (sym user) ∙ service_there ps ss rooted.sound s has)
+        in
+        from_child (service_at ss u) (grow P M ss n) (alone (P u) (M u) u []) s 0 [] (P u).imports s.import found
+        (subst (λ (v : ℕ). s.import < length (P v).imports) user (import_low s has))
+
+    own_number : (n u : ℕ) → u < length ps → In (grow P M ss n u).numbers u
+    own_number n u low = let (ns, first) = (grow_grown n u low).first in subst (λ (l : List ℕ). In l u) (sym first) (inl refl)
+
+    pub all_numbers : (n u i k : ℕ) → u < length ps → Below ss i k u → i ≤ n → In (grow P M ss n u).numbers k
+    all_numbers n u zero k low e few = subst (In (grow P M ss n u).numbers) (sym e) (own_number n u low)
+    all_numbers zero u (suc i) k low up few = absurd (omega (arith, few))
+    all_numbers (suc n) u (suc i) k low up few =
+        let (s, has, user, up_s) = from_top ss i k u up in
+        (child n u s has user).numbers k (all_numbers n s.giver i k (giver_low ps ss root rooted s has) up_s (omega (arith, few)))
+
+    pub all_services : (n u i : ℕ) (s : Service) → HasService ss s → Below ss i s.user u → i < n → HasService (grow P M ss n u).services s
+    all_services zero u i s has up few = absurd (omega (arith, few))
+    all_services (suc n) u zero s has e few = (child n u s has e).own
+    all_services (suc n) u (suc i) s has up few =
+        let (t, has_t, user, up_t) = from_top ss i s.user u up in
+        (child n u t has_t user).services s (all_services n t.giver i s has up_t (omega (arith, few)))

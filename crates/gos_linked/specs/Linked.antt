@@ -38,8 +38,8 @@ binds_of ps (s ∷ ss) = bind_of ps s ∷ binds_of ps ss
 abbrev pub substituted_along : List Plan → List Service → ℕ → List Term → Program
 substituted_along ps ss root ms = substituted (programs_of ps ms) (binds_of ps ss) root
 
-abbrev pub program_of : (b : Build) (ps : List SeenPlan) (p : Plan) → IsLinked b ps p → List Term → Program
-program_of b ps p l ms = substituted_along (plans_of ps) l.services l.root ms
+abbrev pub linked_program : (b : Build) (ps : List SeenPlan) (p : Plan) → IsLinked b ps p → List Term → Program
+linked_program b ps p l ms = substituted_along (plans_of ps) l.services l.root ms
 
 -- the plan realises the term, whatever is put in for its imports
 pub record IsRealised (p : Plan) (m : Term) : Type 0 where
@@ -58,13 +58,13 @@ AreRealised (p ∷ ps) (m ∷ ms) = IsRealised p m × AreRealised ps ms
 abbrev pub LinkedIsRealised : Type 0
 LinkedIsRealised =
     (b : Build) (ps : List SeenPlan) (p : Plan) (ms : List Term) (l : IsLinked b ps p)
-    → length ps ≡ length b.instances.items → AreRealised (plans_of ps) ms → IsRealised p (program_of b ps p l ms).body
+    → length ps ≡ length b.instances.items → AreRealised (plans_of ps) ms → IsRealised p (linked_program b ps p l ms).body
 
 -- Its imports are those of the substituted program.
 abbrev pub LinkedHasImports : Type 0
 LinkedHasImports =
     (b : Build) (ps : List SeenPlan) (p : Plan) (ms : List Term) (l : IsLinked b ps p)
-    → length ps ≡ length b.instances.items → AreRealised (plans_of ps) ms → p.imports ≡ (program_of b ps p l ms).imports
+    → length ps ≡ length b.instances.items → AreRealised (plans_of ps) ms → p.imports ≡ (linked_program b ps p l ms).imports
 
 -- They are ground.
 abbrev pub LinkedIsGround : Type 0
