@@ -201,7 +201,8 @@ module _ (ps : List Plan) (programs : Instances) (ss : List Service) (root : ℕ
           (among_same (suc k) (is ++ x ∷ []) xs (next_imports is xs (P u).imports x imports) (next_size is x k size) y t)
         where
           by_test : (c : Bool) → bytes_eq x.name y ≡ c → (if c then Some x.ty else import_type xs y) ≡ Some t
-              → (import_type xs y ≡ Some t → Both y (term_among xs (given (service_at ss u) b (suc k) xs) y) (with_giver (put n) (giver_of (binds_of ps ss) u y)))
+              → (import_type xs y ≡ Some t
+              → Both y (term_among xs (given (service_at ss u) b (suc k) xs) y) (with_giver (put n) (giver_of (binds_of ps ss) u y)))
               → Both y (if c then Some (given_one b x (service_at ss u k)) else term_among xs (given (service_at ss u) b (suc k) xs) y)
               (with_giver (put n) (giver_of (binds_of ps ss) u y))
           by_test true test h rest = one_same k x y (import_here is xs (P u).imports x k imports size) (name_is x.name y test) (service_at ss u k) refl
@@ -212,7 +213,8 @@ module _ (ps : List Plan) (programs : Instances) (ss : List Service) (root : ℕ
           let f : Name → Option Term = term_among (P u).imports (given (service_at ss u) b 0 (P u).imports) in
           let g : Name → Option Term = λ y. with_giver (put n) (giver_of (binds_of ps ss) u y) in
           with_names f (M u)
-          ∙ (supplied_same (P u).imports (or_itself f) (or_itself g) (λ y t typed. ap Some (among_same 0 [] (P u).imports refl refl y t typed)) [] (M u) (P u).outcome
+          ∙ (supplied_same (P u).imports (or_itself f) (or_itself g) (λ y t typed. ap Some (among_same 0 [] (P u).imports refl refl y t typed)) [] (M u)
+          (P u).outcome
           (realised u low).typed
           ∙ sym (with_names g (M u)))
 

@@ -129,10 +129,17 @@ module _ (n : ℕ) where
   back_forth [] k (inr h) = omega (arith, h)
   back_forth (x ∷ xs) k known = by_test (nat_eq x k) refl (back_forth xs k)
     where
+      still : nat_eq x k ≡ false → In xs k ⊎ (n ≤ k)
+      still test =
+          elim known as (λ _. In xs k ⊎ (n ≤ k)) [
+            | inl h ↦ elim h as (λ _. In xs k ⊎ (n ≤ k)) [ inl e ↦ absurd (is_other x k test e) | inr i ↦ inl i ]
+            | inr high ↦ inr high
+          ]
+
       by_test : (b : Bool) → nat_eq x k ≡ b → (In xs k ⊎ (n ≤ k) → back xs n (forth xs n k) ≡ k)
           → back (x ∷ xs) n (if b then zero else suc (forth xs n k)) ≡ k
       by_test true test rest = is_same x k test
-      by_test false test rest = rest (elim known as (λ _. In xs k ⊎ (n ≤ k)) [ inl h ↦ elim h as (λ _. In xs k ⊎ (n ≤ k)) [ inl e ↦ absurd (is_other x k test e) | inr i ↦ inl i ] | inr l ↦ inr l ])
+      by_test false test rest = rest (still test)
 
   pub at_forth : (xs : List ℕ) (k : ℕ) → In xs k → slice_get xs (forth xs n k) ≡ Some k
   at_forth [] k h = absurd h

@@ -98,7 +98,8 @@ module _ (ps : List Plan) (P : ℕ → Plan) (M : ℕ → Term) (n : ℕ) where
         free = λ i low. tt;
       }
 
-  pub unserved_grown : (u : ℕ) (f : ℕ → Grown) (is : List Imported) (x : Imported) (w : Grown) → IsGrown u (is ++ x ∷ []) w → IsGrown u is (with_import None f is x w)
+  pub unserved_grown : (u : ℕ) (f : ℕ → Grown) (is : List Imported) (x : Imported) (w : Grown) → IsGrown u (is ++ x ∷ []) w
+      → IsGrown u is (with_import None f is x w)
   unserved_grown u f is x w h =
       let size = length-append is (x ∷ []) in
       record {

@@ -81,7 +81,9 @@ module _ (rewired_is_open : RewiredTreeIsOpen) (b : Build) (ps : List SeenPlan) 
         in
         let order = reordered g p q same in
         let names : NamesDiffer p.imports = linked_differ b ps p l in
-        let left : q.imports ≡ (T Plans (body_at Programs) l.services l.root rooted realised).behind = tree_imports tree q grown.tree of_q.joining ∙ grown.left in
+        let left : q.imports ≡ (T Plans (body_at Programs) l.services l.root rooted realised).behind =
+        tree_imports tree q grown.tree of_q.joining ∙ grown.left
+        in
         let differ = subst NamesDiffer left (names_same g.import g.import_back p.imports q.imports order names) in
         let none : 0 + length Plans ≡ length Plans = omega arith in
         let of_tree = body_typed Plans Programs l.services l.root rooted realised (length Plans) l.root 0 rooted.low refl none differ in
@@ -89,9 +91,8 @@ module _ (rewired_is_open : RewiredTreeIsOpen) (b : Build) (ps : List SeenPlan) 
         let of_q_imports : Typed q.imports [] body (plan_at Plans l.root).outcome =
         subst (λ (is : List Imported). Typed is [] body (plan_at Plans l.root).outcome) (sym left) of_tree
         in
-        let of_p = typed_same q.imports p.imports (imports_back p.imports q.imports (reordered_same g.import g.import_back p.imports q.imports order names)) [] body
-        (plan_at Plans l.root).outcome of_q_imports
-        in
+        let types = imports_back p.imports q.imports (reordered_same g.import g.import_back p.imports q.imports order names) in
+        let of_p = typed_same q.imports p.imports types [] body (plan_at Plans l.root).outcome of_q_imports in
         let outcome : (plan_at Plans l.root).outcome ≡ p.outcome = ap outcome_of (sym (plan_there Plans l.root rooted.low)) ∙ sym l.joining.outcome in
         let size = ap (λ (n : ℕ). linked Programs (binds_of Plans l.services) n l.root) (sym (programs_size Plans ms all)) in
         subst (λ (m : Term). Typed p.imports [] m p.outcome) size (subst (λ (t : Type'). Typed p.imports [] body t) outcome of_p)

@@ -114,7 +114,8 @@ module _ (realises : LinkedIsRealised) (has_imports : LinkedHasImports) (ground 
 
   pub linked_is_done : LinkedIsDone
   linked_is_done b ps p ms l each all =
-      ((regular_done realises has_imports ground open_is_done b ps p ms l each all).1, same_program realises has_imports ground open_is_done b ps p ms l each all)
+      let both = regular_done realises has_imports ground open_is_done b ps p ms l each all in
+      (both.1, same_program realises has_imports ground open_is_done b ps p ms l each all)
 
   pub linked_keeps_pace : LinkedIsSlim → ModulesKeepPace → LinkedKeepsPace
   linked_keeps_pace slim keep b ps p ms net l each all of_net =

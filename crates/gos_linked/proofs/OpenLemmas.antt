@@ -121,7 +121,8 @@ module _ (ps : List Plan) (ss : List Service) (sound : IsSound ps ss) where
       let some = some_shake x.ty in
       omega (arith, shakes, some)
 
-  all_joined : (k i : ℕ) (ts : List Service) → ((s : Service) → HasService ts s → HasService ss s) → is_joined (links_of ps ts) k i ≡ is_there (service_at ts k i)
+  all_joined : (k i : ℕ) (ts : List Service) → ((s : Service) → HasService ts s → HasService ss s)
+      → is_joined (links_of ps ts) k i ≡ is_there (service_at ts k i)
   all_joined k i [] all = refl
   all_joined k i (s ∷ ts) all =
       let here = from_joined s k i (shakes_at ps s) (some_shakes s (all s (inl refl))) in

@@ -70,7 +70,8 @@ link_of ps (s ∷ ss) l h =
       | inr b ↦ (let (t, has, at) = link_of ps ss l b in (t, inr has, at))
     ]
 
-of_link : (ps : List Plan) (ss : List Service) (l : Link) (s : Service) → HasService ss s → HasLink (links_from s 0 (shakes_at ps s)) l → HasLink (links_of ps ss) l
+of_link : (ps : List Plan) (ss : List Service) (l : Link) (s : Service) → HasService ss s → HasLink (links_from s 0 (shakes_at ps s)) l
+    → HasLink (links_of ps ss) l
 of_link ps [] l s has h = absurd has
 of_link ps (t ∷ ss) l s (inl e) h =
     has_first (links_from t 0 (shakes_at ps t)) (links_of ps ss) l (subst (λ (r : Service). HasLink (links_from r 0 (shakes_at ps r)) l) (sym e) h)
@@ -237,7 +238,10 @@ module _ (ps : List Plan) (M : ℕ → Term) (ss : List Service) (root : ℕ) (r
           no_more = no_more;
           links = λ a b. (links_to a b, links_back a b);
           giver =
-              (let first : to root ≡ 0 = ap (λ (l : List ℕ). forth l n root) grown.first.1 ∙ ap (λ (b : Bool). if b then zero else suc (forth grown.first.0 n root)) (same root root refl) in
+              (let first : to root ≡ 0 =
+              ap (λ (l : List ℕ). forth l n root) grown.first.1
+              ∙ ap (λ (b : Bool). if b then zero else suc (forth grown.first.0 n root)) (same root root refl)
+              in
               grown.giver ∙ sym first);
           skipped = grown.skipped;
           outcome = grown.result ∙ ap outcome_of (sym (plan_there ps root rooted.low));

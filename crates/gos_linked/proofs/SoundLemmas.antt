@@ -71,8 +71,8 @@ module _ (is : List Instance) (ps : List SeenPlan) where
 
   abbrev Fit : Service → Type 0
   Fit s =
-      (p : Plan) × (q : Plan) × (x : Imported) × (slice_get Plans s.user ≡ Some p) × (slice_get Plans s.giver ≡ Some q) × (slice_get p.imports s.import ≡ Some x)
-      × (q.outcome ≡ x.ty)
+      (p : Plan) × (q : Plan) × (x : Imported) × (slice_get Plans s.user ≡ Some p) × (slice_get Plans s.giver ≡ Some q)
+      × (slice_get p.imports s.import ≡ Some x) × (q.outcome ≡ x.ty)
 
   right_fits : (before : List Service) (b : Bind) (s : Service) → IsRightBind is ps before b s → Fit s
   right_fits before b s right =
@@ -98,7 +98,9 @@ module _ (is : List Instance) (ps : List SeenPlan) where
       imports : (r s : Service) → HasService before r ⊎ (t ≡ r) → HasService before s ⊎ (t ≡ s) → r.user ≡ s.user → r.import ≡ s.import → r ≡ s
       imports r s (inl h) (inl k) user import = sound.one_import r s h k user import
       imports r s (inl h) (inr e) user import =
-          absurd (unbound_has before t.user t.import right.unbound r h (user ∙ ap (λ (q : Service). q.user) (sym e)) (import ∙ ap (λ (q : Service). q.import) (sym e)))
+          absurd
+          (unbound_has before t.user t.import right.unbound r h (user ∙ ap (λ (q : Service). q.user) (sym e))
+          (import ∙ ap (λ (q : Service). q.import) (sym e)))
       imports r s (inr e) (inl k) user import =
           absurd
           (unbound_has before t.user t.import right.unbound s k (sym user ∙ ap (λ (q : Service). q.user) (sym e))
@@ -111,7 +113,8 @@ module _ (is : List Instance) (ps : List SeenPlan) where
       givers r s (inr e) (inl k) giver = absurd (unused_has before t.giver right.unused s k (sym giver ∙ ap (λ (q : Service). q.giver) (sym e)))
       givers r s (inr e) (inr f) giver = sym e ∙ f
 
-  all_sound : (before : List Service) (bs : List Bind) (ss : List Service) → IsSound Plans before → BindsOn is ps before bs ss None → IsSound Plans (before ++ ss)
+  all_sound : (before : List Service) (bs : List Bind) (ss : List Service) → IsSound Plans before → BindsOn is ps before bs ss None
+      → IsSound Plans (before ++ ss)
   all_sound before [] [] sound binds = subst (IsSound Plans) (sym (append-nil before)) sound
   all_sound before [] (s ∷ ss) sound binds = absurd binds
   all_sound before (b ∷ bs) [] sound binds = absurd binds
@@ -133,7 +136,8 @@ module _ (is : List Instance) (ps : List SeenPlan) where
       }) binds
 
 -- where all have their places
-placed_at : (root : ℕ) (ss : List Service) (k : ℕ) (is : List Instance) → first_unplaced root ss k is ≡ None → (j : ℕ) → j < length is → is_placed root ss (k + j) ≡ true
+placed_at : (root : ℕ) (ss : List Service) (k : ℕ) (is : List Instance) → first_unplaced root ss k is ≡ None → (j : ℕ) → j < length is
+    → is_placed root ss (k + j) ≡ true
 placed_at root ss k [] e j low = absurd (omega (arith, low))
 placed_at root ss k (i ∷ is) e j low = by (is_placed root ss k) refl j low (λ m h. placed_at root ss (k + 1) is h m)
   where

@@ -82,8 +82,8 @@ all_more is js all differ_is differ_js (x ∷ xs) [] typed = absurd typed
 all_more is js all differ_is differ_js (x ∷ xs) (t ∷ ts) (one, typed) =
     (more_imports is js all differ_is differ_js t x.ty one, all_more is js all differ_is differ_js xs ts typed)
 
-all_apart : (is js : Imports) (m : Term) (t : Type') → ((i j : Imported) → Contains is i → Contains js j → i.name ≢ j.name) → Typed is [] m t → (xs : List Imported)
-    (ts : List Term) → AllTyped js xs ts → AllApart m ts
+all_apart : (is js : Imports) (m : Term) (t : Type') → ((i j : Imported) → Contains is i → Contains js j → i.name ≢ j.name) → Typed is [] m t
+    → (xs : List Imported) (ts : List Term) → AllTyped js xs ts → AllApart m ts
 all_apart is js m t apart of_m [] [] typed = tt
 all_apart is js m t apart of_m [] (n ∷ ns) typed = absurd typed
 all_apart is js m t apart of_m (x ∷ xs) [] typed = absurd typed

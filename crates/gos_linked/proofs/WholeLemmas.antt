@@ -171,50 +171,52 @@ module _ (ps : List Plan) (M : ℕ → Term) (ss : List Service) (root : ℕ) (r
     has_of (t ∷ ts) us s (inl e) = inl (inl e)
     has_of (t ∷ ts) us s (inr h) = elim (has_of ts us s h) [ inl a ↦ inl (inr a) | inr b ↦ inr b ]
 
-    module _ (u k : ℕ) (f : ℕ → Grown) (is : List Imported) (x : Imported) (w : Grown) (children : (g : ℕ) → IsListed g 0 (f g)) (h : IsListed u (suc k) w) where
-      later_below : (v : ℕ) → IsBelow u (suc k) v → IsBelow u k v
-      later_below v (inl e) = inl e
-      later_below v (inr (t, i, has, user, high, up)) = inr (t, i, has, user, omega (arith, high), up)
+    module _ (u k : ℕ) (f : ℕ → Grown) (is : List Imported) (x : Imported) (w : Grown) (children : (g : ℕ) → IsListed g 0 (f g))
+        (h : IsListed u (suc k) w)
+      where
+        later_below : (v : ℕ) → IsBelow u (suc k) v → IsBelow u k v
+        later_below v (inl e) = inl e
+        later_below v (inr (t, i, has, user, high, up)) = inr (t, i, has, user, omega (arith, high), up)
 
-      apart : (s : Service) → Finds ss u k s → (v : ℕ) → IsBelow u (suc k) v → (i : ℕ) × Below ss i v s.giver → ⊥
-      apart s (has, user, import) v (inl e) (i, up) =
-          let sum : i + 1 ≡ suc i = omega arith in
-          no_ring ps ss rooted.sound i u
-          (subst (λ (n : ℕ). Below ss n u u) sum
-          (below_then ss i 1 u s.giver u (subst (λ (a : ℕ). Below ss i a s.giver) e up) (s, has, refl, user)))
-      apart s (has, user, import) v (inr (t, j, has_t, user_t, high, up_t)) (i, up) =
-          let one : Below ss (i + 1) v u = below_then ss i 1 v s.giver u up (s, has, refl, user) in
-          let two : Below ss (j + 1) v u = below_then ss j 1 v t.giver u up_t (t, has_t, refl, user_t) in
-          let level : i + 1 ≡ j + 1 = same_level ps ss rooted.sound (i + 1) (j + 1) v u one two in
-          let levels : i ≡ j = omega (arith, level) in
-          let givers : s.giver ≡ t.giver = same_top ps ss rooted.sound j v s.giver t.giver (subst (λ (n : ℕ). Below ss n v s.giver) levels up) up_t in
-          let both : s ≡ t = rooted.sound.one_giver s t has has_t givers in
-          let number : s.import ≡ t.import = ap (λ (r : Service). r.import) both in
-          omega (arith, number, import, high)
+        apart : (s : Service) → Finds ss u k s → (v : ℕ) → IsBelow u (suc k) v → (i : ℕ) × Below ss i v s.giver → ⊥
+        apart s (has, user, import) v (inl e) (i, up) =
+            let sum : i + 1 ≡ suc i = omega arith in
+            no_ring ps ss rooted.sound i u
+            (subst (λ (n : ℕ). Below ss n u u) sum
+            (below_then ss i 1 u s.giver u (subst (λ (a : ℕ). Below ss i a s.giver) e up) (s, has, refl, user)))
+        apart s (has, user, import) v (inr (t, j, has_t, user_t, high, up_t)) (i, up) =
+            let one : Below ss (i + 1) v u = below_then ss i 1 v s.giver u up (s, has, refl, user) in
+            let two : Below ss (j + 1) v u = below_then ss j 1 v t.giver u up_t (t, has_t, refl, user_t) in
+            let level : i + 1 ≡ j + 1 = same_level ps ss rooted.sound (i + 1) (j + 1) v u one two in
+            let levels : i ≡ j = omega (arith, level) in
+            let givers : s.giver ≡ t.giver = same_top ps ss rooted.sound j v s.giver t.giver (subst (λ (n : ℕ). Below ss n v s.giver) levels up) up_t in
+            let both : s ≡ t = rooted.sound.one_giver s t has has_t givers in
+            let number : s.import ≡ t.import = ap (λ (r : Service). r.import) both in
+            omega (arith, number, import, high)
 
-      with_listed : (o : Option Service) → service_at ss u k ≡ o → IsListed u k (with_import o f is x w)
-      with_listed None found = record { below = λ v has. later_below v (h.below v has); distinct = h.distinct; services = h.services }
-      with_listed (Some s) found =
-          let finds : Finds ss u k s = service_found ss u k s found in
-          let c = children s.giver in
-          record {
-            below = λ v has.
-                elim (in_either w.numbers (f s.giver).numbers v has) as (λ _. IsBelow u k v) [
-                  | inl a ↦ later_below v (h.below v a)
-                  | inr b ↦
-                      (let (i, up) = one_below s.giver 0 v (c.below v b) in
-                      let high : k ≤ s.import = (let same_k = finds.2 in omega (arith, same_k)) in
-                      inr (s, i, finds.0, finds.1, high, up))
-                ];
-            distinct =
-                distinct_both w.numbers (f s.giver).numbers h.distinct c.distinct
-                (λ v a b. apart s finds v (h.below v a) (one_below s.giver 0 v (c.below v b)));
-            services = λ t has.
-                elim (has_of (w.services ++ (f s.giver).services) (s ∷ []) t has) as (λ _. HasService ss t) [
-                  | inl a ↦ elim (has_of w.services (f s.giver).services t a) as (λ _. HasService ss t) [ inl b ↦ h.services t b | inr b ↦ c.services t b ]
-                  | inr b ↦ elim b as (λ _. HasService ss t) [ inl e ↦ subst (HasService ss) e finds.0 | inr d ↦ absurd d ]
-                ];
-          }
+        with_listed : (o : Option Service) → service_at ss u k ≡ o → IsListed u k (with_import o f is x w)
+        with_listed None found = record { below = λ v has. later_below v (h.below v has); distinct = h.distinct; services = h.services }
+        with_listed (Some s) found =
+            let finds : Finds ss u k s = service_found ss u k s found in
+            let c = children s.giver in
+            record {
+              below = λ v has.
+                  elim (in_either w.numbers (f s.giver).numbers v has) as (λ _. IsBelow u k v) [
+                    | inl a ↦ later_below v (h.below v a)
+                    | inr b ↦
+                        (let (i, up) = one_below s.giver 0 v (c.below v b) in
+                        let high : k ≤ s.import = (let same_k = finds.2 in omega (arith, same_k)) in
+                        inr (s, i, finds.0, finds.1, high, up))
+                  ];
+              distinct =
+                  distinct_both w.numbers (f s.giver).numbers h.distinct c.distinct
+                  (λ v a b. apart s finds v (h.below v a) (one_below s.giver 0 v (c.below v b)));
+              services = λ t has.
+                  elim (has_of (w.services ++ (f s.giver).services) (s ∷ []) t has) as (λ _. HasService ss t) [
+                    | inl a ↦ elim (has_of w.services (f s.giver).services t a) as (λ _. HasService ss t) [ inl b ↦ h.services t b | inr b ↦ c.services t b ]
+                    | inr b ↦ elim b as (λ _. HasService ss t) [ inl e ↦ subst (HasService ss) e finds.0 | inr d ↦ absurd d ]
+                  ];
+            }
 
     from_listed : (u : ℕ) (f : ℕ → Grown) → ((g : ℕ) → IsListed g 0 (f g)) → (k : ℕ) (is xs : List Imported)
         → IsListed u k (grown_from (service_at ss u) f (alone (P u) (M u) u []) k is xs)
@@ -254,7 +256,8 @@ module _ (ps : List Plan) (M : ℕ → Term) (ss : List Service) (root : ℕ) (r
           own = has_second (w.services ++ (f s.giver).services) (s ∷ []) s (inl refl);
         }
 
-    from_child : (gs : ℕ → Option Service) (f : ℕ → Grown) (base : Grown) (s : Service) (k : ℕ) (is xs : List Imported) (j : ℕ) → gs (k + j) ≡ Some s → j < length xs
+    from_child : (gs : ℕ → Option Service) (f : ℕ → Grown) (base : Grown) (s : Service) (k : ℕ) (is xs : List Imported) (j : ℕ) → gs (k + j) ≡ Some s
+        → j < length xs
         → HasChild s (f s.giver) (grown_from gs f base k is xs)
     from_child gs f base s k is [] j found low = absurd (omega (arith, low))
     from_child gs f base s k is (x ∷ xs) zero found low =
