@@ -3,3 +3,7 @@ pub mod WhoseLemmas
 pub mod WiredLemmas
 pub mod LeafLemmas
 pub mod ParallelLemmas
+pub mod AgreeLemmas
+pub mod FreshLemmas
+pub mod PutLemmas
+pub mod BlockLemmas

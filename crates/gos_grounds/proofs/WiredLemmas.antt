@@ -47,7 +47,9 @@ module _ (types : Types) (i j : ℕ) (m : Numbered) (ns : List ℕ) (env : Suppl
           let (has, there, back) = w.no_import k x at in
           ground_at (env (pl.origin k).number).plan.imports (pl.origin k).import x (realised (pl.origin k).number has).suits.all_ground there
 
-  module _ (a b : ℕ) (n : Numbered) (ms : List ℕ) (pc : Placing) (c : Plan) (v : IsWired types a b n ms env pc c) (among : (k : ℕ) → Contains ms k → Contains ns k) where
+  module _
+      (a b : ℕ) (n : Numbered) (ms : List ℕ) (pc : Placing) (c : Plan) (v : IsWired types a b n ms env pc c)
+      (among : (k : ℕ) → Contains ms k → Contains ns k) where
     -- a node that is wired to some of these supplies has imports of different names too
     pub names_differ : NamesDiffer r.imports → NamesDiffer c.imports
     names_differ differ = at_differ c.imports each
@@ -58,7 +60,9 @@ module _ (types : Types) (i j : ℕ) (m : Numbered) (ns : List ℕ) (env : Suppl
             let (has_l, there_l, back_l) = v.no_import l y at_l in
             let (in_k, from_k) = w.imports (pc.origin k).number (pc.origin k).import x (among (pc.origin k).number has_k) there_k in
             let (in_l, from_l) = w.imports (pc.origin l).number (pc.origin l).import y (among (pc.origin l).number has_l) there_l in
-            let same = differ_at r.imports differ (pl.import (pc.origin k).number (pc.origin k).import) (pl.import (pc.origin l).number (pc.origin l).import) x y in_k in_l e in
+            let same =
+            differ_at r.imports differ (pl.import (pc.origin k).number (pc.origin k).import)
+            (pl.import (pc.origin l).number (pc.origin l).import) x y in_k in_l e in
             let origins : origin_of (pc.origin k) ≡ origin_of (pc.origin l) = sym from_k ∙ (ap pl.origin same ∙ from_l) in
             sym back_k ∙ (ap (λ (o : Origin). pc.import o.number o.import) origins ∙ back_l)
 
