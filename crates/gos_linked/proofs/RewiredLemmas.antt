@@ -14,11 +14,10 @@ use Rattle.gos_renumbered.specs.Rewired.{rewired, IsRewired}
 use Rattle.gos_renumbered.specs.SmallRewirings.{unchanged}
 use Rattle.gos_renumbered.proofs.HigherLemmas.{unchanged_end, unchanged_one, is_itself}
 use Rattle.gos_served.specs.Trees.{wired}
-use Rattle.gos_linked.specs.Linked.{IsRealised}
 use Rattle.gos_linked.proofs.CountLemmas.{In, back, forth, forth_back, back_forth, at_forth, back_at, same}
 use Rattle.gos_linked.proofs.ChainLemmas.{IsRooted, Below, reached, user_low, giver_low}
 use Rattle.gos_linked.proofs.NamedLemmas.{named, named_link}
-use Rattle.gos_linked.proofs.GrowLemmas.{plan_at, Grown, grow, IsGrown}
+use Rattle.gos_linked.proofs.GrowLemmas.{RealisesTerm, plan_at, Grown, grow, IsGrown}
 use Rattle.gos_linked.proofs.WholeLemmas.{plan_is, plan_there, IsBelow, IsListed, grow_grown, grow_listed, all_numbers, all_services}
 
 -- one of some links
@@ -98,7 +97,7 @@ below_low ps ss root rooted zero v u low e = subst (λ (n : ℕ). n < length ps)
 below_low ps ss root rooted (suc i) v u low (s, has, e, up) = subst (λ (n : ℕ). n < length ps) e (giver_low ps ss root rooted s has)
 
 module _ (ps : List Plan) (M : ℕ → Term) (ss : List Service) (root : ℕ) (rooted : IsRooted ps ss root)
-    (realised : (k : ℕ) → k < length ps → IsRealised (plan_at ps k) (M k))
+    (realised : (k : ℕ) → k < length ps → RealisesTerm (plan_at ps k) (M k))
   where
     abbrev P : ℕ → Plan
     P = plan_at ps
