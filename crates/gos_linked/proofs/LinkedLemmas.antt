@@ -22,7 +22,7 @@ use Rattle.gos_linked.proofs.ChainLemmas.{IsRooted}
 use Rattle.gos_linked.proofs.SoundLemmas.{linked_rooted}
 use Rattle.gos_linked.proofs.GrowLemmas.{RealisesTerm, plan_at}
 use Rattle.gos_linked.proofs.WholeLemmas.{plan_there, grow_grown}
-use Rattle.gos_linked.proofs.RewiredLemmas.{T, to, from, tree_rewired}
+use Rattle.gos_linked.proofs.RewiredLemmas.{root_grown, to, from, tree_rewired}
 use Rattle.gos_linked.proofs.BodyLemmas.{body_same}
 use Rattle.gos_linked.proofs.TypedLemmas.{body_typed}
 use Rattle.gos_linked.proofs.OpenLemmas.{linked_differ, open_same}
@@ -52,7 +52,7 @@ module _ (rewired_is_open : RewiredTreeIsOpen) (b : Build) (ps : List SeenPlan) 
     realised : (k : ℕ) → k < length Plans → RealisesTerm (plan_at Plans k) (body_at Programs k)
     realised = each_realised Plans Programs all
 
-    body : body_of (T Plans (body_at Programs) l.services l.root rooted realised).tree ≡ (linked_program b ps p l Programs).body
+    body : body_of (root_grown Plans (body_at Programs) l.services l.root rooted realised).tree ≡ (linked_program b ps p l Programs).body
     body =
         let none : 0 + length Plans ≡ length Plans = omega arith in
         body_same Plans Programs l.services l.root rooted realised (length Plans) l.root 0 rooted.low refl none
@@ -62,7 +62,7 @@ module _ (rewired_is_open : RewiredTreeIsOpen) (b : Build) (ps : List SeenPlan) 
     opens =
         let grown = grow_grown Plans (body_at Programs) l.services l.root rooted realised (length Plans) l.root rooted.low in
         subst (RealisesOpen p) body
-        (rewired_is_open (T Plans (body_at Programs) l.services l.root rooted realised).tree (whole_of ps l.services l.root)
+        (rewired_is_open (root_grown Plans (body_at Programs) l.services l.root rooted realised).tree (whole_of ps l.services l.root)
         (to Plans (body_at Programs) l.services l.root rooted realised) (from Plans (body_at Programs) l.services l.root rooted realised) (λ k. unchanged) p
         grown.tree grown.types (tree_rewired Plans (body_at Programs) l.services l.root rooted realised) l.joining (linked_differ b ps p l))
 
@@ -70,7 +70,7 @@ module _ (rewired_is_open : RewiredTreeIsOpen) (b : Build) (ps : List SeenPlan) 
     typed : Typed p.imports [] (linked_program b ps p l Programs).body p.outcome
     typed =
         let grown = grow_grown Plans (body_at Programs) l.services l.root rooted realised (length Plans) l.root rooted.low in
-        let tree : Tree = (T Plans (body_at Programs) l.services l.root rooted realised).tree in
+        let tree : Tree = (root_grown Plans (body_at Programs) l.services l.root rooted realised).tree in
         let (q, of_q) = tree_is_joined tree grown.tree in
         let (g, same) =
         rewired_is_renumbered (to Plans (body_at Programs) l.services l.root rooted realised) (from Plans (body_at Programs) l.services l.root rooted realised)
@@ -79,7 +79,7 @@ module _ (rewired_is_open : RewiredTreeIsOpen) (b : Build) (ps : List SeenPlan) 
         in
         let order = reordered g p q same in
         let names : NamesDiffer p.imports = linked_differ b ps p l in
-        let left : q.imports ≡ (T Plans (body_at Programs) l.services l.root rooted realised).behind =
+        let left : q.imports ≡ (root_grown Plans (body_at Programs) l.services l.root rooted realised).behind =
         tree_imports tree q grown.tree of_q.joining ∙ grown.left
         in
         let differ = subst NamesDiffer left (names_same g.import g.import_back p.imports q.imports order names) in
