@@ -14,7 +14,7 @@ use Rattle.gos_plan.specs.Seen.{SeenPlan, plan_of}
 use Rattle.gos_link.specs.declared.build.Instance.{Instance}
 use Rattle.gos_link.specs.declared.services.Service.{Service}
 use Rattle.gos_link.specs.Linked.{imports_of, plans_of}
-use Rattle.gos_linked.specs.Linked.{programs_of, name_if, binds_of, linked_program}
+use Rattle.gos_linked.specs.Linked.{name_if, binds_of, linked_program}
 use Rattle.gos_linked.specs.Modules.{AreModules, LinkedIsModule, LinkedIsDone}
 use Rattle.gos_circuits.specs.Paced.{ModuleCircuitsKeepPace}
 use Rattle.gos_build.specs.Objects.{BeginWith, HavePlans}
@@ -29,34 +29,25 @@ module_keeps_pace law m plan root net is ground done circuit =
     subst (λ (w : ℕ). KeepsPaceAlways w (program_of m) net) is.made.weight
     (subst (λ (i : Imports). KeepsPaceAlways plan.weight (record { imports = i; body = body }) net) is.made.imports paced)
 
--- the bodies of modules
-abbrev bodies : List SeenModule → List Term
-bodies ms = map (λ m. (program_of m).body) ms
-
 as_many : (ms : List SeenModule) (ps : List SeenPlan) → HavePlans ms ps → length ps ≡ length ms
 as_many [] [] have = refl
 as_many [] (p ∷ ps) have = absurd have
 as_many (m ∷ ms) [] have = absurd have
 as_many (m ∷ ms) (p ∷ ps) have = ap suc (as_many ms ps have.1)
 
--- each plan realises its module
+-- each plan is that of its module
 are_modules : (files : Files) (is : List Instance) (ms : List SeenModule) (ps : List SeenPlan) → BeginWith files is ms → HavePlans ms ps
-    → AreModules (plans_of ps) (bodies ms)
+    → AreModules (plans_of ps) (map program_of ms)
 are_modules files is [] [] say have = tt
 are_modules files is [] (p ∷ ps) say have = absurd have
 are_modules files is (m ∷ ms) [] say have = absurd have
 are_modules files [] (m ∷ ms) (p ∷ ps) say have = absurd say
-are_modules files (i ∷ is) (m ∷ ms) (p ∷ ps) say have =
-    (have.0.realises say.0.ground, (have.0.ports say.0.ground).1, are_modules files is ms ps say.1 have.1)
+are_modules files (i ∷ is) (m ∷ ms) (p ∷ ps) say have = (
+  record { imports = have.0.made.imports; realises = have.0.realises say.0.ground; widths = (have.0.ports say.0.ground).1 },
+  are_modules files is ms ps say.1 have.1,
+)
 
--- the programs of the plans are those of the modules, and so are what services bind
-same_programs : (ms : List SeenModule) (ps : List SeenPlan) → HavePlans ms ps → programs_of (plans_of ps) (bodies ms) ≡ map program_of ms
-same_programs [] [] have = refl
-same_programs [] (p ∷ ps) have = absurd have
-same_programs (m ∷ ms) [] have = absurd have
-same_programs (m ∷ ms) (p ∷ ps) have =
-    let rest = same_programs ms ps have.1 in λ i. record { imports = have.0.made.imports i; body = (program_of m).body } ∷ rest i
-
+-- what services bind among the plans, they bind among the programs
 same_imports : (ms : List SeenModule) (ps : List SeenPlan) (n : ℕ) → HavePlans ms ps
     → imports_of (slice_get (plans_of ps) n) ≡ imports_if (slice_get (map program_of ms) n)
 same_imports [] [] n have = refl
@@ -81,10 +72,10 @@ build_keeps_pace is_module is_done files objects old new b plans weight net comp
     let l = done.linked in
     let all = are_modules files b.instances.items ms plans compiled.written.say have in
     let each : length plans ≡ length b.instances.items = as_many ms plans have ∙ compiled.all in
-    let a_module = is_module b plans whole (bodies ms) l each all in
-    let (matched, program) = is_done b plans whole (bodies ms) l each all in
-    let paced = done.written.circuit.pace a_module.0.slim (linked_program b plans whole l (bodies ms)).body matched in
-    let same : linked_program b plans whole l (bodies ms) ≡ program_along ms l.services l.root =
-    (λ i. substituted (same_programs ms plans have i) (same_binds ms plans l.services have i) l.root) in
+    let linked = is_module b plans whole (map program_of ms) l each all in
+    let (matched, program) = is_done b plans whole (map program_of ms) l each all in
+    let paced = done.written.circuit.pace linked.realises.slim (linked_program b plans whole l (map program_of ms)).body matched in
+    let same : linked_program b plans whole l (map program_of ms) ≡ program_along ms l.services l.root =
+    ap (λ (bs : List Bind). substituted (map program_of ms) bs l.root) (same_binds ms plans l.services have) in
     subst (λ (w : ℕ). KeepsPaceAlways w (program_along ms l.services l.root) net) (sym done.weighs)
     (subst (λ (p : Program). KeepsPaceAlways whole.weight p net) (program ∙ same) paced)

@@ -17,10 +17,10 @@ use Rattle.gos_renumbered.proofs.ImportLemmas.{name_is, of_at}
 use Rattle.gos_applied.proofs.TermLemmas.{supplied_same}
 use Rattle.gos_served.specs.Trees.{first, after, served_by, term_among, Serve, left_of, meaning, names_of, body_of}
 use Rattle.gos_served.proofs.TypeLemmas.{or_itself, with_names}
-use Rattle.gos_linked.specs.Linked.{name_if, binds_of, IsRealised}
+use Rattle.gos_linked.specs.Linked.{name_if, binds_of}
 use Rattle.gos_linked.proofs.CountLemmas.{is_same, is_other}
 use Rattle.gos_linked.proofs.ChainLemmas.{IsSound, IsRooted, Below, reached, same_level, giver_low}
-use Rattle.gos_linked.proofs.GrowLemmas.{plan_at, service_at, Grown, alone, with_import, grown_from, grow}
+use Rattle.gos_linked.proofs.GrowLemmas.{RealisesTerm, plan_at, service_at, Grown, alone, with_import, grown_from, grow}
 use Rattle.gos_linked.proofs.WholeLemmas.{plan_is, service_found, import_here, next_size, next_imports, grow_grown}
 
 -- terms of which the first are these
@@ -163,7 +163,7 @@ module _ (ps : List Plan) (ss : List Service) (sound : IsSound ps ss) (u k : ℕ
     giver_same = givers ss (λ s has. has)
 
 module _ (ps : List Plan) (programs : Instances) (ss : List Service) (root : ℕ) (rooted : IsRooted ps ss root)
-    (realised : (k : ℕ) → k < length ps → IsRealised (plan_at ps k) (body_at programs k))
+    (realised : (k : ℕ) → k < length ps → RealisesTerm (plan_at ps k) (body_at programs k))
   where
     abbrev P : ℕ → Plan
     P = plan_at ps

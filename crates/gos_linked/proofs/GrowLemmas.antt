@@ -8,6 +8,7 @@ use Rattle.gos_model.specs.Typing.{Imported, Typed}
 use Rattle.gos_plan.specs.Plans.{Plan, IsRight}
 use Rattle.gos_plan.specs.Joining.{Link, Wiring, all_left}
 use Rattle.gos_realises.specs.Regular.{count}
+use Rattle.gos_realises.specs.Realises.{NamesDiffer}
 use Rattle.gos_realises.specs.Modules.{import_linked, RealisesOpen}
 use Rattle.gos_link.specs.declared.services.Service.{Service}
 use Rattle.gos_link.specs.Linked.{links_of, links_from, shakes_at}
@@ -15,6 +16,13 @@ use Rattle.gos_unions.specs.Flat.{later_link, deeper_link}
 use Rattle.gos_served.specs.Trees.{Tree, Alone, Serve, left_of, type_of, wired, IsTree, HasTypes}
 use Rattle.gos_linked.proofs.CountLemmas.{back, back_first, back_second}
 use Rattle.gos_linked.proofs.NamedLemmas.{named_link, AllWithin, AllFree, within_both, within_later, free_both, free_first, free_later, left_of_first, first_named, second_named, all_between, between_within, between_free}
+
+-- what is asked of an instance
+pub record RealisesTerm (p : Plan) (m : Term) : Type 0 where
+  pub right : IsRight p
+  pub names : NamesDiffer p.imports
+  pub typed : Typed p.imports [] m p.outcome
+  pub open_imports : RealisesOpen p m
 
 -- the plan of this number
 abbrev pub plan_at : List Plan → ℕ → Plan

@@ -7,7 +7,7 @@ use Rattle.gos_model.specs.Terms.{Term}
 use Rattle.gos_model.specs.Typing.{Imported}
 use Rattle.gos_model.specs.Weight.{weight}
 use Rattle.gos_model.specs.Moves.{Program}
-use Rattle.gos_model.specs.Linking.{Bind, add_open, giver_of, open_of, open_from, link_weight}
+use Rattle.gos_model.specs.Linking.{Bind, Instances, add_open, giver_of, open_of, open_from, link_weight}
 use Rattle.gos_model.specs.Pace.{KeepsPaceAlways}
 use Rattle.gos_plan.specs.Plans.{Plan}
 use Rattle.gos_plan.specs.Seen.{SeenPlan}
@@ -22,28 +22,29 @@ use Rattle.gos_link.specs.Linked.{plans_of, outcome_of, IsLinked}
 use Rattle.gos_link.specs.Linked as link
 use Rattle.gos_link.specs.Answers.{EachRight}
 use Rattle.gos_fits.specs.Fits.{AreSlim, LinkedIsSlim}
-use Rattle.gos_linked.specs.Linked.{programs_of, binds_of, linked_program, AreRealised, LinkedIsRealised, LinkedHasImports, LinkedIsGround}
+use Rattle.gos_linked.specs.Linked.{binds_of, linked_program, AreRealised, LinkedIsRealised, LinkedIsGround}
 use Rattle.gos_linked.specs.Modules.{AreModules, LinkedIsModule, LinkedIsDone, LinkedKeepsPace, AreWeighed, LinkedHasWeight}
 
 -- what is asked of each instance
-each_realised : (ps : List Plan) (ms : List Term) → AreModules ps ms → AreRealised ps ms
+each_realised : (ps : List Plan) (ms : Instances) → AreModules ps ms → AreRealised ps ms
 each_realised [] [] all = tt
 each_realised [] (m ∷ ms) all = absurd all
 each_realised (p ∷ ps) [] all = absurd all
-each_realised (p ∷ ps) (m ∷ ms) (one, wide, all) =
-    (record { right = one.right; names = one.names; typed = one.typed; open_imports = one.open_imports }, each_realised ps ms all)
+each_realised (p ∷ ps) (m ∷ ms) (one, all) =
+    let of = one.realises in
+    (record { imports = one.imports; right = of.right; names = of.names; typed = of.typed; open_imports = of.open_imports }, each_realised ps ms all)
 
-each_right : (ps : List Plan) (ms : List Term) → AreModules ps ms → EachRight ps
+each_right : (ps : List Plan) (ms : Instances) → AreModules ps ms → EachRight ps
 each_right [] [] all = tt
 each_right [] (m ∷ ms) all = absurd all
 each_right (p ∷ ps) [] all = absurd all
-each_right (p ∷ ps) (m ∷ ms) (one, wide, all) = (one.right, each_right ps ms all)
+each_right (p ∷ ps) (m ∷ ms) (one, all) = (one.realises.right, each_right ps ms all)
 
-each_slim : (ps : List Plan) (ms : List Term) → AreModules ps ms → AreSlim ps
+each_slim : (ps : List Plan) (ms : Instances) → AreModules ps ms → AreSlim ps
 each_slim [] [] all = tt
 each_slim [] (m ∷ ms) all = absurd all
 each_slim (p ∷ ps) [] all = absurd all
-each_slim (p ∷ ps) (m ∷ ms) (one, wide, all) = (one.slim, each_slim ps ms all)
+each_slim (p ∷ ps) (m ∷ ms) (one, all) = (one.realises.slim, each_slim ps ms all)
 
 -- the numbers of imports that stay
 wide_both : (is js : List Imported) → HaveWidths is → HaveWidths js → HaveWidths (is ++ js)
@@ -58,12 +59,13 @@ wide_open bs u (i ∷ is) (one, wide) = by_giver (giver_of bs u i.name) (wide_op
     by_giver None rest = (one, rest)
     by_giver (Some g) rest = rest
 
-all_wide : (bs : List Bind) (u : ℕ) (ps : List Plan) (ms : List Term) → AreModules ps ms → HaveWidths (open_from bs u (programs_of ps ms))
+all_wide : (bs : List Bind) (u : ℕ) (ps : List Plan) (ms : Instances) → AreModules ps ms → HaveWidths (open_from bs u ms)
 all_wide bs u [] [] all = tt
 all_wide bs u [] (m ∷ ms) all = absurd all
 all_wide bs u (p ∷ ps) [] all = absurd all
-all_wide bs u (p ∷ ps) (m ∷ ms) (one, wide, all) =
-    wide_both (open_of bs u p.imports) (open_from bs (suc u) (programs_of ps ms)) (wide_open bs u p.imports wide) (all_wide bs (suc u) ps ms all)
+all_wide bs u (p ∷ ps) (m ∷ ms) (one, all) =
+    wide_both (open_of bs u m.imports) (open_from bs (suc u) ms) (wide_open bs u m.imports (subst HaveWidths one.imports one.widths))
+    (all_wide bs (suc u) ps ms all)
 
 done_of : (t : Type') → link.IsDone t → IsDone t
 done_of Com done = tt
@@ -72,14 +74,14 @@ done_of (Var w) done = done
 done_of (Pair a b) done = done
 done_of (Fun a b) done = done
 
-module _ (realises : LinkedIsRealised) (has_imports : LinkedHasImports) (ground : LinkedIsGround) (open_is_done : OpenIsDone) (b : Build) (ps : List SeenPlan)
-    (p : Plan) (ms : List Term) (l : IsLinked b ps p) (each : length ps ≡ length b.instances.items) (all : AreModules (plans_of ps) ms)
+module _ (realises : LinkedIsRealised) (ground : LinkedIsGround) (open_is_done : OpenIsDone) (b : Build) (ps : List SeenPlan)
+    (p : Plan) (ms : Instances) (l : IsLinked b ps p) (each : length ps ≡ length b.instances.items) (all : AreModules (plans_of ps) ms)
   where
     are : AreRealised (plans_of ps) ms
     are = each_realised (plans_of ps) ms all
 
     imports : p.imports ≡ (linked_program b ps p l ms).imports
-    imports = has_imports b ps p ms l each are
+    imports = (realises b ps p ms l each are).imports
 
     wide : HaveWidths p.imports
     wide = subst HaveWidths (sym imports) (all_wide (binds_of (plans_of ps) l.services) 0 (plans_of ps) ms all)
@@ -107,30 +109,34 @@ module _ (realises : LinkedIsRealised) (has_imports : LinkedHasImports) (ground 
           open_imports = r.open_imports;
         }
 
-module _ (realises : LinkedIsRealised) (has_imports : LinkedHasImports) (ground : LinkedIsGround) (open_is_done : OpenIsDone) where
+module _ (realises : LinkedIsRealised) (ground : LinkedIsGround) (open_is_done : OpenIsDone) where
   pub linked_is_module : LinkedIsSlim → LinkedIsModule
   linked_is_module slim b ps p ms l each all =
-      (a_module realises has_imports ground open_is_done b ps p ms l each all slim, wide realises has_imports ground open_is_done b ps p ms l each all)
+      record {
+        imports = imports realises ground open_is_done b ps p ms l each all;
+        realises = a_module realises ground open_is_done b ps p ms l each all slim;
+        widths = wide realises ground open_is_done b ps p ms l each all;
+      }
 
   pub linked_is_done : LinkedIsDone
   linked_is_done b ps p ms l each all =
-      let both = regular_done realises has_imports ground open_is_done b ps p ms l each all in
-      (both.1, same_program realises has_imports ground open_is_done b ps p ms l each all)
+      let both = regular_done realises ground open_is_done b ps p ms l each all in
+      (both.1, same_program realises ground open_is_done b ps p ms l each all)
 
   pub linked_keeps_pace : LinkedIsSlim → ModulesKeepPace → LinkedKeepsPace
   linked_keeps_pace slim keep b ps p ms net l each all of_net =
       let body : Term = (linked_program b ps p l ms).body in
-      subst (λ (q : Program). KeepsPaceAlways p.weight q net) (same_program realises has_imports ground open_is_done b ps p ms l each all)
-      (keep p body net (a_module realises has_imports ground open_is_done b ps p ms l each all slim) (ground b ps p l)
-      (wide realises has_imports ground open_is_done b ps p ms l each all) (done realises has_imports ground open_is_done b ps p ms l each all) of_net)
+      subst (λ (q : Program). KeepsPaceAlways p.weight q net) (same_program realises ground open_is_done b ps p ms l each all)
+      (keep p body net (a_module realises ground open_is_done b ps p ms l each all slim) (ground b ps p l)
+      (wide realises ground open_is_done b ps p ms l each all) (done realises ground open_is_done b ps p ms l each all) of_net)
 
-weight_sum : (ps : List Plan) (ms : List Term) → AreWeighed ps ms → all_weight ps ≡ link_weight (programs_of ps ms)
+weight_sum : (ps : List Plan) (ms : Instances) → AreWeighed ps ms → all_weight ps ≡ link_weight ms
 weight_sum [] [] all = refl
 weight_sum [] (m ∷ ms) all = absurd all
 weight_sum (p ∷ ps) [] all = absurd all
 weight_sum (p ∷ ps) (m ∷ ms) (one, all) =
     let rest = weight_sum ps ms all in
-    (λ i. one i + rest i) ∙ sym (sum_by-cons (λ (q : Program). weight q.imports q.body) (record { imports = p.imports; body = m }) (programs_of ps ms))
+    (λ i. one i + rest i) ∙ sym (sum_by-cons (λ (q : Program). weight q.imports q.body) m ms)
 
 pub linked_has_weight : LinkedHasWeight
 linked_has_weight b ps p ms l all = l.joining.weight ∙ weight_sum (plans_of ps) ms all

@@ -3,9 +3,8 @@ use Rattle.std.specs.Prelude.{◌≡◌, ◌≢◌, ◌<◌, ◌+◌, ◌&&◌, 
 use Rattle.std.proofs.Common.{refl, sym, ◌∙◌, ap, subst, arith, inl, inr}
 use Rattle.std.proofs.lemmas.List.{map-append}
 use Rattle.std.proofs.lemmas.Option.{slice_get-map, slice_get_within}
-use Rattle.gos_model.specs.Terms.{Term}
 use Rattle.gos_model.specs.Typing.{Imported}
-use Rattle.gos_model.specs.Linking.{add_open, open_of, open_from}
+use Rattle.gos_model.specs.Linking.{Instances, add_open, open_of, open_from}
 use Rattle.gos_plan.specs.Plans.{Plan, contacts_of_import}
 use Rattle.gos_plan.specs.Seen.{SeenPlan}
 use Rattle.gos_plan.specs.Joining.{Link, is_at_import, is_joined, LeftImport, left_in, left_among, all_left}
@@ -18,7 +17,7 @@ use Rattle.gos_link.specs.declared.build.Instance.{Instance}
 use Rattle.gos_link.specs.declared.services.Service.{Service}
 use Rattle.gos_link.specs.Services.{HasService}
 use Rattle.gos_link.specs.Linked.{Port, port_of, AreDifferent, AreGround, imports_of, shakes_at, link_at, links_from, links_of, whole_of, IsLinked}
-use Rattle.gos_linked.specs.Linked.{programs_of, binds_of, AreRealised, LinkedIsGround}
+use Rattle.gos_linked.specs.Linked.{binds_of, AreRealised, LinkedIsGround}
 use Rattle.gos_linked.proofs.ChainLemmas.{IsSound}
 use Rattle.gos_linked.proofs.GrowLemmas.{plan_at, service_at}
 use Rattle.gos_linked.proofs.WholeLemmas.{import_here, next_size, next_imports}
@@ -153,8 +152,8 @@ module _ (ps : List Plan) (ss : List Service) (sound : IsSound ps ss) where
       chosen None = refl
       chosen (Some s) = refl
 
-  open_among : (u : ℕ) (qs : List Plan) (ms : List Term) → AreRealised qs ms → ((k : ℕ) → k < length qs → plan_at ps (u + k) ≡ plan_at qs k)
-      → map import_of (left_among (links_of ps ss) u qs) ≡ open_from (binds_of ps ss) u (programs_of qs ms)
+  open_among : (u : ℕ) (qs : List Plan) (ms : Instances) → AreRealised qs ms → ((k : ℕ) → k < length qs → plan_at ps (u + k) ≡ plan_at qs k)
+      → map import_of (left_among (links_of ps ss) u qs) ≡ open_from (binds_of ps ss) u ms
   open_among u [] [] all same = refl
   open_among u [] (m ∷ ms) all same = absurd all
   open_among u (q ∷ qs) [] all same = absurd all
@@ -162,12 +161,12 @@ module _ (ps : List Plan) (ss : List Service) (sound : IsSound ps ss) where
       let none : u + 0 ≡ u = omega arith in
       let here : plan_at ps u ≡ q = ap (plan_at ps) (sym none) ∙ same 0 (omega arith) in
       let differ : NamesDiffer (plan_at ps u).imports = subst (λ (r : Plan). NamesDiffer r.imports) (sym here) one.names in
-      let head = open_in u differ 0 [] q.imports (ap (λ (r : Plan). r.imports) here) refl in
+      let head = open_in u differ 0 [] q.imports (ap (λ (r : Plan). r.imports) here) refl ∙ ap (open_of (binds_of ps ss) u) one.imports in
       let rest =
       open_among (suc u) qs ms all
       (λ k low. (let sum : suc u + k ≡ u + suc k = omega arith in ap (plan_at ps) sum ∙ same (suc k) (omega (arith, low))))
       in
       map-append import_of (left_in (links_of ps ss) u 0 q.imports) (left_among (links_of ps ss) (suc u) qs) ∙ (λ l. head l ++ rest l)
 
-  pub open_same : (ms : List Term) → AreRealised ps ms → map import_of (left_among (links_of ps ss) 0 ps) ≡ open_from (binds_of ps ss) 0 (programs_of ps ms)
+  pub open_same : (ms : Instances) → AreRealised ps ms → map import_of (left_among (links_of ps ss) 0 ps) ≡ open_from (binds_of ps ss) 0 ms
   open_same ms all = open_among 0 ps ms all (λ k low. (let none : 0 + k ≡ k = omega arith in ap (plan_at ps) none))

@@ -14,11 +14,10 @@ use Rattle.gos_renumbered.specs.Rewired.{rewired, IsRewired}
 use Rattle.gos_renumbered.specs.SmallRewirings.{unchanged}
 use Rattle.gos_renumbered.proofs.HigherLemmas.{unchanged_end, unchanged_one, is_itself}
 use Rattle.gos_served.specs.Trees.{wired}
-use Rattle.gos_linked.specs.Linked.{IsRealised}
 use Rattle.gos_linked.proofs.CountLemmas.{In, back, forth, forth_back, back_forth, at_forth, back_at, same}
 use Rattle.gos_linked.proofs.ChainLemmas.{IsRooted, Below, reached, user_low, giver_low}
 use Rattle.gos_linked.proofs.NamedLemmas.{named, named_link}
-use Rattle.gos_linked.proofs.GrowLemmas.{plan_at, Grown, grow, IsGrown}
+use Rattle.gos_linked.proofs.GrowLemmas.{RealisesTerm, plan_at, Grown, grow, IsGrown}
 use Rattle.gos_linked.proofs.WholeLemmas.{plan_is, plan_there, IsBelow, IsListed, grow_grown, grow_listed, all_numbers, all_services}
 
 -- one of some links
@@ -98,7 +97,7 @@ below_low ps ss root rooted zero v u low e = subst (λ (n : ℕ). n < length ps)
 below_low ps ss root rooted (suc i) v u low (s, has, e, up) = subst (λ (n : ℕ). n < length ps) e (giver_low ps ss root rooted s has)
 
 module _ (ps : List Plan) (M : ℕ → Term) (ss : List Service) (root : ℕ) (rooted : IsRooted ps ss root)
-    (realised : (k : ℕ) → k < length ps → IsRealised (plan_at ps k) (M k))
+    (realised : (k : ℕ) → k < length ps → RealisesTerm (plan_at ps k) (M k))
   where
     abbrev P : ℕ → Plan
     P = plan_at ps
@@ -106,22 +105,22 @@ module _ (ps : List Plan) (M : ℕ → Term) (ss : List Service) (root : ℕ) (r
     abbrev n : ℕ
     n = length ps
 
-    abbrev pub T : Grown
-    T = grow P M ss n root
+    abbrev pub root_grown : Grown
+    root_grown = grow P M ss n root
 
     abbrev ns : List ℕ
-    ns = T.numbers
+    ns = root_grown.numbers
 
-    abbrev V : Wiring
-    V = wired T.tree
+    abbrev of_tree : Wiring
+    of_tree = wired root_grown.tree
 
-    abbrev W : Wiring
-    W = wiring_of ps ss root
+    abbrev of_build : Wiring
+    of_build = wiring_of ps ss root
 
-    grown : IsGrown ps P M n root [] T
+    grown : IsGrown ps P M n root [] root_grown
     grown = grow_grown ps M ss root rooted realised n root rooted.low
 
-    listed : IsListed ps M ss root rooted realised root 0 T
+    listed : IsListed ps M ss root rooted realised root 0 root_grown
     listed = grow_listed ps M ss root rooted realised n root
 
     numbers_low : (k : ℕ) → In ns k → k < n
@@ -136,7 +135,7 @@ module _ (ps : List Plan) (M : ℕ → Term) (ss : List Service) (root : ℕ) (r
         let (i, few, up) = reached ps ss root rooted k low in
         all_numbers ps M ss root rooted realised n root i k rooted.low up (omega (arith, few))
 
-    services_all : (s : Service) → HasService ss s → HasService T.services s
+    services_all : (s : Service) → HasService ss s → HasService root_grown.services s
     services_all s has =
         let (i, few, up) = reached ps ss root rooted s.user (user_low ps ss root rooted s has) in
         all_services ps M ss root rooted realised n root i s has up few
@@ -168,7 +167,7 @@ module _ (ps : List Plan) (M : ℕ → Term) (ss : List Service) (root : ℕ) (r
         let end = unchanged_end a.end in
         λ i. place (plan i) (end i)
 
-    plan_to : (k : ℕ) (p : Plan) → slice_get ps k ≡ Some p → k < n → slice_get V.plans (to k) ≡ Some p
+    plan_to : (k : ℕ) (p : Plan) → slice_get ps k ≡ Some p → k < n → slice_get of_tree.plans (to k) ≡ Some p
     plan_to k p at low =
         ap (λ (l : List Plan). slice_get l (to k)) grown.plans
         ∙ (slice_get-map P ns (to k) ∙ (ap (option_map P) (at_forth n ns k (numbers_all k low)) ∙ ap Some (plan_is ps k p at)))
@@ -179,56 +178,56 @@ module _ (ps : List Plan) (M : ℕ → Term) (ss : List Service) (root : ℕ) (r
     low_of (q ∷ qs) (suc k) p e = let h = low_of qs k p e in omega (arith, h)
 
     abbrev PlanThere : ℕ → Plan → Type 0
-    PlanThere k p = (q : Plan) × (slice_get V.plans (to k) ≡ Some q) × IsRenumbered unchanged p q
+    PlanThere k p = (q : Plan) × (slice_get of_tree.plans (to k) ≡ Some q) × IsRenumbered unchanged p q
 
-    plans : (k : ℕ) (p : Plan) → slice_get W.plans k ≡ Some p → PlanThere k p
+    plans : (k : ℕ) (p : Plan) → slice_get of_build.plans k ≡ Some p → PlanThere k p
     plans k p at =
         let low : k < n = low_of ps k p at in
         let right = (realised k low).right in
         (p, plan_to k p at low, is_itself p (subst IsRight (plan_is ps k p at) right))
 
-    no_more : (j : ℕ) (q : Plan) → slice_get V.plans j ≡ Some q → (p : Plan) × (slice_get W.plans (from j) ≡ Some p)
+    no_more : (j : ℕ) (q : Plan) → slice_get of_tree.plans j ≡ Some q → (p : Plan) × (slice_get of_build.plans (from j) ≡ Some p)
     no_more j q at =
         let (k, found) = there ns P j q (ap (λ (l : List Plan). slice_get l j) (sym grown.plans) ∙ at) in
         let (is_k, has) = back_at n ns j k found in
         (P k, ap (slice_get ps) is_k ∙ plan_there ps k (numbers_low k has))
 
-    link_there : (l : Link) → HasLink W.links l → (m : Link) × HasLink V.links m × (named_link n ns m ≡ l)
+    link_there : (l : Link) → HasLink of_build.links l → (m : Link) × HasLink of_tree.links m × (named_link n ns m ≡ l)
     link_there l has =
-        mapped_has (named_link n ns) V.links l
-        (subst (λ (ls : List Link). HasLink ls l) (sym grown.links) (links_among ps ss T.services services_all l has))
+        mapped_has (named_link n ns) of_tree.links l
+        (subst (λ (ls : List Link). HasLink ls l) (sym grown.links) (links_among ps ss root_grown.services services_all l has))
 
-    link_here : (m : Link) → HasLink V.links m → HasLink W.links (named_link n ns m)
+    link_here : (m : Link) → HasLink of_tree.links m → HasLink of_build.links (named_link n ns m)
     link_here m has =
-        links_among ps T.services ss listed.services (named_link n ns m)
-        (subst (λ (ls : List Link). HasLink ls (named_link n ns m)) grown.links (has_mapped (named_link n ns) V.links m has))
+        links_among ps root_grown.services ss listed.services (named_link n ns m)
+        (subst (λ (ls : List Link). HasLink ls (named_link n ns m)) grown.links (has_mapped (named_link n ns) of_tree.links m has))
 
-    links_to : (a b : Place) → Linked W a b → Linked V (moves a) (moves b)
+    links_to : (a b : Place) → Linked of_build a b → Linked of_tree (moves a) (moves b)
     links_to a b (l, has, ends) =
-        let (m, has_m, e) = link_there l (has_contained W.links l has) in
+        let (m, has_m, e) = link_there l (has_contained of_build.links l has) in
         let one : moves l.one ≡ m.one = ap (λ (r : Link). moves r.one) (sym e) ∙ moved_named m.one in
         let other : moves l.other ≡ m.other = ap (λ (r : Link). moves r.other) (sym e) ∙ moved_named m.other in (
           m,
-          contains_has V.links m has_m,
+          contains_has of_tree.links m has_m,
           elim ends as (λ _. ((moves a ≡ m.one) × (moves b ≡ m.other)) ⊎ ((moves a ≡ m.other) × (moves b ≡ m.one))) [
             | inl (f, g) ↦ inl (ap moves f ∙ one, ap moves g ∙ other)
             | inr (f, g) ↦ inr (ap moves f ∙ other, ap moves g ∙ one)
           ],
         )
 
-    links_back : (a b : Place) → Linked V (moves a) (moves b) → Linked W a b
+    links_back : (a b : Place) → Linked of_tree (moves a) (moves b) → Linked of_build a b
     links_back a b (m, has, ends) =
         let l : Link = named_link n ns m in
         let name : (c d : Place) → moves c ≡ d → c ≡ named n ns d = λ c d e. sym (named_moved c) ∙ ap (named n ns) e in (
           l,
-          contains_has W.links l (link_here m (has_contained V.links m has)),
+          contains_has of_build.links l (link_here m (has_contained of_tree.links m has)),
           elim ends as (λ _. ((a ≡ l.one) × (b ≡ l.other)) ⊎ ((a ≡ l.other) × (b ≡ l.one))) [
             | inl (f, g) ↦ inl (name a m.one f, name b m.other g)
             | inr (f, g) ↦ inr (name a m.other f, name b m.one g)
           ],
         )
 
-    pub tree_rewired : IsRewired to from (λ k. unchanged) W V
+    pub tree_rewired : IsRewired to from (λ k. unchanged) of_build of_tree
     tree_rewired =
         record {
           returns = from_to;

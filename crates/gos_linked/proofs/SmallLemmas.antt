@@ -13,6 +13,7 @@ unserved_stays = refl
 pub use_is_realised : small.UseIsRealised → UseIsRealised
 use_is_realised opens =
     record {
+      imports = refl;
       right = (((0, 0, refl, refl), refl, refl), (((0, 0, refl, refl), refl, refl), tt));
       names = (λ j has same. (let (k, small, at) = has in omega (arith, small)), tt);
       typed = (Com, refl, refl, λ t in_f in_skip. (let (k, small, at) = in_skip in omega (arith, small)));

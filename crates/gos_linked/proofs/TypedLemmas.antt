@@ -17,9 +17,9 @@ use Rattle.gos_typing.proofs.NameLemmas.{typed_under}
 use Rattle.gos_typing.proofs.WhenceLemmas.{named, with_supplies}
 use Rattle.gos_applied.proofs.TermLemmas.{differ_first, differ_second, differ_between}
 use Rattle.gos_served.specs.Trees.{term_among}
-use Rattle.gos_linked.specs.Linked.{binds_of, IsRealised}
+use Rattle.gos_linked.specs.Linked.{binds_of}
 use Rattle.gos_linked.proofs.ChainLemmas.{IsRooted, Below, reached, same_level, giver_low}
-use Rattle.gos_linked.proofs.GrowLemmas.{plan_at, service_at, Grown, alone, with_import, grown_from, grow}
+use Rattle.gos_linked.proofs.GrowLemmas.{RealisesTerm, plan_at, service_at, Grown, alone, with_import, grown_from, grow}
 use Rattle.gos_linked.proofs.WholeLemmas.{serves, import_here, next_size, next_imports}
 use Rattle.gos_linked.proofs.BodyLemmas.{given_one, given, own_name, all_same}
 
@@ -131,7 +131,7 @@ among_share (x ∷ xs) (k ∷ ks) (first, share) y z t u m n of_y of_z is_m is_n
     by_tests false false at_y at_z e f g h rest = rest e f g h
 
 module _ (ps : List Plan) (programs : Instances) (ss : List Service) (root : ℕ) (rooted : IsRooted ps ss root)
-    (realised : (k : ℕ) → k < length ps → IsRealised (plan_at ps k) (body_at programs k))
+    (realised : (k : ℕ) → k < length ps → RealisesTerm (plan_at ps k) (body_at programs k))
   where
     abbrev P : ℕ → Plan
     P = plan_at ps

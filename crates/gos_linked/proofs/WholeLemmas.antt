@@ -11,10 +11,9 @@ use Rattle.gos_link.specs.declared.services.Service.{Service}
 use Rattle.gos_link.specs.Services.{HasService}
 use Rattle.gos_link.specs.Linked.{imports_of, shakes_at}
 use Rattle.gos_unions.proofs.LeftLemmas.{behind}
-use Rattle.gos_linked.specs.Linked.{IsRealised}
 use Rattle.gos_linked.proofs.CountLemmas.{In, Distinct, distinct_both, in_first, in_second, in_either, same, is_same}
 use Rattle.gos_linked.proofs.ChainLemmas.{IsSound, IsRooted, Below, below_then, from_top, no_ring, same_level, same_top, giver_low}
-use Rattle.gos_linked.proofs.GrowLemmas.{plan_at, service_at, Grown, alone, with_import, grown_from, grow, IsGrown, alone_grown, unserved_grown, served_grown}
+use Rattle.gos_linked.proofs.GrowLemmas.{RealisesTerm, plan_at, service_at, Grown, alone, with_import, grown_from, grow, IsGrown, alone_grown, unserved_grown, served_grown}
 
 pub plan_is : (ps : List Plan) (k : ℕ) (p : Plan) → slice_get ps k ≡ Some p → plan_at ps k ≡ p
 plan_is [] k p e = absurd (cc e)
@@ -105,7 +104,7 @@ pub next_imports : (is xs ys : List Imported) (x : Imported) → ys ≡ is ++ (x
 next_imports is xs ys x imports = imports ∙ sym (append_assoc is (x ∷ []) xs)
 
 module _ (ps : List Plan) (M : ℕ → Term) (ss : List Service) (root : ℕ) (rooted : IsRooted ps ss root)
-    (realised : (k : ℕ) → k < length ps → IsRealised (plan_at ps k) (M k))
+    (realised : (k : ℕ) → k < length ps → RealisesTerm (plan_at ps k) (M k))
   where
     abbrev P : ℕ → Plan
     P = plan_at ps

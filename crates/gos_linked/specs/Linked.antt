@@ -2,8 +2,8 @@
 --
 -- Read first: Linked of gos_link; Linking of gos_model; Modules of gos_realises. The instances are programs by their numbers, and
 -- a service binds the import of its number, which is told by its name there.
-use Rattle.std.specs.Prelude.{◌≡◌, ℕ, List, [], ◌∷◌, length, Option, Some, None, slice_get}
-use Rattle.gos_model.specs.Terms.{Name, Term}
+use Rattle.std.specs.Prelude.{◌≡◌, List, [], ◌∷◌, length, Option, Some, None, slice_get}
+use Rattle.gos_model.specs.Terms.{Name}
 use Rattle.gos_model.specs.Typing.{Imported, Typed}
 use Rattle.gos_model.specs.Moves.{Program}
 use Rattle.gos_model.specs.Linking.{Instances, Bind, substituted}
@@ -14,12 +14,6 @@ use Rattle.gos_realises.specs.Modules.{RealisesOpen}
 use Rattle.gos_link.specs.declared.build.Build.{Build}
 use Rattle.gos_link.specs.declared.services.Service.{Service}
 use Rattle.gos_link.specs.Linked.{imports_of, plans_of, IsLinked}
-
--- the programs of the instances: the imports of their plans, and their terms
-abbrev pub programs_of : List Plan → List Term → Instances
-programs_of [] ms = []
-programs_of (p ∷ ps) [] = []
-programs_of (p ∷ ps) (m ∷ ms) = record { imports = p.imports; body = m } ∷ programs_of ps ms
 
 -- what a service binds
 abbrev pub name_if : Option Imported → Name
@@ -34,21 +28,19 @@ abbrev pub binds_of : List Plan → List Service → List Bind
 binds_of ps [] = []
 binds_of ps (s ∷ ss) = bind_of ps s ∷ binds_of ps ss
 
--- the substituted program of instances with these plans and terms
-abbrev pub substituted_along : List Plan → List Service → ℕ → List Term → Program
-substituted_along ps ss root ms = substituted (programs_of ps ms) (binds_of ps ss) root
+-- the substituted program of instances with these programs
+abbrev pub linked_program : (b : Build) (ps : List SeenPlan) (p : Plan) → IsLinked b ps p → Instances → Program
+linked_program b ps p l programs = substituted programs (binds_of (plans_of ps) l.services) l.root
 
-abbrev pub linked_program : (b : Build) (ps : List SeenPlan) (p : Plan) → IsLinked b ps p → List Term → Program
-linked_program b ps p l ms = substituted_along (plans_of ps) l.services l.root ms
-
--- the plan realises the term, whatever is put in for its imports
-pub record IsRealised (p : Plan) (m : Term) : Type 0 where
+-- The plan realises the program, whatever is put in for its imports. These are the program's.
+pub record IsRealised (p : Plan) (m : Program) : Type 0 where
+  pub imports : p.imports ≡ m.imports
   pub right : IsRight p
   pub names : NamesDiffer p.imports
-  pub typed : Typed p.imports [] m p.outcome
-  pub open_imports : RealisesOpen p m
+  pub typed : Typed p.imports [] m.body p.outcome
+  pub open_imports : RealisesOpen p m.body
 
-abbrev pub AreRealised : List Plan → List Term → Type 0
+abbrev pub AreRealised : List Plan → Instances → Type 0
 AreRealised [] [] = Unit {0}
 AreRealised [] (m ∷ ms) = ⊥
 AreRealised (p ∷ ps) [] = ⊥
@@ -57,15 +49,9 @@ AreRealised (p ∷ ps) (m ∷ ms) = IsRealised p m × AreRealised ps ms
 -- So does the linked plan the substituted program. There is a plan for each instance.
 abbrev pub LinkedIsRealised : Type 0
 LinkedIsRealised =
-    (b : Build) (ps : List SeenPlan) (p : Plan) (ms : List Term) (l : IsLinked b ps p)
-    → length ps ≡ length b.instances.items → AreRealised (plans_of ps) ms → IsRealised p (linked_program b ps p l ms).body
+    (b : Build) (ps : List SeenPlan) (p : Plan) (programs : Instances) (l : IsLinked b ps p)
+    → length ps ≡ length b.instances.items → AreRealised (plans_of ps) programs → IsRealised p (linked_program b ps p l programs)
 
--- Its imports are those of the substituted program.
-abbrev pub LinkedHasImports : Type 0
-LinkedHasImports =
-    (b : Build) (ps : List SeenPlan) (p : Plan) (ms : List Term) (l : IsLinked b ps p)
-    → length ps ≡ length b.instances.items → AreRealised (plans_of ps) ms → p.imports ≡ (linked_program b ps p l ms).imports
-
--- They are ground.
+-- Its imports are ground.
 abbrev pub LinkedIsGround : Type 0
 LinkedIsGround = (b : Build) (ps : List SeenPlan) (p : Plan) → IsLinked b ps p → AllGround p.imports

@@ -1,5 +1,5 @@
 // What the definitions give. Each theorem is the contract of a function that does nothing.
-ghost use Rattle.gos_linked.specs.Linked.{LinkedHasImports, LinkedIsGround, LinkedIsRealised};
+ghost use Rattle.gos_linked.specs.Linked.{LinkedIsGround, LinkedIsRealised};
 ghost use Rattle.gos_linked.specs.Modules.{LinkedHasWeight, LinkedIsDone, LinkedIsModule, LinkedKeepsPace};
 ghost use Rattle.gos_linked.specs.SmallLinks.{ServedIsSubstituted, SkipRealisesNoUse, UnservedStays, UseIsRealised};
 
@@ -11,7 +11,6 @@ use gos_served::rewired_trees;
 /// The linked plan of a build realises the root's body in which each bound import is its giver's substituted program.
 pub fn linked_plans()
     ensures realised { LinkedIsRealised }
-    ensures imports { LinkedHasImports }
     ensures ground { LinkedIsGround }
 {
     rewired_trees();
