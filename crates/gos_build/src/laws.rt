@@ -1,6 +1,7 @@
 // What the circuits of ground modules do. Each theorem is the contract of a function that does nothing.
 
 ghost use Rattle.gos_build.specs.Paced.{BuildKeepsPace, ModuleKeepsPace};
+ghost use Rattle.gos_build.specs.SmallPrograms.{FirstIsNot, SecondIsBound};
 
 use gos_circuits::paced_circuits;
 use gos_linked::linked_modules;
@@ -13,4 +14,11 @@ pub fn paced_modules()
 {
     paced_circuits();
     linked_modules();
+}
+
+/// A service binds the import of its number, by its name.
+pub fn small_programs()
+    ensures second { SecondIsBound }
+    ensures first { FirstIsNot }
+{
 }

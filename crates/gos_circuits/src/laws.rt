@@ -1,6 +1,7 @@
 // What the circuits of plans that realise programs do. Each theorem is the contract of a function that does nothing.
 
 ghost use Rattle.gos_circuits.specs.Paced.{ModuleCircuitsKeepPace, OpenCircuitsKeepPace};
+ghost use Rattle.gos_circuits.specs.SmallPaced.{CallHasPorts, FunctionHasNone};
 
 use gos_ports::ports;
 
@@ -12,4 +13,11 @@ pub fn paced_circuits()
     ensures modules { ModuleCircuitsKeepPace }
 {
     ports();
+}
+
+/// A command that calls an imported one has ports as a circuit may have, and a function has not.
+pub fn small_circuits()
+    ensures call { CallHasPorts }
+    ensures function { FunctionHasNone }
+{
 }

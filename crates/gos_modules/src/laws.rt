@@ -1,6 +1,6 @@
 // The plan of a checked module of ground types realises it. Each theorem is the contract of a function that does nothing.
 ghost use Rattle.gos_modules.specs.Modules.{CheckedIsOpen, CheckedIsRealised, GroundIsRealised, PortsAreGround};
-ghost use Rattle.gos_modules.specs.SmallGround.{AssignmentIsGround, CallIsHigher, FunctionIsHigher, SideIsHigher};
+ghost use Rattle.gos_modules.specs.SmallGround.{AssigningIsGround, AssignmentIsGround, CallIsHigher, FunctionIsHigher, ImportIsHigher, SideIsHigher};
 ghost use Rattle.gos_modules.specs.SmallModules.{FunctionIsNotGround, SkipIsGround, TwiceIsRealised};
 ghost use Rattle.gos_modules.specs.Sources.{NodesAreThose, ProgramHasPorts, ProgramIsRealised};
 
@@ -76,4 +76,6 @@ pub fn small_terms()
     ensures function { FunctionIsHigher }
     ensures call { CallIsHigher }
     ensures side { SideIsHigher }
+    ensures program { AssigningIsGround }
+    ensures import { ImportIsHigher }
 {}
