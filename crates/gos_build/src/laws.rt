@@ -20,5 +20,4 @@ pub fn paced_modules()
 pub fn small_programs()
     ensures second { SecondIsBound }
     ensures first { FirstIsNot }
-{
-}
+{}

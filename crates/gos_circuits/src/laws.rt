@@ -19,5 +19,4 @@ pub fn paced_circuits()
 pub fn small_circuits()
     ensures call { CallHasPorts }
     ensures function { FunctionHasNone }
-{
-}
+{}
