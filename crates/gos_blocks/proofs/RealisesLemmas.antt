@@ -66,6 +66,7 @@ block_realises r b m is literals ground differ typed body =
       suits =
           record {
             right = is.cut.whole_right;
+            literals = literals;
             outcome = refl;
             all_ground = ground;
             names = differ;

@@ -1,6 +1,7 @@
 -- A plan behind a Share is a buffer, whose see-through plan is the plan itself with a loose part.
-use Rattle.std.specs.Prelude.{◌⊎◌, ◌+◌, ◌-◌, ◌*◌, ◌<◌, ◌≤◌, ◌&&◌, ◌||◌, None, IsTrue, nat_eq, slice_get, length, map}
+use Rattle.std.specs.Prelude.{◌⊎◌, ◌+◌, ◌-◌, ◌*◌, ◌<◌, ◌≤◌, ◌&&◌, ◌||◌, None, IsTrue, All, nat_eq, slice_get, length, map}
 use Rattle.std.proofs.Common.{◌≡◌, ℕ, zero, suc, Bool, true, false, not, List, [], ◌∷◌, ◌++◌, Option, Some, Contains, inl, inr, refl, sym, ◌∙◌, ap, subst, arith}
+use Rattle.std.proofs.lemmas.List.Elements.{All-push}
 use Rattle.std.proofs.lemmas.Option.{slice_get_within}
 use Rattle.gos_types.specs.Types.{Type', IsGround}
 use Rattle.gos_types.specs.Handshakes.{turned}
@@ -9,6 +10,7 @@ use Rattle.gos_types.specs.declared.shakes.Role.TheVariants.{Serve, Ask}
 use Rattle.gos_model.specs.Terms.{Term}
 use Rattle.gos_plan.specs.Kinds.{Contact, asks, serves, Part, Share, contacts_of, turned_contact, part_contacts}
 use Rattle.gos_plan.specs.Plans.{End, PartEnd, ImportEnd, ResultEnd, Joint, Plan, contact_at, contacts_of_part, turned_if, same_end, stands_in, is_free, Fits, AreRight, IsRight}
+use Rattle.gos_plan.specs.TokenBits.{LiteralFits}
 use Rattle.gos_plan.proofs.JointLemmas.{IsIn, same_itself, same_is, fits, contained}
 use Rattle.gos_plan.proofs.AskingLemmas.{source_at, first_caller_at, second_caller_at}
 use Rattle.gos_realises.specs.Regular.{count, IsRegular}
@@ -562,11 +564,15 @@ loosely t c p two outcome ground result right =
     buffer : IsBuffer (length p.parts) p.outcome c (buffered p.outcome c p) (with_part (Share p.outcome) p)
     buffer = is_buffer c p two right own result
 
+pub buffered_literals : (t : Type') (c : ℕ) (p : Plan) → All LiteralFits p.parts → All LiteralFits (buffered t c p).parts
+buffered_literals t c p literals = All-push LiteralFits p.parts (Share t) literals tt
+
 pub done_suits : (t : Type') (c : ℕ) (p : Plan) (m : Term) → c < 2 → IsGround t → ResultIsJoined p → Suits t p m → Suits t (buffered t c p) m
 done_suits t c p m two ground result suits =
     let found = loosely t c p two suits.outcome ground result suits.right in
     record {
       right = found.0;
+      literals = buffered_literals t c p suits.literals;
       outcome = suits.outcome;
       all_ground = suits.all_ground;
       names = suits.names;

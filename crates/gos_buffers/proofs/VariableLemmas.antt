@@ -2,7 +2,7 @@
 --
 -- Joined to the parts that read or write it, the plan behind the Share is a buffer before the plan with a loose part, joined
 -- to the same parts; and that one does what the plan alone does, so joined.
-use Rattle.std.specs.Prelude.{◌^◌, ◌<◌, List, [], ◌∷◌, length}
+use Rattle.std.specs.Prelude.{◌^◌, ◌<◌, List, [], ◌∷◌, ◌++◌, length, All}
 use Rattle.std.proofs.Common.{◌≡◌, ℕ, sym, ◌∙◌, ap, subst, arith}
 use Rattle.gos_types.specs.Types.{Type', Com, Exp, Var, Pair, Fun, IsGround}
 use Rattle.gos_model.specs.Terms.{Term, Lit, Assign, Deref}
@@ -10,18 +10,20 @@ use Rattle.gos_model.specs.Typing.{Imported, Typed}
 use Rattle.gos_plan.specs.Kinds as kinds
 use Rattle.gos_plan.specs.Kinds.{Part, Share}
 use Rattle.gos_plan.specs.Plans.{Plan, IsRight}
+use Rattle.gos_plan.specs.TokenBits.{LiteralFits}
 use Rattle.gos_realises.specs.Regular.{count, IsRegular}
 use Rattle.gos_realises.specs.Matched.{RealisesDone}
 use Rattle.gos_realises.specs.Links.{IsJoined}
 use Rattle.gos_realises.specs.Wirings.{reading, writing}
 use Rattle.gos_realises.specs.Realises.{AllGround, NamesDiffer, Suits, Means}
+use Rattle.gos_realises.proofs.LiteralLemmas.{reading_literals, writing_literals, literals_same, literals_append}
 use Rattle.gos_joined.specs.Joined.{HasJoining}
 use Rattle.gos_joined.proofs.WholeLemmas.{variables_are_joined}
 use Rattle.gos_buffers.specs.Buffering.{with_part, buffered, ResultIsJoined, GroundIsBuffered}
 use Rattle.gos_buffers.proofs.RegularLemmas.{buffered_is_regular}
 use Rattle.gos_buffers.proofs.MatchedLemmas.{buffered_realises}
 use Rattle.gos_buffers.proofs.LoosePartLemmas.{with_part_right}
-use Rattle.gos_buffers.proofs.BufferedLemmas.{whole_right, done_suits, done_is_buffered}
+use Rattle.gos_buffers.proofs.BufferedLemmas.{whole_right, buffered_literals, done_suits, done_is_buffered}
 use Rattle.gos_buffers.proofs.DrivenLemmas.{IsDriven, IsOwn, driven_buffer}
 use Rattle.gos_buffers.proofs.LooseDrivenLemmas.{IsLater, loose_keeps}
 use Rattle.gos_buffers.proofs.ReadingLemmas.{ReadOwn, read_is_own, read_is_later, read_is_driven}
@@ -42,10 +44,11 @@ driven_keeps v f ds Own own later some c p two right ground result known r q pla
 
 -- what suits, by the imports that it has
 suits_so : (t : Type') (p plain r : Plan) (m n : Term) → AllGround p.imports → NamesDiffer p.imports → plain.imports ≡ p.imports → r.imports ≡ p.imports
-    → IsRight r → r.outcome ≡ t → IsRegular r → Suits t plain n → Suits t r n
-suits_so t p plain r m n ground names one other right outcome regular suits =
+    → IsRight r → All LiteralFits r.parts → r.outcome ≡ t → IsRegular r → Suits t plain n → Suits t r n
+suits_so t p plain r m n ground names one other right literals outcome regular suits =
     record {
       right = right;
+      literals = literals;
       outcome = outcome;
       all_ground = subst AllGround (sym other) ground;
       names = subst NamesDiffer (sym other) names;
@@ -53,7 +56,7 @@ suits_so t p plain r m n ground names one other right outcome regular suits =
       regular = regular;
     }
 
-module _ (w c : ℕ) (p : Plan) (m : Term) (two : c < 2) (right : IsRight p) (outcome : p.outcome ≡ Var w) (result : ResultIsJoined p) (grounds : AllGround p.imports) (names : NamesDiffer p.imports) where
+module _ (w c : ℕ) (p : Plan) (m : Term) (two : c < 2) (right : IsRight p) (outcome : p.outcome ≡ Var w) (result : ResultIsJoined p) (literals : All LiteralFits p.parts) (grounds : AllGround p.imports) (names : NamesDiffer p.imports) where
   is_ground : IsGround p.outcome
   is_ground = subst IsGround (sym outcome) tt
 
@@ -72,6 +75,11 @@ module _ (w c : ℕ) (p : Plan) (m : Term) (two : c < 2) (right : IsRight p) (ou
   loose_right : IsRight loose
   loose_right = with_part_right (Share p.outcome) p right
 
+  -- the plan behind the Share, with the parts that drive it
+  driven_literals : (ds : List Part) (r : Plan) → r.parts ≡ whole.parts ++ ds → All LiteralFits ds → All LiteralFits r.parts
+  driven_literals ds r are driving =
+      literals_same r.parts (whole.parts ++ ds) are (literals_append whole.parts ds (buffered_literals p.outcome c p literals) driving)
+
   reads : ((r : Plan) → IsJoined (reading w p) r → Suits (Exp w) r (Deref m) × RealisesDone r (Deref m))
       → (r : Plan) → IsJoined (reading w whole) r → Suits (Exp w) r (Deref m) × RealisesDone r (Deref m)
   reads alone r join = of_joinings (variables_are_joined w 0 p right outcome).0 (variables_are_joined w 0 loose loose_right outcome).0
@@ -85,7 +93,8 @@ module _ (w c : ℕ) (p : Plan) (m : Term) (two : c < 2) (right : IsRight p) (ou
           driven_keeps 0 0 (kinds.Deref w ∷ []) ReadOwn read_is_own read_is_later (omega arith) c p two right is_ground result (omega (arith, two_shakes)) r q plain driven bare by_itself
           (is_q.joining.outcome ∙ sym join.joining.outcome) (is_q.joining.outcome ∙ sym is_plain.joining.outcome) in
           let known = alone plain is_plain in (
-            suits_so (Exp w) p plain r m (Deref m) grounds names by_itself.imports driven.imports join.joining.right join.joining.outcome (keeps.0 known.0.regular) known.0,
+            suits_so (Exp w) p plain r m (Deref m) grounds names by_itself.imports driven.imports join.joining.right
+                (driven_literals (kinds.Deref w ∷ []) r driven.parts (reading_literals w)) join.joining.outcome (keeps.0 known.0.regular) known.0,
             keeps.1 (Deref m) known.1,
           )
 
@@ -102,7 +111,8 @@ module _ (w c : ℕ) (p : Plan) (m : Term) (two : c < 2) (right : IsRight p) (ou
           driven_keeps 1 1 (kinds.Assign w ∷ kinds.Lit w k ∷ []) WriteOwn write_is_own write_is_later (omega arith) c p two right is_ground result (omega (arith, two_shakes)) r q plain driven bare by_itself
           (is_q.joining.outcome ∙ sym join.joining.outcome) (is_q.joining.outcome ∙ sym is_plain.joining.outcome) in
           let known = alone plain k small is_plain in (
-            suits_so Com p plain r m (Assign m (Lit k w)) grounds names by_itself.imports driven.imports join.joining.right join.joining.outcome (keeps.0 known.0.regular) known.0,
+            suits_so Com p plain r m (Assign m (Lit k w)) grounds names by_itself.imports driven.imports join.joining.right
+                (driven_literals (kinds.Assign w ∷ kinds.Lit w k ∷ []) r driven.parts (writing_literals w k small)) join.joining.outcome (keeps.0 known.0.regular) known.0,
             keeps.1 (Assign m (Lit k w)) known.1,
           )
 
@@ -116,8 +126,8 @@ ground_is_buffered (Var w) c p m two ground result realises =
       suits = done_suits (Var w) c p m two tt result realises.suits;
       means =
           subst (λ (t : Type'). Means (Var w) (buffered t c p) m) realises.suits.outcome (
-            reads w c p m two realises.suits.right realises.suits.outcome result realises.suits.all_ground realises.suits.names realises.means.0,
-            writes w c p m two realises.suits.right realises.suits.outcome result realises.suits.all_ground realises.suits.names realises.means.1,
+            reads w c p m two realises.suits.right realises.suits.outcome result realises.suits.literals realises.suits.all_ground realises.suits.names realises.means.0,
+            writes w c p m two realises.suits.right realises.suits.outcome result realises.suits.literals realises.suits.all_ground realises.suits.names realises.means.1,
           );
     }
 ground_is_buffered (Pair a b) c p m two ground result realises = absurd ground

@@ -1,5 +1,10 @@
 pub mod ImportLemmas
 pub mod WhoseLemmas
 pub mod WiredLemmas
+pub mod ChildLemmas
 pub mod LeafLemmas
 pub mod ParallelLemmas
+pub mod AgreeLemmas
+pub mod FreshLemmas
+pub mod PutLemmas
+pub mod BlockLemmas

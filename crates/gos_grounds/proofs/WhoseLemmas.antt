@@ -1,10 +1,10 @@
 -- The names of a term are those of what its numbers stand for.
-use Rattle.std.specs.Prelude.{◌≡◌, ℕ, zero, suc, ◌-◌, Bool, true, false, List, [], ◌∷◌, ◌++◌, ◌⊎◌, ◌||◌, Contains, nat_eq, nat_lt, if◌then◌else◌}
+use Rattle.std.specs.Prelude.{◌≡◌, ℕ, zero, suc, ◌-◌, Bool, true, false, List, [], ◌∷◌, ◌++◌, ◌||◌, Contains, nat_eq, nat_lt, if◌then◌else◌}
 use Rattle.std.proofs.Common.{refl, sym, ◌∙◌, subst, arith, inl, inr}
 use Rattle.std.proofs.lemmas.List.Elements.{Contains-append_cases}
 use Rattle.gos_types.specs.Types.{Type'}
 use Rattle.gos_model.specs.Terms as terms
-use Rattle.gos_model.specs.Terms.{Term, Name, Op}
+use Rattle.gos_model.specs.Terms.{Term, Name}
 use Rattle.gos_model.specs.Typing.{Thing, Variable, Named, things}
 use Rattle.gos_check.specs.declared.linear.Split.{Split}
 use Rattle.gos_check.specs.Nodes.{Numbered, Closed, Use, Under, One, Two, If, Binding, OfFun, OfNew, OneForm, OfFst, OfSnd, OfDeref, OfNot, TwoForm, OfApp, OfBoth, OfSeq, OfPar, OfWhile, OfAssign, OfBin, Meaning, shifted, below, inside_one, inside, meaning, binder_term, one_term, two_term}
@@ -12,11 +12,11 @@ use Rattle.gos_stages.specs.Inside.{AreSplit, numbers_inside}
 use Rattle.gos_meanings.specs.Meanings.{IsLeaf, HasLeaves}
 use Rattle.gos_grounds.specs.Scopes.{InScope}
 
-none : (X : Type 0) (x : X) → Contains [] x → ⊥
+pub none : (X : Type 0) (x : X) → Contains [] x → ⊥
 none X x (k, small, at) = omega (arith, small)
 
 -- a variable has no name
-bound_names : (f j : ℕ) (x : Name) → Contains (things f (terms.Bound j)) (Named x) → ⊥
+pub bound_names : (f j : ℕ) (x : Name) → Contains (things f (terms.Bound j)) (Named x) → ⊥
 bound_names f j x = by_test (nat_lt j f)
   where
     by_test : (b : Bool) → Contains (if b then [] else Variable (j - f) ∷ []) (Named x) → ⊥
@@ -54,9 +54,16 @@ shifted_names f (terms.Put m k) x h = h
 abbrev pub Whose : List ℕ → Meaning → Name → Type 0
 Whose ns e x = (k : ℕ) × (f : ℕ) × Contains ns k × Contains (things f (e k)) (Named x)
 
-in_list : (ns : List ℕ) (k n : ℕ) → nat_eq k n ≡ false → Contains (n ∷ ns) k → Contains ns k
+pub in_list : (ns : List ℕ) (k n : ℕ) → nat_eq k n ≡ false → Contains (n ∷ ns) k → Contains ns k
 in_list ns k n apart (zero, small, e) = let no : nat_eq k n ≡ true = grind (arith, e) in absurd (cc (sym no ∙ apart))
 in_list ns k n apart (suc j, small, e) = (j, omega (arith, small), e)
+
+pub before : (ns : List ℕ) (n k : ℕ) → nat_eq k n ≡ false → Contains (ns ++ n ∷ []) k → Contains ns k
+before ns n k apart has =
+    elim (Contains-append_cases ns (n ∷ []) k has) [
+      | inl h ↦ h
+      | inr h ↦ absurd (none ℕ k (in_list [] k n apart h))
+    ]
 
 inside_whose : (ss : List Split) (ns : List ℕ) (e : Meaning) (k f : ℕ) (x : Name)
     → AreSplit ss ns → Contains (numbers_inside ss ns) k → Contains (things f (inside ss e k)) (Named x) → Whose ns e x
@@ -85,20 +92,16 @@ inside_whose (s ∷ ss) ns e k f x (source, split) has h =
     )
 
 -- below a binder
-below_whose : (ns : List ℕ) (n : ℕ) (e : Meaning) (x : Name) → Whose (ns ++ n ∷ []) (below n e) x → Whose ns e x
+pub below_whose : (ns : List ℕ) (n : ℕ) (e : Meaning) (x : Name) → Whose (ns ++ n ∷ []) (below n e) x → Whose ns e x
 below_whose ns n e x (k, f, has, h) = by_test (nat_eq k n) refl h
   where
-    by_list : nat_eq k n ≡ false → Contains ns k ⊎ Contains (n ∷ []) k → Contains ns k
-    by_list apart (inl h) = h
-    by_list apart (inr h) = absurd (none ℕ k (in_list [] k n apart h))
-
     by_test : (b : Bool) → nat_eq k n ≡ b → Contains (things f (if nat_eq k n then terms.Bound 0 else shifted (e k))) (Named x) → Whose ns e x
     by_test true is h =
         absurd (bound_names f 0 x (subst (λ (c : Bool). Contains (things f (if c then terms.Bound 0 else shifted (e k))) (Named x)) is h))
     by_test false is h = (
       k,
       f,
-      by_list is (Contains-append_cases ns (n ∷ []) k has),
+      before ns n k is has,
       shifted_names f (e k) x (subst (λ (c : Bool). Contains (things f (if c then terms.Bound 0 else shifted (e k))) (Named x)) is h),
     )
 

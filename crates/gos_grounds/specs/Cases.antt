@@ -1,11 +1,11 @@
 -- A wired node of a ground type realises its term: the cases of the induction, form by form.
 --
 -- Read first: Scopes; Wired of gos_wired; Inside of gos_stages; Frames and Blocks of gos_frames; Leaves of gos_leaves.
-use Rattle.std.specs.Prelude.{◌≡◌, ℕ, List, [], All, Contains}
-use Rattle.gos_types.specs.Types.{Type', Com, Exp, Var}
+use Rattle.std.specs.Prelude.{◌≡◌, ℕ, List, [], ◌∷◌, ◌++◌, All, Contains}
+use Rattle.gos_types.specs.Types.{Type', Com, Exp, Var, IsDone}
 use Rattle.gos_model.specs.Terms as terms
 use Rattle.gos_model.specs.Typing.{Typed}
-use Rattle.gos_check.specs.Nodes.{Numbered, Closed, Use, One, Two, OfDeref, OfPar, meaning, type_of_node}
+use Rattle.gos_check.specs.Nodes.{Numbered, Closed, Use, Under, One, Two, OfNew, OfDeref, OfPar, meaning, type_of_node}
 use Rattle.gos_plan.specs.Plans.{Plan}
 use Rattle.gos_plan.specs.TokenBits.{LiteralFits}
 use Rattle.gos_realises.specs.Realises.{NamesDiffer, Realises}
@@ -13,6 +13,7 @@ use Rattle.gos_compile.specs.Wiring.{Types}
 use Rattle.gos_wired.specs.Wired.{Supplies, Placing, IsWired, terms_of}
 use Rattle.gos_stages.specs.Inside.{AreGroundSupplies}
 use Rattle.gos_frames.specs.Frames.{AreParted}
+use Rattle.gos_frames.specs.Blocks.{IsBound}
 use Rattle.gos_meanings.specs.Meanings.{HasLeaves}
 use Rattle.gos_grounds.specs.Scopes.{InScope}
 
@@ -47,3 +48,10 @@ ParallelCase =
     (types : Types) (ns ms ks : List ℕ) (m n : Numbered)
     → AreParted m n ns ms ks → type_of_node m ≡ Com → type_of_node n ≡ Com → HasLeaves m → HasLeaves n → InScope ms m → InScope ks n
     → RealisesWired types ms m → RealisesWired types ks n → RealisesWired types ns (Two Com [] OfPar m n)
+
+-- a block, whose body may use the bound number too
+abbrev pub BlockCase : Type 0
+BlockCase =
+    (types : Types) (ns : List ℕ) (t : Type') (w n : ℕ) (m : Numbered)
+    → IsDone t → type_of_node m ≡ t → types n ≡ Var w → IsBound n m ns → HasLeaves m → InScope (ns ++ n ∷ []) m
+    → RealisesWired types (ns ++ n ∷ []) m → RealisesWired types ns (Under t [] (OfNew w) n m)

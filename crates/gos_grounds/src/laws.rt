@@ -1,8 +1,10 @@
 // What wired nodes of ground types realise, form by form. Each theorem is the contract of a function that does nothing.
-ghost use Rattle.gos_grounds.specs.Cases.{LiteralCase, ParallelCase, ReadCase, SkipCase, UseCase};
+ghost use Rattle.gos_grounds.specs.Cases.{BlockCase, LiteralCase, ParallelCase, ReadCase, SkipCase, UseCase};
 
-use gos_frames::parallel_sides;
+use gos_frames::{block_bodies, parallel_sides};
 use gos_leaves::{closed_is_realised, read_is_realised, use_is_realised};
+use gos_meanings::meanings;
+use gos_names::names;
 use gos_parallel::parallel;
 
 /// Nodes without parts, and a variable that is read.
@@ -23,4 +25,14 @@ pub fn parallel_nodes()
 {
     parallel_sides();
     parallel();
+}
+
+/// A block.
+pub fn blocks()
+    ensures { BlockCase }
+{
+    block_bodies();
+    gos_blocks::blocks();
+    names();
+    meanings();
 }

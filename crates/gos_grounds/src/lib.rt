@@ -5,4 +5,4 @@
 
 mod laws;
 
-pub use laws::{leaves, parallel_nodes};
+pub use laws::{blocks, leaves, parallel_nodes};

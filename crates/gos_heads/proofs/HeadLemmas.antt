@@ -43,6 +43,7 @@ writing_imports w k p r joining = joining.imports ∙ (ap (map import_of) (writi
 suits_as : (t : Type') (r : Plan) (m n : Term) → Typed r.imports [] m t → Suits t r n → Suits t r m
 suits_as t r m n typed suits = record {
   right = suits.right;
+  literals = suits.literals;
   outcome = suits.outcome;
   all_ground = suits.all_ground;
   names = suits.names;

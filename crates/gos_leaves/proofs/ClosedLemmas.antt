@@ -1,5 +1,5 @@
 -- A node whose own part is its whole plan: `skip`, and a number.
-use Rattle.std.specs.Prelude.{◌≡◌, ℕ, zero, suc, ◌+◌, ◌<◌, List, [], ◌∷◌, Option, Some, None, Contains, slice_get}
+use Rattle.std.specs.Prelude.{◌≡◌, ℕ, zero, suc, ◌+◌, ◌<◌, List, [], ◌∷◌, Option, Some, None, All, Contains, slice_get}
 use Rattle.std.proofs.Common.{refl, sym, ◌∙◌, ap, subst, arith, inl}
 use Rattle.gos_types.specs.Types.{Type', Com, Exp}
 use Rattle.gos_model.specs.Terms as terms
@@ -8,6 +8,7 @@ use Rattle.gos_check.specs.Nodes.{Closed}
 use Rattle.gos_plan.specs.Kinds as kinds
 use Rattle.gos_plan.specs.Kinds.{Part}
 use Rattle.gos_plan.specs.Plans.{PartEnd, ImportEnd, ResultEnd, Plan, IsRight}
+use Rattle.gos_plan.specs.TokenBits.{LiteralFits}
 use Rattle.gos_ties.specs.declared.points.Place.TheVariants as places
 use Rattle.gos_ties.specs.declared.points.Tie as point_ties
 use Rattle.gos_realises.specs.Regular.{count}
@@ -150,17 +151,17 @@ module _ (types : Types) (i j : ℕ) (t : Type') (m : Term) (ns : List ℕ) (env
           result_out = λ h k at. here (Within 0 (Of (ResultEnd h)));
         }
 
-    pub closed_realised : (pl : Placing) (r : Plan) → IsWired types i j (Closed t [] m) ns env pl r → AllGround r.imports → NamesDiffer r.imports
-        → Realises t (lone kind 0 t) m → Realises t r m
-    closed_realised pl r is ground names realised =
-        leaf_realises types i j (Closed t [] m) ns env (lone kind 0 t) (own_web (lone kind 0 t)) closed_leaf pl r is t m ground names realised
+    pub closed_realised : (pl : Placing) (r : Plan) → IsWired types i j (Closed t [] m) ns env pl r → All LiteralFits r.parts → AllGround r.imports
+        → NamesDiffer r.imports → Realises t (lone kind 0 t) m → Realises t r m
+    closed_realised pl r is literals ground names realised =
+        leaf_realises types i j (Closed t [] m) ns env (lone kind 0 t) (own_web (lone kind 0 t)) closed_leaf pl r is t m literals ground names realised
 
 pub skip_is_realised : SkipIsRealised
-skip_is_realised types i j ns env pl r is ground names =
+skip_is_realised types i j ns env pl r is literals ground names =
     let done = done_is_realised 0 in
-    closed_realised types i j Com terms.Skip ns env kinds.Skip refl refl done.suits.right pl r is ground names done
+    closed_realised types i j Com terms.Skip ns env kinds.Skip refl refl done.suits.right pl r is literals ground names done
 
 pub literal_wired : LiteralIsRealised
-literal_wired types i j w k ns env pl r is width small ground names =
+literal_wired types i j w k ns env pl r is width small literals ground names =
     let number = literal_is_realised 0 w k width small in
-    closed_realised types i j (Exp w) (terms.Lit k w) ns env (kinds.Lit w k) refl refl number.suits.right pl r is ground names number
+    closed_realised types i j (Exp w) (terms.Lit k w) ns env (kinds.Lit w k) refl refl number.suits.right pl r is literals ground names number

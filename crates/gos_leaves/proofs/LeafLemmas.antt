@@ -1,5 +1,5 @@
 -- A node's plan, of which what is joined to the result is the plan of a smaller web: it stands in the wired one, with all else beside.
-use Rattle.std.specs.Prelude.{◌≡◌, ℕ, suc, List, Option, Some, None, Contains, slice_get}
+use Rattle.std.specs.Prelude.{◌≡◌, ℕ, suc, List, Option, Some, None, All, Contains, slice_get}
 use Rattle.std.proofs.Common.{refl, sym, ◌∙◌, ap, subst}
 use Rattle.gos_types.specs.Types.{Type'}
 use Rattle.gos_model.specs.Typing.{Imported}
@@ -7,6 +7,7 @@ use Rattle.gos_model.specs.Terms.{Term}
 use Rattle.gos_check.specs.Nodes.{Numbered, type_of_node}
 use Rattle.gos_plan.specs.Kinds.{Part, Contact, asks, serves}
 use Rattle.gos_plan.specs.Plans.{End, PartEnd, ImportEnd, ResultEnd, Plan, contact_at, contacts_of_part, contacts_of_import}
+use Rattle.gos_plan.specs.TokenBits.{LiteralFits}
 use Rattle.gos_realises.specs.Realises.{AllGround, NamesDiffer, Realises}
 use Rattle.gos_webs.specs.Webs.{Dot, Of, Within, Tie, tie, Web, Way, joint, IsOfWeb}
 use Rattle.gos_compile.specs.Wiring.{Types, parts_of}
@@ -217,5 +218,6 @@ module _ (types : Types) (i j : ℕ) (m : Numbered) (ns : List ℕ) (env : Suppl
     leaf_beside = web_is_beside leaf.home placing (wired_web types i j m ns env pl) v r c is.web leaf.of_web lies leaf_home
 
     -- what the smaller plan realises the whole does
-    pub leaf_realises : (t : Type') (term : Term) → AllGround r.imports → NamesDiffer r.imports → Realises t c term → Realises t r term
-    leaf_realises t term ground names realised = loose_is_realised placing r c t term leaf_beside ground names realised
+    pub leaf_realises : (t : Type') (term : Term) → All LiteralFits r.parts → AllGround r.imports → NamesDiffer r.imports → Realises t c term
+        → Realises t r term
+    leaf_realises t term literals ground names realised = loose_is_realised placing r c t term leaf_beside literals ground names realised

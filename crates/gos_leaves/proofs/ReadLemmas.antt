@@ -448,9 +448,9 @@ module _ (types : Types) (i j w n : ℕ) (ns : List ℕ) (env : Supplies) (has :
         }
 
 pub read_is_realised : ReadIsRealised
-read_is_realised types i j w n ns env pl r is has same ground names realised =
+read_is_realised types i j w n ns env pl r is has same literals ground names realised =
     let (s, joined) = (variables_are_joined w 0 (env n).plan realised.suits.right realised.suits.outcome).0 in
     let (suits, means) = realised.means.0 s joined in
     leaf_realises types i j (One (Exp w) [] OfDeref (Use (Var w) [] n)) ns env s (union (reading w (env n).plan) (own_web (env n).plan ∷ own_web (lone (kinds.Deref w) 1 (Exp w)) ∷ []))
-    (read_leaf types i j w n ns env has same realised.suits.right s joined) pl r is (Exp w) (Deref (env n).term) ground names
+    (read_leaf types i j w n ns env has same realised.suits.right s joined) pl r is (Exp w) (Deref (env n).term) literals ground names
     (record { suits = suits; means = means })

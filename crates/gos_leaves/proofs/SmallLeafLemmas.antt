@@ -1,12 +1,14 @@
 -- A node that uses number 0, with the plan of `skip` for the numbers 0 and 1.
 use Rattle.std.specs.Prelude.{◌≡◌, ◌⊎◌, ℕ, zero, suc, Bool, true, false, List, [], ◌∷◌, Some, Contains, slice_get}
 use Rattle.std.proofs.Common.{refl, sym, ◌∙◌, ap, subst, arith, inl, inr}
+use Rattle.std.proofs.lemmas.List.Elements.{All-cons}
 use Rattle.gos_types.specs.declared.shakes.Role.{Role}
 use Rattle.gos_types.specs.declared.shakes.Role.TheVariants.{Serve, Ask}
 use Rattle.gos_types.specs.Types.{Com}
-use Rattle.gos_plan.specs.Kinds.{Part, Contact, asks, serves, turned_contact}
+use Rattle.gos_plan.specs.Kinds.{Part, Skip, Contact, asks, serves, turned_contact}
 use Rattle.gos_plan.specs.Plans.{End, PartEnd, ImportEnd, ResultEnd, Joint, IsRight, contact_at}
 use Rattle.gos_plan.specs.SmallPlans.{skip_plan}
+use Rattle.gos_plan.specs.TokenBits.{LiteralFits}
 use Rattle.gos_ties.specs.declared.points.Place.TheVariants as places
 use Rattle.gos_ties.specs.declared.points.Tie as point_ties
 use Rattle.gos_realises.proofs.SkipLemmas.{skip_is_realised}
@@ -175,4 +177,5 @@ other_is_not_wired is =
 
 pub loose_realises_skip : LooseRealisesSkip
 loose_realises_skip =
-    use_is_realised commands 0 0 0 Com both skips one_each skip_and_loose loose_is_wired (0, omega arith, refl) refl tt tt skip_is_realised
+    use_is_realised commands 0 0 0 Com both skips one_each skip_and_loose loose_is_wired (0, omega arith, refl) refl
+    (All-cons LiteralFits Skip (Skip ∷ []) tt skip_is_realised.suits.literals) tt tt skip_is_realised

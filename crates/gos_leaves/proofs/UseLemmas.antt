@@ -129,6 +129,6 @@ module _ (types : Types) (i j n : ℕ) (t : Type') (ns : List ℕ) (env : Suppli
         }
 
 pub use_is_realised : UseIsRealised
-use_is_realised types i j n t ns env pl r is has same ground names realised =
+use_is_realised types i j n t ns env pl r is has same literals ground names realised =
     leaf_realises types i j (Use t [] n) ns env (env n).plan (own_web (env n).plan)
-    (use_leaf types i j n t ns env has same realised.suits.right realised.suits.outcome) pl r is t (env n).term ground names realised
+    (use_leaf types i j n t ns env has same realised.suits.right realised.suits.outcome) pl r is t (env n).term literals ground names realised

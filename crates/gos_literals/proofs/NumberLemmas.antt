@@ -1,18 +1,21 @@
 -- The plan of a number realises it: the ring of its request, its firing and its answer.
 use Rattle.std.specs.Prelude.{◌≡◌, ℕ, zero, suc, ◌<◌, true, false, List, [], ◌∷◌, ◌++◌, Option, Some, None, slice_get}
 use Rattle.std.proofs.Common.{refl, sym, ◌∙◌, ap, subst, arith, inr}
+use Rattle.std.proofs.lemmas.List.Elements.{All-cons}
 use Rattle.gos_netlist.specs.Events.{Request, Answer}
 use Rattle.gos_model.specs.Terms as terms
 use Rattle.gos_model.specs.Labels.{Label, given}
 use Rattle.gos_model.specs.Moves.{Program, Config, Idle, Running, Act, Showing, Moves, labels, Stalled}
-use Rattle.gos_plan.specs.Kinds.{Contact, asks}
+use Rattle.gos_plan.specs.Kinds.{Lit, Contact, asks}
 use Rattle.gos_plan.specs.Firing.{Rest, Slot, Req, Ans, Row, row, at, put}
 use Rattle.gos_plan.specs.Plans.{End, PartEnd, ImportEnd, ResultEnd, Plan, contact_at}
 use Rattle.gos_plan.specs.Tokens.{Tokens, Element, Fire, Out, In, firing_of, fired, with_token, with_state, with_place, end_of, way_of, way_taken, way_put, Does}
+use Rattle.gos_plan.specs.TokenBits.{LiteralFits}
 use Rattle.gos_plan.specs.Turns.{IsEmptyAt}
 use Rattle.gos_plan.specs.Orderly.{Open, with_open, after_taken, after_put, after_puts, ComesWell, AllComeWell, ComesInOrder, AllWelcome}
 use Rattle.gos_realises.specs.Regular.{Pass, way_in, is_open, ComesInTurn}
 use Rattle.gos_realises.specs.Matched.{label_at, shows, GoesOn, Agrees, program_of}
+use Rattle.gos_realises.proofs.LiteralLemmas.{no_literals}
 use Rattle.gos_realises.proofs.OneJointLemmas.{Lies, rests_alone, is_idle, with_request, with_answer, not_both}
 use Rattle.gos_realises.proofs.RingLemmas.{after, told_open, OutputTurns, MayCome, IsCircle, IsRing, IsFirst, circle_is_regular, ring_realises}
 use Rattle.gos_realises.proofs.SkipLemmas.{Stage, Resting, Asked, Answered, succ, OpenAt, Opened, run_is_no_output, running_is_not_idle}
@@ -255,6 +258,7 @@ literal_is_realised n w k width small =
       suits =
           record {
             right = (((0, w, refl, refl), refl, refl), tt);
+            literals = All-cons LiteralFits (Lit w k) [] small no_literals;
             outcome = refl;
             all_ground = tt;
             names = tt;

@@ -1,17 +1,19 @@
 -- The whole realises what the plan realises, at each type.
-use Rattle.std.specs.Prelude.{◌≡◌, ℕ, zero, suc, List, [], ◌∷◌, ◌++◌}
+use Rattle.std.specs.Prelude.{◌≡◌, ℕ, zero, suc, List, [], ◌∷◌, ◌++◌, All}
 use Rattle.std.proofs.Common.{refl, sym, ◌∙◌, ap, subst, arith}
 use Rattle.gos_types.specs.Types.{Type', Com, Exp, Var, Pair, Fun}
 use Rattle.gos_model.specs.Terms.{Term, Lit, App, Fst, Snd, Assign, Deref}
 use Rattle.gos_model.specs.Typing.{Imports}
 use Rattle.gos_plan.specs.Kinds as kinds
 use Rattle.gos_plan.specs.Plans.{PartEnd, ResultEnd, Plan}
-use Rattle.gos_plan.specs.Joining.{Link}
+use Rattle.gos_plan.specs.Joining.{Link, all_parts}
+use Rattle.gos_plan.specs.TokenBits.{LiteralFits}
 use Rattle.gos_realises.specs.Regular.{count}
 use Rattle.gos_realises.specs.Matched.{RealisesDone}
 use Rattle.gos_realises.specs.Links.{IsJoined}
 use Rattle.gos_realises.specs.Wirings.{lone, link, results_linked}
 use Rattle.gos_realises.specs.Realises.{AllGround, NamesDiffer, HaveOtherNames, Suits, Means, Realises}
+use Rattle.gos_realises.proofs.LiteralLemmas.{no_literals, reading_literals, writing_literals, literals_append, literals_joined}
 use Rattle.gos_contexts.proofs.WideningLemmas.{sources_known}
 use Rattle.gos_joined.proofs.WholeLemmas.{applied_is_joined, sides_are_joined, variables_are_joined}
 use Rattle.gos_loose.specs.Beside.{Placing}
@@ -47,11 +49,12 @@ append_none [] = refl
 append_none (i ∷ is) = ap (λ (js : Imports). i ∷ js) (append_none is)
 
 -- what suits
-module _ (f : Placing) (r c : Plan) (is : IsPlaced f r c) (fine : Fine r.imports) where
+module _ (f : Placing) (r c : Plan) (is : IsPlaced f r c) (literals : All LiteralFits r.parts) (fine : Fine r.imports) where
   suits_whole : (t : Type') (m : Term) → Suits t c m → Suits t r m
   suits_whole t m suits =
       record {
         right = is.whole_right;
+        literals = literals;
         outcome = is.outcome ∙ suits.outcome;
         all_ground = fine.0;
         names = fine.1;
@@ -65,69 +68,74 @@ module _ (f : Placing) (r c : Plan) (is : IsPlaced f r c) (fine : Fine r.imports
 abbrev DoneToo : Type' → Plan → Term → Type 0
 DoneToo t r m = Suits t r m × RealisesDone r m
 
-done_too : (f : Placing) (r c : Plan) (t : Type') (m : Term) → IsPlaced f r c → Fine r.imports → DoneToo t c m → DoneToo t r m
-done_too f r c t m is fine (suits, done) = (suits_whole f r c is fine t m suits, done_whole f r c is fine t m suits done)
+done_too : (f : Placing) (r c : Plan) (t : Type') (m : Term) → IsPlaced f r c → All LiteralFits r.parts → Fine r.imports → DoneToo t c m → DoneToo t r m
+done_too f r c t m is literals fine (suits, done) = (suits_whole f r c is literals fine t m suits, done_whole f r c is literals fine t m suits done)
 
 -- the joinings with the whole and with the plan
 module _ (f : Placing) (p q : Plan) (is : IsPlaced f p q) (ps : List Plan) (ls : List Link) (plain : ArePlain ls) (giver skipped : ℕ) (t : Type') (r s : Plan)
     (of_p : IsJoined (wiring p ps ls giver skipped t) r) (of_q : IsJoined (wiring q ps ls giver skipped t) s)
   where
     abbrev Joined : Type 0
-    Joined = (g : Placing) × IsPlaced g r s × Fine r.imports
+    Joined = (g : Placing) × IsPlaced g r s × All LiteralFits r.parts × Fine r.imports
 
-    joined : Fine p.imports → Fine (all_imports ps) → HaveOtherNames p.imports (all_imports ps) → Joined
-    joined fine also apart = (
+    joined : All LiteralFits p.parts → All LiteralFits (all_parts ps) → Fine p.imports → Fine (all_imports ps) → HaveOtherNames p.imports (all_imports ps)
+        → Joined
+    joined literals others fine also apart = (
       numbers f p q is ps ls plain giver skipped t,
       joinings_placed f p q is ps ls plain giver skipped t r s of_p.joining of_q.joining,
+      literals_joined p ps r of_p.joining.parts literals others,
       subst Fine (sym (large_imports f p q is ps ls plain giver skipped t r s of_p.joining of_q.joining))
           (more_fine p.imports (all_imports ps) fine also apart),
     )
 
-means_whole : (t : Type') (f : Placing) (r c : Plan) (m : Term) → IsPlaced f r c → Fine r.imports → Suits t c m → Means t c m → Means t r m
-means_whole Com f r c m is fine suits means = done_whole f r c is fine Com m suits means
-means_whole (Exp w) f r c m is fine suits means = done_whole f r c is fine (Exp w) m suits means
-means_whole (Var w) f r c m is fine suits (reads, writes) = (
+means_whole : (t : Type') (f : Placing) (r c : Plan) (m : Term) → IsPlaced f r c → All LiteralFits r.parts → Fine r.imports → Suits t c m → Means t c m → Means t r m
+means_whole Com f r c m is literals fine suits means = done_whole f r c is literals fine Com m suits means
+means_whole (Exp w) f r c m is literals fine suits means = done_whole f r c is literals fine (Exp w) m suits means
+means_whole (Var w) f r c m is literals fine suits (reads, writes) = (
   λ x of_x.
       (let (y, of_y) = (variables_are_joined w 0 c suits.right suits.outcome).0 in
-      let (g, placed, fine_x) =
-      joined f r c is (lone (kinds.Deref w) 1 (Exp w) ∷ []) (link 0 (ResultEnd 0) 1 (PartEnd 0 0) ∷ []) reading_plain 1 0 (Exp w) x y of_x of_y fine (tt, tt)
+      let (g, placed, fit, fine_x) =
+      joined f r c is (lone (kinds.Deref w) 1 (Exp w) ∷ []) (link 0 (ResultEnd 0) 1 (PartEnd 0 0) ∷ []) reading_plain 1 0 (Exp w) x y of_x of_y literals
+      (reading_literals w) fine (tt, tt)
       (no_others r.imports)
       in
-      done_too g x y (Exp w) (Deref m) placed fine_x (reads y of_y)),
+      done_too g x y (Exp w) (Deref m) placed fit fine_x (reads y of_y)),
   λ x k small of_x.
       (let (y, of_y) = (variables_are_joined w k c suits.right suits.outcome).1 in
-      let (g, placed, fine_x) =
+      let (g, placed, fit, fine_x) =
       joined f r c is (lone (kinds.Assign w) 2 Com ∷ lone (kinds.Lit w k) 0 (Exp w) ∷ [])
-      (link 0 (ResultEnd 1) 1 (PartEnd 0 1) ∷ link 1 (PartEnd 0 0) 2 (ResultEnd 0) ∷ []) writing_plain 1 0 Com x y of_x of_y fine (tt, tt) (no_others r.imports)
+      (link 0 (ResultEnd 1) 1 (PartEnd 0 1) ∷ link 1 (PartEnd 0 0) 2 (ResultEnd 0) ∷ []) writing_plain 1 0 Com x y of_x of_y literals
+      (writing_literals w k small) fine (tt, tt) (no_others r.imports)
       in
-      done_too g x y Com (Assign m (Lit k w)) placed fine_x (writes y k small of_y)),
+      done_too g x y Com (Assign m (Lit k w)) placed fit fine_x (writes y k small of_y)),
 )
-means_whole (Pair a b) f r c m is fine suits (first, second) = (
+means_whole (Pair a b) f r c m is literals fine suits (first, second) = (
   λ x of_x.
       (let (y, of_y) = (sides_are_joined a b c suits.right suits.outcome).0 in
-      let (g, placed, fine_x) = joined f r c is [] [] tt 0 0 a x y of_x of_y fine (tt, tt) (no_others r.imports) in
+      let (g, placed, fit, fine_x) = joined f r c is [] [] tt 0 0 a x y of_x of_y literals no_literals fine (tt, tt) (no_others r.imports) in
       let (also, meant) = first y of_y in
-      (suits_whole g x y placed fine_x a (Fst m) also, means_whole a g x y (Fst m) placed fine_x also meant)),
+      (suits_whole g x y placed fit fine_x a (Fst m) also, means_whole a g x y (Fst m) placed fit fine_x also meant)),
   λ x of_x.
       (let (y, of_y) = (sides_are_joined a b c suits.right suits.outcome).1 in
-      let (g, placed, fine_x) = joined f r c is [] [] tt 0 (count a) b x y of_x of_y fine (tt, tt) (no_others r.imports) in
+      let (g, placed, fit, fine_x) = joined f r c is [] [] tt 0 (count a) b x y of_x of_y literals no_literals fine (tt, tt) (no_others r.imports) in
       let (also, meant) = second y of_y in
-      (suits_whole g x y placed fine_x b (Snd m) also, means_whole b g x y (Snd m) placed fine_x also meant)),
+      (suits_whole g x y placed fit fine_x b (Snd m) also, means_whole b g x y (Snd m) placed fit fine_x also meant)),
 )
-means_whole (Fun a b) f r c m is fine suits means = λ z x n apart of_z meant_z of_x.
+means_whole (Fun a b) f r c m is literals fine suits means = λ z x n apart of_z meant_z of_x.
     let (y, of_y) = applied_is_joined a b c z suits.right of_z.right suits.outcome of_z.outcome in
     let same : z.imports ≡ all_imports (z ∷ []) = sym (append_none z.imports) in
-    let (g, placed, fine_x) =
-    joined f r c is (z ∷ []) (results_linked 1 0 (count a)) (results_plain 0 (count a)) 0 (count a) b x y of_x of_y fine
+    let (g, placed, fit, fine_x) =
+    joined f r c is (z ∷ []) (results_linked 1 0 (count a)) (results_plain 0 (count a)) 0 (count a) b x y of_x of_y literals
+    (literals_append z.parts [] of_z.literals no_literals) fine
     (subst Fine same (of_z.all_ground, of_z.names)) (subst (HaveOtherNames r.imports) same apart)
     in
     let own : HaveOtherNames c.imports z.imports = λ i j in_c in_z. apart i j (own_imports f r c is i in_c) in_z in
     let (also, meant) = means z y n own of_z meant_z of_y in
-    (suits_whole g x y placed fine_x b (App m n) also, means_whole b g x y (App m n) placed fine_x also meant)
+    (suits_whole g x y placed fit fine_x b (App m n) also, means_whole b g x y (App m n) placed fit fine_x also meant)
 
-pub whole_realises : (t : Type') (f : Placing) (r c : Plan) (m : Term) → IsPlaced f r c → AllGround r.imports → NamesDiffer r.imports → Realises t c m → Realises t r m
-whole_realises t f r c m is ground names realised =
+pub whole_realises : (t : Type') (f : Placing) (r c : Plan) (m : Term) → IsPlaced f r c → All LiteralFits r.parts → AllGround r.imports → NamesDiffer r.imports → Realises t c m → Realises t r m
+whole_realises t f r c m is literals ground names realised =
     record {
-      suits = suits_whole f r c is (ground, names) t m realised.suits;
-      means = means_whole t f r c m is (ground, names) realised.suits realised.means;
+      suits = suits_whole f r c is literals (ground, names) t m realised.suits;
+      means = means_whole t f r c m is literals (ground, names) realised.suits realised.means;
     }

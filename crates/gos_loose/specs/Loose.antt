@@ -2,9 +2,11 @@
 --
 -- Read first: Beside; Realises of gos_realises. It is the weakening of the affine language: what isn't used is there, but
 -- nothing asks it.
+use Rattle.std.specs.Prelude.{All}
 use Rattle.gos_types.specs.Types.{Type'}
 use Rattle.gos_model.specs.Terms.{Term}
 use Rattle.gos_plan.specs.Plans.{Plan}
+use Rattle.gos_plan.specs.TokenBits.{LiteralFits}
 use Rattle.gos_realises.specs.Regular.{IsRegular}
 use Rattle.gos_realises.specs.Matched.{RealisesDone}
 use Rattle.gos_realises.specs.Realises.{AllGround, NamesDiffer, Realises}
@@ -21,8 +23,9 @@ LooseIsDone =
     (f : Placing) (r c : Plan) (m : Term)
     → IsBeside f r c → AllGround r.imports → NamesDiffer r.imports → Knows c.imports m → RealisesDone c m → RealisesDone r m
 
--- And at any type: whatever is joined to the whole is joined to the plan, with the same loose parts beside it.
+-- And at any type: whatever is joined to the whole is joined to the plan, with the same loose parts beside it. The literals
+-- of loose parts fit as well, since a plan that realises a term has no others.
 abbrev pub LooseIsRealised : Type 0
 LooseIsRealised =
     (f : Placing) (r c : Plan) (t : Type') (m : Term)
-    → IsBeside f r c → AllGround r.imports → NamesDiffer r.imports → Realises t c m → Realises t r m
+    → IsBeside f r c → All LiteralFits r.parts → AllGround r.imports → NamesDiffer r.imports → Realises t c m → Realises t r m

@@ -22,6 +22,7 @@ use Rattle.gos_plan.specs.Orderly.{Open, named_by, handshake_at, with_open, afte
 use Rattle.gos_realises.specs.Regular.{Pass, pass, way_in, way_out, is_open, ComesInTurn, KeepsTurnsOf, KeepsTurns, whole_type, whole_end, IsRegular}
 use Rattle.gos_realises.specs.Matched.{label_at, shows, GoesOn, Agrees, program_of, RealisesDone}
 use Rattle.gos_realises.specs.Realises.{Suits, Means, Realises}
+use Rattle.gos_realises.proofs.LiteralLemmas.{no_literals}
 use Rattle.gos_realises.proofs.OneJointLemmas.{Lies, rests_alone, is_idle, with_request, with_answer, not_both}
 use Rattle.gos_realises.proofs.SkipLemmas.{run_is_no_output, running_is_not_idle}
 use Rattle.gos_realises.proofs.RingLemmas.{after, told_open, OutputTurns, MayCome, IsFirst}
@@ -587,6 +588,7 @@ suits : (n : Name) (t : Type') → IsDone t → Suits t (name_plan n t) (Import 
 suits n t done =
     record {
       right = is_right n t done;
+      literals = no_literals;
       outcome = refl;
       all_ground = (done_is_ground t done, tt);
       names = (λ j there. absurd (none_after j there), tt);

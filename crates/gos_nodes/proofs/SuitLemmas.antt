@@ -82,6 +82,7 @@ node_realises_by_type r d f gs node real =
       suits =
           record {
             right = node.right;
+            literals = node.literals;
             outcome = node.outcome;
             all_ground = node.ground;
             names = node.names;

@@ -56,6 +56,7 @@ parallel_realises d f g r p q m n is literals ground differ typed left right =
       suits =
           record {
             right = is.left.cut.whole_right;
+            literals = literals;
             outcome = is.outcome;
             all_ground = ground;
             names = differ;

@@ -1,3 +1,4 @@
+pub mod LiteralLemmas
 pub mod RingLemmas
 pub mod OneJointLemmas
 pub mod SkipLemmas

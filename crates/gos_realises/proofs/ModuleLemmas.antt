@@ -6,6 +6,7 @@ use Rattle.gos_plan.specs.SmallPlans.{skip_plan}
 use Rattle.gos_realises.specs.Realises.{AllGround}
 use Rattle.gos_realises.specs.Modules.{RealisesOpen}
 use Rattle.gos_realises.specs.Alone.{SkipModuleIsRealised}
+use Rattle.gos_realises.proofs.LiteralLemmas.{literals_same}
 use Rattle.gos_realises.proofs.AloneLemmas.{alone_is_itself, order_is_free}
 use Rattle.gos_realises.proofs.SkipLemmas.{skip_is_realised}
 use Rattle.gos_realises.proofs.SmallLinkLemmas.{skip_is_slim}
@@ -20,6 +21,7 @@ skip_is_open [] r supplied join names =
       suits =
           record {
             right = join.joining.right;
+            literals = literals_same r.parts skip_plan.parts same.parts suits.literals;
             outcome = join.joining.outcome;
             all_ground = subst AllGround (sym join.joining.imports) tt;
             names = names;

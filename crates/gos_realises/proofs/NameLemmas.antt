@@ -19,6 +19,7 @@ use Rattle.gos_plan.specs.SmallCycles.{call_plan}
 use Rattle.gos_realises.specs.Regular.{Pass, way_in, is_open, ComesInTurn}
 use Rattle.gos_realises.specs.Matched.{label_at, shows, GoesOn, Agrees, program_of}
 use Rattle.gos_realises.specs.SmallRealisers.{NameIsRealised}
+use Rattle.gos_realises.proofs.LiteralLemmas.{no_literals}
 use Rattle.gos_realises.proofs.OneJointLemmas.{Lies, rests_alone, is_idle, with_request, with_answer, not_both}
 use Rattle.gos_realises.proofs.SkipLemmas.{run_is_no_output, running_is_not_idle}
 use Rattle.gos_realises.proofs.RingLemmas.{after, told_open, OutputTurns, MayCome, IsCircle, IsRing, IsFirst, circle_is_regular, ring_realises}
@@ -323,6 +324,7 @@ name_is_realised =
       suits =
           record {
             right = (((0, 0, refl, refl), refl, refl), tt);
+            literals = no_literals;
             outcome = refl;
             all_ground = (tt, tt);
             names = (λ j there. absurd (none_after j there), tt);

@@ -18,6 +18,7 @@ use Rattle.gos_realises.specs.Wirings.{link, applying}
 use Rattle.gos_realises.specs.Realises.{AllGround, NamesDiffer, Means}
 use Rattle.gos_realises.specs.Renumbered.{IsRenumbered}
 use Rattle.gos_realises.specs.Functions.{SameIsRealised}
+use Rattle.gos_realises.proofs.LiteralLemmas.{no_literals, literals_same}
 use Rattle.gos_realises.proofs.AloneLemmas.{Ends, Joins, joint_fits, one_more, apart, in_place}
 use Rattle.gos_realises.proofs.HeadLemmas.{heads_are_realised}
 use Rattle.gos_realises.proofs.LeftLemmas.{left_list, left_all, imports_left, left_at}
@@ -195,6 +196,7 @@ same_means q r n other suits means joined =
     let keeps = renumbering_keeps (λ i. i) (λ i. i) r q (renumbered q suits.right suits.outcome r join) in (
       record {
         right = join.right;
+        literals = literals_same r.parts q.parts (same_parts q suits.right suits.outcome r join) suits.literals;
         outcome = join.outcome;
         all_ground = subst AllGround imports suits.all_ground;
         names = subst NamesDiffer imports suits.names;
@@ -210,6 +212,7 @@ same_is_realised =
       suits =
           record {
             right = (((0, 0, refl, refl), refl, refl), tt);
+            literals = no_literals;
             outcome = refl;
             all_ground = tt;
             names = tt;

@@ -1,8 +1,9 @@
 -- What realises nothing.
-use Rattle.std.specs.Prelude.{◌≡◌}
-use Rattle.std.proofs.Common.{sym, ◌∙◌}
+use Rattle.std.specs.Prelude.{◌≡◌, ◌^◌, ◌<◌}
+use Rattle.std.proofs.Common.{sym, ◌∙◌, arith}
 use Rattle.gos_types.specs.Types.{Com, Exp}
-use Rattle.gos_realises.specs.OtherPlans.{OtherTypesAreNot, NoNumberIsDone, WildIsNot}
+use Rattle.gos_plan.specs.Kinds.{Skip}
+use Rattle.gos_realises.specs.OtherPlans.{OtherTypesAreNot, NoNumberIsDone, WildIsNot, LargeDoesNotSuit}
 
 pub other_types_are_not : OtherTypesAreNot
 other_types_are_not t p m other r = other r.suits.outcome
@@ -16,3 +17,6 @@ pub wild_is_not : WildIsNot
 wild_is_not t m r =
     let (a, (b, (c, (d, (((q, v, asks, serves), one, other), rest))))) = r.suits.right in
     cc serves
+
+pub large_does_not_suit : LargeDoesNotSuit
+large_does_not_suit t m suits = let small : 255 < 2 ^ 4 = suits.literals 0 Skip (omega arith) in omega (arith, small)

@@ -17,6 +17,7 @@ use Rattle.gos_realises.specs.Links.{LinkFits, StandsIn, LinksFit, IsJoined}
 use Rattle.gos_realises.specs.Wirings.{applying, link}
 use Rattle.gos_realises.specs.SmallRealisers.{use_plan, UseIsRealised}
 use Rattle.gos_realises.specs.Renumbered.{moved, moved_if, IsRenumbered}
+use Rattle.gos_realises.proofs.LiteralLemmas.{literals_among}
 use Rattle.gos_realises.proofs.LeftLemmas.{left_list, left_all, imports_left, left_at}
 use Rattle.gos_realises.proofs.RenumberLemmas.{moved_twice, tests_agree, renumbering_keeps}
 use Rattle.gos_realises.proofs.RotateLemmas.{forth, back, returns, comes, back_below, back_at, by_place, rotated, map_contains}
@@ -509,13 +510,13 @@ use_is_realised (s ∷ []) r supplied join names =
     let both =
     supplied.0.means skip_plan (renewed q r suits.outcome suits.right joined) terms.Skip (λ i j has none. absurd (no_import j none))
     skip_is_realised.suits skip_is_realised.means (joined_to_skip q r suits.outcome suits.right joined) in
-    let keeps =
-    renumbering_keeps (forth (length q.parts)) (back (length q.parts)) r (renewed q r suits.outcome suits.right joined)
-    (renumbered q r suits.outcome suits.right joined) in
+    let same = renumbered q r suits.outcome suits.right joined in
+    let keeps = renumbering_keeps (forth (length q.parts)) (back (length q.parts)) r (renewed q r suits.outcome suits.right joined) same in
     record {
       suits =
           record {
             right = joined.right;
+            literals = literals_among (forth (length q.parts)) r.parts (renewed q r suits.outcome suits.right joined).parts (λ i k at. same.parts i ∙ at) both.0.literals;
             outcome = joined.outcome;
             all_ground = both.0.all_ground;
             names = both.0.names;

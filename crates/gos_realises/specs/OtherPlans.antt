@@ -1,7 +1,7 @@
 -- Small plans that do not realise a program.
 --
 -- Read first: SmallRealisers. They show that the relation can be missed: by doing nothing, by another order, by another
--- type, and by joints to ends that are not there.
+-- type, by joints to ends that are not there, and by a number that is larger than its width.
 use Rattle.std.specs.Prelude.{◌≡◌, ◌≢◌, [], ◌∷◌}
 use Rattle.gos_types.specs.Types.{Type', Com, Exp, Fun}
 use Rattle.gos_model.specs.Terms as terms
@@ -10,7 +10,7 @@ use Rattle.gos_model.specs.SmallPrograms.{two_commands, one_then_other}
 use Rattle.gos_plan.specs.Kinds.{Skip, Lit, Seq, Par}
 use Rattle.gos_plan.specs.Kinds as kinds
 use Rattle.gos_plan.specs.Plans.{End, PartEnd, ImportEnd, ResultEnd, Plan}
-use Rattle.gos_realises.specs.Realises.{Realises}
+use Rattle.gos_realises.specs.Realises.{Suits, Realises}
 use Rattle.gos_realises.specs.SmallRealisers.{joint}
 
 -- a plan that has no parts and no joints, so that a request is lost
@@ -67,6 +67,15 @@ wild_plan =
 -- realises nothing
 abbrev pub WildIsNot : Type 0
 WildIsNot = (t : Type') (m : Term) → Realises t wild_plan m → ⊥
+
+-- a plan of a number with more than its bits
+abbrev pub large_plan : Plan
+large_plan =
+    record { weight = 5; imports = []; outcome = Exp 4; parts = Lit 4 255 ∷ []; joints = joint (ResultEnd 0) (PartEnd 0 0) ∷ [] }
+
+-- suits nothing
+abbrev pub LargeDoesNotSuit : Type 0
+LargeDoesNotSuit = (t : Type') (m : Term) → Suits t large_plan m → ⊥
 
 -- The plan of a function that has no joints does not realise `fun a : com . a`: joined to the plan of `skip` it never
 -- answers.

@@ -3,11 +3,12 @@
 -- Read first: Matched, Regular, Wirings. It is a relation by the type of the term, in the manner of a logical relation
 -- (Plotkin 1973): a plan of a function type realises a function where, joined to any plan that realises an argument, it
 -- realises the application.
-use Rattle.std.specs.Prelude.{◌≡◌, ◌≢◌, ℕ, ◌^◌, ◌<◌, List, [], ◌∷◌, Contains}
+use Rattle.std.specs.Prelude.{◌≡◌, ◌≢◌, ℕ, ◌^◌, ◌<◌, List, [], ◌∷◌, All, Contains}
 use Rattle.gos_types.specs.Types.{Type', Com, Exp, Var, Pair, Fun, IsGround}
 use Rattle.gos_model.specs.Terms.{Term, Lit, App, Fst, Snd, Assign, Deref}
 use Rattle.gos_model.specs.Typing.{Imported, Typed}
 use Rattle.gos_plan.specs.Plans.{Plan, IsRight}
+use Rattle.gos_plan.specs.TokenBits.{LiteralFits}
 use Rattle.gos_realises.specs.Regular.{count, IsRegular}
 use Rattle.gos_realises.specs.Matched.{RealisesDone}
 use Rattle.gos_realises.specs.Links.{IsJoined}
@@ -25,10 +26,12 @@ NamesDiffer (i ∷ is) = ((j : Imported) → Contains is j → i.name ≢ j.name
 abbrev pub HaveOtherNames : List Imported → List Imported → Type 0
 HaveOtherNames is js = (i j : Imported) → Contains is i → Contains js j → i.name ≢ j.name
 
--- What a plan has to be before it is asked what it does: each of its joints is right, its outcome is the type, its
--- imports are ground and have different names, the term has the type under them, and it is regular.
+-- What a plan has to be before it is asked what it does: each of its joints is right, its literals have at most their
+-- bits, its outcome is the type, its imports are ground and have different names, the term has the type under them, and
+-- it is regular.
 pub record Suits (t : Type') (p : Plan) (m : Term) : Type 0 where
   pub right : IsRight p
+  pub literals : All LiteralFits p.parts
   pub outcome : p.outcome ≡ t
   pub all_ground : AllGround p.imports
   pub names : NamesDiffer p.imports

@@ -7,7 +7,7 @@ ghost use Rattle.gos_realises.specs.Renumbered.{RenumberingKeeps};
 ghost use Rattle.gos_realises.specs.SmallLinks.{SameFits, NumberDoesNotFit, TwiceDoesNotFit, PartDoesNotFit, NowhereDoesNotFit, SkipIsSlim, WeightIsNeeded};
 ghost use Rattle.gos_realises.specs.SmallTurns.{SkipIsRegular, BothSidesAreNot};
 ghost use Rattle.gos_realises.specs.SmallRealisers.{SkipIsRealised, NameIsRealised, UseIsRealised, ListsAreTraces};
-ghost use Rattle.gos_realises.specs.OtherPlans.{EmptyIsNotSkip, EmptyIsNoFunction, OrderIsTold, OtherTypesAreNot, NoNumberIsDone, WildIsNot};
+ghost use Rattle.gos_realises.specs.OtherPlans.{EmptyIsNotSkip, EmptyIsNoFunction, OrderIsTold, OtherTypesAreNot, NoNumberIsDone, WildIsNot, LargeDoesNotSuit};
 
 /// The plan of `skip` keeps turns. One that asks both sides of a product at once does not.
 pub fn turns()
@@ -43,8 +43,8 @@ pub fn lists_are_traces()
     ensures { ListsAreTraces }
 {}
 
-/// Plans that do too little or something else realise nothing; nor do those of another type, or with ends that are
-/// not there.
+/// Plans that do too little or something else realise nothing; nor do those of another type, with ends that are
+/// not there, or with a number that is larger than its width.
 pub fn others_are_refused()
     ensures empty { EmptyIsNotSkip }
     ensures function { EmptyIsNoFunction }
@@ -52,6 +52,7 @@ pub fn others_are_refused()
     ensures other { OtherTypesAreNot }
     ensures number { NoNumberIsDone }
     ensures wild { WildIsNot }
+    ensures large { LargeDoesNotSuit }
 {}
 
 /// The links of the relation fit.

@@ -11,6 +11,7 @@ use Rattle.gos_realises.specs.Matched.{RealisesDone}
 use Rattle.gos_realises.specs.Links.{LinksFit, IsJoined}
 use Rattle.gos_realises.specs.Wirings.{lone, link, results_linked}
 use Rattle.gos_realises.specs.Realises.{NamesDiffer, Suits, Means}
+use Rattle.gos_realises.proofs.LiteralLemmas.{literals_among}
 use Rattle.gos_joined.proofs.ReachLemmas.{place_is}
 use Rattle.gos_joined.proofs.WholeLemmas.{applied_is_joined, sides_are_joined, variables_are_joined}
 use Rattle.gos_webs.specs.Webs.{joint}
@@ -174,6 +175,7 @@ module _ (f : Renumber) (p q : Plan) (is : IsRenumbered f p q) where
   suits_back t m suits =
       record {
         right = is.right;
+        literals = literals_among f.part p.parts q.parts (λ i k at. is.parts i ∙ at) suits.literals;
         outcome = sym is.outcome ∙ suits.outcome;
         all_ground = ground_same f.import_back f.import q.imports p.imports back_reordered suits.all_ground;
         names = names_same f.import_back f.import q.imports p.imports back_reordered suits.names;

@@ -1,5 +1,5 @@
 -- A plan of a variable joined to an Assign and a Lit is a lone write.
-use Rattle.std.specs.Prelude.{◌+◌, ◌^◌, ◌<◌, ◌&&◌, not, None, All, nat_eq, nat_lt, slice_get, slice_index_or, length, Contains}
+use Rattle.std.specs.Prelude.{◌+◌, ◌^◌, ◌<◌, ◌&&◌, not, None, All, nat_eq, nat_lt, slice_get, length, Contains}
 use Rattle.std.proofs.Common.{◌≡◌, ℕ, zero, suc, Bool, true, false, List, [], ◌∷◌, ◌++◌, ◌⊎◌, Option, Some, inl, inr, refl, sym, ◌∙◌, ap, subst, arith, if◌then◌else◌}
 use Rattle.std.proofs.lemmas.Bool.Decides.{nat_tests}
 use Rattle.std.proofs.lemmas.Option.{none-some, same_Some, slice_get_within}
@@ -15,6 +15,7 @@ use Rattle.gos_plan.proofs.JointLemmas.{IsIn, fits, contained}
 use Rattle.gos_realises.specs.Realises.{NamesDiffer, AllGround}
 use Rattle.gos_realises.specs.Wirings.{writing}
 use Rattle.gos_realises.specs.Links.{IsJoined}
+use Rattle.gos_realises.proofs.LiteralLemmas.{writing_literals, literals_same, literals_append}
 use Rattle.gos_webs.specs.Webs.{joint}
 use Rattle.gos_webs.specs.Cutting.{Cut, lies_at, IsInside, IsOutside, StandsIn}
 use Rattle.gos_webs.proofs.MovedLemmas.{listed}
@@ -78,17 +79,6 @@ right_still p (j ∷ js) before less fewer ((fit, asking, serving), rest) =
 
 pub unread_right : (p : Plan) → IsRight p → IsRight (unread p)
 unread_right p right = right_still p p.joints [] [] (λ e free. free) right
-
-all_append : (P : Part → Type 0) (xs ys : List Part) → All P xs → All P ys → (k : ℕ) (d : Part) → k < length (xs ++ ys) → P (slice_index_or (xs ++ ys) k d)
-all_append P [] ys one two k d less = two k d less
-all_append P (x ∷ xs) ys one two zero d less = one 0 d (omega arith)
-all_append P (x ∷ xs) ys one two (suc k) d less =
-    all_append P xs ys (λ i e small. one (suc i) e (omega (arith, small))) two k d (omega (arith, less))
-
-drivers_fit : (w k : ℕ) → k < 2 ^ w → (i : ℕ) (d : Part) → i < 2 → LiteralFits (slice_index_or (kinds.Assign w ∷ kinds.Lit w k ∷ []) i d)
-drivers_fit w k small zero d less = tt
-drivers_fit w k small (suc zero) d less = small
-drivers_fit w k small (suc (suc i)) d less = absurd (omega (arith, less))
 
 part_there : (xs : List Part) (i : ℕ) → i < length xs → (x : Part) × (slice_get xs i ≡ Some x)
 part_there [] i less = absurd (omega (arith, less))
@@ -355,7 +345,7 @@ module _
       record {
         right = driven.right;
         own = own_part;
-        literals = subst (λ (xs : List Part). All LiteralFits xs) (sym driven.parts) (all_append LiteralFits p.parts drivers literals (drivers_fit w k small));
+        literals = literals_same q.parts (p.parts ++ drivers) driven.parts (literals_append p.parts drivers literals (writing_literals w k small));
         ground = subst AllGround (sym driven.imports) ground;
         stages = λ g has. subst (λ (x : Stage). IsWriteStage q n w x) (one_member (lone_stage f c) g has) stage_so;
       }

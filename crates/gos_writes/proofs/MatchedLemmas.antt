@@ -316,6 +316,7 @@ write_realises_by_type r d wide gs m n node restful real typed =
       suits =
           record {
             right = node.base.right;
+            literals = node.base.literals;
             outcome = node.outcome;
             all_ground = node.base.ground;
             names = node.names;

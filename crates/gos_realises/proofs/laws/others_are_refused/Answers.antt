@@ -1,5 +1,5 @@
 use Rattle.gos_realises.proofs.FunctionLemmas.{empty_is_no_function}
-use Rattle.gos_realises.proofs.SmallLemmas.{other_types_are_not, no_number_is_done, wild_is_not}
+use Rattle.gos_realises.proofs.SmallLemmas.{other_types_are_not, no_number_is_done, wild_is_not, large_does_not_suit}
 use Rattle.gos_realises.proofs.TraceLemmas.{empty_is_not_skip, order_is_told}
 use Rattle.gos_realises.proofs.laws.others_are_refused.Goals as goal
 
@@ -20,3 +20,6 @@ returns-clause-number c = no_number_is_done
 
 pub returns-clause-wild : goal.returns-clause-wild
 returns-clause-wild c = wild_is_not
+
+pub returns-clause-large : goal.returns-clause-large
+returns-clause-large c = large_does_not_suit

@@ -1,0 +1,288 @@
+-- A block: its body realises its term where a name that no import has stands for the variable.
+use Rattle.std.specs.Prelude.{◌≡◌, ◌≢◌, ℕ, zero, suc, ◌+◌, ◌<◌, Bool, true, false, List, [], ◌∷◌, ◌++◌, ◌⊎◌, Some, All, Contains, slice_get, nat_eq, nat_lt, if◌then◌else◌}
+use Rattle.std.specs.Str.{bytes_eq}
+use Rattle.std.proofs.Common.{refl, sym, ◌∙◌, ap, subst, arith, inl, inr}
+use Rattle.std.proofs.lemmas.Option.{none-some, same_Some}
+use Rattle.std.proofs.lemmas.Bool.Decides.{nat_tests}
+use Rattle.std.proofs.lemmas.Slice.Eq.{bytes_eq-Decides}
+use Rattle.std.proofs.lemmas.List.Elements.{Contains-append_left, Contains-append_right}
+use Rattle.gos_types.specs.Types.{Type', Com, Var, IsGround}
+use Rattle.gos_types.specs.Widths.{IsWidth}
+use Rattle.gos_model.specs.Terms.{Term, Name, Import, New, Skip}
+use Rattle.gos_model.specs.Typing.{Imported, import_type, Named, things, Typed}
+use Rattle.gos_model.specs.Substitution.{put_at, instantiate}
+use Rattle.gos_check.specs.Nodes.{Numbered, Under, OfNew, Meaning, below, meaning, type_of_node}
+use Rattle.gos_check.specs.Linearity.{times}
+use Rattle.gos_check.proofs.TimesLemmas.{eq_true, true_eq, times-append, times_same}
+use Rattle.gos_plan.specs.Plans.{ImportEnd, ResultEnd, Plan}
+use Rattle.gos_plan.specs.TokenBits.{LiteralFits}
+use Rattle.gos_realises.specs.Modules.{Supply}
+use Rattle.gos_realises.specs.Realises.{NamesDiffer, Realises}
+use Rattle.gos_renumbered.proofs.ImportLemmas.{name_is}
+use Rattle.gos_webs.specs.Webs.{joint}
+use Rattle.gos_buffers.specs.Buffering.{ResultIsJoined}
+use Rattle.gos_typing.proofs.WhenceLemmas.{named}
+use Rattle.gos_typing.proofs.NameLemmas.{typed_under_fewer}
+use Rattle.gos_names.specs.Names.{name_plan, imported, NameIsRealised}
+use Rattle.gos_blocks.specs.Block.{BlockRealises}
+use Rattle.gos_compile.specs.Wiring.{Types}
+use Rattle.gos_wired.specs.Wired.{Supplies, Placing, Origin, IsWired, terms_of}
+use Rattle.gos_stages.specs.Inside.{AreGroundSupplies}
+use Rattle.gos_stages.proofs.ChildBackLemmas.{some_times, listed_times}
+use Rattle.gos_meanings.specs.Meanings.{HasLeaves, standing, BodyIsInstantiated}
+use Rattle.gos_frames.specs.Blocks.{with_name, IsBound, HasBody, BlockIsWired}
+use Rattle.gos_grounds.specs.Scopes.{InScope}
+use Rattle.gos_grounds.specs.Cases.{RealisesWired, BlockCase}
+use Rattle.gos_grounds.proofs.ImportLemmas.{contained_at, stands_at, differ_at, at_differ, type_has}
+use Rattle.gos_grounds.proofs.WhoseLemmas.{before, below_whose, whose}
+use Rattle.gos_grounds.proofs.WiredLemmas.{imports_are_ground, literals_within}
+use Rattle.gos_grounds.proofs.AgreeLemmas.{AgreeAt, below_agrees, meaning_agrees}
+use Rattle.gos_grounds.proofs.FreshLemmas.{fresh_name, is_fresh}
+use Rattle.gos_grounds.proofs.PutLemmas.{IsWithout, put_typed}
+
+-- both handshakes of a variable's name are joined
+name_joined : (x : Name) (w : ℕ) → ResultIsJoined (name_plan x (Var w))
+name_joined x w zero small = (joint (ResultEnd 0) (ImportEnd 0 0), (0, omega arith, refl), refl)
+name_joined x w (suc zero) small = (joint (ResultEnd 1) (ImportEnd 0 1), (1, omega arith, refl), refl)
+name_joined x w (suc (suc j)) small = absurd (omega (arith, small))
+
+-- its one import is the name
+only_import : (x : Name) (w q : ℕ) (y : Imported) → slice_get (name_plan x (Var w)).imports q ≡ Some y → (q ≡ 0) × (y.name ≡ x)
+only_import x w zero y e = (refl, ap (λ (z : Imported). z.name) (sym (same_Some (imported x (Var w)) y e)))
+only_import x w (suc q) y e = absurd (none-some y e)
+
+module _
+    (types : Types) (ns : List ℕ) (w n : ℕ) (m : Numbered) (type_n : types n ≡ Var w) (bound : IsBound n m ns)
+    (env : Supplies) (supplies : AreGroundSupplies types env ns) (x : Name) where
+  abbrev name_supply : Supply
+  name_supply = record { plan = name_plan x (Var w); term = Import x }
+
+  abbrev inner : Supplies
+  inner = with_name n x (Var w) env
+
+  inner_here : (k : ℕ) → nat_eq k n ≡ true → inner k ≡ name_supply
+  inner_here k is = ap (λ (b : Bool). if b then name_supply else env k) is
+
+  inner_there : (k : ℕ) → nat_eq k n ≡ false → inner k ≡ env k
+  inner_there k is = ap (λ (b : Bool). if b then name_supply else env k) is
+
+  -- the bound number is none of those outside
+  other : (k : ℕ) → Contains ns k → nat_eq k n ≡ false
+  other k has = by_test (nat_eq k n) refl
+    where
+      by_test : (b : Bool) → nat_eq k n ≡ b → nat_eq k n ≡ false
+      by_test true is =
+          let once = bound.once n in
+          let sum = times-append n ns (n ∷ []) in
+          let last = times_same n [] in
+          let some = some_times n ns (subst (λ (j : ℕ). Contains ns j) (true_eq k n is) has) in
+          absurd (omega (arith, once, sum, last, some))
+      by_test false is = is
+
+  -- the supplies of the body
+  abbrev Stands : ℕ → Supply → Type 0
+  Stands k s = Realises (types k) s.plan s.term × IsGround (types k) × ResultIsJoined s.plan
+
+  stands : NameIsRealised → IsWidth w → (k : ℕ) → Contains (ns ++ n ∷ []) k → Stands k (inner k)
+  stands law wide k has = by_test (nat_eq k n) refl
+    where
+      by_test : (b : Bool) → nat_eq k n ≡ b → Stands k (inner k)
+      by_test true is =
+          let type_k : types k ≡ Var w = ap types (true_eq k n is) ∙ type_n in
+          subst (Stands k) (sym (inner_here k is)) (
+            subst (λ (u : Type'). Realises u (name_plan x (Var w)) (Import x)) (sym type_k) (law x (Var w) tt wide),
+            subst IsGround (sym type_k) tt,
+            name_joined x w,
+          )
+      by_test false is =
+          let there = before ns n k is has in
+          subst (Stands k) (sym (inner_there k is)) (supplies.realised k there, supplies.ground k there, supplies.joined k there)
+
+  inner_supplies : NameIsRealised → IsWidth w → AreGroundSupplies types inner (ns ++ n ∷ [])
+  inner_supplies law wide =
+      record {
+        realised = λ k has. (stands law wide k has).0;
+        ground = λ k has. (stands law wide k has).1;
+        joined = λ k has. (stands law wide k has).2;
+      }
+
+  module _
+      (t : Type') (i j a b : ℕ) (pl pc : Placing) (r body : Plan) (wired : IsWired types i j (Under t [] (OfNew w) n m) ns env pl r)
+      (v : IsWired types a b m (ns ++ n ∷ []) inner pc body) (differ : NamesDiffer r.imports)
+      (fresh : (y : Imported) → Contains r.imports y → y.name ≢ x) where
+    -- an import of the body's plan is the name, or an import of the whole
+    abbrev IsOf : ℕ → Imported → Type 0
+    IsOf k y =
+        ((k ≡ pc.import n 0) × (y.name ≡ x))
+        ⊎ ((q : ℕ) × (slice_get r.imports q ≡ Some y) × (k ≡ pc.import (pl.origin q).number (pl.origin q).import))
+
+    is_of : (k : ℕ) (y : Imported) → slice_get body.imports k ≡ Some y → IsOf k y
+    is_of k y at = let (has, there, home) = v.no_import k y at in by_test has there home (nat_eq (pc.origin k).number n) refl
+      where
+        by_test : Contains (ns ++ n ∷ []) (pc.origin k).number
+            → slice_get (inner (pc.origin k).number).plan.imports (pc.origin k).import ≡ Some y
+            → pc.import (pc.origin k).number (pc.origin k).import ≡ k
+            → (c : Bool) → nat_eq (pc.origin k).number n ≡ c → IsOf k y
+        by_test has there home true is =
+            let number : (pc.origin k).number ≡ n = true_eq (pc.origin k).number n is in
+            let (first, name) =
+            only_import x w (pc.origin k).import y
+            (ap (λ (s : Supply). slice_get s.plan.imports (pc.origin k).import) (sym (inner_here (pc.origin k).number is)) ∙ there) in
+            inl (sym home ∙ (λ c. pc.import (number c) (first c)), name)
+        by_test has there home false is =
+            let (at_r, from) =
+            wired.imports (pc.origin k).number (pc.origin k).import y (before ns n (pc.origin k).number is has)
+            (ap (λ (s : Supply). slice_get s.plan.imports (pc.origin k).import) (sym (inner_there (pc.origin k).number is)) ∙ there) in
+            inr (
+              pl.import (pc.origin k).number (pc.origin k).import,
+              at_r,
+              sym home ∙ ap (λ (o : Origin). pc.import o.number o.import) (sym from),
+            )
+
+    body_differ : NamesDiffer body.imports
+    body_differ = at_differ body.imports (λ k l y z at_k at_l e. by_sort k l y z e (is_of k y at_k) (is_of l z at_l))
+      where
+        by_sort : (k l : ℕ) (y z : Imported) → y.name ≡ z.name → IsOf k y → IsOf l z → k ≡ l
+        by_sort k l y z e (inl (at_k, name_y)) (inl (at_l, name_z)) = at_k ∙ sym at_l
+        by_sort k l y z e (inl (at_k, name_y)) (inr (q, at_q, at_l)) =
+            absurd (fresh z (contained_at r.imports q z at_q) (sym e ∙ name_y))
+        by_sort k l y z e (inr (p, at_p, at_k)) (inl (at_l, name_z)) =
+            absurd (fresh y (contained_at r.imports p y at_p) (e ∙ name_z))
+        by_sort k l y z e (inr (p, at_p, at_k)) (inr (q, at_q, at_l)) =
+            let same = differ_at r.imports differ p q y z at_p at_q e in
+            at_k ∙ (ap (λ (c : ℕ). pc.import (pl.origin c).number (pl.origin c).import) same ∙ sym at_l)
+
+    -- a name of what stands for a number is that of an import of its plan, of the whole's and of the body's
+    record IsImported (k : ℕ) (y : Name) : Type 0 where
+      import : Imported
+      own : Contains (env k).plan.imports import
+      outside : Contains r.imports import
+      within : Contains body.imports import
+      same : bytes_eq import.name y ≡ true
+
+    is_imported : (k : ℕ) → Contains ns k → (f : ℕ) (y : Name) → Contains (things f (env k).term) (Named y) → IsImported k y
+    is_imported k has f y of_k =
+        let of : Realises (types k) (env k).plan (env k).term = supplies.realised k has in
+        let name = named (env k).plan.imports (Named y) (env k).term f [] (types k) (omega arith) of.suits.typed of_k in
+        let (q, at) = stands_at (env k).plan.imports name.import name.has in
+        let there = wired.imports k q name.import has at in
+        let here =
+        v.imports k q name.import (Contains-append_left ns (n ∷ []) k has)
+        (ap (λ (s : Supply). slice_get s.plan.imports q) (inner_there k (other k has)) ∙ at) in
+        record {
+          import = name.import;
+          own = name.has;
+          outside = contained_at r.imports (pl.import k q) name.import there.0;
+          within = contained_at body.imports (pc.import k q) name.import here.0;
+          same = (bytes_eq-Decides name.import.name y).1 (sym (cc (name.same)));
+        }
+
+    -- what stands for a number is typed under the body's imports
+    supply_typed : (k : ℕ) → Contains ns k → Typed body.imports [] (env k).term (types k)
+    supply_typed k has =
+        let of : Realises (types k) (env k).plan (env k).term = supplies.realised k has in
+        typed_under_fewer (env k).plan.imports body.imports [] (env k).term (types k) (agree of.suits.names) of.suits.typed
+      where
+        agree : NamesDiffer (env k).plan.imports → (y : Name) → Contains (things 0 (env k).term) (Named y)
+            → import_type body.imports y ≡ import_type (env k).plan.imports y
+        agree apart y of_k =
+            let name = is_imported k has 0 y of_k in
+            type_has body.imports body_differ y name.import name.within name.same
+            ∙ sym (type_has (env k).plan.imports apart y name.import name.own name.same)
+
+    -- and so is the name
+    name_typed : import_type body.imports x ≡ Some (Var w)
+    name_typed =
+        type_has body.imports body_differ x (imported x (Var w))
+        (contained_at body.imports (pc.import n 0) (imported x (Var w))
+        (v.imports n 0 (imported x (Var w)) (Contains-append_right ns (n ∷ []) n (0, omega arith, refl))
+        (ap (λ (s : Supply). slice_get s.plan.imports 0) (inner_here n (eq_true n n refl)))).0)
+        ((bytes_eq-Decides x x).1 refl)
+
+    -- the body with the name in it is what it means with the name's supply
+    total : Meaning
+    total k = if nat_lt 0 (times k ns) then (env k).term else Skip
+
+    total_is : AgreeAt ns (terms_of env) total
+    unfolding total
+    total_is k has =
+        let some = some_times k ns has in
+        let test : nat_lt 0 (times k ns) ≡ true = grind (arith, nat_tests, some) in
+        sym (ap (λ (c : Bool). if c then (env k).term else Skip) test)
+
+    total_typed : (k : ℕ) → (u : Type') × Typed body.imports [] (total k) u
+    unfolding total
+    total_typed k = by_test (nat_lt 0 (times k ns)) refl
+      where
+        by_test : (c : Bool) → nat_lt 0 (times k ns) ≡ c → (u : Type') × Typed body.imports [] (if c then (env k).term else Skip) u
+        by_test true is = let some : 0 < times k ns = grind (arith, nat_tests, is) in (types k, supply_typed k (listed_times k ns some))
+        by_test false is = (Com, refl)
+
+    standing_is : AgreeAt (ns ++ n ∷ []) (standing n (Import x) total) (terms_of inner)
+    standing_is k has = by_test (nat_eq k n) refl
+      where
+        by_test : (c : Bool) → nat_eq k n ≡ c → (if c then Import x else total k) ≡ (if c then name_supply else env k).term
+        by_test true is = refl
+        by_test false is = sym (total_is k (before ns n k is has))
+
+    abbrev body_term : Term
+    body_term = meaning (below n (terms_of env)) m
+
+    module _ (leaves : HasLeaves m) (scope : InScope (ns ++ n ∷ []) m) where
+      instantiated : BodyIsInstantiated → instantiate body_term (Import x) ≡ meaning (terms_of inner) m
+      instantiated law =
+          ap (put_at 0 (Import x))
+          (meaning_agrees m (ns ++ n ∷ []) (below n (terms_of env)) (below n total) scope (below_agrees n ns (terms_of env) total total_is))
+          ∙ (law body.imports total n m (Import x) (Var w) leaves name_typed total_typed
+          ∙ meaning_agrees m (ns ++ n ∷ []) (standing n (Import x) total) (terms_of inner) scope standing_is)
+
+      body_name : (y : Name) → Contains (things 0 body_term) (Named y) → (k : ℕ) × IsImported k y
+      body_name y has =
+          let (k, f, there, of_k) = below_whose ns n (terms_of env) y (whose m (ns ++ n ∷ []) (below n (terms_of env)) 0 y leaves scope has) in
+          (k, is_imported k there f y of_k)
+
+      without : IsWithout x body_term
+      without has = let (k, name) = body_name x has in fresh name.import name.outside (name_is name.import.name x name.same)
+
+      body_typed : Typed r.imports (Var w ∷ []) body_term t → Typed body.imports [] (instantiate body_term (Import x)) t
+      body_typed typed =
+          put_typed body.imports x (Var w) name_typed body_term [] t without
+          (typed_under_fewer r.imports body.imports (Var w ∷ []) body_term t agree typed)
+        where
+          agree : (y : Name) → Contains (things 0 body_term) (Named y) → import_type body.imports y ≡ import_type r.imports y
+          agree y has =
+              let (k, name) = body_name y has in
+              type_has body.imports body_differ y name.import name.within name.same
+              ∙ sym (type_has r.imports differ y name.import name.outside name.same)
+
+      -- So the body realises it.
+      body_realises : NameIsRealised → BodyIsInstantiated → RealisesWired types (ns ++ n ∷ []) m → type_of_node m ≡ t → IsWidth w
+          → All LiteralFits body.parts → Typed r.imports (Var w ∷ []) body_term t → Realises t body (instantiate body_term (Import x))
+      body_realises names means rm type_m wide fit typed =
+          let same = instantiated means in
+          subst (λ (u : Type'). Realises u body (instantiate body_term (Import x))) type_m
+          (subst (Realises (type_of_node m) body) (sym same)
+          (rm a b inner pc body v (inner_supplies names wide) body_differ fit
+          (subst (Typed body.imports [] (meaning (terms_of inner) m)) (sym type_m)
+          (subst (λ (c : Term). Typed body.imports [] c t) same (body_typed typed)))))
+
+pub block_case : BlockIsWired → BlockRealises → NameIsRealised → BodyIsInstantiated → BlockCase
+block_case wiring law names means types ns t w n m done type_m type_n bound leaves scope rm i j env pl r wired supplies differ fit (is_done, wide, typed) =
+    with_fresh (fresh_name r.imports) (is_fresh r.imports)
+  where
+    with_fresh : (x : Name) → ((y : Imported) → Contains r.imports y → y.name ≢ x) → Realises t r (New w (meaning (below n (terms_of env)) m))
+    with_fresh x fresh = finish (wiring types i j w n t m ns env pl x r wired done type_m type_n bound fresh)
+      where
+        finish : HasBody types i j n m ns env (pl.own 0) w x r → Realises t r (New w (meaning (below n (terms_of env)) m))
+        finish h =
+            let realised =
+            body_realises types ns w n m type_n bound env supplies x t i j (i + 1) (suc j) pl h.placing r h.block.body wired h.wired differ fresh leaves scope
+            names means rm type_m wide (literals_within h.block.cut r h.block.body h.is_block.cut fit) typed in
+            subst (λ (u : Type'). Realises u r (New w (meaning (below n (terms_of env)) m))) wired.outcome
+            (subst (λ (v : ℕ). Realises r.outcome r (New v (meaning (below n (terms_of env)) m))) h.width
+            (law r h.block (meaning (below n (terms_of env)) m) h.is_block fit
+            (imports_are_ground types i j (Under t [] (OfNew w) n m) ns env pl r wired supplies.realised) differ
+            (subst (λ (u : Type'). Typed r.imports [] (New h.block.width (meaning (below n (terms_of env)) m)) u) (sym wired.outcome)
+            (subst (λ (v : ℕ). Typed r.imports [] (New v (meaning (below n (terms_of env)) m)) t) (sym h.width) (is_done, wide, typed)))
+            (subst (λ (y : Imported). Realises r.outcome h.block.body (instantiate (meaning (below n (terms_of env)) m) (Import y.name))) (sym h.name)
+            (subst (λ (u : Type'). Realises u h.block.body (instantiate (meaning (below n (terms_of env)) m) (Import x))) (sym wired.outcome) realised))))
