@@ -2,4 +2,5 @@ mod ApartLemmas
 mod GroundLemmas
 mod ObjectLemmas
 mod PlansLemmas
+mod PacedLemmas
 mod BuildLemmas

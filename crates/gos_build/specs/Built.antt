@@ -1,7 +1,7 @@
 -- The command `build BUILD`: what it leaves, why it rejects a file, and which calls it makes.
 --
--- Read first: Objects; Plans of gos_circuits (linking, and the circuit of the whole); Simulation of gos_simulate (its run under
--- the pulse file). `old` and `new` are the files of the store before and after, `files` those before where it tells them. The
+-- Read first: Objects, Programs; Plans of gos_circuits (linking, and the circuit of the whole); Pace of gos_model; Simulation of
+-- gos_simulate (its run under the pulse file). `old` and `new` are the files of the store before and after, `files` those before where it tells them. The
 -- pulse file is read after all but the trace is written, and no file that is written is one that is read.
 use Rattle.std.specs.Prelude.{◌≡◌, ◌⊎◌, ◌++◌, ℕ, List, [], ◌∷◌, Option, Some, IfSome}
 use Rattle.gos_outside.specs.Files.{Files, bytes_at}
@@ -9,6 +9,7 @@ use Rattle.gos_outside.specs.OtherFiles.{OthersSame}
 use Rattle.gos_outside.specs.Faults.{LastFault, ReadFault}
 use Rattle.gos_lines.specs.Lines.{Word}
 use Rattle.gos_netlist.specs.Nets.{Netlist}
+use Rattle.gos_model.specs.Pace.{KeepsPaceAlways}
 use Rattle.gos_plan.specs.Seen.{SeenPlan}
 use Rattle.gos_link.specs.declared.build.Build.{Build}
 use Rattle.gos_command.specs.declared.report.Counts.{Counts}
@@ -17,6 +18,7 @@ use Rattle.gos_command.specs.declared.status.Fault.{Fault}
 use Rattle.gos_circuits.specs.Plans.{IsPlansDone, IsPlansCause, IsBuildFault, IsPlansCall, IsPlansCutShort}
 use Rattle.gos_circuits.specs.Linked.{SaysBuild, IsFormCause}
 use Rattle.gos_simulate.specs.Simulation.{LeavesTrace, IsPulseFault, IsSimulationCall}
+use Rattle.gos_build.specs.Programs.{program_along}
 use Rattle.gos_build.specs.Objects.{objects_of, AllWritten, SomeWritten, RejectsModule, IsModuleCall}
 
 -- The plans are linked and a circuit of the whole was written, and then the trace of this very circuit. The report has the
@@ -31,7 +33,8 @@ pub record IsPlansBuilt (old new : Option Files) (b : Build) (plans : List SeenP
   pub tells : report ≡ record { weight = Some weight; run = Some counts }
 
 -- The build file says a build; the source of each instance says a ground module, and the object file of the instance was
--- written with the text of its plan; and all this is so for these plans.
+-- written with the text of its plan; and all this is so for these plans. The circuit keeps pace with the program of the linked
+-- modules.
 pub record IsBuilt (files : Files) (new : Option Files) (own : Word) (report : Report) : Type 0 where
   pub build : Build
   pub plans : List SeenPlan
@@ -39,6 +42,7 @@ pub record IsBuilt (files : Files) (new : Option Files) (own : Word) (report : R
   pub says : SaysBuild files own build
   pub compiled : AllWritten files objects build.instances.items plans
   pub built : IsPlansBuilt objects new build plans report
+  pub pace : KeepsPaceAlways built.weight (program_along compiled.modules built.written.linked.services built.written.linked.root) built.net
 
 -- the pulse file is rejected for the circuit of the plans, which was written
 pub record RejectsPulses (old new : Option Files) (b : Build) (plans : List SeenPlan) (fault : Fault) (line : List ℕ) : Type 0 where

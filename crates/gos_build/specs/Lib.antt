@@ -1,6 +1,6 @@
 -- In reading order: a file uses only files above it.
-pub mod Ground
-pub mod SmallTerms
 pub mod Objects
+pub mod Programs
 pub mod Built
+pub mod Paced
 pub mod inner

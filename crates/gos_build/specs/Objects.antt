@@ -1,6 +1,6 @@
 -- The sources of a build's instances, and the objects that are written of them.
 --
--- Read first: BuildFile of gos_link (instances); Checked and Compiled of gos_objects; Ground. `files` are those that the store
+-- Read first: BuildFile of gos_link (instances); Checked and Compiled of gos_objects; Ground of gos_modules. `files` are those that the store
 -- held when the command began; the sources are as in these, since no source is written. `new` are those that it leaves.
 use Rattle.std.specs.Prelude.{◌≡◌, ◌⊎◌, ℕ, List, [], ◌∷◌, map, length, slice_get, Option, Some, None}
 use Rattle.gos_outside.specs.Files.{Files, bytes_at, with_file, SameBut}
@@ -15,7 +15,7 @@ use Rattle.gos_command.specs.declared.status.Cause.TheVariants.{NotBuilt}
 use Rattle.gos_command.specs.declared.status.Fault.{Fault}
 use Rattle.gos_objects.specs.Checked.{SaysModule, IsSourceFault}
 use Rattle.gos_objects.specs.Compiled.{IsPlanOfModule}
-use Rattle.gos_build.specs.Ground.{IsGroundModule}
+use Rattle.gos_modules.specs.Ground.{IsGroundModule}
 
 -- the text is that of this module, which is accepted and ground
 pub record SaysGround (text : List ℕ) (m : SeenModule) : Type 0 where

@@ -14,6 +14,7 @@ ghost use Rattle.gos_build.specs.inner.Compiling.{AreApart};
 ghost use Rattle.gos_build.specs.inner.Instances.{AreInstancesBuilt};
 
 use crate::compiling::compile_all;
+use crate::laws::paced_modules;
 use gos_circuits::link_plans;
 use gos_command::{Cause, Report, Stop, read_file, reject};
 use gos_link::{Build, read_build};
@@ -48,6 +49,7 @@ pub fn build<S: Store>(alloc: Global, own: &[u8], store: &mut S) -> Result<Repor
     ensures never_falls { S.faults store.old ≤ S.faults store.new }
     ensures others { KeepsUnnamed own.now (S.contents store.old) (S.contents store.new) }
 {
+    paced_modules();
     let text = read_file(alloc, store, own, BUILD_LIMIT)?;
     match read_build(alloc, text.as_slice(), own) {
         Ok(build) => build_instances(alloc, own, &build, store),

@@ -1,10 +1,12 @@
 // Whether a module is ground: whether its imports, its result and each node of its body are commands, expressions or variables.
 
 ghost use Rattle.std.specs.Prelude.{IsTrue, ◌↔◌, map};
+ghost use Rattle.gos_types.specs.Types.{IsGround, type_of};
 ghost use Rattle.gos_model.specs.Sources.{import_of};
 ghost use Rattle.gos_check.specs.Nodes.{node_seen};
 ghost use Rattle.gos_realises.specs.Realises.{AllGround};
-ghost use Rattle.gos_build.specs.inner.GroundNodes.{NumberedGround, IsGroundLinear};
+ghost use Rattle.gos_numbers.specs.Kept.{NodesGround};
+ghost use Rattle.gos_modules.specs.Modules.{IsGroundLinear};
 
 use gos_check::{Linear, Node, NodeForm};
 use gos_syntax::Import;
@@ -12,7 +14,7 @@ use gos_types::is_ground;
 
 /// Whether the imports of a checked module, its result and each node of its body have ground types.
 pub fn is_ground_module(linear: &Linear) -> bool
-    ensures { IsTrue result ↔ IsGroundLinear linear.now }
+    ensures { IsTrue result ↔ (IsGroundLinear linear.now × IsGround (type_of linear.now.result)) }
 {
     are_ground(linear.imports()) && is_ground(linear.result()) && is_ground_node(linear.term())
 }
@@ -29,7 +31,7 @@ fn are_ground(imports: &[Import]) -> bool
 
 // Whether each node of a term has a ground type.
 fn is_ground_node(node: &Node) -> bool
-    ensures { IsTrue result ↔ NumberedGround (node_seen node.now) }
+    ensures { IsTrue result ↔ NodesGround (node_seen node.now) }
 {
     is_ground(&node.ty)
         && match &node.form {

@@ -1,11 +1,16 @@
-// Laws of the definitions: functions that do nothing, whose contracts they are.
+// What the circuits of ground modules do. Each theorem is the contract of a function that does nothing.
 
-ghost use Rattle.gos_build.specs.SmallTerms.{AssignmentIsGround, FunctionIsHigher, CallIsHigher, SideIsHigher};
+ghost use Rattle.gos_build.specs.Paced.{BuildKeepsPace, ModuleKeepsPace};
 
-/// Small terms that are ground, and some that are not.
-pub fn small_terms()
-    ensures assignment { AssignmentIsGround }
-    ensures function { FunctionIsHigher }
-    ensures call { CallIsHigher }
-    ensures side { SideIsHigher }
-{}
+use gos_circuits::paced_circuits;
+use gos_linked::linked_modules;
+
+/// The circuit of a ground module keeps pace with the module's program, and that of a build's linked plan with the
+/// program of its linked modules.
+pub fn paced_modules()
+    ensures one { ModuleKeepsPace }
+    ensures linked { BuildKeepsPace }
+{
+    paced_circuits();
+    linked_modules();
+}

@@ -3,3 +3,4 @@ mod CircuitLemmas
 mod ObjectLemmas
 mod WholeLemmas
 pub mod LinkLemmas
+mod PacedLemmas

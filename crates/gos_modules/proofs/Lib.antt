@@ -5,3 +5,4 @@ mod GroundLemmas
 mod ImportLemmas
 mod ModuleLemmas
 mod SmallModuleLemmas
+pub mod SourceLemmas

@@ -33,7 +33,7 @@ use Rattle.gos_stages.specs.Inside.{AreGroundSupplies}
 use Rattle.gos_numbers.specs.Kept.{CheckedIsKept}
 use Rattle.gos_numbers.specs.Unsplit.{CheckedIsUnsplit}
 use Rattle.gos_grounds.proofs.ImportLemmas.{contained_at, type_has}
-use Rattle.gos_modules.specs.Modules.{GroundIsRealised, IsGroundModule, CheckedIsOpen, CheckedIsRealised, PortsAreGround}
+use Rattle.gos_modules.specs.Modules.{GroundIsRealised, IsGroundLinear, CheckedIsOpen, CheckedIsRealised, PortsAreGround}
 use Rattle.gos_modules.proofs.NodeLemmas.{has_leaves, node_ground}
 use Rattle.gos_modules.proofs.LiteralLemmas.{literals_fit, joined_fit}
 use Rattle.gos_modules.proofs.ImportLemmas.{names_differ, widths_are_had, ground_at, import_there, term_there}
@@ -76,7 +76,7 @@ module _ (l : SeenLinear) (w : ℕ) (p : Plan) (c : IsChecked l) (of : IsPlanOf 
   own_literals =
       subst (λ (xs : List Part). All LiteralFits xs) (sym of.parts) (literals_fit types imports [] (import_at imports) node (type_of l.result) c.typed)
 
-  module _ (laws : ModuleLaws) (ground : IsGroundModule l) (ss : List Supply) (r : Plan) (are : AreSupplied p.imports ss) (join : IsJoined (supplying p ss) r)
+  module _ (laws : ModuleLaws) (ground : IsGroundLinear l) (ss : List Supply) (r : Plan) (are : AreSupplied p.imports ss) (join : IsJoined (supplying p ss) r)
       (differ : NamesDiffer r.imports)
     where
       -- the module's type is the node's

@@ -19,8 +19,8 @@ use Rattle.gos_grounds.specs.Cases.{RealisesWired}
 abbrev pub GroundIsRealised : Type 0
 GroundIsRealised = (types : Types) (ns : List ℕ) (m : Numbered) → IsKept types ns m → ParallelsAreUnsplit m → RealisesWired types ns m
 
--- each import, and each node of the term, is a command, an expression or a variable
-pub record IsGroundModule (l : SeenLinear) : Type 0 where
+-- each import of a checked module, and each node of its term, is a command, an expression or a variable
+pub record IsGroundLinear (l : SeenLinear) : Type 0 where
   pub imports : AllGround (program_in l).imports
   pub nodes : NodesGround (node_seen l.term)
 
@@ -28,19 +28,19 @@ pub record IsGroundModule (l : SeenLinear) : Type 0 where
 abbrev pub CheckedIsOpen : Type 0
 CheckedIsOpen =
     (l : SeenLinear) (w : ℕ) (p : Plan)
-    → IsChecked l → IsGroundModule l → IsPlanOf (program_in l).imports (type_of l.result) w (node_seen l.term) p
+    → IsChecked l → IsGroundLinear l → IsPlanOf (program_in l).imports (type_of l.result) w (node_seen l.term) p
     → RealisesOpen p (program_in l).body
 
 -- So it realises the module, if it is slim.
 abbrev pub CheckedIsRealised : Type 0
 CheckedIsRealised =
     (l : SeenLinear) (w : ℕ) (p : Plan)
-    → IsChecked l → IsGroundModule l → IsPlanOf (program_in l).imports (type_of l.result) w (node_seen l.term) p → IsSlim p
+    → IsChecked l → IsGroundLinear l → IsPlanOf (program_in l).imports (type_of l.result) w (node_seen l.term) p → IsSlim p
     → RealisesModule p (program_in l).body
 
 -- The imports of its plan, and its outcome, are such as ports of a circuit may be.
 abbrev pub PortsAreGround : Type 0
 PortsAreGround =
     (l : SeenLinear) (w : ℕ) (p : Plan)
-    → IsChecked l → IsGroundModule l → IsPlanOf (program_in l).imports (type_of l.result) w (node_seen l.term) p
+    → IsChecked l → IsGroundLinear l → IsPlanOf (program_in l).imports (type_of l.result) w (node_seen l.term) p
     → AllGround p.imports × HaveWidths p.imports × IsGround p.outcome

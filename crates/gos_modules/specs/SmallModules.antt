@@ -8,14 +8,14 @@ use Rattle.gos_check.specs.Nodes.{Closed, node_seen, type_of_node}
 use Rattle.gos_check.specs.Checked.{SeenLinear}
 use Rattle.gos_leaves.specs.SmallSplits.{twice}
 use Rattle.gos_grounds.specs.Cases.{RealisesWired}
-use Rattle.gos_modules.specs.Modules.{IsGroundModule}
+use Rattle.gos_modules.specs.Modules.{IsGroundLinear}
 
 -- `export skip`, and what exports a function
 abbrev pub SkipIsGround : Type 0
-SkipIsGround = (l : SeenLinear) → l.imports ≡ [] → node_seen l.term ≡ Closed Com [] terms.Skip → IsGroundModule l
+SkipIsGround = (l : SeenLinear) → l.imports ≡ [] → node_seen l.term ≡ Closed Com [] terms.Skip → IsGroundLinear l
 
 abbrev pub FunctionIsNotGround : Type 0
-FunctionIsNotGround = (l : SeenLinear) (a b : Type') → type_of_node (node_seen l.term) ≡ Fun a b → IsGroundModule l → ⊥
+FunctionIsNotGround = (l : SeenLinear) (a b : Type') → type_of_node (node_seen l.term) ≡ Fun a b → IsGroundLinear l → ⊥
 
 -- a number that is used twice, wired to a supply of it
 abbrev pub TwiceIsRealised : Type 0

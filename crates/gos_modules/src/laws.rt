@@ -1,6 +1,8 @@
 // The plan of a checked module of ground types realises it. Each theorem is the contract of a function that does nothing.
 ghost use Rattle.gos_modules.specs.Modules.{CheckedIsOpen, CheckedIsRealised, GroundIsRealised, PortsAreGround};
+ghost use Rattle.gos_modules.specs.SmallGround.{AssignmentIsGround, CallIsHigher, FunctionIsHigher, SideIsHigher};
 ghost use Rattle.gos_modules.specs.SmallModules.{FunctionIsNotGround, SkipIsGround, TwiceIsRealised};
+ghost use Rattle.gos_modules.specs.Sources.{NodesAreThose, ProgramHasPorts, ProgramIsRealised};
 
 use gos_assignments::assignment_case;
 use gos_grounds::{blocks, leaves, parallel_nodes};
@@ -57,3 +59,21 @@ pub fn small_modules()
     ground_terms();
     small_kept();
 }
+
+/// A typed term has ground nodes exactly where the program has for which it stands. So the plan of a checked module
+/// whose program is ground realises it, and its imports and its outcome may be ports of a circuit.
+pub fn ground_programs()
+    ensures nodes { NodesAreThose }
+    ensures realised { ProgramIsRealised }
+    ensures ports { ProgramHasPorts }
+{
+    ground_modules();
+}
+
+/// An assignment is ground. A function isn't, nor are a call and a projection whose types are.
+pub fn small_terms()
+    ensures assignment { AssignmentIsGround }
+    ensures function { FunctionIsHigher }
+    ensures call { CallIsHigher }
+    ensures side { SideIsHigher }
+{}

@@ -15,8 +15,10 @@ use crate::checking::module_in;
 use gos_check::Linear;
 use gos_command::{Report, Stop, write_file};
 use gos_compile::compile;
+use gos_modules::ground_programs;
 use gos_outside::Store;
 use gos_plan::{Plan, print_object};
+use gos_types::NoMemory;
 use std::alloc::Global;
 
 /// Reads a source file, checks its module, and writes the object file: the text of the module's plan.
@@ -73,8 +75,18 @@ pub fn write_plan<S: Store>(
     ensures never_falls { S.faults store.old ≤ S.faults store.new }
     ensures others { SameBut object.now (S.contents store.old) (S.contents store.new) }
 {
-    let plan = compile(alloc, linear)?;
+    let plan = plan_for(alloc, linear)?;
     let text = print_object(alloc, &plan)?;
     write_file(alloc, store, object, text.as_slice())?;
     Ok(plan)
+}
+
+// The plan of a checked module, and what it realises.
+fn plan_for(alloc: Global, linear: &Linear) -> Result<Plan, NoMemory>
+    ensures { IfOk result (λ plan. IsPlanFor linear.now (plan_of plan)) }
+{
+    ground_programs();
+    // A module is known to be checked where its term is seen.
+    let _term = linear.term();
+    compile(alloc, linear)
 }

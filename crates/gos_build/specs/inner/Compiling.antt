@@ -10,7 +10,7 @@ use Rattle.gos_plan.specs.Seen.{SeenPlan}
 use Rattle.gos_link.specs.declared.build.Instance.{Instance}
 use Rattle.gos_objects.specs.Typed.{IsTypedAs}
 use Rattle.gos_objects.specs.Compiled.{IsPlanOfModule}
-use Rattle.gos_build.specs.Ground.{IsGroundModule}
+use Rattle.gos_modules.specs.Ground.{IsGroundModule}
 use Rattle.gos_build.specs.Objects.{SaysGround, objects_of, AreWritten}
 
 -- the source of each of these instances is none of these files

@@ -1,4 +1,4 @@
--- Ground modules: those that `build` takes.
+-- Ground modules: each import, and each node of the body, is a command, an expression or a variable.
 --
 -- Read first: Typing and Weight of gos_model (`node_type` is the type of each node of a typed term).
 use Rattle.std.specs.Prelude.{List, [], ◌∷◌}
@@ -7,6 +7,7 @@ use Rattle.gos_syntax.specs.Modules.{SeenModule}
 use Rattle.gos_model.specs.Terms.{Term, Skip, Lit, Bound, Import, Lam, App, Both, Fst, Snd, Seq, Par, If, While, Assign, Deref, New, Not, Bin, Loc, Scope, Wait, Held, Put}
 use Rattle.gos_model.specs.Typing.{Imports}
 use Rattle.gos_model.specs.Weight.{node_type}
+use Rattle.gos_model.specs.Moves.{Program}
 use Rattle.gos_model.specs.Sources.{program_of}
 use Rattle.gos_realises.specs.Realises.{AllGround}
 
@@ -37,8 +38,12 @@ NodesGround i g (Wait x s) = Unit {0}
 NodesGround i g (Held k op n) = Unit {0}
 NodesGround i g (Put m k) = Unit {0}
 
--- the imports of a module, its result and each node of its body are ground
+-- the imports of a program, and each node of its body, are ground
+pub record IsGroundProgram (p : Program) : Type 0 where
+  pub imports : AllGround p.imports
+  pub nodes : NodesGround p.imports [] p.body
+
+-- so they are of a module, and its result is
 pub record IsGroundModule (m : SeenModule) : Type 0 where
-  pub imports : AllGround (program_of m).imports
+  pub program : IsGroundProgram (program_of m)
   pub result : IsGround (type_of m.result)
-  pub nodes : NodesGround (program_of m).imports [] (program_of m).body

@@ -1,11 +1,11 @@
 -- Small terms that are ground, and some that are not.
 --
--- Read first: Ground.
-use Rattle.std.specs.Prelude.{[], ◌∷◌, codes}
+-- Read first: Ground. They show that the definitions can be met and can be missed.
+use Rattle.std.specs.Prelude.{List, [], ◌∷◌, codes}
 use Rattle.gos_types.specs.Types.{Type', Com, Var, Fun, Pair}
 use Rattle.gos_model.specs.Terms.{Skip, Lit, Bound, Import, Lam, App, Fst, Assign}
 use Rattle.gos_model.specs.Typing.{Imports}
-use Rattle.gos_build.specs.Ground.{NodesGround}
+use Rattle.gos_modules.specs.Ground.{NodesGround}
 
 -- an import x of this type
 abbrev pub import_x : Type' → Imports

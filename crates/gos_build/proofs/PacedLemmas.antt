@@ -1,0 +1,81 @@
+-- The circuits of ground modules keep pace with their programs, since their plans realise these, and linked plans the substituted one.
+use Rattle.std.specs.Prelude.{◌≡◌, ℕ, zero, suc, List, [], ◌∷◌, map, length, Some, slice_get}
+use Rattle.std.proofs.Common.{refl, sym, ◌∙◌, ap, subst}
+use Rattle.gos_outside.specs.Files.{Files}
+use Rattle.gos_types.specs.Types.{IsDone}
+use Rattle.gos_syntax.specs.Modules.{SeenModule}
+use Rattle.gos_model.specs.Terms.{Term}
+use Rattle.gos_model.specs.Typing.{Imports}
+use Rattle.gos_model.specs.Moves.{Program}
+use Rattle.gos_model.specs.Pace.{KeepsPaceAlways}
+use Rattle.gos_model.specs.Sources.{program_of}
+use Rattle.gos_model.specs.Linking.{Bind, substituted}
+use Rattle.gos_plan.specs.Seen.{SeenPlan, plan_of}
+use Rattle.gos_link.specs.declared.build.Instance.{Instance}
+use Rattle.gos_link.specs.declared.services.Service.{Service}
+use Rattle.gos_link.specs.Linked.{imports_of, plans_of}
+use Rattle.gos_linked.specs.Linked.{name_if, binds_of, linked_program}
+use Rattle.gos_linked.specs.Modules.{AreModules, LinkedIsModule, LinkedIsDone}
+use Rattle.gos_circuits.specs.Paced.{ModuleCircuitsKeepPace}
+use Rattle.gos_build.specs.Objects.{BeginWith, HavePlans}
+use Rattle.gos_build.specs.Programs.{imports_if, bind_in, program_along}
+use Rattle.gos_build.specs.Paced.{ModuleKeepsPace, BuildKeepsPace}
+
+pub module_keeps_pace : ModuleCircuitsKeepPace → ModuleKeepsPace
+module_keeps_pace law m plan root net is ground done circuit =
+    let body : Term = (program_of m).body in
+    let (all, wide) = is.ports ground in
+    let paced = law root plan body net (is.realises ground) all wide (subst IsDone (sym is.made.outcome) done) circuit in
+    subst (λ (w : ℕ). KeepsPaceAlways w (program_of m) net) is.made.weight
+    (subst (λ (i : Imports). KeepsPaceAlways plan.weight (record { imports = i; body = body }) net) is.made.imports paced)
+
+as_many : (ms : List SeenModule) (ps : List SeenPlan) → HavePlans ms ps → length ps ≡ length ms
+as_many [] [] have = refl
+as_many [] (p ∷ ps) have = absurd have
+as_many (m ∷ ms) [] have = absurd have
+as_many (m ∷ ms) (p ∷ ps) have = ap suc (as_many ms ps have.1)
+
+-- each plan is that of its module
+are_modules : (files : Files) (is : List Instance) (ms : List SeenModule) (ps : List SeenPlan) → BeginWith files is ms → HavePlans ms ps
+    → AreModules (plans_of ps) (map program_of ms)
+are_modules files is [] [] say have = tt
+are_modules files is [] (p ∷ ps) say have = absurd have
+are_modules files is (m ∷ ms) [] say have = absurd have
+are_modules files [] (m ∷ ms) (p ∷ ps) say have = absurd say
+are_modules files (i ∷ is) (m ∷ ms) (p ∷ ps) say have = (
+  record { imports = have.0.made.imports; realises = have.0.realises say.0.ground; widths = (have.0.ports say.0.ground).1 },
+  are_modules files is ms ps say.1 have.1,
+)
+
+-- what services bind among the plans, they bind among the programs
+same_imports : (ms : List SeenModule) (ps : List SeenPlan) (n : ℕ) → HavePlans ms ps
+    → imports_of (slice_get (plans_of ps) n) ≡ imports_if (slice_get (map program_of ms) n)
+same_imports [] [] n have = refl
+same_imports [] (p ∷ ps) n have = absurd have
+same_imports (m ∷ ms) [] n have = absurd have
+same_imports (m ∷ ms) (p ∷ ps) zero have = have.0.made.imports
+same_imports (m ∷ ms) (p ∷ ps) (suc n) have = same_imports ms ps n have.1
+
+same_binds : (ms : List SeenModule) (ps : List SeenPlan) (ss : List Service) → HavePlans ms ps
+    → binds_of (plans_of ps) ss ≡ map (bind_in (map program_of ms)) ss
+same_binds ms ps [] have = refl
+same_binds ms ps (s ∷ ss) have =
+    let here = same_imports ms ps s.user have in
+    let rest = same_binds ms ps ss have in
+    λ i. record { user = s.user; import = name_if (slice_get (here i) s.import); giver = s.giver } ∷ rest i
+
+pub build_keeps_pace : LinkedIsModule → LinkedIsDone → BuildKeepsPace
+build_keeps_pace is_module is_done files objects old new b plans weight net compiled done =
+    let ms : List SeenModule = compiled.modules in
+    let have = compiled.written.plans in
+    let whole = done.whole in
+    let l = done.linked in
+    let all = are_modules files b.instances.items ms plans compiled.written.say have in
+    let each : length plans ≡ length b.instances.items = as_many ms plans have ∙ compiled.all in
+    let linked = is_module b plans whole (map program_of ms) l each all in
+    let (matched, program) = is_done b plans whole (map program_of ms) l each all in
+    let paced = done.written.circuit.pace linked.realises.slim (linked_program b plans whole l (map program_of ms)).body matched in
+    let same : linked_program b plans whole l (map program_of ms) ≡ program_along ms l.services l.root =
+    ap (λ (bs : List Bind). substituted (map program_of ms) bs l.root) (same_binds ms plans l.services have) in
+    subst (λ (w : ℕ). KeepsPaceAlways w (program_along ms l.services l.root) net) (sym done.weighs)
+    (subst (λ (p : Program). KeepsPaceAlways whole.weight p net) (program ∙ same) paced)

@@ -1,0 +1,8 @@
+use Rattle.gos_build.proofs.PacedLemmas.{module_keeps_pace, build_keeps_pace}
+use Rattle.gos_build.proofs.laws.paced_modules.Goals as goal
+
+pub returns-clause-one : goal.returns-clause-one
+returns-clause-one c = module_keeps_pace c.paced_circuits.ensures.modules
+
+pub returns-clause-linked : goal.returns-clause-linked
+returns-clause-linked c = build_keeps_pace c.linked_modules.ensures.module c.linked_modules.ensures.done

@@ -1,0 +1,8 @@
+use Rattle.gos_circuits.proofs.PacedLemmas.{open_circuits, module_circuits}
+use Rattle.gos_circuits.proofs.laws.paced_circuits.Goals as goal
+
+pub returns-clause-open_imports : goal.returns-clause-open_imports
+returns-clause-open_imports c = open_circuits c.ports.ensures.done
+
+pub returns-clause-modules : goal.returns-clause-modules
+returns-clause-modules c = module_circuits c.ports.ensures.done
