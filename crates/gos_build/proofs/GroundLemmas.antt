@@ -1,5 +1,5 @@
 -- A module is ground exactly where the checked module that stands for it is.
-use Rattle.std.specs.Prelude.{◌≡◌, ◌↔◌, IfSome, map}
+use Rattle.std.specs.Prelude.{◌≡◌, ◌↔◌, IfSome}
 use Rattle.std.proofs.Common.{inr, ℕ, List, Option, None, ap, sym, subst}
 use Rattle.gos_outside.specs.Files.{Files, bytes_at}
 use Rattle.gos_lines.specs.Lines.{Word}

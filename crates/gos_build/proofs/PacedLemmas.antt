@@ -1,5 +1,5 @@
 -- The circuits of ground modules keep pace with their programs, since their plans realise these, and linked plans the substituted one.
-use Rattle.std.specs.Prelude.{◌≡◌, ℕ, zero, suc, List, [], ◌∷◌, map, length, Some, slice_get}
+use Rattle.std.specs.Prelude.{◌≡◌, ℕ, zero, suc, List, [], ◌∷◌, map, length, slice_get}
 use Rattle.std.proofs.Common.{refl, sym, ◌∙◌, ap, subst}
 use Rattle.gos_outside.specs.Files.{Files}
 use Rattle.gos_types.specs.Types.{IsDone}
@@ -10,7 +10,7 @@ use Rattle.gos_model.specs.Moves.{Program}
 use Rattle.gos_model.specs.Pace.{KeepsPaceAlways}
 use Rattle.gos_model.specs.Sources.{program_of}
 use Rattle.gos_model.specs.Linking.{Bind, substituted}
-use Rattle.gos_plan.specs.Seen.{SeenPlan, plan_of}
+use Rattle.gos_plan.specs.Seen.{SeenPlan}
 use Rattle.gos_link.specs.declared.build.Instance.{Instance}
 use Rattle.gos_link.specs.declared.services.Service.{Service}
 use Rattle.gos_link.specs.Linked.{imports_of, plans_of}
