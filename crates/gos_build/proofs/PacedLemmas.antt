@@ -10,16 +10,18 @@ use Rattle.gos_model.specs.Moves.{Program}
 use Rattle.gos_model.specs.Pace.{KeepsPaceAlways}
 use Rattle.gos_model.specs.Sources.{program_of}
 use Rattle.gos_model.specs.Linking.{Bind, substituted}
+use Rattle.gos_plan.specs.Plans.{Plan}
 use Rattle.gos_plan.specs.Seen.{SeenPlan}
+use Rattle.gos_link.specs.declared.build.Build.{Build}
 use Rattle.gos_link.specs.declared.build.Instance.{Instance}
 use Rattle.gos_link.specs.declared.services.Service.{Service}
-use Rattle.gos_link.specs.Linked.{imports_of, plans_of}
+use Rattle.gos_link.specs.Linked.{imports_of, plans_of, IsLinked}
 use Rattle.gos_linked.specs.Linked.{name_if, binds_of, linked_program}
-use Rattle.gos_linked.specs.Modules.{AreModules, LinkedIsModule, LinkedIsDone}
+use Rattle.gos_linked.specs.Modules.{AreModules, AreWeighed, LinkedIsModule, LinkedIsDone, LinkedHasWeight}
 use Rattle.gos_circuits.specs.Paced.{ModuleCircuitsKeepPace}
 use Rattle.gos_build.specs.Objects.{BeginWith, HavePlans}
 use Rattle.gos_build.specs.Programs.{imports_if, bind_in, program_along}
-use Rattle.gos_build.specs.Paced.{ModuleKeepsPace, BuildKeepsPace}
+use Rattle.gos_build.specs.Paced.{ModuleKeepsPace, BuildKeepsPace, BuildHasImports, BuildHasWeight}
 
 pub module_keeps_pace : ModuleCircuitsKeepPace → ModuleKeepsPace
 module_keeps_pace law m plan root net is ground done circuit =
@@ -64,6 +66,11 @@ same_binds ms ps (s ∷ ss) have =
     let rest = same_binds ms ps ss have in
     λ i. record { user = s.user; import = name_if (slice_get (here i) s.import); giver = s.giver } ∷ rest i
 
+-- the program that is linked is that along the services
+same_program : (b : Build) (ms : List SeenModule) (ps : List SeenPlan) (whole : Plan) (l : IsLinked b ps whole) → HavePlans ms ps
+    → linked_program b ps whole l (map program_of ms) ≡ program_along ms l.services l.root
+same_program b ms ps whole l have = ap (λ (bs : List Bind). substituted (map program_of ms) bs l.root) (same_binds ms ps l.services have)
+
 pub build_keeps_pace : LinkedIsModule → LinkedIsDone → BuildKeepsPace
 build_keeps_pace is_module is_done files objects old new b plans weight net compiled done =
     let ms : List SeenModule = compiled.modules in
@@ -75,7 +82,26 @@ build_keeps_pace is_module is_done files objects old new b plans weight net comp
     let linked = is_module b plans whole (map program_of ms) l each all in
     let (matched, program) = is_done b plans whole (map program_of ms) l each all in
     let paced = done.written.circuit.pace linked.realises.slim (linked_program b plans whole l (map program_of ms)).body matched in
-    let same : linked_program b plans whole l (map program_of ms) ≡ program_along ms l.services l.root =
-    ap (λ (bs : List Bind). substituted (map program_of ms) bs l.root) (same_binds ms plans l.services have) in
     subst (λ (w : ℕ). KeepsPaceAlways w (program_along ms l.services l.root) net) (sym done.weighs)
-    (subst (λ (p : Program). KeepsPaceAlways whole.weight p net) (program ∙ same) paced)
+    (subst (λ (p : Program). KeepsPaceAlways whole.weight p net) (program ∙ same_program b ms plans whole l have) paced)
+
+pub build_has_imports : LinkedIsModule → BuildHasImports
+build_has_imports is_module files objects old new b plans weight net compiled done =
+    let ms : List SeenModule = compiled.modules in
+    let have = compiled.written.plans in
+    let l = done.linked in
+    let all = are_modules files b.instances.items ms plans compiled.written.say have in
+    let each : length plans ≡ length b.instances.items = as_many ms plans have ∙ compiled.all in
+    (is_module b plans done.whole (map program_of ms) l each all).imports ∙ ap (λ (p : Program). p.imports) (same_program b ms plans done.whole l have)
+
+-- each plan has its module's weight
+are_weighed : (ms : List SeenModule) (ps : List SeenPlan) → HavePlans ms ps → AreWeighed (plans_of ps) (map program_of ms)
+are_weighed [] [] have = tt
+are_weighed [] (p ∷ ps) have = absurd have
+are_weighed (m ∷ ms) [] have = absurd have
+are_weighed (m ∷ ms) (p ∷ ps) have = (have.0.made.weight, are_weighed ms ps have.1)
+
+pub build_has_weight : LinkedHasWeight → BuildHasWeight
+build_has_weight has_weight files objects old new b plans weight net compiled done =
+    done.weighs
+    ∙ has_weight b plans done.whole (map program_of compiled.modules) done.linked (are_weighed compiled.modules plans compiled.written.plans)

@@ -3,12 +3,14 @@
 -- Read first: Objects, Programs; Plans of gos_circuits (linking, and the circuit of the whole); Pace of gos_model; Simulation of
 -- gos_simulate (its run under the pulse file). `old` and `new` are the files of the store before and after, `files` those before where it tells them. The
 -- pulse file is read after all but the trace is written, and no file that is written is one that is read.
-use Rattle.std.specs.Prelude.{◌≡◌, ◌⊎◌, ◌++◌, ℕ, List, [], ◌∷◌, Option, Some, IfSome}
+use Rattle.std.specs.Prelude.{◌≡◌, ◌⊎◌, ◌++◌, ℕ, List, [], ◌∷◌, map, Option, Some, IfSome}
 use Rattle.gos_outside.specs.Files.{Files, bytes_at}
 use Rattle.gos_outside.specs.OtherFiles.{OthersSame}
 use Rattle.gos_outside.specs.Faults.{LastFault, ReadFault}
 use Rattle.gos_lines.specs.Lines.{Word}
 use Rattle.gos_netlist.specs.Nets.{Netlist}
+use Rattle.gos_model.specs.Sources.{program_of}
+use Rattle.gos_model.specs.Linking.{link_weight}
 use Rattle.gos_model.specs.Pace.{KeepsPaceAlways}
 use Rattle.gos_plan.specs.Seen.{SeenPlan}
 use Rattle.gos_link.specs.declared.build.Build.{Build}
@@ -33,8 +35,8 @@ pub record IsPlansBuilt (old new : Option Files) (b : Build) (plans : List SeenP
   pub tells : report ≡ record { weight = Some weight; run = Some counts }
 
 -- The build file says a build; the source of each instance says a ground module, and the object file of the instance was
--- written with the text of its plan; and all this is so for these plans. The circuit keeps pace with the program of the linked
--- modules.
+-- written with the text of its plan; and all this is so for these plans. The circuit has the imports of the program of the
+-- linked modules as its ports, besides the root's, and keeps pace with this program. Its weight is that of the modules.
 pub record IsBuilt (files : Files) (new : Option Files) (own : Word) (report : Report) : Type 0 where
   pub build : Build
   pub plans : List SeenPlan
@@ -43,6 +45,8 @@ pub record IsBuilt (files : Files) (new : Option Files) (own : Word) (report : R
   pub compiled : AllWritten files objects build.instances.items plans
   pub built : IsPlansBuilt objects new build plans report
   pub pace : KeepsPaceAlways built.weight (program_along compiled.modules built.written.linked.services built.written.linked.root) built.net
+  pub imports : built.written.whole.imports ≡ (program_along compiled.modules built.written.linked.services built.written.linked.root).imports
+  pub weighs : built.weight ≡ link_weight (map program_of compiled.modules)
 
 -- the pulse file is rejected for the circuit of the plans, which was written
 pub record RejectsPulses (old new : Option Files) (b : Build) (plans : List SeenPlan) (fault : Fault) (line : List ℕ) : Type 0 where

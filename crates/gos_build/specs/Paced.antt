@@ -2,12 +2,13 @@
 --
 -- Read first: Ground of gos_modules; Compiled of gos_objects (the plan of a module); Circuit and Plans of gos_circuits; Pace of
 -- gos_model; Programs, Objects.
-use Rattle.std.specs.Prelude.{ℕ, List, Option}
+use Rattle.std.specs.Prelude.{◌≡◌, ℕ, List, map, Option}
 use Rattle.gos_outside.specs.Files.{Files}
 use Rattle.gos_lines.specs.Lines.{Word}
 use Rattle.gos_types.specs.Types.{IsDone, type_of}
 use Rattle.gos_syntax.specs.Modules.{SeenModule}
 use Rattle.gos_netlist.specs.Nets.{Netlist}
+use Rattle.gos_model.specs.Linking.{link_weight}
 use Rattle.gos_model.specs.Pace.{KeepsPaceAlways}
 use Rattle.gos_model.specs.Sources.{program_of}
 use Rattle.gos_check.specs.Accepted.{weighed}
@@ -34,3 +35,16 @@ BuildKeepsPace =
     (files : Files) (objects old new : Option Files) (b : Build) (plans : List SeenPlan) (weight : ℕ) (net : Netlist)
     (compiled : AllWritten files objects b.instances.items plans) (done : IsPlansDone old new b plans weight net)
     → KeepsPaceAlways weight (program_along compiled.modules done.linked.services done.linked.root) net
+
+-- The linked plan has the imports of that program, and the weight of the linked modules.
+abbrev pub BuildHasImports : Type 0
+BuildHasImports =
+    (files : Files) (objects old new : Option Files) (b : Build) (plans : List SeenPlan) (weight : ℕ) (net : Netlist)
+    (compiled : AllWritten files objects b.instances.items plans) (done : IsPlansDone old new b plans weight net)
+    → done.whole.imports ≡ (program_along compiled.modules done.linked.services done.linked.root).imports
+
+abbrev pub BuildHasWeight : Type 0
+BuildHasWeight =
+    (files : Files) (objects old new : Option Files) (b : Build) (plans : List SeenPlan) (weight : ℕ) (net : Netlist)
+    (compiled : AllWritten files objects b.instances.items plans) (done : IsPlansDone old new b plans weight net)
+    → weight ≡ link_weight (map program_of compiled.modules)

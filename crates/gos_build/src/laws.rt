@@ -1,6 +1,6 @@
 // What the circuits of ground modules do. Each theorem is the contract of a function that does nothing.
 
-ghost use Rattle.gos_build.specs.Paced.{BuildKeepsPace, ModuleKeepsPace};
+ghost use Rattle.gos_build.specs.Paced.{BuildHasImports, BuildHasWeight, BuildKeepsPace, ModuleKeepsPace};
 ghost use Rattle.gos_build.specs.SmallPrograms.{FirstIsNot, SecondIsBound};
 
 use gos_circuits::paced_circuits;
@@ -11,6 +11,8 @@ use gos_linked::linked_modules;
 pub fn paced_modules()
     ensures one { ModuleKeepsPace }
     ensures linked { BuildKeepsPace }
+    ensures imports { BuildHasImports }
+    ensures weight { BuildHasWeight }
 {
     paced_circuits();
     linked_modules();
