@@ -1,3 +1,5 @@
 pub mod RunLemmas
 pub mod StandLemmas
 pub mod TrailLemmas
+pub mod FollowLemmas
+pub mod OpLemmas

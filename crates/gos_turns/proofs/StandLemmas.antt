@@ -153,7 +153,7 @@ role_apart p d e b c at_d asks at_e serves same =
     let one : Some b ≡ Some c = sym at_d ∙ (ap (contact_at p) same ∙ at_e) in
     let is : b ≡ c = cc one in ask_not_serve (sym asks ∙ (ap (λ (x : Contact). x.role) is ∙ serves))
 
-not_empty : (v : ℕ) (x : Option ℕ) → x ≡ Some v → x ≡ None → ⊥
+pub not_empty : (v : ℕ) (x : Option ℕ) → x ≡ Some v → x ≡ None → ⊥
 not_empty v x some none = let never : Some v ≡ None = sym some ∙ none in cc never
 
 open_by_fit : (b : Bool) (q r : Option ℕ) (v : ℕ) → holding.Fits b q r → q ≡ Some v → (b ≡ true) × (r ≡ None)
@@ -161,10 +161,10 @@ open_by_fit false q r v h some = absurd (not_empty v q some h.0)
 open_by_fit true q r v (inl none) some = absurd (not_empty v q some none)
 open_by_fit true q r v (inr none) some = (refl, none)
 
-ways_apart : Request ≡ Answer → ⊥
+pub ways_apart : Request ≡ Answer → ⊥
 ways_apart e = cc e
 
-both_ways : Answer ≡ Request → ⊥
+pub both_ways : Answer ≡ Request → ⊥
 both_ways e = cc e
 
 -- an answer is taken where the plan asks
@@ -306,3 +306,15 @@ put_answer p e c v o F G s right there serves well passed st =
           placed_apart p e a Answer Request (Some v) s (λ same. absurd (ways_apart same)) ∙ request,
           placed_apart p e a Answer Answer (Some v) s (λ same is. apart (one_server p e d a c b right there serves at role is named)) ∙ answer,
         )
+
+-- it depends on the tokens alone
+pub stands_same : (p : Plan) (o : Open) (F : End → Bool) (s t : Tokens) → t.in_place ≡ s.in_place → Stands p o F s → Stands p o F t
+stands_same p o F s t same st =
+    record {
+      fit = λ a. subst (λ (g : Direction → End → Option ℕ). holding.Fits (o a) (g Request a) (g Answer a)) (sym same) (st.fit a);
+      asks_open = st.asks_open;
+      serves_open = λ e c port at role up.
+          let (a, named, a_open, request, answer) = st.serves_open e c port at role up in
+          (a, named, a_open, (λ i. same i Request a) ∙ request, (λ i. same i Answer a) ∙ answer);
+      only_asks = st.only_asks;
+    }

@@ -1,0 +1,178 @@
+-- How the whole stands as its plans do.
+--
+-- What is open at an asking end of the whole is so where it stands in its plan; a token of the whole lies on some joint of the
+-- trail; each open joint of a plan has a trail that leads to it; linked ports are open together. So where the last joint of a
+-- trail is open the first one is, and those between are empty.
+use Rattle.std.specs.Prelude.{ℕ, zero, suc, ◌+◌, ◌-◌, ◌≤◌, ◌<◌, Bool, true, false, List, Option, Some, None, Contains, slice_get, nat_lt}
+use Rattle.std.proofs.Common.{◌≡◌, [], ◌∷◌, ◌⊎◌, inl, inr, refl, sym, ◌∙◌, ap, subst, arith}
+use Rattle.std.proofs.lemmas.Bool.Decides.{nat_tests}
+use Rattle.gos_types.specs.declared.shakes.Role.{Role}
+use Rattle.gos_types.specs.declared.shakes.Role.TheVariants.{Serve, Ask}
+use Rattle.gos_types.specs.Handshakes.{turned}
+use Rattle.gos_netlist.specs.Events.{Direction, Request, Answer}
+use Rattle.gos_plan.specs.Kinds.{Contact, asks, serves, turned_contact}
+use Rattle.gos_plan.specs.Plans.{End, PartEnd, ImportEnd, ResultEnd, Joint, Plan, contact_at, IsRight}
+use Rattle.gos_plan.specs.Tokens.{Tokens, IsPortEnd, places_of, token_at, held_at, with_token}
+use Rattle.gos_plan.specs.Turns.{IsEmptyAt}
+use Rattle.gos_plan.specs.Orderly.{Open, named_by, handshake_at, after_taken, after_put, ComesWell}
+use Rattle.gos_plan.specs.Joining.{Place, place, Wiring, JoinedWithin, Linked, Path, origin, IsJoining}
+use Rattle.gos_plan.proofs.JointLemmas.{IsIn, stands_there, contained}
+use Rattle.gos_realises.specs.Regular.{Pass, is_open, is_request}
+use Rattle.gos_realises.specs.Links.{contact_of, LinksFit}
+use Rattle.gos_webs.specs.Webs.{joint}
+use Rattle.gos_joined.proofs.ReachLemmas.{Told, Paths, paths_then, place_is, told_number, told_end}
+use Rattle.gos_joined.proofs.StepLemmas.{IsOutside, IsPart}
+use Rattle.gos_joined.proofs.OriginLemmas.{at_origin, sort, sort_of}
+use Rattle.gos_unions.specs.Unions.{HasFieldsOf}
+use Rattle.gos_unions.proofs.PlaceLemmas.{fields_of, same_contact, stands_at, stands_alone}
+use Rattle.gos_turns.proofs.StandLemmas.{asks_own, names_own, serves_in, asks_itself, serves_itself, placed_here, placed_apart, lies_in, opened_here, opened_apart, Passed, passed_here, passed_apart, Stands, not_empty, stands_same}
+use Rattle.gos_turns.proofs.TrailLemmas.{LinksArePorts, IsUnlinked, AsksAt, ServesAt, Segment, Trail, contact_place, plan_at, link_back, link_ports, segment_roles, segment_back, segment_one, trail_rest, trail_first, trail_start, path_trail}
+
+-- a plan's open handshakes, what passed its ports, and its tokens; of all plans, by number
+pub record Stand : Type 0 where
+  pub opens : Open
+  pub past : List Pass
+  pub tokens : Tokens
+
+abbrev pub Family : Type 0
+Family = ℕ → Stand
+
+abbrev pub open_at : Family → Place → Bool
+open_at F c = (F c.plan).opens c.end
+
+abbrev pub lying : Family → Direction → Place → Option ℕ
+lying F way c = (F c.plan).tokens.in_place way c.end
+
+abbrev pub shown : Family → Place → Bool
+shown F c = is_open (F c.plan).past c.end
+
+-- a token lies on a trail from the place
+abbrev pub OnTrail : Wiring → Family → Place → Direction → ℕ → Type 0
+OnTrail w F a way v = (n : ℕ) × (c : Place) × Trail w n a c × (lying F way c ≡ Some v)
+
+-- a trail leads to the place from an end of the whole that asks
+abbrev pub HasSource : Wiring → Plan → Place → Type 0
+HasSource w r c = (a : End) × (x : Contact) × (contact_at r a ≡ Some x) × (x.role ≡ Ask) × (n : ℕ) × Trail w n (origin w a) c
+
+-- The whole stands as its plans do.
+pub record Follows (w : Wiring) (r : Plan) (F : Family) (o : Open) (past : List Pass) (s : Tokens) : Type 0 where
+  pub stands : (k : ℕ) (p : Plan) → slice_get w.plans k ≡ Some p → Stands p (F k).opens (is_open (F k).past) (F k).tokens
+  pub agree : (a b : Place) → Linked w a b → shown F a ≡ shown F b
+  pub opens : (e : End) (c : Contact) → contact_at r e ≡ Some c → c.role ≡ Ask → o e ≡ open_at F (origin w e)
+  pub lies : (a b : End) → IsIn (joint a b) r.joints → (way : Direction) (v : ℕ) → s.in_place way a ≡ Some v → OnTrail w F (origin w a) way v
+  pub source : (c : Place) → AsksAt w c → open_at F c ≡ true → HasSource w r c
+  pub ports : (e : End) (c : Contact) → IsPortEnd e → contact_at r e ≡ Some c → is_open past e ≡ shown F (origin w e)
+
+pub told_place : (a b : Place) → Told (a ≡ b)
+told_place a b = by_plan (told_number a.plan b.plan) (told_end a.end b.end)
+  where
+    by_plan : Told (a.plan ≡ b.plan) → Told (a.end ≡ b.end) → Told (a ≡ b)
+    by_plan (inl k) (inl e) = inl (place_is a b k e)
+    by_plan (inl k) (inr apart) = inr (λ same. apart (ap (λ (x : Place). x.end) same))
+    by_plan (inr apart) other = inr (λ same. apart (ap (λ (x : Place). x.plan) same))
+
+pub listed : (js : List Joint) (j : Joint) → IsIn j js → Contains js j
+listed [] j h = absurd h
+listed (x ∷ xs) j (inl e) = (0, omega arith, sym e)
+listed (x ∷ xs) j (inr h) = let (n, within, is) = listed xs j h in (suc n, omega (arith, within), is)
+
+port_by_sort : (d e : End) → sort d ≡ sort e → IsPortEnd e → IsPortEnd d
+port_by_sort (PartEnd i h) (PartEnd j g) same port = port
+port_by_sort (PartEnd i h) (ImportEnd j g) same port = absurd (omega (arith, same))
+port_by_sort (PartEnd i h) (ResultEnd g) same port = absurd (omega (arith, same))
+port_by_sort (ImportEnd i h) e same port = tt
+port_by_sort (ResultEnd h) e same port = tt
+
+no_part : (e : End) → IsPart e → IsPortEnd e → ⊥
+no_part (PartEnd i h) part port = port
+no_part (ImportEnd i h) part port = part
+no_part (ResultEnd h) part port = part
+
+each_way : (F : Family) (b : Place) → lying F Request b ≡ None → lying F Answer b ≡ None → (way : Direction) → lying F way b ≡ None
+each_way F b q a Request = q
+each_way F b q a Answer = a
+
+module _ (w : Wiring) (r : Plan) (fit : LinksFit w) (ported : LinksArePorts w) (whole : IsJoining w r) where
+  has : HasFieldsOf w r
+  has = fields_of w r whole
+
+  -- where an end of the whole stands
+  pub at_place : (e : End) (c : Contact) → contact_at r e ≡ Some c → contact_of w (origin w e) ≡ Some c
+  at_place e c there = stands_at w r has e c there
+
+  pub is_free : (e : End) (c : Contact) → contact_at r e ≡ Some c → IsUnlinked w (origin w e)
+  is_free e c there b linked = by_case (at_origin w fit r.joints e c (sym (same_contact w r r.joints has e) ∙ there)).1
+    where
+      by_case : IsOutside w (origin w e) → ⊥
+      by_case (inl part) = no_part (origin w e).end part (link_ports w fit ported (origin w e) b linked).0
+      by_case (inr none) = none b linked
+
+  pub is_alone : (a b : End) (c d : Contact) → contact_at r a ≡ Some c → contact_at r b ≡ Some d → origin w a ≡ origin w b → a ≡ b
+  is_alone = stands_alone w r has
+
+  pub port_there : (e : End) (c : Contact) → contact_at r e ≡ Some c → IsPortEnd e → IsPortEnd (origin w e).end
+  port_there e c there port = port_by_sort (origin w e).end e (sort_of w r.joints e c (sym (same_contact w r r.joints has e) ∙ there)) port
+
+  -- the joints of the whole are trails
+  pub joint_trail : (a b : End) → IsIn (joint a b) r.joints
+      → ((c : Contact) × (contact_at r a ≡ Some c) × (c.role ≡ Ask)) × ((c : Contact) × (contact_at r b ≡ Some c) × (c.role ≡ Serve))
+      × ((n : ℕ) × (d : Place) × (e : End) × Trail w n (origin w a) d × Segment w d e × (origin w b ≡ place d.plan e))
+  joint_trail a b joined =
+      let (q, v, n, at_a, at_b, path) = (whole.joints a b).0 (listed r.joints (joint a b) joined) in (
+        (asks q v, at_a, refl),
+        (serves q v, at_b, refl),
+        path_trail w fit ported n (origin w a) (origin w b) (is_free a (asks q v) at_a) (asks q v, at_place a (asks q v) at_a, refl)
+            (serves q v, at_place b (serves q v) at_b, refl) path,
+      )
+
+  step_within : (b : Place) (e : End) → Segment w b e → JoinedWithin w b (place b.plan e)
+  step_within b e (p, is, has) = (p, joint b.end e, refl, is, listed p.joints (joint b.end e) has, inl (refl, refl))
+
+  trail_paths : (n : ℕ) (a c : Place) → Trail w n a c → Paths w a c
+  trail_paths zero a c e = (0, e)
+  trail_paths (suc n) a c (b, e, t, seg, linked, asks) =
+      paths_then w a b c (trail_paths n a b t) (2, (place b.plan e, inl (step_within b e seg), (c, inr linked, refl)))
+
+  pub trail_joint : (a b : End) (c d : Contact) (n : ℕ) (x : Place) (e : End) → contact_at r a ≡ Some c → c.role ≡ Ask → contact_at r b ≡ Some d → d.role ≡ Serve
+      → Trail w n (origin w a) x → Segment w x e → origin w b ≡ place x.plan e → IsIn (joint a b) r.joints
+  trail_joint a b c d n x e at_a asks_a at_b serves_b t seg at =
+      let (m, path) =
+      paths_then w (origin w a) x (origin w b) (trail_paths n (origin w a) x t) (1, (place x.plan e, inl (step_within x e seg), sym at)) in
+      let turn = whole.fits a b c d m at_a at_b apart path in
+      contained r.joints (joint a b) ((whole.joints a b).1
+      (c.ask_bits, c.answer_bits, m, at_a ∙ ap Some (asking c asks_a), at_b ∙ ap Some (turn ∙ serving c asks_a), path))
+    where
+      apart : a ≡ b → ⊥
+      apart same =
+          let one : Some c ≡ Some d = sym at_a ∙ (ap (contact_at r) same ∙ at_b) in
+          let is : c ≡ d = cc one in
+          let roles : Ask ≡ Serve = sym asks_a ∙ (ap (λ (y : Contact). y.role) is ∙ serves_b) in cc roles
+
+      asking : (y : Contact) → y.role ≡ Ask → y ≡ asks y.ask_bits y.answer_bits
+      asking y role = λ i. record y { role = role i }
+
+      serving : (y : Contact) → y.role ≡ Ask → turned_contact y ≡ serves y.ask_bits y.answer_bits
+      serving y role = λ i. record y { role = turned (role i) }
+
+  -- where the last joint of a trail is open the first one is, and it is the last or empty
+  pub chain : (F : Family) → ((k : ℕ) (p : Plan) → slice_get w.plans k ≡ Some p → Stands p (F k).opens (is_open (F k).past) (F k).tokens)
+      → ((a b : Place) → Linked w a b → shown F a ≡ shown F b) → (n : ℕ) (c x : Place) → Trail w n c x → open_at F x ≡ true
+      → (open_at F c ≡ true) × ((c ≡ x) ⊎ ((way : Direction) → lying F way c ≡ None))
+  chain F stands agree zero c x same up = (ap (open_at F) same ∙ up, inl same)
+  chain F stands agree (suc n) c x (b, e, t, seg, linked, (cx, there, asking)) up =
+      let (p, is, at) = plan_at w x cx there in
+      let port = (link_ports w fit ported (place b.plan e) x linked).1 in
+      let seen : shown F x ≡ true = sym ((stands x.plan p is).asks_open x.end cx port at asking) ∙ up in
+      let also : shown F (place b.plan e) ≡ true = agree (place b.plan e) x linked ∙ seen in
+      let own = before b e seg (link_ports w fit ported (place b.plan e) x linked).0 also in
+      let first = chain F stands agree n c b t own.0 in
+      (first.0, inr (elim first.1 [ inl same ↦ (λ way. ap (lying F way) same ∙ own.1 way) | inr empty ↦ empty ]))
+    where
+      before : (b : Place) (e : End) → Segment w b e → IsPortEnd e → shown F (place b.plan e) ≡ true → (open_at F b ≡ true) × ((way : Direction) → lying F way b ≡ None)
+      before b e (p, is, joined) port also =
+          let (cy, at_y, serving) = (segment_roles w fit ported b e (p, is, joined)).1 in
+          let at_e : contact_at p e ≡ Some cy = sym (contact_place w (place b.plan e) p is) ∙ at_y in
+          let (a, named, a_open, request, answer) = (stands b.plan p is).serves_open e cy port at_e serving also in
+          let here : places_of p e ≡ Some b.end = stands_there p (joint b.end e) e (fit.right b.plan p is) joined (serves_itself (joint b.end e)) in
+          let same : a ≡ b.end = cc (named, here) in
+          (ap (F b.plan).opens (sym same) ∙ a_open, each_way F b (ap ((F b.plan).tokens.in_place Request) (sym same) ∙ request) (ap ((F b.plan).tokens.in_place Answer) (sym same) ∙ answer))
