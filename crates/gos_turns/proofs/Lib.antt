@@ -3,3 +3,4 @@ pub mod StandLemmas
 pub mod TrailLemmas
 pub mod FollowLemmas
 pub mod OpLemmas
+pub mod CrossLemmas

@@ -21,7 +21,7 @@ use Rattle.gos_turns.proofs.StandLemmas.{asks_own, names_own, serves_in, asks_it
 use Rattle.gos_turns.proofs.TrailLemmas.{LinksArePorts, IsUnlinked, AsksAt, ServesAt, Segment, Trail, contact_place, plan_at, link_back, link_ports, segment_roles, segment_back, segment_one, trail_rest, trail_first, trail_start}
 use Rattle.gos_turns.proofs.FollowLemmas.{Stand, Family, open_at, lying, shown, OnTrail, HasSource, Follows, told_place, at_place, is_free, is_alone, port_there, joint_trail, trail_joint, chain}
 
-told_way : (a b : Direction) → Told (a ≡ b)
+pub told_way : (a b : Direction) → Told (a ≡ b)
 told_way Request Request = inl refl
 told_way Request Answer = inr (λ e. cc e)
 told_way Answer Request = inr (λ e. cc e)
@@ -294,7 +294,7 @@ module _ (w : Wiring) (r : Plan) (fit : LinksFit w) (ported : LinksArePorts w) (
       -- where the whole's end asks in a joint its plan's does
       first_segment : (n : ℕ) (d : Place) (f : End) → Trail w n (origin w e) d → Segment w d f → (g : End) × Segment w (origin w e) g
       first_segment zero d f t seg = (f, subst (λ (x : Place). Segment w x f) (sym t) seg)
-      first_segment (suc n) d f t seg = let (g, z, first, linked) = trail_first w fit ported n (origin w e) d t in (g, first)
+      first_segment (suc n) d f t seg = let (g, z, first, linked, asks_z, rest) = trail_first w fit ported n (origin w e) d t in (g, first)
 
       placed : IsRight p → (j : Joint) → IsIn j r.joints → j.asking ≡ e → places_of p (origin w e).end ≡ Some (origin w e).end
       placed right j joined asking =
@@ -340,3 +340,84 @@ module _ (w : Wiring) (r : Plan) (fit : LinksFit w) (ported : LinksArePorts w) (
           let those : q ≡ p = cc (is_q, op.is, plans) in
           let in_p : IsIn (joint x.end f) p.joints = subst (λ (y : Plan). IsIn (joint x.end f) y.joints) those has_q in
           (plans, ap (places_of p) (sym ends) ∙ stands_there p (joint x.end f) f right in_p (serves_itself (joint x.end f)))
+
+  -- an answer is put: the whole may put it, and it follows
+  pub follows_put_answer : (F G : Family) (past after : List Pass) (e : End) (c : Contact) (v : ℕ) (p : Plan) (o : Open) (s : Tokens)
+      → Op w r F G past after e c Answer (Some v) p → Follows w r F o past s → c.role ≡ Serve
+      → ComesWell p (origin w e).end Answer (F (origin w e).plan).opens (F (origin w e).plan).tokens
+      → (G (origin w e).plan).opens ≡ (F (origin w e).plan).opens
+      → ComesWell r e Answer o s × Follows w r G o after (with_token r e Answer (Some v) s)
+  follows_put_answer F G past after e c v p o s op so serving well opens = by_place (places_of p (origin w e).end) refl
+    where
+      right : IsRight p
+      right = right_then w r fit ported whole F G past after e c Answer (Some v) p op o s so
+
+      there : contact_at p (origin w e).end ≡ Some c
+      there = at_then w r fit ported whole F G past after e c Answer (Some v) p op o s so
+
+      of_source : (x : End) → places_of p (origin w e).end ≡ Some x → Segment w (place (origin w e).plan x) (origin w e).end
+          → HasSource w r (place (origin w e).plan x) → ComesWell r e Answer o s × Follows w r G o after (with_token r e Answer (Some v) s)
+      of_source x at seg (a, b, at_a, asks_a, n, t) = (
+        (
+          subst (λ (f : Option End). o (named_by f e) ≡ true) (sym named) (so.opens a b at_a asks_a ∙ first.0),
+          λ u. ap (held_at s u) named ∙ empty u (s.in_place u a) refl,
+        ),
+        then_serving w r fit ported whole F G past after e c Answer (Some v) p op o s so opens
+            (put_answer p (origin w e).end c v (F (origin w e).plan).opens (is_open (F (origin w e).plan).past) (is_open (G (origin w e).plan).past)
+            (F (origin w e).plan).tokens right there serving well op.own (so.stands (origin w e).plan p op.is))
+            (lies_then w r fit ported whole F G past after e c Answer (Some v) p op o s so a (place (origin w e).plan x) b n at_a named refl at t),
+      )
+        where
+          joined : IsIn (joint a e) r.joints
+          joined = trail_joint w r fit ported whole a e b c n (place (origin w e).plan x) (origin w e).end at_a asks_a op.there serving t seg refl
+
+          named : places_of r e ≡ Some a
+          named = stands_there r (joint a e) e whole.right joined (serves_itself (joint a e))
+
+          up : open_at F (place (origin w e).plan x) ≡ true
+          up = subst (λ (f : Option End). (F (origin w e).plan).opens (named_by f (origin w e).end) ≡ true) at well.0
+
+          first : (open_at F (origin w a) ≡ true) × ((origin w a ≡ place (origin w e).plan x) ⊎ ((way : Direction) → lying F way (origin w a) ≡ None))
+          first = chain w r fit ported whole F so.stands so.agree n (origin w a) (place (origin w e).plan x) t up
+
+          none_here : (u : Direction) → lying F u (place (origin w e).plan x) ≡ None
+          none_here u = sym (ap (held_at (F (origin w e).plan).tokens u) at) ∙ well.1 u
+
+          clash : (u : Direction) (y : ℕ) → OnTrail w F (origin w a) u y → ⊥
+          clash u y (m, z, t', lies) = by_test (nat_lt n m) refl
+            where
+              by_test : (b : Bool) → nat_lt n m ≡ b → ⊥
+              by_test true test =
+                  let small : n < m = grind (arith, nat_tests, test) in
+                  let sum : m ≡ suc (m - suc n) + n = omega (arith, small) in
+                  let rest = trail_rest w fit ported (suc (m - suc n)) n m (origin w a) (place (origin w e).plan x) z sum t t' in
+                  let (f, g, seg', linked, asks_g, more) = trail_first w fit ported (m - suc n) (place (origin w e).plan x) z rest in
+                  let ends = segment_one w fit ported (place (origin w e).plan x) f (origin w e).end seg' seg in
+                  is_free w r fit ported whole e c op.there g (subst (λ (d : End). Linked w (place (origin w e).plan d) g) ends linked)
+              by_test false test =
+                  let large : m ≤ n = grind (arith, nat_tests, test) in
+                  let sum : n ≡ n - m + m = omega (arith, large) in
+                  let rest = trail_rest w fit ported (n - m) m n (origin w a) z (place (origin w e).plan x) sum t' t in
+                  elim (chain w r fit ported whole F so.stands so.agree (n - m) z (place (origin w e).plan x) rest up).1 [
+                    | inl same ↦ not_empty y (lying F u z) lies (ap (lying F u) same ∙ none_here u)
+                    | inr none ↦ not_empty y (lying F u z) lies (none u)
+                  ]
+
+          empty : (u : Direction) (h : Option ℕ) → s.in_place u a ≡ h → s.in_place u a ≡ None
+          empty u None is = is
+          empty u (Some y) is = absurd (clash u y (so.lies a e joined u y is))
+
+      by_place : (f : Option End) → places_of p (origin w e).end ≡ f → ComesWell r e Answer o s × Follows w r G o after (with_token r e Answer (Some v) s)
+      by_place None none =
+          let up : (F (origin w e).plan).opens (origin w e).end ≡ true =
+          subst (λ (f : Option End). (F (origin w e).plan).opens (named_by f (origin w e).end) ≡ true) none well.0 in
+          let never : true ≡ false = sym up ∙ (so.stands (origin w e).plan p op.is).only_asks (origin w e).end c there serving in
+          cc never
+      by_place (Some x) at =
+          let (j, joined, asking, serves) = serves_in p (origin w e).end x c right there serving at in
+          let seg : Segment w (place (origin w e).plan x) (origin w e).end =
+          (p, op.is, subst (λ (y : Joint). IsIn y p.joints) (λ i. joint (asking i) (serves i)) joined) in
+          let up : open_at F (place (origin w e).plan x) ≡ true =
+          subst (λ (f : Option End). (F (origin w e).plan).opens (named_by f (origin w e).end) ≡ true) at well.0 in
+          of_source x at seg
+          (so.source (place (origin w e).plan x) (segment_roles w fit ported (place (origin w e).plan x) (origin w e).end seg).0 up)

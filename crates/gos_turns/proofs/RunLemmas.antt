@@ -1,11 +1,13 @@
 -- What a regular plan has done so far, and what it may do next: it stays in order, and its outputs keep turns.
-use Rattle.std.specs.Prelude.{ℕ, List, [], ◌∷◌, ◌++◌}
+use Rattle.std.specs.Prelude.{ℕ, ◌<◌, ◌^◌, List, [], ◌∷◌, ◌++◌, Option, Some, None}
 use Rattle.std.proofs.Common.{◌≡◌, refl, sym, ◌∙◌, ap, subst}
-use Rattle.gos_plan.specs.Plans.{Plan}
-use Rattle.gos_plan.specs.Tokens.{Tokens, Element, Does, Runs, IsIdle}
-use Rattle.gos_plan.specs.Orderly.{Open, none_open, ComesInOrder, AllWelcome, OrderlyFrom}
+use Rattle.gos_netlist.specs.Events.{Direction}
+use Rattle.gos_plan.specs.Kinds.{Contact}
+use Rattle.gos_plan.specs.Plans.{End, Plan, contact_at}
+use Rattle.gos_plan.specs.Tokens.{Tokens, Element, Out, In, IsPortEnd, bits_of, way_taken, way_put, token_at, with_token, Passes, Does, Runs, IsIdle}
+use Rattle.gos_plan.specs.Orderly.{Open, none_open, after_taken, after_put, ComesWell, ComesInOrder, AllWelcome, OrderlyFrom}
 use Rattle.gos_plan.proofs.DecidedLemmas.{one_state, one_open}
-use Rattle.gos_realises.specs.Regular.{Pass, InputsKeepTurns, OutputsKeepTurns, IsRegular}
+use Rattle.gos_realises.specs.Regular.{Pass, pass, way_in, way_out, KeepsTurns, InputsKeepTurns, OutputsKeepTurns, IsRegular}
 use Rattle.gos_realises.proofs.InputLemmas.{passed, passed_then, inputs_then, outputs_last, runs_then}
 use Rattle.gos_realises.proofs.RingLemmas.{after}
 
@@ -75,3 +77,37 @@ next p x o past s t regular so does keeps =
             is_past = passed_then p [] so.list x ∙ ap (after p x) so.is_past;
           };
     }
+
+-- an output, and an input
+pub out_next : (p : Plan) (e : End) (c : Contact) (v : ℕ) (o : Open) (past : List Pass) (s : Tokens) (way : Direction) → IsRegular p → Reached p o past s → IsPortEnd e
+    → contact_at p e ≡ Some c → way_taken c.role ≡ way → token_at p s e way ≡ Some v
+    → KeepsTurns p past (pass e way) × Reached p (after_taken p e way o) (pass e way ∷ past) (with_token p e way None s)
+out_next p e c v o past s way regular so port there is lies =
+    let does : Does p (Out e v) s (with_token p e way None s) =
+    (port, subst (λ (f : Option Contact). Passes p (Out e v) f s (with_token p e way None s)) (sym there)
+    (subst (λ (u : Direction). (token_at p s e u ≡ Some v) × (with_token p e way None s ≡ with_token p e u None s)) (sym is) (lies, refl)))
+    in
+    let n = next p (Out e v) o past s (with_token p e way None s) regular so does tt in
+    let passes : way_out (contact_at p e) ≡ way = ap way_out there ∙ is in (
+      subst (λ (u : Direction). KeepsTurns p past (pass e u)) passes n.outputs.0,
+      subst (λ (q : Open). Reached p q (pass e way ∷ past) (with_token p e way None s)) (n.comes c there ∙ ap (λ (u : Direction). after_taken p e u o) is)
+          (subst (λ (u : Direction). Reached p n.open_then (pass e u ∷ past) (with_token p e way None s)) passes n.reached),
+    )
+
+pub in_next : (p : Plan) (e : End) (c : Contact) (v : ℕ) (o : Open) (past : List Pass) (s : Tokens) (way : Direction) → IsRegular p → Reached p o past s → IsPortEnd e
+    → contact_at p e ≡ Some c → way_put c.role ≡ way → v < 2 ^ bits_of c way → KeepsTurns p past (pass e way)
+    → ComesWell p e way o s × AllWelcome p (with_token p e way (Some v) s)
+    × Reached p (after_put p e way o) (pass e way ∷ past) (with_token p e way (Some v) s)
+in_next p e c v o past s way regular so port there is small keeps =
+    let does : Does p (In e v) s (with_token p e way (Some v) s) =
+    (port, subst (λ (f : Option Contact). Passes p (In e v) f s (with_token p e way (Some v) s)) (sym there)
+    (subst (λ (u : Direction). (v < 2 ^ bits_of c u) × (with_token p e way (Some v) s ≡ with_token p e u (Some v) s)) (sym is) (small, refl)))
+    in
+    let passes : way_in (contact_at p e) ≡ way = ap way_in there ∙ is in
+    let n = next p (In e v) o past s (with_token p e way (Some v) s) regular so does (subst (λ (u : Direction). KeepsTurns p past (pass e u)) (sym passes) keeps, tt) in
+    let comes = n.comes c there in (
+      subst (λ (u : Direction). ComesWell p e u o s) is comes.0,
+      n.welcome,
+      subst (λ (q : Open). Reached p q (pass e way ∷ past) (with_token p e way (Some v) s)) (comes.1 ∙ ap (λ (u : Direction). after_put p e u o) is)
+          (subst (λ (u : Direction). Reached p n.open_then (pass e u ∷ past) (with_token p e way (Some v) s)) passes n.reached),
+    )

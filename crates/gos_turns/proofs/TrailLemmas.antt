@@ -169,11 +169,13 @@ module _ (w : Wiring) (fit : LinksFit w) (ported : LinksArePorts w) where
   trail_rest (suc m) n zero a c d sum t u = absurd (omega (arith, sum))
   trail_rest (suc m) n (suc k) a c d sum t (b, e, u, seg, linked, asks) = (b, e, trail_rest m n k a c b (omega (arith, sum)) t u, seg, linked, asks)
 
-  -- the first step of a trail
-  pub trail_first : (n : ℕ) (d c : Place) → Trail w (suc n) d c → (e : End) × (z : Place) × Segment w d e × Linked w (place d.plan e) z
+  -- the first step of a trail, and the rest
+  pub trail_first : (n : ℕ) (d c : Place) → Trail w (suc n) d c
+      → (e : End) × (z : Place) × Segment w d e × Linked w (place d.plan e) z × AsksAt w z × Trail w n z c
   trail_first zero d c (b, e, t, seg, linked, asks) =
-      (e, c, subst (λ (x : Place). Segment w x e) (sym t) seg, subst (λ (x : Place). Linked w (place x.plan e) c) (sym t) linked)
-  trail_first (suc n) d c (b, e, t, seg, linked, asks) = trail_first n d b t
+      (e, c, subst (λ (x : Place). Segment w x e) (sym t) seg, subst (λ (x : Place). Linked w (place x.plan e) c) (sym t) linked, asks, refl)
+  trail_first (suc n) d c (b, e, t, seg, linked, asks) =
+      let (f, z, first, led, asks_z, rest) = trail_first n d b t in (f, z, first, led, asks_z, (b, e, rest, seg, linked, asks))
 
   -- trails from two places that no link joins don't meet
   pub trail_start : (n m : ℕ) (a b c : Place) → IsUnlinked w a → IsUnlinked w b → Trail w n a c → Trail w m b c → a ≡ b
