@@ -3,19 +3,19 @@ use Rattle.std.specs.Prelude.{ℕ, zero, suc, Bool, true, false, List, Option, S
 use Rattle.std.proofs.Common.{◌≡◌, [], ◌∷◌, ◌⊎◌, inl, inr, refl, sym, ◌∙◌, ap, subst, arith}
 use Rattle.gos_types.specs.declared.shakes.Role.TheVariants.{Serve, Ask}
 use Rattle.gos_netlist.specs.Events.{Direction, Request, Answer}
-use Rattle.gos_plan.specs.Kinds.{Contact}
-use Rattle.gos_plan.specs.Plans.{End, Joint, Plan, contact_at, IsRight}
+use Rattle.gos_plan.specs.Kinds.{Part, Contact, turned_contact}
+use Rattle.gos_plan.specs.Plans.{End, PartEnd, Joint, Plan, contact_at, IsRight}
 use Rattle.gos_plan.specs.Tokens.{Tokens, IsPortEnd, places_of, token_at, with_token}
 use Rattle.gos_plan.specs.Orderly.{Open}
 use Rattle.gos_plan.specs.Joining.{Place, place, Wiring, Linked, origin, IsJoining}
 use Rattle.gos_plan.proofs.JointLemmas.{IsIn}
 use Rattle.gos_realises.specs.Regular.{Pass, is_open, is_request}
-use Rattle.gos_realises.specs.Links.{LinksFit}
+use Rattle.gos_realises.specs.Links.{contact_of, LinksFit}
 use Rattle.gos_webs.specs.Webs.{joint}
 use Rattle.gos_joined.proofs.ReachLemmas.{Told, place_is, told_number, told_end}
 use Rattle.gos_turns.proofs.StandLemmas.{placed_here, placed_apart, Passed, passed_here, passed_apart, Stands, not_empty}
-use Rattle.gos_turns.proofs.TrailLemmas.{LinksArePorts, IsUnlinked, AsksAt, Segment, Trail, link_back, link_one, link_ports, link_apart}
-use Rattle.gos_turns.proofs.FollowLemmas.{Stand, Family, open_at, lying, shown, OnTrail, HasSource, Follows, told_place, is_free, port_there, joint_trail}
+use Rattle.gos_turns.proofs.TrailLemmas.{LinksArePorts, IsUnlinked, AsksAt, Segment, Trail, link_back, link_one, link_ports, link_apart, link_contacts}
+use Rattle.gos_turns.proofs.FollowLemmas.{Stand, Family, open_at, lying, shown, OnTrail, HasSource, Follows, told_place, is_free, port_there, joint_trail, seat_contact}
 use Rattle.gos_turns.proofs.OpLemmas.{told_way}
 
 -- a token is taken at one place and put at another, which a link joins; x and y are the asking ends of the joints there
@@ -118,10 +118,24 @@ module _ (w : Wiring) (r : Plan) (fit : LinksFit w) (ported : LinksArePorts w) (
             ∙ sym (opens (origin w e) (λ same. at_a e c there same) (λ same. at_b e c there same));
         lies = λ c d joined u z held. lies_then (so.lies c d joined u z held) (is_free_at c d joined);
         source = source;
+        lost = λ i g f is none. so.lost i g f is none
+            ∙ sym (opens (origin w (PartEnd i g)) (λ same. not_there i g f is none a same contact_a)
+            (λ same. not_there i g f is none b same contact_b));
         ports = λ e c port there. so.ports e c port there
             ∙ sym (shown_else (origin w e) (port_there w r fit ported whole e c there port) (λ same. at_a e c there same) (λ same. at_b e c there same));
       }
     where
+      contact_a : (c : Contact) × (contact_of w a ≡ Some c)
+      contact_a = let (c, one, other) = link_contacts w fit ported a b cross.linked in (c, one)
+
+      contact_b : (c : Contact) × (contact_of w b ≡ Some c)
+      contact_b = let (c, one, other) = link_contacts w fit ported a b cross.linked in (turned_contact c, other)
+
+      not_there : (i g : ℕ) (f : Part) → slice_get r.parts i ≡ Some f → contact_at r (PartEnd i g) ≡ None → (z : Place) → origin w (PartEnd i g) ≡ z
+          → (c : Contact) × (contact_of w z ≡ Some c) → ⊥
+      not_there i g f is none z same (c, there) =
+          let never : None ≡ Some c = sym none ∙ (sym (seat_contact w r fit ported whole i g f is) ∙ (ap (contact_of w) same ∙ there)) in cc never
+
       at_a : (e : End) (c : Contact) → contact_at r e ≡ Some c → origin w e ≡ a → ⊥
       at_a e c there same = is_free w r fit ported whole e c there b (subst (λ (z : Place). Linked w z b) (sym same) cross.linked)
 

@@ -3,26 +3,26 @@
 -- What is open at an asking end of the whole is so where it stands in its plan; a token of the whole lies on some joint of the
 -- trail; each open joint of a plan has a trail that leads to it; linked ports are open together. So where the last joint of a
 -- trail is open the first one is, and those between are empty.
-use Rattle.std.specs.Prelude.{ℕ, zero, suc, ◌+◌, ◌-◌, ◌≤◌, ◌<◌, Bool, true, false, List, Option, Some, None, Contains, slice_get, nat_lt}
+use Rattle.std.specs.Prelude.{ℕ, zero, suc, ◌+◌, ◌-◌, ◌≤◌, ◌<◌, Bool, true, false, List, Option, Some, None, Contains, slice_get, nat_lt, length}
 use Rattle.std.proofs.Common.{◌≡◌, [], ◌∷◌, ◌⊎◌, inl, inr, refl, sym, ◌∙◌, ap, subst, arith}
 use Rattle.std.proofs.lemmas.Bool.Decides.{nat_tests}
 use Rattle.gos_types.specs.declared.shakes.Role.{Role}
 use Rattle.gos_types.specs.declared.shakes.Role.TheVariants.{Serve, Ask}
 use Rattle.gos_types.specs.Handshakes.{turned}
 use Rattle.gos_netlist.specs.Events.{Direction, Request, Answer}
-use Rattle.gos_plan.specs.Kinds.{Contact, asks, serves, turned_contact}
-use Rattle.gos_plan.specs.Plans.{End, PartEnd, ImportEnd, ResultEnd, Joint, Plan, contact_at, IsRight}
+use Rattle.gos_plan.specs.Kinds.{Part, Contact, asks, serves, turned_contact}
+use Rattle.gos_plan.specs.Plans.{End, PartEnd, ImportEnd, ResultEnd, Joint, Plan, contact_at, contacts_of_part, IsRight}
 use Rattle.gos_plan.specs.Tokens.{Tokens, IsPortEnd, places_of, token_at, held_at, with_token}
 use Rattle.gos_plan.specs.Turns.{IsEmptyAt}
 use Rattle.gos_plan.specs.Orderly.{Open, named_by, handshake_at, after_taken, after_put, ComesWell}
-use Rattle.gos_plan.specs.Joining.{Place, place, Wiring, JoinedWithin, Linked, Path, origin, IsJoining}
+use Rattle.gos_plan.specs.Joining.{Place, place, Wiring, JoinedWithin, Linked, Path, all_parts, part_place, origin, IsJoining}
 use Rattle.gos_plan.proofs.JointLemmas.{IsIn, stands_there, contained}
 use Rattle.gos_realises.specs.Regular.{Pass, is_open, is_request}
 use Rattle.gos_realises.specs.Links.{contact_of, LinksFit}
 use Rattle.gos_webs.specs.Webs.{joint}
 use Rattle.gos_joined.proofs.ReachLemmas.{Told, Paths, paths_then, place_is, told_number, told_end}
 use Rattle.gos_joined.proofs.StepLemmas.{IsOutside, IsPart}
-use Rattle.gos_joined.proofs.OriginLemmas.{at_origin, sort, sort_of}
+use Rattle.gos_joined.proofs.OriginLemmas.{at_origin, sort, sort_of, before, front_at, behind_at, next_place}
 use Rattle.gos_unions.specs.Unions.{HasFieldsOf}
 use Rattle.gos_unions.proofs.PlaceLemmas.{fields_of, same_contact, stands_at, stands_alone}
 use Rattle.gos_turns.proofs.StandLemmas.{asks_own, names_own, serves_in, asks_itself, serves_itself, placed_here, placed_apart, lies_in, opened_here, opened_apart, Passed, passed_here, passed_apart, Stands, not_empty, stands_same}
@@ -54,13 +54,15 @@ OnTrail w F a way v = (n : ℕ) × (c : Place) × Trail w n a c × (lying F way 
 abbrev pub HasSource : Wiring → Plan → Place → Type 0
 HasSource w r c = (a : End) × (x : Contact) × (contact_at r a ≡ Some x) × (x.role ≡ Ask) × (n : ℕ) × Trail w n (origin w a) c
 
--- The whole stands as its plans do.
+-- The whole stands as its plans do. A Share may put a token beyond its handshakes: what is lost there is open in both.
 pub record Follows (w : Wiring) (r : Plan) (F : Family) (o : Open) (past : List Pass) (s : Tokens) : Type 0 where
   pub stands : (k : ℕ) (p : Plan) → slice_get w.plans k ≡ Some p → Stands p (F k).opens (is_open (F k).past) (F k).tokens
   pub agree : (a b : Place) → Linked w a b → shown F a ≡ shown F b
   pub opens : (e : End) (c : Contact) → contact_at r e ≡ Some c → c.role ≡ Ask → o e ≡ open_at F (origin w e)
   pub lies : (a b : End) → IsIn (joint a b) r.joints → (way : Direction) (v : ℕ) → s.in_place way a ≡ Some v → OnTrail w F (origin w a) way v
   pub source : (c : Place) → AsksAt w c → open_at F c ≡ true → HasSource w r c
+  pub lost :
+      (i h : ℕ) (f : Part) → slice_get r.parts i ≡ Some f → contact_at r (PartEnd i h) ≡ None → o (PartEnd i h) ≡ open_at F (origin w (PartEnd i h))
   pub ports : (e : End) (c : Contact) → IsPortEnd e → contact_at r e ≡ Some c → is_open past e ≡ shown F (origin w e)
 
 pub told_place : (a b : Place) → Told (a ≡ b)
@@ -75,6 +77,57 @@ pub listed : (js : List Joint) (j : Joint) → IsIn j js → Contains js j
 listed [] j h = absurd h
 listed (x ∷ xs) j (inl e) = (0, omega arith, sym e)
 listed (x ∷ xs) j (inr h) = let (n, within, is) = listed xs j h in (suc n, omega (arith, within), is)
+
+-- where a part of the whole is: its plan and its number there
+pub record Seat (w : Wiring) (i : ℕ) (f : Part) : Type 0 where
+  pub plan : ℕ
+  pub part : ℕ
+  pub of : Plan
+  pub is : slice_get w.plans plan ≡ Some of
+  pub has : slice_get of.parts part ≡ Some f
+  pub number : i ≡ before w.plans plan + part
+  pub stands : (h : ℕ) → origin w (PartEnd i h) ≡ place plan (PartEnd part h)
+
+record SeatIn (n : ℕ) (ps : List Plan) (i : ℕ) (f : Part) : Type 0 where
+  plan : ℕ
+  part : ℕ
+  of : Plan
+  is : slice_get ps plan ≡ Some of
+  has : slice_get of.parts part ≡ Some f
+  number : i ≡ before ps plan + part
+  stands : (h : ℕ) → part_place n ps i h ≡ place (n + plan) (PartEnd part h)
+
+seat_in : (n : ℕ) (ps : List Plan) (i : ℕ) (f : Part) → slice_get (all_parts ps) i ≡ Some f → SeatIn n ps i f
+seat_in n [] i f e = absurd (cc e)
+seat_in n (p ∷ ps) i f e = by_test (nat_lt i (length p.parts)) refl (seat_in (suc n) ps (i - length p.parts) f)
+  where
+    by_test : (b : Bool) → nat_lt i (length p.parts) ≡ b → (slice_get (all_parts ps) (i - length p.parts) ≡ Some f → SeatIn (suc n) ps (i - length p.parts) f)
+        → SeatIn n (p ∷ ps) i f
+    by_test true t rest =
+        let small : i < length p.parts = grind (arith, t) in
+        let sum : n ≡ n + 0 = omega arith in
+        record {
+          plan = 0;
+          part = i;
+          of = p;
+          is = refl;
+          has = sym (front_at p.parts (all_parts ps) i small) ∙ e;
+          number = omega arith;
+          stands = λ h. rw t (ap (λ (k : ℕ). place k (PartEnd i h)) sum);
+        }
+    by_test false t rest =
+        let large : length p.parts ≤ i = grind (arith, t) in
+        let there = rest (sym (behind_at p.parts (all_parts ps) i large) ∙ e) in
+        let number = there.number in
+        record {
+          plan = suc there.plan;
+          part = there.part;
+          of = there.of;
+          is = there.is;
+          has = there.has;
+          number = omega (arith, number, large);
+          stands = λ h. rw t (next_place (part_place (suc n) ps (i - length p.parts) h) n there.plan (PartEnd there.part h) (there.stands h));
+        }
 
 port_by_sort : (d e : End) → sort d ≡ sort e → IsPortEnd e → IsPortEnd d
 port_by_sort (PartEnd i h) (PartEnd j g) same port = port
@@ -112,6 +165,39 @@ module _ (w : Wiring) (r : Plan) (fit : LinksFit w) (ported : LinksArePorts w) (
 
   pub port_there : (e : End) (c : Contact) → contact_at r e ≡ Some c → IsPortEnd e → IsPortEnd (origin w e).end
   port_there e c there port = port_by_sort (origin w e).end e (sort_of w r.joints e c (sym (same_contact w r r.joints has e) ∙ there)) port
+
+  -- the parts of the whole
+  pub seat : (i : ℕ) (f : Part) → slice_get r.parts i ≡ Some f → Seat w i f
+  seat i f is =
+      let there = seat_in 0 w.plans i f (ap (λ (fs : List Part). slice_get fs i) (sym has.parts) ∙ is) in
+      let sum : 0 + there.plan ≡ there.plan = omega arith in
+      record {
+        plan = there.plan;
+        part = there.part;
+        of = there.of;
+        is = there.is;
+        has = there.has;
+        number = there.number;
+        stands = λ h. there.stands h ∙ ap (λ (k : ℕ). place k (PartEnd there.part h)) sum;
+      }
+
+  pub seat_contact : (i h : ℕ) (f : Part) → slice_get r.parts i ≡ Some f → contact_of w (origin w (PartEnd i h)) ≡ contact_at r (PartEnd i h)
+  seat_contact i h f is =
+      let t = seat i f is in
+      ap (contact_of w) (t.stands h)
+      ∙ (contact_place w (place t.plan (PartEnd t.part h)) t.of t.is ∙ ap (λ (o : Option Part). slice_get (contacts_of_part o) h) (t.has ∙ sym is))
+
+  pub one_seat : (i j h g : ℕ) (f k : Part) → slice_get r.parts i ≡ Some f → slice_get r.parts j ≡ Some k → origin w (PartEnd i h) ≡ origin w (PartEnd j g)
+      → (i ≡ j) × (h ≡ g)
+  one_seat i j h g f k is also same =
+      let s = seat i f is in
+      let t = seat j k also in
+      let places : place s.plan (PartEnd s.part h) ≡ place t.plan (PartEnd t.part g) = sym (s.stands h) ∙ (same ∙ t.stands g) in
+      let plans : s.plan ≡ t.plan = ap (λ (x : Place). x.plan) places in
+      let ends : PartEnd s.part h ≡ PartEnd t.part g = ap (λ (x : Place). x.end) places in
+      let parts : s.part ≡ t.part = cc ends in
+      let shakes : h ≡ g = cc ends in
+      (s.number ∙ ((λ n. before w.plans (plans n) + parts n) ∙ sym t.number), shakes)
 
   -- the joints of the whole are trails
   pub joint_trail : (a b : End) → IsIn (joint a b) r.joints

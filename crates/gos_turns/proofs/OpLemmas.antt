@@ -6,8 +6,8 @@ use Rattle.std.proofs.Common.{◌≡◌, [], ◌∷◌, ◌⊎◌, inl, inr, ref
 use Rattle.std.proofs.lemmas.Bool.Decides.{nat_tests}
 use Rattle.gos_types.specs.declared.shakes.Role.TheVariants.{Serve, Ask}
 use Rattle.gos_netlist.specs.Events.{Direction, Request, Answer}
-use Rattle.gos_plan.specs.Kinds.{Contact}
-use Rattle.gos_plan.specs.Plans.{End, Joint, Plan, contact_at, IsRight}
+use Rattle.gos_plan.specs.Kinds.{Part, Contact}
+use Rattle.gos_plan.specs.Plans.{End, PartEnd, Joint, Plan, contact_at, IsRight}
 use Rattle.gos_plan.specs.Tokens.{Tokens, IsPortEnd, places_of, token_at, held_at, with_held, with_token}
 use Rattle.gos_plan.specs.Turns.{IsEmptyAt}
 use Rattle.gos_plan.specs.Orderly.{Open, named_by, handshake_at, with_open, after_taken, after_put, ComesWell}
@@ -19,7 +19,7 @@ use Rattle.gos_webs.specs.Webs.{joint}
 use Rattle.gos_joined.proofs.ReachLemmas.{Told, place_is, told_number, told_end}
 use Rattle.gos_turns.proofs.StandLemmas.{asks_own, names_own, serves_in, asks_itself, serves_itself, placed_here, placed_apart, lies_in, opened_here, opened_apart, Passed, passed_here, passed_apart, Stands, not_empty, stands_same, took_answer, took_request, put_request, put_answer}
 use Rattle.gos_turns.proofs.TrailLemmas.{LinksArePorts, IsUnlinked, AsksAt, ServesAt, Segment, Trail, contact_place, plan_at, link_back, link_ports, segment_roles, segment_back, segment_one, trail_rest, trail_first, trail_start}
-use Rattle.gos_turns.proofs.FollowLemmas.{Stand, Family, open_at, lying, shown, OnTrail, HasSource, Follows, told_place, at_place, is_free, is_alone, port_there, joint_trail, trail_joint, chain}
+use Rattle.gos_turns.proofs.FollowLemmas.{Stand, Family, open_at, lying, shown, OnTrail, HasSource, Follows, told_place, at_place, is_free, is_alone, port_there, joint_trail, trail_joint, chain, seat_contact}
 
 pub told_way : (a b : Direction) → Told (a ≡ b)
 told_way Request Request = inl refl
@@ -180,6 +180,18 @@ module _ (w : Wiring) (r : Plan) (fit : LinksFit w) (ported : LinksArePorts w) (
       by_plan (inl same) = ap (λ (m : ℕ). (G m).opens x.end) same ∙ ((λ i. opens i x.end) ∙ ap (λ (m : ℕ). (F m).opens x.end) (sym same))
       by_plan (inr other) = ap (λ (y : Stand). y.opens x.end) (op.others x.plan other)
 
+  lost_apart : (i g : ℕ) (f : Part) → slice_get r.parts i ≡ Some f → contact_at r (PartEnd i g) ≡ None → origin w (PartEnd i g) ≡ origin w e → ⊥
+  lost_apart i g f is none same =
+      let never : None ≡ Some c =
+      sym none ∙ (sym (seat_contact w r fit ported whole i g f is) ∙ (ap (contact_of w) same ∙ at_place w r fit ported whole e c op.there)) in cc never
+
+  lost_asking : (b : Bool) → c.role ≡ Ask → (G k).opens ≡ with_open (handshake_at p d) b (F k).opens → (i g : ℕ) (f : Part) → slice_get r.parts i ≡ Some f
+      → contact_at r (PartEnd i g) ≡ None → with_open (handshake_at r e) b o (PartEnd i g) ≡ open_at G (origin w (PartEnd i g))
+  lost_asking b asks opens i g f is none =
+      opened_apart (handshake_at r e) (PartEnd i g) b o
+      (λ same. (let never : None ≡ Some c = sym none ∙ (ap (contact_at r) (same ∙ names_own r e c whole.right op.there asks) ∙ op.there) in cc never))
+      ∙ (so.lost i g f is none ∙ sym (open_apart b asks opens (origin w (PartEnd i g)) (lost_apart i g f is none)))
+
   abbrev LiesThen : Type 0
   LiesThen = (a b : End) → IsIn (joint a b) r.joints → (u : Direction) (v : ℕ) → (with_token r e way h s).in_place u a ≡ Some v → OnTrail w G (origin w a) u v
 
@@ -196,6 +208,7 @@ module _ (w : Wiring) (r : Plan) (fit : LinksFit w) (ported : LinksArePorts w) (
         opens = opens_asking b asks opens;
         lies = lies;
         source = source;
+        lost = lost_asking b asks opens;
         ports = ports_then;
       }
 
@@ -208,6 +221,7 @@ module _ (w : Wiring) (r : Plan) (fit : LinksFit w) (ported : LinksArePorts w) (
         opens = λ x y there role. so.opens x y there role ∙ sym (open_same opens (origin w x));
         lies = lies;
         source = λ x asks up. so.source x asks (sym (open_same opens x) ∙ up);
+        lost = λ i g f is none. so.lost i g f is none ∙ sym (open_same opens (origin w (PartEnd i g)));
         ports = ports_then;
       }
 
