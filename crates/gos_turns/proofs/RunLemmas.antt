@@ -4,12 +4,13 @@ use Rattle.std.proofs.Common.{◌≡◌, refl, sym, ◌∙◌, ap, subst}
 use Rattle.gos_netlist.specs.Events.{Direction}
 use Rattle.gos_plan.specs.Kinds.{Contact}
 use Rattle.gos_plan.specs.Plans.{End, Plan, contact_at}
-use Rattle.gos_plan.specs.Tokens.{Tokens, Element, Out, In, IsPortEnd, bits_of, way_taken, way_put, token_at, with_token, Passes, Does, Runs, IsIdle}
+use Rattle.gos_plan.specs.Tokens.{Tokens, Element, Out, In, IsPortEnd, end_of, way_of, bits_of, way_taken, way_put, token_at, with_token, Passes, Does, Runs, IsIdle}
 use Rattle.gos_plan.specs.Orderly.{Open, none_open, after_taken, after_put, ComesWell, ComesInOrder, AllWelcome, OrderlyFrom}
 use Rattle.gos_plan.proofs.DecidedLemmas.{one_state, one_open}
 use Rattle.gos_realises.specs.Regular.{Pass, pass, way_in, way_out, KeepsTurns, InputsKeepTurns, OutputsKeepTurns, IsRegular}
 use Rattle.gos_realises.proofs.InputLemmas.{passed, passed_then, inputs_then, outputs_last, runs_then}
 use Rattle.gos_realises.proofs.RingLemmas.{after}
+use Rattle.gos_turns.proofs.StandLemmas.{lies_in, not_empty}
 
 -- an orderly list, and then one more
 order_then : (p : Plan) (xs ys : List Element) (o m u : Open) (s w t : Tokens) → OrderlyFrom p xs o s m w → OrderlyFrom p ys m w u t
@@ -42,9 +43,21 @@ pub record Reached (p : Plan) (o : Open) (past : List Pass) (s : Tokens) : Type 
   pub inputs : InputsKeepTurns p [] list
   pub orderly : OrderlyFrom p list none_open first o s
   pub is_past : passed p [] list ≡ past
+  pub welcome : AllWelcome p s
 
 pub at_first : (p : Plan) (s : Tokens) → IsIdle p s → Reached p none_open [] s
-at_first p s idle = record { list = []; first = s; idle = idle; runs = refl; inputs = tt; orderly = (refl, refl); is_past = refl }
+at_first p s idle =
+    record {
+      list = [];
+      first = s;
+      idle = idle;
+      runs = refl;
+      inputs = tt;
+      orderly = (refl, refl);
+      is_past = refl;
+      welcome = λ i t c v there way lies.
+          (let (a, named, is) = lies_in p (end_of i t) (way_of t) v s lies in absurd (not_empty v (s.in_place (way_of t) a) is (idle.0 (way_of t) a)));
+    }
 
 -- one more element
 pub record Next (p : Plan) (x : Element) (o : Open) (past : List Pass) (s t : Tokens) : Type 0 where
@@ -75,6 +88,7 @@ next p x o past s t regular so does keeps =
             inputs = inputs;
             orderly = order_then p so.list (x ∷ []) none_open o m so.first s t so.orderly (m, t, does, comes, welcome, (refl, refl));
             is_past = passed_then p [] so.list x ∙ ap (after p x) so.is_past;
+            welcome = welcome;
           };
     }
 
@@ -96,8 +110,7 @@ out_next p e c v o past s way regular so port there is lies =
 
 pub in_next : (p : Plan) (e : End) (c : Contact) (v : ℕ) (o : Open) (past : List Pass) (s : Tokens) (way : Direction) → IsRegular p → Reached p o past s → IsPortEnd e
     → contact_at p e ≡ Some c → way_put c.role ≡ way → v < 2 ^ bits_of c way → KeepsTurns p past (pass e way)
-    → ComesWell p e way o s × AllWelcome p (with_token p e way (Some v) s)
-    × Reached p (after_put p e way o) (pass e way ∷ past) (with_token p e way (Some v) s)
+    → ComesWell p e way o s × Reached p (after_put p e way o) (pass e way ∷ past) (with_token p e way (Some v) s)
 in_next p e c v o past s way regular so port there is small keeps =
     let does : Does p (In e v) s (with_token p e way (Some v) s) =
     (port, subst (λ (f : Option Contact). Passes p (In e v) f s (with_token p e way (Some v) s)) (sym there)
@@ -107,7 +120,6 @@ in_next p e c v o past s way regular so port there is small keeps =
     let n = next p (In e v) o past s (with_token p e way (Some v) s) regular so does (subst (λ (u : Direction). KeepsTurns p past (pass e u)) (sym passes) keeps, tt) in
     let comes = n.comes c there in (
       subst (λ (u : Direction). ComesWell p e u o s) is comes.0,
-      n.welcome,
       subst (λ (q : Open). Reached p q (pass e way ∷ past) (with_token p e way (Some v) s)) (comes.1 ∙ ap (λ (u : Direction). after_put p e u o) is)
           (subst (λ (u : Direction). Reached p n.open_then (pass e u ∷ past) (with_token p e way (Some v) s)) passes n.reached),
     )

@@ -156,7 +156,7 @@ role_apart p d e b c at_d asks at_e serves same =
 pub not_empty : (v : ℕ) (x : Option ℕ) → x ≡ Some v → x ≡ None → ⊥
 not_empty v x some none = let never : Some v ≡ None = sym some ∙ none in cc never
 
-open_by_fit : (b : Bool) (q r : Option ℕ) (v : ℕ) → holding.Fits b q r → q ≡ Some v → (b ≡ true) × (r ≡ None)
+pub open_by_fit : (b : Bool) (q r : Option ℕ) (v : ℕ) → holding.Fits b q r → q ≡ Some v → (b ≡ true) × (r ≡ None)
 open_by_fit false q r v h some = absurd (not_empty v q some h.0)
 open_by_fit true q r v (inl none) some = absurd (not_empty v q some none)
 open_by_fit true q r v (inr none) some = (refl, none)
@@ -318,3 +318,61 @@ stands_same p o F s t same st =
           (a, named, a_open, (λ i. same i Request a) ∙ request, (λ i. same i Answer a) ∙ answer);
       only_asks = st.only_asks;
     }
+
+-- taking and putting, in either role
+pub taken_stands : (p : Plan) (e : End) (c : Contact) (v : ℕ) (o : Open) (F G : End → Bool) (s : Tokens) (way : Direction) → IsRight p → contact_at p e ≡ Some c
+    → way_taken c.role ≡ way → token_at p s e way ≡ Some v → Passed F G e way → Stands p o F s → Stands p (after_taken p e way o) G (with_token p e way None s)
+taken_stands p e c v o F G s way right there is lies passed st = by_role c.role refl
+  where
+    by_role : (role : Role) → c.role ≡ role → Stands p (after_taken p e way o) G (with_token p e way None s)
+    by_role Ask role =
+        let ways : Answer ≡ way = sym (ap way_taken role) ∙ is in
+        subst (λ (u : Direction). Stands p (after_taken p e u o) G (with_token p e u None s)) ways
+        (took_answer p e c v o F G s right there role (subst (λ (u : Direction). token_at p s e u ≡ Some v) (sym ways) lies) (subst (Passed F G e) (sym ways) passed) st)
+    by_role Serve role =
+        let ways : Request ≡ way = sym (ap way_taken role) ∙ is in
+        subst (λ (u : Direction). Stands p (after_taken p e u o) G (with_token p e u None s)) ways
+        (took_request p e c v o F G s right there role (subst (λ (u : Direction). token_at p s e u ≡ Some v) (sym ways) lies) (subst (Passed F G e) (sym ways) passed) st)
+
+pub put_stands : (p : Plan) (e : End) (c : Contact) (v : ℕ) (o : Open) (F G : End → Bool) (s : Tokens) (way : Direction) → IsRight p → contact_at p e ≡ Some c
+    → way_put c.role ≡ way → ComesWell p e way o s → Passed F G e way → Stands p o F s → Stands p (after_put p e way o) G (with_token p e way (Some v) s)
+put_stands p e c v o F G s way right there is well passed st = by_role c.role refl
+  where
+    by_role : (role : Role) → c.role ≡ role → Stands p (after_put p e way o) G (with_token p e way (Some v) s)
+    by_role Ask role =
+        let ways : Request ≡ way = sym (ap way_put role) ∙ is in
+        subst (λ (u : Direction). Stands p (after_put p e u o) G (with_token p e u (Some v) s)) ways
+        (put_request p e c v o F G s right there role (subst (λ (u : Direction). ComesWell p e u o s) (sym ways) well) (subst (Passed F G e) (sym ways) passed) st)
+    by_role Serve role =
+        let ways : Answer ≡ way = sym (ap way_put role) ∙ is in
+        subst (λ (u : Direction). Stands p (after_put p e u o) G (with_token p e u (Some v) s)) ways
+        (put_answer p e c v o F G s right there role (subst (λ (u : Direction). ComesWell p e u o s) (sym ways) well) (subst (Passed F G e) (sym ways) passed) st)
+
+-- only the end's own handshake is opened or closed
+pub taken_apart : (p : Plan) (e d : End) (c : Contact) (o : Open) (way : Direction) → IsRight p → contact_at p e ≡ Some c → way_taken c.role ≡ way → (d ≡ e → ⊥)
+    → after_taken p e way o d ≡ o d
+taken_apart p e d c o way right there is apart = by_role c.role refl
+  where
+    by_role : (role : Role) → c.role ≡ role → after_taken p e way o d ≡ o d
+    by_role Ask role =
+        subst (λ (u : Direction). after_taken p e u o d ≡ o d) (sym (ap way_taken role) ∙ is)
+        (opened_apart (handshake_at p e) d false o (λ same. apart (same ∙ names_own p e c right there role)))
+    by_role Serve role = subst (λ (u : Direction). after_taken p e u o d ≡ o d) (sym (ap way_taken role) ∙ is) refl
+
+pub put_apart : (p : Plan) (e d : End) (c : Contact) (o : Open) (way : Direction) → IsRight p → contact_at p e ≡ Some c → way_put c.role ≡ way → (d ≡ e → ⊥)
+    → after_put p e way o d ≡ o d
+put_apart p e d c o way right there is apart = by_role c.role refl
+  where
+    by_role : (role : Role) → c.role ≡ role → after_put p e way o d ≡ o d
+    by_role Ask role =
+        subst (λ (u : Direction). after_put p e u o d ≡ o d) (sym (ap way_put role) ∙ is)
+        (opened_apart (handshake_at p e) d true o (λ same. apart (same ∙ names_own p e c right there role)))
+    by_role Serve role = subst (λ (u : Direction). after_put p e u o d ≡ o d) (sym (ap way_put role) ∙ is) refl
+
+-- what comes well finds its place empty
+pub well_empty : (p : Plan) (e a : End) (way : Direction) (o : Open) (s : Tokens) → ComesWell p e way o s → holding.AllFit o s → places_of p e ≡ Some a
+    → s.in_place way a ≡ None
+well_empty p e a Request o s well fit named =
+    let shut : o a ≡ false = sym (ap (λ (f : Option End). o (named_by f e)) named) ∙ well in
+    (subst (λ (b : Bool). holding.Fits b (s.in_place Request a) (s.in_place Answer a)) shut (fit a)).0
+well_empty p e a Answer o s well fit named = sym (ap (held_at s Answer) named) ∙ well.1 Answer
