@@ -4,22 +4,24 @@
 use Rattle.std.specs.Prelude.{ℕ, zero, suc, ◌+◌, ◌-◌, ◌≤◌, ◌<◌, Bool, true, false, List, Option, Some, None, slice_get, nat_lt}
 use Rattle.std.proofs.Common.{◌≡◌, [], ◌∷◌, ◌⊎◌, inl, inr, refl, sym, ◌∙◌, ap, subst, arith}
 use Rattle.std.proofs.lemmas.Bool.Decides.{nat_tests}
+use Rattle.gos_types.specs.declared.shakes.Role.{Role}
 use Rattle.gos_types.specs.declared.shakes.Role.TheVariants.{Serve, Ask}
 use Rattle.gos_netlist.specs.Events.{Direction, Request, Answer}
 use Rattle.gos_plan.specs.Kinds.{Part, Contact}
 use Rattle.gos_plan.specs.Plans.{End, PartEnd, Joint, Plan, contact_at, IsRight}
-use Rattle.gos_plan.specs.Tokens.{Tokens, IsPortEnd, places_of, token_at, held_at, with_held, with_token}
+use Rattle.gos_plan.specs.Tokens.{Tokens, IsPortEnd, places_of, token_at, held_at, with_held, with_token, way_taken, way_put}
 use Rattle.gos_plan.specs.Turns.{IsEmptyAt}
 use Rattle.gos_plan.specs.Orderly.{Open, named_by, handshake_at, with_open, after_taken, after_put, ComesWell}
 use Rattle.gos_plan.specs.Joining.{Place, place, Wiring, Linked, origin, IsJoining}
-use Rattle.gos_plan.proofs.JointLemmas.{IsIn, stands_there, found}
+use Rattle.gos_plan.proofs.JointLemmas.{IsIn, stands_there, found, joined}
+use Rattle.gos_plan.proofs.HeldLemmas as holding
 use Rattle.gos_realises.specs.Regular.{Pass, is_open, is_request}
 use Rattle.gos_realises.specs.Links.{contact_of, LinksFit}
 use Rattle.gos_webs.specs.Webs.{joint}
 use Rattle.gos_joined.proofs.ReachLemmas.{Told, place_is, told_number, told_end}
 use Rattle.gos_turns.proofs.StandLemmas.{asks_own, names_own, serves_in, asks_itself, serves_itself, placed_here, placed_apart, lies_in, opened_here, opened_apart, Passed, passed_here, passed_apart, Stands, not_empty, stands_same, took_answer, took_request, put_request, put_answer}
 use Rattle.gos_turns.proofs.TrailLemmas.{LinksArePorts, IsUnlinked, AsksAt, ServesAt, Segment, Trail, contact_place, plan_at, link_back, link_ports, segment_roles, segment_back, segment_one, trail_rest, trail_first, trail_start}
-use Rattle.gos_turns.proofs.FollowLemmas.{Stand, Family, open_at, lying, shown, OnTrail, HasSource, Follows, told_place, at_place, is_free, is_alone, port_there, joint_trail, trail_joint, chain, seat_contact}
+use Rattle.gos_turns.proofs.FollowLemmas.{Stand, Family, open_at, lying, shown, OnTrail, HasSource, Follows, told_place, at_place, is_free, is_alone, port_there, joint_trail, trail_joint, chain, seat_contact, one_seat}
 
 pub told_way : (a b : Direction) → Told (a ≡ b)
 told_way Request Request = inl refl
@@ -435,3 +437,214 @@ module _ (w : Wiring) (r : Plan) (fit : LinksFit w) (ported : LinksArePorts w) (
           subst (λ (f : Option End). (F (origin w e).plan).opens (named_by f (origin w e).end) ≡ true) at well.0 in
           of_source x at seg
           (so.source (place (origin w e).plan x) (segment_roles w fit ported (place (origin w e).plan x) (origin w e).end seg).0 up)
+
+  -- taking and putting, in either role
+  pub follows_took : (F G : Family) (past after : List Pass) (e : End) (c : Contact) (v : ℕ) (p : Plan) (o : Open) (s : Tokens) (way : Direction)
+      → way_taken c.role ≡ way → Op w r F G past after e c way None p → Follows w r F o past s → token_at r s e way ≡ Some v
+      → token_at p (F (origin w e).plan).tokens (origin w e).end way ≡ Some v
+      → (G (origin w e).plan).opens ≡ after_taken p (origin w e).end way (F (origin w e).plan).opens
+      → Follows w r G (after_taken r e way o) after (with_token r e way None s)
+  follows_took F G past after e c v p o s way is op so lies lies_k opens = by_role c.role refl
+    where
+      abbreviated : Direction → Type 0
+      abbreviated u =
+          Op w r F G past after e c u None p → token_at r s e u ≡ Some v → token_at p (F (origin w e).plan).tokens (origin w e).end u ≡ Some v
+          → (G (origin w e).plan).opens ≡ after_taken p (origin w e).end u (F (origin w e).plan).opens
+          → Follows w r G (after_taken r e u o) after (with_token r e u None s)
+
+      by_role : (role : Role) → c.role ≡ role → Follows w r G (after_taken r e way o) after (with_token r e way None s)
+      by_role Ask role =
+          subst abbreviated (sym (ap way_taken role) ∙ is)
+          (λ op' l k q. follows_took_answer F G past after e c v p o s op' so role l k q) op lies lies_k opens
+      by_role Serve role =
+          subst abbreviated (sym (ap way_taken role) ∙ is)
+          (λ op' l k q. follows_took_request F G past after e c v p o s op' so role l k q) op lies lies_k opens
+
+  pub follows_put : (F G : Family) (past after : List Pass) (e : End) (c : Contact) (v : ℕ) (p : Plan) (o : Open) (s : Tokens) (way : Direction)
+      → way_put c.role ≡ way → Op w r F G past after e c way (Some v) p → Follows w r F o past s
+      → ComesWell p (origin w e).end way (F (origin w e).plan).opens (F (origin w e).plan).tokens
+      → (G (origin w e).plan).opens ≡ after_put p (origin w e).end way (F (origin w e).plan).opens
+      → ComesWell r e way o s × Follows w r G (after_put r e way o) after (with_token r e way (Some v) s)
+  follows_put F G past after e c v p o s way is op so well opens = by_role c.role refl
+    where
+      abbreviated : Direction → Type 0
+      abbreviated u =
+          Op w r F G past after e c u (Some v) p → ComesWell p (origin w e).end u (F (origin w e).plan).opens (F (origin w e).plan).tokens
+          → (G (origin w e).plan).opens ≡ after_put p (origin w e).end u (F (origin w e).plan).opens
+          → ComesWell r e u o s × Follows w r G (after_put r e u o) after (with_token r e u (Some v) s)
+
+      by_role : (role : Role) → c.role ≡ role → ComesWell r e way o s × Follows w r G (after_put r e way o) after (with_token r e way (Some v) s)
+      by_role Ask role =
+          subst abbreviated (sym (ap way_put role) ∙ is)
+          (λ op' l q. follows_put_request F G past after e c v p o s op' so role l q) op well opens
+      by_role Serve role =
+          subst abbreviated (sym (ap way_put role) ∙ is)
+          (λ op' l q. follows_put_answer F G past after e c v p o s op' so role l q) op well opens
+
+  -- a token that a part puts beyond its handshakes is lost
+  pub follows_lost : (F G : Family) (past : List Pass) (i h : ℕ) (f : Part) (v : ℕ) (p : Plan) (o : Open) (s : Tokens) (way : Direction) → Follows w r F o past s
+      → slice_get r.parts i ≡ Some f → contact_at r (PartEnd i h) ≡ None → slice_get w.plans (origin w (PartEnd i h)).plan ≡ Some p
+      → ((m : ℕ) → (m ≡ (origin w (PartEnd i h)).plan → ⊥) → G m ≡ F m)
+      → (G (origin w (PartEnd i h)).plan).past ≡ (F (origin w (PartEnd i h)).plan).past
+      → (G (origin w (PartEnd i h)).plan).tokens.in_place
+          ≡ (with_token p (origin w (PartEnd i h)).end way (Some v) (F (origin w (PartEnd i h)).plan).tokens).in_place
+      → (G (origin w (PartEnd i h)).plan).opens ≡ after_put p (origin w (PartEnd i h)).end way (F (origin w (PartEnd i h)).plan).opens
+      → ComesWell p (origin w (PartEnd i h)).end way (F (origin w (PartEnd i h)).plan).opens (F (origin w (PartEnd i h)).plan).tokens
+      → ComesWell r (PartEnd i h) way o s × Follows w r G (after_put r (PartEnd i h) way o) past (with_token r (PartEnd i h) way (Some v) s)
+  follows_lost F G past i h f v p o s way so at none is others pasts tokens opens well = (well_then way opens well, follows)
+    where
+      e : End
+      e = PartEnd i h
+
+      k : ℕ
+      k = (origin w (PartEnd i h)).plan
+
+      d : End
+      d = (origin w (PartEnd i h)).end
+
+      none_there : contact_at p d ≡ None
+      none_there = sym (contact_place w (origin w (PartEnd i h)) p is) ∙ (seat_contact w r fit ported whole i h f at ∙ none)
+
+      no_place : (q : Plan) (x : End) → IsRight q → contact_at q x ≡ None → places_of q x ≡ None
+      no_place q x right nothing = by_place (places_of q x) refl
+        where
+          by_place : (g : Option End) → places_of q x ≡ g → g ≡ None
+          by_place None is' = refl
+          by_place (Some a) is' = let j = joined q x a right is' in let never : None ≡ Some j.here = sym nothing ∙ j.is_here in absurd (cc never)
+
+      right : IsRight p
+      right = fit.right k p is
+
+      named : places_of p d ≡ None
+      named = no_place p d right none_there
+
+      named_r : places_of r e ≡ None
+      named_r = no_place r e whole.right none
+
+      own_p : handshake_at p d ≡ d
+      own_p = ap (λ (g : Option End). named_by g d) named
+
+      own_r : handshake_at r e ≡ e
+      own_r = ap (λ (g : Option End). named_by g e) named_r
+
+      same_s : with_token r e way (Some v) s ≡ s
+      same_s = ap (λ (g : Option End). with_held way g (Some v) s) named_r
+
+      same_place : (G k).tokens.in_place ≡ (F k).tokens.in_place
+      same_place = tokens ∙ ap (λ (g : Option End). (with_held way g (Some v) (F k).tokens).in_place) named
+
+      well_then : (u : Direction) → (G k).opens ≡ after_put p d u (F k).opens → ComesWell p d u (F k).opens (F k).tokens → ComesWell r e u o s
+      well_then Request q shut = ap o own_r ∙ (so.lost i h f at none ∙ (ap (F k).opens (sym own_p) ∙ shut))
+      well_then Answer q (up, empty) =
+          (ap o own_r ∙ (so.lost i h f at none ∙ (ap (F k).opens (sym own_p) ∙ up)), λ u. ap (held_at s u) named_r)
+
+      shown_then : (a : Place) → shown G a ≡ shown F a
+      shown_then a = by_plan (told_number a.plan k)
+        where
+          by_plan : Told (a.plan ≡ k) → shown G a ≡ shown F a
+          by_plan (inl same) =
+              ap (λ (m : ℕ). is_open (G m).past a.end) same ∙ (ap (λ (z : List Pass). is_open z a.end) pasts ∙ ap (λ (m : ℕ). is_open (F m).past a.end) (sym same))
+          by_plan (inr other) = ap (λ (t : Stand). is_open t.past a.end) (others a.plan other)
+
+      lying_then : (u : Direction) (a : Place) → lying G u a ≡ lying F u a
+      lying_then u a = by_plan (told_number a.plan k)
+        where
+          by_plan : Told (a.plan ≡ k) → lying G u a ≡ lying F u a
+          by_plan (inl same) =
+              ap (λ (m : ℕ). (G m).tokens.in_place u a.end) same ∙ ((λ z. same_place z u a.end) ∙ ap (λ (m : ℕ). (F m).tokens.in_place u a.end) (sym same))
+          by_plan (inr other) = ap (λ (t : Stand). t.tokens.in_place u a.end) (others a.plan other)
+
+      put_else : (u : Direction) (x : End) → (x ≡ d → ⊥) → after_put p d u (F k).opens x ≡ (F k).opens x
+      put_else Request x apart = opened_apart (handshake_at p d) x true (F k).opens (λ same. apart (same ∙ own_p))
+      put_else Answer x apart = refl
+
+      put_else_r : (u : Direction) (x : End) → (x ≡ e → ⊥) → after_put r e u o x ≡ o x
+      put_else_r Request x apart = opened_apart (handshake_at r e) x true o (λ same. apart (same ∙ own_r))
+      put_else_r Answer x apart = refl
+
+      put_here : (u : Direction) → after_put r e u o e ≡ after_put p d u (F k).opens d
+      put_here Request = opened_here (handshake_at r e) e true o own_r ∙ sym (opened_here (handshake_at p d) d true (F k).opens own_p)
+      put_here Answer = so.lost i h f at none
+
+      only_more : (u : Direction) (x : End) → (F k).opens x ≡ true → after_put p d u (F k).opens x ≡ true
+      only_more Request x up = by_end (told_end x d)
+        where
+          by_end : Told (x ≡ d) → after_put p d Request (F k).opens x ≡ true
+          by_end (inl same) = subst (λ (y : End). after_put p d Request (F k).opens y ≡ true) (sym same) (opened_here (handshake_at p d) d true (F k).opens own_p)
+          by_end (inr apart) = put_else Request x apart ∙ up
+      only_more Answer x up = up
+
+      open_else : (x : Place) → (x ≡ origin w e → ⊥) → open_at G x ≡ open_at F x
+      open_else x apart = by_plan (told_number x.plan k)
+        where
+          by_plan : Told (x.plan ≡ k) → open_at G x ≡ open_at F x
+          by_plan (inl same) =
+              ap (λ (m : ℕ). (G m).opens x.end) same
+              ∙ ((λ z. opens z x.end)
+              ∙ (put_else way x.end (λ ends. apart (place_is x (origin w e) same ends)) ∙ ap (λ (m : ℕ). (F m).opens x.end) (sym same)))
+          by_plan (inr other) = ap (λ (t : Stand). t.opens x.end) (others x.plan other)
+
+      has_none : (x : Place) (c : Contact) → contact_of w x ≡ Some c → x ≡ origin w e → ⊥
+      has_none x c there same =
+          let never : None ≡ Some c = sym none ∙ (sym (seat_contact w r fit ported whole i h f at) ∙ (ap (contact_of w) (sym same) ∙ there)) in cc never
+
+      differs : (x : End) (c : Contact) → contact_at r x ≡ Some c → x ≡ e → ⊥
+      differs x c there same = let never : None ≡ Some c = sym none ∙ (ap (contact_at r) (sym same) ∙ there) in cc never
+
+      differs_p : (x : End) (c : Contact) → contact_at p x ≡ Some c → x ≡ d → ⊥
+      differs_p x c there same = let never : None ≡ Some c = sym none_there ∙ (ap (contact_at p) (sym same) ∙ there) in cc never
+
+      before : Stands p (F k).opens (is_open (F k).past) (F k).tokens
+      before = so.stands k p is
+
+      fit_then : holding.AllFit (after_put p d way (F k).opens) (with_token p d way (Some v) (F k).tokens)
+      fit_then = holding.put_well p d way v (F k).opens (F k).tokens well before.fit
+
+      new : Stands p (after_put p d way (F k).opens) (is_open (F k).past) (F k).tokens
+      new =
+          record {
+            fit = subst (λ (g : Option End). holding.AllFit (after_put p d way (F k).opens) (with_held way g (Some v) (F k).tokens)) named fit_then;
+            asks_open = λ x c port there role. put_else way x (differs_p x c there) ∙ before.asks_open x c port there role;
+            serves_open = λ x c port there role up.
+                let (a, placed, a_open, request, answer) = before.serves_open x c port there role up in (a, placed, only_more way a a_open, request, answer);
+            only_asks = λ x c there role. put_else way x (differs_p x c there) ∙ before.only_asks x c there role;
+          }
+
+      stands_then' : (m : ℕ) (b : Plan) → slice_get w.plans m ≡ Some b → Stands b (G m).opens (is_open (G m).past) (G m).tokens
+      stands_then' m b is_b = by_plan (told_number m k)
+        where
+          by_plan : Told (m ≡ k) → Stands b (G m).opens (is_open (G m).past) (G m).tokens
+          by_plan (inl same) =
+              let plans : b ≡ p = cc (is_b, is, same) in
+              subst (λ (x : Plan). Stands x (G m).opens (is_open (G m).past) (G m).tokens) (sym plans)
+              (subst (λ (x : ℕ). Stands p (G x).opens (is_open (G x).past) (G x).tokens) (sym same)
+              (subst (λ (x : Open). Stands p x (is_open (G k).past) (G k).tokens) (sym opens)
+              (subst (λ (x : List Pass). Stands p (after_put p d way (F k).opens) (is_open x) (G k).tokens) (sym pasts)
+              (stands_same p (after_put p d way (F k).opens) (is_open (F k).past) (F k).tokens (G k).tokens same_place new))))
+          by_plan (inr other) = subst (λ (x : Stand). Stands b x.opens (is_open x.past) x.tokens) (sym (others m other)) (so.stands m b is_b)
+
+      lost_then : (j g : ℕ) (q : Part) → slice_get r.parts j ≡ Some q → contact_at r (PartEnd j g) ≡ None
+          → after_put r e way o (PartEnd j g) ≡ open_at G (origin w (PartEnd j g))
+      lost_then j g q at_j nothing = by_end (told_end (PartEnd j g) e)
+        where
+          by_end : Told (PartEnd j g ≡ e) → after_put r e way o (PartEnd j g) ≡ open_at G (origin w (PartEnd j g))
+          by_end (inl same) =
+              subst (λ (x : End). after_put r e way o x ≡ open_at G (origin w x)) (sym same) (put_here way ∙ sym (λ z. opens z d))
+          by_end (inr apart) =
+              put_else_r way (PartEnd j g) apart
+              ∙ (so.lost j g q at_j nothing
+              ∙ sym (open_else (origin w (PartEnd j g)) (λ same. apart (let (one, two) = one_seat w r fit ported whole j i g h q f at_j at same in λ z. PartEnd (one z) (two z)))))
+
+      follows : Follows w r G (after_put r e way o) past (with_token r e way (Some v) s)
+      follows =
+          record {
+            stands = stands_then';
+            agree = λ a b linked. shown_then a ∙ (so.agree a b linked ∙ sym (shown_then b));
+            opens = λ x c there role. put_else_r way x (differs x c there)
+                ∙ (so.opens x c there role ∙ sym (open_else (origin w x) (has_none (origin w x) c (at_place w r fit ported whole x c there))));
+            lies = λ a b joint_in u z held.
+                let (n, x, t, lies) = so.lies a b joint_in u z (subst (λ (y : Tokens). y.in_place u a ≡ Some z) same_s held) in (n, x, t, lying_then u x ∙ lies);
+            source = λ x asks up. let (c, there, role) = asks in so.source x asks (sym (open_else x (has_none x c there)) ∙ up);
+            lost = lost_then;
+            ports = λ x c port there. so.ports x c port there ∙ sym (shown_then (origin w x));
+          }
