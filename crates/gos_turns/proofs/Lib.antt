@@ -5,3 +5,4 @@ pub mod FollowLemmas
 pub mod OpLemmas
 pub mod CrossLemmas
 pub mod GoesLemmas
+pub mod ReadyLemmas
