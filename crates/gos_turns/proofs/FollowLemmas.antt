@@ -262,3 +262,16 @@ module _ (w : Wiring) (r : Plan) (fit : LinksFit w) (ported : LinksArePorts w) (
           let here : places_of p e ≡ Some b.end = stands_there p (joint b.end e) e (fit.right b.plan p is) joined (serves_itself (joint b.end e)) in
           let same : a ≡ b.end = cc (named, here) in
           (ap (F b.plan).opens (sym same) ∙ a_open, each_way F b (ap ((F b.plan).tokens.in_place Request) (sym same) ∙ request) (ap ((F b.plan).tokens.in_place Answer) (sym same) ∙ answer))
+
+-- the states of parts don't matter
+pub follows_same : (w : Wiring) (r : Plan) (F : Family) (o : Open) (past : List Pass) (s t : Tokens) → t.in_place ≡ s.in_place → Follows w r F o past s → Follows w r F o past t
+follows_same w r F o past s t same so =
+    record {
+      stands = so.stands;
+      agree = so.agree;
+      opens = so.opens;
+      lies = λ a b joined way v held. so.lies a b joined way v (sym (λ i. same i way a) ∙ held);
+      source = so.source;
+      lost = so.lost;
+      ports = so.ports;
+    }

@@ -6,3 +6,4 @@ pub mod OpLemmas
 pub mod CrossLemmas
 pub mod GoesLemmas
 pub mod ReadyLemmas
+pub mod ElementLemmas
