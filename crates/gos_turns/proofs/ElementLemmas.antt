@@ -38,7 +38,7 @@ pub record Went (w : Wiring) (r : Plan) (x : Element) (o : Open) (past : List Pa
   pub goes : Goes w r family open_then (after r x past) t
 
 -- a family with the stand that a plan has is the family
-same_family : (k : ℕ) (F : Family) → setting k (F k) F ≡ F
+pub same_family : (k : ℕ) (F : Family) → setting k (F k) F ≡ F
 same_family k F = λ z m. of_number m z
   where
     of_number : (m : ℕ) → setting k (F k) F m ≡ F m
@@ -49,7 +49,7 @@ same_family k F = λ z m. of_number m z
             subst (λ (n : ℕ). setting k (F k) F n ≡ F n) (sym same) (set_here k (F k) F)
         by_told (inr apart) = set_else k (F k) F m apart
 
-each_plan : (w : Wiring) (k : ℕ) (p : Plan) (X : Stand) (F : Family) (Q : Plan → Stand → Type 0) → slice_get w.plans k ≡ Some p → Q p X
+pub each_plan : (w : Wiring) (k : ℕ) (p : Plan) (X : Stand) (F : Family) (Q : Plan → Stand → Type 0) → slice_get w.plans k ≡ Some p → Q p X
     → ((m : ℕ) (z : Plan) → slice_get w.plans m ≡ Some z → Q z (F m)) → (m : ℕ) (z : Plan) → slice_get w.plans m ≡ Some z → Q z (setting k X F m)
 each_plan w k p X F Q is new rest m z at = by_told (told_number m k)
   where
@@ -60,7 +60,7 @@ each_plan w k p X F Q is new rest m z at = by_told (told_number m k)
         (subst (λ (n : ℕ). Q p (setting k X F n)) (sym same) (subst (Q p) (sym (set_here k X F)) new))
     by_told (inr apart) = subst (Q z) (sym (set_else k X F m apart)) (rest m z at)
 
-goes_then : (w : Wiring) (r : Plan) (F : Family) (o u : Open) (past later : List Pass) (s t : Tokens) (k : ℕ) (p : Plan) (X : Stand) → Goes w r F o past s
+pub goes_then : (w : Wiring) (r : Plan) (F : Family) (o u : Open) (past later : List Pass) (s t : Tokens) (k : ℕ) (p : Plan) (X : Stand) → Goes w r F o past s
     → slice_get w.plans k ≡ Some p → Follows w r (setting k X F) u later t → Reached p X.opens X.past X.tokens → IsTurned p X.past → IsTurned r later
     → ((i : ℕ) (f : Part) (q : Seat w i f) → slice_get r.parts i ≡ Some f → t.state i ≡ (setting k X F q.plan).tokens.state q.part)
     → Goes w r (setting k X F) u later t
@@ -88,7 +88,7 @@ states_stay w r F o past s t k X so whole own i f q has = whole i ∙ (so.states
 module _ (w : Wiring) (r : Plan) (fit : LinksFit w) (ported : LinksArePorts w) (whole : IsJoining w r)
   (regular : (k : ℕ) (p : Plan) → slice_get w.plans k ≡ Some p → IsRegular p)
   (literals : (k : ℕ) (p : Plan) → slice_get w.plans k ≡ Some p → All LiteralFits p.parts) (passes : PassesTurns w r) where
-  went_out : (F : Family) (o : Open) (past : List Pass) (s t : Tokens) (e : End) (v : ℕ) → Goes w r F o past s → Does r (Out e v) s t → Went w r (Out e v) o past s t
+  pub went_out : (F : Family) (o : Open) (past : List Pass) (s t : Tokens) (e : End) (v : ℕ) → Goes w r F o past s → Does r (Out e v) s t → Went w r (Out e v) o past s t
   went_out F o past s t e v so does = by_contact (out_there r e v s t does)
     where
       by_contact : (c : Contact) × (contact_at r e ≡ Some c) → Went w r (Out e v) o past s t
@@ -166,7 +166,7 @@ module _ (w : Wiring) (r : Plan) (fit : LinksFit w) (ported : LinksArePorts w) (
               (goes_then w r G o (after_taken r e way o) past (pass e way ∷ past) s (with_token r e way None s) k p X going its.1 follows out.1 out.0.1 outer
               (states_stay w r G o past s (with_token r e way None s) k X going (token_state r e way None s) (token_state p (origin w e).end way None (G k).tokens)))
 
-  went_in : (F : Family) (o : Open) (past : List Pass) (s t : Tokens) (e : End) (v : ℕ) → Goes w r F o past s → Does r (In e v) s t
+  pub went_in : (F : Family) (o : Open) (past : List Pass) (s t : Tokens) (e : End) (v : ℕ) → Goes w r F o past s → Does r (In e v) s t
       → KeepsTurns r past (pass e (way_in (contact_at r e))) → Went w r (In e v) o past s t
   went_in F o past s t e v so does keeps = by_contact (in_there r e v s t does)
     where

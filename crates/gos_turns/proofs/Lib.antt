@@ -7,3 +7,4 @@ pub mod CrossLemmas
 pub mod GoesLemmas
 pub mod ReadyLemmas
 pub mod ElementLemmas
+pub mod FireLemmas
