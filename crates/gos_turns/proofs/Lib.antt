@@ -8,3 +8,4 @@ pub mod GoesLemmas
 pub mod ReadyLemmas
 pub mod ElementLemmas
 pub mod FireLemmas
+pub mod WholeLemmas
