@@ -123,6 +123,8 @@ module _ (w : Wiring) (r : Plan) (fit : LinksFit w) (ported : LinksArePorts w) (
             (λ same. not_there i g f is none b same contact_b));
         ports = λ e c port there. so.ports e c port there
             ∙ sym (shown_else (origin w e) (port_there w r fit ported whole e c there port) (λ same. at_a e c there same) (λ same. at_b e c there same));
+        dead = λ z port loose. shown_else z port (λ same. loose.0 b (subst (λ (u : Place). Linked w u b) (sym same) cross.linked))
+            (λ same. loose.0 a (subst (λ (u : Place). Linked w u a) (sym same) (link_back w a b cross.linked))) ∙ so.dead z port loose;
       }
     where
       contact_a : (c : Contact) × (contact_of w a ≡ Some c)

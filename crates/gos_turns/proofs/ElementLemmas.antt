@@ -138,7 +138,7 @@ module _ (w : Wiring) (r : Plan) (fit : LinksFit w) (ported : LinksArePorts w) (
 
           outer : IsTurned r (pass e way ∷ past)
           outer =
-              passes.leaves (λ n. (G n).past) past going.follows.agree going.follows.ports going.turned going.outer e p c way does.0 there its.1 refl out.0.1
+              passes.leaves (λ n. (G n).past) past going.follows.agree going.follows.ports going.follows.dead going.turned going.outer e p c way does.0 there its.1 refl out.0.1
 
           X : Stand
           X =
@@ -205,7 +205,7 @@ module _ (w : Wiring) (r : Plan) (fit : LinksFit w) (ported : LinksArePorts w) (
 
           turned : IsTurned p (pass (origin w e).end way ∷ (F k).past)
           turned =
-              passes.enters (λ n. (F n).past) past so.follows.agree so.follows.ports so.turned so.outer e p c way does.0 there its.1 refl turn.1
+              passes.enters (λ n. (F n).past) past so.follows.agree so.follows.ports so.follows.dead so.turned so.outer e p c way does.0 there its.1 refl turn.1
 
           come : ComesWell p (origin w e).end way (F k).opens (F k).tokens
               × Reached p (after_put p (origin w e).end way (F k).opens) (pass (origin w e).end way ∷ (F k).past) (with_token p (origin w e).end way (Some v) (F k).tokens)

@@ -54,6 +54,10 @@ OnTrail w F a way v = (n : ℕ) × (c : Place) × Trail w n a c × (lying F way 
 abbrev pub HasSource : Wiring → Plan → Place → Type 0
 HasSource w r c = (a : End) × (x : Contact) × (contact_at r a ≡ Some x) × (x.role ≡ Ask) × (n : ℕ) × Trail w n (origin w a) c
 
+-- no link joins the place, and no end of the whole stands there
+abbrev pub IsLoose : Wiring → Plan → Place → Type 0
+IsLoose w r a = IsUnlinked w a × ((e : End) (c : Contact) → contact_at r e ≡ Some c → origin w e ≡ a → ⊥)
+
 -- The whole stands as its plans do. A Share may put a token beyond its handshakes: what is lost there is open in both.
 pub record Follows (w : Wiring) (r : Plan) (F : Family) (o : Open) (past : List Pass) (s : Tokens) : Type 0 where
   pub stands : (k : ℕ) (p : Plan) → slice_get w.plans k ≡ Some p → Stands p (F k).opens (is_open (F k).past) (F k).tokens
@@ -64,6 +68,7 @@ pub record Follows (w : Wiring) (r : Plan) (F : Family) (o : Open) (past : List 
   pub lost :
       (i h : ℕ) (f : Part) → slice_get r.parts i ≡ Some f → contact_at r (PartEnd i h) ≡ None → o (PartEnd i h) ≡ open_at F (origin w (PartEnd i h))
   pub ports : (e : End) (c : Contact) → IsPortEnd e → contact_at r e ≡ Some c → is_open past e ≡ shown F (origin w e)
+  pub dead : (a : Place) → IsPortEnd a.end → IsLoose w r a → shown F a ≡ false
 
 pub told_place : (a b : Place) → Told (a ≡ b)
 told_place a b = by_plan (told_number a.plan b.plan) (told_end a.end b.end)
@@ -274,4 +279,5 @@ follows_same w r F o past s t same so =
       source = so.source;
       lost = so.lost;
       ports = so.ports;
+      dead = so.dead;
     }

@@ -24,7 +24,7 @@ use Rattle.gos_joined.proofs.ReachLemmas.{Told, place_is, told_number}
 use Rattle.gos_turns.proofs.StandLemmas.{asks_own, names_own, serves_in, asks_itself, serves_itself, opened_here, Stands, open_by_fit, taken_stands, put_stands, taken_apart, put_apart, well_empty}
 use Rattle.gos_turns.proofs.RunLemmas.{Reached, out_next, in_next}
 use Rattle.gos_turns.proofs.TrailLemmas.{LinksArePorts, IsUnlinked, AsksAt, ServesAt, Segment, Trail, contact_place, link_back, link_one, link_ports, link_apart, link_asks, link_contacts, segment_roles, trail_first}
-use Rattle.gos_turns.proofs.FollowLemmas.{Stand, Family, open_at, lying, HasSource, Follows, told_place, Seat}
+use Rattle.gos_turns.proofs.FollowLemmas.{Stand, Family, open_at, lying, HasSource, IsLoose, Follows, told_place, Seat}
 use Rattle.gos_turns.proofs.CrossLemmas.{Cross, lying_there, follows_across}
 
 -- what is open at a plan's ports keeps its turns
@@ -41,20 +41,24 @@ AllAgree w P = (a b : Place) → Linked w a b → is_open (P a.plan) a.end ≡ i
 abbrev pub PortsAgree : Wiring → Plan → (ℕ → List Pass) → List Pass → Type 0
 PortsAgree w r P past = (e : End) (c : Contact) → IsPortEnd e → contact_at r e ≡ Some c → is_open past e ≡ is_open (P (origin w e).plan) (origin w e).end
 
+-- what stands for nothing in the whole is closed
+abbrev pub LooseShut : Wiring → Plan → (ℕ → List Pass) → Type 0
+LooseShut w r P = (a : Place) → IsPortEnd a.end → IsLoose w r a → is_open (P a.plan) a.end ≡ false
+
 -- Turns pass through a wiring: what keeps turns at one end of a link does at the other, what comes to the whole does where it
 -- comes to a plan, and what leaves a plan does where it leaves the whole.
 pub record PassesTurns (w : Wiring) (r : Plan) : Type 0 where
   pub crosses :
-      (P : ℕ → List Pass) → AllAgree w P → AllTurned w P → (a b : Place) (p q : Plan) (c : Contact) (way : Direction) → Linked w a b
+      (P : ℕ → List Pass) → AllAgree w P → LooseShut w r P → AllTurned w P → (a b : Place) (p q : Plan) (c : Contact) (way : Direction) → Linked w a b
       → slice_get w.plans a.plan ≡ Some p → slice_get w.plans b.plan ≡ Some q → contact_at p a.end ≡ Some c → way_taken c.role ≡ way
       → IsTurned p (pass a.end way ∷ P a.plan) → IsTurned q (pass b.end way ∷ P b.plan)
   pub enters :
-      (P : ℕ → List Pass) (past : List Pass) → AllAgree w P → PortsAgree w r P past → AllTurned w P → IsTurned r past
+      (P : ℕ → List Pass) (past : List Pass) → AllAgree w P → PortsAgree w r P past → LooseShut w r P → AllTurned w P → IsTurned r past
       → (e : End) (p : Plan) (c : Contact) (way : Direction) → IsPortEnd e → contact_at r e ≡ Some c
       → slice_get w.plans (origin w e).plan ≡ Some p → way_put c.role ≡ way
       → IsTurned r (pass e way ∷ past) → IsTurned p (pass (origin w e).end way ∷ P (origin w e).plan)
   pub leaves :
-      (P : ℕ → List Pass) (past : List Pass) → AllAgree w P → PortsAgree w r P past → AllTurned w P → IsTurned r past
+      (P : ℕ → List Pass) (past : List Pass) → AllAgree w P → PortsAgree w r P past → LooseShut w r P → AllTurned w P → IsTurned r past
       → (e : End) (p : Plan) (c : Contact) (way : Direction) → IsPortEnd e → contact_at r e ≡ Some c
       → slice_get w.plans (origin w e).plan ≡ Some p → way_taken c.role ≡ way
       → IsTurned p (pass (origin w e).end way ∷ P (origin w e).plan) → IsTurned r (pass e way ∷ past)
@@ -149,7 +153,7 @@ module _ (w : Wiring) (r : Plan) (fit : LinksFit w) (ported : LinksArePorts w) (
       reached_a = (out_next p a.end c v (F a.plan).opens (F a.plan).past (F a.plan).tokens way (regular a.plan p is_p) (so.reached a.plan p is_p) port_a there is lies_a).1
 
       turned_b : IsTurned q (pass b.end way ∷ (F b.plan).past)
-      turned_b = passes.crosses (λ k. (F k).past) so.follows.agree so.turned a b p q c way linked is_p is_q there is out.1
+      turned_b = passes.crosses (λ k. (F k).past) so.follows.agree so.follows.dead so.turned a b p q c way linked is_p is_q there is out.1
 
       coming : ComesWell q b.end way (F b.plan).opens (F b.plan).tokens
           × Reached q (after_put q b.end way (F b.plan).opens) (pass b.end way ∷ (F b.plan).past) (with_token q b.end way (Some v) (F b.plan).tokens)

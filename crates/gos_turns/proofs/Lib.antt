@@ -9,3 +9,5 @@ pub mod ReadyLemmas
 pub mod ElementLemmas
 pub mod FireLemmas
 pub mod WholeLemmas
+pub mod TypeLemmas
+pub mod TurnedLemmas

@@ -212,6 +212,7 @@ module _ (w : Wiring) (r : Plan) (fit : LinksFit w) (ported : LinksArePorts w) (
         source = source;
         lost = lost_asking b asks opens;
         ports = ports_then;
+        dead = λ a port loose. shown_apart a port (λ same. loose.1 e c op.there (sym same)) ∙ so.dead a port loose;
       }
 
   then_serving : (G k).opens ≡ (F k).opens → Stands p (F k).opens (is_open (G k).past) (with_token p d way h (F k).tokens) → LiesThen
@@ -225,6 +226,7 @@ module _ (w : Wiring) (r : Plan) (fit : LinksFit w) (ported : LinksArePorts w) (
         source = λ x asks up. so.source x asks (sym (open_same opens x) ∙ up);
         lost = λ i g f is none. so.lost i g f is none ∙ sym (open_same opens (origin w (PartEnd i g)));
         ports = ports_then;
+        dead = λ a port loose. shown_apart a port (λ same. loose.1 e c op.there (sym same)) ∙ so.dead a port loose;
       }
 
   -- no joint of the whole is named by the end where it has no place
@@ -647,4 +649,5 @@ module _ (w : Wiring) (r : Plan) (fit : LinksFit w) (ported : LinksArePorts w) (
             source = λ x asks up. let (c, there, role) = asks in so.source x asks (sym (open_else x (has_none x c there)) ∙ up);
             lost = lost_then;
             ports = λ x c port there. so.ports x c port there ∙ sym (shown_then (origin w x));
+            dead = λ a port loose. shown_then a ∙ so.dead a port loose;
           }

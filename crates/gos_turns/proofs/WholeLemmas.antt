@@ -81,6 +81,7 @@ module _ (w : Wiring) (r : Plan) (fit : LinksFit w) (ported : LinksArePorts w) (
               source = λ c asks up. absurd (false_true up);
               lost = λ i h f is none. refl;
               ports = λ e c port there. refl;
+              dead = λ a port loose. refl;
             };
         reached = λ k p is. at_first p (first_family w s k).tokens ((λ way e. refl), (λ j. idle.1 (before w.plans k + j)));
         turned = λ k p is. first_turned p;
