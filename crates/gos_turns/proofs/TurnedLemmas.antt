@@ -1,5 +1,6 @@
 -- Inputs keep turns of a plan where they keep those of the type at which they come.
-use Rattle.std.specs.Prelude.{ℕ, zero, suc, ◌+◌, ◌<◌, Bool, true, false, ◌&&◌, IsTrue, List, Option, Some, None, slice_get, nat_eq, if◌then◌else◌}
+use Rattle.std.specs.Prelude.{ℕ, zero, suc, ◌+◌, ◌-◌, ◌<◌, Bool, true, false, ◌&&◌, IsTrue, List, Option, Some, None, slice_get, nat_eq, nat_lt, if◌then◌else◌}
+use Rattle.std.proofs.lemmas.Bool.Decides.{nat_tests}
 use Rattle.std.proofs.Common.{◌≡◌, [], ◌∷◌, ◌⊎◌, inl, inr, refl, sym, ◌∙◌, ap, subst, arith}
 use Rattle.std.proofs.lemmas.Option.{slice_get_within}
 use Rattle.gos_types.specs.Types.{Type', Fun}
@@ -132,3 +133,59 @@ in_result p P h c way turned there is keeps = from_each p (pass (ResultEnd h) wa
       λ busy. still_busy p.outcome (res P) (res (pass (ResultEnd h) way ∷ P)) h c way
           (result_changed P h (count p.outcome) way (slice_get_within (contacts_of p.outcome) h c there)) there is before.1 ((before.0 m y at).1 busy),
     )
+
+-- a function is busy where its outcome is
+pub fun_busy : (a b : Type') (f : ℕ → Bool) → KeepsTurnsOf (Fun a b) f → some_open (count (Fun a b)) f ≡ true → some_open (count b) (beyond (count a) f) ≡ true
+fun_busy a b f keeps busy = of_open (some_there (count (Fun a b)) f busy)
+  where
+    of_open : (k : ℕ) × (k < count (Fun a b)) × (f k ≡ true) → some_open (count b) (beyond (count a) f) ≡ true
+    of_open (k, low, up) = by_test (nat_lt k (count a)) refl
+      where
+        by_test : (t : Bool) → nat_lt k (count a) ≡ t → some_open (count b) (beyond (count a) f) ≡ true
+        by_test true test = keeps.2 (there_some (count a) f k (grind (arith, nat_tests, test)) up)
+        by_test false test =
+            let high : count a + (k - count a) ≡ k = grind (arith, nat_tests, test) in
+            let sum = count_fun a b in
+            there_some (count b) (beyond (count a) f) (k - count a) (omega (arith, low, sum, high)) (ap f high ∙ up)
+
+pub busy_fun : (a b : Type') (f : ℕ → Bool) → some_open (count b) (beyond (count a) f) ≡ true → some_open (count (Fun a b)) f ≡ true
+busy_fun a b f busy =
+    let (k, low, up) = some_there (count b) (beyond (count a) f) busy in
+    let sum = count_fun a b in there_some (count (Fun a b)) f (count a + k) (omega (arith, low, sum)) up
+
+-- an input at the argument of a function
+pub in_argument : (p : Plan) (P : List Pass) (h : ℕ) (a b : Type') (c : Contact) (way : Direction) → IsTurned p P → p.outcome ≡ Fun a b
+    → slice_get (contacts_of a) h ≡ Some c → way_put c.role ≡ way → KeepsTurnsOf a (res (pass (ResultEnd h) way ∷ P)) → IsTurned p (pass (ResultEnd h) way ∷ P)
+in_argument p P h a b c way turned outcome there is keeps = from_each p (pass (ResultEnd h) way ∷ P) (each, subst (λ (t : Type'). KeepsTurnsOf t (res (pass (ResultEnd h) way ∷ P))) (sym outcome) result)
+  where
+    before : Each p P
+    before = to_each p P turned
+
+    fun : KeepsTurnsOf (Fun a b) (res P)
+    fun = subst (λ (t : Type'). KeepsTurnsOf t (res P)) outcome before.1
+
+    low : h < count a
+    low = slice_get_within (contacts_of a) h c there
+
+    agree : Agree (count b) (beyond (count a) (res P)) (beyond (count a) (res (pass (ResultEnd h) way ∷ P)))
+    agree g small =
+        let sum = count_fun a b in
+        sym ((result_changed P h (count (Fun a b)) way (omega (arith, low, sum))).else_same (count a + g) (omega (arith, small, sum)) (λ same. omega (arith, same, low)))
+
+    result : KeepsTurnsOf (Fun a b) (res (pass (ResultEnd h) way ∷ P))
+    result = (
+      keeps,
+      turns_agree b (beyond (count a) (res P)) (beyond (count a) (res (pass (ResultEnd h) way ∷ P))) agree fun.1,
+      λ busy. sym (some_agree (count b) (beyond (count a) (res P)) (beyond (count a) (res (pass (ResultEnd h) way ∷ P))) agree)
+          ∙ fun.2 (was_busy a (res P) (res (pass (ResultEnd h) way ∷ P)) h c way (result_changed P h (count a) way low) there is keeps busy),
+    )
+
+    still : some_open (count p.outcome) (res P) ≡ true → some_open (count p.outcome) (res (pass (ResultEnd h) way ∷ P)) ≡ true
+    still busy =
+        let of_fun : some_open (count (Fun a b)) (res P) ≡ true = subst (λ (t : Type'). some_open (count t) (res P) ≡ true) outcome busy in
+        let now = sym (some_agree (count b) (beyond (count a) (res P)) (beyond (count a) (res (pass (ResultEnd h) way ∷ P))) agree) ∙ fun_busy a b (res P) fun of_fun in
+        subst (λ (t : Type'). some_open (count t) (res (pass (ResultEnd h) way ∷ P)) ≡ true) (sym outcome) (busy_fun a b (res (pass (ResultEnd h) way ∷ P)) now)
+
+    each : (m : ℕ) (y : Imported) → slice_get p.imports m ≡ Some y
+        → KeepsTurnsOf y.ty (imp P m) × (some_open (count y.ty) (imp P m) ≡ true → some_open (count p.outcome) (res (pass (ResultEnd h) way ∷ P)) ≡ true)
+    each m y at = ((before.0 m y at).0, λ busy. still ((before.0 m y at).1 busy))
