@@ -11,3 +11,4 @@ pub mod FireLemmas
 pub mod WholeLemmas
 pub mod TypeLemmas
 pub mod TurnedLemmas
+pub mod PassLemmas
