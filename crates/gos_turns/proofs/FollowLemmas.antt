@@ -171,6 +171,9 @@ module _ (w : Wiring) (r : Plan) (fit : LinksFit w) (ported : LinksArePorts w) (
   pub port_there : (e : End) (c : Contact) → contact_at r e ≡ Some c → IsPortEnd e → IsPortEnd (origin w e).end
   port_there e c there port = port_by_sort (origin w e).end e (sort_of w r.joints e c (sym (same_contact w r r.joints has e) ∙ there)) port
 
+  pub sort_there : (e : End) (c : Contact) → contact_at r e ≡ Some c → sort (origin w e).end ≡ sort e
+  sort_there e c there = sort_of w r.joints e c (sym (same_contact w r r.joints has e) ∙ there)
+
   -- the parts of the whole
   pub seat : (i : ℕ) (f : Part) → slice_get r.parts i ≡ Some f → Seat w i f
   seat i f is =

@@ -12,3 +12,5 @@ pub mod WholeLemmas
 pub mod TypeLemmas
 pub mod TurnedLemmas
 pub mod PassLemmas
+mod LinkLemmas
+pub mod ApplyLemmas

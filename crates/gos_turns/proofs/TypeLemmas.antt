@@ -24,7 +24,7 @@ count_pair a b = ap (λ (cs : List Contact). length cs) (pairs_join a b).joined 
 abbrev Beside : ℕ → (ℕ → Bool) → ℕ → Type 0
 Beside n f h = (g : ℕ) × (g < n) × (g ≡ h → ⊥) × (f g ≡ true)
 
-sides : (a b : Type') → length (other_side (contacts_of a)) ≡ count a
+pub sides : (a b : Type') → length (other_side (contacts_of a)) ≡ count a
 sides a b =
     let joined = ap (λ (cs : List Contact). length cs) (functions_join a b).joined in
     let both = length-append (other_side (contacts_of a)) (contacts_of b) in
