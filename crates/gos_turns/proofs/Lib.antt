@@ -14,3 +14,6 @@ pub mod TurnedLemmas
 pub mod PassLemmas
 mod LinkLemmas
 pub mod ApplyLemmas
+mod PlainLemmas
+pub mod ServeLemmas
+pub mod SideLemmas

@@ -1,7 +1,18 @@
 // What the definitions give. Each theorem is the contract of a function that does nothing.
-ghost use Rattle.gos_turns.specs.Composed.{ApplyingIsRegular};
+ghost use Rattle.gos_turns.specs.Composed.{ApplyingIsRegular, ServingIsRegular, SidesAreRegular, SuppliedIsRegular};
 
 /// A plan of a function and one of its argument, joined, are regular where both are.
 pub fn applications()
     ensures { ApplyingIsRegular }
+{}
+
+/// So is a plan with one that serves an import of it, and a plan with supplies for all its imports.
+pub fn servings()
+    ensures served { ServingIsRegular }
+    ensures supplied { SuppliedIsRegular }
+{}
+
+/// So is each side of a product.
+pub fn sides()
+    ensures { SidesAreRegular }
 {}

@@ -5,4 +5,4 @@
 
 mod laws;
 
-pub use laws::applications;
+pub use laws::{applications, servings, sides};
