@@ -17,3 +17,5 @@ pub mod ApplyLemmas
 mod PlainLemmas
 pub mod ServeLemmas
 pub mod SideLemmas
+pub mod RelabelLemmas
+pub mod OpenedLemmas

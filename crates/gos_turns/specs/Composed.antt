@@ -2,7 +2,7 @@
 --
 -- Read first: Regular, Wirings and Modules of gos_realises; Served of gos_served. The literals of the plans have at most their
 -- bits: what goes from plan to plan is an input of one, and an input has at most the bits of its handshake.
-use Rattle.std.specs.Prelude.{◌≡◌, ℕ, List, Some, All, slice_get}
+use Rattle.std.specs.Prelude.{◌≡◌, ◌↔◌, ℕ, List, Some, All, slice_get}
 use Rattle.gos_types.specs.Types.{Type', Pair, Fun}
 use Rattle.gos_model.specs.Typing.{Imported}
 use Rattle.gos_plan.specs.Plans.{Plan}
@@ -11,6 +11,7 @@ use Rattle.gos_realises.specs.Regular.{count, IsRegular}
 use Rattle.gos_realises.specs.Links.{IsJoined}
 use Rattle.gos_realises.specs.Wirings.{side, applying}
 use Rattle.gos_realises.specs.Modules.{Supply, AreSupplied, supplying}
+use Rattle.gos_applied.specs.Opened.{IsFunctionOf}
 use Rattle.gos_served.specs.Served.{serving}
 
 -- a plan of a function and one of its argument, at every type, with imports of any types
@@ -39,3 +40,7 @@ SidesAreRegular =
     (a b : Type') (p : Plan)
     → p.outcome ≡ Pair a b → All LiteralFits p.parts → IsRegular p
     → ((r : Plan) → IsJoined (side 0 a p) r → IsRegular r) × ((r : Plan) → IsJoined (side (count a) b p) r → IsRegular r)
+
+-- the plan of a function, where that of its body is: they have one whole type
+abbrev pub FunctionIsRegular : Type 0
+FunctionIsRegular = (x : Imported) (p q : Plan) → IsFunctionOf x p q → IsRegular q ↔ IsRegular p

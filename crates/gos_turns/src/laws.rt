@@ -1,5 +1,5 @@
 // What the definitions give. Each theorem is the contract of a function that does nothing.
-ghost use Rattle.gos_turns.specs.Composed.{ApplyingIsRegular, ServingIsRegular, SidesAreRegular, SuppliedIsRegular};
+ghost use Rattle.gos_turns.specs.Composed.{ApplyingIsRegular, FunctionIsRegular, ServingIsRegular, SidesAreRegular, SuppliedIsRegular};
 
 /// A plan of a function and one of its argument, joined, are regular where both are.
 pub fn applications()
@@ -15,4 +15,9 @@ pub fn servings()
 /// So is each side of a product.
 pub fn sides()
     ensures { SidesAreRegular }
+{}
+
+/// The plan of a function is regular exactly where that of its body is.
+pub fn functions()
+    ensures { FunctionIsRegular }
 {}
