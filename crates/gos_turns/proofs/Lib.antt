@@ -19,3 +19,4 @@ pub mod ServeLemmas
 pub mod SideLemmas
 pub mod RelabelLemmas
 pub mod OpenedLemmas
+mod BetweenLemmas
