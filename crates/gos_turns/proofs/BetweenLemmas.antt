@@ -56,9 +56,6 @@ pair_busy a b f busy = of_open (some_there (count (Pair a b)) f busy)
             let sum = count_pair a b in
             inr (there_some (count b) (beyond (count a) f) (k - count a) (omega (arith, low, sum, high)) (ap f high ∙ up))
 
-served_first : (t : Type') (f : ℕ → Bool) (c : Contact) → 0 < count t → slice_get (contacts_of t) 0 ≡ Some c → c.role ≡ Serve → f 0 ≡ true → Served t f
-served_first t f c low there role up = (0, c, low, there, role, up)
-
 pub served : (t : Type') (f : ℕ → Bool) → KeepsTurnsOf t f → some_open (count t) f ≡ true → Served t f
 served Com f keeps busy = let (k, low, up) = some_there 1 f busy in (0, _, omega arith, refl, refl, let e : k ≡ 0 = omega (arith, low) in ap f (sym e) ∙ up)
 served (Exp w) f keeps busy = let (k, low, up) = some_there 1 f busy in (0, _, omega arith, refl, refl, let e : k ≡ 0 = omega (arith, low) in ap f (sym e) ∙ up)

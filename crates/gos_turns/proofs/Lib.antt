@@ -20,3 +20,4 @@ pub mod SideLemmas
 pub mod RelabelLemmas
 pub mod OpenedLemmas
 mod BetweenLemmas
+pub mod NameLemmas

@@ -41,7 +41,7 @@ shut_turned (Fun a b) f shut = (
   λ busy. (let never : false ≡ true = sym (none_some (count a) f shut) ∙ busy in absurd (cc never)),
 )
 
-first_turned : (p : Plan) → IsTurned p []
+pub first_turned : (p : Plan) → IsTurned p []
 first_turned p = shut_turned (whole_type p.imports p.outcome) _ (λ h. refl)
 
 false_true : false ≡ true → ⊥

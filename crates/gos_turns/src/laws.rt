@@ -1,5 +1,6 @@
 // What the definitions give. Each theorem is the contract of a function that does nothing.
 ghost use Rattle.gos_turns.specs.Composed.{ApplyingIsRegular, FunctionIsRegular, ServingIsRegular, SidesAreRegular, SuppliedIsRegular};
+ghost use Rattle.gos_turns.specs.Names.{NameIsRegular};
 
 /// A plan of a function and one of its argument, joined, are regular where both are.
 pub fn applications()
@@ -20,4 +21,9 @@ pub fn sides()
 /// The plan of a function is regular exactly where that of its body is.
 pub fn functions()
     ensures { FunctionIsRegular }
+{}
+
+/// The plan of a name is regular, at every type.
+pub fn names()
+    ensures { NameIsRegular }
 {}

@@ -5,4 +5,4 @@
 
 mod laws;
 
-pub use laws::{applications, functions, servings, sides};
+pub use laws::{applications, functions, names, servings, sides};
