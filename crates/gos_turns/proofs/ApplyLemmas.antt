@@ -1,6 +1,6 @@
 -- A function and its argument, joined, are regular where both are.
-use Rattle.std.specs.Prelude.{ℕ, zero, suc, ◌+◌, ◌<◌, ◌≤◌, Bool, true, false, List, Some, All, Contains, slice_get, length}
-use Rattle.std.proofs.Common.{◌≡◌, [], ◌∷◌, ◌++◌, ◌⊎◌, inl, inr, refl, sym, ◌∙◌, ap, subst, arith}
+use Rattle.std.specs.Prelude.{ℕ, zero, suc, ◌+◌, ◌<◌, ◌≤◌, Bool, true, List, Some, All, slice_get}
+use Rattle.std.proofs.Common.{◌≡◌, [], ◌∷◌, ◌⊎◌, inl, inr, refl, sym, ◌∙◌, ap, subst, arith}
 use Rattle.std.proofs.lemmas.Option.{slice_get_within}
 use Rattle.gos_types.specs.Types.{Type', Fun}
 use Rattle.gos_netlist.specs.Events.{Direction}
@@ -12,13 +12,12 @@ use Rattle.gos_plan.specs.Joining.{Place, place, Link, Linked}
 use Rattle.gos_plan.proofs.SideLemmas.{functions_join}
 use Rattle.gos_plan.proofs.AskingLemmas.{behind}
 use Rattle.gos_realises.specs.Regular.{Pass, pass, count, some_open, beyond, KeepsTurnsOf, IsRegular}
-use Rattle.gos_realises.specs.Wirings.{link, applying, results_linked}
-use Rattle.gos_realises.proofs.GroundTurnLemmas.{count_fun}
+use Rattle.gos_realises.specs.Wirings.{link, applying}
 use Rattle.gos_turns.specs.Composed.{ApplyingIsRegular}
-use Rattle.gos_turns.proofs.TrailLemmas.{LinksArePorts, link_back}
+use Rattle.gos_turns.proofs.TrailLemmas.{LinksArePorts}
 use Rattle.gos_turns.proofs.GoesLemmas.{IsTurned}
 use Rattle.gos_turns.proofs.TypeLemmas.{Changed, Agree, some_agree, turns_agree, still_busy, sides}
-use Rattle.gos_turns.proofs.TurnedLemmas.{imp, res, to_each, result_changed, in_result, fun_busy}
+use Rattle.gos_turns.proofs.TurnedLemmas.{res, to_each, result_changed, in_result, fun_busy}
 use Rattle.gos_turns.proofs.PassLemmas.{StandsForImport, StandsForArgument, IsPair, Composes, passes_turns}
 use Rattle.gos_turns.proofs.LinkLemmas.{of_results, in_results}
 use Rattle.gos_turns.proofs.WholeLemmas.{joining_is_regular}
@@ -31,10 +30,11 @@ module _ (a b : Type') (p q r : Plan) (p_type : p.outcome ≡ Fun a b) (q_type :
   stands = (
     b,
     p_type ∙ ap (λ (t : Type'). Fun t b) (sym q_type),
-    λ g low.
-        (link 0 (ResultEnd g) 1 (ResultEnd g),
-        in_results 1 0 (count a) g (omega arith) (let small : g < count a = subst (λ (t : Type'). g < count t) q_type low in omega (arith, small)),
-        inl (refl, refl)),
+    λ g low. (
+      link 0 (ResultEnd g) 1 (ResultEnd g),
+      in_results 1 0 (count a) g (omega arith) (let small : g < count a = subst (λ (t : Type'). g < count t) q_type low in omega (arith, small)),
+      inl (refl, refl),
+    ),
   )
 
   pair : (h : ℕ) → h < count a → IsPair (applying a b p q) (place 0 (ResultEnd h)) (place 1 (ResultEnd h))

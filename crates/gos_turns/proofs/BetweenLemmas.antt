@@ -2,10 +2,9 @@
 --
 -- Where the holder serves, one follows the other, and where it asks the other follows the one. So it is with a name: its import
 -- follows its result in some handshakes, and its result the import in the others.
-use Rattle.std.specs.Prelude.{ℕ, zero, suc, ◌+◌, ◌-◌, ◌<◌, Bool, true, false, ◌&&◌, IsFalse, List, Some, slice_get, nat_lt, length}
-use Rattle.std.proofs.Common.{◌≡◌, [], ◌∷◌, ◌++◌, ◌⊎◌, inl, inr, refl, sym, ◌∙◌, ap, subst, arith}
+use Rattle.std.specs.Prelude.{ℕ, zero, suc, ◌+◌, ◌-◌, ◌<◌, Bool, true, false, ◌&&◌, List, Some, slice_get, nat_lt}
+use Rattle.std.proofs.Common.{◌≡◌, [], ◌∷◌, ◌⊎◌, inl, inr, refl, sym, ◌∙◌, ap, arith}
 use Rattle.std.proofs.lemmas.Bool.Decides.{nat_tests}
-use Rattle.gos_types.specs.declared.shakes.Role.{Role}
 use Rattle.gos_types.specs.declared.shakes.Role.TheVariants.{Serve, Ask}
 use Rattle.gos_types.specs.Types.{Type', Com, Exp, Var, Pair, Fun}
 use Rattle.gos_types.specs.Handshakes.{turned}
@@ -152,7 +151,7 @@ between_keeps (Pair a b) f g x (f_a, f_b, f_shut) (g_a, g_b, g_shut) leads betwe
 between_keeps (Fun a b) f g x (f_a, f_b, f_leads) (g_a, g_b, g_leads) leads between =
     let sum = count_fun a b in
     let leads_a : Leads a g f = λ h c there.
-        (let both = leads h (turned_contact c) (fun_first a b h c there) in ((λ role up. both.1 (ap turned role) up), (λ role up. both.0 (ap turned role) up))) in
+    (let both = leads h (turned_contact c) (fun_first a b h c there) in ((λ role up. both.1 (ap turned role) up), (λ role up. both.0 (ap turned role) up))) in
     let leads_b : Leads b (beyond (count a) f) (beyond (count a) g) = λ h c there. leads (count a + h) c (fun_second a b h c there) in
     let between_a : Between (count a) g f x = λ h low. swapped (between h (omega (arith, low, sum))) in
     let between_b : Between (count b) (beyond (count a) f) (beyond (count a) g) (beyond (count a) x) = λ h low. between (count a + h) (omega (arith, low, sum)) in (

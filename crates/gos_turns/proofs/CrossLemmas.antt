@@ -1,20 +1,19 @@
 -- A token crosses a link: an output of one plan is an input of another, and the whole stands as before.
-use Rattle.std.specs.Prelude.{ℕ, zero, suc, Bool, true, false, List, Option, Some, None, slice_get}
-use Rattle.std.proofs.Common.{◌≡◌, [], ◌∷◌, ◌⊎◌, inl, inr, refl, sym, ◌∙◌, ap, subst, arith}
-use Rattle.gos_types.specs.declared.shakes.Role.TheVariants.{Serve, Ask}
-use Rattle.gos_netlist.specs.Events.{Direction, Request, Answer}
+use Rattle.std.specs.Prelude.{ℕ, true, List, Some, None, slice_get}
+use Rattle.std.proofs.Common.{◌≡◌, inl, inr, sym, ◌∙◌, ap, subst}
+use Rattle.gos_netlist.specs.Events.{Direction}
 use Rattle.gos_plan.specs.Kinds.{Part, Contact, turned_contact}
-use Rattle.gos_plan.specs.Plans.{End, PartEnd, Joint, Plan, contact_at, IsRight}
-use Rattle.gos_plan.specs.Tokens.{Tokens, IsPortEnd, places_of, token_at, with_token}
+use Rattle.gos_plan.specs.Plans.{End, PartEnd, Plan, contact_at}
+use Rattle.gos_plan.specs.Tokens.{Tokens, IsPortEnd, places_of, with_token}
 use Rattle.gos_plan.specs.Orderly.{Open}
-use Rattle.gos_plan.specs.Joining.{Place, place, Wiring, Linked, origin, IsJoining}
+use Rattle.gos_plan.specs.Joining.{Place, Wiring, Linked, origin, IsJoining}
 use Rattle.gos_plan.proofs.JointLemmas.{IsIn}
 use Rattle.gos_realises.specs.Regular.{Pass, is_open, is_request}
 use Rattle.gos_realises.specs.Links.{contact_of, LinksFit}
 use Rattle.gos_webs.specs.Webs.{joint}
-use Rattle.gos_joined.proofs.ReachLemmas.{Told, place_is, told_number, told_end}
+use Rattle.gos_joined.proofs.ReachLemmas.{Told, place_is, told_number}
 use Rattle.gos_turns.proofs.StandLemmas.{placed_here, placed_apart, Passed, passed_here, passed_apart, Stands, not_empty}
-use Rattle.gos_turns.proofs.TrailLemmas.{LinksArePorts, IsUnlinked, AsksAt, Segment, Trail, link_back, link_one, link_ports, link_apart, link_contacts}
+use Rattle.gos_turns.proofs.TrailLemmas.{LinksArePorts, IsUnlinked, AsksAt, Trail, link_back, link_one, link_ports, link_apart, link_contacts}
 use Rattle.gos_turns.proofs.FollowLemmas.{Stand, Family, open_at, lying, shown, OnTrail, HasSource, Follows, told_place, is_free, port_there, joint_trail, seat_contact}
 use Rattle.gos_turns.proofs.OpLemmas.{told_way}
 
@@ -34,8 +33,8 @@ pub record Cross (w : Wiring) (F G : Family) (a b x y : Place) (way : Direction)
   pub empty : lying F way y ≡ None
 
 module _ (w : Wiring) (r : Plan) (fit : LinksFit w) (ported : LinksArePorts w) (whole : IsJoining w r)
-  (F G : Family) (a b x y : Place) (way : Direction) (v : ℕ) (p q : Plan) (cross : Cross w F G a b x y way v p q)
-  (o : Open) (past : List Pass) (s : Tokens) (so : Follows w r F o past s) where
+    (F G : Family) (a b x y : Place) (way : Direction) (v : ℕ) (p q : Plan) (cross : Cross w F G a b x y way v p q)
+    (o : Open) (past : List Pass) (s : Tokens) (so : Follows w r F o past s) where
   apart : a.plan ≡ b.plan → ⊥
   apart = link_apart w fit ported a b cross.linked
 
@@ -78,9 +77,9 @@ module _ (w : Wiring) (r : Plan) (fit : LinksFit w) (ported : LinksArePorts w) (
       by_place (inr not_a) (inr not_b) =
           let ports = link_ports w fit ported c d linked in
           let d_not_a : d ≡ a → ⊥ = λ same.
-              not_b (link_one w fit ported a c b (subst (λ (z : Place). Linked w z c) same (link_back w c d linked)) cross.linked) in
+          not_b (link_one w fit ported a c b (subst (λ (z : Place). Linked w z c) same (link_back w c d linked)) cross.linked) in
           let d_not_b : d ≡ b → ⊥ = λ same.
-              not_a (link_one w fit ported b c a (subst (λ (z : Place). Linked w z c) same (link_back w c d linked)) (link_back w a b cross.linked)) in
+          not_a (link_one w fit ported b c a (subst (λ (z : Place). Linked w z c) same (link_back w c d linked)) (link_back w a b cross.linked)) in
           shown_else c ports.0 not_a not_b ∙ (so.agree c d linked ∙ sym (shown_else d ports.1 d_not_a d_not_b))
 
   lying_else : (u : Direction) (z : Place) → (u ≡ way → z ≡ x → ⊥) → (u ≡ way → z ≡ y → ⊥) → lying G u z ≡ lying F u z

@@ -1,29 +1,25 @@
 -- Each element of the whole: what is put comes well, outputs keep turns, and the whole goes on.
-use Rattle.std.specs.Prelude.{ℕ, ◌<◌, ◌^◌, Bool, true, false, List, Option, Some, None, All, slice_get, nat_eq, if◌then◌else◌}
-use Rattle.std.proofs.Common.{◌≡◌, [], ◌∷◌, ◌⊎◌, inl, inr, refl, sym, ◌∙◌, ap, subst, arith}
-use Rattle.gos_netlist.specs.Events.{Direction, Request, Answer}
+use Rattle.std.specs.Prelude.{ℕ, ◌<◌, ◌^◌, List, Option, Some, None, All, slice_get}
+use Rattle.std.proofs.Common.{◌≡◌, [], ◌∷◌, inl, inr, refl, sym, ◌∙◌, ap, subst}
+use Rattle.gos_netlist.specs.Events.{Direction}
 use Rattle.gos_plan.specs.Kinds.{Part, Contact}
-use Rattle.gos_plan.specs.Firing.{State, Slot, Token, Row, firing}
-use Rattle.gos_plan.specs.Plans.{End, PartEnd, ImportEnd, ResultEnd, Joint, Plan, contact_at, contacts_of_part, same_end, IsRight}
-use Rattle.gos_plan.specs.Tokens.{Tokens, Element, Fire, Out, In, IsPortEnd, Passes, places_of, token_at, with_token, with_state, with_puts, end_of, way_of, shake_of, firing_of, fired, bits_of, way_taken, way_put, Does, Runs, IsIdle}
+use Rattle.gos_plan.specs.Plans.{End, Plan, contact_at}
+use Rattle.gos_plan.specs.Tokens.{Tokens, Element, Out, In, Passes, token_at, with_token, bits_of, way_taken, way_put, Does}
 use Rattle.gos_plan.specs.TokenBits.{LiteralFits}
-use Rattle.gos_plan.specs.Orderly.{Open, after_taken, after_put, after_puts, ComesWell, AllComeWell, ComesInOrder, AllWelcome}
-use Rattle.gos_plan.specs.Joining.{Place, place, Wiring, Linked, origin, IsJoining}
-use Rattle.gos_plan.proofs.JointLemmas.{joined}
-use Rattle.gos_plan.proofs.TurnLemmas.{token_state, fired_state, way_to_take, way_to_put}
-use Rattle.gos_plan.proofs.AskingLemmas.{PutsInRole, row_roles}
-use Rattle.gos_realises.specs.Regular.{Pass, pass, way_in, way_out, is_open, is_request, KeepsTurns, InputsKeepTurns, OutputsKeepTurns, IsRegular}
+use Rattle.gos_plan.specs.Orderly.{Open, after_taken, after_put, ComesWell, ComesInOrder, AllWelcome}
+use Rattle.gos_plan.specs.Joining.{Wiring, origin, IsJoining}
+use Rattle.gos_plan.proofs.TurnLemmas.{token_state}
+use Rattle.gos_realises.specs.Regular.{Pass, pass, way_in, way_out, is_open, KeepsTurns, OutputsKeepTurns, IsRegular}
 use Rattle.gos_realises.specs.Links.{LinksFit}
 use Rattle.gos_realises.proofs.InputLemmas.{in_there, out_there}
 use Rattle.gos_realises.proofs.RingLemmas.{after}
 use Rattle.gos_joined.proofs.ReachLemmas.{Told, told_number}
-use Rattle.gos_turns.proofs.StandLemmas.{Passed, Stands, lies_in}
-use Rattle.gos_turns.proofs.RunLemmas.{Reached, Next, next, out_next, in_next}
+use Rattle.gos_turns.proofs.RunLemmas.{Reached, out_next, in_next}
 use Rattle.gos_turns.proofs.TrailLemmas.{LinksArePorts, plan_at}
-use Rattle.gos_turns.proofs.FollowLemmas.{Stand, Family, Follows, follows_same, Seat, at_place, port_there, seat}
-use Rattle.gos_turns.proofs.OpLemmas.{Op, follows_took, follows_put, follows_lost}
-use Rattle.gos_turns.proofs.GoesLemmas.{IsTurned, AllTurned, PassesTurns, Goes, SameStates, setting, set_here, set_else, turn_same}
-use Rattle.gos_turns.proofs.ReadyLemmas.{ready, part_there, all_welcome}
+use Rattle.gos_turns.proofs.FollowLemmas.{Stand, Family, Follows, Seat, at_place, port_there}
+use Rattle.gos_turns.proofs.OpLemmas.{Op, follows_took, follows_put}
+use Rattle.gos_turns.proofs.GoesLemmas.{IsTurned, PassesTurns, Goes, SameStates, setting, set_here, set_else, turn_same}
+use Rattle.gos_turns.proofs.ReadyLemmas.{ready, all_welcome}
 
 abbrev pub stand : Open → List Pass → Tokens → Stand
 stand o past s = record { opens = o; past = past; tokens = s }
@@ -86,8 +82,8 @@ states_stay w r F o past s t k X so whole own i f q has = whole i ∙ (so.states
     by_told (inr apart) = ap (λ (y : Stand). y.tokens.state q.part) (set_else k X F q.plan apart)
 
 module _ (w : Wiring) (r : Plan) (fit : LinksFit w) (ported : LinksArePorts w) (whole : IsJoining w r)
-  (regular : (k : ℕ) (p : Plan) → slice_get w.plans k ≡ Some p → IsRegular p)
-  (literals : (k : ℕ) (p : Plan) → slice_get w.plans k ≡ Some p → All LiteralFits p.parts) (passes : PassesTurns w r) where
+    (regular : (k : ℕ) (p : Plan) → slice_get w.plans k ≡ Some p → IsRegular p)
+    (literals : (k : ℕ) (p : Plan) → slice_get w.plans k ≡ Some p → All LiteralFits p.parts) (passes : PassesTurns w r) where
   pub went_out : (F : Family) (o : Open) (past : List Pass) (s t : Tokens) (e : End) (v : ℕ) → Goes w r F o past s → Does r (Out e v) s t → Went w r (Out e v) o past s t
   went_out F o past s t e v so does = by_contact (out_there r e v s t does)
     where
@@ -97,8 +93,11 @@ module _ (w : Wiring) (r : Plan) (fit : LinksFit w) (ported : LinksArePorts w) (
             open_then = after_taken r e way o;
             comes = λ d also. (let same : c ≡ d = cc (there, also) in ap (λ (x : Contact). after_taken r e (way_taken x.role) o) same);
             welcome = all_welcome w r fit ported whole regular literals passes (setting k X G) (after_taken r e way o) (pass e way ∷ past) t goes;
-            outputs = (subst (λ (u : Direction). KeepsTurns r past (pass e u)) (sym led)
-                (turn_same (G k).past past (origin w e).end e way (sym (going.follows.ports e c does.0 there)) out.0.0, outer), tt);
+            outputs = (
+              subst (λ (u : Direction). KeepsTurns r past (pass e u)) (sym led)
+                  (turn_same (G k).past past (origin w e).end e way (sym (going.follows.ports e c does.0 there)) out.0.0, outer),
+              tt,
+            );
             family = setting k X G;
             goes = subst (λ (u : Direction). Goes w r (setting k X G) (after_taken r e way o) (pass e u ∷ past) t) (sym led) goes;
           }

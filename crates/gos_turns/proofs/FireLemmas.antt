@@ -1,13 +1,13 @@
 -- A firing of the whole is one of its part's plan, once the token that it takes is there.
 use Rattle.std.specs.Prelude.{ℕ, ◌+◌, Bool, true, false, List, Option, Some, None, All, slice_get, nat_eq, if◌then◌else◌}
-use Rattle.std.proofs.Common.{◌≡◌, [], ◌∷◌, ◌⊎◌, inl, inr, refl, sym, ◌∙◌, ap, subst, arith}
-use Rattle.gos_netlist.specs.Events.{Direction, Request, Answer}
+use Rattle.std.proofs.Common.{◌≡◌, [], ◌∷◌, inl, inr, refl, sym, ◌∙◌, ap, subst, arith}
+use Rattle.gos_netlist.specs.Events.{Direction}
 use Rattle.gos_plan.specs.Kinds.{Part, Contact}
-use Rattle.gos_plan.specs.Firing.{State, Slot, Token, Row, firing}
-use Rattle.gos_plan.specs.Plans.{End, PartEnd, ImportEnd, ResultEnd, Plan, contact_at, contacts_of_part, IsRight}
-use Rattle.gos_plan.specs.Tokens.{Tokens, Element, Fire, IsPortEnd, places_of, token_at, with_token, with_state, with_puts, end_of, way_of, shake_of, firing_of, fired, way_taken, way_put, Does}
+use Rattle.gos_plan.specs.Firing.{Slot, Token, Row, firing}
+use Rattle.gos_plan.specs.Plans.{End, PartEnd, ImportEnd, ResultEnd, Plan, contact_at, contacts_of_part}
+use Rattle.gos_plan.specs.Tokens.{Tokens, Fire, IsPortEnd, token_at, with_token, with_state, with_puts, end_of, way_of, shake_of, firing_of, fired, way_taken, way_put, Does}
 use Rattle.gos_plan.specs.TokenBits.{LiteralFits}
-use Rattle.gos_plan.specs.Orderly.{Open, after_taken, after_put, after_puts, ComesWell, AllComeWell, ComesInOrder}
+use Rattle.gos_plan.specs.Orderly.{Open, after_taken, after_put, after_puts, ComesWell, AllComeWell}
 use Rattle.gos_plan.specs.Joining.{Place, place, Wiring, origin, IsJoining}
 use Rattle.gos_plan.proofs.JointLemmas.{joined}
 use Rattle.gos_plan.proofs.TurnLemmas.{fired_state, way_to_take, way_to_put}
@@ -19,10 +19,10 @@ use Rattle.gos_joined.proofs.OriginLemmas.{before}
 use Rattle.gos_turns.proofs.StandLemmas.{Passed, lies_in}
 use Rattle.gos_turns.proofs.RunLemmas.{Reached, Next, next}
 use Rattle.gos_turns.proofs.TrailLemmas.{LinksArePorts}
-use Rattle.gos_turns.proofs.FollowLemmas.{Stand, Family, Follows, follows_same, Seat, seat, one_seat}
+use Rattle.gos_turns.proofs.FollowLemmas.{Stand, Family, Follows, follows_same, Seat, seat}
 use Rattle.gos_turns.proofs.OpLemmas.{Op, follows_took, follows_put, follows_lost}
 use Rattle.gos_turns.proofs.GoesLemmas.{PassesTurns, Goes, SameStates, setting, set_here, set_else}
-use Rattle.gos_turns.proofs.ReadyLemmas.{ready, part_there, all_welcome}
+use Rattle.gos_turns.proofs.ReadyLemmas.{ready, all_welcome}
 use Rattle.gos_turns.proofs.ElementLemmas.{stand, Went, same_family, goes_then}
 
 not_equal : (m n : ℕ) → (m ≡ n → ⊥) → nat_eq m n ≡ false
@@ -120,7 +120,7 @@ module _ (w : Wiring) (r : Plan) (fit : LinksFit w) (ported : LinksArePorts w) (
   all_put F k i j f p pk past is at stands [] ok sk o s so well roles = (tt, so)
   all_put F k i j f p pk past is at stands (t ∷ ts) ok sk o s so well roles =
       let role : (c : Contact) → contact_at r (end_of i t.slot) ≡ Some c → way_put c.role ≡ way_of t.slot = λ c there.
-          ap way_put (roles.0 c (ap (λ (g : Option Part). slice_get (contacts_of_part g) (shake_of t.slot)) (sym at) ∙ there)) ∙ sym (way_to_put t.slot) in
+      ap way_put (roles.0 c (ap (λ (g : Option Part). slice_get (contacts_of_part g) (shake_of t.slot)) (sym at) ∙ there)) ∙ sym (way_to_put t.slot) in
       let one = one_put F k i j f p pk past t ok sk o s is at stands role so well.0 in
       let rest = all_put F k i j f p pk past is at stands ts (after_put p (end_of j t.slot) (way_of t.slot) ok)
       (with_token p (end_of j t.slot) (way_of t.slot) (Some t.value) sk) (after_put r (end_of i t.slot) (way_of t.slot) o)
@@ -128,8 +128,8 @@ module _ (w : Wiring) (r : Plan) (fit : LinksFit w) (ported : LinksArePorts w) (
       ((one.0, rest.0), rest.1)
 
 module _ (w : Wiring) (r : Plan) (fit : LinksFit w) (ported : LinksArePorts w) (whole : IsJoining w r)
-  (regular : (k : ℕ) (p : Plan) → slice_get w.plans k ≡ Some p → IsRegular p)
-  (literals : (k : ℕ) (p : Plan) → slice_get w.plans k ≡ Some p → All LiteralFits p.parts) (passes : PassesTurns w r) where
+    (regular : (k : ℕ) (p : Plan) → slice_get w.plans k ≡ Some p → IsRegular p)
+    (literals : (k : ℕ) (p : Plan) → slice_get w.plans k ≡ Some p → All LiteralFits p.parts) (passes : PassesTurns w r) where
   pub went_fire : (F : Family) (o : Open) (past : List Pass) (s u : Tokens) (i : ℕ) (t : Slot) → Goes w r F o past s → Does r (Fire i t) s u
       → Went w r (Fire i t) o past s u
   went_fire F o past s u i t so (v, row, lies, fires, leads) = by_part (slice_get r.parts i) refl

@@ -4,20 +4,17 @@
 -- trail; each open joint of a plan has a trail that leads to it; linked ports are open together. So where the last joint of a
 -- trail is open the first one is, and those between are empty.
 use Rattle.std.specs.Prelude.{ℕ, zero, suc, ◌+◌, ◌-◌, ◌≤◌, ◌<◌, Bool, true, false, List, Option, Some, None, Contains, slice_get, nat_lt, length}
-use Rattle.std.proofs.Common.{◌≡◌, [], ◌∷◌, ◌⊎◌, inl, inr, refl, sym, ◌∙◌, ap, subst, arith}
-use Rattle.std.proofs.lemmas.Bool.Decides.{nat_tests}
-use Rattle.gos_types.specs.declared.shakes.Role.{Role}
+use Rattle.std.proofs.Common.{◌≡◌, [], ◌∷◌, ◌⊎◌, inl, inr, refl, sym, ◌∙◌, ap, arith}
 use Rattle.gos_types.specs.declared.shakes.Role.TheVariants.{Serve, Ask}
 use Rattle.gos_types.specs.Handshakes.{turned}
 use Rattle.gos_netlist.specs.Events.{Direction, Request, Answer}
 use Rattle.gos_plan.specs.Kinds.{Part, Contact, asks, serves, turned_contact}
-use Rattle.gos_plan.specs.Plans.{End, PartEnd, ImportEnd, ResultEnd, Joint, Plan, contact_at, contacts_of_part, IsRight}
-use Rattle.gos_plan.specs.Tokens.{Tokens, IsPortEnd, places_of, token_at, held_at, with_token}
-use Rattle.gos_plan.specs.Turns.{IsEmptyAt}
-use Rattle.gos_plan.specs.Orderly.{Open, named_by, handshake_at, after_taken, after_put, ComesWell}
-use Rattle.gos_plan.specs.Joining.{Place, place, Wiring, JoinedWithin, Linked, Path, all_parts, part_place, origin, IsJoining}
+use Rattle.gos_plan.specs.Plans.{End, PartEnd, ImportEnd, ResultEnd, Joint, Plan, contact_at, contacts_of_part}
+use Rattle.gos_plan.specs.Tokens.{Tokens, IsPortEnd, places_of}
+use Rattle.gos_plan.specs.Orderly.{Open}
+use Rattle.gos_plan.specs.Joining.{Place, place, Wiring, JoinedWithin, Linked, all_parts, part_place, origin, IsJoining}
 use Rattle.gos_plan.proofs.JointLemmas.{IsIn, stands_there, contained}
-use Rattle.gos_realises.specs.Regular.{Pass, is_open, is_request}
+use Rattle.gos_realises.specs.Regular.{Pass, is_open}
 use Rattle.gos_realises.specs.Links.{contact_of, LinksFit}
 use Rattle.gos_webs.specs.Webs.{joint}
 use Rattle.gos_joined.proofs.ReachLemmas.{Told, Paths, paths_then, place_is, told_number, told_end}
@@ -25,8 +22,8 @@ use Rattle.gos_joined.proofs.StepLemmas.{IsOutside, IsPart}
 use Rattle.gos_joined.proofs.OriginLemmas.{at_origin, sort, sort_of, before, front_at, behind_at, next_place}
 use Rattle.gos_unions.specs.Unions.{HasFieldsOf}
 use Rattle.gos_unions.proofs.PlaceLemmas.{fields_of, same_contact, stands_at, stands_alone}
-use Rattle.gos_turns.proofs.StandLemmas.{asks_own, names_own, serves_in, asks_itself, serves_itself, placed_here, placed_apart, lies_in, opened_here, opened_apart, Passed, passed_here, passed_apart, Stands, not_empty, stands_same}
-use Rattle.gos_turns.proofs.TrailLemmas.{LinksArePorts, IsUnlinked, AsksAt, ServesAt, Segment, Trail, contact_place, plan_at, link_back, link_ports, segment_roles, segment_back, segment_one, trail_rest, trail_first, trail_start, path_trail}
+use Rattle.gos_turns.proofs.StandLemmas.{serves_itself, Stands}
+use Rattle.gos_turns.proofs.TrailLemmas.{LinksArePorts, IsUnlinked, AsksAt, Segment, Trail, contact_place, plan_at, link_ports, segment_roles, path_trail}
 
 -- a plan's open handshakes, what passed its ports, and its tokens; of all plans, by number
 pub record Stand : Type 0 where

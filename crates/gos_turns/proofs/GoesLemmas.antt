@@ -1,15 +1,14 @@
 -- The whole goes on as its plans do: each plan has a list of its own so far, and what is open at its ports keeps its turns.
 --
 -- A token goes along its trail from plan to plan; the whole stands as before, and each plan has gone on.
-use Rattle.std.specs.Prelude.{ℕ, zero, suc, ◌<◌, ◌^◌, Bool, true, false, List, Option, Some, None, All, slice_get, nat_eq, if◌then◌else◌}
-use Rattle.std.proofs.Common.{◌≡◌, [], ◌∷◌, ◌⊎◌, inl, inr, refl, sym, ◌∙◌, ap, subst, arith}
+use Rattle.std.specs.Prelude.{ℕ, zero, suc, ◌<◌, ◌^◌, Bool, true, false, List, Some, None, All, slice_get, nat_eq, if◌then◌else◌}
+use Rattle.std.proofs.Common.{◌≡◌, ◌∷◌, inl, inr, refl, sym, ◌∙◌, ap, subst, arith}
 use Rattle.gos_types.specs.declared.shakes.Role.{Role}
 use Rattle.gos_types.specs.declared.shakes.Role.TheVariants.{Serve, Ask}
 use Rattle.gos_types.specs.Handshakes.{turned}
 use Rattle.gos_netlist.specs.Events.{Direction, Request, Answer}
 use Rattle.gos_plan.specs.Kinds.{Part, Contact, turned_contact}
-use Rattle.gos_plan.specs.Firing.{State}
-use Rattle.gos_plan.specs.Plans.{End, PartEnd, Joint, Plan, contact_at, IsRight}
+use Rattle.gos_plan.specs.Plans.{End, Joint, Plan, contact_at, IsRight}
 use Rattle.gos_plan.specs.Tokens.{Tokens, IsPortEnd, places_of, held_at, token_at, with_token, bits_of, way_taken, way_put}
 use Rattle.gos_plan.specs.TokenBits.{LiteralFits}
 use Rattle.gos_plan.specs.Orderly.{Open, after_taken, after_put, ComesWell}
@@ -23,7 +22,7 @@ use Rattle.gos_webs.specs.Webs.{joint}
 use Rattle.gos_joined.proofs.ReachLemmas.{Told, place_is, told_number}
 use Rattle.gos_turns.proofs.StandLemmas.{asks_own, names_own, serves_in, asks_itself, serves_itself, opened_here, Stands, open_by_fit, taken_stands, put_stands, taken_apart, put_apart, well_empty}
 use Rattle.gos_turns.proofs.RunLemmas.{Reached, out_next, in_next}
-use Rattle.gos_turns.proofs.TrailLemmas.{LinksArePorts, IsUnlinked, AsksAt, ServesAt, Segment, Trail, contact_place, link_back, link_one, link_ports, link_apart, link_asks, link_contacts, segment_roles, trail_first}
+use Rattle.gos_turns.proofs.TrailLemmas.{LinksArePorts, IsUnlinked, AsksAt, Segment, Trail, contact_place, link_back, link_one, link_ports, link_apart, link_contacts, segment_roles, trail_first}
 use Rattle.gos_turns.proofs.FollowLemmas.{Stand, Family, open_at, lying, HasSource, IsLoose, Follows, told_place, Seat}
 use Rattle.gos_turns.proofs.CrossLemmas.{Cross, lying_there, follows_across}
 
@@ -106,8 +105,8 @@ turned_bits c Request = refl
 turned_bits c Answer = refl
 
 module _ (w : Wiring) (r : Plan) (fit : LinksFit w) (ported : LinksArePorts w) (whole : IsJoining w r)
-  (regular : (k : ℕ) (p : Plan) → slice_get w.plans k ≡ Some p → IsRegular p)
-  (literals : (k : ℕ) (p : Plan) → slice_get w.plans k ≡ Some p → All LiteralFits p.parts) (passes : PassesTurns w r) where
+    (regular : (k : ℕ) (p : Plan) → slice_get w.plans k ≡ Some p → IsRegular p)
+    (literals : (k : ℕ) (p : Plan) → slice_get w.plans k ≡ Some p → All LiteralFits p.parts) (passes : PassesTurns w r) where
   pub small : (p : Plan) (o : Open) (past : List Pass) (s : Tokens) (k : ℕ) → slice_get w.plans k ≡ Some p → Reached p o past s → (e : End) (c : Contact) (way : Direction) (v : ℕ)
       → contact_at p e ≡ Some c → token_at p s e way ≡ Some v → v < 2 ^ bits_of c way
   small p o past s k is so e c way v there lies =

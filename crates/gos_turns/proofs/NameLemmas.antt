@@ -2,8 +2,8 @@
 --
 -- What comes in at one end of a joint goes out at the other: then both are open, or both are closed. So what is open after an
 -- output lies between what was open at the import and at the result.
-use Rattle.std.specs.Prelude.{ℕ, zero, suc, ◌<◌, Bool, true, false, IsTrue, IsFalse, List, Option, Some, None, slice_get}
-use Rattle.std.proofs.Common.{◌≡◌, [], ◌∷◌, ◌⊎◌, inl, inr, refl, sym, ◌∙◌, ap, subst, arith}
+use Rattle.std.specs.Prelude.{ℕ, zero, suc, ◌<◌, Bool, true, false, List, Option, Some, None, slice_get}
+use Rattle.std.proofs.Common.{◌≡◌, [], ◌∷◌, ◌⊎◌, inl, inr, refl, sym, ◌∙◌, ap, subst}
 use Rattle.std.proofs.lemmas.Option.{slice_get_within}
 use Rattle.gos_types.specs.declared.shakes.Role.{Role}
 use Rattle.gos_types.specs.declared.shakes.Role.TheVariants.{Serve, Ask}
@@ -12,11 +12,9 @@ use Rattle.gos_types.specs.Handshakes.{turned}
 use Rattle.gos_netlist.specs.Events.{Direction, Request, Answer}
 use Rattle.gos_model.specs.Typing.{Imported}
 use Rattle.gos_plan.specs.Kinds.{Part, Contact, contacts_of, turned_contact}
-use Rattle.gos_plan.specs.Firing.{Slot}
 use Rattle.gos_plan.specs.Plans.{End, PartEnd, ImportEnd, ResultEnd, Plan, contact_at, contacts_of_part, contacts_of_import, turned_if}
-use Rattle.gos_plan.specs.Tokens.{Tokens, Element, Fire, Out, In, IsPortEnd, places_of, held_at, token_at, with_token, way_taken, way_put, firing_of, Passes, Does, Runs, IsIdle}
-use Rattle.gos_plan.specs.Turns.{IsEmptyAt}
-use Rattle.gos_plan.specs.Orderly.{Open, none_open, named_by, after_taken, after_put, ComesWell, ComesInOrder, AllWelcome, OrderlyFrom}
+use Rattle.gos_plan.specs.Tokens.{Tokens, Element, Fire, Out, In, IsPortEnd, places_of, held_at, token_at, way_taken, way_put, firing_of, Passes, Runs, IsIdle}
+use Rattle.gos_plan.specs.Orderly.{Open, none_open, named_by, after_taken, after_put, ComesWell, AllWelcome, OrderlyFrom}
 use Rattle.gos_plan.proofs.JointLemmas.{IsIn, stands_there, contained}
 use Rattle.gos_realises.specs.Regular.{Pass, pass, way_in, way_out, is_open, is_request, count, some_open, KeepsTurnsOf, ComesInTurn, KeepsTurns, InputsKeepTurns, OutputsKeepTurns, IsRegular}
 use Rattle.gos_realises.proofs.InputLemmas.{in_there, out_there}

@@ -2,7 +2,7 @@
 --
 -- And what the plan may put there the whole may.
 use Rattle.std.specs.Prelude.{ℕ, zero, suc, ◌+◌, ◌-◌, ◌≤◌, ◌<◌, Bool, true, false, List, Option, Some, None, slice_get, nat_lt}
-use Rattle.std.proofs.Common.{◌≡◌, [], ◌∷◌, ◌⊎◌, inl, inr, refl, sym, ◌∙◌, ap, subst, arith}
+use Rattle.std.proofs.Common.{◌≡◌, ◌⊎◌, inl, inr, refl, sym, ◌∙◌, ap, subst, arith}
 use Rattle.std.proofs.lemmas.Bool.Decides.{nat_tests}
 use Rattle.gos_types.specs.declared.shakes.Role.{Role}
 use Rattle.gos_types.specs.declared.shakes.Role.TheVariants.{Serve, Ask}
@@ -10,17 +10,16 @@ use Rattle.gos_netlist.specs.Events.{Direction, Request, Answer}
 use Rattle.gos_plan.specs.Kinds.{Part, Contact}
 use Rattle.gos_plan.specs.Plans.{End, PartEnd, Joint, Plan, contact_at, IsRight}
 use Rattle.gos_plan.specs.Tokens.{Tokens, IsPortEnd, places_of, token_at, held_at, with_held, with_token, way_taken, way_put}
-use Rattle.gos_plan.specs.Turns.{IsEmptyAt}
 use Rattle.gos_plan.specs.Orderly.{Open, named_by, handshake_at, with_open, after_taken, after_put, ComesWell}
 use Rattle.gos_plan.specs.Joining.{Place, place, Wiring, Linked, origin, IsJoining}
 use Rattle.gos_plan.proofs.JointLemmas.{IsIn, stands_there, found, joined}
 use Rattle.gos_plan.proofs.HeldLemmas as holding
-use Rattle.gos_realises.specs.Regular.{Pass, is_open, is_request}
+use Rattle.gos_realises.specs.Regular.{Pass, is_open}
 use Rattle.gos_realises.specs.Links.{contact_of, LinksFit}
 use Rattle.gos_webs.specs.Webs.{joint}
 use Rattle.gos_joined.proofs.ReachLemmas.{Told, place_is, told_number, told_end}
 use Rattle.gos_turns.proofs.StandLemmas.{asks_own, names_own, serves_in, asks_itself, serves_itself, placed_here, placed_apart, lies_in, opened_here, opened_apart, Passed, passed_here, passed_apart, Stands, not_empty, stands_same, took_answer, took_request, put_request, put_answer}
-use Rattle.gos_turns.proofs.TrailLemmas.{LinksArePorts, IsUnlinked, AsksAt, ServesAt, Segment, Trail, contact_place, plan_at, link_back, link_ports, segment_roles, segment_back, segment_one, trail_rest, trail_first, trail_start}
+use Rattle.gos_turns.proofs.TrailLemmas.{LinksArePorts, IsUnlinked, AsksAt, Segment, Trail, contact_place, link_back, link_ports, segment_roles, segment_one, trail_rest, trail_first, trail_start}
 use Rattle.gos_turns.proofs.FollowLemmas.{Stand, Family, open_at, lying, shown, OnTrail, HasSource, Follows, told_place, at_place, is_free, is_alone, port_there, joint_trail, trail_joint, chain, seat_contact, one_seat}
 
 pub told_way : (a b : Direction) → Told (a ≡ b)
@@ -39,8 +38,8 @@ pub record Op (w : Wiring) (r : Plan) (F G : Family) (past after : List Pass) (e
   pub outer : Passed (is_open past) (is_open after) e way
 
 module _ (w : Wiring) (r : Plan) (fit : LinksFit w) (ported : LinksArePorts w) (whole : IsJoining w r)
-  (F G : Family) (past after : List Pass) (e : End) (c : Contact) (way : Direction) (h : Option ℕ) (p : Plan)
-  (op : Op w r F G past after e c way h p) (o : Open) (s : Tokens) (so : Follows w r F o past s) where
+    (F G : Family) (past after : List Pass) (e : End) (c : Contact) (way : Direction) (h : Option ℕ) (p : Plan)
+    (op : Op w r F G past after e c way h p) (o : Open) (s : Tokens) (so : Follows w r F o past s) where
   abbrev k : ℕ
   k = (origin w e).plan
 
@@ -113,11 +112,11 @@ module _ (w : Wiring) (r : Plan) (fit : LinksFit w) (ported : LinksArePorts w) (
           let (m, y, t', lies) = so.lies a' b' joined u v before in
           let ((b0, there', asks), served, trail) = joint_trail w r fit ported whole a' b' joined in
           let apart : u ≡ way → y.plan ≡ k → places_of p d ≡ Some y.end → ⊥ = λ ways plan is.
-              (let ends : y.end ≡ x.end = cc (is, also) in
-              let same : y ≡ x = place_is y x (plan ∙ sym plans) ends in
-              let starts = trail_start w fit ported m n (origin w a') (origin w a) x (is_free w r fit ported whole a' b0 there') (is_free w r fit ported whole a b there)
-              (subst (Trail w m (origin w a')) same t') t in
-              clash ways (is_alone w r fit ported whole a' a b0 b there' there starts))
+          (let ends : y.end ≡ x.end = cc (is, also) in
+          let same : y ≡ x = place_is y x (plan ∙ sym plans) ends in
+          let starts = trail_start w fit ported m n (origin w a') (origin w a) x (is_free w r fit ported whole a' b0 there') (is_free w r fit ported whole a b there)
+          (subst (Trail w m (origin w a')) same t') t in
+          clash ways (is_alone w r fit ported whole a' a b0 b there' there starts))
           in
           (m, y, t', lying_apart y u apart ∙ lies)
 
@@ -236,12 +235,12 @@ module _ (w : Wiring) (r : Plan) (fit : LinksFit w) (ported : LinksArePorts w) (
       let (m, y, t, lies) = so.lies a b joined u v before in
       let ((x, there, asks_a), served, trail) = joint_trail w r fit ported whole a b joined in
       let apart : u ≡ way → y.plan ≡ k → places_of p d ≡ Some y.end → ⊥ = λ ways plan named.
-          (let same : y ≡ origin w e = place_is y (origin w e) plan (asks_own p d y.end c right at asks named) in
-          let starts = trail_start w fit ported m 0 (origin w a) (origin w e) y (is_free w r fit ported whole a x there) free t (sym same) in
-          let ends : a ≡ e = is_alone w r fit ported whole a e x c there op.there starts in
-          let placed : places_of r a ≡ Some a = stands_there r (joint a b) a whole.right joined (asks_itself (joint a b)) in
-          let never : None ≡ Some a = sym none ∙ (ap (places_of r) (sym ends) ∙ placed) in
-          cc never)
+      (let same : y ≡ origin w e = place_is y (origin w e) plan (asks_own p d y.end c right at asks named) in
+      let starts = trail_start w fit ported m 0 (origin w a) (origin w e) y (is_free w r fit ported whole a x there) free t (sym same) in
+      let ends : a ≡ e = is_alone w r fit ported whole a e x c there op.there starts in
+      let placed : places_of r a ≡ Some a = stands_there r (joint a b) a whole.right joined (asks_itself (joint a b)) in
+      let never : None ≡ Some a = sym none ∙ (ap (places_of r) (sym ends) ∙ placed) in
+      cc never)
       in
       (m, y, t, lying_apart y u apart ∙ lies)
 
@@ -448,18 +447,18 @@ module _ (w : Wiring) (r : Plan) (fit : LinksFit w) (ported : LinksArePorts w) (
       → Follows w r G (after_taken r e way o) after (with_token r e way None s)
   follows_took F G past after e c v p o s way is op so lies lies_k opens = by_role c.role refl
     where
-      abbreviated : Direction → Type 0
-      abbreviated u =
+      Kept : Direction → Type 0
+      Kept u =
           Op w r F G past after e c u None p → token_at r s e u ≡ Some v → token_at p (F (origin w e).plan).tokens (origin w e).end u ≡ Some v
           → (G (origin w e).plan).opens ≡ after_taken p (origin w e).end u (F (origin w e).plan).opens
           → Follows w r G (after_taken r e u o) after (with_token r e u None s)
 
       by_role : (role : Role) → c.role ≡ role → Follows w r G (after_taken r e way o) after (with_token r e way None s)
       by_role Ask role =
-          subst abbreviated (sym (ap way_taken role) ∙ is)
+          subst Kept (sym (ap way_taken role) ∙ is)
           (λ op' l k q. follows_took_answer F G past after e c v p o s op' so role l k q) op lies lies_k opens
       by_role Serve role =
-          subst abbreviated (sym (ap way_taken role) ∙ is)
+          subst Kept (sym (ap way_taken role) ∙ is)
           (λ op' l k q. follows_took_request F G past after e c v p o s op' so role l k q) op lies lies_k opens
 
   pub follows_put : (F G : Family) (past after : List Pass) (e : End) (c : Contact) (v : ℕ) (p : Plan) (o : Open) (s : Tokens) (way : Direction)
@@ -469,18 +468,18 @@ module _ (w : Wiring) (r : Plan) (fit : LinksFit w) (ported : LinksArePorts w) (
       → ComesWell r e way o s × Follows w r G (after_put r e way o) after (with_token r e way (Some v) s)
   follows_put F G past after e c v p o s way is op so well opens = by_role c.role refl
     where
-      abbreviated : Direction → Type 0
-      abbreviated u =
+      Kept : Direction → Type 0
+      Kept u =
           Op w r F G past after e c u (Some v) p → ComesWell p (origin w e).end u (F (origin w e).plan).opens (F (origin w e).plan).tokens
           → (G (origin w e).plan).opens ≡ after_put p (origin w e).end u (F (origin w e).plan).opens
           → ComesWell r e u o s × Follows w r G (after_put r e u o) after (with_token r e u (Some v) s)
 
       by_role : (role : Role) → c.role ≡ role → ComesWell r e way o s × Follows w r G (after_put r e way o) after (with_token r e way (Some v) s)
       by_role Ask role =
-          subst abbreviated (sym (ap way_put role) ∙ is)
+          subst Kept (sym (ap way_put role) ∙ is)
           (λ op' l q. follows_put_request F G past after e c v p o s op' so role l q) op well opens
       by_role Serve role =
-          subst abbreviated (sym (ap way_put role) ∙ is)
+          subst Kept (sym (ap way_put role) ∙ is)
           (λ op' l q. follows_put_answer F G past after e c v p o s op' so role l q) op well opens
 
   -- a token that a part puts beyond its handshakes is lost
@@ -489,7 +488,7 @@ module _ (w : Wiring) (r : Plan) (fit : LinksFit w) (ported : LinksArePorts w) (
       → ((m : ℕ) → (m ≡ (origin w (PartEnd i h)).plan → ⊥) → G m ≡ F m)
       → (G (origin w (PartEnd i h)).plan).past ≡ (F (origin w (PartEnd i h)).plan).past
       → (G (origin w (PartEnd i h)).plan).tokens.in_place
-          ≡ (with_token p (origin w (PartEnd i h)).end way (Some v) (F (origin w (PartEnd i h)).plan).tokens).in_place
+      ≡ (with_token p (origin w (PartEnd i h)).end way (Some v) (F (origin w (PartEnd i h)).plan).tokens).in_place
       → (G (origin w (PartEnd i h)).plan).opens ≡ after_put p (origin w (PartEnd i h)).end way (F (origin w (PartEnd i h)).plan).opens
       → ComesWell p (origin w (PartEnd i h)).end way (F (origin w (PartEnd i h)).plan).opens (F (origin w (PartEnd i h)).plan).tokens
       → ComesWell r (PartEnd i h) way o s × Follows w r G (after_put r (PartEnd i h) way o) past (with_token r (PartEnd i h) way (Some v) s)
@@ -612,8 +611,8 @@ module _ (w : Wiring) (r : Plan) (fit : LinksFit w) (ported : LinksArePorts w) (
             only_asks = λ x c there role. put_else way x (differs_p x c there) ∙ before.only_asks x c there role;
           }
 
-      stands_then' : (m : ℕ) (b : Plan) → slice_get w.plans m ≡ Some b → Stands b (G m).opens (is_open (G m).past) (G m).tokens
-      stands_then' m b is_b = by_plan (told_number m k)
+      all_stand : (m : ℕ) (b : Plan) → slice_get w.plans m ≡ Some b → Stands b (G m).opens (is_open (G m).past) (G m).tokens
+      all_stand m b is_b = by_plan (told_number m k)
         where
           by_plan : Told (m ≡ k) → Stands b (G m).opens (is_open (G m).past) (G m).tokens
           by_plan (inl same) =
@@ -640,7 +639,7 @@ module _ (w : Wiring) (r : Plan) (fit : LinksFit w) (ported : LinksArePorts w) (
       follows : Follows w r G (after_put r e way o) past (with_token r e way (Some v) s)
       follows =
           record {
-            stands = stands_then';
+            stands = all_stand;
             agree = λ a b linked. shown_then a ∙ (so.agree a b linked ∙ sym (shown_then b));
             opens = λ x c there role. put_else_r way x (differs x c there)
                 ∙ (so.opens x c there role ∙ sym (open_else (origin w x) (has_none (origin w x) c (at_place w r fit ported whole x c there))));

@@ -1,15 +1,15 @@
 -- The plan of a function is regular exactly where that of its body is: the argument is the body's last import, by other names.
-use Rattle.std.specs.Prelude.{ℕ, zero, suc, ◌+◌, ◌-◌, ◌<◌, ◌≤◌, Bool, true, false, List, Option, Some, None, Contains, slice_get, nat_eq, nat_lt, length, if◌then◌else◌}
-use Rattle.std.proofs.Common.{◌≡◌, [], ◌∷◌, ◌++◌, ◌⊎◌, inl, inr, refl, sym, ◌∙◌, ap, subst, arith}
+use Rattle.std.specs.Prelude.{ℕ, zero, suc, ◌+◌, ◌-◌, ◌<◌, ◌≤◌, Bool, true, false, List, Option, Some, None, slice_get, nat_eq, nat_lt, length, if◌then◌else◌}
+use Rattle.std.proofs.Common.{◌≡◌, [], ◌∷◌, ◌++◌, refl, sym, ◌∙◌, ap, subst, arith}
 use Rattle.std.proofs.lemmas.Bool.Decides.{nat_tests}
 use Rattle.std.proofs.lemmas.Option.{slice_get_past}
 use Rattle.gos_types.specs.Types.{Type', Fun}
 use Rattle.gos_model.specs.Typing.{Imported}
-use Rattle.gos_plan.specs.Kinds.{Part, Contact, contacts_of, other_side, turned_contact}
+use Rattle.gos_plan.specs.Kinds.{Part, Contact, contacts_of, other_side}
 use Rattle.gos_plan.specs.Plans.{End, PartEnd, ImportEnd, ResultEnd, Joint, Plan, contact_at, contacts_of_part, contacts_of_import, turned_if, same_end, stands_in}
 use Rattle.gos_plan.specs.Tokens.{IsPortEnd, places_of}
 use Rattle.gos_plan.proofs.JointLemmas.{IsIn, same_is, same_itself, Found, found, fits, stands_there, contained}
-use Rattle.gos_plan.proofs.SideLemmas.{functions_join, sides_turn_back}
+use Rattle.gos_plan.proofs.SideLemmas.{functions_join}
 use Rattle.gos_realises.specs.Regular.{count, whole_type, whole_end}
 use Rattle.gos_webs.specs.Webs.{joint}
 use Rattle.gos_applied.specs.Opened.{opened, IsFunctionOf}

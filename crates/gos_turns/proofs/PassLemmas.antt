@@ -1,6 +1,6 @@
 -- Turns pass through a wiring in which each link joins an import, or the argument of a function, to the result of a plan that
 -- stands for it.
-use Rattle.std.specs.Prelude.{ℕ, zero, suc, ◌+◌, ◌<◌, Bool, true, false, List, Option, Some, None, slice_get, nat_eq, length, map, if◌then◌else◌, option_map}
+use Rattle.std.specs.Prelude.{ℕ, zero, suc, ◌+◌, ◌<◌, Bool, true, false, List, Option, Some, None, slice_get, nat_eq, length, if◌then◌else◌, option_map}
 use Rattle.std.proofs.Common.{◌≡◌, [], ◌∷◌, ◌⊎◌, inl, inr, refl, sym, ◌∙◌, ap, subst, arith}
 use Rattle.std.proofs.lemmas.Option.{slice_get-map, slice_get_within}
 use Rattle.gos_types.specs.declared.shakes.Role.{Role}
@@ -21,10 +21,10 @@ use Rattle.gos_joined.proofs.OriginLemmas.{left_at}
 use Rattle.gos_plan.proofs.JointLemmas.{same_itself}
 use Rattle.gos_turns.proofs.StandLemmas.{same_apart}
 use Rattle.gos_turns.proofs.TrailLemmas.{LinksArePorts, contact_place, link_contacts, link_back, turned_twice}
-use Rattle.gos_turns.proofs.FollowLemmas.{IsLoose, is_free, is_alone}
+use Rattle.gos_turns.proofs.FollowLemmas.{is_free, is_alone}
 use Rattle.gos_turns.proofs.GoesLemmas.{IsTurned, AllTurned, AllAgree, PortsAgree, LooseShut, PassesTurns}
 use Rattle.gos_turns.proofs.TypeLemmas.{Changed, told_same, Agree, some_agree, turns_agree}
-use Rattle.gos_turns.proofs.TurnedLemmas.{imp, res, Each, to_each, from_each, import_changed, result_changed, in_import, in_result, in_argument}
+use Rattle.gos_turns.proofs.TurnedLemmas.{imp, res, to_each, from_each, import_changed, result_changed, in_import, in_result, in_argument}
 
 -- plan m stands for an import of plan k, or for the argument of its function
 abbrev pub StandsForImport : Wiring → ℕ → Plan → ℕ → Plan → Type 0

@@ -1,13 +1,12 @@
 -- A token that lies at an end of the whole can be led to where the end stands in its plan; so what is to take it takes it.
-use Rattle.std.specs.Prelude.{ℕ, zero, suc, ◌+◌, ◌-◌, ◌≤◌, ◌<◌, Bool, true, false, List, Option, Some, None, All, slice_get, nat_lt}
-use Rattle.std.proofs.Common.{◌≡◌, [], ◌∷◌, refl, sym, ◌∙◌, ap, subst, arith}
+use Rattle.std.specs.Prelude.{ℕ, suc, ◌+◌, ◌-◌, ◌≤◌, ◌<◌, Bool, true, false, List, Option, Some, None, All, slice_get, nat_lt}
+use Rattle.std.proofs.Common.{◌≡◌, refl, sym, ◌∙◌, ap, subst, arith}
 use Rattle.std.proofs.lemmas.Bool.Decides.{nat_tests}
 use Rattle.gos_types.specs.declared.shakes.Role.{Role}
 use Rattle.gos_types.specs.declared.shakes.Role.TheVariants.{Serve, Ask}
 use Rattle.gos_netlist.specs.Events.{Direction, Request, Answer}
 use Rattle.gos_plan.specs.Kinds.{Part, Contact}
-use Rattle.gos_plan.specs.Firing.{State, Slot, Row}
-use Rattle.gos_plan.specs.Plans.{End, PartEnd, Joint, Plan, contact_at, contacts_of_part, IsRight}
+use Rattle.gos_plan.specs.Plans.{End, PartEnd, Joint, Plan, contact_at, contacts_of_part}
 use Rattle.gos_plan.specs.Tokens.{Tokens, places_of, held_at, token_at, end_of, way_of, shake_of, firing_of, way_taken}
 use Rattle.gos_plan.specs.TokenBits.{LiteralFits}
 use Rattle.gos_plan.specs.Orderly.{Open, AllWelcome}
@@ -17,14 +16,13 @@ use Rattle.gos_realises.specs.Regular.{Pass, IsRegular}
 use Rattle.gos_realises.specs.Links.{LinksFit}
 use Rattle.gos_webs.specs.Webs.{joint}
 use Rattle.gos_turns.proofs.StandLemmas.{asks_own, serves_in, asks_itself, serves_itself, lies_in}
-use Rattle.gos_turns.proofs.RunLemmas.{Reached}
 use Rattle.gos_turns.proofs.TrailLemmas.{LinksArePorts, IsUnlinked, Segment, Trail, trail_rest, trail_first, segment_one}
-use Rattle.gos_turns.proofs.FollowLemmas.{Family, lying, Follows, Seat, is_free, joint_trail, seat}
-use Rattle.gos_turns.proofs.GoesLemmas.{PassesTurns, Goes, SameStates, Led, on_the_way, goes_on, goes_home}
+use Rattle.gos_turns.proofs.FollowLemmas.{Family, lying, is_free, joint_trail, seat}
+use Rattle.gos_turns.proofs.GoesLemmas.{PassesTurns, Goes, SameStates, on_the_way, goes_on, goes_home}
 
 module _ (w : Wiring) (r : Plan) (fit : LinksFit w) (ported : LinksArePorts w) (whole : IsJoining w r)
-  (regular : (k : ℕ) (p : Plan) → slice_get w.plans k ≡ Some p → IsRegular p)
-  (literals : (k : ℕ) (p : Plan) → slice_get w.plans k ≡ Some p → All LiteralFits p.parts) (passes : PassesTurns w r) where
+    (regular : (k : ℕ) (p : Plan) → slice_get w.plans k ≡ Some p → IsRegular p)
+    (literals : (k : ℕ) (p : Plan) → slice_get w.plans k ≡ Some p → All LiteralFits p.parts) (passes : PassesTurns w r) where
   -- a place of a trail, and the trail to the last joint
   within : (n m : ℕ) (a x d : Place) (f : End) → Trail w n a x → Trail w m a d → Segment w d f → IsUnlinked w (place d.plan f) → Trail w (m - n) x d
   within n m a x d f t u seg free = by_test (nat_lt m n) refl
@@ -48,6 +46,12 @@ module _ (w : Wiring) (r : Plan) (fit : LinksFit w) (ported : LinksArePorts w) (
         stands_there p (joint d.end f) f (fit.right d.plan p is) in_p (serves_itself (joint d.end f)),
       )
 
+  -- a token on the joint of an end is at the end
+  token_there : (G : Family) (z d : Place) (p : Plan) (way : Direction) (v : ℕ) → z.plan ≡ d.plan → places_of p z.end ≡ Some d.end → lying G way d ≡ Some v
+      → token_at p (G z.plan).tokens z.end way ≡ Some v
+  token_there G z d p way v plans named now =
+      ap (held_at (G z.plan).tokens way) named ∙ (ap (λ (k : ℕ). (G k).tokens.in_place way d.end) plans ∙ now)
+
   abbrev Ready : Family → Open → List Pass → Tokens → End → Direction → ℕ → Plan → Type 0
   Ready F o past s e way v p =
       (G : Family) × Goes w r G o past s × (token_at p (G (origin w e).plan).tokens (origin w e).end way ≡ Some v) × SameStates F G
@@ -70,8 +74,7 @@ module _ (w : Wiring) (r : Plan) (fit : LinksFit w) (ported : LinksArePorts w) (
           let plans : d.plan ≡ (origin w e).plan = ap (λ (y : Place). y.plan) (sym stands) in
           let ends : (origin w e).end ≡ f = ap (λ (y : Place). y.end) stands in
           let here = placed_at d f p (ap (slice_get w.plans) plans ∙ at) seg in
-          let shown : token_at p (G (origin w e).plan).tokens (origin w e).end Request ≡ Some v =
-          ap (held_at (G (origin w e).plan).tokens Request) (ap (places_of p) ends ∙ here.1) ∙ (ap (λ (k : ℕ). (G k).tokens.in_place Request d.end) (sym plans) ∙ now) in
+          let shown = token_there G (origin w e) d p Request v (sym plans) (ap (places_of p) ends ∙ here.1) now in
           (G, goes, shown, same)
 
       at_asker : c.role ≡ Ask → token_at r s e Answer ≡ Some v → Ready F o past s e Answer v p
@@ -87,7 +90,7 @@ module _ (w : Wiring) (r : Plan) (fit : LinksFit w) (ported : LinksArePorts w) (
           let (g0, first) = on_the_way w r fit ported whole regular literals passes m (origin w e) d f u seg in
           let (G, goes, now, same) = goes_home w r fit ported whole regular literals passes n F o past s so (origin w e) x g v t next held_x in
           let here = placed_at (origin w e) g0 p at first in
-          let shown : token_at p (G (origin w e).plan).tokens (origin w e).end Answer ≡ Some v = ap (held_at (G (origin w e).plan).tokens Answer) here.0 ∙ now in
+          let shown = token_there G (origin w e) (origin w e) p Answer v refl here.0 now in
           (G, goes, shown, same)
 
       by_role : (role : Role) → c.role ≡ role → Ready F o past s e way v p

@@ -4,9 +4,9 @@ use Rattle.std.proofs.Common.{◌≡◌, [], ◌∷◌, refl, sym, ◌∙◌, ap
 use Rattle.gos_types.specs.Types.{Type'}
 use Rattle.gos_netlist.specs.Events.{Direction, Request, Answer}
 use Rattle.gos_plan.specs.Kinds.{Part, Contact}
-use Rattle.gos_plan.specs.Firing.{State, Slot, Token, Row}
-use Rattle.gos_plan.specs.Plans.{End, PartEnd, ImportEnd, ResultEnd, Plan, contact_at, same_end}
-use Rattle.gos_plan.specs.Tokens.{Tokens, Element, Fire, Out, In, IsPortEnd, places_of, same_way, held_at, with_place, with_held, token_at, with_token, with_state, with_puts, end_of, way_of, shake_of, fired, firing_of, way_taken, way_put, Passes, Does, Runs, IsIdle}
+use Rattle.gos_plan.specs.Firing.{Slot, Token, Row}
+use Rattle.gos_plan.specs.Plans.{End, PartEnd, Plan, contact_at, same_end}
+use Rattle.gos_plan.specs.Tokens.{Tokens, Element, Fire, Out, In, IsPortEnd, places_of, same_way, held_at, with_held, token_at, with_token, with_state, with_puts, end_of, way_of, shake_of, fired, firing_of, way_taken, way_put, Passes, Does, Runs}
 use Rattle.gos_plan.specs.Orderly.{Open, none_open, named_by, handshake_at, with_open, after_taken, after_put, after_puts, ComesWell, AllComeWell, ComesInOrder, AllWelcome, OrderlyFrom, IsOrderly}
 use Rattle.gos_plan.proofs.JointLemmas.{same_itself, same_is}
 use Rattle.gos_realises.specs.Regular.{Pass, pass, way_in, way_out, is_open, is_request, KeepsTurnsOf, whole_type, whole_end, ComesInTurn, KeepsTurns, InputsKeepTurns, OutputsKeepTurns, IsRegular}

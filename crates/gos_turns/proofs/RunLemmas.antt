@@ -97,9 +97,11 @@ pub out_next : (p : Plan) (e : End) (c : Contact) (v : ℕ) (o : Open) (past : L
     → contact_at p e ≡ Some c → way_taken c.role ≡ way → token_at p s e way ≡ Some v
     → KeepsTurns p past (pass e way) × Reached p (after_taken p e way o) (pass e way ∷ past) (with_token p e way None s)
 out_next p e c v o past s way regular so port there is lies =
-    let does : Does p (Out e v) s (with_token p e way None s) =
-    (port, subst (λ (f : Option Contact). Passes p (Out e v) f s (with_token p e way None s)) (sym there)
-    (subst (λ (u : Direction). (token_at p s e u ≡ Some v) × (with_token p e way None s ≡ with_token p e u None s)) (sym is) (lies, refl)))
+    let does : Does p (Out e v) s (with_token p e way None s) = (
+      port,
+      subst (λ (f : Option Contact). Passes p (Out e v) f s (with_token p e way None s)) (sym there)
+          (subst (λ (u : Direction). (token_at p s e u ≡ Some v) × (with_token p e way None s ≡ with_token p e u None s)) (sym is) (lies, refl)),
+    )
     in
     let n = next p (Out e v) o past s (with_token p e way None s) regular so does tt in
     let passes : way_out (contact_at p e) ≡ way = ap way_out there ∙ is in (
@@ -112,9 +114,11 @@ pub in_next : (p : Plan) (e : End) (c : Contact) (v : ℕ) (o : Open) (past : Li
     → contact_at p e ≡ Some c → way_put c.role ≡ way → v < 2 ^ bits_of c way → KeepsTurns p past (pass e way)
     → ComesWell p e way o s × Reached p (after_put p e way o) (pass e way ∷ past) (with_token p e way (Some v) s)
 in_next p e c v o past s way regular so port there is small keeps =
-    let does : Does p (In e v) s (with_token p e way (Some v) s) =
-    (port, subst (λ (f : Option Contact). Passes p (In e v) f s (with_token p e way (Some v) s)) (sym there)
-    (subst (λ (u : Direction). (v < 2 ^ bits_of c u) × (with_token p e way (Some v) s ≡ with_token p e u (Some v) s)) (sym is) (small, refl)))
+    let does : Does p (In e v) s (with_token p e way (Some v) s) = (
+      port,
+      subst (λ (f : Option Contact). Passes p (In e v) f s (with_token p e way (Some v) s)) (sym there)
+          (subst (λ (u : Direction). (v < 2 ^ bits_of c u) × (with_token p e way (Some v) s ≡ with_token p e u (Some v) s)) (sym is) (small, refl)),
+    )
     in
     let passes : way_in (contact_at p e) ≡ way = ap way_in there ∙ is in
     let n = next p (In e v) o past s (with_token p e way (Some v) s) regular so does (subst (λ (u : Direction). KeepsTurns p past (pass e u)) (sym passes) keeps, tt) in

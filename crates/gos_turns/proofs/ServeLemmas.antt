@@ -1,5 +1,5 @@
 -- A plan with one that serves an import of it, and a plan with all its supplies: regular where all are.
-use Rattle.std.specs.Prelude.{ℕ, zero, suc, ◌+◌, ◌<◌, ◌≤◌, List, Some, All, Contains, slice_get}
+use Rattle.std.specs.Prelude.{ℕ, zero, suc, ◌+◌, ◌<◌, List, Some, All, Contains, slice_get}
 use Rattle.std.proofs.Common.{◌≡◌, [], ◌∷◌, ◌⊎◌, inl, inr, refl, sym, ◌∙◌, ap, subst, arith}
 use Rattle.gos_types.specs.Types.{Type'}
 use Rattle.gos_model.specs.Typing.{Imported}
@@ -43,10 +43,11 @@ module _ (k : ℕ) (x : Imported) (p q r : Plan) (at : slice_get p.imports k ≡
     x,
     at,
     sym q_type,
-    λ g low.
-        (link 0 (ImportEnd k g) 1 (ResultEnd g),
-        in_import k 1 0 (count x.ty) g (omega arith) (let small : g < count x.ty = subst (λ (t : Type'). g < count t) q_type low in omega (arith, small)),
-        inl (refl, refl)),
+    λ g low. (
+      link 0 (ImportEnd k g) 1 (ResultEnd g),
+      in_import k 1 0 (count x.ty) g (omega arith) (let small : g < count x.ty = subst (λ (t : Type'). g < count t) q_type low in omega (arith, small)),
+      inl (refl, refl),
+    ),
   )
 
   served_pairs : (c d : Place) → Linked served c d → IsPair served c d ⊎ IsPair served d c
@@ -117,10 +118,11 @@ module _ (p r : Plan) (ss : List Supply) (are : AreSupplied p.imports ss) where
     sym real.suits.outcome,
     λ g low.
         (let small : g < count x.ty = subst (λ (t : Type'). g < count t) real.suits.outcome low in
-        let e : 0 + k ≡ k = omega arith in
-        (link 0 (ImportEnd k g) (suc k) (ResultEnd g),
-        subst (λ (n : ℕ). Contains (imports_linked 0 p.imports) (link 0 (ImportEnd n g) (suc n) (ResultEnd g))) e (in_imports 0 p.imports k x g at small),
-        inl (refl, refl))),
+        let e : 0 + k ≡ k = omega arith in (
+          link 0 (ImportEnd k g) (suc k) (ResultEnd g),
+          subst (λ (n : ℕ). Contains (imports_linked 0 p.imports) (link 0 (ImportEnd n g) (suc n) (ResultEnd g))) e (in_imports 0 p.imports k x g at small),
+          inl (refl, refl),
+        )),
   )
 
   all_pairs : (c d : Place) → Linked all c d → IsPair all c d ⊎ IsPair all d c

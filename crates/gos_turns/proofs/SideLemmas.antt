@@ -5,15 +5,15 @@ use Rattle.std.proofs.Common.{◌≡◌, [], ◌∷◌, ◌⊎◌, inl, inr, ref
 use Rattle.std.proofs.lemmas.Option.{slice_get_within}
 use Rattle.gos_types.specs.Types.{Type', Pair}
 use Rattle.gos_netlist.specs.Events.{Direction}
-use Rattle.gos_plan.specs.Kinds.{Contact, contacts_of, turned_contact}
+use Rattle.gos_plan.specs.Kinds.{Contact, contacts_of}
 use Rattle.gos_plan.specs.Plans.{End, PartEnd, ImportEnd, ResultEnd, Plan, contact_at, turned_if}
-use Rattle.gos_plan.specs.Tokens.{IsPortEnd, way_taken}
+use Rattle.gos_plan.specs.Tokens.{way_taken}
 use Rattle.gos_plan.specs.TokenBits.{LiteralFits}
-use Rattle.gos_plan.specs.Joining.{Place, place, Link, Linked, origin, IsJoining}
+use Rattle.gos_plan.specs.Joining.{Place, place, Linked, origin, IsJoining}
 use Rattle.gos_plan.proofs.SideLemmas.{pairs_join}
 use Rattle.gos_plan.proofs.AskingLemmas.{front, behind}
-use Rattle.gos_realises.specs.Regular.{Pass, pass, is_open, count, some_open, beyond, KeepsTurnsOf, IsRegular}
-use Rattle.gos_realises.specs.Links.{LinksFit, IsJoined}
+use Rattle.gos_realises.specs.Regular.{Pass, pass, count, some_open, beyond, KeepsTurnsOf, IsRegular}
+use Rattle.gos_realises.specs.Links.{LinksFit}
 use Rattle.gos_realises.specs.Wirings.{side}
 use Rattle.gos_realises.proofs.GroundTurnLemmas.{some_there, there_some}
 use Rattle.gos_joined.proofs.OriginLemmas.{sort}
@@ -21,9 +21,9 @@ use Rattle.gos_turns.specs.Composed.{SidesAreRegular}
 use Rattle.gos_turns.proofs.TrailLemmas.{LinksArePorts}
 use Rattle.gos_turns.proofs.FollowLemmas.{IsLoose, sort_there}
 use Rattle.gos_turns.proofs.GoesLemmas.{IsTurned, LooseShut}
-use Rattle.gos_turns.proofs.TypeLemmas.{Agree, Changed, some_agree, turns_agree, count_pair}
+use Rattle.gos_turns.proofs.TypeLemmas.{Agree, some_agree, turns_agree, count_pair}
 use Rattle.gos_turns.proofs.TurnedLemmas.{res, to_each, result_changed, in_result}
-use Rattle.gos_turns.proofs.PassLemmas.{StandsForImport, StandsForArgument, IsPair, Composes, passes_turns}
+use Rattle.gos_turns.proofs.PassLemmas.{StandsForImport, StandsForArgument, Composes, passes_turns}
 use Rattle.gos_turns.proofs.WholeLemmas.{joining_is_regular}
 
 none_some : (n : ℕ) (f : ℕ → Bool) → ((h : ℕ) → h < n → f h ≡ false) → some_open n f ≡ false

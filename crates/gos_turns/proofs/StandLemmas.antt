@@ -3,18 +3,17 @@
 -- A port that asks, as the joints see it, has its own handshake open while the outside has it open. Where one that serves is
 -- open to the outside its joint is open and empty, since the request has gone out and no answer has come.
 use Rattle.std.specs.Prelude.{ℕ, Bool, true, false, ◌&&◌, [], Option, Some, None, if◌then◌else◌}
-use Rattle.std.proofs.Common.{◌≡◌, ◌⊎◌, inl, inr, refl, sym, ◌∙◌, ap, subst, arith}
+use Rattle.std.proofs.Common.{◌≡◌, inl, inr, refl, sym, ◌∙◌, ap, subst, arith}
 use Rattle.gos_types.specs.declared.shakes.Role.{Role}
 use Rattle.gos_types.specs.declared.shakes.Role.TheVariants.{Serve, Ask}
 use Rattle.gos_netlist.specs.Events.{Direction, Request, Answer}
 use Rattle.gos_plan.specs.Kinds.{Contact}
-use Rattle.gos_plan.specs.Plans.{End, Joint, Plan, contact_at, same_end, stands_in, IsRight, Fits}
+use Rattle.gos_plan.specs.Plans.{End, Joint, Plan, contact_at, same_end, stands_in, IsRight}
 use Rattle.gos_plan.specs.Tokens.{Tokens, IsPortEnd, places_of, held_at, with_held, token_at, with_token, same_way, way_taken, way_put}
-use Rattle.gos_plan.specs.Turns.{IsEmptyAt}
 use Rattle.gos_plan.specs.Orderly.{Open, named_by, handshake_at, with_open, after_taken, after_put, ComesWell}
 use Rattle.gos_plan.proofs.HeldLemmas as holding
 use Rattle.gos_plan.proofs.HeldLemmas.{nothing_there}
-use Rattle.gos_plan.proofs.JointLemmas.{IsIn, same_itself, same_is, fits, one_joint, Found, found, asking_role, serving_role, stands_there}
+use Rattle.gos_plan.proofs.JointLemmas.{IsIn, same_itself, same_is, fits, one_joint, Found, found, asking_role, serving_role}
 use Rattle.gos_realises.specs.Regular.{is_request}
 use Rattle.gos_joined.proofs.ReachLemmas.{told_end}
 

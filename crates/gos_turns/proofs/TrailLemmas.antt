@@ -10,8 +10,8 @@ use Rattle.gos_plan.specs.Kinds.{Contact, turned_contact}
 use Rattle.gos_plan.specs.Plans.{End, PartEnd, ImportEnd, ResultEnd, Joint, Plan, contact_at, stands_in, IsRight}
 use Rattle.gos_plan.specs.Tokens.{IsPortEnd}
 use Rattle.gos_plan.specs.Joining.{Place, place, Link, Wiring, JoinedWithin, Linked, Path}
-use Rattle.gos_plan.proofs.JointLemmas.{IsIn, fits, one_joint, asking_role, serving_role, contained}
-use Rattle.gos_realises.specs.Links.{contact_in, contact_of, EndsFit, LinkFits, StandsIn, LinksFit}
+use Rattle.gos_plan.proofs.JointLemmas.{IsIn, fits, one_joint, serving_role, contained}
+use Rattle.gos_realises.specs.Links.{contact_in, contact_of, EndsFit, LinkFits, LinksFit}
 use Rattle.gos_webs.specs.Webs.{joint}
 use Rattle.gos_joined.proofs.ReachLemmas.{place_is}
 use Rattle.gos_joined.proofs.StepLemmas.{role_twice, in_list, stands_link}

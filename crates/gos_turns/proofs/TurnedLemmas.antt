@@ -1,13 +1,13 @@
 -- Inputs keep turns of a plan where they keep those of the type at which they come.
-use Rattle.std.specs.Prelude.{ℕ, zero, suc, ◌+◌, ◌-◌, ◌<◌, Bool, true, false, ◌&&◌, IsTrue, List, Option, Some, None, slice_get, nat_eq, nat_lt, if◌then◌else◌}
+use Rattle.std.specs.Prelude.{ℕ, ◌+◌, ◌-◌, ◌<◌, Bool, true, false, ◌&&◌, List, Some, slice_get, nat_eq, nat_lt, if◌then◌else◌}
 use Rattle.std.proofs.lemmas.Bool.Decides.{nat_tests}
-use Rattle.std.proofs.Common.{◌≡◌, [], ◌∷◌, ◌⊎◌, inl, inr, refl, sym, ◌∙◌, ap, subst, arith}
+use Rattle.std.proofs.Common.{◌≡◌, ◌∷◌, ◌⊎◌, inl, inr, refl, sym, ◌∙◌, ap, subst, arith}
 use Rattle.std.proofs.lemmas.Option.{slice_get_within}
 use Rattle.gos_types.specs.Types.{Type', Fun}
 use Rattle.gos_netlist.specs.Events.{Direction}
 use Rattle.gos_model.specs.Typing.{Imported}
 use Rattle.gos_plan.specs.Kinds.{Contact, contacts_of}
-use Rattle.gos_plan.specs.Plans.{End, ImportEnd, ResultEnd, Plan}
+use Rattle.gos_plan.specs.Plans.{ImportEnd, ResultEnd, Plan}
 use Rattle.gos_plan.specs.Tokens.{way_taken, way_put}
 use Rattle.gos_realises.specs.Regular.{Pass, pass, is_open, is_request, count, some_open, beyond, KeepsTurnsOf, whole_end}
 use Rattle.gos_realises.proofs.GroundTurnLemmas.{some_there, there_some, count_fun}

@@ -1,22 +1,19 @@
 -- A joining of regular plans is regular where turns pass through its wiring.
 use Rattle.std.specs.Prelude.{ℕ, zero, suc, ◌+◌, Bool, true, false, ◌&&◌, ◌||◌, List, Option, Some, None, All, slice_get}
-use Rattle.std.proofs.Common.{◌≡◌, [], ◌∷◌, refl, sym, ◌∙◌, ap, subst}
+use Rattle.std.proofs.Common.{◌≡◌, [], ◌∷◌, refl, sym, ◌∙◌, ap}
 use Rattle.gos_types.specs.Types.{Type', Com, Exp, Var, Pair, Fun}
-use Rattle.gos_netlist.specs.Events.{Direction}
-use Rattle.gos_plan.specs.Kinds.{Part}
-use Rattle.gos_plan.specs.Plans.{End, Plan, contact_at}
+use Rattle.gos_plan.specs.Plans.{Plan}
 use Rattle.gos_plan.specs.Tokens.{Tokens, Element, Fire, Out, In, Does, Runs, IsIdle}
 use Rattle.gos_plan.specs.TokenBits.{LiteralFits}
 use Rattle.gos_plan.specs.Orderly.{Open, none_open, OrderlyFrom}
 use Rattle.gos_plan.specs.Joining.{Wiring, IsJoining}
-use Rattle.gos_realises.specs.Regular.{Pass, pass, way_in, count, some_open, beyond, KeepsTurnsOf, whole_type, KeepsTurns, InputsKeepTurns, OutputsKeepTurns, IsRegular}
+use Rattle.gos_realises.specs.Regular.{Pass, count, some_open, beyond, KeepsTurnsOf, whole_type, InputsKeepTurns, OutputsKeepTurns, IsRegular}
 use Rattle.gos_realises.specs.Links.{LinksFit}
 use Rattle.gos_realises.proofs.RingLemmas.{after}
 use Rattle.gos_joined.proofs.OriginLemmas.{before}
-use Rattle.gos_turns.proofs.StandLemmas.{Stands}
 use Rattle.gos_turns.proofs.RunLemmas.{at_first}
 use Rattle.gos_turns.proofs.TrailLemmas.{LinksArePorts}
-use Rattle.gos_turns.proofs.FollowLemmas.{Family, Follows, OnTrail, HasSource}
+use Rattle.gos_turns.proofs.FollowLemmas.{Family}
 use Rattle.gos_turns.proofs.GoesLemmas.{IsTurned, PassesTurns, Goes}
 use Rattle.gos_turns.proofs.ElementLemmas.{stand, Went, went_out, went_in}
 use Rattle.gos_turns.proofs.FireLemmas.{went_fire}
@@ -61,8 +58,8 @@ outputs_then r (Out e v) xs past one rest = (one.0, rest)
 outputs_then r (In e v) xs past one rest = rest
 
 module _ (w : Wiring) (r : Plan) (fit : LinksFit w) (ported : LinksArePorts w) (whole : IsJoining w r)
-  (regular : (k : ℕ) (p : Plan) → slice_get w.plans k ≡ Some p → IsRegular p)
-  (literals : (k : ℕ) (p : Plan) → slice_get w.plans k ≡ Some p → All LiteralFits p.parts) (passes : PassesTurns w r) where
+    (regular : (k : ℕ) (p : Plan) → slice_get w.plans k ≡ Some p → IsRegular p)
+    (literals : (k : ℕ) (p : Plan) → slice_get w.plans k ≡ Some p → All LiteralFits p.parts) (passes : PassesTurns w r) where
   goes_first : (s : Tokens) → IsIdle r s → Goes w r (first_family w s) none_open [] s
   goes_first s idle =
       record {
