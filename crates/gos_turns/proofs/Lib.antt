@@ -21,3 +21,4 @@ pub mod RelabelLemmas
 pub mod OpenedLemmas
 mod BetweenLemmas
 pub mod NameLemmas
+mod SmallTurnedLemmas

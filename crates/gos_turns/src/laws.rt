@@ -1,6 +1,7 @@
 // What the definitions give. Each theorem is the contract of a function that does nothing.
 ghost use Rattle.gos_turns.specs.Composed.{ApplyingIsRegular, FunctionIsRegular, ServingIsRegular, SidesAreRegular, SuppliedIsRegular};
 ghost use Rattle.gos_turns.specs.Names.{NameIsRegular};
+ghost use Rattle.gos_turns.specs.SmallTurned.{CallIsName, SameOfSkipIsRegular, UnjoinedIsNone};
 
 /// A plan of a function and one of its argument, joined, are regular where both are.
 pub fn applications()
@@ -27,3 +28,13 @@ pub fn functions()
 pub fn names()
     ensures { NameIsRegular }
 {}
+
+/// `fun a : com . a` with `skip` is regular; the plan of a call is that of a name, and without its joint it isn't.
+pub fn small_turned()
+    ensures same { SameOfSkipIsRegular }
+    ensures call { CallIsName }
+    ensures unjoined { UnjoinedIsNone }
+{
+    gos_realises::functions();
+    gos_realises::small_realisers();
+}
