@@ -1,17 +1,16 @@
 -- Small plans that are joined, or are plans of names, and one that is none.
-use Rattle.std.specs.Prelude.{ℕ, zero, suc, List, [], ◌∷◌, Some, Contains, slice_get}
-use Rattle.std.proofs.Common.{◌≡◌, refl, sym, ◌∙◌, ap, subst, arith}
+use Rattle.std.specs.Prelude.{ℕ, zero, suc, Some, Contains, slice_get}
+use Rattle.std.proofs.Common.{◌≡◌, refl, ◌∙◌, ap, arith}
 use Rattle.gos_types.specs.declared.shakes.Role.TheVariants.{Serve, Ask}
 use Rattle.gos_types.specs.Types.{Com}
-use Rattle.gos_plan.specs.Kinds.{Contact, asks, serves, contacts_of}
-use Rattle.gos_plan.specs.Plans.{ImportEnd, ResultEnd, Plan, IsRight}
+use Rattle.gos_plan.specs.Kinds.{Contact, serves, contacts_of}
+use Rattle.gos_plan.specs.Plans.{ImportEnd, ResultEnd}
 use Rattle.gos_plan.specs.SmallPlans.{skip_plan, same_plan}
 use Rattle.gos_plan.specs.SmallCycles.{call_plan}
 use Rattle.gos_webs.specs.Webs.{joint}
 use Rattle.gos_realises.specs.SmallRealisers.{SkipIsRealised}
 use Rattle.gos_realises.specs.Functions.{SameIsRealised}
-use Rattle.gos_turns.specs.Names.{IsNamePlan}
-use Rattle.gos_turns.specs.SmallTurned.{SameOfSkipIsRegular, called, CallIsName, UnjoinedIsNone}
+use Rattle.gos_turns.specs.SmallTurned.{SameOfSkipIsRegular, CallIsName, UnjoinedIsNone}
 use Rattle.gos_turns.proofs.ApplyLemmas.{applying_is_regular}
 
 pub same_of_skip_is_regular : SameIsRealised → SkipIsRealised → SameOfSkipIsRegular
