@@ -20,10 +20,10 @@ use Rattle.gos_turns.proofs.TurnedLemmas.{fun_busy}
 abbrev Served : Type' → (ℕ → Bool) → Type 0
 Served t f = (g : ℕ) × (c : Contact) × (g < count t) × (slice_get (contacts_of t) g ≡ Some c) × (c.role ≡ Serve) × (f g ≡ true)
 
-pair_first : (a b : Type') (h : ℕ) (c : Contact) → slice_get (contacts_of a) h ≡ Some c → slice_get (contacts_of (Pair a b)) h ≡ Some c
+pub pair_first : (a b : Type') (h : ℕ) (c : Contact) → slice_get (contacts_of a) h ≡ Some c → slice_get (contacts_of (Pair a b)) h ≡ Some c
 pair_first a b h c there = ap (λ (cs : List Contact). slice_get cs h) (pairs_join a b).joined ∙ front (contacts_of a) (contacts_of b) h c there
 
-pair_second : (a b : Type') (h : ℕ) (c : Contact) → slice_get (contacts_of b) h ≡ Some c → slice_get (contacts_of (Pair a b)) (count a + h) ≡ Some c
+pub pair_second : (a b : Type') (h : ℕ) (c : Contact) → slice_get (contacts_of b) h ≡ Some c → slice_get (contacts_of (Pair a b)) (count a + h) ≡ Some c
 pair_second a b h c there =
     ap (λ (cs : List Contact). slice_get cs (count a + h)) (pairs_join a b).joined ∙ (behind (contacts_of a) (contacts_of b) h (count a + h) refl ∙ there)
 
@@ -32,7 +32,7 @@ side_at [] h c there = absurd (cc there)
 side_at (d ∷ cs) zero c there = let same : d ≡ c = cc there in ap (λ (x : Contact). Some (turned_contact x)) same
 side_at (d ∷ cs) (suc h) c there = side_at cs h c there
 
-fun_first : (a b : Type') (h : ℕ) (c : Contact) → slice_get (contacts_of a) h ≡ Some c → slice_get (contacts_of (Fun a b)) h ≡ Some (turned_contact c)
+pub fun_first : (a b : Type') (h : ℕ) (c : Contact) → slice_get (contacts_of a) h ≡ Some c → slice_get (contacts_of (Fun a b)) h ≡ Some (turned_contact c)
 fun_first a b h c there =
     ap (λ (cs : List Contact). slice_get cs h) (functions_join a b).joined ∙ front (other_side (contacts_of a)) (contacts_of b) h (turned_contact c) (side_at (contacts_of a) h c there)
 
@@ -113,12 +113,12 @@ swapped : {A B : Type 0} → A ⊎ B → B ⊎ A
 swapped (inl a) = inr a
 swapped (inr b) = inl b
 
-both_up : (b c : Bool) → (b ≡ true → c ≡ true → ⊥) → (b && c) ≡ false
+pub both_up : (b c : Bool) → (b ≡ true → c ≡ true → ⊥) → (b && c) ≡ false
 both_up true true clash = absurd (clash refl refl)
 both_up true false clash = refl
 both_up false c clash = refl
 
-not_both : (b c : Bool) → (b && c) ≡ false → b ≡ true → c ≡ true → ⊥
+pub not_both : (b c : Bool) → (b && c) ≡ false → b ≡ true → c ≡ true → ⊥
 not_both true true shut up also = cc shut
 not_both true false shut up also = cc also
 not_both false c shut up also = cc up

@@ -20,5 +20,7 @@ pub mod SideLemmas
 pub mod RelabelLemmas
 pub mod OpenedLemmas
 mod BetweenLemmas
+mod CopyLemmas
 pub mod NameLemmas
+pub mod PairLemmas
 mod SmallTurnedLemmas

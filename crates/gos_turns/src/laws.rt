@@ -1,6 +1,7 @@
 // What the definitions give. Each theorem is the contract of a function that does nothing.
 ghost use Rattle.gos_turns.specs.Composed.{ApplyingIsRegular, FunctionIsRegular, ServingIsRegular, SidesAreRegular, SuppliedIsRegular};
 ghost use Rattle.gos_turns.specs.Names.{NameIsRegular};
+ghost use Rattle.gos_turns.specs.Pairs.{PairIsRegular, PairPlanIsRegular};
 ghost use Rattle.gos_turns.specs.SmallTurned.{CallIsName, SameOfSkipIsRegular, UnjoinedIsNone};
 
 /// A plan of a function and one of its argument, joined, are regular where both are.
@@ -27,6 +28,12 @@ pub fn functions()
 /// The plan of a name is regular, at every type.
 pub fn names()
     ensures { NameIsRegular }
+{}
+
+/// The plan that makes a pair of two arguments is regular, and so is the pair of two regular plans.
+pub fn pairs()
+    ensures maker { PairPlanIsRegular }
+    ensures pair { PairIsRegular }
 {}
 
 /// `fun a : com . a` with `skip` is regular; the plan of a call is that of a name, and without its joint it isn't.
