@@ -36,7 +36,7 @@ second_busy a b f busy =
     let (k, low, up) = some_there (count b) (beyond (count a) f) busy in
     let sum = count_pair a b in there_some (count (Pair a b)) f (count a + k) (omega (arith, low, sum)) up
 
-module _ (a b : Type') (p : Plan) (is : IsPairPlan a b p) where
+module _ (a b : Type') where
   abbrev whole : Type'
   whole = Fun a (Fun b (Pair a b))
 
@@ -44,7 +44,7 @@ module _ (a b : Type') (p : Plan) (is : IsPairPlan a b p) where
   after h = count a + (count b + h)
 
   -- the handshakes of the arguments, and those of the result
-  argument_at : (h : ℕ) (c : Contact) → slice_get (contacts_of (Pair a b)) h ≡ Some c → slice_get (contacts_of whole) h ≡ Some (turned_contact c)
+  pub argument_at : (h : ℕ) (c : Contact) → slice_get (contacts_of (Pair a b)) h ≡ Some c → slice_get (contacts_of whole) h ≡ Some (turned_contact c)
   argument_at h c there = by_test (nat_lt h (count a)) refl
     where
       at : slice_get (contacts_of a ++ contacts_of b) h ≡ Some c
@@ -62,7 +62,7 @@ module _ (a b : Type') (p : Plan) (is : IsPairPlan a b p) where
           ∙ (behind (other_side (contacts_of a)) (contacts_of (Fun b (Pair a b))) (h - count a) h sum
           ∙ fun_first b (Pair a b) (h - count a) c (sym (behind_at (contacts_of a) (contacts_of b) h high) ∙ at))
 
-  result_same : (h : ℕ) → slice_get (contacts_of whole) (after h) ≡ slice_get (contacts_of (Pair a b)) h
+  pub result_same : (h : ℕ) → slice_get (contacts_of whole) (after h) ≡ slice_get (contacts_of (Pair a b)) h
   result_same h =
       let long = sides a (Fun b (Pair a b)) in
       let longer = sides b (Pair a b) in
@@ -71,7 +71,8 @@ module _ (a b : Type') (p : Plan) (is : IsPairPlan a b p) where
       ∙ (ap (λ (cs : List Contact). slice_get cs (count b + h)) (functions_join b (Pair a b)).joined
       ∙ behind (other_side (contacts_of b)) (contacts_of (Pair a b)) h (count b + h) (omega (arith, longer))))
 
-  at_end : (h : ℕ) → contact_at p (ResultEnd h) ≡ turned_if (slice_get (contacts_of whole) h)
+module _ (a b : Type') (p : Plan) (is : IsPairPlan a b p) where
+  at_end : (h : ℕ) → contact_at p (ResultEnd h) ≡ turned_if (slice_get (contacts_of (whole a b)) h)
   at_end h = ap (λ (t : Type'). turned_if (slice_get (contacts_of t) h)) is.outcome
 
   there_is : (cs : List Contact) (h : ℕ) → h < length cs → (c : Contact) × (slice_get cs h ≡ Some c)
@@ -80,11 +81,11 @@ module _ (a b : Type') (p : Plan) (is : IsPairPlan a b p) where
   there_is (c ∷ cs) (suc h) low = there_is cs h (omega (arith, low))
 
   first_contact : (h : ℕ) (c : Contact) → slice_get (contacts_of (Pair a b)) h ≡ Some c → contact_at p (ResultEnd h) ≡ Some c
-  first_contact h c there = at_end h ∙ (ap turned_if (argument_at h c there) ∙ ap Some (turned_twice c))
+  first_contact h c there = at_end h ∙ (ap turned_if (argument_at a b h c there) ∙ ap Some (turned_twice c))
 
   cover : (e : End) (c : Contact) → IsPortEnd e → contact_at p e ≡ Some c
       → ((h : ℕ) × (ResultEnd h ≡ e) × (slice_get (contacts_of (Pair a b)) h ≡ Some c))
-      ⊎ ((h : ℕ) × (ResultEnd (after h) ≡ e) × (slice_get (contacts_of (Pair a b)) h ≡ Some (turned_contact c)))
+      ⊎ ((h : ℕ) × (ResultEnd (after a b h) ≡ e) × (slice_get (contacts_of (Pair a b)) h ≡ Some (turned_contact c)))
   cover (PartEnd i h) c port there = absurd port
   cover (ImportEnd i h) c port there =
       let never : None ≡ Some c = sym (ap (λ (xs : List Imported). slice_get (contacts_of_import (slice_get xs i)) h) is.imports) ∙ there in
@@ -93,7 +94,7 @@ module _ (a b : Type') (p : Plan) (is : IsPairPlan a b p) where
     where
       by_test : (t : Bool) → nat_lt h (count (Pair a b)) ≡ t
           → ((k : ℕ) × (ResultEnd k ≡ ResultEnd h) × (slice_get (contacts_of (Pair a b)) k ≡ Some c))
-          ⊎ ((k : ℕ) × (ResultEnd (after k) ≡ ResultEnd h) × (slice_get (contacts_of (Pair a b)) k ≡ Some (turned_contact c)))
+          ⊎ ((k : ℕ) × (ResultEnd (after a b k) ≡ ResultEnd h) × (slice_get (contacts_of (Pair a b)) k ≡ Some (turned_contact c)))
       by_test true test =
           let (d, at) = there_is (contacts_of (Pair a b)) h (grind (arith, nat_tests, test)) in
           let same : Some d ≡ Some c = sym (first_contact h d at) ∙ there in
@@ -101,19 +102,19 @@ module _ (a b : Type') (p : Plan) (is : IsPairPlan a b p) where
       by_test false test =
           let sum = count_pair a b in
           let high : count (Pair a b) ≤ h = grind (arith, nat_tests, test) in
-          let is_after : after (h - count (Pair a b)) ≡ h = omega (arith, sum, high) in
+          let is_after : after a b (h - count (Pair a b)) ≡ h = omega (arith, sum, high) in
           inr (
             h - count (Pair a b),
             ap ResultEnd is_after,
-            sym (result_same (h - count (Pair a b)))
-                ∙ (ap (slice_get (contacts_of whole)) is_after ∙ unturned (slice_get (contacts_of whole) h) c (sym (at_end h) ∙ there)),
+            sym (result_same a b (h - count (Pair a b)))
+                ∙ (ap (slice_get (contacts_of (whole a b))) is_after ∙ unturned (slice_get (contacts_of (whole a b)) h) c (sym (at_end h) ∙ there)),
           )
 
   abbrev first_shown : List Pass → ℕ → Bool
   first_shown past = shown_at ResultEnd past
 
   abbrev second_shown : List Pass → ℕ → Bool
-  second_shown past = shown_at (λ h. ResultEnd (after h)) past
+  second_shown past = shown_at (λ h. ResultEnd (after a b h)) past
 
   reads : (past : List Pass) → IsTurned p past → Leads (Pair a b) (first_shown past) (second_shown past)
       → KeepsTurnsOf (Pair a b) (first_shown past) × KeepsTurnsOf (Pair a b) (second_shown past)
@@ -146,19 +147,19 @@ module _ (a b : Type') (p : Plan) (is : IsPairPlan a b p) where
         ),
       )
 
-  is_copy : IsCopy (Pair a b) p ResultEnd (λ h. ResultEnd (after h))
+  is_copy : IsCopy (Pair a b) p ResultEnd (λ h. ResultEnd (after a b h))
   is_copy =
       record {
         right = is.right;
         parts = is.parts;
         cover = cover;
         first_there = λ h c there. (tt, first_contact h c there);
-        second_there = λ h c there. (tt, at_end (after h) ∙ ap turned_if (result_same h ∙ there));
-        serving = λ h c there role. contained p.joints (joint (ResultEnd (after h)) (ResultEnd h)) (is.serving h c there role);
-        asking = λ h c there role. contained p.joints (joint (ResultEnd h) (ResultEnd (after h))) (is.asking h c there role);
+        second_there = λ h c there. (tt, at_end (after a b h) ∙ ap turned_if (result_same a b h ∙ there));
+        serving = λ h c there role. contained p.joints (joint (ResultEnd (after a b h)) (ResultEnd h)) (is.serving h c there role);
+        asking = λ h c there role. contained p.joints (joint (ResultEnd h) (ResultEnd (after a b h))) (is.asking h c there role);
         first_one = λ h k e. result_number h k e;
-        second_one = λ h k e. (let same = result_number (after h) (after k) e in omega (arith, same));
-        apart = λ h k low e. (let same = result_number h (after k) e in let sum = count_pair a b in omega (arith, low, same, sum));
+        second_one = λ h k e. (let same = result_number (after a b h) (after a b k) e in omega (arith, same));
+        apart = λ h k low e. (let same = result_number h (after a b k) e in let sum = count_pair a b in omega (arith, low, same, sum));
         reads = reads;
         makes = makes;
       }
