@@ -23,4 +23,5 @@ mod BetweenLemmas
 mod CopyLemmas
 pub mod NameLemmas
 pub mod PairLemmas
+pub mod MakeLemmas
 mod SmallTurnedLemmas

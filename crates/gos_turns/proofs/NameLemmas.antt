@@ -19,13 +19,13 @@ pub unturned : (o : Option Contact) (c : Contact) → turned_if o ≡ Some c →
 unturned None c e = absurd (cc e)
 unturned (Some d) c e = let same : turned_contact d ≡ c = cc e in ap Some (sym (turned_twice d) ∙ ap turned_contact same)
 
-import_number : (h k : ℕ) → ImportEnd 0 h ≡ ImportEnd 0 k → h ≡ k
+pub import_number : (h k : ℕ) → ImportEnd 0 h ≡ ImportEnd 0 k → h ≡ k
 import_number h k e = cc e
 
 pub result_number : (h k : ℕ) → ResultEnd h ≡ ResultEnd k → h ≡ k
 result_number h k e = cc e
 
-import_apart : (h k : ℕ) → ImportEnd 0 h ≡ ResultEnd k → ⊥
+pub import_apart : (h k : ℕ) → ImportEnd 0 h ≡ ResultEnd k → ⊥
 import_apart h k e = cc e
 
 module _ (x : Imported) (p : Plan) (is : IsNamePlan x p) where

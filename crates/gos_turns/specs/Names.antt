@@ -23,3 +23,7 @@ pub record IsNamePlan (x : Imported) (p : Plan) : Type 0 where
 -- it is regular
 abbrev pub NameIsRegular : Type 0
 NameIsRegular = (x : Imported) (p : Plan) → IsNamePlan x p → IsRegular p
+
+-- and there is one
+abbrev pub NamePlanIsThere : Type 0
+NamePlanIsThere = (x : Imported) → (p : Plan) × IsNamePlan x p

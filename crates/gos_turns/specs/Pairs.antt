@@ -29,7 +29,11 @@ pub record IsPairPlan (a b : Type') (p : Plan) : Type 0 where
 abbrev pub PairPlanIsRegular : Type 0
 PairPlanIsRegular = (a b : Type') (p : Plan) → IsPairPlan a b p → IsRegular p
 
--- and so is the pair of two regular plans, with imports of any types
+-- and there is one
+abbrev pub PairPlanIsThere : Type 0
+PairPlanIsThere = (a b : Type') → (p : Plan) × IsPairPlan a b p
+
+-- The pair of two regular plans is regular, with imports of any types
 abbrev pub PairIsRegular : Type 0
 PairIsRegular =
     (a b : Type') (e p q s r : Plan)

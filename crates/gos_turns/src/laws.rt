@@ -1,7 +1,7 @@
 // What the definitions give. Each theorem is the contract of a function that does nothing.
 ghost use Rattle.gos_turns.specs.Composed.{ApplyingIsRegular, FunctionIsRegular, ServingIsRegular, SidesAreRegular, SuppliedIsRegular};
-ghost use Rattle.gos_turns.specs.Names.{NameIsRegular};
-ghost use Rattle.gos_turns.specs.Pairs.{PairIsRegular, PairPlanIsRegular};
+ghost use Rattle.gos_turns.specs.Names.{NameIsRegular, NamePlanIsThere};
+ghost use Rattle.gos_turns.specs.Pairs.{PairIsRegular, PairPlanIsRegular, PairPlanIsThere};
 ghost use Rattle.gos_turns.specs.SmallTurned.{CallIsName, SameOfSkipIsRegular, UnjoinedIsNone};
 
 /// A plan of a function and one of its argument, joined, are regular where both are.
@@ -25,14 +25,16 @@ pub fn functions()
     ensures { FunctionIsRegular }
 {}
 
-/// The plan of a name is regular, at every type.
+/// The plan of a name is regular, at every type, and there is one.
 pub fn names()
-    ensures { NameIsRegular }
+    ensures regular { NameIsRegular }
+    ensures there { NamePlanIsThere }
 {}
 
-/// The plan that makes a pair of two arguments is regular, and so is the pair of two regular plans.
+/// The plan that makes a pair of two arguments is there, and regular. So is the pair of two regular plans.
 pub fn pairs()
     ensures maker { PairPlanIsRegular }
+    ensures there { PairPlanIsThere }
     ensures pair { PairIsRegular }
 {}
 
