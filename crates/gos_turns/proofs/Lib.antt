@@ -25,3 +25,4 @@ pub mod NameLemmas
 pub mod PairLemmas
 pub mod MakeLemmas
 mod SmallTurnedLemmas
+pub mod TreeLemmas

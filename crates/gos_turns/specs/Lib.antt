@@ -3,3 +3,4 @@ pub mod Composed
 pub mod Names
 pub mod Pairs
 pub mod SmallTurned
+pub mod Trees

@@ -3,6 +3,7 @@ ghost use Rattle.gos_turns.specs.Composed.{ApplyingIsRegular, FunctionIsRegular,
 ghost use Rattle.gos_turns.specs.Names.{NameIsRegular, NamePlanIsThere};
 ghost use Rattle.gos_turns.specs.Pairs.{PairIsRegular, PairPlanIsRegular, PairPlanIsThere};
 ghost use Rattle.gos_turns.specs.SmallTurned.{CallIsName, SameOfSkipIsRegular, UnjoinedIsNone};
+ghost use Rattle.gos_turns.specs.Trees.{RewiredTreeIsRegular, TreeIsRegular};
 
 /// A plan of a function and one of its argument, joined, are regular where both are.
 pub fn applications()
@@ -13,6 +14,12 @@ pub fn applications()
 pub fn servings()
     ensures served { ServingIsRegular }
     ensures supplied { SuppliedIsRegular }
+{}
+
+/// So is the joining of a tree of instances, in whatever order these stand.
+pub fn trees()
+    ensures tree { TreeIsRegular }
+    ensures rewired { RewiredTreeIsRegular }
 {}
 
 /// So is each side of a product.

@@ -6,4 +6,4 @@
 
 mod laws;
 
-pub use laws::{applications, functions, names, pairs, servings, sides, small_turned};
+pub use laws::{applications, functions, names, pairs, servings, sides, small_turned, trees};
