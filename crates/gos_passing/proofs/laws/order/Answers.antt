@@ -1,0 +1,1 @@
+use Rattle.gos_passing.proofs.laws.order.Goals as goal
