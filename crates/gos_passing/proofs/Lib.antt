@@ -1,2 +1,6 @@
 pub mod BetweenLemmas
 pub mod LyingLemmas
+pub mod SeenLemmas
+pub mod StepLemmas
+pub mod HandingLemmas
+pub mod LagLemmas

@@ -273,7 +273,7 @@ module _ (i : ℕ) (t : Type') (c : ℕ) (r p : Plan) (is : IsBehind i t c r p) 
       by_role Ask one other = one
 
   -- the plan is a region
-  within : (k : ℕ) → k < length p.parts → (lying i p).number k ≡ Some k
+  pub within : (k : ℕ) → k < length p.parts → (lying i p).number k ≡ Some k
   within k low = let test : nat_lt k (length p.parts) ≡ true = grind (arith, nat_tests, low) in ap (λ b. if b then Some k else None) test
 
   number_is : (k j : ℕ) → (lying i p).number k ≡ Some j → (k < length p.parts) × (j ≡ k)
