@@ -60,7 +60,7 @@ told_end e d = by_test (same_end e d) refl
     by_test true h = inl (same_is e d h)
     by_test false h = inr (λ same. let t : true ≡ false = sym (same_itself e) ∙ (ap (same_end e) same ∙ h) in cc t)
 
-both_ways : (role : Role) (x y : Bool) → x ≡ y → RoleBelow role x y
+pub both_ways : (role : Role) (x y : Bool) → x ≡ y → RoleBelow role x y
 both_ways Serve x y same = λ up. sym same ∙ up
 both_ways Ask x y same = λ up. same ∙ up
 

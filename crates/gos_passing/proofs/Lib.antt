@@ -4,3 +4,6 @@ pub mod SeenLemmas
 pub mod StepLemmas
 pub mod HandingLemmas
 pub mod LagLemmas
+pub mod HeldLemmas
+pub mod JointLemmas
+pub mod OuterLemmas
