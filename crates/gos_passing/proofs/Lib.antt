@@ -7,3 +7,4 @@ pub mod LagLemmas
 pub mod HeldLemmas
 pub mod JointLemmas
 pub mod OuterLemmas
+pub mod ResultLemmas
