@@ -8,3 +8,4 @@ pub mod HeldLemmas
 pub mod JointLemmas
 pub mod OuterLemmas
 pub mod ResultLemmas
+pub mod ShareLemmas
