@@ -251,7 +251,7 @@ ports_between n is t f g h (f_imports, f_result) (g_imports, g_result) below bet
             (in_upper x.ty (of_import g (n + i)) (of_import f (n + i)) (of_import h (n + i)) lies.0 lies.1 (positive x.ty (of_import h (n + i)) own up))))))
 
 -- where nothing is open turns are kept
-none_open_of : (n : ℕ) (f : ℕ → Bool) → ((h : ℕ) → f h ≡ false) → some_open n f ≡ true → ⊥
+pub none_open_of : (n : ℕ) (f : ℕ → Bool) → ((h : ℕ) → f h ≡ false) → some_open n f ≡ true → ⊥
 none_open_of n f closed up = let (j, low, is) = some_there n f up in let clash : false ≡ true = sym (closed j) ∙ is in cc clash
 
 pub none_keeps : (t : Type') (f : ℕ → Bool) → ((h : ℕ) → f h ≡ false) → KeepsTurnsOf t f

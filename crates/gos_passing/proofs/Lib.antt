@@ -9,3 +9,4 @@ pub mod JointLemmas
 pub mod OuterLemmas
 pub mod ResultLemmas
 pub mod ShareLemmas
+pub mod RegularLemmas
