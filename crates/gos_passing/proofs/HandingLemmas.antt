@@ -23,7 +23,8 @@ use Rattle.gos_buffers.specs.Buffering.{end_behind}
 use Rattle.gos_buffers.proofs.GroundLemmas.{next_rests}
 use Rattle.gos_buffers.proofs.ShareStepLemmas.{one_order, written_out, WellBy}
 use Rattle.gos_passing.specs.Behind.{IsBehind}
-use Rattle.gos_passing.proofs.LyingLemmas.{Owned, asker, server, share, From, of_inner, of_asker, of_server, from_place, not_share, source_contact}
+use Rattle.gos_passing.proofs.EndLemmas.{Owned, asker, server, share, not_share, source_contact}
+use Rattle.gos_passing.proofs.LyingLemmas.{From, of_inner, of_asker, of_server, from_place}
 
 abbrev pub slot_of : Direction → ℕ → Slot
 slot_of Request h = Req h
@@ -134,7 +135,7 @@ module _ (i : ℕ) (t : Type') (c : ℕ) (r p : Plan) (is : IsBehind i t c r p) 
   lies_where h way v s lies = by_place (places_of r (PartEnd i h)) refl
     where
       of_end : (d : End) → Owned t p d → PartEnd i h ≡ end_behind i d → Where h
-      of_end (PartEnd l g) own same = let e : i ≡ l = cc same in absurd (not_share i t c r p is l own (sym e))
+      of_end (PartEnd l g) own same = let e : i ≡ l = cc same in absurd (not_share i t c r p is.frame l own (sym e))
       of_end (ImportEnd l g) own same = absurd (cc same)
       of_end (ResultEnd g) own same =
           let e : h ≡ g = cc same in
@@ -209,16 +210,16 @@ module _ (i : ℕ) (t : Type') (c : ℕ) (r p : Plan) (is : IsBehind i t c r p) 
   hands_on slot s w for (v, row, lies, by, leads) = of_kind (pass.1 here)
     where
       fires : firing (Share t) (s.state i) slot ≡ Some row
-      fires = ap (λ x. firing_of x (s.state i) slot) (sym (share i t c r p is)) ∙ by
+      fires = ap (λ x. firing_of x (s.state i) slot) (sym (share i t c r p is.frame)) ∙ by
 
       pass : (row.takes ≡ slot) × PassesIf t c (s.state i).number row
-      pass = passing t c is.caller (s.state i) slot row fires
+      pass = passing t c is.frame.caller (s.state i) slot row fires
 
       here : IsForCaller t c (s.state i).number (shake_of row.takes)
       here = subst (λ (x : Slot). IsForCaller t c (s.state i).number (shake_of x)) (sym pass.0) for
 
       next : row.next v ≡ at Rest c
-      next = next_rests t c is.caller (s.state i) slot row v fires for
+      next = next_rests t c is.frame.caller (s.state i) slot row v fires for
 
       in_so : (j : ℕ) (k : Contact) → slice_get (contacts_of t) j ≡ Some k → (role : Role) → k.role ≡ role
           → Handed (caller_number t c j) j (way_taken role) v slot s w → Hands slot s w
@@ -241,11 +242,11 @@ module _ (i : ℕ) (t : Type') (c : ℕ) (r p : Plan) (is : IsBehind i t c r p) 
   -- what it takes of its source comes out of the plan
   pub source_way : (slot : Slot) (k : Contact) (s w : Tokens) → slice_get (contacts_of t) (shake_of slot) ≡ Some k → Does r (Fire i slot) s w → way_of slot ≡ way_put k.role
   source_way slot k s w at_j (v, row, lies, by, leads) =
-      let fires : firing (Share t) (s.state i) slot ≡ Some row = ap (λ x. firing_of x (s.state i) slot) (sym (share i t c r p is)) ∙ by in
+      let fires : firing (Share t) (s.state i) slot ≡ Some row = ap (λ x. firing_of x (s.state i) slot) (sym (share i t c r p is.frame)) ∙ by in
       let roles = row_roles (Share t) (s.state i) slot row v fires in
       let role = subst (λ (x : Slot). RoleIs (Share t) (shake_of x) (role_taking x)) roles.0 roles.1.0 in
       let there : slice_get (part_contacts (Share t)) (shake_of slot) ≡ Some (turned_contact k) =
-      ap (λ x. slice_get (contacts_of_part x) (shake_of slot)) (sym (share i t c r p is)) ∙ source_contact i t c r p is (shake_of slot) k at_j
+      ap (λ x. slice_get (contacts_of_part x) (shake_of slot)) (sym (share i t c r p is.frame)) ∙ source_contact i t c r p is.frame (shake_of slot) k at_j
       in
       way_to_take slot ∙ (ap way_taken (sym (role (turned_contact k) there)) ∙ turned_way k.role)
     where

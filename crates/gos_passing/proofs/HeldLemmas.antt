@@ -27,7 +27,8 @@ use Rattle.gos_sharing.specs.Sharing.{source_end, caller_end, IsForCaller}
 use Rattle.gos_buffers.specs.Buffering.{end_behind}
 use Rattle.gos_passing.specs.Behind.{IsBehind}
 use Rattle.gos_passing.proofs.BetweenLemmas.{RoleBelow, ServedOpen}
-use Rattle.gos_passing.proofs.LyingLemmas.{Owned, asker, lying, share, is_cut, within, own_part, result_place, caller_place, owned_contact, caller_contact, inner_contact, result_contact, contact_behind, source_contact}
+use Rattle.gos_passing.proofs.EndLemmas.{Owned, asker, share, own_part, owned_contact, caller_contact, inner_contact, result_contact, contact_behind, source_contact}
+use Rattle.gos_passing.proofs.LyingLemmas.{lying, is_cut, within, result_place, caller_place}
 use Rattle.gos_passing.proofs.SeenLemmas.{seen, token_so, put_so, outer_put, caller_put, share_put, Opens, Untouched, InOrder, fire_order, out_order, in_order, asker_one, other_open, this_open, outer_frame, frame, frame_open, outer_opens, taken_opens, put_opens, comes_well, taken_untouched, put_untouched, part_state, other_place}
 use Rattle.gos_passing.proofs.StepLemmas.{RegularFrom, InputTurns, Stepped, stepped}
 use Rattle.gos_passing.proofs.LagLemmas.{Line, lead, follow, TurnAt, turn_at, at_turn, line_below, line_put, line_taken, both_lead, put_outside, put_inside, outside_finds, inside_finds, taken_outside, taken_inside, open_this, open_other, told_end, ports_moved, same_imports, put_below, taken_below, ports_of_turns, turns_of_ports, served_there}

@@ -11,7 +11,7 @@ use Rattle.gos_plan.proofs.JointLemmas.{same_itself}
 use Rattle.gos_plan.proofs.HeldLemmas as held
 use Rattle.gos_realises.specs.Regular.{is_request}
 use Rattle.gos_passing.specs.Behind.{IsBehind}
-use Rattle.gos_passing.proofs.LyingLemmas.{asker}
+use Rattle.gos_passing.proofs.EndLemmas.{asker}
 use Rattle.gos_passing.proofs.SeenLemmas.{Opens, outer_opens, other_open, this_open, other_place, this_place}
 use Rattle.gos_passing.proofs.LagLemmas.{Line, TurnAt}
 

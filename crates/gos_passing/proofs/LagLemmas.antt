@@ -20,7 +20,7 @@ use Rattle.gos_realises.proofs.GroundTurnLemmas.{there_some}
 use Rattle.gos_renumbered.proofs.TurnLemmas.{of_import, of_result, EachKeeps, keeps_each, each_keeps}
 use Rattle.gos_passing.specs.Behind.{IsBehind}
 use Rattle.gos_passing.proofs.BetweenLemmas.{RoleBelow, Below, Between, ServedOpen, positive, ports_between}
-use Rattle.gos_passing.proofs.LyingLemmas.{asker}
+use Rattle.gos_passing.proofs.EndLemmas.{asker}
 
 -- the side that asks at a handshake, and the other
 abbrev pub lead : Role → Bool → Bool → Bool

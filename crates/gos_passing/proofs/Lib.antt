@@ -1,4 +1,5 @@
 pub mod BetweenLemmas
+pub mod EndLemmas
 pub mod LyingLemmas
 pub mod SeenLemmas
 pub mod StepLemmas

@@ -26,7 +26,8 @@ use Rattle.gos_renumbered.proofs.TurnLemmas.{EachKeeps}
 use Rattle.gos_webs.proofs.CutLemmas.{fire_cut}
 use Rattle.gos_passing.specs.Behind.{IsBehind}
 use Rattle.gos_passing.proofs.BetweenLemmas.{RoleBelow}
-use Rattle.gos_passing.proofs.LyingLemmas.{asker, lying, is_cut, within, result_place, result_contact, result_is}
+use Rattle.gos_passing.proofs.EndLemmas.{asker, result_contact, result_is}
+use Rattle.gos_passing.proofs.LyingLemmas.{lying, is_cut, within, result_place}
 use Rattle.gos_passing.proofs.SeenLemmas.{seen, token_so, put_so, outer_put, Opens, Untouched, InOrder, fire_order, out_order, in_order, asker_one}
 use Rattle.gos_passing.proofs.StepLemmas.{RegularFrom, InputTurns, Stepped, stepped}
 use Rattle.gos_passing.proofs.LagLemmas.{Line, lead, follow, TurnAt, turn_at, at_turn, line_put, line_taken, both_lead, put_outside, outside_finds, taken_outside, open_this, open_other, told_end, ports_moved, put_below, taken_below, both_ways, ports_of_turns, turns_of_ports}
@@ -55,7 +56,7 @@ module _ (i : ℕ) (t : Type') (c : ℕ) (r p : Plan) (is : IsBehind i t c r p) 
     pub held : Held i t c r p is (after r x past) own opened mine w
 
   all_literals : All LiteralFits r.parts
-  all_literals = subst (λ (ks : List Part). All LiteralFits ks) (sym is.parts) (All-push LiteralFits p.parts (Share t) literals tt)
+  all_literals = subst (λ (ks : List Part). All LiteralFits ks) (sym is.frame.parts) (All-push LiteralFits p.parts (Share t) literals tt)
 
   pub small_on : (x : Element) (s w : Tokens) → bits.AllFit r s → Does r x s w → bits.AllFit r w
   small_on x s w small does = all_stay_fit r (x ∷ []) s w is.right all_literals small (w, does, refl)
@@ -97,13 +98,13 @@ module _ (i : ℕ) (t : Type') (c : ℕ) (r p : Plan) (is : IsBehind i t c r p) 
 
       same : Does r (Fire n slot) s w → w.state i ≡ s.state i
       same (v, row, lies, by, leads) =
-          let number = is.number in
+          let number = is.frame.number in
           let apart : nat_eq i n ≡ false = grind (arith, number, low) in
           ap (λ (x : Tokens). x.state i) leads ∙ (fired_state r n row v s i ∙ ap (λ (b : Bool). if b then row.next v else s.state i) apart)
 
   -- an import
   import_contact : (n l : ℕ) → contact_at p (ImportEnd n l) ≡ contact_at r (ImportEnd n l)
-  import_contact n l = ap (λ js. slice_get (contacts_of_import (slice_get js n)) l) (sym is.imports)
+  import_contact n l = ap (λ js. slice_get (contacts_of_import (slice_get js n)) l) (sym is.frame.imports)
 
   same_passed : (n l : ℕ) (way : Direction) (past own : List Pass) → ((m k : ℕ) → is_open own (ImportEnd m k) ≡ is_open past (ImportEnd m k))
       → (m k : ℕ) → is_open (pass (ImportEnd n l) way ∷ own) (ImportEnd m k) ≡ is_open (pass (ImportEnd n l) way ∷ past) (ImportEnd m k)
@@ -221,7 +222,7 @@ module _ (i : ℕ) (t : Type') (c : ℕ) (r p : Plan) (is : IsBehind i t c r p) 
           turn_p = subst (λ (f : Option Contact). KeepsTurns p own (pass (ImportEnd n l) (way_out f))) at_p st.turns
 
           inside : EachKeeps 0 p.imports t (is_open (pass (ImportEnd n l) way ∷ own))
-          inside = ports_of_turns p p.imports t refl is.also_outcome own (pass (ImportEnd n l) way) turn_p
+          inside = ports_of_turns p p.imports t refl is.frame.also_outcome own (pass (ImportEnd n l) way) turn_p
 
           outside : EachKeeps 0 p.imports t (is_open (pass (ImportEnd n l) way ∷ past))
           outside =
@@ -234,7 +235,7 @@ module _ (i : ℕ) (t : Type') (c : ℕ) (r p : Plan) (is : IsBehind i t c r p) 
 
           turn_r : KeepsTurns r past (pass (ImportEnd n l) way)
           turn_r =
-              turns_of_ports r p.imports t is.imports is.outcome past (pass (ImportEnd n l) way)
+              turns_of_ports r p.imports t is.frame.imports is.frame.outcome past (pass (ImportEnd n l) way)
               (at_turn past (ImportEnd n l) way (subst (λ (b : Bool). TurnAt b way) (h.imports n l) (turn_at own (ImportEnd n l) way turn_p.0))) outside
 
           state : w.state i ≡ s.state i
@@ -281,7 +282,7 @@ module _ (i : ℕ) (t : Type') (c : ℕ) (r p : Plan) (is : IsBehind i t c r p) 
           turn_r = subst (λ (f : Option Contact). KeepsTurns r past (pass (ImportEnd n l) (way_in f))) at_r turns
 
           outside : EachKeeps 0 p.imports t (is_open (pass (ImportEnd n l) way ∷ past))
-          outside = ports_of_turns r p.imports t is.imports is.outcome past (pass (ImportEnd n l) way) turn_r
+          outside = ports_of_turns r p.imports t is.frame.imports is.frame.outcome past (pass (ImportEnd n l) way) turn_r
 
           inside : EachKeeps 0 p.imports t (is_open (pass (ImportEnd n l) way ∷ own))
           inside =
@@ -294,7 +295,7 @@ module _ (i : ℕ) (t : Type') (c : ℕ) (r p : Plan) (is : IsBehind i t c r p) 
 
           turn_p : KeepsTurns p own (pass (ImportEnd n l) way)
           turn_p =
-              turns_of_ports p p.imports t refl is.also_outcome own (pass (ImportEnd n l) way)
+              turns_of_ports p p.imports t refl is.frame.also_outcome own (pass (ImportEnd n l) way)
               (at_turn own (ImportEnd n l) way (subst (λ (b : Bool). TurnAt b way) (sym (h.imports n l)) (turn_at past (ImportEnd n l) way turn_r.0))) inside
 
           st : Stepped p own mine (before s) (In (ImportEnd n l) v) (before w)

@@ -24,7 +24,8 @@ use Rattle.gos_buffers.proofs.BranchLemmas.{none_fits}
 use Rattle.gos_buffers.proofs.RegularLemmas.{idle_welcomes}
 use Rattle.gos_passing.specs.Behind.{IsBehind, BehindIsRegular}
 use Rattle.gos_passing.proofs.BetweenLemmas.{none_keeps, none_open_of}
-use Rattle.gos_passing.proofs.LyingLemmas.{asker, lying, share, own_part, source_contact, caller_contact}
+use Rattle.gos_passing.proofs.EndLemmas.{asker, share, own_part, source_contact, caller_contact}
+use Rattle.gos_passing.proofs.LyingLemmas.{lying}
 use Rattle.gos_passing.proofs.SeenLemmas.{seen, token_so, part_state}
 use Rattle.gos_passing.proofs.StepLemmas.{Ordered, InputTurns, first_turn, later_turns, out_joined, from_idle}
 use Rattle.gos_passing.proofs.LagLemmas.{Line, lead, follow, both_lead}
@@ -49,11 +50,11 @@ module _ (i : ℕ) (t : Type') (c : ℕ) (r p : Plan) (is : IsBehind i t c r p) 
   told_part n low = by_test (nat_lt n (length p.parts)) refl
     where
       size : length r.parts ≡ length p.parts + 1
-      size = ap (λ (ks : List Part). length ks) is.parts ∙ length-append p.parts (Share t ∷ [])
+      size = ap (λ (ks : List Part). length ks) is.frame.parts ∙ length-append p.parts (Share t ∷ [])
 
       by_test : (b : Bool) → nat_lt n (length p.parts) ≡ b → (n < length p.parts) ⊎ (n ≡ i)
       by_test true test = inl (grind (arith, nat_tests, test))
-      by_test false test = let number = is.number in inr (grind (arith, nat_tests, test, low, size, number))
+      by_test false test = let number = is.frame.number in inr (grind (arith, nat_tests, test, low, size, number))
 
   -- what lies is welcome
   welcome : (past own : List Pass) (o mine : Open) (s : Tokens) → Held i t c r p is past own o mine s → AllWelcome r s
@@ -68,27 +69,27 @@ module _ (i : ℕ) (t : Type') (c : ℕ) (r p : Plan) (is : IsBehind i t c r p) 
       by_share : (j : ℕ) (k : Contact) → slice_get (contacts_of t) j ≡ Some k → TakesAt (count t) (s.state i).number j k.role slot → Taken i
       by_share j k at_j takes =
           let (row, fires) = share_takes t (s.state i) slot j k h.rests at_j takes in
-          (row, ap (λ x. firing_of x (s.state i) slot) (share i t c r p is) ∙ fires)
+          (row, ap (λ x. firing_of x (s.state i) slot) (share i t c r p is.frame) ∙ fires)
 
       of_where : contact_at r (end_of i slot) ≡ Some d → token_at r s (end_of i slot) (way_of slot) ≡ Some v → Where i t c r p is (shake_of slot) → Taken i
       of_where at_i lies_i (at_source k at_j) =
-          let one : turned_contact k ≡ d = same_Some (turned_contact k) d (sym (source_contact i t c r p is (shake_of slot) k at_j) ∙ at_i) in
+          let one : turned_contact k ≡ d = same_Some (turned_contact k) d (sym (source_contact i t c r p is.frame (shake_of slot) k at_j) ∙ at_i) in
           let ways : way_of slot ≡ way_put k.role = sym way ∙ (ap (λ (x : Contact). way_taken x.role) (sym one) ∙ turned_taken k.role) in
           by_share (shake_of slot) k at_j
           (subst (λ (x : Slot). TakesAt (count t) (s.state i).number (shake_of slot) k.role x) (sym (slot_is slot (way_put k.role) (shake_of slot) ways refl))
           (takes_outward (count t) (s.state i).number (shake_of slot) k.role))
       of_where at_i lies_i (at_caller j k at_j same) =
-          let at_c : contact_at r (end_of i slot) ≡ Some k = ap (λ (m : ℕ). contact_at r (PartEnd i m)) same ∙ caller_contact i t c r p is j k at_j in
+          let at_c : contact_at r (end_of i slot) ≡ Some k = ap (λ (m : ℕ). contact_at r (PartEnd i m)) same ∙ caller_contact i t c r p is.frame j k at_j in
           let one : k ≡ d = same_Some k d (sym at_c ∙ at_i) in
           let ways : way_of slot ≡ way_taken k.role = sym way ∙ ap (λ (x : Contact). way_taken x.role) (sym one) in
           let lies_c : token_at r s (caller_end i t c j) (way_taken k.role) ≡ Some v = (λ l. token_at r s (PartEnd i (sym same l)) (sym ways l)) ∙ lies_i in
           by_share j k at_j
           (subst (λ (x : Slot). TakesAt (count t) (s.state i).number j k.role x) (sym (slot_is slot (way_taken k.role) (caller_number t c j) ways same))
-          (takes_inward (count t) c (s.state i).number j k.role is.caller (λ role. caller_branch i t c r p is literals past own o mine s h j k v at_j role lies_c)))
+          (takes_inward (count t) c (s.state i).number j k.role is.frame.caller (λ role. caller_branch i t c r p is literals past own o mine s h j k v at_j role lies_c)))
 
       of_part : (n < length p.parts) ⊎ (n ≡ i) → Taken n
       of_part (inl low) =
-          let same = own_part i t c r p is n low in
+          let same = own_part i t c r p is.frame n low in
           let at_own : contact_at p (end_of n slot) ≡ Some d = ap (λ x. slice_get (contacts_of_part x) (shake_of slot)) (sym same) ∙ at_end in
           let own_lies = token_so i t c r p is (end_of n slot) low s (way_of slot) ∙ lies in
           let (row, fires) = h.welcome n slot d v at_own way own_lies in

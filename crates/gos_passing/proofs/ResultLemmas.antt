@@ -20,7 +20,8 @@ use Rattle.gos_realises.specs.Regular.{count, Pass, pass, way_in, way_out, is_re
 use Rattle.gos_realises.proofs.InputLemmas.{in_there, out_there}
 use Rattle.gos_renumbered.proofs.TurnLemmas.{EachKeeps}
 use Rattle.gos_passing.specs.Behind.{IsBehind}
-use Rattle.gos_passing.proofs.LyingLemmas.{asker, result_place, result_contact, result_is}
+use Rattle.gos_passing.proofs.EndLemmas.{asker, result_contact, result_is}
+use Rattle.gos_passing.proofs.LyingLemmas.{result_place}
 use Rattle.gos_passing.proofs.SeenLemmas.{seen, outer_put, asker_one}
 use Rattle.gos_passing.proofs.StepLemmas.{InputTurns}
 use Rattle.gos_passing.proofs.LagLemmas.{Line, lead, follow, TurnAt, turn_at, at_turn, line_put, line_taken, both_lead, put_outside, outside_finds, taken_outside, open_this, open_other, ports_of_turns, turns_of_ports}
@@ -35,7 +36,7 @@ module _ (i : ℕ) (t : Type') (c : ℕ) (r p : Plan) (is : IsBehind i t c r p) 
   -- the handshake of the type at an end of the result that there is
   shake_there : (j : ℕ) (d : Contact) → contact_at r (ResultEnd j) ≡ Some d → (k : Contact) × (slice_get (contacts_of t) j ≡ Some k) × (d ≡ turned_contact k)
   shake_there j d at_r =
-      result_is i t c r p is j d (ap (λ u. turned_if (slice_get (contacts_of u) j)) (is.also_outcome ∙ sym is.outcome) ∙ at_r)
+      result_is i t c r p is.frame j d (ap (λ u. turned_if (slice_get (contacts_of u) j)) (is.frame.also_outcome ∙ sym is.frame.outcome) ∙ at_r)
 
   -- after such a step
   held_result : (past own : List Pass) (o mine : Open) (s : Tokens) → Held i t c r p is past own o mine s → (j : ℕ) (k : Contact) → slice_get (contacts_of t) j ≡ Some k
@@ -98,7 +99,7 @@ module _ (i : ℕ) (t : Type') (c : ℕ) (r p : Plan) (is : IsBehind i t c r p) 
           way = way_taken k.role
 
           at_r : contact_at r (ResultEnd j) ≡ Some (turned_contact k)
-          at_r = result_contact i t c r p is j k at_j
+          at_r = result_contact i t c r p is.frame j k at_j
 
           named : places_of r (ResultEnd j) ≡ Some (asker i t c j k.role)
           named = result_place i t c r p is j k at_j
@@ -119,7 +120,7 @@ module _ (i : ℕ) (t : Type') (c : ℕ) (r p : Plan) (is : IsBehind i t c r p) 
           turn = subst (λ (d : Direction). KeepsTurns r past (pass (ResultEnd j) d)) way_is turns
 
           outside : EachKeeps 0 p.imports t (is_open (pass (ResultEnd j) way ∷ past))
-          outside = ports_of_turns r p.imports t is.imports is.outcome past (pass (ResultEnd j) way) turn
+          outside = ports_of_turns r p.imports t is.frame.imports is.frame.outcome past (pass (ResultEnd j) way) turn
 
           old : LineAt i t c r p is past own o s j k.role
           old = h.lines j k at_j
@@ -189,7 +190,7 @@ module _ (i : ℕ) (t : Type') (c : ℕ) (r p : Plan) (is : IsBehind i t c r p) 
           way = way_put k.role
 
           at_r : contact_at r (ResultEnd j) ≡ Some (turned_contact k)
-          at_r = result_contact i t c r p is j k at_j
+          at_r = result_contact i t c r p is.frame j k at_j
 
           named : places_of r (ResultEnd j) ≡ Some (asker i t c j k.role)
           named = result_place i t c r p is j k at_j
@@ -222,7 +223,7 @@ module _ (i : ℕ) (t : Type') (c : ℕ) (r p : Plan) (is : IsBehind i t c r p) 
           outside = outside_moves i t c r p is past own o mine s h j way goes.0
 
           turn : KeepsTurns r past (pass (ResultEnd j) way)
-          turn = turns_of_ports r p.imports t is.imports is.outcome past (pass (ResultEnd j) way) (at_turn past (ResultEnd j) way goes.1) outside
+          turn = turns_of_ports r p.imports t is.frame.imports is.frame.outcome past (pass (ResultEnd j) way) (at_turn past (ResultEnd j) way goes.1) outside
 
           m : Open
           m = after_taken r (ResultEnd j) way o

@@ -20,7 +20,8 @@ use Rattle.gos_webs.proofs.CutLemmas.{part_there, asker_asks, asker_own, place_f
 use Rattle.gos_sharing.specs.Sharing.{source_end, caller_end}
 use Rattle.gos_buffers.specs.Buffering.{end_behind}
 use Rattle.gos_passing.specs.Behind.{IsBehind}
-use Rattle.gos_passing.proofs.LyingLemmas.{Owned, asker, lying, lies_behind, share_outside, is_cut, place_there, no_place, not_asker, result_place, caller_place, own_part, same_behind, not_share, owned_contact, contact_behind}
+use Rattle.gos_passing.proofs.EndLemmas.{Owned, asker, not_asker, own_part, same_behind, not_share, owned_contact, contact_behind}
+use Rattle.gos_passing.proofs.LyingLemmas.{lying, lies_behind, share_outside, is_cut, place_there, no_place, result_place, caller_place}
 
 -- names of the outer joints are apart
 pub asker_one : (i : ℕ) (t : Type') (c j l : ℕ) (role other : Role) → asker i t c j role ≡ asker i t c l other → j ≡ l
@@ -63,7 +64,7 @@ module _ (i : ℕ) (t : Type') (c : ℕ) (r p : Plan) (is : IsBehind i t c r p) 
 
   -- names
   owned_asker : (e a : End) → places_of p e ≡ Some a → owned a
-  owned_asker e a there = let one = joined p e a is.also_right there in owned_contact i t c r p is a one.asker one.is_asker
+  owned_asker e a there = let one = joined p e a is.also_right there in owned_contact i t c r p is.frame a one.asker one.is_asker
 
   pub names : (e : End) → owned e → (handshake_at r (behind e) ≡ behind (handshake_at p e)) × owned (handshake_at p e)
   names e own = by_place (places_of p e) refl
@@ -122,12 +123,12 @@ module _ (i : ℕ) (t : Type') (c : ℕ) (r p : Plan) (is : IsBehind i t c r p) 
       by_place None none = ap (λ o. (with_held way o held s).in_place w (asker i t c j role)) (no_place i t c r p is e own none)
       by_place (Some a) named =
           ap (λ o. (with_held way o held s).in_place w (asker i t c j role)) (place_there i t c r p is e a named)
-          ∙ other_place (behind a) (asker i t c j role) way w held s (λ same. not_asker i t c r p is a j role (owned_asker e a named) (sym same))
+          ∙ other_place (behind a) (asker i t c j role) way w held s (λ same. not_asker i t c r p is.frame a j role (owned_asker e a named) (sym same))
 
   pub frame_open : (e : End) → owned e → (b : Bool) (o : Open) (j : ℕ) (role : Role) → with_open (handshake_at r (behind e)) b o (asker i t c j role) ≡ o (asker i t c j role)
   frame_open e own b o j role =
       let (named, also) = names e own in
-      other_open (handshake_at r (behind e)) (asker i t c j role) b o (λ same. not_asker i t c r p is (handshake_at p e) j role also (sym named ∙ sym same))
+      other_open (handshake_at r (behind e)) (asker i t c j role) b o (λ same. not_asker i t c r p is.frame (handshake_at p e) j role also (sym named ∙ sym same))
 
   pub outer_frame : (j l : ℕ) (k : Contact) (role : Role) → slice_get (contacts_of t) j ≡ Some k → (j ≡ l → ⊥) → (way w : Direction) (held : Option ℕ) (s : Tokens)
       → (with_token r (ResultEnd j) way held s).in_place w (asker i t c l role) ≡ s.in_place w (asker i t c l role)
@@ -140,7 +141,7 @@ module _ (i : ℕ) (t : Type') (c : ℕ) (r p : Plan) (is : IsBehind i t c r p) 
   Opens o own = (e : End) → owned e → o (behind e) ≡ own e
 
   opens_with : (own o : Open) → Opens o own → (a : End) → owned a → (b : Bool) → Opens (with_open (behind a) b o) (with_open a b own)
-  opens_with own o opens a here b e also = λ l. if same_behind i t c r p is e a also here l then b else opens e also l
+  opens_with own o opens a here b e also = λ l. if same_behind i t c r p is.frame e a also here l then b else opens e also l
 
   pub put_opens : (own o : Open) → Opens o own → (e : End) → owned e → (way : Direction) → Opens (after_put r (behind e) way o) (after_put p e way own)
   put_opens own o opens e here Request =
@@ -156,7 +157,7 @@ module _ (i : ℕ) (t : Type') (c : ℕ) (r p : Plan) (is : IsBehind i t c r p) 
 
   pub outer_opens : (own o : Open) → Opens o own → (j : ℕ) (role : Role) (b : Bool) → Opens (with_open (asker i t c j role) b o) own
   outer_opens own o opens j role b e here =
-      other_open (asker i t c j role) (behind e) b o (λ same. not_asker i t c r p is e j role here same) ∙ opens e here
+      other_open (asker i t c j role) (behind e) b o (λ same. not_asker i t c r p is.frame e j role here same) ∙ opens e here
 
   pub comes_well : (own o : Open) → Opens o own → (e : End) → owned e → (way : Direction) (s : Tokens) → ComesWell p e way own (seen s) → ComesWell r (behind e) way o s
   comes_well own o opens e here Request s well = let (named, also) = names e here in ap o named ∙ (opens (handshake_at p e) also ∙ well)
@@ -230,7 +231,7 @@ module _ (i : ℕ) (t : Type') (c : ℕ) (r p : Plan) (is : IsBehind i t c r p) 
       }
     where
       by_own : firing_of (slice_get p.parts n) ((seen s).state n) slot ≡ Some row
-      by_own = (λ l. firing_of (sym (own_part i t c r p is n low) l) (part_state s n low l) slot) ∙ by
+      by_own = (λ l. firing_of (sym (own_part i t c r p is.frame n low) l) (part_state s n low l) slot) ∙ by
 
       takes : row.takes ≡ slot
       takes = takes_of (slice_get r.parts n) (s.state n) slot row by
@@ -281,14 +282,14 @@ module _ (i : ℕ) (t : Type') (c : ℕ) (r p : Plan) (is : IsBehind i t c r p) 
       record {
         opened = after_taken r (behind e) (way_taken k.role) o;
         comes = λ d at_d.
-            (let same : k ≡ d = same_Some k d (sym (contact_behind i t c r p is e k at) ∙ at_d) in
+            (let same : k ≡ d = same_Some k d (sym (contact_behind i t c r p is.frame e k at) ∙ at_d) in
             ap (λ (x : Contact). after_taken r (behind e) (way_taken x.role) o) same);
         opens = subst (λ (z : Open). Opens (after_taken r (behind e) (way_taken k.role) o) z) (sym (comes k at)) (taken_opens own o opens e here (way_taken k.role));
         untouched = taken_untouched o s e here (way_taken k.role) None;
       }
     where
       here : owned e
-      here = owned_contact i t c r p is e k at
+      here = owned_contact i t c r p is.frame e k at
 
   pub in_order : (e : End) (v : ℕ) (k : Contact) → contact_at p e ≡ Some k → (own mown o : Open) (s : Tokens) → Opens o own
       → ComesInOrder p (In e v) (seen s) own mown
@@ -297,7 +298,7 @@ module _ (i : ℕ) (t : Type') (c : ℕ) (r p : Plan) (is : IsBehind i t c r p) 
       record {
         opened = after_put r (behind e) (way_put k.role) o;
         comes = λ d at_d.
-            (let same : k ≡ d = same_Some k d (sym (contact_behind i t c r p is e k at) ∙ at_d) in
+            (let same : k ≡ d = same_Some k d (sym (contact_behind i t c r p is.frame e k at) ∙ at_d) in
             subst (λ (x : Contact). ComesWell r (behind e) (way_put x.role) o s × (after_put r (behind e) (way_put k.role) o ≡ after_put r (behind e) (way_put x.role) o)) same
             (comes_well own o opens e here (way_put k.role) s (comes k at).0, refl));
         opens = subst (λ (z : Open). Opens (after_put r (behind e) (way_put k.role) o) z) (sym (comes k at).1) (put_opens own o opens e here (way_put k.role));
@@ -305,4 +306,4 @@ module _ (i : ℕ) (t : Type') (c : ℕ) (r p : Plan) (is : IsBehind i t c r p) 
       }
     where
       here : owned e
-      here = owned_contact i t c r p is e k at
+      here = owned_contact i t c r p is.frame e k at

@@ -21,7 +21,8 @@ use Rattle.gos_renumbered.proofs.TurnLemmas.{EachKeeps}
 use Rattle.gos_sharing.specs.Sharing.{source_end, caller_end, IsForCaller}
 use Rattle.gos_passing.specs.Behind.{IsBehind}
 use Rattle.gos_passing.proofs.BetweenLemmas.{ServedOpen}
-use Rattle.gos_passing.proofs.LyingLemmas.{asker, caller_place, caller_contact, inner_contact}
+use Rattle.gos_passing.proofs.EndLemmas.{asker, caller_contact, inner_contact}
+use Rattle.gos_passing.proofs.LyingLemmas.{caller_place}
 use Rattle.gos_passing.proofs.SeenLemmas.{seen, token_so, put_so, caller_put, share_put, Opens, Untouched, asker_one, comes_well, put_opens, taken_opens, put_untouched, taken_untouched}
 use Rattle.gos_passing.proofs.StepLemmas.{RegularFrom, Stepped, stepped}
 use Rattle.gos_passing.proofs.LagLemmas.{Line, lead, follow, TurnAt, turn_at, at_turn, line_put, line_taken, both_lead, put_inside, inside_finds, taken_inside, open_this, open_other, told_end, ports_of_turns, turns_of_ports, served_there}
@@ -93,7 +94,7 @@ module _ (i : ℕ) (t : Type') (c : ℕ) (r p : Plan) (is : IsBehind i t c r p) 
       named = caller_place i t c r p is j k at_j
 
       at_p : contact_at p (ResultEnd j) ≡ Some (turned_contact k)
-      at_p = inner_contact i t c r p is j k at_j
+      at_p = inner_contact i t c r p is.frame j k at_j
 
       mid : Tokens
       mid = with_state i (at Rest c) (with_token r (caller_end i t c j) way None s)
@@ -120,7 +121,7 @@ module _ (i : ℕ) (t : Type') (c : ℕ) (r p : Plan) (is : IsBehind i t c r p) 
       way_is = ap way_in at_p ∙ turned_put k.role
 
       turn : KeepsTurns p own (pass (ResultEnd j) way)
-      turn = turns_of_ports p p.imports t refl is.also_outcome own (pass (ResultEnd j) way) (at_turn own (ResultEnd j) way goes.1) inside
+      turn = turns_of_ports p p.imports t refl is.frame.also_outcome own (pass (ResultEnd j) way) (at_turn own (ResultEnd j) way goes.1) inside
 
       leads : before w ≡ with_token p (ResultEnd j) way (Some v) (before s)
       leads =
@@ -129,7 +130,7 @@ module _ (i : ℕ) (t : Type') (c : ℕ) (r p : Plan) (is : IsBehind i t c r p) 
 
       small_in : v < 2 ^ bits_of (turned_contact k) way
       small_in =
-          let own_bits = h.small.0 (caller_end i t c j) k way v (caller_contact i t c r p is j k at_j) handed.lies in
+          let own_bits = h.small.0 (caller_end i t c j) k way v (caller_contact i t c r p is.frame j k at_j) handed.lies in
           subst (λ (n : ℕ). v < 2 ^ n) (sym (turned_bits k way)) own_bits
 
       own_does : Does p (In (ResultEnd j) v) (before s) (before w)
@@ -204,7 +205,7 @@ module _ (i : ℕ) (t : Type') (c : ℕ) (r p : Plan) (is : IsBehind i t c r p) 
   out_step past own o mine s h j k v at_j lies =
       stepped p own mine (before s) (Out (ResultEnd j) v) (with_token p (ResultEnd j) (way_put k.role) None (before s)) h.going (
         tt,
-        subst (λ (f : Option Contact). Passes p (Out (ResultEnd j) v) f (before s) (with_token p (ResultEnd j) (way_put k.role) None (before s))) (sym (inner_contact i t c r p is j k at_j))
+        subst (λ (f : Option Contact). Passes p (Out (ResultEnd j) v) f (before s) (with_token p (ResultEnd j) (way_put k.role) None (before s))) (sym (inner_contact i t c r p is.frame j k at_j))
             (subst (λ (d : Direction). (token_at p (before s) (ResultEnd j) d ≡ Some v) × (with_token p (ResultEnd j) (way_put k.role) None (before s) ≡ with_token p (ResultEnd j) d None (before s)))
             (sym (turned_taken k.role)) (token_so i t c r p is (ResultEnd j) (slice_get_within (contacts_of t) j k at_j) s (way_put k.role) ∙ lies, refl)),
       ) tt
@@ -212,7 +213,7 @@ module _ (i : ℕ) (t : Type') (c : ℕ) (r p : Plan) (is : IsBehind i t c r p) 
   out_turn : (own : List Pass) (mine : Open) (s : Tokens) (j : ℕ) (k : Contact) (v : ℕ) → slice_get (contacts_of t) j ≡ Some k
       → Stepped p own mine (before s) (Out (ResultEnd j) v) (with_token p (ResultEnd j) (way_put k.role) None (before s)) → KeepsTurns p own (pass (ResultEnd j) (way_put k.role))
   out_turn own mine s j k v at_j st =
-      subst (λ (d : Direction). KeepsTurns p own (pass (ResultEnd j) d)) (ap way_out (inner_contact i t c r p is j k at_j) ∙ turned_taken k.role) st.turns
+      subst (λ (d : Direction). KeepsTurns p own (pass (ResultEnd j) d)) (ap way_out (inner_contact i t c r p is.frame j k at_j) ∙ turned_taken k.role) st.turns
 
   -- finds the branch of the caller
   served_branch : (past own : List Pass) (o mine : Open) (s : Tokens) → Held i t c r p is past own o mine s → (j : ℕ) (k : Contact) → slice_get (contacts_of t) j ≡ Some k
@@ -226,7 +227,7 @@ module _ (i : ℕ) (t : Type') (c : ℕ) (r p : Plan) (is : IsBehind i t c r p) 
     where
       by_role : (role : Role) → k.role ≡ role → KeepsTurns p own (pass (ResultEnd j) (way_put role)) → (s.state i).number ≡ c
       by_role Serve same keeps = h.branch j k at_j same keeps.0
-      by_role Ask same keeps = of_other (served_there p.imports t (is_open (pass (ResultEnd j) Request ∷ own)) (ports_of_turns p p.imports t refl is.also_outcome own (pass (ResultEnd j) Request) keeps) j k at_j (open_this (ResultEnd j) Request own))
+      by_role Ask same keeps = of_other (served_there p.imports t (is_open (pass (ResultEnd j) Request ∷ own)) (ports_of_turns p p.imports t refl is.frame.also_outcome own (pass (ResultEnd j) Request) keeps) j k at_j (open_this (ResultEnd j) Request own))
         where
           of_other : ServedOpen t (λ l. is_open (pass (ResultEnd j) Request ∷ own) (ResultEnd l)) → (s.state i).number ≡ c
           of_other (l, d, at_l, role, up) = by_end (told_end (ResultEnd j) (ResultEnd l))
@@ -267,7 +268,7 @@ module _ (i : ℕ) (t : Type') (c : ℕ) (r p : Plan) (is : IsBehind i t c r p) 
       named = caller_place i t c r p is j k at_j
 
       at_p : contact_at p (ResultEnd j) ≡ Some (turned_contact k)
-      at_p = inner_contact i t c r p is j k at_j
+      at_p = inner_contact i t c r p is.frame j k at_j
 
       mid : Tokens
       mid = with_state i (at Rest c) (with_token r (source_end i j) way None s)
@@ -285,7 +286,7 @@ module _ (i : ℕ) (t : Type') (c : ℕ) (r p : Plan) (is : IsBehind i t c r p) 
       way_is = ap way_out at_p ∙ turned_taken k.role
 
       inside : EachKeeps 0 p.imports t (is_open (pass (ResultEnd j) way ∷ own))
-      inside = ports_of_turns p p.imports t refl is.also_outcome own (pass (ResultEnd j) way) turn
+      inside = ports_of_turns p p.imports t refl is.frame.also_outcome own (pass (ResultEnd j) way) turn
 
       leads : before w ≡ with_token p (ResultEnd j) way None (before s)
       leads =

@@ -32,16 +32,20 @@ passing t c p =
       joints = map (joint_behind (length p.parts)) p.joints ++ outer_joints (length p.parts) t c 0 (contacts_of t);
     }
 
--- r is p behind caller c of a Share, which is part i. Its joints are p's, with the source for the result, and those of the caller.
-pub record IsBehind (i : ℕ) (t : Type') (c : ℕ) (r p : Plan) : Type 0 where
+-- r has p's parts, and behind them a Share of p's outcome, which is r's too; c is one of its callers.
+pub record HasShare (i : ℕ) (t : Type') (c : ℕ) (r p : Plan) : Type 0 where
   pub caller : c < 2
-  pub right : IsRight r
-  pub also_right : IsRight p
   pub number : i ≡ length p.parts
   pub parts : r.parts ≡ p.parts ++ (Share t ∷ [])
   pub imports : r.imports ≡ p.imports
   pub outcome : r.outcome ≡ t
   pub also_outcome : p.outcome ≡ t
+
+-- r is p behind caller c of that Share. Its joints are p's, with the source for the result, and those of the caller.
+pub record IsBehind (i : ℕ) (t : Type') (c : ℕ) (r p : Plan) : Type 0 where
+  pub frame : HasShare i t c r p
+  pub right : IsRight r
+  pub also_right : IsRight p
   pub joints :
       (a b : End) → Contains r.joints (joint a b)
       ↔ (((d : End) × (e : End) × Contains p.joints (joint d e) × (a ≡ end_behind i d) × (b ≡ end_behind i e))
