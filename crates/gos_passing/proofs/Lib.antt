@@ -11,3 +11,4 @@ pub mod OuterLemmas
 pub mod ResultLemmas
 pub mod ShareLemmas
 pub mod RegularLemmas
+pub mod PassingLemmas
