@@ -3,7 +3,7 @@
 -- What is open behind a Share lags: requests reach it late, and its own are late outside. So of the handshakes that are served those that are
 -- open behind it are open outside, and of those that are asked the other way round. Where anything is open a handshake that
 -- is served is (`positive`).
-use Rattle.std.specs.Prelude.{◌≡◌, ℕ, zero, suc, ◌+◌, ◌-◌, ◌<◌, Bool, true, false, ◌&&◌, ◌||◌, IsTrue, IsFalse, List, [], ◌∷◌, ◌++◌, ◌⊎◌, length, Option, Some, None, slice_get, nat_lt, option_map}
+use Rattle.std.specs.Prelude.{◌≡◌, ℕ, zero, suc, ◌+◌, ◌-◌, ◌<◌, Bool, true, false, ◌&&◌, ◌||◌, IsTrue, IsFalse, List, ◌⊎◌, length, Some, slice_get, nat_lt, option_map}
 use Rattle.std.proofs.Common.{refl, sym, ◌∙◌, ap, subst, arith, inl, inr, length-append}
 use Rattle.std.proofs.lemmas.Bool.Decides.{nat_tests}
 use Rattle.std.proofs.lemmas.Option.{slice_get_within, slice_get-map}
@@ -14,7 +14,7 @@ use Rattle.gos_types.specs.Types.{Type', Com, Exp, Var, Pair, Fun}
 use Rattle.gos_types.specs.Handshakes.{turned}
 use Rattle.gos_model.specs.Typing.{Imported}
 use Rattle.gos_plan.specs.Kinds.{Contact, contacts_of, turned_contact, other_side}
-use Rattle.gos_plan.specs.Plans.{End, ImportEnd, ResultEnd}
+use Rattle.gos_plan.specs.Plans.{End}
 use Rattle.gos_plan.proofs.AskingLemmas.{front, behind}
 use Rattle.gos_plan.proofs.SideLemmas.{pairs_join, functions_join}
 use Rattle.gos_realises.specs.Regular.{count, some_open, beyond, KeepsTurnsOf}

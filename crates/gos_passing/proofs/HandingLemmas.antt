@@ -1,24 +1,23 @@
 -- What the Share does: it hands a token of its caller on to its source, or one of its source to its caller.
 use Rattle.std.specs.Prelude.{◌≡◌, ℕ, zero, suc, ◌+◌, ◌*◌, ◌<◌, ◌≤◌, Bool, true, false, List, [], ◌∷◌, ◌++◌, ◌⊎◌, length, Option, Some, None, slice_get, Contains}
 use Rattle.std.proofs.Common.{refl, sym, ◌∙◌, ap, subst, arith, inl, inr, if◌then◌else◌}
-use Rattle.std.proofs.lemmas.Option.{slice_get_within, same_Some}
 use Rattle.gos_types.specs.declared.shakes.Role.{Role}
 use Rattle.gos_types.specs.declared.shakes.Role.TheVariants.{Serve, Ask}
 use Rattle.gos_types.specs.Types.{Type'}
 use Rattle.gos_types.specs.Handshakes.{turned}
 use Rattle.gos_netlist.specs.Events.{Direction, Request, Answer}
-use Rattle.gos_plan.specs.Kinds.{Part, Share, Contact, contacts_of, turned_contact, part_contacts}
-use Rattle.gos_plan.specs.Firing.{Phase, Rest, State, at, Slot, Req, Ans, Token, put, Row, row, rows, row_for, same_slot, shared_rows, share_rows, firing}
-use Rattle.gos_plan.specs.Plans.{End, PartEnd, ImportEnd, ResultEnd, Plan, contact_at, contacts_of_part}
-use Rattle.gos_plan.specs.Tokens.{Tokens, Element, Fire, places_of, held_at, token_at, with_token, with_state, with_puts, end_of, way_of, shake_of, way_taken, way_put, firing_of, fired, Does}
+use Rattle.gos_plan.specs.Kinds.{Share, Contact, contacts_of, turned_contact, part_contacts}
+use Rattle.gos_plan.specs.Firing.{Phase, Rest, State, at, Slot, Req, Ans, put, Row, row, rows, row_for, same_slot, shared_rows, share_rows, firing}
+use Rattle.gos_plan.specs.Plans.{End, PartEnd, ImportEnd, ResultEnd, Plan, contacts_of_part}
+use Rattle.gos_plan.specs.Tokens.{Tokens, Fire, places_of, token_at, with_token, with_state, with_puts, end_of, way_of, shake_of, way_taken, way_put, firing_of, fired, Does}
 use Rattle.gos_plan.specs.Orderly.{Open, after_taken, after_put, ComesWell, ComesInOrder}
 use Rattle.gos_plan.proofs.RowLemmas.{role_taking}
 use Rattle.gos_plan.proofs.AskingLemmas.{RoleIs, row_roles}
 use Rattle.gos_plan.proofs.TurnLemmas.{way_to_take}
 use Rattle.gos_plan.proofs.HeldLemmas.{nothing_there}
 use Rattle.gos_realises.specs.Regular.{count}
-use Rattle.gos_sharing.specs.Sharing.{source_end, caller_end, IsForCaller}
-use Rattle.gos_sharing.proofs.ShareRowLemmas.{in_number, out_number, Passing, IsAt, Passes, PassesIf, passing}
+use Rattle.gos_sharing.specs.Sharing.{caller_end, IsForCaller}
+use Rattle.gos_sharing.proofs.ShareRowLemmas.{Passes, PassesIf, passing}
 use Rattle.gos_buffers.specs.Buffering.{end_behind}
 use Rattle.gos_buffers.proofs.GroundLemmas.{next_rests}
 use Rattle.gos_buffers.proofs.ShareStepLemmas.{one_order, written_out, WellBy}

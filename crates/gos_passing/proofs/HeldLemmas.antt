@@ -1,38 +1,27 @@
 -- How the whole and the plan behind the Share stand to one another, along a list.
-use Rattle.std.specs.Prelude.{◌≡◌, ℕ, zero, suc, ◌+◌, ◌*◌, ◌<◌, ◌≤◌, ◌^◌, Bool, true, false, List, [], ◌∷◌, ◌++◌, ◌⊎◌, length, Option, Some, None, slice_get, nat_eq, nat_lt, All, Contains, if◌then◌else◌}
+use Rattle.std.specs.Prelude.{◌≡◌, ℕ, Bool, true, false, List, ◌∷◌, ◌⊎◌, Some, slice_get, nat_eq}
 use Rattle.std.proofs.Common.{refl, sym, ◌∙◌, ap, subst, arith, inl, inr}
-use Rattle.std.proofs.lemmas.Bool.Decides.{nat_tests}
-use Rattle.std.proofs.lemmas.Option.{slice_get_within, same_Some}
-use Rattle.std.proofs.lemmas.List.Elements.{All-push}
+use Rattle.std.proofs.lemmas.Option.{same_Some}
 use Rattle.gos_types.specs.declared.shakes.Role.{Role}
-use Rattle.gos_types.specs.declared.shakes.Role.TheVariants.{Serve, Ask}
+use Rattle.gos_types.specs.declared.shakes.Role.TheVariants.{Serve}
 use Rattle.gos_types.specs.Types.{Type'}
-use Rattle.gos_types.specs.Handshakes.{turned}
-use Rattle.gos_netlist.specs.Events.{Direction, Request, Answer}
-use Rattle.gos_plan.specs.Kinds.{Part, Share, Contact, contacts_of, turned_contact}
-use Rattle.gos_plan.specs.Firing.{Rest, State, at, Slot, Token, Row, firing}
-use Rattle.gos_plan.specs.Plans.{End, PartEnd, ImportEnd, ResultEnd, Plan, contact_at, same_end, turned_if, contacts_of_import, contacts_of_part}
-use Rattle.gos_plan.specs.Tokens.{Tokens, Element, Fire, Out, In, Passes, IsPortEnd, places_of, with_place, with_held, held_at, token_at, with_token, with_state, end_of, way_of, shake_of, way_taken, way_put, bits_of, firing_of, fired, Does}
+use Rattle.gos_netlist.specs.Events.{Direction}
+use Rattle.gos_plan.specs.Kinds.{Contact, contacts_of}
+use Rattle.gos_plan.specs.Firing.{Rest}
+use Rattle.gos_plan.specs.Plans.{ImportEnd, ResultEnd, Plan}
+use Rattle.gos_plan.specs.Tokens.{Tokens}
 use Rattle.gos_plan.specs.TokenBits.{LiteralFits}
 use Rattle.gos_plan.specs.TokenBits as bits
-use Rattle.gos_plan.specs.Orderly.{Open, none_open, named_by, handshake_at, with_open, after_taken, after_put, ComesWell, ComesInOrder, AllWelcome}
-use Rattle.gos_plan.proofs.TurnLemmas.{fired_state}
+use Rattle.gos_plan.specs.Orderly.{Open, AllWelcome}
 use Rattle.gos_plan.proofs.HeldLemmas as held
-use Rattle.gos_realises.specs.Regular.{count, Pass, pass, way_in, way_out, is_request, is_open, ComesInTurn, KeepsTurns}
-use Rattle.gos_realises.proofs.RingLemmas.{after, OutputTurns}
-use Rattle.gos_realises.proofs.InputLemmas.{in_there, out_there}
+use Rattle.gos_realises.specs.Regular.{Pass, pass, is_request, is_open}
 use Rattle.gos_renumbered.proofs.TurnLemmas.{EachKeeps}
-use Rattle.gos_webs.proofs.CutLemmas.{fire_cut}
-use Rattle.gos_sharing.specs.Sharing.{source_end, caller_end, IsForCaller}
-use Rattle.gos_buffers.specs.Buffering.{end_behind}
 use Rattle.gos_passing.specs.Behind.{IsBehind}
-use Rattle.gos_passing.proofs.BetweenLemmas.{RoleBelow, ServedOpen}
-use Rattle.gos_passing.proofs.EndLemmas.{Owned, asker, share, own_part, owned_contact, caller_contact, inner_contact, result_contact, contact_behind, source_contact}
-use Rattle.gos_passing.proofs.LyingLemmas.{lying, is_cut, within, result_place, caller_place}
-use Rattle.gos_passing.proofs.SeenLemmas.{seen, token_so, put_so, outer_put, caller_put, share_put, Opens, Untouched, InOrder, fire_order, out_order, in_order, asker_one, other_open, this_open, outer_frame, frame, frame_open, outer_opens, taken_opens, put_opens, comes_well, taken_untouched, put_untouched, part_state, other_place}
-use Rattle.gos_passing.proofs.StepLemmas.{RegularFrom, InputTurns, Stepped, stepped}
-use Rattle.gos_passing.proofs.LagLemmas.{Line, lead, follow, TurnAt, turn_at, at_turn, line_below, line_put, line_taken, both_lead, put_outside, put_inside, outside_finds, inside_finds, taken_outside, taken_inside, open_this, open_other, told_end, ports_moved, same_imports, put_below, taken_below, ports_of_turns, turns_of_ports, served_there}
-use Rattle.gos_passing.proofs.HandingLemmas.{Hands, inward, outward, Handed, hands_on, source_way, lies_where, Where, at_source, at_caller, caller_number, slot_of}
+use Rattle.gos_passing.proofs.BetweenLemmas.{RoleBelow}
+use Rattle.gos_passing.proofs.EndLemmas.{asker}
+use Rattle.gos_passing.proofs.SeenLemmas.{seen, Opens, Untouched}
+use Rattle.gos_passing.proofs.StepLemmas.{RegularFrom}
+use Rattle.gos_passing.proofs.LagLemmas.{Line, lead, follow, line_below, open_this, open_other, told_end, ports_moved, same_imports}
 
 module _ (i : ℕ) (t : Type') (c : ℕ) (r p : Plan) (is : IsBehind i t c r p) where
   abbrev pub LineAt : List Pass → List Pass → Open → Tokens → ℕ → Role → Type 0

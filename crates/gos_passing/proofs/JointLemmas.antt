@@ -5,14 +5,14 @@ use Rattle.gos_types.specs.declared.shakes.Role.{Role}
 use Rattle.gos_types.specs.Types.{Type'}
 use Rattle.gos_netlist.specs.Events.{Direction, Request, Answer}
 use Rattle.gos_plan.specs.Plans.{End, Plan, same_end}
-use Rattle.gos_plan.specs.Tokens.{Tokens, places_of, same_way, with_place, with_held, held_at, token_at, with_token}
+use Rattle.gos_plan.specs.Tokens.{Tokens, places_of, same_way, with_held, held_at, token_at, with_token}
 use Rattle.gos_plan.specs.Orderly.{Open, named_by, handshake_at, with_open, after_taken, after_put, ComesWell}
 use Rattle.gos_plan.proofs.JointLemmas.{same_itself}
 use Rattle.gos_plan.proofs.HeldLemmas as held
 use Rattle.gos_realises.specs.Regular.{is_request}
 use Rattle.gos_passing.specs.Behind.{IsBehind}
 use Rattle.gos_passing.proofs.EndLemmas.{asker}
-use Rattle.gos_passing.proofs.SeenLemmas.{Opens, outer_opens, other_open, this_open, other_place, this_place}
+use Rattle.gos_passing.proofs.SeenLemmas.{Opens, outer_opens, other_open, this_open, other_place}
 use Rattle.gos_passing.proofs.LagLemmas.{Line, TurnAt}
 
 module _ (r : Plan) (e a : End) (named : places_of r e ≡ Some a) where

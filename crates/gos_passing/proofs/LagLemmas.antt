@@ -2,25 +2,22 @@
 --
 -- A joint of the caller is open as far as the side says that asks there (`Line`). So inside and outside differ only as `Below`
 -- says, and where one handshake moves from what it is on the one side to what it is on the other turns are kept.
-use Rattle.std.specs.Prelude.{◌≡◌, ℕ, zero, suc, ◌+◌, ◌*◌, ◌<◌, Bool, true, false, List, [], ◌∷◌, ◌⊎◌, length, Option, Some, None, slice_get, nat_eq}
+use Rattle.std.specs.Prelude.{◌≡◌, ℕ, ◌+◌, Bool, true, false, List, ◌∷◌, ◌⊎◌, Option, Some, None, slice_get}
 use Rattle.std.proofs.Common.{refl, sym, ◌∙◌, ap, subst, arith, inl, inr, if◌then◌else◌}
-use Rattle.std.proofs.lemmas.Option.{slice_get_within, same_Some}
+use Rattle.std.proofs.lemmas.Option.{slice_get_within}
 use Rattle.gos_types.specs.declared.shakes.Role.{Role}
 use Rattle.gos_types.specs.declared.shakes.Role.TheVariants.{Serve, Ask}
 use Rattle.gos_types.specs.Types.{Type'}
 use Rattle.gos_netlist.specs.Events.{Direction, Request, Answer}
 use Rattle.gos_model.specs.Typing.{Imported}
 use Rattle.gos_plan.specs.Kinds.{Contact, contacts_of}
-use Rattle.gos_plan.specs.Plans.{End, PartEnd, ImportEnd, ResultEnd, Plan, contact_at, same_end, contacts_of_import}
-use Rattle.gos_plan.specs.Tokens.{Tokens, way_taken, way_put}
-use Rattle.gos_plan.specs.Orderly.{Open}
+use Rattle.gos_plan.specs.Plans.{End, ImportEnd, ResultEnd, Plan, same_end, contacts_of_import}
+use Rattle.gos_plan.specs.Tokens.{way_taken, way_put}
 use Rattle.gos_plan.proofs.JointLemmas.{same_itself, same_is}
-use Rattle.gos_realises.specs.Regular.{count, Pass, pass, is_request, is_open, KeepsTurnsOf, whole_type, whole_end, ComesInTurn, KeepsTurns}
+use Rattle.gos_realises.specs.Regular.{count, Pass, pass, is_request, is_open, whole_end, ComesInTurn, KeepsTurns}
 use Rattle.gos_realises.proofs.GroundTurnLemmas.{there_some}
 use Rattle.gos_renumbered.proofs.TurnLemmas.{of_import, of_result, EachKeeps, keeps_each, each_keeps}
-use Rattle.gos_passing.specs.Behind.{IsBehind}
 use Rattle.gos_passing.proofs.BetweenLemmas.{RoleBelow, Below, Between, ServedOpen, positive, ports_between}
-use Rattle.gos_passing.proofs.EndLemmas.{asker}
 
 -- the side that asks at a handshake, and the other
 abbrev pub lead : Role → Bool → Bool → Bool

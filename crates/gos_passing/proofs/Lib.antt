@@ -12,3 +12,4 @@ pub mod ResultLemmas
 pub mod ShareLemmas
 pub mod RegularLemmas
 pub mod PassingLemmas
+pub mod SmallLemmas

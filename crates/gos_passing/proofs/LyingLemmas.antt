@@ -1,25 +1,22 @@
 -- The plan behind the Share is a region of the whole: where its ends lie there.
-use Rattle.std.specs.Prelude.{◌≡◌, ℕ, zero, suc, ◌+◌, ◌*◌, ◌<◌, ◌≤◌, Bool, true, false, List, [], ◌∷◌, ◌++◌, ◌⊎◌, length, Option, Some, None, slice_get, nat_eq, nat_lt, Contains, IsTrue}
+use Rattle.std.specs.Prelude.{◌≡◌, ℕ, zero, suc, ◌<◌, Bool, true, false, List, [], ◌∷◌, ◌⊎◌, length, Option, Some, None, slice_get, nat_eq, nat_lt, Contains}
 use Rattle.std.proofs.Common.{refl, sym, ◌∙◌, ap, subst, arith, inl, inr, if◌then◌else◌}
 use Rattle.std.proofs.lemmas.Bool.Decides.{nat_tests}
-use Rattle.std.proofs.lemmas.Option.{slice_get_within, slice_get_past}
+use Rattle.std.proofs.lemmas.Option.{slice_get_within}
 use Rattle.gos_types.specs.declared.shakes.Role.{Role}
 use Rattle.gos_types.specs.declared.shakes.Role.TheVariants.{Serve, Ask}
 use Rattle.gos_types.specs.Types.{Type'}
-use Rattle.gos_plan.specs.Kinds.{Part, Share, Contact, asks, serves, contacts_of, turned_contact, part_contacts}
-use Rattle.gos_plan.specs.Plans.{End, PartEnd, ImportEnd, ResultEnd, Joint, Plan, contact_at, contacts_of_part, contacts_of_import, turned_if, same_end, stands_in, is_free, IsRight}
+use Rattle.gos_plan.specs.Kinds.{Part, Contact, asks, serves, contacts_of}
+use Rattle.gos_plan.specs.Plans.{End, PartEnd, ImportEnd, ResultEnd, Joint, Plan, contact_at, stands_in, is_free}
 use Rattle.gos_plan.specs.Tokens.{places_of, IsPortEnd}
-use Rattle.gos_plan.proofs.JointLemmas.{IsIn, same_itself, same_is, found, fits, has_place, stands_there, contained}
-use Rattle.gos_plan.proofs.AskingLemmas.{source_at, first_caller_at, second_caller_at}
-use Rattle.gos_realises.specs.Regular.{count}
+use Rattle.gos_plan.proofs.JointLemmas.{IsIn, found, fits, has_place, stands_there, contained}
 use Rattle.gos_webs.specs.Webs.{joint}
 use Rattle.gos_webs.specs.Cutting.{Cut, IsCut, IsInside, IsOutside, StandsIn, lies_at}
-use Rattle.gos_webs.proofs.CutLemmas.{Owns, part_at, which_end, stands_by}
-use Rattle.gos_webs.proofs.MovedLemmas.{listed, same_bool}
-use Rattle.gos_sharing.specs.Sharing.{source_end, caller_end}
+use Rattle.gos_webs.proofs.CutLemmas.{which_end, stands_by}
+use Rattle.gos_webs.proofs.MovedLemmas.{listed}
+use Rattle.gos_sharing.specs.Sharing.{caller_end}
 use Rattle.gos_buffers.specs.Buffering.{end_behind}
-use Rattle.gos_buffers.proofs.BufferedLemmas.{at_last, before_last}
-use Rattle.gos_passing.proofs.EndLemmas.{Owned, asker, server, outer_is, share, own_part, not_share, result_is, owned_contact, source_contact, caller_contact, contact_behind, result_contact, inner_contact, behind_one, same_behind, not_asker, not_server}
+use Rattle.gos_passing.proofs.EndLemmas.{Owned, asker, server, outer_is, own_part, not_share, owned_contact, contact_behind, behind_one, not_asker, not_server}
 use Rattle.gos_passing.specs.Behind.{outer_joint, IsBehind}
 
 -- the port at an end that leads there, if it stands in a joint

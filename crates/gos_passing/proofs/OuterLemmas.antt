@@ -1,38 +1,35 @@
 -- The steps of the whole: at its parts behind the Share, at its imports, and at its result.
-use Rattle.std.specs.Prelude.{◌≡◌, ℕ, ◌+◌, ◌*◌, ◌<◌, ◌^◌, Bool, true, false, List, [], ◌∷◌, ◌++◌, ◌⊎◌, length, Option, Some, None, slice_get, nat_eq, nat_lt, All, if◌then◌else◌}
+use Rattle.std.specs.Prelude.{◌≡◌, ℕ, ◌<◌, ◌^◌, Bool, false, List, [], ◌∷◌, ◌⊎◌, length, Option, Some, None, slice_get, nat_eq, All, if◌then◌else◌}
 use Rattle.std.proofs.Common.{refl, sym, ◌∙◌, ap, subst, arith, inl, inr}
-use Rattle.std.proofs.lemmas.Bool.Decides.{nat_tests}
-use Rattle.std.proofs.lemmas.Option.{slice_get_within, same_Some}
+use Rattle.std.proofs.lemmas.Option.{same_Some}
 use Rattle.std.proofs.lemmas.List.Elements.{All-push}
 use Rattle.gos_types.specs.declared.shakes.Role.{Role}
 use Rattle.gos_types.specs.declared.shakes.Role.TheVariants.{Serve, Ask}
 use Rattle.gos_types.specs.Types.{Type'}
 use Rattle.gos_types.specs.Handshakes.{turned}
-use Rattle.gos_netlist.specs.Events.{Direction, Request, Answer}
-use Rattle.gos_plan.specs.Kinds.{Part, Share, Contact, contacts_of, turned_contact}
-use Rattle.gos_plan.specs.Firing.{Rest, State, at, Slot, Row}
-use Rattle.gos_plan.specs.Plans.{End, PartEnd, ImportEnd, ResultEnd, Plan, contact_at, turned_if, contacts_of_import}
-use Rattle.gos_plan.specs.Tokens.{Tokens, Element, Fire, Out, In, Passes, places_of, held_at, token_at, with_token, with_state, end_of, way_of, way_taken, way_put, bits_of, firing_of, fired, Does}
+use Rattle.gos_netlist.specs.Events.{Direction}
+use Rattle.gos_plan.specs.Kinds.{Part, Share, Contact}
+use Rattle.gos_plan.specs.Firing.{State, Slot}
+use Rattle.gos_plan.specs.Plans.{End, ImportEnd, ResultEnd, Plan, contact_at, contacts_of_import}
+use Rattle.gos_plan.specs.Tokens.{Tokens, Element, Fire, Out, In, Passes, token_at, with_token, way_taken, way_put, bits_of, Does}
 use Rattle.gos_plan.specs.TokenBits.{LiteralFits}
 use Rattle.gos_plan.specs.TokenBits as bits
-use Rattle.gos_plan.specs.Orderly.{Open, after_taken, after_put, ComesWell, ComesInOrder, AllWelcome}
+use Rattle.gos_plan.specs.Orderly.{Open, ComesInOrder, AllWelcome}
 use Rattle.gos_plan.proofs.TurnLemmas.{fired_state, token_state}
 use Rattle.gos_plan.proofs.TokenBitsLemmas.{all_stay_fit}
 use Rattle.gos_plan.proofs.HeldLemmas as held
-use Rattle.gos_realises.specs.Regular.{count, Pass, pass, way_in, way_out, is_request, is_open, ComesInTurn, KeepsTurns}
+use Rattle.gos_realises.specs.Regular.{Pass, pass, way_in, way_out, is_request, is_open, KeepsTurns}
 use Rattle.gos_realises.proofs.RingLemmas.{after, OutputTurns}
 use Rattle.gos_realises.proofs.InputLemmas.{in_there, out_there}
 use Rattle.gos_renumbered.proofs.TurnLemmas.{EachKeeps}
 use Rattle.gos_webs.proofs.CutLemmas.{fire_cut}
 use Rattle.gos_passing.specs.Behind.{IsBehind}
 use Rattle.gos_passing.proofs.BetweenLemmas.{RoleBelow}
-use Rattle.gos_passing.proofs.EndLemmas.{asker, result_contact, result_is}
-use Rattle.gos_passing.proofs.LyingLemmas.{lying, is_cut, within, result_place}
-use Rattle.gos_passing.proofs.SeenLemmas.{seen, token_so, put_so, outer_put, Opens, Untouched, InOrder, fire_order, out_order, in_order, asker_one}
+use Rattle.gos_passing.proofs.LyingLemmas.{lying, is_cut, within}
+use Rattle.gos_passing.proofs.SeenLemmas.{seen, token_so, put_so, Opens, Untouched, InOrder, fire_order, out_order, in_order}
 use Rattle.gos_passing.proofs.StepLemmas.{RegularFrom, InputTurns, Stepped, stepped}
-use Rattle.gos_passing.proofs.LagLemmas.{Line, lead, follow, TurnAt, turn_at, at_turn, line_put, line_taken, both_lead, put_outside, outside_finds, taken_outside, open_this, open_other, told_end, ports_moved, put_below, taken_below, both_ways, ports_of_turns, turns_of_ports}
-use Rattle.gos_passing.proofs.HeldLemmas.{Lines, LineAt, Held, held_below, outside_moves, lines_untouched, line_kept, lines_moved, result_apart, not_import, not_result}
-use Rattle.gos_passing.proofs.JointLemmas.{put_other, taken_other, put_this, taken_this, place_other, lies_in, emptied, joint_well, put_outer, taken_outer}
+use Rattle.gos_passing.proofs.LagLemmas.{TurnAt, turn_at, at_turn, open_this, open_other, told_end, ports_moved, put_below, taken_below, both_ways, ports_of_turns, turns_of_ports}
+use Rattle.gos_passing.proofs.HeldLemmas.{Held, held_below, lines_untouched, line_kept, not_result}
 
 pub turned_put : (role : Role) → way_put (turned role) ≡ way_taken role
 turned_put Serve = refl

@@ -1,18 +1,17 @@
 -- The plan behind a Share lies behind it: its joints are right, and are those of the plan and of the caller.
-use Rattle.std.specs.Prelude.{◌≡◌, ℕ, zero, suc, ◌+◌, ◌*◌, ◌<◌, ◌≤◌, Bool, true, false, not, ◌&&◌, ◌||◌, List, [], ◌∷◌, ◌++◌, ◌⊎◌, length, map, Some, slice_get, Contains, IsTrue}
+use Rattle.std.specs.Prelude.{◌≡◌, ℕ, zero, suc, ◌+◌, ◌*◌, ◌<◌, ◌≤◌, Bool, true, false, not, ◌&&◌, ◌||◌, List, [], ◌∷◌, ◌++◌, ◌⊎◌, length, map, Some, slice_get, Contains}
 use Rattle.std.proofs.Common.{refl, sym, ◌∙◌, ap, subst, arith, inl, inr}
 use Rattle.gos_types.specs.declared.shakes.Role.{Role}
 use Rattle.gos_types.specs.declared.shakes.Role.TheVariants.{Serve, Ask}
 use Rattle.gos_types.specs.Types.{Type'}
 use Rattle.gos_types.specs.Handshakes.{turned}
-use Rattle.gos_plan.specs.Kinds.{Contact, asks, serves, contacts_of, turned_contact}
-use Rattle.gos_plan.specs.Plans.{End, PartEnd, ImportEnd, ResultEnd, Joint, Plan, contact_at, same_end, stands_in, is_free, Fits, AreRight, IsRight}
-use Rattle.gos_plan.proofs.JointLemmas.{IsIn, same_itself, same_is, fits, contained}
+use Rattle.gos_plan.specs.Kinds.{Contact, asks, serves, contacts_of}
+use Rattle.gos_plan.specs.Plans.{End, Joint, Plan, stands_in, is_free, Fits, AreRight, IsRight}
+use Rattle.gos_plan.proofs.JointLemmas.{IsIn, fits, contained}
 use Rattle.gos_realises.specs.Regular.{count}
 use Rattle.gos_webs.specs.Webs.{joint}
 use Rattle.gos_webs.proofs.CutLemmas.{which_end}
 use Rattle.gos_webs.proofs.MovedLemmas.{listed}
-use Rattle.gos_sharing.specs.Sharing.{caller_end}
 use Rattle.gos_buffers.specs.Buffering.{end_behind, joint_behind}
 use Rattle.gos_buffers.proofs.BufferedLemmas.{free_of, asks_of, serves_of}
 use Rattle.gos_passing.specs.Behind.{outer_joint, outer_joints, passing, HasShare, IsBehind, LiesBehind}

@@ -1,20 +1,18 @@
 -- What is behind a Share is regular where the plan is.
-use Rattle.std.specs.Prelude.{◌≡◌, ℕ, zero, suc, ◌+◌, ◌*◌, ◌<◌, Bool, true, false, List, [], ◌∷◌, ◌++◌, ◌⊎◌, length, Option, Some, None, slice_get, All, nat_eq, nat_lt, if◌then◌else◌}
+use Rattle.std.specs.Prelude.{◌≡◌, ℕ, ◌+◌, ◌<◌, Bool, true, false, List, [], ◌∷◌, ◌⊎◌, length, Some, None, slice_get, All, nat_lt}
 use Rattle.std.proofs.Common.{refl, sym, ◌∙◌, ap, subst, arith, inl, inr, length-append}
 use Rattle.std.proofs.lemmas.Bool.Decides.{nat_tests}
 use Rattle.std.proofs.lemmas.Option.{slice_get_within, same_Some}
-use Rattle.gos_types.specs.declared.shakes.Role.{Role}
-use Rattle.gos_types.specs.declared.shakes.Role.TheVariants.{Serve, Ask}
 use Rattle.gos_types.specs.Types.{Type'}
 use Rattle.gos_netlist.specs.Events.{Direction, Request, Answer}
 use Rattle.gos_plan.specs.Kinds.{Part, Share, Contact, contacts_of, turned_contact}
-use Rattle.gos_plan.specs.Firing.{Rest, State, Slot, Req, Ans, Row, firing}
+use Rattle.gos_plan.specs.Firing.{Slot, Req, Ans, Row}
 use Rattle.gos_plan.specs.Plans.{End, PartEnd, ImportEnd, ResultEnd, Plan, contact_at, contacts_of_part}
 use Rattle.gos_plan.specs.Tokens.{Tokens, Element, Fire, Out, In, token_at, end_of, way_of, shake_of, way_taken, way_put, firing_of, Does, Runs, IsIdle}
 use Rattle.gos_plan.specs.TokenBits.{LiteralFits}
-use Rattle.gos_plan.specs.Orderly.{Open, none_open, AllWelcome, OrderlyFrom}
+use Rattle.gos_plan.specs.Orderly.{Open, none_open, AllWelcome}
 use Rattle.gos_plan.proofs.TokenBitsLemmas.{idle_fits}
-use Rattle.gos_realises.specs.Regular.{count, Pass, is_open, InputsKeepTurns, OutputsKeepTurns, IsRegular, some_open}
+use Rattle.gos_realises.specs.Regular.{count, Pass, is_open, InputsKeepTurns, OutputsKeepTurns, IsRegular}
 use Rattle.gos_realises.proofs.RingLemmas.{after}
 use Rattle.gos_renumbered.proofs.TurnLemmas.{EachKeeps}
 use Rattle.gos_webs.proofs.CutLemmas.{part_at, part_there}
@@ -28,7 +26,7 @@ use Rattle.gos_passing.proofs.EndLemmas.{asker, share, own_part, source_contact,
 use Rattle.gos_passing.proofs.LyingLemmas.{lying}
 use Rattle.gos_passing.proofs.SeenLemmas.{seen, token_so, part_state}
 use Rattle.gos_passing.proofs.StepLemmas.{Ordered, InputTurns, first_turn, later_turns, out_joined, from_idle}
-use Rattle.gos_passing.proofs.LagLemmas.{Line, lead, follow, both_lead}
+use Rattle.gos_passing.proofs.LagLemmas.{both_lead}
 use Rattle.gos_passing.proofs.HandingLemmas.{slot_of, caller_number, Where, at_source, at_caller, lies_where, TakesAt, takes_inward, takes_outward, share_takes}
 use Rattle.gos_passing.proofs.HeldLemmas.{Held}
 use Rattle.gos_passing.proofs.OuterLemmas.{turned_taken, Next, part_fires, import_out, import_in}

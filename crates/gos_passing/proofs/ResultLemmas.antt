@@ -1,22 +1,20 @@
 -- The steps of the whole at its result: of them the plan behind the Share sees nothing.
-use Rattle.std.specs.Prelude.{◌≡◌, ℕ, ◌+◌, ◌*◌, ◌<◌, ◌^◌, Bool, true, false, List, [], ◌∷◌, ◌⊎◌, Option, Some, None, slice_get, All}
-use Rattle.std.proofs.Common.{refl, sym, ◌∙◌, ap, subst, arith, inl, inr}
-use Rattle.std.proofs.lemmas.Option.{slice_get_within, same_Some}
-use Rattle.gos_types.specs.declared.shakes.Role.{Role}
-use Rattle.gos_types.specs.declared.shakes.Role.TheVariants.{Serve, Ask}
+use Rattle.std.specs.Prelude.{◌≡◌, ℕ, ◌<◌, ◌^◌, Bool, true, false, List, ◌∷◌, Option, Some, None, slice_get, All}
+use Rattle.std.proofs.Common.{refl, sym, ◌∙◌, ap, subst}
+use Rattle.std.proofs.lemmas.Option.{same_Some}
 use Rattle.gos_types.specs.Types.{Type'}
 use Rattle.gos_types.specs.Handshakes.{turned}
-use Rattle.gos_netlist.specs.Events.{Direction, Request, Answer}
+use Rattle.gos_netlist.specs.Events.{Direction, Answer}
 use Rattle.gos_plan.specs.Kinds.{Contact, contacts_of, turned_contact}
 use Rattle.gos_plan.specs.Firing.{State}
 use Rattle.gos_plan.specs.Plans.{End, ResultEnd, ImportEnd, Plan, contact_at, turned_if}
-use Rattle.gos_plan.specs.Tokens.{Tokens, Element, Out, In, Passes, places_of, token_at, with_token, way_taken, way_put, bits_of, Does}
+use Rattle.gos_plan.specs.Tokens.{Tokens, Out, In, Passes, places_of, token_at, with_token, way_taken, way_put, bits_of, Does}
 use Rattle.gos_plan.specs.TokenBits.{LiteralFits}
 use Rattle.gos_plan.specs.TokenBits as bits
 use Rattle.gos_plan.specs.Orderly.{Open, after_taken, after_put, ComesWell, ComesInOrder}
 use Rattle.gos_plan.proofs.TurnLemmas.{token_state}
 use Rattle.gos_plan.proofs.HeldLemmas as held
-use Rattle.gos_realises.specs.Regular.{count, Pass, pass, way_in, way_out, is_request, is_open, KeepsTurns}
+use Rattle.gos_realises.specs.Regular.{Pass, pass, way_in, way_out, is_request, is_open, KeepsTurns}
 use Rattle.gos_realises.proofs.InputLemmas.{in_there, out_there}
 use Rattle.gos_renumbered.proofs.TurnLemmas.{EachKeeps}
 use Rattle.gos_passing.specs.Behind.{IsBehind}
@@ -24,8 +22,8 @@ use Rattle.gos_passing.proofs.EndLemmas.{asker, result_contact, result_is}
 use Rattle.gos_passing.proofs.LyingLemmas.{result_place}
 use Rattle.gos_passing.proofs.SeenLemmas.{seen, outer_put, asker_one}
 use Rattle.gos_passing.proofs.StepLemmas.{InputTurns}
-use Rattle.gos_passing.proofs.LagLemmas.{Line, lead, follow, TurnAt, turn_at, at_turn, line_put, line_taken, both_lead, put_outside, outside_finds, taken_outside, open_this, open_other, ports_of_turns, turns_of_ports}
-use Rattle.gos_passing.proofs.HeldLemmas.{Lines, LineAt, Held, outside_moves, lines_moved, result_apart, not_import}
+use Rattle.gos_passing.proofs.LagLemmas.{lead, follow, TurnAt, turn_at, at_turn, line_put, line_taken, both_lead, put_outside, outside_finds, taken_outside, open_this, open_other, ports_of_turns, turns_of_ports}
+use Rattle.gos_passing.proofs.HeldLemmas.{LineAt, Held, outside_moves, lines_moved, result_apart, not_import}
 use Rattle.gos_passing.proofs.JointLemmas.{put_other, taken_other, put_this, taken_this, place_other, lies_in, emptied, joint_well, put_outer, taken_outer}
 use Rattle.gos_passing.proofs.OuterLemmas.{turned_put, turned_taken, Next, small_on}
 

@@ -1,26 +1,26 @@
 -- What of the whole is seen of the plan behind the Share: its tokens, and which of its handshakes are open.
-use Rattle.std.specs.Prelude.{◌≡◌, ℕ, zero, suc, ◌+◌, ◌*◌, ◌<◌, Bool, true, false, ◌&&◌, List, [], ◌∷◌, ◌⊎◌, length, Option, Some, None, slice_get, nat_eq, nat_lt, Contains}
-use Rattle.std.proofs.Common.{refl, sym, ◌∙◌, ap, subst, arith, inl, inr, if◌then◌else◌}
+use Rattle.std.specs.Prelude.{◌≡◌, ℕ, ◌+◌, ◌*◌, ◌<◌, Bool, true, false, ◌&&◌, List, [], ◌∷◌, length, Option, Some, None, slice_get, nat_lt}
+use Rattle.std.proofs.Common.{refl, sym, ◌∙◌, ap, subst, arith, if◌then◌else◌}
 use Rattle.std.proofs.lemmas.Bool.Decides.{nat_tests}
-use Rattle.std.proofs.lemmas.Option.{slice_get_within, same_Some}
+use Rattle.std.proofs.lemmas.Option.{same_Some}
 use Rattle.gos_types.specs.declared.shakes.Role.{Role}
 use Rattle.gos_types.specs.declared.shakes.Role.TheVariants.{Serve, Ask}
 use Rattle.gos_types.specs.Types.{Type'}
 use Rattle.gos_netlist.specs.Events.{Direction, Request, Answer}
 use Rattle.gos_plan.specs.Kinds.{Part, Share, Contact, contacts_of}
 use Rattle.gos_plan.specs.Firing.{Rest, State, at, Slot, Token, Row}
-use Rattle.gos_plan.specs.Plans.{End, PartEnd, ImportEnd, ResultEnd, Plan, contact_at, same_end}
+use Rattle.gos_plan.specs.Plans.{End, ResultEnd, Plan, contact_at, same_end}
 use Rattle.gos_plan.specs.Tokens.{Tokens, Element, Fire, Out, In, places_of, same_way, with_place, with_state, held_at, with_held, token_at, with_token, with_puts, end_of, way_of, way_taken, way_put, firing_of, fired, Does}
-use Rattle.gos_plan.specs.Orderly.{Open, named_by, handshake_at, with_open, after_taken, after_put, after_puts, ComesWell, AllComeWell, ComesInOrder, AllWelcome}
+use Rattle.gos_plan.specs.Orderly.{Open, named_by, handshake_at, with_open, after_taken, after_put, after_puts, ComesWell, AllComeWell, ComesInOrder}
 use Rattle.gos_plan.proofs.JointLemmas.{same_itself, same_is, joined}
 use Rattle.gos_plan.proofs.HeldLemmas.{takes_of}
 use Rattle.gos_realises.specs.Regular.{count}
-use Rattle.gos_webs.specs.Cutting.{lies_at, asks_in, cut_tokens}
-use Rattle.gos_webs.proofs.CutLemmas.{part_there, asker_asks, asker_own, place_filled, token_lost, state_put, state_lost, stands_own}
-use Rattle.gos_sharing.specs.Sharing.{source_end, caller_end}
+use Rattle.gos_webs.specs.Cutting.{lies_at, cut_tokens}
+use Rattle.gos_webs.proofs.CutLemmas.{part_there, asker_asks, place_filled, token_lost, state_put, state_lost}
+use Rattle.gos_sharing.specs.Sharing.{caller_end}
 use Rattle.gos_buffers.specs.Buffering.{end_behind}
 use Rattle.gos_passing.specs.Behind.{IsBehind}
-use Rattle.gos_passing.proofs.EndLemmas.{Owned, asker, not_asker, own_part, same_behind, not_share, owned_contact, contact_behind}
+use Rattle.gos_passing.proofs.EndLemmas.{Owned, asker, not_asker, own_part, same_behind, owned_contact, contact_behind}
 use Rattle.gos_passing.proofs.LyingLemmas.{lying, lies_behind, share_outside, is_cut, place_there, no_place, result_place, caller_place}
 
 -- names of the outer joints are apart

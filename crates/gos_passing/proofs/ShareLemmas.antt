@@ -1,19 +1,18 @@
 -- The steps of the Share: what it hands on is an input, or an output, of the plan behind it.
-use Rattle.std.specs.Prelude.{◌≡◌, ℕ, ◌+◌, ◌*◌, ◌<◌, ◌^◌, ◌≤◌, Bool, true, false, List, [], ◌∷◌, ◌⊎◌, Option, Some, None, slice_get, All, nat_eq, if◌then◌else◌}
+use Rattle.std.specs.Prelude.{◌≡◌, ℕ, ◌<◌, ◌^◌, Bool, true, false, List, ◌∷◌, ◌⊎◌, Option, Some, None, slice_get, All, nat_eq, if◌then◌else◌}
 use Rattle.std.proofs.Common.{refl, sym, ◌∙◌, ap, subst, arith, inl, inr}
 use Rattle.std.proofs.lemmas.Option.{slice_get_within, same_Some}
 use Rattle.gos_types.specs.declared.shakes.Role.{Role}
 use Rattle.gos_types.specs.declared.shakes.Role.TheVariants.{Serve, Ask}
 use Rattle.gos_types.specs.Types.{Type'}
-use Rattle.gos_types.specs.Handshakes.{turned}
 use Rattle.gos_netlist.specs.Events.{Direction, Request, Answer}
 use Rattle.gos_plan.specs.Kinds.{Contact, contacts_of, turned_contact}
 use Rattle.gos_plan.specs.Firing.{Rest, State, at, Slot}
-use Rattle.gos_plan.specs.Plans.{End, PartEnd, ResultEnd, ImportEnd, Plan, contact_at}
-use Rattle.gos_plan.specs.Tokens.{Tokens, Element, Fire, Out, In, Passes, places_of, token_at, with_token, with_state, end_of, way_of, shake_of, way_taken, way_put, bits_of, Does}
+use Rattle.gos_plan.specs.Plans.{PartEnd, ResultEnd, ImportEnd, Plan, contact_at}
+use Rattle.gos_plan.specs.Tokens.{Tokens, Fire, Out, In, Passes, places_of, token_at, with_token, with_state, way_of, shake_of, way_taken, way_put, bits_of, Does}
 use Rattle.gos_plan.specs.TokenBits.{LiteralFits}
 use Rattle.gos_plan.specs.TokenBits as bits
-use Rattle.gos_plan.specs.Orderly.{Open, named_by, handshake_at, after_taken, after_put, ComesWell, ComesInOrder, AllWelcome}
+use Rattle.gos_plan.specs.Orderly.{Open, after_taken, after_put, ComesWell, ComesInOrder, AllWelcome}
 use Rattle.gos_plan.proofs.TurnLemmas.{token_state}
 use Rattle.gos_plan.proofs.HeldLemmas as held
 use Rattle.gos_realises.specs.Regular.{count, Pass, pass, way_in, way_out, is_request, is_open, KeepsTurns}
@@ -25,9 +24,9 @@ use Rattle.gos_passing.proofs.EndLemmas.{asker, caller_contact, inner_contact}
 use Rattle.gos_passing.proofs.LyingLemmas.{caller_place}
 use Rattle.gos_passing.proofs.SeenLemmas.{seen, token_so, put_so, caller_put, share_put, Opens, Untouched, asker_one, comes_well, put_opens, taken_opens, put_untouched, taken_untouched}
 use Rattle.gos_passing.proofs.StepLemmas.{RegularFrom, Stepped, stepped}
-use Rattle.gos_passing.proofs.LagLemmas.{Line, lead, follow, TurnAt, turn_at, at_turn, line_put, line_taken, both_lead, put_inside, inside_finds, taken_inside, open_this, open_other, told_end, ports_of_turns, turns_of_ports, served_there}
+use Rattle.gos_passing.proofs.LagLemmas.{lead, follow, TurnAt, turn_at, at_turn, line_put, line_taken, both_lead, put_inside, inside_finds, taken_inside, open_this, open_other, told_end, ports_of_turns, turns_of_ports, served_there}
 use Rattle.gos_passing.proofs.HandingLemmas.{Hands, inward, outward, Handed, hands_on, source_way, lies_where, Where, at_source, at_caller, caller_number}
-use Rattle.gos_passing.proofs.HeldLemmas.{Lines, LineAt, Held, inside_moves, lines_moved, result_apart, not_import}
+use Rattle.gos_passing.proofs.HeldLemmas.{LineAt, Held, inside_moves, lines_moved, result_apart, not_import}
 use Rattle.gos_passing.proofs.JointLemmas.{put_other, taken_other, put_this, taken_this, place_other, lies_in, emptied, joint_well, put_outer, taken_outer}
 use Rattle.gos_passing.proofs.OuterLemmas.{turned_put, turned_taken, Next, small_on}
 

@@ -5,4 +5,4 @@
 
 mod laws;
 
-pub use laws::order;
+pub use laws::{order, small_plans};
