@@ -12,7 +12,7 @@ use Rattle.gos_plan.specs.Plans.{End, PartEnd, ImportEnd, ResultEnd, Plan, conta
 use Rattle.gos_plan.specs.Tokens.{Tokens, Fire, places_of, token_at, with_token, with_state, with_puts, end_of, way_of, shake_of, way_taken, way_put, firing_of, fired, Does}
 use Rattle.gos_plan.specs.Orderly.{Open, after_taken, after_put, ComesWell, ComesInOrder}
 use Rattle.gos_plan.proofs.RowLemmas.{role_taking}
-use Rattle.gos_plan.proofs.AskingLemmas.{RoleIs, row_roles}
+use Rattle.gos_plan.proofs.AskingLemmas.{RoleIs, row_roles, source_at}
 use Rattle.gos_plan.proofs.TurnLemmas.{way_to_take}
 use Rattle.gos_plan.proofs.HeldLemmas.{nothing_there}
 use Rattle.gos_realises.specs.Regular.{count}
@@ -22,7 +22,7 @@ use Rattle.gos_buffers.specs.Buffering.{end_behind}
 use Rattle.gos_buffers.proofs.GroundLemmas.{next_rests}
 use Rattle.gos_buffers.proofs.ShareStepLemmas.{one_order, written_out, WellBy}
 use Rattle.gos_passing.specs.Behind.{IsBehind}
-use Rattle.gos_passing.proofs.EndLemmas.{Owned, asker, server, share, not_share, source_contact}
+use Rattle.gos_passing.proofs.EndLemmas.{Owned, asker, server, not_share}
 use Rattle.gos_passing.proofs.LyingLemmas.{From, of_inner, of_asker, of_server, from_place}
 
 abbrev pub slot_of : Direction → ℕ → Slot
@@ -119,47 +119,13 @@ share_takes t x slot j k rests at_j takes =
     let found = in_table slot (count t) x.number (contacts_of t) 0 j k at_j (subst (λ (m : ℕ). TakesAt (count t) x.number m k.role slot) zeros takes) in
     (found.0, ap (λ (p : Phase). row_for slot (rows (Share t) p x.number)) rests ∙ found.1)
 
-module _ (i : ℕ) (t : Type') (c : ℕ) (r p : Plan) (is : IsBehind i t c r p) where
-  -- where a token of the Share lies: at its source, or at its caller
-  pub data Where (h : ℕ) : Type 0 where
-    at_source : (k : Contact) → slice_get (contacts_of t) h ≡ Some k → Where h
-    at_caller : (j : ℕ) (k : Contact) → slice_get (contacts_of t) j ≡ Some k → h ≡ caller_number t c j → Where h
+there_is : (cs : List Contact) (h : ℕ) → h < length cs → (k : Contact) × (slice_get cs h ≡ Some k)
+there_is [] h low = absurd (omega (arith, low))
+there_is (x ∷ xs) zero low = (x, refl)
+there_is (x ∷ xs) (suc h) low = there_is xs h (omega (arith, low))
 
-  there_is : (cs : List Contact) (h : ℕ) → h < length cs → (k : Contact) × (slice_get cs h ≡ Some k)
-  there_is [] h low = absurd (omega (arith, low))
-  there_is (x ∷ xs) zero low = (x, refl)
-  there_is (x ∷ xs) (suc h) low = there_is xs h (omega (arith, low))
-
-  pub lies_where : (h : ℕ) (way : Direction) (v : ℕ) (s : Tokens) → token_at r s (PartEnd i h) way ≡ Some v → Where h
-  lies_where h way v s lies = by_place (places_of r (PartEnd i h)) refl
-    where
-      of_end : (d : End) → Owned t p d → PartEnd i h ≡ end_behind i d → Where h
-      of_end (PartEnd l g) own same = let e : i ≡ l = cc same in absurd (not_share i t c r p is.frame l own (sym e))
-      of_end (ImportEnd l g) own same = absurd (cc same)
-      of_end (ResultEnd g) own same =
-          let e : h ≡ g = cc same in
-          let (k, at_g) = there_is (contacts_of t) g own in at_source k (ap (slice_get (contacts_of t)) e ∙ at_g)
-
-      of_caller : (j : ℕ) (k : Contact) → slice_get (contacts_of t) j ≡ Some k → PartEnd i h ≡ caller_end i t c j → Where h
-      of_caller j k at_j same = at_caller j k at_j (cc same)
-
-      asks_so : (j : ℕ) (k : Contact) → slice_get (contacts_of t) j ≡ Some k → (role : Role) → PartEnd i h ≡ asker i t c j role → Where h
-      asks_so j k at_j Serve same = absurd (cc same)
-      asks_so j k at_j Ask same = of_caller j k at_j same
-
-      serves_so : (j : ℕ) (k : Contact) → slice_get (contacts_of t) j ≡ Some k → (role : Role) → PartEnd i h ≡ server i t c j role → Where h
-      serves_so j k at_j Serve same = of_caller j k at_j same
-      serves_so j k at_j Ask same = absurd (cc same)
-
-      of_from : From i t c r p is (PartEnd i h) → Where h
-      of_from (of_inner d own stands same) = of_end d own same
-      of_from (of_asker j k at_j same) = asks_so j k at_j k.role same
-      of_from (of_server j k at_j same) = serves_so j k at_j k.role same
-
-      by_place : (o : Option End) → places_of r (PartEnd i h) ≡ o → Where h
-      by_place None none = absurd (nothing_there r (PartEnd i h) way v s lies none)
-      by_place (Some a) there = of_from (from_place i t c r p is (PartEnd i h) a there)
-
+-- of a Share, for one of its callers
+module _ (i : ℕ) (t : Type') (c : ℕ) (r : Plan) (two : c < 2) (share : slice_get r.parts i ≡ Some (Share t)) where
   -- a token at handshake h handed on to handshake g
   pub record Handed (h g : ℕ) (way : Direction) (v : ℕ) (slot : Slot) (s w : Tokens) : Type 0 where
     pub slot_is : slot ≡ slot_of way h
@@ -209,16 +175,16 @@ module _ (i : ℕ) (t : Type') (c : ℕ) (r p : Plan) (is : IsBehind i t c r p) 
   hands_on slot s w for (v, row, lies, by, leads) = of_kind (pass.1 here)
     where
       fires : firing (Share t) (s.state i) slot ≡ Some row
-      fires = ap (λ x. firing_of x (s.state i) slot) (sym (share i t c r p is.frame)) ∙ by
+      fires = ap (λ x. firing_of x (s.state i) slot) (sym share) ∙ by
 
       pass : (row.takes ≡ slot) × PassesIf t c (s.state i).number row
-      pass = passing t c is.frame.caller (s.state i) slot row fires
+      pass = passing t c two (s.state i) slot row fires
 
       here : IsForCaller t c (s.state i).number (shake_of row.takes)
       here = subst (λ (x : Slot). IsForCaller t c (s.state i).number (shake_of x)) (sym pass.0) for
 
       next : row.next v ≡ at Rest c
-      next = next_rests t c is.frame.caller (s.state i) slot row v fires for
+      next = next_rests t c two (s.state i) slot row v fires for
 
       in_so : (j : ℕ) (k : Contact) → slice_get (contacts_of t) j ≡ Some k → (role : Role) → k.role ≡ role
           → Handed (caller_number t c j) j (way_taken role) v slot s w → Hands slot s w
@@ -240,15 +206,51 @@ module _ (i : ℕ) (t : Type') (c : ℕ) (r p : Plan) (is : IsBehind i t c r p) 
 
   -- what it takes of its source comes out of the plan
   pub source_way : (slot : Slot) (k : Contact) (s w : Tokens) → slice_get (contacts_of t) (shake_of slot) ≡ Some k → Does r (Fire i slot) s w → way_of slot ≡ way_put k.role
-  source_way slot k s w at_j (v, row, lies, by, leads) =
-      let fires : firing (Share t) (s.state i) slot ≡ Some row = ap (λ x. firing_of x (s.state i) slot) (sym (share i t c r p is.frame)) ∙ by in
-      let roles = row_roles (Share t) (s.state i) slot row v fires in
+  source_way slot k s w at_j (v, fired_row, lies, by, leads) =
+      let fires : firing (Share t) (s.state i) slot ≡ Some fired_row = ap (λ x. firing_of x (s.state i) slot) (sym share) ∙ by in
+      let roles = row_roles (Share t) (s.state i) slot fired_row v fires in
       let role = subst (λ (x : Slot). RoleIs (Share t) (shake_of x) (role_taking x)) roles.0 roles.1.0 in
       let there : slice_get (part_contacts (Share t)) (shake_of slot) ≡ Some (turned_contact k) =
-      ap (λ x. slice_get (contacts_of_part x) (shake_of slot)) (sym (share i t c r p is.frame)) ∙ source_contact i t c r p is.frame (shake_of slot) k at_j
+      source_at t (shake_of slot) k at_j
       in
       way_to_take slot ∙ (ap way_taken (sym (role (turned_contact k) there)) ∙ turned_way k.role)
     where
       turned_way : (role : Role) → way_taken (turned role) ≡ way_put role
       turned_way Serve = refl
       turned_way Ask = refl
+
+module _ (i : ℕ) (t : Type') (c : ℕ) (r p : Plan) (is : IsBehind i t c r p) where
+  -- where a token of the Share lies: at its source, or at its caller
+  pub data Where (h : ℕ) : Type 0 where
+    at_source : (k : Contact) → slice_get (contacts_of t) h ≡ Some k → Where h
+    at_caller : (j : ℕ) (k : Contact) → slice_get (contacts_of t) j ≡ Some k → h ≡ caller_number t c j → Where h
+
+  pub lies_where : (h : ℕ) (way : Direction) (v : ℕ) (s : Tokens) → token_at r s (PartEnd i h) way ≡ Some v → Where h
+  lies_where h way v s lies = by_place (places_of r (PartEnd i h)) refl
+    where
+      of_end : (d : End) → Owned t p d → PartEnd i h ≡ end_behind i d → Where h
+      of_end (PartEnd l g) own same = let e : i ≡ l = cc same in absurd (not_share i t c r p is.frame l own (sym e))
+      of_end (ImportEnd l g) own same = absurd (cc same)
+      of_end (ResultEnd g) own same =
+          let e : h ≡ g = cc same in
+          let (k, at_g) = there_is (contacts_of t) g own in at_source k (ap (slice_get (contacts_of t)) e ∙ at_g)
+
+      of_caller : (j : ℕ) (k : Contact) → slice_get (contacts_of t) j ≡ Some k → PartEnd i h ≡ caller_end i t c j → Where h
+      of_caller j k at_j same = at_caller j k at_j (cc same)
+
+      asks_so : (j : ℕ) (k : Contact) → slice_get (contacts_of t) j ≡ Some k → (role : Role) → PartEnd i h ≡ asker i t c j role → Where h
+      asks_so j k at_j Serve same = absurd (cc same)
+      asks_so j k at_j Ask same = of_caller j k at_j same
+
+      serves_so : (j : ℕ) (k : Contact) → slice_get (contacts_of t) j ≡ Some k → (role : Role) → PartEnd i h ≡ server i t c j role → Where h
+      serves_so j k at_j Serve same = of_caller j k at_j same
+      serves_so j k at_j Ask same = absurd (cc same)
+
+      of_from : From i t c r p is (PartEnd i h) → Where h
+      of_from (of_inner d own stands same) = of_end d own same
+      of_from (of_asker j k at_j same) = asks_so j k at_j k.role same
+      of_from (of_server j k at_j same) = serves_so j k at_j k.role same
+
+      by_place : (o : Option End) → places_of r (PartEnd i h) ≡ o → Where h
+      by_place None none = absurd (nothing_there r (PartEnd i h) way v s lies none)
+      by_place (Some a) there = of_from (from_place i t c r p is (PartEnd i h) a there)

@@ -20,7 +20,7 @@ use Rattle.gos_renumbered.proofs.TurnLemmas.{EachKeeps}
 use Rattle.gos_sharing.specs.Sharing.{source_end, caller_end, IsForCaller}
 use Rattle.gos_passing.specs.Behind.{IsBehind}
 use Rattle.gos_passing.proofs.BetweenLemmas.{ServedOpen}
-use Rattle.gos_passing.proofs.EndLemmas.{asker, caller_contact, inner_contact}
+use Rattle.gos_passing.proofs.EndLemmas.{asker, caller_contact, inner_contact, share}
 use Rattle.gos_passing.proofs.LyingLemmas.{caller_place}
 use Rattle.gos_passing.proofs.SeenLemmas.{seen, token_so, put_so, caller_put, share_put, Opens, Untouched, asker_one, comes_well, put_opens, taken_opens, put_untouched, taken_untouched}
 use Rattle.gos_passing.proofs.StepLemmas.{RegularFrom, Stepped, stepped}
@@ -68,7 +68,7 @@ module _ (i : ℕ) (t : Type') (c : ℕ) (r p : Plan) (is : IsBehind i t c r p) 
 
   -- of its caller
   hands_inward : (past own : List Pass) (o mine : Open) (s w : Tokens) → Held i t c r p is past own o mine s → (slot : Slot) → Does r (Fire i slot) s w
-      → (j : ℕ) (k : Contact) (v : ℕ) → slice_get (contacts_of t) j ≡ Some k → Handed i t c r p is (caller_number t c j) j (way_taken k.role) v slot s w
+      → (j : ℕ) (k : Contact) (v : ℕ) → slice_get (contacts_of t) j ≡ Some k → Handed i t c r is.frame.caller (share i t c r p is.frame) (caller_number t c j) j (way_taken k.role) v slot s w
       → Next i t c r p is literals past o s (Fire i slot) w
   hands_inward past own o mine s w h slot does j k v at_j handed =
       record {
@@ -240,7 +240,7 @@ module _ (i : ℕ) (t : Type') (c : ℕ) (r p : Plan) (is : IsBehind i t c r p) 
 
   -- of its source
   hands_outward : (past own : List Pass) (o mine : Open) (s w : Tokens) → Held i t c r p is past own o mine s → (slot : Slot) → Does r (Fire i slot) s w
-      → (j : ℕ) (k : Contact) (v : ℕ) → slice_get (contacts_of t) j ≡ Some k → Handed i t c r p is j (caller_number t c j) (way_put k.role) v slot s w
+      → (j : ℕ) (k : Contact) (v : ℕ) → slice_get (contacts_of t) j ≡ Some k → Handed i t c r is.frame.caller (share i t c r p is.frame) j (caller_number t c j) (way_put k.role) v slot s w
       → Next i t c r p is literals past o s (Fire i slot) w
   hands_outward past own o mine s w h slot does j k v at_j handed =
       record {
@@ -360,7 +360,7 @@ module _ (i : ℕ) (t : Type') (c : ℕ) (r p : Plan) (is : IsBehind i t c r p) 
       of_where (at_caller j k at_j same) =
           let low = slice_get_within (contacts_of t) j k at_j in inl (omega (arith, same), omega (arith, same, low))
       of_where (at_source k at_j) =
-          let ways = source_way i t c r p is slot k s w at_j does in
+          let ways = source_way i t c r is.frame.caller (share i t c r p is.frame) slot k s w at_j does in
           let lies : token_at r s (source_end i (shake_of slot)) (way_put k.role) ≡ Some does.0 = ap (token_at r s (PartEnd i (shake_of slot))) (sym ways) ∙ does.2 in
           let st = out_step past own o mine s h (shake_of slot) k does.0 at_j lies in
           inr (
@@ -370,9 +370,9 @@ module _ (i : ℕ) (t : Type') (c : ℕ) (r p : Plan) (is : IsBehind i t c r p) 
 
   pub share_fires : (past own : List Pass) (o mine : Open) (s w : Tokens) → Held i t c r p is past own o mine s → (slot : Slot) → Does r (Fire i slot) s w
       → Next i t c r p is literals past o s (Fire i slot) w
-  share_fires past own o mine s w h slot does = of_hands (hands_on i t c r p is slot s w (works past own o mine s w h slot does) does)
+  share_fires past own o mine s w h slot does = of_hands (hands_on i t c r is.frame.caller (share i t c r p is.frame) slot s w (works past own o mine s w h slot does) does)
     where
-      of_hands : Hands i t c r p is slot s w → Next i t c r p is literals past o s (Fire i slot) w
+      of_hands : Hands i t c r is.frame.caller (share i t c r p is.frame) slot s w → Next i t c r p is literals past o s (Fire i slot) w
       of_hands (inward j k v at_j handed) = hands_inward past own o mine s w h slot does j k v at_j handed
       of_hands (outward j k v at_j handed) = hands_outward past own o mine s w h slot does j k v at_j handed
 
