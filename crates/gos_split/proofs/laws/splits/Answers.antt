@@ -1,0 +1,1 @@
+use Rattle.gos_split.proofs.laws.splits.Goals as goal

@@ -1,0 +1,9 @@
+// What the definitions give. Each theorem is the contract of a function that does nothing.
+ghost use Rattle.gos_split.specs.Split.{SplitIsDone, SplitIsRegular};
+
+/// A plan with a Share of a function's type is regular, and realises a program of a ground type, where one does that has
+/// a Share of the argument's type and one of the outcome's in its place.
+pub fn splits()
+    ensures regular { SplitIsRegular }
+    ensures done { SplitIsDone }
+{}
