@@ -1,1 +1,3 @@
 pub mod MovedLemmas
+pub mod PassLemmas
+pub mod AlikeLemmas
