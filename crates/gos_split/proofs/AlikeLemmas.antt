@@ -1,38 +1,27 @@
 -- The plan with the Share and the one with the two Shares, step by step.
-use Rattle.std.specs.Prelude.{◌≡◌, ◌≢◌, ℕ, zero, suc, ◌+◌, ◌*◌, ◌<◌, ◌≤◌, ◌^◌, Bool, true, false, ◌&&◌, List, [], ◌∷◌, ◌⊎◌, length, Option, Some, None, slice_get, nat_eq, nat_lt, if◌then◌else◌}
-use Rattle.std.proofs.Common.{refl, sym, ◌∙◌, ap, subst, arith, inl, inr}
-use Rattle.std.proofs.lemmas.Option.{slice_get_within, same_Some}
-use Rattle.std.specs.List.{list_any}
-use Rattle.gos_types.specs.declared.shakes.Role.{Role}
-use Rattle.gos_types.specs.declared.shakes.Role.TheVariants.{Serve, Ask}
+use Rattle.std.specs.Prelude.{◌≡◌, ◌≢◌, ℕ, ◌<◌, ◌^◌, Bool, true, false, ◌&&◌, List, [], ◌∷◌, Option, Some, None, slice_get, if◌then◌else◌}
+use Rattle.std.proofs.Common.{refl, sym, ◌∙◌, ap, subst, arith, inl}
+use Rattle.std.proofs.lemmas.Option.{same_Some}
 use Rattle.gos_types.specs.Types.{Type', Fun}
-use Rattle.gos_types.specs.Handshakes.{turned}
-use Rattle.gos_netlist.specs.Events.{Direction, Request, Answer}
-use Rattle.gos_plan.specs.Kinds.{Part, Share, Contact, contacts_of, turned_contact}
-use Rattle.gos_plan.specs.Firing.{Rest, State, at, Slot, Req, Ans, Token, put, Row, firing}
+use Rattle.gos_netlist.specs.Events.{Direction, Answer}
+use Rattle.gos_plan.specs.Kinds.{Contact, contacts_of}
+use Rattle.gos_plan.specs.Firing.{Rest, State, Slot, Req, Ans, Token, Row}
 use Rattle.gos_plan.specs.Plans.{End, PartEnd, ImportEnd, ResultEnd, Plan, contact_at, contacts_of_part, contacts_of_import, turned_if}
 use Rattle.gos_plan.specs.Tokens.{Tokens, Element, Fire, Out, In, IsPortEnd, Passes, places_of, with_place, held_at, with_held, token_at, with_token, with_state, with_puts, end_of, way_of, shake_of, way_taken, way_put, bits_of, firing_of, fired, Does, Runs}
 use Rattle.gos_plan.specs.Orderly.{Open, after_taken, after_put, after_puts, ComesWell, AllComeWell, ComesInOrder, AllWelcome}
 use Rattle.gos_plan.proofs.HeldLemmas as held
 use Rattle.gos_plan.proofs.HeldLemmas.{takes_of, nothing_there}
-use Rattle.gos_plan.proofs.TurnLemmas.{fired_state, token_state}
 use Rattle.gos_realises.specs.Regular.{count, Pass, pass, way_in, way_out, is_open, KeepsTurns, KeepsTurnsOf, ComesInTurn, InputsKeepTurns, whole_type, whole_end}
-use Rattle.gos_realises.specs.Matched.{shows, asks_on, is_request_slot, label_at, port_if, event_number, GoesOn}
+use Rattle.gos_realises.specs.Matched.{shows, label_at, port_if, event_number, GoesOn}
 use Rattle.gos_model.specs.Moves.{Act}
 use Rattle.gos_realises.proofs.RingLemmas.{after, OutputTurns}
 use Rattle.gos_realises.proofs.InputLemmas.{in_there, out_there}
-use Rattle.gos_realises.proofs.GroundTurnLemmas.{count_fun}
 use Rattle.gos_webs.specs.Cutting.{asks_in}
-use Rattle.gos_webs.proofs.CutLemmas.{asker_asks, part_there}
-use Rattle.gos_sharing.specs.Sharing.{source_end, caller_end, IsForCaller}
-use Rattle.gos_buffers.proofs.BranchLemmas.{Leaves, fire_leaves, out_leaves, in_leaves, stands}
-use Rattle.gos_passing.proofs.BetweenLemmas.{first_of_fun, second_of_fun}
+use Rattle.gos_webs.proofs.CutLemmas.{asker_asks}
+use Rattle.gos_buffers.proofs.BranchLemmas.{Leaves, fire_leaves, out_leaves, in_leaves}
 use Rattle.gos_passing.proofs.StepLemmas.{RegularFrom, InputTurns, with_turn, Stepped, stepped}
-use Rattle.gos_passing.proofs.OuterLemmas.{turned_put, turned_taken}
-use Rattle.gos_passing.proofs.HandingLemmas.{slot_of, caller_number, Hands, inward, outward, Handed, hands_on}
 use Rattle.gos_split.specs.Split.{Splitting, IsUsed, IsSplit}
-use Rattle.gos_split.proofs.MovedLemmas.{split, token_so, put_so, part_state, state_put, wide_put, argument_state, outcome_state, share_put, names, Opens, put_opens, taken_opens, comes_well}
-use Rattle.gos_split.proofs.PassLemmas.{Row', inward_row, outward_row}
+use Rattle.gos_split.proofs.MovedLemmas.{split, token_so, put_so, part_state, state_put, Opens, put_opens, taken_opens, comes_well}
 
 -- places hold tokens where an end asks
 abbrev pub Placed : Plan → Tokens → Type 0
@@ -90,7 +79,7 @@ module _ (f : Splitting) (x u : Plan) (is : IsSplit f x u) where
       (zs : List Element) (z v : Tokens) (slot : Slot) → Runs x zs s z → InputsKeepTurns x past zs → shake_of slot < count (Fun f.of f.to) → Does x (Fire f.wide slot) z v
       → (z.state f.wide).number ≡ f.caller
 
-  loyal_on : (past : List Pass) (s w : Tokens) (z : Element) → LoyalFrom past s → Does x z s w → InputTurns x past z → LoyalFrom (after x z past) w
+  pub loyal_on : (past : List Pass) (s w : Tokens) (z : Element) → LoyalFrom past s → Does x z s w → InputTurns x past z → LoyalFrom (after x z past) w
   loyal_on past s w z loyal does turn zs y v slot runs keeps small fires = loyal (z ∷ zs) y v slot (w, does, runs) (with_turn x past z zs turn keeps) small fires
 
   pub record Alike (past : List Pass) (o mine : Open) (s : Tokens) : Type 0 where

@@ -1,3 +1,5 @@
 pub mod MovedLemmas
 pub mod PassLemmas
 pub mod AlikeLemmas
+pub mod SwapLemmas
+pub mod FollowLemmas

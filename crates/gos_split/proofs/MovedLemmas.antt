@@ -1,17 +1,15 @@
 -- The ends, places, tokens and open handshakes of the plan with the Share, in the one with the two Shares.
-use Rattle.std.specs.Prelude.{◌≡◌, ◌≢◌, ℕ, ◌+◌, ◌*◌, ◌<◌, Bool, true, false, ◌&&◌, List, [], ◌∷◌, ◌⊎◌, Option, Some, None, slice_get, nat_eq, Contains}
+use Rattle.std.specs.Prelude.{◌≡◌, ◌≢◌, ℕ, Bool, true, false, ◌&&◌, ◌⊎◌, Option, Some, None, nat_eq}
 use Rattle.std.proofs.Common.{refl, sym, ◌∙◌, ap, subst, arith, inl, inr, if◌then◌else◌}
-use Rattle.gos_types.specs.Types.{Fun}
 use Rattle.gos_netlist.specs.Events.{Direction, Request, Answer}
-use Rattle.gos_plan.specs.Firing.{Rest, State, at, Slot, Token, Row}
-use Rattle.gos_plan.specs.Plans.{End, PartEnd, ImportEnd, ResultEnd, Joint, Plan, same_end, stands_in}
-use Rattle.gos_plan.specs.Tokens.{Tokens, places_of, same_way, with_place, with_state, held_at, with_held, token_at, with_token, with_puts, end_of, way_of}
-use Rattle.gos_plan.specs.Orderly.{Open, named_by, handshake_at, with_open, after_taken, after_put, after_puts, ComesWell, AllComeWell}
+use Rattle.gos_plan.specs.Firing.{Rest, State, at}
+use Rattle.gos_plan.specs.Plans.{End, Joint, Plan, same_end, stands_in}
+use Rattle.gos_plan.specs.Tokens.{Tokens, places_of, same_way, with_place, with_state, held_at, with_held, token_at, with_token}
+use Rattle.gos_plan.specs.Orderly.{Open, named_by, handshake_at, with_open, after_taken, after_put, ComesWell}
 use Rattle.gos_plan.proofs.JointLemmas.{IsIn, same_itself, same_is, found, has_place, stands_there, contained}
-use Rattle.gos_realises.specs.Regular.{count}
 use Rattle.gos_webs.specs.Webs.{joint}
-use Rattle.gos_webs.specs.Cutting.{asks_in, StandsIn}
-use Rattle.gos_webs.proofs.CutLemmas.{which_end, stands_by, asks_one, asks_there, asker_asks, first_stands, last_stands}
+use Rattle.gos_webs.specs.Cutting.{asks_in}
+use Rattle.gos_webs.proofs.CutLemmas.{which_end, stands_by, asks_one, asks_there, asker_asks}
 use Rattle.gos_webs.proofs.MovedLemmas.{listed, same_bool}
 use Rattle.gos_split.specs.Split.{Splitting, IsUsed, IsSplit}
 

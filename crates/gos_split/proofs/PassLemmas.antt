@@ -1,5 +1,5 @@
 -- A Share at one of its callers: the row of each token of that caller and of the source.
-use Rattle.std.specs.Prelude.{◌≡◌, ℕ, ◌+◌, ◌*◌, ◌<◌, List, [], ◌∷◌, Option, Some, slice_get}
+use Rattle.std.specs.Prelude.{◌≡◌, ℕ, ◌<◌, [], ◌∷◌, Some, slice_get}
 use Rattle.std.proofs.Common.{refl, sym, ◌∙◌, ap, subst, arith, inl, inr}
 use Rattle.std.proofs.lemmas.Option.{slice_get_within}
 use Rattle.gos_types.specs.declared.shakes.Role.{Role}
@@ -7,7 +7,7 @@ use Rattle.gos_types.specs.declared.shakes.Role.TheVariants.{Serve, Ask}
 use Rattle.gos_types.specs.Types.{Type'}
 use Rattle.gos_netlist.specs.Events.{Direction, Request, Answer}
 use Rattle.gos_plan.specs.Kinds.{Share, Contact, contacts_of}
-use Rattle.gos_plan.specs.Firing.{Rest, State, at, Slot, Req, Ans, Token, put, Row, firing}
+use Rattle.gos_plan.specs.Firing.{Rest, State, at, Slot, Req, Ans, put, Row, firing}
 use Rattle.gos_plan.specs.Tokens.{shake_of, way_taken, way_put}
 use Rattle.gos_realises.specs.Regular.{count}
 use Rattle.gos_sharing.specs.Sharing.{IsForCaller}
