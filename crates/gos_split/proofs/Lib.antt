@@ -3,3 +3,4 @@ pub mod PassLemmas
 pub mod AlikeLemmas
 pub mod SwapLemmas
 pub mod FollowLemmas
+pub mod SmallLemmas

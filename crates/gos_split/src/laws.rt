@@ -1,4 +1,5 @@
 // What the definitions give. Each theorem is the contract of a function that does nothing.
+ghost use Rattle.gos_split.specs.SmallSplit.{SameIsSplit, WholeIsNoSplit};
 ghost use Rattle.gos_split.specs.Split.{SplitIsDone, SplitIsRegular};
 
 /// A plan with a Share of a function's type is regular, and realises a program of a ground type, where one does that has
@@ -7,3 +8,11 @@ pub fn splits()
     ensures regular { SplitIsRegular }
     ensures done { SplitIsDone }
 {}
+
+/// The plan of `fun a : com . a` behind a Share is split into the one behind two, and not into itself.
+pub fn small_splits()
+    ensures same { SameIsSplit }
+    ensures whole { WholeIsNoSplit }
+{
+    gos_passing::small_plans();
+}

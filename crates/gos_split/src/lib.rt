@@ -5,4 +5,4 @@
 
 mod laws;
 
-pub use laws::splits;
+pub use laws::{small_splits, splits};
