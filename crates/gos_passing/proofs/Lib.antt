@@ -12,4 +12,5 @@ pub mod ResultLemmas
 pub mod ShareLemmas
 pub mod RegularLemmas
 pub mod PassingLemmas
+pub mod SourceLemmas
 pub mod SmallLemmas
