@@ -4,3 +4,4 @@ pub mod AlikeLemmas
 pub mod SwapLemmas
 pub mod FollowLemmas
 pub mod SmallLemmas
+pub mod JoinedLemmas
