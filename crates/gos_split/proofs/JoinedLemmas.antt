@@ -41,7 +41,7 @@ there_is [] h low = absurd (omega (arith, low))
 there_is (x ∷ xs) zero low = (x, refl)
 there_is (x ∷ xs) (suc h) low = there_is xs h (omega (arith, low))
 
-part_is : (xs : List Part) (h : ℕ) → h < length xs → (k : Part) × (slice_get xs h ≡ Some k)
+pub part_is : (xs : List Part) (h : ℕ) → h < length xs → (k : Part) × (slice_get xs h ≡ Some k)
 part_is [] h low = absurd (omega (arith, low))
 part_is (x ∷ xs) zero low = (x, refl)
 part_is (x ∷ xs) (suc h) low = part_is xs h (omega (arith, low))
@@ -53,7 +53,7 @@ not_asks_serves : (q a x y : ℕ) → asks q a ≡ serves x y → ⊥
 not_asks_serves q a x y e = let roles : Ask ≡ Serve = ap (λ (c : Contact). c.role) e in cc roles
 
 -- Of links that join no part of the first plan.
-abbrev Kept : Place → Type 0
+abbrev pub Kept : Place → Type 0
 Kept a = a.plan ≡ 0 → IsPortEnd a.end
 
 abbrev pub AllKept : List Link → Type 0
@@ -67,7 +67,7 @@ module _ (x : Plan) (ps : List Plan) (ls : List Link) (giver skipped : ℕ) (ty 
   abbrev w : Wiring
   w = wiring x ps ls giver skipped ty
 
-  low_origin : (n h : ℕ) → n < length x.parts → origin w (PartEnd n h) ≡ place 0 (PartEnd n h)
+  pub low_origin : (n h : ℕ) → n < length x.parts → origin w (PartEnd n h) ≡ place 0 (PartEnd n h)
   low_origin n h low =
       let test : nat_lt n (length x.parts) ≡ true = grind (arith, nat_tests, low) in
       ap (λ (b : Bool). if b then place 0 (PartEnd n h) else part_place 1 ps (n - length x.parts) h) test
@@ -171,25 +171,25 @@ module _ (f : Splitting) (x u : Plan) (is : IsSplit f x u) where
   abbrev Lands : ℕ → ℕ → Type 0
   Lands n h = (m : ℕ) × (g : ℕ) × (f.end (PartEnd n h) ≡ PartEnd m g) × (m < length u.parts)
 
-  argument_low : f.argument < length u.parts
+  pub argument_low : f.argument < length u.parts
   argument_low = slice_get_within u.parts f.argument (Share f.of) is.argument_share
 
-  outcome_low : f.outcome < length u.parts
+  pub outcome_low : f.outcome < length u.parts
   outcome_low = slice_get_within u.parts f.outcome (Share f.to) is.outcome_share
 
-  wide_low : f.wide < length x.parts
+  pub wide_low : f.wide < length x.parts
   wide_low = slice_get_within x.parts f.wide (Share (Fun f.of f.to)) is.wide_share
 
-  part_low : (n : ℕ) → n ≢ f.wide → n < length x.parts → f.part n < length u.parts
+  pub part_low : (n : ℕ) → n ≢ f.wide → n < length x.parts → f.part n < length u.parts
   part_low n own low = let (k, there) = part_is x.parts n low in slice_get_within u.parts (f.part n) k ((is.parts n own).0 ∙ there)
 
-  back_low : (m : ℕ) → m ≢ f.argument → m ≢ f.outcome → m < length u.parts → f.part_back m < length x.parts
+  pub back_low : (m : ℕ) → m ≢ f.argument → m ≢ f.outcome → m < length u.parts → f.part_back m < length x.parts
   back_low m one other low =
       let (k, there) = part_is u.parts m low in
       let (comes, own) = is.others m one other in
       slice_get_within x.parts (f.part_back m) k (sym (is.parts (f.part_back m) own).0 ∙ (ap (slice_get u.parts) comes ∙ there))
 
-  source_lands : (j : ℕ) → j < count (Fun f.of f.to) → Lands f.wide j
+  pub source_lands : (j : ℕ) → j < count (Fun f.of f.to) → Lands f.wide j
   source_lands j low = elim (by_size j) [
     | inl small ↦ (f.argument, count f.of + f.caller * count f.of + j, is.argument_source j small, argument_low)
     | inr (l, sum) ↦
@@ -210,18 +210,18 @@ module _ (f : Splitting) (x u : Plan) (is : IsSplit f x u) where
         ))
   ]
 
-  lands : (n h : ℕ) → n < length x.parts → IsUsed f (PartEnd n h) → Lands n h
+  pub lands : (n h : ℕ) → n < length x.parts → IsUsed f (PartEnd n h) → Lands n h
   lands n h low (inl own) = (f.part n, h, is.ends n h own, part_low n own low)
   lands n h low (inr (same, inl small)) = subst (λ (m : ℕ). Lands m h) (sym same) (source_lands h small)
   lands n h low (inr (same, inr (j, small, e))) =
       subst (λ (m : ℕ). Lands m h) (sym same) (subst (λ (g : ℕ). Lands f.wide g) (sym e) (caller_lands j small))
 
-  abbrev joined_end : End → End
+  abbrev pub joined_end : End → End
   joined_end (PartEnd n h) = if nat_lt n (length x.parts) then f.end (PartEnd n h) else PartEnd (n - length x.parts + length u.parts) h
   joined_end (ImportEnd n h) = ImportEnd n h
   joined_end (ResultEnd h) = ResultEnd h
 
-  abbrev joined_back : End → End
+  abbrev pub joined_back : End → End
   joined_back (PartEnd n h) = if nat_lt n (length u.parts) then f.end_back (PartEnd n h) else PartEnd (n - length u.parts + length x.parts) h
   joined_back (ImportEnd n h) = ImportEnd n h
   joined_back (ResultEnd h) = ResultEnd h

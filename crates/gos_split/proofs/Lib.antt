@@ -5,3 +5,4 @@ pub mod SwapLemmas
 pub mod FollowLemmas
 pub mod SmallLemmas
 pub mod JoinedLemmas
+pub mod CarriedLemmas
