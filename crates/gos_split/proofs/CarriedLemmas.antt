@@ -17,8 +17,9 @@ use Rattle.gos_webs.specs.Cutting.{StandsIn}
 use Rattle.gos_webs.proofs.CutLemmas.{which_end, stands_by, part_at}
 use Rattle.gos_unions.proofs.PathLemmas.{path_walk, walks_paths}
 use Rattle.gos_unions.proofs.WalkLemmas.{goes, mapped_walk}
+use Rattle.gos_split.specs.Joined.{wiring, IsPortPlace, AllPortPlaces, JoinedIsSplit}
 use Rattle.gos_split.specs.Split.{Splitting, IsUsed, IsSplit}
-use Rattle.gos_split.proofs.JoinedLemmas.{Kept, AllKept, wiring, stands_low, low_origin, contact_moved, lands, part_low, back_low, argument_low, outcome_low, wide_low, joined_end, joined_back, joined_split}
+use Rattle.gos_split.proofs.JoinedLemmas.{stands_low, low_origin, contact_moved, lands, part_low, back_low, argument_low, outcome_low, wide_low, joined_end, joined_back, joined_split}
 
 later_plan : (m : ℕ) (ps : List Plan) (i h : ℕ) → (n : ℕ) × ((part_place (suc m) ps i h).plan ≡ suc n)
 later_plan m [] i h = (m, refl)
@@ -29,7 +30,7 @@ later_plan m (p ∷ ps) i h = by_test (nat_lt i (length p.parts)) refl (later_pl
     by_test true test rest = (m, refl)
     by_test false test rest = rest
 
-module _ (f : Splitting) (x u : Plan) (is : IsSplit f x u) (ps : List Plan) (ls : List Link) (giver skipped : ℕ) (ty : Type') (kept : AllKept ls) (X U : Plan)
+module _ (f : Splitting) (x u : Plan) (is : IsSplit f x u) (ps : List Plan) (ls : List Link) (giver skipped : ℕ) (ty : Type') (kept : AllPortPlaces ls) (X U : Plan)
     (of_x : IsJoining (wiring x ps ls giver skipped ty) X) (of_u : IsJoining (wiring u ps ls giver skipped ty) U)
   where
   abbrev w : Wiring
@@ -72,13 +73,13 @@ module _ (f : Splitting) (x u : Plan) (is : IsSplit f x u) (ps : List Plan) (ls 
   port_here zero e port = port_back e (port refl)
   port_here (suc k) e port = refl
 
-  kept_there : (a : Place) → Kept a → there a ≡ a
+  kept_there : (a : Place) → IsPortPlace a → there a ≡ a
   kept_there a port = place_is (there a) a refl (port_at a.plan a.end port)
 
-  kept_here : (a : Place) → Kept a → here a ≡ a
+  kept_here : (a : Place) → IsPortPlace a → here a ≡ a
   kept_here a port = place_is (here a) a refl (port_here a.plan a.end port)
 
-  later_kept : (m : ℕ) (i h : ℕ) → Kept (part_place (suc m) ps i h)
+  later_kept : (m : ℕ) (i h : ℕ) → IsPortPlace (part_place (suc m) ps i h)
   later_kept m i h none = let (n, is_n) = later_plan m ps i h in absurd (omega (arith, none, is_n))
 
   -- steps there
@@ -167,7 +168,7 @@ module _ (f : Splitting) (x u : Plan) (is : IsSplit f x u) (ps : List Plan) (ls 
   left_same : all_left v ≡ all_left w
   left_same = ap (λ js. left_in ls 0 0 js ++ left_among ls 1 ps) is.imports
 
-  left_kept : (o : Option LeftImport) (h : ℕ) → Kept (left_place o h)
+  left_kept : (o : Option LeftImport) (h : ℕ) → IsPortPlace (left_place o h)
   left_kept None h same = tt
   left_kept (Some l) h same = tt
 
@@ -501,3 +502,7 @@ module _ (f : Splitting) (x u : Plan) (is : IsSplit f x u) (ps : List Plan) (ls 
       port_joined (PartEnd n h) port = absurd port
       port_joined (ImportEnd n h) port = refl
       port_joined (ResultEnd h) port = refl
+
+pub joined_split_is : JoinedIsSplit
+joined_split_is f x u r s ps ls giver skipped t is kept of_x of_u =
+    (joined_split f x u is, joined_is_split f x u is ps ls giver skipped t kept r s of_x of_u, refl, refl, refl, refl)

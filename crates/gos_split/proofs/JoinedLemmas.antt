@@ -7,7 +7,6 @@ use Rattle.gos_types.specs.Types.{Type', Fun}
 use Rattle.gos_types.specs.declared.shakes.Role.TheVariants.{Serve, Ask}
 use Rattle.gos_plan.specs.Kinds.{Part, Share, Contact, asks, serves, contacts_of, turned_contact, part_contacts}
 use Rattle.gos_plan.specs.Plans.{End, PartEnd, ImportEnd, ResultEnd, Plan, contact_at, contacts_of_part, contacts_of_import, turned_if}
-use Rattle.gos_plan.specs.Tokens.{IsPortEnd}
 use Rattle.gos_plan.specs.Joining.{Place, place, Link, Wiring, LeftImport, all_parts, all_left, left_in, left_among, left_place, part_place, origin, JoinedWithin, Linked, Path, IsJoining}
 use Rattle.gos_plan.proofs.AskingLemmas.{source_at, first_caller_at, second_caller_at}
 use Rattle.gos_realises.specs.Regular.{count}
@@ -19,6 +18,7 @@ use Rattle.gos_webs.proofs.CutLemmas.{which_end, stands_by}
 use Rattle.gos_unions.proofs.PlaceLemmas.{fields_of, stands_alone}
 use Rattle.gos_sharing.specs.Sharing.{source_end, caller_end}
 use Rattle.gos_passing.proofs.BetweenLemmas.{first_of_fun, second_of_fun}
+use Rattle.gos_split.specs.Joined.{wiring, IsPortPlace, AllPortPlaces}
 use Rattle.gos_split.specs.Split.{Splitting, IsUsed, IsSplit}
 
 -- handshakes of a Share
@@ -52,18 +52,8 @@ twice_turned d = λ n. record { role = role_twice d.role n; ask_bits = d.ask_bit
 not_asks_serves : (q a x y : ℕ) → asks q a ≡ serves x y → ⊥
 not_asks_serves q a x y e = let roles : Ask ≡ Serve = ap (λ (c : Contact). c.role) e in cc roles
 
--- Of links that join no part of the first plan.
-abbrev pub Kept : Place → Type 0
-Kept a = a.plan ≡ 0 → IsPortEnd a.end
-
-abbrev pub AllKept : List Link → Type 0
-AllKept ls = (l : Link) → Contains ls l → Kept l.one × Kept l.other
-
-abbrev pub wiring : Plan → List Plan → List Link → ℕ → ℕ → Type' → Wiring
-wiring p ps ls giver skipped t = record { plans = p ∷ ps; links = ls; giver = giver; skipped = skipped; outcome = t }
-
 -- a part's end of the first plan that stands in a joint stands in one of its plan
-module _ (x : Plan) (ps : List Plan) (ls : List Link) (giver skipped : ℕ) (ty : Type') (whole : Plan) (kept : AllKept ls) (joins : IsJoining (wiring x ps ls giver skipped ty) whole) where
+module _ (x : Plan) (ps : List Plan) (ls : List Link) (giver skipped : ℕ) (ty : Type') (whole : Plan) (kept : AllPortPlaces ls) (joins : IsJoining (wiring x ps ls giver skipped ty) whole) where
   abbrev w : Wiring
   w = wiring x ps ls giver skipped ty
 
@@ -80,8 +70,8 @@ module _ (x : Plan) (ps : List Plan) (ls : List Link) (giver skipped : ℕ) (ty 
         | inl (e, g) ↦ (j, has_x, stands_by (PartEnd n h) j (inl e))
         | inr (e, g) ↦ (j, has_x, stands_by (PartEnd n h) j (inr e))
       ]
-  of_step n h a (inr (l, has, inl (e, g))) = absurd (subst Kept (sym e) (kept l has).0 refl)
-  of_step n h a (inr (l, has, inr (e, g))) = absurd (subst Kept (sym e) (kept l has).1 refl)
+  of_step n h a (inr (l, has, inl (e, g))) = absurd (subst IsPortPlace (sym e) (kept l has).0 refl)
+  of_step n h a (inr (l, has, inr (e, g))) = absurd (subst IsPortPlace (sym e) (kept l has).1 refl)
 
   of_path : (n h : ℕ) → n < length x.parts → (k : ℕ) (e : End) → (PartEnd n h ≢ e) → (c d : Contact) → contact_at whole (PartEnd n h) ≡ Some c → contact_at whole e ≡ Some d
       → Path w k (origin w (PartEnd n h)) (origin w e) → StandsIn x (PartEnd n h)

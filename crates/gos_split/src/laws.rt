@@ -1,4 +1,5 @@
 // What the definitions give. Each theorem is the contract of a function that does nothing.
+ghost use Rattle.gos_split.specs.Joined.{JoinedIsSplit};
 ghost use Rattle.gos_split.specs.SmallSplit.{SameIsSplit, WholeIsNoSplit};
 ghost use Rattle.gos_split.specs.Split.{SplitIsDone, SplitIsRegular};
 
@@ -7,6 +8,11 @@ ghost use Rattle.gos_split.specs.Split.{SplitIsDone, SplitIsRegular};
 pub fn splits()
     ensures regular { SplitIsRegular }
     ensures done { SplitIsDone }
+{}
+
+/// What is joined to split plans is split.
+pub fn joinings()
+    ensures { JoinedIsSplit }
 {}
 
 /// The plan of `fun a : com . a` behind a Share is split into the one behind two, and not into itself.
