@@ -6,3 +6,4 @@ pub mod FollowLemmas
 pub mod SmallLemmas
 pub mod JoinedLemmas
 pub mod CarriedLemmas
+pub mod BeforeLemmas
