@@ -191,8 +191,7 @@ module _ (f : Splitting) (x u : Plan) (is : IsSplit f x u) where
   caller_lands j low = elim (by_size j) [
     | inl small ↦ (f.argument, j, is.argument_caller j small, argument_low)
     | inr (l, sum) ↦
-        (let small : l < count f.to = (let size = sizes in omega (arith, low, sum, size)) in
-        (
+        (let small : l < count f.to = (let size = sizes in omega (arith, low, sum, size)) in (
           f.outcome,
           count f.to + f.caller * count f.to + l,
           ap (λ (n : ℕ). f.end (caller_end f.wide (Fun f.of f.to) f.caller n)) sum ∙ is.outcome_caller l small,

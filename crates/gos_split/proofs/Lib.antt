@@ -7,3 +7,4 @@ pub mod SmallLemmas
 pub mod JoinedLemmas
 pub mod CarriedLemmas
 pub mod BeforeLemmas
+pub mod MeansLemmas

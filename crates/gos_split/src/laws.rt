@@ -1,5 +1,6 @@
 // What the definitions give. Each theorem is the contract of a function that does nothing.
 ghost use Rattle.gos_split.specs.Joined.{JoinedIsSplit};
+ghost use Rattle.gos_split.specs.Realised.{SplitIsRealised};
 ghost use Rattle.gos_split.specs.SmallSplit.{SameIsSplit, WholeIsNoSplit};
 ghost use Rattle.gos_split.specs.Split.{SplitIsDone, SplitIsRegular};
 
@@ -8,6 +9,11 @@ ghost use Rattle.gos_split.specs.Split.{SplitIsDone, SplitIsRegular};
 pub fn splits()
     ensures regular { SplitIsRegular }
     ensures done { SplitIsDone }
+{}
+
+/// It realises a term of any type that the other realises, where a region that is a regular plan is joined to its source.
+pub fn realising()
+    ensures { SplitIsRealised }
 {}
 
 /// What is joined to split plans is split.

@@ -5,4 +5,4 @@
 
 mod laws;
 
-pub use laws::{joinings, small_splits, splits};
+pub use laws::{joinings, realising, small_splits, splits};
