@@ -1,0 +1,8 @@
+use Rattle.gos_passing.proofs.SourceLemmas.{sources_are_loyal, behind_is_loyal}
+use Rattle.gos_passing.proofs.laws.loyalty.Goals as goal
+
+pub returns-clause-sources : goal.returns-clause-sources
+returns-clause-sources c = sources_are_loyal
+
+pub returns-clause-behind : goal.returns-clause-behind
+returns-clause-behind c = behind_is_loyal

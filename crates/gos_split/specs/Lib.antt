@@ -1,0 +1,4 @@
+pub mod Split
+pub mod Joined
+pub mod Realised
+pub mod SmallSplit

@@ -1,0 +1,30 @@
+// What the definitions give. Each theorem is the contract of a function that does nothing.
+ghost use Rattle.gos_split.specs.Joined.{JoinedIsSplit};
+ghost use Rattle.gos_split.specs.Realised.{SplitIsRealised};
+ghost use Rattle.gos_split.specs.SmallSplit.{SameIsSplit, WholeIsNoSplit};
+ghost use Rattle.gos_split.specs.Split.{SplitIsDone, SplitIsRegular};
+
+/// A plan with a Share of a function's type is regular, and realises a program of a ground type, where one does that has
+/// a Share of the argument's type and one of the outcome's in its place.
+pub fn splits()
+    ensures regular { SplitIsRegular }
+    ensures done { SplitIsDone }
+{}
+
+/// It realises a term of any type that the other realises, where a region that is a regular plan is joined to its source.
+pub fn realising()
+    ensures { SplitIsRealised }
+{}
+
+/// What is joined to split plans is split.
+pub fn joinings()
+    ensures { JoinedIsSplit }
+{}
+
+/// The plan of `fun a : com . a` behind a Share is split into the one behind two, and not into itself.
+pub fn small_splits()
+    ensures same { SameIsSplit }
+    ensures whole { WholeIsNoSplit }
+{
+    gos_passing::small_plans();
+}
