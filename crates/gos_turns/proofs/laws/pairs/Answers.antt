@@ -1,0 +1,8 @@
+use Rattle.gos_turns.proofs.PairLemmas.{pair_plan_is_regular, pair_is_regular}
+use Rattle.gos_turns.proofs.laws.pairs.Goals as goal
+
+pub returns-clause-maker : goal.returns-clause-maker
+returns-clause-maker c = pair_plan_is_regular
+
+pub returns-clause-pair : goal.returns-clause-pair
+returns-clause-pair c = pair_is_regular

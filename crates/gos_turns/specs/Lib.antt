@@ -1,0 +1,5 @@
+-- In reading order: a file uses only files above it.
+pub mod Composed
+pub mod Names
+pub mod Pairs
+pub mod SmallTurned
