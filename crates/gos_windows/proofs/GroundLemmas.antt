@@ -14,14 +14,21 @@ use Rattle.gos_realises.proofs.GroundTurnLemmas.{width, width_small, there_some,
 use Rattle.gos_realises.proofs.ToldLemmas.{contains_at}
 use Rattle.gos_windows.proofs.TurnLemmas.{Turned, ImportsClosed}
 
--- where nothing is open at imports
-pub closed_turned : (p : Plan) → AllGround p.imports → IsDone p.outcome → (past : List Pass) → ImportsClosed past → Turned p past
-closed_turned p ground done past closed =
-    turns_kept p.imports p.outcome ground done (λ h. false) (λ h. is_open past (whole_end 0 p.imports h)) less (λ up. absurd (cc up))
-    (all_closed p.imports p.outcome ground done (λ h. false) (λ h. refl))
+-- where an import answers
+closed_more : (b held : Bool) → (if b then false else held) ≡ true → held ≡ true
+closed_more true held h = absurd (cc h)
+closed_more false held h = h
+
+pub answer_turned : (p : Plan) → AllGround p.imports → IsDone p.outcome → (i g : ℕ) (past : List Pass) → Turned p past → Turned p (pass (ImportEnd i g) Answer ∷ past)
+answer_turned p ground done i g past turned =
+    turns_kept p.imports p.outcome ground done (λ h. is_open past (whole_end 0 p.imports h)) (λ h. is_open (pass (ImportEnd i g) Answer ∷ past) (whole_end 0 p.imports h)) less more
+    turned
   where
-    less : (h : ℕ) → h < width p.imports → is_open past (whole_end 0 p.imports h) ≡ true → false ≡ true
-    less h low up = let (i, g, at) = import_end 0 p.imports h low in sym (ap (is_open past) at ∙ closed i g) ∙ up
+    less : (h : ℕ) → h < width p.imports → is_open (pass (ImportEnd i g) Answer ∷ past) (whole_end 0 p.imports h) ≡ true → is_open past (whole_end 0 p.imports h) ≡ true
+    less h low up = closed_more (same_end (ImportEnd i g) (whole_end 0 p.imports h)) (is_open past (whole_end 0 p.imports h)) up
+
+    more : is_open past (whole_end 0 p.imports (width p.imports)) ≡ true → is_open (pass (ImportEnd i g) Answer ∷ past) (whole_end 0 p.imports (width p.imports)) ≡ true
+    more up = ap (is_open (pass (ImportEnd i g) Answer ∷ past)) (result_end 0 p.imports) ∙ (sym (ap (is_open past) (result_end 0 p.imports)) ∙ up)
 
 -- the handshakes from one import on, and those behind it
 abbrev open_from : ℕ → List Imported → List Pass → ℕ → Bool
@@ -105,13 +112,3 @@ kept_from n (x ∷ xs) t ground done past shut up = (
 
 pub shut_turned : (p : Plan) → AllGround p.imports → IsDone p.outcome → (past : List Pass) → ((i : ℕ) → Shut past i) → is_open past (ResultEnd 0) ≡ true → Turned p past
 shut_turned p ground done past shut up = kept_from 0 p.imports p.outcome ground done past shut up
-
--- imports with different names are at one place each
-pub one_place : (is : List Imported) → NamesDiffer is → (i j : ℕ) (x : Imported) → slice_get is i ≡ Some x → slice_get is j ≡ Some x → i ≡ j
-one_place [] differ i j x at_i at_j = absurd (none-some x at_i)
-one_place (y ∷ ys) differ zero zero x at_i at_j = refl
-one_place (y ∷ ys) differ zero (suc j) x at_i at_j =
-    absurd (differ.0 x (contains_at ys j x at_j) (ap (λ (z : Imported). z.name) (same_Some y x at_i)))
-one_place (y ∷ ys) differ (suc i) zero x at_i at_j =
-    absurd (differ.0 x (contains_at ys i x at_i) (ap (λ (z : Imported). z.name) (same_Some y x at_j)))
-one_place (y ∷ ys) differ (suc i) (suc j) x at_i at_j = ap suc (one_place ys differ.1 i j x at_i at_j)

@@ -2,7 +2,9 @@ pub mod InlayLemmas
 pub mod ShareLemmas
 pub mod OwnLemmas
 pub mod PortLemmas
+pub mod OpenLemmas
 pub mod StageLemmas
+pub mod TypeTurnLemmas
 pub mod TurnLemmas
 pub mod QuietLemmas
 pub mod WholeLemmas

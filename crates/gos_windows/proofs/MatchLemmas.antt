@@ -15,7 +15,8 @@ use Rattle.gos_webs.specs.Cutting.{lies_at, StandsIn}
 use Rattle.gos_webs.proofs.CutLemmas.{Owns, part_there, port_own, same_lies, asker_own, asker_asks, no_place, place_there, token_cut, token_put, state_put}
 use Rattle.gos_sessions.specs.Sessions.{Form, own_part}
 use Rattle.gos_windows.specs.Regions.{whole_element}
-use Rattle.gos_windows.specs.Nodes.{Stage, IsStage, IsNode}
+use Rattle.gos_windows.specs.Nodes.{Stage, IsStage}
+use Rattle.gos_windows.specs.OpenNodes.{IsOpenNode}
 use Rattle.gos_windows.specs.Windows.{seen, StirsOnly}
 use Rattle.gos_windows.proofs.InlayLemmas.{inlay, Agree, place_agrees, agree_token, agree_put, AllAgree}
 use Rattle.gos_windows.proofs.PortLemmas.{stands_place}
@@ -25,7 +26,7 @@ use Rattle.gos_windows.proofs.WindowLemmas.{Standing}
 use Rattle.gos_windows.proofs.StageLemmas.{stage, cut, result_zero, InStage, OnStage, Ran, lies, end_is, seen_state, fires_agree, own_contact}
 
 module _
-    (r : Plan) (d : ℕ) (f : Form) (gs : List Stage) (node : IsNode r d f gs) (g : Stage) (has : Contains gs g) where
+    (r : Plan) (d : ℕ) (f : Form) (gs : List Stage) (node : IsOpenNode r d f gs) (g : Stage) (has : Contains gs g) where
   abbrev there : IsStage r d g
   there = stage r d f gs node g has
 

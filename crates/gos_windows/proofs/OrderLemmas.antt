@@ -25,7 +25,8 @@ use Rattle.gos_webs.specs.Cutting.{lies_at, StandsIn}
 use Rattle.gos_webs.proofs.CutLemmas.{Owns}
 use Rattle.gos_sessions.specs.Sessions.{Form, own_part, run_shake}
 use Rattle.gos_windows.specs.Regions.{whole_element}
-use Rattle.gos_windows.specs.Nodes.{Stage, IsStage, IsNode, NodeIsRegular}
+use Rattle.gos_windows.specs.Nodes.{Stage, IsStage, NodeIsRegular}
+use Rattle.gos_windows.specs.OpenNodes.{IsOpenNode}
 use Rattle.gos_windows.specs.Windows.{seen, HoldsOnly}
 use Rattle.gos_windows.proofs.PortLemmas.{stands_contact, result_there}
 use Rattle.gos_windows.proofs.OwnLemmas.{takes_request, asked_apart}
@@ -70,7 +71,7 @@ shut_at o only x apart = by_test (o x) refl
     by_test false t = refl
     by_test true up = absurd (apart (only.1 x up))
 
-module _ (r : Plan) (d : ℕ) (f : Form) (gs : List Stage) (node : IsNode r d f gs) where
+module _ (r : Plan) (d : ℕ) (f : Form) (gs : List Stage) (node : IsOpenNode r d f gs) where
   abbrev run : ℕ
   run = run_shake (own_part f)
 
