@@ -1,18 +1,17 @@
--- Turns of ground imports, import by import: a variable is not read and written at once, and nothing is open where the
--- result is closed.
+-- Turns of ground imports, import by import: a variable is not read and written at once. An import may answer at any time.
 use Rattle.std.specs.Prelude.{◌+◌, ◌-◌, ◌<◌, ◌&&◌, IsFalse, slice_get, nat_lt}
 use Rattle.std.proofs.Common.{◌≡◌, ℕ, zero, suc, Bool, true, false, List, [], ◌∷◌, Some, refl, sym, ◌∙◌, ap, subst, arith, if◌then◌else◌}
-use Rattle.std.proofs.lemmas.Option.{none-some, same_Some, slice_get_within}
+use Rattle.std.proofs.lemmas.Option.{none-some, slice_get_within}
 use Rattle.std.proofs.lemmas.Bool.Decides.{nat_tests}
 use Rattle.gos_types.specs.Types.{Type', Com, Exp, Var, Pair, Fun, IsGround, IsDone}
 use Rattle.gos_model.specs.Typing.{Imported}
 use Rattle.gos_plan.specs.Kinds.{Contact, contacts_of}
-use Rattle.gos_plan.specs.Plans.{ImportEnd, ResultEnd, Plan, contact_at, contacts_of_import}
-use Rattle.gos_realises.specs.Regular.{count, Pass, is_open, beyond, KeepsTurnsOf, whole_type, whole_end}
-use Rattle.gos_realises.specs.Realises.{AllGround, NamesDiffer}
-use Rattle.gos_realises.proofs.GroundTurnLemmas.{width, width_small, there_some, done_kept, turns_kept, all_closed, result_end, import_end}
-use Rattle.gos_realises.proofs.ToldLemmas.{contains_at}
-use Rattle.gos_windows.proofs.TurnLemmas.{Turned, ImportsClosed}
+use Rattle.gos_netlist.specs.Events.{Answer}
+use Rattle.gos_plan.specs.Plans.{ImportEnd, ResultEnd, Plan, contact_at, contacts_of_import, same_end}
+use Rattle.gos_realises.specs.Regular.{count, Pass, pass, is_open, beyond, KeepsTurnsOf, whole_type, whole_end}
+use Rattle.gos_realises.specs.Realises.{AllGround}
+use Rattle.gos_realises.proofs.GroundTurnLemmas.{width, width_small, there_some, done_kept, turns_kept, result_end}
+use Rattle.gos_windows.proofs.TurnLemmas.{Turned}
 
 -- where an import answers
 closed_more : (b held : Bool) → (if b then false else held) ≡ true → held ≡ true

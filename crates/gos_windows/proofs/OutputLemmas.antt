@@ -1,12 +1,10 @@
 -- The outputs of a node keep turns, and it rests after its answer.
-use Rattle.std.specs.Prelude.{slice_get, Contains}
-use Rattle.std.proofs.Common.{◌≡◌, ℕ, true, false, List, [], ◌∷◌, ◌++◌, ◌⊎◌, Some, inl, inr, refl, sym, ◌∙◌, ap, subst}
-use Rattle.gos_netlist.specs.Events.{Direction, Request, Answer}
-use Rattle.gos_model.specs.Typing.{Imported}
-use Rattle.gos_plan.specs.Kinds.{Contact}
+use Rattle.std.specs.Prelude.{Contains}
+use Rattle.std.proofs.Common.{◌≡◌, ℕ, List, [], ◌∷◌, ◌++◌, ◌⊎◌, inl, inr, refl, sym, ◌∙◌, ap, subst}
+use Rattle.gos_netlist.specs.Events.{Direction, Answer}
 use Rattle.gos_plan.specs.Firing.{Row, Req, Ans}
 use Rattle.gos_plan.specs.Plans.{End, ImportEnd, ResultEnd, Plan, contact_at}
-use Rattle.gos_plan.specs.Tokens.{Tokens, Element, Fire, Out, In, way_taken, Does, Runs, IsIdle}
+use Rattle.gos_plan.specs.Tokens.{Tokens, Element, Fire, Out, In, Does, Runs, IsIdle}
 use Rattle.gos_plan.specs.TokenBits.{AllFit}
 use Rattle.gos_plan.proofs.TokenBitsLemmas.{idle_fits}
 use Rattle.gos_realises.specs.Regular.{Pass, pass, way_out, ComesInTurn, KeepsTurns, InputsKeepTurns, OutputsKeepTurns}

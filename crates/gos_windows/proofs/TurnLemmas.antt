@@ -219,7 +219,7 @@ module _
   there = stage r d f gs node g has
 
   -- where such an end lies in the whole, and of which import it is
-  met_at : (i n : ℕ) → Meets r g i n → (k : ℕ) × (g.cut.outer (ImportEnd i n) ≡ ImportEnd k n) × (slice_get r.imports k ≡ slice_get g.plan.imports i)
+  pub met_at : (i n : ℕ) → Meets r g i n → (k : ℕ) × (g.cut.outer (ImportEnd i n) ≡ ImportEnd k n) × (slice_get r.imports k ≡ slice_get g.plan.imports i)
   met_at i n (inl stands) = there.ports i n stands
   met_at i n (inr none) = (none.import, none.outer, none.same)
 
