@@ -114,6 +114,6 @@ open_served (Fun a b) f keeps h low up =
     let small : h < count a + count b = omega (arith, low, sum) in
     by_side (count a) (count b) h small (OpenServed (Fun a b) f)
     (λ first.
-        let (k, below, open_there) = some_there (count b) (beyond (count a) f) (keeps.2 (there_some (count a) f h first up)) in
-        of_outcome a b f (open_served b (beyond (count a) f) keeps.1 k below open_there))
+    let (k, below, open_there) = some_there (count b) (beyond (count a) f) (keeps.2 (there_some (count a) f h first up)) in
+    of_outcome a b f (open_served b (beyond (count a) f) keeps.1 k below open_there))
     (λ k second same. of_outcome a b f (open_served b (beyond (count a) f) keeps.1 k second (sym (ap f same) ∙ up)))

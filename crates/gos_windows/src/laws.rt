@@ -3,7 +3,7 @@ ghost use Rattle.gos_windows.specs.Closing.{IdleIsClosed, OpenIdleIsClosed};
 ghost use Rattle.gos_windows.specs.Keeping.{TurnsKeepProtocol};
 ghost use Rattle.gos_windows.specs.Nodes.{NodeIsRegular, NodeKeepsTurns};
 ghost use Rattle.gos_windows.specs.OpenNodes.{GroundNodeIsOpen, OpenNodeIsRegular};
-ghost use Rattle.gos_windows.specs.SmallNodes.{CallIsLoyal, CallIsRegion, OneIsMissing, SharedForBoth, TwiceIsNode, WrongSideIsNone};
+ghost use Rattle.gos_windows.specs.SmallNodes.{CallIsLoyal, CallIsRegion, DeafIsNone, OneIsMissing, SharedForBoth, TwiceIsNode, TwiceIsOpen, WrongSideIsNone};
 ghost use Rattle.gos_windows.specs.Windows.{ListsAreStaged, OwnPartCan, QuietIsWithin};
 
 /// Inputs that keep turns keep the protocol.
@@ -38,10 +38,13 @@ pub fn open_nodes_are_regular()
     ensures of_ground { GroundNodeIsOpen }
 {}
 
-/// The plan of `skip ; skip` is a node of two stages, and with one of them left out it is none. A Share by which both
-/// children use one source is loyal to neither.
+/// The plan of `skip ; skip` is a node of two stages, and with one of them left out it is none. A child that asks a
+/// function, and lacks the end at which this asks for its argument, is no stage. A Share by which both children use one
+/// source is loyal to neither.
 pub fn small_nodes()
     ensures node { TwiceIsNode }
+    ensures open_node { TwiceIsOpen }
+    ensures deaf { DeafIsNone }
     ensures missing { OneIsMissing }
     ensures both { SharedForBoth }
 {}
