@@ -5,6 +5,7 @@ pub mod PortLemmas
 pub mod OpenLemmas
 pub mod StageLemmas
 pub mod TypeTurnLemmas
+pub mod MeetLemmas
 pub mod TurnLemmas
 pub mod QuietLemmas
 pub mod WholeLemmas

@@ -25,7 +25,7 @@ use Rattle.gos_windows.proofs.PortLemmas.{stands_place}
 use Rattle.gos_windows.proofs.OwnLemmas.{takes_answer}
 use Rattle.gos_windows.proofs.NodeLemmas.{answer_slot}
 use Rattle.gos_windows.proofs.WindowLemmas.{Standing}
-use Rattle.gos_windows.proofs.TurnLemmas.{IsUnjoined}
+use Rattle.gos_windows.proofs.MeetLemmas.{IsUnjoined}
 use Rattle.gos_windows.proofs.StageLemmas.{stage, cut, result_zero, InStage, OnStage, Ran, lies, end_is, seen_state, fires_agree, own_contact}
 
 -- a port without a joint
@@ -248,7 +248,7 @@ module _
     )
 
     -- an input where there is no joint
-    loose_order : (i n v : ℕ) → (none : IsUnjoined r g i n) → ComesInOrder g.plan (In (ImportEnd i n) v) (seen g s) own mown → o (ImportEnd none.import n) ≡ false
+    loose_order : (i n v : ℕ) → (none : IsUnjoined r g.cut g.plan i n) → ComesInOrder g.plan (In (ImportEnd i n) v) (seen g s) own mown → o (ImportEnd none.import n) ≡ false
         → (m : Open) × ComesInOrder r (In (g.cut.outer (ImportEnd i n)) v) s o m × Opens mown m
     loose_order i n v none comes shut =
         subst (λ (b : End). (m : Open) × ComesInOrder r (In b v) s o m × Opens mown m) (sym none.outer)

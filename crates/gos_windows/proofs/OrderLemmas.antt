@@ -31,7 +31,7 @@ use Rattle.gos_windows.specs.Windows.{seen, HoldsOnly}
 use Rattle.gos_windows.proofs.PortLemmas.{port_end, stands_contact, result_there}
 use Rattle.gos_windows.proofs.OwnLemmas.{takes_request, asked_apart}
 use Rattle.gos_windows.proofs.StageLemmas.{Emptied, stage, result_zero, own_stands}
-use Rattle.gos_windows.proofs.TurnLemmas.{result_out, OnlyResult, NoneOpen, met_at}
+use Rattle.gos_windows.proofs.TurnLemmas.{result_out, OnlyResult, NoneOpen, imports_shut}
 use Rattle.gos_windows.proofs.WholeLemmas as whole
 use Rattle.gos_windows.proofs.WholeLemmas.{done, result_place, own_place, at_own_joint, only_there, idle_token, run_stands, Going, Led, asks}
 use Rattle.gos_windows.proofs.NodeLemmas.{Place, AtRest, AtAsked, AtStage, AtAnswer, InTurn, first_turn, turns_after, Holds, rest_step, asked_step, answer_step, request_slot, own_slot}
@@ -440,14 +440,7 @@ module _ (r : Plan) (d : ℕ) (f : Form) (gs : List Stage) (node : IsOpenNode r 
         only_result = subst (λ (y : Element). OnlyResult (after r y past)) step.is step.only
 
         import_shut : (i h : ℕ) → is_open (passed g.plan [] hs) (ImportEnd i h) ≡ false
-        import_shut i h = by_test (is_open (passed g.plan [] hs) (ImportEnd i h)) refl
-          where
-            by_test : (b : Bool) → is_open (passed g.plan [] hs) (ImportEnd i h) ≡ b → b ≡ false
-            by_test false t' = refl
-            by_test true up =
-                let meets = going.follows.met i h up in
-                let (k, at_k, is) = met_at r d f gs node g has i h meets in
-                sym up ∙ (going.follows.same i h meets ∙ (ap (is_open past) at_k ∙ only_result.1 k h))
+        import_shut = imports_shut r d f gs node g has (passed g.plan [] hs) past going.follows only_result.1
 
         -- with the answer all its ports are closed
         last_passed : is_open (passed g.plan [] (hs ++ Out (ResultEnd 0) step.v ∷ [])) ≡ is_open (pass (ResultEnd 0) Answer ∷ passed g.plan [] hs)

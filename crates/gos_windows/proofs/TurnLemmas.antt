@@ -1,6 +1,6 @@
 -- Turns at the ports of a plan with a command or an expression for its result; and at those of a stage.
-use Rattle.std.specs.Prelude.{◌+◌, ◌-◌, ◌<◌, None, slice_get, nat_lt, Contains}
-use Rattle.std.proofs.Common.{◌≡◌, ℕ, zero, suc, Bool, true, false, List, [], ◌∷◌, ◌⊎◌, Option, Some, inl, inr, refl, sym, ◌∙◌, ap, subst, arith, if◌then◌else◌}
+use Rattle.std.specs.Prelude.{◌+◌, ◌-◌, ◌<◌, slice_get, nat_lt, Contains}
+use Rattle.std.proofs.Common.{◌≡◌, ℕ, zero, suc, Bool, true, false, List, [], ◌∷◌, Option, Some, refl, sym, ◌∙◌, ap, subst, arith, if◌then◌else◌}
 use Rattle.std.proofs.lemmas.Option.{none-some, same_Some, slice_get_within}
 use Rattle.std.proofs.lemmas.Bool.Decides.{nat_tests}
 use Rattle.gos_types.specs.declared.shakes.Role.TheVariants.{Serve, Ask}
@@ -9,21 +9,21 @@ use Rattle.gos_netlist.specs.Events.{Direction, Request, Answer}
 use Rattle.gos_model.specs.Typing.{Imported}
 use Rattle.gos_plan.specs.Kinds.{Contact, contacts_of}
 use Rattle.gos_plan.specs.Plans.{End, ImportEnd, ResultEnd, Plan, contact_at, contacts_of_import, turned_if, same_end}
-use Rattle.gos_plan.specs.Tokens.{Element, Fire, Out, In, places_of, way_taken, way_put}
+use Rattle.gos_plan.specs.Tokens.{Element, Fire, Out, In, way_taken, way_put}
 use Rattle.gos_plan.proofs.JointLemmas.{same_is, same_itself}
 use Rattle.gos_realises.specs.Regular.{count, some_open, Pass, pass, way_in, way_out, is_request, is_open, KeepsTurnsOf, whole_type, whole_end, ComesInTurn, InputsKeepTurns}
 use Rattle.gos_realises.proofs.GroundTurnLemmas.{width, width_small, some_there, there_some, done_kept, result_open, result_end}
 use Rattle.gos_realises.proofs.RingLemmas.{after}
 use Rattle.gos_realises.proofs.ToldLemmas.{there_is}
 use Rattle.gos_renumbered.proofs.TurnLemmas.{of_import, of_result, ImportKeeps, keeps_each, each_keeps}
-use Rattle.gos_webs.specs.Cutting.{lies_at, StandsIn}
-use Rattle.gos_webs.proofs.MovedLemmas.{same_bool}
+use Rattle.gos_webs.specs.Cutting.{lies_at}
 use Rattle.gos_webs.proofs.CutLemmas.{place_there}
 use Rattle.gos_sessions.specs.Sessions.{Form}
 use Rattle.gos_windows.specs.Nodes.{Stage, IsStage}
 use Rattle.gos_windows.specs.OpenNodes.{IsOpenNode}
 use Rattle.gos_windows.proofs.InlayLemmas.{inlay, inlay_place}
-use Rattle.gos_windows.proofs.PortLemmas.{stands_contact, place_stands, one_place}
+use Rattle.gos_windows.proofs.MeetLemmas.{Meets, HasPorts, AreFollowed, met_at, met_import, heard_meets, followed_pass, alike}
+use Rattle.gos_windows.proofs.PortLemmas.{stands_place, place_stands}
 use Rattle.gos_windows.proofs.StageLemmas.{stage, cut}
 use Rattle.gos_windows.proofs.TypeTurnLemmas.{OpenServed, closed_kept, open_served}
 
@@ -185,243 +185,91 @@ turns_before p past (Fire i t) ys one others = others
 turns_before p past (Out e v) ys one others = others
 turns_before p past (In e v) ys one others = (one.0, others)
 
--- An end of an import that asks and has no joint, in the whole and in the stage, which has another end of this import.
-pub record IsUnjoined (r : Plan) (g : Stage) (i n : ℕ) : Type 0 where
-  pub import : ℕ
-  pub outer : g.cut.outer (ImportEnd i n) ≡ ImportEnd import n
-  pub same : slice_get r.imports import ≡ slice_get g.plan.imports i
-  pub contact : Contact
-  pub own : contact_at g.plan (ImportEnd i n) ≡ Some contact
-  pub asks : contact.role ≡ Ask
-  pub none : places_of r (ImportEnd import n) ≡ None
-  pub own_none : places_of g.plan (ImportEnd i n) ≡ None
-  pub beside : ℕ
-  pub stands : StandsIn g.plan (ImportEnd i beside)
-  pub at : g.cut.outer (ImportEnd i beside) ≡ ImportEnd import beside
-
--- an end of an import at which something may pass in a stage
-abbrev pub Meets : Plan → Stage → ℕ → ℕ → Type 0
-Meets r g i n = StandsIn g.plan (ImportEnd i n) ⊎ IsUnjoined r g i n
-
 -- What passed a stage's ports, and the whole's: the result of both is open, and the open handshakes of imports are the same.
 pub record Follows (r : Plan) (g : Stage) (own past : List Pass) : Type 0 where
   pub result : is_open past (ResultEnd 0) ≡ true
   pub of_stage : is_open own (ResultEnd 0) ≡ true
-  pub same : (i h : ℕ) → Meets r g i h → is_open own (ImportEnd i h) ≡ is_open past (g.cut.outer (ImportEnd i h))
-  pub met : (i h : ℕ) → is_open own (ImportEnd i h) ≡ true → Meets r g i h
+  pub imports : AreFollowed r g.cut g.plan own past
   pub only :
       (k h : ℕ) → is_open past (ImportEnd k h) ≡ true
-      → (i : ℕ) × Meets r g i h × (g.cut.outer (ImportEnd i h) ≡ ImportEnd k h)
+      → (i : ℕ) × Meets r g.cut g.plan i h × (g.cut.outer (ImportEnd i h) ≡ ImportEnd k h)
 
 module _
     (r : Plan) (d : ℕ) (f : Form) (gs : List Stage) (node : IsOpenNode r d f gs) (g : Stage) (has : Contains gs g) where
   there : IsStage r d g
   there = stage r d f gs node g has
 
-  -- where such an end lies in the whole, and of which import it is
-  pub met_at : (i n : ℕ) → Meets r g i n → (k : ℕ) × (g.cut.outer (ImportEnd i n) ≡ ImportEnd k n) × (slice_get r.imports k ≡ slice_get g.plan.imports i)
-  met_at i n (inl stands) = there.ports i n stands
-  met_at i n (inr none) = (none.import, none.outer, none.same)
-
-  pub met_contact : (i n : ℕ) → Meets r g i n → (c : Contact) × (contact_at g.plan (ImportEnd i n) ≡ Some c)
-  met_contact i n (inl stands) = stands_contact g.plan there.region.right (ImportEnd i n) stands
-  met_contact i n (inr none) = (none.contact, none.own)
-
-  pub met_contacts : (i n : ℕ) (b : End) → Meets r g i n → g.cut.outer (ImportEnd i n) ≡ b → contact_at r b ≡ contact_at g.plan (ImportEnd i n)
-  met_contacts i n b meets at =
-      let (k, at_k, same) = met_at i n meets in
-      ap (contact_at r) (sym at ∙ at_k) ∙ ap (λ (o : Option Imported). slice_get (contacts_of_import o) n) same
-
-  met_import : (i n : ℕ) → Meets r g i n → (x : Imported) × (slice_get g.plan.imports i ≡ Some x)
-  met_import i n meets = let (c, is) = met_contact i n meets in there_is g.plan.imports i n c is
-
-  -- two ends of one import of the whole are of one import of the stage, and back
-  one_import : (i j n m k : ℕ) → Meets r g i n → Meets r g j m → g.cut.outer (ImportEnd i n) ≡ ImportEnd k n → g.cut.outer (ImportEnd j m) ≡ ImportEnd k m → i ≡ j
-  one_import i j n m k first second at_first at_second =
-      one_place g.plan.imports there.names i j x.0 x.1 (sym (import_at j m second at_second) ∙ (import_at i n first at_first ∙ x.1))
-    where
-      x : (x : Imported) × (slice_get g.plan.imports i ≡ Some x)
-      x = met_import i n first
-
-      import_at : (i n : ℕ) → Meets r g i n → g.cut.outer (ImportEnd i n) ≡ ImportEnd k n → slice_get r.imports k ≡ slice_get g.plan.imports i
-      import_at i n meets at =
-          let (q, at_q, same) = met_at i n meets in
-          let both : ImportEnd q n ≡ ImportEnd k n = sym at_q ∙ at in
-          let one : q ≡ k = cc both in
-          ap (slice_get r.imports) (sym one) ∙ same
-
-  one_outer : (i n m k : ℕ) → Meets r g i n → Meets r g i m → g.cut.outer (ImportEnd i n) ≡ ImportEnd k n → g.cut.outer (ImportEnd i m) ≡ ImportEnd k m
-  one_outer i n m k first second at =
-      let (q, at_q, at_import) = met_at i n first in
-      let (p, at_p, also) = met_at i m second in
-      let (x, is) = met_import i n first in
-      let both : ImportEnd q n ≡ ImportEnd k n = sym at_q ∙ at in
-      let one : q ≡ k = cc both in
-      let same : p ≡ q = one_place r.imports node.names p q x (also ∙ is) (at_import ∙ is) in
-      at_p ∙ ap (λ (y : ℕ). ImportEnd y m) (same ∙ one)
-
-  same_outer : (i n j m : ℕ) → Meets r g i n → Meets r g j m
-      → same_end (g.cut.outer (ImportEnd i n)) (g.cut.outer (ImportEnd j m)) ≡ same_end (ImportEnd i n) (ImportEnd j m)
-  same_outer i n j m first second =
-      same_bool (same_end (g.cut.outer (ImportEnd i n)) (g.cut.outer (ImportEnd j m))) (same_end (ImportEnd i n) (ImportEnd j m)) to from
-    where
-      to : same_end (g.cut.outer (ImportEnd i n)) (g.cut.outer (ImportEnd j m)) ≡ true → same_end (ImportEnd i n) (ImportEnd j m) ≡ true
-      to t =
-          let (q, at_q, at_import) = met_at i n first in
-          let (p, at_p, also) = met_at j m second in
-          let same = same_is (g.cut.outer (ImportEnd i n)) (g.cut.outer (ImportEnd j m)) t in
-          let both : ImportEnd q n ≡ ImportEnd p m = sym at_q ∙ (same ∙ at_p) in
-          let imports : q ≡ p = cc both in
-          let shakes : n ≡ m = cc both in
-          let at_second : g.cut.outer (ImportEnd j m) ≡ ImportEnd q m = at_p ∙ ap (λ (y : ℕ). ImportEnd y m) (sym imports) in
-          let one = one_import i j n m q first second at_q at_second in
-          subst (λ (e : End). same_end (ImportEnd i n) e ≡ true) (λ l. ImportEnd (one l) (shakes l)) (same_itself (ImportEnd i n))
-
-      from : same_end (ImportEnd i n) (ImportEnd j m) ≡ true → same_end (g.cut.outer (ImportEnd i n)) (g.cut.outer (ImportEnd j m)) ≡ true
-      from t =
-          subst (λ (e : End). same_end (g.cut.outer (ImportEnd i n)) (g.cut.outer e) ≡ true) (same_is (ImportEnd i n) (ImportEnd j m) t)
-          (same_itself (g.cut.outer (ImportEnd i n)))
+  pub has_ports : HasPorts r g.cut g.plan
+  has_ports =
+      record {
+        right = there.region.right;
+        whole_right = node.right;
+        names = there.names;
+        whole_names = node.names;
+        ports = there.ports;
+        joined = λ i h stands.
+            let (a, named) = stands_place g.plan there.region.right (ImportEnd i h) stands in
+            let laid = place_there g.cut (inlay g.cut r g.plan) g.plan (cut r d f gs node g has) (ImportEnd i h) a named in
+            place_stands r (g.cut.outer (ImportEnd i h)) (lies_at g.cut a)
+            (inlay_place g.cut g.sides r g.plan there.region (g.cut.outer (ImportEnd i h)) (lies_at g.cut a) laid);
+        heard = (node.stages g has).heard;
+      }
 
   pub follows_first : (past : List Pass) → OnlyResult past → Follows r g (pass (ResultEnd 0) Request ∷ []) past
   follows_first past (result, closed) =
       record {
         result = result;
         of_stage = refl;
-        same = λ i h meets.
-            let (k, at, is) = met_at i h meets in
-            sym (ap (is_open past) at ∙ closed k h);
-        met = λ i h up. absurd (cc up);
+        imports = record { same = λ i h k meets at. sym (closed k h); met = λ i h up. absurd (cc up) };
         only = λ k h up. let clash : false ≡ true = sym (closed k h) ∙ up in absurd (cc clash);
       }
 
-  follows_at : (own past : List Pass) → Follows r g own past → (i h k : ℕ) → Meets r g i h → g.cut.outer (ImportEnd i h) ≡ ImportEnd k h → (way : Direction)
+  follows_at : (own past : List Pass) → Follows r g own past → (i h k : ℕ) → Meets r g.cut g.plan i h → g.cut.outer (ImportEnd i h) ≡ ImportEnd k h → (way : Direction)
       → Follows r g (pass (ImportEnd i h) way ∷ own) (pass (ImportEnd k h) way ∷ past)
   follows_at own past follows i h k meets at way =
       record {
         result = follows.result;
         of_stage = follows.of_stage;
-        same = same;
-        met = λ j n up. met j n (same_end (ImportEnd i h) (ImportEnd j n)) refl up;
+        imports = followed_pass r g.cut g.plan has_ports own past follows.imports i h k meets at way;
         only = λ m n up. only m n (same_end (ImportEnd k h) (ImportEnd m n)) refl up;
       }
     where
-      same : (j n : ℕ) → Meets r g j n
-          → is_open (pass (ImportEnd i h) way ∷ own) (ImportEnd j n) ≡ is_open (pass (ImportEnd k h) way ∷ past) (g.cut.outer (ImportEnd j n))
-      same j n also =
-          let ends : same_end (ImportEnd k h) (g.cut.outer (ImportEnd j n)) ≡ same_end (ImportEnd i h) (ImportEnd j n) =
-          ap (λ (x : End). same_end x (g.cut.outer (ImportEnd j n))) (sym at) ∙ same_outer i h j n meets also in
-          λ l. if sym ends l then is_request way else follows.same j n also l
-
-      met : (j n : ℕ) (b : Bool) → same_end (ImportEnd i h) (ImportEnd j n) ≡ b → (if b then is_request way else is_open own (ImportEnd j n)) ≡ true → Meets r g j n
-      met j n true t up =
-          let is : ImportEnd i h ≡ ImportEnd j n = same_is (ImportEnd i h) (ImportEnd j n) t in
-          let import : i ≡ j = cc is in
-          let shake : h ≡ n = cc is in
-          subst (λ (y : ℕ). Meets r g y n) import (subst (λ (y : ℕ). Meets r g i y) shake meets)
-      met j n false t up = follows.met j n up
-
       only : (m n : ℕ) (b : Bool) → same_end (ImportEnd k h) (ImportEnd m n) ≡ b → (if b then is_request way else is_open past (ImportEnd m n)) ≡ true
-          → (j : ℕ) × Meets r g j n × (g.cut.outer (ImportEnd j n) ≡ ImportEnd m n)
+          → (j : ℕ) × Meets r g.cut g.plan j n × (g.cut.outer (ImportEnd j n) ≡ ImportEnd m n)
       only m n true t up =
           let is : ImportEnd k h ≡ ImportEnd m n = same_is (ImportEnd k h) (ImportEnd m n) t in
           let shake : h ≡ n = cc is in
-          let both = subst (λ (x : ℕ). Meets r g i x × (g.cut.outer (ImportEnd i x) ≡ ImportEnd m n)) shake (meets, at ∙ is) in
+          let both = subst (λ (x : ℕ). Meets r g.cut g.plan i x × (g.cut.outer (ImportEnd i x) ≡ ImportEnd m n)) shake (meets, at ∙ is) in
           (i, both.0, both.1)
       only m n false t up = follows.only m n up
 
-  pub follows_step : (own past : List Pass) → Follows r g own past → (i h : ℕ) (b : End) → Meets r g i h → g.cut.outer (ImportEnd i h) ≡ b → (way : Direction)
+  pub follows_step : (own past : List Pass) → Follows r g own past → (i h : ℕ) (b : End) → Meets r g.cut g.plan i h → g.cut.outer (ImportEnd i h) ≡ b → (way : Direction)
       → Follows r g (pass (ImportEnd i h) way ∷ own) (pass b way ∷ past)
   follows_step own past follows i h b meets at way =
-      let (k, there, is) = met_at i h meets in
-      subst (λ (x : End). Follows r g (pass (ImportEnd i h) way ∷ own) (pass x way ∷ past)) (sym there ∙ at) (follows_at own past follows i h k meets there way)
+      let (k, at_k, is) = met_at r g.cut g.plan has_ports i h meets in
+      subst (λ (x : End). Follows r g (pass (ImportEnd i h) way ∷ own) (pass x way ∷ past)) (sym at_k ∙ at) (follows_at own past follows i h k meets at_k way)
 
-  -- an end of the whole at which the surroundings ask, of an import that is open in the stage
-  stands_beside : (i n k : ℕ) → Meets r g i n → g.cut.outer (ImportEnd i n) ≡ ImportEnd k n
-      → (m : ℕ) × StandsIn g.plan (ImportEnd i m) × (g.cut.outer (ImportEnd i m) ≡ ImportEnd k m)
-  stands_beside i n k (inl stands) at = (n, stands, at)
-  stands_beside i n k (inr none) at =
-      let both : ImportEnd none.import n ≡ ImportEnd k n = sym none.outer ∙ at in
-      let one : none.import ≡ k = cc both in
-      (none.beside, none.stands, none.at ∙ ap (λ (y : ℕ). ImportEnd y none.beside) one)
-
+  -- an end at which the surroundings ask, of an import that is open in the stage
   pub asked_meets : (own past : List Pass) → Follows r g own past → (k h n : ℕ) (c : Contact) → is_open past (ImportEnd k n) ≡ true
-      → contact_at r (ImportEnd k h) ≡ Some c → c.role ≡ Ask → (i : ℕ) × Meets r g i h × (g.cut.outer (ImportEnd i h) ≡ ImportEnd k h)
-  asked_meets own past follows k h n c up at_k asks = (i, by_place (places_of r (ImportEnd k h)) refl, heard.0)
-    where
-      i : ℕ
-      i = (follows.only k n up).0
-
-      meets : Meets r g i n
-      meets = (follows.only k n up).1
-
-      at : g.cut.outer (ImportEnd i n) ≡ ImportEnd k n
-      at = (follows.only k n up).2
-
-      same : slice_get r.imports k ≡ slice_get g.plan.imports i
-      same =
-          let (q, at_q, is) = met_at i n meets in
-          let both : ImportEnd q n ≡ ImportEnd k n = sym at_q ∙ at in
-          let one : q ≡ k = cc both in
-          ap (slice_get r.imports) (sym one) ∙ is
-
-      own_contact : contact_at g.plan (ImportEnd i h) ≡ Some c
-      own_contact = sym (ap (λ (o : Option Imported). slice_get (contacts_of_import o) h) same) ∙ at_k
-
-      beside : (m : ℕ) × StandsIn g.plan (ImportEnd i m) × (g.cut.outer (ImportEnd i m) ≡ ImportEnd k m)
-      beside = stands_beside i n k meets at
-
-      heard : (g.cut.outer (ImportEnd i h) ≡ ImportEnd k h) × (StandsIn r (ImportEnd k h) → StandsIn g.plan (ImportEnd i h))
-      heard = (node.stages g has).heard i beside.0 h k c beside.1 beside.2 own_contact asks
-
-      by_own : places_of r (ImportEnd k h) ≡ None → (o : Option End) → places_of g.plan (ImportEnd i h) ≡ o → places_of g.plan (ImportEnd i h) ≡ None
-      by_own none None own_none = own_none
-      by_own none (Some a) named =
-          let laid = place_there g.cut (inlay g.cut r g.plan) g.plan (cut r d f gs node g has) (ImportEnd i h) a named in
-          let in_whole = inlay_place g.cut g.sides r g.plan there.region (g.cut.outer (ImportEnd i h)) (lies_at g.cut a) laid in
-          let clash : None ≡ Some (lies_at g.cut a) = sym none ∙ (ap (places_of r) (sym heard.0) ∙ in_whole) in absurd (cc clash)
-
-      by_place : (o : Option End) → places_of r (ImportEnd k h) ≡ o → Meets r g i h
-      by_place (Some a) named = inl (heard.1 (place_stands r (ImportEnd k h) a named))
-      by_place None none =
-          inr
-          (record {
-            import = k;
-            outer = heard.0;
-            same = same;
-            contact = c;
-            own = own_contact;
-            asks = asks;
-            none = none;
-            own_none = by_own none (places_of g.plan (ImportEnd i h)) refl;
-            beside = beside.0;
-            stands = beside.1;
-            at = beside.2;
-          })
+      → contact_at r (ImportEnd k h) ≡ Some c → c.role ≡ Ask → (i : ℕ) × Meets r g.cut g.plan i h × (g.cut.outer (ImportEnd i h) ≡ ImportEnd k h)
+  asked_meets own past follows k h n c up at_k asks =
+      let (i, meets, at) = follows.only k n up in
+      let (here, there) = heard_meets r g.cut g.plan has_ports i n k h c meets at at_k asks in (i, here, there)
 
   -- So the turns of both are the same.
   module _ (own past : List Pass) (follows : Follows r g own past) where
-    alike : (i h k : ℕ) → Meets r g i h → g.cut.outer (ImportEnd i h) ≡ ImportEnd k h → (n : ℕ) → is_open own (ImportEnd i n) ≡ is_open past (ImportEnd k n)
-    alike i h k meets at n = same_bool (is_open own (ImportEnd i n)) (is_open past (ImportEnd k n)) to from
-      where
-        to : is_open own (ImportEnd i n) ≡ true → is_open past (ImportEnd k n) ≡ true
-        to up =
-            let here = follows.met i n up in
-            ap (is_open past) (sym (one_outer i h n k meets here at)) ∙ (sym (follows.same i n here) ∙ up)
-
-        from : is_open past (ImportEnd k n) ≡ true → is_open own (ImportEnd i n) ≡ true
-        from up =
-            let (j, here, at_j) = follows.only k n up in
-            let one = one_import i j h n k meets here at at_j in
-            ap (λ (y : ℕ). is_open own (ImportEnd y n)) one ∙ (follows.same j n here ∙ (ap (is_open past) at_j ∙ up))
+    alike_there : (i h k : ℕ) → Meets r g.cut g.plan i h → g.cut.outer (ImportEnd i h) ≡ ImportEnd k h → (n : ℕ)
+        → is_open own (ImportEnd i n) ≡ is_open past (ImportEnd k n)
+    alike_there i h k meets at = alike r g.cut g.plan has_ports own past follows.imports i h k meets at (λ n up. follows.only k n up)
 
     pub stage_turned : Turned r past → Turned g.plan own
     stage_turned turned = imports_turned g.plan there.outcome own kept (λ i h up. follows.of_stage)
       where
         kept : (i h : ℕ) (x : Imported) → slice_get g.plan.imports i ≡ Some x → is_open own (ImportEnd i h) ≡ true → KeepsTurnsOf x.ty (λ n. is_open own (ImportEnd i n))
         kept i h x is up =
-            let meets = follows.met i h up in
-            let (k, at, same) = met_at i h meets in
-            subst (KeepsTurnsOf x.ty) (λ l n. sym (alike i h k meets at n) l) (import_kept r past turned k x (same ∙ is))
+            let meets = follows.imports.met i h up in
+            let (k, at, same) = met_at r g.cut g.plan has_ports i h meets in
+            subst (KeepsTurnsOf x.ty) (λ l n. sym (alike_there i h k meets at n) l) (import_kept r past turned k x (same ∙ is))
 
     pub whole_turned : Turned g.plan own → Turned r past
     whole_turned turned = imports_turned r (subst IsDone (sym node.outcome) node.done) past kept (λ i h up. follows.result)
@@ -429,17 +277,31 @@ module _
         kept : (k h : ℕ) (x : Imported) → slice_get r.imports k ≡ Some x → is_open past (ImportEnd k h) ≡ true → KeepsTurnsOf x.ty (λ n. is_open past (ImportEnd k n))
         kept k h x is up =
             let (i, meets, at) = follows.only k h up in
-            let (q, at_q, same) = met_at i h meets in
-            let both : ImportEnd q h ≡ ImportEnd k h = sym at_q ∙ at in
-            let one : q ≡ k = cc both in
-            subst (KeepsTurnsOf x.ty) (λ l n. alike i h k meets at n l)
-            (import_kept g.plan own turned i x (sym same ∙ (ap (slice_get r.imports) one ∙ is)))
+            subst (KeepsTurnsOf x.ty) (λ l n. alike_there i h k meets at n l)
+            (import_kept g.plan own turned i x (sym (met_import r g.cut g.plan has_ports i h k meets at) ∙ is))
 
     -- an input or an output comes in turn in both
-    pub comes_as : (i h : ℕ) (b : End) → Meets r g i h → g.cut.outer (ImportEnd i h) ≡ b → (way : Direction) → ComesInTurn past b way → ComesInTurn own (ImportEnd i h) way
-    comes_as i h b meets at Request turn = follows.same i h meets ∙ (ap (is_open past) at ∙ turn)
-    comes_as i h b meets at Answer turn = follows.same i h meets ∙ (ap (is_open past) at ∙ turn)
+    same_there : (i h : ℕ) (b : End) → Meets r g.cut g.plan i h → g.cut.outer (ImportEnd i h) ≡ b → is_open own (ImportEnd i h) ≡ is_open past b
+    same_there i h b meets at =
+        let (k, at_k, is) = met_at r g.cut g.plan has_ports i h meets in
+        follows.imports.same i h k meets at_k ∙ ap (is_open past) (sym at_k ∙ at)
 
-    pub goes_as : (i h : ℕ) (b : End) → Meets r g i h → g.cut.outer (ImportEnd i h) ≡ b → (way : Direction) → ComesInTurn own (ImportEnd i h) way → ComesInTurn past b way
-    goes_as i h b meets at Request turn = ap (is_open past) (sym at) ∙ (sym (follows.same i h meets) ∙ turn)
-    goes_as i h b meets at Answer turn = ap (is_open past) (sym at) ∙ (sym (follows.same i h meets) ∙ turn)
+    pub comes_as : (i h : ℕ) (b : End) → Meets r g.cut g.plan i h → g.cut.outer (ImportEnd i h) ≡ b → (way : Direction) → ComesInTurn past b way
+        → ComesInTurn own (ImportEnd i h) way
+    comes_as i h b meets at Request turn = same_there i h b meets at ∙ turn
+    comes_as i h b meets at Answer turn = same_there i h b meets at ∙ turn
+
+    pub goes_as : (i h : ℕ) (b : End) → Meets r g.cut g.plan i h → g.cut.outer (ImportEnd i h) ≡ b → (way : Direction) → ComesInTurn own (ImportEnd i h) way
+        → ComesInTurn past b way
+    goes_as i h b meets at Request turn = sym (same_there i h b meets at) ∙ turn
+    goes_as i h b meets at Answer turn = sym (same_there i h b meets at) ∙ turn
+
+    pub imports_shut : ((k h : ℕ) → is_open past (ImportEnd k h) ≡ false) → (i h : ℕ) → is_open own (ImportEnd i h) ≡ false
+    imports_shut closed i h = by_test (is_open own (ImportEnd i h)) refl
+      where
+        by_test : (b : Bool) → is_open own (ImportEnd i h) ≡ b → b ≡ false
+        by_test false shut = refl
+        by_test true up =
+            let meets = follows.imports.met i h up in
+            let (k, at, same) = met_at r g.cut g.plan has_ports i h meets in
+            sym up ∙ (follows.imports.same i h k meets at ∙ closed k h)

@@ -24,7 +24,8 @@ use Rattle.gos_windows.specs.Windows as windows
 use Rattle.gos_windows.specs.Windows.{seen, StirsOnly, HoldsOnly, Where, Resting, Asked, Within, Answered, to_session, to_answer, Staged, rests, waits, stays, holds, is_asked, begins, stirs, goes_on, ListsAreStaged}
 use Rattle.gos_windows.proofs.OwnLemmas.{none_at_rest}
 use Rattle.gos_windows.proofs.StageLemmas.{Emptied, stage, InStage, OnStage, lies, end_is, fires_in, out_in, in_in, in_none, answers, answer_fits, emptied}
-use Rattle.gos_windows.proofs.TurnLemmas.{Turned, turns_before, result_out, import_shut, OnlyResult, NoneOpen, Meets, Follows, met_contact, met_contacts, follows_step, asked_meets, stage_turned, comes_as}
+use Rattle.gos_windows.proofs.MeetLemmas.{Meets, met_contact, met_contacts}
+use Rattle.gos_windows.proofs.TurnLemmas.{Turned, turns_before, result_out, import_shut, OnlyResult, NoneOpen, Follows, has_ports, follows_step, asked_meets, stage_turned, comes_as}
 use Rattle.gos_windows.proofs.OpenLemmas.{ground_node_is_open}
 use Rattle.gos_windows.proofs.WholeLemmas as whole
 use Rattle.gos_windows.proofs.WholeLemmas.{in_turn_at, other_state, Going, Led, asks, own_leads}
@@ -35,7 +36,7 @@ use Rattle.gos_windows.proofs.NodeLemmas.{Place, AtRest, AtAsked, AtStage, AtAns
 abbrev pub Standing : Plan → Stage → Element → Type 0
 Standing r g (Fire i t) = Unit {0}
 Standing r g (Out e v) = StandsIn g.plan e
-Standing r g (In e v) = (i n : ℕ) × (e ≡ ImportEnd i n) × Meets r g i n
+Standing r g (In e v) = (i n : ℕ) × (e ≡ ImportEnd i n) × Meets r g.cut g.plan i n
 
 abbrev OneTurn : Plan → List Pass → Element → Type 0
 OneTurn p past y = InputsKeepTurns p past (y ∷ [])
@@ -148,7 +149,7 @@ module _ (r : Plan) (d : ℕ) (f : Form) (gs : List Stage) (node : IsOpenNode r 
         (follows_step r d f gs node g has own past going.follows i h b (inl stands) at (way_out (contact_at g.plan (ImportEnd i h)))))
 
     -- an input at an import
-    in_at : (b : End) (v i h : ℕ) → Does r (In b v) s t → KeepsTurns r past (pass b (way_in (contact_at r b))) → Meets r g i h → g.cut.outer (ImportEnd i h) ≡ b
+    in_at : (b : End) (v i h : ℕ) → Does r (In b v) s t → KeepsTurns r past (pass b (way_in (contact_at r b))) → Meets r g.cut g.plan i h → g.cut.outer (ImportEnd i h) ≡ b
         → StageStep g has hs before s t (after r (In b v) past) (In b v)
     in_at b v i h does turn meets at =
         on_by (In b v) (In (ImportEnd i h) v) (after r (In b v) past) (ap (λ (e : End). In e v) at) own_does.0 (own_turn, tt) (i, h, refl, meets) own_turn.1 own_does.1 (state d)
@@ -158,7 +159,7 @@ module _ (r : Plan) (d : ℕ) (f : Form) (gs : List Stage) (node : IsOpenNode r 
         there = in_there r b v s t does
 
         contacts : contact_at r b ≡ contact_at g.plan (ImportEnd i h)
-        contacts = met_contacts r d f gs node g has i h b meets at
+        contacts = met_contacts r g.cut g.plan (has_ports r d f gs node g has) i h b meets at
 
         passes : Passes r (In b v) (Some there.0) s t
         passes = subst (λ (o : Option Contact). Passes r (In b v) o s t) there.1 does.1
@@ -282,8 +283,8 @@ module _ (r : Plan) (d : ℕ) (f : Form) (gs : List Stage) (node : IsOpenNode r 
             closed k h false shut = refl
             closed k h true up =
                 let (i, meets, at) = going.follows.only k h up in
-                let (c, there) = met_contact r d f gs node g has i h meets in
-                let own_up : is_open own (ImportEnd i h) ≡ true = going.follows.same i h meets ∙ (ap (is_open past) at ∙ up) in
+                let (c, there) = met_contact r g.cut g.plan (has_ports r d f gs node g has) i h meets in
+                let own_up : is_open own (ImportEnd i h) ≡ true = going.follows.imports.same i h k meets at ∙ up in
                 sym own_up
                 ∙ import_shut g.plan (stage r d f gs node g has).outcome (pass (ResultEnd 0) Answer ∷ own) answered refl i h c there
 

@@ -12,19 +12,22 @@ use Rattle.gos_plan.specs.TokenBits.{LiteralFits}
 use Rattle.gos_realises.specs.Regular.{IsRegular}
 use Rattle.gos_realises.specs.Realises.{NamesDiffer}
 use Rattle.gos_webs.specs.Webs.{joint}
-use Rattle.gos_webs.specs.Cutting.{StandsIn}
+use Rattle.gos_webs.specs.Cutting.{Cut, StandsIn}
 use Rattle.gos_sessions.specs.Sessions.{Form, Session, own_part, own_type, run_shake, session_of}
 use Rattle.gos_windows.specs.Nodes.{Stage, IsRestful, IsStage, IsOfStage, IsNode}
 
--- A stage of the whole r, whose own part is number d. Where it has one end of an import, it has each of those at which the
--- surroundings ask and that stand in a joint of the whole.
+-- Where the region of c, in r, has one end of an import, it has each of those at which the surroundings ask and that stand in a
+-- joint of the whole.
+abbrev pub IsHeard : Cut → Plan → Plan → Type 0
+IsHeard f r c =
+    (i h n k : ℕ) (x : Contact)
+    → StandsIn c (ImportEnd i h) → f.outer (ImportEnd i h) ≡ ImportEnd k h → contact_at c (ImportEnd i n) ≡ Some x → x.role ≡ Ask
+    → (f.outer (ImportEnd i n) ≡ ImportEnd k n) × (StandsIn r (ImportEnd k n) → StandsIn c (ImportEnd i n))
+
+-- a stage of the whole r, whose own part is number d, that is asked where an import of it asks
 pub record IsOpenStage (r : Plan) (d : ℕ) (g : Stage) : Type 0 where
   pub stage : IsStage r d g
-  pub heard :
-      (i h n k : ℕ) (c : Contact)
-      → StandsIn g.plan (ImportEnd i h) → g.cut.outer (ImportEnd i h) ≡ ImportEnd k h
-      → contact_at g.plan (ImportEnd i n) ≡ Some c → c.role ≡ Ask
-      → (g.cut.outer (ImportEnd i n) ≡ ImportEnd k n) × (StandsIn r (ImportEnd k n) → StandsIn g.plan (ImportEnd i n))
+  pub heard : IsHeard g.cut r g.plan
 
 -- a node, as `IsNode` has it, with imports of any types
 pub record IsOpenNode (r : Plan) (d : ℕ) (f : Form) (gs : List Stage) : Type 0 where
