@@ -16,7 +16,7 @@ use Rattle.gos_realises.proofs.GroundTurnLemmas.{width, width_small, some_there,
 use Rattle.gos_realises.proofs.RingLemmas.{after}
 use Rattle.gos_realises.proofs.ToldLemmas.{there_is}
 use Rattle.gos_renumbered.proofs.TurnLemmas.{of_import, of_result, ImportKeeps, keeps_each, each_keeps}
-use Rattle.gos_webs.specs.Cutting.{lies_at}
+use Rattle.gos_webs.specs.Cutting.{Cut, lies_at}
 use Rattle.gos_webs.proofs.CutLemmas.{place_there}
 use Rattle.gos_sessions.specs.Sessions.{Form}
 use Rattle.gos_windows.specs.Nodes.{Stage, IsStage}
@@ -178,12 +178,33 @@ import_shut p done past turned shut i h c there = by_test (is_open past (ImportE
         let result = result_open p.imports p.outcome done (λ m. is_open past (whole_end 0 p.imports m)) turned some in
         sym (sym (ap (is_open past) (result_end 0 p.imports)) ∙ result) ∙ shut
 
+pub import_result : (p : Plan) → IsDone p.outcome → (past : List Pass) → Turned p past → (i h : ℕ) (c : Contact) → contact_at p (ImportEnd i h) ≡ Some c
+    → is_open past (ImportEnd i h) ≡ true → is_open past (ResultEnd 0) ≡ true
+import_result p done past turned i h c there up = by_test (is_open past (ResultEnd 0)) refl
+  where
+    by_test : (b : Bool) → is_open past (ResultEnd 0) ≡ b → b ≡ true
+    by_test true t = refl
+    by_test false t = sym (import_shut p done past turned t i h c there) ∙ up
+
 -- turns of a list with one element more in front
 pub turns_before : (p : Plan) (past : List Pass) (y : Element) (ys : List Element) → InputsKeepTurns p past (y ∷ []) → InputsKeepTurns p (after p y past) ys
     → InputsKeepTurns p past (y ∷ ys)
 turns_before p past (Fire i t) ys one others = others
 turns_before p past (Out e v) ys one others = others
 turns_before p past (In e v) ys one others = (one.0, others)
+
+-- A region keeps its turns where the whole does: its result is open, and no other has one of its imports.
+pub region_turned : (r : Plan) (f : Cut) (c : Plan) (has : HasPorts r f c) → IsDone c.outcome → (own past : List Pass) → AreFollowed r f c own past
+    → ((i h k : ℕ) → Meets r f c i h → f.outer (ImportEnd i h) ≡ ImportEnd k h → (n : ℕ) → is_open past (ImportEnd k n) ≡ true
+    → (j : ℕ) × Meets r f c j n × (f.outer (ImportEnd j n) ≡ ImportEnd k n))
+    → is_open own (ResultEnd 0) ≡ true → Turned r past → Turned c own
+region_turned r f c has done own past followed only result turned = imports_turned c done own kept (λ i h up. result)
+  where
+    kept : (i h : ℕ) (x : Imported) → slice_get c.imports i ≡ Some x → is_open own (ImportEnd i h) ≡ true → KeepsTurnsOf x.ty (λ n. is_open own (ImportEnd i n))
+    kept i h x is up =
+        let meets = followed.met i h up in
+        let (k, at, same) = met_at r f c has i h meets in
+        subst (KeepsTurnsOf x.ty) (λ l n. sym (alike r f c has own past followed i h k meets at (only i h k meets at) n) l) (import_kept r past turned k x (same ∙ is))
 
 -- What passed a stage's ports, and the whole's: the result of both is open, and the open handshakes of imports are the same.
 pub record Follows (r : Plan) (g : Stage) (own past : List Pass) : Type 0 where
@@ -263,13 +284,8 @@ module _
     alike_there i h k meets at = alike r g.cut g.plan has_ports own past follows.imports i h k meets at (λ n up. follows.only k n up)
 
     pub stage_turned : Turned r past → Turned g.plan own
-    stage_turned turned = imports_turned g.plan there.outcome own kept (λ i h up. follows.of_stage)
-      where
-        kept : (i h : ℕ) (x : Imported) → slice_get g.plan.imports i ≡ Some x → is_open own (ImportEnd i h) ≡ true → KeepsTurnsOf x.ty (λ n. is_open own (ImportEnd i n))
-        kept i h x is up =
-            let meets = follows.imports.met i h up in
-            let (k, at, same) = met_at r g.cut g.plan has_ports i h meets in
-            subst (KeepsTurnsOf x.ty) (λ l n. sym (alike_there i h k meets at n) l) (import_kept r past turned k x (same ∙ is))
+    stage_turned =
+        region_turned r g.cut g.plan has_ports there.outcome own past follows.imports (λ i h k meets at n up. follows.only k n up) follows.of_stage
 
     pub whole_turned : Turned g.plan own → Turned r past
     whole_turned turned = imports_turned r (subst IsDone (sym node.outcome) node.done) past kept (λ i h up. follows.result)
