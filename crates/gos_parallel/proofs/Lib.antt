@@ -4,6 +4,8 @@ pub mod StepLemmas
 pub mod ProtocolLemmas
 pub mod LinkedLemmas
 pub mod PlainTurnLemmas
+pub mod HistoryLemmas
+pub mod SharedLemmas
 pub mod OutputLemmas
 pub mod OpenLemmas
 pub mod OrderLemmas

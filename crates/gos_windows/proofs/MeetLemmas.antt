@@ -76,7 +76,7 @@ module _ (r : Plan) (f : Cut) (c : Plan) (has : HasPorts r f c) where
       let (k, at_k, same) = met_at i n meets in
       ap (contact_at r) (sym at ∙ at_k) ∙ ap (λ (o : Option Imported). slice_get (contacts_of_import o) n) same
 
-  own_import : (i n : ℕ) → Meets r f c i n → (x : Imported) × (slice_get c.imports i ≡ Some x)
+  pub own_import : (i n : ℕ) → Meets r f c i n → (x : Imported) × (slice_get c.imports i ≡ Some x)
   own_import i n meets = let (x, is) = met_contact i n meets in there_is c.imports i n x is
 
   -- two ends of one import of the whole are of one import of the region, and back
