@@ -9,6 +9,7 @@ pub mod SharedLemmas
 pub mod OutputLemmas
 pub mod OpenLemmas
 pub mod OrderLemmas
+pub mod LooseLemmas
 pub mod RegularLemmas
 pub mod MoveLemmas
 pub mod QuietLemmas

@@ -12,9 +12,8 @@ use Rattle.gos_plan.specs.Kinds as kinds
 use Rattle.gos_plan.specs.Kinds.{Part, Contact, asks, serves, part_contacts, contacts_of}
 use Rattle.gos_plan.specs.Firing.{Phase, Rest, Both, LeftOnly, RightOnly, Slot, Req, Ans, Row, at, row_for, rows, quiet_row}
 use Rattle.gos_plan.specs.Plans.{End, PartEnd, ImportEnd, ResultEnd, Plan, contact_at, contacts_of_part, same_end, turned_if}
-use Rattle.gos_plan.specs.Tokens.{Tokens, Element, Fire, Out, In, places_of, held_at, token_at, with_token, with_state, end_of, shake_of, way_of, way_taken, way_put, firing_of, Does, Runs, IsIdle}
+use Rattle.gos_plan.specs.Tokens.{Tokens, Element, Fire, Out, In, places_of, held_at, token_at, with_token, with_state, end_of, shake_of, way_of, way_taken, way_put, firing_of, Does, IsIdle}
 use Rattle.gos_plan.specs.Orderly.{Open, named_by, handshake_at, none_open, with_open, after_taken, after_put, ComesWell, ComesInOrder, AllWelcome, OrderlyFrom}
-use Rattle.gos_plan.specs.TokenBits as bits
 use Rattle.gos_plan.specs.TokenBits.{LiteralFits}
 use Rattle.gos_plan.proofs.JointLemmas.{same_itself}
 use Rattle.gos_plan.proofs.HeldLemmas as held
@@ -23,13 +22,11 @@ use Rattle.gos_plan.proofs.DecidedLemmas.{one_state}
 use Rattle.gos_plan.proofs.ProjectionLemmas.{named}
 use Rattle.gos_webs.specs.Cutting.{Cut, lies_at, cut_tokens}
 use Rattle.gos_realises.specs.Regular.{Pass, is_request, is_open}
-use Rattle.gos_realises.specs.Realises.{AllGround}
 use Rattle.gos_realises.proofs.RingLemmas.{after}
 use Rattle.gos_parallel.specs.Parallel.{IsSide, IsPartOf, IsParallel}
 use Rattle.gos_parallel.proofs.RegionLemmas as region
 use Rattle.gos_parallel.proofs.RegionLemmas.{Held, result_held}
 use Rattle.gos_parallel.proofs.DriverLemmas.{begin_row, end_row}
-use Rattle.gos_parallel.proofs.ProtocolLemmas.{InTurn}
 use Rattle.gos_parallel.proofs.StepLemmas.{gate, Same, Local, fires, puts_out, takes_in, Step, of_left, of_right, asked, told, starts, left_ends, right_ends, left_ends_all, right_ends_all, lost, Sees, Unseen, IsSeen, part_ends, Differ, free_left, free_right, not_both_inner, gate_at_result, gate_at_part, gate_apart}
 use Rattle.gos_parallel.proofs.LinkedLemmas.{left_runs, right_runs, Stage, Driven, Comes, left_seen, right_seen, when_starting, when_working, way_asked, way_told, asked_turn}
 use Rattle.gos_parallel.proofs.OpenLemmas.{OpenAgree, IsApart, opened_so, put_agrees, taken_agrees, Lies, in_part, at_import, at_driver, lies, not_same, comes_by, firing_same, side_step}
@@ -219,7 +216,7 @@ module _
     pub right_rest : OrderlyFrom q zs right_now (cut_tokens g q w) ru rt
 
   -- the first element of a region's list
-  peel : (a : Plan) (y : Element) (ys : List Element) (own u : Open) (b w t : Tokens) → Does a y b w → OrderlyFrom a (y ∷ ys) own b u t
+  pub peel : (a : Plan) (y : Element) (ys : List Element) (own u : Open) (b w t : Tokens) → Does a y b w → OrderlyFrom a (y ∷ ys) own b u t
       → (next : Open) × ComesInOrder a y b own next × AllWelcome a w × OrderlyFrom a ys next w u t
   peel a y ys own u b w t does (next, v, also, comes, welcome, rest) =
       let same : v ≡ w = one_state a y b v w also does in

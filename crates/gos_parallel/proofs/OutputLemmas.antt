@@ -1,30 +1,23 @@
 -- The outputs of the whole keep turns where those of its regions do.
-use Rattle.std.specs.Prelude.{◌≡◌, ◌<◌, ℕ, ◌+◌, Bool, true, false, ◌&&◌, List, [], ◌∷◌, ◌++◌, Option, Some, None, All, nat_eq, slice_get}
-use Rattle.std.proofs.Common.{arith, refl, sym, ap, subst, inl, ◌∙◌}
+use Rattle.std.specs.Prelude.{◌≡◌, ◌<◌, ℕ, List, [], ◌∷◌, ◌++◌, Option, Some, All, slice_get}
+use Rattle.std.proofs.Common.{sym, ap, subst, inl, ◌∙◌}
 use Rattle.std.proofs.lemmas.Option.{slice_get_within}
-use Rattle.gos_types.specs.Types.{Var, IsDone}
 use Rattle.gos_netlist.specs.Events.{Direction, Request, Answer}
 use Rattle.gos_model.specs.Typing.{Imported}
-use Rattle.gos_plan.specs.Firing.{Phase, Rest}
 use Rattle.gos_plan.specs.Plans.{End, ImportEnd, ResultEnd, Plan, contact_at, contacts_of_import}
-use Rattle.gos_plan.specs.Tokens.{Tokens, Element, Fire, Out, In, Runs}
-use Rattle.gos_plan.specs.TokenBits.{LiteralFits, AllFit}
+use Rattle.gos_plan.specs.Tokens.{Tokens, Element, Fire, Out, In}
+use Rattle.gos_plan.specs.TokenBits.{LiteralFits}
 use Rattle.gos_plan.proofs.JointLemmas.{contained, joined, stands_there}
-use Rattle.gos_plan.proofs.TurnLemmas.{nat_eq_self}
 use Rattle.gos_webs.specs.Cutting.{Cut, StandsIn}
-use Rattle.gos_realises.specs.Regular.{Pass, way_out, is_open, count, KeepsTurnsOf, whole_type, whole_end, ComesInTurn, InputsKeepTurns, OutputsKeepTurns}
-use Rattle.gos_realises.specs.Realises.{AllGround, NamesDiffer}
+use Rattle.gos_realises.specs.Regular.{Pass, way_out, is_open, count, ComesInTurn, InputsKeepTurns, OutputsKeepTurns}
 use Rattle.gos_realises.proofs.RingLemmas.{after, OutputTurns}
-use Rattle.gos_realises.proofs.ToldLemmas.{there_is, contains_at, one_name}
+use Rattle.gos_realises.proofs.ToldLemmas.{there_is}
 use Rattle.gos_windows.proofs.MeetLemmas.{HasPorts}
 use Rattle.gos_windows.proofs.TurnLemmas.{Turned}
 use Rattle.gos_parallel.specs.Parallel.{IsSide, IsParallel}
-use Rattle.gos_parallel.proofs.ProtocolLemmas.{InTurn}
-use Rattle.gos_parallel.proofs.PlainTurnLemmas.{Plain, plain_turned, turned_plain}
-use Rattle.gos_parallel.proofs.RegionLemmas as region
-use Rattle.gos_parallel.proofs.StepLemmas.{gate, Local, fires, puts_out, takes_in, Step, of_left, of_right, asked, told, starts, left_ends, right_ends, left_ends_all, right_ends_all, lost, step}
+use Rattle.gos_parallel.proofs.StepLemmas.{gate, Local, fires, puts_out, takes_in, Step, of_left, of_right, asked, told, starts, left_ends, right_ends, left_ends_all, right_ends_all, lost}
 use Rattle.gos_parallel.proofs.SharedLemmas.{Shared}
-use Rattle.gos_parallel.proofs.LinkedLemmas.{left_runs, right_runs, Driven, first_comes, past_all, left_seen, right_seen, left_list, right_list, linked_step, fits_on, when_told, when_working, way_told, ways_left, ways_right}
+use Rattle.gos_parallel.proofs.LinkedLemmas.{Driven, past_all, left_seen, right_seen, when_told, way_told, ways_left, ways_right}
 
 -- what is known of a region's list from here on
 pub record Turning (p : Plan) (past : List Pass) (ys : List Element) : Type 0 where

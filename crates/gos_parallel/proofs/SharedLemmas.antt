@@ -1,6 +1,6 @@
 -- What is open at imports of the whole is open in the region that has the import, and in no other (`Shared`). So the whole keeps its
 -- turns where its regions do, and a region whose result is open where the whole does.
-use Rattle.std.specs.Prelude.{◌≡◌, ◌⊎◌, All, ℕ, Bool, true, false, List, [], ◌∷◌, Option, Some, None, slice_get, if◌then◌else◌}
+use Rattle.std.specs.Prelude.{◌≡◌, ◌⊎◌, All, ℕ, Bool, true, false, List, [], ◌∷◌, Some, slice_get, if◌then◌else◌}
 use Rattle.std.proofs.Common.{refl, sym, ap, subst, inl, inr, ◌∙◌}
 use Rattle.gos_types.specs.declared.shakes.Role.{Role}
 use Rattle.gos_types.specs.declared.shakes.Role.TheVariants.{Serve, Ask}
@@ -10,7 +10,7 @@ use Rattle.gos_model.specs.Typing.{Imported}
 use Rattle.gos_plan.specs.Kinds.{Contact}
 use Rattle.gos_plan.specs.Firing.{Phase, Rest}
 use Rattle.gos_plan.specs.Plans.{End, ImportEnd, ResultEnd, Plan, contact_at, same_end}
-use Rattle.gos_plan.specs.Tokens.{Tokens, Element, Out, In, way_put}
+use Rattle.gos_plan.specs.Tokens.{Tokens, Element, way_put}
 use Rattle.gos_plan.specs.TokenBits.{LiteralFits}
 use Rattle.gos_plan.proofs.JointLemmas.{same_is}
 use Rattle.gos_webs.specs.Cutting.{Cut, lies_at}
@@ -48,10 +48,10 @@ comes_so past own a b Answer same turn = same ∙ turn
 
 module _
     (d : ℕ) (f g : Cut) (r p q : Plan) (is : IsParallel d f g r p q) (left_ports : HasPorts r f p) (right_ports : HasPorts r g q) where
-  left_done : IsDone p.outcome
+  pub left_done : IsDone p.outcome
   left_done = subst IsDone (sym is.left.outcome) tt
 
-  right_done : IsDone q.outcome
+  pub right_done : IsDone q.outcome
   right_done = subst IsDone (sym is.right.outcome) tt
 
   -- which region has an end of an import of the whole

@@ -1,6 +1,9 @@
-use Rattle.gos_parallel.proofs.RegularLemmas.{parallel_is_regular}
+use Rattle.gos_parallel.proofs.RegularLemmas.{open_parallel_is_regular, parallel_is_regular}
 use Rattle.gos_parallel.proofs.RealisesLemmas.{parallel_realises}
 use Rattle.gos_parallel.proofs.laws.parallel.Goals as goal
+
+pub returns-clause-any : goal.returns-clause-any
+returns-clause-any c = open_parallel_is_regular
 
 pub returns-clause-regular : goal.returns-clause-regular
 returns-clause-regular c = parallel_is_regular
