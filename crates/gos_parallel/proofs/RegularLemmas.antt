@@ -8,6 +8,7 @@ use Rattle.std.proofs.lemmas.Option.{same_Some}
 use Rattle.gos_types.specs.declared.shakes.Role.TheVariants.{Serve, Ask}
 use Rattle.gos_types.specs.Types.{IsDone}
 use Rattle.gos_plan.specs.Kinds.{Contact}
+use Rattle.gos_netlist.specs.Events.{Request, Answer}
 use Rattle.gos_plan.specs.Plans.{ImportEnd, ResultEnd, Plan, contact_at}
 use Rattle.gos_plan.specs.Tokens.{Tokens, Element, Fire, Out, In, places_of, way_put, Does, Runs, IsIdle}
 use Rattle.gos_plan.specs.TokenBits.{LiteralFits, AllFit}
@@ -19,19 +20,22 @@ use Rattle.gos_realises.specs.Regular.{Pass, pass, way_in, is_open, ComesInTurn,
 use Rattle.gos_realises.specs.Realises.{AllGround}
 use Rattle.gos_realises.proofs.InputLemmas.{passed}
 use Rattle.gos_realises.proofs.RingLemmas.{after, OutputTurns}
+use Rattle.gos_windows.specs.Nodes.{IsRestful}
 use Rattle.gos_windows.specs.OpenNodes.{IsHeard}
+use Rattle.gos_windows.proofs.RestLemmas.{closed_rests}
 use Rattle.gos_windows.proofs.PortLemmas.{port_role}
 use Rattle.gos_windows.proofs.NodeLemmas.{InTurn, first_turn, turns_after}
 use Rattle.gos_windows.proofs.ClosingLemmas.{Ports, ports_after}
 use Rattle.gos_windows.proofs.MeetLemmas.{Meets, IsUnjoined, HasPorts, heard_meets}
 use Rattle.gos_windows.proofs.TurnLemmas.{Turned, closed_turned}
-use Rattle.gos_parallel.specs.Parallel.{IsParallel, OpenParallelIsRegular, ParallelIsRegular}
-use Rattle.gos_parallel.proofs.StepLemmas.{Same, Unseen, Sees, Step, of_left, of_right, asked, told, starts, left_ends, right_ends, left_ends_all, right_ends_all, lost, IsSeen, step}
-use Rattle.gos_parallel.proofs.LinkedLemmas.{Driven, Comes, past_all, left_seen, right_seen, seen_left_runs, seen_right_runs, fits_on, driven_step, driven_first}
+use Rattle.gos_parallel.specs.Parallel.{IsParallel, OpenParallelIsRegular, OpenParallelIsRestful, ParallelIsRegular}
+use Rattle.gos_parallel.proofs.StepLemmas.{gate, Same, Unseen, Sees, Local, fires, puts_out, takes_in, Step, of_left, of_right, asked, told, starts, left_ends, right_ends, left_ends_all, right_ends_all, lost, IsSeen, step}
+use Rattle.gos_parallel.proofs.LinkedLemmas.{left_runs, right_runs, Stage, when_told, Driven, Comes, past_all, left_seen, right_seen, seen_left_runs, seen_right_runs, fits_on, driven_step, driven_first}
 use Rattle.gos_parallel.proofs.SharedLemmas.{side_ports, left_done, right_done, Owner, on_left, on_right, Shared, shared_first, left_pass, right_pass, whole_turned, open_before, shared_step, left_input, right_input, seen_inputs}
 use Rattle.gos_parallel.proofs.HistoryLemmas.{nil_end, passed_append, History, Grown, grow, grown, at_first}
 use Rattle.gos_parallel.proofs.OutputLemmas.{output_turn}
 use Rattle.gos_parallel.proofs.OrderLemmas.{Opened, welcome_all, peel, Next, order_step, idle_welcome, opened_first}
+use Rattle.gos_parallel.proofs.QuietLemmas.{Neat, neat_step, neat_first, whole_idle}
 use Rattle.gos_parallel.proofs.LooseLemmas.{loose_comes, loose_contact, loose_does, own_now, opened_left, opened_right}
 
 comes_of_turn : (r : Plan) (past : List Pass) (x : Element) → InTurn r past x → Comes r past x
@@ -382,12 +386,93 @@ module _
         ports = λ e port up. absurd (cc up);
       }
 
+  -- where the whole is before the last element of a list
+  record Reached (x : Element) (t : Tokens) : Type 0 where
+    s : Tokens
+    past : List Pass
+    hs : List Element
+    ks : List Element
+    o : Open
+    lo : Open
+    ro : Open
+    holds : Holds s past hs ks o lo ro
+    neat : Neat r s
+    does : Does r x s t
+
+  reach : (xs : List Element) (x : Element) (s t : Tokens) (past : List Pass) (hs ks : List Element) (o lo ro : Open) → Holds s past hs ks o lo ro → Neat r s
+      → Runs r (xs ++ x ∷ []) s t → InputsKeepTurns r past (xs ++ x ∷ []) → Reached x t
+  reach [] x s t past hs ks o lo ro holds neat (w, does, is) turns =
+      record {
+        s = s;
+        past = past;
+        hs = hs;
+        ks = ks;
+        o = o;
+        lo = lo;
+        ro = ro;
+        holds = holds;
+        neat = neat;
+        does = subst (λ (y : Tokens). Does r x s y) (sym is) does;
+      }
+  reach (y ∷ ys) x s t past hs ks o lo ro holds neat (w, does, runs) turns =
+      let one =
+      next y s w past hs ks o lo ro holds does (first_turn r past y (ys ++ x ∷ []) turns) (step d f g r p q is literals y s w holds.fit does) in
+      reach ys x w t (after r y past) one.hs one.ks one.now one.lo one.ro one.holds (neat_step r y s w does neat) runs (turns_after r past y (ys ++ x ∷ []) turns)
+
+  -- the answer leads to rest
+  local_apart : (c : Cut) (a : Plan) (x y : Element) (v : ℕ) → Local c r a x y → x ≡ Out (ResultEnd 0) v → ⊥
+  local_apart c a x y v (fires i j k number) is_out = cc is_out
+  local_apart c a x y v (puts_out i j k n stands leads slices) is_out = cc is_out
+  local_apart c a x y v (takes_in i j k n stands leads slices) is_out = cc is_out
+
+  last_of : (x : Element) (s w : Tokens) → Step d f g r p q x s w → (v : ℕ) (past : List Pass) → x ≡ Out (ResultEnd 0) v
+      → Stage (is_open past (ResultEnd 0)) (s.state d).phase (gate s Request) (gate s Answer) → (left_runs (s.state d).phase ≡ false → IsIdle p (Lefts s))
+      → (right_runs (s.state d).phase ≡ false → IsIdle q (Rights s)) → Neat r w → IsIdle r w
+  last_of x s w (told n s' w' left right state ans none ask) v past is_out stage left_idle right_idle neat =
+      let (opened, rest, empty, value) = when_told (is_open past (ResultEnd 0)) (s'.state d).phase (gate s' Request) (gate s' Answer) n stage ans in
+      whole_idle d f g r p q is w' neat (subst (IsIdle p) (sym left) (left_idle (ap left_runs rest))) (subst (IsIdle q) (sym right) (right_idle (ap right_runs rest)))
+      (ap (λ c. c.phase) state ∙ rest) (ask ∙ empty) none
+  last_of x s w (of_left x' y s' w' local sees unseen same) v past is_out stage left_idle right_idle neat = absurd (local_apart f p x' y v local is_out)
+  last_of x s w (of_right x' y s' w' local sees unseen same) v past is_out stage left_idle right_idle neat = absurd (local_apart g q x' y v local is_out)
+  last_of x s w (asked n s' w' small left right state ask ans) v past is_out stage left_idle right_idle neat = absurd (cc is_out)
+  last_of x s w (starts n s' w' left right rest ask both none ans) v past is_out stage left_idle right_idle neat = absurd (cc is_out)
+  last_of x s w (left_ends n s' w' left right both further gates) v past is_out stage left_idle right_idle neat = absurd (cc is_out)
+  last_of x s w (right_ends n s' w' left right both further gates) v past is_out stage left_idle right_idle neat = absurd (cc is_out)
+  last_of x s w (left_ends_all n s' w' left right phase rest ask ans) v past is_out stage left_idle right_idle neat = absurd (cc is_out)
+  last_of x s w (right_ends_all n s' w' left right phase rest ask ans) v past is_out stage left_idle right_idle neat = absurd (cc is_out)
+  last_of x s w (lost j k n s' w' c there not_left not_right left right same) v past is_out stage left_idle right_idle neat = absurd (cc is_out)
+
+  module _ (left_restful : IsRestful p) (right_restful : IsRestful q) (v : ℕ) (t : Tokens) (there : Reached (Out (ResultEnd 0) v) t) where
+    left_rests : left_runs (there.s.state d).phase ≡ false → IsIdle p (Lefts there.s)
+    left_rests shut =
+        closed_rests p there.hs (Lefts first) (Lefts there.s) (left_done d f g r p q is left_ports right_ports) left_regular left_restful (idle_is_cut f r p first rests)
+        there.holds.left.runs there.holds.left.inputs (there.holds.driven.left_result ∙ shut)
+
+    right_rests : right_runs (there.s.state d).phase ≡ false → IsIdle q (Rights there.s)
+    right_rests shut =
+        closed_rests q there.ks (Rights first) (Rights there.s) (right_done d f g r p q is left_ports right_ports) right_regular right_restful (idle_is_cut g r q first rests)
+        there.holds.right.runs there.holds.right.inputs (there.holds.driven.right_result ∙ shut)
+
+    last_rests : IsIdle r t
+    last_rests =
+        last_of (Out (ResultEnd 0) v) there.s t (step d f g r p q is literals (Out (ResultEnd 0) v) there.s t there.holds.fit there.does) v there.past refl
+        there.holds.driven.stage left_rests right_rests (neat_step r (Out (ResultEnd 0) v) there.s t there.does there.neat)
+
 pub open_parallel_is_regular : OpenParallelIsRegular
 open_parallel_is_regular d f g r p q is left_heard right_heard literals names left_names left_regular right_names right_regular s t xs rests runs turns =
     along d f g r p q is literals (side_ports d 0 f r p is.left left_heard names left_names) (side_ports d 1 g r q is.right right_heard names right_names)
     left_regular right_regular s rests xs s t [] [] [] none_open none_open none_open
     (holds_first d f g r p q is literals (side_ports d 0 f r p is.left left_heard names left_names) (side_ports d 1 g r q is.right right_heard names right_names)
     left_regular right_regular s rests) runs turns
+
+pub open_parallel_is_restful : OpenParallelIsRestful
+open_parallel_is_restful d f g r p q is left_heard right_heard literals names left_names left_regular left_restful right_names right_regular right_restful s t xs v rests runs turns =
+    let left_ports = side_ports d 0 f r p is.left left_heard names left_names in
+    let right_ports = side_ports d 1 g r q is.right right_heard names right_names in
+    let there =
+    reach d f g r p q is literals left_ports right_ports left_regular right_regular s rests xs (Out (ResultEnd 0) v) s t [] [] [] none_open none_open none_open
+    (holds_first d f g r p q is literals left_ports right_ports left_regular right_regular s rests) (neat_first r s rests) runs turns in
+    last_rests d f g r p q is literals left_ports right_ports left_regular right_regular s rests left_restful right_restful v t there
 
 -- at ground imports nothing has to be heard
 ground_heard : (f : Cut) (r p : Plan) → AllGround p.imports → IsDone p.outcome → IsHeard f r p

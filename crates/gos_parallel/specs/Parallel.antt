@@ -13,6 +13,7 @@ use Rattle.gos_plan.specs.Kinds.{Part}
 use Rattle.gos_webs.specs.Webs.{joint}
 use Rattle.gos_webs.specs.Cutting.{Cut, lies_at, StandsIn, IsCut}
 use Rattle.gos_contexts.specs.Widening.{AreAmong}
+use Rattle.gos_windows.specs.Nodes.{IsRestful}
 use Rattle.gos_windows.specs.OpenNodes.{IsHeard}
 use Rattle.gos_realises.specs.Regular.{IsRegular}
 use Rattle.gos_realises.specs.Realises.{AllGround, NamesDiffer, HaveOtherNames, Realises}
@@ -59,6 +60,13 @@ OpenParallelIsRegular =
     (d : ℕ) (f g : Cut) (r p q : Plan)
     → IsParallel d f g r p q → IsHeard f r p → IsHeard g r q → All LiteralFits r.parts → NamesDiffer r.imports
     → NamesDiffer p.imports → IsRegular p → NamesDiffer q.imports → IsRegular q → IsRegular r
+
+-- And it rests after its answer where both do.
+abbrev pub OpenParallelIsRestful : Type 0
+OpenParallelIsRestful =
+    (d : ℕ) (f g : Cut) (r p q : Plan)
+    → IsParallel d f g r p q → IsHeard f r p → IsHeard g r q → All LiteralFits r.parts → NamesDiffer r.imports
+    → NamesDiffer p.imports → IsRegular p → IsRestful p → NamesDiffer q.imports → IsRegular q → IsRestful q → IsRestful r
 
 -- At ground imports they don't ask.
 abbrev pub ParallelIsRegular : Type 0

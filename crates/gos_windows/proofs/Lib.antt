@@ -11,6 +11,7 @@ pub mod QuietLemmas
 pub mod WholeLemmas
 pub mod NodeLemmas
 pub mod WindowLemmas
+pub mod RestLemmas
 pub mod KeepingLemmas
 pub mod GroundLemmas
 pub mod OutputLemmas

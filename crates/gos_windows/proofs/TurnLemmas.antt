@@ -116,10 +116,11 @@ closed_turned p done past closed =
 pub first_turned : (p : Plan) → IsDone p.outcome → Turned p (pass (ResultEnd 0) Request ∷ [])
 first_turned p done = closed_turned p done (pass (ResultEnd 0) Request ∷ []) (λ k h. refl)
 
--- Where the surroundings ask at an import, another of its handshakes is open.
-pub asked_within : (p : Plan) (past : List Pass) (i h : ℕ) (c : Contact) → Turned p (pass (ImportEnd i h) Request ∷ past) → contact_at p (ImportEnd i h) ≡ Some c → c.role ≡ Ask
-    → (n : ℕ) × (is_open past (ImportEnd i n) ≡ true)
-asked_within p past i h c turned there asks = (served.0, by_test (same_end (ImportEnd i h) (ImportEnd i served.0)) refl served.4)
+-- Where the surroundings ask at an import, another of its handshakes is open, and so is the result.
+pub asked_beside : (p : Plan) (past : List Pass) (i h : ℕ) (c : Contact) → Turned p (pass (ImportEnd i h) Request ∷ past) → contact_at p (ImportEnd i h) ≡ Some c → c.role ≡ Ask
+    → (n : ℕ) × (x : Contact) × (contact_at p (ImportEnd i n) ≡ Some x) × (is_open past (ImportEnd i n) ≡ true)
+asked_beside p past i h c turned there asks =
+    (served.0, served.1, ap (λ (o : Option Imported). slice_get (contacts_of_import o) served.0) x.1 ∙ served.2, by_test (same_end (ImportEnd i h) (ImportEnd i served.0)) refl served.4)
   where
     x : (x : Imported) × (slice_get p.imports i ≡ Some x)
     x = there_is p.imports i h c there
@@ -141,6 +142,10 @@ asked_within p past i h c turned there asks = (served.0, by_test (same_end (Impo
         let shake : h ≡ served.0 = cc same in
         let one : c ≡ served.1 = same_Some c served.1 (sym own ∙ (ap (slice_get (contacts_of x.0.ty)) shake ∙ served.2)) in
         let clash : Ask ≡ Serve = sym asks ∙ (ap (λ (k : Contact). k.role) one ∙ served.3) in absurd (cc clash)
+
+pub asked_within : (p : Plan) (past : List Pass) (i h : ℕ) (c : Contact) → Turned p (pass (ImportEnd i h) Request ∷ past) → contact_at p (ImportEnd i h) ≡ Some c → c.role ≡ Ask
+    → (n : ℕ) × (is_open past (ImportEnd i n) ≡ true)
+asked_within p past i h c turned there asks = let (n, x, is, up) = asked_beside p past i h c turned there asks in (n, up)
 
 -- the number of an import's handshake among all
 whole_index : (is : List Imported) (n i h : ℕ) (c : Contact) → slice_get (contacts_of_import (slice_get is i)) h ≡ Some c
