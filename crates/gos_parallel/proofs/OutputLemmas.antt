@@ -1,6 +1,6 @@
 -- The outputs of the whole keep turns where those of its regions do.
 use Rattle.std.specs.Prelude.{◌≡◌, ◌<◌, ℕ, List, [], ◌∷◌, ◌++◌, Option, Some, All, slice_get}
-use Rattle.std.proofs.Common.{sym, ap, subst, inl, ◌∙◌}
+use Rattle.std.proofs.Common.{sym, ap, subst, ◌∙◌}
 use Rattle.std.proofs.lemmas.Option.{slice_get_within}
 use Rattle.gos_netlist.specs.Events.{Direction, Request, Answer}
 use Rattle.gos_model.specs.Typing.{Imported}
@@ -12,7 +12,7 @@ use Rattle.gos_webs.specs.Cutting.{Cut, StandsIn}
 use Rattle.gos_realises.specs.Regular.{Pass, way_out, is_open, count, ComesInTurn, InputsKeepTurns, OutputsKeepTurns}
 use Rattle.gos_realises.proofs.RingLemmas.{after, OutputTurns}
 use Rattle.gos_realises.proofs.ToldLemmas.{there_is}
-use Rattle.gos_windows.proofs.MeetLemmas.{HasPorts}
+use Rattle.gos_windows.proofs.MeetLemmas.{HasPorts, met_joined}
 use Rattle.gos_windows.proofs.TurnLemmas.{Turned}
 use Rattle.gos_parallel.specs.Parallel.{IsSide, IsParallel}
 use Rattle.gos_parallel.proofs.StepLemmas.{gate, Local, fires, puts_out, takes_in, Step, of_left, of_right, asked, told, starts, left_ends, right_ends, left_ends_all, right_ends_all, lost}
@@ -56,7 +56,7 @@ module _
   local_left_turn x y past lefts rights s zs (fires i j k number) shared keeps turned = tt
   local_left_turn x y past lefts rights s zs (puts_out i j k v stands leads slices) shared keeps turned = (
     subst (λ o. ComesInTurn past (ImportEnd j k) (way_out o)) (sym (ways_left d f g r p q is literals i j k stands leads))
-        (back_turn past lefts (ImportEnd j k) (ImportEnd i k) (way_out (contact_at p (ImportEnd i k))) (sym (shared.left.same i k j (inl stands) leads)) keeps.0.0),
+        (back_turn past lefts (ImportEnd j k) (ImportEnd i k) (way_out (contact_at p (ImportEnd i k))) (sym (shared.left.same i k j (met_joined r f p i k j stands leads) leads)) keeps.0.0),
     turned,
   )
   local_left_turn x y past lefts rights s zs (takes_in i j k v stands leads slices) shared keeps turned = tt
@@ -66,7 +66,7 @@ module _
   local_right_turn x y past lefts rights s zs (fires i j k number) shared keeps turned = tt
   local_right_turn x y past lefts rights s zs (puts_out i j k v stands leads slices) shared keeps turned = (
     subst (λ o. ComesInTurn past (ImportEnd j k) (way_out o)) (sym (ways_right d f g r p q is literals i j k stands leads))
-        (back_turn past rights (ImportEnd j k) (ImportEnd i k) (way_out (contact_at q (ImportEnd i k))) (sym (shared.right.same i k j (inl stands) leads)) keeps.0.0),
+        (back_turn past rights (ImportEnd j k) (ImportEnd i k) (way_out (contact_at q (ImportEnd i k))) (sym (shared.right.same i k j (met_joined r g q i k j stands leads) leads)) keeps.0.0),
     turned,
   )
   local_right_turn x y past lefts rights s zs (takes_in i j k v stands leads slices) shared keeps turned = tt

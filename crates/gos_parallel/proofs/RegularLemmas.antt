@@ -315,13 +315,13 @@ module _
         let clash : None ≡ Some (ImportEnd i n) = sym not_right ∙ (ap g.inner (sym leads) ∙ (is.right.cut.ports (ImportEnd i n) tt stands).1) in cc clash
 
     met_left : (i : ℕ) → Meets r f p i n → f.outer (ImportEnd i n) ≡ ImportEnd k n → After (In (ImportEnd k n) v) s w past o
-    met_left i (inl stands) leads = absurd (standing_left i stands leads)
+    met_left i (inl joined) leads = absurd (standing_left i joined.stands leads)
     met_left i (inr none) leads =
         let both : ImportEnd none.import n ≡ ImportEnd k n = sym none.outer ∙ leads in
         let import : none.import ≡ k = cc both in lost_left i none import
 
     met_right : (i : ℕ) → Meets r g q i n → g.outer (ImportEnd i n) ≡ ImportEnd k n → After (In (ImportEnd k n) v) s w past o
-    met_right i (inl stands) leads = absurd (standing_right i stands leads)
+    met_right i (inl joined) leads = absurd (standing_right i joined.stands leads)
     met_right i (inr none) leads =
         let both : ImportEnd none.import n ≡ ImportEnd k n = sym none.outer ∙ leads in
         let import : none.import ≡ k = cc both in lost_right i none import

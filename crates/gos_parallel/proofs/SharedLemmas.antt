@@ -21,7 +21,7 @@ use Rattle.gos_realises.proofs.RingLemmas.{after}
 use Rattle.gos_realises.proofs.ToldLemmas.{contains_at}
 use Rattle.gos_windows.specs.OpenNodes.{IsHeard}
 use Rattle.gos_windows.proofs.PortLemmas.{stands_place, place_stands}
-use Rattle.gos_windows.proofs.MeetLemmas.{Meets, HasPorts, AreFollowed, met_contact, met_contacts, met_import, own_import, followed_pass, alike}
+use Rattle.gos_windows.proofs.MeetLemmas.{Meets, met_joined, HasPorts, AreFollowed, met_contact, met_contacts, met_import, own_import, followed_pass, alike}
 use Rattle.gos_windows.proofs.NodeLemmas.{InTurn}
 use Rattle.gos_windows.proofs.TurnLemmas.{Turned, closed_turned, import_kept, imports_turned, asked_within, import_result, region_turned}
 use Rattle.gos_parallel.specs.Parallel.{IsSide, IsParallel}
@@ -35,7 +35,11 @@ side_ports d h f r p side heard whole_names names =
       whole_right = side.cut.whole_right;
       names = names;
       whole_names = whole_names;
-      ports = λ i k stands. let (j, leads, same) = side.imports i k stands in (j, leads, sym same);
+      ports = λ i k j stands at.
+          let (q, leads, same) = side.imports i k stands in
+          let both : ImportEnd q k ≡ ImportEnd j k = sym leads ∙ at in
+          let one : q ≡ j = cc both in
+          ap (slice_get r.imports) (sym one) ∙ sym same;
       joined = λ i k stands.
           let (a, named) = stands_place p side.cut.right (ImportEnd i k) stands in
           place_stands r (f.outer (ImportEnd i k)) (lies_at f a) (place_there f r p side.cut (ImportEnd i k) a named);
@@ -222,22 +226,22 @@ module _
     local_left x y past lefts rights (puts_out i j k v stands leads slices) shared =
         subst (λ o. Shared (pass (ImportEnd j k) (way_out (contact_at r (ImportEnd j k))) ∷ past) (pass (ImportEnd i k) (way_out o) ∷ lefts) rights)
         (ways_left d f g r p q is literals i j k stands leads)
-        (left_pass past lefts rights shared i k j (inl stands) leads (way_out (contact_at r (ImportEnd j k))))
+        (left_pass past lefts rights shared i k j (met_joined r f p i k j stands leads) leads (way_out (contact_at r (ImportEnd j k))))
     local_left x y past lefts rights (takes_in i j k v stands leads slices) shared =
         subst (λ o. Shared (pass (ImportEnd j k) (way_in (contact_at r (ImportEnd j k))) ∷ past) (pass (ImportEnd i k) (way_in o) ∷ lefts) rights)
         (ways_left d f g r p q is literals i j k stands leads)
-        (left_pass past lefts rights shared i k j (inl stands) leads (way_in (contact_at r (ImportEnd j k))))
+        (left_pass past lefts rights shared i k j (met_joined r f p i k j stands leads) leads (way_in (contact_at r (ImportEnd j k))))
 
     local_right : (x y : Element) (past lefts rights : List Pass) → Local g r q x y → Shared past lefts rights → Shared (after r x past) lefts (after q y rights)
     local_right x y past lefts rights (fires i j k number) shared = shared
     local_right x y past lefts rights (puts_out i j k v stands leads slices) shared =
         subst (λ o. Shared (pass (ImportEnd j k) (way_out (contact_at r (ImportEnd j k))) ∷ past) lefts (pass (ImportEnd i k) (way_out o) ∷ rights))
         (ways_right d f g r p q is literals i j k stands leads)
-        (right_pass past lefts rights shared i k j (inl stands) leads (way_out (contact_at r (ImportEnd j k))))
+        (right_pass past lefts rights shared i k j (met_joined r g q i k j stands leads) leads (way_out (contact_at r (ImportEnd j k))))
     local_right x y past lefts rights (takes_in i j k v stands leads slices) shared =
         subst (λ o. Shared (pass (ImportEnd j k) (way_in (contact_at r (ImportEnd j k))) ∷ past) lefts (pass (ImportEnd i k) (way_in o) ∷ rights))
         (ways_right d f g r p q is literals i j k stands leads)
-        (right_pass past lefts rights shared i k j (inl stands) leads (way_in (contact_at r (ImportEnd j k))))
+        (right_pass past lefts rights shared i k j (met_joined r g q i k j stands leads) leads (way_in (contact_at r (ImportEnd j k))))
 
     same_shared : (past lefts rights before own other : List Pass) → Shared before own other
         → ((k h : ℕ) → is_open past (ImportEnd k h) ≡ is_open before (ImportEnd k h)) → ((k h : ℕ) → is_open lefts (ImportEnd k h) ≡ is_open own (ImportEnd k h))
@@ -338,14 +342,14 @@ module _
     local_left_inputs x y past lefts rights (fires i j k number) shared kept turn = tt
     local_left_inputs x y past lefts rights (puts_out i j k v stands leads slices) shared kept turn = tt
     local_left_inputs x y past lefts rights (takes_in i j k v stands leads slices) shared kept turn =
-        (left_input past lefts rights shared kept i k j (inl stands) leads turn, tt)
+        (left_input past lefts rights shared kept i k j (met_joined r f p i k j stands leads) leads turn, tt)
 
     local_right_inputs : (x y : Element) (past lefts rights : List Pass) → Local g r q x y → Shared past lefts rights → Turned q rights → InTurn r past x
         → InputsKeepTurns q rights (y ∷ [])
     local_right_inputs x y past lefts rights (fires i j k number) shared kept turn = tt
     local_right_inputs x y past lefts rights (puts_out i j k v stands leads slices) shared kept turn = tt
     local_right_inputs x y past lefts rights (takes_in i j k v stands leads slices) shared kept turn =
-        (right_input past lefts rights shared kept i k j (inl stands) leads turn, tt)
+        (right_input past lefts rights shared kept i k j (met_joined r g q i k j stands leads) leads turn, tt)
 
     pub seen_inputs : (x : Element) (s t : Tokens) (z : Step d f g r p q x s t) → (past lefts rights : List Pass) → Driven d past lefts rights s → Shared past lefts rights
         → Turned p lefts → Turned q rights → InTurn r past x

@@ -324,9 +324,9 @@ module _
     stage_order (Fire j slot) stands shut own_does does comes = fire_order j slot own_does does comes
     stage_order (Out e v) stands shut own_does does comes =
         let (c, at_e) = out_there g.plan e v (seen g s) (seen g t) own_does in out_order e v c own_does.0 stands at_e comes
-    stage_order (In e v) (i, n, is, inl stands) shut own_does does comes =
+    stage_order (In e v) (i, n, is, inl joined) shut own_does does comes =
         let (c, at_e) = in_there g.plan e v (seen g s) (seen g t) own_does in
-        in_order_at e v c own_does.0 (subst (λ (x : End). StandsIn g.plan x) (sym is) stands) at_e comes
+        in_order_at e v c own_does.0 (subst (λ (x : End). StandsIn g.plan x) (sym is) joined.stands) at_e comes
     stage_order (In e v) (i, n, is, inr none) shut own_does does comes =
         subst (λ (x : End). (m : Open) × ComesInOrder r (In (lies_at g.cut x) v) s o m × Opens mown m) (sym is)
         (loose_order i n v none (subst (λ (x : End). ComesInOrder g.plan (In x v) (seen g s) own mown) is comes)

@@ -31,9 +31,18 @@ pub record IsUnjoined (r : Plan) (f : Cut) (c : Plan) (i n : ℕ) : Type 0 where
   pub stands : StandsIn c (ImportEnd i beside)
   pub at : f.outer (ImportEnd i beside) ≡ ImportEnd import beside
 
--- an end of an import at which something may pass in the region
+-- an end of an import that stands in a joint and leads to an import of the whole
+pub record IsJoined (f : Cut) (c : Plan) (i n : ℕ) : Type 0 where
+  pub import : ℕ
+  pub stands : StandsIn c (ImportEnd i n)
+  pub outer : f.outer (ImportEnd i n) ≡ ImportEnd import n
+
+-- an end of an import at which something of the whole's imports may pass in the region
 abbrev pub Meets : Plan → Cut → Plan → ℕ → ℕ → Type 0
-Meets r f c i n = StandsIn c (ImportEnd i n) ⊎ IsUnjoined r f c i n
+Meets r f c i n = IsJoined f c i n ⊎ IsUnjoined r f c i n
+
+pub met_joined : (r : Plan) (f : Cut) (c : Plan) (i n k : ℕ) → StandsIn c (ImportEnd i n) → f.outer (ImportEnd i n) ≡ ImportEnd k n → Meets r f c i n
+met_joined r f c i n k stands outer = inl (record { import = k; stands = stands; outer = outer })
 
 -- what has to be known of the region's imports
 pub record HasPorts (r : Plan) (f : Cut) (c : Plan) : Type 0 where
@@ -42,8 +51,8 @@ pub record HasPorts (r : Plan) (f : Cut) (c : Plan) : Type 0 where
   pub names : NamesDiffer c.imports
   pub whole_names : NamesDiffer r.imports
   pub ports :
-      (i h : ℕ) → StandsIn c (ImportEnd i h)
-      → (k : ℕ) × (f.outer (ImportEnd i h) ≡ ImportEnd k h) × (slice_get r.imports k ≡ slice_get c.imports i)
+      (i h k : ℕ) → StandsIn c (ImportEnd i h) → f.outer (ImportEnd i h) ≡ ImportEnd k h
+      → slice_get r.imports k ≡ slice_get c.imports i
   pub joined : (i h : ℕ) → StandsIn c (ImportEnd i h) → StandsIn r (f.outer (ImportEnd i h))
   pub heard : IsHeard f r c
 
@@ -57,11 +66,11 @@ pub record AreFollowed (r : Plan) (f : Cut) (c : Plan) (own past : List Pass) : 
 module _ (r : Plan) (f : Cut) (c : Plan) (has : HasPorts r f c) where
   -- where such an end lies in the whole, and of which import it is
   pub met_at : (i n : ℕ) → Meets r f c i n → (k : ℕ) × (f.outer (ImportEnd i n) ≡ ImportEnd k n) × (slice_get r.imports k ≡ slice_get c.imports i)
-  met_at i n (inl stands) = has.ports i n stands
+  met_at i n (inl joined) = (joined.import, joined.outer, has.ports i n joined.import joined.stands joined.outer)
   met_at i n (inr none) = (none.import, none.outer, none.same)
 
   pub met_contact : (i n : ℕ) → Meets r f c i n → (x : Contact) × (contact_at c (ImportEnd i n) ≡ Some x)
-  met_contact i n (inl stands) = stands_contact c has.right (ImportEnd i n) stands
+  met_contact i n (inl joined) = stands_contact c has.right (ImportEnd i n) joined.stands
   met_contact i n (inr none) = (none.contact, none.own)
 
   pub met_import : (i n k : ℕ) → Meets r f c i n → f.outer (ImportEnd i n) ≡ ImportEnd k n → slice_get r.imports k ≡ slice_get c.imports i
@@ -113,7 +122,7 @@ module _ (r : Plan) (f : Cut) (c : Plan) (has : HasPorts r f c) where
   -- an end at which the surroundings ask, of an import of which the region has another end
   stands_beside : (i n k : ℕ) → Meets r f c i n → f.outer (ImportEnd i n) ≡ ImportEnd k n
       → (m : ℕ) × StandsIn c (ImportEnd i m) × (f.outer (ImportEnd i m) ≡ ImportEnd k m)
-  stands_beside i n k (inl stands) at = (n, stands, at)
+  stands_beside i n k (inl joined) at = (n, joined.stands, at)
   stands_beside i n k (inr none) at =
       let both : ImportEnd none.import n ≡ ImportEnd k n = sym none.outer ∙ at in
       let one : none.import ≡ k = cc both in
@@ -142,7 +151,7 @@ module _ (r : Plan) (f : Cut) (c : Plan) (has : HasPorts r f c) where
           let clash : None ≡ Some e = sym none ∙ (ap (places_of r) (sym heard.0) ∙ there) in absurd (cc clash)
 
       by_place : (o : Option End) → places_of r (ImportEnd k h) ≡ o → Meets r f c i h
-      by_place (Some a) named = inl (heard.1 (place_stands r (ImportEnd k h) a named))
+      by_place (Some a) named = inl (record { import = k; stands = heard.1 (place_stands r (ImportEnd k h) a named); outer = heard.0 })
       by_place None none =
           inr
           (record {

@@ -18,7 +18,7 @@ use Rattle.gos_windows.specs.Windows.{seen}
 use Rattle.gos_windows.proofs.OpenLemmas.{ground_node_is_open}
 use Rattle.gos_windows.proofs.StageLemmas.{stage, InStage, out_in}
 use Rattle.gos_windows.proofs.MeetLemmas.{met_contacts}
-use Rattle.gos_windows.proofs.TurnLemmas.{result_out, OnlyResult, closed_turned, has_ports, whole_turned, goes_as}
+use Rattle.gos_windows.proofs.TurnLemmas.{result_out, OnlyResult, closed_turned, has_ports, standing, whole_turned, goes_as}
 use Rattle.gos_windows.proofs.WholeLemmas as whole
 use Rattle.gos_windows.proofs.WholeLemmas.{done, Going, Led, asks}
 use Rattle.gos_windows.proofs.NodeLemmas.{Place, AtRest, AtAsked, AtStage, AtAnswer, InTurn, first_turn, turns_after, Holds, rest_step, asked_step, answer_step}
@@ -95,7 +95,7 @@ module _ (r : Plan) (d : ℕ) (f : Form) (gs : List Stage) (node : IsOpenNode r 
       → KeepsTurns r past (pass b (way_out (contact_at r b)))
   stage_out g has hs before s t past b v fit going step does = (
     subst (ComesInTurn past b) (sym ways)
-        (goes_as r d f gs node g has (passed g.plan [] hs) past going.follows port.0 port.1 b (inl port.2) port.3 (way_out (contact_at g.plan (ImportEnd port.0 port.1))) turn.0),
+        (goes_as r d f gs node g has (passed g.plan [] hs) past going.follows port.0 port.1 b (standing r d f gs node g has port.0 port.1 port.2) port.3 (way_out (contact_at g.plan (ImportEnd port.0 port.1))) turn.0),
     whole_turned r d f gs node g has (passed g.plan [] (hs ++ step.y ∷ [])) (after r (Out b v) past) step.going.follows step.going.turned,
   )
     where
@@ -106,7 +106,7 @@ module _ (r : Plan) (d : ℕ) (f : Form) (gs : List Stage) (node : IsOpenNode r 
       turn = stage_out_turned r d f gs node g has hs before s t past going (ImportEnd port.0 port.1) v port.4
 
       ways : way_out (contact_at r b) ≡ way_out (contact_at g.plan (ImportEnd port.0 port.1))
-      ways = ap way_out (met_contacts r g.cut g.plan (has_ports r d f gs node g has) port.0 port.1 b (inl port.2) port.3)
+      ways = ap way_out (met_contacts r g.cut g.plan (has_ports r d f gs node g has) port.0 port.1 b (standing r d f gs node g has port.0 port.1 port.2) port.3)
 
   answer_out : (k : ℕ) (past : List Pass) → OnlyResult past → KeepsTurns r past (pass (ResultEnd 0) (way_out (contact_at r (ResultEnd 0))))
   answer_out k past only =

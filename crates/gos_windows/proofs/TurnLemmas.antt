@@ -16,13 +16,13 @@ use Rattle.gos_realises.proofs.GroundTurnLemmas.{width, width_small, some_there,
 use Rattle.gos_realises.proofs.RingLemmas.{after}
 use Rattle.gos_realises.proofs.ToldLemmas.{there_is}
 use Rattle.gos_renumbered.proofs.TurnLemmas.{of_import, of_result, ImportKeeps, keeps_each, each_keeps}
-use Rattle.gos_webs.specs.Cutting.{Cut, lies_at}
+use Rattle.gos_webs.specs.Cutting.{Cut, lies_at, StandsIn}
 use Rattle.gos_webs.proofs.CutLemmas.{place_there}
 use Rattle.gos_sessions.specs.Sessions.{Form}
 use Rattle.gos_windows.specs.Nodes.{Stage, IsStage}
 use Rattle.gos_windows.specs.OpenNodes.{IsOpenNode}
 use Rattle.gos_windows.proofs.InlayLemmas.{inlay, inlay_place}
-use Rattle.gos_windows.proofs.MeetLemmas.{Meets, HasPorts, AreFollowed, met_at, met_import, heard_meets, followed_pass, alike}
+use Rattle.gos_windows.proofs.MeetLemmas.{Meets, met_joined, HasPorts, AreFollowed, met_at, met_import, heard_meets, followed_pass, alike}
 use Rattle.gos_windows.proofs.PortLemmas.{stands_place, place_stands}
 use Rattle.gos_windows.proofs.StageLemmas.{stage, cut}
 use Rattle.gos_windows.proofs.TypeTurnLemmas.{OpenServed, closed_kept, open_served}
@@ -232,7 +232,11 @@ module _
         whole_right = node.right;
         names = there.names;
         whole_names = node.names;
-        ports = there.ports;
+        ports = λ i h k stands at.
+            let (q, at_q, same) = there.ports i h stands in
+            let both : ImportEnd q h ≡ ImportEnd k h = sym at_q ∙ at in
+            let one : q ≡ k = cc both in
+            ap (slice_get r.imports) (sym one) ∙ same;
         joined = λ i h stands.
             let (a, named) = stands_place g.plan there.region.right (ImportEnd i h) stands in
             let laid = place_there g.cut (inlay g.cut r g.plan) g.plan (cut r d f gs node g has) (ImportEnd i h) a named in
@@ -240,6 +244,10 @@ module _
             (inlay_place g.cut g.sides r g.plan there.region (g.cut.outer (ImportEnd i h)) (lies_at g.cut a) laid);
         heard = (node.stages g has).heard;
       }
+
+  -- what stands in a joint leads to an import of the whole
+  pub standing : (i h : ℕ) → StandsIn g.plan (ImportEnd i h) → Meets r g.cut g.plan i h
+  standing i h stands = let (k, at, same) = there.ports i h stands in met_joined r g.cut g.plan i h k stands at
 
   pub follows_first : (past : List Pass) → OnlyResult past → Follows r g (pass (ResultEnd 0) Request ∷ []) past
   follows_first past (result, closed) =

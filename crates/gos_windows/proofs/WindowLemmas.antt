@@ -25,7 +25,7 @@ use Rattle.gos_windows.specs.Windows.{seen, StirsOnly, HoldsOnly, Where, Resting
 use Rattle.gos_windows.proofs.OwnLemmas.{none_at_rest}
 use Rattle.gos_windows.proofs.StageLemmas.{Emptied, stage, InStage, OnStage, lies, end_is, fires_in, out_in, in_in, in_none, answers, answer_fits, emptied}
 use Rattle.gos_windows.proofs.MeetLemmas.{Meets, met_contact, met_contacts}
-use Rattle.gos_windows.proofs.TurnLemmas.{Turned, turns_before, result_out, import_shut, OnlyResult, NoneOpen, Follows, has_ports, follows_step, asked_meets, stage_turned, comes_as}
+use Rattle.gos_windows.proofs.TurnLemmas.{Turned, turns_before, result_out, import_shut, OnlyResult, NoneOpen, Follows, has_ports, standing, follows_step, asked_meets, stage_turned, comes_as}
 use Rattle.gos_windows.proofs.OpenLemmas.{ground_node_is_open}
 use Rattle.gos_windows.proofs.WholeLemmas as whole
 use Rattle.gos_windows.proofs.WholeLemmas.{in_turn_at, other_state, Going, Led, asks, own_leads}
@@ -146,7 +146,7 @@ module _ (r : Plan) (d : ℕ) (f : Form) (gs : List Stage) (node : IsOpenNode r 
         on_by (Out b v) (Out (ImportEnd i h) v) (after r (Out b v) past) (ap (λ (e : End). Out e v) at) own_does tt stands
         (stage_out_turned g has hs before s t past going (ImportEnd i h) v own_does).1 in_stage (state d) (λ n out. state n)
         (subst (λ (way : Direction). Follows r g (after g.plan (Out (ImportEnd i h) v) own) (pass b way ∷ past)) (sym ways)
-        (follows_step r d f gs node g has own past going.follows i h b (inl stands) at (way_out (contact_at g.plan (ImportEnd i h)))))
+        (follows_step r d f gs node g has own past going.follows i h b (standing r d f gs node g has i h stands) at (way_out (contact_at g.plan (ImportEnd i h)))))
 
     -- an input at an import
     in_at : (b : End) (v i h : ℕ) → Does r (In b v) s t → KeepsTurns r past (pass b (way_in (contact_at r b))) → Meets r g.cut g.plan i h → g.cut.outer (ImportEnd i h) ≡ b
@@ -170,7 +170,7 @@ module _ (r : Plan) (d : ℕ) (f : Form) (gs : List Stage) (node : IsOpenNode r 
         own_does : Does g.plan (In (ImportEnd i h) v) (seen g s) (seen g t) × InStage r d f gs node g has t
         own_does =
             elim meets [
-              | inl stands ↦ in_in r d f gs node g has b v s t i h fit within stands at does
+              | inl joined ↦ in_in r d f gs node g has b v s t i h fit within joined.stands at does
               | inr none ↦
                   (let none_there : places_of r b ≡ None = ap (places_of r) (sym at ∙ none.outer) ∙ none.none in
                   in_none r d f gs node g has b v s t i h there.0 within there.1 (sym contacts ∙ there.1) none_there none.own_none does)
