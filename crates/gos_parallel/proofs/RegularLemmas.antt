@@ -27,11 +27,11 @@ use Rattle.gos_windows.proofs.PortLemmas.{port_role}
 use Rattle.gos_windows.proofs.NodeLemmas.{InTurn, first_turn, turns_after}
 use Rattle.gos_windows.proofs.ClosingLemmas.{Ports, ports_after}
 use Rattle.gos_windows.proofs.MeetLemmas.{Meets, IsUnjoined, HasPorts, heard_meets}
-use Rattle.gos_windows.proofs.TurnLemmas.{Turned, closed_turned}
+use Rattle.gos_windows.proofs.TurnLemmas.{Turned, closed_turned, open_before}
 use Rattle.gos_parallel.specs.Parallel.{IsParallel, OpenParallelIsRegular, OpenParallelIsRestful, ParallelIsRegular}
 use Rattle.gos_parallel.proofs.StepLemmas.{gate, Same, Unseen, Sees, Local, fires, puts_out, takes_in, Step, of_left, of_right, asked, told, starts, left_ends, right_ends, left_ends_all, right_ends_all, lost, IsSeen, step}
 use Rattle.gos_parallel.proofs.LinkedLemmas.{left_runs, right_runs, Stage, when_told, Driven, Comes, past_all, left_seen, right_seen, seen_left_runs, seen_right_runs, fits_on, driven_step, driven_first}
-use Rattle.gos_parallel.proofs.SharedLemmas.{side_ports, left_done, right_done, Owner, on_left, on_right, Shared, shared_first, left_pass, right_pass, whole_turned, open_before, shared_step, left_input, right_input, seen_inputs}
+use Rattle.gos_parallel.proofs.SharedLemmas.{side_ports, left_done, right_done, Owner, on_left, on_right, Shared, shared_first, left_pass, right_pass, whole_turned, shared_step, left_input, right_input, seen_inputs}
 use Rattle.gos_parallel.proofs.HistoryLemmas.{nil_end, passed_append, History, Grown, grow, grown, at_first}
 use Rattle.gos_parallel.proofs.OutputLemmas.{output_turn}
 use Rattle.gos_parallel.proofs.OrderLemmas.{Opened, welcome_all, peel, Next, order_step, idle_welcome, opened_first}
@@ -336,7 +336,7 @@ module _
 
     lost_step : After (In (ImportEnd k n) v) s w past o
     lost_step =
-        let (m, up, which) = open_before d f g r p q is left_ports right_ports past k n c there turn in by_owner m which (holds.shared.only k m up)
+        let (m, up, which) = open_before r past k n c there turn in by_owner m which (holds.shared.only k m up)
 
   next : (x : Element) (s w : Tokens) (past : List Pass) (hs ks : List Element) (o lo ro : Open) → Holds s past hs ks o lo ro → Does r x s w → InTurn r past x
       → Step d f g r p q x s w → After x s w past o

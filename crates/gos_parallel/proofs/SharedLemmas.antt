@@ -23,7 +23,7 @@ use Rattle.gos_windows.specs.OpenNodes.{IsHeard}
 use Rattle.gos_windows.proofs.PortLemmas.{stands_place, place_stands}
 use Rattle.gos_windows.proofs.MeetLemmas.{Meets, met_joined, HasPorts, AreFollowed, met_contact, met_contacts, met_import, own_import, followed_pass, alike}
 use Rattle.gos_windows.proofs.NodeLemmas.{InTurn}
-use Rattle.gos_windows.proofs.TurnLemmas.{Turned, closed_turned, import_kept, imports_turned, asked_within, import_result, region_turned}
+use Rattle.gos_windows.proofs.TurnLemmas.{Turned, closed_turned, import_kept, imports_turned, open_before, comes_so, import_result, region_turned}
 use Rattle.gos_parallel.specs.Parallel.{IsSide, IsParallel}
 use Rattle.gos_parallel.proofs.StepLemmas.{gate, Local, fires, puts_out, takes_in, Step, of_left, of_right, asked, told, starts, left_ends, right_ends, left_ends_all, right_ends_all, lost, IsSeen}
 use Rattle.gos_parallel.proofs.LinkedLemmas.{left_runs, right_runs, Driven, past_all, past_other, when_working, left_seen, right_seen, ways_left, ways_right, way_asked}
@@ -45,10 +45,6 @@ side_ports d h f r p side heard whole_names names =
           place_stands r (f.outer (ImportEnd i k)) (lies_at f a) (place_there f r p side.cut (ImportEnd i k) a named);
       heard = heard;
     }
-
-comes_so : (past own : List Pass) (a b : End) (way : Direction) → is_open own b ≡ is_open past a → ComesInTurn past a way → ComesInTurn own b way
-comes_so past own a b Request same turn = same ∙ turn
-comes_so past own a b Answer same turn = same ∙ turn
 
 module _
     (d : ℕ) (f g : Cut) (r p q : Plan) (is : IsParallel d f g r p q) (left_ports : HasPorts r f p) (right_ports : HasPorts r g q) where
@@ -189,25 +185,10 @@ module _
           let runs = sym driven.right_result ∙ import_result q right_done rights right_kept i h c there (shared.right.same i h k meets leads ∙ up) in
           (when_working (is_open past (ResultEnd 0)) (s.state d).phase (gate s Request) (gate s Answer) driven.stage (not_rest_either (s.state d).phase runs)).0
 
-  -- Where an input comes at an import, this or another of its handshakes is open.
-  pub open_before : (past : List Pass) (k h : ℕ) (c : Contact) → contact_at r (ImportEnd k h) ≡ Some c → KeepsTurns r past (pass (ImportEnd k h) (way_in (contact_at r (ImportEnd k h))))
-      → (n : ℕ) × (is_open past (ImportEnd k n) ≡ true) × ((n ≡ h) ⊎ (c.role ≡ Ask))
-  open_before past k h c there turn = by_role c.role refl
-    where
-      keeps : KeepsTurns r past (pass (ImportEnd k h) (way_put c.role))
-      keeps = subst (λ (way : Direction). KeepsTurns r past (pass (ImportEnd k h) way)) (ap way_in there) turn
-
-      by_role : (role : Role) → c.role ≡ role → (n : ℕ) × (is_open past (ImportEnd k n) ≡ true) × ((n ≡ h) ⊎ (c.role ≡ Ask))
-      by_role Serve serves = (h, subst (ComesInTurn past (ImportEnd k h)) (ap way_put serves) keeps.0, inl refl)
-      by_role Ask asks =
-          let turned : Turned r (pass (ImportEnd k h) Request ∷ past) =
-          subst (λ (way : Direction). Turned r (pass (ImportEnd k h) way ∷ past)) (ap way_put asks) keeps.1 in
-          let (n, up) = asked_within r past k h c turned there asks in (n, up, inr asks)
-
   pub left_busy : (past lefts rights : List Pass) → Shared past lefts rights → Turned p lefts → (i h k : ℕ) (c : Contact) → Meets r f p i h → f.outer (ImportEnd i h) ≡ ImportEnd k h
       → contact_at r (ImportEnd k h) ≡ Some c → KeepsTurns r past (pass (ImportEnd k h) (way_in (contact_at r (ImportEnd k h)))) → is_open lefts (ResultEnd 0) ≡ true
   left_busy past lefts rights shared kept i h k c meets at there turn =
-      let (n, up, which) = open_before past k h c there turn in
+      let (n, up, which) = open_before r past k h c there turn in
       let (j, here, at_j) = only_left past lefts rights shared i h k meets at n up in
       let (x, own) = met_contact r f p left_ports j n here in
       import_result p left_done lefts kept j n x own (shared.left.same j n k here at_j ∙ up)
@@ -215,7 +196,7 @@ module _
   pub right_busy : (past lefts rights : List Pass) → Shared past lefts rights → Turned q rights → (i h k : ℕ) (c : Contact) → Meets r g q i h → g.outer (ImportEnd i h) ≡ ImportEnd k h
       → contact_at r (ImportEnd k h) ≡ Some c → KeepsTurns r past (pass (ImportEnd k h) (way_in (contact_at r (ImportEnd k h)))) → is_open rights (ResultEnd 0) ≡ true
   right_busy past lefts rights shared kept i h k c meets at there turn =
-      let (n, up, which) = open_before past k h c there turn in
+      let (n, up, which) = open_before r past k h c there turn in
       let (j, here, at_j) = only_right past lefts rights shared i h k meets at n up in
       let (x, own) = met_contact r g q right_ports j n here in
       import_result q right_done rights kept j n x own (shared.right.same j n k here at_j ∙ up)

@@ -1,8 +1,9 @@
 -- Turns at the ports of a plan with a command or an expression for its result; and at those of a stage.
 use Rattle.std.specs.Prelude.{◌+◌, ◌-◌, ◌<◌, slice_get, nat_lt, Contains}
-use Rattle.std.proofs.Common.{◌≡◌, ℕ, zero, suc, Bool, true, false, List, [], ◌∷◌, Option, Some, refl, sym, ◌∙◌, ap, subst, arith, if◌then◌else◌}
+use Rattle.std.proofs.Common.{◌≡◌, ℕ, zero, suc, Bool, true, false, List, [], ◌∷◌, ◌⊎◌, Option, Some, inl, inr, refl, sym, ◌∙◌, ap, subst, arith, if◌then◌else◌}
 use Rattle.std.proofs.lemmas.Option.{none-some, same_Some, slice_get_within}
 use Rattle.std.proofs.lemmas.Bool.Decides.{nat_tests}
+use Rattle.gos_types.specs.declared.shakes.Role.{Role}
 use Rattle.gos_types.specs.declared.shakes.Role.TheVariants.{Serve, Ask}
 use Rattle.gos_types.specs.Types.{Type', Com, Exp, Var, Pair, Fun, IsDone}
 use Rattle.gos_netlist.specs.Events.{Direction, Request, Answer}
@@ -11,7 +12,7 @@ use Rattle.gos_plan.specs.Kinds.{Contact, contacts_of}
 use Rattle.gos_plan.specs.Plans.{End, ImportEnd, ResultEnd, Plan, contact_at, contacts_of_import, turned_if, same_end}
 use Rattle.gos_plan.specs.Tokens.{Element, Fire, Out, In, way_taken, way_put}
 use Rattle.gos_plan.proofs.JointLemmas.{same_is, same_itself}
-use Rattle.gos_realises.specs.Regular.{count, some_open, Pass, pass, way_in, way_out, is_request, is_open, KeepsTurnsOf, whole_type, whole_end, ComesInTurn, InputsKeepTurns}
+use Rattle.gos_realises.specs.Regular.{count, some_open, Pass, pass, way_in, way_out, is_request, is_open, KeepsTurnsOf, whole_type, whole_end, ComesInTurn, KeepsTurns, InputsKeepTurns}
 use Rattle.gos_realises.proofs.GroundTurnLemmas.{width, width_small, some_there, there_some, done_kept, result_open, result_end}
 use Rattle.gos_realises.proofs.RingLemmas.{after}
 use Rattle.gos_realises.proofs.ToldLemmas.{there_is}
@@ -146,6 +147,25 @@ asked_beside p past i h c turned there asks =
 pub asked_within : (p : Plan) (past : List Pass) (i h : ℕ) (c : Contact) → Turned p (pass (ImportEnd i h) Request ∷ past) → contact_at p (ImportEnd i h) ≡ Some c → c.role ≡ Ask
     → (n : ℕ) × (is_open past (ImportEnd i n) ≡ true)
 asked_within p past i h c turned there asks = let (n, x, is, up) = asked_beside p past i h c turned there asks in (n, up)
+
+-- Where an input comes at an import, this or another of its handshakes is open.
+pub open_before : (r : Plan) (past : List Pass) (k h : ℕ) (c : Contact) → contact_at r (ImportEnd k h) ≡ Some c
+    → KeepsTurns r past (pass (ImportEnd k h) (way_in (contact_at r (ImportEnd k h)))) → (n : ℕ) × (is_open past (ImportEnd k n) ≡ true) × ((n ≡ h) ⊎ (c.role ≡ Ask))
+open_before r past k h c there turn = by_role c.role refl
+  where
+    keeps : KeepsTurns r past (pass (ImportEnd k h) (way_put c.role))
+    keeps = subst (λ (way : Direction). KeepsTurns r past (pass (ImportEnd k h) way)) (ap way_in there) turn
+
+    by_role : (role : Role) → c.role ≡ role → (n : ℕ) × (is_open past (ImportEnd k n) ≡ true) × ((n ≡ h) ⊎ (c.role ≡ Ask))
+    by_role Serve serves = (h, subst (ComesInTurn past (ImportEnd k h)) (ap way_put serves) keeps.0, inl refl)
+    by_role Ask asks =
+        let turned : Turned r (pass (ImportEnd k h) Request ∷ past) =
+        subst (λ (way : Direction). Turned r (pass (ImportEnd k h) way ∷ past)) (ap way_put asks) keeps.1 in
+        let (n, up) = asked_within r past k h c turned there asks in (n, up, inr asks)
+
+pub comes_so : (past own : List Pass) (a b : End) (way : Direction) → is_open own b ≡ is_open past a → ComesInTurn past a way → ComesInTurn own b way
+comes_so past own a b Request same turn = same ∙ turn
+comes_so past own a b Answer same turn = same ∙ turn
 
 -- the number of an import's handshake among all
 whole_index : (is : List Imported) (n i h : ℕ) (c : Contact) → slice_get (contacts_of_import (slice_get is i)) h ≡ Some c
