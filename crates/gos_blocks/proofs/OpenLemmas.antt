@@ -9,7 +9,7 @@ use Rattle.gos_types.specs.declared.shakes.Role.TheVariants.{Serve, Ask}
 use Rattle.gos_netlist.specs.Events.{Direction, Request, Answer}
 use Rattle.gos_plan.specs.Kinds.{Part, Contact}
 use Rattle.gos_plan.specs.Firing.{Rest, Slot, Token, Row, at}
-use Rattle.gos_plan.specs.Plans.{End, PartEnd, ImportEnd, ResultEnd, Plan, contact_at, contacts_of_import, same_end}
+use Rattle.gos_plan.specs.Plans.{End, PartEnd, ImportEnd, ResultEnd, Plan, contact_at, same_end}
 use Rattle.gos_plan.specs.Tokens.{Tokens, Element, Fire, Out, In, token_at, with_token, with_state, end_of, way_of, way_taken, way_put, firing_of, Passes, Does}
 use Rattle.gos_plan.specs.Orderly.{Open, handshake_at, with_open, after_taken, after_put, ComesWell, AllComeWell, after_puts, ComesInOrder}
 use Rattle.gos_plan.proofs.AskingLemmas.{TakesAsking, PutsAsking, row_asks}

@@ -2,19 +2,17 @@
 --
 -- The part opens and closes the handshake at which it asks the body, by its phase (`Opened`). That the variable is asked only while the
 -- part is active follows from the turns of the body: an import is open only where the result is (`Ready`).
-use Rattle.std.specs.Prelude.{◌≡◌, ◌<◌, ◌⊎◌, ℕ, zero, suc, ◌+◌, Bool, true, false, List, [], ◌∷◌, ◌++◌, Option, Some, None, All, slice_get, if◌then◌else◌}
+use Rattle.std.specs.Prelude.{◌≡◌, ◌<◌, ◌⊎◌, ℕ, zero, suc, Bool, true, false, List, [], ◌∷◌, ◌++◌, Option, Some, None, All, slice_get, if◌then◌else◌}
 use Rattle.std.proofs.Common.{arith, refl, sym, ap, subst, inl, inr, ◌∙◌}
 use Rattle.std.proofs.lemmas.Option.{none-some, same_Some}
-use Rattle.gos_types.specs.Types.{Type'}
 use Rattle.gos_types.specs.declared.shakes.Role.TheVariants.{Serve, Ask}
 use Rattle.gos_netlist.specs.Events.{Direction, Request, Answer}
 use Rattle.gos_plan.specs.Kinds as kinds
 use Rattle.gos_plan.specs.Kinds.{Part, Contact, asks, serves, part_contacts, contacts_of}
 use Rattle.gos_plan.specs.Firing.{Phase, Rest, Active, State, Slot, Req, Ans, Row, at, row_for, rows}
 use Rattle.gos_plan.specs.Plans.{End, PartEnd, ImportEnd, ResultEnd, Plan, contact_at, contacts_of_part, same_end}
-use Rattle.gos_plan.specs.Tokens.{Tokens, Element, Fire, Out, In, places_of, held_at, token_at, with_token, with_state, end_of, shake_of, way_of, way_taken, way_put, firing_of, Passes, Does, Runs, IsIdle}
+use Rattle.gos_plan.specs.Tokens.{Tokens, Element, Fire, Out, In, places_of, held_at, token_at, with_token, with_state, end_of, shake_of, way_of, way_taken, way_put, firing_of, Passes, Does, IsIdle}
 use Rattle.gos_plan.specs.Orderly.{Open, named_by, handshake_at, none_open, with_open, after_taken, after_put, ComesWell, ComesInOrder, AllWelcome, OrderlyFrom}
-use Rattle.gos_plan.specs.TokenBits as bits
 use Rattle.gos_plan.specs.TokenBits.{LiteralFits}
 use Rattle.gos_plan.proofs.JointLemmas.{same_itself}
 use Rattle.gos_plan.proofs.HeldLemmas as held
@@ -23,15 +21,12 @@ use Rattle.gos_plan.proofs.DecidedLemmas.{one_state}
 use Rattle.gos_plan.proofs.ProjectionLemmas.{named}
 use Rattle.gos_sessions.specs.Sessions as sessions
 use Rattle.gos_webs.specs.Cutting.{lies_at, StandsIn, cut_tokens}
-use Rattle.gos_webs.proofs.CutLemmas as cuts
-use Rattle.gos_realises.specs.Regular.{Pass, is_request, is_open, count, way_out, OutputsKeepTurns}
-use Rattle.gos_realises.specs.Realises.{AllGround}
+use Rattle.gos_realises.specs.Regular.{Pass, is_request, is_open, way_out, OutputsKeepTurns}
 use Rattle.gos_realises.proofs.RingLemmas.{after}
 use Rattle.gos_parallel.specs.Parallel.{IsPartOf}
-use Rattle.gos_parallel.proofs.ProtocolLemmas.{InTurn}
 use Rattle.gos_windows.proofs.TurnLemmas.{import_result}
 use Rattle.gos_parallel.proofs.StepLemmas.{gate, Same, Local, fires, puts_out, takes_in, Sees, Unseen}
-use Rattle.gos_parallel.proofs.LinkedLemmas.{Comes, first_comes, past_all}
+use Rattle.gos_parallel.proofs.LinkedLemmas.{Comes}
 use Rattle.gos_parallel.proofs.OpenLemmas.{opened_so, not_same, comes_by}
 use Rattle.gos_blocks.specs.Block.{Block, IsBlock}
 use Rattle.gos_blocks.proofs.DriverLemmas.{begin_row, read_row, write_row, end_row}

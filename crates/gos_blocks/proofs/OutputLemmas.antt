@@ -1,31 +1,25 @@
 -- The outputs of a block keep turns where those of its body do.
-use Rattle.std.specs.Prelude.{◌≡◌, ◌<◌, ℕ, ◌+◌, Bool, true, false, ◌&&◌, List, [], ◌∷◌, ◌++◌, Option, Some, None, All, nat_eq, slice_get}
-use Rattle.std.proofs.Common.{arith, refl, sym, ap, subst, ◌∙◌}
+use Rattle.std.specs.Prelude.{◌≡◌, ◌<◌, ℕ, true, List, ◌∷◌, ◌++◌, Option, Some, All, slice_get}
+use Rattle.std.proofs.Common.{refl, sym, ap, subst, ◌∙◌}
 use Rattle.std.proofs.lemmas.Option.{slice_get_within}
-use Rattle.gos_types.specs.Types.{Var}
 use Rattle.gos_netlist.specs.Events.{Direction, Request, Answer}
 use Rattle.gos_model.specs.Typing.{Imported}
 use Rattle.gos_plan.specs.Firing.{Phase, Active}
 use Rattle.gos_plan.specs.Plans.{End, ImportEnd, ResultEnd, Plan, contact_at, contacts_of_import}
-use Rattle.gos_plan.specs.Tokens.{Tokens, Element, Fire, Out, In, Runs}
-use Rattle.gos_plan.specs.TokenBits.{LiteralFits, AllFit}
+use Rattle.gos_plan.specs.Tokens.{Tokens, Element}
+use Rattle.gos_plan.specs.TokenBits.{LiteralFits}
 use Rattle.gos_plan.proofs.JointLemmas.{contained, joined, stands_there}
-use Rattle.gos_plan.proofs.TurnLemmas.{nat_eq_self}
 use Rattle.gos_webs.specs.Cutting.{StandsIn}
 use Rattle.gos_realises.specs.Regular.{Pass, way_out, is_open, count, ComesInTurn, OutputsKeepTurns}
-use Rattle.gos_realises.specs.Realises.{AllGround, NamesDiffer}
 use Rattle.gos_realises.proofs.RingLemmas.{after, OutputTurns}
-use Rattle.gos_realises.proofs.ToldLemmas.{there_is, one_name}
-use Rattle.gos_parallel.proofs.ProtocolLemmas.{InTurn}
+use Rattle.gos_realises.proofs.ToldLemmas.{there_is}
 use Rattle.gos_parallel.proofs.StepLemmas.{gate, Local, fires, puts_out, takes_in}
-use Rattle.gos_parallel.proofs.LinkedLemmas.{first_comes, past_all}
 use Rattle.gos_windows.proofs.MeetLemmas.{HasPorts, met_joined}
 use Rattle.gos_windows.proofs.TurnLemmas.{Turned}
 use Rattle.gos_blocks.specs.Block.{Block, IsBlock}
-use Rattle.gos_blocks.proofs.RegionLemmas as region
-use Rattle.gos_blocks.proofs.StepLemmas.{Step, of_body, asked, told, starts, read, write, ended, lost, step}
+use Rattle.gos_blocks.proofs.StepLemmas.{Step, of_body, asked, told, starts, read, write, ended, lost}
 use Rattle.gos_blocks.proofs.SharedLemmas.{Shared}
-use Rattle.gos_blocks.proofs.LinkedLemmas.{runs_body, Driven, when_told, when_working, seen, way_told, ways, not_variable, linked_step, fits_on, body_list}
+use Rattle.gos_blocks.proofs.LinkedLemmas.{runs_body, Driven, when_told, seen, way_told, ways}
 
 pub is_active : (ph : Phase) → runs_body ph ≡ true → ph ≡ Active
 is_active Active e = refl

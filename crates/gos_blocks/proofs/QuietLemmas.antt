@@ -14,7 +14,6 @@ use Rattle.gos_webs.specs.Webs.{joint}
 use Rattle.gos_webs.specs.Cutting.{lies_at, StandsIn, asks_in, cut_tokens}
 use Rattle.gos_webs.proofs.MovedLemmas.{listed}
 use Rattle.gos_webs.proofs.CutLemmas.{asks_one, asks_there, part_there}
-use Rattle.gos_realises.specs.Realises.{AllGround}
 use Rattle.gos_realises.proofs.InputLemmas.{result_asks}
 use Rattle.gos_parallel.specs.Parallel.{IsJointOf, IsPartOf}
 use Rattle.gos_parallel.proofs.StepLemmas.{gate}

@@ -54,7 +54,7 @@ module _
       let ran = body_runs r b is literals xs s t fit runs in
       let body_keeps = in_turn_keeps b.body body.all_ground body.names (body_done r b is) ys (cut_tokens b.cut b.body s) (cut_tokens b.cut b.body t) ran comes in
       let done = means (cut_tokens b.cut b.body s) (cut_tokens b.cut b.body t) ys (idle_is_cut b.cut r b.body s idle) ran body_keeps in
-      matches_first r b is literals differ body.names m typed
+      matches_first r b is literals ground differ body.names m typed
       (subst (λ (t : Type'). Typed b.body.imports [] (instantiate m (Import b.variable.name)) t) (sym is.outcome) body.typed) xs s t fit runs idle linked turn
       (neat_first r s idle) done.0
 

@@ -23,7 +23,7 @@ use Rattle.gos_realises.proofs.RingLemmas.{after, OutputTurns}
 use Rattle.gos_windows.specs.Nodes.{IsRestful}
 use Rattle.gos_windows.specs.OpenNodes.{IsHeard}
 use Rattle.gos_windows.proofs.RestLemmas.{closed_rests}
-use Rattle.gos_windows.proofs.PortLemmas.{port_role}
+use Rattle.gos_windows.proofs.OpenLemmas.{ground_heard}
 use Rattle.gos_windows.proofs.NodeLemmas.{InTurn, first_turn, turns_after}
 use Rattle.gos_windows.proofs.ClosingLemmas.{Ports, ports_after}
 use Rattle.gos_windows.proofs.MeetLemmas.{Meets, IsUnjoined, HasPorts, heard_meets}
@@ -38,12 +38,12 @@ use Rattle.gos_parallel.proofs.OrderLemmas.{Opened, welcome_all, peel, Next, ord
 use Rattle.gos_parallel.proofs.QuietLemmas.{Neat, neat_step, neat_first, whole_idle}
 use Rattle.gos_parallel.proofs.LooseLemmas.{loose_comes, loose_contact, loose_does, own_now, opened_left, opened_right}
 
-comes_of_turn : (r : Plan) (past : List Pass) (x : Element) → InTurn r past x → Comes r past x
+pub comes_of_turn : (r : Plan) (past : List Pass) (x : Element) → InTurn r past x → Comes r past x
 comes_of_turn r past (Fire i t) turn = tt
 comes_of_turn r past (Out e v) turn = tt
 comes_of_turn r past (In e v) turn = turn.0
 
-outputs_before : (r : Plan) (past : List Pass) (x : Element) (xs : List Element) → OutputTurns r past x → OutputsKeepTurns r (after r x past) xs
+pub outputs_before : (r : Plan) (past : List Pass) (x : Element) (xs : List Element) → OutputTurns r past x → OutputsKeepTurns r (after r x past) xs
     → OutputsKeepTurns r past (x ∷ xs)
 outputs_before r past (Fire i t) xs one others = others
 outputs_before r past (Out e v) xs one others = (one, others)
@@ -473,14 +473,6 @@ open_parallel_is_restful d f g r p q is left_heard right_heard literals names le
     reach d f g r p q is literals left_ports right_ports left_regular right_regular s rests xs (Out (ResultEnd 0) v) s t [] [] [] none_open none_open none_open
     (holds_first d f g r p q is literals left_ports right_ports left_regular right_regular s rests) (neat_first r s rests) runs turns in
     last_rests d f g r p q is literals left_ports right_ports left_regular right_regular s rests left_restful right_restful v t there
-
--- at ground imports nothing has to be heard
-ground_heard : (f : Cut) (r p : Plan) → AllGround p.imports → IsDone p.outcome → IsHeard f r p
-ground_heard f r p ground done i h n k c stands at is asks =
-    absurd (elim (port_role p ground done (ImportEnd i n) c tt is) [
-      | inl result ↦ (let clash : ImportEnd i n ≡ ResultEnd 0 = result.0 in cc clash)
-      | inr import ↦ (let clash : Ask ≡ Serve = sym asks ∙ import.3 in cc clash)
-    ])
 
 pub parallel_is_regular : ParallelIsRegular
 parallel_is_regular d f g r p q is literals ground differ left_ground left_differ left_regular right_ground right_differ right_regular =
