@@ -3,7 +3,6 @@ pub mod DriverLemmas
 pub mod StepLemmas
 pub mod ProtocolLemmas
 pub mod LinkedLemmas
-pub mod PlainTurnLemmas
 pub mod HistoryLemmas
 pub mod SharedLemmas
 pub mod OutputLemmas

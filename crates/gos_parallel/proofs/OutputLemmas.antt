@@ -1,15 +1,15 @@
 -- The outputs of the whole keep turns where those of its regions do.
-use Rattle.std.specs.Prelude.{◌≡◌, ◌<◌, ℕ, List, [], ◌∷◌, ◌++◌, Option, Some, All, slice_get}
+use Rattle.std.specs.Prelude.{◌≡◌, ◌<◌, ℕ, List, ◌∷◌, ◌++◌, Option, Some, All, slice_get}
 use Rattle.std.proofs.Common.{sym, ap, subst, ◌∙◌}
 use Rattle.std.proofs.lemmas.Option.{slice_get_within}
 use Rattle.gos_netlist.specs.Events.{Direction, Request, Answer}
 use Rattle.gos_model.specs.Typing.{Imported}
 use Rattle.gos_plan.specs.Plans.{End, ImportEnd, ResultEnd, Plan, contact_at, contacts_of_import}
-use Rattle.gos_plan.specs.Tokens.{Tokens, Element, Fire, Out, In}
+use Rattle.gos_plan.specs.Tokens.{Tokens, Element}
 use Rattle.gos_plan.specs.TokenBits.{LiteralFits}
 use Rattle.gos_plan.proofs.JointLemmas.{contained, joined, stands_there}
 use Rattle.gos_webs.specs.Cutting.{Cut, StandsIn}
-use Rattle.gos_realises.specs.Regular.{Pass, way_out, is_open, count, ComesInTurn, InputsKeepTurns, OutputsKeepTurns}
+use Rattle.gos_realises.specs.Regular.{Pass, way_out, is_open, count, ComesInTurn, OutputsKeepTurns}
 use Rattle.gos_realises.proofs.RingLemmas.{after, OutputTurns}
 use Rattle.gos_realises.proofs.ToldLemmas.{there_is}
 use Rattle.gos_windows.proofs.MeetLemmas.{HasPorts, met_joined}
@@ -17,22 +17,7 @@ use Rattle.gos_windows.proofs.TurnLemmas.{Turned}
 use Rattle.gos_parallel.specs.Parallel.{IsSide, IsParallel}
 use Rattle.gos_parallel.proofs.StepLemmas.{gate, Local, fires, puts_out, takes_in, Step, of_left, of_right, asked, told, starts, left_ends, right_ends, left_ends_all, right_ends_all, lost}
 use Rattle.gos_parallel.proofs.SharedLemmas.{Shared}
-use Rattle.gos_parallel.proofs.LinkedLemmas.{Driven, past_all, left_seen, right_seen, when_told, way_told, ways_left, ways_right}
-
--- what is known of a region's list from here on
-pub record Turning (p : Plan) (past : List Pass) (ys : List Element) : Type 0 where
-  pub inputs : InputsKeepTurns p past ys
-  pub outputs : OutputsKeepTurns p past ys
-  pub now : Turned p past
-
-pub turning_on : (p : Plan) (past : List Pass) (ys zs : List Element) → Turning p past (ys ++ zs) → Turning p (past_all p ys past) zs
-turning_on p past [] zs turning = turning
-turning_on p past (Fire i t ∷ ys) zs turning =
-    turning_on p past ys zs (record { inputs = turning.inputs; outputs = turning.outputs; now = turning.now })
-turning_on p past (Out e v ∷ ys) zs turning =
-    turning_on p (after p (Out e v) past) ys zs (record { inputs = turning.inputs; outputs = turning.outputs.1; now = turning.outputs.0.1 })
-turning_on p past (In e v ∷ ys) zs turning =
-    turning_on p (after p (In e v) past) ys zs (record { inputs = turning.inputs.1; outputs = turning.outputs; now = turning.inputs.0.1 })
+use Rattle.gos_parallel.proofs.LinkedLemmas.{Driven, left_seen, right_seen, when_told, way_told, ways_left, ways_right}
 
 -- an import that stands in a joint is there
 pub import_real : (o : Plan) (i k : ℕ) → (d h : ℕ) (f : Cut) (r : Plan) → IsSide d h f r o → StandsIn o (ImportEnd i k)

@@ -5,7 +5,7 @@
 use Rattle.std.specs.Prelude.{◌≡◌, ◌⊎◌, ℕ, Bool, true, false, All, Option, Some, None, List, [], ◌∷◌, ◌++◌}
 use Rattle.std.proofs.Common.{refl, sym, ap, subst, inl, inr, ◌∙◌}
 use Rattle.std.proofs.lemmas.Option.{same_Some}
-use Rattle.gos_types.specs.declared.shakes.Role.TheVariants.{Serve, Ask}
+use Rattle.gos_types.specs.declared.shakes.Role.TheVariants.{Ask}
 use Rattle.gos_types.specs.Types.{IsDone}
 use Rattle.gos_plan.specs.Kinds.{Contact}
 use Rattle.gos_netlist.specs.Events.{Request, Answer}
@@ -17,11 +17,9 @@ use Rattle.gos_plan.proofs.TokenBitsLemmas.{idle_fits}
 use Rattle.gos_webs.specs.Cutting.{Cut, StandsIn, cut_tokens}
 use Rattle.gos_webs.proofs.IdleLemmas.{idle_is_cut}
 use Rattle.gos_realises.specs.Regular.{Pass, pass, way_in, is_open, ComesInTurn, KeepsTurns, InputsKeepTurns, OutputsKeepTurns, IsRegular}
-use Rattle.gos_realises.specs.Realises.{AllGround}
 use Rattle.gos_realises.proofs.InputLemmas.{passed}
 use Rattle.gos_realises.proofs.RingLemmas.{after, OutputTurns}
 use Rattle.gos_windows.specs.Nodes.{IsRestful}
-use Rattle.gos_windows.specs.OpenNodes.{IsHeard}
 use Rattle.gos_windows.proofs.RestLemmas.{closed_rests}
 use Rattle.gos_windows.proofs.OpenLemmas.{ground_heard}
 use Rattle.gos_windows.proofs.NodeLemmas.{InTurn, first_turn, turns_after}

@@ -1,21 +1,19 @@
 -- What is open at imports of the whole is open in the region that has the import, and in no other (`Shared`). So the whole keeps its
 -- turns where its regions do, and a region whose result is open where the whole does.
-use Rattle.std.specs.Prelude.{◌≡◌, ◌⊎◌, All, ℕ, Bool, true, false, List, [], ◌∷◌, Some, slice_get, if◌then◌else◌}
-use Rattle.std.proofs.Common.{refl, sym, ap, subst, inl, inr, ◌∙◌}
-use Rattle.gos_types.specs.declared.shakes.Role.{Role}
-use Rattle.gos_types.specs.declared.shakes.Role.TheVariants.{Serve, Ask}
+use Rattle.std.specs.Prelude.{◌≡◌, All, ℕ, Bool, true, false, List, [], ◌∷◌, Some, slice_get, if◌then◌else◌}
+use Rattle.std.proofs.Common.{refl, sym, ap, subst, ◌∙◌}
 use Rattle.gos_types.specs.Types.{IsDone}
 use Rattle.gos_netlist.specs.Events.{Direction, Request, Answer}
 use Rattle.gos_model.specs.Typing.{Imported}
 use Rattle.gos_plan.specs.Kinds.{Contact}
 use Rattle.gos_plan.specs.Firing.{Phase, Rest}
-use Rattle.gos_plan.specs.Plans.{End, ImportEnd, ResultEnd, Plan, contact_at, same_end}
-use Rattle.gos_plan.specs.Tokens.{Tokens, Element, way_put}
+use Rattle.gos_plan.specs.Plans.{ImportEnd, ResultEnd, Plan, contact_at, same_end}
+use Rattle.gos_plan.specs.Tokens.{Tokens, Element}
 use Rattle.gos_plan.specs.TokenBits.{LiteralFits}
 use Rattle.gos_plan.proofs.JointLemmas.{same_is}
 use Rattle.gos_webs.specs.Cutting.{Cut, lies_at}
 use Rattle.gos_webs.proofs.CutLemmas.{place_there}
-use Rattle.gos_realises.specs.Regular.{Pass, pass, way_in, way_out, is_request, is_open, KeepsTurnsOf, ComesInTurn, KeepsTurns, InputsKeepTurns}
+use Rattle.gos_realises.specs.Regular.{Pass, pass, way_in, way_out, is_request, is_open, KeepsTurnsOf, KeepsTurns, InputsKeepTurns}
 use Rattle.gos_realises.specs.Realises.{NamesDiffer}
 use Rattle.gos_realises.proofs.RingLemmas.{after}
 use Rattle.gos_realises.proofs.ToldLemmas.{contains_at}

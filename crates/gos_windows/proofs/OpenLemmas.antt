@@ -1,9 +1,8 @@
 -- A node with ground imports is one with imports of any types: no port of an import asks.
 use Rattle.std.specs.Prelude.{Contains}
-use Rattle.std.proofs.Common.{◌≡◌, ℕ, List, Some, inl, inr, sym, ◌∙◌}
+use Rattle.std.proofs.Common.{◌≡◌, ℕ, List, inl, inr, sym, ◌∙◌}
 use Rattle.gos_types.specs.declared.shakes.Role.TheVariants.{Serve, Ask}
-use Rattle.gos_plan.specs.Kinds.{Contact}
-use Rattle.gos_plan.specs.Plans.{ImportEnd, ResultEnd, Plan, contact_at}
+use Rattle.gos_plan.specs.Plans.{ImportEnd, ResultEnd, Plan}
 use Rattle.gos_types.specs.Types.{IsDone}
 use Rattle.gos_realises.specs.Realises.{AllGround}
 use Rattle.gos_webs.specs.Cutting.{Cut}
