@@ -1,0 +1,95 @@
+-- A regular plan, step by step: from where a list led, each element that comes in turn comes in order, and keeps turns.
+use Rattle.std.specs.Prelude.{List, [], ◌∷◌}
+use Rattle.std.proofs.Common.{refl, sym, subst}
+use Rattle.gos_plan.specs.Plans.{Plan, contact_at}
+use Rattle.gos_plan.specs.Tokens.{Tokens, Element, Fire, Out, In, Does, Runs, IsIdle}
+use Rattle.gos_plan.specs.Orderly.{Open, none_open, ComesInOrder, AllWelcome, OrderlyFrom}
+use Rattle.gos_plan.proofs.DecidedLemmas.{one_state, one_open}
+use Rattle.gos_realises.specs.Regular.{Pass, pass, way_in, KeepsTurns, InputsKeepTurns, OutputsKeepTurns, IsRegular}
+use Rattle.gos_realises.proofs.RingLemmas.{after, OutputTurns}
+
+abbrev pub Ordered : Plan → List Element → Open → Tokens → Type 0
+Ordered p zs o s = (u : Open) × (v : Tokens) × OrderlyFrom p zs o s u v
+
+-- each list from here on whose inputs keep turns is orderly, and its outputs keep turns
+abbrev pub RegularFrom : Plan → List Pass → Open → Tokens → Type 0
+RegularFrom p past o s =
+    (zs : List Element) (w : Tokens) → Runs p zs s w → InputsKeepTurns p past zs → Ordered p zs o s × OutputsKeepTurns p past zs
+
+-- an input keeps turns
+abbrev pub InputTurns : Plan → List Pass → Element → Type 0
+InputTurns p past (Fire i t) = Unit {0}
+InputTurns p past (Out e v) = Unit {0}
+InputTurns p past (In e v) = KeepsTurns p past (pass e (way_in (contact_at p e)))
+
+pub with_turn : (p : Plan) (past : List Pass) (x : Element) (zs : List Element) → InputTurns p past x → InputsKeepTurns p (after p x past) zs
+    → InputsKeepTurns p past (x ∷ zs)
+with_turn p past (Fire i t) zs one more = more
+with_turn p past (Out e v) zs one more = more
+with_turn p past (In e v) zs one more = (one, more)
+
+pub first_turn : (p : Plan) (past : List Pass) (x : Element) (zs : List Element) → InputsKeepTurns p past (x ∷ zs) → InputTurns p past x
+first_turn p past (Fire i t) zs turns = tt
+first_turn p past (Out e v) zs turns = tt
+first_turn p past (In e v) zs turns = turns.0
+
+pub later_turns : (p : Plan) (past : List Pass) (x : Element) (zs : List Element) → InputsKeepTurns p past (x ∷ zs) → InputsKeepTurns p (after p x past) zs
+later_turns p past (Fire i t) zs turns = turns
+later_turns p past (Out e v) zs turns = turns
+later_turns p past (In e v) zs turns = turns.1
+
+out_first : (p : Plan) (past : List Pass) (x : Element) (zs : List Element) → OutputsKeepTurns p past (x ∷ zs) → OutputTurns p past x
+out_first p past (Fire i t) zs turns = tt
+out_first p past (Out e v) zs turns = turns.0
+out_first p past (In e v) zs turns = tt
+
+out_later : (p : Plan) (past : List Pass) (x : Element) (zs : List Element) → OutputsKeepTurns p past (x ∷ zs) → OutputsKeepTurns p (after p x past) zs
+out_later p past (Fire i t) zs turns = turns
+out_later p past (Out e v) zs turns = turns.1
+out_later p past (In e v) zs turns = turns
+
+pub out_joined : (p : Plan) (past : List Pass) (x : Element) (zs : List Element) → OutputTurns p past x → OutputsKeepTurns p (after p x past) zs
+    → OutputsKeepTurns p past (x ∷ zs)
+out_joined p past (Fire i t) zs one more = more
+out_joined p past (Out e v) zs one more = (one, more)
+out_joined p past (In e v) zs one more = more
+
+no_inputs : (p : Plan) (past : List Pass) (x : Element) → InputTurns p past x → InputsKeepTurns p past (x ∷ [])
+no_inputs p past (Fire i t) one = tt
+no_inputs p past (Out e v) one = tt
+no_inputs p past (In e v) one = (one, tt)
+
+-- one element
+pub record Stepped (p : Plan) (past : List Pass) (o : Open) (s : Tokens) (x : Element) (w : Tokens) : Type 0 where
+  pub opened : Open
+  pub comes : ComesInOrder p x s o opened
+  pub welcome : AllWelcome p w
+  pub turns : OutputTurns p past x
+  pub further : RegularFrom p (after p x past) opened w
+
+pub stepped : (p : Plan) (past : List Pass) (o : Open) (s : Tokens) (x : Element) (w : Tokens) → RegularFrom p past o s → Does p x s w → InputTurns p past x
+    → Stepped p past o s x w
+stepped p past o s x w regular does turn = of_one (regular (x ∷ []) w (w, does, refl) (no_inputs p past x turn))
+  where
+    of_more : (m : Open) → ComesInOrder p x s o m → (zs : List Element) → Ordered p (x ∷ zs) o s → Ordered p zs m w
+    of_more m comes zs (u, v, (n, z, also, now, welcome, list)) = (
+      u,
+      v,
+      subst (λ (a : Open). OrderlyFrom p zs a w u v) (one_open p x o n m s w does now comes)
+          (subst (λ (b : Tokens). OrderlyFrom p zs n b u v) (sym (one_state p x s w z does also)) list),
+    )
+
+    of_one : Ordered p (x ∷ []) o s × OutputsKeepTurns p past (x ∷ []) → Stepped p past o s x w
+    of_one ((u, v, (m, z, also, now, welcome, list)), outs) =
+        record {
+          opened = m;
+          comes = now;
+          welcome = subst (λ (k : Tokens). AllWelcome p k) (sym (one_state p x s w z does also)) welcome;
+          turns = out_first p past x [] outs;
+          further = λ zs k runs keeps.
+              (let both = regular (x ∷ zs) k (w, does, runs) (with_turn p past x zs turn keeps) in
+              (of_more m now zs both.0, out_later p past x zs both.1));
+        }
+
+pub from_idle : (p : Plan) (s : Tokens) → IsRegular p → IsIdle p s → RegularFrom p [] none_open s
+from_idle p s regular idle zs w runs keeps = regular s w zs idle runs keeps

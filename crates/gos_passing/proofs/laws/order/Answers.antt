@@ -1,0 +1,9 @@
+use Rattle.gos_passing.proofs.PassingLemmas.{lies_behind_share}
+use Rattle.gos_passing.proofs.RegularLemmas.{behind_is_regular}
+use Rattle.gos_passing.proofs.laws.order.Goals as goal
+
+pub returns-clause-lies : goal.returns-clause-lies
+returns-clause-lies c = lies_behind_share
+
+pub returns-clause-regular : goal.returns-clause-regular
+returns-clause-regular c = behind_is_regular

@@ -1,0 +1,8 @@
+// Plans of any type behind a Share of which one caller alone is joined.
+//
+// Definitions and laws alone. Read `specs/Behind`, and then laws.rt.
+#![tactic(auto)]
+
+mod laws;
+
+pub use laws::{order, small_plans};
