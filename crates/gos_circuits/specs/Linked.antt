@@ -1,7 +1,7 @@
 -- The command `link BUILD`.
 --
--- Read first: BuildFile of gos_link; Objects, Plans; Linked and Modules of gos_linked (the substituted program). `old` and `new` are the files of the store before and after. A file that
--- the store doesn't hold counts as empty.
+-- Read first: BuildFile of gos_link; Objects, Plans; Linked and Modules of gos_linked (the substituted program). `old` and `new` are
+-- the files of the store before and after. A file that the store doesn't hold counts as empty.
 use Rattle.std.specs.Prelude.{◌≡◌, ◌⊎◌, ℕ, List, [], ◌∷◌, Option, Some, None, IfSome}
 use Rattle.gos_outside.specs.Files.{Files, bytes_at}
 use Rattle.gos_outside.specs.OtherFiles.{OthersSame}
