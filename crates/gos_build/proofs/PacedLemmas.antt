@@ -1,6 +1,7 @@
 -- The circuits of ground modules keep pace with their programs, since their plans realise these, and linked plans the substituted one.
-use Rattle.std.specs.Prelude.{◌≡◌, ℕ, zero, suc, List, [], ◌∷◌, map, length, slice_get}
-use Rattle.std.proofs.Common.{refl, sym, ◌∙◌, ap, subst}
+-- They are small, since the plans are slim.
+use Rattle.std.specs.Prelude.{◌≡◌, ℕ, ◌+◌, ◌*◌, ◌≤◌, zero, suc, List, [], ◌∷◌, map, length, slice_get}
+use Rattle.std.proofs.Common.{refl, sym, ◌∙◌, ap, subst, arith}
 use Rattle.gos_outside.specs.Files.{Files}
 use Rattle.gos_types.specs.Types.{IsDone}
 use Rattle.gos_syntax.specs.Modules.{SeenModule}
@@ -17,11 +18,12 @@ use Rattle.gos_link.specs.declared.build.Instance.{Instance}
 use Rattle.gos_link.specs.declared.services.Service.{Service}
 use Rattle.gos_link.specs.Linked.{imports_of, plans_of, IsLinked}
 use Rattle.gos_linked.specs.Linked.{name_if, binds_of, linked_program}
-use Rattle.gos_linked.specs.Modules.{AreModules, AreWeighed, LinkedIsModule, LinkedIsDone, LinkedHasWeight}
-use Rattle.gos_circuits.specs.Paced.{ModuleCircuitsKeepPace}
+use Rattle.gos_fits.specs.Fits.{SlimIsSmall}
+use Rattle.gos_linked.specs.Modules.{AreModules, AreWeighed, LinkedIsModule, LinkedHasWeight}
+use Rattle.gos_circuits.specs.Paced.{ModuleCircuitsKeepPace, LinkedCircuitsKeepPace}
 use Rattle.gos_build.specs.Objects.{BeginWith, HavePlans}
 use Rattle.gos_build.specs.Programs.{imports_if, bind_in, program_along}
-use Rattle.gos_build.specs.Paced.{ModuleKeepsPace, BuildKeepsPace, BuildHasImports, BuildHasWeight}
+use Rattle.gos_build.specs.Paced.{ModuleKeepsPace, BuildKeepsPace, BuildHasImports, BuildHasWeight, BuildIsSmall}
 
 pub module_keeps_pace : ModuleCircuitsKeepPace → ModuleKeepsPace
 module_keeps_pace law m plan root net is ground done circuit =
@@ -71,19 +73,17 @@ same_program : (b : Build) (ms : List SeenModule) (ps : List SeenPlan) (whole : 
     → linked_program b ps whole l (map program_of ms) ≡ program_along ms l.services l.root
 same_program b ms ps whole l have = ap (λ (bs : List Bind). substituted (map program_of ms) bs l.root) (same_binds ms ps l.services have)
 
-pub build_keeps_pace : LinkedIsModule → LinkedIsDone → BuildKeepsPace
-build_keeps_pace is_module is_done files objects old new b plans weight net compiled done =
+pub build_keeps_pace : LinkedCircuitsKeepPace → BuildKeepsPace
+build_keeps_pace law files objects old new b plans weight net compiled done =
     let ms : List SeenModule = compiled.modules in
     let have = compiled.written.plans in
     let whole = done.whole in
     let l = done.linked in
     let all = are_modules files b.instances.items ms plans compiled.written.say have in
     let each : length plans ≡ length b.instances.items = as_many ms plans have ∙ compiled.all in
-    let linked = is_module b plans whole (map program_of ms) l each all in
-    let (matched, program) = is_done b plans whole (map program_of ms) l each all in
-    let paced = done.written.circuit.pace linked.realises.slim (linked_program b plans whole l (map program_of ms)).body matched in
+    let paced = law b plans whole (map program_of ms) b.root net l each all done.written.circuit in
     subst (λ (w : ℕ). KeepsPaceAlways w (program_along ms l.services l.root) net) (sym done.weighs)
-    (subst (λ (p : Program). KeepsPaceAlways whole.weight p net) (program ∙ same_program b ms plans whole l have) paced)
+    (subst (λ (p : Program). KeepsPaceAlways whole.weight p net) (same_program b ms plans whole l have) paced)
 
 pub build_has_imports : LinkedIsModule → BuildHasImports
 build_has_imports is_module files objects old new b plans weight net compiled done =
@@ -105,3 +105,15 @@ pub build_has_weight : LinkedHasWeight → BuildHasWeight
 build_has_weight has_weight files objects old new b plans weight net compiled done =
     done.weighs
     ∙ has_weight b plans done.whole (map program_of compiled.modules) done.linked (are_weighed compiled.modules plans compiled.written.plans)
+
+-- the linked plan is slim, since it is that of a module
+pub build_is_small : LinkedIsModule → SlimIsSmall → BuildIsSmall
+build_is_small is_module small files objects old new b plans weight net compiled done =
+    let ms : List SeenModule = compiled.modules in
+    let have = compiled.written.plans in
+    let all = are_modules files b.instances.items ms plans compiled.written.say have in
+    let each : length plans ≡ length b.instances.items = as_many ms plans have ∙ compiled.all in
+    let few = done.written.circuit.few in
+    let size = small done.whole (is_module b plans done.whole (map program_of ms) done.linked each all).realises.slim in
+    let weighs = done.weighs in
+    omega (arith, few, size, weighs)

@@ -3,7 +3,7 @@
 -- Read first: Objects, Programs; Plans of gos_circuits (linking, and the circuit of the whole); Pace of gos_model; Simulation of
 -- gos_simulate (its run under the pulse file). `old` and `new` are the files of the store before and after, `files` those before where it tells them. The
 -- pulse file is read after all but the trace is written, and no file that is written is one that is read.
-use Rattle.std.specs.Prelude.{◌≡◌, ◌⊎◌, ◌++◌, ℕ, List, [], ◌∷◌, map, Option, Some, IfSome}
+use Rattle.std.specs.Prelude.{◌≡◌, ◌⊎◌, ◌++◌, ◌+◌, ◌*◌, ◌≤◌, ℕ, List, [], ◌∷◌, length, map, Option, Some, IfSome}
 use Rattle.gos_outside.specs.Files.{Files, bytes_at}
 use Rattle.gos_outside.specs.OtherFiles.{OthersSame}
 use Rattle.gos_outside.specs.Faults.{LastFault, ReadFault}
@@ -36,7 +36,8 @@ pub record IsPlansBuilt (old new : Option Files) (b : Build) (plans : List SeenP
 
 -- The build file says a build; the source of each instance says a ground module, and the object file of the instance was
 -- written with the text of its plan; and all this is so for these plans. The circuit has the imports of the program of the
--- linked modules as its ports, besides the root's, and keeps pace with this program. Its weight is that of the modules.
+-- linked modules as its ports, besides the root's, and keeps pace with this program. Its weight is that of the modules, and it
+-- has few cells for it.
 pub record IsBuilt (files : Files) (new : Option Files) (own : Word) (report : Report) : Type 0 where
   pub build : Build
   pub plans : List SeenPlan
@@ -47,6 +48,7 @@ pub record IsBuilt (files : Files) (new : Option Files) (own : Word) (report : R
   pub pace : KeepsPaceAlways built.weight (program_along compiled.modules built.written.linked.services built.written.linked.root) built.net
   pub imports : built.written.whole.imports ≡ (program_along compiled.modules built.written.linked.services built.written.linked.root).imports
   pub weighs : built.weight ≡ link_weight (map program_of compiled.modules)
+  pub few : length built.net.cells ≤ 128 * (built.weight + 1)
 
 -- the pulse file is rejected for the circuit of the plans, which was written
 pub record RejectsPulses (old new : Option Files) (b : Build) (plans : List SeenPlan) (fault : Fault) (line : List ℕ) : Type 0 where

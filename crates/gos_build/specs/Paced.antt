@@ -1,8 +1,8 @@
--- The circuits of ground modules keep pace with their programs: that of a module alone, and that of a build.
+-- The circuits of ground modules keep pace with their programs: that of a module alone, and that of a build. The latter is small.
 --
 -- Read first: Ground of gos_modules; Compiled of gos_objects (the plan of a module); Circuit and Plans of gos_circuits; Pace of
 -- gos_model; Programs, Objects.
-use Rattle.std.specs.Prelude.{◌≡◌, ℕ, List, map, Option}
+use Rattle.std.specs.Prelude.{◌≡◌, ℕ, ◌+◌, ◌*◌, ◌≤◌, List, length, map, Option}
 use Rattle.gos_outside.specs.Files.{Files}
 use Rattle.gos_lines.specs.Lines.{Word}
 use Rattle.gos_types.specs.Types.{IsDone, type_of}
@@ -48,3 +48,10 @@ BuildHasWeight =
     (files : Files) (objects old new : Option Files) (b : Build) (plans : List SeenPlan) (weight : ℕ) (net : Netlist)
     (compiled : AllWritten files objects b.instances.items plans) (done : IsPlansDone old new b plans weight net)
     → weight ≡ link_weight (map program_of compiled.modules)
+
+-- The circuit has at most 128 cells for each unit of the weight, and 128.
+abbrev pub BuildIsSmall : Type 0
+BuildIsSmall =
+    (files : Files) (objects old new : Option Files) (b : Build) (plans : List SeenPlan) (weight : ℕ) (net : Netlist)
+    → AllWritten files objects b.instances.items plans → IsPlansDone old new b plans weight net
+    → length net.cells ≤ 128 * (weight + 1)

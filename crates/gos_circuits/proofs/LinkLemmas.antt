@@ -26,6 +26,7 @@ use Rattle.gos_command.specs.declared.status.Cause.TheVariants.{Link}
 use Rattle.gos_command.specs.declared.status.Fault.{Fault}
 use Rattle.gos_command.proofs.EndLemmas.{of_some, of_some_both}
 use Rattle.gos_circuits.specs.Circuit.{IsCircuitOf}
+use Rattle.gos_circuits.specs.Paced.{LinkedCircuitsKeepPace}
 use Rattle.gos_circuits.specs.Objects.{HoldPlans, RejectsObject}
 use Rattle.gos_circuits.specs.Plans.{with_net, IsWritten, IsPlansDone, IsPlansCause, IsBuildFault, IsWriteCall, IsPlansCall, IsWriteCutShort, IsPlansCutShort}
 use Rattle.gos_circuits.specs.Linked.{SaysBuild, IsLinkDone, IsFormCause, RejectsWhole, RejectsLink, IsWholeCall, IsWholeCutShort}
@@ -114,15 +115,17 @@ held_as old is js ps plans same linked held =
     (subst (λ (ks : List Instance). IfSome old (λ files. HoldPlans files ks ps)) same held)
 
 -- the whole was written
-pub whole_done : (old mid new : Option Files) (b : Build) (plans : List SeenPlan) (weight : ℕ) (net : Netlist) (report : Report) → mid ≡ old
+pub whole_done : LinkedCircuitsKeepPace → (old mid new : Option Files) (b : Build) (plans : List SeenPlan) (weight : ℕ) (net : Netlist) (report : Report)
+    → mid ≡ old → length plans ≡ length b.instances.items
     → IfSome old (λ files. HoldPlans files b.instances.items plans) → IsPlansDone mid new b plans weight net
     → report ≡ record { weight = Some weight; run = None } → IsWholeDone old new b report
-whole_done old mid new b plans weight net report same held done tells =
+whole_done law old mid new b plans weight net report same each held done tells =
     record {
       whole = done.whole;
       net = net;
       linked = record { plans = plans; held = held; linked = done.linked };
       written = subst (λ (told : Option Files). IsWritten told new b done.whole net) same done.written;
+      pace = λ programs all. law b plans done.whole programs b.root net done.linked each all done.written.circuit;
       tells = tells ∙ ap (λ (n : ℕ). record { weight = Some n; run = None }) done.weighs;
     }
 
@@ -142,7 +145,16 @@ pub link_done : (old mid new : Option Files) (own : Word) (b : Build) (report : 
     → IsWholeDone mid new b report → IsLinkDone old new own report
 link_done old mid new own b report same says done =
     let here = subst (λ (told : Option Files). IsWholeDone told new b report) same done in
-    record { build = b; whole = here.whole; net = here.net; says = says; linked = here.linked; written = here.written; tells = here.tells }
+    record {
+      build = b;
+      whole = here.whole;
+      net = here.net;
+      says = says;
+      linked = here.linked;
+      written = here.written;
+      pace = here.pace;
+      tells = here.tells;
+    }
 
 -- the files with the netlist of a circuit written
 written_net : (old mid : Option Files) (b : Build) (net : Netlist) (text : List ℕ) → text ≡ text_of net → mid ≡ with_file b.net text old → mid ≡ with_net old b net

@@ -1,19 +1,23 @@
 -- The command `link BUILD`.
 --
--- Read first: BuildFile of gos_link; Objects, Plans. `old` and `new` are the files of the store before and after. A file that
--- the store doesn't hold counts as empty.
+-- Read first: BuildFile of gos_link; Objects, Plans; Linked and Modules of gos_linked (the substituted program). `old` and `new` are
+-- the files of the store before and after. A file that the store doesn't hold counts as empty.
 use Rattle.std.specs.Prelude.{◌≡◌, ◌⊎◌, ℕ, List, [], ◌∷◌, Option, Some, None, IfSome}
 use Rattle.gos_outside.specs.Files.{Files, bytes_at}
 use Rattle.gos_outside.specs.OtherFiles.{OthersSame}
 use Rattle.gos_outside.specs.Faults.{LastFault, ReadFault}
 use Rattle.gos_lines.specs.Lines.{Word}
 use Rattle.gos_netlist.specs.Nets.{Netlist}
+use Rattle.gos_model.specs.Linking.{Instances}
+use Rattle.gos_model.specs.Pace.{KeepsPaceAlways}
 use Rattle.gos_plan.specs.Plans.{Plan}
 use Rattle.gos_plan.specs.Seen.{SeenPlan}
 use Rattle.gos_link.specs.BuildFile.{IsBuildFile, IsFirstWrong}
-use Rattle.gos_link.specs.Linked.{IsLinked}
+use Rattle.gos_link.specs.Linked.{plans_of, IsLinked}
 use Rattle.gos_link.specs.declared.build.Build.{Build}
 use Rattle.gos_link.specs.declared.fault.LinkFault.TheVariants as faults
+use Rattle.gos_linked.specs.Linked.{linked_program}
+use Rattle.gos_linked.specs.Modules.{AreModules}
 use Rattle.gos_command.specs.declared.report.Report.{Report}
 use Rattle.gos_command.specs.declared.status.Cause.{Cause}
 use Rattle.gos_command.specs.declared.status.Cause.TheVariants as causes
@@ -31,6 +35,12 @@ pub record IsWhole (old : Option Files) (b : Build) (whole : Plan) : Type 0 wher
   pub held : IfSome old (λ files. HoldPlans files b.instances.items plans)
   pub linked : IsLinked b plans whole
 
+-- Where each plan is that of a module with one of these programs, the netlist keeps pace with the substituted program.
+abbrev pub KeepsPaceOfWhole : (old : Option Files) (b : Build) (whole : Plan) → IsWhole old b whole → Netlist → Type 0
+KeepsPaceOfWhole old b whole w net =
+    (programs : Instances) → AreModules (plans_of w.plans) programs
+    → KeepsPaceAlways whole.weight (linked_program b w.plans whole w.linked programs) net
+
 -- all this is so for the plans that the object files hold, and for what the build file says; the report has the weight
 pub record IsLinkDone (old new : Option Files) (own : Word) (report : Report) : Type 0 where
   pub build : Build
@@ -39,6 +49,7 @@ pub record IsLinkDone (old new : Option Files) (own : Word) (report : Report) : 
   pub says : IfSome old (λ files. SaysBuild files own build)
   pub linked : IsWhole old build whole
   pub written : IsWritten old new build whole net
+  pub pace : KeepsPaceOfWhole old build whole linked net
   pub tells : report ≡ record { weight = Some whole.weight; run = None }
 
 -- Why the build file is rejected: its first wrong line; or the first reason for which the plans that the object files hold

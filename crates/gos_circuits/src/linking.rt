@@ -9,6 +9,7 @@ ghost use Rattle.gos_circuits.specs.Linked.{IsLinkDone, RejectsWhole, RejectsLin
 ghost use Rattle.gos_circuits.specs.Linked.{IsWholeCall, IsLinkCall, IsWholeCutShort, IsLinkCutShort, KeepsUnnamed};
 ghost use Rattle.gos_circuits.specs.inner.Wholes.{IsWholeDone};
 
+use crate::laws::paced_circuits;
 use crate::objects::plans_in;
 use crate::plans::link_plans;
 use gos_command::{Cause, Report, Stop, read_file, reject};
@@ -71,6 +72,7 @@ fn link_objects<S: Store>(
     ensures never_falls { S.faults store.old ≤ S.faults store.new }
     ensures others { OthersSame (build.now.net ∷ build.now.verilog ∷ []) (S.contents store.old) (S.contents store.new) }
 {
+    paced_circuits();
     let plans = plans_in(alloc, build.instances.as_slice(), store)?;
     let linked = link_plans(alloc, own, build, plans.as_slice(), store)?;
     Ok(Report {

@@ -13,8 +13,10 @@ use Rattle.gos_circuits.proofs.linking.link_objects.Goals as goal
 pub returns-clause-done : goal.returns-clause-done
 returns-clause-done g c =
     let linked = c.in_ok-linked.linked in
-    whole_done (g.S.Store.contents c.args.store.now) (g.S.Store.contents c.plans_in.new.store) (g.S.Store.contents c.link_plans.new.store) c.args.build.now
-    c.as_slice-2.result.now linked.weight linked.net (record { weight = Some linked.weight; run = None }) c.in_ok-plans.ensures.same_files
+    let each = ap (λ (ps : List SeenPlan). length ps) c.as_slice-2.ensures.value
+    ∙ (c.in_ok-plans.ensures.each ∙ ap (λ (is : List Instance). length is) c.as_slice.ensures.value) in
+    whole_done c.paced_circuits.ensures.linked (g.S.Store.contents c.args.store.now) (g.S.Store.contents c.plans_in.new.store) (g.S.Store.contents c.link_plans.new.store) c.args.build.now
+    c.as_slice-2.result.now linked.weight linked.net (record { weight = Some linked.weight; run = None }) c.in_ok-plans.ensures.same_files each
     (held_as (g.S.Store.contents c.args.store.now) c.as_slice.result.now c.args.build.now.instances.items c.in_ok-plans.plans.items c.as_slice-2.result.now
     c.as_slice.ensures.value c.as_slice-2.ensures.value c.in_ok-plans.ensures.held) c.in_ok-linked.ensures.done refl
 
