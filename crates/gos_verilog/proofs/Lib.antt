@@ -30,3 +30,4 @@ pub mod KindLemmas
 pub mod ReadableLemmas
 pub mod StartLemmas
 pub mod PlaceLemmas
+pub mod BreakLemmas

@@ -7,3 +7,4 @@ pub mod Inputs
 pub mod Stages
 pub mod Noted
 pub mod Parts
+pub mod Breaks
