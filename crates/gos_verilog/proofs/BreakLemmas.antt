@@ -1,7 +1,7 @@
 -- Where what is left of a text breaks off: by what stands first, and by what stands behind it.
 use Rattle.std.proofs.Common.{◌≡◌, ◌⊎◌, inl, inr, ℕ, zero, suc, ◌+◌, ◌-◌, ◌<◌, ◌≤◌, List, [], ◌∷◌, ◌++◌, length, take, drop, get_or, refl, sym, ◌∙◌, ap, subst, arith, append_assoc, append-nil, length-append, length-drop}
 use Rattle.std.specs.List.{slice_range}
-use Rattle.std.proofs.lemmas.Bool.{cases_lt}
+use Rattle.std.proofs.Math.Seq.{take-append_seam}
 use Rattle.std.proofs.lemmas.List.{append_cancel_left, take-append-drop}
 use Rattle.gos_lex.specs.Items.{TextAt, Begins, StopsAt, Misses}
 use Rattle.gos_lex.proofs.PlaceLemmas.{rest_whole, length_slice, slice_snoc}
@@ -178,6 +178,11 @@ pub fault_first : (V : Type 0) (Is : V → Type 0) (text : V → List ℕ) (Rest
 fault_first V Is text Rest cursor (faults.Form place) goes_on misses = first_breaks V Is text Rest cursor.text cursor.at place goes_on misses
 fault_first V Is text Rest cursor faults.NoMemory goes_on misses = tt
 
+-- an item that is all that may be left
+pub fault_item : (P : Left) (cursor : TextAt) (fault : VFault) → BreaksAt P cursor fault → FaultFrom P cursor fault
+fault_item P cursor (faults.Form place) misses = item_breaks P cursor.text cursor.at place misses
+fault_item P cursor faults.NoMemory misses = tt
+
 -- a part of what begins so begins so
 begins_part : (L : Left) (a b : List ℕ) → Begins L (a ++ b) → Begins L a
 begins_part L a b (more, is) = (b ++ more, subst L (append_assoc a b more) is)
@@ -258,3 +263,16 @@ either_alone L M word x n other breaks =
 pub alone_leads : (L M N : Left) (word : List ℕ) → (Begins M word → ⊥) → Leads L N word → Leads (Either L M) N word
 alone_leads L M N word other leads =
     record { on = λ x is. inl (leads.on x is); back = λ x is. elim is [ | inl l ↦ leads.back x l | inr m ↦ absurd (other (x, m)) ] }
+
+-- what stands at the cursor is passed
+pub passed_at : (text : List ℕ) (at new : ℕ) (word : List ℕ) → at ≤ length text → drop at text ≡ word ++ drop new text → new ≡ at + length word → Passed (record { text = text; at = at }) (record { text = text; at = new }) word
+passed_at text at new word within is end =
+    let size : length (drop at text) ≡ length text - at = length-drop at text in
+    let whole : length word + length (drop new text) ≡ length text - at = sym (length-append word (drop new text)) ∙ (sym (ap length is) ∙ size) in
+    let long : new - at ≡ length word = omega (arith, end) in
+    record {
+      text = refl;
+      after = omega (arith, end);
+      within = omega (arith, whole, end, within);
+      is = (λ i. take (long i) (is i)) ∙ take-append_seam word (drop new text);
+    }

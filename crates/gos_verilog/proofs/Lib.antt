@@ -31,3 +31,8 @@ pub mod ReadableLemmas
 pub mod StartLemmas
 pub mod PlaceLemmas
 pub mod BreakLemmas
+pub mod AmongLemmas
+pub mod LeftLemmas
+pub mod LeftOutputLemmas
+pub mod WordLemmas
+pub mod LeftDriverLemmas

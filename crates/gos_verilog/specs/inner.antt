@@ -8,3 +8,4 @@ pub mod Stages
 pub mod Noted
 pub mod Parts
 pub mod Breaks
+pub mod Left

@@ -1,5 +1,5 @@
 // The declarations of a module: of the nets of its ports, and of its cells.
-ghost use Rattle.std.specs.Prelude.{◌≡◌, ◌≤◌, ◌-◌, ◌++◌, ℕ, Bool, List, IfOk, MatchResult, length, map, drop, codes};
+ghost use Rattle.std.specs.Prelude.{◌≡◌, ◌⊎◌, ◌≤◌, ◌-◌, ◌++◌, ℕ, Bool, List, IfOk, MatchResult, length, map, drop, codes};
 ghost use Rattle.std.specs.Fmt.{decimal};
 ghost use Rattle.std.specs.List.{AllByRecursion, flat_map};
 ghost use Rattle.gos_types.specs.Widths.{IsWidth};
@@ -96,6 +96,7 @@ fn width(cursor: &mut Cursor) -> Result<u32, VFault>
 /// The greater of two places.
 pub fn further(one: usize, other: usize) -> usize
     ensures at_least { (one ≤ result) × (other ≤ result) }
+    ensures one { (result ≡ one) ⊎ (result ≡ other) }
 {
     if one < other { other } else { one }
 }

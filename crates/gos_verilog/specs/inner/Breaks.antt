@@ -1,8 +1,8 @@
 -- What may be left of a text from a place on, and where what is left breaks off.
 --
 -- Read first: Stages; Items and NetItems below. Between the reader and its lemmas.
-use Rattle.std.specs.Prelude.{◌≡◌, ◌⊎◌, ℕ, ◌+◌, List, [], ◌∷◌, ◌++◌, length, drop}
-use Rattle.gos_lex.specs.Items.{TextAt, Begins}
+use Rattle.std.specs.Prelude.{◌≡◌, ◌⊎◌, ℕ, ◌+◌, ◌<◌, List, [], ◌∷◌, ◌++◌, length, drop}
+use Rattle.gos_lex.specs.Items.{TextAt, Begins, Misses}
 use Rattle.gos_netlist.specs.NetItems.{Passed}
 use Rattle.gos_verilog.specs.declared.fault.VFault.{VFault}
 use Rattle.gos_verilog.specs.declared.fault.VFault.TheVariants as faults
@@ -18,6 +18,15 @@ Item V Is text Rest bytes = (v : V) × (rest : List ℕ) × Is v × Rest v rest 
 -- one or the other
 abbrev pub Either : Left → Left → Left
 Either L M bytes = L bytes ⊎ M bytes
+
+-- one of the first k
+abbrev pub Among : (ℕ → Left) → ℕ → Left
+Among P k bytes = (j : ℕ) × (j < k) × P j bytes
+
+-- none of the first k stands at a place, and what begins like one of them breaks off at the furthest place
+pub record AllMiss (P : ℕ → Left) (text : List ℕ) (at k furthest : ℕ) : Type 0 where
+  pub none : k ≡ 0 → furthest ≡ at
+  pub some : 0 < k → Misses (Among P k) text at furthest
 
 -- The bytes are not what may be left, and what begins like it breaks off after n of them: it begins with these n, and
 -- not with these and the one behind them.

@@ -7,7 +7,7 @@ use Rattle.gos_verilog.specs.Lines.{driver_of}
 use Rattle.gos_verilog.specs.inner.CellLines.{IsKindLine}
 use Rattle.gos_verilog.proofs.RestLemmas.{passed_rest}
 use Rattle.gos_verilog.proofs.LineLemmas.{line_reads, line_wrong}
-use Rattle.gos_verilog.proofs.driven.line.Goals as goal
+use Rattle.gos_verilog.proofs.driven.kind_line_of.Goals as goal
 
 pub returns-in_err-gate-clause-wrong : goal.returns-in_err-gate-clause-wrong
 returns-in_err-gate-clause-wrong c =
