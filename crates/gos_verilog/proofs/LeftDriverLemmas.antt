@@ -24,6 +24,7 @@ use Rattle.gos_verilog.proofs.OneTextLemmas.{small_function, no_source, get_all}
 use Rattle.gos_verilog.proofs.LineLemmas.{line_code, kind_no_input, tried, is_input_or, register_kind, register_no_input}
 use Rattle.gos_verilog.proofs.AmongLemmas.{among_as, among_first}
 use Rattle.gos_verilog.proofs.BreakLemmas.{on_item, on_both, on_breaks, first_breaks}
+use Rattle.gos_verilog.proofs.WordLemmas.{shift_breaks}
 use Rattle.gos_verilog.proofs.LeftLemmas.{some_drivers}
 use Rattle.gos_verilog.proofs.LeftOutputLemmas.{one_number}
 
@@ -136,6 +137,10 @@ no_source_at nets i w k net bytes at other item =
     let same : known.0 ≡ net = let both : Some known.0 ≡ Some net = sym known.1 ∙ at in cc both in
     other (ap (λ (n : PortNet). n.input) (sym same) ∙ known.2) (ap (λ (n : PortNet). n.width) (sym same) ∙ known.3)
 
+-- an input that is read
+pub input_driver : (nets : List PortNet) (w : ℕ) (source : List ℕ) → IsSource nets w source → IsDriver nets (record { width = w; register = false }) (Input, source)
+input_driver nets w source is = record { kind = refl; fits = tt; fed = λ _. is; bare = λ other. absurd (other refl) }
+
 -- the front of the line of an Input cell, up to the name
 abbrev pub input_front : ℕ → List ℕ
 input_front i = line_text (target_slot i ∷ []) (codes "= ") (i ∷ [])
@@ -194,11 +199,13 @@ drivers_on nets shapes i shape old now new v named wide cut driver far passed =
     (subst (λ (n : ℕ). LeadsOn (LeftDrivers nets i (shape ∷ rest)) (LeftDrivers nets n rest) now new) e
     (on_item (Function × List ℕ) (IsDriver nets shape) (driver_text i shape) (λ _. LeftDrivers nets (suc i) rest) now new v (driver_code nets i shape named wide) driver passed)))
 
--- a line breaks off
-pub drivers_break : (nets : List PortNet) (shapes : List Shape) (i : ℕ) (shape : Shape) (old now : TextAt) (place : ℕ) → drop i shapes ≡ shape ∷ drop (i + 1) shapes
-    → LeadsOn (LeftDrivers nets 0 shapes) (LeftDrivers nets i (drop i shapes)) old now → Misses (IsDriverLine nets i shape) now.text now.at place → BreaksFrom (LeftDrivers nets 0 shapes) old place
-drivers_break nets shapes i shape old now place cut far misses =
-    let rest : List Shape = drop (i + 1) shapes in
-    on_breaks (LeftDrivers nets 0 shapes) (LeftDrivers nets i (drop i shapes)) old now place far
-    (subst (λ (L : List Shape). BreaksFrom (LeftDrivers nets i L) now place) (sym cut)
-    (first_breaks (Function × List ℕ) (IsDriver nets shape) (driver_text i shape) (λ _. LeftDrivers nets (suc i) rest) now.text now.at place (λ _ _. some_drivers nets (suc i) rest) misses))
+-- a line breaks off in the rest of the text
+pub drivers_break : (nets : List PortNet) (shapes : List Shape) (i : ℕ) (shape : Shape) (text rest : List ℕ) (from at place : ℕ) → drop i shapes ≡ shape ∷ drop (i + 1) shapes
+    → LeadsOn (LeftDrivers nets 0 shapes) (LeftDrivers nets i (drop i shapes)) (record { text = text; at = from }) (record { text = text; at = at }) → rest ≡ drop at text
+    → Misses (IsDriverLine nets i shape) rest 0 place → BreaksFrom (LeftDrivers nets 0 shapes) (record { text = text; at = from }) (at + place)
+drivers_break nets shapes i shape text rest from at place cut far is misses =
+    let left : List Shape = drop (i + 1) shapes in
+    on_breaks (LeftDrivers nets 0 shapes) (LeftDrivers nets i (drop i shapes)) (record { text = text; at = from }) (record { text = text; at = at }) (at + place) far
+    (shift_breaks (LeftDrivers nets i (drop i shapes)) text rest at place is
+    (subst (λ (L : List Shape). BreaksFrom (LeftDrivers nets i L) (record { text = rest; at = 0 }) place) (sym cut)
+    (first_breaks (Function × List ℕ) (IsDriver nets shape) (driver_text i shape) (λ _. LeftDrivers nets (suc i) left) rest 0 place (λ _ _. some_drivers nets (suc i) left) misses)))

@@ -63,9 +63,7 @@ pub fn drivers(
                 })?;
                 at += len;
             }
-            Err(place) => return Err(VFault::Form {
-                at: at.saturating_add(place),
-            }),
+            Err(place) => return Err(VFault::Form { at: at + place }),
         }
     }
     Ok((cells, at))
