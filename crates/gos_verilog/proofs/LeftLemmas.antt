@@ -67,7 +67,7 @@ drivers_begin nets i (shape ∷ shapes) x (v, rest, driver, left, whole) =
     third true x = refl
     third false x = refl
 
-shape_first : (i : ℕ) (shape : Shape) (x : List ℕ) → IsBody (shape_text i shape ++ x) → ⊥
+pub shape_first : (i : ℕ) (shape : Shape) (x : List ℕ) → IsBody (shape_text i shape ++ x) → ⊥
 shape_first i shape x body = by shape.register body
   where
     by : (b : Bool) → IsBody (shape_text i (record { width = shape.width; register = b }) ++ x) → ⊥

@@ -36,3 +36,4 @@ pub mod LeftLemmas
 pub mod LeftOutputLemmas
 pub mod WordLemmas
 pub mod LeftDriverLemmas
+pub mod LeftCellLemmas

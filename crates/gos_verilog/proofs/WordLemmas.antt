@@ -43,3 +43,23 @@ pub shift_breaks : (L : Left) (text rest : List ℕ) (at place : ℕ) → rest �
 shift_breaks L text rest at place is breaks =
     let known : BreaksFrom L (record { text = drop at text; at = 0 }) place = subst (λ (bytes : List ℕ). BreaksFrom L (record { text = bytes; at = 0 }) place) is breaks in
     (known.0, omega (arith, known.1), known.2)
+
+-- so does what is missed there
+pub shift_misses : (P : Left) (text rest : List ℕ) (at place : ℕ) → rest ≡ drop at text → at + length rest ≡ length text → Misses P rest 0 place → Misses P text at (at + place)
+shift_misses P text rest at place is size misses =
+    record {
+      stops = record {
+        after = omega arith;
+        within = omega (arith, size, misses.stops.within);
+        before = (misses.stops.before.0, subst (λ (part : List ℕ). P (part ++ misses.stops.before.0)) (part place (at + place) (omega arith)) misses.stops.before.1);
+        stops = λ some longer.
+            misses.stops.stops (omega (arith, some, size)) (longer.0, subst (λ (bytes : List ℕ). P (bytes ++ longer.0)) (sym (part (place + 1) (at + place + 1) (omega arith))) longer.1);
+      };
+      none = λ end above within item.
+          misses.none (end - at) (omega arith) (omega (arith, within, above, size)) (subst P (sym (part (end - at) end (omega (arith, above)))) item);
+    }
+  where
+    part : (n end : ℕ) → end - at ≡ n → slice_range rest 0 n ≡ slice_range text at end
+    part n end e =
+        let one : n - 0 ≡ end - at = omega (arith, e) in
+        (λ i. take (one i) (is i))

@@ -178,8 +178,8 @@ pub fn target(i: u32) -> Slot<'static>
     exactly(b"  assign n", i, b' ')
 }
 
-// A word and exactly this number.
-fn exactly(before: &[u8], n: u32, end: u8) -> Slot
+/// A word and exactly this number.
+pub fn exactly(before: &[u8], n: u32, end: u8) -> Slot
     ensures { result ≡ lines.exactly before.now n end }
 {
     Slot {

@@ -1,8 +1,11 @@
 // The declarations of a module: of the nets of its ports, and of its cells.
-ghost use Rattle.std.specs.Prelude.{◌≡◌, ◌⊎◌, ◌≤◌, ◌-◌, ◌++◌, ℕ, Bool, List, IfOk, MatchResult, length, map, drop, codes};
+ghost use Rattle.std.specs.Prelude.{◌≡◌, ◌⊎◌, ◌≤◌, ◌-◌, ◌++◌, ℕ, Bool, List, IfOk, IfErr, MatchResult, length, map, drop, codes};
 ghost use Rattle.std.specs.Fmt.{decimal};
 ghost use Rattle.std.specs.List.{AllByRecursion, flat_map};
+ghost use Rattle.gos_lex.specs.Items.{Misses};
 ghost use Rattle.gos_types.specs.Widths.{IsWidth};
+ghost use Rattle.gos_netlist.specs.NetItems.{Passed};
+ghost use Rattle.gos_verilog.specs.inner.Left.{IsShape, IsShapeLine, IsShapeOf, NoShape, shape_front, shape_text, shapes_text};
 ghost use Rattle.gos_netlist.specs.Nets.{Cell};
 ghost use Rattle.gos_verilog.specs.PortNets.{PortNet as Net};
 ghost use Rattle.gos_verilog.specs.Lines.{direction_word, port_declaration as line_of, cell_net, cell_declarations as lines_of};
@@ -11,7 +14,8 @@ ghost use Rattle.gos_verilog.specs.inner.Stages.{Rest, IsWant, AreNamesOf, HaveW
 use crate::fault::VFault;
 use crate::head::word;
 use crate::port_net::PortNet;
-use crate::slots::{number, pass};
+use crate::cell_line::exactly;
+use crate::slots::{Slot, line, number, pass};
 use gos_lex::Cursor;
 use gos_netlist::NetId;
 use std::alloc::Global;
@@ -101,56 +105,84 @@ pub fn further(one: usize, other: usize) -> usize
     if one < other { other } else { one }
 }
 
-/// Passes declarations of the nets of cells. The second is the place where no further one goes on.
+/// Reads declarations of the nets of cells, from `at` on. It gives what they declare, the place behind them, and the
+/// place where no further one goes on.
 #[tactic(auto, using(crate::proofs::ListLemmas::all_snoc))]
-pub fn cell_declarations(alloc: Global, cursor: &mut Cursor) -> Result<(Vec<Shape>, usize), VFault>
-    ensures text { cursor.new.text ≡ cursor.old.text }
-    ensures widths { IfOk result (λ both. AllByRecursion (λ shape. IsWidth shape.width) both.0.items) }
-    ensures few { IfOk result (λ both. length both.0.items ≤ 4294967295) }
-    ensures stands { (cells : List Cell) (x : List ℕ) → HaveCellWidths cells → length cells ≤ 4294967295 → IsBody x → Rest cursor.old (lines_of 0 cells ++ x)
-        → MatchResult result (λ both. (both.0.items ≡ map shape_of cells) × Rest cursor.new x) IsWant }
+pub fn cell_declarations(
+    alloc: Global,
+    text: &[u8],
+    at: usize,
+) -> Result<(Vec<Shape>, usize, usize), VFault>
+    requires within { at ≤ length text.now }
+    ensures widths { IfOk result (λ found. AllByRecursion IsShape found.0.items) }
+    ensures few { IfOk result (λ found. length found.0.items ≤ 4294967295) }
+    ensures passed { IfOk result (λ found. Passed (record { text = text.now; at = at }) (record { text = text.now; at = found.1 }) (shapes_text 0 found.0.items)) }
+    ensures ends { IfOk result (λ found. NoShape (length found.0.items) text.now found.1 found.2) }
+    ensures only { IfErr result IsWant }
 {
     let mut shapes = Vec::new(alloc);
+    let mut at = at;
     for i in 0..u32::MAX {
-        match kind(cursor) {
-            Ok(register) => shapes.push(cell_declaration(cursor, i, register)?)?,
-            Err(at) => return Ok((shapes, at)),
+        match cell_declaration(alloc, &text[at..], i) {
+            Ok((shape, len)) => {
+                shapes.push(shape)?;
+                at += len;
+            }
+            Err(place) => return Ok((shapes, at, at + place)),
         }
     }
-    let at = cursor.at();
-    Ok((shapes, at))
+    Ok((shapes, at, at))
 }
 
-// Passes the word for the kind of a cell's net, and says whether it is that of a register.
-fn kind(cursor: &mut Cursor) -> Result<bool, usize>
-    ensures text { cursor.new.text ≡ cursor.old.text }
-    ensures stands { (register : Bool) (x : List ℕ) → Rest cursor.old (codes "  " ++ (word_of register ++ (codes " [" ++ x)))
-        → MatchResult result (λ found. (found ≡ register) × Rest cursor.new x) (λ _. ⊥) }
-    ensures ends { IsBody (drop cursor.old.at cursor.old.text) → MatchResult result (λ _. ⊥) (λ _. cursor.new ≡ cursor.old) }
+// Reads the declaration of the net of cell `i`, with its length.
+fn cell_declaration(alloc: Global, rest: &[u8], i: u32) -> Result<(Shape, usize), usize>
+    ensures shape { IfOk result (λ both. IsShape both.0) }
+    ensures within { IfOk result (λ both. both.1 ≤ length rest.now) }
+    ensures passed { IfOk result (λ both. Passed (record { text = rest.now; at = 0 }) (record { text = rest.now; at = both.1 }) (shape_text i both.0)) }
+    ensures wrong { IfErr result (Misses (IsShapeLine i) rest.now 0) }
 {
-    match pass(cursor, b"  wire [") {
-        Ok(()) => Ok(false),
-        Err(one) => match pass(cursor, b"  reg [") {
-            Ok(()) => Ok(true),
+    match declared_as(alloc, rest, i, false) {
+        Ok(both) => Ok(both),
+        Err(one) => match declared_as(alloc, rest, i, true) {
+            Ok(both) => Ok(both),
             Err(other) => Err(further(one, other)),
         },
     }
 }
 
-// Passes the declaration of the net of cell `i`, behind the word for its kind.
-fn cell_declaration(cursor: &mut Cursor, i: u32, register: bool) -> Result<Shape, VFault>
-    ensures text { cursor.new.text ≡ cursor.old.text }
-    ensures width { IfOk result (λ shape. IsWidth shape.width) }
-    ensures stands { (w : ℕ) (x : List ℕ) → IsWidth w → Rest cursor.old (decimal (w - 1) ++ (codes ":0] " ++ (cell_net i ++ (codes ";\n" ++ x))))
-        → MatchResult result (λ found. (found ≡ record { width = w; register = register }) × Rest cursor.new x) IsWant }
+// Reads the declaration of the net of cell `i`, which is that of a register or a wire, with its length.
+fn declared_as(
+    alloc: Global,
+    rest: &[u8],
+    i: u32,
+    register: bool,
+) -> Result<(Shape, usize), usize>
+    ensures shape { IfOk result (λ both. IsShape both.0) }
+    ensures within { IfOk result (λ both. both.1 ≤ length rest.now) }
+    ensures passed { IfOk result (λ both. Passed (record { text = rest.now; at = 0 }) (record { text = rest.now; at = both.1 }) (shape_text i both.0)) }
+    ensures wrong { IfErr result (Misses (IsShapeOf register i) rest.now 0) }
 {
-    let width = width(cursor)?;
-    word(cursor, b"n")?;
-    match number(cursor, i, i, b';') {
-        Ok(_) => {
-            word(cursor, b"\n")?;
-            Ok(Shape { width, register })
-        }
-        Err(at) => Err(VFault::Form { at }),
-    }
+    let mut cursor = Cursor::new(rest);
+    let slots = [
+        Slot {
+            before: shape_word(register),
+            low: 0,
+            high: 31,
+            end: b':',
+        },
+        exactly(b"0] n", i, b';'),
+    ];
+    let numbers = line(alloc, &mut cursor, &slots, b"\n")?;
+    let shape = Shape {
+        width: numbers[0] + 1,
+        register,
+    };
+    Ok((shape, cursor.at()))
+}
+
+// What stands before the range of a cell's net.
+fn shape_word(register: bool) -> &'static [u8]
+    ensures { result.now ≡ shape_front register }
+{
+    if register { b"  reg [" } else { b"  wire [" }
 }

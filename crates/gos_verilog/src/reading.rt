@@ -68,8 +68,8 @@ fn parsed(alloc: Global, text: &[u8]) -> Result<Netlist, VFault>
 {
     let mut cursor = Cursor::new(text);
     let declared = front(alloc, text, &mut cursor)?;
-    let (shapes, stopped) = cell_declarations(alloc, &mut cursor)?;
-    let (cells, nets) = match body(alloc, text, cursor.at(), &shapes, &declared) {
+    let (shapes, at, stopped) = cell_declarations(alloc, text, cursor.at())?;
+    let (cells, nets) = match body(alloc, text, at, &shapes, &declared) {
         Ok(both) => both,
         Err(fault) => return Err(fault.not_before(stopped)),
     };

@@ -1,9 +1,9 @@
 -- What may be left of a text from each stage of the reader on, by what was read before.
 --
 -- Read first: Breaks, Slots, CellLines; VerilogText and Place. Which cell an input is, is left open.
-use Rattle.std.specs.Prelude.{◌≡◌, ℕ, suc, ◌<◌, Bool, true, false, List, [], ◌∷◌, ◌++◌, length, Some, slice_get, codes}
+use Rattle.std.specs.Prelude.{◌≡◌, ◌⊎◌, ℕ, suc, ◌<◌, Bool, true, false, List, [], ◌∷◌, ◌++◌, length, Some, slice_get, codes}
 use Rattle.std.specs.List.{AllByRecursion}
-use Rattle.gos_lex.specs.Items.{IsJust}
+use Rattle.gos_lex.specs.Items.{IsJust, Misses}
 use Rattle.gos_types.specs.Widths.{IsWidth}
 use Rattle.gos_netlist.specs.Nets.{Function, Input}
 use Rattle.gos_netlist.specs.NetItems.{IsTextOf}
@@ -63,6 +63,21 @@ IsShape shape = IsWidth shape.width
 
 abbrev pub shape_text : ℕ → Shape → List ℕ
 shape_text i shape = declaration (word_of shape.register) shape.width (cell_net i)
+
+-- the declaration of the net of cell i
+abbrev pub IsShapeLine : ℕ → List ℕ → Type 0
+IsShapeLine i = IsTextOf Shape IsShape (shape_text i)
+
+-- that of a register or a wire, and what stands before its range
+abbrev pub IsShapeOf : Bool → ℕ → List ℕ → Type 0
+IsShapeOf register i = IsTextOf ℕ IsWidth (λ w. shape_text i (record { width = w; register = register }))
+
+abbrev pub shape_front : Bool → List ℕ
+shape_front register = codes "  " ++ word_of register ++ codes " ["
+
+-- there are as many cells as there may be, or none is declared here
+abbrev pub NoShape : ℕ → List ℕ → ℕ → ℕ → Type 0
+NoShape n text at place = ((n ≡ 4294967295) × (place ≡ at)) ⊎ ((n < 4294967295) × Misses (IsShapeLine n) text at place)
 
 -- the declarations of the nets of cells of these shapes, of which the first has number i
 abbrev pub shapes_text : ℕ → List Shape → List ℕ
