@@ -37,3 +37,5 @@ pub mod LeftOutputLemmas
 pub mod WordLemmas
 pub mod LeftDriverLemmas
 pub mod LeftCellLemmas
+pub mod FormedLemmas
+pub mod FrontLemmas

@@ -24,7 +24,7 @@ cell_widths : (cells : List Cell) → AllByRecursion IsWritableCell cells → Ha
 cell_widths [] all = tt
 cell_widths (c ∷ cells) all = (all.0.0, cell_widths cells all.1)
 
-net_names : (nets : List PortNet) → AllByRecursion IsRightNet nets → AllByRecursion (λ n. IsNetName n.name) nets
+pub net_names : (nets : List PortNet) → AllByRecursion IsRightNet nets → AllByRecursion (λ n. IsNetName n.name) nets
 net_names [] all = tt
 net_names (n ∷ nets) all = (all.0.name, net_names nets all.1)
 
@@ -38,7 +38,7 @@ right_of net readable =
       fit = readable.writable.cells;
     }
 
-first_named : (ps : List NetPort) → 0 < length ps → AllByRecursion IsWritablePort ps → IsNameOrWord (first_name ps)
+pub first_named : (ps : List NetPort) → 0 < length ps → AllByRecursion IsWritablePort ps → IsNameOrWord (first_name ps)
 first_named [] some all = absurd (omega (arith, some))
 first_named (p ∷ ps) some all = all.0.name
 
@@ -71,7 +71,7 @@ parts_of net text (readable, (drivers, are, is)) =
     )
 
 -- the names and places that are known of declared nets
-undeclared : (nets : List PortNet) (k : ℕ) (a : PortNet) → slice_get (map declared_net nets) k ≡ Some a → (b : PortNet) × (slice_get nets k ≡ Some b) × (a ≡ declared_net b)
+pub undeclared : (nets : List PortNet) (k : ℕ) (a : PortNet) → slice_get (map declared_net nets) k ≡ Some a → (b : PortNet) × (slice_get nets k ≡ Some b) × (a ≡ declared_net b)
 undeclared [] k a is = absurd (cc is)
 undeclared (n ∷ nets) zero a is = let same : declared_net n ≡ a = cc is in (n, refl, sym same)
 undeclared (n ∷ nets) (suc k) a is = undeclared nets k a is
@@ -82,7 +82,7 @@ own_declared nets own j k a b is_a is_b same =
     let other = undeclared nets k b is_b in
     own j k one.0 other.0 one.1 other.1 (ap (λ (n : PortNet). n.name) (sym one.2) ∙ (same ∙ ap (λ (n : PortNet). n.name) other.2))
 
-get_declared : (nets : List PortNet) (k : ℕ) (net : PortNet) → slice_get nets k ≡ Some net → slice_get (map declared_net nets) k ≡ Some (declared_net net)
+pub get_declared : (nets : List PortNet) (k : ℕ) (net : PortNet) → slice_get nets k ≡ Some net → slice_get (map declared_net nets) k ≡ Some (declared_net net)
 get_declared [] k net is = absurd (cc is)
 get_declared (n ∷ nets) zero net is = let same : n ≡ net = cc is in ap (λ (m : PortNet). Some (declared_net m)) same
 get_declared (n ∷ nets) (suc k) net is = get_declared nets k net is

@@ -6,13 +6,15 @@ ghost use Rattle.gos_netlist.specs.Writable.{IsWritableCell, IsWritablePort};
 ghost use Rattle.gos_types.specs.Widths.{IsWidth};
 ghost use Rattle.gos_netlist.specs.Nets.{NetPort, Netlist as Net};
 ghost use Rattle.gos_verilog.specs.Readable.{IsRead, IsReadable, IsRefused};
-ghost use Rattle.gos_verilog.specs.Place.{HasOtherStart, HasPlace};
+ghost use Rattle.gos_verilog.specs.Place.{HasFront, HasOtherStart, HasPlace, IsFormedText};
 ghost use Rattle.gos_verilog.specs.VerilogText.{IsVerilogOf};
 ghost use Rattle.gos_verilog.specs.PortNets.{port_nets as nets_of};
 ghost use Rattle.gos_verilog.specs.inner.Stages.{Rest, BreaksAt, HasStart, IsStart, IsWant, declared_net, shape_of};
-ghost use Rattle.gos_verilog.specs.inner.Parts.{Parts, front_text};
+ghost use Rattle.gos_verilog.specs.inner.Breaks.{FaultFrom};
+ghost use Rattle.gos_verilog.specs.inner.Left.{HaveNetNames, LeftDrivers};
+ghost use Rattle.gos_verilog.specs.inner.Parts.{Front, Parts, front_text};
 
-use crate::declared::{Shape, cell_declarations, port_declarations};
+use crate::declared::{Shape, cell_declarations, further, port_declarations};
 use crate::driven::drivers;
 use crate::fault::VFault;
 use crate::head::{head, word};
@@ -33,6 +35,7 @@ pub fn read_verilog(alloc: Global, text: &[u8]) -> Result<Netlist, VFault>
     ensures read { IfOk result (IsRead text.now) }
     ensures refused { IfErr result (IsRefused text.now) }
     ensures start { IfErr result (λ fault. HasOtherStart text.now → HasPlace text.now fault) }
+    ensures lines { IfErr result (λ fault. HasFront text.now → HasPlace text.now fault) }
 {
     let net = parsed(alloc, text)?;
     if is_text_of(alloc, text, &net.cells, &net.ports)? {
@@ -63,6 +66,8 @@ fn parsed(alloc: Global, text: &[u8]) -> Result<Netlist, VFault>
     ensures cells { IfOk result (λ net. AllByRecursion IsWritableCell net.cells) }
     ensures ports { IfOk result (λ net. AllByRecursion IsWritablePort net.ports) }
     ensures stands { (net : Net) → IsRead text.now net → MatchResult result (λ found. found ≡ net) IsWant }
+    ensures formed { IfOk result (λ _. HasFront text.now → IsFormedText text.now) }
+    ensures lines { IfErr result (λ fault. HasFront text.now → HasPlace text.now fault) }
     ensures begun { IfOk result (λ _. HasStart (record { text = text.now; at = 0 })) }
     ensures starts { IfErr result (λ fault. (HasStart (record { text = text.now; at = 0 }) → ⊥) → BreaksAt IsStart (record { text = text.now; at = 0 }) fault) }
 {
@@ -71,7 +76,10 @@ fn parsed(alloc: Global, text: &[u8]) -> Result<Netlist, VFault>
     let (shapes, at, stopped) = cell_declarations(alloc, text, cursor.at())?;
     let (cells, nets) = match body(alloc, text, at, &shapes, &declared) {
         Ok(both) => both,
-        Err(fault) => return Err(fault.not_before(stopped)),
+        Err(VFault::Form { at: place }) => return Err(VFault::Form {
+            at: further(stopped, place),
+        }),
+        Err(VFault::NoMemory) => return Err(VFault::NoMemory),
     };
     match ports_of(alloc, &nets)? {
         Some(ports) => Ok(Netlist { cells, ports }),
@@ -83,8 +91,8 @@ fn parsed(alloc: Global, text: &[u8]) -> Result<Netlist, VFault>
 fn front(alloc: Global, text: &[u8], cursor: &mut Cursor) -> Result<Vec<PortNet>, VFault>
     requires { cursor.now.text ≡ text.now }
     ensures text { cursor.new.text ≡ text.now }
-    ensures stands { (net : Net) (parts : Parts net) (x : List ℕ) → Rest cursor.old (front_text parts x)
-        → MatchResult result (λ declared. (declared.items ≡ map declared_net parts.nets) × Rest cursor.new x) IsWant }
+    ensures stands { (ports : List NetPort) (front : Front ports) (x : List ℕ) → Rest cursor.old (front_text front x)
+        → MatchResult result (λ declared. (declared.items ≡ map declared_net front.nets) × Rest cursor.new x) IsWant }
     ensures begun { IfOk result (λ _. HasStart cursor.old) }
     ensures starts { IfErr result (λ fault. (HasStart cursor.old → ⊥) → BreaksAt IsStart cursor.old fault) }
 {
@@ -121,6 +129,8 @@ fn body(
     requires few { length shapes.now ≤ 4294967295 }
     requires widths { AllByRecursion (λ shape. IsWidth shape.width) shapes.now }
     ensures cells { IfOk result (λ both. AllByRecursion IsWritableCell (map cell_of both.0.items)) }
+    ensures left { HaveNetNames declared.now → IfOk result (λ _. LeftDrivers declared.now 0 shapes.now (drop at text.now)) }
+    ensures wrong { HaveNetNames declared.now → IfErr result (FaultFrom (LeftDrivers declared.now 0 shapes.now) (record { text = text.now; at = at })) }
     ensures stands { (net : Net) (parts : Parts net) → declared.now ≡ map declared_net parts.nets → shapes.now ≡ map shape_of parts.cells
         → drop at text.now ≡ parts.drivers ++ parts.back
         → MatchResult result (λ both. (map cell_of both.0.items ≡ parts.cells) × (both.1.items ≡ parts.nets)) IsWant }
@@ -129,6 +139,7 @@ fn body(
     let (cells, end) = drivers(alloc, text, at, shapes, declared, &mut inputs)?;
     match outputs(alloc, &text[end..], declared, &inputs) {
         Ok(nets) => Ok((cells, nets)),
-        Err(fault) => Err(fault.behind(end)),
+        Err(VFault::Form { at: place }) => Err(VFault::Form { at: end + place }),
+        Err(VFault::NoMemory) => Err(VFault::NoMemory),
     }
 }

@@ -44,4 +44,4 @@ returns-clause-stands c net parts is shaped left =
     let has = places_known parts.nets declared inputs.places is parts.right.own c.in_ok-inputs.ensures.places in
     let told = c.in_ok-cells.ensures.stands parts.nets parts.cells parts.back is shaped has (as_many parts.nets declared (length inputs.cells.items) is c.in_ok-inputs.ensures.count)
     (driven_by net parts (drop c.args.at text) left) in
-    c.behind.ensures (c.in-Err.ensures.stands parts.nets is parts.numbers told.2 (rest_whole text c.in_ok-cells.end ∙ (told.1 ∙ parts.back_is)))
+    absurd (c.in-Err.ensures.stands parts.nets is parts.numbers told.2 (rest_whole text c.in_ok-cells.end ∙ (told.1 ∙ parts.back_is)))

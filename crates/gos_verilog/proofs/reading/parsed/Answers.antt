@@ -1,12 +1,19 @@
-use Rattle.std.proofs.Common.{◌≡◌, ◌++◌, List, ℕ, drop, sym, ◌∙◌, subst}
+use Rattle.std.proofs.Common.{◌≡◌, ◌++◌, List, ℕ, drop, map, length, sym, ◌∙◌, subst}
 use Rattle.std.proofs.lemmas.Result.{err_from_is_err_and}
 use Rattle.gos_lex.specs.Items.{TextAt}
 use Rattle.gos_verilog.specs.Lines.{cell_declarations}
 use Rattle.gos_verilog.specs.inner.Stages.{Rest}
-use Rattle.gos_verilog.specs.inner.Parts.{Parts, whole_text}
+use Rattle.gos_verilog.specs.inner.Parts.{Parts, front_of_parts, whole_text}
 use Rattle.gos_verilog.proofs.WholeLemmas.{parts_of}
 use Rattle.gos_verilog.specs.inner.Stages.{HasStart, BreaksAt, IsStart}
 use Rattle.gos_verilog.proofs.PlaceLemmas.{start_at}
+use Rattle.std.specs.List.{AllByRecursion}
+use Rattle.gos_netlist.specs.Nets.{Netlist}
+use Rattle.gos_netlist.specs.NetItems.{Passed}
+use Rattle.gos_verilog.specs.declared.declared.Shape.{Shape}
+use Rattle.gos_verilog.specs.inner.Stages.{shape_of}
+use Rattle.gos_verilog.specs.inner.Left.{IsShape, shapes_text, NoShape}
+use Rattle.gos_verilog.proofs.LeftCellLemmas.{cells_found}
 use Rattle.gos_verilog.proofs.reading.parsed.Goals as goal
 
 -- the text stands at the cursor
@@ -24,17 +31,21 @@ returns-in_err-declared-clause-stands c net read =
     let parts : Parts net = known.0 in
     let start = begins c.new-cursor.result text (whole_text parts) c.new-cursor.ensures.text c.new-cursor.ensures.at known.1 in
     let p = err_from_is_err_and c.from_residual.result c.from_residual.ensures.1 in
-    rw (p.1, p.2) (c.in_err-declared.ensures.stands net parts (cell_declarations 0 parts.cells ++ (parts.drivers ++ parts.back)) start)
+    rw (p.1, p.2) (c.in_err-declared.ensures.stands net.ports (front_of_parts parts) (cell_declarations 0 parts.cells ++ (parts.drivers ++ parts.back)) start)
+
+-- the cells whose declarations stand are found
+two_of : (text : List ℕ) (cursor : TextAt) (net : Netlist) (parts : Parts net) (at end stopped : ℕ) (shapes : List Shape) → cursor.text ≡ text → at ≡ cursor.at
+    → Rest cursor (cell_declarations 0 parts.cells ++ (parts.drivers ++ parts.back)) → AllByRecursion IsShape shapes
+    → Passed (record { text = text; at = at }) (record { text = text; at = end }) (shapes_text 0 shapes) → NoShape (length shapes) text end stopped
+    → (shapes ≡ map shape_of parts.cells) × (drop end text ≡ parts.drivers ++ parts.back)
+two_of text cursor net parts at end stopped shapes same place left wide passed ends =
+    cells_found text at end stopped shapes parts.cells (parts.drivers ++ parts.back) wide passed ends parts.cell_wide parts.few parts.body
+    (at_place cursor text (cell_declarations 0 parts.cells ++ (parts.drivers ++ parts.back)) at same place left)
 
 pub returns-in_err-shapes-clause-stands : goal.returns-in_err-shapes-clause-stands
 returns-in_err-shapes-clause-stands c net read =
-    let text = c.args.text.now in
-    let known = parts_of net text read in
-    let parts : Parts net = known.0 in
-    let start = begins c.new-cursor.result text (whole_text parts) c.new-cursor.ensures.text c.new-cursor.ensures.at known.1 in
-    let one = c.in_ok-declared.ensures.stands net parts (cell_declarations 0 parts.cells ++ (parts.drivers ++ parts.back)) start in
     let p = err_from_is_err_and c.from_residual-in_err-shapes.result c.from_residual-in_err-shapes.ensures.1 in
-    rw (p.1, p.2) (c.in_err-shapes.ensures.stands parts.cells (parts.drivers ++ parts.back) parts.cell_wide parts.few parts.body one.1)
+    rw (p.1, p.2) c.in_err-shapes.ensures.only
 
 pub returns-in-Err-clause-stands : goal.returns-in-Err-clause-stands
 returns-in-Err-clause-stands c net read =
@@ -42,11 +53,11 @@ returns-in-Err-clause-stands c net read =
     let known = parts_of net text read in
     let parts : Parts net = known.0 in
     let start = begins c.new-cursor.result text (whole_text parts) c.new-cursor.ensures.text c.new-cursor.ensures.at known.1 in
-    let one = c.in_ok-declared.ensures.stands net parts (cell_declarations 0 parts.cells ++ (parts.drivers ++ parts.back)) start in
-    let two = c.in_ok-shapes.ensures.stands parts.cells (parts.drivers ++ parts.back) parts.cell_wide parts.few parts.body one.1 in
-    let same : c.cell_declarations.new.cursor.text ≡ text = c.in_ok-shapes.ensures.text ∙ c.in_ok-declared.ensures.text in
-    let left = at_place c.cell_declarations.new.cursor text (parts.drivers ++ parts.back) c.at.result same c.at.ensures.at two.1 in
-    c.not_before.ensures (c.in-Err.ensures.stands net parts (c.deref-2.ensures.value ∙ one.0) (c.deref.ensures.value ∙ two.0) left)
+    let one = c.in_ok-declared.ensures.stands net.ports (front_of_parts parts) (cell_declarations 0 parts.cells ++ (parts.drivers ++ parts.back)) start in
+    let shapes = c.in_ok-shapes.ensures in
+    let two = two_of text c.front.new.cursor net parts c.at.result c.in_ok-shapes.at c.in_ok-shapes.stopped c.in_ok-shapes.shapes.items c.in_ok-declared.ensures.text c.at.ensures.at one.1 shapes.widths shapes.passed shapes.ends in
+    let left = two.1 in
+    absurd (c.in-Err-form.ensures.stands net parts (c.deref-2.ensures.value ∙ one.0) (c.deref.ensures.value ∙ two.0) left)
 
 pub returns-in-Some-clause-stands : goal.returns-in-Some-clause-stands
 returns-in-Some-clause-stands c net read =
@@ -54,10 +65,10 @@ returns-in-Some-clause-stands c net read =
     let known = parts_of net text read in
     let parts : Parts net = known.0 in
     let start = begins c.new-cursor.result text (whole_text parts) c.new-cursor.ensures.text c.new-cursor.ensures.at known.1 in
-    let one = c.in_ok-declared.ensures.stands net parts (cell_declarations 0 parts.cells ++ (parts.drivers ++ parts.back)) start in
-    let two = c.in_ok-shapes.ensures.stands parts.cells (parts.drivers ++ parts.back) parts.cell_wide parts.few parts.body one.1 in
-    let same : c.cell_declarations.new.cursor.text ≡ text = c.in_ok-shapes.ensures.text ∙ c.in_ok-declared.ensures.text in
-    let left = at_place c.cell_declarations.new.cursor text (parts.drivers ++ parts.back) c.at.result same c.at.ensures.at two.1 in
+    let one = c.in_ok-declared.ensures.stands net.ports (front_of_parts parts) (cell_declarations 0 parts.cells ++ (parts.drivers ++ parts.back)) start in
+    let shapes = c.in_ok-shapes.ensures in
+    let two = two_of text c.front.new.cursor net parts c.at.result c.in_ok-shapes.at c.in_ok-shapes.stopped c.in_ok-shapes.shapes.items c.in_ok-declared.ensures.text c.at.ensures.at one.1 shapes.widths shapes.passed shapes.ends in
+    let left = two.1 in
     let three = c.in-Ok.ensures.stands net parts (c.deref-2.ensures.value ∙ one.0) (c.deref.ensures.value ∙ two.0) left in
     let found = c.in_ok-ports.ensures.stands net.ports parts.ports (c.deref-3.ensures.value ∙ (three.1 ∙ parts.nets_are)) in
     let ports = rw c.in-Some.is at found in
@@ -69,10 +80,10 @@ returns-clause-stands c net read =
     let known = parts_of net text read in
     let parts : Parts net = known.0 in
     let start = begins c.new-cursor.result text (whole_text parts) c.new-cursor.ensures.text c.new-cursor.ensures.at known.1 in
-    let one = c.in_ok-declared.ensures.stands net parts (cell_declarations 0 parts.cells ++ (parts.drivers ++ parts.back)) start in
-    let two = c.in_ok-shapes.ensures.stands parts.cells (parts.drivers ++ parts.back) parts.cell_wide parts.few parts.body one.1 in
-    let same : c.cell_declarations.new.cursor.text ≡ text = c.in_ok-shapes.ensures.text ∙ c.in_ok-declared.ensures.text in
-    let left = at_place c.cell_declarations.new.cursor text (parts.drivers ++ parts.back) c.at.result same c.at.ensures.at two.1 in
+    let one = c.in_ok-declared.ensures.stands net.ports (front_of_parts parts) (cell_declarations 0 parts.cells ++ (parts.drivers ++ parts.back)) start in
+    let shapes = c.in_ok-shapes.ensures in
+    let two = two_of text c.front.new.cursor net parts c.at.result c.in_ok-shapes.at c.in_ok-shapes.stopped c.in_ok-shapes.shapes.items c.in_ok-declared.ensures.text c.at.ensures.at one.1 shapes.widths shapes.passed shapes.ends in
+    let left = two.1 in
     let three = c.in-Ok.ensures.stands net parts (c.deref-2.ensures.value ∙ one.0) (c.deref.ensures.value ∙ two.0) left in
     let found = c.in_ok-ports.ensures.stands net.ports parts.ports (c.deref-3.ensures.value ∙ (three.1 ∙ parts.nets_are)) in
     absurd (rw c.in-None.is at found)
