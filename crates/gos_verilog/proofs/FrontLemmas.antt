@@ -64,8 +64,12 @@ pub want_place : (text : List ℕ) (fault : VFault) → IsWant fault → HasPlac
 want_place text (faults.Form at) want = absurd (cc want)
 want_place text faults.NoMemory want = tt
 
+-- a fault of form is no want
+pub not_want : {X : Type 0} (fault : VFault) (at : ℕ) → fault ≡ faults.Form at → IsWant fault → X
+not_want fault at is want = let both : faults.Form at ≡ faults.NoMemory = sym is ∙ want in absurd (cc both)
+
 -- the front of a text, as the reader finds it
-pub front_record : (ports : List NetPort) → ArePorts ports → Front ports
+abbrev pub front_record : (ports : List NetPort) → ArePorts ports → Front ports
 front_record ports are =
     let right = right_nets ports are.writable in
     record {
