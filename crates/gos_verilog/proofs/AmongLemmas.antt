@@ -1,8 +1,8 @@
 -- Items of which one may stand at a place: where none does, what begins like one breaks off at the furthest place.
 use Rattle.std.proofs.Common.{◌≡◌, ◌⊎◌, inl, inr, ℕ, zero, suc, ◌+◌, ◌<◌, ◌≤◌, List, ◌++◌, length, refl, sym, ◌∙◌, ap, subst, arith, append_assoc}
 use Rattle.std.specs.List.{slice_range}
-use Rattle.std.proofs.lemmas.Bool.{cases_lt, cases_eq}
-use Rattle.gos_lex.specs.Items.{Begins, Misses}
+use Rattle.std.proofs.lemmas.Bool.{cases_lt}
+use Rattle.gos_lex.specs.Items.{Misses}
 use Rattle.gos_lex.proofs.PlaceLemmas.{slice_split}
 use Rattle.gos_netlist.proofs.SequenceLemmas.{misses_as}
 use Rattle.gos_verilog.specs.inner.Breaks.{Left, Either, Among, AllMiss}
@@ -17,7 +17,7 @@ further_misses P Q text at a b order one other =
         before = (other.stops.before.0, inr other.stops.before.1);
         stops = λ some longer. by some longer.0 longer.1;
       };
-      none = λ end above within is. elim is [ | inl p ↦ one.none end above within p | inr q ↦ other.none end above within q ];
+      none = λ end above within is. elim is [ inl p ↦ one.none end above within p | inr q ↦ other.none end above within q ];
     }
   where
     by : b < length text → (more : List ℕ) → Either P Q (slice_range text at (b + 1) ++ more) → ⊥
@@ -83,7 +83,7 @@ one_more_never P text at k furthest some far never =
       none = λ nothing. absurd (omega (arith, nothing));
       some = λ _.
           misses_as (Among P k) (Among P (k + 1)) text at furthest (λ bytes item. (item.0, omega (arith, item.1), item.2))
-          (λ bytes item. elim (among_or P k bytes item) [ | inl before ↦ before | inr last ↦ absurd (never bytes last) ]) (far.some some);
+          (λ bytes item. elim (among_or P k bytes item) [ inl before ↦ before | inr last ↦ absurd (never bytes last) ]) (far.some some);
     }
 
 -- items that are those of the k

@@ -2,7 +2,7 @@
 use Rattle.std.proofs.Common.{◌≡◌, ◌⊎◌, inl, inr, ℕ, zero, suc, ◌+◌, ◌-◌, ◌<◌, ◌≤◌, List, [], ◌∷◌, ◌++◌, length, take, drop, get_or, refl, sym, ◌∙◌, ap, subst, arith, append_assoc, append-nil, length-append, length-drop}
 use Rattle.std.specs.List.{slice_range}
 use Rattle.std.proofs.Math.Seq.{take-append_seam}
-use Rattle.std.proofs.lemmas.List.{append_cancel_left, take-append-drop}
+use Rattle.std.proofs.lemmas.List.{take-append-drop}
 use Rattle.gos_lex.specs.Items.{TextAt, Begins, StopsAt, Misses}
 use Rattle.gos_lex.proofs.PlaceLemmas.{rest_whole, length_slice, slice_snoc}
 use Rattle.gos_netlist.specs.NetItems.{Passed, IsTextOf}
@@ -118,11 +118,10 @@ behind_breaks L M word x n leads breaks =
         subst L (sym (append_assoc word breaks.good breaks.begins.0)) (leads.on (breaks.good ++ breaks.begins.0) breaks.begins.1),
       );
       stops = λ b more is longer.
-          breaks.stops b more is
-          (
+          breaks.stops b more is (
             longer.0,
             leads.back ((breaks.good ++ b ∷ []) ++ longer.0)
-            (subst L (ap (λ (front : List ℕ). front ++ longer.0) (append_assoc word breaks.good (b ∷ [])) ∙ append_assoc word (breaks.good ++ b ∷ []) longer.0) longer.1),
+                (subst L (ap (λ (front : List ℕ). front ++ longer.0) (append_assoc word breaks.good (b ∷ [])) ∙ append_assoc word (breaks.good ++ b ∷ []) longer.0) longer.1),
           );
       none = λ is. breaks.none (leads.back x is);
     }
@@ -197,7 +196,7 @@ either_breaks L M bytes m n order one other =
       count = other.count;
       begins = (other.begins.0, inr other.begins.1);
       stops = λ b more is longer. by b more is longer.0 longer.1;
-      none = λ is. elim is [ | inl l ↦ one.none l | inr m ↦ other.none m ];
+      none = λ is. elim is [ inl l ↦ one.none l | inr m ↦ other.none m ];
     }
   where
     -- what is longer than the first is good for breaks it
@@ -241,7 +240,7 @@ either_alone L M word x n other breaks =
       count = breaks.count;
       begins = (breaks.begins.0, inl breaks.begins.1);
       stops = λ b more is longer. by b more is longer.0 longer.1;
-      none = λ is. elim is [ | inl l ↦ breaks.none l | inr m ↦ other (x, m) ];
+      none = λ is. elim is [ inl l ↦ breaks.none l | inr m ↦ other (x, m) ];
     }
   where
     in_good : (more : List ℕ) × (breaks.good ≡ word ++ more)
@@ -262,7 +261,7 @@ either_alone L M word x n other breaks =
 
 pub alone_leads : (L M N : Left) (word : List ℕ) → (Begins M word → ⊥) → Leads L N word → Leads (Either L M) N word
 alone_leads L M N word other leads =
-    record { on = λ x is. inl (leads.on x is); back = λ x is. elim is [ | inl l ↦ leads.back x l | inr m ↦ absurd (other (x, m)) ] }
+    record { on = λ x is. inl (leads.on x is); back = λ x is. elim is [ inl l ↦ leads.back x l | inr m ↦ absurd (other (x, m)) ] }
 
 -- what stands at the cursor is passed
 pub passed_at : (text : List ℕ) (at new : ℕ) (word : List ℕ) → at ≤ length text → drop at text ≡ word ++ drop new text → new ≡ at + length word → Passed (record { text = text; at = at }) (record { text = text; at = new }) word

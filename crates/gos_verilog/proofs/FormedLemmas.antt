@@ -1,23 +1,20 @@
 -- What may be left behind the front of a text is what makes it a text of the form of a netlist's.
-use Rattle.std.proofs.Common.{◌≡◌, ◌≢◌, inl, inr, ℕ, zero, suc, ◌+◌, ◌<◌, ◌≤◌, Bool, true, false, if◌then◌else◌, List, [], ◌∷◌, ◌++◌, length, map, Some, refl, sym, ◌∙◌, ap, subst, arith, slice_get, append_assoc, append-nil, codes}
+use Rattle.std.proofs.Common.{◌≡◌, inl, inr, ℕ, zero, suc, ◌<◌, Bool, true, false, if◌then◌else◌, List, [], ◌∷◌, ◌++◌, length, map, Some, refl, sym, ◌∙◌, ap, subst, arith, slice_get, append_assoc, codes}
 use Rattle.std.specs.List.{AllByRecursion, flat_map}
 use Rattle.std.proofs.lemmas.List.{append_cancel_left, length-map}
-use Rattle.gos_types.specs.Widths.{IsWidth}
-use Rattle.gos_netlist.specs.Events.{is_input}
-use Rattle.gos_netlist.specs.Nets.{Function, Input, Cell, Side, NetPort, Netlist}
+use Rattle.gos_netlist.specs.Nets.{Cell, Side, NetPort, Netlist}
 use Rattle.gos_netlist.specs.Writable.{IsNumber, IsWritableCell, IsWritablePort}
 use Rattle.gos_netcheck.specs.Rules.{Kept}
 use Rattle.gos_verilog.specs.declared.declared.Shape.{Shape}
 use Rattle.gos_verilog.specs.declared.port_net.Role.{Role}
-use Rattle.gos_verilog.specs.PortNets.{PortNet, suffix, direction, bits, roles, number_bits, net_in_role, nets_in_roles, nets_of_port, port_nets}
-use Rattle.gos_verilog.specs.Lines.{module_head, clock_declarations, port_declaration, cell_net, cell_declaration, cell_declarations, driver, driver_of, assignment, output_assignment}
+use Rattle.gos_verilog.specs.PortNets.{PortNet, roles, number_bits, net_in_role, nets_in_roles, nets_of_port, port_nets}
+use Rattle.gos_verilog.specs.Lines.{clock_declarations, port_declaration, cell_net, cell_declaration, cell_declarations, driver, driver_of, assignment, output_assignment}
 use Rattle.gos_verilog.specs.VerilogText.{first_name, declarations, outputs, IsFed, AreDrivers}
 use Rattle.gos_verilog.specs.Readable.{HasOwnName}
-use Rattle.gos_verilog.specs.Place.{IsOfItsBits, IsFormed, IsFormedText, ArePorts, front_of}
-use Rattle.gos_verilog.specs.inner.Drivers.{is_register}
+use Rattle.gos_verilog.specs.Place.{IsOfItsBits, IsFormedText, ArePorts, front_of}
 use Rattle.gos_verilog.specs.inner.Stages.{declared_net, shape_of}
-use Rattle.gos_verilog.specs.inner.Breaks.{Left, Leads}
-use Rattle.gos_verilog.specs.inner.Left.{LeftOutput, LeftOutputs, IsSource, IsDriver, driver_text, LeftDrivers, IsShape, shape_text, shapes_text, LeftCells}
+use Rattle.gos_verilog.specs.inner.Breaks.{Leads}
+use Rattle.gos_verilog.specs.inner.Left.{LeftOutput, LeftOutputs, IsSource, LeftDrivers, IsShape, shape_text, shapes_text, LeftCells}
 use Rattle.gos_verilog.proofs.CodeLemmas.{name_code}
 use Rattle.gos_verilog.proofs.DeclarationLemmas.{AreSameHeads, nets_code, listed, names_code, cell_text}
 use Rattle.gos_verilog.proofs.PortLemmas.{right_nets}
@@ -123,8 +120,7 @@ formed_back ports x are (net, formed, (drivers, lines, is)) =
     ∙ (append_assoc (declarations net) drivers (outputs net) ∙ append_assoc (front_of net.ports) (cell_declarations 0 net.cells) (drivers ++ outputs net)) in
     let known = front_found ports net.ports x behind are.writable formed.writable.ports text in
     let left = drivers_left ns 0 net.cells drivers (outputs net) formed.writable.cells lines (outputs_left ns (number_nets net.ports formed.writable.ports)) in
-    subst (λ (nets : List PortNet). LeftCells nets [] x) (sym known.0)
-    (
+    subst (λ (nets : List PortNet). LeftCells nets [] x) (sym known.0) (
       map shape_of net.cells,
       drivers ++ outputs net,
       cell_shapes net.cells formed.writable.cells,

@@ -2,11 +2,9 @@
 use Rattle.std.proofs.Common.{◌≡◌, ◌⊎◌, inr, ℕ, ◌+◌, ◌-◌, ◌<◌, ◌≤◌, List, [], ◌∷◌, ◌++◌, length, map, take, drop, refl, sym, ◌∙◌, ap, subst, arith, append_assoc, append-nil, length-append, length-drop}
 use Rattle.std.specs.List.{AllByRecursion, slice_range}
 use Rattle.std.proofs.Math.Seq.{take-append_seam}
-use Rattle.std.proofs.lemmas.List.{append_cancel_left}
-use Rattle.gos_lex.specs.Items.{TextAt, Begins, StopsAt}
+use Rattle.gos_lex.specs.Items.{TextAt, Begins}
 use Rattle.gos_lex.proofs.PlaceLemmas.{rest_whole}
 use Rattle.gos_netlist.specs.Nets.{NetPort}
-use Rattle.gos_netlist.specs.Writable.{IsWritablePort}
 use Rattle.gos_netlist.specs.NetItems.{Passed}
 use Rattle.gos_verilog.specs.declared.declared.Shape.{Shape}
 use Rattle.gos_verilog.specs.declared.fault.VFault.{VFault}
@@ -16,7 +14,7 @@ use Rattle.gos_verilog.specs.VerilogText.{first_name}
 use Rattle.gos_verilog.specs.Place.{IsFormedText, IsPlace, ArePorts, front_of, HasPlace}
 use Rattle.gos_verilog.specs.inner.Stages.{IsWant, declared_net}
 use Rattle.gos_verilog.specs.inner.Parts.{Front}
-use Rattle.gos_verilog.specs.inner.Breaks.{Left, BreaksFrom, LeadsOn}
+use Rattle.gos_verilog.specs.inner.Breaks.{BreaksFrom, LeadsOn}
 use Rattle.gos_verilog.specs.inner.Left.{HaveNetNames, IsShape, shapes_text, NoShape, LeftDrivers, LeftCells}
 use Rattle.gos_verilog.proofs.PortLemmas.{right_nets}
 use Rattle.gos_verilog.proofs.FoundLemmas.{wide_nets}

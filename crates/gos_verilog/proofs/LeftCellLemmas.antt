@@ -1,8 +1,8 @@
 -- The declarations of cells' nets, as lines of two slots, and what may be left behind each.
-use Rattle.std.proofs.Common.{◌≡◌, ◌⊎◌, inl, inr, ℕ, zero, suc, ◌+◌, ◌-◌, ◌<◌, ◌≤◌, Bool, true, false, List, [], ◌∷◌, ◌++◌, length, map, drop, get_or, refl, sym, ◌∙◌, ap, subst, arith, append_assoc, append-nil, length-append, codes}
+use Rattle.std.proofs.Common.{◌≡◌, ◌⊎◌, inl, inr, ℕ, suc, ◌+◌, ◌-◌, ◌<◌, ◌≤◌, Bool, true, false, List, [], ◌∷◌, ◌++◌, length, map, drop, get_or, refl, sym, ◌∙◌, ap, subst, arith, append_assoc, append-nil, length-append, codes}
 use Rattle.std.specs.Fmt.{decimal}
 use Rattle.std.specs.List.{AllByRecursion}
-use Rattle.gos_lex.specs.Items.{TextAt, Begins, Misses}
+use Rattle.gos_lex.specs.Items.{TextAt, Misses}
 use Rattle.gos_types.specs.Widths.{IsWidth}
 use Rattle.gos_netlist.specs.Nets.{Cell}
 use Rattle.gos_netlist.specs.Writable.{IsNumber}
@@ -15,7 +15,7 @@ use Rattle.gos_verilog.specs.Lines.{cell_net, cell_declaration, cell_declaration
 use Rattle.gos_verilog.specs.inner.Stages.{IsBody, HaveCellWidths, shape_of, word_of}
 use Rattle.gos_verilog.specs.inner.CellLines.{exactly}
 use Rattle.gos_verilog.specs.inner.Slots.{Slot', FitSlots, line_text, IsLine}
-use Rattle.gos_verilog.specs.inner.Breaks.{Left, Either, Item, Leads, LeadsOn, BreaksFrom}
+use Rattle.gos_verilog.specs.inner.Breaks.{Either, Leads, LeadsOn, BreaksFrom}
 use Rattle.gos_verilog.specs.inner.Left.{IsShape, IsShapeLine, IsShapeOf, NoShape, shape_front, shape_text, shapes_text, LeftCells, LeftShape, LeftDrivers}
 use Rattle.gos_verilog.proofs.DeclarationLemmas.{same_kind, cell_text}
 use Rattle.gos_verilog.proofs.OneTextLemmas.{width_bits}
@@ -61,8 +61,7 @@ shape_misses register i text at place =
     (two.0 + 1, (omega arith, omega (arith, two.1)), line.2 ∙ (ap (line_text (shape_slots register i) (codes "\n")) two.2 ∙ slots_line register i two.0)))
     (λ bytes shape.
     let w : ℕ = shape.0 in
-    let e : w - 1 + 1 ≡ w = omega (arith, shape.1.0) in
-    (
+    let e : w - 1 + 1 ≡ w = omega (arith, shape.1.0) in (
       (w - 1) ∷ (i ∷ []),
       ((omega arith, omega (arith, shape.1.1)), ((omega arith, omega arith), tt)),
       shape.2 ∙ sym (slots_line register i (w - 1) ∙ ap (λ (v : ℕ). shape_text i (record { width = v; register = register })) e),
@@ -172,7 +171,7 @@ cells_break nets shapes text at stopped place r few (inl (full, same)) (n, is, b
     ends (inr is_place) = sym is_place
 
     from : (x : List ℕ) → LeftCells nets shapes x → LeftDrivers nets 0 shapes x
-    from x left = elim (cells_split nets shapes x left) [ | inl shape ↦ absurd (omega (arith, full, shape.2.1)) | inr drivers ↦ drivers ]
+    from x left = elim (cells_split nets shapes x left) [ inl shape ↦ absurd (omega (arith, full, shape.2.1)) | inr drivers ↦ drivers ]
 cells_break nets shapes text at stopped place r few (inr (room, misses)) breaks over_stopped over_place max =
     let more : Misses (IsTextOf Shape (λ s. IsShape s × (length shapes < 4294967295)) (shape_text (length shapes))) text at stopped =
     misses_as (IsShapeLine (length shapes)) (IsTextOf Shape (λ s. IsShape s × (length shapes < 4294967295)) (shape_text (length shapes))) text at stopped

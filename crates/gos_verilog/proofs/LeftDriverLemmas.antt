@@ -1,12 +1,12 @@
 -- The lines that drive cells' nets: of some kind, or from an input; and what may be left behind each.
-use Rattle.std.proofs.Common.{◌≡◌, inl, inr, ℕ, zero, suc, ◌+◌, ◌<◌, ◌≤◌, Bool, true, false, List, [], ◌∷◌, ◌++◌, length, drop, get_or, Some, refl, sym, ◌∙◌, ap, subst, arith, slice_get, append_assoc, append-nil, codes}
+use Rattle.std.proofs.Common.{◌≡◌, inl, inr, ℕ, zero, suc, ◌+◌, ◌<◌, ◌≤◌, true, false, List, [], ◌∷◌, ◌++◌, length, drop, get_or, Some, refl, sym, ◌∙◌, ap, subst, arith, slice_get, append_assoc, append-nil, codes}
 use Rattle.std.specs.Fmt.{decimal}
 use Rattle.std.specs.List.{AllByRecursion}
 use Rattle.std.proofs.lemmas.Option.{slice_get_within}
 use Rattle.gos_lex.specs.Items.{TextAt, IsJust, Misses}
 use Rattle.gos_types.specs.Widths.{IsWidth}
 use Rattle.gos_netlist.specs.Nets.{Function, Input, Const, Not, And, Or, Xor, Mux, Add, Sub, Eq, Less, Gate, Reg}
-use Rattle.gos_netlist.specs.NetItems.{Passed, IsTextOf, ended}
+use Rattle.gos_netlist.specs.NetItems.{Passed, ended}
 use Rattle.gos_netlist.proofs.PassedLemmas.{passed_as}
 use Rattle.gos_netlist.proofs.SequenceLemmas.{IsCode, misses_as}
 use Rattle.gos_verilog.specs.declared.cell_line.Kind.{Kind}
@@ -19,7 +19,7 @@ use Rattle.gos_verilog.specs.inner.Stages.{IsNetName}
 use Rattle.gos_verilog.specs.inner.CellLines.{kind_of, IsKindLine, is_wire, target_slot}
 use Rattle.gos_verilog.specs.inner.Slots.{FitSlots, line_text, IsLine}
 use Rattle.gos_verilog.specs.inner.Breaks.{Left, LeadsOn, AllMiss, Among, BreaksFrom}
-use Rattle.gos_verilog.specs.inner.Left.{HaveNetNames, IsSource, IsDriver, IsDriverLine, IsWireLine, driver_text, LeftDrivers, LeftOutputs}
+use Rattle.gos_verilog.specs.inner.Left.{HaveNetNames, IsSource, IsDriver, IsDriverLine, IsWireLine, driver_text, LeftDrivers}
 use Rattle.gos_verilog.proofs.OneTextLemmas.{small_function, no_source, get_all}
 use Rattle.gos_verilog.proofs.LineLemmas.{line_code, kind_no_input, tried, is_input_or, register_kind, register_no_input}
 use Rattle.gos_verilog.proofs.AmongLemmas.{among_as, among_first}

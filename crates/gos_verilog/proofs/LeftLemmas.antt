@@ -1,21 +1,17 @@
 -- What may be left of a text: that something may always be, and from one stage to the next.
-use Rattle.std.proofs.Common.{◌≡◌, ◌⊎◌, inl, inr, ℕ, zero, suc, ◌+◌, ◌^◌, ◌<◌, ◌≤◌, Bool, true, false, List, [], ◌∷◌, ◌++◌, length, get_or, refl, sym, ◌∙◌, ap, subst, arith, append_assoc, append-nil, length-append, codes}
+use Rattle.std.proofs.Common.{◌≡◌, inl, inr, ℕ, suc, ◌+◌, Bool, true, false, List, [], ◌∷◌, ◌++◌, length, get_or, refl, sym, ◌∙◌, ap, subst, arith, append_assoc, append-nil, length-append, codes}
 use Rattle.std.proofs.Math.Nat.{one-le-pow}
-use Rattle.std.specs.List.{AllByRecursion}
-use Rattle.std.proofs.lemmas.List.{append_cancel_left}
 use Rattle.gos_lex.specs.Items.{Begins}
-use Rattle.gos_netlist.specs.Nets.{Function, Input, Const, Reg}
+use Rattle.gos_netlist.specs.Nets.{Function, Const, Reg}
 use Rattle.gos_netlist.specs.Writable.{IsNumber}
-use Rattle.gos_netlist.proofs.SequenceLemmas.{IsCode}
 use Rattle.gos_verilog.specs.declared.declared.Shape.{Shape}
 use Rattle.gos_verilog.specs.PortNets.{PortNet}
-use Rattle.gos_verilog.specs.Lines.{cell_net, assignment, expression, driver_of}
+use Rattle.gos_verilog.specs.Lines.{cell_net, assignment, expression}
 use Rattle.gos_verilog.specs.inner.Drivers.{is_register}
-use Rattle.gos_verilog.specs.inner.Stages.{IsBody, word_of}
-use Rattle.gos_verilog.specs.inner.Breaks.{Left, Either, Item}
-use Rattle.gos_verilog.specs.inner.Left.{LeftOutput, LeftOutputs, IsDriver, driver_text, LeftDrivers, IsShape, shape_text, shapes_text, LeftCells, LeftShape}
+use Rattle.gos_verilog.specs.inner.Stages.{IsBody}
+use Rattle.gos_verilog.specs.inner.Breaks.{Either}
+use Rattle.gos_verilog.specs.inner.Left.{LeftOutput, LeftOutputs, IsDriver, driver_text, LeftDrivers, shape_text, shapes_text, LeftCells, LeftShape}
 use Rattle.gos_verilog.proofs.DriverLemmas as drivers
-use Rattle.gos_verilog.proofs.ListLemmas.{all_snoc}
 
 -- something may be left
 pub some_outputs : (nets : List PortNet) → (x : List ℕ) × LeftOutputs nets x

@@ -1,5 +1,5 @@
 -- The assignments of outputs, as lines of one slot, and what may be left behind each.
-use Rattle.std.proofs.Common.{◌≡◌, ◌⊎◌, inl, inr, ℕ, zero, suc, ◌+◌, ◌^◌, ◌<◌, ◌≤◌, Bool, true, false, List, [], ◌∷◌, ◌++◌, length, length-drop, drop, get_or, refl, sym, ◌∙◌, ap, subst, arith, append_assoc, append-nil, codes}
+use Rattle.std.proofs.Common.{◌≡◌, ℕ, ◌+◌, ◌≤◌, Bool, true, false, List, [], ◌∷◌, ◌++◌, length, length-drop, drop, get_or, refl, sym, ◌∙◌, ap, subst, arith, append_assoc, append-nil, codes}
 use Rattle.std.specs.Fmt.{decimal}
 use Rattle.std.proofs.lemmas.List.{append_cancel_left}
 use Rattle.gos_lex.specs.Items.{TextAt, IsJust, Misses}
@@ -10,7 +10,7 @@ use Rattle.gos_netlist.proofs.SequenceLemmas.{IsCode, misses_as}
 use Rattle.gos_verilog.specs.PortNets.{PortNet}
 use Rattle.gos_verilog.specs.Lines.{cell_net, assignment}
 use Rattle.gos_verilog.specs.inner.Slots.{Slot', FitSlots, line_text, IsLine}
-use Rattle.gos_verilog.specs.inner.Breaks.{Left, LeadsOn, Item, BreaksFrom, FaultFrom}
+use Rattle.gos_verilog.specs.inner.Breaks.{LeadsOn, BreaksFrom, FaultFrom}
 use Rattle.gos_verilog.specs.inner.Left.{LeftOutput, LeftOutputs}
 use Rattle.gos_verilog.proofs.NumberLemmas.{number_code}
 use Rattle.gos_verilog.specs.declared.fault.VFault.{VFault}
@@ -125,8 +125,7 @@ end_leads nets k old now new end far passed =
 pub more_breaks : (nets : List PortNet) (old new : TextAt) (place : ℕ) → LeadsOn (LeftOutputs nets) (IsJust []) old new → new.at ≤ length new.text → (new.at ≡ length new.text → ⊥) → place ≡ new.at
     → BreaksFrom (LeftOutputs nets) old place
 more_breaks nets old new place far within more is =
-    on_breaks (LeftOutputs nets) (IsJust []) old new place far
-    (
+    on_breaks (LeftOutputs nets) (IsJust []) old new place far (
       0,
       omega (arith, is),
       record {

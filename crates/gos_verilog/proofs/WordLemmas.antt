@@ -1,5 +1,5 @@
 -- Words one behind the other: where one breaks off, the whole does.
-use Rattle.std.proofs.Common.{◌≡◌, ℕ, ◌+◌, ◌-◌, ◌≤◌, List, [], ◌∷◌, ◌++◌, length, take, drop, refl, sym, ◌∙◌, ap, subst, arith}
+use Rattle.std.proofs.Common.{◌≡◌, ℕ, ◌+◌, ◌-◌, List, ◌++◌, length, take, drop, refl, sym, ◌∙◌, ap, subst, arith}
 use Rattle.std.specs.List.{slice_range}
 use Rattle.gos_lex.specs.Items.{TextAt, IsJust, Misses}
 use Rattle.gos_netlist.specs.NetItems.{Passed, IsFixed}

@@ -11,10 +11,10 @@ ghost use Rattle.gos_verilog.specs.PortNets.{PortNet as Net};
 ghost use Rattle.gos_verilog.specs.Lines.{direction_word, port_declaration as line_of, cell_net, cell_declarations as lines_of};
 ghost use Rattle.gos_verilog.specs.inner.Stages.{Rest, IsWant, AreNamesOf, HaveWidths, HaveCellWidths, declared_net, word_of, shape_of, IsBody};
 
+use crate::cell_line::exactly;
 use crate::fault::VFault;
 use crate::head::word;
 use crate::port_net::PortNet;
-use crate::cell_line::exactly;
 use crate::slots::{Slot, line, number, pass};
 use gos_lex::Cursor;
 use gos_netlist::NetId;
@@ -151,12 +151,7 @@ fn cell_declaration(alloc: Global, rest: &[u8], i: u32) -> Result<(Shape, usize)
 }
 
 // Reads the declaration of the net of cell `i`, which is that of a register or a wire, with its length.
-fn declared_as(
-    alloc: Global,
-    rest: &[u8],
-    i: u32,
-    register: bool,
-) -> Result<(Shape, usize), usize>
+fn declared_as(alloc: Global, rest: &[u8], i: u32, register: bool) -> Result<(Shape, usize), usize>
     ensures shape { IfOk result (λ both. IsShape both.0) }
     ensures within { IfOk result (λ both. both.1 ≤ length rest.now) }
     ensures passed { IfOk result (λ both. Passed (record { text = rest.now; at = 0 }) (record { text = rest.now; at = both.1 }) (shape_text i both.0)) }

@@ -1,4 +1,4 @@
-use Rattle.std.proofs.Common.{◌≡◌, ◌+◌, ◌-◌, ◌++◌, ◌∷◌, [], ℕ, List, inr, length, take, drop, length-append, length-drop, sym, ◌∙◌, ap, subst, arith}
+use Rattle.std.proofs.Common.{◌≡◌, ◌+◌, ◌-◌, ◌∷◌, [], ℕ, List, inr, length, take, drop, length-append, length-drop, sym, ◌∙◌, ap, subst, arith}
 use Rattle.std.specs.List.{AllByRecursion}
 use Rattle.gos_lex.specs.Items.{Misses}
 use Rattle.gos_lex.proofs.PlaceLemmas.{rest_whole}
@@ -36,8 +36,7 @@ returns-in-Err-clause-ends c =
     let i = c.loop-i.i in
     let rest : List ℕ = take (length text - at) (drop at text) in
     let size : length rest ≡ length text - at = ap length (rest_whole text at) ∙ length-drop at text in
-    inr
-    (
+    inr (
       omega (arith, c.loop-i.invariant.count, c.loop-i-test.true),
       subst (λ (n : ℕ). Misses (IsShapeLine n) text at (at + c.in-Err.place)) (sym c.loop-i.invariant.count)
           (shift_misses (IsShapeLine i) text rest at c.in-Err.place (rest_whole text at) (omega (arith, size, c.loop-i.invariant.within)) c.in-Err.ensures.wrong),

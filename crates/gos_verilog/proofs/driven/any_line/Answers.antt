@@ -1,4 +1,4 @@
-use Rattle.std.proofs.Common.{◌≡◌, ◌<◌, ℕ, inl, inr, get_or, arith, subst}
+use Rattle.std.proofs.Common.{◌≡◌, ℕ, inl, inr, get_or, arith, subst}
 use Rattle.std.proofs.lemmas.Bool.{cases_lt}
 use Rattle.gos_verilog.specs.declared.cell_line.Kind.TheVariants as kinds
 use Rattle.gos_verilog.specs.inner.Noted.{IsNoLine}

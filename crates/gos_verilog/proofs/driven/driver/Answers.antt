@@ -1,4 +1,4 @@
-use Rattle.std.proofs.Common.{◌≡◌, ℕ, List, true, sym, subst}
+use Rattle.std.proofs.Common.{◌≡◌, true, sym, subst}
 use Rattle.std.proofs.lemmas.Result.{IfErr-weaker}
 use Rattle.gos_lex.specs.Items.{Misses}
 use Rattle.gos_verilog.specs.declared.cell_line.Kind.TheVariants as kinds

@@ -1,6 +1,5 @@
 use Rattle.std.proofs.Common.{◌≡◌, ◌++◌, List, ℕ, drop, sym, ◌∙◌, ap}
 use Rattle.std.proofs.lemmas.List.{append_cancel_left}
-use Rattle.std.proofs.lemmas.Result.{err_from_is_err_and}
 use Rattle.gos_netlist.specs.Nets.{Input}
 use Rattle.gos_verilog.specs.Lines.{driver_of}
 use Rattle.gos_verilog.proofs.RestLemmas.{passed_rest, word_stands}

@@ -1,6 +1,6 @@
-use Rattle.std.proofs.Common.{◌≡◌, List, ℕ, false, refl, sym, subst, Ok, Err, Result}
+use Rattle.std.proofs.Common.{◌≡◌, List, ℕ, false, sym, subst, Ok, Err, Result}
 use Rattle.std.specs.Prelude.{IfOk}
-use Rattle.gos_netlist.specs.Nets.{Function, Input}
+use Rattle.gos_netlist.specs.Nets.{Input}
 use Rattle.gos_netlist.specs.Seen.{function_of}
 use Rattle.gos_netlist.specs.declared.nets.Gate as declared
 use Rattle.gos_netlist.specs.declared.nets.Gate.TheVariants as gates
@@ -20,12 +20,12 @@ returns-then-note-clause-driven c =
 driven : (nets : List PortNet) (i w : ℕ) (rest : List ℕ) (r : Result (declared.Gate × ℕ) ℕ) → IfOk r (λ both. both.0 ≡ gates.Input)
     → IfOk r (λ both. (source : List ℕ) × IsSource nets w source × Passed (record { text = rest; at = 0 }) (record { text = rest; at = both.1 }) (driver_of i w source Input))
     → IfOk r (λ both. (source : List ℕ) × IsDriver nets (record { width = w; register = false }) (function_of both.0, source)
-        × Passed (record { text = rest; at = 0 }) (record { text = rest; at = both.1 }) (driver_of i w source (function_of both.0)))
+    × Passed (record { text = rest; at = 0 }) (record { text = rest; at = both.1 }) (driver_of i w source (function_of both.0)))
 driven nets i w rest (Err place) input known = tt
 driven nets i w rest (Ok both) input known =
     subst
     (λ (g : declared.Gate). (source : List ℕ) × IsDriver nets (record { width = w; register = false }) (function_of g, source)
-        × Passed (record { text = rest; at = 0 }) (record { text = rest; at = both.1 }) (driver_of i w source (function_of g)))
+    × Passed (record { text = rest; at = 0 }) (record { text = rest; at = both.1 }) (driver_of i w source (function_of g)))
     (sym input) (known.0, input_driver nets w known.0 known.1, known.2)
 
 pub returns-clause-driven : goal.returns-clause-driven

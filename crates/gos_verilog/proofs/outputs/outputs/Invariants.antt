@@ -1,5 +1,4 @@
 use Rattle.std.proofs.Common.{◌≡◌, ◌≤◌, length, drop}
-use Rattle.gos_lex.specs.Items.{TextAt}
 use Rattle.gos_verilog.specs.inner.Breaks.{LeadsOn}
 use Rattle.gos_verilog.specs.inner.Left.{LeftOutputs}
 use Rattle.gos_verilog.proofs.OutputLemmas.{OutputsSoFar}
