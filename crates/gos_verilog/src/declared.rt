@@ -4,7 +4,7 @@ ghost use Rattle.std.specs.Fmt.{decimal};
 ghost use Rattle.std.specs.List.{AllByRecursion, flat_map};
 ghost use Rattle.gos_lex.specs.Items.{Misses};
 ghost use Rattle.gos_types.specs.Widths.{IsWidth};
-ghost use Rattle.gos_netlist.specs.NetItems.{Passed};
+ghost use Rattle.gos_verilog.specs.inner.Breaks.{PassedIn};
 ghost use Rattle.gos_verilog.specs.inner.Left.{IsShape, IsShapeLine, IsShapeOf, NoShape, shape_front, shape_text, shapes_text};
 ghost use Rattle.gos_netlist.specs.Nets.{Cell};
 ghost use Rattle.gos_verilog.specs.PortNets.{PortNet as Net};
@@ -116,7 +116,7 @@ pub fn cell_declarations(
     requires within { at ≤ length text.now }
     ensures widths { IfOk result (λ found. AllByRecursion IsShape found.0.items) }
     ensures few { IfOk result (λ found. length found.0.items ≤ 4294967295) }
-    ensures passed { IfOk result (λ found. Passed (record { text = text.now; at = at }) (record { text = text.now; at = found.1 }) (shapes_text 0 found.0.items)) }
+    ensures passed { IfOk result (λ found. PassedIn text.now at found.1 (shapes_text 0 found.0.items)) }
     ensures ends { IfOk result (λ found. NoShape (length found.0.items) text.now found.1 found.2) }
     ensures only { IfErr result IsWant }
 {
@@ -138,7 +138,7 @@ pub fn cell_declarations(
 fn cell_declaration(alloc: Global, rest: &[u8], i: u32) -> Result<(Shape, usize), usize>
     ensures shape { IfOk result (λ both. IsShape both.0) }
     ensures within { IfOk result (λ both. both.1 ≤ length rest.now) }
-    ensures passed { IfOk result (λ both. Passed (record { text = rest.now; at = 0 }) (record { text = rest.now; at = both.1 }) (shape_text i both.0)) }
+    ensures passed { IfOk result (λ both. PassedIn rest.now 0 both.1 (shape_text i both.0)) }
     ensures wrong { IfErr result (Misses (IsShapeLine i) rest.now 0) }
 {
     match declared_as(alloc, rest, i, false) {
@@ -154,7 +154,7 @@ fn cell_declaration(alloc: Global, rest: &[u8], i: u32) -> Result<(Shape, usize)
 fn declared_as(alloc: Global, rest: &[u8], i: u32, register: bool) -> Result<(Shape, usize), usize>
     ensures shape { IfOk result (λ both. IsShape both.0) }
     ensures within { IfOk result (λ both. both.1 ≤ length rest.now) }
-    ensures passed { IfOk result (λ both. Passed (record { text = rest.now; at = 0 }) (record { text = rest.now; at = both.1 }) (shape_text i both.0)) }
+    ensures passed { IfOk result (λ both. PassedIn rest.now 0 both.1 (shape_text i both.0)) }
     ensures wrong { IfErr result (Misses (IsShapeOf register i) rest.now 0) }
 {
     let mut cursor = Cursor::new(rest);

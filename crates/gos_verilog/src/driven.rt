@@ -10,10 +10,9 @@ ghost use Rattle.gos_verilog.specs.Lines.{driver_of};
 ghost use Rattle.gos_verilog.specs.inner.Drivers.{is_register};
 ghost use Rattle.gos_verilog.specs.inner.Stages.{IsWant, declared_net, shape_of};
 ghost use Rattle.gos_lex.specs.Items.{IsJust, Misses};
-ghost use Rattle.gos_netlist.specs.NetItems.{Passed};
 ghost use Rattle.gos_netlist.specs.declared.nets.Gate.TheVariants.{Input as Input'};
 ghost use Rattle.gos_verilog.specs.inner.CellLines.{HasKind, IsKindLine, is_wire};
-ghost use Rattle.gos_verilog.specs.inner.Breaks.{FaultFrom, LeadsOn};
+ghost use Rattle.gos_verilog.specs.inner.Breaks.{FaultFrom, LeadsOn, PassedIn};
 ghost use Rattle.gos_verilog.specs.inner.Left.{HaveNetNames, IsDriver, IsDriverLine, IsSource, IsWireLine, LeftDrivers, LeftOutputs};
 ghost use Rattle.gos_verilog.specs.inner.Noted.{AreAllNoted, HasPlaces, IsLineOf, IsNoLine, IsKnown, IsNotedBy, AreDriven};
 
@@ -82,7 +81,7 @@ fn driver(
     ensures cell { IfOk result (λ both. IsWritableCell (cell_of (record { width = shape.width; gate = both.0 }))) }
     ensures within { IfOk result (λ both. both.1 ≤ length rest.now) }
     ensures driven { IfOk result (λ both. (source : List ℕ) × IsDriver nets.now shape (function_of both.0, source)
-        × Passed (record { text = rest.now; at = 0 }) (record { text = rest.now; at = both.1 }) (driver_of i shape.width source (function_of both.0))) }
+        × PassedIn rest.now 0 both.1 (driver_of i shape.width source (function_of both.0))) }
     ensures wrong { IfErr result (Misses (IsDriverLine nets.now i shape) rest.now 0) }
     ensures stands { (f : Function) (name x : List ℕ) → is_register f ≡ shape.register → IsLineOf rest.now i shape.width f name x
         → (f ≡ Input → IsKnown nets.now inputs.old shape.width name)
@@ -108,7 +107,7 @@ fn wire(
     ensures cell { IfOk result (λ both. IsWritableCell (cell_of (record { width = width; gate = both.0 }))) }
     ensures within { IfOk result (λ both. both.1 ≤ length rest.now) }
     ensures driven { IfOk result (λ both. (source : List ℕ) × IsDriver nets.now (record { width = width; register = false }) (function_of both.0, source)
-        × Passed (record { text = rest.now; at = 0 }) (record { text = rest.now; at = both.1 }) (driver_of i width source (function_of both.0))) }
+        × PassedIn rest.now 0 both.1 (driver_of i width source (function_of both.0))) }
     ensures wrong { IfErr result (Misses (IsDriverLine nets.now i (record { width = width; register = false })) rest.now 0) }
     ensures stands { (f : Function) (name x : List ℕ) → is_register f ≡ false → IsLineOf rest.now i width f name x
         → (f ≡ Input → IsKnown nets.now inputs.old width name)
@@ -141,7 +140,7 @@ fn any_source(
     ensures input { IfOk result (λ both. both.0 ≡ Input') }
     ensures within { IfOk result (λ both. both.1 ≤ length rest.now) }
     ensures driven { IfOk result (λ both. (source : List ℕ) × IsSource nets.now width source
-        × Passed (record { text = rest.now; at = 0 }) (record { text = rest.now; at = both.1 }) (driver_of i width source Input)) }
+        × PassedIn rest.now 0 both.1 (driver_of i width source Input)) }
     ensures wrong { IfErr result (Misses (IsDriverLine nets.now i (record { width = width; register = false })) rest.now 0) }
 {
     let mut furthest = place;
@@ -162,7 +161,7 @@ fn any_source(
 // Reads the line of an Input cell, and gives the name of the net of a port that it reads, with its length.
 fn source(alloc: Global, rest: &[u8], i: u32) -> Result<(&[u8], usize), usize>
     ensures within { IfOk result (λ both. both.1 ≤ length rest.now) }
-    ensures passed { IfOk result (λ both. (w : ℕ) → Passed (record { text = rest.now; at = 0 }) (record { text = rest.now; at = both.1 }) (driver_of i w both.0.now Input)) }
+    ensures passed { IfOk result (λ both. (w : ℕ) → PassedIn rest.now 0 both.1 (driver_of i w both.0.now Input)) }
     ensures stands { (name x : List ℕ) → IsLineOf rest.now i 1 Input name x
         → MatchResult result (λ both. (both.0.now ≡ name) × (drop both.1 rest.now ≡ x)) (λ _. ⊥) }
 {
@@ -185,7 +184,7 @@ fn source_name(rest: &[u8], i: u32) -> Result<&[u8], usize>
 // Reads the line of an Input cell that reads the net of a port of this name, and gives its length.
 fn input_line(alloc: Global, rest: &[u8], i: u32, name: &[u8]) -> Result<usize, usize>
     ensures within { IfOk result (λ len. len ≤ length rest.now) }
-    ensures passed { IfOk result (λ len. (w : ℕ) → Passed (record { text = rest.now; at = 0 }) (record { text = rest.now; at = len }) (driver_of i w name.now Input)) }
+    ensures passed { IfOk result (λ len. (w : ℕ) → PassedIn rest.now 0 len (driver_of i w name.now Input)) }
     ensures wrong { IfErr result (λ place. (w : ℕ) → Misses (IsJust (driver_of i w name.now Input)) rest.now 0 place) }
 {
     let mut cursor = Cursor::new(rest);
@@ -203,7 +202,7 @@ fn any_line(alloc: Global, rest: &[u8], i: u32, width: u32) -> Result<(Gate, usi
     ensures within { IfOk result (λ both. both.1 ≤ length rest.now) }
     ensures no_input { IfOk result (λ both. function_of both.0 ≡ Input → ⊥) }
     ensures wire { IfOk result (λ both. is_register (function_of both.0) ≡ false) }
-    ensures passed { IfOk result (λ both. Passed (record { text = rest.now; at = 0 }) (record { text = rest.now; at = both.1 }) (driver_of i width [] (function_of both.0))) }
+    ensures passed { IfOk result (λ both. PassedIn rest.now 0 both.1 (driver_of i width [] (function_of both.0))) }
     ensures misses { IfErr result (Misses (IsWireLine i width) rest.now 0) }
     ensures reads { IfOk result (λ both. (f : Function) (name x : List ℕ) → IsLineOf rest.now i width f name x
         → (function_of both.0 ≡ f) × (drop both.1 rest.now ≡ x)) }
@@ -248,7 +247,7 @@ fn kind_line_of(
     ensures reads { IfOk result (λ both. (f : Function) (name x : List ℕ) → IsLineOf rest.now i width f name x
         → (function_of both.0 ≡ f) × (drop both.1 rest.now ≡ x)) }
     ensures kind { IfOk result (λ both. HasKind kind width (function_of both.0)) }
-    ensures passed { IfOk result (λ both. Passed (record { text = rest.now; at = 0 }) (record { text = rest.now; at = both.1 }) (driver_of i width [] (function_of both.0))) }
+    ensures passed { IfOk result (λ both. PassedIn rest.now 0 both.1 (driver_of i width [] (function_of both.0))) }
     ensures misses { IfErr result (Misses (IsKindLine kind i width) rest.now 0) }
     ensures wrong { IfErr result (λ _. IsNoLine kind i width rest.now) }
 {

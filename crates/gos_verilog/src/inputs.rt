@@ -75,7 +75,8 @@ impl Inputs {
         ensures count { length self.new.cells.items ≡ length self.old.cells.items }
         ensures source { IsTrue result → IsSource nets.now width name.now }
         ensures noted { (k : ℕ) (net : Net) → place_at self.old.places name.now ≡ Some k → slice_get nets.now k ≡ Some net → net.width ≡ width
-            → net.input ≡ true → name.now ≡ net.name → k < length self.old.cells.items → (result ≡ true) × (self.new.cells.items ≡ set self.old.cells.items k cell) }
+            → net.input ≡ true → name.now ≡ net.name → k < length self.old.cells.items
+            → (result ≡ true) × (self.new.cells.items ≡ set self.old.cells.items k cell) }
     {
         match self.places.get(name) {
             Some(k) => {
@@ -95,7 +96,11 @@ impl Inputs {
     }
 
     /// Notes that a cell reads the net at this place.
-    pub fn put(&mut self, place: usize, cell: u32) {
+    pub fn put(&mut self, place: usize, cell: u32)
+        ensures places { self.new.places ≡ self.old.places }
+        ensures count { length self.new.cells.items ≡ length self.old.cells.items }
+        ensures put { place < length self.old.cells.items → self.new.cells.items ≡ set self.old.cells.items place cell }
+    {
         if place < self.cells.len() {
             self.cells[place] = cell;
         }

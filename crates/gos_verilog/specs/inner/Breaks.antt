@@ -48,6 +48,10 @@ abbrev pub FaultFrom : Left → TextAt → VFault → Type 0
 FaultFrom L cursor (faults.Form place) = BreaksFrom L cursor place
 FaultFrom L cursor faults.NoMemory = Unit {0}
 
+-- the word stands in the text between these places
+abbrev pub PassedIn : List ℕ → ℕ → ℕ → List ℕ → Type 0
+PassedIn text from to = Passed (record { text = text; at = from }) (record { text = text; at = to })
+
 -- behind the word may be left what M says, where L says what may be left before it
 pub record Leads (L M : Left) (word : List ℕ) : Type 0 where
   pub on : (x : List ℕ) → M x → L (word ++ x)
