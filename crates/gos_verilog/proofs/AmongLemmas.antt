@@ -39,9 +39,6 @@ either_misses P Q text at a b r over_a over_b (inl is) one other =
 either_misses P Q text at a b r over_a over_b (inr is) one other =
     subst (Misses (Either P Q) text at) (sym is) (further_misses P Q text at a b (omega (arith, is, over_a)) one other)
 
-pub none_missed : (P : ℕ → Left) (text : List ℕ) (at : ℕ) → AllMiss P text at 0 at
-none_missed P text at = record { none = λ _. refl; some = λ some. absurd (omega (arith, some)) }
-
 -- one more
 pub among_first : (P : ℕ → Left) (text : List ℕ) (at p : ℕ) → Misses (P 0) text at p → Misses (Among P 1) text at p
 among_first P text at p misses =

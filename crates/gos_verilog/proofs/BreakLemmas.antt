@@ -1,5 +1,5 @@
 -- Where what is left of a text breaks off: by what stands first, and by what stands behind it.
-use Rattle.std.proofs.Common.{◌≡◌, ◌⊎◌, inl, inr, ℕ, zero, suc, ◌+◌, ◌-◌, ◌<◌, ◌≤◌, List, [], ◌∷◌, ◌++◌, length, take, drop, get_or, refl, sym, ◌∙◌, ap, subst, arith, append_assoc, append-nil, length-append, length-drop}
+use Rattle.std.proofs.Common.{◌≡◌, ◌⊎◌, inl, inr, ℕ, zero, suc, ◌+◌, ◌-◌, ◌<◌, ◌≤◌, List, [], ◌∷◌, ◌++◌, length, take, drop, get_or, refl, sym, ◌∙◌, ap, subst, arith, append_assoc, length-append, length-drop}
 use Rattle.std.specs.List.{slice_range}
 use Rattle.std.proofs.Math.Seq.{take-append_seam}
 use Rattle.std.proofs.lemmas.List.{take-append-drop}
@@ -145,10 +145,6 @@ on_both L M N old mid new first second =
       leads = leads_both L M N first.word second.word first.leads second.leads;
     }
 
-pub on_as : (L M K N : Left) (old new : TextAt) → ((x : List ℕ) → L x → K x) → ((x : List ℕ) → K x → L x) → ((x : List ℕ) → M x → N x) → ((x : List ℕ) → N x → M x)
-    → LeadsOn L M old new → LeadsOn K N old new
-on_as L M K N old new to from on back lead = record { word = lead.word; passed = lead.passed; leads = leads_as L M K N lead.word to from on back lead.leads }
-
 pub on_item : (V : Type 0) (Is : V → Type 0) (text : V → List ℕ) (Rest : V → Left) (old new : TextAt) (v : V) → IsCode V Is text → Is v → Passed old new (text v) → LeadsOn (Item V Is text Rest) (Rest v) old new
 on_item V Is text Rest old new v code is passed = record { word = text v; passed = passed; leads = item_leads V Is text Rest v code is }
 
@@ -230,35 +226,7 @@ either_further L M cursor a b r over_a over_b (inl is) (m, at_a, one) (n, at_b, 
 either_further L M cursor a b r over_a over_b (inr is) (m, at_a, one) (n, at_b, other) =
     (n, is ∙ at_b, either_breaks L M (drop cursor.at cursor.text) m n (omega (arith, is, over_a, at_a, at_b)) one other)
 
--- where the other doesn't begin with the first bytes, it is out of the question
-pub either_alone : (L M : Left) (word x : List ℕ) (n : ℕ) → (Begins M word → ⊥) → BreaksAfter L (word ++ x) (length word + n) → BreaksAfter (Either L M) (word ++ x) (length word + n)
-either_alone L M word x n other breaks =
-    record {
-      good = breaks.good;
-      bad = breaks.bad;
-      is = breaks.is;
-      count = breaks.count;
-      begins = (breaks.begins.0, inl breaks.begins.1);
-      stops = λ b more is longer. by b more is longer.0 longer.1;
-      none = λ is. elim is [ inl l ↦ breaks.none l | inr m ↦ other (x, m) ];
-    }
-  where
-    in_good : (more : List ℕ) × (breaks.good ≡ word ++ more)
-    in_good =
-        elim (fronts breaks.good breaks.bad word x (sym breaks.is)) [
-          | inl longer ↦ (longer.0, longer.1)
-          | inr shorter ↦
-              let nothing = none_left shorter.0 (omega (arith, ap length shorter.1, length-append breaks.good shorter.0, breaks.count)) in
-              ([], sym (shorter.1 ∙ ap (λ (more : List ℕ). breaks.good ++ more) nothing ∙ append-nil breaks.good) ∙ sym (append-nil word))
-        ]
-
-    by : (b : ℕ) (more : List ℕ) → breaks.bad ≡ b ∷ more → (y : List ℕ) → Either L M ((breaks.good ++ b ∷ []) ++ y) → ⊥
-    by b more is y (inl l) = breaks.stops b more is (y, l)
-    by b more is y (inr m) =
-        let whole : (breaks.good ++ b ∷ []) ++ y ≡ word ++ (in_good.0 ++ (b ∷ y)) =
-        append_assoc breaks.good (b ∷ []) y ∙ (ap (λ (front : List ℕ). front ++ b ∷ y) in_good.1 ∙ append_assoc word in_good.0 (b ∷ y)) in
-        other (in_good.0 ++ (b ∷ y), subst M whole m)
-
+-- where the other doesn't begin with the word, it is out of the question
 pub alone_leads : (L M N : Left) (word : List ℕ) → (Begins M word → ⊥) → Leads L N word → Leads (Either L M) N word
 alone_leads L M N word other leads =
     record { on = λ x is. inl (leads.on x is); back = λ x is. elim is [ inl l ↦ leads.back x l | inr m ↦ absurd (other (x, m)) ] }

@@ -1,28 +1,19 @@
--- The declarations of nets of ports and of cells, one by one.
-use Rattle.std.proofs.Common.{◌≡◌, ℕ, suc, ◌+◌, ◌-◌, ◌≤◌, List, [], ◌∷◌, ◌++◌, length, map, drop, sym, ◌∙◌, ap, subst, arith, append_assoc, append-nil, codes, Bor, length-append}
+-- The declarations of nets of ports, one by one.
+use Rattle.std.proofs.Common.{◌≡◌, ℕ, ◌+◌, ◌-◌, List, [], ◌∷◌, ◌++◌, map, drop, sym, ◌∙◌, ap, subst, append_assoc, append-nil, codes, Bor}
 use Rattle.std.specs.Fmt.{decimal}
 use Rattle.std.specs.List.{flat_map}
-use Rattle.std.proofs.lemmas.List.{length-map}
 use Rattle.gos_lex.specs.Items.{TextAt}
 use Rattle.gos_types.specs.Widths.{IsWidth}
-use Rattle.gos_netlist.specs.Nets.{Cell}
-use Rattle.gos_verilog.specs.declared.declared.Shape.{Shape}
 use Rattle.gos_verilog.specs.PortNets.{PortNet}
-use Rattle.gos_verilog.specs.Lines.{direction_word, port_declaration, cell_net, cell_declaration, cell_declarations}
-use Rattle.gos_verilog.specs.inner.Drivers.{is_register}
-use Rattle.gos_verilog.specs.inner.Stages.{Rest, AreNamesOf, HaveWidths, HaveCellWidths, declared_net, word_of, shape_of, IsBody}
-use Rattle.gos_verilog.proofs.DeclarationLemmas.{declaration_text, cell_text}
+use Rattle.gos_verilog.specs.Lines.{direction_word, port_declaration}
+use Rattle.gos_verilog.specs.inner.Stages.{Rest, AreNamesOf, HaveWidths, declared_net}
+use Rattle.gos_verilog.proofs.DeclarationLemmas.{declaration_text}
 use Rattle.gos_verilog.proofs.HeadLemmas.{values}
 
 -- the declaration of a net of a port, by its parts
 pub net_parts : (net : PortNet) (x : List ℕ)
     → port_declaration net ++ x ≡ codes "  " ++ (direction_word net.input ++ (codes " [" ++ (decimal (net.width - 1) ++ (codes ":0] " ++ (net.name ++ (codes ";\n" ++ x))))))
 net_parts net x = declaration_text (direction_word net.input) net.name x net.width
-
--- that of a cell's net
-pub cell_parts : (i : ℕ) (cell : Cell) (x : List ℕ)
-    → cell_declaration i cell ++ x ≡ codes "  " ++ (word_of (is_register cell.gate) ++ (codes " [" ++ (decimal (cell.width - 1) ++ (codes ":0] " ++ (cell_net i ++ (codes ";\n" ++ x))))))
-cell_parts i cell x = cell_text i cell x ∙ declaration_text (word_of (is_register cell.gate)) (cell_net i) x cell.width
 
 -- nets of ports are read so far, those of the names from place k on are left
 abbrev pub NetsSoFar : List (Bor (List ℕ)) → TextAt → TextAt → ℕ → List PortNet → Type 0
@@ -86,43 +77,3 @@ no_net_left names old now k found nets x far end wide named stands =
         → (found ≡ map declared_net nets) × Rest now x
     by [] are rest whole = (sym (append-nil found) ∙ whole, rest)
     by (n ∷ left) are rest whole = absurd (let some : n.name ∷ map (λ (m : PortNet). m.name) left ≡ [] = sym are ∙ ap values end in cc some)
-
--- declarations of cells' nets are read so far
-abbrev pub CellsSoFar : TextAt → TextAt → ℕ → List Shape → Type 0
-CellsSoFar old now i shapes = (cells : List Cell) (x : List ℕ) → HaveCellWidths cells → length cells ≤ 4294967295 → IsBody x → Rest old (cell_declarations 0 cells ++ x)
-    → (left : List Cell) × HaveCellWidths left × Rest now (cell_declarations i left ++ x) × (shapes ++ map shape_of left ≡ map shape_of cells)
-
--- a cell is left, or none is
-pub data NextCell (now : TextAt) (i : ℕ) (shapes : List Shape) (cells : List Cell) (x : List ℕ) : Type 0 where
-  NoCell : (rest : Rest now x) (whole : shapes ≡ map shape_of cells) → NextCell now i shapes cells x
-  OneCell : (cell : Cell) (left : List Cell) (wide : IsWidth cell.width) (rest_wide : HaveCellWidths left)
-      (stands : Rest now (codes "  " ++ (word_of (is_register cell.gate) ++ (codes " [" ++ (decimal (cell.width - 1) ++ (codes ":0] " ++ (cell_net i ++ (codes ";\n" ++ (cell_declarations (suc i) left ++ x)))))))))
-      (whole : shapes ++ shape_of cell ∷ map shape_of left ≡ map shape_of cells) → NextCell now i shapes cells x
-
-pub next_cell : (old now : TextAt) (i : ℕ) (shapes : List Shape) (cells : List Cell) (x : List ℕ) → CellsSoFar old now i shapes → HaveCellWidths cells → length cells ≤ 4294967295 → IsBody x
-    → Rest old (cell_declarations 0 cells ++ x) → NextCell now i shapes cells x
-next_cell old now i shapes cells x far wide few body stands =
-    let known = far cells x wide few body stands in by known.0 known.1 known.2 known.3
-  where
-    by : (left : List Cell) → HaveCellWidths left → Rest now (cell_declarations i left ++ x) → shapes ++ map shape_of left ≡ map shape_of cells → NextCell now i shapes cells x
-    by [] all rest whole = NoCell rest (sym (append-nil shapes) ∙ whole)
-    by (c ∷ left) all rest whole =
-        OneCell c left all.0 all.1 (rest ∙ (append_assoc (cell_declaration i c) (cell_declarations (suc i) left) x ∙ cell_parts i c (cell_declarations (suc i) left ++ x))) whole
-
-pub cells_more : (now new : TextAt) (i : ℕ) (shapes : List Shape) (shape : Shape) (cells left : List Cell) (cell : Cell) (x : List ℕ) → HaveCellWidths left → shape ≡ shape_of cell
-    → shapes ++ shape_of cell ∷ map shape_of left ≡ map shape_of cells → Rest new (cell_declarations (suc i) left ++ x)
-    → (more : List Cell) × HaveCellWidths more × Rest new (cell_declarations (i + 1) more ++ x) × ((shapes ++ shape ∷ []) ++ map shape_of more ≡ map shape_of cells)
-cells_more now new i shapes shape cells left cell x wide is whole rest =
-    let e : suc i ≡ i + 1 = omega arith in (
-      left,
-      wide,
-      subst (λ (n : ℕ). Rest new (cell_declarations n left ++ x)) e rest,
-      append_assoc shapes (shape ∷ []) (map shape_of left) ∙ (ap (λ (s : Shape). shapes ++ s ∷ map shape_of left) is ∙ whole),
-    )
-
--- as many are read as there may be
-pub no_cell_left : (now : TextAt) (i : ℕ) (shapes : List Shape) (cells : List Cell) (x : List ℕ) → NextCell now i shapes cells x → length shapes ≡ 4294967295 → length cells ≤ 4294967295
-    → (shapes ≡ map shape_of cells) × Rest now x
-no_cell_left now i shapes cells x (NoCell rest whole) long few = (whole, rest)
-no_cell_left now i shapes cells x (OneCell cell left wide rest_wide stands whole) long few =
-    absurd (omega (arith, long, few, length-append shapes (shape_of cell ∷ map shape_of left), ap length whole, length-map cells shape_of))
