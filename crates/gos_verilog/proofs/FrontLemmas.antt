@@ -1,6 +1,6 @@
 -- Behind the front of a text: its place, and that it is of the form.
-use Rattle.std.proofs.Common.{◌≡◌, ◌⊎◌, inr, ℕ, ◌+◌, ◌-◌, ◌<◌, ◌≤◌, List, [], ◌∷◌, ◌++◌, length, map, take, drop, refl, sym, ◌∙◌, ap, subst, arith, append_assoc, append-nil, length-append, length-drop}
-use Rattle.std.specs.List.{AllByRecursion, slice_range}
+use Rattle.std.proofs.Common.{◌≡◌, ◌⊎◌, inr, ℕ, zero, suc, codes, ◌+◌, ◌-◌, ◌<◌, ◌≤◌, List, [], ◌∷◌, ◌++◌, length, map, take, drop, refl, sym, ◌∙◌, ap, subst, arith, append_assoc, append-nil, length-append, length-drop}
+use Rattle.std.specs.List.{AllByRecursion, flat_map, slice_range}
 use Rattle.std.proofs.Math.Seq.{take-append_seam}
 use Rattle.gos_lex.specs.Items.{TextAt, Begins}
 use Rattle.gos_lex.proofs.PlaceLemmas.{rest_whole}
@@ -10,8 +10,15 @@ use Rattle.gos_verilog.specs.declared.declared.Shape.{Shape}
 use Rattle.gos_verilog.specs.declared.fault.VFault.{VFault}
 use Rattle.gos_verilog.specs.declared.fault.VFault.TheVariants as faults
 use Rattle.gos_verilog.specs.PortNets.{PortNet, port_nets}
+use Rattle.std.specs.Fmt.{digits}
+use Rattle.gos_netlist.specs.SmallNets.{latch}
+use Rattle.gos_netcheck.specs.Rules.{Kept}
+use Rattle.gos_verilog.specs.Lines.{clock_declarations, port_declaration}
+use Rattle.gos_verilog.specs.SmallTexts.{latch_text, latch_back}
+use Rattle.gos_verilog.specs.Readable.{HasOwnName}
+use Rattle.gos_verilog.proofs.DeclarationLemmas.{listed}
 use Rattle.gos_verilog.specs.VerilogText.{first_name}
-use Rattle.gos_verilog.specs.Place.{IsFormedText, IsPlace, ArePorts, front_of, HasPlace}
+use Rattle.gos_verilog.specs.Place.{IsFormedText, IsPlace, ArePorts, front_of, HasFront, HasPlace}
 use Rattle.gos_verilog.specs.inner.Stages.{IsWant, declared_net}
 use Rattle.gos_verilog.specs.inner.Parts.{Front}
 use Rattle.gos_verilog.specs.inner.Breaks.{BreaksFrom, LeadsOn}
@@ -23,7 +30,7 @@ use Rattle.gos_verilog.proofs.WholeLemmas.{first_named, net_names}
 use Rattle.gos_verilog.proofs.BreakLemmas.{passed_at, on_breaks, on_rest}
 use Rattle.gos_verilog.proofs.LeftLemmas.{cells_join}
 use Rattle.gos_verilog.proofs.LeftCellLemmas.{cells_on, cells_break}
-use Rattle.gos_verilog.proofs.FormedLemmas.{front_leads}
+use Rattle.gos_verilog.proofs.FormedLemmas.{front_parts, front_leads}
 
 -- where what is left of a whole text breaks off, its place is
 pub place_of : (text : List ℕ) (at : ℕ) → BreaksFrom IsFormedText (record { text = text; at = 0 }) at → IsPlace text at
@@ -130,3 +137,44 @@ behind_formed text ports more at end stopped shapes behind left =
     let last : TextAt = record { text = text; at = end } in
     on_rest IsFormedText (LeftCells nets []) start mid (front_on text at ports more behind.are behind.is behind.within behind.left)
     (on_rest (LeftCells nets []) (LeftCells nets shapes) mid last (cells_on nets shapes mid last behind.wide behind.few behind.passed) (cells_join nets shapes behind.few (drop end text) (inr left)))
+
+-- the latch has a front
+latch_names : Kept (HasOwnName latch.ports) latch.ports
+latch_names zero q at j r before is equal = omega (arith, before)
+latch_names (suc k) q at j r before is equal = cc at
+
+latch_ports : ArePorts latch.ports
+latch_ports =
+    record {
+      writable = (record { name = record { spelled = refl; short = omega arith }; ty = tt; many = refl; nets = (omega arith, (omega arith, tt)) }, tt);
+      count = omega arith;
+      some = omega arith;
+      names = latch_names;
+    }
+
+pub latch_front : HasFront latch_text
+unfolding digits
+latch_front = (
+  latch.ports,
+  codes "  wire [0:0] n0;\n  wire [0:0] n1;\n  reg [0:0] n2;\n  reg [0:0] n3;\n"
+      ++ codes "  assign n0 = main__run;\n  assign n1 = n0 | n2;\n"
+      ++ codes "  always @(posedge clk) if (rst) n2 <= 1'd0; else n2 <= n1;\n"
+      ++ codes "  always @(posedge clk) if (rst) n3 <= 1'd0; else n3 <= n1;\n"
+      ++ latch_back,
+  latch_ports,
+  refl,
+)
+
+-- no front is so short
+pub short_front : HasFront (codes "module gos_main(clk, rst") → ⊥
+short_front (ports, more, are, is) =
+    let whole = is ∙ front_parts ports more in
+    let size = ap length (append_cancel_left (codes "module gos_") (codes "main(clk, rst") (first_name ports ++ (codes "(clk, rst" ++ (listed (port_nets ports) ++ (codes ");\n" ++ (clock_declarations ++ (flat_map port_declaration (port_nets ports) ++ more)))))) whole) in
+    let last : List ℕ = clock_declarations ++ (flat_map port_declaration (port_nets ports) ++ more) in
+    omega
+    (
+      arith,
+      size,
+      length-append (first_name ports) (codes "(clk, rst" ++ (listed (port_nets ports) ++ (codes ");\n" ++ last))),
+      length-append (listed (port_nets ports)) (codes ");\n" ++ last),
+    )
