@@ -125,7 +125,7 @@ abbrev pub HaveNetBits : List PortNet → Type 0
 HaveNetBits = AllByRecursion (λ n. IsBits n.width)
 
 -- the declaration of one net of a port
-net_declaration_code : (n m : PortNet) (x y : List ℕ) → IsBits n.width → IsBits m.width → n.name ≡ m.name → port_declaration n ++ x ≡ port_declaration m ++ y
+pub net_declaration_code : (n m : PortNet) (x y : List ℕ) → IsBits n.width → IsBits m.width → n.name ≡ m.name → port_declaration n ++ x ≡ port_declaration m ++ y
     → (n.input ≡ m.input) × (n.width ≡ m.width) × (x ≡ y)
 net_declaration_code n m x y is_n is_m named same = by n.input m.input refl refl
   where

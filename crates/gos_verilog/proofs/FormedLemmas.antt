@@ -2,7 +2,7 @@
 use Rattle.std.proofs.Common.{◌≡◌, inl, inr, ℕ, zero, suc, ◌<◌, Bool, true, false, if◌then◌else◌, List, [], ◌∷◌, ◌++◌, length, map, Some, refl, sym, ◌∙◌, ap, subst, arith, slice_get, append_assoc, codes}
 use Rattle.std.specs.List.{AllByRecursion, flat_map}
 use Rattle.std.proofs.lemmas.List.{append_cancel_left, length-map}
-use Rattle.gos_netlist.specs.Nets.{Cell, Side, NetPort, Netlist}
+use Rattle.gos_netlist.specs.Nets.{Cell, Side, Give, NetPort, Netlist}
 use Rattle.gos_netlist.specs.Writable.{IsNumber, IsWritableCell, IsWritablePort}
 use Rattle.gos_netcheck.specs.Rules.{Kept}
 use Rattle.gos_verilog.specs.declared.declared.Shape.{Shape}
@@ -11,15 +11,17 @@ use Rattle.gos_verilog.specs.PortNets.{PortNet, roles, number_bits, net_in_role,
 use Rattle.gos_verilog.specs.Lines.{clock_declarations, port_declaration, cell_net, cell_declaration, cell_declarations, driver, driver_of, assignment, output_assignment}
 use Rattle.gos_verilog.specs.VerilogText.{first_name, declarations, outputs, IsFed, AreDrivers}
 use Rattle.gos_verilog.specs.Readable.{HasOwnName}
-use Rattle.gos_verilog.specs.Place.{IsOfItsBits, IsFormedText, ArePorts, front_of}
+use Rattle.gos_verilog.specs.Place.{IsOfItsBits, IsFormedText, ArePorts, front_of, head_of}
 use Rattle.gos_verilog.specs.inner.Stages.{declared_net, shape_of}
 use Rattle.gos_verilog.specs.inner.Breaks.{Leads}
-use Rattle.gos_verilog.specs.inner.Left.{LeftOutput, LeftOutputs, IsSource, LeftDrivers, IsShape, shape_text, shapes_text, LeftCells}
+use Rattle.gos_verilog.specs.inner.Left.{LeftNets, named_nets, LeftOutput, LeftOutputs, IsSource, LeftDrivers, IsShape, shape_text, shapes_text, LeftCells}
 use Rattle.gos_verilog.proofs.CodeLemmas.{name_code}
-use Rattle.gos_verilog.proofs.DeclarationLemmas.{AreSameHeads, nets_code, listed, names_code, cell_text}
+use Rattle.gos_verilog.proofs.DeclarationLemmas.{AreSameNames, AreSameHeads, nets_code, listed, names_code, cell_text}
 use Rattle.gos_verilog.proofs.PortLemmas.{right_nets}
 use Rattle.gos_verilog.proofs.FoundLemmas.{number_nets, declared_append}
 use Rattle.gos_verilog.proofs.OneTextLemmas.{names_of, bits_of, first_bytes, no_source}
+use Rattle.gos_verilog.proofs.NamedLemmas.{nets_left, only_names, same_named, all_named, names_are}
+use Rattle.gos_verilog.proofs.NamedLemmas as faces_of
 use Rattle.gos_verilog.proofs.WholeLemmas.{undeclared, get_declared}
 use Rattle.gos_verilog.proofs.LineLemmas.{is_input_or}
 
@@ -111,7 +113,7 @@ cell_shapes : (cells : List Cell) → AllByRecursion IsWritableCell cells → Al
 cell_shapes [] writable = tt
 cell_shapes (c ∷ cells) writable = (writable.0.0, cell_shapes cells writable.1)
 
-formed_back : (ports : List NetPort) (x : List ℕ) → ArePorts ports → IsFormedText (front_of ports ++ x) → LeftCells (map declared_net (port_nets ports)) [] x
+pub formed_back : (ports : List NetPort) (x : List ℕ) → ArePorts ports → IsFormedText (front_of ports ++ x) → LeftCells (map declared_net (port_nets ports)) [] x
 formed_back ports x are (net, formed, (drivers, lines, is)) =
     let ns : List PortNet = port_nets net.ports in
     let behind : List ℕ = cell_declarations 0 net.cells ++ (drivers ++ outputs net) in
@@ -259,13 +261,13 @@ name_at (r ∷ qs) [] k q same is = absurd (cc same)
 name_at (r ∷ qs) (p ∷ ps) zero q same is = let here : r ≡ q = cc is in let named : r.name ≡ p.name = cc same in (p, refl, ap (λ (x : NetPort). x.name) (sym here) ∙ named)
 name_at (r ∷ qs) (p ∷ ps) (suc k) q same is = name_at qs ps k q (cc same) is
 
-own_names : (qs ps : List NetPort) → names qs ≡ names ps → Kept (HasOwnName ps) ps → Kept (HasOwnName qs) qs
+pub own_names : (qs ps : List NetPort) → names qs ≡ names ps → Kept (HasOwnName ps) ps → Kept (HasOwnName qs) qs
 own_names qs ps same own k q at j r before is equal =
     let one = name_at qs ps k q same at in
     let other = name_at qs ps j r same is in
     own k one.0 one.1 j other.0 before other.1 (sym other.2 ∙ (equal ∙ one.2))
 
-first_same : (qs ps : List NetPort) → names qs ≡ names ps → first_name qs ≡ first_name ps
+pub first_same : (qs ps : List NetPort) → names qs ≡ names ps → first_name qs ≡ first_name ps
 first_same [] [] same = refl
 first_same [] (p ∷ ps) same = absurd (cc same)
 first_same (q ∷ qs) [] same = absurd (cc same)
@@ -286,7 +288,7 @@ front_same qs ps named declared =
     let lines : flat_map port_declaration (port_nets qs) ≡ flat_map port_declaration (port_nets ps) = lines_declared (port_nets qs) ∙ (ap (flat_map port_declaration) declared ∙ sym (lines_declared (port_nets ps))) in
     (λ j. codes "module gos_" ++ first j ++ codes "(clk, rst" ++ nets j ++ codes ");\n" ++ clock_declarations ++ lines j)
 
-formed_on : (ports : List NetPort) (x : List ℕ) → ArePorts ports → LeftCells (map declared_net (port_nets ports)) [] x → IsFormedText (front_of ports ++ x)
+pub formed_on : (ports : List NetPort) (x : List ℕ) → ArePorts ports → LeftCells (map declared_net (port_nets ports)) [] x → IsFormedText (front_of ports ++ x)
 formed_on ports x are (shapes, rest, wide, few, left, is) =
     let nets : List PortNet = map declared_net (port_nets ports) in
     let lines = drivers_found nets 0 shapes rest wide left in
@@ -315,3 +317,80 @@ formed_on ports x are (shapes, rest, wide, few, left, is) =
 -- the front of a text leads to the declarations of cells
 pub front_leads : (ports : List NetPort) → ArePorts ports → Leads IsFormedText (LeftCells (map declared_net (port_nets ports)) []) (front_of ports)
 front_leads ports are = record { on = λ x left. formed_on ports x are left; back = λ x formed. formed_back ports x are formed }
+
+-- heads are known by their names
+head_parts : (ports : List NetPort) (x : List ℕ) → head_of ports ++ x
+    ≡ codes "module gos_" ++ (first_name ports ++ (codes "(clk, rst" ++ (listed (port_nets ports) ++ (codes ");\n" ++ (clock_declarations ++ x)))))
+head_parts ports x =
+    append_assoc (codes "module gos_" ++ first_name ports ++ codes "(clk, rst" ++ listed (port_nets ports) ++ codes ");\n") clock_declarations x
+    ∙ (append_assoc (codes "module gos_" ++ first_name ports ++ codes "(clk, rst" ++ listed (port_nets ports)) (codes ");\n") (clock_declarations ++ x)
+    ∙ (append_assoc (codes "module gos_" ++ first_name ports ++ codes "(clk, rst") (listed (port_nets ports)) (codes ");\n" ++ (clock_declarations ++ x))
+    ∙ (append_assoc (codes "module gos_" ++ first_name ports) (codes "(clk, rst") (listed (port_nets ports) ++ (codes ");\n" ++ (clock_declarations ++ x)))
+    ∙ append_assoc (codes "module gos_") (first_name ports) (codes "(clk, rst" ++ (listed (port_nets ports) ++ (codes ");\n" ++ (clock_declarations ++ x)))))))
+
+names_same : (ns ms : List PortNet) → AreSameNames ns ms → map (λ (n : PortNet). n.name) ns ≡ map (λ (n : PortNet). n.name) ms
+names_same [] [] same = refl
+names_same [] (m ∷ ms) same = absurd same
+names_same (n ∷ ns) [] same = absurd same
+names_same (n ∷ ns) (m ∷ ms) same = let rest = names_same ns ms same.1 in λ j. same.0 j ∷ rest j
+
+head_found : (ports others : List NetPort) (x y : List ℕ) → AllByRecursion IsWritablePort ports → AllByRecursion IsWritablePort others → head_of ports ++ x ≡ head_of others ++ y
+    → (named_nets ports ≡ named_nets others) × (x ≡ y)
+head_found ports others x y writable writable_other same =
+    let ns : List PortNet = port_nets ports in
+    let ms : List PortNet = port_nets others in
+    let rest : List ℕ = clock_declarations ++ x in
+    let rest_other : List ℕ = clock_declarations ++ y in
+    let whole = sym (head_parts ports x) ∙ (same ∙ head_parts others y) in
+    let named = append_cancel_left (codes "module gos_") (first_name ports ++ (codes "(clk, rst" ++ (listed ns ++ (codes ");\n" ++ rest)))) (first_name others ++ (codes "(clk, rst" ++ (listed ms ++ (codes ");\n" ++ rest_other)))) whole in
+    let first = name_code (first_name ports) (first_name others) 40 40 (codes "clk, rst" ++ (listed ns ++ (codes ");\n" ++ rest))) (codes "clk, rst" ++ (listed ms ++ (codes ");\n" ++ rest_other))) (first_bytes ports writable) (first_bytes others writable_other) refl refl named in
+    let behind = append_cancel_left (codes "(clk, rst") (listed ns ++ (codes ");\n" ++ rest)) (listed ms ++ (codes ");\n" ++ rest_other)) first.1 in
+    let names_known = names_code ns ms (codes ";\n" ++ rest) (codes ";\n" ++ rest_other) (names_of ns (right_nets ports writable)) (names_of ms (right_nets others writable_other)) behind in
+    let inner = append_cancel_left (codes ";\n") rest rest_other names_known.1 in (
+      same_named (named_nets ports) (named_nets others) (all_named ports) (all_named others) (names_are ports ∙ (names_same ns ms names_known.0 ∙ sym (names_are others))),
+      append_cancel_left clock_declarations x y inner,
+    )
+
+listed_names : (ns : List PortNet) → listed ns ≡ flat_map (λ (b : List ℕ). codes ", " ++ b) (map (λ (n : PortNet). n.name) ns)
+listed_names [] = refl
+listed_names (n ∷ ns) = ap (λ (rest : List ℕ). (codes ", " ++ n.name) ++ rest) (listed_names ns)
+
+head_same : (qs ps : List NetPort) → names qs ≡ names ps → named_nets qs ≡ named_nets ps → head_of qs ≡ head_of ps
+head_same qs ps named same =
+    let first = first_same qs ps named in
+    let names_eq : map (λ (n : PortNet). n.name) (port_nets qs) ≡ map (λ (n : PortNet). n.name) (port_nets ps) = sym (names_are qs) ∙ (ap only_names same ∙ names_are ps) in
+    let nets : listed (port_nets qs) ≡ listed (port_nets ps) =
+    listed_names (port_nets qs) ∙ (ap (flat_map (λ (b : List ℕ). codes ", " ++ b)) names_eq ∙ sym (listed_names (port_nets ps))) in
+    (λ j. codes "module gos_" ++ first j ++ codes "(clk, rst" ++ nets j ++ codes ");\n" ++ clock_declarations)
+
+head_on : (ports : List NetPort) (x : List ℕ) → ArePorts ports → LeftNets [] Give 0 (named_nets ports) x → IsFormedText (head_of ports ++ x)
+head_on ports x are left =
+    let faces = faces_of.nets_found ports [] Give 0 x are.writable left in
+    let qs : List NetPort = faces.found in
+    let known : ArePorts qs =
+    record {
+      writable = faces.writable;
+      count = subst IsNumber (sym faces.many) are.count;
+      some = subst (λ (n : ℕ). 0 < n) (sym faces.many) are.some;
+      names = own_names qs ports faces.named are.names;
+    } in
+    let text : front_of qs ++ faces.rest ≡ head_of ports ++ x =
+    append_assoc (head_of qs) (flat_map port_declaration (port_nets qs)) faces.rest
+    ∙ ((λ j. head_same qs ports faces.named faces.same j ++ (flat_map port_declaration (port_nets qs) ++ faces.rest)) ∙ ap (λ (b : List ℕ). head_of ports ++ b) (sym faces.is)) in
+    subst IsFormedText text (formed_on qs faces.rest known faces.left)
+
+head_back : (ports : List NetPort) (x : List ℕ) → ArePorts ports → IsFormedText (head_of ports ++ x) → LeftNets [] Give 0 (named_nets ports) x
+head_back ports x are (net, formed, (drivers, lines, is)) =
+    let qs : List NetPort = net.ports in
+    let behind : List ℕ = cell_declarations 0 net.cells ++ (drivers ++ outputs net) in
+    let split : declarations net ++ drivers ++ outputs net ≡ front_of qs ++ behind = append_assoc (declarations net) drivers (outputs net) ∙ append_assoc (front_of qs) (cell_declarations 0 net.cells) (drivers ++ outputs net) in
+    let text : head_of ports ++ x ≡ head_of qs ++ (flat_map port_declaration (port_nets qs) ++ behind) = is ∙ (split ∙ append_assoc (head_of qs) (flat_map port_declaration (port_nets qs)) behind) in
+    let known = head_found ports qs x (flat_map port_declaration (port_nets qs) ++ behind) are.writable formed.writable.ports text in
+    let others : ArePorts qs = record { writable = formed.writable.ports; count = formed.writable.port_count; some = formed.some; names = formed.names } in
+    let cells = formed_back qs behind others (net, formed, (drivers, lines, sym split)) in
+    subst (λ (list : List (Role × List ℕ)). LeftNets [] Give 0 list x) (sym known.0)
+    (subst (LeftNets [] Give 0 (named_nets qs)) (sym known.1) (nets_left qs [] Give 0 behind formed.writable.ports cells))
+
+-- the head of a text leads to the declarations of the nets of ports
+pub head_leads : (ports : List NetPort) → ArePorts ports → Leads IsFormedText (LeftNets [] Give 0 (named_nets ports)) (head_of ports)
+head_leads ports are = record { on = λ x left. head_on ports x are left; back = λ x formed. head_back ports x are formed }

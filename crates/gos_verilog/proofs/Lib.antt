@@ -39,3 +39,5 @@ pub mod LeftDriverLemmas
 pub mod LeftCellLemmas
 pub mod FormedLemmas
 pub mod FrontLemmas
+pub mod LeftNetLemmas
+pub mod NamedLemmas

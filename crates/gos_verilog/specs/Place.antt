@@ -50,9 +50,12 @@ HasOnePlace = (text : List ℕ) (at other : ℕ) → IsPlace text at → IsPlace
 abbrev pub HasOtherStart : List ℕ → Type 0
 HasOtherStart text = (name more : List ℕ) → IsNameOrWord name → text ≡ codes "module gos_" ++ (name ++ (codes "(clk, rst" ++ more)) → ⊥
 
--- the text up to the declarations of cells' nets, with these ports
+-- the text up to the declarations of the nets of these ports, and up to those of cells' nets
+abbrev pub head_of : List NetPort → List ℕ
+head_of ports = module_head (first_name ports) (port_nets ports) ++ clock_declarations
+
 abbrev pub front_of : List NetPort → List ℕ
-front_of ports = module_head (first_name ports) (port_nets ports) ++ clock_declarations ++ flat_map port_declaration (port_nets ports)
+front_of ports = head_of ports ++ flat_map port_declaration (port_nets ports)
 
 -- ports of names of their own, whose names and numbers are in the ranges of the format
 pub record ArePorts (ports : List NetPort) : Type 0 where
@@ -61,7 +64,10 @@ pub record ArePorts (ports : List NetPort) : Type 0 where
   pub some : 0 < length ports
   pub names : Kept (HasOwnName ports) ports
 
--- the text has the names and the declarations of the nets of such ports
+-- the text has the names of the nets of such ports
+abbrev pub HasHead : List ℕ → Type 0
+HasHead text = (ports : List NetPort) × (more : List ℕ) × ArePorts ports × (text ≡ head_of ports ++ more)
+
 abbrev pub HasFront : List ℕ → Type 0
 HasFront text = (ports : List NetPort) × (more : List ℕ) × ArePorts ports × (text ≡ front_of ports ++ more)
 

@@ -1,16 +1,19 @@
 -- What may be left of a text from each stage of the reader on, by what was read before.
 --
 -- Read first: Breaks, Slots, CellLines; VerilogText and Place. Which cell an input is, is left open.
-use Rattle.std.specs.Prelude.{◌≡◌, ◌⊎◌, ℕ, suc, ◌<◌, Bool, true, false, List, [], ◌∷◌, ◌++◌, length, Some, slice_get, codes}
+use Rattle.std.specs.Prelude.{◌≡◌, ◌⊎◌, ℕ, suc, ◌+◌, ◌<◌, Bool, true, false, List, [], ◌∷◌, ◌++◌, length, Some, slice_get, codes}
 use Rattle.std.specs.List.{AllByRecursion}
 use Rattle.gos_lex.specs.Items.{IsJust, Misses}
 use Rattle.gos_types.specs.Widths.{IsWidth}
-use Rattle.gos_netlist.specs.Nets.{Function, Input}
-use Rattle.gos_netlist.specs.NetItems.{IsTextOf}
+use Rattle.gos_netlist.specs.Nets.{Function, Input, Side, Give, Take, NetPort}
+use Rattle.gos_netlist.specs.Events.{is_input}
+use Rattle.gos_netlist.specs.NetItems.{IsTextOf, IsInRange}
 use Rattle.gos_netlist.specs.Writable.{IsNumber, OperandsFit}
 use Rattle.gos_verilog.specs.declared.declared.Shape.{Shape}
-use Rattle.gos_verilog.specs.PortNets.{PortNet}
-use Rattle.gos_verilog.specs.Lines.{declaration, cell_net, assignment, driver_of}
+use Rattle.gos_verilog.specs.declared.port_net.Role.{Role}
+use Rattle.gos_verilog.specs.declared.port_net.Role.TheVariants.{Run, Ask, AnsValue, Read, WriteValue}
+use Rattle.gos_verilog.specs.PortNets.{PortNet, suffix, direction, roles}
+use Rattle.gos_verilog.specs.Lines.{port_declaration, declaration, cell_net, assignment, driver_of}
 use Rattle.gos_verilog.specs.inner.Drivers.{is_register}
 use Rattle.gos_verilog.specs.inner.Stages.{IsNetName, word_of}
 use Rattle.gos_verilog.specs.inner.Breaks.{Left, Item}
@@ -94,3 +97,67 @@ LeftCells nets before bytes =
 abbrev pub LeftShape : List PortNet → List Shape → Left
 LeftShape nets before =
     Item Shape (λ s. IsShape s × (length before < 4294967295)) (shape_text (length before)) (λ s. LeftCells nets (before ++ s ∷ []))
+
+-- the first net of a port tells its side
+abbrev pub is_first : Role → Bool
+is_first Run = true
+is_first Ask = true
+is_first Read = true
+is_first role = false
+
+-- The range of a net's last bit, where `last` is that of its port's value: a pulse has one bit, the first value of a port
+-- any bits of the format, and the second as many as the first.
+abbrev pub least_of : Role → ℕ → ℕ
+least_of WriteValue last = last
+least_of role last = 0
+
+abbrev pub most_of : Role → ℕ → ℕ
+most_of AnsValue last = 31
+most_of WriteValue last = last
+most_of role last = 0
+
+-- a direction is open, or it is the one that is wanted
+abbrev pub IsDirection : Bool → Bool → Bool → Type 0
+IsDirection true wanted input = Unit {0}
+IsDirection false wanted input = input ≡ wanted
+
+-- the direction and the last bit of a net in this role, at a port of this side
+abbrev pub IsDeclared : Role → Side → ℕ → Bool × ℕ → Type 0
+IsDeclared role side last v = IsDirection (is_first role) (is_input side (direction role)) v.0 × IsInRange (least_of role last) (most_of role last) v.1
+
+-- the net of this name with this direction and last bit
+abbrev pub net_of : List ℕ → Bool × ℕ → PortNet
+net_of name v = record { name = name; input = v.0; width = v.1 + 1; cell = 0 }
+
+abbrev pub net_text : List ℕ → Bool × ℕ → List ℕ
+net_text name v = port_declaration (net_of name v)
+
+-- what is known of a port's side and of the last bit of its value behind a net
+abbrev pub side_of_input : Bool → Side
+side_of_input true = Give
+side_of_input false = Take
+
+abbrev pub side_behind : Bool → Side → Bool → Side
+side_behind true side input = side_of_input input
+side_behind false side input = side
+
+abbrev pub last_behind : Role → ℕ → ℕ → ℕ
+last_behind AnsValue last n = n
+last_behind role last n = last
+
+-- declarations of the nets of ports with these roles and names behind those of other nets, and the rest of the text
+abbrev pub LeftNets : List PortNet → Side → ℕ → List (Role × List ℕ) → Left
+LeftNets before side last [] = LeftCells before []
+LeftNets before side last (named ∷ more) =
+    Item (Bool × ℕ) (IsDeclared named.0 side last) (net_text named.1)
+    (λ v. LeftNets (before ++ net_of named.1 v ∷ []) (side_behind (is_first named.0) side v.0) (last_behind named.0 last v.1) more)
+
+-- the nets of ports, with their roles and names
+abbrev pub named_in_roles : List ℕ → List ℕ → List Role → List (Role × List ℕ)
+named_in_roles name [] rs = []
+named_in_roles name (c ∷ cells) [] = []
+named_in_roles name (c ∷ cells) (r ∷ rs) = (r, name ++ suffix r) ∷ named_in_roles name cells rs
+
+abbrev pub named_nets : List NetPort → List (Role × List ℕ)
+named_nets [] = []
+named_nets (p ∷ ports) = named_in_roles p.name p.nets (roles p.ty) ++ named_nets ports

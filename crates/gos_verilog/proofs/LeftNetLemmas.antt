@@ -1,0 +1,162 @@
+-- The declarations of nets of ports, as lines of one slot, and what may be left behind each.
+use Rattle.std.proofs.Common.{◌≡◌, ◌⊎◌, inl, inr, ℕ, zero, suc, ◌+◌, ◌-◌, ◌<◌, ◌≤◌, Bool, true, false, List, [], ◌∷◌, ◌++◌, length, map, drop, get_or, refl, sym, ◌∙◌, ap, subst, arith, append_assoc, append-nil, codes}
+use Rattle.std.specs.Fmt.{decimal}
+use Rattle.gos_lex.specs.Items.{TextAt, Misses}
+use Rattle.gos_netlist.specs.Nets.{Side, Give, Take}
+use Rattle.gos_netlist.specs.Events.{is_input}
+use Rattle.gos_netlist.specs.NetItems.{Passed, IsTextOf, IsInRange, ended}
+use Rattle.gos_netlist.proofs.PassedLemmas.{passed_as}
+use Rattle.gos_netlist.proofs.SequenceLemmas.{IsCode, misses_as}
+use Rattle.gos_verilog.specs.declared.port_net.Role.{Role}
+use Rattle.gos_verilog.specs.declared.port_net.Role.TheVariants.{Run, Done, Ask, Ans, AnsValue, Read, Write, WriteValue}
+use Rattle.gos_verilog.specs.PortNets.{PortNet, direction}
+use Rattle.gos_verilog.specs.Lines.{direction_word, port_declaration}
+use Rattle.gos_verilog.specs.inner.Slots.{Slot', FitSlots, line_text, IsLine}
+use Rattle.gos_verilog.specs.inner.Breaks.{Left, Either, Item, LeadsOn, BreaksFrom}
+use Rattle.gos_verilog.specs.inner.Left.{is_first, least_of, most_of, IsDirection, IsDeclared, net_of, net_text, side_behind, last_behind, LeftNets, LeftCells}
+use Rattle.gos_verilog.proofs.DeclarationLemmas.{net_declaration_code}
+use Rattle.gos_verilog.proofs.AmongLemmas.{either_misses}
+use Rattle.gos_verilog.proofs.BreakLemmas.{on_item, on_both, on_breaks, first_breaks}
+use Rattle.gos_verilog.proofs.WordLemmas.{shift_breaks}
+use Rattle.gos_verilog.proofs.LeftLemmas.{some_cells}
+use Rattle.gos_verilog.proofs.LeftOutputLemmas.{one_number}
+
+abbrev pub net_front : Bool → List ℕ
+net_front input = codes "  " ++ direction_word input ++ codes " ["
+
+abbrev pub net_slot : Bool → ℕ → ℕ → Slot'
+net_slot input low high = record { before = net_front input; low = low; high = high; end = 58 }
+
+abbrev pub net_tail : List ℕ → List ℕ
+net_tail name = codes "0] " ++ name ++ codes ";\n"
+
+-- the declaration of a net of this name and direction
+abbrev pub IsNetOf : Bool → ℕ → ℕ → List ℕ → List ℕ → Type 0
+IsNetOf input low high name = IsTextOf ℕ (IsInRange low high) (λ n. net_text name (input, n))
+
+net_line : (input : Bool) (low high n : ℕ) (name : List ℕ) → line_text (net_slot input low high ∷ []) (net_tail name) (n ∷ []) ≡ net_text name (input, n)
+net_line input low high n name =
+    let front : List ℕ = net_front input in
+    let digits : List ℕ = decimal n in
+    let e : n ≡ n + 1 - 1 = omega arith in
+    ap (λ (line : List ℕ). line ++ net_tail name) (append-nil (front ++ ended 58 digits))
+    ∙ (append_assoc front (ended 58 digits) (net_tail name)
+    ∙ (ap (λ (part : List ℕ). front ++ part) (append_assoc digits (58 ∷ []) (net_tail name))
+    ∙ (sym (append_assoc (front ++ digits ++ codes ":0] ") name (codes ";\n") ∙ (append_assoc (front ++ digits) (codes ":0] ") (name ++ codes ";\n") ∙ append_assoc front digits (codes ":0] " ++ (name ++ codes ";\n"))))
+    ∙ ap (λ (m : ℕ). front ++ decimal m ++ codes ":0] " ++ name ++ codes ";\n") e)))
+
+pub net_misses : (input : Bool) (low high : ℕ) (name text : List ℕ) (at place : ℕ) → Misses (IsLine (net_slot input low high ∷ []) (net_tail name)) text at place → Misses (IsNetOf input low high name) text at place
+net_misses input low high name text at place =
+    misses_as (IsLine (net_slot input low high ∷ []) (net_tail name)) (IsNetOf input low high name) text at place
+    (λ bytes line.
+    let one = one_number (net_slot input low high) line.0 line.1 in
+    (one.0, (one.1, one.2), line.2 ∙ (ap (line_text (net_slot input low high ∷ []) (net_tail name)) one.3 ∙ net_line input low high one.0 name)))
+    (λ bytes net. (net.0 ∷ [], (net.1, tt), net.2 ∙ sym (net_line input low high net.0 name)))
+
+pub net_passed : (input : Bool) (low high : ℕ) (name : List ℕ) (old new : TextAt) (ns : List ℕ) → FitSlots (net_slot input low high ∷ []) ns → Passed old new (line_text (net_slot input low high ∷ []) (net_tail name) ns)
+    → IsInRange low high (get_or ns 0 0) × Passed old new (net_text name (input, get_or ns 0 0))
+net_passed input low high name old new ns fit passed =
+    let one = one_number (net_slot input low high) ns fit in
+    let first : get_or ns 0 0 ≡ one.0 = ap (λ (list : List ℕ). get_or list 0 0) one.3 in (
+      subst (IsInRange low high) (sym first) (one.1, one.2),
+      passed_as old new (line_text (net_slot input low high ∷ []) (net_tail name) ns) (net_text name (input, get_or ns 0 0))
+          (ap (line_text (net_slot input low high ∷ []) (net_tail name)) one.3 ∙ (net_line input low high one.0 name ∙ ap (λ (n : ℕ). net_text name (input, n)) (sym first))) passed,
+    )
+
+-- the declaration of a net in a role
+abbrev pub IsDeclaration : Role → Side → ℕ → List ℕ → List ℕ → Type 0
+IsDeclaration role side last name = IsTextOf (Bool × ℕ) (IsDeclared role side last) (net_text name)
+
+-- where the direction is known
+pub known_misses : (role : Role) (side : Side) (last : ℕ) (name text : List ℕ) (at place : ℕ) → is_first role ≡ false
+    → Misses (IsNetOf (is_input side (direction role)) (least_of role last) (most_of role last) name) text at place → Misses (IsDeclaration role side last name) text at place
+known_misses role side last name text at place other =
+    misses_as (IsNetOf (is_input side (direction role)) (least_of role last) (most_of role last) name) (IsDeclaration role side last name) text at place
+    (λ bytes net. ((is_input side (direction role), net.0), (subst (λ (b : Bool). IsDirection b (is_input side (direction role)) (is_input side (direction role))) (sym other) refl, net.1), net.2))
+    (λ bytes net.
+    let same : net.0.0 ≡ is_input side (direction role) = subst (λ (b : Bool). IsDirection b (is_input side (direction role)) net.0.0) other net.1.0 in
+    (net.0.1, net.1.1, net.2 ∙ ap (λ (b : Bool). net_text name (b, net.0.1)) same))
+
+-- where it is open
+pub open_misses : (role : Role) (side : Side) (last : ℕ) (name text : List ℕ) (at a b r : ℕ) → is_first role ≡ true → a ≤ r → b ≤ r → (r ≡ a) ⊎ (r ≡ b)
+    → Misses (IsNetOf true (least_of role last) (most_of role last) name) text at a → Misses (IsNetOf false (least_of role last) (most_of role last) name) text at b
+    → Misses (IsDeclaration role side last name) text at r
+open_misses role side last name text at a b r first over_a over_b max one other =
+    misses_as (Either In Out) (IsDeclaration role side last name) text at r to (λ bytes net. from net.0.0 net.0.1 bytes net.1.1 net.2) (either_misses In Out text at a b r over_a over_b max one other)
+  where
+    In : Left
+    In = IsNetOf true (least_of role last) (most_of role last) name
+
+    Out : Left
+    Out = IsNetOf false (least_of role last) (most_of role last) name
+
+    either_way : (input : Bool) → IsDirection (is_first role) (is_input side (direction role)) input
+    either_way input = subst (λ (k : Bool). IsDirection k (is_input side (direction role)) input) (sym first) tt
+
+    to : (bytes : List ℕ) → Either In Out bytes → IsDeclaration role side last name bytes
+    to bytes (inl net) = ((true, net.0), (either_way true, net.1), net.2)
+    to bytes (inr net) = ((false, net.0), (either_way false, net.1), net.2)
+
+    from : (input : Bool) (n : ℕ) (bytes : List ℕ) → IsInRange (least_of role last) (most_of role last) n → bytes ≡ net_text name (input, n) → Either In Out bytes
+    from true n bytes is text = inl (n, is, text)
+    from false n bytes is text = inr (n, is, text)
+
+-- last bits are few
+pub most_few : (role : Role) (last : ℕ) → last ≤ 31 → most_of role last ≤ 31
+most_few AnsValue last few = omega arith
+most_few WriteValue last few = few
+most_few role last few = omega arith
+
+pub behind_few : (role : Role) (last n : ℕ) → last ≤ 31 → IsInRange (least_of role last) (most_of role last) n → last_behind role last n ≤ 31
+behind_few AnsValue last n few is = is.1
+behind_few role last n few is = few
+
+least_most : (role : Role) (last : ℕ) → least_of role last ≤ most_of role last
+least_most AnsValue last = omega arith
+least_most WriteValue last = omega arith
+least_most role last = omega arith
+
+pub declaration_code : (role : Role) (side : Side) (last : ℕ) (name : List ℕ) → last ≤ 31 → IsCode (Bool × ℕ) (IsDeclared role side last) (net_text name)
+declaration_code role side last name few v w x y is_v is_w same =
+    let bound = most_few role last few in
+    let known = net_declaration_code (net_of name v) (net_of name w) x y (omega arith, omega (arith, is_v.1.1, bound)) (omega arith, omega (arith, is_w.1.1, bound)) refl same in
+    let last_bit : v.1 ≡ w.1 = omega (arith, known.1) in
+    ((λ j. (known.0 j, last_bit j)), known.2)
+
+-- something may be left
+pub some_nets : (before : List PortNet) (side : Side) (last : ℕ) (named : List (Role × List ℕ)) → (x : List ℕ) × LeftNets before side last named x
+some_nets before side last [] = some_cells before [] (omega arith)
+some_nets before side last (n ∷ named) =
+    let input : Bool = is_input side (direction n.0) in
+    let v : Bool × ℕ = (input, least_of n.0 last) in
+    let rest = some_nets (before ++ net_of n.1 v ∷ []) (side_behind (is_first n.0) side input) (last_behind n.0 last (least_of n.0 last)) named in
+    (net_text n.1 v ++ rest.0, (v, rest.0, (by (is_first n.0) input, (omega arith, least_most n.0 last)), rest.1, refl))
+  where
+    by : (b input : Bool) → IsDirection b input input
+    by true input = tt
+    by false input = refl
+
+-- a declaration is passed
+pub nets_on : (list : List (Role × List ℕ)) (k : ℕ) (n : Role × List ℕ) (nets : List PortNet) (side : Side) (last : ℕ) (old now new : TextAt) (v : Bool × ℕ) → last ≤ 31 → drop k list ≡ n ∷ drop (k + 1) list
+    → IsDeclared n.0 side last v → LeadsOn (LeftNets [] Give 0 list) (LeftNets nets side last (drop k list)) old now → Passed now new (net_text n.1 v)
+    → LeadsOn (LeftNets [] Give 0 list) (LeftNets (nets ++ net_of n.1 v ∷ []) (side_behind (is_first n.0) side v.0) (last_behind n.0 last v.1) (drop (k + 1) list)) old new
+nets_on list k n nets side last old now new v few cut is far passed =
+    let more : List (Role × List ℕ) = drop (k + 1) list in
+    let L : Left = LeftNets (nets ++ net_of n.1 v ∷ []) (side_behind (is_first n.0) side v.0) (last_behind n.0 last v.1) more in
+    on_both (LeftNets [] Give 0 list) (LeftNets nets side last (drop k list)) L old now new far
+    (subst (λ (left : List (Role × List ℕ)). LeadsOn (LeftNets nets side last left) L now new) (sym cut)
+    (on_item (Bool × ℕ) (IsDeclared n.0 side last) (net_text n.1)
+    (λ u. LeftNets (nets ++ net_of n.1 u ∷ []) (side_behind (is_first n.0) side u.0) (last_behind n.0 last u.1) more) now new v (declaration_code n.0 side last n.1 few) is passed))
+
+-- a declaration breaks off in the rest of the text
+pub nets_break : (list : List (Role × List ℕ)) (k : ℕ) (n : Role × List ℕ) (nets : List PortNet) (side : Side) (last : ℕ) (text rest : List ℕ) (from at place : ℕ) → drop k list ≡ n ∷ drop (k + 1) list
+    → LeadsOn (LeftNets [] Give 0 list) (LeftNets nets side last (drop k list)) (record { text = text; at = from }) (record { text = text; at = at }) → rest ≡ drop at text
+    → Misses (IsDeclaration n.0 side last n.1) rest 0 place → BreaksFrom (LeftNets [] Give 0 list) (record { text = text; at = from }) (at + place)
+nets_break list k n nets side last text rest from at place cut far is misses =
+    let more : List (Role × List ℕ) = drop (k + 1) list in
+    on_breaks (LeftNets [] Give 0 list) (LeftNets nets side last (drop k list)) (record { text = text; at = from }) (record { text = text; at = at }) (at + place) far
+    (shift_breaks (LeftNets nets side last (drop k list)) text rest at place is
+    (subst (λ (left : List (Role × List ℕ)). BreaksFrom (LeftNets nets side last left) (record { text = rest; at = 0 }) place) (sym cut)
+    (first_breaks (Bool × ℕ) (IsDeclared n.0 side last) (net_text n.1)
+    (λ u. LeftNets (nets ++ net_of n.1 u ∷ []) (side_behind (is_first n.0) side u.0) (last_behind n.0 last u.1) more) rest 0 place
+    (λ u _. some_nets (nets ++ net_of n.1 u ∷ []) (side_behind (is_first n.0) side u.0) (last_behind n.0 last u.1) more) misses)))
