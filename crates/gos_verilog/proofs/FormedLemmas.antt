@@ -14,13 +14,13 @@ use Rattle.gos_verilog.specs.Readable.{HasOwnName}
 use Rattle.gos_verilog.specs.Place.{IsOfItsBits, IsFormedText, ArePorts, front_of, head_of}
 use Rattle.gos_verilog.specs.inner.Stages.{declared_net, shape_of}
 use Rattle.gos_verilog.specs.inner.Breaks.{Leads}
-use Rattle.gos_verilog.specs.inner.Left.{LeftNets, named_nets, LeftOutput, LeftOutputs, IsSource, LeftDrivers, IsShape, shape_text, shapes_text, LeftCells}
+use Rattle.gos_verilog.specs.inner.Left.{LeftNets, named_nets, only_names, LeftOutput, LeftOutputs, IsSource, LeftDrivers, IsShape, shape_text, shapes_text, LeftCells}
 use Rattle.gos_verilog.proofs.CodeLemmas.{name_code}
 use Rattle.gos_verilog.proofs.DeclarationLemmas.{AreSameNames, AreSameHeads, nets_code, listed, names_code, cell_text}
 use Rattle.gos_verilog.proofs.PortLemmas.{right_nets}
 use Rattle.gos_verilog.proofs.FoundLemmas.{number_nets, declared_append}
 use Rattle.gos_verilog.proofs.OneTextLemmas.{names_of, bits_of, first_bytes, no_source}
-use Rattle.gos_verilog.proofs.NamedLemmas.{nets_left, only_names, same_named, all_named, names_are}
+use Rattle.gos_verilog.proofs.NamedLemmas.{nets_left, same_named, all_named, names_are}
 use Rattle.gos_verilog.proofs.NamedLemmas as faces_of
 use Rattle.gos_verilog.proofs.WholeLemmas.{undeclared, get_declared}
 use Rattle.gos_verilog.proofs.LineLemmas.{is_input_or}
@@ -36,7 +36,7 @@ pub front_parts : (ports : List NetPort) (x : List ℕ) → front_of ports ++ x
     ≡ codes "module gos_" ++ (first_name ports ++ (codes "(clk, rst" ++ (listed (port_nets ports) ++ (codes ");\n" ++ (clock_declarations ++ (flat_map port_declaration (port_nets ports) ++ x))))))
 front_parts ports x = nested (codes "module gos_") (first_name ports) (codes "(clk, rst") (listed (port_nets ports)) (codes ");\n") clock_declarations (flat_map port_declaration (port_nets ports)) x
 
-same_declared : (ns ms : List PortNet) → AreSameHeads ns ms → map declared_net ns ≡ map declared_net ms
+pub same_declared : (ns ms : List PortNet) → AreSameHeads ns ms → map declared_net ns ≡ map declared_net ms
 same_declared [] [] heads = refl
 same_declared [] (m ∷ ms) heads = absurd heads
 same_declared (n ∷ ns) [] heads = absurd heads
@@ -319,7 +319,7 @@ pub front_leads : (ports : List NetPort) → ArePorts ports → Leads IsFormedTe
 front_leads ports are = record { on = λ x left. formed_on ports x are left; back = λ x formed. formed_back ports x are formed }
 
 -- heads are known by their names
-head_parts : (ports : List NetPort) (x : List ℕ) → head_of ports ++ x
+pub head_parts : (ports : List NetPort) (x : List ℕ) → head_of ports ++ x
     ≡ codes "module gos_" ++ (first_name ports ++ (codes "(clk, rst" ++ (listed (port_nets ports) ++ (codes ");\n" ++ (clock_declarations ++ x)))))
 head_parts ports x =
     append_assoc (codes "module gos_" ++ first_name ports ++ codes "(clk, rst" ++ listed (port_nets ports) ++ codes ");\n") clock_declarations x
@@ -394,3 +394,6 @@ head_back ports x are (net, formed, (drivers, lines, is)) =
 -- the head of a text leads to the declarations of the nets of ports
 pub head_leads : (ports : List NetPort) → ArePorts ports → Leads IsFormedText (LeftNets [] Give 0 (named_nets ports)) (head_of ports)
 head_leads ports are = record { on = λ x left. head_on ports x are left; back = λ x formed. head_back ports x are formed }
+
+pub head_of_front : (ports : List NetPort) (x : List ℕ) → front_of ports ++ x ≡ head_of ports ++ (flat_map port_declaration (port_nets ports) ++ x)
+head_of_front ports x = append_assoc (head_of ports) (flat_map port_declaration (port_nets ports)) x

@@ -5,34 +5,34 @@ use Rattle.gos_lex.specs.Items.{TextAt, Misses}
 use Rattle.gos_netlist.specs.Nets.{Side, Give, Take}
 use Rattle.gos_netlist.specs.Events.{is_input}
 use Rattle.gos_netlist.specs.NetItems.{Passed, IsTextOf, IsInRange, ended}
-use Rattle.gos_netlist.proofs.PassedLemmas.{passed_as}
+use Rattle.gos_netlist.proofs.PassedLemmas.{passed_as, passed_both}
 use Rattle.gos_netlist.proofs.SequenceLemmas.{IsCode, misses_as}
 use Rattle.gos_verilog.specs.declared.port_net.Role.{Role}
 use Rattle.gos_verilog.specs.declared.port_net.Role.TheVariants.{Run, Done, Ask, Ans, AnsValue, Read, Write, WriteValue}
-use Rattle.gos_verilog.specs.PortNets.{PortNet, direction}
+use Rattle.gos_verilog.specs.PortNets.{PortNet, suffix, direction}
 use Rattle.gos_verilog.specs.Lines.{direction_word, port_declaration}
+use Rattle.std.proofs.Common.{Bor, Result, Ok, Err}
+use Rattle.std.specs.Prelude.{IfOk}
+use Rattle.gos_verilog.proofs.SuffixLemmas.{suffix_code}
+use Rattle.std.specs.List.{flat_map, AllByRecursion}
+use Rattle.gos_verilog.specs.inner.Stages.{HaveWidths, declared_net}
 use Rattle.gos_verilog.specs.inner.Slots.{Slot', FitSlots, line_text, IsLine}
-use Rattle.gos_verilog.specs.inner.Breaks.{Left, Either, Item, LeadsOn, BreaksFrom}
-use Rattle.gos_verilog.specs.inner.Left.{is_first, least_of, most_of, IsDirection, IsDeclared, net_of, net_text, side_behind, last_behind, LeftNets, LeftCells}
+use Rattle.gos_verilog.specs.inner.Breaks.{Left, PassedIn, Either, Item, LeadsOn, BreaksFrom}
+use Rattle.gos_verilog.specs.inner.Left.{AreNamed, IsNamed, only_names, IsNetOf, IsDeclaration, net_front, is_first, least_of, most_of, IsDirection, IsDeclared, net_of, net_text, side_behind, last_behind, LeftNets, LeftCells}
 use Rattle.gos_verilog.proofs.DeclarationLemmas.{net_declaration_code}
 use Rattle.gos_verilog.proofs.AmongLemmas.{either_misses}
 use Rattle.gos_verilog.proofs.BreakLemmas.{on_item, on_both, on_breaks, first_breaks}
 use Rattle.gos_verilog.proofs.WordLemmas.{shift_breaks}
+use Rattle.gos_types.specs.Widths.{IsWidth}
+use Rattle.gos_verilog.proofs.FoundLemmas.{declared_append}
 use Rattle.gos_verilog.proofs.LeftLemmas.{some_cells}
 use Rattle.gos_verilog.proofs.LeftOutputLemmas.{one_number}
-
-abbrev pub net_front : Bool → List ℕ
-net_front input = codes "  " ++ direction_word input ++ codes " ["
 
 abbrev pub net_slot : Bool → ℕ → ℕ → Slot'
 net_slot input low high = record { before = net_front input; low = low; high = high; end = 58 }
 
 abbrev pub net_tail : List ℕ → List ℕ
 net_tail name = codes "0] " ++ name ++ codes ";\n"
-
--- the declaration of a net of this name and direction
-abbrev pub IsNetOf : Bool → ℕ → ℕ → List ℕ → List ℕ → Type 0
-IsNetOf input low high name = IsTextOf ℕ (IsInRange low high) (λ n. net_text name (input, n))
 
 net_line : (input : Bool) (low high n : ℕ) (name : List ℕ) → line_text (net_slot input low high ∷ []) (net_tail name) (n ∷ []) ≡ net_text name (input, n)
 net_line input low high n name =
@@ -62,10 +62,6 @@ net_passed input low high name old new ns fit passed =
       passed_as old new (line_text (net_slot input low high ∷ []) (net_tail name) ns) (net_text name (input, get_or ns 0 0))
           (ap (line_text (net_slot input low high ∷ []) (net_tail name)) one.3 ∙ (net_line input low high one.0 name ∙ ap (λ (n : ℕ). net_text name (input, n)) (sym first))) passed,
     )
-
--- the declaration of a net in a role
-abbrev pub IsDeclaration : Role → Side → ℕ → List ℕ → List ℕ → Type 0
-IsDeclaration role side last name = IsTextOf (Bool × ℕ) (IsDeclared role side last) (net_text name)
 
 -- where the direction is known
 pub known_misses : (role : Role) (side : Side) (last : ℕ) (name text : List ℕ) (at place : ℕ) → is_first role ≡ false
@@ -160,3 +156,101 @@ nets_break list k n nets side last text rest from at place cut far is misses =
     (first_breaks (Bool × ℕ) (IsDeclared n.0 side last) (net_text n.1)
     (λ u. LeftNets (nets ++ net_of n.1 u ∷ []) (side_behind (is_first n.0) side u.0) (last_behind n.0 last u.1) more) rest 0 place
     (λ u _. some_nets (nets ++ net_of n.1 u ∷ []) (side_behind (is_first n.0) side u.0) (last_behind n.0 last u.1) more) misses)))
+
+-- the nets of the first k names are read
+pub record NetsRead (names : List (Bor (List ℕ))) (k : ℕ) (nets : List PortNet) (text : List ℕ) (from at : ℕ) : Type 0 where
+  pub wide : HaveWidths nets
+  pub bare : map declared_net nets ≡ nets
+  pub names_are : map (λ (n : PortNet). n.name) nets ++ map (λ (b : Bor (List ℕ)). b.now) (drop k names) ≡ map (λ (b : Bor (List ℕ)). b.now) names
+  pub passed : PassedIn text from at (flat_map port_declaration nets)
+
+-- a name has one role
+pub one_role : (name front other : List ℕ) (r role : Role) → name ≡ other ++ suffix r → name ≡ front ++ suffix role → r ≡ role
+one_role name front other r role one two = (suffix_code other front r role (sym one ∙ two)).1
+
+-- what is read of a net
+abbrev pub ReadAs : List ℕ → PortNet → ℕ → List ℕ → (Bool × ℕ → Type 0) → Type 0
+ReadAs rest net len name Is = (v : Bool × ℕ) × Is v × (net ≡ net_of name v) × PassedIn rest 0 len (net_text name v)
+
+abbrev pub ReadOf : List ℕ → PortNet → ℕ → List ℕ → Bool → Role → ℕ → Type 0
+ReadOf rest net len name input role last = (n : ℕ) × IsInRange (least_of role last) (most_of role last) n × (net ≡ net_of name (input, n)) × PassedIn rest 0 len (net_text name (input, n))
+
+pub read_known : (role : Role) (side : Side) (last : ℕ) (input : Bool) (name rest : List ℕ) (net : PortNet) (len : ℕ) → is_first role ≡ false → input ≡ is_input side (direction role)
+    → ReadOf rest net len name input role last → ReadAs rest net len name (IsDeclared role side last)
+read_known role side last input name rest net len other same (n, is, net_is, passed) =
+    ((input, n), (subst (λ (b : Bool). IsDirection b (is_input side (direction role)) input) (sym other) same, is), net_is, passed)
+
+pub read_open : (role : Role) (side : Side) (last : ℕ) (input : Bool) (name rest : List ℕ) (net : PortNet) (len : ℕ) → is_first role ≡ true
+    → ReadOf rest net len name input role last → ReadAs rest net len name (IsDeclared role side last)
+read_open role side last input name rest net len first (n, is, net_is, passed) =
+    ((input, n), (subst (λ (b : Bool). IsDirection b (is_input side (direction role)) input) (sym first) tt, is), net_is, passed)
+
+pub if_ok : {T E : Type 0} (r : Result T E) (P Q : T → Type 0) → ((x : T) → P x → Q x) → IfOk r P → IfOk r Q
+if_ok (Ok x) P Q so is = so x is
+if_ok (Err e) P Q so is = tt
+
+-- the net at a place, by its name
+pub record NamedAt (named : List (Role × List ℕ)) (k : ℕ) (name : List ℕ) : Type 0 where
+  pub net : Role × List ℕ
+  pub cut : drop k named ≡ net ∷ drop (k + 1) named
+  pub is : net.1 ≡ name
+  pub front : List ℕ
+  pub role : name ≡ front ++ suffix net.0
+
+named_from : (names : List (Bor (List ℕ))) (named : List (Role × List ℕ)) (k : ℕ) (name : Bor (List ℕ)) (more : List (Bor (List ℕ))) → map (λ (b : Bor (List ℕ)). b.now) names ≡ only_names named
+    → AllByRecursion IsNamed named → drop k names ≡ name ∷ more → (net : Role × List ℕ) × (drop k named ≡ net ∷ drop (suc k) named) × (net.1 ≡ name.now) × IsNamed net
+named_from [] named zero name more same are cut = absurd (cc cut)
+named_from [] named (suc k) name more same are cut = absurd (cc cut)
+named_from (b ∷ names) [] k name more same are cut = absurd (cc same)
+named_from (b ∷ names) (n ∷ named) zero name more same are cut =
+    let first : b ≡ name = cc cut in let now : b.now ≡ n.1 = cc same in (n, refl, sym now ∙ ap (λ (x : Bor (List ℕ)). x.now) first, are.0)
+named_from (b ∷ names) (n ∷ named) (suc k) name more same are cut = named_from names named k name more (cc same) are.1 cut
+
+pub named_at : (names : List (Bor (List ℕ))) (named : List (Role × List ℕ)) (k : ℕ) (name : Bor (List ℕ)) → AreNamed named names → drop k names ≡ name ∷ drop (k + 1) names → NamedAt named k name.now
+named_at names named k name are cut =
+    let known = named_from names named k name (drop (k + 1) names) are.0 are.1 cut in
+    let e : suc k ≡ k + 1 = omega arith in
+    record {
+      net = known.0;
+      cut = known.1 ∙ ap (λ (n : ℕ). known.0 ∷ drop n named) e;
+      is = known.2;
+      front = known.3.0;
+      role = sym known.2 ∙ known.3.1;
+    }
+
+wide_join : (nets : List PortNet) (n : PortNet) → HaveWidths nets → IsWidth n.width → HaveWidths (nets ++ n ∷ [])
+wide_join [] n all is = (is, tt)
+wide_join (m ∷ nets) n all is = (all.0, wide_join nets n all.1 is)
+
+bare_join : (nets : List PortNet) (n : PortNet) → map declared_net nets ≡ nets → declared_net n ≡ n → map declared_net (nets ++ n ∷ []) ≡ nets ++ n ∷ []
+bare_join nets n all is = declared_append nets (n ∷ []) ∙ (λ j. all j ++ is j ∷ [])
+
+names_join : (nets : List PortNet) (n : PortNet) (more : List (List ℕ)) → map (λ (m : PortNet). m.name) (nets ++ n ∷ []) ++ more ≡ map (λ (m : PortNet). m.name) nets ++ n.name ∷ more
+names_join [] n more = refl
+names_join (m ∷ nets) n more = ap (λ (rest : List (List ℕ)). m.name ∷ rest) (names_join nets n more)
+
+lines_join : (nets : List PortNet) (n : PortNet) → flat_map port_declaration (nets ++ n ∷ []) ≡ flat_map port_declaration nets ++ port_declaration n
+lines_join [] n = append-nil (port_declaration n)
+lines_join (m ∷ nets) n = ap (λ (rest : List ℕ). port_declaration m ++ rest) (lines_join nets n) ∙ sym (append_assoc (port_declaration m) (flat_map port_declaration nets) (port_declaration n))
+
+pub net_read : (names : List (Bor (List ℕ))) (k : ℕ) (name : Bor (List ℕ)) (nets longer : List PortNet) (text : List ℕ) (from at new : ℕ) (v : Bool × ℕ) → drop k names ≡ name ∷ drop (k + 1) names → longer ≡ nets ++ net_of name.now v ∷ []
+    → v.1 ≤ 31 → NetsRead names k nets text from at → PassedIn text at new (net_text name.now v) → NetsRead names (k + 1) longer text from new
+net_read names k name nets longer text from at new v cut is few read passed =
+    let n : PortNet = net_of name.now v in
+    subst (λ (list : List PortNet). NetsRead names (k + 1) list text from new) (sym is)
+    (record {
+      wide = wide_join nets n read.wide (omega arith, omega (arith, few));
+      bare = bare_join nets n read.bare refl;
+      names_are = names_join nets n (map (λ (b : Bor (List ℕ)). b.now) (drop (k + 1) names))
+          ∙ (ap (λ (list : List (Bor (List ℕ))). map (λ (m : PortNet). m.name) nets ++ map (λ (b : Bor (List ℕ)). b.now) list) (sym cut) ∙ read.names_are);
+      passed = passed_as (record { text = text; at = from }) (record { text = text; at = new }) (flat_map port_declaration nets ++ port_declaration n) (flat_map port_declaration (nets ++ n ∷ [])) (sym (lines_join nets n))
+          (passed_both (record { text = text; at = from }) (record { text = text; at = at }) (record { text = text; at = new }) (flat_map port_declaration nets) (port_declaration n) read.passed passed);
+    })
+
+pub both_ok : {T E : Type 0} (r : Result T E) (P Q R : T → Type 0) → ((x : T) → P x → Q x → R x) → IfOk r P → IfOk r Q → IfOk r R
+both_ok (Ok x) P Q R so p q = so x p q
+both_ok (Err e) P Q R so p q = tt
+
+pub three_ok : {T E : Type 0} (r : Result T E) (P Q R : T → Type 0) → IfOk r P → IfOk r Q → IfOk r R → IfOk r (λ x. P x × Q x × R x)
+three_ok (Ok x) P Q R p q r' = (p, q, r')
+three_ok (Err e) P Q R p q r' = tt

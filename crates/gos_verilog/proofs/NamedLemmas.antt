@@ -14,7 +14,7 @@ use Rattle.gos_verilog.specs.PortNets.{PortNet, suffix, direction, bits, roles, 
 use Rattle.gos_verilog.specs.Lines.{port_declaration}
 use Rattle.gos_verilog.specs.inner.Stages.{declared_net}
 use Rattle.gos_verilog.specs.inner.Breaks.{Left}
-use Rattle.gos_verilog.specs.inner.Left.{is_first, least_of, most_of, IsDirection, IsDeclared, net_of, net_text, side_of_input, side_behind, last_behind, LeftNets, LeftCells, named_in_roles, named_nets}
+use Rattle.gos_verilog.specs.inner.Left.{is_first, least_of, most_of, IsDirection, IsDeclared, net_of, net_text, side_of_input, side_behind, last_behind, LeftNets, LeftCells, named_in_roles, named_nets, IsNamed, only_names}
 use Rattle.gos_verilog.proofs.SuffixLemmas.{suffix_code}
 use Rattle.gos_verilog.proofs.FoundLemmas.{declared_append}
 
@@ -286,12 +286,6 @@ nets_found (p ∷ ports) before side last bytes writable left =
     }
 
 -- roles are known by names
-abbrev pub IsNamed : Role × List ℕ → Type 0
-IsNamed n = (front : List ℕ) × (n.1 ≡ front ++ suffix n.0)
-
-abbrev pub only_names : List (Role × List ℕ) → List (List ℕ)
-only_names = map (λ (n : Role × List ℕ). n.1)
-
 pub same_named : (xs ys : List (Role × List ℕ)) → AllByRecursion IsNamed xs → AllByRecursion IsNamed ys → only_names xs ≡ only_names ys → xs ≡ ys
 same_named [] [] is_a is_b same = refl
 same_named [] (b ∷ ys) is_a is_b same = absurd (cc same)

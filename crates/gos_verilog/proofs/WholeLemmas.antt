@@ -14,7 +14,10 @@ use Rattle.gos_verilog.specs.Readable.{IsRead, IsReadable, IsRefused}
 use Rattle.gos_verilog.specs.inner.Stages.{IsWant, IsNetName, HaveOwnNames, HaveCellWidths, declared_net}
 use Rattle.gos_verilog.specs.inner.Inputs.{AreFed}
 use Rattle.gos_verilog.specs.inner.Noted.{HasPlaces, AreRight}
-use Rattle.gos_verilog.specs.inner.Parts.{Parts, whole_text}
+use Rattle.gos_verilog.specs.inner.Parts.{Parts}
+use Rattle.gos_verilog.specs.Lines.{cell_declarations}
+use Rattle.gos_verilog.specs.Place.{ArePorts, front_of}
+use Rattle.std.proofs.Common.{append_assoc}
 use Rattle.gos_verilog.proofs.SuffixLemmas as names
 use Rattle.gos_verilog.proofs.PortLemmas.{IsRightNet, right_nets}
 use Rattle.gos_verilog.proofs.FoundLemmas.{wide_nets, number_nets}
@@ -43,7 +46,7 @@ first_named [] some all = absurd (omega (arith, some))
 first_named (p ∷ ps) some all = all.0.name
 
 -- the parts of a text that is read as a netlist
-pub parts_of : (net : Netlist) (text : List ℕ) → IsRead text net → (parts : Parts net) × (text ≡ whole_text parts)
+pub parts_of : (net : Netlist) (text : List ℕ) → IsRead text net → (parts : Parts net) × ArePorts net.ports × (text ≡ front_of net.ports ++ (cell_declarations 0 parts.cells ++ (parts.drivers ++ parts.back)))
 parts_of net text (readable, (drivers, are, is)) =
     let nets : List PortNet = port_nets net.ports in
     let right = right_nets net.ports readable.writable.ports in (
@@ -67,7 +70,8 @@ parts_of net text (readable, (drivers, are, is)) =
         right = right_of net readable;
         are = are;
       },
-      is ∙ text_parts net drivers,
+      record { writable = readable.writable.ports; count = readable.writable.port_count; some = readable.some; names = readable.names },
+      is ∙ (append_assoc (declarations net) drivers (outputs net) ∙ append_assoc (front_of net.ports) (cell_declarations 0 net.cells) (drivers ++ outputs net)),
     )
 
 -- the names and places that are known of declared nets

@@ -68,9 +68,6 @@ pub record ArePorts (ports : List NetPort) : Type 0 where
 abbrev pub HasHead : List ℕ → Type 0
 HasHead text = (ports : List NetPort) × (more : List ℕ) × ArePorts ports × (text ≡ head_of ports ++ more)
 
-abbrev pub HasFront : List ℕ → Type 0
-HasFront text = (ports : List NetPort) × (more : List ℕ) × ArePorts ports × (text ≡ front_of ports ++ more)
-
 -- the fault is at its place
 abbrev pub HasPlace : List ℕ → VFault → Type 0
 HasPlace text (Form at) = IsPlace text at

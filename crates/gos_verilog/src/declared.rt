@@ -1,23 +1,26 @@
 // The declarations of a module: of the nets of its ports, and of its cells.
-ghost use Rattle.std.specs.Prelude.{◌≡◌, ◌⊎◌, ◌≤◌, ◌-◌, ◌++◌, ℕ, Bool, List, IfOk, IfErr, MatchResult, length, map, drop, codes};
-ghost use Rattle.std.specs.Fmt.{decimal};
+ghost use Rattle.std.specs.Prelude.{◌≡◌, ◌⊎◌, ◌≤◌, ◌++◌, [], ℕ, Bool, List, IfOk, IfErr, MatchOption, length, map};
 ghost use Rattle.std.specs.List.{AllByRecursion, flat_map};
 ghost use Rattle.gos_lex.specs.Items.{Misses};
-ghost use Rattle.gos_types.specs.Widths.{IsWidth};
-ghost use Rattle.gos_verilog.specs.inner.Breaks.{PassedIn};
-ghost use Rattle.gos_verilog.specs.inner.Left.{IsShape, IsShapeLine, IsShapeOf, NoShape, shape_front, shape_text, shapes_text};
-ghost use Rattle.gos_netlist.specs.Nets.{Cell};
-ghost use Rattle.gos_verilog.specs.PortNets.{PortNet as Net};
-ghost use Rattle.gos_verilog.specs.Lines.{direction_word, port_declaration as line_of, cell_net, cell_declarations as lines_of};
-ghost use Rattle.gos_verilog.specs.inner.Stages.{Rest, IsWant, AreNamesOf, HaveWidths, HaveCellWidths, declared_net, word_of, shape_of, IsBody};
+ghost use Rattle.gos_netlist.specs.Nets.{Give};
+ghost use Rattle.gos_netlist.specs.NetItems.{IsInRange};
+ghost use Rattle.gos_netlist.specs.Seen.{side_of};
+ghost use Rattle.gos_verilog.specs.declared.port_net.Role.{Role as Role'};
+ghost use Rattle.gos_verilog.specs.PortNets.{suffix};
+ghost use Rattle.gos_verilog.specs.Lines.{port_declaration as line_of};
+ghost use Rattle.gos_verilog.specs.inner.Stages.{AreNamesOf, BreaksAt, HaveWidths, IsWant, declared_net};
+ghost use Rattle.gos_verilog.specs.inner.Breaks.{FaultFrom, LeadsOn, PassedIn};
+ghost use Rattle.gos_verilog.specs.inner.Left as lefts;
+ghost use Rattle.gos_verilog.specs.inner.Left.{AreNamed, IsDeclaration, IsDeclared, IsNetOf, IsShape, IsShapeLine, IsShapeOf, LeftCells, LeftNets, NoShape};
+ghost use Rattle.gos_verilog.specs.inner.Left.{net_front, net_of, net_text, shape_front, shape_text, shapes_text};
 
 use crate::cell_line::exactly;
 use crate::fault::VFault;
-use crate::head::word;
-use crate::port_net::PortNet;
-use crate::slots::{Slot, line, number, pass};
+use crate::port_net::{PortNet, Role};
+use crate::ports_of::ends_with;
+use crate::slots::{Slot, line};
 use gos_lex::Cursor;
-use gos_netlist::NetId;
+use gos_netlist::{NetId, Side};
 use std::alloc::Global;
 
 /// What is declared of a cell's net.
@@ -29,72 +32,196 @@ pub struct Shape {
     pub register: bool,
 }
 
-/// Passes the declarations of the nets of ports with these names.
+/// Reads the declarations of the nets of ports with these names, from `at` on. It gives the nets and the place behind
+/// them.
+#[tactic(auto, using(crate::proofs::ListLemmas::all_snoc))]
 pub fn port_declarations(
     alloc: Global,
-    cursor: &mut Cursor,
+    text: &[u8],
+    at: usize,
     names: &[&[u8]],
-) -> Result<Vec<PortNet>, VFault>
-    ensures text { cursor.new.text ≡ cursor.old.text }
-    ensures stands { (nets : List Net) (x : List ℕ) → HaveWidths nets → AreNamesOf nets names.now → Rest cursor.old (flat_map line_of nets ++ x)
-        → MatchResult result (λ found. (found.items ≡ map declared_net nets) × Rest cursor.new x) IsWant }
+) -> Result<(Vec<PortNet>, usize), VFault>
+    requires within { at ≤ length text.now }
+    ensures within { IfOk result (λ both. both.1 ≤ length text.now) }
+    ensures wide { IfOk result (λ both. HaveWidths both.0.items) }
+    ensures bare { IfOk result (λ both. map declared_net both.0.items ≡ both.0.items) }
+    ensures names { IfOk result (λ both. AreNamesOf both.0.items names.now) }
+    ensures passed { IfOk result (λ both. PassedIn text.now at both.1 (flat_map line_of both.0.items)) }
+    ensures left { (named : List (Role' × List ℕ)) → AreNamed named names.now → IfOk result (λ both. LeadsOn (LeftNets [] Give 0 named) (LeftCells both.0.items [])
+        (record { text = text.now; at = at }) (record { text = text.now; at = both.1 })) }
+    ensures wrong { (named : List (Role' × List ℕ)) → AreNamed named names.now → IfErr result (FaultFrom (LeftNets [] Give 0 named) (record { text = text.now; at = at })) }
 {
     let mut nets = Vec::new(alloc);
+    let mut side = Side::Give;
+    let mut last = 0;
+    let mut at = at;
     for name in names {
-        nets.push(port_declaration(alloc, cursor, name)?)?;
+        match role_of(name) {
+            Some(role) => match net_declaration(alloc, &text[at..], name, role, side, last) {
+                Ok((net, len)) => {
+                    side = side_behind(role, side, net.input);
+                    last = last_behind(role, last, net.width - 1);
+                    nets.push(net)?;
+                    at += len;
+                }
+                Err(VFault::Form { at: place }) => return Err(VFault::Form { at: at + place }),
+                Err(VFault::NoMemory) => return Err(VFault::NoMemory),
+            },
+            None => return Err(VFault::Form { at }),
+        }
     }
-    Ok(nets)
+    Ok((nets, at))
 }
 
-// Passes the declaration of the net of a port with this name.
-fn port_declaration(alloc: Global, cursor: &mut Cursor, name: &[u8]) -> Result<PortNet, VFault>
-    ensures text { cursor.new.text ≡ cursor.old.text }
-    ensures stands { (net : Net) (x : List ℕ) → IsWidth net.width → name.now ≡ net.name → Rest cursor.old (line_of net ++ x)
-        → MatchResult result (λ found. (found ≡ declared_net net) × Rest cursor.new x) IsWant }
+// The role of the net of this name.
+fn role_of(name: &[u8]) -> Option<Role>
+    ensures { (role : Role') (front : List ℕ) → name.now ≡ front ++ suffix role → MatchOption result ⊥ (λ found. found ≡ role) }
 {
-    let input = direction(cursor)?;
-    let width = width(cursor)?;
-    word(cursor, name)?;
-    word(cursor, b";\n")?;
-    Ok(PortNet {
-        name: name.to_vec(alloc)?,
-        input,
-        width,
-        cell: NetId(0),
-    })
+    if ends_with(name, b"__run") {
+        Some(Role::Run)
+    } else if ends_with(name, b"__done") {
+        Some(Role::Done)
+    } else if ends_with(name, b"__ask") {
+        Some(Role::Ask)
+    } else if ends_with(name, b"__ans") {
+        Some(Role::Ans)
+    } else if ends_with(name, b"__ansvalue") {
+        Some(Role::AnsValue)
+    } else if ends_with(name, b"__read") {
+        Some(Role::Read)
+    } else if ends_with(name, b"__write") {
+        Some(Role::Write)
+    } else if ends_with(name, b"__writevalue") {
+        Some(Role::WriteValue)
+    } else {
+        None
+    }
 }
 
-// Passes the word of a direction, and says whether the net is an input.
-fn direction(cursor: &mut Cursor) -> Result<bool, VFault>
-    ensures text { cursor.new.text ≡ cursor.old.text }
-    ensures stands { (input : Bool) (x : List ℕ) → Rest cursor.old (codes "  " ++ (direction_word input ++ (codes " [" ++ x)))
-        → MatchResult result (λ found. (found ≡ input) × Rest cursor.new x) (λ _. ⊥) }
+// Whether the net in this role is the first of its port.
+fn is_first(role: Role) -> bool
+    ensures { result ≡ lefts.is_first role }
 {
-    match pass(cursor, b"  input [") {
-        Ok(()) => Ok(true),
-        Err(one) => match pass(cursor, b"  output [") {
-            Ok(()) => Ok(false),
-            Err(other) => Err(VFault::Form {
+    matches!(role, Role::Run | Role::Ask | Role::Read)
+}
+
+// The side of a port behind a net in this role.
+fn side_behind(role: Role, side: Side, input: bool) -> Side
+    ensures { side_of result ≡ lefts.side_behind (lefts.is_first role) (side_of side) input }
+{
+    if is_first(role) {
+        if input { Side::Give } else { Side::Take }
+    } else {
+        side
+    }
+}
+
+// The last bit of the value of a port, behind a net in this role with this last bit.
+fn last_behind(role: Role, last: u32, bit: u32) -> u32
+    ensures { result ≡ lefts.last_behind role last bit }
+{
+    match role {
+        Role::AnsValue => bit,
+        _ => last,
+    }
+}
+
+// Reads the declaration of the net of a port in this role, with its length.
+fn net_declaration(
+    alloc: Global,
+    rest: &[u8],
+    name: &[u8],
+    role: Role,
+    side: Side,
+    last: u32,
+) -> Result<(PortNet, usize), VFault>
+    requires { last ≤ 31 }
+    ensures within { IfOk result (λ both. both.1 ≤ length rest.now) }
+    ensures declared { IfOk result (λ both. (v : Bool × ℕ) × IsDeclared role (side_of side) last v × (both.0 ≡ net_of name.now v)
+        × PassedIn rest.now 0 both.1 (net_text name.now v)) }
+    ensures wrong { IfErr result (BreaksAt (IsDeclaration role (side_of side) last name.now) (record { text = rest.now; at = 0 })) }
+{
+    if !is_first(role) {
+        return net_line(alloc, rest, name, role.is_input(side), role, last);
+    }
+    match net_line(alloc, rest, name, true, role, last) {
+        Ok(both) => Ok(both),
+        Err(VFault::Form { at: one }) => match net_line(alloc, rest, name, false, role, last) {
+            Ok(both) => Ok(both),
+            Err(VFault::Form { at: other }) => Err(VFault::Form {
                 at: further(one, other),
             }),
+            Err(VFault::NoMemory) => Err(VFault::NoMemory),
         },
+        Err(VFault::NoMemory) => Err(VFault::NoMemory),
     }
 }
 
-// Passes a range, and gives how many bits it has.
-fn width(cursor: &mut Cursor) -> Result<u32, VFault>
-    ensures text { cursor.new.text ≡ cursor.old.text }
-    ensures width { IfOk result IsWidth }
-    ensures stands { (w : ℕ) (x : List ℕ) → IsWidth w → Rest cursor.old (decimal (w - 1) ++ (codes ":0] " ++ x))
-        → MatchResult result (λ found. (found ≡ w) × Rest cursor.new x) (λ _. ⊥) }
+// Reads the declaration of a net of this direction, with its length.
+fn net_line(
+    alloc: Global,
+    rest: &[u8],
+    name: &[u8],
+    input: bool,
+    role: Role,
+    last: u32,
+) -> Result<(PortNet, usize), VFault>
+    requires { last ≤ 31 }
+    ensures within { IfOk result (λ both. both.1 ≤ length rest.now) }
+    ensures declared { IfOk result (λ both. (n : ℕ) × IsInRange (lefts.least_of role last) (lefts.most_of role last) n × (both.0 ≡ net_of name.now (input, n))
+        × PassedIn rest.now 0 both.1 (net_text name.now (input, n))) }
+    ensures wrong { IfErr result (BreaksAt (IsNetOf input (lefts.least_of role last) (lefts.most_of role last) name.now) (record { text = rest.now; at = 0 })) }
 {
-    match number(cursor, 0, 31, b':') {
-        Ok(last) => {
-            word(cursor, b"0] ")?;
-            Ok(last + 1)
+    let mut tail = b"0] ".as_slice().to_vec(alloc)?;
+    tail.extend_from_slice(name)?;
+    tail.extend_from_slice(b";\n")?;
+    let mut cursor = Cursor::new(rest);
+    let slots = [Slot {
+        before: net_word(input),
+        low: least_of(role, last),
+        high: most_of(role, last),
+        end: b':',
+    }];
+    match line(alloc, &mut cursor, &slots, &tail) {
+        Ok(numbers) => {
+            let net = PortNet {
+                name: name.to_vec(alloc)?,
+                input,
+                width: numbers[0] + 1,
+                cell: NetId(0),
+            };
+            Ok((net, cursor.at()))
         }
         Err(at) => Err(VFault::Form { at }),
     }
+}
+
+// The least last bit of a net in this role.
+fn least_of(role: Role, last: u32) -> u32
+    ensures { result ≡ lefts.least_of role last }
+{
+    match role {
+        Role::WriteValue => last,
+        _ => 0,
+    }
+}
+
+// The greatest last bit of a net in this role.
+fn most_of(role: Role, last: u32) -> u32
+    ensures { result ≡ lefts.most_of role last }
+{
+    match role {
+        Role::AnsValue => 31,
+        Role::WriteValue => last,
+        _ => 0,
+    }
+}
+
+// What stands before the range of a net of a port.
+fn net_word(input: bool) -> &'static [u8]
+    ensures { result.now ≡ net_front input }
+{
+    if input { b"  input [" } else { b"  output [" }
 }
 
 /// The greater of two places.

@@ -6,13 +6,13 @@ ghost use Rattle.gos_netlist.specs.Writable.{IsWritableCell, IsWritablePort};
 ghost use Rattle.gos_types.specs.Widths.{IsWidth};
 ghost use Rattle.gos_netlist.specs.Nets.{NetPort, Netlist as Net};
 ghost use Rattle.gos_verilog.specs.Readable.{IsRead, IsReadable, IsRefused};
-ghost use Rattle.gos_verilog.specs.Place.{HasFront, HasOtherStart, HasPlace, IsFormedText};
+ghost use Rattle.gos_verilog.specs.Place.{ArePorts, HasHead, HasOtherStart, HasPlace, IsFormedText, front_of, head_of};
 ghost use Rattle.gos_verilog.specs.VerilogText.{IsVerilogOf};
 ghost use Rattle.gos_verilog.specs.PortNets.{port_nets as nets_of};
-ghost use Rattle.gos_verilog.specs.inner.Stages.{Rest, BreaksAt, HasStart, IsStart, IsWant, declared_net, shape_of};
+ghost use Rattle.gos_verilog.specs.inner.Stages.{BreaksAt, HasStart, IsStart, IsWant, declared_net, shape_of};
 ghost use Rattle.gos_verilog.specs.inner.Breaks.{FaultFrom};
-ghost use Rattle.gos_verilog.specs.inner.Left.{HaveNetNames, LeftDrivers};
-ghost use Rattle.gos_verilog.specs.inner.Parts.{Front, Parts, front_text};
+ghost use Rattle.gos_verilog.specs.inner.Left.{HaveNetNames, LeadsOnOf, LeftDrivers};
+ghost use Rattle.gos_verilog.specs.inner.Parts.{Parts};
 
 use crate::declared::{Shape, cell_declarations, further, port_declarations};
 use crate::driven::drivers;
@@ -35,7 +35,7 @@ pub fn read_verilog(alloc: Global, text: &[u8]) -> Result<Netlist, VFault>
     ensures read { IfOk result (IsRead text.now) }
     ensures refused { IfErr result (IsRefused text.now) }
     ensures start { IfErr result (λ fault. HasOtherStart text.now → HasPlace text.now fault) }
-    ensures lines { IfErr result (λ fault. HasFront text.now → HasPlace text.now fault) }
+    ensures lines { IfErr result (λ fault. HasHead text.now → HasPlace text.now fault) }
 {
     let net = parsed(alloc, text)?;
     if is_text_of(alloc, text, &net.cells, &net.ports)? {
@@ -66,15 +66,14 @@ fn parsed(alloc: Global, text: &[u8]) -> Result<Netlist, VFault>
     ensures cells { IfOk result (λ net. AllByRecursion IsWritableCell net.cells) }
     ensures ports { IfOk result (λ net. AllByRecursion IsWritablePort net.ports) }
     ensures stands { (net : Net) → IsRead text.now net → MatchResult result (λ found. found ≡ net) IsWant }
-    ensures formed { IfOk result (λ _. HasFront text.now → IsFormedText text.now) }
-    ensures lines { IfErr result (λ fault. HasFront text.now → HasPlace text.now fault) }
+    ensures formed { IfOk result (λ _. HasHead text.now → IsFormedText text.now) }
+    ensures lines { IfErr result (λ fault. HasHead text.now → HasPlace text.now fault) }
     ensures begun { IfOk result (λ _. HasStart (record { text = text.now; at = 0 })) }
     ensures starts { IfErr result (λ fault. (HasStart (record { text = text.now; at = 0 }) → ⊥) → BreaksAt IsStart (record { text = text.now; at = 0 }) fault) }
 {
-    let mut cursor = Cursor::new(text);
-    let declared = front(alloc, text, &mut cursor)?;
-    let (shapes, at, stopped) = cell_declarations(alloc, text, cursor.at())?;
-    let (cells, nets) = match body(alloc, text, at, &shapes, &declared) {
+    let (declared, at) = front(alloc, text)?;
+    let (shapes, end, stopped) = cell_declarations(alloc, text, at)?;
+    let (cells, nets) = match body(alloc, text, end, &shapes, &declared) {
         Ok(both) => both,
         Err(VFault::Form { at: place }) => return Err(VFault::Form {
             at: further(stopped, place),
@@ -87,33 +86,20 @@ fn parsed(alloc: Global, text: &[u8]) -> Result<Netlist, VFault>
     }
 }
 
-// Passes the head of a module and the declarations of its ports' nets, and gives these nets.
-fn front(alloc: Global, text: &[u8], cursor: &mut Cursor) -> Result<Vec<PortNet>, VFault>
-    requires { cursor.now.text ≡ text.now }
-    ensures text { cursor.new.text ≡ text.now }
-    ensures stands { (ports : List NetPort) (front : Front ports) (x : List ℕ) → Rest cursor.old (front_text front x)
-        → MatchResult result (λ declared. (declared.items ≡ map declared_net front.nets) × Rest cursor.new x) IsWant }
-    ensures begun { IfOk result (λ _. HasStart cursor.old) }
-    ensures starts { IfErr result (λ fault. (HasStart cursor.old → ⊥) → BreaksAt IsStart cursor.old fault) }
+// Reads the head of a module and the declarations of its ports' nets, and gives these nets and the place behind.
+fn front(alloc: Global, text: &[u8]) -> Result<(Vec<PortNet>, usize), VFault>
+    ensures within { IfOk result (λ both. both.1 ≤ length text.now) }
+    ensures head { (ports : List NetPort) (more : List ℕ) → ArePorts ports → text.now ≡ head_of ports ++ more
+        → MatchResult result (λ both. LeadsOnOf text.now both.1 both.0.items) (FaultFrom IsFormedText (record { text = text.now; at = 0 })) }
+    ensures found { (ports : List NetPort) (more : List ℕ) → ArePorts ports → text.now ≡ front_of ports ++ more
+        → IfOk result (λ both. (both.0.items ≡ map declared_net (nets_of ports)) × (drop both.1 text.now ≡ more)) }
+    ensures begun { IfOk result (λ _. HasStart (record { text = text.now; at = 0 })) }
+    ensures starts { IfErr result (λ fault. (HasStart (record { text = text.now; at = 0 }) → ⊥) → BreaksAt IsStart (record { text = text.now; at = 0 }) fault) }
 {
-    let names = head(alloc, text, cursor)?;
-    word(cursor, b"  input clk;\n  input rst;\n")?;
-    let declared = port_declarations(alloc, cursor, &names)?;
-    if are_ports(alloc, &declared)? {
-        Ok(declared)
-    } else {
-        Err(VFault::Form { at: cursor.at() })
-    }
-}
-
-// Whether these are the nets of ports.
-fn are_ports(alloc: Global, nets: &[PortNet]) -> Result<bool, NoMemory>
-    ensures { IfOk result (λ are. (ports : List NetPort) → AllByRecursion IsWritablePort ports → nets.now ≡ nets_of ports → IsTrue are) }
-{
-    match ports_of(alloc, nets)? {
-        Some(_) => Ok(true),
-        None => Ok(false),
-    }
+    let mut cursor = Cursor::new(text);
+    let names = head(alloc, text, &mut cursor)?;
+    word(&mut cursor, b"  input clk;\n  input rst;\n")?;
+    port_declarations(alloc, text, cursor.at(), &names)
 }
 
 // Reads the lines behind the declarations, from `at` on, and gives the cells, and the nets of ports with the cells that

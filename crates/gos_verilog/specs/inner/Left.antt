@@ -1,7 +1,8 @@
 -- What may be left of a text from each stage of the reader on, by what was read before.
 --
 -- Read first: Breaks, Slots, CellLines; VerilogText and Place. Which cell an input is, is left open.
-use Rattle.std.specs.Prelude.{◌≡◌, ◌⊎◌, ℕ, suc, ◌+◌, ◌<◌, Bool, true, false, List, [], ◌∷◌, ◌++◌, length, Some, slice_get, codes}
+use Rattle.std.specs.Prelude.{◌≡◌, ◌⊎◌, ℕ, suc, ◌+◌, ◌<◌, Bool, true, false, List, [], ◌∷◌, ◌++◌, length, map, Some, slice_get, codes}
+use Rattle.std.proofs.Common.{Bor}
 use Rattle.std.specs.List.{AllByRecursion}
 use Rattle.gos_lex.specs.Items.{IsJust, Misses}
 use Rattle.gos_types.specs.Widths.{IsWidth}
@@ -13,10 +14,11 @@ use Rattle.gos_verilog.specs.declared.declared.Shape.{Shape}
 use Rattle.gos_verilog.specs.declared.port_net.Role.{Role}
 use Rattle.gos_verilog.specs.declared.port_net.Role.TheVariants.{Run, Ask, AnsValue, Read, WriteValue}
 use Rattle.gos_verilog.specs.PortNets.{PortNet, suffix, direction, roles}
-use Rattle.gos_verilog.specs.Lines.{port_declaration, declaration, cell_net, assignment, driver_of}
+use Rattle.gos_verilog.specs.Lines.{direction_word, port_declaration, declaration, cell_net, assignment, driver_of}
 use Rattle.gos_verilog.specs.inner.Drivers.{is_register}
 use Rattle.gos_verilog.specs.inner.Stages.{IsNetName, word_of}
-use Rattle.gos_verilog.specs.inner.Breaks.{Left, Item}
+use Rattle.gos_verilog.specs.inner.Breaks.{Left, Item, LeadsOn}
+use Rattle.gos_verilog.specs.Place.{IsFormedText}
 
 -- a net of a port and what may be left behind it: its assignment, if it is an output
 abbrev pub LeftOutput : Bool → List ℕ → Left → Left
@@ -161,3 +163,29 @@ named_in_roles name (c ∷ cells) (r ∷ rs) = (r, name ++ suffix r) ∷ named_i
 abbrev pub named_nets : List NetPort → List (Role × List ℕ)
 named_nets [] = []
 named_nets (p ∷ ports) = named_in_roles p.name p.nets (roles p.ty) ++ named_nets ports
+
+-- a name is that of a net in this role
+abbrev pub IsNamed : Role × List ℕ → Type 0
+IsNamed n = (front : List ℕ) × (n.1 ≡ front ++ suffix n.0)
+
+abbrev pub only_names : List (Role × List ℕ) → List (List ℕ)
+only_names = map (λ (n : Role × List ℕ). n.1)
+
+-- the names are those of nets in these roles
+abbrev pub AreNamed : List (Role × List ℕ) → List (Bor (List ℕ)) → Type 0
+AreNamed named names = (map (λ (b : Bor (List ℕ)). b.now) names ≡ only_names named) × AllByRecursion IsNamed named
+
+-- the declaration of a net in a role
+abbrev pub IsDeclaration : Role → Side → ℕ → List ℕ → List ℕ → Type 0
+IsDeclaration role side last name = IsTextOf (Bool × ℕ) (IsDeclared role side last) (net_text name)
+
+-- that of a net of this direction
+abbrev pub IsNetOf : Bool → ℕ → ℕ → List ℕ → List ℕ → Type 0
+IsNetOf input low high name = IsTextOf ℕ (IsInRange low high) (λ n. net_text name (input, n))
+
+abbrev pub net_front : Bool → List ℕ
+net_front input = codes "  " ++ direction_word input ++ codes " ["
+
+-- the front of a text leads from its start to the declarations of cells' nets behind those of these nets of ports
+abbrev pub LeadsOnOf : List ℕ → ℕ → List PortNet → Type 0
+LeadsOnOf text at nets = LeadsOn IsFormedText (LeftCells nets []) (record { text = text; at = 0 }) (record { text = text; at = at }) × HaveNetNames nets

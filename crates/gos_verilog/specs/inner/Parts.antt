@@ -32,25 +32,3 @@ pub record Parts (net : Netlist) : Type 0 where
   pub body : IsBody (drivers ++ back)
   pub right : AreRight nets cells
   pub are : AreDrivers IsItsNet nets 0 cells drivers
-
--- the name of the module and the nets of ports
-pub record Front (ports : List NetPort) : Type 0 where
-  pub first : List ℕ
-  pub nets : List PortNet
-  pub nets_are : nets ≡ port_nets ports
-  pub writable : AllByRecursion IsWritablePort ports
-  pub bytes : IsNameOrWord first
-  pub names : HaveNames nets
-  pub wide : HaveWidths nets
-
-abbrev pub front_of_parts : {net : Netlist} → Parts net → Front net.ports
-front_of_parts {net} parts =
-    record { first = parts.first; nets = parts.nets; nets_are = parts.nets_are; writable = parts.ports; bytes = parts.bytes; names = parts.names; wide = parts.wide }
-
--- the text up to the declarations of cells' nets, and x behind it
-abbrev pub front_text : {ports : List NetPort} → Front ports → List ℕ → List ℕ
-front_text {ports} parts x =
-    codes "module gos_" ++ (parts.first ++ (codes "(clk, rst" ++ (listed parts.nets ++ (codes ");\n" ++ (clock_declarations ++ (flat_map port_declaration parts.nets ++ x))))))
-
-abbrev pub whole_text : {net : Netlist} → Parts net → List ℕ
-whole_text {net} parts = front_text (front_of_parts parts) (cell_declarations 0 parts.cells ++ (parts.drivers ++ parts.back))

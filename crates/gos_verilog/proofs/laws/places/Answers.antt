@@ -1,5 +1,5 @@
 use Rattle.gos_verilog.proofs.PlaceLemmas.{one_place, read_is_formed, blank_is_place, earlier_is_none}
-use Rattle.gos_verilog.proofs.FrontLemmas.{latch_front, short_front}
+use Rattle.gos_verilog.proofs.FrontLemmas.{latch_head, short_head}
 use Rattle.gos_verilog.proofs.laws.places.Goals as goal
 
 pub returns-clause-one : goal.returns-clause-one
@@ -14,8 +14,8 @@ returns-clause-blank c = blank_is_place
 pub returns-clause-earlier : goal.returns-clause-earlier
 returns-clause-earlier c = earlier_is_none
 
-pub returns-clause-front : goal.returns-clause-front
-returns-clause-front c = latch_front
+pub returns-clause-head : goal.returns-clause-head
+returns-clause-head c = latch_head
 
-pub returns-clause-no_front : goal.returns-clause-no_front
-returns-clause-no_front c = short_front
+pub returns-clause-no_head : goal.returns-clause-no_head
+returns-clause-no_head c = short_head
