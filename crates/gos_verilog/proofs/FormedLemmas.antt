@@ -314,10 +314,6 @@ formed_on ports x are (shapes, rest, wide, few, left, is) =
       ),
     )
 
--- the front of a text leads to the declarations of cells
-pub front_leads : (ports : List NetPort) → ArePorts ports → Leads IsFormedText (LeftCells (map declared_net (port_nets ports)) []) (front_of ports)
-front_leads ports are = record { on = λ x left. formed_on ports x are left; back = λ x formed. formed_back ports x are formed }
-
 -- heads are known by their names
 pub head_parts : (ports : List NetPort) (x : List ℕ) → head_of ports ++ x
     ≡ codes "module gos_" ++ (first_name ports ++ (codes "(clk, rst" ++ (listed (port_nets ports) ++ (codes ");\n" ++ (clock_declarations ++ x)))))

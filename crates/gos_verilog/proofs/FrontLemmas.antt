@@ -202,8 +202,7 @@ short_head (ports, more, are, is) =
     let whole = is ∙ head_parts ports more in
     let size = ap length (append_cancel_left (codes "module gos_") (codes "main(clk, rst") (first_name ports ++ (codes "(clk, rst" ++ (listed (port_nets ports) ++ (codes ");\n" ++ (clock_declarations ++ more))))) whole) in
     let last : List ℕ = clock_declarations ++ more in
-    omega
-    (
+    omega (
       arith,
       size,
       length-append (first_name ports) (codes "(clk, rst" ++ (listed (port_nets ports) ++ (codes ");\n" ++ last))),

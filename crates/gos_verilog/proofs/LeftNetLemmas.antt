@@ -1,24 +1,24 @@
 -- The declarations of nets of ports, as lines of one slot, and what may be left behind each.
-use Rattle.std.proofs.Common.{◌≡◌, ◌⊎◌, inl, inr, ℕ, zero, suc, ◌+◌, ◌-◌, ◌<◌, ◌≤◌, Bool, true, false, List, [], ◌∷◌, ◌++◌, length, map, drop, get_or, refl, sym, ◌∙◌, ap, subst, arith, append_assoc, append-nil, codes}
+use Rattle.std.proofs.Common.{◌≡◌, ◌⊎◌, inl, inr, ℕ, zero, suc, ◌+◌, ◌-◌, ◌≤◌, Bool, true, false, List, [], ◌∷◌, ◌++◌, map, drop, get_or, refl, sym, ◌∙◌, ap, subst, arith, append_assoc, append-nil, codes}
 use Rattle.std.specs.Fmt.{decimal}
 use Rattle.gos_lex.specs.Items.{TextAt, Misses}
-use Rattle.gos_netlist.specs.Nets.{Side, Give, Take}
+use Rattle.gos_netlist.specs.Nets.{Side, Give}
 use Rattle.gos_netlist.specs.Events.{is_input}
-use Rattle.gos_netlist.specs.NetItems.{Passed, IsTextOf, IsInRange, ended}
+use Rattle.gos_netlist.specs.NetItems.{Passed, IsInRange, ended}
 use Rattle.gos_netlist.proofs.PassedLemmas.{passed_as, passed_both}
 use Rattle.gos_netlist.proofs.SequenceLemmas.{IsCode, misses_as}
 use Rattle.gos_verilog.specs.declared.port_net.Role.{Role}
-use Rattle.gos_verilog.specs.declared.port_net.Role.TheVariants.{Run, Done, Ask, Ans, AnsValue, Read, Write, WriteValue}
+use Rattle.gos_verilog.specs.declared.port_net.Role.TheVariants.{AnsValue, WriteValue}
 use Rattle.gos_verilog.specs.PortNets.{PortNet, suffix, direction}
-use Rattle.gos_verilog.specs.Lines.{direction_word, port_declaration}
+use Rattle.gos_verilog.specs.Lines.{port_declaration}
 use Rattle.std.proofs.Common.{Bor, Result, Ok, Err}
 use Rattle.std.specs.Prelude.{IfOk}
 use Rattle.gos_verilog.proofs.SuffixLemmas.{suffix_code}
 use Rattle.std.specs.List.{flat_map, AllByRecursion}
 use Rattle.gos_verilog.specs.inner.Stages.{HaveWidths, declared_net}
 use Rattle.gos_verilog.specs.inner.Slots.{Slot', FitSlots, line_text, IsLine}
-use Rattle.gos_verilog.specs.inner.Breaks.{Left, PassedIn, Either, Item, LeadsOn, BreaksFrom}
-use Rattle.gos_verilog.specs.inner.Left.{AreNamed, IsNamed, only_names, IsNetOf, IsDeclaration, net_front, is_first, least_of, most_of, IsDirection, IsDeclared, net_of, net_text, side_behind, last_behind, LeftNets, LeftCells}
+use Rattle.gos_verilog.specs.inner.Breaks.{Left, PassedIn, Either, LeadsOn, BreaksFrom}
+use Rattle.gos_verilog.specs.inner.Left.{AreNamed, IsNamed, only_names, IsNetOf, IsDeclaration, net_front, is_first, least_of, most_of, IsDirection, IsDeclared, net_of, net_text, side_behind, last_behind, LeftNets}
 use Rattle.gos_verilog.proofs.DeclarationLemmas.{net_declaration_code}
 use Rattle.gos_verilog.proofs.AmongLemmas.{either_misses}
 use Rattle.gos_verilog.proofs.BreakLemmas.{on_item, on_both, on_breaks, first_breaks}

@@ -16,7 +16,6 @@ pub mod NumberLemmas
 pub mod ListLemmas
 pub mod RestLemmas
 pub mod HeadLemmas
-pub mod DeclaredLemmas
 pub mod LineLemmas
 pub mod NotedLemmas
 pub mod FoundLemmas

@@ -1,11 +1,10 @@
 -- The names of the nets of ports with their roles, and what they leave open of the declarations.
-use Rattle.std.proofs.Common.{◌≡◌, ℕ, zero, suc, ◌+◌, ◌-◌, ◌<◌, ◌≤◌, Bool, true, false, List, [], ◌∷◌, ◌++◌, length, map, refl, sym, ◌∙◌, ap, subst, arith, append_assoc, append-nil, codes}
+use Rattle.std.proofs.Common.{◌≡◌, ℕ, suc, ◌+◌, ◌-◌, Bool, true, false, List, [], ◌∷◌, ◌++◌, length, map, refl, sym, ◌∙◌, ap, subst, arith, append_assoc, append-nil}
 use Rattle.std.specs.List.{AllByRecursion, flat_map}
-use Rattle.std.proofs.lemmas.List.{append_cancel_left}
 use Rattle.gos_types.specs.Types.{Type', Com, Exp, Var, Pair, Fun}
 use Rattle.gos_types.specs.Widths.{IsWidth}
 use Rattle.gos_netlist.specs.Events.{Request, is_input, net_count}
-use Rattle.gos_netlist.specs.Nets.{Side, Give, Take, NetPort, Netlist}
+use Rattle.gos_netlist.specs.Nets.{Side, Give, Take, NetPort}
 use Rattle.gos_netlist.specs.Writable.{IsNumber, IsPortType, IsWritablePort}
 use Rattle.gos_netlist.specs.NetItems.{IsInRange}
 use Rattle.gos_verilog.specs.declared.port_net.Role.{Role}
@@ -13,7 +12,6 @@ use Rattle.gos_verilog.specs.declared.port_net.Role.TheVariants.{Run, Done, Ask,
 use Rattle.gos_verilog.specs.PortNets.{PortNet, suffix, direction, bits, roles, number_bits, net_in_role, nets_in_roles, nets_of_port, port_nets}
 use Rattle.gos_verilog.specs.Lines.{port_declaration}
 use Rattle.gos_verilog.specs.inner.Stages.{declared_net}
-use Rattle.gos_verilog.specs.inner.Breaks.{Left}
 use Rattle.gos_verilog.specs.inner.Left.{is_first, least_of, most_of, IsDirection, IsDeclared, net_of, net_text, side_of_input, side_behind, last_behind, LeftNets, LeftCells, named_in_roles, named_nets, IsNamed, only_names}
 use Rattle.gos_verilog.proofs.SuffixLemmas.{suffix_code}
 use Rattle.gos_verilog.proofs.FoundLemmas.{declared_append}

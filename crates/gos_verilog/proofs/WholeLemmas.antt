@@ -21,7 +21,7 @@ use Rattle.std.proofs.Common.{append_assoc}
 use Rattle.gos_verilog.proofs.SuffixLemmas as names
 use Rattle.gos_verilog.proofs.PortLemmas.{IsRightNet, right_nets}
 use Rattle.gos_verilog.proofs.FoundLemmas.{wide_nets, number_nets}
-use Rattle.gos_verilog.proofs.OneTextLemmas.{drivers_body, outputs_body, text_parts, names_of, no_source, readable_own, readable_apart}
+use Rattle.gos_verilog.proofs.OneTextLemmas.{drivers_body, outputs_body, names_of, no_source, readable_own, readable_apart}
 
 cell_widths : (cells : List Cell) → AllByRecursion IsWritableCell cells → HaveCellWidths cells
 cell_widths [] all = tt

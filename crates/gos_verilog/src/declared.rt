@@ -47,9 +47,11 @@ pub fn port_declarations(
     ensures bare { IfOk result (λ both. map declared_net both.0.items ≡ both.0.items) }
     ensures names { IfOk result (λ both. AreNamesOf both.0.items names.now) }
     ensures passed { IfOk result (λ both. PassedIn text.now at both.1 (flat_map line_of both.0.items)) }
-    ensures left { (named : List (Role' × List ℕ)) → AreNamed named names.now → IfOk result (λ both. LeadsOn (LeftNets [] Give 0 named) (LeftCells both.0.items [])
+    ensures left { (named : List (Role' × List ℕ)) → AreNamed named names.now
+        → IfOk result (λ both. LeadsOn (LeftNets [] Give 0 named) (LeftCells both.0.items [])
         (record { text = text.now; at = at }) (record { text = text.now; at = both.1 })) }
-    ensures wrong { (named : List (Role' × List ℕ)) → AreNamed named names.now → IfErr result (FaultFrom (LeftNets [] Give 0 named) (record { text = text.now; at = at })) }
+    ensures wrong { (named : List (Role' × List ℕ)) → AreNamed named names.now
+        → IfErr result (FaultFrom (LeftNets [] Give 0 named) (record { text = text.now; at = at })) }
 {
     let mut nets = Vec::new(alloc);
     let mut side = Side::Give;

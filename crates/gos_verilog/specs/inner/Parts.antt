@@ -4,12 +4,12 @@
 use Rattle.std.specs.Prelude.{◌≡◌, ℕ, ◌≤◌, List, ◌++◌, length, codes}
 use Rattle.std.specs.List.{AllByRecursion, flat_map}
 use Rattle.gos_lex.specs.Names.{IsNameOrWord}
-use Rattle.gos_netlist.specs.Nets.{Cell, NetPort, Netlist}
+use Rattle.gos_netlist.specs.Nets.{Cell, Netlist}
 use Rattle.gos_netlist.specs.Writable.{IsNumber, IsWritablePort}
 use Rattle.gos_verilog.specs.PortNets.{PortNet, port_nets}
-use Rattle.gos_verilog.specs.Lines.{clock_declarations, port_declaration, cell_declarations, output_assignment}
+use Rattle.gos_verilog.specs.Lines.{output_assignment}
 use Rattle.gos_verilog.specs.VerilogText.{AreDrivers, IsItsNet}
-use Rattle.gos_verilog.specs.inner.Stages.{HaveNames, HaveWidths, HaveCellWidths, listed, IsBody}
+use Rattle.gos_verilog.specs.inner.Stages.{HaveNames, HaveWidths, HaveCellWidths, IsBody}
 use Rattle.gos_verilog.specs.inner.Noted.{AreRight}
 
 -- the name of the module, the nets of ports, the cells, the lines that drive them, and what stands behind these

@@ -1,10 +1,8 @@
-use Rattle.std.proofs.Common.{◌≡◌, ℕ, List, Bool, true, false, sym, ◌∙◌, ap, subst}
+use Rattle.std.proofs.Common.{◌≡◌, ℕ, List, Bool, true, false, sym, ◌∙◌, subst}
 use Rattle.std.proofs.lemmas.Result.{IfErr-weaker}
 use Rattle.gos_lex.specs.Items.{TextAt, Misses}
-use Rattle.gos_netlist.specs.Events.{is_input}
 use Rattle.gos_netlist.specs.Seen.{side_of}
 use Rattle.gos_verilog.specs.declared.fault.VFault.{VFault}
-use Rattle.gos_verilog.specs.PortNets.{direction}
 use Rattle.gos_verilog.specs.inner.Stages.{BreaksAt}
 use Rattle.gos_verilog.specs.inner.Left.{is_first, least_of, most_of, IsDeclaration, IsDeclared, IsNetOf}
 use Rattle.gos_verilog.proofs.StartLemmas.{breaks_as}

@@ -1,5 +1,4 @@
-use Rattle.std.proofs.Common.{◌≡◌, ◌+◌, ◌++◌, ◌∷◌, [], ℕ, List, rules, get_or, refl, sym, ◌∙◌, ap, subst}
-use Rattle.std.specs.Prelude.{codes}
+use Rattle.std.proofs.Common.{◌≡◌, ◌+◌, ◌∷◌, [], ℕ, List, rules, get_or, sym, ◌∙◌, ap, subst}
 use Rattle.gos_lex.specs.Items.{TextAt, Misses}
 use Rattle.gos_netlist.specs.NetItems.{Passed, IsInRange}
 use Rattle.gos_verilog.specs.inner.Slots.{Slot', FitSlots, line_text, IsLine}
@@ -44,8 +43,7 @@ returns-in-Ok-clause-declared c =
     let word : List ℕ = net_text name (c.args.input, n) in
     let line = subst (λ (k : ℕ). Passed old new (net_text name (c.args.input, k))) number known.1 in
     let end : new ≡ record { text = rest; at = c.at.result } = λ j. record { text = (whole.text ∙ c.new-cursor.ensures.text) j; at = sym c.at.ensures.at j } in
-    let copy : c.in_ok-to_vec-in-Ok.field-0.items ≡ name = c.in_ok-to_vec-in-Ok.ensures.items_if_clones_equal (λ x y e. e) in
-    (
+    let copy : c.in_ok-to_vec-in-Ok.field-0.items ≡ name = c.in_ok-to_vec-in-Ok.ensures.items_if_clones_equal (λ x y e. e) in (
       n,
       subst (IsInRange (least_of role last) (most_of role last)) number known.0,
       (λ j. record { name = copy j; input = c.args.input; width = n + 1; cell = 0 }),

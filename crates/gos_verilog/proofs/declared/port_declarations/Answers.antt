@@ -1,4 +1,4 @@
-use Rattle.std.proofs.Common.{◌≡◌, ◌+◌, ◌-◌, ◌++◌, ◌∷◌, ◌<◌, ◌≤◌, [], ℕ, List, Bool, Bor, length, take, drop, map, get_or, refl, sym, ◌∙◌, ap, subst, arith, drop-cons, add-one, length-drop}
+use Rattle.std.proofs.Common.{◌≡◌, ◌+◌, ◌-◌, ◌++◌, ◌∷◌, ◌<◌, ◌≤◌, [], ℕ, List, Bool, Bor, length, take, drop, map, get_or, sym, ◌∙◌, ap, subst, arith, drop-cons, add-one, length-drop}
 use Rattle.std.proofs.Math.ListN.{drop_of_length-le}
 use Rattle.std.proofs.lemmas.List.{length-map}
 use Rattle.gos_lex.specs.Items.{TextAt, Misses}
@@ -12,7 +12,7 @@ use Rattle.gos_verilog.specs.inner.Stages.{BreaksAt}
 use Rattle.gos_verilog.specs.inner.Breaks.{BreaksFrom, LeadsOn, PassedIn}
 use Rattle.gos_verilog.specs.inner.Left.{is_first, side_behind, last_behind, IsDeclared, IsDeclaration, LeftNets, net_of, net_text}
 use Rattle.gos_verilog.proofs.WordLemmas.{shift_passed}
-use Rattle.gos_verilog.proofs.LeftNetLemmas.{NamedAt, named_at, net_read, most_few, behind_few, nets_on, nets_break}
+use Rattle.gos_verilog.proofs.LeftNetLemmas.{named_at, net_read, most_few, behind_few, nets_on, nets_break}
 use Rattle.gos_verilog.proofs.declared.port_declarations.Goals as goal
 
 -- the name at a place, and those behind it

@@ -1,11 +1,8 @@
-use Rattle.std.proofs.Common.{◌≡◌, ◌≤◌, ℕ, List, [], Bor, length, map, drop, take}
-use Rattle.std.specs.List.{AllByRecursion, flat_map}
+use Rattle.std.proofs.Common.{◌≤◌, ℕ, List, [], length, drop}
 use Rattle.gos_netlist.specs.Nets.{Give}
 use Rattle.gos_netlist.specs.Seen.{side_of}
 use Rattle.gos_verilog.specs.declared.port_net.Role.{Role}
-use Rattle.gos_verilog.specs.Lines.{port_declaration}
-use Rattle.gos_verilog.specs.inner.Stages.{HaveWidths, declared_net}
-use Rattle.gos_verilog.specs.inner.Breaks.{LeadsOn, PassedIn}
+use Rattle.gos_verilog.specs.inner.Breaks.{LeadsOn}
 use Rattle.gos_verilog.specs.inner.Left.{AreNamed, LeftNets}
 use Rattle.gos_verilog.proofs.LeftNetLemmas.{NetsRead}
 use Rattle.gos_verilog.proofs.declared.port_declarations.Given as goal

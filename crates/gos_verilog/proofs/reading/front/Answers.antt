@@ -1,14 +1,13 @@
 use Rattle.std.proofs.Common.{◌≡◌, ◌≤◌, ◌++◌, [], append_assoc, List, ℕ, Bor, length, map, drop, sym, ◌∙◌, ap, subst, arith}
-use Rattle.std.specs.Prelude.{codes, IfOk, IfErr}
+use Rattle.std.specs.Prelude.{codes}
 use Rattle.std.specs.List.{flat_map}
 use Rattle.std.proofs.lemmas.Result.{err_from_is_err_and, IfErr-weaker, MatchResult-from_both}
 use Rattle.gos_lex.specs.Items.{TextAt}
 use Rattle.gos_netlist.specs.Nets.{NetPort, Give}
-use Rattle.gos_verilog.specs.declared.fault.VFault.{VFault}
-use Rattle.gos_verilog.specs.PortNets.{PortNet, port_nets}
+use Rattle.gos_verilog.specs.PortNets.{port_nets}
 use Rattle.gos_verilog.specs.Lines.{clock_declarations, port_declaration}
 use Rattle.gos_verilog.specs.VerilogText.{first_name}
-use Rattle.gos_verilog.specs.Place.{IsFormedText, ArePorts, head_of, front_of}
+use Rattle.gos_verilog.specs.Place.{IsFormedText, head_of}
 use Rattle.gos_verilog.specs.inner.Stages.{Rest, AreNamesOf, declared_net, listed, HasStart, IsStart, BreaksAt, HaveWidths}
 use Rattle.gos_verilog.specs.inner.Breaks.{FaultFrom, LeadsOn, PassedIn}
 use Rattle.gos_verilog.specs.inner.Left.{LeadsOnOf, LeftCells, LeftNets, AreNamed, named_nets}

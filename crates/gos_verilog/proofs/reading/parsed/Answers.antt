@@ -1,12 +1,11 @@
-use Rattle.std.proofs.Common.{◌≡◌, ◌≤◌, ◌++◌, List, ℕ, length, map, drop, sym, ◌∙◌, ap, subst}
+use Rattle.std.proofs.Common.{◌≡◌, ◌++◌, List, ℕ, length, map, drop, sym, ◌∙◌, ap, subst}
 use Rattle.std.specs.List.{AllByRecursion}
 use Rattle.std.proofs.lemmas.Result.{err_from_is_err_and}
-use Rattle.gos_netlist.specs.Nets.{NetPort, Netlist}
+use Rattle.gos_netlist.specs.Nets.{Netlist}
 use Rattle.gos_verilog.specs.declared.declared.Shape.{Shape}
 use Rattle.gos_verilog.specs.declared.fault.VFault.{VFault}
-use Rattle.gos_verilog.specs.PortNets.{PortNet, port_nets}
+use Rattle.gos_verilog.specs.PortNets.{PortNet}
 use Rattle.gos_verilog.specs.Lines.{cell_declarations}
-use Rattle.gos_verilog.specs.Place.{ArePorts}
 use Rattle.gos_verilog.specs.inner.Stages.{declared_net, shape_of}
 use Rattle.gos_verilog.specs.inner.Parts.{Parts}
 use Rattle.gos_verilog.specs.inner.Breaks.{BreaksFrom, FaultFrom, PassedIn}
