@@ -29,7 +29,7 @@ declaration_text kind name x w =
     ∙ append_assoc (codes "  " ++ kind) (codes " [") (decimal (w - 1) ++ 58 ∷ 48 ∷ 93 ∷ 32 ∷ (name ++ 59 ∷ 10 ∷ x)))))
 
 -- declarations of one kind and one name
-same_kind : (kind name x y : List ℕ) (v w : ℕ) → IsBits v → IsBits w → declaration kind v name ++ x ≡ declaration kind w name ++ y → (v ≡ w) × (x ≡ y)
+pub same_kind : (kind name x y : List ℕ) (v w : ℕ) → IsBits v → IsBits w → declaration kind v name ++ x ≡ declaration kind w name ++ y → (v ≡ w) × (x ≡ y)
 same_kind kind name x y v w is_v is_w same =
     let whole : 32 ∷ 32 ∷ (kind ++ 32 ∷ 91 ∷ (decimal (v - 1) ++ 58 ∷ 48 ∷ 93 ∷ 32 ∷ (name ++ 59 ∷ 10 ∷ x))) ≡ 32 ∷ 32 ∷ (kind ++ 32 ∷ 91 ∷ (decimal (w - 1) ++ 58 ∷ 48 ∷ 93 ∷ 32 ∷ (name ++ 59 ∷ 10 ∷ y))) =
     sym (declaration_text kind name x v) ∙ (same ∙ declaration_text kind name y w) in
@@ -125,7 +125,7 @@ abbrev pub HaveNetBits : List PortNet → Type 0
 HaveNetBits = AllByRecursion (λ n. IsBits n.width)
 
 -- the declaration of one net of a port
-net_declaration_code : (n m : PortNet) (x y : List ℕ) → IsBits n.width → IsBits m.width → n.name ≡ m.name → port_declaration n ++ x ≡ port_declaration m ++ y
+pub net_declaration_code : (n m : PortNet) (x y : List ℕ) → IsBits n.width → IsBits m.width → n.name ≡ m.name → port_declaration n ++ x ≡ port_declaration m ++ y
     → (n.input ≡ m.input) × (n.width ≡ m.width) × (x ≡ y)
 net_declaration_code n m x y is_n is_m named same = by n.input m.input refl refl
   where

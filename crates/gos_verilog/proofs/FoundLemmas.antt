@@ -222,7 +222,7 @@ declared_in_roles name side w [] rs = refl
 declared_in_roles name side w (n ∷ ns) [] = refl
 declared_in_roles name side w (n ∷ ns) (r ∷ rs) = ap (λ more. record { name = name ++ suffix r; input = is_input side (direction r); width = bits w r; cell = 0 } ∷ more) (declared_in_roles name side w ns rs)
 
-declared_append : (xs ys : List PortNet) → map declared_net (xs ++ ys) ≡ map declared_net xs ++ map declared_net ys
+pub declared_append : (xs ys : List PortNet) → map declared_net (xs ++ ys) ≡ map declared_net xs ++ map declared_net ys
 declared_append [] ys = refl
 declared_append (x ∷ xs) ys = ap (λ more. declared_net x ∷ more) (declared_append xs ys)
 

@@ -1,63 +1,15 @@
 -- The head of a module and its declarations, as the reader passes them: what is left of them.
-use Rattle.std.proofs.Common.{◌≡◌, inl, inr, ℕ, Bool, true, false, List, [], ◌∷◌, ◌++◌, map, drop, get_or, Some, refl, sym, ◌∙◌, ap, arith, slice_get, append_assoc, append-nil, codes, Bor}
+use Rattle.std.proofs.Common.{◌≡◌, ℕ, List, [], ◌∷◌, ◌++◌, map, Some, refl, sym, ◌∙◌, ap, arith, slice_get, append_assoc, append-nil, codes, Bor}
 use Rattle.std.proofs.lemmas.Option.{same_Some}
-use Rattle.gos_lex.specs.Items.{TextAt, IsJust, Misses, Passes}
+use Rattle.gos_lex.specs.Items.{TextAt, IsJust, Passes}
 use Rattle.gos_netlist.specs.NetItems.{Passed}
 use Rattle.gos_netlist.proofs.PassedLemmas.{passed_item}
 use Rattle.gos_verilog.specs.PortNets.{PortNet}
-use Rattle.gos_verilog.specs.Lines.{direction_word}
-use Rattle.gos_verilog.specs.inner.Stages.{Rest, AreNameBytes, HaveNames, AreNamesOf, listed, word_of, IsBody}
-use Rattle.gos_verilog.proofs.RestLemmas.{passed_rest, word_rest, word_stands, byte_at}
+use Rattle.gos_verilog.specs.inner.Stages.{Rest, AreNameBytes, HaveNames, AreNamesOf, listed}
+use Rattle.gos_verilog.proofs.RestLemmas.{byte_at}
 
 pub passed_word : (old new : TextAt) (bytes : List ℕ) → new.text ≡ old.text → Passes (IsJust bytes) old.text old.at new.at → Passed old new bytes
 passed_word old new bytes text passes = passed_item (IsJust bytes) old new bytes text passes.item passes
-
--- the text with the word of a direction
-abbrev directed : Bool → List ℕ → List ℕ
-directed input x = codes "  " ++ (direction_word input ++ (codes " [" ++ x))
-
-pub input_passed : (old new : TextAt) (input : Bool) (x : List ℕ) → Passed old new (codes "  input [") → Rest old (directed input x) → (true ≡ input) × Rest new x
-input_passed old new true x passed left = (refl, word_rest old new (codes "  input [") x passed left)
-input_passed old new false x passed left =
-    let byte : 105 ≡ 111 = ap (λ (bytes : List ℕ). get_or bytes 2 0) (sym (passed_rest old new (codes "  input [") passed) ∙ left) in absurd (omega (arith, byte))
-
-pub output_passed : (old new : TextAt) (input : Bool) (x : List ℕ) (place : ℕ) → Misses (IsJust (codes "  input [")) old.text old.at place → Passed old new (codes "  output [")
-    → Rest old (directed input x) → (false ≡ input) × Rest new x
-output_passed old new true x place misses passed left = absurd (word_stands old.text old.at place (codes "  input [") x misses left)
-output_passed old new false x place misses passed left = (refl, word_rest old new (codes "  output [") x passed left)
-
-pub no_direction : (old : TextAt) (input : Bool) (x : List ℕ) (one other : ℕ) → Misses (IsJust (codes "  input [")) old.text old.at one
-    → Misses (IsJust (codes "  output [")) old.text old.at other → Rest old (directed input x) → ⊥
-no_direction old true x one other misses misses_other left = word_stands old.text old.at one (codes "  input [") x misses left
-no_direction old false x one other misses misses_other left = word_stands old.text old.at other (codes "  output [") x misses_other left
-
--- the text with the word of a kind
-abbrev worded : Bool → List ℕ → List ℕ
-worded register x = codes "  " ++ (word_of register ++ (codes " [" ++ x))
-
-pub wire_passed : (old new : TextAt) (register : Bool) (x : List ℕ) → Passed old new (codes "  wire [") → Rest old (worded register x) → (false ≡ register) × Rest new x
-wire_passed old new false x passed left = (refl, word_rest old new (codes "  wire [") x passed left)
-wire_passed old new true x passed left =
-    let byte : 119 ≡ 114 = ap (λ (bytes : List ℕ). get_or bytes 2 0) (sym (passed_rest old new (codes "  wire [") passed) ∙ left) in absurd (omega (arith, byte))
-
-pub reg_passed : (old new : TextAt) (register : Bool) (x : List ℕ) (place : ℕ) → Misses (IsJust (codes "  wire [")) old.text old.at place → Passed old new (codes "  reg [")
-    → Rest old (worded register x) → (true ≡ register) × Rest new x
-reg_passed old new false x place misses passed left = absurd (word_stands old.text old.at place (codes "  wire [") x misses left)
-reg_passed old new true x place misses passed left = (refl, word_rest old new (codes "  reg [") x passed left)
-
-pub no_kind_word : (old : TextAt) (register : Bool) (x : List ℕ) (one other : ℕ) → Misses (IsJust (codes "  wire [")) old.text old.at one
-    → Misses (IsJust (codes "  reg [")) old.text old.at other → Rest old (worded register x) → ⊥
-no_kind_word old false x one other misses misses_other left = word_stands old.text old.at one (codes "  wire [") x misses left
-no_kind_word old true x one other misses misses_other left = word_stands old.text old.at other (codes "  reg [") x misses_other left
-
--- no word of a kind begins what stands behind the declarations
-pub body_no_wire : (old new : TextAt) → Passed old new (codes "  wire [") → IsBody (drop old.at old.text) → ⊥
-body_no_wire old new passed (inl first) = let byte : 32 ≡ 101 = ap (λ (bytes : List ℕ). get_or bytes 0 0) (sym (passed_rest old new (codes "  wire [") passed)) ∙ first in omega (arith, byte)
-body_no_wire old new passed (inr third) = let byte : 119 ≡ 97 = ap (λ (bytes : List ℕ). get_or bytes 2 0) (sym (passed_rest old new (codes "  wire [") passed)) ∙ third in omega (arith, byte)
-
-pub body_no_reg : (old new : TextAt) → Passed old new (codes "  reg [") → IsBody (drop old.at old.text) → ⊥
-body_no_reg old new passed (inl first) = let byte : 32 ≡ 101 = ap (λ (bytes : List ℕ). get_or bytes 0 0) (sym (passed_rest old new (codes "  reg [") passed)) ∙ first in omega (arith, byte)
-body_no_reg old new passed (inr third) = let byte : 114 ≡ 97 = ap (λ (bytes : List ℕ). get_or bytes 2 0) (sym (passed_rest old new (codes "  reg [") passed)) ∙ third in omega (arith, byte)
 
 -- the values of borrowed lists, one more
 abbrev pub values : List (Bor (List ℕ)) → List (List ℕ)

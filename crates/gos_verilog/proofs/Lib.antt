@@ -16,7 +16,6 @@ pub mod NumberLemmas
 pub mod ListLemmas
 pub mod RestLemmas
 pub mod HeadLemmas
-pub mod DeclaredLemmas
 pub mod LineLemmas
 pub mod NotedLemmas
 pub mod FoundLemmas
@@ -30,3 +29,14 @@ pub mod KindLemmas
 pub mod ReadableLemmas
 pub mod StartLemmas
 pub mod PlaceLemmas
+pub mod BreakLemmas
+pub mod AmongLemmas
+pub mod LeftLemmas
+pub mod LeftOutputLemmas
+pub mod WordLemmas
+pub mod LeftDriverLemmas
+pub mod LeftCellLemmas
+pub mod FormedLemmas
+pub mod FrontLemmas
+pub mod LeftNetLemmas
+pub mod NamedLemmas

@@ -116,6 +116,8 @@ next_line known all x text shapes nets old now i at cells shape is has long righ
                 known = ap (λ (p : Places). place_at p are.0) far.places ∙ (ap (place_at old.places) fed.5 ∙ place);
                 there = subst (λ (ns : List PortNet). slice_get ns fed.0 ≡ Some (declared_net fed.1)) (sym is) (get_declared known fed.0 fed.1 fed.2);
                 bits = ap (λ (d : Cell). d.width) same ∙ sym width;
+                input = fed.3;
+                named = fed.5;
                 inside = omega (arith, far.count, long, inside);
               };
           fed = are.2;

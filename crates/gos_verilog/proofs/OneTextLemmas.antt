@@ -80,7 +80,7 @@ pub names_of : (ns : List PortNet) → AllByRecursion IsRightNet ns → HaveName
 names_of [] all = tt
 names_of (n ∷ ns) all = (all.0.name.bytes, names_of ns all.1)
 
-bits_of : (ns : List PortNet) → AllByRecursion IsRightNet ns → HaveNetBits ns
+pub bits_of : (ns : List PortNet) → AllByRecursion IsRightNet ns → HaveNetBits ns
 bits_of [] all = tt
 bits_of (n ∷ ns) all = (all.0.width, bits_of ns all.1)
 

@@ -1,5 +1,5 @@
 -- How a text of the form of a netlist's begins: with the name of its module, the clock and the reset.
-use Rattle.std.proofs.Common.{◌≡◌, inl, inr, ℕ, ◌+◌, ◌-◌, ◌<◌, ◌≤◌, true, List, [], ◌∷◌, ◌++◌, length, drop, get_or, refl, sym, ◌∙◌, ap, subst, arith, append_assoc, append-nil, codes}
+use Rattle.std.proofs.Common.{◌≡◌, inl, inr, ℕ, ◌+◌, ◌-◌, ◌<◌, ◌≤◌, List, [], ◌∷◌, ◌++◌, length, drop, get_or, refl, sym, ◌∙◌, ap, subst, arith, append_assoc, append-nil, codes}
 use Rattle.std.specs.List.{list_all, slice_range}
 use Rattle.std.proofs.lemmas.Bool.{and_parts, cases_lt}
 use Rattle.std.proofs.lemmas.List.Folds.{list_all-append}
@@ -12,7 +12,7 @@ use Rattle.gos_netlist.proofs.NumberLemmas.{byte_missed}
 use Rattle.gos_netlist.proofs.SequenceLemmas.{Then, Lacks, IsCode, ended_misses, ended_code, misses_as, then_first, then_rest}
 use Rattle.gos_verilog.specs.declared.fault.VFault.{VFault}
 use Rattle.gos_verilog.specs.declared.fault.VFault.TheVariants as faults
-use Rattle.gos_verilog.specs.inner.Stages.{Rest, IsModuleName, start_text, IsStart, HasStart, BreaksAt}
+use Rattle.gos_verilog.specs.inner.Stages.{Rest, IsModuleName, IsStart, HasStart, BreaksAt}
 use Rattle.gos_verilog.proofs.CodeLemmas as codes_of
 use Rattle.gos_verilog.proofs.PortLemmas.{name_bytes}
 use Rattle.gos_verilog.proofs.RestLemmas.{passed_rest, not_missed}

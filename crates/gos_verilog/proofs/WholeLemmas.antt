@@ -14,17 +14,20 @@ use Rattle.gos_verilog.specs.Readable.{IsRead, IsReadable, IsRefused}
 use Rattle.gos_verilog.specs.inner.Stages.{IsWant, IsNetName, HaveOwnNames, HaveCellWidths, declared_net}
 use Rattle.gos_verilog.specs.inner.Inputs.{AreFed}
 use Rattle.gos_verilog.specs.inner.Noted.{HasPlaces, AreRight}
-use Rattle.gos_verilog.specs.inner.Parts.{Parts, whole_text}
+use Rattle.gos_verilog.specs.inner.Parts.{Parts}
+use Rattle.gos_verilog.specs.Lines.{cell_declarations}
+use Rattle.gos_verilog.specs.Place.{ArePorts, front_of}
+use Rattle.std.proofs.Common.{append_assoc}
 use Rattle.gos_verilog.proofs.SuffixLemmas as names
 use Rattle.gos_verilog.proofs.PortLemmas.{IsRightNet, right_nets}
 use Rattle.gos_verilog.proofs.FoundLemmas.{wide_nets, number_nets}
-use Rattle.gos_verilog.proofs.OneTextLemmas.{drivers_body, outputs_body, text_parts, names_of, no_source, readable_own, readable_apart}
+use Rattle.gos_verilog.proofs.OneTextLemmas.{drivers_body, outputs_body, names_of, no_source, readable_own, readable_apart}
 
 cell_widths : (cells : List Cell) → AllByRecursion IsWritableCell cells → HaveCellWidths cells
 cell_widths [] all = tt
 cell_widths (c ∷ cells) all = (all.0.0, cell_widths cells all.1)
 
-net_names : (nets : List PortNet) → AllByRecursion IsRightNet nets → AllByRecursion (λ n. IsNetName n.name) nets
+pub net_names : (nets : List PortNet) → AllByRecursion IsRightNet nets → AllByRecursion (λ n. IsNetName n.name) nets
 net_names [] all = tt
 net_names (n ∷ nets) all = (all.0.name, net_names nets all.1)
 
@@ -38,12 +41,12 @@ right_of net readable =
       fit = readable.writable.cells;
     }
 
-first_named : (ps : List NetPort) → 0 < length ps → AllByRecursion IsWritablePort ps → IsNameOrWord (first_name ps)
+pub first_named : (ps : List NetPort) → 0 < length ps → AllByRecursion IsWritablePort ps → IsNameOrWord (first_name ps)
 first_named [] some all = absurd (omega (arith, some))
 first_named (p ∷ ps) some all = all.0.name
 
 -- the parts of a text that is read as a netlist
-pub parts_of : (net : Netlist) (text : List ℕ) → IsRead text net → (parts : Parts net) × (text ≡ whole_text parts)
+pub parts_of : (net : Netlist) (text : List ℕ) → IsRead text net → (parts : Parts net) × ArePorts net.ports × (text ≡ front_of net.ports ++ (cell_declarations 0 parts.cells ++ (parts.drivers ++ parts.back)))
 parts_of net text (readable, (drivers, are, is)) =
     let nets : List PortNet = port_nets net.ports in
     let right = right_nets net.ports readable.writable.ports in (
@@ -67,11 +70,12 @@ parts_of net text (readable, (drivers, are, is)) =
         right = right_of net readable;
         are = are;
       },
-      is ∙ text_parts net drivers,
+      record { writable = readable.writable.ports; count = readable.writable.port_count; some = readable.some; names = readable.names },
+      is ∙ (append_assoc (declarations net) drivers (outputs net) ∙ append_assoc (front_of net.ports) (cell_declarations 0 net.cells) (drivers ++ outputs net)),
     )
 
 -- the names and places that are known of declared nets
-undeclared : (nets : List PortNet) (k : ℕ) (a : PortNet) → slice_get (map declared_net nets) k ≡ Some a → (b : PortNet) × (slice_get nets k ≡ Some b) × (a ≡ declared_net b)
+pub undeclared : (nets : List PortNet) (k : ℕ) (a : PortNet) → slice_get (map declared_net nets) k ≡ Some a → (b : PortNet) × (slice_get nets k ≡ Some b) × (a ≡ declared_net b)
 undeclared [] k a is = absurd (cc is)
 undeclared (n ∷ nets) zero a is = let same : declared_net n ≡ a = cc is in (n, refl, sym same)
 undeclared (n ∷ nets) (suc k) a is = undeclared nets k a is
@@ -82,7 +86,7 @@ own_declared nets own j k a b is_a is_b same =
     let other = undeclared nets k b is_b in
     own j k one.0 other.0 one.1 other.1 (ap (λ (n : PortNet). n.name) (sym one.2) ∙ (same ∙ ap (λ (n : PortNet). n.name) other.2))
 
-get_declared : (nets : List PortNet) (k : ℕ) (net : PortNet) → slice_get nets k ≡ Some net → slice_get (map declared_net nets) k ≡ Some (declared_net net)
+pub get_declared : (nets : List PortNet) (k : ℕ) (net : PortNet) → slice_get nets k ≡ Some net → slice_get (map declared_net nets) k ≡ Some (declared_net net)
 get_declared [] k net is = absurd (cc is)
 get_declared (n ∷ nets) zero net is = let same : n ≡ net = cc is in ap (λ (m : PortNet). Some (declared_net m)) same
 get_declared (n ∷ nets) (suc k) net is = get_declared nets k net is

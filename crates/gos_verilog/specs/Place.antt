@@ -3,14 +3,17 @@
 -- Read first: Readable; Items of gos_lex. Which cell each input is, is judged last. Until then the line of an Input cell
 -- may name any input of its bits, so texts in which it does are counted here too.
 use Rattle.std.specs.Prelude.{◌≡◌, ℕ, ◌<◌, List, ◌++◌, length, codes}
+use Rattle.std.specs.List.{AllByRecursion, flat_map}
 use Rattle.gos_lex.specs.Names.{IsNameOrWord}
 use Rattle.gos_lex.specs.Items.{Begins, StopsAt}
-use Rattle.gos_netlist.specs.Nets.{Netlist}
-use Rattle.gos_netlist.specs.Writable.{IsWritable}
+use Rattle.gos_netlist.specs.Nets.{NetPort, Netlist}
+use Rattle.gos_netlist.specs.Writable.{IsNumber, IsWritablePort, IsWritable}
 use Rattle.gos_netcheck.specs.Rules.{Kept}
 use Rattle.gos_verilog.specs.declared.fault.VFault.{VFault}
 use Rattle.gos_verilog.specs.declared.fault.VFault.TheVariants.{Form, NoMemory}
-use Rattle.gos_verilog.specs.VerilogText.{Feeding, IsModuleOf}
+use Rattle.gos_verilog.specs.VerilogText.{first_name, Feeding, IsModuleOf}
+use Rattle.gos_verilog.specs.PortNets.{port_nets}
+use Rattle.gos_verilog.specs.Lines.{module_head, clock_declarations, port_declaration}
 use Rattle.gos_verilog.specs.Readable.{HasOwnName, IsRead}
 
 -- an Input cell reads an input of its bits
@@ -46,6 +49,24 @@ HasOnePlace = (text : List ℕ) (at other : ℕ) → IsPlace text at → IsPlace
 -- the text doesn't begin as each text does: with the name of its module, the clock and the reset
 abbrev pub HasOtherStart : List ℕ → Type 0
 HasOtherStart text = (name more : List ℕ) → IsNameOrWord name → text ≡ codes "module gos_" ++ (name ++ (codes "(clk, rst" ++ more)) → ⊥
+
+-- the text up to the declarations of the nets of these ports, and up to those of cells' nets
+abbrev pub head_of : List NetPort → List ℕ
+head_of ports = module_head (first_name ports) (port_nets ports) ++ clock_declarations
+
+abbrev pub front_of : List NetPort → List ℕ
+front_of ports = head_of ports ++ flat_map port_declaration (port_nets ports)
+
+-- ports of names of their own, whose names and numbers are in the ranges of the format
+pub record ArePorts (ports : List NetPort) : Type 0 where
+  pub writable : AllByRecursion IsWritablePort ports
+  pub count : IsNumber (length ports)
+  pub some : 0 < length ports
+  pub names : Kept (HasOwnName ports) ports
+
+-- the text has the names of the nets of such ports
+abbrev pub HasHead : List ℕ → Type 0
+HasHead text = (ports : List NetPort) × (more : List ℕ) × ArePorts ports × (text ≡ head_of ports ++ more)
 
 -- the fault is at its place
 abbrev pub HasPlace : List ℕ → VFault → Type 0

@@ -7,3 +7,5 @@ pub mod Inputs
 pub mod Stages
 pub mod Noted
 pub mod Parts
+pub mod Breaks
+pub mod Left

@@ -171,15 +171,15 @@ fn register(alloc: Global, cursor: &mut Cursor, i: u32, width: u32) -> Result<Nu
     line(alloc, cursor, &slots, b"\n")
 }
 
-// The word for the net that a line assigns.
-fn target(i: u32) -> Slot<'static>
+/// The word for the net that a line assigns.
+pub fn target(i: u32) -> Slot<'static>
     ensures { result ≡ lines.target_slot i }
 {
     exactly(b"  assign n", i, b' ')
 }
 
-// A word and exactly this number.
-fn exactly(before: &[u8], n: u32, end: u8) -> Slot
+/// A word and exactly this number.
+pub fn exactly(before: &[u8], n: u32, end: u8) -> Slot
     ensures { result ≡ lines.exactly before.now n end }
 {
     Slot {

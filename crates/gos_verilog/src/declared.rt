@@ -1,19 +1,26 @@
 // The declarations of a module: of the nets of its ports, and of its cells.
-ghost use Rattle.std.specs.Prelude.{◌≡◌, ◌≤◌, ◌-◌, ◌++◌, ℕ, Bool, List, IfOk, MatchResult, length, map, drop, codes};
-ghost use Rattle.std.specs.Fmt.{decimal};
+ghost use Rattle.std.specs.Prelude.{◌≡◌, ◌⊎◌, ◌≤◌, ◌++◌, [], ℕ, Bool, List, IfOk, IfErr, MatchOption, length, map};
 ghost use Rattle.std.specs.List.{AllByRecursion, flat_map};
-ghost use Rattle.gos_types.specs.Widths.{IsWidth};
-ghost use Rattle.gos_netlist.specs.Nets.{Cell};
-ghost use Rattle.gos_verilog.specs.PortNets.{PortNet as Net};
-ghost use Rattle.gos_verilog.specs.Lines.{direction_word, port_declaration as line_of, cell_net, cell_declarations as lines_of};
-ghost use Rattle.gos_verilog.specs.inner.Stages.{Rest, IsWant, AreNamesOf, HaveWidths, HaveCellWidths, declared_net, word_of, shape_of, IsBody};
+ghost use Rattle.gos_lex.specs.Items.{Misses};
+ghost use Rattle.gos_netlist.specs.Nets.{Give};
+ghost use Rattle.gos_netlist.specs.NetItems.{IsInRange};
+ghost use Rattle.gos_netlist.specs.Seen.{side_of};
+ghost use Rattle.gos_verilog.specs.declared.port_net.Role.{Role as Role'};
+ghost use Rattle.gos_verilog.specs.PortNets.{suffix};
+ghost use Rattle.gos_verilog.specs.Lines.{port_declaration as line_of};
+ghost use Rattle.gos_verilog.specs.inner.Stages.{AreNamesOf, BreaksAt, HaveWidths, IsWant, declared_net};
+ghost use Rattle.gos_verilog.specs.inner.Breaks.{FaultFrom, LeadsOn, PassedIn};
+ghost use Rattle.gos_verilog.specs.inner.Left as lefts;
+ghost use Rattle.gos_verilog.specs.inner.Left.{AreNamed, IsDeclaration, IsDeclared, IsNetOf, IsShape, IsShapeLine, IsShapeOf, LeftCells, LeftNets, NoShape};
+ghost use Rattle.gos_verilog.specs.inner.Left.{net_front, net_of, net_text, shape_front, shape_text, shapes_text};
 
+use crate::cell_line::exactly;
 use crate::fault::VFault;
-use crate::head::word;
-use crate::port_net::PortNet;
-use crate::slots::{number, pass};
+use crate::port_net::{PortNet, Role};
+use crate::ports_of::ends_with;
+use crate::slots::{Slot, line};
 use gos_lex::Cursor;
-use gos_netlist::NetId;
+use gos_netlist::{NetId, Side};
 use std::alloc::Global;
 
 /// What is declared of a cell's net.
@@ -25,131 +32,281 @@ pub struct Shape {
     pub register: bool,
 }
 
-/// Passes the declarations of the nets of ports with these names.
+/// Reads the declarations of the nets of ports with these names, from `at` on. It gives the nets and the place behind
+/// them.
+#[tactic(auto, using(crate::proofs::ListLemmas::all_snoc))]
 pub fn port_declarations(
     alloc: Global,
-    cursor: &mut Cursor,
+    text: &[u8],
+    at: usize,
     names: &[&[u8]],
-) -> Result<Vec<PortNet>, VFault>
-    ensures text { cursor.new.text ≡ cursor.old.text }
-    ensures stands { (nets : List Net) (x : List ℕ) → HaveWidths nets → AreNamesOf nets names.now → Rest cursor.old (flat_map line_of nets ++ x)
-        → MatchResult result (λ found. (found.items ≡ map declared_net nets) × Rest cursor.new x) IsWant }
+) -> Result<(Vec<PortNet>, usize), VFault>
+    requires within { at ≤ length text.now }
+    ensures within { IfOk result (λ both. both.1 ≤ length text.now) }
+    ensures wide { IfOk result (λ both. HaveWidths both.0.items) }
+    ensures bare { IfOk result (λ both. map declared_net both.0.items ≡ both.0.items) }
+    ensures names { IfOk result (λ both. AreNamesOf both.0.items names.now) }
+    ensures passed { IfOk result (λ both. PassedIn text.now at both.1 (flat_map line_of both.0.items)) }
+    ensures left { (named : List (Role' × List ℕ)) → AreNamed named names.now
+        → IfOk result (λ both. LeadsOn (LeftNets [] Give 0 named) (LeftCells both.0.items [])
+        (record { text = text.now; at = at }) (record { text = text.now; at = both.1 })) }
+    ensures wrong { (named : List (Role' × List ℕ)) → AreNamed named names.now
+        → IfErr result (FaultFrom (LeftNets [] Give 0 named) (record { text = text.now; at = at })) }
 {
     let mut nets = Vec::new(alloc);
+    let mut side = Side::Give;
+    let mut last = 0;
+    let mut at = at;
     for name in names {
-        nets.push(port_declaration(alloc, cursor, name)?)?;
+        match role_of(name) {
+            Some(role) => match net_declaration(alloc, &text[at..], name, role, side, last) {
+                Ok((net, len)) => {
+                    side = side_behind(role, side, net.input);
+                    last = last_behind(role, last, net.width - 1);
+                    nets.push(net)?;
+                    at += len;
+                }
+                Err(VFault::Form { at: place }) => return Err(VFault::Form { at: at + place }),
+                Err(VFault::NoMemory) => return Err(VFault::NoMemory),
+            },
+            None => return Err(VFault::Form { at }),
+        }
     }
-    Ok(nets)
+    Ok((nets, at))
 }
 
-// Passes the declaration of the net of a port with this name.
-fn port_declaration(alloc: Global, cursor: &mut Cursor, name: &[u8]) -> Result<PortNet, VFault>
-    ensures text { cursor.new.text ≡ cursor.old.text }
-    ensures stands { (net : Net) (x : List ℕ) → IsWidth net.width → name.now ≡ net.name → Rest cursor.old (line_of net ++ x)
-        → MatchResult result (λ found. (found ≡ declared_net net) × Rest cursor.new x) IsWant }
+// The role of the net of this name.
+fn role_of(name: &[u8]) -> Option<Role>
+    ensures { (role : Role') (front : List ℕ) → name.now ≡ front ++ suffix role → MatchOption result ⊥ (λ found. found ≡ role) }
 {
-    let input = direction(cursor)?;
-    let width = width(cursor)?;
-    word(cursor, name)?;
-    word(cursor, b";\n")?;
-    Ok(PortNet {
-        name: name.to_vec(alloc)?,
-        input,
-        width,
-        cell: NetId(0),
-    })
+    if ends_with(name, b"__run") {
+        Some(Role::Run)
+    } else if ends_with(name, b"__done") {
+        Some(Role::Done)
+    } else if ends_with(name, b"__ask") {
+        Some(Role::Ask)
+    } else if ends_with(name, b"__ans") {
+        Some(Role::Ans)
+    } else if ends_with(name, b"__ansvalue") {
+        Some(Role::AnsValue)
+    } else if ends_with(name, b"__read") {
+        Some(Role::Read)
+    } else if ends_with(name, b"__write") {
+        Some(Role::Write)
+    } else if ends_with(name, b"__writevalue") {
+        Some(Role::WriteValue)
+    } else {
+        None
+    }
 }
 
-// Passes the word of a direction, and says whether the net is an input.
-fn direction(cursor: &mut Cursor) -> Result<bool, VFault>
-    ensures text { cursor.new.text ≡ cursor.old.text }
-    ensures stands { (input : Bool) (x : List ℕ) → Rest cursor.old (codes "  " ++ (direction_word input ++ (codes " [" ++ x)))
-        → MatchResult result (λ found. (found ≡ input) × Rest cursor.new x) (λ _. ⊥) }
+// Whether the net in this role is the first of its port.
+fn is_first(role: Role) -> bool
+    ensures { result ≡ lefts.is_first role }
 {
-    match pass(cursor, b"  input [") {
-        Ok(()) => Ok(true),
-        Err(one) => match pass(cursor, b"  output [") {
-            Ok(()) => Ok(false),
-            Err(other) => Err(VFault::Form {
+    matches!(role, Role::Run | Role::Ask | Role::Read)
+}
+
+// The side of a port behind a net in this role.
+fn side_behind(role: Role, side: Side, input: bool) -> Side
+    ensures { side_of result ≡ lefts.side_behind (lefts.is_first role) (side_of side) input }
+{
+    if is_first(role) {
+        if input { Side::Give } else { Side::Take }
+    } else {
+        side
+    }
+}
+
+// The last bit of the value of a port, behind a net in this role with this last bit.
+fn last_behind(role: Role, last: u32, bit: u32) -> u32
+    ensures { result ≡ lefts.last_behind role last bit }
+{
+    match role {
+        Role::AnsValue => bit,
+        _ => last,
+    }
+}
+
+// Reads the declaration of the net of a port in this role, with its length.
+fn net_declaration(
+    alloc: Global,
+    rest: &[u8],
+    name: &[u8],
+    role: Role,
+    side: Side,
+    last: u32,
+) -> Result<(PortNet, usize), VFault>
+    requires { last ≤ 31 }
+    ensures within { IfOk result (λ both. both.1 ≤ length rest.now) }
+    ensures declared { IfOk result (λ both. (v : Bool × ℕ) × IsDeclared role (side_of side) last v × (both.0 ≡ net_of name.now v)
+        × PassedIn rest.now 0 both.1 (net_text name.now v)) }
+    ensures wrong { IfErr result (BreaksAt (IsDeclaration role (side_of side) last name.now) (record { text = rest.now; at = 0 })) }
+{
+    if !is_first(role) {
+        return net_line(alloc, rest, name, role.is_input(side), role, last);
+    }
+    match net_line(alloc, rest, name, true, role, last) {
+        Ok(both) => Ok(both),
+        Err(VFault::Form { at: one }) => match net_line(alloc, rest, name, false, role, last) {
+            Ok(both) => Ok(both),
+            Err(VFault::Form { at: other }) => Err(VFault::Form {
                 at: further(one, other),
             }),
+            Err(VFault::NoMemory) => Err(VFault::NoMemory),
         },
+        Err(VFault::NoMemory) => Err(VFault::NoMemory),
     }
 }
 
-// Passes a range, and gives how many bits it has.
-fn width(cursor: &mut Cursor) -> Result<u32, VFault>
-    ensures text { cursor.new.text ≡ cursor.old.text }
-    ensures width { IfOk result IsWidth }
-    ensures stands { (w : ℕ) (x : List ℕ) → IsWidth w → Rest cursor.old (decimal (w - 1) ++ (codes ":0] " ++ x))
-        → MatchResult result (λ found. (found ≡ w) × Rest cursor.new x) (λ _. ⊥) }
+// Reads the declaration of a net of this direction, with its length.
+fn net_line(
+    alloc: Global,
+    rest: &[u8],
+    name: &[u8],
+    input: bool,
+    role: Role,
+    last: u32,
+) -> Result<(PortNet, usize), VFault>
+    requires { last ≤ 31 }
+    ensures within { IfOk result (λ both. both.1 ≤ length rest.now) }
+    ensures declared { IfOk result (λ both. (n : ℕ) × IsInRange (lefts.least_of role last) (lefts.most_of role last) n × (both.0 ≡ net_of name.now (input, n))
+        × PassedIn rest.now 0 both.1 (net_text name.now (input, n))) }
+    ensures wrong { IfErr result (BreaksAt (IsNetOf input (lefts.least_of role last) (lefts.most_of role last) name.now) (record { text = rest.now; at = 0 })) }
 {
-    match number(cursor, 0, 31, b':') {
-        Ok(last) => {
-            word(cursor, b"0] ")?;
-            Ok(last + 1)
+    let mut tail = b"0] ".as_slice().to_vec(alloc)?;
+    tail.extend_from_slice(name)?;
+    tail.extend_from_slice(b";\n")?;
+    let mut cursor = Cursor::new(rest);
+    let slots = [Slot {
+        before: net_word(input),
+        low: least_of(role, last),
+        high: most_of(role, last),
+        end: b':',
+    }];
+    match line(alloc, &mut cursor, &slots, &tail) {
+        Ok(numbers) => {
+            let net = PortNet {
+                name: name.to_vec(alloc)?,
+                input,
+                width: numbers[0] + 1,
+                cell: NetId(0),
+            };
+            Ok((net, cursor.at()))
         }
         Err(at) => Err(VFault::Form { at }),
     }
+}
+
+// The least last bit of a net in this role.
+fn least_of(role: Role, last: u32) -> u32
+    ensures { result ≡ lefts.least_of role last }
+{
+    match role {
+        Role::WriteValue => last,
+        _ => 0,
+    }
+}
+
+// The greatest last bit of a net in this role.
+fn most_of(role: Role, last: u32) -> u32
+    ensures { result ≡ lefts.most_of role last }
+{
+    match role {
+        Role::AnsValue => 31,
+        Role::WriteValue => last,
+        _ => 0,
+    }
+}
+
+// What stands before the range of a net of a port.
+fn net_word(input: bool) -> &'static [u8]
+    ensures { result.now ≡ net_front input }
+{
+    if input { b"  input [" } else { b"  output [" }
 }
 
 /// The greater of two places.
 pub fn further(one: usize, other: usize) -> usize
     ensures at_least { (one ≤ result) × (other ≤ result) }
+    ensures one { (result ≡ one) ⊎ (result ≡ other) }
 {
     if one < other { other } else { one }
 }
 
-/// Passes declarations of the nets of cells. The second is the place where no further one goes on.
+/// Reads declarations of the nets of cells, from `at` on. It gives what they declare, the place behind them, and the
+/// place where no further one goes on.
 #[tactic(auto, using(crate::proofs::ListLemmas::all_snoc))]
-pub fn cell_declarations(alloc: Global, cursor: &mut Cursor) -> Result<(Vec<Shape>, usize), VFault>
-    ensures text { cursor.new.text ≡ cursor.old.text }
-    ensures widths { IfOk result (λ both. AllByRecursion (λ shape. IsWidth shape.width) both.0.items) }
-    ensures few { IfOk result (λ both. length both.0.items ≤ 4294967295) }
-    ensures stands { (cells : List Cell) (x : List ℕ) → HaveCellWidths cells → length cells ≤ 4294967295 → IsBody x → Rest cursor.old (lines_of 0 cells ++ x)
-        → MatchResult result (λ both. (both.0.items ≡ map shape_of cells) × Rest cursor.new x) IsWant }
+pub fn cell_declarations(
+    alloc: Global,
+    text: &[u8],
+    at: usize,
+) -> Result<(Vec<Shape>, usize, usize), VFault>
+    requires within { at ≤ length text.now }
+    ensures widths { IfOk result (λ found. AllByRecursion IsShape found.0.items) }
+    ensures few { IfOk result (λ found. length found.0.items ≤ 4294967295) }
+    ensures passed { IfOk result (λ found. PassedIn text.now at found.1 (shapes_text 0 found.0.items)) }
+    ensures ends { IfOk result (λ found. NoShape (length found.0.items) text.now found.1 found.2) }
+    ensures only { IfErr result IsWant }
 {
     let mut shapes = Vec::new(alloc);
+    let mut at = at;
     for i in 0..u32::MAX {
-        match kind(cursor) {
-            Ok(register) => shapes.push(cell_declaration(cursor, i, register)?)?,
-            Err(at) => return Ok((shapes, at)),
+        match cell_declaration(alloc, &text[at..], i) {
+            Ok((shape, len)) => {
+                shapes.push(shape)?;
+                at += len;
+            }
+            Err(place) => return Ok((shapes, at, at + place)),
         }
     }
-    let at = cursor.at();
-    Ok((shapes, at))
+    Ok((shapes, at, at))
 }
 
-// Passes the word for the kind of a cell's net, and says whether it is that of a register.
-fn kind(cursor: &mut Cursor) -> Result<bool, usize>
-    ensures text { cursor.new.text ≡ cursor.old.text }
-    ensures stands { (register : Bool) (x : List ℕ) → Rest cursor.old (codes "  " ++ (word_of register ++ (codes " [" ++ x)))
-        → MatchResult result (λ found. (found ≡ register) × Rest cursor.new x) (λ _. ⊥) }
-    ensures ends { IsBody (drop cursor.old.at cursor.old.text) → MatchResult result (λ _. ⊥) (λ _. cursor.new ≡ cursor.old) }
+// Reads the declaration of the net of cell `i`, with its length.
+fn cell_declaration(alloc: Global, rest: &[u8], i: u32) -> Result<(Shape, usize), usize>
+    ensures shape { IfOk result (λ both. IsShape both.0) }
+    ensures within { IfOk result (λ both. both.1 ≤ length rest.now) }
+    ensures passed { IfOk result (λ both. PassedIn rest.now 0 both.1 (shape_text i both.0)) }
+    ensures wrong { IfErr result (Misses (IsShapeLine i) rest.now 0) }
 {
-    match pass(cursor, b"  wire [") {
-        Ok(()) => Ok(false),
-        Err(one) => match pass(cursor, b"  reg [") {
-            Ok(()) => Ok(true),
+    match declared_as(alloc, rest, i, false) {
+        Ok(both) => Ok(both),
+        Err(one) => match declared_as(alloc, rest, i, true) {
+            Ok(both) => Ok(both),
             Err(other) => Err(further(one, other)),
         },
     }
 }
 
-// Passes the declaration of the net of cell `i`, behind the word for its kind.
-fn cell_declaration(cursor: &mut Cursor, i: u32, register: bool) -> Result<Shape, VFault>
-    ensures text { cursor.new.text ≡ cursor.old.text }
-    ensures width { IfOk result (λ shape. IsWidth shape.width) }
-    ensures stands { (w : ℕ) (x : List ℕ) → IsWidth w → Rest cursor.old (decimal (w - 1) ++ (codes ":0] " ++ (cell_net i ++ (codes ";\n" ++ x))))
-        → MatchResult result (λ found. (found ≡ record { width = w; register = register }) × Rest cursor.new x) IsWant }
+// Reads the declaration of the net of cell `i`, which is that of a register or a wire, with its length.
+fn declared_as(alloc: Global, rest: &[u8], i: u32, register: bool) -> Result<(Shape, usize), usize>
+    ensures shape { IfOk result (λ both. IsShape both.0) }
+    ensures within { IfOk result (λ both. both.1 ≤ length rest.now) }
+    ensures passed { IfOk result (λ both. PassedIn rest.now 0 both.1 (shape_text i both.0)) }
+    ensures wrong { IfErr result (Misses (IsShapeOf register i) rest.now 0) }
 {
-    let width = width(cursor)?;
-    word(cursor, b"n")?;
-    match number(cursor, i, i, b';') {
-        Ok(_) => {
-            word(cursor, b"\n")?;
-            Ok(Shape { width, register })
-        }
-        Err(at) => Err(VFault::Form { at }),
-    }
+    let mut cursor = Cursor::new(rest);
+    let slots = [
+        Slot {
+            before: shape_word(register),
+            low: 0,
+            high: 31,
+            end: b':',
+        },
+        exactly(b"0] n", i, b';'),
+    ];
+    let numbers = line(alloc, &mut cursor, &slots, b"\n")?;
+    let shape = Shape {
+        width: numbers[0] + 1,
+        register,
+    };
+    Ok((shape, cursor.at()))
+}
+
+// What stands before the range of a cell's net.
+fn shape_word(register: bool) -> &'static [u8]
+    ensures { result.now ≡ shape_front register }
+{
+    if register { b"  reg [" } else { b"  wire [" }
 }

@@ -1,7 +1,4 @@
 // Why a text is no Verilog text of a netlist.
-ghost use Rattle.gos_verilog.specs.inner.Stages.{IsWant};
-
-use crate::declared::further;
 use gos_types::NoMemory;
 use std::alloc::{AllocError, AllocFailed};
 use thiserror::Error;
@@ -15,32 +12,6 @@ pub enum VFault {
     /// There was no memory left.
     #[error("out of memory")]
     NoMemory,
-}
-
-impl VFault {
-    /// The fault, whose place was counted from `at`.
-    pub(crate) fn behind(self, at: usize) -> VFault
-        ensures { IsWant self → IsWant result }
-    {
-        match self {
-            VFault::Form { at: place } => VFault::Form {
-                at: at.saturating_add(place),
-            },
-            VFault::NoMemory => VFault::NoMemory,
-        }
-    }
-
-    /// The fault, at this place where it was found out earlier.
-    pub(crate) fn not_before(self, at: usize) -> VFault
-        ensures { IsWant self → IsWant result }
-    {
-        match self {
-            VFault::Form { at: place } => VFault::Form {
-                at: further(at, place),
-            },
-            VFault::NoMemory => VFault::NoMemory,
-        }
-    }
 }
 
 impl From<NoMemory> for VFault {

@@ -1,9 +1,10 @@
 // The inputs of a module, by name, and the cells that read them.
-ghost use Rattle.std.specs.Prelude.{◌≡◌, ◌<◌, ℕ, List, Some, true, IfOk, OnOk, get_or, length, set, slice_get};
+ghost use Rattle.std.specs.Prelude.{◌≡◌, ◌<◌, ℕ, List, Some, true, IsTrue, IfOk, OnOk, get_or, length, set, slice_get};
 ghost use Rattle.std.specs.List.{AllByRecursion};
 ghost use Rattle.gos_verilog.specs.PortNets.{PortNet as Net};
 ghost use Rattle.gos_verilog.specs.inner.Stages.{HaveOwnNames};
 ghost use Rattle.gos_verilog.specs.inner.Noted.{place_at, added, HasPlaces};
+ghost use Rattle.gos_verilog.specs.inner.Left.{IsSource};
 
 use crate::port_net::PortNet;
 use gos_netlist::NetId;
@@ -72,8 +73,10 @@ impl Inputs {
     pub fn note(&mut self, nets: &[PortNet], name: &[u8], width: u32, cell: u32) -> bool
         ensures places { self.new.places ≡ self.old.places }
         ensures count { length self.new.cells.items ≡ length self.old.cells.items }
+        ensures source { IsTrue result → IsSource nets.now width name.now }
         ensures noted { (k : ℕ) (net : Net) → place_at self.old.places name.now ≡ Some k → slice_get nets.now k ≡ Some net → net.width ≡ width
-            → k < length self.old.cells.items → (result ≡ true) × (self.new.cells.items ≡ set self.old.cells.items k cell) }
+            → net.input ≡ true → name.now ≡ net.name → k < length self.old.cells.items
+            → (result ≡ true) × (self.new.cells.items ≡ set self.old.cells.items k cell) }
     {
         match self.places.get(name) {
             Some(k) => {
@@ -81,7 +84,7 @@ impl Inputs {
                     return false;
                 }
                 let net = &nets[k];
-                if net.width == width {
+                if net.input && net.width == width && net.name.as_slice() == name {
                     self.cells[k] = cell;
                     true
                 } else {
@@ -89,6 +92,17 @@ impl Inputs {
                 }
             }
             None => false,
+        }
+    }
+
+    /// Notes that a cell reads the net at this place.
+    pub fn put(&mut self, place: usize, cell: u32)
+        ensures places { self.new.places ≡ self.old.places }
+        ensures count { length self.new.cells.items ≡ length self.old.cells.items }
+        ensures put { place < length self.old.cells.items → self.new.cells.items ≡ set self.old.cells.items place cell }
+    {
+        if place < self.cells.len() {
+            self.cells[place] = cell;
         }
     }
 

@@ -3,8 +3,8 @@ ghost use Rattle.std.specs.Prelude.{List, ℕ, codes};
 ghost use Rattle.gos_netlist.specs.Nets.{Netlist};
 ghost use Rattle.gos_verilog.specs.Meaning.{IsTextOfExpression, MeansNext, MeansSettling};
 ghost use Rattle.gos_verilog.specs.OneText.{HasOneText, IsOneNetlist, IsReadAsOne, IsReadBack};
-ghost use Rattle.gos_verilog.specs.Place.{HasOnePlace, IsPlace, ReadIsFormed};
-ghost use Rattle.gos_verilog.specs.SmallTexts.{LatchText, LongerIsNoText, UnresetIsNoText};
+ghost use Rattle.gos_verilog.specs.Place.{HasHead, HasOnePlace, IsPlace, ReadIsFormed};
+ghost use Rattle.gos_verilog.specs.SmallTexts.{latch_text, LatchText, LongerIsNoText, UnresetIsNoText};
 
 /// The latch has its text, and neither one in which a register has no reset nor one with a blank more.
 pub fn small_texts()
@@ -35,10 +35,13 @@ pub fn meaning()
 {}
 
 /// What begins like a text breaks off at one place, and a text that is read is of the form. For example `modul x` breaks
-/// off at its sixth byte, and not at its fifth.
+/// off at its sixth byte, and not at its fifth. The text of the latch has the names of the nets of its ports, and what
+/// ends before them has not.
 pub fn places()
     ensures one { HasOnePlace }
     ensures read { ReadIsFormed }
     ensures blank { IsPlace (codes "modul x") 5 }
     ensures earlier { IsPlace (codes "modul x") 4 → ⊥ }
+    ensures head { HasHead latch_text }
+    ensures no_head { HasHead (codes "module gos_main(clk, rst") → ⊥ }
 {}

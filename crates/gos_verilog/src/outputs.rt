@@ -1,17 +1,20 @@
 // The assignments of the outputs of a module.
-ghost use Rattle.std.specs.Prelude.{◌≡◌, ◌≤◌, ◌++◌, ℕ, List, false, IfOk, MatchResult, length, map, codes};
+ghost use Rattle.std.specs.Prelude.{◌≡◌, ◌++◌, ℕ, List, ◌≤◌, IfOk, IfErr, MatchResult, length, map, codes};
 ghost use Rattle.std.specs.List.{AllByRecursion, flat_map};
 ghost use Rattle.gos_netlist.specs.Writable.{IsNumber};
 ghost use Rattle.gos_verilog.specs.PortNets.{PortNet as Net};
 ghost use Rattle.gos_verilog.specs.Lines.{output_assignment, assignment, cell_net};
-ghost use Rattle.gos_verilog.specs.inner.Stages.{Rest, IsWant, declared_net};
+ghost use Rattle.gos_netlist.specs.NetItems.{Passed, IsTextOf};
+ghost use Rattle.gos_verilog.specs.inner.Stages.{Rest, BreaksAt, IsWant, declared_net};
+ghost use Rattle.gos_verilog.specs.inner.Breaks.{FaultFrom};
+ghost use Rattle.gos_verilog.specs.inner.Left.{LeftOutputs};
 ghost use Rattle.gos_verilog.specs.inner.Noted.{AreAllNoted};
 
 use crate::fault::VFault;
 use crate::head::word;
 use crate::inputs::Inputs;
 use crate::port_net::PortNet;
-use crate::slots::number;
+use crate::slots::{Slot, line};
 use gos_lex::Cursor;
 use gos_netlist::NetId;
 use std::alloc::Global;
@@ -24,6 +27,8 @@ pub fn outputs(
     nets: &[PortNet],
     inputs: &Inputs,
 ) -> Result<Vec<PortNet>, VFault>
+    ensures left { IfOk result (λ _. LeftOutputs nets.now rest.now) }
+    ensures wrong { IfErr result (FaultFrom (LeftOutputs nets.now) (record { text = rest.now; at = 0 })) }
     ensures stands { (known : List Net) → nets.now ≡ map declared_net known
         → AllByRecursion (λ n. IsNumber n.cell) known → AreAllNoted known inputs.now.cells.items
         → rest.now ≡ flat_map output_assignment known ++ codes "endmodule\n" → MatchResult result (λ found. found.items ≡ known) IsWant }
@@ -34,7 +39,7 @@ pub fn outputs(
         let cell = if net.input {
             inputs.cell(k)
         } else {
-            output(&mut cursor, &net.name)?
+            output(alloc, &mut cursor, &net.name)?
         };
         known.push(with_cell(alloc, net, cell)?)?;
     }
@@ -59,18 +64,25 @@ fn with_cell(alloc: Global, net: &PortNet, cell: NetId) -> Result<PortNet, VFaul
 }
 
 // Passes the assignment of the output of this name, and gives the cell that it is.
-fn output(cursor: &mut Cursor, name: &[u8]) -> Result<NetId, VFault>
+fn output(alloc: Global, cursor: &mut Cursor, name: &[u8]) -> Result<NetId, VFault>
+    requires within { cursor.now.at ≤ length cursor.now.text }
+    ensures number { IfOk result (λ found. IsNumber found.0) }
+    ensures passed { IfOk result (λ found. Passed cursor.old cursor.new (assignment name.now (cell_net found.0))) }
+    ensures wrong { IfErr result (BreaksAt (IsTextOf ℕ IsNumber (λ n. assignment name.now (cell_net n))) cursor.old) }
     ensures stands { (n : ℕ) (x : List ℕ) → IsNumber n → Rest cursor.old (assignment name.now (cell_net n) ++ x)
-        → MatchResult result (λ found. (found.0 ≡ n) × Rest cursor.new x) (λ _. ⊥) }
+        → MatchResult result (λ found. (found.0 ≡ n) × Rest cursor.new x) IsWant }
 {
-    word(cursor, b"  assign ")?;
-    word(cursor, name)?;
-    word(cursor, b" = n")?;
-    match number(cursor, 0, u32::MAX, b';') {
-        Ok(n) => {
-            word(cursor, b"\n")?;
-            Ok(NetId(n))
-        }
+    let mut before = b"  assign ".as_slice().to_vec(alloc)?;
+    before.extend_from_slice(name)?;
+    before.extend_from_slice(b" = n")?;
+    let slots = [Slot {
+        before: &before,
+        low: 0,
+        high: u32::MAX,
+        end: b';',
+    }];
+    match line(alloc, cursor, &slots, b"\n") {
+        Ok(numbers) => Ok(NetId(numbers[0])),
         Err(at) => Err(VFault::Form { at }),
     }
 }

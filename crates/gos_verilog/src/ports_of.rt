@@ -102,8 +102,8 @@ fn suffix(ground: Ground) -> usize
     }
 }
 
-// Whether the bytes end with these.
-fn ends_with(bytes: &[u8], end: &[u8]) -> bool
+/// Whether the bytes end with these.
+pub fn ends_with(bytes: &[u8], end: &[u8]) -> bool
     ensures is { (front : List ℕ) → bytes.now ≡ front ++ end.now → IsTrue result }
     ensures only { IsTrue result → (front : List ℕ) × (bytes.now ≡ front ++ end.now) }
 {

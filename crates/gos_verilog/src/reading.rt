@@ -6,13 +6,15 @@ ghost use Rattle.gos_netlist.specs.Writable.{IsWritableCell, IsWritablePort};
 ghost use Rattle.gos_types.specs.Widths.{IsWidth};
 ghost use Rattle.gos_netlist.specs.Nets.{NetPort, Netlist as Net};
 ghost use Rattle.gos_verilog.specs.Readable.{IsRead, IsReadable, IsRefused};
-ghost use Rattle.gos_verilog.specs.Place.{HasOtherStart, HasPlace};
+ghost use Rattle.gos_verilog.specs.Place.{ArePorts, HasHead, HasOtherStart, HasPlace, IsFormedText, front_of, head_of};
 ghost use Rattle.gos_verilog.specs.VerilogText.{IsVerilogOf};
 ghost use Rattle.gos_verilog.specs.PortNets.{port_nets as nets_of};
-ghost use Rattle.gos_verilog.specs.inner.Stages.{Rest, BreaksAt, HasStart, IsStart, IsWant, declared_net, shape_of};
-ghost use Rattle.gos_verilog.specs.inner.Parts.{Parts, front_text};
+ghost use Rattle.gos_verilog.specs.inner.Stages.{BreaksAt, HasStart, IsStart, IsWant, declared_net, shape_of};
+ghost use Rattle.gos_verilog.specs.inner.Breaks.{FaultFrom};
+ghost use Rattle.gos_verilog.specs.inner.Left.{HaveNetNames, LeadsOnOf, LeftDrivers};
+ghost use Rattle.gos_verilog.specs.inner.Parts.{Parts};
 
-use crate::declared::{Shape, cell_declarations, port_declarations};
+use crate::declared::{Shape, cell_declarations, further, port_declarations};
 use crate::driven::drivers;
 use crate::fault::VFault;
 use crate::head::{head, word};
@@ -33,6 +35,7 @@ pub fn read_verilog(alloc: Global, text: &[u8]) -> Result<Netlist, VFault>
     ensures read { IfOk result (IsRead text.now) }
     ensures refused { IfErr result (IsRefused text.now) }
     ensures start { IfErr result (λ fault. HasOtherStart text.now → HasPlace text.now fault) }
+    ensures lines { IfErr result (λ fault. HasHead text.now → HasPlace text.now fault) }
 {
     let net = parsed(alloc, text)?;
     if is_text_of(alloc, text, &net.cells, &net.ports)? {
@@ -63,15 +66,19 @@ fn parsed(alloc: Global, text: &[u8]) -> Result<Netlist, VFault>
     ensures cells { IfOk result (λ net. AllByRecursion IsWritableCell net.cells) }
     ensures ports { IfOk result (λ net. AllByRecursion IsWritablePort net.ports) }
     ensures stands { (net : Net) → IsRead text.now net → MatchResult result (λ found. found ≡ net) IsWant }
+    ensures formed { IfOk result (λ _. HasHead text.now → IsFormedText text.now) }
+    ensures lines { IfErr result (λ fault. HasHead text.now → HasPlace text.now fault) }
     ensures begun { IfOk result (λ _. HasStart (record { text = text.now; at = 0 })) }
     ensures starts { IfErr result (λ fault. (HasStart (record { text = text.now; at = 0 }) → ⊥) → BreaksAt IsStart (record { text = text.now; at = 0 }) fault) }
 {
-    let mut cursor = Cursor::new(text);
-    let declared = front(alloc, text, &mut cursor)?;
-    let (shapes, stopped) = cell_declarations(alloc, &mut cursor)?;
-    let (cells, nets) = match body(alloc, text, cursor.at(), &shapes, &declared) {
+    let (declared, at) = front(alloc, text)?;
+    let (shapes, end, stopped) = cell_declarations(alloc, text, at)?;
+    let (cells, nets) = match body(alloc, text, end, &shapes, &declared) {
         Ok(both) => both,
-        Err(fault) => return Err(fault.not_before(stopped)),
+        Err(VFault::Form { at: place }) => return Err(VFault::Form {
+            at: further(stopped, place),
+        }),
+        Err(VFault::NoMemory) => return Err(VFault::NoMemory),
     };
     match ports_of(alloc, &nets)? {
         Some(ports) => Ok(Netlist { cells, ports }),
@@ -79,33 +86,20 @@ fn parsed(alloc: Global, text: &[u8]) -> Result<Netlist, VFault>
     }
 }
 
-// Passes the head of a module and the declarations of its ports' nets, and gives these nets.
-fn front(alloc: Global, text: &[u8], cursor: &mut Cursor) -> Result<Vec<PortNet>, VFault>
-    requires { cursor.now.text ≡ text.now }
-    ensures text { cursor.new.text ≡ text.now }
-    ensures stands { (net : Net) (parts : Parts net) (x : List ℕ) → Rest cursor.old (front_text parts x)
-        → MatchResult result (λ declared. (declared.items ≡ map declared_net parts.nets) × Rest cursor.new x) IsWant }
-    ensures begun { IfOk result (λ _. HasStart cursor.old) }
-    ensures starts { IfErr result (λ fault. (HasStart cursor.old → ⊥) → BreaksAt IsStart cursor.old fault) }
+// Reads the head of a module and the declarations of its ports' nets, and gives these nets and the place behind.
+fn front(alloc: Global, text: &[u8]) -> Result<(Vec<PortNet>, usize), VFault>
+    ensures within { IfOk result (λ both. both.1 ≤ length text.now) }
+    ensures head { (ports : List NetPort) (more : List ℕ) → ArePorts ports → text.now ≡ head_of ports ++ more
+        → MatchResult result (λ both. LeadsOnOf text.now both.1 both.0.items) (FaultFrom IsFormedText (record { text = text.now; at = 0 })) }
+    ensures found { (ports : List NetPort) (more : List ℕ) → ArePorts ports → text.now ≡ front_of ports ++ more
+        → IfOk result (λ both. (both.0.items ≡ map declared_net (nets_of ports)) × (drop both.1 text.now ≡ more)) }
+    ensures begun { IfOk result (λ _. HasStart (record { text = text.now; at = 0 })) }
+    ensures starts { IfErr result (λ fault. (HasStart (record { text = text.now; at = 0 }) → ⊥) → BreaksAt IsStart (record { text = text.now; at = 0 }) fault) }
 {
-    let names = head(alloc, text, cursor)?;
-    word(cursor, b"  input clk;\n  input rst;\n")?;
-    let declared = port_declarations(alloc, cursor, &names)?;
-    if are_ports(alloc, &declared)? {
-        Ok(declared)
-    } else {
-        Err(VFault::Form { at: cursor.at() })
-    }
-}
-
-// Whether these are the nets of ports.
-fn are_ports(alloc: Global, nets: &[PortNet]) -> Result<bool, NoMemory>
-    ensures { IfOk result (λ are. (ports : List NetPort) → AllByRecursion IsWritablePort ports → nets.now ≡ nets_of ports → IsTrue are) }
-{
-    match ports_of(alloc, nets)? {
-        Some(_) => Ok(true),
-        None => Ok(false),
-    }
+    let mut cursor = Cursor::new(text);
+    let names = head(alloc, text, &mut cursor)?;
+    word(&mut cursor, b"  input clk;\n  input rst;\n")?;
+    port_declarations(alloc, text, cursor.at(), &names)
 }
 
 // Reads the lines behind the declarations, from `at` on, and gives the cells, and the nets of ports with the cells that
@@ -121,6 +115,8 @@ fn body(
     requires few { length shapes.now ≤ 4294967295 }
     requires widths { AllByRecursion (λ shape. IsWidth shape.width) shapes.now }
     ensures cells { IfOk result (λ both. AllByRecursion IsWritableCell (map cell_of both.0.items)) }
+    ensures left { HaveNetNames declared.now → IfOk result (λ _. LeftDrivers declared.now 0 shapes.now (drop at text.now)) }
+    ensures wrong { HaveNetNames declared.now → IfErr result (FaultFrom (LeftDrivers declared.now 0 shapes.now) (record { text = text.now; at = at })) }
     ensures stands { (net : Net) (parts : Parts net) → declared.now ≡ map declared_net parts.nets → shapes.now ≡ map shape_of parts.cells
         → drop at text.now ≡ parts.drivers ++ parts.back
         → MatchResult result (λ both. (map cell_of both.0.items ≡ parts.cells) × (both.1.items ≡ parts.nets)) IsWant }
@@ -129,6 +125,7 @@ fn body(
     let (cells, end) = drivers(alloc, text, at, shapes, declared, &mut inputs)?;
     match outputs(alloc, &text[end..], declared, &inputs) {
         Ok(nets) => Ok((cells, nets)),
-        Err(fault) => Err(fault.behind(end)),
+        Err(VFault::Form { at: place }) => Err(VFault::Form { at: end + place }),
+        Err(VFault::NoMemory) => Err(VFault::NoMemory),
     }
 }

@@ -1,5 +1,5 @@
 // The texts of two circuits, written by hand.
-ghost use Rattle.std.specs.Prelude.{◌<◌, ◌^◌, IfOk, length};
+ghost use Rattle.std.specs.Prelude.{◌≤◌, ◌<◌, ◌^◌, IfOk, length};
 ghost use Rattle.gos_lex.specs.Names.{IsNameOrWord};
 
 use crate::fault::VFault;
@@ -262,5 +262,53 @@ fn tells_a_wrong_start(rt: HostRuntime) -> Result<(), Fail> {
         long.push(b'a')?;
     }
     assert_eq!(rt; refused_at(alloc, &long), Some(266));
+    Ok(())
+}
+
+// Where the word first stands in the text, or its end.
+fn place_of(text: &[u8], word: &[u8]) -> usize
+    ensures { result ≤ length text.now }
+{
+    for at in 0..text.len() {
+        if text[at..].starts_with(word) {
+            return at;
+        }
+    }
+    text.len()
+}
+
+// The text up to the word, and another end behind it.
+fn with_end(alloc: Global, text: &[u8], word: &[u8], end: &[u8]) -> Result<Vec<u8>, Fail> {
+    let mut changed = text[..place_of(text, word)].to_vec(alloc)?;
+    changed.extend_from_slice(end)?;
+    Ok(changed)
+}
+
+#[test]
+fn tells_where_a_line_breaks_off(rt: HostRuntime) -> Result<(), Fail> {
+    let alloc = rt.alloc();
+    let latch = LATCH.as_bytes();
+    let sorts = SORTS.as_bytes();
+    // An output is no input.
+    let text = with_end(alloc, latch, b"run;\n  assign n1", b"done;\n")?;
+    assert_eq!(rt; refused_at(alloc, &text), Some(text.len() - 6));
+    // This input has more bits.
+    let text = with_end(alloc, sorts, b";\n  assign n2", b"value;\n")?;
+    assert_eq!(rt; refused_at(alloc, &text), Some(text.len() - 7));
+    // 16 has more than four bits, and 32 more than none.
+    let text = with_end(alloc, sorts, b"9;\n  assign n5", b"16;\n")?;
+    assert_eq!(rt; refused_at(alloc, &text), Some(text.len() - 3));
+    let text = with_end(alloc, sorts, b"0:0] n0", b"32:0] n0")?;
+    assert_eq!(rt; refused_at(alloc, &text), Some(text.len() - 7));
+    Ok(())
+}
+
+#[test]
+fn tells_last_that_two_cells_read_one_input(rt: HostRuntime) -> Result<(), Fail> {
+    let alloc = rt.alloc();
+    let mut text = with_end(alloc, LATCH.as_bytes(), b"n0 | n2;", b"main__run;")?;
+    let place = place_of(LATCH.as_bytes(), b"\n  always");
+    text.extend_from_slice(&LATCH.as_bytes()[place..])?;
+    assert_eq!(rt; refused_at(alloc, &text), Some(text.len()));
     Ok(())
 }

@@ -1,7 +1,7 @@
 -- The lines that drive the nets of cells, as the reader passes them: kind by kind.
 --
 -- Read first: Slots; Lines. The cell's number, its bits and whether it is a register are known before its line.
-use Rattle.std.specs.Prelude.{◌≡◌, ℕ, ◌-◌, ◌^◌, List, [], ◌∷◌, ◌++◌, Option, Some, None, codes}
+use Rattle.std.specs.Prelude.{◌≡◌, ℕ, ◌-◌, ◌^◌, Bool, true, false, List, [], ◌∷◌, ◌++◌, Option, Some, None, codes}
 use Rattle.gos_netlist.specs.Nets.{Function, Input, Const, Not, And, Or, Xor, Mux, Add, Sub, Eq, Less, Gate, Reg}
 use Rattle.gos_netlist.specs.Writable.{OperandsFit}
 use Rattle.gos_netlist.specs.NetItems.{IsTextOf}
@@ -33,6 +33,11 @@ HasKind kind w f = (kind_of f ≡ Some kind) × OperandsFit w f
 -- the line of a cell whose function is of this kind
 abbrev pub IsKindLine : Kind → ℕ → ℕ → List ℕ → Type 0
 IsKindLine kind i w = IsTextOf Function (HasKind kind w) (driver_of i w [])
+
+-- the net of a cell with a function of this kind is no register
+abbrev pub is_wire : Kind → Bool
+is_wire kinds.Reg = false
+is_wire kind = true
 
 -- the sign of a kind of two nets
 abbrev pub sign : Kind → List ℕ

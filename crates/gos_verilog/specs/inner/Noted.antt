@@ -53,6 +53,8 @@ pub record IsKnown (nets : List PortNet) (inputs : Inputs) (w : ℕ) (name : Lis
   pub known : place_at inputs.places name ≡ Some place
   pub there : slice_get nets place ≡ Some net
   pub bits : net.width ≡ w
+  pub input : net.input ≡ true
+  pub named : name ≡ net.name
   pub inside : place < length inputs.cells.items
 
 -- what is noted once the line of cell i with function f is read

@@ -7,9 +7,9 @@ use Rattle.gos_lex.specs.Names.{IsNameOrWord}
 use Rattle.gos_netlist.specs.Nets.{Cell, Netlist}
 use Rattle.gos_netlist.specs.Writable.{IsNumber, IsWritablePort}
 use Rattle.gos_verilog.specs.PortNets.{PortNet, port_nets}
-use Rattle.gos_verilog.specs.Lines.{clock_declarations, port_declaration, cell_declarations, output_assignment}
+use Rattle.gos_verilog.specs.Lines.{output_assignment}
 use Rattle.gos_verilog.specs.VerilogText.{AreDrivers, IsItsNet}
-use Rattle.gos_verilog.specs.inner.Stages.{HaveNames, HaveWidths, HaveCellWidths, listed, IsBody}
+use Rattle.gos_verilog.specs.inner.Stages.{HaveNames, HaveWidths, HaveCellWidths, IsBody}
 use Rattle.gos_verilog.specs.inner.Noted.{AreRight}
 
 -- the name of the module, the nets of ports, the cells, the lines that drive them, and what stands behind these
@@ -32,11 +32,3 @@ pub record Parts (net : Netlist) : Type 0 where
   pub body : IsBody (drivers ++ back)
   pub right : AreRight nets cells
   pub are : AreDrivers IsItsNet nets 0 cells drivers
-
--- the text up to the declarations of cells' nets, and x behind it
-abbrev pub front_text : {net : Netlist} → Parts net → List ℕ → List ℕ
-front_text {net} parts x =
-    codes "module gos_" ++ (parts.first ++ (codes "(clk, rst" ++ (listed parts.nets ++ (codes ");\n" ++ (clock_declarations ++ (flat_map port_declaration parts.nets ++ x))))))
-
-abbrev pub whole_text : {net : Netlist} → Parts net → List ℕ
-whole_text {net} parts = front_text parts (cell_declarations 0 parts.cells ++ (parts.drivers ++ parts.back))

@@ -1,15 +1,15 @@
-use Rattle.std.proofs.Common.{◌≡◌, length}
+use Rattle.std.proofs.Common.{◌≡◌, ◌≤◌, length}
 use Rattle.std.specs.List.{AllByRecursion}
-use Rattle.gos_types.specs.Widths.{IsWidth}
-use Rattle.gos_verilog.proofs.DeclaredLemmas.{CellsSoFar}
+use Rattle.gos_netlist.specs.NetItems.{Passed}
+use Rattle.gos_verilog.specs.inner.Left.{IsShape, shapes_text}
 use Rattle.gos_verilog.proofs.declared.cell_declarations.Given as goal
 
 -- so many cells are declared, each of a width
 abbrev pub invariant-loop-i : goal.invariant-loop-i
 invariant-loop-i l =
     record {
-      text : l.cursor.text ≡ l.initial.cursor.text;
-      widths : AllByRecursion (λ shape. IsWidth shape.width) l.shapes.items;
+      within : l.at ≤ length l.text;
+      widths : AllByRecursion IsShape l.shapes.items;
       count : length l.shapes.items ≡ l.i;
-      far : CellsSoFar l.initial.cursor l.cursor l.i l.shapes.items;
+      passed : Passed (record { text = l.text; at = l.initial.at }) (record { text = l.text; at = l.at }) (shapes_text 0 l.shapes.items);
     }

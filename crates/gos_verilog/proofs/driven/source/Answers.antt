@@ -1,71 +1,24 @@
-use Rattle.std.proofs.Common.{◌≡◌, ◌++◌, ◌∷◌, ◌≤◌, ℕ, List, drop, refl, sym, ◌∙◌, ap, arith}
-use Rattle.std.specs.Prelude.{codes}
-use Rattle.std.specs.Fmt.{decimal}
-use Rattle.gos_lex.specs.Items.{TextAt}
+use Rattle.std.proofs.Common.{◌≡◌, ◌++◌, List, ℕ, drop, sym, ◌∙◌, ap}
+use Rattle.std.proofs.lemmas.List.{append_cancel_left}
 use Rattle.gos_netlist.specs.Nets.{Input}
-use Rattle.gos_verilog.specs.inner.Stages.{Rest}
-use Rattle.gos_verilog.specs.inner.Noted.{IsLineOf}
-use Rattle.gos_verilog.proofs.LineLemmas.{source_parts}
+use Rattle.gos_verilog.specs.Lines.{driver_of}
+use Rattle.gos_verilog.proofs.RestLemmas.{passed_rest, word_stands}
 use Rattle.gos_verilog.proofs.driven.source.Goals as goal
 
--- what stands behind the word for a continuous assignment
-abbrev behind_word : ℕ → List ℕ → List ℕ → List ℕ
-behind_word i name x = decimal i ++ (32 ∷ (codes "= " ++ (name ++ (codes ";\n" ++ x))))
-
-begins : (cursor : TextAt) (rest : List ℕ) (i : ℕ) (name x : List ℕ) → cursor.text ≡ rest → cursor.at ≡ 0 → IsLineOf rest i 1 Input name x → Rest cursor (codes "  assign n" ++ behind_word i name x)
-begins cursor rest i name x text at line = (λ j. drop (at j) (text j)) ∙ (line.is ∙ source_parts i 1 name x)
-
-exact : (i : ℕ) → i ≤ i
-exact i = omega arith
-
-at_place : (cursor : TextAt) (rest bytes : List ℕ) (at : ℕ) → cursor.text ≡ rest → at ≡ cursor.at → Rest cursor bytes → drop at rest ≡ bytes
-at_place cursor rest bytes at text same left = (λ j. drop (same j) (sym text j)) ∙ left
-
-pub returns-in_err-number-clause-stands : goal.returns-in_err-number-clause-stands
-returns-in_err-number-clause-stands c name x line =
+pub returns-in_err-len-clause-stands : goal.returns-in_err-len-clause-stands
+returns-in_err-len-clause-stands c name x line =
     let i = c.args.i in
-    let one = c.in_ok-pass.ensures.stands (behind_word i name x) (begins c.new-cursor.result c.args.rest.now i name x c.new-cursor.ensures.text c.new-cursor.ensures.at line) in
-    absurd (c.in_err-number.ensures.stands i (codes "= " ++ (name ++ (codes ";\n" ++ x))) (exact i) (exact i) one)
-
-pub returns-in_err-pass-2-clause-stands : goal.returns-in_err-pass-2-clause-stands
-returns-in_err-pass-2-clause-stands c name x line =
-    let i = c.args.i in
-    let one = c.in_ok-pass.ensures.stands (behind_word i name x) (begins c.new-cursor.result c.args.rest.now i name x c.new-cursor.ensures.text c.new-cursor.ensures.at line) in
-    let two = c.in_ok-number.ensures.stands i (codes "= " ++ (name ++ (codes ";\n" ++ x))) (exact i) (exact i) one in
-    absurd (c.in_err-pass-2.ensures.stands (name ++ (codes ";\n" ++ x)) two.1)
-
-pub returns-in_err-pass-3-clause-stands : goal.returns-in_err-pass-3-clause-stands
-returns-in_err-pass-3-clause-stands c name x line =
-    let i = c.args.i in
-    let rest = c.args.rest.now in
-    let one = c.in_ok-pass.ensures.stands (behind_word i name x) (begins c.new-cursor.result rest i name x c.new-cursor.ensures.text c.new-cursor.ensures.at line) in
-    let two = c.in_ok-number.ensures.stands i (codes "= " ++ (name ++ (codes ";\n" ++ x))) (exact i) (exact i) one in
-    let three = c.in_ok-pass-2.ensures.stands (name ++ (codes ";\n" ++ x)) two.1 in
-    let text : c.pass-2.new.cursor.text ≡ rest = c.in_ok-pass-2.ensures.text ∙ (c.in_ok-number.ensures.text ∙ (c.in_ok-pass.ensures.text ∙ c.new-cursor.ensures.text)) in
-    let found = c.name_at-name.ensures name 59 (10 ∷ x) (line.named refl).bytes refl (at_place c.pass-2.new.cursor rest (name ++ (codes ";\n" ++ x)) c.at.result text c.at.ensures.at three) in
-    absurd (c.in_err-pass-3.ensures.stands (codes ";\n" ++ x) (three ∙ ap (λ (b : List ℕ). b ++ (codes ";\n" ++ x)) (sym found)))
-
-pub returns-in_err-pass-4-clause-stands : goal.returns-in_err-pass-4-clause-stands
-returns-in_err-pass-4-clause-stands c name x line =
-    let i = c.args.i in
-    let rest = c.args.rest.now in
-    let one = c.in_ok-pass.ensures.stands (behind_word i name x) (begins c.new-cursor.result rest i name x c.new-cursor.ensures.text c.new-cursor.ensures.at line) in
-    let two = c.in_ok-number.ensures.stands i (codes "= " ++ (name ++ (codes ";\n" ++ x))) (exact i) (exact i) one in
-    let three = c.in_ok-pass-2.ensures.stands (name ++ (codes ";\n" ++ x)) two.1 in
-    let text : c.pass-2.new.cursor.text ≡ rest = c.in_ok-pass-2.ensures.text ∙ (c.in_ok-number.ensures.text ∙ (c.in_ok-pass.ensures.text ∙ c.new-cursor.ensures.text)) in
-    let found = c.name_at-name.ensures name 59 (10 ∷ x) (line.named refl).bytes refl (at_place c.pass-2.new.cursor rest (name ++ (codes ";\n" ++ x)) c.at.result text c.at.ensures.at three) in
-    let four = c.in_ok-pass-3.ensures.stands (codes ";\n" ++ x) (three ∙ ap (λ (b : List ℕ). b ++ (codes ";\n" ++ x)) (sym found)) in
-    absurd (c.in_err-pass-4.ensures.stands x four)
+    let same : c.in_ok-name.name.now ≡ name = c.in_ok-name.ensures.stands name x line in
+    absurd
+    (word_stands c.args.rest.now 0 c.in_err-len.field-0.0 (driver_of i 1 c.in_ok-name.name.now Input) x (c.in_err-len.ensures.wrong 1)
+    (line.is ∙ ap (λ (n : List ℕ). driver_of i 1 n Input ++ x) (sym same)))
 
 pub returns-clause-stands : goal.returns-clause-stands
 returns-clause-stands c name x line =
     let i = c.args.i in
     let rest = c.args.rest.now in
-    let one = c.in_ok-pass.ensures.stands (behind_word i name x) (begins c.new-cursor.result rest i name x c.new-cursor.ensures.text c.new-cursor.ensures.at line) in
-    let two = c.in_ok-number.ensures.stands i (codes "= " ++ (name ++ (codes ";\n" ++ x))) (exact i) (exact i) one in
-    let three = c.in_ok-pass-2.ensures.stands (name ++ (codes ";\n" ++ x)) two.1 in
-    let text : c.pass-2.new.cursor.text ≡ rest = c.in_ok-pass-2.ensures.text ∙ (c.in_ok-number.ensures.text ∙ (c.in_ok-pass.ensures.text ∙ c.new-cursor.ensures.text)) in
-    let found = c.name_at-name.ensures name 59 (10 ∷ x) (line.named refl).bytes refl (at_place c.pass-2.new.cursor rest (name ++ (codes ";\n" ++ x)) c.at.result text c.at.ensures.at three) in
-    let four = c.in_ok-pass-3.ensures.stands (codes ";\n" ++ x) (three ∙ ap (λ (b : List ℕ). b ++ (codes ";\n" ++ x)) (sym found)) in
-    let five = c.in_ok-pass-4.ensures.stands x four in
-    (found, at_place c.pass-4.new.cursor rest x c.at-2.result (c.in_ok-pass-4.ensures.text ∙ (c.in_ok-pass-3.ensures.text ∙ text)) c.at-2.ensures.at five)
+    let len = c.in_ok-len.len in
+    let same : c.in_ok-name.name.now ≡ name = c.in_ok-name.ensures.stands name x line in
+    let word : List ℕ = driver_of i 1 c.in_ok-name.name.now Input in
+    let left = passed_rest (record { text = rest; at = 0 }) (record { text = rest; at = len }) word (c.in_ok-len.ensures.passed 1) in
+    (same, append_cancel_left word (drop len rest) x (sym left ∙ (line.is ∙ ap (λ (n : List ℕ). driver_of i 1 n Input ++ x) (sym same))))
