@@ -8,3 +8,4 @@ pub mod JoinedLemmas
 pub mod CarriedLemmas
 pub mod BeforeLemmas
 pub mod MeansLemmas
+pub mod SideLemmas
