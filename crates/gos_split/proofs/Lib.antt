@@ -9,3 +9,4 @@ pub mod CarriedLemmas
 pub mod BeforeLemmas
 pub mod MeansLemmas
 pub mod SideLemmas
+pub mod NumberLemmas
