@@ -10,3 +10,4 @@ pub mod BeforeLemmas
 pub mod MeansLemmas
 pub mod SideLemmas
 pub mod NumberLemmas
+pub mod PlacedLemmas
