@@ -11,3 +11,4 @@ pub mod MeansLemmas
 pub mod SideLemmas
 pub mod NumberLemmas
 pub mod PlacedLemmas
+pub mod HomeLemmas

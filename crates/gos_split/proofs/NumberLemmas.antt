@@ -8,16 +8,16 @@ use Rattle.gos_realises.specs.Regular.{count}
 use Rattle.gos_realises.proofs.GroundTurnLemmas.{count_fun}
 use Rattle.gos_split.specs.Split.{Splitting, IsUsed}
 
-so : {A : Type 0} (n m : ℕ) (x y : A) → n < m → (if nat_lt n m then x else y) ≡ x
+pub so : {A : Type 0} (n m : ℕ) (x y : A) → n < m → (if nat_lt n m then x else y) ≡ x
 so n m x y low = let test : nat_lt n m ≡ true = grind (arith, nat_tests, low) in ap (λ (b : Bool). if b then x else y) test
 
-not_so : {A : Type 0} (n m : ℕ) (x y : A) → m ≤ n → (if nat_lt n m then x else y) ≡ y
+pub not_so : {A : Type 0} (n m : ℕ) (x y : A) → m ≤ n → (if nat_lt n m then x else y) ≡ y
 not_so n m x y high = let test : nat_lt n m ≡ false = grind (arith, nat_tests, high) in ap (λ (b : Bool). if b then x else y) test
 
-is_so : {A : Type 0} (n m : ℕ) (x y : A) → n ≡ m → (if nat_eq n m then x else y) ≡ x
+pub is_so : {A : Type 0} (n m : ℕ) (x y : A) → n ≡ m → (if nat_eq n m then x else y) ≡ x
 is_so n m x y same = let test : nat_eq n m ≡ true = grind (arith, same) in ap (λ (b : Bool). if b then x else y) test
 
-is_not : {A : Type 0} (n m : ℕ) (x y : A) → n ≢ m → (if nat_eq n m then x else y) ≡ y
+pub is_not : {A : Type 0} (n m : ℕ) (x y : A) → n ≢ m → (if nat_eq n m then x else y) ≡ y
 is_not n m x y apart = by_test (nat_eq n m) refl
   where
     by_test : (b : Bool) → nat_eq n m ≡ b → (if b then x else y) ≡ y
@@ -169,10 +169,10 @@ module _ (a b : Type') (c P Q : ℕ) where
               by_eq false t = grind (arith, t, high)
       by_low false test false other = beyond (grind (arith, nat_tests, other))
 
-  old_low : (n : ℕ) → n < P → old_part n ≡ n
+  pub old_low : (n : ℕ) → n < P → old_part n ≡ n
   old_low n low = so n P n (if nat_lt n first then suc n else n - 1) low
 
-  old_argument : (n : ℕ) → P ≤ n → n < P + Q → old_part n ≡ suc n
+  pub old_argument : (n : ℕ) → P ≤ n → n < P + Q → old_part n ≡ suc n
   old_argument n high low = not_so n P n (if nat_lt n first then suc n else n - 1) high ∙ so n first (suc n) (n - 1) low
 
   old_high : (n : ℕ) → P + Q ≤ n → old_part n ≡ n - 1

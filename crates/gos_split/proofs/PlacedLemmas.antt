@@ -30,10 +30,10 @@ not_result i (PartEnd n h) is = is
 not_result i (ImportEnd n h) is = is
 not_result i (ResultEnd h) is = is
 
-twice_turned : (d : Contact) → turned_contact (turned_contact d) ≡ d
+pub twice_turned : (d : Contact) → turned_contact (turned_contact d) ≡ d
 twice_turned d = λ n. record { role = role_twice d.role n; ask_bits = d.ask_bits; answer_bits = d.answer_bits }
 
-there_is : (cs : List Contact) (h : ℕ) → h < length cs → (k : Contact) × (slice_get cs h ≡ Some k)
+pub there_is : (cs : List Contact) (h : ℕ) → h < length cs → (k : Contact) × (slice_get cs h ≡ Some k)
 there_is [] h low = absurd (omega (arith, low))
 there_is (x ∷ xs) zero low = (x, refl)
 there_is (x ∷ xs) (suc h) low = there_is xs h (omega (arith, low))
@@ -45,7 +45,7 @@ one_handshake r a b right has =
     ap (λ f. named_by f a) (place_asking r a b right here) ∙ sym (ap (λ f. named_by f b) (place_serving r a b right here))
 
 -- the caller's joint, as a step either way
-outer_step : (w : Wiring) (i : ℕ) (t : Type') (c : ℕ) (r p : Plan) → IsBehind i t c r p → (n : ℕ) → slice_get w.plans n ≡ Some r → (j : ℕ) (k : Contact)
+pub outer_step : (w : Wiring) (i : ℕ) (t : Type') (c : ℕ) (r p : Plan) → IsBehind i t c r p → (n : ℕ) → slice_get w.plans n ≡ Some r → (j : ℕ) (k : Contact)
     → slice_get (contacts_of t) j ≡ Some k → Step w (place n (caller_end i t c j)) (place n (ResultEnd j))
 outer_step w i t c r p is n at_n j k at_k = by_role k.role refl
   where
@@ -92,7 +92,7 @@ module _ (a b : Type') (c : ℕ) (p q r z y x : Plan) (of_r : IsBehind (length p
   stays_there : (w : Wiring) (x : Plan) (e : End) (l : Place) (k : Contact) → (origin w e ≡ l) × (contact_at x e ≡ Some k) → Leads w x e l k
   stays_there w x e l k (at_e, there) = ((0, at_e), there)
 
-  joined_so : (w : Wiring) (x : Plan) (d e : End) (m l : Place) (s : Step w m l) → IsJoining w x → (o b : ℕ) → Leads w x d m (asks o b) → Leads w x e l (serves o b) → Contains x.joints (joint d e)
+  pub joined_so : (w : Wiring) (x : Plan) (d e : End) (m l : Place) (s : Step w m l) → IsJoining w x → (o b : ℕ) → Leads w x d m (asks o b) → Leads w x e l (serves o b) → Contains x.joints (joint d e)
   joined_so w x d e m l s joins o b (path, at_d) (back, at_e) =
       let (n, all) = paths_then w (origin w d) m (origin w e) path (paths_then w m l (origin w e) (one_path w m l s) (paths_back w (origin w e) l back)) in
       (joins.joints d e).1 (o, b, n, at_d, at_e, all)
@@ -133,12 +133,12 @@ module _ (a b : Type') (c : ℕ) (p q r z y x : Plan) (of_r : IsBehind (length p
   in_y (ImportEnd n h) = ImportEnd n h
   in_y (ResultEnd j) = if nat_lt j (count a) then PartEnd (P + Q) (count a + c * count a + j) else ResultEnd (j - count a)
 
-  low_y : (j : ℕ) → j < count a → in_y (ResultEnd j) ≡ PartEnd (P + Q) (count a + c * count a + j)
+  pub low_y : (j : ℕ) → j < count a → in_y (ResultEnd j) ≡ PartEnd (P + Q) (count a + c * count a + j)
   low_y j low =
       let test : nat_lt j (count a) ≡ true = grind (arith, nat_tests, low) in
       ap (λ (t : Bool). if t then PartEnd (P + Q) (count a + c * count a + j) else ResultEnd (j - count a)) test
 
-  high_y : (l : ℕ) → in_y (ResultEnd (count a + l)) ≡ ResultEnd l
+  pub high_y : (l : ℕ) → in_y (ResultEnd (count a + l)) ≡ ResultEnd l
   high_y l =
       let test : nat_lt (count a + l) (count a) ≡ false = grind (arith, nat_tests) in
       let less : count a + l - count a ≡ l = omega arith in

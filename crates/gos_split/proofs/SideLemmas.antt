@@ -20,7 +20,7 @@ behind_some : {A : Type 0} (xs ys : List A) (n : ℕ) (x : A) → slice_get ys n
 behind_some [] ys n x e = let zeros : 0 + n ≡ n = omega arith in ap (slice_get ys) zeros ∙ e
 behind_some (y ∷ xs) ys n x e = let sum : suc (length xs) + n ≡ suc (length xs + n) = omega arith in ap (slice_get (y ∷ (xs ++ ys))) sum ∙ behind_some xs ys n x e
 
-list_size : (k i : ℕ) (xs : List Imported) → length (left_list k i xs) ≡ length xs
+pub list_size : (k i : ℕ) (xs : List Imported) → length (left_list k i xs) ≡ length xs
 list_size k i [] = refl
 list_size k i (x ∷ xs) = ap suc (list_size k (suc i) xs)
 
@@ -69,14 +69,14 @@ module _ (a b : Type') (p q r : Plan) (joins : IsJoining (applying a b p q) r) w
       λ l. left_all (results_linked 1 0 (count a)) 0 (no_import 0 (count a) 0) 0 p.imports l
       ++ (left_all (results_linked 1 0 (count a)) 1 (no_import 0 (count a) 1) 0 q.imports l ++ [])
 
-  first_left : (n : ℕ) (y : Imported) → slice_get p.imports n ≡ Some y → slice_get (all_left w) n ≡ Some (record { plan = 0; number = n; import = y })
+  pub first_left : (n : ℕ) (y : Imported) → slice_get p.imports n ≡ Some y → slice_get (all_left w) n ≡ Some (record { plan = 0; number = n; import = y })
   first_left n y there =
       let e : 0 + n ≡ n = omega arith in
       ap (λ l. slice_get l n) lefts
       ∙ (front_some (left_list 0 0 p.imports) (left_list 1 0 q.imports ++ []) n (record { plan = 0; number = 0 + n; import = y }) (listed_list 0 0 p.imports n y there)
       ∙ (λ l. Some (record { plan = 0; number = e l; import = y })))
 
-  second_left : (n : ℕ) (y : Imported) → slice_get q.imports n ≡ Some y → slice_get (all_left w) (length p.imports + n) ≡ Some (record { plan = 1; number = n; import = y })
+  pub second_left : (n : ℕ) (y : Imported) → slice_get q.imports n ≡ Some y → slice_get (all_left w) (length p.imports + n) ≡ Some (record { plan = 1; number = n; import = y })
   second_left n y there =
       let e : 0 + n ≡ n = omega arith in
       let size = list_size 0 0 p.imports in
