@@ -26,7 +26,7 @@ use Rattle.gos_split.proofs.NumberLemmas as numbered
 use Rattle.gos_split.proofs.PlacedLemmas.{one_handshake}
 use Rattle.gos_split.proofs.PlacedLemmas as placed
 
-one_longer : (xs : List Part) (k : Part) → length (xs ++ (k ∷ [])) ≡ suc (length xs)
+pub one_longer : (xs : List Part) (k : Part) → length (xs ++ (k ∷ [])) ≡ suc (length xs)
 one_longer [] k = refl
 one_longer (x ∷ xs) k = ap suc (one_longer xs k)
 

@@ -12,3 +12,6 @@ pub mod SideLemmas
 pub mod NumberLemmas
 pub mod PlacedLemmas
 pub mod HomeLemmas
+pub mod StandLemmas
+pub mod FrameLemmas
+pub mod AppliedLemmas

@@ -142,7 +142,7 @@ module _ (a b : Type') (c P Q : ℕ) where
       not_so (suc P + n) P (suc P + n) (if nat_lt (suc P + n) (P + suc Q) then suc P + n - 1 else suc (suc P + n)) (omega arith)
       ∙ (so (suc P + n) (P + suc Q) (suc P + n - 1) (suc (suc P + n)) (omega (arith, low)) ∙ less)
 
-  high_part : (n : ℕ) → P + suc Q ≤ n → new_part n ≡ suc n
+  pub high_part : (n : ℕ) → P + suc Q ≤ n → new_part n ≡ suc n
   high_part n high = not_so n P n (if nat_lt n (P + suc Q) then n - 1 else suc n) (omega (arith, high)) ∙ not_so n (P + suc Q) (n - 1) (suc n) high
 
   -- of numbers: those of the function, those of the argument, and beyond

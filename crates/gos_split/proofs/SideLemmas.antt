@@ -51,7 +51,7 @@ linked_is n zero l (k, inside, is) = absurd (omega (arith, inside))
 linked_is n (suc m) l (zero, inside, is) = (n, omega arith, sym is)
 linked_is n (suc m) l (suc k, inside, is) = let (h, low, same) = linked_is (suc n) m l (k, omega (arith, inside), is) in (h, omega (arith, low), same)
 
-import_is : (o : Option Imported) (h : ℕ) (k : Contact) → slice_get (contacts_of_import o) h ≡ Some k → (y : Imported) × (o ≡ Some y)
+pub import_is : (o : Option Imported) (h : ℕ) (k : Contact) → slice_get (contacts_of_import o) h ≡ Some k → (y : Imported) × (o ≡ Some y)
 import_is None h k e = absurd (cc e)
 import_is (Some y) h k e = (y, refl)
 
@@ -64,7 +64,7 @@ module _ (a b : Type') (p q r : Plan) (joins : IsJoining (applying a b p q) r) w
   moved (ImportEnd n h) = ImportEnd (length p.imports + n) h
   moved (ResultEnd h) = ResultEnd h
 
-  lefts : all_left w ≡ left_list 0 0 p.imports ++ (left_list 1 0 q.imports ++ [])
+  pub lefts : all_left w ≡ left_list 0 0 p.imports ++ (left_list 1 0 q.imports ++ [])
   lefts =
       λ l. left_all (results_linked 1 0 (count a)) 0 (no_import 0 (count a) 0) 0 p.imports l
       ++ (left_all (results_linked 1 0 (count a)) 1 (no_import 0 (count a) 1) 0 q.imports l ++ [])
