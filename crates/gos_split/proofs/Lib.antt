@@ -15,3 +15,4 @@ pub mod HomeLemmas
 pub mod StandLemmas
 pub mod FrameLemmas
 pub mod AppliedLemmas
+pub mod PassingLemmas
