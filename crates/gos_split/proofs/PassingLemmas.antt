@@ -1,6 +1,6 @@
 -- A plan behind a Share realises what it realises without, by recursion on the type.
-use Rattle.std.specs.Prelude.{◌≡◌, ℕ, suc, ◌+◌, ◌<◌, [], ◌∷◌, length, All}
-use Rattle.std.proofs.Common.{sym, ◌∙◌, ap, subst, arith}
+use Rattle.std.specs.Prelude.{◌≡◌, ℕ, suc, ◌+◌, ◌<◌, [], ◌∷◌, length}
+use Rattle.std.proofs.Common.{sym, subst, arith}
 use Rattle.std.proofs.lemmas.List.Elements.{All-push}
 use Rattle.gos_types.specs.Types.{Type', Com, Exp, Var, Pair, Fun, IsGround}
 use Rattle.gos_model.specs.Terms.{Term, App}
@@ -9,9 +9,8 @@ use Rattle.gos_plan.specs.Plans.{Plan}
 use Rattle.gos_plan.specs.TokenBits.{LiteralFits}
 use Rattle.gos_plan.specs.Joining.{IsJoining}
 use Rattle.gos_realises.specs.Regular.{count}
-use Rattle.gos_realises.specs.Links.{IsJoined}
 use Rattle.gos_realises.specs.Wirings.{applying, results_linked}
-use Rattle.gos_realises.specs.Realises.{HaveOtherNames, Suits, Means, Realises}
+use Rattle.gos_realises.specs.Realises.{Suits, Realises}
 use Rattle.gos_joined.proofs.WholeLemmas.{applied_is_joined}
 use Rattle.gos_joints.specs.Joints.{BufferedGroundIsRealised}
 use Rattle.gos_passing.specs.Behind.{passing, IsBehind, GroundIsBuffered}
@@ -21,7 +20,7 @@ use Rattle.gos_passing.proofs.PassingLemmas.{lies_behind_share}
 use Rattle.gos_passing.proofs.RegularLemmas.{behind_is_regular}
 use Rattle.gos_passing.proofs.SourceLemmas.{before_it}
 use Rattle.gos_split.specs.Split.{IsSplit}
-use Rattle.gos_split.specs.Passing.{WithoutPairs, PassingIsRealised}
+use Rattle.gos_split.specs.Passing.{PassingIsRealised}
 use Rattle.gos_split.proofs.NumberLemmas.{numbers}
 use Rattle.gos_split.proofs.BeforeLemmas.{joined_before}
 use Rattle.gos_split.proofs.MeansLemmas.{results, split_is_realised}

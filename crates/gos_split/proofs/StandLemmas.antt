@@ -1,5 +1,5 @@
 -- A plan of a function joined to one of its argument: where each end comes from, and in which of the two it stands.
-use Rattle.std.specs.Prelude.{◌≡◌, ◌≢◌, ℕ, zero, suc, ◌+◌, ◌-◌, ◌*◌, ◌<◌, ◌≤◌, Bool, true, false, List, [], ◌∷◌, ◌++◌, ◌⊎◌, length, map, Some, slice_get, nat_lt, Contains, if◌then◌else◌}
+use Rattle.std.specs.Prelude.{◌≡◌, ◌≢◌, ℕ, zero, suc, ◌+◌, ◌-◌, ◌*◌, ◌<◌, Bool, true, false, List, [], ◌∷◌, ◌++◌, ◌⊎◌, length, map, Some, slice_get, nat_lt, Contains, if◌then◌else◌}
 use Rattle.std.proofs.Common.{refl, sym, ◌∙◌, ap, subst, arith, inl, inr}
 use Rattle.std.proofs.lemmas.Bool.Decides.{nat_tests}
 use Rattle.std.proofs.lemmas.Option.{slice_get_within, same_Some}
@@ -7,8 +7,8 @@ use Rattle.gos_types.specs.declared.shakes.Role.{Role}
 use Rattle.gos_types.specs.declared.shakes.Role.TheVariants.{Serve, Ask}
 use Rattle.gos_types.specs.Types.{Type'}
 use Rattle.gos_model.specs.Typing.{Imported}
-use Rattle.gos_plan.specs.Kinds.{Part, Contact, asks, serves, contacts_of}
-use Rattle.gos_plan.specs.Plans.{End, PartEnd, ImportEnd, ResultEnd, Joint, Plan, contact_at, contacts_of_import}
+use Rattle.gos_plan.specs.Kinds.{Contact, asks, serves, contacts_of}
+use Rattle.gos_plan.specs.Plans.{End, PartEnd, ImportEnd, ResultEnd, Joint, Plan, contact_at}
 use Rattle.gos_plan.specs.Joining.{Place, place, Link, Wiring, LeftImport, all_left, left_place, part_place, origin, Path, IsJoining, Connects}
 use Rattle.gos_plan.proofs.JointLemmas.{fits, contained}
 use Rattle.gos_realises.specs.Regular.{count}
@@ -19,10 +19,9 @@ use Rattle.gos_webs.specs.Webs.{joint}
 use Rattle.gos_webs.specs.Cutting.{StandsIn}
 use Rattle.gos_webs.proofs.CutLemmas.{which_end, stands_by, part_at}
 use Rattle.gos_unions.proofs.PlaceLemmas.{fields_of, stands_alone}
-use Rattle.gos_sharing.specs.Sharing.{caller_end}
 use Rattle.gos_buffers.specs.Buffering.{end_behind}
 use Rattle.gos_buffers.proofs.HousedLemmas.{is_contact, not_both}
-use Rattle.gos_passing.specs.Behind.{outer_joint, IsBehind}
+use Rattle.gos_passing.specs.Behind.{IsBehind}
 use Rattle.gos_passing.proofs.EndLemmas.{Owned, owned_contact, asker, server, outer_is}
 use Rattle.gos_split.proofs.SideLemmas.{linked_is, import_is, lefts, list_size, first_left, second_left}
 
