@@ -30,7 +30,7 @@ not_result i (PartEnd n h) is = is
 not_result i (ImportEnd n h) is = is
 not_result i (ResultEnd h) is = is
 
-pub twice_turned : (d : Contact) → turned_contact (turned_contact d) ≡ d
+twice_turned : (d : Contact) → turned_contact (turned_contact d) ≡ d
 twice_turned d = λ n. record { role = role_twice d.role n; ask_bits = d.ask_bits; answer_bits = d.answer_bits }
 
 pub there_is : (cs : List Contact) (h : ℕ) → h < length cs → (k : Contact) × (slice_get cs h ≡ Some k)
