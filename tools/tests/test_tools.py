@@ -198,7 +198,7 @@ fi
     def test_a_line_for_each_crate(self):
         (self.top / "crates/gos/out/gos").unlink()
         said = self.gos("check", "m.gos").stderr.split("\n")
-        self.assertRegex(said[0], r"^gos: the sources of \d+ crates are read, \d+ are proved at a time; 0 minutes gone, about \d+ left$")
+        self.assertRegex(said[0], r"^gos: the sources of \d+ crates are read first, and then \d+ are proved at a time; 0 minutes gone, about \d+ left$")
         self.assertRegex(said[1], r"^gos: crate 1 of \d+ is proved, gos: .*; 0 minutes gone, about \d+ left$")
         self.assertRegex(said[-2], r"^gos: built, in \d+ minutes$")
 

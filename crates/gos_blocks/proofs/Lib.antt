@@ -2,9 +2,11 @@ mod RegionLemmas
 mod DriverLemmas
 mod StepLemmas
 mod LinkedLemmas
+mod SharedLemmas
 mod OutputLemmas
 mod OpenLemmas
 mod OrderLemmas
+mod LooseLemmas
 mod RegularLemmas
 mod InsideLemmas
 mod QuietLemmas

@@ -86,11 +86,11 @@ module _
   whole_waits s inner c (rests rest none empty inner_is is_idle) quiet agrees came = subst (Stalled on_whole) (sym is_idle) (idle_waits on_whole)
   whole_waits s inner c (waits rest some empty inner_is is_body) quiet agrees came =
       absurd (quiet.0 b.own (Req 3) (fired r b.own begin_row 0 s)
-      (0, begin_row, ap (held_at s Request) (gate_at_part r b is) ∙ some, local_firing r b is literals ground (Req 3) begin_row Rest s rest refl, refl))
+      (0, begin_row, ap (held_at s Request) (gate_at_part r b is) ∙ some, local_firing r b is literals (Req 3) begin_row Rest s rest refl, refl))
   whole_waits s inner c (works active none empty i) quiet agrees came =
       inside_waits on_body on_wide on_whole b.variable.name b.width (body_among r b is differ) (variable_typed r b is differ) (others_same r b is differ)
       (s.state b.own).number inner c i (knows i.term i.store (subst (Came on_body) i.own_is came))
-      (agrees.0 (body_quiet r b is literals ground s quiet active))
+      (agrees.0 (body_quiet r b is literals s quiet active))
   whole_waits s inner c (is_done v last x rest none some inner_is is_last answers) quiet agrees came =
       let contact : contact_at r (ResultEnd 0) ≡ Some (asks 0 (bits r.outcome)) = region.done_contact r.outcome is.done in
       let next = with_token r (ResultEnd 0) Answer None s in
@@ -106,7 +106,7 @@ module _
   -- and where it is idle so is the plan
   whole_rests : (s : Tokens) (inner c : Config) → Stood s inner c → Neat r s → Agrees b.body on_body (cut_tokens b.cut b.body s) inner → c ≡ Idle → IsIdle r s
   whole_rests s inner c (rests rest none empty inner_is is_idle) neat agrees same =
-      whole_idle r b is literals ground s neat (agrees.1 inner_is) rest none empty
+      whole_idle r b is literals s neat (agrees.1 inner_is) rest none empty
   whole_rests s inner c (waits rest some empty inner_is is_body) neat agrees same = absurd (running_not_idle (New b.width m) [] c is_body same)
   whole_rests s inner c (works active none empty i) neat agrees same = absurd (running_not_idle _ _ c i.whole_is same)
   whole_rests s inner c (is_done v last x rest none some inner_is is_last answers) neat agrees same = absurd (running_not_idle last x c is_last same)
@@ -115,9 +115,9 @@ module _
   local_shows : (x y : Element) → Local b.cut r b.body x y → shows b.body y ≡ shows r x
   local_shows x y (fires i j k number) = refl
   local_shows x y (puts_out i j k v stands leads slices) =
-      λ t. record { port = port_if (slices t); event = event_number (way_out (sym (ways r b is literals ground i j k stands leads) t)) k; value = v } ∷ []
+      λ t. record { port = port_if (slices t); event = event_number (way_out (sym (ways r b is literals i j k stands leads) t)) k; value = v } ∷ []
   local_shows x y (takes_in i j k v stands leads slices) =
-      λ t. record { port = port_if (slices t); event = event_number (way_in (sym (ways r b is literals ground i j k stands leads) t)) k; value = v } ∷ []
+      λ t. record { port = port_if (slices t); event = event_number (way_in (sym (ways r b is literals i j k stands leads) t)) k; value = v } ∷ []
 
   -- it is not at the variable
   not_given : (o : Option Imported) (x : Imported) → o ≡ Some x → port_if o ≡ Given → ⊥
@@ -125,7 +125,7 @@ module _
 
   elsewhere : (i k : ℕ) → StandsIn b.body (ImportEnd i k) → i ≢ b.place → (port_if (slice_get b.body.imports i) ≢ Given) × (port_if (slice_get b.body.imports i) ≢ Taken b.variable.name)
   elsewhere i k stands apart =
-      let (x, at, low) = import_real r b is literals ground names i k stands in
+      let (x, at, low) = import_real r b is i k stands in
       let tests = one_name b.body.imports names i b.place x b.variable at is.there in (
         not_given (slice_get b.body.imports i) x at,
         λ e. let one : Taken x.name ≡ Taken b.variable.name = sym (ap port_if at) ∙ e in
@@ -136,9 +136,9 @@ module _
   local_others : (x y : Element) → Local b.cut r b.body x y → AllOthers b.variable.name (shows b.body y)
   local_others x y (fires i j k number) = tt
   local_others x y (puts_out i j k v stands leads slices) =
-      let (taken', other') = elsewhere i k stands (not_variable r b is literals ground i j k leads) in (taken', other', tt)
+      let (taken', other') = elsewhere i k stands (not_variable r b is literals i j k leads) in (taken', other', tt)
   local_others x y (takes_in i j k v stands leads slices) =
-      let (taken', other') = elsewhere i k stands (not_variable r b is literals ground i j k leads) in (taken', other', tt)
+      let (taken', other') = elsewhere i k stands (not_variable r b is literals i j k leads) in (taken', other', tt)
 
   -- a firing that goes on in the body goes on in the whole
   local_goes : (x y : Element) (s : Tokens) (acts : List Act) → Local b.cut r b.body x y → GoesOn b.body (cut_tokens b.cut b.body s) y acts → GoesOn r s x acts
@@ -245,7 +245,7 @@ module _
   answer_label h v way = variable_in h v ∙ ap (λ (d : Direction). taken b.variable.name (event_number d h) v ∷ []) way
 
   told_label : (v : ℕ) → shows b.body (Out (ResultEnd 0) v) ≡ given 1 v ∷ []
-  told_label v = λ t. record { port = Given; event = event_number (body_told r b is literals ground t) 0; value = v } ∷ []
+  told_label v = λ t. record { port = Given; event = event_number (body_told r b is literals t) 0; value = v } ∷ []
 
   module _ (past own : List Pass) (inner c : Config) (ys : List Element) where
     abbrev Result : Element → Tokens → Tokens → Type 0
@@ -312,8 +312,8 @@ module _
         let all =
         reads on_body on_wide on_whole b.variable.name b.width (body_among r b is differ) (variable_typed r b is differ) (others_same r b is differ)
         (s.state b.own).number v first second inner between to c
-        (shown ∙ request_label 0 v (ap way_out (variable_contact r b is literals ground 0)))
-        (answered ∙ answer_label 0 (s.state b.own).number (ap way_in (variable_contact r b is literals ground 0))) i moves more in
+        (shown ∙ request_label 0 v (ap way_out (variable_contact r b is literals 0)))
+        (answered ∙ answer_label 0 (s.state b.own).number (ap way_in (variable_contact r b is literals 0))) i moves more in
         record {
           acts = all.acts;
           to = all.to;
@@ -336,8 +336,8 @@ module _
         let all =
         writes on_body on_wide on_whole b.variable.name b.width (body_among r b is differ) (variable_typed r b is differ) (others_same r b is differ)
         (s.state b.own).number v first second inner between to c
-        (shown ∙ request_label 1 v (ap way_out (variable_contact r b is literals ground 1)))
-        (answered ∙ answer_label 1 0 (ap way_in (variable_contact r b is literals ground 1))) i moves more in
+        (shown ∙ request_label 1 v (ap way_out (variable_contact r b is literals 1)))
+        (answered ∙ answer_label 1 0 (ap way_in (variable_contact r b is literals 1))) i moves more in
         record {
           acts = all.acts;
           to = all.to;
@@ -370,20 +370,20 @@ module _
           inner_to = to;
           moves = left.moves;
           shown = left.silent;
-          goes_on = end_goes n s left.acts (local_firing r b is literals ground (Ans 0) (end_row n) Active s active refl);
+          goes_on = end_goes n s left.acts (local_firing r b is literals (Ans 0) (end_row n) Active s active refl);
           stood = is_done v left.last left.store rest' (ask ∙ none) ans e.idle (refl {a = Running left.last left.store}) left.answers;
           came = came_on on_body acts inner to came moves;
           matched = rest;
         }
 
     follow : (x : Element) (s w : Tokens) (z : Step r b x s w) → Linked b past own s → Comes r past x → Stood s inner c → Came on_body inner
-        → IsMatched b.body on_body (seen r b is literals ground x s w z ++ ys) (cut_tokens b.cut b.body s) inner → Result x s w
+        → IsMatched b.body on_body (seen r b is literals x s w z ++ ys) (cut_tokens b.cut b.body s) inner → Result x s w
     follow x s w (of_body x' y s' w' local sees same) linked comes stood came matched = follow_body x' y s' w' local sees same stood came matched
     follow x s w (asked v s' w' small unseen state ask ans) linked comes stood came matched =
         let (rest, none, empty) =
-        when_asking (is_open past (ResultEnd 0)) (s'.state b.own).phase (gate s' Request) (gate s' Answer) linked.stage (asked_turn r b is literals ground past comes) in
+        when_asking (is_open past (ResultEnd 0)) (s'.state b.own).phase (gate s' Request) (gate s' Answer) linked.driven.stage (asked_turn r b is literals past comes) in
         let (inner_is, is_idle) = at_rest (s'.state b.own).phase (s'.state b.own).number (gate s' Request) (gate s' Answer) inner c stood rest none empty in
-        let way = sym (way_asked r b is literals ground) in
+        let way = sym (way_asked r b is literals) in
         record {
           acts = Showing (given 0 0) ∷ [];
           to = Running (New b.width m) [];
@@ -400,7 +400,7 @@ module _
     follow x s w (told v s' w' unseen state ans none ask) linked comes stood came matched =
         let (last, store, rest, empty, inner_is, is_last, answers) =
         at_done (s'.state b.own).phase (s'.state b.own).number (gate s' Request) (gate s' Answer) inner c v stood ans in
-        let way = sym (way_told r b is literals ground) in
+        let way = sym (way_told r b is literals) in
         record {
           acts = Showing (given 1 v) ∷ [];
           to = Idle;
@@ -425,21 +425,21 @@ module _
 
   matches : (xs : List Element) (s t : Tokens) (past own : List Pass) (fit : AllFit r s) (runs : Runs r xs s t) → Linked b past own s → InTurn r past xs → Neat r s
       → (inner c : Config) → Stood s inner c → Came on_body inner
-      → IsMatched b.body on_body (body_list r b is literals ground xs s t fit runs) (cut_tokens b.cut b.body s) inner → IsMatched r on_whole xs s c
+      → IsMatched b.body on_body (body_list r b is literals xs s t fit runs) (cut_tokens b.cut b.body s) inner → IsMatched r on_whole xs s c
   matches [] s t past own fit runs linked turn neat inner c stood came matched = (
     λ quiet. whole_waits s inner c stood quiet matched came,
     λ same. whole_rests s inner c stood neat matched same,
   )
   matches (x ∷ xs) s t past own fit (w, does, runs) linked turn neat inner c stood came matched =
       let z = step r b is literals x s w fit does in
-      let fit_on = fits_on r b is literals ground x s w fit does in
+      let fit_on = fits_on r b is literals x s w fit does in
       let (comes, later) = first_comes r past x xs turn in
       let led = linked_step r b is literals ground x s w z past own linked comes in
-      let ys = body_list r b is literals ground xs w t fit_on runs in
-      let agrees = matched_agrees b.body on_body (seen r b is literals ground x s w z ++ ys) (cut_tokens b.cut b.body s) inner matched in
+      let ys = body_list r b is literals xs w t fit_on runs in
+      let agrees = matched_agrees b.body on_body (seen r b is literals x s w z ++ ys) (cut_tokens b.cut b.body s) inner matched in
       let one = follow past own inner c ys x s w z linked comes stood came matched in
       let more =
-      matches xs w t (after r x past) (past_all b.body (seen r b is literals ground x s w z) own) fit_on runs led.linked later (neat_step r x s w does neat) one.inner_to
+      matches xs w t (after r x past) (past_all b.body (seen r b is literals x s w z) own) fit_on runs led.linked later (neat_step r x s w does neat) one.inner_to
       one.to one.stood one.came one.matched in (
         (λ quiet. whole_waits s inner c stood quiet agrees came, λ same. whole_rests s inner c stood neat agrees same),
         λ u also. (
@@ -453,6 +453,6 @@ module _
       )
 
   pub matches_first : (xs : List Element) (s t : Tokens) (fit : AllFit r s) (runs : Runs r xs s t) → IsIdle r s → Linked b [] [] s → InTurn r [] xs → Neat r s
-      → IsMatched b.body on_body (body_list r b is literals ground xs s t fit runs) (cut_tokens b.cut b.body s) Idle → IsMatched r on_whole xs s Idle
+      → IsMatched b.body on_body (body_list r b is literals xs s t fit runs) (cut_tokens b.cut b.body s) Idle → IsMatched r on_whole xs s Idle
   matches_first xs s t fit runs idle linked turn neat matched =
       matches xs s t [] [] fit runs linked turn neat Idle Idle (rests (idle.1 b.own) (idle.0 _ _) (idle.0 _ _) refl refl) ([], refl) matched

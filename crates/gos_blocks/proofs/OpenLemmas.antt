@@ -3,22 +3,20 @@
 -- The last result is `side_step`: an element of the block that is one of the body comes in order where the body's does.
 use Rattle.std.specs.Prelude.{◌≡◌, ℕ, suc, Bool, true, false, List, [], ◌∷◌, Option, Some, None, nat_eq, nat_lt, slice_get, length, if◌then◌else◌}
 use Rattle.std.proofs.Common.{arith, refl, sym, ap, subst, inl, inr, ◌∙◌}
-use Rattle.std.proofs.lemmas.Option.{slice_get_within}
-use Rattle.gos_types.specs.declared.shakes.Role.TheVariants.{Serve}
+use Rattle.std.proofs.lemmas.Option.{same_Some, slice_get_within}
+use Rattle.gos_types.specs.declared.shakes.Role.{Role}
+use Rattle.gos_types.specs.declared.shakes.Role.TheVariants.{Serve, Ask}
 use Rattle.gos_netlist.specs.Events.{Direction, Request, Answer}
 use Rattle.gos_plan.specs.Kinds.{Part, Contact}
 use Rattle.gos_plan.specs.Firing.{Rest, Slot, Token, Row, at}
-use Rattle.gos_plan.specs.Plans.{End, PartEnd, ImportEnd, ResultEnd, Plan, contact_at, contacts_of_import, same_end}
+use Rattle.gos_plan.specs.Plans.{End, PartEnd, ImportEnd, ResultEnd, Plan, contact_at, same_end}
 use Rattle.gos_plan.specs.Tokens.{Tokens, Element, Fire, Out, In, token_at, with_token, with_state, end_of, way_of, way_taken, way_put, firing_of, Passes, Does}
 use Rattle.gos_plan.specs.Orderly.{Open, handshake_at, with_open, after_taken, after_put, ComesWell, AllComeWell, after_puts, ComesInOrder}
 use Rattle.gos_plan.proofs.AskingLemmas.{TakesAsking, PutsAsking, row_asks}
 use Rattle.gos_plan.proofs.ProjectionLemmas.{taken_other, puts_other}
 use Rattle.gos_webs.specs.Cutting.{Cut, lies_at, StandsIn, cut_tokens}
 use Rattle.gos_webs.proofs.CutLemmas.{state_put}
-use Rattle.gos_model.specs.Typing.{Imported}
-use Rattle.gos_realises.specs.Realises.{AllGround}
-use Rattle.gos_realises.proofs.ToldLemmas.{there_is}
-use Rattle.gos_realises.proofs.InputLemmas.{import_serves, one_ground}
+use Rattle.gos_windows.proofs.ClosingLemmas.{asks_itself}
 use Rattle.gos_parallel.proofs.StepLemmas.{Local, fires, puts_out, takes_in}
 use Rattle.gos_parallel.proofs.OpenLemmas.{opened_so, comes_of}
 use Rattle.gos_blocks.specs.Block.{Block, IsBlock}
@@ -158,7 +156,7 @@ module _ (r : Plan) (b : Block) (is : IsBlock r b) where
 -- where an end of the body stands in the whole
 pub data Lies (b : Block) (e : End) : Type 0 where
   in_part : (i j n : ℕ) → e ≡ PartEnd i n → b.cut.number i ≡ Some j → Lies b e
-  at_import : (i j n : ℕ) → e ≡ ImportEnd j n → Lies b e
+  at_import : (i j n : ℕ) → e ≡ ImportEnd j n → b.cut.inner (ImportEnd j n) ≡ Some (ImportEnd i n) → Lies b e
   at_driver : (h : ℕ) → e ≡ PartEnd b.own h → Lies b e
 
 pub lies : (r : Plan) (b : Block) → IsBlock r b → (n : End) → Held b.body n → Lies b (lies_at b.cut n)
@@ -168,7 +166,9 @@ lies r b is (ImportEnd i k) (inl stands) = by_which (region.which b i)
   where
     by_which : region.Which b i → Lies b (b.cut.outer (ImportEnd i k))
     by_which (region.variable same) = at_driver (suc k) (region.served_at r b is i k same)
-    by_which (region.other apart) = let (j, leads, slices) = is.imports i k apart stands in at_import i j k leads
+    by_which (region.other apart) =
+        let (j, leads, slices) = is.imports i k apart stands in
+        at_import i j k leads (ap b.cut.inner (sym leads) ∙ (is.cut.ports (ImportEnd i k) tt stands).1)
 lies r b is (ImportEnd i k) (inr same) = absurd (cc same)
 lies r b is (ResultEnd k) (inl stands) = at_driver 0 (ap (λ n. b.cut.outer (ResultEnd n)) (region.result_shake r b is k stands) ∙ is.result)
 lies r b is (ResultEnd k) (inr same) = at_driver 0 (ap (lies_at b.cut) same ∙ is.result)
@@ -177,7 +177,7 @@ equal_numbers : (i j : ℕ) → nat_eq i j ≡ true → i ≡ j
 equal_numbers i j e = grind (arith, e)
 
 -- what b.body region's element opens and closes in the whole
-module _ (r : Plan) (b : Block) (is : IsBlock r b) (ground : AllGround r.imports) where
+module _ (r : Plan) (b : Block) (is : IsBlock r b) where
   pub record SideStep (x : Element) (s : Tokens) (o next : Open) : Type 0 where
     pub now : Open
     pub comes : ComesInOrder r x s o now
@@ -185,10 +185,18 @@ module _ (r : Plan) (b : Block) (is : IsBlock r b) (ground : AllGround r.imports
     pub kept : (bb : End) → IsApart b.cut b.body bb → now bb ≡ o bb
     pub driver : (n : ℕ) → now (PartEnd b.own n) ≡ o (PartEnd b.own n)
 
-  serving : (j k : ℕ) (t : Contact) → contact_at r (ImportEnd j k) ≡ Some t → Serve ≡ t.role
-  serving j k t there =
-      let (x, at) = there_is r.imports j k t there in
-      import_serves x.ty (one_ground r.imports ground j x at) k t (sym (ap (λ (o : Option Imported). slice_get (contacts_of_import o) k) at) ∙ there)
+  -- what passes an import changes nothing of the part's handshakes
+  port_taken : (j k : ℕ) (t : Contact) → contact_at r (ImportEnd j k) ≡ Some t → (o : Open) (role : Role) → t.role ≡ role → (n : ℕ)
+      → after_taken r (ImportEnd j k) (way_taken role) o (PartEnd b.own n) ≡ o (PartEnd b.own n)
+  port_taken j k t there o Serve serves n = refl
+  port_taken j k t there o Ask asks n =
+      ap (λ (e : End). with_open e false o (PartEnd b.own n)) (asks_itself r is.cut.whole_right (ImportEnd j k) t there asks)
+
+  port_put : (j k : ℕ) (t : Contact) → contact_at r (ImportEnd j k) ≡ Some t → (o : Open) (role : Role) → t.role ≡ role → (n : ℕ)
+      → after_put r (ImportEnd j k) (way_put role) o (PartEnd b.own n) ≡ o (PartEnd b.own n)
+  port_put j k t there o Serve serves n = refl
+  port_put j k t there o Ask asks n =
+      ap (λ (e : End). with_open e true o (PartEnd b.own n)) (asks_itself r is.cut.whole_right (ImportEnd j k) t there asks)
 
   some_contact : (x : Element) (o : Option Contact) (s t : Tokens) → Passes r x o s t → (y : Contact) × (o ≡ Some y)
   some_contact x None s t passes = absurd passes
@@ -243,28 +251,32 @@ module _ (r : Plan) (b : Block) (is : IsBlock r b) (ground : AllGround r.imports
   side_step x y s w o own next (puts_out i j k v stands leads slices) agree (port, passes) comes =
       let (t, there) = some_contact (Out (ImportEnd j k) v) (contact_at r (ImportEnd j k)) s w passes in
       let here = sym (ways i j k stands leads) ∙ there in
-      let same : next ≡ own = subst (λ ro. next ≡ after_taken b.body (ImportEnd i k) (way_taken ro) own) (sym (serving j k t there)) (comes t here) in
+      let way = way_taken t.role in
       record {
-        now = o;
-        comes = λ z at_z. subst (λ ro. o ≡ after_taken r (ImportEnd j k) (way_taken ro) o) (serving j k z at_z) refl;
-        agree = subst (λ (z : Open). OpenAgree b.cut b.body o z) (sym same) agree;
-        kept = λ bb apart. refl;
-        driver = λ n. refl;
+        now = after_taken r (ImportEnd j k) way o;
+        comes = λ z at_z. ap (λ (y : Contact). after_taken r (ImportEnd j k) (way_taken y.role) o) (same_Some t z (sym there ∙ at_z));
+        agree =
+            subst (λ (z : Open). OpenAgree b.cut b.body (after_taken r (ImportEnd j k) way o) z) (sym (comes t here))
+            (subst (λ (e : End). OpenAgree b.cut b.body (after_taken r e way o) (after_taken b.body (ImportEnd i k) way own)) leads
+            (taken_agrees r b is (ImportEnd i k) way o own (inl stands) agree));
+        kept = λ e apart. subst (λ (c : End). after_taken r c way o e ≡ o e) leads (taken_apart r b is (ImportEnd i k) e way o (inl stands) apart);
+        driver = λ n. port_taken j k t there o t.role refl n;
       }
   side_step x y s w o own next (takes_in i j k v stands leads slices) agree (port, passes) comes =
       let (t, there) = some_contact (In (ImportEnd j k) v) (contact_at r (ImportEnd j k)) s w passes in
       let here = sym (ways i j k stands leads) ∙ there in
-      let facts =
-      subst (λ ro. ComesWell b.body (ImportEnd i k) (way_put ro) own (cut_tokens b.cut b.body s) × (next ≡ after_put b.body (ImportEnd i k) (way_put ro) own))
-      (sym (serving j k t there)) (comes t here) in
-      let same : next ≡ own = facts.1 in
-      let well : ComesWell r (ImportEnd j k) Answer o s =
-      subst (λ (e : End). ComesWell r e Answer o s) leads (put_well r b is (ImportEnd i k) Answer o own s (inl stands) agree facts.0) in
+      let way = way_put t.role in
+      let well : ComesWell r (ImportEnd j k) way o s =
+      subst (λ (e : End). ComesWell r e way o s) leads (put_well r b is (ImportEnd i k) way o own s (inl stands) agree (comes t here).0) in
       record {
-        now = o;
+        now = after_put r (ImportEnd j k) way o;
         comes = λ z at_z.
-            subst (λ ro. ComesWell r (ImportEnd j k) (way_put ro) o s × (o ≡ after_put r (ImportEnd j k) (way_put ro) o)) (serving j k z at_z) (well, refl);
-        agree = subst (λ (z : Open). OpenAgree b.cut b.body o z) (sym same) agree;
-        kept = λ bb apart. refl;
-        driver = λ n. refl;
+            subst (λ (y : Contact). ComesWell r (ImportEnd j k) (way_put y.role) o s
+            × (after_put r (ImportEnd j k) way o ≡ after_put r (ImportEnd j k) (way_put y.role) o)) (same_Some t z (sym there ∙ at_z)) (well, refl);
+        agree =
+            subst (λ (z : Open). OpenAgree b.cut b.body (after_put r (ImportEnd j k) way o) z) (sym (comes t here).1)
+            (subst (λ (e : End). OpenAgree b.cut b.body (after_put r e way o) (after_put b.body (ImportEnd i k) way own)) leads
+            (put_agrees r b is (ImportEnd i k) way o own (inl stands) agree));
+        kept = λ e apart. subst (λ (c : End). after_put r c way o e ≡ o e) leads (put_apart r b is (ImportEnd i k) e way o (inl stands) apart);
+        driver = λ n. port_put j k t there o t.role refl n;
       }

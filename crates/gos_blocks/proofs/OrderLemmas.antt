@@ -2,19 +2,17 @@
 --
 -- The part opens and closes the handshake at which it asks the body, by its phase (`Opened`). That the variable is asked only while the
 -- part is active follows from the turns of the body: an import is open only where the result is (`Ready`).
-use Rattle.std.specs.Prelude.{◌≡◌, ◌<◌, ◌⊎◌, ℕ, zero, suc, ◌+◌, Bool, true, false, List, [], ◌∷◌, ◌++◌, Option, Some, None, All, slice_get, if◌then◌else◌}
+use Rattle.std.specs.Prelude.{◌≡◌, ◌<◌, ◌⊎◌, ℕ, zero, suc, Bool, true, false, List, [], ◌∷◌, ◌++◌, Option, Some, None, All, slice_get, if◌then◌else◌}
 use Rattle.std.proofs.Common.{arith, refl, sym, ap, subst, inl, inr, ◌∙◌}
 use Rattle.std.proofs.lemmas.Option.{none-some, same_Some}
-use Rattle.gos_types.specs.Types.{Type'}
 use Rattle.gos_types.specs.declared.shakes.Role.TheVariants.{Serve, Ask}
 use Rattle.gos_netlist.specs.Events.{Direction, Request, Answer}
 use Rattle.gos_plan.specs.Kinds as kinds
 use Rattle.gos_plan.specs.Kinds.{Part, Contact, asks, serves, part_contacts, contacts_of}
 use Rattle.gos_plan.specs.Firing.{Phase, Rest, Active, State, Slot, Req, Ans, Row, at, row_for, rows}
 use Rattle.gos_plan.specs.Plans.{End, PartEnd, ImportEnd, ResultEnd, Plan, contact_at, contacts_of_part, same_end}
-use Rattle.gos_plan.specs.Tokens.{Tokens, Element, Fire, Out, In, places_of, held_at, token_at, with_token, with_state, end_of, shake_of, way_of, way_taken, way_put, firing_of, Passes, Does, Runs, IsIdle}
+use Rattle.gos_plan.specs.Tokens.{Tokens, Element, Fire, Out, In, places_of, held_at, token_at, with_token, with_state, end_of, shake_of, way_of, way_taken, way_put, firing_of, Passes, Does, IsIdle}
 use Rattle.gos_plan.specs.Orderly.{Open, named_by, handshake_at, none_open, with_open, after_taken, after_put, ComesWell, ComesInOrder, AllWelcome, OrderlyFrom}
-use Rattle.gos_plan.specs.TokenBits as bits
 use Rattle.gos_plan.specs.TokenBits.{LiteralFits}
 use Rattle.gos_plan.proofs.JointLemmas.{same_itself}
 use Rattle.gos_plan.proofs.HeldLemmas as held
@@ -23,53 +21,30 @@ use Rattle.gos_plan.proofs.DecidedLemmas.{one_state}
 use Rattle.gos_plan.proofs.ProjectionLemmas.{named}
 use Rattle.gos_sessions.specs.Sessions as sessions
 use Rattle.gos_webs.specs.Cutting.{lies_at, StandsIn, cut_tokens}
-use Rattle.gos_webs.proofs.CutLemmas as cuts
-use Rattle.gos_realises.specs.Regular.{Pass, is_request, is_open, count, way_out, OutputsKeepTurns}
-use Rattle.gos_realises.specs.Realises.{AllGround}
+use Rattle.gos_realises.specs.Regular.{Pass, is_request, is_open, way_out, OutputsKeepTurns}
 use Rattle.gos_realises.proofs.RingLemmas.{after}
 use Rattle.gos_parallel.specs.Parallel.{IsPartOf}
-use Rattle.gos_parallel.proofs.ProtocolLemmas.{InTurn}
-use Rattle.gos_parallel.proofs.PlainTurnLemmas.{Plain, turned_plain}
+use Rattle.gos_windows.proofs.TurnLemmas.{import_result}
 use Rattle.gos_parallel.proofs.StepLemmas.{gate, Same, Local, fires, puts_out, takes_in, Sees, Unseen}
-use Rattle.gos_parallel.proofs.LinkedLemmas.{Comes, first_comes, past_all}
+use Rattle.gos_parallel.proofs.LinkedLemmas.{Comes}
 use Rattle.gos_parallel.proofs.OpenLemmas.{opened_so, not_same, comes_by}
 use Rattle.gos_blocks.specs.Block.{Block, IsBlock}
 use Rattle.gos_blocks.proofs.DriverLemmas.{begin_row, read_row, write_row, end_row}
 use Rattle.gos_blocks.proofs.RegionLemmas as region
 use Rattle.gos_blocks.proofs.RegionLemmas.{Held, result_held}
-use Rattle.gos_blocks.proofs.StepLemmas.{Step, of_body, asked, told, starts, read, write, ended, lost, Served, Differ, step, gate_at_result, gate_at_part, gate_apart, asked_there, own_state}
-use Rattle.gos_blocks.proofs.LinkedLemmas.{runs_body, Linked, when_starting, when_working, turn_append, past_itself, seen, way_asked, way_told, variable_contact, asked_turn, not_lost, linked_step, fits_on, body_list}
+use Rattle.gos_blocks.proofs.StepLemmas.{Step, of_body, asked, told, starts, read, write, ended, lost, Served, IsSeen, Differ, gate_at_result, gate_at_part, gate_apart, asked_there, own_state}
+use Rattle.gos_blocks.proofs.LinkedLemmas.{runs_body, Driven, when_starting, when_working, past_itself, seen, way_asked, way_told, variable_contact, asked_turn}
 use Rattle.gos_blocks.proofs.OpenLemmas.{OpenAgree, IsApart, put_agrees, taken_agrees, put_well, firing_same, Lies, in_part, at_import, at_driver, lies, side_step}
 use Rattle.gos_blocks.proofs.OutputLemmas.{is_active}
 
-outputs_drop : (p : Plan) (own : List Pass) (ys zs : List Element) → OutputsKeepTurns p own (ys ++ zs) → OutputsKeepTurns p (past_all p ys own) zs
-outputs_drop p own [] zs keeps = keeps
-outputs_drop p own (Fire i t ∷ ys) zs keeps = outputs_drop p own ys zs keeps
-outputs_drop p own (Out e v ∷ ys) zs keeps = outputs_drop p (after p (Out e v) own) ys zs keeps.1
-outputs_drop p own (In e v ∷ ys) zs keeps = outputs_drop p (after p (In e v) own) ys zs keeps
-
--- over each list from here on whose inputs come in turn the outputs keep turns
+-- an output that can come next keeps turns
 abbrev pub Ready : Plan → List Pass → Tokens → Type 0
-Ready p own a = (ys : List Element) (u : Tokens) → Runs p ys a u → InTurn p own ys → OutputsKeepTurns p own ys
+Ready p own a = (e : End) (v : ℕ) (u : Tokens) → Does p (Out e v) a u → OutputsKeepTurns p own (Out e v ∷ [])
 
-ready_on : (p : Plan) (ys : List Element) (own : List Pass) (a c : Tokens) → Runs p ys a c → InTurn p own ys → Ready p own a → Ready p (past_all p ys own) c
-ready_on p ys own a c runs turn ready zs u more later =
-    outputs_drop p own ys zs (ready (ys ++ zs) u (cuts.after p ys zs a c u runs more) (turn_append p own ys zs turn later))
-
-module _ (r : Plan) (b : Block) (is : IsBlock r b) (literals : All LiteralFits r.parts) (ground : AllGround r.imports) where
-  seen_whole : (x : Element) (s w : Tokens) (z : Step r b x s w) → Runs b.body (seen r b is literals ground x s w z) (cut_tokens b.cut b.body s) (cut_tokens b.cut b.body w)
-  seen_whole x s w (of_body x' y s' t' local sees same) = (cut_tokens b.cut b.body t', sees, refl)
-  seen_whole x s w (asked v s' t' small unseen state ask ans) = unseen
-  seen_whole x s w (told v s' t' unseen state ans none ask) = unseen
-  seen_whole x s w (starts v s' t' sees rest ask active none ans) = (cut_tokens b.cut b.body t', sees, refl)
-  seen_whole x s w (read v s' t' stands served active state gates) = served
-  seen_whole x s w (write v s' t' stands served active state gates) = served
-  seen_whole x s w (ended v s' t' sees active rest ask ans) = (cut_tokens b.cut b.body t', sees, refl)
-  seen_whole x s w (lost j k v s' t' c there none unseen same) = unseen
-
+module _ (r : Plan) (b : Block) (is : IsBlock r b) (literals : All LiteralFits r.parts) where
   not_result : (e : End) → Lies b e → e ≡ ResultEnd 0 → ⊥
   not_result e (in_part i j k at number) same = let bad : PartEnd i k ≡ ResultEnd 0 = sym at ∙ same in cc bad
-  not_result e (at_import i j k at) same = let bad : ImportEnd j k ≡ ResultEnd 0 = sym at ∙ same in cc bad
+  not_result e (at_import i j k at inner) same = let bad : ImportEnd j k ≡ ResultEnd 0 = sym at ∙ same in cc bad
   not_result e (at_driver h at) same = let bad : PartEnd b.own h ≡ ResultEnd 0 = sym at ∙ same in cc bad
 
   result_apart : IsApart b.cut b.body (ResultEnd 0)
@@ -123,10 +98,11 @@ module _ (r : Plan) (b : Block) (is : IsBlock r b) (literals : All LiteralFits r
 
   -- the variable is asked only while the part is active
   served_active : (h v : ℕ) (past own : List Pass) (s : Tokens) (c : Contact) → contact_at b.body (ImportEnd b.place h) ≡ Some c → c.role ≡ Serve → h < 2
-      → Differ (suc h) 3 → Linked b past own s → Ready b.body own (cut_tokens b.cut b.body s) → token_at r s (PartEnd b.own (suc h)) Request ≡ Some v
+      → Differ (suc h) 3 → Driven b past own s → Ready b.body own (cut_tokens b.cut b.body s) → token_at r s (PartEnd b.own (suc h)) Request ≡ Some v
       → (s.state b.own).phase ≡ Active
-  served_active h v past own s c there role low apart linked ready lies =
-      is_active (s.state b.own).phase (sym linked.result ∙ plain.needs b.place h b.variable is.there few up)
+  served_active h v past own s c there role low apart driven ready lies =
+      is_active (s.state b.own).phase
+      (sym driven.result ∙ import_result b.body (region.body_done r b is) (after b.body (Out e v) own) keeps.0.1 b.place h c there up)
     where
       e : End
       e = ImportEnd b.place h
@@ -150,55 +126,47 @@ module _ (r : Plan) (b : Block) (is : IsBlock r b) (literals : All LiteralFits r
       )
 
       keeps : OutputsKeepTurns b.body own (Out e v ∷ [])
-      keeps = ready (Out e v ∷ []) (with_token b.body e Request None (cut_tokens b.cut b.body s)) (with_token b.body e Request None (cut_tokens b.cut b.body s), does, refl) tt
+      keeps = ready e v (with_token b.body e Request None (cut_tokens b.cut b.body s)) does
 
-      plain : Plain (is_open (after b.body (Out e v) own)) 0 b.body.imports
-      plain = turned_plain (is_open (after b.body (Out e v) own)) 0 b.body.imports b.body.outcome (region.body_done r b is) keeps.0.1
-
-      few : h < count b.variable.ty
-      few = subst (λ (t : Type'). h < count t) (sym is.type) low
-
-      up : is_open (after b.body (Out e v) own) (ImportEnd (0 + b.place) h) ≡ true
-      up =
-          let zero_on : 0 + b.place ≡ b.place = omega arith in
-          ap (λ n. is_open (after b.body (Out e v) own) (ImportEnd n h)) zero_on ∙ (past_itself e (way_out (contact_at b.body e)) own ∙ ap is_request way)
+      up : is_open (after b.body (Out e v) own) (ImportEnd b.place h) ≡ true
+      up = past_itself e (way_out (contact_at b.body e)) own ∙ ap is_request way
 
   -- each token finds the part ready
-  welcome_part : (s : Tokens) (o : Open) (past own : List Pass) → Linked b past own s → Ready b.body own (cut_tokens b.cut b.body s)
+  welcome_part : (s : Tokens) (o : Open) (past own : List Pass) → Driven b past own s → Ready b.body own (cut_tokens b.cut b.body s)
       → o (PartEnd b.own 0) ≡ runs_body (s.state b.own).phase → held.AllFit o s
       → (t : Slot) (c : Contact) (v : ℕ) → slice_get (part_contacts (kinds.Local b.width (sessions.bits r.outcome))) (shake_of t) ≡ Some c → way_taken c.role ≡ way_of t
       → token_at r s (end_of b.own t) (way_of t) ≡ Some v → (row : Row) × (firing_of (slice_get r.parts b.own) (s.state b.own) t ≡ Some row)
-  welcome_part s o past own linked ready waits fit (Req zero) c v there way lies =
+  welcome_part s o past own driven ready waits fit (Req zero) c v there way lies =
       let bad : Answer ≡ Request = ap (λ (x : Contact). way_taken x.role) (same_Some (asks 0 (sessions.bits r.outcome)) c there) ∙ way in absurd (cc bad)
-  welcome_part s o past own linked ready waits fit (Req (suc zero)) c v there way lies =
-      let active = served_active 0 v past own s _ (variable_contact r b is literals ground 0) refl (omega arith) (λ e. omega (arith, e)) linked ready lies in
+  welcome_part s o past own driven ready waits fit (Req (suc zero)) c v there way lies =
+      let active = served_active 0 v past own s _ (variable_contact r b is literals 0) refl (omega arith) (λ e. omega (arith, e)) driven ready lies in
       (read_row (s.state b.own).number, local_firing (Req 1) (read_row (s.state b.own).number) Active s active refl)
-  welcome_part s o past own linked ready waits fit (Req (suc (suc zero))) c v there way lies =
-      let active = served_active 1 v past own s _ (variable_contact r b is literals ground 1) refl (omega arith) (λ e. omega (arith, e)) linked ready lies in
+  welcome_part s o past own driven ready waits fit (Req (suc (suc zero))) c v there way lies =
+      let active = served_active 1 v past own s _ (variable_contact r b is literals 1) refl (omega arith) (λ e. omega (arith, e)) driven ready lies in
       (write_row, local_firing (Req 2) write_row Active s active refl)
-  welcome_part s o past own linked ready waits fit (Req (suc (suc (suc zero)))) c v there way lies =
+  welcome_part s o past own driven ready waits fit (Req (suc (suc (suc zero)))) c v there way lies =
       let some : gate s Request ≡ Some v = sym (ap (held_at s Request) (gate_at_part r b is)) ∙ lies in
-      let (opened, rest, empty) = when_starting (is_open past (ResultEnd 0)) (s.state b.own).phase (gate s Request) (gate s Answer) v linked.stage some in
+      let (opened, rest, empty) = when_starting (is_open past (ResultEnd 0)) (s.state b.own).phase (gate s Request) (gate s Answer) v driven.stage some in
       (begin_row, local_firing (Req 3) begin_row Rest s rest refl)
-  welcome_part s o past own linked ready waits fit (Req (suc (suc (suc (suc n))))) c v there way lies = absurd (none-some c there)
-  welcome_part s o past own linked ready waits fit (Ans zero) c v there way lies =
+  welcome_part s o past own driven ready waits fit (Req (suc (suc (suc (suc n))))) c v there way lies = absurd (none-some c there)
+  welcome_part s o past own driven ready waits fit (Ans zero) c v there way lies =
       let active = is_active (s.state b.own).phase (sym waits ∙ lies_open (PartEnd b.own 0) o s v own_name fit lies) in
       (end_row (s.state b.own).number, local_firing (Ans 0) (end_row (s.state b.own).number) Active s active refl)
-  welcome_part s o past own linked ready waits fit (Ans (suc zero)) c v there way lies =
+  welcome_part s o past own driven ready waits fit (Ans (suc zero)) c v there way lies =
       let bad : Request ≡ Answer = ap (λ (x : Contact). way_taken x.role) (same_Some (serves 0 b.width) c there) ∙ way in absurd (cc bad)
-  welcome_part s o past own linked ready waits fit (Ans (suc (suc zero))) c v there way lies =
+  welcome_part s o past own driven ready waits fit (Ans (suc (suc zero))) c v there way lies =
       let bad : Request ≡ Answer = ap (λ (x : Contact). way_taken x.role) (same_Some (serves b.width 0) c there) ∙ way in absurd (cc bad)
-  welcome_part s o past own linked ready waits fit (Ans (suc (suc (suc zero)))) c v there way lies =
+  welcome_part s o past own driven ready waits fit (Ans (suc (suc (suc zero)))) c v there way lies =
       let bad : Request ≡ Answer = ap (λ (x : Contact). way_taken x.role) (same_Some (serves 0 (sessions.bits r.outcome)) c there) ∙ way in absurd (cc bad)
-  welcome_part s o past own linked ready waits fit (Ans (suc (suc (suc (suc n))))) c v there way lies = absurd (none-some c there)
+  welcome_part s o past own driven ready waits fit (Ans (suc (suc (suc (suc n))))) c v there way lies = absurd (none-some c there)
 
   contact_part : (o : Option Part) (h : ℕ) (c : Contact) → slice_get (contacts_of_part o) h ≡ Some c → (k : Part) × (o ≡ Some k)
   contact_part None h c e = absurd (none-some c e)
   contact_part (Some k) h c e = (k, refl)
 
-  pub welcome_all : (s : Tokens) (past own : List Pass) (o body_open : Open) → Linked b past own s → Ready b.body own (cut_tokens b.cut b.body s)
+  pub welcome_all : (s : Tokens) (past own : List Pass) (o body_open : Open) → Driven b past own s → Ready b.body own (cut_tokens b.cut b.body s)
       → Opened past o body_open s → AllWelcome b.body (cut_tokens b.cut b.body s) → AllWelcome r s
-  welcome_all s past own o body_open linked ready opened welcome i t c v there way lies =
+  welcome_all s past own o body_open driven ready opened welcome i t c v there way lies =
       let (k, part) = contact_part (slice_get r.parts i) (shake_of t) c there in by_part (is.parts i k part)
     where
       by_part : IsPartOf b.cut i ⊎ (i ≡ b.own) → (row : Row) × (firing_of (slice_get r.parts i) (s.state i) t ≡ Some row)
@@ -214,20 +182,20 @@ module _ (r : Plan) (b : Block) (is : IsBlock r b) (literals : All LiteralFits r
           let here : slice_get (part_contacts (kinds.Local b.width (sessions.bits r.outcome))) (shake_of t) ≡ Some c =
           sym (ap (λ o. slice_get (contacts_of_part o) (shake_of t)) (ap (λ n. slice_get r.parts n) same ∙ is.own)) ∙ there in
           subst (λ n. (row : Row) × (firing_of (slice_get r.parts n) (s.state n) t ≡ Some row)) (sym same)
-          (welcome_part s o past own linked ready opened.waits opened.fit t c v here way
+          (welcome_part s o past own driven ready opened.waits opened.fit t c v here way
           (ap (λ n. token_at r s (end_of n t) (way_of t)) (sym same) ∙ lies))
 
   -- after one element
-  record Next (x : Element) (s w : Tokens) (past : List Pass) (o : Open) (ys : List Element) (lu : Open) (lt : Tokens) : Type 0 where
-    open_now : Open
-    own_now : Open
-    comes : ComesInOrder r x s o open_now
-    opened : Opened (after r x past) open_now own_now w
-    welcome : AllWelcome b.body (cut_tokens b.cut b.body w)
-    rest : OrderlyFrom b.body ys own_now (cut_tokens b.cut b.body w) lu lt
+  pub record Next (x : Element) (s w : Tokens) (past : List Pass) (o : Open) (ys : List Element) (lu : Open) (lt : Tokens) : Type 0 where
+    pub open_now : Open
+    pub own_now : Open
+    pub comes : ComesInOrder r x s o open_now
+    pub opened : Opened (after r x past) open_now own_now w
+    pub welcome : AllWelcome b.body (cut_tokens b.cut b.body w)
+    pub rest : OrderlyFrom b.body ys own_now (cut_tokens b.cut b.body w) lu lt
 
   -- the first element of the body's list
-  peel : (a : Plan) (y : Element) (ys : List Element) (own u : Open) (c w t : Tokens) → Does a y c w → OrderlyFrom a (y ∷ ys) own c u t
+  pub peel : (a : Plan) (y : Element) (ys : List Element) (own u : Open) (c w t : Tokens) → Does a y c w → OrderlyFrom a (y ∷ ys) own c u t
       → (next : Open) × ComesInOrder a y c own next × AllWelcome a w × OrderlyFrom a ys next w u t
   peel a y ys own u c w t does (next, v, also, comes, welcome, rest) =
       let same : v ≡ w = one_state a y c v w also does in
@@ -267,7 +235,7 @@ module _ (r : Plan) (b : Block) (is : IsBlock r b) (literals : All LiteralFits r
         → OrderlyFrom b.body (y ∷ ys) lo (cut_tokens b.cut b.body s) lu lt → is_open past (ResultEnd 0) ≡ is_open (after r x past) (ResultEnd 0) → Result x s w
     on_body x y s w local does sees same opened list past_same =
         let (next, own_comes, welcome, rest) = peel b.body y ys lo lu (cut_tokens b.cut b.body s) (cut_tokens b.cut b.body w) lt sees list in
-        let one = side_step r b is ground x y s w o lo next local opened.agree does own_comes in
+        let one = side_step r b is x y s w o lo next local opened.agree does own_comes in
         record {
           open_now = one.now;
           own_now = next;
@@ -345,13 +313,13 @@ module _ (r : Plan) (b : Block) (is : IsBlock r b) (literals : All LiteralFits r
         nothing Answer = empty
 
     finishes : (v : ℕ) (s w : Tokens) → Does r (Fire b.own (Ans 0)) s w → Sees b.cut b.body (Out (ResultEnd 0) v) s w → (s.state b.own).phase ≡ Active
-        → (w.state b.own).phase ≡ Rest → Linked b past own s → Opened past o lo s
+        → (w.state b.own).phase ≡ Rest → Driven b past own s → Opened past o lo s
         → OrderlyFrom b.body (Out (ResultEnd 0) v ∷ ys) lo (cut_tokens b.cut b.body s) lu lt → Result (Fire b.own (Ans 0)) s w
-    finishes v s w does sees active rests linked opened list =
+    finishes v s w does sees active rests driven opened list =
         let (next, own_comes, welcome, rest) = peel b.body (Out (ResultEnd 0) v) ys lo lu (cut_tokens b.cut b.body s) (cut_tokens b.cut b.body w) lt sees list in
         let next_is = told_own v (cut_tokens b.cut b.body s) lo next own_comes in
         let row = end_row (s.state b.own).number in
-        let (up, none, empty) = when_working (is_open past (ResultEnd 0)) (s.state b.own).phase (gate s Request) (gate s Answer) linked.stage active in
+        let (up, none, empty) = when_working (is_open past (ResultEnd 0)) (s.state b.own).phase (gate s Request) (gate s Answer) driven.stage active in
         let comes : ComesInOrder r (Fire b.own (Ans 0)) s o (with_open (PartEnd b.own 0) false o) =
         comes_by r b.own (Ans 0) s w o (with_open (PartEnd b.own 0) false o) row does (local_firing (Ans 0) row Active s active refl)
         (λ v. ((last_well s v (opened.result ∙ up) none empty, tt), ap (λ (n : End). with_open n false o) (sym own_name))) in
@@ -418,59 +386,38 @@ module _ (r : Plan) (b : Block) (is : IsBlock r b) (literals : All LiteralFits r
     local_past x y (puts_out i j k v stands leads slices) = refl
     local_past x y (takes_in i j k v stands leads slices) = refl
 
-    order_step : (x : Element) (s w : Tokens) (z : Step r b x s w) → Does r x s w → Linked b past own s → Comes r past x → Opened past o lo s
+    pub order_step : (x : Element) (s w : Tokens) (z : Step r b x s w) → IsSeen r b x s w z → Does r x s w → Driven b past own s → Comes r past x → Opened past o lo s
         → AllWelcome b.body (cut_tokens b.cut b.body s)
-        → OrderlyFrom b.body (seen r b is literals ground x s w z ++ ys) lo (cut_tokens b.cut b.body s) lu lt → Result x s w
-    order_step x s w (of_body x' y s' t' local sees same) does linked comes opened welcome list =
+        → OrderlyFrom b.body (seen r b is literals x s w z ++ ys) lo (cut_tokens b.cut b.body s) lu lt → Result x s w
+    order_step x s w (of_body x' y s' t' local sees same) seen_so does driven comes opened welcome list =
         on_body x' y s' t' local does sees same opened list (local_past x' y local)
-    order_step x s w (asked v s' t' small unseen state ask ans) does linked comes opened welcome list =
-        at_result (In (ResultEnd 0) v) s' t' true does unseen state opened welcome list (sym (ap is_request (way_asked r b is literals ground)))
+    order_step x s w (asked v s' t' small unseen state ask ans) seen_so does driven comes opened welcome list =
+        at_result (In (ResultEnd 0) v) s' t' true does unseen state opened welcome list (sym (ap is_request (way_asked r b is literals)))
         (λ c there.
         let same : asks 0 (sessions.bits r.outcome) ≡ c = same_Some (asks 0 (sessions.bits r.outcome)) c (sym (region.done_contact r.outcome is.done) ∙ there) in
         subst (λ (y : Contact). ComesWell r (ResultEnd 0) (way_put y.role) o s' × (with_open (ResultEnd 0) true o ≡ after_put r (ResultEnd 0) (way_put y.role) o)) same (
-          ap o result_name ∙ (opened.result ∙ asked_turn r b is literals ground past comes),
+          ap o result_name ∙ (opened.result ∙ asked_turn r b is literals past comes),
           ap (λ (n : End). with_open n true o) (sym result_name),
         ))
-    order_step x s w (told v s' t' unseen state ans none ask) does linked comes opened welcome list =
-        at_result (Out (ResultEnd 0) v) s' t' false does unseen state opened welcome list (sym (ap is_request (way_told r b is literals ground)))
+    order_step x s w (told v s' t' unseen state ans none ask) seen_so does driven comes opened welcome list =
+        at_result (Out (ResultEnd 0) v) s' t' false does unseen state opened welcome list (sym (ap is_request (way_told r b is literals)))
         (λ c there.
         let same : asks 0 (sessions.bits r.outcome) ≡ c = same_Some (asks 0 (sessions.bits r.outcome)) c (sym (region.done_contact r.outcome is.done) ∙ there) in
         subst (λ (y : Contact). with_open (ResultEnd 0) false o ≡ after_taken r (ResultEnd 0) (way_taken y.role) o) same
         (ap (λ (n : End). with_open n false o) (sym result_name)))
-    order_step x s w (starts v s' t' sees rest ask active none ans) does linked comes opened welcome list =
+    order_step x s w (starts v s' t' sees rest ask active none ans) seen_so does driven comes opened welcome list =
         begins s' t' does sees rest (ap (λ c. c.phase) active) opened list
-    order_step x s w (read v s' t' stands served active state gates) does linked comes opened welcome list =
+    order_step x s w (read v s' t' stands served active state gates) seen_so does driven comes opened welcome list =
         let row = read_row (s'.state b.own).number in
-        serves_one 0 v (s'.state b.own).number _ row s' t' (variable_contact r b is literals ground 0) refl stands served does (ap (λ c. c.phase) state) opened list
+        serves_one 0 v (s'.state b.own).number _ row s' t' (variable_contact r b is literals 0) refl stands served does (ap (λ c. c.phase) state) opened list
         (λ well. comes_by r b.own (Req 1) s' t' o o row does (local_firing (Req 1) row Active s' active refl) (λ v. ((well (row.next v), tt), refl)))
-    order_step x s w (write v s' t' stands served active state gates) does linked comes opened welcome list =
-        serves_one 1 v 0 _ write_row s' t' (variable_contact r b is literals ground 1) refl stands served does (ap (λ c. c.phase) state ∙ sym active) opened list
+    order_step x s w (write v s' t' stands served active state gates) seen_so does driven comes opened welcome list =
+        serves_one 1 v 0 _ write_row s' t' (variable_contact r b is literals 1) refl stands served does (ap (λ c. c.phase) state ∙ sym active) opened list
         (λ well. comes_by r b.own (Req 2) s' t' o o write_row does (local_firing (Req 2) write_row Active s' active refl) (λ v. ((well (write_row.next v), tt), refl)))
-    order_step x s w (ended v s' t' sees active rest ask ans) does linked comes opened welcome list =
-        finishes v s' t' does sees active rest linked opened list
-    order_step x s w (lost j k v s' t' c there none unseen same) does linked comes opened welcome list =
-        absurd (not_lost r b is literals ground j k c past own s' there none linked comes)
-
-  pub orders : (xs : List Element) (s t : Tokens) (past own : List Pass) (fit : bits.AllFit r s) (runs : Runs r xs s t) → Linked b past own s
-      → InTurn r past xs → Ready b.body own (cut_tokens b.cut b.body s) → (o lo lu : Open) (lt : Tokens) → Opened past o lo s
-      → AllWelcome b.body (cut_tokens b.cut b.body s)
-      → OrderlyFrom b.body (body_list r b is literals ground xs s t fit runs) lo (cut_tokens b.cut b.body s) lu lt
-      → (u : Open) × (v : Tokens) × OrderlyFrom r xs o s u v
-  orders [] s t past own fit runs linked turn ready o lo lu lt opened welcome list = (o, s, (refl, refl))
-  orders (x ∷ xs) s t past own fit (w, does, runs) linked turn ready o lo lu lt opened welcome list =
-      let z = step r b is literals x s w fit does in
-      let fit_on = fits_on r b is literals ground x s w fit does in
-      let (comes, later) = first_comes r past x xs turn in
-      let led = linked_step r b is literals ground x s w z past own linked comes in
-      let ys = body_list r b is literals ground xs w t fit_on runs in
-      let own_then = past_all b.body (seen r b is literals ground x s w z) own in
-      let ready_then =
-      ready_on b.body (seen r b is literals ground x s w z) own (cut_tokens b.cut b.body s) (cut_tokens b.cut b.body w) (seen_whole x s w z) led.turn ready in
-      let one = order_step past own o lo lu lt ys x s w z does linked comes opened welcome list in
-      let welcome_now = welcome_all w (after r x past) own_then one.open_now one.own_now led.linked ready_then one.opened one.welcome in
-      let (u, v, rest) =
-      orders xs w t (after r x past) own_then fit_on runs led.linked later ready_then one.open_now one.own_now lu lt one.opened one.welcome one.rest in
-      (u, v, (one.open_now, w, does, one.comes, welcome_now, rest))
+    order_step x s w (ended v s' t' sees active rest ask ans) seen_so does driven comes opened welcome list =
+        finishes v s' t' does sees active rest driven opened list
+    order_step x s w (lost j k v s' t' c there none unseen same) seen_so does driven comes opened welcome list =
+        absurd seen_so
 
   idle_token : (a : Plan) (s : Tokens) (e : End) (way : Direction) (v : ℕ) → IsIdle a s → token_at a s e way ≡ Some v → ⊥
   idle_token a s e way v rests lies = by_place (places_of a e) refl

@@ -14,7 +14,6 @@ use Rattle.gos_webs.specs.Webs.{joint}
 use Rattle.gos_webs.specs.Cutting.{lies_at, StandsIn, asks_in, cut_tokens}
 use Rattle.gos_webs.proofs.MovedLemmas.{listed}
 use Rattle.gos_webs.proofs.CutLemmas.{asks_one, asks_there, part_there}
-use Rattle.gos_realises.specs.Realises.{AllGround}
 use Rattle.gos_realises.proofs.InputLemmas.{result_asks}
 use Rattle.gos_parallel.specs.Parallel.{IsJointOf, IsPartOf}
 use Rattle.gos_parallel.proofs.StepLemmas.{gate}
@@ -27,7 +26,7 @@ use Rattle.gos_blocks.proofs.LinkedLemmas.{variable_contact}
 use Rattle.gos_blocks.proofs.OpenLemmas.{firing_same}
 use Rattle.gos_blocks.proofs.OrderLemmas.{local_firing}
 
-module _ (r : Plan) (b : Block) (is : IsBlock r b) (literals : All LiteralFits r.parts) (ground : AllGround r.imports) where
+module _ (r : Plan) (b : Block) (is : IsBlock r b) (literals : All LiteralFits r.parts) where
   some_contact : (x : Element) (o : Option Contact) (s t : Tokens) → Passes b.body x o s t → (y : Contact) × (o ≡ Some y)
   some_contact x None s t passes = absurd passes
   some_contact x (Some y) s t passes = (y, refl)
@@ -70,17 +69,17 @@ module _ (r : Plan) (b : Block) (is : IsBlock r b) (literals : All LiteralFits r
   at_variable zero v s u quiet active passes =
       let here =
       subst (λ (o : Option Contact). Passes b.body (Out (ImportEnd b.place 0) v) o (cut_tokens b.cut b.body s) u)
-      (variable_contact r b is literals ground 0) passes in
+      (variable_contact r b is literals 0) passes in
       let row = read_row (s.state b.own).number in
-      served_fires 0 v row s quiet (local_firing r b is literals ground (Req 1) row Active s active refl) here.0
+      served_fires 0 v row s quiet (local_firing r b is literals (Req 1) row Active s active refl) here.0
   at_variable (suc zero) v s u quiet active passes =
       let here =
       subst (λ (o : Option Contact). Passes b.body (Out (ImportEnd b.place 1) v) o (cut_tokens b.cut b.body s) u)
-      (variable_contact r b is literals ground 1) passes in
-      served_fires 1 v write_row s quiet (local_firing r b is literals ground (Req 2) write_row Active s active refl) here.0
+      (variable_contact r b is literals 1) passes in
+      served_fires 1 v write_row s quiet (local_firing r b is literals (Req 2) write_row Active s active refl) here.0
   at_variable (suc (suc k)) v s u quiet active passes =
       subst (λ (o : Option Contact). Passes b.body (Out (ImportEnd b.place (suc (suc k))) v) o (cut_tokens b.cut b.body s) u)
-      (variable_contact r b is literals ground (suc (suc k))) passes
+      (variable_contact r b is literals (suc (suc k))) passes
 
   pub body_quiet : (s : Tokens) → IsQuiet r s → (s.state b.own).phase ≡ Active → IsQuiet b.body (cut_tokens b.cut b.body s)
   body_quiet s quiet active = (no_fire, no_out)
@@ -103,7 +102,7 @@ module _ (r : Plan) (b : Block) (is : IsBlock r b) (literals : All LiteralFits r
           let lies : token_at r s (PartEnd b.own 0) Answer ≡ Some v =
           ap (λ (e : End). token_at r s e Answer) (sym is.result) ∙ (sym (region.held_token r b is (ResultEnd 0) (result_held b.body) s Answer) ∙ here.0) in
           let row = end_row (s.state b.own).number in
-          quiet.0 b.own (Ans 0) (fired r b.own row v s) (v, row, lies, local_firing r b is literals ground (Ans 0) row Active s active refl, refl)
+          quiet.0 b.own (Ans 0) (fired r b.own row v s) (v, row, lies, local_firing r b is literals (Ans 0) row Active s active refl, refl)
 
       at_import : (i k v : ℕ) (u : Tokens) → Which b i
           → Passes b.body (Out (ImportEnd i k) v) (contact_at b.body (ImportEnd i k)) (cut_tokens b.cut b.body s) u → ⊥

@@ -48,10 +48,10 @@ module _
   whole_matched s t xs idle runs keeps =
       let turn = turns_in_turn r [] xs (protocol_keeps_turns r xs s t whole_regular ground differ is.done idle runs keeps) in
       let fit = idle_fits r s idle in
-      let linked = linked_first r b is literals ground s idle in
+      let linked = linked_first r b is literals s idle in
       let comes = list_in_turn r b is literals ground xs s t [] [] fit runs linked turn in
-      let ys = body_list r b is literals ground xs s t fit runs in
-      let ran = body_runs r b is literals ground xs s t fit runs in
+      let ys = body_list r b is literals xs s t fit runs in
+      let ran = body_runs r b is literals xs s t fit runs in
       let body_keeps = in_turn_keeps b.body body.all_ground body.names (body_done r b is) ys (cut_tokens b.cut b.body s) (cut_tokens b.cut b.body t) ran comes in
       let done = means (cut_tokens b.cut b.body s) (cut_tokens b.cut b.body t) ys (idle_is_cut b.cut r b.body s idle) ran body_keeps in
       matches_first r b is literals ground differ body.names m typed

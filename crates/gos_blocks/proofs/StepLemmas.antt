@@ -55,6 +55,11 @@ pub data Step (r : Plan) (b : Block) : Element → Tokens → Tokens → Type 0 
       (j k v : ℕ) (s t : Tokens) (c : Contact) → contact_at r (ImportEnd j k) ≡ Some c → b.cut.inner (ImportEnd j k) ≡ None
       → Unseen b.cut b.body s t → Same b.own s t → Step r b (In (ImportEnd j k) v) s t
 
+-- it is seen by the body or by the part: no input at an end without a joint
+abbrev pub IsSeen : (r : Plan) (b : Block) (x : Element) (s t : Tokens) → Step r b x s t → Type 0
+IsSeen r b x s t (lost j k v s' t' c there none unseen same) = ⊥
+IsSeen r b x s t z = Unit {0}
+
 -- the element that is one of a list of one, or of none
 one_sees : (f : Cut) (p : Plan) (y : Element) (s t : Tokens) → Runs p (y ∷ []) (cut_tokens f p s) (cut_tokens f p t) → Sees f p y s t
 one_sees f p y s t (w, does, is) = subst (λ (u : Tokens). Does p y (cut_tokens f p s) u) (sym is) does

@@ -1,7 +1,7 @@
 -- How the plan of `new x : w in M` is made of that of its body: a region, and the part Local, which asks it and serves its variable.
 --
 -- Read first: Realises of gos_realises, Cutting of gos_webs; Parallel of gos_parallel. The body is taken with an import of a variable
--- for x; its plan is closed but for ground imports, and all others of these are imports of the whole.
+-- for x; its plan is closed but for imports, and all others of these are imports of the whole.
 use Rattle.std.specs.Prelude.{◌≡◌, ◌≢◌, ◌⊎◌, ℕ, suc, [], All, Contains, Some, None, slice_get}
 use Rattle.gos_types.specs.Types.{Var, IsDone}
 use Rattle.gos_model.specs.Terms.{Term, Import, New}
@@ -15,6 +15,8 @@ use Rattle.gos_webs.specs.Webs.{joint}
 use Rattle.gos_webs.specs.Cutting.{Cut, StandsIn, IsCut}
 use Rattle.gos_realises.specs.Regular.{IsRegular}
 use Rattle.gos_realises.specs.Realises.{AllGround, NamesDiffer, Realises}
+use Rattle.gos_windows.specs.Nodes.{IsRestful}
+use Rattle.gos_windows.specs.OpenNodes.{IsHeard}
 use Rattle.gos_parallel.specs.Parallel.{IsJointOf, IsPartOf}
 
 -- The number of the part Local, and the width of the variable; the body's plan, how it lies in the whole, and which of its imports
@@ -50,7 +52,21 @@ pub record IsBlock (r : Plan) (b : Block) : Type 0 where
       → IsJointOf b.cut b.body a e ⊎ ((a ≡ ResultEnd 0) × (e ≡ PartEnd b.own 3))
   pub parts : (i : ℕ) (k : Part) → slice_get r.parts i ≡ Some k → IsPartOf b.cut i ⊎ (i ≡ b.own)
 
--- The whole is regular where the body's plan is.
+-- The whole is regular where the body's plan is, with imports of any types: where the body has one end of an import of the whole, it
+-- has those at which the surroundings ask there.
+abbrev pub OpenBlockIsRegular : Type 0
+OpenBlockIsRegular =
+    (r : Plan) (b : Block)
+    → IsBlock r b → IsHeard b.cut r b.body → All LiteralFits r.parts → NamesDiffer r.imports → NamesDiffer b.body.imports → IsRegular b.body → IsRegular r
+
+-- And it rests after its answer where the body's plan does.
+abbrev pub OpenBlockIsRestful : Type 0
+OpenBlockIsRestful =
+    (r : Plan) (b : Block)
+    → IsBlock r b → IsHeard b.cut r b.body → All LiteralFits r.parts → NamesDiffer r.imports → NamesDiffer b.body.imports → IsRegular b.body
+    → IsRestful b.body → IsRestful r
+
+-- At ground imports they don't ask.
 abbrev pub BlockIsRegular : Type 0
 BlockIsRegular =
     (r : Plan) (b : Block)

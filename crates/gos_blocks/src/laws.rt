@@ -1,9 +1,12 @@
 // What the plan of a block does. Each theorem is the contract of a function that does nothing.
-ghost use Rattle.gos_blocks.specs.Block.{BlockIsRegular, BlockRealises};
+ghost use Rattle.gos_blocks.specs.Block.{BlockIsRegular, BlockRealises, OpenBlockIsRegular, OpenBlockIsRestful};
 ghost use Rattle.gos_blocks.specs.SmallBlocks.{NewSkipIsBlock, NewSkipIsRealised, VariableIsNeeded, WidthIsNeeded, OtherPartIsNot};
 
-/// Where the body's plan is regular the whole is, and where it realises the body the whole realises the block.
+/// Where the body's plan is regular the whole is, with imports of any types; where it rests after its answer so does the whole;
+/// and where it realises the body the whole realises the block.
 pub fn blocks()
+    ensures any { OpenBlockIsRegular }
+    ensures restful { OpenBlockIsRestful }
     ensures regular { BlockIsRegular }
     ensures realises { BlockRealises }
 {}

@@ -2,4 +2,5 @@ mod PortLemmas
 mod CircuitLemmas
 mod ObjectLemmas
 mod WholeLemmas
-mod LinkLemmas
+pub mod LinkLemmas
+mod PacedLemmas

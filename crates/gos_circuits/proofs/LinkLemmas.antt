@@ -13,6 +13,7 @@ use Rattle.gos_plan.specs.Seen.{SeenPlan}
 use Rattle.gos_link.specs.BuildFile.{IsBuildFile, IsFirstWrong}
 use Rattle.gos_link.specs.Linked.{IsLinked, IsUnlinked}
 use Rattle.gos_link.specs.declared.build.Build.{Build}
+use Rattle.gos_link.specs.declared.build.Instance.{Instance}
 use Rattle.gos_link.specs.declared.fault.LinkFault.{LinkFault}
 use Rattle.gos_link.specs.declared.fault.LinkFault.TheVariants as faults
 use Rattle.gos_verilog.specs.VerilogText.{IsVerilogOf}
@@ -25,8 +26,10 @@ use Rattle.gos_command.specs.declared.status.Cause.TheVariants.{Link}
 use Rattle.gos_command.specs.declared.status.Fault.{Fault}
 use Rattle.gos_command.proofs.EndLemmas.{of_some, of_some_both}
 use Rattle.gos_circuits.specs.Circuit.{IsCircuitOf}
+use Rattle.gos_circuits.specs.Paced.{LinkedCircuitsKeepPace}
 use Rattle.gos_circuits.specs.Objects.{HoldPlans, RejectsObject}
-use Rattle.gos_circuits.specs.Linked.{SaysBuild, IsWhole, IsWritten, IsLinkDone, with_net, IsFormCause, IsLinkCause, IsBuildFault, RejectsWhole, RejectsLink, IsWriteCall, IsWriteCutShort}
+use Rattle.gos_circuits.specs.Plans.{with_net, IsWritten, IsPlansDone, IsPlansCause, IsBuildFault, IsWriteCall, IsPlansCall, IsWriteCutShort, IsPlansCutShort}
+use Rattle.gos_circuits.specs.Linked.{SaysBuild, IsLinkDone, IsFormCause, RejectsWhole, RejectsLink, IsWholeCall, IsWholeCutShort}
 use Rattle.gos_circuits.specs.inner.Wholes.{IsWholeDone}
 
 -- a number is at most another one, or above it
@@ -57,21 +60,26 @@ says_build told own read b whole is =
     (λ files h. subst (λ (text : List ℕ). IsBuildFile text own b) (h.whole is.short) is) whole
 
 -- the build file is rejected for its form
+pub form_fault : (own : Word) (read file : List ℕ) (why : LinkFault) (fault : Fault) (line : List ℕ) → IsReadWhole 65536 read file
+    → (why ≢ faults.NoMemory → (n : ℕ) × (why ≡ faults.Form n) × IsFirstWrong read own n) → IsRealCause (Link why)
+    → fault ≡ record { file = own; cause = Link why } → line ≡ fault_line None fault → IsBuildFault own (IsFormCause file own) fault line
+form_fault own read file why fault line whole first real is says =
+    record {
+      file = ap (λ (f : Fault). f.file) is;
+      cause =
+          let one = first real in
+          let cause : fault.cause ≡ Link (faults.Form one.0) = ap (λ (f : Fault). f.cause) is ∙ ap Link one.1 in
+          subst (λ (c : Cause). IsFormCause file own c) (sym cause) (wrong_file own read file one.0 whole one.2);
+      says = says;
+    }
+
 pub wrong_form : (told : Option Files) (own : Word) (read : List ℕ) (why : LinkFault) (fault : Fault) (line : List ℕ)
     → IfSome told (λ files. IsReadWhole 65536 read (bytes_at files own))
     → (why ≢ faults.NoMemory → (n : ℕ) × (why ≡ faults.Form n) × IsFirstWrong read own n) → IsRealCause (Link why)
     → fault ≡ record { file = own; cause = Link why } → line ≡ fault_line None fault → IfSome told (λ files. RejectsLink files own fault line)
 wrong_form told own read why fault line whole first real is says =
     of_some (λ files. IsReadWhole 65536 read (bytes_at files own)) (λ files. RejectsLink files own fault line) told
-    (λ files h. inl (record {
-      file = ap (λ (f : Fault). f.file) is;
-      cause =
-          let one = first real in
-          let cause : fault.cause ≡ Link (faults.Form one.0) = ap (λ (f : Fault). f.cause) is ∙ ap Link one.1 in
-          subst (λ (c : Cause). IsFormCause (bytes_at files own) own c) (sym cause) (wrong_file own read (bytes_at files own) one.0 h one.2);
-      says = says;
-    }))
-    whole
+    (λ files h. inl (form_fault own read (bytes_at files own) why fault line h first real is says)) whole
 
 -- a rejection once the build file is read
 pub rejected_later : (old mid : Option Files) (own : Word) (b : Build) (fault : Fault) (line : List ℕ) → mid ≡ old → IfSome old (λ files. SaysBuild files own b)
@@ -81,36 +89,72 @@ rejected_later old mid own b fault line same says wrong =
     (λ files said h. inr (b, said, h)) says (subst (λ (told : Option Files). IfSome told (λ files. RejectsWhole files own b fault line)) same wrong)
 
 -- plans that can't be linked
-pub unlinked : (old : Option Files) (own : Word) (b : Build) (plans : List SeenPlan) (why : LinkFault) (fault : Fault) (line : List ℕ)
-    → IfSome old (λ files. HoldPlans files b.instances.items plans) → (why ≢ faults.NoMemory → IsUnlinked b plans why) → IsRealCause (Link why)
-    → fault ≡ record { file = own; cause = Link why } → line ≡ fault_line None fault → IfSome old (λ files. RejectsWhole files own b fault line)
-unlinked old own b plans why fault line held first real is says =
-    of_some (λ files. HoldPlans files b.instances.items plans) (λ files. RejectsWhole files own b fault line) old
-    (λ files h. inr (record {
+pub unlinked : (own : Word) (b : Build) (plans : List SeenPlan) (why : LinkFault) (fault : Fault) (line : List ℕ)
+    → (why ≢ faults.NoMemory → IsUnlinked b plans why) → IsRealCause (Link why)
+    → fault ≡ record { file = own; cause = Link why } → line ≡ fault_line None fault → IsBuildFault own (IsPlansCause b plans) fault line
+unlinked own b plans why fault line first real is says =
+    record {
       file = ap (λ (f : Fault). f.file) is;
-      cause = subst (λ (c : Cause). IsLinkCause files b c) (sym (ap (λ (f : Fault). f.cause) is)) (real, plans, h, first real);
+      cause = subst (IsPlansCause b plans) (sym (ap (λ (f : Fault). f.cause) is)) (real, first real);
       says = says;
-    }))
-    held
+    }
+
+-- and those that the object files hold
+pub rejected_plans : (old : Option Files) (own : Word) (b : Build) (plans : List SeenPlan) (fault : Fault) (line : List ℕ)
+    → IfSome old (λ files. HoldPlans files b.instances.items plans) → IsBuildFault own (IsPlansCause b plans) fault line
+    → IfSome old (λ files. RejectsWhole files own b fault line)
+rejected_plans old own b plans fault line held wrong =
+    of_some (λ files. HoldPlans files b.instances.items plans) (λ files. RejectsWhole files own b fault line) old
+    (λ files h. inr (record { file = wrong.file; cause = (plans, h, wrong.cause); says = wrong.says })) held
+
+-- the plans that were read are those that are linked
+pub held_as : (old : Option Files) (is js : List Instance) (ps plans : List SeenPlan) → is ≡ js → plans ≡ ps
+    → IfSome old (λ files. HoldPlans files is ps) → IfSome old (λ files. HoldPlans files js plans)
+held_as old is js ps plans same linked held =
+    subst (λ (qs : List SeenPlan). IfSome old (λ files. HoldPlans files js qs)) (sym linked)
+    (subst (λ (ks : List Instance). IfSome old (λ files. HoldPlans files ks ps)) same held)
 
 -- the whole was written
-pub whole_done : (old mid new : Option Files) (b : Build) (plans : List SeenPlan) (whole : Plan) (report : Report) → mid ≡ old
-    → IfSome old (λ files. HoldPlans files b.instances.items plans) → IsLinked b plans whole
-    → ((net : Netlist) × IsWritten mid new b whole net) → report ≡ record { weight = Some whole.weight; run = None } → IsWholeDone old new b report
-whole_done old mid new b plans whole report same held linked (net, written) tells =
+pub whole_done : LinkedCircuitsKeepPace → (old mid new : Option Files) (b : Build) (plans : List SeenPlan) (weight : ℕ) (net : Netlist) (report : Report)
+    → mid ≡ old → length plans ≡ length b.instances.items
+    → IfSome old (λ files. HoldPlans files b.instances.items plans) → IsPlansDone mid new b plans weight net
+    → report ≡ record { weight = Some weight; run = None } → IsWholeDone old new b report
+whole_done law old mid new b plans weight net report same each held done tells =
     record {
-      whole = whole;
+      whole = done.whole;
       net = net;
-      linked = record { plans = plans; held = held; linked = linked };
-      written = subst (λ (told : Option Files). IsWritten told new b whole net) same written;
-      tells = tells;
+      linked = record { plans = plans; held = held; linked = done.linked };
+      written = subst (λ (told : Option Files). IsWritten told new b done.whole net) same done.written;
+      pace = λ programs all. law b plans done.whole programs b.root net done.linked each all done.written.circuit;
+      tells = tells ∙ ap (λ (n : ℕ). record { weight = Some n; run = None }) done.weighs;
     }
+
+-- a call that linking makes, and what it leaves where memory runs out, where the plans are those that the object files hold
+pub plans_call : (old mid new : Option Files) (b : Build) (plans : List SeenPlan) (fault : LastFault) → mid ≡ old
+    → IfSome old (λ files. HoldPlans files b.instances.items plans) → IsPlansCall mid new b plans fault → IsWholeCall old new b fault
+plans_call old mid new b plans fault same held (whole, linked, call) =
+    inr (whole, record { plans = plans; held = held; linked = linked }, subst (λ (told : Option Files). IsWriteCall told new b whole fault) same call)
+
+pub plans_cut_short : (old mid new : Option Files) (b : Build) (plans : List SeenPlan) → mid ≡ old
+    → IfSome old (λ files. HoldPlans files b.instances.items plans) → IsPlansCutShort mid new b plans → IsWholeCutShort old new b
+plans_cut_short old mid new b plans same held (inl kept) = inl (kept ∙ same)
+plans_cut_short old mid new b plans same held (inr (whole, linked, short)) =
+    inr (whole, record { plans = plans; held = held; linked = linked }, subst (λ (told : Option Files). IsWriteCutShort told new b whole) same short)
 
 pub link_done : (old mid new : Option Files) (own : Word) (b : Build) (report : Report) → mid ≡ old → IfSome old (λ files. SaysBuild files own b)
     → IsWholeDone mid new b report → IsLinkDone old new own report
 link_done old mid new own b report same says done =
     let here = subst (λ (told : Option Files). IsWholeDone told new b report) same done in
-    record { build = b; whole = here.whole; net = here.net; says = says; linked = here.linked; written = here.written; tells = here.tells }
+    record {
+      build = b;
+      whole = here.whole;
+      net = here.net;
+      says = says;
+      linked = here.linked;
+      written = here.written;
+      pace = here.pace;
+      tells = here.tells;
+    }
 
 -- the files with the netlist of a circuit written
 written_net : (old mid : Option Files) (b : Build) (net : Netlist) (text : List ℕ) → text ≡ text_of net → mid ≡ with_file b.net text old → mid ≡ with_net old b net

@@ -1,5 +1,8 @@
 -- In reading order: a file uses only files above it.
 pub mod Circuit
+pub mod Paced
+pub mod SmallPaced
 pub mod Objects
+pub mod Plans
 pub mod Linked
 pub mod inner

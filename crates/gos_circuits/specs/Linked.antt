@@ -1,28 +1,29 @@
 -- The command `link BUILD`.
 --
--- Read first: BuildFile and Linked of gos_link; Objects, Circuit; NetText of gos_netlist; VerilogText of gos_verilog. `old` and
--- `new` are the files of the store before and after. A file that the store doesn't hold counts as empty.
-use Rattle.std.specs.Prelude.{◌≡◌, ◌≢◌, ◌⊎◌, ℕ, List, [], ◌∷◌, Option, Some, None, IfSome}
-use Rattle.gos_outside.specs.Files.{Files, bytes_at, with_file, SameBut}
+-- Read first: BuildFile of gos_link; Objects, Plans; Linked and Modules of gos_linked (the substituted program). `old` and `new` are
+-- the files of the store before and after. A file that the store doesn't hold counts as empty.
+use Rattle.std.specs.Prelude.{◌≡◌, ◌⊎◌, ℕ, List, [], ◌∷◌, Option, Some, None, IfSome}
+use Rattle.gos_outside.specs.Files.{Files, bytes_at}
 use Rattle.gos_outside.specs.OtherFiles.{OthersSame}
-use Rattle.gos_outside.specs.Faults.{LastFault, ReadFault, WriteFault}
+use Rattle.gos_outside.specs.Faults.{LastFault, ReadFault}
 use Rattle.gos_lines.specs.Lines.{Word}
 use Rattle.gos_netlist.specs.Nets.{Netlist}
-use Rattle.gos_netlist.specs.NetText.{text_of}
+use Rattle.gos_model.specs.Linking.{Instances}
+use Rattle.gos_model.specs.Pace.{KeepsPaceAlways}
 use Rattle.gos_plan.specs.Plans.{Plan}
 use Rattle.gos_plan.specs.Seen.{SeenPlan}
 use Rattle.gos_link.specs.BuildFile.{IsBuildFile, IsFirstWrong}
-use Rattle.gos_link.specs.Linked.{IsLinked, IsUnlinked}
+use Rattle.gos_link.specs.Linked.{plans_of, IsLinked}
 use Rattle.gos_link.specs.declared.build.Build.{Build}
 use Rattle.gos_link.specs.declared.fault.LinkFault.TheVariants as faults
-use Rattle.gos_verilog.specs.VerilogText.{IsVerilogOf}
-use Rattle.gos_command.specs.Lines.{fault_line}
+use Rattle.gos_linked.specs.Linked.{linked_program}
+use Rattle.gos_linked.specs.Modules.{AreModules}
 use Rattle.gos_command.specs.declared.report.Report.{Report}
 use Rattle.gos_command.specs.declared.status.Cause.{Cause}
 use Rattle.gos_command.specs.declared.status.Cause.TheVariants as causes
 use Rattle.gos_command.specs.declared.status.Fault.{Fault}
-use Rattle.gos_circuits.specs.Circuit.{IsCircuitOf}
 use Rattle.gos_circuits.specs.Objects.{HoldPlans, RejectsObject, IsObjectCall}
+use Rattle.gos_circuits.specs.Plans.{IsWritten, IsPlansCause, IsBuildFault, IsWriteCall, IsWriteCutShort}
 
 -- what the build file says
 abbrev pub SaysBuild : Files → Word → Build → Type 0
@@ -34,16 +35,11 @@ pub record IsWhole (old : Option Files) (b : Build) (whole : Plan) : Type 0 wher
   pub held : IfSome old (λ files. HoldPlans files b.instances.items plans)
   pub linked : IsLinked b plans whole
 
--- the files with the netlist written
-abbrev pub with_net : Option Files → Build → Netlist → Option Files
-with_net old b net = with_file b.net (text_of net) old
-
--- the netlist of a circuit of the plan was written, and then the Verilog text of this very netlist
-pub record IsWritten (old new : Option Files) (b : Build) (whole : Plan) (net : Netlist) : Type 0 where
-  pub verilog : List ℕ
-  pub circuit : IsCircuitOf b.root whole net
-  pub text : IsVerilogOf net verilog
-  pub wrote : new ≡ with_file b.verilog verilog (with_net old b net)
+-- Where each plan is that of a module with one of these programs, the netlist keeps pace with the substituted program.
+abbrev pub KeepsPaceOfWhole : (old : Option Files) (b : Build) (whole : Plan) → IsWhole old b whole → Netlist → Type 0
+KeepsPaceOfWhole old b whole w net =
+    (programs : Instances) → AreModules (plans_of w.plans) programs
+    → KeepsPaceAlways whole.weight (linked_program b w.plans whole w.linked programs) net
 
 -- all this is so for the plans that the object files hold, and for what the build file says; the report has the weight
 pub record IsLinkDone (old new : Option Files) (own : Word) (report : Report) : Type 0 where
@@ -53,24 +49,17 @@ pub record IsLinkDone (old new : Option Files) (own : Word) (report : Report) : 
   pub says : IfSome old (λ files. SaysBuild files own build)
   pub linked : IsWhole old build whole
   pub written : IsWritten old new build whole net
+  pub pace : KeepsPaceOfWhole old build whole linked net
   pub tells : report ≡ record { weight = Some whole.weight; run = None }
 
--- Why the build file is rejected: its first wrong line; or, where the object files hold plans, the first reason for which
--- these can't be linked.
+-- Why the build file is rejected: its first wrong line; or the first reason for which the plans that the object files hold
+-- can't be linked.
 abbrev pub IsFormCause : List ℕ → Word → Cause → Type 0
 IsFormCause text own (causes.Link (faults.Form line)) = IsFirstWrong text own line
 IsFormCause text own cause = ⊥
 
 abbrev pub IsLinkCause : Files → Build → Cause → Type 0
-IsLinkCause files b (causes.Link fault) =
-    (fault ≢ faults.NoMemory) × (plans : List SeenPlan) × HoldPlans files b.instances.items plans × IsUnlinked b plans fault
-IsLinkCause files b cause = ⊥
-
--- the build file is rejected for such a cause, with this line
-pub record IsBuildFault (own : Word) (Why : Cause → Type 0) (fault : Fault) (line : List ℕ) : Type 0 where
-  pub file : fault.file ≡ own
-  pub cause : Why fault.cause
-  pub says : line ≡ fault_line None fault
+IsLinkCause files b cause = (plans : List SeenPlan) × HoldPlans files b.instances.items plans × IsPlansCause b plans cause
 
 -- The first file that is rejected: an object file, or the build file for what it binds; before these the build file for its
 -- form.
@@ -82,13 +71,8 @@ RejectsLink files own fault line =
     IsBuildFault own (IsFormCause (bytes_at files own) own) fault line
     ⊎ ((b : Build) × SaysBuild files own b × RejectsWhole files own b fault line)
 
--- The calls of the store, each where what is judged before it is right, with what was written before it: those that write the
--- circuit, then those after the build file is read, then all. A file whose write fails may hold anything.
-abbrev pub IsWriteCall : Option Files → Option Files → Build → Plan → LastFault → Type 0
-IsWriteCall old new b whole fault =
-    ((fault ≡ WriteFault b.net) × SameBut b.net old new)
-    ⊎ ((net : Netlist) × IsCircuitOf b.root whole net × (fault ≡ WriteFault b.verilog) × SameBut b.verilog (with_net old b net) new)
-
+-- The calls of the store, each where what is judged before it is right, with what was written before it: those after the
+-- build file is read, then all. A file whose write fails may hold anything.
 abbrev pub IsWholeCall : Option Files → Option Files → Build → LastFault → Type 0
 IsWholeCall old new b fault =
     (IsObjectCall old b.instances.items fault × (new ≡ old)) ⊎ ((whole : Plan) × IsWhole old b whole × IsWriteCall old new b whole fault)
@@ -98,9 +82,6 @@ IsLinkCall old new own fault =
     ((fault ≡ ReadFault own) × (new ≡ old)) ⊎ ((b : Build) × IfSome old (λ files. SaysBuild files own b) × IsWholeCall old new b fault)
 
 -- what it leaves where memory runs out: the files before, or these with the netlist of a circuit of the plan written
-abbrev pub IsWriteCutShort : Option Files → Option Files → Build → Plan → Type 0
-IsWriteCutShort old new b whole = (new ≡ old) ⊎ ((net : Netlist) × IsCircuitOf b.root whole net × (new ≡ with_net old b net))
-
 abbrev pub IsWholeCutShort : Option Files → Option Files → Build → Type 0
 IsWholeCutShort old new b = (new ≡ old) ⊎ ((whole : Plan) × IsWhole old b whole × IsWriteCutShort old new b whole)
 

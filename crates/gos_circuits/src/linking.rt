@@ -1,26 +1,20 @@
 // The command `link BUILD`: the build file and the objects are read, and the circuit of the whole is written.
 
-ghost use Rattle.std.specs.Prelude.{◌≡◌, ◌≤◌, ◌∷◌, [], List, Some, None, length, IfOk, IfErr, IfSome, IsErrOf};
+ghost use Rattle.std.specs.Prelude.{◌≡◌, ◌≤◌, ◌∷◌, [], length, IfOk, IfErr, IfSome, IsErrOf};
 ghost use Rattle.gos_outside.specs.FileName.{IsFileName};
 ghost use Rattle.gos_outside.specs.OtherFiles.{OthersSame};
 ghost use Rattle.gos_outside.specs.Faults.{Rose};
-ghost use Rattle.gos_netlist.specs.Nets.{Netlist as Circuit};
-ghost use Rattle.gos_plan.specs.Ranges.{AreInRange};
-ghost use Rattle.gos_plan.specs.Seen.{SeenPlan, plan_of};
-ghost use Rattle.gos_link.specs.Linked.{IsLinked};
 ghost use Rattle.gos_command.specs.Ends.{IfStopped, IsTold};
-ghost use Rattle.gos_circuits.specs.Linked.{IsWritten, IsLinkDone, RejectsWhole, RejectsLink};
-ghost use Rattle.gos_circuits.specs.Linked.{IsWriteCall, IsWholeCall, IsLinkCall, IsWriteCutShort, IsWholeCutShort, IsLinkCutShort, KeepsUnnamed};
+ghost use Rattle.gos_circuits.specs.Linked.{IsLinkDone, RejectsWhole, RejectsLink};
+ghost use Rattle.gos_circuits.specs.Linked.{IsWholeCall, IsLinkCall, IsWholeCutShort, IsLinkCutShort, KeepsUnnamed};
 ghost use Rattle.gos_circuits.specs.inner.Wholes.{IsWholeDone};
 
-use crate::laying::circuit;
+use crate::laws::paced_circuits;
 use crate::objects::plans_in;
-use gos_command::{Cause, Report, Stop, read_file, reject, write_file};
-use gos_link::{Build, link, read_build};
-use gos_netlist::print_net;
+use crate::plans::link_plans;
+use gos_command::{Cause, Report, Stop, read_file, reject};
+use gos_link::{Build, read_build};
 use gos_outside::Store;
-use gos_plan::Plan;
-use gos_verilog::write_verilog;
 use std::alloc::Global;
 
 /// The longest build file, in bytes.
@@ -78,48 +72,11 @@ fn link_objects<S: Store>(
     ensures never_falls { S.faults store.old ≤ S.faults store.new }
     ensures others { OthersSame (build.now.net ∷ build.now.verilog ∷ []) (S.contents store.old) (S.contents store.new) }
 {
+    paced_circuits();
     let plans = plans_in(alloc, build.instances.as_slice(), store)?;
-    match link(alloc, build, plans.as_slice()) {
-        Ok(whole) => write_circuit(alloc, build, &whole, store),
-        Err(fault) => Err(reject(alloc, own, Cause::Link(fault), None)),
-    }
-}
-
-// Writes the netlist of a circuit of the whole, and then the Verilog text of this very netlist.
-fn write_circuit<S: Store>(
-    alloc: Global,
-    build: &Build,
-    whole: &Plan,
-    store: &mut S,
-) -> Result<Report, Stop>
-    requires { (plans : List SeenPlan) × IsLinked build.now plans (plan_of whole.now) }
-    ensures written { IfOk result (λ report. (net : Circuit) × IsWritten (S.contents store.old) (S.contents store.new) build.now (plan_of whole.now) net) }
-    ensures tells { IfOk result (λ report. report ≡ record { weight = Some whole.now.weight; run = None }) }
-    ensures rejects_nothing { IfErr result (λ stop. IfStopped stop (λ fault line. ⊥)) }
-    ensures failed_only { IsErrOf result Stop.StoreFailed → Rose (S.faults store.old) (S.faults store.new) }
-    ensures failed_call { IsErrOf result Stop.StoreFailed →
-        IsWriteCall (S.contents store.old) (S.contents store.new) build.now (plan_of whole.now) (S.last_fault store.new) }
-    ensures same_count { (¬ (IsErrOf result Stop.StoreFailed)) → S.faults store.new ≡ S.faults store.old }
-    ensures memory_files { IsErrOf result Stop.NoMemory →
-        IsWriteCutShort (S.contents store.old) (S.contents store.new) build.now (plan_of whole.now) }
-    ensures never_falls { S.faults store.old ≤ S.faults store.new }
-    ensures others { OthersSame (build.now.net ∷ build.now.verilog ∷ []) (S.contents store.old) (S.contents store.new) }
-{
-    is_in_range(whole);
-    let net = circuit(alloc, whole, &build.root)?;
-    let text = print_net(alloc, net.netlist())?;
-    write_file(alloc, store, build.net.bytes(), text.as_slice())?;
-    let verilog = write_verilog(alloc, &net)?;
-    write_file(alloc, store, build.verilog.bytes(), verilog.as_slice())?;
+    let linked = link_plans(alloc, own, build, plans.as_slice(), store)?;
     Ok(Report {
-        weight: Some(whole.weight()),
+        weight: Some(linked.weight),
         run: None,
     })
-}
-
-// The numbers of a plan are in range, as of each plan.
-fn is_in_range(plan: &Plan)
-    ensures { AreInRange plan.now.imports plan.now.outcome plan.now.parts }
-{
-    let _parts = plan.parts();
 }

@@ -21,7 +21,7 @@ use Rattle.gos_link.specs.Linked.{count_ports, plans_of, whole_of, IsLight}
 use Rattle.gos_link.specs.Answers.{all_joints, ArePlansOf, JointsAreFew}
 use Rattle.gos_link.specs.inner.Counts.{all_imports}
 use Rattle.gos_link.proofs.CountedLemmas.{few_left}
-use Rattle.gos_fits.specs.Fits.{AreSlim, LinkedIsSlim, SlimIsNeverTooLarge}
+use Rattle.gos_fits.specs.Fits.{AreSlim, LinkedIsSlim, SlimIsNeverTooLarge, SlimIsSmall}
 
 -- handshakes are counted in one way
 same_shakes : (ks : List Part) → shakes_of ks ≡ all_shakes ks
@@ -90,6 +90,14 @@ small p slim light =
     let ends = slim.ends in
     let imports = slim.imports in
     (omega (arith, same, joints, ends, imports, light), omega (arith, imports, light))
+
+pub slim_is_small : SlimIsSmall
+slim_is_small p slim =
+    let same = same_shakes p.parts in
+    let joints = slim.joints in
+    let ends = slim.ends in
+    let imports = slim.imports in
+    omega (arith, same, joints, ends, imports)
 
 -- no bind line is too large
 never_bind : (is : List Instance) (ps : List SeenPlan) (before : List Service) (bs : List Bind) (ss : List Service) (size ports : ℕ)

@@ -1,9 +1,10 @@
--- Linking keeps plans slim, and slim plans are never too large.
+-- Linking keeps plans slim, and slim plans are small for their weight and never too large.
 --
 -- Read first: Linked and Answers of gos_link; Slim of gos_realises. The plans of `compile` are slim, by its contract.
-use Rattle.std.specs.Prelude.{ℕ, List, [], ◌∷◌}
+use Rattle.std.specs.Prelude.{ℕ, ◌+◌, ◌*◌, ◌≤◌, List, [], ◌∷◌}
 use Rattle.gos_plan.specs.Plans.{Plan}
 use Rattle.gos_plan.specs.Seen.{SeenPlan}
+use Rattle.gos_plan.specs.Size.{plan_size}
 use Rattle.gos_realises.specs.Slim.{IsSlim}
 use Rattle.gos_link.specs.declared.build.Build.{Build}
 use Rattle.gos_link.specs.declared.fault.LinkFault.TheVariants as faults
@@ -24,3 +25,8 @@ LinkedIsSlim = (b : Build) (ps : List SeenPlan) (p : Plan) → ArePlansOf b ps �
 abbrev pub SlimIsNeverTooLarge : Type 0
 SlimIsNeverTooLarge =
     (b : Build) (ps : List SeenPlan) (size ports : ℕ) → ArePlansOf b ps → AreSlim (plans_of ps) → IsUnlinked b ps (faults.TooLarge size ports) → ⊥
+
+-- The size of a slim plan, which bounds the cells of its netlist, is at most 128 for each unit of its weight, and 128. By the
+-- numbers above, it is at most 124 w + 12.
+abbrev pub SlimIsSmall : Type 0
+SlimIsSmall = (p : Plan) → IsSlim p → plan_size p ≤ 128 * (p.weight + 1)

@@ -1,7 +1,5 @@
 -- What a wired node has of its supplies: its imports, and the names of its term.
-use Rattle.std.proofs.lemmas.List.Elements.{All-from_recursion, All-contains}
 use Rattle.std.specs.Prelude.{◌≡◌, ℕ, zero, suc, true, List, [], ◌∷◌, Some, Contains, slice_get, All}
-use Rattle.std.specs.List.{AllByRecursion}
 use Rattle.std.specs.Str.{bytes_eq}
 use Rattle.std.proofs.lemmas.Slice.Eq.{bytes_eq-Decides}
 use Rattle.std.proofs.Common.{refl, sym, ◌∙◌, ap, subst, arith}
@@ -10,8 +8,8 @@ use Rattle.gos_model.specs.Terms.{Name}
 use Rattle.gos_model.specs.Typing.{Imported, Imports, import_type, Named, things, Typed}
 use Rattle.gos_check.specs.Nodes.{Numbered, meaning}
 use Rattle.gos_plan.specs.Plans.{Plan}
-use Rattle.gos_plan.specs.Kinds.{Part}
 use Rattle.gos_plan.specs.TokenBits.{LiteralFits}
+use Rattle.gos_realises.proofs.LiteralLemmas.{literals_among}
 use Rattle.gos_realises.specs.Realises.{AllGround, NamesDiffer, Realises}
 use Rattle.gos_compile.specs.Wiring.{Types}
 use Rattle.gos_webs.specs.Cutting.{Cut, IsCut}
@@ -85,19 +83,7 @@ module _ (types : Types) (i j : ℕ) (m : Numbered) (ns : List ℕ) (env : Suppl
 
 -- the literals of a region's parts fit, since they are parts of the whole
 pub literals_within : (f : Cut) (r c : Plan) → IsCut f r c → All LiteralFits r.parts → All LiteralFits c.parts
-literals_within f r c cut fit = All-from_recursion LiteralFits c.parts (each c.parts one)
-  where
-    part_there : (xs : List Part) (k : ℕ) (x : Part) → slice_get xs k ≡ Some x → Contains xs x
-    part_there [] k x at = absurd (cc at)
-    part_there (y ∷ xs) zero x at = (0, omega arith, cc at)
-    part_there (y ∷ xs) (suc k) x at = let (n, l, e) = part_there xs k x at in (suc n, omega (arith, l), e)
-
-    one : (k : ℕ) (x : Part) → slice_get c.parts k ≡ Some x → LiteralFits x
-    one k x at = All-contains LiteralFits r.parts x fit (part_there r.parts (f.part k) x (cut.parts k x at).0)
-
-    each : (xs : List Part) → ((k : ℕ) (x : Part) → slice_get xs k ≡ Some x → LiteralFits x) → AllByRecursion LiteralFits xs
-    each [] all = tt
-    each (x ∷ xs) all = (all 0 x refl, each xs (λ k y at. all (suc k) y at))
+literals_within f r c cut fit = literals_among f.part c.parts r.parts (λ k x at. (cut.parts k x at).0) fit
 
 -- supplies for some of the numbers
 pub fewer : (types : Types) (env : Supplies) (ns ms : List ℕ) → ((k : ℕ) → Contains ms k → Contains ns k)

@@ -1,7 +1,7 @@
 -- Which netlists are accepted, and why the others are not.
 --
 -- Read first: CellRules, PortRules; Cycles of gos_netlist.
-use Rattle.std.specs.Prelude.{◌≡◌, ℕ, ◌≤◌, List, [], ◌∷◌, map}
+use Rattle.std.specs.Prelude.{◌≡◌, ◌≢◌, ℕ, ◌≤◌, List, [], ◌∷◌, map}
 use Rattle.std.specs.List.{AllByRecursion}
 use Rattle.gos_netlist.specs.Nets.{Cell, Netlist}
 use Rattle.gos_netlist.specs.Seen.{number_of}
@@ -39,3 +39,13 @@ HasFault net faults.NoMemory = Unit {0}
 -- an accepted netlist has no fault but want of memory
 abbrev pub AcceptedHasNoFault : Netlist → Type 0
 AcceptedHasNoFault net = (fault : NetFault) → IsAccepted net → HasFault net fault → fault ≡ faults.NoMemory
+
+-- Two faults are one; but a netlist with several combinational cycles has each of them.
+abbrev pub AreOneFault : NetFault → NetFault → Type 0
+AreOneFault (faults.Cycle nets) (faults.Cycle others) = Unit {0}
+AreOneFault fault other = fault ≡ other
+
+-- besides want of memory a netlist has one fault at most
+abbrev pub HasOneFault : Netlist → Type 0
+HasOneFault net =
+    (fault other : NetFault) → HasFault net fault → HasFault net other → fault ≢ faults.NoMemory → other ≢ faults.NoMemory → AreOneFault fault other

@@ -1,11 +1,11 @@
 -- No split has two live sides, as a part that uses what comes from both would be on both sides.
 use Rattle.std.specs.Prelude.{◌≡◌, ℕ, ◌<◌, ◌⊎◌, ◌||◌, Bool, true, false, List, [], ◌∷◌, nat_eq, if◌then◌else◌}
-use Rattle.std.proofs.Common.{refl, sym, ap, subst, inl, inr}
+use Rattle.std.proofs.Common.{refl, sym, subst, inl, inr}
 use Rattle.gos_check.specs.declared.linear.Split.{Split}
 use Rattle.gos_check.specs.Linearity.{times, sides, IsOneOf, Comes, itself, by_left, by_right}
 use Rattle.gos_check.proofs.TimesLemmas.{true_eq}
 use Rattle.gos_leaves.proofs.CountLemmas.{left_in, right_in}
-use Rattle.gos_numbers.specs.Numbers.{live, AreApart}
+use Rattle.gos_stages.specs.Lodging.{live, AreApart}
 
 or_true : (x y : Bool) → (x || y) ≡ true → (x ≡ true) ⊎ (y ≡ true)
 or_true true y e = inl refl

@@ -1,18 +1,19 @@
 -- The parts of a node inherit what is kept of its numbers.
 use Rattle.std.specs.Prelude.{◌≡◌, ℕ, zero, suc, ◌+◌, ◌<◌, ◌≤◌, List, [], ◌∷◌, ◌++◌}
-use Rattle.std.proofs.Common.{refl, sym, ◌∙◌, ap, subst, arith}
+use Rattle.std.proofs.Common.{refl, subst, arith}
 use Rattle.gos_types.specs.Types.{Type'}
 use Rattle.gos_check.specs.declared.linear.Split.{Split}
-use Rattle.gos_check.specs.Nodes.{Numbered, Under, One, Two, If, Binding, OneForm, TwoForm}
+use Rattle.gos_check.specs.Nodes.{Numbered, Under, One, Two, If, Binding, OneForm}
 use Rattle.gos_check.specs.Linearity.{times, split_in, sides, used, made}
 use Rattle.gos_check.proofs.TimesLemmas.{times-append}
 use Rattle.gos_compile.specs.Wiring.{Types}
-use Rattle.gos_numbers.specs.Numbers.{numbers_inside, AreParted, IsBound}
+use Rattle.gos_stages.specs.Inside.{numbers_inside}
+use Rattle.gos_frames.specs.Blocks.{IsBound}
 use Rattle.gos_numbers.specs.Kept.{IsKept}
 use Rattle.gos_numbers.specs.Inherited.{own_numbers, first_numbers, IsPart, BodyIsKept, PartIsKept, BothAreKept, BothAreParted, ThreeAreKept}
-use Rattle.gos_numbers.proofs.ListLemmas.{times_inside, passed, stopped, none_passed, some_stopped}
+use Rattle.gos_numbers.proofs.ListLemmas.{passed, stopped, none_passed, some_stopped}
 use Rattle.gos_numbers.proofs.ScopeLemmas.{covered}
-use Rattle.gos_numbers.proofs.PartLemmas.{Beside, is_part}
+use Rattle.gos_numbers.proofs.PartLemmas.{is_part}
 
 -- a binder, without splits
 plain_body : (types : Types) (ns : List ℕ) (t : Type') (b : Binding) (n : ℕ) (m : Numbered)
@@ -74,24 +75,24 @@ module _ (ss : List Split) (ns others : List ℕ) where
   abbrev taken : ℕ → ℕ
   taken k = times k (split_in ss) + times k others
 
-  first_few : (k : ℕ) → times k (first_numbers ss ns others) ≤ times k (numbers_inside ss ns)
+  pub first_few : (k : ℕ) → times k (first_numbers ss ns others) ≤ times k (numbers_inside ss ns)
   first_few k = by_number (taken k) refl
     where
       by_number : (a : ℕ) → taken k ≡ a → times k (first_numbers ss ns others) ≤ times k (numbers_inside ss ns)
       by_number zero e = let same = none_passed taken (numbers_inside ss ns) k e in omega (arith, same)
       by_number (suc a) e = let none = some_stopped taken (numbers_inside ss ns) k (omega (arith, e)) in omega (arith, none)
 
-  first_free : (k : ℕ) → 0 < times k (first_numbers ss ns others) → taken k ≡ 0
+  pub first_free : (k : ℕ) → 0 < times k (first_numbers ss ns others) → taken k ≡ 0
   first_free k small = by_number (taken k) refl
     where
       by_number : (a : ℕ) → taken k ≡ a → taken k ≡ 0
       by_number zero e = e
       by_number (suc a) e = let none = some_stopped taken (numbers_inside ss ns) k (omega (arith, e)) in absurd (omega (arith, none, small))
 
-  first_all : (k : ℕ) → taken k ≡ 0 → times k (first_numbers ss ns others) ≡ times k (numbers_inside ss ns)
+  pub first_all : (k : ℕ) → taken k ≡ 0 → times k (first_numbers ss ns others) ≡ times k (numbers_inside ss ns)
   first_all k e = none_passed taken (numbers_inside ss ns) k e
 
-  first_none : (k : ℕ) → 0 < taken k → times k (first_numbers ss ns others) ≡ 0
+  pub first_none : (k : ℕ) → 0 < taken k → times k (first_numbers ss ns others) ≡ 0
   first_none k e = some_stopped taken (numbers_inside ss ns) k e
 
 -- the numbers of another part

@@ -1,7 +1,10 @@
 mod ListLemmas
-mod ScopeLemmas
-mod ApartLemmas
-mod PartLemmas
-mod InheritedLemmas
+pub mod ScopeLemmas
+pub mod ApartLemmas
+pub mod PartLemmas
+pub mod InheritedLemmas
 mod RootLemmas
+mod ReachLemmas
+mod FreeLemmas
+mod UnsplitLemmas
 mod SmallKeptLemmas

@@ -1,11 +1,11 @@
 -- How often a number is among those inside splits, and among those that pass a test.
-use Rattle.std.specs.Prelude.{◌≡◌, ◌≢◌, ℕ, zero, suc, ◌+◌, ◌<◌, ◌≤◌, ◌⊎◌, Bool, true, false, cond, List, [], ◌∷◌, ◌++◌, nat_eq, nat_lt, filter, Contains, if◌then◌else◌}
+use Rattle.std.specs.Prelude.{◌≡◌, ◌≢◌, ℕ, zero, suc, ◌+◌, ◌<◌, ◌⊎◌, Bool, true, false, cond, List, [], ◌∷◌, nat_eq, nat_lt, filter, Contains}
 use Rattle.std.proofs.Common.{refl, sym, ◌∙◌, ap, subst, arith, inl, inr}
 use Rattle.std.proofs.lemmas.Bool.Decides.{nat_tests}
 use Rattle.gos_check.specs.declared.linear.Split.{Split}
-use Rattle.gos_check.specs.Linearity.{times, split_in, sides}
-use Rattle.gos_check.proofs.TimesLemmas.{number_cases, eq_true, eq_false, true_eq, times_same, times_other}
-use Rattle.gos_numbers.specs.Numbers.{numbers_inside}
+use Rattle.gos_check.specs.Linearity.{times, sides}
+use Rattle.gos_check.proofs.TimesLemmas.{number_cases, eq_true, eq_false, times_same, times_other}
+use Rattle.gos_stages.specs.Inside.{numbers_inside}
 
 -- a number is in a list where it is there some times
 pub times_some : (ns : List ℕ) (n : ℕ) → Contains ns n → 0 < times n ns

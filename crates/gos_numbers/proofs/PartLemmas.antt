@@ -1,15 +1,15 @@
 -- A part of a node, by what is made and used beside it.
-use Rattle.std.specs.Prelude.{◌≡◌, ℕ, zero, suc, ◌+◌, ◌<◌, ◌≤◌, ◌⊎◌, true, List, [], ◌∷◌, ◌++◌, Contains}
-use Rattle.std.proofs.Common.{refl, sym, ◌∙◌, arith, inl, inr}
+use Rattle.std.specs.Prelude.{◌≡◌, ℕ, ◌+◌, ◌<◌, ◌≤◌, ◌⊎◌, List, [], ◌∷◌, Contains}
+use Rattle.std.proofs.Common.{arith, inl, inr}
 use Rattle.gos_check.specs.declared.linear.Split.{Split}
 use Rattle.gos_check.specs.Nodes.{Numbered}
-use Rattle.gos_check.specs.Linearity.{times, split_in, sides, used, made, IsOneOf, itself, IsSplitBetween, SidesApart}
+use Rattle.gos_check.specs.Linearity.{times, split_in, sides, used, made, IsSplitBetween, SidesApart}
 use Rattle.gos_leaves.specs.Splits.{SidesUsedWithin, SplitsAtForks}
 use Rattle.gos_leaves.proofs.CountLemmas.{left_in, right_in}
 use Rattle.gos_compile.specs.Wiring.{Types}
 use Rattle.gos_compile.specs.Typed.{NodesTyped, SidesTyped}
-use Rattle.gos_numbers.specs.Numbers.{numbers_inside, AreSplit, SidesAgree}
-use Rattle.gos_numbers.specs.Kept.{InScope, NodesGround, IsKept}
+use Rattle.gos_stages.specs.Inside.{numbers_inside, AreSplit, SidesAgree}
+use Rattle.gos_numbers.specs.Kept.{InScope, NodesGround}
 use Rattle.gos_numbers.specs.Inherited.{IsPart, is_in}
 use Rattle.gos_numbers.proofs.ListLemmas.{times_some, some_times, either, times_inside, true_lt}
 use Rattle.gos_numbers.proofs.ScopeLemmas.{restrict, covered, in_order}

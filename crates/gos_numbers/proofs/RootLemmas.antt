@@ -1,5 +1,5 @@
 -- What is kept of the numbers of a checked module: each that is used or split stands for something there.
-use Rattle.std.specs.Prelude.{◌≡◌, ◌≢◌, ℕ, zero, suc, ◌+◌, ◌<◌, ◌≤◌, Bool, true, false, List, [], ◌∷◌, ◌++◌, length, nat_eq, if◌then◌else◌}
+use Rattle.std.specs.Prelude.{◌≡◌, ◌≢◌, ℕ, zero, suc, ◌+◌, ◌<◌, ◌≤◌, Bool, true, false, List, [], ◌∷◌, ◌++◌, length, if◌then◌else◌}
 use Rattle.std.proofs.Common.{refl, sym, ◌∙◌, ap, subst, arith}
 use Rattle.gos_types.specs.Types.{type_of}
 use Rattle.gos_model.specs.Terms as terms
@@ -8,7 +8,7 @@ use Rattle.gos_model.specs.Typing.{Imports}
 use Rattle.gos_check.specs.declared.linear.Split.{Split}
 use Rattle.gos_check.specs.Nodes.{Numbered, Closed, Use, Under, One, Two, If, Meaning, below, shifted, inside, inside_one, node_seen}
 use Rattle.gos_check.specs.Linearity.{times, made, import_at}
-use Rattle.gos_check.specs.Checked.{SeenLinear, IsChecked, program_in}
+use Rattle.gos_check.specs.Checked.{program_in}
 use Rattle.gos_check.proofs.TimesLemmas.{number_cases, times_same, times_other, times-append, one_other}
 use Rattle.gos_compile.specs.Typed.{CheckedIsTyped}
 use Rattle.gos_leaves.proofs.CountLemmas.{behind}
@@ -16,8 +16,8 @@ use Rattle.gos_leaves.proofs.LostLemmas.{is_loc, UsesStand, uses_stand, lost_in,
 use Rattle.gos_leaves.proofs.StandLemmas.{none_lost}
 use Rattle.gos_leaves.proofs.WithinLemmas.{standing_is_split_at_forks}
 use Rattle.gos_wired.specs.Modules.{numbers_from}
-use Rattle.gos_numbers.specs.Numbers.{numbers_inside, AreSplit}
-use Rattle.gos_numbers.specs.Kept.{InScope, NodesGround, IsKept, CheckedIsKept}
+use Rattle.gos_stages.specs.Inside.{numbers_inside, AreSplit}
+use Rattle.gos_numbers.specs.Kept.{InScope, CheckedIsKept}
 use Rattle.gos_numbers.proofs.ListLemmas.{some_times, times_inside}
 
 -- what stands for no location is there

@@ -1,11 +1,12 @@
 -- A term is in scope where all numbers are that it uses.
-use Rattle.std.specs.Prelude.{◌≡◌, ℕ, zero, suc, ◌+◌, ◌<◌, ◌≤◌, ◌⊎◌, List, [], ◌∷◌, ◌++◌, Contains}
-use Rattle.std.proofs.Common.{refl, sym, ◌∙◌, ap, subst, arith, inl, inr}
+use Rattle.std.specs.Prelude.{◌≡◌, ℕ, zero, suc, ◌+◌, ◌<◌, ◌≤◌, ◌⊎◌, List, [], ◌∷◌, ◌++◌}
+use Rattle.std.proofs.Common.{subst, arith, inl, inr}
 use Rattle.gos_check.specs.declared.linear.Split.{Split}
 use Rattle.gos_check.specs.Nodes.{Numbered, Closed, Use, Under, One, Two, If}
 use Rattle.gos_check.specs.Linearity.{times, split_in, sides, used, made}
 use Rattle.gos_check.proofs.TimesLemmas.{number_cases, times_same, times_other, times-append}
-use Rattle.gos_numbers.specs.Numbers.{numbers_inside, AreSplit, AreInOrder}
+use Rattle.gos_stages.specs.Inside.{numbers_inside, AreSplit}
+use Rattle.gos_stages.specs.Lodging.{AreInOrder}
 use Rattle.gos_numbers.specs.Kept.{InScope}
 use Rattle.gos_numbers.proofs.ListLemmas.{times_some, some_times, either, times_inside}
 

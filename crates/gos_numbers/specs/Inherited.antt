@@ -8,7 +8,10 @@ use Rattle.gos_check.specs.declared.linear.Split.{Split}
 use Rattle.gos_check.specs.Nodes.{Numbered, Under, One, Two, If, Binding, OneForm, TwoForm}
 use Rattle.gos_check.specs.Linearity.{times, split_in, used, made}
 use Rattle.gos_compile.specs.Wiring.{Types}
-use Rattle.gos_numbers.specs.Numbers.{numbers_inside, AreSplit, SidesAgree, AreTidy, AreParted, IsBound}
+use Rattle.gos_stages.specs.Inside.{numbers_inside, AreSplit, SidesAgree}
+use Rattle.gos_stages.specs.Lodging.{AreTidy}
+use Rattle.gos_frames.specs.Frames.{AreParted}
+use Rattle.gos_frames.specs.Blocks.{IsBound}
 use Rattle.gos_numbers.specs.Kept.{IsKept}
 
 -- the numbers of a part: those that it uses

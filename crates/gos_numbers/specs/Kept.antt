@@ -1,6 +1,6 @@
 -- What an induction on a typed term keeps of its numbers.
 --
--- Read first: Numbers; Typed of gos_compile; Splits of gos_leaves; Checked of gos_check. The numbers ns are there outside the
+-- Read first: Typed of gos_compile; Splits of gos_leaves; Checked of gos_check; Inside of gos_stages. The numbers ns are there outside the
 -- node: those of the imports, of the binders above it and of the splits above it.
 use Rattle.std.specs.Prelude.{ℕ, ◌+◌, ◌≤◌, List, [], ◌∷◌, ◌++◌, length, Contains}
 use Rattle.gos_types.specs.Types.{IsGround}
@@ -11,7 +11,7 @@ use Rattle.gos_compile.specs.Wiring.{Types, all_types}
 use Rattle.gos_compile.specs.Typed.{NodesTyped}
 use Rattle.gos_leaves.specs.Splits.{SidesUsedWithin, SplitsAtForks}
 use Rattle.gos_wired.specs.Modules.{numbers_from}
-use Rattle.gos_numbers.specs.Numbers.{numbers_inside, AreSplit}
+use Rattle.gos_stages.specs.Inside.{numbers_inside, AreSplit}
 
 -- Each number that is used or split is there: it is one of these, or a side of a split at or above it, or a binder's above it.
 abbrev pub InScope : List ℕ → Numbered → Type 0

@@ -1,5 +1,5 @@
 -- In reading order: a file uses only files above it.
-pub mod Numbers
 pub mod Kept
 pub mod Inherited
+pub mod Unsplit
 pub mod SmallKept

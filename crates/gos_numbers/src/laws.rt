@@ -1,6 +1,7 @@
 // What is kept of a typed term's numbers. Each theorem is the contract of a function that does nothing.
 ghost use Rattle.gos_numbers.specs.Kept.{CheckedIsKept};
 ghost use Rattle.gos_numbers.specs.Inherited.{BodyIsKept, PartIsKept, BothAreKept, BothAreParted, ThreeAreKept};
+ghost use Rattle.gos_numbers.specs.Unsplit.{CheckedIsUnsplit, SidesAreNotUnsplit, TwiceIsUnsplit};
 ghost use Rattle.gos_numbers.specs.SmallKept.{TwiceIsKept, NoneIsNotKept};
 
 use gos_compile::typed_terms;
@@ -21,6 +22,15 @@ pub fn parts_are_kept()
     ensures parted { BothAreParted }
     ensures three { ThreeAreKept }
 {}
+
+/// No node `m || n` of a checked module of ground nodes has splits. A sequence may have them.
+pub fn parallels_are_unsplit()
+    ensures checked { CheckedIsUnsplit }
+    ensures met { TwiceIsUnsplit }
+    ensures missed { SidesAreNotUnsplit }
+{
+    typed_terms();
+}
 
 /// A number that is used twice is split, where it is there; and where it isn't, that is no term whose numbers are kept.
 pub fn small_kept()

@@ -5,4 +5,4 @@
 
 mod laws;
 
-pub use laws::{checked_is_kept, parts_are_kept, small_kept};
+pub use laws::{checked_is_kept, parallels_are_unsplit, parts_are_kept, small_kept};

@@ -8,7 +8,7 @@ use Rattle.gos_command.specs.declared.report.Report.{Report}
 use Rattle.gos_command.proofs.FilesLemmas.{is_read_whole}
 use Rattle.gos_command.proofs.EndLemmas.{of_some}
 use Rattle.gos_objects.specs.Checked.{IsChecked}
-use Rattle.gos_objects.specs.inner.Typed.{IsTypedAs}
+use Rattle.gos_objects.specs.Typed.{IsTypedAs}
 
 -- a source that is typed is no longer than what was read
 pub typed_file : (told : Option Files) (source : Word) (text : List ℕ) (linear : SeenLinear)

@@ -1,23 +1,32 @@
--- From the plan of a checked module to the object file of its source.
-use Rattle.std.proofs.Common.{◌≡◌, ◌∙◌, ◌≤◌, ℕ, List, Option, Some, None, ap, arith, length, map, subst, sym}
+-- From the plan of a checked module to the plan and the object file of its source.
+use Rattle.std.proofs.Common.{◌≡◌, ◌∙◌, ◌≤◌, ℕ, List, Option, Some, None, Result, Ok, Err, ap, arith, length, map, refl, subst}
 use Rattle.std.proofs.lemmas.List.{length-map}
-use Rattle.std.specs.Prelude.{IfSome}
+use Rattle.std.specs.Prelude.{IfSome, IfOk}
 use Rattle.gos_outside.specs.Files.{Files, bytes_at, with_file}
 use Rattle.gos_lines.specs.Lines.{Word}
 use Rattle.gos_types.specs.Types.{Type', type_of}
 use Rattle.gos_model.specs.Moves.{Program}
 use Rattle.gos_model.specs.Sources.{import_of, program_of}
-use Rattle.gos_check.specs.Checked.{SeenLinear}
+use Rattle.gos_check.specs.Checked.{SeenLinear, IsChecked, program_in}
 use Rattle.gos_check.specs.Nodes.{node_seen}
+use Rattle.gos_plan.specs.Plans.{Plan}
+use Rattle.gos_plan.specs.Seen.{SeenPlan, plan_of}
+use Rattle.gos_plan.specs.ObjectText.{text_of}
 use Rattle.gos_plan.specs.ObjectFaults.{IsRead}
+use Rattle.gos_realises.specs.Realises.{AllGround}
+use Rattle.gos_realises.specs.Modules.{RealisesModule}
+use Rattle.gos_realises.specs.Slim.{IsSlim}
 use Rattle.gos_compile.specs.Wiring.{IsPlanOf}
+use Rattle.gos_ports.specs.Ports.{HaveWidths}
+use Rattle.gos_modules.specs.Ground.{IsGroundProgram}
+use Rattle.gos_modules.specs.Sources.{ProgramIsRealised, ProgramHasPorts}
 use Rattle.gos_command.specs.declared.report.Report.{Report}
-use Rattle.gos_objects.specs.Compiled.{IsObjectOf, IsCompiled}
-use Rattle.gos_objects.specs.inner.Typed.{IsTypedAs, IsPlanText}
+use Rattle.gos_objects.specs.Compiled.{IsPlanOfModule, IsCompiled}
+use Rattle.gos_objects.specs.Typed.{IsTypedAs, IsPlanFor}
 use Rattle.gos_objects.proofs.ImportLemmas.{few_imports}
 
 -- a checked module has the imports of the source's
-few : (text : List ℕ) (linear : SeenLinear) (typed : IsTypedAs text linear) → length linear.imports ≤ 64
+pub few : (text : List ℕ) (linear : SeenLinear) → IsTypedAs text linear → length linear.imports ≤ 64
 few text linear typed =
     let m = typed.made in
     let source = typed.says.source in
@@ -27,34 +36,54 @@ few text linear typed =
     let other = length-map m.imports import_of in
     omega (arith, limit, same, one, other)
 
--- the text of the plan of a checked module is that of the source's module
-object_is : (source text : List ℕ) (linear : SeenLinear) (typed : IsTypedAs source linear) → IsPlanText linear text → IsObjectOf text typed.made
-object_is source text linear typed plan =
+-- what compiling makes is the plan of its module
+pub plan_is_for : {E : Type 0} → ProgramIsRealised → ProgramHasPorts → (linear : SeenLinear) → IsChecked linear → (r : Result SeenPlan E)
+    → IfOk r (λ p. IsPlanOf (program_in linear).imports (type_of linear.result) linear.weight (node_seen linear.term) (plan_of p))
+    → IfOk r (λ p. IsSlim (plan_of p)) → IfOk r (λ p. length linear.imports ≤ 64 → IsRead (text_of (plan_of p)) (plan_of p))
+    → IfOk r (λ p. IsPlanFor linear (plan_of p))
+plan_is_for realised ports linear checked (Ok p) made slim read =
+    record {
+      made = made;
+      slim = slim;
+      read_back = read;
+      realises = λ ground. realised linear linear.weight (plan_of p) checked ground made slim;
+      ports = λ ground. let (all, wide, outcome) = ports linear linear.weight (plan_of p) checked ground made in (all, wide);
+    }
+plan_is_for realised ports linear checked (Err e) made slim read = tt
+
+-- what the plan is for a program, where that is ground
+abbrev ForGround : Plan → Program → Type 0
+ForGround plan p = (IsGroundProgram p → RealisesModule plan p.body) × (IsGroundProgram p → AllGround plan.imports × HaveWidths plan.imports)
+
+-- the plan of a checked module is that of the source's module
+pub plan_is : (source : List ℕ) (linear : SeenLinear) (typed : IsTypedAs source linear) (plan : Plan) → IsPlanFor linear plan → IsPlanOfModule typed.made plan
+plan_is source linear typed plan is =
     let m = typed.made in
     let term = node_seen linear.term in
-    let of_program = subst (λ (p : Program). IsPlanOf p.imports (type_of linear.result) linear.weight term plan.plan) typed.program plan.made in
-    let of_type = subst (λ (t : Type'). IsPlanOf (program_of m).imports t linear.weight term plan.plan) typed.outcome of_program in
+    let of_program = subst (λ (p : Program). IsPlanOf p.imports (type_of linear.result) linear.weight term plan) typed.program is.made in
+    let for_ground = subst (ForGround plan) typed.program (is.realises, is.ports) in
+    let of_type = subst (λ (t : Type'). IsPlanOf (program_of m).imports t linear.weight term plan) typed.outcome of_program in
     record {
       term = term;
-      plan = plan.plan;
       stands = typed.term;
-      made = subst (λ (w : ℕ). IsPlanOf (program_of m).imports (type_of m.result) w term plan.plan) typed.weight of_type;
-      is = plan.is;
-      slim = plan.slim;
-      read = subst (λ (t : List ℕ). IsRead t plan.plan) (sym plan.is) (plan.read_back (few source linear typed));
+      made = subst (λ (w : ℕ). IsPlanOf (program_of m).imports (type_of m.result) w term plan) typed.weight of_type;
+      slim = is.slim;
+      read = is.read_back (few source linear typed);
+      realises = λ ground. for_ground.0 ground.program;
+      ports = λ ground. for_ground.1 ground.program;
     }
 
 -- the object was written
-pub compiled : (told new : Option Files) (source object : Word) (linear : SeenLinear) (text : List ℕ) (report : Report)
-    → IfSome told (λ files. IsTypedAs (bytes_at files source) linear) → IsPlanText linear text → new ≡ with_file object text told
+pub compiled : (told new : Option Files) (source object : Word) (linear : SeenLinear) (plan : Plan) (report : Report)
+    → IfSome told (λ files. IsTypedAs (bytes_at files source) linear) → IsPlanFor linear plan → new ≡ with_file object (text_of plan) told
     → report ≡ record { weight = Some linear.weight; run = None } → IfSome told (λ files. IsCompiled files new source object report)
-compiled None new source object linear text report typed plan wrote tells = tt
-compiled (Some files) new source object linear text report typed plan wrote tells =
+compiled None new source object linear plan report typed is wrote tells = tt
+compiled (Some files) new source object linear plan report typed is wrote tells =
     record {
       made = typed.made;
-      text = text;
+      text = text_of plan;
       says = typed.says;
-      compiled = object_is (bytes_at files source) text linear typed plan;
+      compiled = record { plan = plan; compiled = plan_is (bytes_at files source) linear typed plan is; is = refl };
       wrote = wrote;
       tells = tells ∙ ap (λ (n : ℕ). record { weight = Some n; run = None }) typed.weight;
     }

@@ -1,3 +1,3 @@
 mod ImportLemmas
 mod CheckedLemmas
-mod CompiledLemmas
+pub mod CompiledLemmas

@@ -1,7 +1,7 @@
 -- The command `compile SRC OBJ`.
 --
--- Read first: Checked; Wiring of gos_compile (the plan of a module); Slim of gos_realises; ObjectText and ObjectFaults of gos_plan (its
--- text, and which texts are read).
+-- Read first: Checked; Wiring of gos_compile (the plan of a module); Modules and Slim of gos_realises (what it is to realise a
+-- module); Ground of gos_modules (ground modules); ObjectText and ObjectFaults of gos_plan (its text, and which texts are read).
 use Rattle.std.specs.Prelude.{◌≡◌, ◌⊎◌, ℕ, List, Option, Some, None, IfSome}
 use Rattle.gos_outside.specs.Files.{Files, bytes_at, with_file, SameBut}
 use Rattle.gos_outside.specs.Faults.{LastFault, ReadFault, WriteFault}
@@ -15,21 +15,31 @@ use Rattle.gos_check.specs.Linearity.{StandsFor}
 use Rattle.gos_plan.specs.Plans.{Plan}
 use Rattle.gos_plan.specs.ObjectText.{text_of}
 use Rattle.gos_plan.specs.ObjectFaults.{IsRead}
+use Rattle.gos_realises.specs.Realises.{AllGround}
+use Rattle.gos_realises.specs.Modules.{RealisesModule}
 use Rattle.gos_realises.specs.Slim.{IsSlim}
 use Rattle.gos_compile.specs.Wiring.{IsPlanOf}
+use Rattle.gos_ports.specs.Ports.{HaveWidths}
+use Rattle.gos_modules.specs.Ground.{IsGroundModule}
 use Rattle.gos_command.specs.declared.report.Report.{Report}
 use Rattle.gos_objects.specs.Checked.{SaysModule}
 
--- The text is that of the plan of a module: the parts and the joints are those of a typed term that stands for it. The plan is slim,
--- and it is what the text is read as.
-pub record IsObjectOf (text : List ℕ) (m : SeenModule) : Type 0 where
+-- The plan of a module: its parts and joints are those of a typed term that stands for the module. The plan is slim, and its
+-- text is read as it. Where the module is ground, the plan realises its program, and has imports such as ports may be.
+pub record IsPlanOfModule (m : SeenModule) (plan : Plan) : Type 0 where
   pub term : Numbered
-  pub plan : Plan
   pub stands : StandsFor (program_of m) term
   pub made : IsPlanOf (program_of m).imports (type_of m.result) (weighed m) term plan
-  pub is : text ≡ text_of plan
   pub slim : IsSlim plan
-  pub read : IsRead text plan
+  pub read : IsRead (text_of plan) plan
+  pub realises : IsGroundModule m → RealisesModule plan (program_of m).body
+  pub ports : IsGroundModule m → AllGround plan.imports × HaveWidths plan.imports
+
+-- the text is that of the plan of a module
+pub record IsObjectOf (text : List ℕ) (m : SeenModule) : Type 0 where
+  pub plan : Plan
+  pub compiled : IsPlanOfModule m plan
+  pub is : text ≡ text_of plan
 
 -- The source file says a module that is accepted, the text of its plan is written over the files before, and the report
 -- has its weight.

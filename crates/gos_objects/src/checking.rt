@@ -1,13 +1,13 @@
 // The command `check`: a source file is read, scanned, parsed and checked.
 
-ghost use Rattle.std.specs.Prelude.{◌≡◌, ◌≤◌, IfOk, IfErr, IfSome, IsErrOf};
+ghost use Rattle.std.specs.Prelude.{◌≡◌, ◌≤◌, length, IfOk, IfErr, IfSome, IsErrOf};
 ghost use Rattle.gos_outside.specs.FileName.{IsFileName};
 ghost use Rattle.gos_outside.specs.Files.{bytes_at};
 ghost use Rattle.gos_outside.specs.Faults.{Rose, ReadFault};
 ghost use Rattle.gos_check.specs.Sizes.{IsCountableModule};
 ghost use Rattle.gos_command.specs.Ends.{IfStopped, IsRealCause, IsTold};
 ghost use Rattle.gos_objects.specs.Checked.{IsSource, IsChecked, IsSourceCause, IsSourceFault};
-ghost use Rattle.gos_objects.specs.inner.Typed.{IsTypedAs};
+ghost use Rattle.gos_objects.specs.Typed.{IsTypedAs};
 
 use gos_check::{Linear, check, parsed_is_countable};
 use gos_command::{Cause, Report, Stop, read_start, reject};
@@ -43,10 +43,13 @@ pub fn check_source<S: Store>(alloc: Global, source: &[u8], store: &mut S) -> Re
     })
 }
 
-/// Reads a source file and checks its module.
+/// Reads a source file and checks its module, which has at most 64 imports.
+///
+/// The source is rejected as `check_source` rejects it.
 pub fn module_in<S: Store>(alloc: Global, source: &[u8], store: &mut S) -> Result<Linear, Stop>
     requires { IsFileName source.now }
     ensures typed { IfOk result (λ linear. IfSome (S.contents store.old) (λ files. IsTypedAs (bytes_at files source.now) linear)) }
+    ensures few_imports { IfOk result (λ linear. length linear.imports ≤ 64) }
     ensures rejected { IfErr result (λ stop. IfStopped stop (λ fault line.
         IfSome (S.contents store.old) (λ files. IsSourceFault files source.now fault line))) }
     ensures told { IfErr result (λ stop. IfStopped stop IsTold) }

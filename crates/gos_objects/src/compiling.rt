@@ -2,19 +2,22 @@
 
 ghost use Rattle.std.specs.Prelude.{◌≡◌, ◌≤◌, IfOk, IfErr, IfSome, IsErrOf};
 ghost use Rattle.gos_outside.specs.FileName.{IsFileName};
-ghost use Rattle.gos_outside.specs.Files.{SameBut};
-ghost use Rattle.gos_outside.specs.Faults.{Rose};
+ghost use Rattle.gos_outside.specs.Files.{SameBut, with_file};
+ghost use Rattle.gos_outside.specs.Faults.{Rose, WriteFault};
+ghost use Rattle.gos_plan.specs.ObjectText.{text_of};
+ghost use Rattle.gos_plan.specs.Seen.{plan_of};
 ghost use Rattle.gos_command.specs.Ends.{IfStopped, IsTold};
 ghost use Rattle.gos_objects.specs.Checked.{IsSourceFault};
 ghost use Rattle.gos_objects.specs.Compiled.{IsCompiled, IsCompileCall};
-ghost use Rattle.gos_objects.specs.inner.Typed.{IsPlanText};
+ghost use Rattle.gos_objects.specs.Typed.{IsPlanFor};
 
 use crate::checking::module_in;
 use gos_check::Linear;
 use gos_command::{Report, Stop, write_file};
 use gos_compile::compile;
+use gos_modules::ground_programs;
 use gos_outside::Store;
-use gos_plan::print_object;
+use gos_plan::{Plan, print_object};
 use gos_types::NoMemory;
 use std::alloc::Global;
 
@@ -47,18 +50,43 @@ pub fn compile_source<S: Store>(
     ensures others { SameBut object.now (S.contents store.old) (S.contents store.new) }
 {
     let linear = module_in(alloc, source, store)?;
-    let text = plan_text(alloc, &linear)?;
-    write_file(alloc, store, object, text.as_slice())?;
+    let _plan = write_plan(alloc, &linear, object, store)?;
     Ok(Report {
         weight: Some(linear.weight()),
         run: None,
     })
 }
 
-// The text of the plan of a checked module.
-fn plan_text(alloc: Global, linear: &Linear) -> Result<Vec<u8>, NoMemory>
-    ensures { IfOk result (λ text. IsPlanText linear.now text.items) }
+/// Compiles a checked module, and writes the text of its plan as the object file.
+pub fn write_plan<S: Store>(
+    alloc: Global,
+    linear: &Linear,
+    object: &[u8],
+    store: &mut S,
+) -> Result<Plan, Stop>
+    requires { IsFileName object.now }
+    ensures made { IfOk result (λ plan. IsPlanFor linear.now (plan_of plan)) }
+    ensures wrote { IfOk result (λ plan. S.contents store.new ≡ with_file object.now (text_of (plan_of plan)) (S.contents store.old)) }
+    ensures rejects_nothing { IfErr result (λ stop. IfStopped stop (λ fault line. ⊥)) }
+    ensures failed_only { IsErrOf result Stop.StoreFailed → Rose (S.faults store.old) (S.faults store.new) }
+    ensures failed_call { IsErrOf result Stop.StoreFailed → S.last_fault store.new ≡ WriteFault object.now }
+    ensures same_count { (¬ (IsErrOf result Stop.StoreFailed)) → S.faults store.new ≡ S.faults store.old }
+    ensures memory_files { IsErrOf result Stop.NoMemory → S.contents store.new ≡ S.contents store.old }
+    ensures never_falls { S.faults store.old ≤ S.faults store.new }
+    ensures others { SameBut object.now (S.contents store.old) (S.contents store.new) }
 {
-    let plan = compile(alloc, linear)?;
-    print_object(alloc, &plan)
+    let plan = plan_for(alloc, linear)?;
+    let text = print_object(alloc, &plan)?;
+    write_file(alloc, store, object, text.as_slice())?;
+    Ok(plan)
+}
+
+// The plan of a checked module, and what it realises.
+fn plan_for(alloc: Global, linear: &Linear) -> Result<Plan, NoMemory>
+    ensures { IfOk result (λ plan. IsPlanFor linear.now (plan_of plan)) }
+{
+    ground_programs();
+    // A module is known to be checked where its term is seen.
+    let _term = linear.term();
+    compile(alloc, linear)
 }

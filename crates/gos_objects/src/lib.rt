@@ -2,11 +2,12 @@
 //
 // `check_source` is the command `check SRC`. `compile_source` is the command `compile SRC OBJ`, which checks in the same
 // way and then writes the plan of the module. What they tell, leave and reject is said in specs/Checked and
-// specs/Compiled; both begin with `module_in` (checking.rt).
+// specs/Compiled. Both begin with `module_in` (checking.rt), and the second ends with `write_plan` (compiling.rt); other
+// commands that compile sources do so too. What these two know of a module is said in specs/Typed.
 #![tactic(auto)]
 
-pub use checking::check_source;
-pub use compiling::compile_source;
+pub use checking::{check_source, module_in};
+pub use compiling::{compile_source, write_plan};
 
 mod checking;
 mod compiling;

@@ -3,10 +3,12 @@ pub mod DriverLemmas
 pub mod StepLemmas
 pub mod ProtocolLemmas
 pub mod LinkedLemmas
-pub mod PlainTurnLemmas
+pub mod HistoryLemmas
+pub mod SharedLemmas
 pub mod OutputLemmas
 pub mod OpenLemmas
 pub mod OrderLemmas
+pub mod LooseLemmas
 pub mod RegularLemmas
 pub mod MoveLemmas
 pub mod QuietLemmas

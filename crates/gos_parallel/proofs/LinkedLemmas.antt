@@ -1,7 +1,8 @@
 -- What is open at the ports of the whole, and at those of its regions.
 --
--- Along a list whose inputs come in turn a region's result is open where the part that asks it waits for it, and an import of a
--- region where that of the whole is (`Linked`). So the inputs of the regions come in turn (`lists_in_turn`).
+-- Along a list whose inputs come in turn a region's result is open where the part that asks it waits for it (`Driven`), and, with
+-- ground imports, an import of a region where that of the whole is (`Linked`). So the inputs of the regions come in turn
+-- (`lists_in_turn`).
 use Rattle.std.specs.Prelude.{◌≡◌, ℕ, Bool, true, false, List, [], ◌∷◌, ◌++◌, Option, Some, None, All, slice_get, if◌then◌else◌}
 use Rattle.std.proofs.Common.{refl, sym, ap, subst, inl, ◌∙◌}
 use Rattle.gos_types.specs.Types.{Type', Com}
@@ -57,13 +58,16 @@ ImportsAgree f p past own =
 abbrev pub OthersClosed : Cut → Cut → List Pass → Type 0
 OthersClosed f g past = (j k : ℕ) → f.inner (ImportEnd j k) ≡ None → g.inner (ImportEnd j k) ≡ None → is_open past (ImportEnd j k) ≡ false
 
-pub record Linked (d : ℕ) (f g : Cut) (p q : Plan) (past lefts rights : List Pass) (s : Tokens) : Type 0 where
+pub record Driven (d : ℕ) (past lefts rights : List Pass) (s : Tokens) : Type 0 where
   pub left_result : is_open lefts (ResultEnd 0) ≡ left_runs (s.state d).phase
   pub right_result : is_open rights (ResultEnd 0) ≡ right_runs (s.state d).phase
+  pub stage : Stage (is_open past (ResultEnd 0)) (s.state d).phase (gate s Request) (gate s Answer)
+
+pub record Linked (d : ℕ) (f g : Cut) (p q : Plan) (past lefts rights : List Pass) (s : Tokens) : Type 0 where
+  pub driven : Driven d past lefts rights s
   pub left_imports : ImportsAgree f p past lefts
   pub right_imports : ImportsAgree g q past rights
   pub others : OthersClosed f g past
-  pub stage : Stage (is_open past (ResultEnd 0)) (s.state d).phase (gate s Request) (gate s Answer)
 
 -- an input comes in turn
 abbrev pub Comes : Plan → List Pass → Element → Type 0
@@ -126,7 +130,7 @@ right_not_rest : (ph : Phase) → ph ≡ RightOnly → ph ≡ Rest → ⊥
 right_not_rest ph e f = let bad : RightOnly ≡ Rest = sym e ∙ f in cc bad
 
 -- imports, after one pass
-past_other : (e b : End) (way : Direction) (past : List Pass) → (e ≡ b → ⊥) → is_open (pass e way ∷ past) b ≡ is_open past b
+pub past_other : (e b : End) (way : Direction) (past : List Pass) → (e ≡ b → ⊥) → is_open (pass e way ∷ past) b ≡ is_open past b
 past_other e b way past other = by_test (same_end e b) refl
   where
     by_test : (t : Bool) → same_end e b ≡ t → is_open (pass e way ∷ past) b ≡ is_open past b
@@ -148,7 +152,7 @@ agree_both d h f r p side i j k way past own same stands leads agree a b c stood
     λ n. if test n then is_request way else agree a b c stood led n
 
 module _
-    (d : ℕ) (f g : Cut) (r p q : Plan) (is : IsParallel d f g r p q) (literals : All LiteralFits r.parts) (ground : AllGround r.imports) where
+    (d : ℕ) (f g : Cut) (r p q : Plan) (is : IsParallel d f g r p q) (literals : All LiteralFits r.parts) where
   -- what each region makes of an element
   abbrev pub left_seen : (x : Element) (s t : Tokens) → Step d f g r p q x s t → List Element
   left_seen x s t (of_left x' y s' t' local sees unseen same) = y ∷ []
@@ -197,17 +201,23 @@ module _
   stage_at up ph c ask a ans b e h k stage =
       subst (λ (x : Phase). Stage up x a b) (sym e) (subst (λ (x : Option ℕ). Stage up ph x b) (sym h) (subst (λ (x : Option ℕ). Stage up ph ask x) (sym k) stage))
 
+  driven_same : (past lefts rights : List Pass) (s t : Tokens) → Same d s t → Driven d past lefts rights s → Driven d past lefts rights t
+  driven_same past lefts rights s t same driven =
+      record {
+        left_result = driven.left_result ∙ ap (λ c. left_runs c.phase) (sym same.state);
+        right_result = driven.right_result ∙ ap (λ c. right_runs c.phase) (sym same.state);
+        stage =
+            stage_at (is_open past (ResultEnd 0)) (s.state d).phase (t.state d).phase (gate s Request) (gate t Request) (gate s Answer) (gate t Answer)
+            (ap (λ c. c.phase) same.state) (same.gates Request) (same.gates Answer) driven.stage;
+      }
+
   linked_same : (past lefts rights : List Pass) (s t : Tokens) → Same d s t → Link past lefts rights s → Link past lefts rights t
   linked_same past lefts rights s t same linked =
       record {
-        left_result = linked.left_result ∙ ap (λ c. left_runs c.phase) (sym same.state);
-        right_result = linked.right_result ∙ ap (λ c. right_runs c.phase) (sym same.state);
+        driven = driven_same past lefts rights s t same linked.driven;
         left_imports = linked.left_imports;
         right_imports = linked.right_imports;
         others = linked.others;
-        stage =
-            stage_at (is_open past (ResultEnd 0)) (s.state d).phase (t.state d).phase (gate s Request) (gate t Request) (gate s Answer) (gate t Answer)
-            (ap (λ c. c.phase) same.state) (same.gates Request) (same.gates Answer) linked.stage;
       }
 
   -- an import of a region is asked or answers
@@ -216,8 +226,12 @@ module _
       → Link past lefts rights s → Link (pass (ImportEnd j k) way ∷ past) (pass (ImportEnd i k) way ∷ lefts) rights s
   import_left i j k way past lefts rights s stands leads linked =
       record {
-        left_result = linked.left_result;
-        right_result = linked.right_result;
+        driven =
+            record {
+              left_result = linked.driven.left_result;
+              right_result = linked.driven.right_result;
+              stage = linked.driven.stage;
+            };
         left_imports =
             agree_both d 0 f r p is.left i j k way past lefts
             (λ a b c e one other. region.same_held d 0 f r p is.left (free_left d f g r p q is) (ImportEnd a c) (ImportEnd b e) (inl one) (inl other)) stands leads
@@ -231,7 +245,6 @@ module _
             past_other (ImportEnd j k) (ImportEnd a b) way past
             (λ e. let clash : None ≡ Some (ImportEnd i k) = sym none ∙ (ap f.inner (sym e) ∙ inner_left i j k stands leads) in cc clash)
             ∙ linked.others a b none nor;
-        stage = linked.stage;
       }
 
   import_right : (i j k : ℕ) (way : Direction) (past lefts rights : List Pass) (s : Tokens) → StandsIn q (ImportEnd i k)
@@ -239,8 +252,12 @@ module _
       → Link past lefts rights s → Link (pass (ImportEnd j k) way ∷ past) lefts (pass (ImportEnd i k) way ∷ rights) s
   import_right i j k way past lefts rights s stands leads linked =
       record {
-        left_result = linked.left_result;
-        right_result = linked.right_result;
+        driven =
+            record {
+              left_result = linked.driven.left_result;
+              right_result = linked.driven.right_result;
+              stage = linked.driven.stage;
+            };
         left_imports =
             agree_other f p (ImportEnd j k) way past lefts
             (λ a b c stood led e.
@@ -254,7 +271,6 @@ module _
             past_other (ImportEnd j k) (ImportEnd a b) way past
             (λ e. let clash : None ≡ Some (ImportEnd i k) = sym nor ∙ (ap g.inner (sym e) ∙ inner_right i j k stands leads) in cc clash)
             ∙ linked.others a b none nor;
-        stage = linked.stage;
       }
 
   pub ways_left : (i j k : ℕ) → StandsIn p (ImportEnd i k) → f.outer (ImportEnd i k) ≡ ImportEnd j k
@@ -301,158 +317,101 @@ module _
     ),
   )
 
+  pub asked_turn : (past : List Pass) → ComesInTurn past (ResultEnd 0) (way_in (contact_at r (ResultEnd 0))) → is_open past (ResultEnd 0) ≡ false
+  asked_turn past turn = subst (λ w. ComesInTurn past (ResultEnd 0) w) (way_asked r is.outcome) turn
+
+  -- what is open of the results, and where the part stands
+  local_driven_left : (x y : Element) (s : Tokens) (past lefts rights : List Pass) → Local f r p x y → Driven d past lefts rights s
+      → Driven d (after r x past) (after p y lefts) rights s
+  local_driven_left x y s past lefts rights (fires i j k number) driven = driven
+  local_driven_left x y s past lefts rights (puts_out i j k v stands leads slices) driven =
+      record { left_result = driven.left_result; right_result = driven.right_result; stage = driven.stage }
+  local_driven_left x y s past lefts rights (takes_in i j k v stands leads slices) driven =
+      record { left_result = driven.left_result; right_result = driven.right_result; stage = driven.stage }
+
+  local_driven_right : (x y : Element) (s : Tokens) (past lefts rights : List Pass) → Local g r q x y → Driven d past lefts rights s
+      → Driven d (after r x past) lefts (after q y rights) s
+  local_driven_right x y s past lefts rights (fires i j k number) driven = driven
+  local_driven_right x y s past lefts rights (puts_out i j k v stands leads slices) driven =
+      record { left_result = driven.left_result; right_result = driven.right_result; stage = driven.stage }
+  local_driven_right x y s past lefts rights (takes_in i j k v stands leads slices) driven =
+      record { left_result = driven.left_result; right_result = driven.right_result; stage = driven.stage }
+
+  pub driven_step : (x : Element) (s t : Tokens) (z : Step d f g r p q x s t) (past lefts rights : List Pass) → Driven d past lefts rights s → Comes r past x
+      → Driven d (after r x past) (past_all p (left_seen x s t z) lefts) (past_all q (right_seen x s t z) rights) t
+  driven_step x s t (of_left x' y s' t' local sees unseen same) past lefts rights driven comes =
+      local_driven_left x' y t' past lefts rights local (driven_same past lefts rights s' t' same driven)
+  driven_step x s t (of_right x' y s' t' local sees unseen same) past lefts rights driven comes =
+      local_driven_right x' y t' past lefts rights local (driven_same past lefts rights s' t' same driven)
+  driven_step x s t (asked v s' t' small left right state ask ans) past lefts rights driven comes =
+      let (rest, none, empty) = when_asking (is_open past (ResultEnd 0)) (s'.state d).phase (gate s' Request) (gate s' Answer) driven.stage (asked_turn past comes) in
+      subst (λ w. Driven d (pass (ResultEnd 0) w ∷ past) lefts rights t') (sym (way_asked r is.outcome))
+      record {
+        left_result = driven.left_result ∙ ap (λ c. left_runs c.phase) (sym state);
+        right_result = driven.right_result ∙ ap (λ c. right_runs c.phase) (sym state);
+        stage = is_asked refl (ap (λ c. c.phase) state ∙ rest) (ask ∙ ap (λ n. Some n) small) (ans ∙ empty);
+      }
+  driven_step x s t (told v s' t' left right state ans none ask) past lefts rights driven comes =
+      let (opened, rest, empty, value) = when_told (is_open past (ResultEnd 0)) (s'.state d).phase (gate s' Request) (gate s' Answer) v driven.stage ans in
+      subst (λ w. Driven d (pass (ResultEnd 0) w ∷ past) lefts rights t') (sym (way_told r is.outcome))
+      record {
+        left_result = driven.left_result ∙ ap (λ c. left_runs c.phase) (sym state);
+        right_result = driven.right_result ∙ ap (λ c. right_runs c.phase) (sym state);
+        stage = idle refl (ap (λ c. c.phase) state ∙ rest) (ask ∙ empty) none;
+      }
+  driven_step x s t (starts v s' t' left right rest ask both none ans) past lefts rights driven comes =
+      let (opened, also, empty) = when_starting (is_open past (ResultEnd 0)) (s'.state d).phase (gate s' Request) (gate s' Answer) v driven.stage ask in
+      subst (λ w. Driven d past (pass (ResultEnd 0) w ∷ lefts) (pass (ResultEnd 0) (way_in (contact_at q (ResultEnd 0))) ∷ rights) t')
+      (sym (way_asked p is.left.outcome))
+      (subst (λ w. Driven d past (pass (ResultEnd 0) Request ∷ lefts) (pass (ResultEnd 0) w ∷ rights) t') (sym (way_asked q is.right.outcome))
+      record {
+        left_result = sym (ap left_runs both);
+        right_result = sym (ap right_runs both);
+        stage = works opened (with_both both) none (ans ∙ empty);
+      })
+  driven_step x s t (left_ends v s' t' left right both next gates) past lefts rights driven comes =
+      let (opened, none, empty) =
+      when_working (is_open past (ResultEnd 0)) (s'.state d).phase (gate s' Request) (gate s' Answer) driven.stage (both_not_rest (s'.state d).phase both) in
+      subst (λ w. Driven d past (pass (ResultEnd 0) w ∷ lefts) rights t') (sym (way_told p is.left.outcome))
+      record {
+        left_result = sym (ap left_runs next);
+        right_result = driven.right_result ∙ (ap right_runs both ∙ sym (ap right_runs next));
+        stage = works opened (with_right next) (gates Request ∙ none) (gates Answer ∙ empty);
+      }
+  driven_step x s t (right_ends v s' t' right left both next gates) past lefts rights driven comes =
+      let (opened, none, empty) =
+      when_working (is_open past (ResultEnd 0)) (s'.state d).phase (gate s' Request) (gate s' Answer) driven.stage (both_not_rest (s'.state d).phase both) in
+      subst (λ w. Driven d past lefts (pass (ResultEnd 0) w ∷ rights) t') (sym (way_told q is.right.outcome))
+      record {
+        left_result = driven.left_result ∙ (ap left_runs both ∙ sym (ap left_runs next));
+        right_result = sym (ap right_runs next);
+        stage = works opened (with_left next) (gates Request ∙ none) (gates Answer ∙ empty);
+      }
+  driven_step x s t (left_ends_all v s' t' left right phase rest ask ans) past lefts rights driven comes =
+      let (opened, none, empty) =
+      when_working (is_open past (ResultEnd 0)) (s'.state d).phase (gate s' Request) (gate s' Answer) driven.stage (left_not_rest (s'.state d).phase phase) in
+      subst (λ w. Driven d past (pass (ResultEnd 0) w ∷ lefts) rights t') (sym (way_told p is.left.outcome))
+      record {
+        left_result = sym (ap left_runs rest);
+        right_result = driven.right_result ∙ (ap right_runs phase ∙ sym (ap right_runs rest));
+        stage = has_ended opened rest (ask ∙ none) ans;
+      }
+  driven_step x s t (right_ends_all v s' t' right left phase rest ask ans) past lefts rights driven comes =
+      let (opened, none, empty) =
+      when_working (is_open past (ResultEnd 0)) (s'.state d).phase (gate s' Request) (gate s' Answer) driven.stage (right_not_rest (s'.state d).phase phase) in
+      subst (λ w. Driven d past lefts (pass (ResultEnd 0) w ∷ rights) t') (sym (way_told q is.right.outcome))
+      record {
+        left_result = driven.left_result ∙ (ap left_runs phase ∙ sym (ap left_runs rest));
+        right_result = sym (ap right_runs rest);
+        stage = has_ended opened rest (ask ∙ none) ans;
+      }
+  driven_step x s t (lost j k v s' t' c there not_left not_right left right same) past lefts rights driven comes =
+      let now = driven_same past lefts rights s' t' same driven in record { left_result = now.left_result; right_result = now.right_result; stage = now.stage }
+
   pub record Led (past lefts rights : List Pass) (x : Element) (s t : Tokens) (z : Step d f g r p q x s t) : Type 0 where
     pub linked : Link (after r x past) (past_all p (left_seen x s t z) lefts) (past_all q (right_seen x s t z) rights) t
     pub left_turn : InTurn p lefts (left_seen x s t z)
     pub right_turn : InTurn q rights (right_seen x s t z)
-
-  phase_of : (s : Tokens) → Phase
-  phase_of s = (s.state d).phase
-
-  stage_of : (past lefts rights : List Pass) (s : Tokens) → Link past lefts rights s
-      → Stage (is_open past (ResultEnd 0)) (s.state d).phase (gate s Request) (gate s Answer)
-  stage_of past lefts rights s linked = linked.stage
-
-  pub asked_turn : (past : List Pass) → ComesInTurn past (ResultEnd 0) (way_in (contact_at r (ResultEnd 0))) → is_open past (ResultEnd 0) ≡ false
-  asked_turn past turn = subst (λ w. ComesInTurn past (ResultEnd 0) w) (way_asked r is.outcome) turn
-
-  pub not_lost : (j k : ℕ) (c : Contact) (past lefts rights : List Pass) (s : Tokens) → contact_at r (ImportEnd j k) ≡ Some c → f.inner (ImportEnd j k) ≡ None
-      → g.inner (ImportEnd j k) ≡ None → Link past lefts rights s → ComesInTurn past (ImportEnd j k) (way_in (contact_at r (ImportEnd j k))) → ⊥
-  not_lost j k c past lefts rights s there not_left not_right linked turn =
-      let (x, at) = there_is r.imports j k c there in
-      let role = import_serves x.ty (one_ground r.imports ground j x at) k c (sym (ap (λ (o : Option Imported). slice_get (contacts_of_import o) k) at) ∙ there) in
-      let way : way_in (contact_at r (ImportEnd j k)) ≡ Answer = ap way_in there ∙ ap way_put (sym role) in
-      let up : is_open past (ImportEnd j k) ≡ true = subst (λ w. ComesInTurn past (ImportEnd j k) w) way turn in
-      let clash : true ≡ false = sym up ∙ linked.others j k not_left not_right in cc clash
-
-  pub linked_step : (x : Element) (s t : Tokens) (z : Step d f g r p q x s t) (past lefts rights : List Pass) → Link past lefts rights s → Comes r past x
-      → Led past lefts rights x s t z
-  linked_step x s t (of_left x' y s' t' local sees unseen same) past lefts rights linked comes =
-      let (led, turn) = local_left x' y s' t' past lefts rights local same linked comes in record { linked = led; left_turn = turn; right_turn = tt }
-  linked_step x s t (of_right x' y s' t' local sees unseen same) past lefts rights linked comes =
-      let (led, turn) = local_right x' y s' t' past lefts rights local same linked comes in record { linked = led; left_turn = tt; right_turn = turn }
-  linked_step x s t (asked v s' t' small left right state ask ans) past lefts rights linked comes =
-      let (rest, none, empty) = when_asking (is_open past (ResultEnd 0)) (s'.state d).phase (gate s' Request) (gate s' Answer) linked.stage (asked_turn past comes) in
-      record {
-        linked =
-            subst (λ w. Link (pass (ResultEnd 0) w ∷ past) lefts rights t') (sym (way_asked r is.outcome))
-            record {
-              left_result = linked.left_result ∙ ap (λ c. left_runs c.phase) (sym state);
-              right_result = linked.right_result ∙ ap (λ c. right_runs c.phase) (sym state);
-              left_imports = linked.left_imports;
-              right_imports = linked.right_imports;
-              others = linked.others;
-              stage = is_asked refl (ap (λ c. c.phase) state ∙ rest) (ask ∙ ap (λ n. Some n) small) (ans ∙ empty);
-            };
-        left_turn = tt;
-        right_turn = tt;
-      }
-  linked_step x s t (told v s' t' left right state ans none ask) past lefts rights linked comes =
-      let (opened, rest, empty, value) = when_told (is_open past (ResultEnd 0)) (s'.state d).phase (gate s' Request) (gate s' Answer) v linked.stage ans in
-      record {
-        linked =
-            subst (λ w. Link (pass (ResultEnd 0) w ∷ past) lefts rights t') (sym (way_told r is.outcome))
-            record {
-              left_result = linked.left_result ∙ ap (λ c. left_runs c.phase) (sym state);
-              right_result = linked.right_result ∙ ap (λ c. right_runs c.phase) (sym state);
-              left_imports = linked.left_imports;
-              right_imports = linked.right_imports;
-              others = linked.others;
-              stage = idle refl (ap (λ c. c.phase) state ∙ rest) (ask ∙ empty) none;
-            };
-        left_turn = tt;
-        right_turn = tt;
-      }
-  linked_step x s t (starts v s' t' left right rest ask both none ans) past lefts rights linked comes =
-      let (opened, also, empty) = when_starting (is_open past (ResultEnd 0)) (s'.state d).phase (gate s' Request) (gate s' Answer) v linked.stage ask in
-      record {
-        linked =
-            subst (λ w. Link past (pass (ResultEnd 0) w ∷ lefts) (pass (ResultEnd 0) (way_in (contact_at q (ResultEnd 0))) ∷ rights) t')
-            (sym (way_asked p is.left.outcome))
-            (subst (λ w. Link past (pass (ResultEnd 0) Request ∷ lefts) (pass (ResultEnd 0) w ∷ rights) t') (sym (way_asked q is.right.outcome))
-            record {
-              left_result = sym (ap left_runs both);
-              right_result = sym (ap right_runs both);
-              left_imports = linked.left_imports;
-              right_imports = linked.right_imports;
-              others = linked.others;
-              stage = works opened (with_both both) none (ans ∙ empty);
-            });
-        left_turn =
-            (subst (λ w. ComesInTurn lefts (ResultEnd 0) w) (sym (way_asked p is.left.outcome)) (linked.left_result ∙ ap left_runs rest), tt);
-        right_turn =
-            (subst (λ w. ComesInTurn rights (ResultEnd 0) w) (sym (way_asked q is.right.outcome)) (linked.right_result ∙ ap right_runs rest), tt);
-      }
-  linked_step x s t (left_ends v s' t' left right both next gates) past lefts rights linked comes =
-      let (opened, none, empty) =
-      when_working (is_open past (ResultEnd 0)) (s'.state d).phase (gate s' Request) (gate s' Answer) linked.stage (both_not_rest (s'.state d).phase both) in
-      record {
-        linked =
-            subst (λ w. Link past (pass (ResultEnd 0) w ∷ lefts) rights t') (sym (way_told p is.left.outcome))
-            record {
-              left_result = sym (ap left_runs next);
-              right_result = linked.right_result ∙ (ap right_runs both ∙ sym (ap right_runs next));
-              left_imports = linked.left_imports;
-              right_imports = linked.right_imports;
-              others = linked.others;
-              stage = works opened (with_right next) (gates Request ∙ none) (gates Answer ∙ empty);
-            };
-        left_turn = tt;
-        right_turn = tt;
-      }
-  linked_step x s t (right_ends v s' t' right left both next gates) past lefts rights linked comes =
-      let (opened, none, empty) =
-      when_working (is_open past (ResultEnd 0)) (s'.state d).phase (gate s' Request) (gate s' Answer) linked.stage (both_not_rest (s'.state d).phase both) in
-      record {
-        linked =
-            subst (λ w. Link past lefts (pass (ResultEnd 0) w ∷ rights) t') (sym (way_told q is.right.outcome))
-            record {
-              left_result = linked.left_result ∙ (ap left_runs both ∙ sym (ap left_runs next));
-              right_result = sym (ap right_runs next);
-              left_imports = linked.left_imports;
-              right_imports = linked.right_imports;
-              others = linked.others;
-              stage = works opened (with_left next) (gates Request ∙ none) (gates Answer ∙ empty);
-            };
-        left_turn = tt;
-        right_turn = tt;
-      }
-  linked_step x s t (left_ends_all v s' t' left right phase rest ask ans) past lefts rights linked comes =
-      let (opened, none, empty) =
-      when_working (is_open past (ResultEnd 0)) (s'.state d).phase (gate s' Request) (gate s' Answer) linked.stage (left_not_rest (s'.state d).phase phase) in
-      record {
-        linked =
-            subst (λ w. Link past (pass (ResultEnd 0) w ∷ lefts) rights t') (sym (way_told p is.left.outcome))
-            record {
-              left_result = sym (ap left_runs rest);
-              right_result = linked.right_result ∙ (ap right_runs phase ∙ sym (ap right_runs rest));
-              left_imports = linked.left_imports;
-              right_imports = linked.right_imports;
-              others = linked.others;
-              stage = has_ended opened rest (ask ∙ none) ans;
-            };
-        left_turn = tt;
-        right_turn = tt;
-      }
-  linked_step x s t (right_ends_all v s' t' right left phase rest ask ans) past lefts rights linked comes =
-      let (opened, none, empty) =
-      when_working (is_open past (ResultEnd 0)) (s'.state d).phase (gate s' Request) (gate s' Answer) linked.stage (right_not_rest (s'.state d).phase phase) in
-      record {
-        linked =
-            subst (λ w. Link past lefts (pass (ResultEnd 0) w ∷ rights) t') (sym (way_told q is.right.outcome))
-            record {
-              left_result = linked.left_result ∙ (ap left_runs phase ∙ sym (ap left_runs rest));
-              right_result = sym (ap right_runs rest);
-              left_imports = linked.left_imports;
-              right_imports = linked.right_imports;
-              others = linked.others;
-              stage = has_ended opened rest (ask ∙ none) ans;
-            };
-        left_turn = tt;
-        right_turn = tt;
-      }
-  linked_step x s t (lost j k v s' t' c there not_left not_right left right same) past lefts rights linked comes =
-      absurd (not_lost j k c past lefts rights s' there not_left not_right linked comes)
 
   -- the lists of the regions
   pub fits_on : (x : Element) (s t : Tokens) → AllFit r s → Does r x s t → AllFit r t
@@ -468,7 +427,7 @@ module _
   right_list (x ∷ xs) s t fit (w, does, runs) =
       right_seen x s w (step d f g r p q is literals x s w fit does) ++ right_list xs w t (fits_on x s w fit does) runs
 
-  seen_left_runs : (x : Element) (s w : Tokens) (z : Step d f g r p q x s w) (ys : List Element) (u : Tokens) → Runs p ys (cut_tokens f p w) u
+  pub seen_left_runs : (x : Element) (s w : Tokens) (z : Step d f g r p q x s w) (ys : List Element) (u : Tokens) → Runs p ys (cut_tokens f p w) u
       → Runs p (left_seen x s w z ++ ys) (cut_tokens f p s) u
   seen_left_runs x s w (of_left x' y s' t' local sees unseen same) ys u runs = (cut_tokens f p t', sees, runs)
   seen_left_runs x s w (of_right x' y s' t' local sees unseen same) ys u runs = subst (λ (a : Tokens). Runs p ys a u) unseen runs
@@ -481,7 +440,7 @@ module _
   seen_left_runs x s w (right_ends_all v s' t' right left phase rest ask ans) ys u runs = subst (λ (a : Tokens). Runs p ys a u) left runs
   seen_left_runs x s w (lost j k v s' t' c there not_left not_right left right same) ys u runs = subst (λ (a : Tokens). Runs p ys a u) left runs
 
-  seen_right_runs : (x : Element) (s w : Tokens) (z : Step d f g r p q x s w) (ys : List Element) (u : Tokens) → Runs q ys (cut_tokens g q w) u
+  pub seen_right_runs : (x : Element) (s w : Tokens) (z : Step d f g r p q x s w) (ys : List Element) (u : Tokens) → Runs q ys (cut_tokens g q w) u
       → Runs q (right_seen x s w z ++ ys) (cut_tokens g q s) u
   seen_right_runs x s w (of_left x' y s' t' local sees unseen same) ys u runs = subst (λ (a : Tokens). Runs q ys a u) unseen runs
   seen_right_runs x s w (of_right x' y s' t' local sees unseen same) ys u runs = (cut_tokens g q t', sees, runs)
@@ -508,27 +467,139 @@ module _
       seen_right_runs x s w (step d f g r p q is literals x s w fit does) (right_list xs w t (fits_on x s w fit does) runs) (cut_tokens g q t)
       (right_runs_on xs w t (fits_on x s w fit does) runs)
 
-  pub lists_in_turn : (xs : List Element) (s t : Tokens) (past lefts rights : List Pass) (fit : AllFit r s) (runs : Runs r xs s t)
-      → Link past lefts rights s → InTurn r past xs → InTurn p lefts (left_list xs s t fit runs) × InTurn q rights (right_list xs s t fit runs)
-  lists_in_turn [] s t past lefts rights fit runs linked turn = (tt, tt)
-  lists_in_turn (x ∷ xs) s t past lefts rights fit (w, does, runs) linked turn =
-      let z = step d f g r p q is literals x s w fit does in
-      let fit_on = fits_on x s w fit does in
-      let (comes, later) = first_comes r past x xs turn in
-      let led = linked_step x s w z past lefts rights linked comes in
-      let (lefts_on, rights_on) =
-      lists_in_turn xs w t (after r x past) (past_all p (left_seen x s w z) lefts) (past_all q (right_seen x s w z) rights) fit_on runs led.linked later in (
-        turn_append p lefts (left_seen x s w z) (left_list xs w t fit_on runs) led.left_turn lefts_on,
-        turn_append q rights (right_seen x s w z) (right_list xs w t fit_on runs) led.right_turn rights_on,
-      )
+  pub driven_first : (s : Tokens) → IsIdle r s → Driven d [] [] [] s
+  driven_first s rests =
+      record {
+        left_result = sym (ap left_runs (rests.1 d));
+        right_result = sym (ap right_runs (rests.1 d));
+        stage = idle refl (rests.1 d) (rests.0 Request (ResultEnd 0)) (rests.0 Answer (ResultEnd 0));
+      }
 
   pub linked_first : (s : Tokens) → IsIdle r s → Link [] [] [] s
   linked_first s rests =
       record {
-        left_result = sym (ap left_runs (rests.1 d));
-        right_result = sym (ap right_runs (rests.1 d));
+        driven = driven_first s rests;
         left_imports = λ i j k stands leads. refl;
         right_imports = λ i j k stands leads. refl;
         others = λ j k none nor. refl;
-        stage = idle refl (rests.1 d) (rests.0 Request (ResultEnd 0)) (rests.0 Answer (ResultEnd 0));
       }
+
+  -- with ground imports no input is lost
+  module _ (ground : AllGround r.imports) where
+    pub not_lost : (j k : ℕ) (c : Contact) (past lefts rights : List Pass) (s : Tokens) → contact_at r (ImportEnd j k) ≡ Some c → f.inner (ImportEnd j k) ≡ None
+        → g.inner (ImportEnd j k) ≡ None → Link past lefts rights s → ComesInTurn past (ImportEnd j k) (way_in (contact_at r (ImportEnd j k))) → ⊥
+    not_lost j k c past lefts rights s there not_left not_right linked turn =
+        let (x, at) = there_is r.imports j k c there in
+        let role = import_serves x.ty (one_ground r.imports ground j x at) k c (sym (ap (λ (o : Option Imported). slice_get (contacts_of_import o) k) at) ∙ there) in
+        let way : way_in (contact_at r (ImportEnd j k)) ≡ Answer = ap way_in there ∙ ap way_put (sym role) in
+        let up : is_open past (ImportEnd j k) ≡ true = subst (λ w. ComesInTurn past (ImportEnd j k) w) way turn in
+        let clash : true ≡ false = sym up ∙ linked.others j k not_left not_right in cc clash
+
+    pub linked_step : (x : Element) (s t : Tokens) (z : Step d f g r p q x s t) (past lefts rights : List Pass) → Link past lefts rights s → Comes r past x
+        → Led past lefts rights x s t z
+    linked_step x s t (of_left x' y s' t' local sees unseen same) past lefts rights linked comes =
+        let (led, turn) = local_left x' y s' t' past lefts rights local same linked comes in record { linked = led; left_turn = turn; right_turn = tt }
+    linked_step x s t (of_right x' y s' t' local sees unseen same) past lefts rights linked comes =
+        let (led, turn) = local_right x' y s' t' past lefts rights local same linked comes in record { linked = led; left_turn = tt; right_turn = turn }
+    linked_step x s t (asked v s' t' small left right state ask ans) past lefts rights linked comes =
+        record {
+          linked =
+              record {
+                driven = driven_step x s' t' (asked v s' t' small left right state ask ans) past lefts rights linked.driven comes;
+                left_imports = linked.left_imports;
+                right_imports = linked.right_imports;
+                others = linked.others;
+              };
+          left_turn = tt;
+          right_turn = tt;
+        }
+    linked_step x s t (told v s' t' left right state ans none ask) past lefts rights linked comes =
+        record {
+          linked =
+              record {
+                driven = driven_step x s' t' (told v s' t' left right state ans none ask) past lefts rights linked.driven comes;
+                left_imports = linked.left_imports;
+                right_imports = linked.right_imports;
+                others = linked.others;
+              };
+          left_turn = tt;
+          right_turn = tt;
+        }
+    linked_step x s t (starts v s' t' left right rest ask both none ans) past lefts rights linked comes =
+        record {
+          linked =
+              record {
+                driven = driven_step x s' t' (starts v s' t' left right rest ask both none ans) past lefts rights linked.driven comes;
+                left_imports = linked.left_imports;
+                right_imports = linked.right_imports;
+                others = linked.others;
+              };
+          left_turn =
+              (subst (λ w. ComesInTurn lefts (ResultEnd 0) w) (sym (way_asked p is.left.outcome)) (linked.driven.left_result ∙ ap left_runs rest), tt);
+          right_turn =
+              (subst (λ w. ComesInTurn rights (ResultEnd 0) w) (sym (way_asked q is.right.outcome)) (linked.driven.right_result ∙ ap right_runs rest), tt);
+        }
+    linked_step x s t (left_ends v s' t' left right both next gates) past lefts rights linked comes =
+        record {
+          linked =
+              record {
+                driven = driven_step x s' t' (left_ends v s' t' left right both next gates) past lefts rights linked.driven comes;
+                left_imports = linked.left_imports;
+                right_imports = linked.right_imports;
+                others = linked.others;
+              };
+          left_turn = tt;
+          right_turn = tt;
+        }
+    linked_step x s t (right_ends v s' t' right left both next gates) past lefts rights linked comes =
+        record {
+          linked =
+              record {
+                driven = driven_step x s' t' (right_ends v s' t' right left both next gates) past lefts rights linked.driven comes;
+                left_imports = linked.left_imports;
+                right_imports = linked.right_imports;
+                others = linked.others;
+              };
+          left_turn = tt;
+          right_turn = tt;
+        }
+    linked_step x s t (left_ends_all v s' t' left right phase rest ask ans) past lefts rights linked comes =
+        record {
+          linked =
+              record {
+                driven = driven_step x s' t' (left_ends_all v s' t' left right phase rest ask ans) past lefts rights linked.driven comes;
+                left_imports = linked.left_imports;
+                right_imports = linked.right_imports;
+                others = linked.others;
+              };
+          left_turn = tt;
+          right_turn = tt;
+        }
+    linked_step x s t (right_ends_all v s' t' right left phase rest ask ans) past lefts rights linked comes =
+        record {
+          linked =
+              record {
+                driven = driven_step x s' t' (right_ends_all v s' t' right left phase rest ask ans) past lefts rights linked.driven comes;
+                left_imports = linked.left_imports;
+                right_imports = linked.right_imports;
+                others = linked.others;
+              };
+          left_turn = tt;
+          right_turn = tt;
+        }
+    linked_step x s t (lost j k v s' t' c there not_left not_right left right same) past lefts rights linked comes =
+        absurd (not_lost j k c past lefts rights s' there not_left not_right linked comes)
+
+    pub lists_in_turn : (xs : List Element) (s t : Tokens) (past lefts rights : List Pass) (fit : AllFit r s) (runs : Runs r xs s t)
+        → Link past lefts rights s → InTurn r past xs → InTurn p lefts (left_list xs s t fit runs) × InTurn q rights (right_list xs s t fit runs)
+    lists_in_turn [] s t past lefts rights fit runs linked turn = (tt, tt)
+    lists_in_turn (x ∷ xs) s t past lefts rights fit (w, does, runs) linked turn =
+        let z = step d f g r p q is literals x s w fit does in
+        let fit_on = fits_on x s w fit does in
+        let (comes, later) = first_comes r past x xs turn in
+        let led = linked_step x s w z past lefts rights linked comes in
+        let (lefts_on, rights_on) =
+        lists_in_turn xs w t (after r x past) (past_all p (left_seen x s w z) lefts) (past_all q (right_seen x s w z) rights) fit_on runs led.linked later in (
+          turn_append p lefts (left_seen x s w z) (left_list xs w t fit_on runs) led.left_turn lefts_on,
+          turn_append q rights (right_seen x s w z) (right_list xs w t fit_on runs) led.right_turn rights_on,
+        )

@@ -102,16 +102,16 @@ module _
   whole_waits s left right c (waits rest some empty left_is right_is is_body) quiet left_agrees right_agrees left_came right_came =
       let row = begin_row (s.state d).number in
       absurd (quiet.0 d (Req 2) (fired r d row 0 s)
-      (0, row, ap (held_at s Request) (gate_at_part d f g r p q is) ∙ some, par_firing d f g r p q is literals ground (Req 2) row Rest s rest refl, refl))
+      (0, row, ap (held_at s Request) (gate_at_part d f g r p q is) ∙ some, par_firing d f g r p q is literals (Req 2) row Rest s rest refl, refl))
   whole_waits s left right c (both_run phase none empty two) quiet left_agrees right_agrees left_came right_came =
       let one = quiet_row (Ans 0) (at RightOnly (s.state d).number) in
       let other = quiet_row (Ans 1) (at LeftOnly (s.state d).number) in
       let left_stalled =
       subst (Stalled on_left) two.left_is
-      (left_agrees.0 (left_quiet one s quiet (par_firing d f g r p q is literals ground (Ans 0) one Both s phase refl))) in
+      (left_agrees.0 (left_quiet one s quiet (par_firing d f g r p q is literals (Ans 0) one Both s phase refl))) in
       let right_stalled =
       subst (Stalled on_right) two.right_is
-      (right_agrees.0 (right_quiet other s quiet (par_firing d f g r p q is literals ground (Ans 1) other Both s phase refl))) in
+      (right_agrees.0 (right_quiet other s quiet (par_firing d f g r p q is literals (Ans 1) other Both s phase refl))) in
       subst (Stalled on_both) (sym two.whole_is)
       (both_wait_together on_left on_right on_both two.naming two.other_naming (beside two.other_naming two.second_store two.rest)
       (beside two.naming two.first_store two.rest) two.first_store two.second_store two.whole two.first two.second is.left.among
@@ -121,7 +121,7 @@ module _
       let row = end_row 0 (s.state d).number in
       let stalled =
       subst (Stalled on_left) one.own_is
-      (left_agrees.0 (left_quiet row s quiet (par_firing d f g r p q is literals ground (Ans 0) row LeftOnly s phase refl))) in
+      (left_agrees.0 (left_quiet row s quiet (par_firing d f g r p q is literals (Ans 0) row LeftOnly s phase refl))) in
       let within =
       waits_together on_left on_both [] one.naming one.rest one.store one.whole one.term is.left.among
       (knows_left one.term one.store (subst (Came on_left) one.own_is left_came)) tt one.holds stalled in
@@ -131,7 +131,7 @@ module _
       let row = end_row 1 (s.state d).number in
       let stalled =
       subst (Stalled on_right) one.own_is
-      (right_agrees.0 (right_quiet row s quiet (par_firing d f g r p q is literals ground (Ans 1) row RightOnly s phase refl))) in
+      (right_agrees.0 (right_quiet row s quiet (par_firing d f g r p q is literals (Ans 1) row RightOnly s phase refl))) in
       let within =
       waits_together on_right on_both [] one.naming one.rest one.store one.whole one.term is.right.among
       (knows_right one.term one.store (subst (Came on_right) one.own_is right_came)) tt one.holds stalled in
@@ -168,16 +168,16 @@ module _
   left_shows : (x y : Element) → Local f r p x y → shows p y ≡ shows r x
   left_shows x y (fires i j k number) = refl
   left_shows x y (puts_out i j k v stands leads slices) =
-      λ t. record { port = port_if (slices t); event = event_number (way_out (sym (ways_left d f g r p q is literals ground i j k stands leads) t)) k; value = v } ∷ []
+      λ t. record { port = port_if (slices t); event = event_number (way_out (sym (ways_left d f g r p q is literals i j k stands leads) t)) k; value = v } ∷ []
   left_shows x y (takes_in i j k v stands leads slices) =
-      λ t. record { port = port_if (slices t); event = event_number (way_in (sym (ways_left d f g r p q is literals ground i j k stands leads) t)) k; value = v } ∷ []
+      λ t. record { port = port_if (slices t); event = event_number (way_in (sym (ways_left d f g r p q is literals i j k stands leads) t)) k; value = v } ∷ []
 
   right_shows : (x y : Element) → Local g r q x y → shows q y ≡ shows r x
   right_shows x y (fires i j k number) = refl
   right_shows x y (puts_out i j k v stands leads slices) =
-      λ t. record { port = port_if (slices t); event = event_number (way_out (sym (ways_right d f g r p q is literals ground i j k stands leads) t)) k; value = v } ∷ []
+      λ t. record { port = port_if (slices t); event = event_number (way_out (sym (ways_right d f g r p q is literals i j k stands leads) t)) k; value = v } ∷ []
   right_shows x y (takes_in i j k v stands leads slices) =
-      λ t. record { port = port_if (slices t); event = event_number (way_in (sym (ways_right d f g r p q is literals ground i j k stands leads) t)) k; value = v } ∷ []
+      λ t. record { port = port_if (slices t); event = event_number (way_in (sym (ways_right d f g r p q is literals i j k stands leads) t)) k; value = v } ∷ []
 
   not_given : (o : Option Imported) (x : Imported) → o ≡ Some x → port_if o ≡ Given → ⊥
   not_given o x at same = let bad : Taken x.name ≡ Given = sym (ap port_if at) ∙ same in cc bad
@@ -473,7 +473,7 @@ module _
           right_to = right;
           moves = made;
           shown = e.silent;
-          goes_on = quiet_goes (Ans 0) row s e.acts (par_firing d f g r p q is literals ground (Ans 0) row Both s both refl) (λ k. refl);
+          goes_on = quiet_goes (Ans 0) row s e.acts (par_firing d f g r p q is literals (Ans 0) row Both s both refl) (λ k. refl);
           stood = right_alone after' (gates Request ∙ none) (gates Answer ∙ empty) e.idle one;
           left_came = came_on on_left acts left to left_came moves;
           right_came = right_came;
@@ -515,7 +515,7 @@ module _
           right_to = to;
           moves = made;
           shown = e.silent;
-          goes_on = quiet_goes (Ans 1) row s e.acts (par_firing d f g r p q is literals ground (Ans 1) row Both s both refl) (λ k. refl);
+          goes_on = quiet_goes (Ans 1) row s e.acts (par_firing d f g r p q is literals (Ans 1) row Both s both refl) (λ k. refl);
           stood = left_alone after' (gates Request ∙ none) (gates Answer ∙ empty) e.idle one;
           left_came = left_came;
           right_came = came_on on_right acts right to right_came moves;
@@ -547,7 +547,7 @@ module _
               moves_then on_both e.acts (Computing ∷ []) c z (Running Skip now.whole) made
               (subst (λ (x : Config). Moves on_both (Computing ∷ []) x (Running Skip now.whole)) (sym now.whole_is) (Running Skip now.whole, last, refl));
           shown = silent_then e.acts (Computing ∷ []) e.silent refl;
-          goes_on = quiet_goes (Ans 0) row s (e.acts ++ Computing ∷ []) (par_firing d f g r p q is literals ground (Ans 0) row LeftOnly s only refl) (λ k. refl);
+          goes_on = quiet_goes (Ans 0) row s (e.acts ++ Computing ∷ []) (par_firing d f g r p q is literals (Ans 0) row LeftOnly s only refl) (λ k. refl);
           stood = is_done now.whole rest' (ask ∙ none) ans e.idle right_is refl;
           left_came = came_on on_left acts left to left_came moves;
           right_came = right_came;
@@ -579,7 +579,7 @@ module _
               moves_then on_both e.acts (Computing ∷ []) c z (Running Skip now.whole) made
               (subst (λ (x : Config). Moves on_both (Computing ∷ []) x (Running Skip now.whole)) (sym now.whole_is) (Running Skip now.whole, last, refl));
           shown = silent_then e.acts (Computing ∷ []) e.silent refl;
-          goes_on = quiet_goes (Ans 1) row s (e.acts ++ Computing ∷ []) (par_firing d f g r p q is literals ground (Ans 1) row RightOnly s only refl) (λ k. refl);
+          goes_on = quiet_goes (Ans 1) row s (e.acts ++ Computing ∷ []) (par_firing d f g r p q is literals (Ans 1) row RightOnly s only refl) (λ k. refl);
           stood = is_done now.whole rest' (ask ∙ none) ans left_is e.idle refl;
           left_came = left_came;
           right_came = came_on on_right acts right to right_came moves;
@@ -588,18 +588,18 @@ module _
         }
 
     follow : (x : Element) (s w : Tokens) (z : Step d f g r p q x s w) → Linked d f g p q past lefts rights s → Comes r past x → Stood s left right c
-        → Came on_left left → Came on_right right → IsMatched p on_left (left_seen d f g r p q is literals ground x s w z ++ ys) (cut_tokens f p s) left
-        → IsMatched q on_right (right_seen d f g r p q is literals ground x s w z ++ zs) (cut_tokens g q s) right → Result x s w
+        → Came on_left left → Came on_right right → IsMatched p on_left (left_seen d f g r p q is literals x s w z ++ ys) (cut_tokens f p s) left
+        → IsMatched q on_right (right_seen d f g r p q is literals x s w z ++ zs) (cut_tokens g q s) right → Result x s w
     follow x s w (of_left x' y s' w' local sees unseen same) linked comes stood left_came right_came left_matched right_matched =
         follow_left x' y s' w' local sees unseen same stood left_came right_came left_matched right_matched
     follow x s w (of_right x' y s' w' local sees unseen same) linked comes stood left_came right_came left_matched right_matched =
         follow_right x' y s' w' local sees unseen same stood left_came right_came left_matched right_matched
     follow x s w (asked v s' w' small left_same right_same state ask ans) linked comes stood left_came right_came left_matched right_matched =
         let (rest, none, empty) =
-        when_asking (is_open past (ResultEnd 0)) (s'.state d).phase (gate s' Request) (gate s' Answer) linked.stage
-        (asked_turn d f g r p q is literals ground past comes) in
+        when_asking (is_open past (ResultEnd 0)) (s'.state d).phase (gate s' Request) (gate s' Answer) linked.driven.stage
+        (asked_turn d f g r p q is literals past comes) in
         let (left_is, right_is, is_idle) = at_rest (s'.state d).phase (gate s' Request) (gate s' Answer) left right c stood rest none empty in
-        let way = sym (way_asked d f g r p q is literals ground r is.outcome) in
+        let way = sym (way_asked d f g r p q is literals r is.outcome) in
         record {
           acts = Showing (given 0 0) ∷ [];
           to = Running (Par m n) [];
@@ -617,7 +617,7 @@ module _
         }
     follow x s w (told v s' w' left_same right_same state ans none ask) linked comes stood left_came right_came left_matched right_matched =
         let (store, rest, empty, value, left_is, right_is, is_skip) = at_done (s'.state d).phase (gate s' Request) (gate s' Answer) left right c v stood ans in
-        let way = sym (way_told d f g r p q is literals ground r is.outcome) in
+        let way = sym (way_told d f g r p q is literals r is.outcome) in
         record {
           acts = Showing (given 1 0) ∷ [];
           to = Idle;
@@ -648,25 +648,25 @@ module _
 
   pub matches : (xs : List Element) (s t : Tokens) (past lefts rights : List Pass) (fit : AllFit r s) (runs : Runs r xs s t)
       → Linked d f g p q past lefts rights s → InTurn r past xs → Neat r s → (left right c : Config) → Stood s left right c → Came on_left left
-      → Came on_right right → IsMatched p on_left (left_list d f g r p q is literals ground xs s t fit runs) (cut_tokens f p s) left
-      → IsMatched q on_right (right_list d f g r p q is literals ground xs s t fit runs) (cut_tokens g q s) right → IsMatched r on_both xs s c
+      → Came on_right right → IsMatched p on_left (left_list d f g r p q is literals xs s t fit runs) (cut_tokens f p s) left
+      → IsMatched q on_right (right_list d f g r p q is literals xs s t fit runs) (cut_tokens g q s) right → IsMatched r on_both xs s c
   matches [] s t past lefts rights fit runs linked turn neat left right c stood left_came right_came left_matched right_matched = (
     λ quiet. whole_waits s left right c stood quiet left_matched right_matched left_came right_came,
     λ same. whole_rests s left right c stood neat left_matched right_matched same,
   )
   matches (x ∷ xs) s t past lefts rights fit (w, does, runs) linked turn neat left right c stood left_came right_came left_matched right_matched =
       let z = step d f g r p q is literals x s w fit does in
-      let fit_on = fits_on d f g r p q is literals ground x s w fit does in
+      let fit_on = fits_on d f g r p q is literals x s w fit does in
       let (comes, later) = first_comes r past x xs turn in
       let led = linked_step d f g r p q is literals ground x s w z past lefts rights linked comes in
-      let ys = left_list d f g r p q is literals ground xs w t fit_on runs in
-      let zs = right_list d f g r p q is literals ground xs w t fit_on runs in
-      let left_agrees = matched_agrees p on_left (left_seen d f g r p q is literals ground x s w z ++ ys) (cut_tokens f p s) left left_matched in
-      let right_agrees = matched_agrees q on_right (right_seen d f g r p q is literals ground x s w z ++ zs) (cut_tokens g q s) right right_matched in
+      let ys = left_list d f g r p q is literals xs w t fit_on runs in
+      let zs = right_list d f g r p q is literals xs w t fit_on runs in
+      let left_agrees = matched_agrees p on_left (left_seen d f g r p q is literals x s w z ++ ys) (cut_tokens f p s) left left_matched in
+      let right_agrees = matched_agrees q on_right (right_seen d f g r p q is literals x s w z ++ zs) (cut_tokens g q s) right right_matched in
       let one = follow past lefts rights left right c ys zs x s w z linked comes stood left_came right_came left_matched right_matched in
       let more =
-      matches xs w t (after r x past) (past_all p (left_seen d f g r p q is literals ground x s w z) lefts)
-      (past_all q (right_seen d f g r p q is literals ground x s w z) rights) fit_on runs led.linked later (neat_step r x s w does neat) one.left_to one.right_to one.to
+      matches xs w t (after r x past) (past_all p (left_seen d f g r p q is literals x s w z) lefts)
+      (past_all q (right_seen d f g r p q is literals x s w z) rights) fit_on runs led.linked later (neat_step r x s w does neat) one.left_to one.right_to one.to
       one.stood one.left_came one.right_came one.left_matched one.right_matched in (
         (
           λ quiet. whole_waits s left right c stood quiet left_agrees right_agrees left_came right_came,

@@ -3,12 +3,13 @@
 -- The last result is `side_step`: an element of the whole that is one of a region comes in order where the region's does.
 use Rattle.std.specs.Prelude.{◌≡◌, ℕ, Bool, true, false, List, [], ◌∷◌, Option, Some, None, nat_eq, nat_lt, slice_get, length, if◌then◌else◌}
 use Rattle.std.proofs.Common.{arith, refl, sym, ap, subst, inl, inr, ◌∙◌}
-use Rattle.std.proofs.lemmas.Option.{slice_get_within}
-use Rattle.gos_types.specs.declared.shakes.Role.TheVariants.{Serve}
+use Rattle.std.proofs.lemmas.Option.{same_Some, slice_get_within}
+use Rattle.gos_types.specs.declared.shakes.Role.{Role}
+use Rattle.gos_types.specs.declared.shakes.Role.TheVariants.{Serve, Ask}
 use Rattle.gos_netlist.specs.Events.{Direction, Request, Answer}
 use Rattle.gos_plan.specs.Kinds.{Part, Contact}
 use Rattle.gos_plan.specs.Firing.{Rest, Slot, Token, Row, at, firing}
-use Rattle.gos_plan.specs.Plans.{End, PartEnd, ImportEnd, ResultEnd, Plan, contact_at, contacts_of_import, same_end}
+use Rattle.gos_plan.specs.Plans.{End, PartEnd, ImportEnd, ResultEnd, Plan, contact_at, same_end}
 use Rattle.gos_plan.specs.Tokens.{Tokens, Element, Fire, Out, In, places_of, token_at, with_token, with_state, end_of, way_of, way_taken, way_put, firing_of, Passes, Does}
 use Rattle.gos_plan.specs.Orderly.{Open, handshake_at, with_open, after_taken, after_put, ComesWell, AllComeWell, after_puts, ComesInOrder}
 use Rattle.gos_plan.proofs.JointLemmas.{same_is}
@@ -16,10 +17,7 @@ use Rattle.gos_plan.proofs.AskingLemmas.{TakesAsking, PutsAsking, row_asks}
 use Rattle.gos_plan.proofs.ProjectionLemmas.{taken_other, puts_other}
 use Rattle.gos_webs.specs.Cutting.{Cut, lies_at, StandsIn, cut_tokens}
 use Rattle.gos_webs.proofs.CutLemmas.{state_put}
-use Rattle.gos_model.specs.Typing.{Imported}
-use Rattle.gos_realises.specs.Realises.{AllGround}
-use Rattle.gos_realises.proofs.ToldLemmas.{there_is}
-use Rattle.gos_realises.proofs.InputLemmas.{import_serves, one_ground}
+use Rattle.gos_windows.proofs.ClosingLemmas.{asks_itself}
 use Rattle.gos_parallel.specs.Parallel.{IsSide}
 use Rattle.gos_parallel.proofs.RegionLemmas as region
 use Rattle.gos_parallel.proofs.RegionLemmas.{Held, result_held}
@@ -218,7 +216,7 @@ equal_numbers i j e = grind (arith, e)
 -- what a region's element opens and closes in the whole
 module _
     (d h : ℕ) (c : Cut) (r a : Plan) (side : IsSide d h c r a)
-    (free : places_of a (ResultEnd 0) ≡ None → places_of r (PartEnd d h) ≡ None) (ground : AllGround r.imports) where
+    (free : places_of a (ResultEnd 0) ≡ None → places_of r (PartEnd d h) ≡ None) where
   pub record SideStep (x : Element) (s : Tokens) (o next : Open) : Type 0 where
     pub now : Open
     pub comes : ComesInOrder r x s o now
@@ -226,10 +224,18 @@ module _
     pub kept : (b : End) → IsApart c a b → now b ≡ o b
     pub driver : (n : ℕ) → now (PartEnd d n) ≡ o (PartEnd d n)
 
-  serving : (j k : ℕ) (t : Contact) → contact_at r (ImportEnd j k) ≡ Some t → Serve ≡ t.role
-  serving j k t there =
-      let (x, at) = there_is r.imports j k t there in
-      import_serves x.ty (one_ground r.imports ground j x at) k t (sym (ap (λ (o : Option Imported). slice_get (contacts_of_import o) k) at) ∙ there)
+  -- what passes an import changes nothing of the part's handshakes
+  port_taken : (j k : ℕ) (t : Contact) → contact_at r (ImportEnd j k) ≡ Some t → (o : Open) (role : Role) → t.role ≡ role → (n : ℕ)
+      → after_taken r (ImportEnd j k) (way_taken role) o (PartEnd d n) ≡ o (PartEnd d n)
+  port_taken j k t there o Serve serves n = refl
+  port_taken j k t there o Ask asks n =
+      ap (λ (e : End). with_open e false o (PartEnd d n)) (asks_itself r side.cut.whole_right (ImportEnd j k) t there asks)
+
+  port_put : (j k : ℕ) (t : Contact) → contact_at r (ImportEnd j k) ≡ Some t → (o : Open) (role : Role) → t.role ≡ role → (n : ℕ)
+      → after_put r (ImportEnd j k) (way_put role) o (PartEnd d n) ≡ o (PartEnd d n)
+  port_put j k t there o Serve serves n = refl
+  port_put j k t there o Ask asks n =
+      ap (λ (e : End). with_open e true o (PartEnd d n)) (asks_itself r side.cut.whole_right (ImportEnd j k) t there asks)
 
   some_contact : (x : Element) (o : Option Contact) (s t : Tokens) → Passes r x o s t → (y : Contact) × (o ≡ Some y)
   some_contact x None s t passes = absurd passes
@@ -284,28 +290,33 @@ module _
   side_step x y s w o own next (puts_out i j k v stands leads slices) agree (port, passes) comes =
       let (t, there) = some_contact (Out (ImportEnd j k) v) (contact_at r (ImportEnd j k)) s w passes in
       let here = sym (ways i j k stands leads) ∙ there in
-      let same : next ≡ own = subst (λ ro. next ≡ after_taken a (ImportEnd i k) (way_taken ro) own) (sym (serving j k t there)) (comes t here) in
+      let way = way_taken t.role in
       record {
-        now = o;
-        comes = λ z at_z. subst (λ ro. o ≡ after_taken r (ImportEnd j k) (way_taken ro) o) (serving j k z at_z) refl;
-        agree = subst (λ (z : Open). OpenAgree c a o z) (sym same) agree;
-        kept = λ b apart. refl;
-        driver = λ n. refl;
+        now = after_taken r (ImportEnd j k) way o;
+        comes = λ z at_z. ap (λ (y : Contact). after_taken r (ImportEnd j k) (way_taken y.role) o) (same_Some t z (sym there ∙ at_z));
+        agree =
+            subst (λ (z : Open). OpenAgree c a (after_taken r (ImportEnd j k) way o) z) (sym (comes t here))
+            (subst (λ (e : End). OpenAgree c a (after_taken r e way o) (after_taken a (ImportEnd i k) way own)) leads
+            (taken_agrees d h c r a side free (ImportEnd i k) way o own (inl stands) agree));
+        kept = λ b apart.
+            subst (λ (e : End). after_taken r e way o b ≡ o b) leads (taken_apart d h c r a side free (ImportEnd i k) b way o (inl stands) apart);
+        driver = λ n. port_taken j k t there o t.role refl n;
       }
   side_step x y s w o own next (takes_in i j k v stands leads slices) agree (port, passes) comes =
       let (t, there) = some_contact (In (ImportEnd j k) v) (contact_at r (ImportEnd j k)) s w passes in
       let here = sym (ways i j k stands leads) ∙ there in
-      let facts =
-      subst (λ ro. ComesWell a (ImportEnd i k) (way_put ro) own (cut_tokens c a s) × (next ≡ after_put a (ImportEnd i k) (way_put ro) own))
-      (sym (serving j k t there)) (comes t here) in
-      let same : next ≡ own = facts.1 in
-      let well : ComesWell r (ImportEnd j k) Answer o s =
-      subst (λ (e : End). ComesWell r e Answer o s) leads (put_well d h c r a side free (ImportEnd i k) Answer o own s (inl stands) agree facts.0) in
+      let way = way_put t.role in
+      let well : ComesWell r (ImportEnd j k) way o s =
+      subst (λ (e : End). ComesWell r e way o s) leads (put_well d h c r a side free (ImportEnd i k) way o own s (inl stands) agree (comes t here).0) in
       record {
-        now = o;
+        now = after_put r (ImportEnd j k) way o;
         comes = λ z at_z.
-            subst (λ ro. ComesWell r (ImportEnd j k) (way_put ro) o s × (o ≡ after_put r (ImportEnd j k) (way_put ro) o)) (serving j k z at_z) (well, refl);
-        agree = subst (λ (z : Open). OpenAgree c a o z) (sym same) agree;
-        kept = λ b apart. refl;
-        driver = λ n. refl;
+            subst (λ (y : Contact). ComesWell r (ImportEnd j k) (way_put y.role) o s
+            × (after_put r (ImportEnd j k) way o ≡ after_put r (ImportEnd j k) (way_put y.role) o)) (same_Some t z (sym there ∙ at_z)) (well, refl);
+        agree =
+            subst (λ (z : Open). OpenAgree c a (after_put r (ImportEnd j k) way o) z) (sym (comes t here).1)
+            (subst (λ (e : End). OpenAgree c a (after_put r e way o) (after_put a (ImportEnd i k) way own)) leads
+            (put_agrees d h c r a side free (ImportEnd i k) way o own (inl stands) agree));
+        kept = λ b apart. subst (λ (e : End). after_put r e way o b ≡ o b) leads (put_apart d h c r a side free (ImportEnd i k) b way o (inl stands) apart);
+        driver = λ n. port_put j k t there o t.role refl n;
       }

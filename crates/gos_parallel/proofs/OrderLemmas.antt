@@ -12,9 +12,8 @@ use Rattle.gos_plan.specs.Kinds as kinds
 use Rattle.gos_plan.specs.Kinds.{Part, Contact, asks, serves, part_contacts, contacts_of}
 use Rattle.gos_plan.specs.Firing.{Phase, Rest, Both, LeftOnly, RightOnly, Slot, Req, Ans, Row, at, row_for, rows, quiet_row}
 use Rattle.gos_plan.specs.Plans.{End, PartEnd, ImportEnd, ResultEnd, Plan, contact_at, contacts_of_part, same_end, turned_if}
-use Rattle.gos_plan.specs.Tokens.{Tokens, Element, Fire, Out, In, places_of, held_at, token_at, with_token, with_state, end_of, shake_of, way_of, way_taken, way_put, firing_of, Does, Runs, IsIdle}
+use Rattle.gos_plan.specs.Tokens.{Tokens, Element, Fire, Out, In, places_of, held_at, token_at, with_token, with_state, end_of, shake_of, way_of, way_taken, way_put, firing_of, Does, IsIdle}
 use Rattle.gos_plan.specs.Orderly.{Open, named_by, handshake_at, none_open, with_open, after_taken, after_put, ComesWell, ComesInOrder, AllWelcome, OrderlyFrom}
-use Rattle.gos_plan.specs.TokenBits as bits
 use Rattle.gos_plan.specs.TokenBits.{LiteralFits}
 use Rattle.gos_plan.proofs.JointLemmas.{same_itself}
 use Rattle.gos_plan.proofs.HeldLemmas as held
@@ -23,22 +22,17 @@ use Rattle.gos_plan.proofs.DecidedLemmas.{one_state}
 use Rattle.gos_plan.proofs.ProjectionLemmas.{named}
 use Rattle.gos_webs.specs.Cutting.{Cut, lies_at, cut_tokens}
 use Rattle.gos_realises.specs.Regular.{Pass, is_request, is_open}
-use Rattle.gos_realises.specs.Realises.{AllGround}
 use Rattle.gos_realises.proofs.RingLemmas.{after}
 use Rattle.gos_parallel.specs.Parallel.{IsSide, IsPartOf, IsParallel}
 use Rattle.gos_parallel.proofs.RegionLemmas as region
 use Rattle.gos_parallel.proofs.RegionLemmas.{Held, result_held}
 use Rattle.gos_parallel.proofs.DriverLemmas.{begin_row, end_row}
-use Rattle.gos_parallel.proofs.ProtocolLemmas.{InTurn}
-use Rattle.gos_parallel.proofs.StepLemmas.{gate, Same, Local, fires, puts_out, takes_in, Step, of_left, of_right, asked, told, starts, left_ends, right_ends, left_ends_all, right_ends_all, lost, Sees, Unseen, step, part_ends, Differ, free_left, free_right, not_both_inner, gate_at_result, gate_at_part, gate_apart}
-use Rattle.gos_parallel.proofs.LinkedLemmas.{left_runs, right_runs, Stage, Linked, Comes, first_comes, past_all, left_seen, right_seen, left_list, right_list, linked_step, fits_on, when_starting, when_working, way_asked, way_told, not_lost, asked_turn}
+use Rattle.gos_parallel.proofs.StepLemmas.{gate, Same, Local, fires, puts_out, takes_in, Step, of_left, of_right, asked, told, starts, left_ends, right_ends, left_ends_all, right_ends_all, lost, Sees, Unseen, IsSeen, part_ends, Differ, free_left, free_right, not_both_inner, gate_at_result, gate_at_part, gate_apart}
+use Rattle.gos_parallel.proofs.LinkedLemmas.{left_runs, right_runs, Stage, Driven, Comes, left_seen, right_seen, when_starting, when_working, way_asked, way_told, asked_turn}
 use Rattle.gos_parallel.proofs.OpenLemmas.{OpenAgree, IsApart, opened_so, put_agrees, taken_agrees, Lies, in_part, at_import, at_driver, lies, not_same, comes_by, firing_same, side_step}
 
 module _
-    (d : ℕ) (f g : Cut) (r p q : Plan) (is : IsParallel d f g r p q) (literals : All LiteralFits r.parts) (ground : AllGround r.imports) where
-  abbrev Link : List Pass → List Pass → List Pass → Tokens → Type 0
-  Link = Linked d f g p q
-
+    (d : ℕ) (f g : Cut) (r p q : Plan) (is : IsParallel d f g r p q) (literals : All LiteralFits r.parts) where
   -- no end is of both regions, and the result's is of none
   apart_ends : (b : End) → Lies d 0 f b → Lies d 1 g b → ⊥
   apart_ends b (in_part i j k at number) (in_part a c e also number') =
@@ -210,19 +204,19 @@ module _
           (ap (λ n. token_at r s (end_of n t) (way_of t)) (sym same) ∙ lies))
 
   -- after one element
-  record Next (x : Element) (s w : Tokens) (past : List Pass) (o : Open) (ys zs : List Element) (lu : Open) (lt : Tokens) (ru : Open) (rt : Tokens) : Type 0 where
-    open_now : Open
-    left_now : Open
-    right_now : Open
-    comes : ComesInOrder r x s o open_now
-    opened : Opened (after r x past) open_now left_now right_now w
-    left_welcome : AllWelcome p (cut_tokens f p w)
-    right_welcome : AllWelcome q (cut_tokens g q w)
-    left_rest : OrderlyFrom p ys left_now (cut_tokens f p w) lu lt
-    right_rest : OrderlyFrom q zs right_now (cut_tokens g q w) ru rt
+  pub record Next (x : Element) (s w : Tokens) (past : List Pass) (o : Open) (ys zs : List Element) (lu : Open) (lt : Tokens) (ru : Open) (rt : Tokens) : Type 0 where
+    pub open_now : Open
+    pub left_now : Open
+    pub right_now : Open
+    pub comes : ComesInOrder r x s o open_now
+    pub opened : Opened (after r x past) open_now left_now right_now w
+    pub left_welcome : AllWelcome p (cut_tokens f p w)
+    pub right_welcome : AllWelcome q (cut_tokens g q w)
+    pub left_rest : OrderlyFrom p ys left_now (cut_tokens f p w) lu lt
+    pub right_rest : OrderlyFrom q zs right_now (cut_tokens g q w) ru rt
 
   -- the first element of a region's list
-  peel : (a : Plan) (y : Element) (ys : List Element) (own u : Open) (b w t : Tokens) → Does a y b w → OrderlyFrom a (y ∷ ys) own b u t
+  pub peel : (a : Plan) (y : Element) (ys : List Element) (own u : Open) (b w t : Tokens) → Does a y b w → OrderlyFrom a (y ∷ ys) own b u t
       → (next : Open) × ComesInOrder a y b own next × AllWelcome a w × OrderlyFrom a ys next w u t
   peel a y ys own u b w t does (next, v, also, comes, welcome, rest) =
       let same : v ≡ w = one_state a y b v w also does in
@@ -291,7 +285,7 @@ module _
         → is_open past (ResultEnd 0) ≡ is_open (after r x past) (ResultEnd 0) → Result x s w
     on_left x y s w local does sees unseen same opened welcome left_list right_list past_same =
         let (next, own_comes, left_welcome, rest) = peel p y ys lo lu (cut_tokens f p s) (cut_tokens f p w) lt sees left_list in
-        let one = side_step d 0 f r p is.left free_p ground x y s w o lo next local opened.left does own_comes in
+        let one = side_step d 0 f r p is.left free_p x y s w o lo next local opened.left does own_comes in
         record {
           open_now = one.now;
           left_now = next;
@@ -317,7 +311,7 @@ module _
         → is_open past (ResultEnd 0) ≡ is_open (after r x past) (ResultEnd 0) → Result x s w
     on_right x y s w local does sees unseen same opened welcome left_list right_list past_same =
         let (next, own_comes, right_welcome, rest) = peel q y zs ro ru (cut_tokens g q s) (cut_tokens g q w) rt sees right_list in
-        let one = side_step d 1 g r q is.right free_q ground x y s w o ro next local opened.right does own_comes in
+        let one = side_step d 1 g r q is.right free_q x y s w o ro next local opened.right does own_comes in
         record {
           open_now = one.now;
           left_now = lo;
@@ -494,56 +488,57 @@ module _
         nothing Request = none
         nothing Answer = empty
 
-    order_step : (x : Element) (s w : Tokens) (z : Step d f g r p q x s w) → Does r x s w → Link past lefts rights s → Comes r past x → Opened past o lo ro s
+    pub order_step : (x : Element) (s w : Tokens) (z : Step d f g r p q x s w) → IsSeen d f g r p q x s w z → Does r x s w → Driven d past lefts rights s → Comes r past x
+        → Opened past o lo ro s
         → AllWelcome p (cut_tokens f p s) → AllWelcome q (cut_tokens g q s)
-        → OrderlyFrom p (left_seen d f g r p q is literals ground x s w z ++ ys) lo (cut_tokens f p s) lu lt
-        → OrderlyFrom q (right_seen d f g r p q is literals ground x s w z ++ zs) ro (cut_tokens g q s) ru rt → Result x s w
-    order_step x s w (of_left x' y s' t' local sees unseen same) does linked comes opened left_welcome right_welcome left_list right_list =
+        → OrderlyFrom p (left_seen d f g r p q is literals x s w z ++ ys) lo (cut_tokens f p s) lu lt
+        → OrderlyFrom q (right_seen d f g r p q is literals x s w z ++ zs) ro (cut_tokens g q s) ru rt → Result x s w
+    order_step x s w (of_left x' y s' t' local sees unseen same) seen does driven comes opened left_welcome right_welcome left_list right_list =
         on_left x' y s' t' local does sees unseen same opened right_welcome left_list right_list (local_past f p x' y local)
       where
         local_past : (c : Cut) (a : Plan) (x y : Element) → Local c r a x y → is_open past (ResultEnd 0) ≡ is_open (after r x past) (ResultEnd 0)
         local_past c a x y (fires i j k number) = refl
         local_past c a x y (puts_out i j k v stands leads slices) = refl
         local_past c a x y (takes_in i j k v stands leads slices) = refl
-    order_step x s w (of_right x' y s' t' local sees unseen same) does linked comes opened left_welcome right_welcome left_list right_list =
+    order_step x s w (of_right x' y s' t' local sees unseen same) seen does driven comes opened left_welcome right_welcome left_list right_list =
         on_right x' y s' t' local does sees unseen same opened left_welcome left_list right_list (local_past g q x' y local)
       where
         local_past : (c : Cut) (a : Plan) (x y : Element) → Local c r a x y → is_open past (ResultEnd 0) ≡ is_open (after r x past) (ResultEnd 0)
         local_past c a x y (fires i j k number) = refl
         local_past c a x y (puts_out i j k v stands leads slices) = refl
         local_past c a x y (takes_in i j k v stands leads slices) = refl
-    order_step x s w (asked v s' t' small left right state ask ans) does linked comes opened left_welcome right_welcome left_list right_list =
+    order_step x s w (asked v s' t' small left right state ask ans) seen does driven comes opened left_welcome right_welcome left_list right_list =
         at_result (In (ResultEnd 0) v) s' t' true does left right state opened left_welcome right_welcome left_list right_list
-        (sym (ap is_request (way_asked d f g r p q is literals ground r is.outcome)))
+        (sym (ap is_request (way_asked d f g r p q is literals r is.outcome)))
         (λ c there.
         let same : asks 0 0 ≡ c = same_Some (asks 0 0) c (sym (contact_of r is.outcome) ∙ there) in
         subst (λ (y : Contact). ComesWell r (ResultEnd 0) (way_put y.role) o s' × (with_open (ResultEnd 0) true o ≡ after_put r (ResultEnd 0) (way_put y.role) o)) same (
-          ap o result_name ∙ (opened.result ∙ asked_turn d f g r p q is literals ground past comes),
+          ap o result_name ∙ (opened.result ∙ asked_turn d f g r p q is literals past comes),
           ap (λ (n : End). with_open n true o) (sym result_name),
         ))
-    order_step x s w (told v s' t' left right state ans none ask) does linked comes opened left_welcome right_welcome left_list right_list =
+    order_step x s w (told v s' t' left right state ans none ask) seen does driven comes opened left_welcome right_welcome left_list right_list =
         at_result (Out (ResultEnd 0) v) s' t' false does left right state opened left_welcome right_welcome left_list right_list
-        (sym (ap is_request (way_told d f g r p q is literals ground r is.outcome)))
+        (sym (ap is_request (way_told d f g r p q is literals r is.outcome)))
         (λ c there.
         let same : asks 0 0 ≡ c = same_Some (asks 0 0) c (sym (contact_of r is.outcome) ∙ there) in
         subst (λ (y : Contact). with_open (ResultEnd 0) false o ≡ after_taken r (ResultEnd 0) (way_taken y.role) o) same
         (ap (λ (n : End). with_open n false o) (sym result_name)))
-    order_step x s w (starts v s' t' left right rest ask both none ans) does linked comes opened left_welcome right_welcome left_list right_list =
+    order_step x s w (starts v s' t' left right rest ask both none ans) seen does driven comes opened left_welcome right_welcome left_list right_list =
         begins s' t' does left right rest both opened left_list right_list
-    order_step x s w (left_ends v s' t' left right both next gates) does linked comes opened left_welcome right_welcome left_list right_list =
+    order_step x s w (left_ends v s' t' left right both next gates) seen does driven comes opened left_welcome right_welcome left_list right_list =
         let row = quiet_row (Ans 0) (at RightOnly (s'.state d).number) in
         left_answers v s' t' does left right opened right_welcome left_list right_list (ap left_runs next) (ap right_runs next ∙ sym (ap right_runs both))
         (comes_by r d (Ans 0) s' t' o (with_open (PartEnd d 0) false o) row does (par_firing (Ans 0) row Both s' both refl)
         (λ v. (tt, ap (λ (n : End). with_open n false o) (sym left_name))))
-    order_step x s w (right_ends v s' t' right left both next gates) does linked comes opened left_welcome right_welcome left_list right_list =
+    order_step x s w (right_ends v s' t' right left both next gates) seen does driven comes opened left_welcome right_welcome left_list right_list =
         let row = quiet_row (Ans 1) (at LeftOnly (s'.state d).number) in
         right_answers v s' t' does right left opened left_welcome left_list right_list (ap right_runs next) (ap left_runs next ∙ sym (ap left_runs both))
         (comes_by r d (Ans 1) s' t' o (with_open (PartEnd d 1) false o) row does (par_firing (Ans 1) row Both s' both refl)
         (λ v. (tt, ap (λ (n : End). with_open n false o) (sym right_name))))
-    order_step x s w (left_ends_all v s' t' left right phase rest ask ans) does linked comes opened left_welcome right_welcome left_list right_list =
+    order_step x s w (left_ends_all v s' t' left right phase rest ask ans) seen does driven comes opened left_welcome right_welcome left_list right_list =
         let row = end_row 0 (s'.state d).number in
         let (up, none, empty) =
-        when_working (is_open past (ResultEnd 0)) (s'.state d).phase (gate s' Request) (gate s' Answer) linked.stage
+        when_working (is_open past (ResultEnd 0)) (s'.state d).phase (gate s' Request) (gate s' Answer) driven.stage
         (λ e. let bad : LeftOnly ≡ Rest = sym phase ∙ e in cc bad) in
         left_answers v s' t' does left right opened right_welcome left_list right_list (ap left_runs rest) (ap right_runs rest ∙ sym (ap right_runs phase))
         (comes_by r d (Ans 0) s' t' o (with_open (PartEnd d 0) false o) row does (par_firing (Ans 0) row LeftOnly s' phase refl)
@@ -551,10 +546,10 @@ module _
           (last_well 0 s' (λ e. omega (arith, e)) left_name (opened.result ∙ up) none empty, tt),
           ap (λ (n : End). with_open n false o) (sym left_name),
         )))
-    order_step x s w (right_ends_all v s' t' right left phase rest ask ans) does linked comes opened left_welcome right_welcome left_list right_list =
+    order_step x s w (right_ends_all v s' t' right left phase rest ask ans) seen does driven comes opened left_welcome right_welcome left_list right_list =
         let row = end_row 1 (s'.state d).number in
         let (up, none, empty) =
-        when_working (is_open past (ResultEnd 0)) (s'.state d).phase (gate s' Request) (gate s' Answer) linked.stage
+        when_working (is_open past (ResultEnd 0)) (s'.state d).phase (gate s' Request) (gate s' Answer) driven.stage
         (λ e. let bad : RightOnly ≡ Rest = sym phase ∙ e in cc bad) in
         right_answers v s' t' does right left opened left_welcome left_list right_list (ap right_runs rest) (ap left_runs rest ∙ sym (ap left_runs phase))
         (comes_by r d (Ans 1) s' t' o (with_open (PartEnd d 1) false o) row does (par_firing (Ans 1) row RightOnly s' phase refl)
@@ -562,31 +557,8 @@ module _
           (last_well 1 s' (λ e. omega (arith, e)) right_name (opened.result ∙ up) none empty, tt),
           ap (λ (n : End). with_open n false o) (sym right_name),
         )))
-    order_step x s w (lost j k v s' t' c there not_left not_right left right same) does linked comes opened left_welcome right_welcome left_list right_list =
-        absurd (not_lost d f g r p q is literals ground j k c past lefts rights s' there not_left not_right linked comes)
-
-  pub orders : (xs : List Element) (s t : Tokens) (past lefts rights : List Pass) (fit : bits.AllFit r s) (runs : Runs r xs s t) → Link past lefts rights s
-      → InTurn r past xs → (o lo ro lu ru : Open) (lt rt : Tokens) → Opened past o lo ro s → AllWelcome p (cut_tokens f p s) → AllWelcome q (cut_tokens g q s)
-      → OrderlyFrom p (left_list d f g r p q is literals ground xs s t fit runs) lo (cut_tokens f p s) lu lt
-      → OrderlyFrom q (right_list d f g r p q is literals ground xs s t fit runs) ro (cut_tokens g q s) ru rt
-      → (u : Open) × (v : Tokens) × OrderlyFrom r xs o s u v
-  orders [] s t past lefts rights fit runs linked turn o lo ro lu ru lt rt opened left_welcome right_welcome left_list' right_list' = (o, s, (refl, refl))
-  orders (x ∷ xs) s t past lefts rights fit (w, does, runs) linked turn o lo ro lu ru lt rt opened left_welcome right_welcome left_list' right_list' =
-      let z = step d f g r p q is literals x s w fit does in
-      let fit_on = fits_on d f g r p q is literals ground x s w fit does in
-      let (comes, later) = first_comes r past x xs turn in
-      let led = linked_step d f g r p q is literals ground x s w z past lefts rights linked comes in
-      let ys = left_list d f g r p q is literals ground xs w t fit_on runs in
-      let zs = right_list d f g r p q is literals ground xs w t fit_on runs in
-      let one = order_step past lefts rights o lo ro lu ru lt rt ys zs x s w z does linked comes opened left_welcome right_welcome left_list' right_list' in
-      let welcome =
-      welcome_all w (after r x past) one.open_now one.left_now one.right_now (is_open (after r x past) (ResultEnd 0)) led.linked.stage one.opened one.left_welcome
-      one.right_welcome in
-      let (u, v, rest) =
-      orders xs w t (after r x past) (past_all p (left_seen d f g r p q is literals ground x s w z) lefts)
-      (past_all q (right_seen d f g r p q is literals ground x s w z) rights) fit_on runs led.linked later one.open_now one.left_now one.right_now lu ru lt rt
-      one.opened one.left_welcome one.right_welcome one.left_rest one.right_rest in
-      (u, v, (one.open_now, w, does, one.comes, welcome, rest))
+    order_step x s w (lost j k v s' t' c there not_left not_right left right same) seen does driven comes opened left_welcome right_welcome left_list right_list =
+        absurd seen
 
   idle_token : (a : Plan) (s : Tokens) (e : End) (way : Direction) (v : ℕ) → IsIdle a s → token_at a s e way ≡ Some v → ⊥
   idle_token a s e way v rests lies = by_place (places_of a e) refl

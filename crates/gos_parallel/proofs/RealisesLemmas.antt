@@ -36,12 +36,12 @@ module _
       let done = subst IsDone (sym is.outcome) tt in
       let turn = turns_in_turn r [] xs (protocol_keeps_turns r xs s t whole_regular ground differ done idle runs keeps) in
       let fit = idle_fits r s idle in
-      let linked = linked_first d f g r p q is literals ground s idle in
+      let linked = linked_first d f g r p q is literals s idle in
       let (lefts, rights) = lists_in_turn d f g r p q is literals ground xs s t [] [] [] fit runs linked turn in
-      let ys = left_list d f g r p q is literals ground xs s t fit runs in
-      let zs = right_list d f g r p q is literals ground xs s t fit runs in
-      let left_runs = left_runs_on d f g r p q is literals ground xs s t fit runs in
-      let right_runs = right_runs_on d f g r p q is literals ground xs s t fit runs in
+      let ys = left_list d f g r p q is literals xs s t fit runs in
+      let zs = right_list d f g r p q is literals xs s t fit runs in
+      let left_runs = left_runs_on d f g r p q is literals xs s t fit runs in
+      let right_runs = right_runs_on d f g r p q is literals xs s t fit runs in
       let left_keeps = in_turn_keeps p left.all_ground left.names (subst IsDone (sym is.left.outcome) tt) ys (cut_tokens f p s) (cut_tokens f p t) left_runs lefts in
       let right_keeps = in_turn_keeps q right.all_ground right.names (subst IsDone (sym is.right.outcome) tt) zs (cut_tokens g q s) (cut_tokens g q t) right_runs rights in
       let left_done = left_means (cut_tokens f p s) (cut_tokens f p t) ys (idle_is_cut f r p s idle) left_runs left_keeps in

@@ -81,6 +81,11 @@ pub data Step (d : ℕ) (f g : Cut) (r p q : Plan) : Element → Tokens → Toke
       → Unseen f p s t → Unseen g q s t → Same d s t
       → Step d f g r p q (In (ImportEnd j k) v) s t
 
+-- it is seen by a region or by the part: no input at an end without a joint
+abbrev pub IsSeen : (d : ℕ) (f g : Cut) (r p q : Plan) (x : Element) (s t : Tokens) → Step d f g r p q x s t → Type 0
+IsSeen d f g r p q x s t (lost j k v s' t' c there not_left not_right left right same) = ⊥
+IsSeen d f g r p q x s t z = Unit {0}
+
 -- the element that is one of a list of one, or of none
 one_sees : (f : Cut) (p : Plan) (y : Element) (s t : Tokens) → Runs p (y ∷ []) (cut_tokens f p s) (cut_tokens f p t) → Sees f p y s t
 one_sees f p y s t (w, does, is) = subst (λ (u : Tokens). Does p y (cut_tokens f p s) u) (sym is) does

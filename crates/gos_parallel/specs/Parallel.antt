@@ -1,7 +1,7 @@
 -- How the plan of `M || N` is made of those of M and N: two regions that share nothing, and the part that asks both.
 --
 -- Read first: Realises of gos_realises, Cutting of gos_webs, Widening of gos_contexts. The regions' plans are closed but for
--- ground imports, and these are imports of the whole.
+-- imports, and these are imports of the whole.
 use Rattle.std.specs.Prelude.{◌≡◌, ◌⊎◌, ℕ, [], All, Contains, Some, None, slice_get}
 use Rattle.gos_types.specs.Types.{Com}
 use Rattle.gos_model.specs.Terms.{Term, Par}
@@ -13,6 +13,8 @@ use Rattle.gos_plan.specs.Kinds.{Part}
 use Rattle.gos_webs.specs.Webs.{joint}
 use Rattle.gos_webs.specs.Cutting.{Cut, lies_at, StandsIn, IsCut}
 use Rattle.gos_contexts.specs.Widening.{AreAmong}
+use Rattle.gos_windows.specs.Nodes.{IsRestful}
+use Rattle.gos_windows.specs.OpenNodes.{IsHeard}
 use Rattle.gos_realises.specs.Regular.{IsRegular}
 use Rattle.gos_realises.specs.Realises.{AllGround, NamesDiffer, HaveOtherNames, Realises}
 
@@ -51,7 +53,22 @@ pub record IsParallel (d : ℕ) (f g : Cut) (r p q : Plan) : Type 0 where
   pub apart : (i : ℕ) → IsPartOf f i → IsPartOf g i → ⊥
   pub names : HaveOtherNames p.imports q.imports
 
--- The whole is regular where both regions are.
+-- The whole is regular where both regions are, with imports of any types: a region that has one end of an import has those at which
+-- the surroundings ask there.
+abbrev pub OpenParallelIsRegular : Type 0
+OpenParallelIsRegular =
+    (d : ℕ) (f g : Cut) (r p q : Plan)
+    → IsParallel d f g r p q → IsHeard f r p → IsHeard g r q → All LiteralFits r.parts → NamesDiffer r.imports
+    → NamesDiffer p.imports → IsRegular p → NamesDiffer q.imports → IsRegular q → IsRegular r
+
+-- And it rests after its answer where both do.
+abbrev pub OpenParallelIsRestful : Type 0
+OpenParallelIsRestful =
+    (d : ℕ) (f g : Cut) (r p q : Plan)
+    → IsParallel d f g r p q → IsHeard f r p → IsHeard g r q → All LiteralFits r.parts → NamesDiffer r.imports
+    → NamesDiffer p.imports → IsRegular p → IsRestful p → NamesDiffer q.imports → IsRegular q → IsRestful q → IsRestful r
+
+-- At ground imports they don't ask.
 abbrev pub ParallelIsRegular : Type 0
 ParallelIsRegular =
     (d : ℕ) (f g : Cut) (r p q : Plan)

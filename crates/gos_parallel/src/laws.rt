@@ -1,9 +1,12 @@
 // What the plan of `M || N` does. Each theorem is the contract of a function that does nothing.
-ghost use Rattle.gos_parallel.specs.Parallel.{ParallelIsRegular, ParallelRealises};
+ghost use Rattle.gos_parallel.specs.Parallel.{OpenParallelIsRegular, OpenParallelIsRestful, ParallelIsRegular, ParallelRealises};
 ghost use Rattle.gos_parallel.specs.SmallParallel.{CallAndSkipIsParallel, CallAndSkipRealises, SkipIsNotLeft, SkipIsNotBoth, OtherPartIsNot};
 
-/// Where the regions' plans are regular the whole is, and where they realise M and N the whole realises `M || N`.
+/// Where the regions' plans are regular the whole is, with imports of any types; where they rest after their answers so
+/// does the whole; and where they realise M and N it realises `M || N`.
 pub fn parallel()
+    ensures any { OpenParallelIsRegular }
+    ensures restful { OpenParallelIsRestful }
     ensures regular { ParallelIsRegular }
     ensures realises { ParallelRealises }
 {}

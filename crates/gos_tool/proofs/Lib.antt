@@ -1,17 +1,2 @@
-mod LexemeLemmas
-mod SourceLemmas
-mod FewLemmas
-mod NameLemmas
-mod WeightLemmas
-mod CellLemmas
-mod AcceptedLemmas
-mod PulseLemmas
-mod ProtocolLemmas
-mod NetValueLemmas
-mod MoveLemmas
-mod StageLemmas
-mod StageInputLemmas
-mod PaceLemmas
-mod BuildLemmas
 mod WordLemmas
 mod EndLemmas

@@ -1,14 +1,8 @@
--- The commands, and what the command `build` finds in its files.
---
--- Read first: BuildFile, SourceFile. Files are those that the store held when the command began. A file that it doesn't hold
--- counts as empty.
+-- The commands, and their words.
 use Rattle.std.specs.Prelude.{String, string_bytes, ◌≡◌, ◌≢◌, ◌++◌, ℕ, List, [], ◌∷◌, map, codes}
 use Rattle.std.specs.Global.{Global}
 use Rattle.gos_outside.specs.FileName.{IsFileName}
-use Rattle.gos_outside.specs.Files.{Files, bytes_at}
 use Rattle.gos_lines.specs.Lines.{Word}
-use Rattle.gos_tool.specs.BuildFile.{BuildFile, IsBuildFile}
-use Rattle.gos_tool.specs.SourceFile.{Sequence, IsSourceFile}
 
 -- a command, with the files that its words name
 pub data Command : Type 0 where
@@ -40,11 +34,3 @@ MeanNothing words = (c : Command) → Means words c → ⊥
 -- the line for words that are no command
 abbrev pub usage_line : List ℕ
 usage_line = codes "usage: gos check SRC | compile SRC OBJ | link BUILD | sim NET PULSES TRACE | build BUILD" ++ 10 ∷ []
-
--- what the build file says
-abbrev pub SaysBuild : Files → Word → BuildFile → Type 0
-SaysBuild files own b = IsBuildFile (bytes_at files own) own b
-
--- what the source file says
-abbrev pub SaysModule : Files → BuildFile → Sequence → Type 0
-SaysModule files b s = IsSourceFile (bytes_at files b.source) b.root s

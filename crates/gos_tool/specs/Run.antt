@@ -1,7 +1,7 @@
 -- How the tool's commands end.
 --
--- Read first: Command, Built; Checked and Compiled of gos_objects; Linked of gos_circuits; Sim of gos_simulate; Lines of gos_command. `old` and `new`
--- are the files of the store before and after, `written` and `printed` the bytes of the sink.
+-- Read first: Command; Checked and Compiled of gos_objects; Linked of gos_circuits; Sim of gos_simulate; Built of gos_build; Lines
+-- of gos_command. `old` and `new` are the files of the store before and after, `written` and `printed` the bytes of the sink.
 use Rattle.std.specs.Prelude.{◌≡◌, ◌⊎◌, ℕ, List, Option, IfSome}
 use Rattle.gos_outside.specs.Files.{Files, SameBut}
 use Rattle.gos_outside.specs.Faults.{LastFault, ReadFault}
@@ -16,8 +16,9 @@ use Rattle.gos_objects.specs.Compiled.{IsCompiled, IsCompileCall}
 use Rattle.gos_circuits.specs.Linked as linking
 use Rattle.gos_circuits.specs.Linked.{IsLinkDone, RejectsLink, IsLinkCall, IsLinkCutShort}
 use Rattle.gos_simulate.specs.Sim.{IsSimDone, IsSimFault, IsSimCall}
+use Rattle.gos_build.specs.Built as building
+use Rattle.gos_build.specs.Built.{IsBuilt, RejectsBuild, IsBuildCall, IsBuildCutShort}
 use Rattle.gos_tool.specs.Command.{Command, Check, Compile, Link, Sim, Build, Means}
-use Rattle.gos_tool.specs.Built.{IsBuilt, Rejects, IsBuildCall, IsBuildCutShort, KeepsUnnamed}
 
 -- all that the command is to do is done, with this report
 abbrev pub IsDone : Command → Option Files → Option Files → Report → Type 0
@@ -35,7 +36,7 @@ IsRejected (Compile source object) old new fault line =
 IsRejected (Link own) old new fault line = (new ≡ old) × IfSome old (λ files. RejectsLink files own fault line)
 IsRejected (Sim net pulses trace) old new fault line =
     (new ≡ old) × ((fault.file ≡ net) ⊎ (fault.file ≡ pulses)) × IfSome old (λ files. IsSimFault files net pulses fault line)
-IsRejected (Build own) old new fault line = IfSome old (λ files. Rejects files new own fault line)
+IsRejected (Build own) old new fault line = IfSome old (λ files. RejectsBuild files new own fault line)
 
 -- The command makes this call of the store, after all that is judged before it was right, and this is what it wrote before.
 abbrev pub IsCall : Command → Option Files → Option Files → LastFault → Type 0
@@ -43,7 +44,7 @@ IsCall (Check source) old new fault = (fault ≡ ReadFault source) × (new ≡ o
 IsCall (Compile source object) old new fault = IsCompileCall old new source object fault
 IsCall (Link own) old new fault = IsLinkCall old new own fault
 IsCall (Sim net pulses trace) old new fault = IsSimCall old new net pulses trace fault
-IsCall (Build own) old new fault = IsBuildCall old new own fault
+IsCall (Build own) old new fault = IfSome old (λ files. IsBuildCall files new own fault)
 
 -- What the command leaves where memory runs out before its end: the first of its files, each as where all is done.
 abbrev pub IsCutShort : Command → Option Files → Option Files → Type 0
@@ -51,7 +52,7 @@ IsCutShort (Check source) old new = new ≡ old
 IsCutShort (Compile source object) old new = new ≡ old
 IsCutShort (Link own) old new = IsLinkCutShort old new own
 IsCutShort (Sim net pulses trace) old new = new ≡ old
-IsCutShort (Build own) old new = IsBuildCutShort old new own
+IsCutShort (Build own) old new = IfSome old (λ files. IsBuildCutShort files new own)
 
 -- all files but those that the command writes are as they were
 abbrev pub KeepsOthers : Command → Option Files → Option Files → Type 0
@@ -59,7 +60,7 @@ KeepsOthers (Check source) old new = new ≡ old
 KeepsOthers (Compile source object) old new = SameBut object old new
 KeepsOthers (Link own) old new = linking.KeepsUnnamed own old new
 KeepsOthers (Sim net pulses trace) old new = SameBut trace old new
-KeepsOthers (Build own) old new = KeepsUnnamed own old new
+KeepsOthers (Build own) old new = building.KeepsUnnamed own old new
 
 -- the words are a command, which is done, and the line that tells so was printed
 pub record EndsDone (words : List Word) (old new : Option Files) (written printed : Option (List ℕ)) : Type 0 where

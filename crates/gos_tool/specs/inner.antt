@@ -1,6 +1,2 @@
--- What stands between this crate's own functions and lemmas, and no public clause cites. In reading order: a file uses only
--- files above it.
-pub mod Lexemes
-pub mod SourceFileSeen
-pub mod Circuit
+-- What stands between this crate's own functions and lemmas, and no public clause cites.
 pub mod CommandSeen

@@ -7,7 +7,7 @@ ghost use Rattle.gos_tool.specs.Command.{texts, Means, MeanNothing};
 ghost use Rattle.gos_tool.specs.inner.CommandSeen.{meant, HasFileNames};
 ghost use Rattle.gos_tool.specs.Run.{IsDone, IsRejected, IsCall, IsCutShort, KeepsOthers};
 
-use crate::building::build;
+use gos_build::build;
 use gos_circuits::link_build;
 use gos_command::{Report, Stop};
 use gos_objects::{check_source, compile_source};

@@ -1,9 +1,8 @@
 // The tool: from the words of a command to its files, its line and its status.
 //
 // `run` is the top call. It knows the outside only as a store of files and a sink of bytes. What it promises is said in
-// specs/: Command (the words), BuildFile and SourceFile (the forms of the files of `build`), Headline (what a circuit of a
-// module is), Built (what `build` leaves, rejects and calls), Run (all commands). The other commands are crates of their
-// own: `check` and `compile` gos_objects, `link` gos_circuits, `sim` gos_simulate.
+// specs/: Command (the words), Run (how each command ends). The commands are crates of their own: `check` and `compile`
+// gos_objects, `link` gos_circuits, `sim` gos_simulate, `build` gos_build.
 #![tactic(auto)]
 
 ghost use Rattle.std.specs.Prelude.{◌≡◌, ◌≢◌};
@@ -13,13 +12,7 @@ ghost use Rattle.gos_command.specs.Ends.{IfRejected, IsSaid};
 ghost use Rattle.gos_tool.specs.Command.{Command as Meaning, texts, Means, MeanNothing, usage_line};
 ghost use Rattle.gos_tool.specs.Run.{IsCall, KeepsOthers, EndsDone, EndsRejected, IsUnsaid, IsUntold};
 
-mod build_file;
-mod building;
-mod circuit;
 mod command;
-mod lexemes;
-mod source_file;
-mod statements;
 
 use command::{command_of, run_command};
 pub use gos_command::{Cause, Fault, Status};
@@ -33,9 +26,9 @@ use std::alloc::Global;
 /// `check SRC` reads a source file and tells the weight of its module. `compile SRC OBJ` checks it in the same way, and
 /// writes the plan of its module. `link BUILD` reads the build file and the object files of its instances, links their
 /// plans, and writes the netlist of a circuit of the whole and its Verilog text. `sim NET PULSES TRACE` reads a netlist and a
-/// pulse file, runs the netlist and writes the trace. `build BUILD` reads the build file and the source file of its instance,
-/// writes the netlist and its Verilog text, reads the pulse file, runs the netlist and writes the trace. Each status but
-/// `NoMemory` has its cause; want of memory may end a command anywhere.
+/// pulse file, runs the netlist and writes the trace. `build BUILD` reads the build file, compiles the source of each instance
+/// as `compile` does, links their plans and writes the circuit as `link` does, and runs it as `sim` does; it takes modules of
+/// ground types. Each status but `NoMemory` has its cause; want of memory may end a command anywhere.
 pub fn run<S: Store, O: Sink>(alloc: Global, words: &[String], store: &mut S, out: &mut O) -> Status
     // Other words are answered with the usage line, and no file is touched.
     ensures usage { result ≡ Status.Usage → MeanNothing (texts words.now) }
@@ -43,9 +36,9 @@ pub fn run<S: Store, O: Sink>(alloc: Global, words: &[String], store: &mut S, ou
     ensures usage_line { result ≡ Status.Usage → O.written out.new ≡ appended usage_line (O.written out.old) }
     ensures usage_files { MeanNothing (texts words.now) → S.contents store.new ≡ S.contents store.old }
 
-    // Where all is done, the files are there and the line tells it. Of `build`: the netlist file holds the text of a circuit
-    // that keeps pace with the program of the source file, the Verilog file holds its Verilog text, and the trace file its run
-    // under the pulse file.
+    // Where all is done, the files are there and the line tells it. Of `build`: each object file holds the text of the plan of
+    // its instance's source, the netlist file that of a circuit of the linked plans, the Verilog file its Verilog text, and the
+    // trace file its run under the pulse file.
     ensures done { result ≡ Status.Done → EndsDone (texts words.now) (S.contents store.old) (S.contents store.new) (O.written out.old) (O.written out.new) }
 
     // A file is rejected only for the first fault that is found, and its line is printed.

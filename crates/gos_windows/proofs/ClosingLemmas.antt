@@ -1,13 +1,13 @@
--- Where all is idle nothing is open but what the result asked.
+-- Where all is idle nothing is open but what ports asked.
 --
 -- Whoever asks waits, and so is not idle: but a Share asks for a caller, whose handshake is in service. So from each open
--- handshake a way leads back through Shares to a part that waits, or to the result.
+-- handshake a way leads back through Shares to a part that waits, or to a port.
 use Rattle.std.specs.Prelude.{Option, None}
 use Rattle.std.proofs.Common.{◌≡◌, inl, inr, ℕ, Bool, true, false, List, [], ◌∷◌, ◌++◌, length, Some, slice_get, refl, sym, ◌∙◌, ap, subst, arith, nat_eq, if◌then◌else◌}
 use Rattle.std.proofs.lemmas.Option.{same_Some}
 use Rattle.gos_types.specs.declared.shakes.Role.{Role}
 use Rattle.gos_types.specs.declared.shakes.Role.TheVariants.{Serve, Ask}
-use Rattle.gos_types.specs.Types.{Type', IsDone}
+use Rattle.gos_types.specs.Types.{Type'}
 use Rattle.gos_netlist.specs.Events.{Direction, Request, Answer}
 use Rattle.gos_plan.specs.Kinds.{Part, Share, Contact, contacts_of}
 use Rattle.gos_plan.specs.Firing.{Phase, State, Slot, Req, Ans, Token, Row, at, same_slot, firing}
@@ -18,13 +18,15 @@ use Rattle.gos_plan.specs.Turns.{IsUnshared}
 use Rattle.gos_plan.specs.Orderly.{named_by, handshake_at, Open, none_open, with_open, after_taken, after_put, after_puts, ComesInOrder, OrderlyFrom}
 use Rattle.gos_plan.specs.Law.{after_taking}
 use Rattle.gos_plan.specs.Projection.{asked_by}
-use Rattle.gos_plan.proofs.JointLemmas.{fits, Found, found, same_is}
+use Rattle.gos_plan.proofs.JointLemmas.{fits, Found, found, same_is, same_itself}
 use Rattle.gos_plan.proofs.HeldLemmas.{AllFit, step}
 use Rattle.gos_plan.proofs.TurnLemmas.{token_state, fired_state, nat_eq_self}
 use Rattle.gos_plan.proofs.AskingLemmas.{RoleIs, RequestAsks, PutsAsking, row_roles}
 use Rattle.gos_plan.proofs.RowLemmas.{role_taking}
 use Rattle.gos_plan.proofs.ProjectionLemmas.{named, taken_port, put_port}
-use Rattle.gos_realises.specs.Realises.{AllGround}
+use Rattle.gos_realises.specs.Regular.{Pass, pass, is_open, way_in, way_out}
+use Rattle.gos_realises.proofs.InputLemmas.{passed, in_there, out_there}
+use Rattle.gos_realises.proofs.RingLemmas.{after}
 use Rattle.gos_pace.proofs.TieLemmas.{Passed, is_put}
 use Rattle.gos_pace.proofs.FrameLemmas.{Busy, one_server, busy_taken, busy_put, NeverAnswers}
 use Rattle.gos_pace.proofs.RankLemmas.{TakenAt, taken_at}
@@ -34,13 +36,13 @@ use Rattle.gos_pace.proofs.SharedLemmas.{Passes, asked_first, asked_second, answ
 use Rattle.gos_pace.proofs.AloneStepLemmas.{Fact, fact, keeps_busy, open_after, open_other}
 use Rattle.gos_pace.proofs.HoldLemmas.{orderly_append}
 use Rattle.gos_pace.proofs.GrowLemmas.{always_ties}
-use Rattle.gos_windows.specs.Closing.{IdleIsClosed}
+use Rattle.gos_windows.specs.Closing.{OpenIdleIsClosed, IdleIsClosed}
 use Rattle.gos_windows.proofs.PortLemmas.{port_role}
 use Rattle.gos_windows.proofs.WaitLemmas.{Waits, row_waits, rest_waits, told_share}
 
 -- An open handshake, and who asks there.
 pub data Rooted (p : Plan) (o : Open) (s : Tokens) : End → Type 0 where
-  at_result : Rooted p o s (ResultEnd 0)
+  at_port : (e : End) → IsPortEnd e → Rooted p o s e
   at_plain : (i a : ℕ) (k : Part) → slice_get p.parts i ≡ Some k → IsUnshared k → Waits k (s.state i) a → Rooted p o s (PartEnd i a)
   at_share :
       (i a b : ℕ) (t : Type') (n : End)
@@ -77,8 +79,8 @@ shut_more : (b held : Bool) → (if b then false else held) ≡ true → held �
 shut_more true held h = absurd (cc h)
 shut_more false held h = h
 
-module _ (p : Plan) (right : IsRight p) (ground : AllGround p.imports) (done : IsDone p.outcome) where
-  -- a port that asks is the result
+module _ (p : Plan) (right : IsRight p) where
+  -- what asks has the name of its handshake
   pub asks_itself : (e : End) (c : Contact) → contact_at p e ≡ Some c → c.role ≡ Ask → handshake_at p e ≡ e
   asks_itself e c there asks = by_place (places_of p e) refl
     where
@@ -114,14 +116,14 @@ module _ (p : Plan) (right : IsRight p) (ground : AllGround p.imports) (done : I
   taken_more d Request o e up = up
   taken_more d Answer o e up = shut_more (same_end e (handshake_at p d)) (o e) up
 
+  pub port_before : (j : ℕ) (slot : Slot) (o m : Open) (s w : Tokens) → Fact p j slot o s m w → (e : End) → IsPortEnd e → m e ≡ true → o e ≡ true
+  port_before j slot o m s w x e port up =
+      taken_more (end_of j slot) (way_of slot) o e
+      (sym (ap (λ (y : Open). y e) x.opens ∙ puts_port j x.kind (x.row.puts x.value) (after_taken p (end_of j slot) (way_of slot) o) e x.is x.puts_asking port) ∙ up)
+
   -- a firing
   module _
       (j : ℕ) (slot : Slot) (o m : Open) (s w : Tokens) (fit : AllFit o s) (law : Law p o s) (x : Fact p j slot o s m w) where
-    port_before : (e : End) → IsPortEnd e → m e ≡ true → o e ≡ true
-    port_before e port up =
-        taken_more (end_of j slot) (way_of slot) o e
-        (sym (ap (λ (y : Open). y e) x.opens ∙ puts_port j x.kind (x.row.puts x.value) (after_taken p (end_of j slot) (way_of slot) o) e x.is x.puts_asking port) ∙ up)
-
     state_other : (i : ℕ) → nat_eq i j ≡ false → w.state i ≡ s.state i
     state_other i apart =
         ap (λ (y : Tokens). y.state i) x.leads
@@ -164,7 +166,7 @@ module _ (p : Plan) (right : IsRight p) (ground : AllGround p.imports) (done : I
         by_put false put up_now = subst (λ (c : Slot). same_slot c (Ans a) ≡ false) (sym x.takes) (was_open slot (asked_by j o) a up_now).1
 
     keeps : (y : End) → Rooted p o s y → o y ≡ true → m y ≡ true → Rooted p m w y
-    keeps y at_result before up = at_result
+    keeps y (at_port e port) before up = at_port y port
     keeps y (at_plain i a k is plain waits) before up = by_part (nat_eq i j) refl
       where
         by_part : (b : Bool) → nat_eq i j ≡ b → Rooted p m w (PartEnd i a)
@@ -257,10 +259,8 @@ module _ (p : Plan) (right : IsRight p) (ground : AllGround p.imports) (done : I
           by_before false shut = told_share x.kind (λ k. x.kind ≡ k → Rooted p m w (PartEnd j a)) (λ plain same. of_plain shut plain) (λ t kind same. of_share shut t kind) refl
 
       pub fire_rooted : AllRooted p m w
-      fire_rooted (ImportEnd i h) up =
-          let before = port_before (ImportEnd i h) tt up in keeps (ImportEnd i h) (rooted (ImportEnd i h) before) before up
-      fire_rooted (ResultEnd h) up =
-          let before = port_before (ResultEnd h) tt up in keeps (ResultEnd h) (rooted (ResultEnd h) before) before up
+      fire_rooted (ImportEnd i h) up = at_port (ImportEnd i h) tt
+      fire_rooted (ResultEnd h) up = at_port (ResultEnd h) tt
       fire_rooted (PartEnd i a) up = by_part (nat_eq i j) refl
         where
           by_part : (b : Bool) → nat_eq i j ≡ b → Rooted p m w (PartEnd i a)
@@ -270,28 +270,22 @@ module _ (p : Plan) (right : IsRight p) (ground : AllGround p.imports) (done : I
               let here : i ≡ j = sym (same_number i j same) in
               subst (λ (n : ℕ). Rooted p m w (PartEnd n a)) (sym here) (own_rooted a (ap (λ (n : ℕ). m (PartEnd n a)) (sym here) ∙ up))
 
-  root_port : (o : Open) (s : Tokens) (e : End) → Rooted p o s e → IsPortEnd e → e ≡ ResultEnd 0
-  root_port o s e at_result port = refl
-  root_port o s e (at_plain i a k is plain waits) port = absurd port
-  root_port o s e (at_share i a b t n is there serves passed busy below) port = absurd port
-
   -- an input or an output
   module _
       (o u : Open) (s w : Tokens) (same : (i a : ℕ) → u (PartEnd i a) ≡ o (PartEnd i a)) (states : (i : ℕ) → w.state i ≡ s.state i)
-      (ports : (e : End) → IsPortEnd e → u e ≡ true → e ≡ ResultEnd 0)
       (busy :
       (i k : ℕ) (n : End)
       → ((d : Contact) → contact_at p (PartEnd i k) ≡ Some d → d.role ≡ Serve) → places_of p (PartEnd i k) ≡ Some n → Busy o s n → Busy u w n) where
     keeps_port : (y : End) → Rooted p o s y → Rooted p u w y
-    keeps_port y at_result = at_result
+    keeps_port y (at_port e port) = at_port y port
     keeps_port y (at_plain i a k is plain waits) = at_plain i a k is plain (subst (λ (q : State). Waits k q a) (sym (states i)) waits)
     keeps_port y (at_share i a b t n is there serves passed busy_there below) =
         at_share i a b t n is there serves passed (busy i b n (at_end p i b (Share t) is serves) there busy_there) (keeps_port n below)
 
     port_rooted : AllRooted p o s → AllRooted p u w
     port_rooted rooted (PartEnd i a) up = keeps_port (PartEnd i a) (rooted (PartEnd i a) (sym (same i a) ∙ up))
-    port_rooted rooted (ImportEnd i h) up = subst (λ (e : End). Rooted p u w e) (sym (ports (ImportEnd i h) tt up)) at_result
-    port_rooted rooted (ResultEnd h) up = subst (λ (e : End). Rooted p u w e) (sym (ports (ResultEnd h) tt up)) at_result
+    port_rooted rooted (ImportEnd i h) up = at_port (ImportEnd i h) tt
+    port_rooted rooted (ResultEnd h) up = at_port (ResultEnd h) tt
 
   out_rooted : (e : End) (v : ℕ) (o u : Open) (s w : Tokens) → Does p (Out e v) s w → ComesInOrder p (Out e v) s o u → AllRooted p o s → AllRooted p u w
   out_rooted e v o u s w does comes rooted = of_contact (contact_at p e) refl
@@ -303,31 +297,9 @@ module _ (p : Plan) (right : IsRight p) (ground : AllGround p.imports) (done : I
           let opens = comes c there in
           port_rooted o u s w (λ i a. ap (λ (z : Open). z (PartEnd i a)) opens ∙ taken_port p i e c o right does.0 there a)
           (λ i. ap (λ (z : Tokens). z.state i) passes.1 ∙ token_state p e (way_taken c.role) None s i)
-          (λ d port up. root_port o s d (rooted d (taken_more e (way_taken c.role) o d (ap (λ (z : Open). z d) (sym opens) ∙ up))) port)
           (λ i k n serves place busy. subst (λ (z : Open). Busy z w n) (sym opens)
           (subst (λ (z : Tokens). Busy (after_taken p e (way_taken c.role) o) z n) (sym passes.1) (busy_taken p e (way_taken c.role) v o s n passes.0 busy)))
           rooted
-
-  put_ports : (e d : End) (c : Contact) (o : Open) (s : Tokens) → contact_at p e ≡ Some c → IsPortEnd e → IsPortEnd d → AllRooted p o s → after_put p e (way_put c.role) o d ≡ true
-      → d ≡ ResultEnd 0
-  put_ports e d c o s there port also rooted up =
-      elim (port_role p ground done e c port there) [
-        | inl result ↦ at_result_end result.0 result.1
-        | inr import ↦
-            root_port o s d (rooted d (subst (λ (way : Direction). after_put p e way o d ≡ true) (ap way_put import.3) up)) also
-      ]
-    where
-      at_result_end : e ≡ ResultEnd 0 → c.role ≡ Ask → d ≡ ResultEnd 0
-      at_result_end is asks = by_test (same_end d e) refl
-        where
-          put_there : (if same_end d e then true else o d) ≡ true
-          put_there =
-              let opened : with_open (handshake_at p e) true o d ≡ true = subst (λ (way : Direction). after_put p e way o d ≡ true) (ap way_put asks) up in
-              sym (ap (λ (y : End). with_open y true o d) (asks_itself e c there asks)) ∙ opened
-
-          by_test : (b : Bool) → same_end d e ≡ b → d ≡ ResultEnd 0
-          by_test true t = same_is d e t ∙ is
-          by_test false t = root_port o s d (rooted d (sym (ap (λ (b : Bool). if b then true else o d) t) ∙ put_there)) also
 
   in_rooted : (e : End) (v : ℕ) (o u : Open) (s w : Tokens) → Does p (In e v) s w → ComesInOrder p (In e v) s o u → AllRooted p o s → AllRooted p u w
   in_rooted e v o u s w does comes rooted = of_contact (contact_at p e) refl
@@ -346,7 +318,6 @@ module _ (p : Plan) (right : IsRight p) (ground : AllGround p.imports) (done : I
           let opens = comes c there in
           port_rooted o u s w (λ i a. ap (λ (z : Open). z (PartEnd i a)) opens.1 ∙ put_port p i e c o right does.0 there a)
           (λ i. ap (λ (z : Tokens). z.state i) passes.1 ∙ token_state p e (way_put c.role) (Some v) s i)
-          (λ d port up. put_ports e d c o s there does.0 port rooted (ap (λ (z : Open). z d) (sym opens.1) ∙ up))
           (λ i k n serves place busy. subst (λ (z : Open). Busy z w n) (sym opens.1)
           (subst (λ (z : Tokens). Busy (after_put p e (way_put c.role) o) z n) (sym passes.1)
           (busy_put p e (way_put c.role) v o s n opens.0
@@ -368,21 +339,101 @@ module _ (p : Plan) (right : IsRight p) (ground : AllGround p.imports) (done : I
       (step p x o m s w does comes fit) (one_rooted x o m s w fit (always_ties p right first s ys o idle before) does comes rooted)
 
   -- where all is idle
-  none_waits : (o : Open) (t : Tokens) → IsIdle p t → o (ResultEnd 0) ≡ false → (y : End) → Rooted p o t y → o y ≡ true → ⊥
-  none_waits o t idle shut y at_result up = not_none (o (ResultEnd 0)) up shut
+  none_waits : (o : Open) (t : Tokens) → IsIdle p t → ((e : End) → IsPortEnd e → o e ≡ false) → (y : End) → Rooted p o t y → o y ≡ true → ⊥
+  none_waits o t idle shut y (at_port e port) up = not_none (o y) up (shut y port)
   none_waits o t idle shut y (at_plain i a k is plain waits) up =
       rest_waits k (t.state i).number a (subst (λ (q : Phase). Waits k (at q (t.state i).number) a) (idle.1 i) waits)
   none_waits o t idle shut y (at_share i a b s n is there serves passed busy below) up = none_waits o t idle shut n below busy.is_open
 
-pub idle_is_closed : IdleIsClosed
-idle_is_closed p xs o s t right ground done idle list rests shut e = by_test (o e) refl
+  -- What is open at a port's name the port asks, and it is open by what passed there.
+  abbrev pub Ports : Open → List Pass → Type 0
+  Ports o past = (e : End) → IsPortEnd e → o e ≡ true → ((c : Contact) × (contact_at p e ≡ Some c) × (c.role ≡ Ask)) × (is_open past e ≡ true)
+
+  put_port_open : (e : End) (c : Contact) → IsPortEnd e → contact_at p e ≡ Some c → (o : Open) (past : List Pass) → Ports o past
+      → (role : Role) → c.role ≡ role → Ports (after_put p e (way_put role) o) (pass e (way_put role) ∷ past)
+  put_port_open e c port there o past ports Ask asks d at up = by_test (same_end d e) (same_end e d) refl refl shown
+    where
+      shown : (if same_end d e then true else o d) ≡ true
+      shown = ap (λ (n : End). if same_end d n then true else o d) (sym (asks_itself e c there asks)) ∙ up
+
+      by_test : (b q : Bool) → same_end d e ≡ b → same_end e d ≡ q → (if b then true else o d) ≡ true
+          → ((c : Contact) × (contact_at p d ≡ Some c) × (c.role ≡ Ask)) × (is_open (pass e Request ∷ past) d ≡ true)
+      by_test true q t l up =
+          let is = same_is d e t in
+          ((c, ap (contact_at p) is ∙ there, asks), ap (λ (x : End). if same_end e x then true else is_open past x) is ∙ ap (λ (b : Bool). if b then true else is_open past e) (same_itself e))
+      by_test false true t l up = absurd (not_none (same_end d e) (ap (λ (x : End). same_end d x) (same_is e d l) ∙ same_itself d) t)
+      by_test false false t l up = let (own, held) = ports d at up in (own, ap (λ (b : Bool). if b then true else is_open past d) l ∙ held)
+  put_port_open e c port there o past ports Serve serves d at up = by_test (same_end e d) refl
+    where
+      by_test : (q : Bool) → same_end e d ≡ q → ((c : Contact) × (contact_at p d ≡ Some c) × (c.role ≡ Ask)) × (is_open (pass e Answer ∷ past) d ≡ true)
+      by_test true l =
+          let ((k, at_d, asks), held) = ports d at up in
+          let same : c ≡ k = same_Some c k (sym there ∙ (ap (contact_at p) (same_is e d l) ∙ at_d)) in
+          let clash : Serve ≡ Ask = sym serves ∙ (ap (λ (x : Contact). x.role) same ∙ asks) in absurd (cc clash)
+      by_test false l = let (own, held) = ports d at up in (own, ap (λ (b : Bool). if b then false else is_open past d) l ∙ held)
+
+  taken_port_open : (e : End) (c : Contact) → IsPortEnd e → contact_at p e ≡ Some c → (o : Open) (past : List Pass) → Ports o past
+      → (role : Role) → c.role ≡ role → Ports (after_taken p e (way_taken role) o) (pass e (way_taken role) ∷ past)
+  taken_port_open e c port there o past ports Ask asks d at up = by_test (same_end d e) (same_end e d) refl refl shown
+    where
+      shown : (if same_end d e then false else o d) ≡ true
+      shown = ap (λ (n : End). if same_end d n then false else o d) (sym (asks_itself e c there asks)) ∙ up
+
+      by_test : (b q : Bool) → same_end d e ≡ b → same_end e d ≡ q → (if b then false else o d) ≡ true
+          → ((c : Contact) × (contact_at p d ≡ Some c) × (c.role ≡ Ask)) × (is_open (pass e Answer ∷ past) d ≡ true)
+      by_test true q t l up = absurd (cc up)
+      by_test false true t l up = absurd (not_none (same_end d e) (ap (λ (x : End). same_end d x) (same_is e d l) ∙ same_itself d) t)
+      by_test false false t l up = let (own, held) = ports d at up in (own, ap (λ (b : Bool). if b then false else is_open past d) l ∙ held)
+  taken_port_open e c port there o past ports Serve serves d at up = by_test (same_end e d) refl
+    where
+      by_test : (q : Bool) → same_end e d ≡ q → ((c : Contact) × (contact_at p d ≡ Some c) × (c.role ≡ Ask)) × (is_open (pass e Request ∷ past) d ≡ true)
+      by_test true l = let (own, held) = ports d at up in (own, ap (λ (b : Bool). if b then true else is_open past d) l)
+      by_test false l = let (own, held) = ports d at up in (own, ap (λ (b : Bool). if b then true else is_open past d) l ∙ held)
+
+  pub ports_after : (x : Element) (o u : Open) (s w : Tokens) (past : List Pass) → Does p x s w → ComesInOrder p x s o u → Ports o past → Ports u (after p x past)
+  ports_after (Fire j slot) o u s w past does comes ports =
+      λ e port up. ports e port (port_before j slot o u s w (fact p j slot o u s w does comes) e port up)
+  ports_after (Out e v) o u s w past does comes ports =
+      let (c, there) = out_there p e v s w does in
+      subst (λ (z : Open). Ports z (pass e (way_out (contact_at p e)) ∷ past)) (sym (comes c there))
+      (subst (λ (way : Direction). Ports (after_taken p e (way_taken c.role) o) (pass e way ∷ past)) (sym (ap way_out there))
+      (taken_port_open e c does.0 there o past ports c.role refl))
+  ports_after (In e v) o u s w past does comes ports =
+      let (c, there) = in_there p e v s w does in
+      subst (λ (z : Open). Ports z (pass e (way_in (contact_at p e)) ∷ past)) (sym (comes c there).1)
+      (subst (λ (way : Direction). Ports (after_put p e (way_put c.role) o) (pass e way ∷ past)) (sym (ap way_in there))
+      (put_port_open e c does.0 there o past ports c.role refl))
+
+  pub ports_along : (xs : List Element) (o u : Open) (s t : Tokens) (past : List Pass) → OrderlyFrom p xs o s u t → Ports o past → Ports u (passed p past xs)
+  ports_along [] o u s t past (is, same) ports = subst (λ (z : Open). Ports z past) (sym is) ports
+  ports_along (x ∷ xs) o u s t past (m, w, does, comes, welcome, rest) ports =
+      ports_along xs m u w t (after p x past) rest (ports_after x o m s w past does comes ports)
+
+pub open_idle_is_closed : OpenIdleIsClosed
+open_idle_is_closed p xs o s t right idle list rests shut e = by_test (o e) refl
   where
     at_first : AllFit none_open s
     at_first a = (idle.0 Request a, idle.0 Answer a)
 
     rooted : AllRooted p o t
-    rooted = all_rooted p right ground done s idle xs [] none_open o s t (refl, refl) list at_first (λ x up. absurd (cc up))
+    rooted = all_rooted p right s idle xs [] none_open o s t (refl, refl) list at_first (λ x up. absurd (cc up))
 
     by_test : (b : Bool) → o e ≡ b → b ≡ false
     by_test false t' = refl
-    by_test true up = absurd (none_waits p right ground done o t rests shut e (rooted e up) up)
+    by_test true up = absurd (none_waits p right o t rests shut e (rooted e up) up)
+
+-- with ground imports the result alone asks
+pub idle_is_closed : IdleIsClosed
+idle_is_closed p xs o s t right ground done idle list rests shut = open_idle_is_closed p xs o s t right idle list rests ports
+  where
+    ports : (e : End) → IsPortEnd e → o e ≡ false
+    ports e port = by_test (o e) refl
+      where
+        by_test : (b : Bool) → o e ≡ b → b ≡ false
+        by_test false t' = refl
+        by_test true up =
+            let ((c, there, asks), held) = ports_along p right xs none_open o s t [] list (λ d at up. absurd (cc up)) e port up in
+            elim (port_role p ground done e c port there) [
+              | inl result ↦ sym up ∙ (ap o result.0 ∙ shut)
+              | inr import ↦ (let clash : Ask ≡ Serve = sym asks ∙ import.3 in absurd (cc clash))
+            ]

@@ -1,27 +1,33 @@
--- Turns of ground imports, import by import: a variable is not read and written at once, and nothing is open where the
--- result is closed.
+-- Turns of ground imports, import by import: a variable is not read and written at once. An import may answer at any time.
 use Rattle.std.specs.Prelude.{◌+◌, ◌-◌, ◌<◌, ◌&&◌, IsFalse, slice_get, nat_lt}
 use Rattle.std.proofs.Common.{◌≡◌, ℕ, zero, suc, Bool, true, false, List, [], ◌∷◌, Some, refl, sym, ◌∙◌, ap, subst, arith, if◌then◌else◌}
-use Rattle.std.proofs.lemmas.Option.{none-some, same_Some, slice_get_within}
+use Rattle.std.proofs.lemmas.Option.{none-some, slice_get_within}
 use Rattle.std.proofs.lemmas.Bool.Decides.{nat_tests}
 use Rattle.gos_types.specs.Types.{Type', Com, Exp, Var, Pair, Fun, IsGround, IsDone}
 use Rattle.gos_model.specs.Typing.{Imported}
 use Rattle.gos_plan.specs.Kinds.{Contact, contacts_of}
-use Rattle.gos_plan.specs.Plans.{ImportEnd, ResultEnd, Plan, contact_at, contacts_of_import}
-use Rattle.gos_realises.specs.Regular.{count, Pass, is_open, beyond, KeepsTurnsOf, whole_type, whole_end}
-use Rattle.gos_realises.specs.Realises.{AllGround, NamesDiffer}
-use Rattle.gos_realises.proofs.GroundTurnLemmas.{width, width_small, there_some, done_kept, turns_kept, all_closed, result_end, import_end}
-use Rattle.gos_realises.proofs.ToldLemmas.{contains_at}
-use Rattle.gos_windows.proofs.TurnLemmas.{Turned, ImportsClosed}
+use Rattle.gos_netlist.specs.Events.{Answer}
+use Rattle.gos_plan.specs.Plans.{ImportEnd, ResultEnd, Plan, contact_at, contacts_of_import, same_end}
+use Rattle.gos_realises.specs.Regular.{count, Pass, pass, is_open, beyond, KeepsTurnsOf, whole_type, whole_end}
+use Rattle.gos_realises.specs.Realises.{AllGround}
+use Rattle.gos_realises.proofs.GroundTurnLemmas.{width, width_small, there_some, done_kept, turns_kept, result_end}
+use Rattle.gos_windows.proofs.TurnLemmas.{Turned}
 
--- where nothing is open at imports
-pub closed_turned : (p : Plan) → AllGround p.imports → IsDone p.outcome → (past : List Pass) → ImportsClosed past → Turned p past
-closed_turned p ground done past closed =
-    turns_kept p.imports p.outcome ground done (λ h. false) (λ h. is_open past (whole_end 0 p.imports h)) less (λ up. absurd (cc up))
-    (all_closed p.imports p.outcome ground done (λ h. false) (λ h. refl))
+-- where an import answers
+closed_more : (b held : Bool) → (if b then false else held) ≡ true → held ≡ true
+closed_more true held h = absurd (cc h)
+closed_more false held h = h
+
+pub answer_turned : (p : Plan) → AllGround p.imports → IsDone p.outcome → (i g : ℕ) (past : List Pass) → Turned p past → Turned p (pass (ImportEnd i g) Answer ∷ past)
+answer_turned p ground done i g past turned =
+    turns_kept p.imports p.outcome ground done (λ h. is_open past (whole_end 0 p.imports h)) (λ h. is_open (pass (ImportEnd i g) Answer ∷ past) (whole_end 0 p.imports h)) less more
+    turned
   where
-    less : (h : ℕ) → h < width p.imports → is_open past (whole_end 0 p.imports h) ≡ true → false ≡ true
-    less h low up = let (i, g, at) = import_end 0 p.imports h low in sym (ap (is_open past) at ∙ closed i g) ∙ up
+    less : (h : ℕ) → h < width p.imports → is_open (pass (ImportEnd i g) Answer ∷ past) (whole_end 0 p.imports h) ≡ true → is_open past (whole_end 0 p.imports h) ≡ true
+    less h low up = closed_more (same_end (ImportEnd i g) (whole_end 0 p.imports h)) (is_open past (whole_end 0 p.imports h)) up
+
+    more : is_open past (whole_end 0 p.imports (width p.imports)) ≡ true → is_open (pass (ImportEnd i g) Answer ∷ past) (whole_end 0 p.imports (width p.imports)) ≡ true
+    more up = ap (is_open (pass (ImportEnd i g) Answer ∷ past)) (result_end 0 p.imports) ∙ (sym (ap (is_open past) (result_end 0 p.imports)) ∙ up)
 
 -- the handshakes from one import on, and those behind it
 abbrev open_from : ℕ → List Imported → List Pass → ℕ → Bool
@@ -105,13 +111,3 @@ kept_from n (x ∷ xs) t ground done past shut up = (
 
 pub shut_turned : (p : Plan) → AllGround p.imports → IsDone p.outcome → (past : List Pass) → ((i : ℕ) → Shut past i) → is_open past (ResultEnd 0) ≡ true → Turned p past
 shut_turned p ground done past shut up = kept_from 0 p.imports p.outcome ground done past shut up
-
--- imports with different names are at one place each
-pub one_place : (is : List Imported) → NamesDiffer is → (i j : ℕ) (x : Imported) → slice_get is i ≡ Some x → slice_get is j ≡ Some x → i ≡ j
-one_place [] differ i j x at_i at_j = absurd (none-some x at_i)
-one_place (y ∷ ys) differ zero zero x at_i at_j = refl
-one_place (y ∷ ys) differ zero (suc j) x at_i at_j =
-    absurd (differ.0 x (contains_at ys j x at_j) (ap (λ (z : Imported). z.name) (same_Some y x at_i)))
-one_place (y ∷ ys) differ (suc i) zero x at_i at_j =
-    absurd (differ.0 x (contains_at ys i x at_i) (ap (λ (z : Imported). z.name) (same_Some y x at_j)))
-one_place (y ∷ ys) differ (suc i) (suc j) x at_i at_j = ap suc (one_place ys differ.1 i j x at_i at_j)

@@ -2,12 +2,16 @@ pub mod InlayLemmas
 pub mod ShareLemmas
 pub mod OwnLemmas
 pub mod PortLemmas
+pub mod OpenLemmas
 pub mod StageLemmas
+pub mod TypeTurnLemmas
+pub mod MeetLemmas
 pub mod TurnLemmas
 pub mod QuietLemmas
 pub mod WholeLemmas
 pub mod NodeLemmas
 pub mod WindowLemmas
+pub mod RestLemmas
 pub mod KeepingLemmas
 pub mod GroundLemmas
 pub mod OutputLemmas

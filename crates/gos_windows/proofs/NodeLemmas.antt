@@ -8,14 +8,15 @@ use Rattle.gos_plan.specs.Plans.{End, PartEnd, ImportEnd, ResultEnd, Plan, conta
 use Rattle.gos_plan.specs.Tokens.{Tokens, Element, Fire, Out, In, IsPortEnd, places_of, with_token, with_state, with_puts, token_at, end_of, way_of, shake_of, way_taken, fired, firing_of, Passes, Does, Runs, IsIdle}
 use Rattle.gos_plan.proofs.HeldLemmas.{takes_of}
 use Rattle.gos_plan.proofs.TurnLemmas.{token_state, fired_state}
-use Rattle.gos_realises.specs.Regular.{Pass, pass, way_in, way_out, is_request, is_open, ComesInTurn, InputsKeepTurns}
+use Rattle.gos_realises.specs.Regular.{Pass, pass, way_in, way_out, is_request, is_open, KeepsTurns, InputsKeepTurns}
 use Rattle.gos_realises.proofs.InputLemmas.{passed, out_there}
 use Rattle.gos_realises.proofs.RingLemmas.{after}
 use Rattle.gos_sessions.specs.Sessions.{Form, own_part, own_term, run_shake, session_of}
 use Rattle.gos_sessions.proofs.TableLemmas.{tables_are_right}
-use Rattle.gos_windows.specs.Nodes.{Stage, IsNode}
+use Rattle.gos_windows.specs.Nodes.{Stage}
+use Rattle.gos_windows.specs.OpenNodes.{IsOpenNode}
 use Rattle.gos_windows.specs.Windows.{seen, HoldsOnly, Resting, Asked, Within, Answered, Staged}
-use Rattle.gos_windows.proofs.PortLemmas.{port_role}
+use Rattle.gos_windows.proofs.PortLemmas.{port_end}
 use Rattle.gos_windows.proofs.OwnLemmas.{none_at_rest}
 use Rattle.gos_windows.proofs.StageLemmas.{Emptied}
 use Rattle.gos_windows.proofs.TurnLemmas.{result_in, result_out, OnlyResult, NoneOpen}
@@ -29,16 +30,16 @@ pub data Place (gs : List Stage) : Type 0 where
   AtStage : (g : Stage) (has : Contains gs g) (hs : List Element) (before : Tokens) → Place gs
   AtAnswer : (v : ℕ) → Place gs
 
--- an input of the element comes in turn
+-- an input of the element keeps turns
 abbrev pub InTurn : Plan → List Pass → Element → Type 0
 InTurn p past (Fire i t) = Unit {0}
 InTurn p past (Out e v) = Unit {0}
-InTurn p past (In e v) = ComesInTurn past e (way_in (contact_at p e))
+InTurn p past (In e v) = KeepsTurns p past (pass e (way_in (contact_at p e)))
 
 pub first_turn : (p : Plan) (past : List Pass) (x : Element) (xs : List Element) → InputsKeepTurns p past (x ∷ xs) → InTurn p past x
 first_turn p past (Fire i t) xs turns = tt
 first_turn p past (Out e v) xs turns = tt
-first_turn p past (In e v) xs turns = turns.0.0
+first_turn p past (In e v) xs turns = turns.0
 
 pub turns_after : (p : Plan) (past : List Pass) (x : Element) (xs : List Element) → InputsKeepTurns p past (x ∷ xs) → InputsKeepTurns p (after p x past) xs
 turns_after p past (Fire i t) xs turns = turns
@@ -56,7 +57,7 @@ pub answer_slot : (slot : Slot) (h : ℕ) → way_of slot ≡ Answer → shake_o
 answer_slot (Req g) h way same = absurd (cc way)
 answer_slot (Ans g) h way same = ap Ans same
 
-module _ (r : Plan) (d : ℕ) (f : Form) (gs : List Stage) (node : IsNode r d f gs) where
+module _ (r : Plan) (d : ℕ) (f : Form) (gs : List Stage) (node : IsOpenNode r d f gs) where
   abbrev pub Holds : Place gs → Tokens → List Pass → Type 0
   Holds AtRest s past = IsIdle r s × NoneOpen past
   Holds AtAsked s past = HoldsOnly r (PartEnd d (run_shake (own_part f))) Request 0 s × OnlyResult past
@@ -90,15 +91,15 @@ module _ (r : Plan) (d : ℕ) (f : Form) (gs : List Stage) (node : IsNode r d f 
           subst (λ (e : End). OnlyResult (pass e (way_in (contact_at r e)) ∷ past)) (sym is)
               (ap is_request (result_in r (done r d f gs node)), closed.1),
         )
-        | inr (k, h, is, up) ↦ absurd (true_is_not_false (is_open past (ImportEnd k h)) up (closed.1 k h))
+        | inr (k, h, n, is, up, which) ↦ absurd (true_is_not_false (is_open past (ImportEnd k n)) up (closed.1 k n))
       ]
 
   -- an input while the result alone is open
-  no_input : (b : End) (v : ℕ) (s t : Tokens) (past : List Pass) → OnlyResult past → Does r (In b v) s t → ComesInTurn past b (way_in (contact_at r b)) → ⊥
+  no_input : (b : End) (v : ℕ) (s t : Tokens) (past : List Pass) → OnlyResult past → Does r (In b v) s t → KeepsTurns r past (pass b (way_in (contact_at r b))) → ⊥
   no_input b v s t past only does turn =
       elim (in_turn_at r d f gs node b v s t past does turn) [
         | inl (is, zero_is, shut, leads) ↦ true_is_not_false (is_open past (ResultEnd 0)) only.0 shut
-        | inr (k, h, is, up) ↦ true_is_not_false (is_open past (ImportEnd k h)) up (only.1 k h)
+        | inr (k, h, n, is, up, which) ↦ true_is_not_false (is_open past (ImportEnd k n)) up (only.1 k n)
       ]
 
   -- what fires while a token lies on the result's joint alone
@@ -135,7 +136,7 @@ module _ (r : Plan) (d : ℕ) (f : Form) (gs : List Stage) (node : IsNode r d f 
 
       taken_so : Answer ≡ way_taken c.0.role
       taken_so =
-          elim (port_role r node.ground (done r d f gs node) b c.0 does.0 c.1) [
+          elim (port_end r (done r d f gs node) b c.0 does.0 c.1) [
             | inl result ↦ ap way_taken (sym result.1)
             | inr import ↦ (let clash : ResultEnd 0 ≡ ImportEnd import.0 import.1 = sym at_result ∙ import.2 in absurd (cc clash))
           ]

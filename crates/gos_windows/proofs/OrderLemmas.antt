@@ -8,7 +8,7 @@ use Rattle.gos_netlist.specs.Events.{Direction, Request, Answer}
 use Rattle.gos_plan.specs.Kinds.{Part, Contact}
 use Rattle.gos_plan.specs.Firing.{Phase, Slot, Req, Ans, Token, Row, at, put, firing}
 use Rattle.gos_plan.specs.Plans.{End, PartEnd, ImportEnd, ResultEnd, Plan, contact_at, same_end}
-use Rattle.gos_plan.specs.Tokens.{Tokens, Element, Fire, Out, In, places_of, held_at, token_at, with_token, with_state, end_of, way_of, way_taken, way_put, firing_of, Does, Runs, IsIdle}
+use Rattle.gos_plan.specs.Tokens.{Tokens, Element, Fire, Out, In, IsPortEnd, places_of, held_at, token_at, with_token, with_state, end_of, way_of, way_taken, way_put, firing_of, Does, Runs, IsIdle}
 use Rattle.gos_plan.specs.TokenBits.{AllFit}
 use Rattle.gos_plan.specs.Turns.{IsEmptyAt}
 use Rattle.gos_plan.specs.Orderly.{named_by, handshake_at, Open, none_open, with_open, after_taken, after_put, after_puts, ComesWell, AllComeWell, ComesInOrder, AllWelcome, OrderlyFrom, IsOrderly}
@@ -16,8 +16,8 @@ use Rattle.gos_plan.proofs.DecidedLemmas.{one_state, one_open}
 use Rattle.gos_plan.proofs.JointLemmas.{IsIn, same_is, same_itself, fits, serving_role, contained}
 use Rattle.gos_plan.proofs.TokenBitsLemmas.{idle_fits}
 use Rattle.gos_plan.proofs.HeldLemmas.{takes_of}
-use Rattle.gos_realises.specs.Regular.{Pass, InputsKeepTurns}
-use Rattle.gos_realises.proofs.InputLemmas.{inputs_then, runs_then, in_there, out_there, result_asks}
+use Rattle.gos_realises.specs.Regular.{Pass, pass, way_in, is_open, ComesInTurn, InputsKeepTurns}
+use Rattle.gos_realises.proofs.InputLemmas.{passed, passed_then, inputs_then, runs_then, in_there, out_there, result_asks}
 use Rattle.gos_realises.proofs.RingLemmas.{after}
 use Rattle.gos_pace.proofs.HoldLemmas.{orderly_append}
 use Rattle.gos_webs.specs.Webs.{joint}
@@ -25,19 +25,21 @@ use Rattle.gos_webs.specs.Cutting.{lies_at, StandsIn}
 use Rattle.gos_webs.proofs.CutLemmas.{Owns}
 use Rattle.gos_sessions.specs.Sessions.{Form, own_part, run_shake}
 use Rattle.gos_windows.specs.Regions.{whole_element}
-use Rattle.gos_windows.specs.Nodes.{Stage, IsStage, IsNode, NodeIsRegular}
+use Rattle.gos_windows.specs.Nodes.{Stage, IsStage, NodeIsRegular}
+use Rattle.gos_windows.specs.OpenNodes.{IsOpenNode, OpenNodeIsRegular}
 use Rattle.gos_windows.specs.Windows.{seen, HoldsOnly}
-use Rattle.gos_windows.proofs.PortLemmas.{stands_contact, result_there}
+use Rattle.gos_windows.proofs.PortLemmas.{port_end, stands_contact, result_there}
 use Rattle.gos_windows.proofs.OwnLemmas.{takes_request, asked_apart}
-use Rattle.gos_windows.proofs.StageLemmas.{Emptied, stage, ground_stage, result_zero, own_stands}
-use Rattle.gos_windows.proofs.TurnLemmas.{OnlyResult, NoneOpen}
+use Rattle.gos_windows.proofs.StageLemmas.{Emptied, stage, result_zero, own_stands}
+use Rattle.gos_windows.proofs.TurnLemmas.{result_out, OnlyResult, NoneOpen, imports_shut}
 use Rattle.gos_windows.proofs.WholeLemmas as whole
 use Rattle.gos_windows.proofs.WholeLemmas.{done, result_place, own_place, at_own_joint, only_there, idle_token, run_stands, Going, Led, asks}
 use Rattle.gos_windows.proofs.NodeLemmas.{Place, AtRest, AtAsked, AtStage, AtAnswer, InTurn, first_turn, turns_after, Holds, rest_step, asked_step, answer_step, request_slot, own_slot}
 use Rattle.gos_windows.proofs.WindowLemmas.{StageStep, OwnStep, stage_step, fit_after}
 use Rattle.gos_windows.proofs.OutputLemmas.{outputs_in_turn, is_restful}
-use Rattle.gos_windows.proofs.MatchLemmas.{Opens, stage_order, stage_welcome, taken_opens, stands_agree, not_result}
-use Rattle.gos_windows.proofs.ClosingLemmas.{idle_is_closed, asks_itself}
+use Rattle.gos_windows.proofs.MatchLemmas.{IsLoose, Opens, stage_order, stage_welcome, taken_opens, stands_agree, not_result}
+use Rattle.gos_windows.proofs.OpenLemmas.{ground_node_is_open}
+use Rattle.gos_windows.proofs.ClosingLemmas.{Ports, open_idle_is_closed, asks_itself, ports_after, ports_along}
 
 -- the last element of an orderly list
 last_order : (p : Plan) (hs : List Element) (y : Element) (o u q : Open) (s t w z : Tokens) → OrderlyFrom p (hs ++ y ∷ []) o s u t → OrderlyFrom p hs o s q w → Does p y w z
@@ -70,7 +72,7 @@ shut_at o only x apart = by_test (o x) refl
     by_test false t = refl
     by_test true up = absurd (apart (only.1 x up))
 
-module _ (r : Plan) (d : ℕ) (f : Form) (gs : List Stage) (node : IsNode r d f gs) where
+module _ (r : Plan) (d : ℕ) (f : Form) (gs : List Stage) (node : IsOpenNode r d f gs) where
   abbrev run : ℕ
   run = run_shake (own_part f)
 
@@ -103,7 +105,7 @@ module _ (r : Plan) (d : ℕ) (f : Form) (gs : List Stage) (node : IsNode r d f 
         by_contact : (o : Option Contact) → contact_at g.plan (ResultEnd 0) ≡ o → handshake_at g.plan (ResultEnd 0) ≡ ResultEnd 0
         by_contact None none = absurd (result_there g.plan.outcome there.outcome none)
         by_contact (Some c) at_end =
-            asks_itself g.plan there.region.right (ground_stage r d f gs node g has) there.outcome (ResultEnd 0) c at_end
+            asks_itself g.plan there.region.right (ResultEnd 0) c at_end
             (sym (result_asks g.plan.outcome there.outcome 0 c at_end).1)
 
     asked_named : ((x : End) → places_of r (PartEnd d g.asked_at) ≡ Some x → StandsIn g.plan (ResultEnd 0)) → handshake_at r (PartEnd d g.asked_at) ≡ PartEnd d g.asked_at
@@ -114,7 +116,7 @@ module _ (r : Plan) (d : ℕ) (f : Form) (gs : List Stage) (node : IsNode r d f 
             let (c, at_end) = stands_contact g.plan there.region.right (ResultEnd 0) stands in
             let asks = sym (result_asks g.plan.outcome there.outcome 0 c at_end).1 in
             let in_whole = ap (contact_at r) (sym (there.run_by stands)) ∙ (there.region.contacts (ResultEnd 0) tt stands ∙ at_end) in
-            asks_itself r node.right node.ground (done r d f gs node) (PartEnd d g.asked_at) c in_whole asks
+            asks_itself r node.right (PartEnd d g.asked_at) c in_whole asks
 
         by_place : (o : Option End) → places_of r (PartEnd d g.asked_at) ≡ o → handshake_at r (PartEnd d g.asked_at) ≡ PartEnd d g.asked_at
         by_place None none = ap (λ (x : Option End). named_by x (PartEnd d g.asked_at)) none
@@ -160,7 +162,7 @@ module _ (r : Plan) (d : ℕ) (f : Form) (gs : List Stage) (node : IsNode r d f 
         by_end e owned false t = shut e owned ∙ by_own e owned (same_end e (ResultEnd 0)) refl t
 
         by_test : (x : End) (b : Bool) → same_end x (PartEnd d g.asked_at) ≡ b → (if b then true else o x) ≡ true
-            → (x ≡ ResultEnd 0) ⊎ ((x ≡ PartEnd d g.asked_at) ⊎ ((e : End) × Owns g.plan e × (lies_at g.cut e ≡ x)))
+            → (x ≡ ResultEnd 0) ⊎ ((x ≡ PartEnd d g.asked_at) ⊎ (((e : End) × Owns g.plan e × (lies_at g.cut e ≡ x)) ⊎ IsLoose r x))
         by_test x true t up = inr (inl (same_is x (PartEnd d g.asked_at) t))
         by_test x false t up = inl (only.1 x up)
 
@@ -359,7 +361,22 @@ module _ (r : Plan) (d : ℕ) (f : Form) (gs : List Stage) (node : IsNode r d f 
   -- within a stage
   module _
       (g : Stage) (has : Contains gs g) (hs : List Element) (before s t : Tokens) (past : List Pass) (o : Open) (x : Element)
-      (going : Going r d f gs node g has hs before s past) (order : Orders g has hs before s o) (does : Does r x s t) where
+      (going : Going r d f gs node g has hs before s past) (order : Orders g has hs before s o) (ports : Ports r node.right o past) (does : Does r x s t)
+      (turn : InTurn r past x) where
+    -- a port where an input comes was closed
+    shut : (k n v : ℕ) → x ≡ In (ImportEnd k n) v → o (ImportEnd k n) ≡ false
+    shut k n v is = by_test (o (ImportEnd k n)) refl
+      where
+        comes : ComesInTurn past (ImportEnd k n) (way_in (contact_at r (ImportEnd k n)))
+        comes = (subst (InTurn r past) is turn).0
+
+        by_test : (b : Bool) → o (ImportEnd k n) ≡ b → b ≡ false
+        by_test false t' = refl
+        by_test true up =
+            let ((c, at_end, role), held) = ports (ImportEnd k n) tt up in
+            let way : way_in (contact_at r (ImportEnd k n)) ≡ Request = ap way_in at_end ∙ ap way_put role in
+            sym held ∙ subst (ComesInTurn past (ImportEnd k n)) way comes
+
     stage_next : StageStep r d f gs node g has hs before s t (after r x past) x → OrderNext x s t (after r x past) o
     stage_next step =
         record {
@@ -386,7 +403,8 @@ module _ (r : Plan) (d : ℕ) (f : Form) (gs : List Stage) (node : IsNode r d f 
 
         matched : (m : Open) × ComesInOrder r (whole_element g.cut step.y) s o m × Opens r d f gs node g has last.0 m
         matched =
-            stage_order r d f gs node g has before s t hs going.ran going.stirs.places order.own last.0 o order.opens step.y step.standing step.does
+            stage_order r d f gs node g has before s t hs going.ran going.stirs.places order.own last.0 o order.opens step.y step.standing
+            (λ k n v is none. shut k n v (sym step.is ∙ is)) step.does
             (subst (λ (z : Element). Does r z s t) (sym step.is) does) last.1
 
     own_next : OwnStep r d f gs node g has hs before s t (after r x past) x → OrderNext x s t (after r x past) o
@@ -413,12 +431,44 @@ module _ (r : Plan) (d : ℕ) (f : Form) (gs : List Stage) (node : IsNode r d f 
             ∙ (ap (λ (way : Direction). after_taken g.plan (ResultEnd 0) way order.own) (ap way_taken (sym asking))
             ∙ ap (λ (n : End). with_open n false order.own) (stage_named g has))
 
+        whole_list : OrderlyFrom g.plan (hs ++ Out (ResultEnd 0) step.v ∷ []) none_open before last.0 step.end
+        whole_list =
+            orderly_append g.plan hs (Out (ResultEnd 0) step.v ∷ []) none_open order.own last.0 before (seen g s) step.end order.orderly
+            (last.0, step.end, step.does, last.1, last.2, (refl, refl))
+
+        only_result : OnlyResult past
+        only_result = subst (λ (y : Element). OnlyResult (after r y past)) step.is step.only
+
+        import_shut : (i h : ℕ) → is_open (passed g.plan [] hs) (ImportEnd i h) ≡ false
+        import_shut = imports_shut r d f gs node g has (passed g.plan [] hs) past going.follows only_result.1
+
+        -- with the answer all its ports are closed
+        last_passed : is_open (passed g.plan [] (hs ++ Out (ResultEnd 0) step.v ∷ [])) ≡ is_open (pass (ResultEnd 0) Answer ∷ passed g.plan [] hs)
+        last_passed =
+            ap is_open (passed_then g.plan [] hs (Out (ResultEnd 0) step.v))
+            ∙ ap (λ (way : Direction). is_open (pass (ResultEnd 0) way ∷ passed g.plan [] hs)) (result_out g.plan (there g has).outcome)
+
+        port_shut : (e : End) (c : Contact) → IsPortEnd e → contact_at g.plan e ≡ Some c → is_open (pass (ResultEnd 0) Answer ∷ passed g.plan [] hs) e ≡ false
+        port_shut e c port at_end =
+            elim (port_end g.plan (there g has).outcome e c port at_end) [
+              | inl result ↦ ap (is_open (pass (ResultEnd 0) Answer ∷ passed g.plan [] hs)) result.0
+              | inr import ↦ ap (is_open (pass (ResultEnd 0) Answer ∷ passed g.plan [] hs)) import.2 ∙ import_shut import.0 import.1
+            ]
+
+        own_shut : (e : End) → IsPortEnd e → last.0 e ≡ false
+        own_shut e port = by_test (last.0 e) refl
+          where
+            by_test : (b : Bool) → last.0 e ≡ b → b ≡ false
+            by_test false t' = refl
+            by_test true up =
+                let ((c, at_end, role), held) =
+                ports_along g.plan (there g has).region.right (hs ++ Out (ResultEnd 0) step.v ∷ []) none_open last.0 before step.end [] whole_list
+                (λ d at up. absurd (cc up)) e port up in
+                sym held ∙ (ap (λ (o : Open). o e) last_passed ∙ port_shut e c port at_end)
+
         closed : (e : End) → last.0 e ≡ false
         closed =
-            idle_is_closed g.plan (hs ++ Out (ResultEnd 0) step.v ∷ []) last.0 before step.end (there g has).region.right (ground_stage r d f gs node g has)
-            (there g has).outcome going.ran.idle
-            (orderly_append g.plan hs (Out (ResultEnd 0) step.v ∷ []) none_open order.own last.0 before (seen g s) step.end order.orderly
-            (last.0, step.end, step.does, last.1, last.2, (refl, refl))) step.idle (ap (λ (z : Open). z (ResultEnd 0)) closing)
+            open_idle_is_closed g.plan (hs ++ Out (ResultEnd 0) step.v ∷ []) last.0 before step.end (there g has).region.right going.ran.idle whole_list step.idle own_shut
 
         stands : StandsIn g.plan (ResultEnd 0)
         stands = own_stands r d f gs node g has s going.stirs.places Answer step.v step.held
@@ -430,42 +480,57 @@ module _ (r : Plan) (d : ℕ) (f : Form) (gs : List Stage) (node : IsNode r d f 
             (sym (closing ∙ sym (ap (λ (n : End). with_open n false order.own) (stage_named g has))))
             (taken_opens r d f gs node g has order.own o order.opens (ResultEnd 0) stands (stands_agree r d f gs node g has (ResultEnd 0) tt stands) Answer))
 
+        -- a port of the whole that is open now is its result
+        port_now : (y : End) → IsPortEnd y → after_taken r (PartEnd d g.asked_at) Answer o y ≡ true → y ≡ ResultEnd 0
+        port_now y port up =
+            let ((c, at_end, role), held) = ports y port (shut_more (same_end y (handshake_at r (PartEnd d g.asked_at))) (o y) up) in
+            elim (port_end r (done r d f gs node) y c port at_end) [
+              | inl result ↦ result.0
+              | inr import ↦
+                  absurd (not_both (is_open past (ImportEnd import.0 import.1)) (ap (is_open past) (sym import.2) ∙ held) (only_result.1 import.0 import.1))
+            ]
+
         only : OnlyOpen (after_taken r (PartEnd d g.asked_at) Answer o)
         only = (opens.result, λ y up. by_end y up (opens.only y up))
           where
             by_end : (y : End) → after_taken r (PartEnd d g.asked_at) Answer o y ≡ true
-                → (y ≡ ResultEnd 0) ⊎ ((y ≡ PartEnd d g.asked_at) ⊎ ((e : End) × Owns g.plan e × (lies_at g.cut e ≡ y))) → y ≡ ResultEnd 0
+                → (y ≡ ResultEnd 0) ⊎ ((y ≡ PartEnd d g.asked_at) ⊎ (((e : End) × Owns g.plan e × (lies_at g.cut e ≡ y)) ⊎ IsLoose r y)) → y ≡ ResultEnd 0
             by_end y up (inl is) = is
             by_end y up (inr (inl is)) =
                 let at_own = ap (after_taken r (PartEnd d g.asked_at) Answer o) ((there g has).run_by stands ∙ sym is) ∙ up in
                 absurd (not_both (last.0 (ResultEnd 0)) (sym (opens.same (ResultEnd 0) stands) ∙ at_own) (closed (ResultEnd 0)))
-            by_end y up (inr (inr (e, owned, is))) =
+            by_end y up (inr (inr (inl (e, owned, is)))) =
                 absurd (not_both (last.0 e) (sym (opens.same e owned) ∙ (ap (after_taken r (PartEnd d g.asked_at) Answer o) is ∙ up)) (closed e))
+            by_end y up (inr (inr (inr loose))) = port_now y loose.0 up
 
-  order_next : (pl : Place gs) (x : Element) (s t : Tokens) (past : List Pass) (o : Open) → AllFit r s → Holds r d f gs node pl s past → OrderHolds pl o s → Does r x s t
-      → InTurn r past x → OrderNext x s t (after r x past) o
-  order_next AtRest x s t past o fit holding order does turn = rest_next x s t past o holding order does turn
-  order_next AtAsked x s t past o fit holding order does turn = asked_next x s t past o holding order does turn
-  order_next (AtAnswer k) x s t past o fit holding order does turn = answer_next k x s t past o holding order does turn
-  order_next (AtStage g has hs before) x s t past o fit going order does turn =
+  order_next : (pl : Place gs) (x : Element) (s t : Tokens) (past : List Pass) (o : Open) → AllFit r s → Holds r d f gs node pl s past → OrderHolds pl o s
+      → Ports r node.right o past → Does r x s t → InTurn r past x → OrderNext x s t (after r x past) o
+  order_next AtRest x s t past o fit holding order ports does turn = rest_next x s t past o holding order does turn
+  order_next AtAsked x s t past o fit holding order ports does turn = asked_next x s t past o holding order does turn
+  order_next (AtAnswer k) x s t past o fit holding order ports does turn = answer_next k x s t past o holding order does turn
+  order_next (AtStage g has hs before) x s t past o fit going order ports does turn =
       elim (stage_step r d f gs node g has hs before s t past going fit x does turn) [
-        | inl step ↦ stage_next g has hs before s t past o x going order does step
-        | inr step ↦ own_next g has hs before s t past o x going order does step
+        | inl step ↦ stage_next g has hs before s t past o x going order ports does turn step
+        | inr step ↦ own_next g has hs before s t past o x going order ports does turn step
       ]
 
-  ordered : (xs : List Element) (pl : Place gs) (s t : Tokens) (past : List Pass) (o : Open) → AllFit r s → Holds r d f gs node pl s past → OrderHolds pl o s → Runs r xs s t
-      → InputsKeepTurns r past xs → (u : Open) × (w : Tokens) × OrderlyFrom r xs o s u w
-  ordered [] pl s t past o fit holding order runs turns = (o, s, (refl, refl))
-  ordered (x ∷ xs) pl s t past o fit holding order (w, does, runs) turns =
-      let next = order_next pl x s w past o fit holding order does (first_turn r past x xs turns) in
+  ordered : (xs : List Element) (pl : Place gs) (s t : Tokens) (past : List Pass) (o : Open) → AllFit r s → Holds r d f gs node pl s past → OrderHolds pl o s
+      → Ports r node.right o past → Runs r xs s t → InputsKeepTurns r past xs → (u : Open) × (w : Tokens) × OrderlyFrom r xs o s u w
+  ordered [] pl s t past o fit holding order ports runs turns = (o, s, (refl, refl))
+  ordered (x ∷ xs) pl s t past o fit holding order ports (w, does, runs) turns =
+      let next = order_next pl x s w past o fit holding order ports does (first_turn r past x xs turns) in
       let (u, z, rest) =
-      ordered xs next.place w t (after r x past) next.now (fit_after r d f gs node x s w fit does) next.holds next.order runs (turns_after r past x xs turns) in
+      ordered xs next.place w t (after r x past) next.now (fit_after r d f gs node x s w fit does) next.holds next.order
+      (ports_after r node.right x o next.now s w past does next.comes ports) runs (turns_after r past x xs turns) in
       (u, z, (next.now, w, does, next.comes, next.welcome, rest))
 
   pub node_orderly : (s t : Tokens) (xs : List Element) → IsIdle r s → Runs r xs s t → InputsKeepTurns r [] xs → IsOrderly r xs s
   node_orderly s t xs idle runs turns =
-      ordered xs AtRest s t [] none_open (idle_fits r s idle) (idle, (refl, λ k h. refl)) (λ x. refl) runs turns
+      ordered xs AtRest s t [] none_open (idle_fits r s idle) (idle, (refl, λ k h. refl)) (λ x. refl) (λ e port up. absurd (cc up)) runs turns
+
+pub open_node_is_regular : OpenNodeIsRegular
+open_node_is_regular r d f gs node =
+    ((λ s t xs idle runs turns. (node_orderly r d f gs node s t xs idle runs turns, outputs_in_turn r d f gs node s t xs idle runs turns)), is_restful r d f gs node)
 
 pub node_is_regular : NodeIsRegular
-node_is_regular r d f gs node =
-    ((λ s t xs idle runs turns. (node_orderly r d f gs node s t xs idle runs turns, outputs_in_turn r d f gs node s t xs idle runs turns)), is_restful r d f gs node)
+node_is_regular r d f gs node = open_node_is_regular r d f gs (ground_node_is_open r d f gs node)

@@ -1,7 +1,7 @@
--- Ports of plans with ground imports and a command or an expression for their result.
+-- Ports of plans with a command or an expression for their result.
 use Rattle.std.specs.Prelude.{◌<◌, None, slice_get, nat_lt, Contains}
-use Rattle.std.proofs.Common.{◌≡◌, ℕ, suc, true, List, [], ◌∷◌, ◌⊎◌, Option, Some, inl, inr, refl, sym, ◌∙◌, ap, subst, arith}
-use Rattle.std.proofs.lemmas.Option.{slice_get-get_or, same_Some}
+use Rattle.std.proofs.Common.{◌≡◌, ℕ, zero, suc, true, List, [], ◌∷◌, ◌⊎◌, Option, Some, inl, inr, refl, sym, ◌∙◌, ap, subst, arith}
+use Rattle.std.proofs.lemmas.Option.{none-some, slice_get-get_or, same_Some}
 use Rattle.gos_types.specs.declared.shakes.Role.TheVariants.{Serve, Ask}
 use Rattle.gos_types.specs.Types.{Type', Com, Exp, Var, Pair, Fun, IsGround, IsDone}
 use Rattle.gos_model.specs.Typing.{Imported}
@@ -9,13 +9,22 @@ use Rattle.gos_plan.specs.Kinds.{Contact, contacts_of}
 use Rattle.gos_plan.specs.Plans.{End, PartEnd, ImportEnd, ResultEnd, Plan, IsRight, contact_at, contacts_of_import, turned_if}
 use Rattle.gos_plan.specs.Tokens.{Tokens, Element, IsPortEnd, places_of, Does, Runs}
 use Rattle.gos_plan.proofs.JointLemmas.{found, joined, stands_there, contained}
-use Rattle.gos_realises.specs.Realises.{AllGround}
+use Rattle.gos_realises.specs.Realises.{AllGround, NamesDiffer}
 use Rattle.gos_realises.proofs.InputLemmas.{result_asks, import_serves, one_ground}
-use Rattle.gos_realises.proofs.ToldLemmas.{there_is}
+use Rattle.gos_realises.proofs.ToldLemmas.{there_is, contains_at}
 use Rattle.gos_sessions.specs.Sessions.{bits}
 use Rattle.gos_webs.specs.Cutting.{StandsIn}
 use Rattle.gos_webs.proofs.MovedLemmas.{listed}
 
+-- which ports there are
+pub port_end : (p : Plan) → IsDone p.outcome → (e : End) (c : Contact) → IsPortEnd e → contact_at p e ≡ Some c
+    → ((e ≡ ResultEnd 0) × (c.role ≡ Ask)) ⊎ ((i h : ℕ) × (e ≡ ImportEnd i h))
+port_end p done (PartEnd i h) c port is = absurd port
+port_end p done (ImportEnd i h) c port is = inr (i, h, refl)
+port_end p done (ResultEnd h) c port is =
+    let (none, role) = result_asks p.outcome done h c is in inl (ap ResultEnd none, sym role)
+
+-- with ground imports
 pub port_role : (p : Plan) → AllGround p.imports → IsDone p.outcome → (e : End) (c : Contact) → IsPortEnd e → contact_at p e ≡ Some c
     → ((e ≡ ResultEnd 0) × (c.role ≡ Ask)) ⊎ ((i h : ℕ) × (e ≡ ImportEnd i h) × (c.role ≡ Serve))
 port_role p ground done (PartEnd i h) c port is = absurd port
@@ -66,6 +75,16 @@ pub ground_within : (is js : List Imported) → AllGround js → ((x : Imported)
 ground_within [] js ground within = tt
 ground_within (x ∷ xs) js ground within =
     (one_of js x ground (within x (first_in x xs)), ground_within xs js ground (λ y there. within y (later_in x y xs there)))
+
+-- imports with different names are at one place each
+pub one_place : (is : List Imported) → NamesDiffer is → (i j : ℕ) (x : Imported) → slice_get is i ≡ Some x → slice_get is j ≡ Some x → i ≡ j
+one_place [] differ i j x at_i at_j = absurd (none-some x at_i)
+one_place (y ∷ ys) differ zero zero x at_i at_j = refl
+one_place (y ∷ ys) differ zero (suc j) x at_i at_j =
+    absurd (differ.0 x (contains_at ys j x at_j) (ap (λ (z : Imported). z.name) (same_Some y x at_i)))
+one_place (y ∷ ys) differ (suc i) zero x at_i at_j =
+    absurd (differ.0 x (contains_at ys i x at_i) (ap (λ (z : Imported). z.name) (same_Some y x at_j)))
+one_place (y ∷ ys) differ (suc i) (suc j) x at_i at_j = ap suc (one_place ys differ.1 i j x at_i at_j)
 
 -- numbers in order
 pub below_so : (i n : ℕ) → i < n → nat_lt i n ≡ true

@@ -13,15 +13,17 @@ use Rattle.gos_realises.proofs.InputLemmas.{out_there}
 use Rattle.gos_webs.specs.Cutting.{lies_at, StandsIn}
 use Rattle.gos_webs.proofs.CutLemmas.{Owns, part_there, token_cut}
 use Rattle.gos_sessions.specs.Sessions.{Form, run_shake, own_part}
-use Rattle.gos_windows.specs.Nodes.{Stage, IsNode}
+use Rattle.gos_windows.specs.Nodes.{Stage}
+use Rattle.gos_windows.specs.OpenNodes.{IsOpenNode}
 use Rattle.gos_windows.specs.Windows.{seen, StirsOnly, HoldsOnly, QuietIsWithin, OwnPartCan}
 use Rattle.gos_windows.proofs.InlayLemmas.{inlay, place_agrees, agree_token}
-use Rattle.gos_windows.proofs.PortLemmas.{port_role, place_stands, result_there, below_so}
+use Rattle.gos_windows.proofs.PortLemmas.{port_end, place_stands, result_there, below_so}
 use Rattle.gos_windows.proofs.OwnLemmas.{takes_answer, takes_request}
-use Rattle.gos_windows.proofs.StageLemmas.{stage, cut, ground_stage}
+use Rattle.gos_windows.proofs.StageLemmas.{stage, cut}
+use Rattle.gos_windows.proofs.OpenLemmas.{ground_node_is_open}
 
 module _
-    (r : Plan) (d : ℕ) (f : Form) (gs : List Stage) (node : IsNode r d f gs) (g : Stage) (has : Contains gs g) (s : Tokens)
+    (r : Plan) (d : ℕ) (f : Form) (gs : List Stage) (node : IsOpenNode r d f gs) (g : Stage) (has : Contains gs g) (s : Tokens)
     (stirs : StirsOnly d f g s) (quiet : IsQuiet r s) where
   -- a token of the stage lies in the whole
   held_whole : (e : End) → Owns g.plan e → (way : Direction) (v : ℕ) → token_at g.plan (seen g s) e way ≡ Some v → token_at r s (lies_at g.cut e) way ≡ Some v
@@ -77,7 +79,7 @@ module _
 
   outs_not : (e : End) (v : ℕ) (w : Tokens) → Does g.plan (Out e v) (seen g s) w → ⊥
   outs_not e v w does =
-      elim (port_role g.plan (ground_stage r d f gs node g has) (stage r d f gs node g has).outcome e there.0 does.0 there.1) [
+      elim (port_end g.plan (stage r d f gs node g has).outcome e there.0 does.0 there.1) [
         | inl result ↦
             answer_not v
             (ap (λ (x : End). token_at g.plan (seen g s) x Answer) (sym result.0)
@@ -112,7 +114,9 @@ module _
           whole = (stage r d f gs node g has).region.contacts (ImportEnd i h) tt stands ∙ (ap (contact_at g.plan) (sym is) ∙ there.1)
 
 pub quiet_is_within : QuietIsWithin
-quiet_is_within r d f gs g s node has stirs quiet = (fires_not r d f gs node g has s stirs quiet, outs_not r d f gs node g has s stirs quiet)
+quiet_is_within r d f gs g s node has stirs quiet =
+    let open_one = ground_node_is_open r d f gs node in
+    (fires_not r d f gs open_one g has s stirs quiet, outs_not r d f gs open_one g has s stirs quiet)
 
 -- the own part, and the answer
 pub own_part_can : OwnPartCan
@@ -134,7 +138,7 @@ own_part_can r d f gs s node = (own_fires, goes_out)
         by_contact : (o : Option Contact) → contact_at r (ResultEnd 0) ≡ o → ⊥
         by_contact None none = result_there r.outcome done none
         by_contact (Some c) there =
-            elim (port_role r node.ground done (ResultEnd 0) c tt there) [
+            elim (port_end r done (ResultEnd 0) c tt there) [
               | inl result ↦
                   quiet.1 (ResultEnd 0) v (with_token r (ResultEnd 0) (way_taken c.role) None s) (
                     tt,

@@ -66,7 +66,7 @@ step (Out (ResultEnd zero) v) s t past kept does turn =
 step (Out (ResultEnd (suc h)) v) s t past kept does turn = absurd does.1
 step (In (PartEnd i h) v) s t past kept does turn = absurd does.0
 step (In (ImportEnd zero zero) v) s t past kept does turn =
-    always (after call_plan (In (ImportEnd 0 0) v) past) t (ap (λ (x : Tokens). (x.state 0).number) does.1.1 ∙ kept.away turn)
+    always (after call_plan (In (ImportEnd 0 0) v) past) t (ap (λ (x : Tokens). (x.state 0).number) does.1.1 ∙ kept.away turn.0)
 step (In (ImportEnd zero (suc h)) v) s t past kept does turn = absurd does.1
 step (In (ImportEnd (suc i) h) v) s t past kept does turn = absurd does.1
 step (In (ResultEnd zero) v) s t past kept does turn =

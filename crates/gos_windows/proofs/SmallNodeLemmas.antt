@@ -1,12 +1,12 @@
 -- The plan of `skip ; skip` is a node of two stages; and a Share that serves both callers, list by list.
-use Rattle.std.specs.Prelude.{◌≡◌, ℕ, zero, suc, Some, All, slice_get, Contains, List, [], ◌∷◌, ◌++◌, ◌⊎◌}
+use Rattle.std.specs.Prelude.{◌≡◌, ℕ, zero, suc, false, Some, All, slice_get, Contains, List, [], ◌∷◌, ◌++◌, ◌⊎◌}
 use Rattle.std.proofs.Common.{refl, sym, ◌∙◌, ap, subst, arith, inl, inr}
 use Rattle.std.proofs.lemmas.Option.{none-some, same_Some}
 use Rattle.gos_netlist.specs.Events.{Request}
 use Rattle.gos_model.specs.Typing.{Imported}
 use Rattle.gos_plan.specs.Kinds.{Part, Skip}
 use Rattle.gos_plan.specs.Firing.{Phase, Rest, First, Second, Req, Ans, row, at, put}
-use Rattle.gos_plan.specs.Plans.{End, PartEnd, ImportEnd, ResultEnd, Joint, Plan, contact_at}
+use Rattle.gos_plan.specs.Plans.{End, PartEnd, ImportEnd, ResultEnd, Joint, Plan, contact_at, stands_in}
 use Rattle.gos_plan.specs.Tokens.{Tokens, Element, Fire, Out, In, IsPortEnd, with_token, fired, Runs, IsIdle}
 use Rattle.gos_plan.specs.TokenBits.{LiteralFits}
 use Rattle.gos_plan.specs.SmallPlans.{skip_plan, at_first}
@@ -22,7 +22,8 @@ use Rattle.gos_webs.proofs.SmallWebLemmas.{twice_is_right, skip_is_right, skip_j
 use Rattle.gos_sessions.specs.Sessions.{Session, session_of}
 use Rattle.gos_windows.specs.Regions.{Serving, IsRegion}
 use Rattle.gos_windows.specs.Nodes.{Stage, IsRestful, IsStage, IsOfStage}
-use Rattle.gos_windows.specs.SmallNodes.{number_of_second, port_of_second, second_out, first_stage, second_stage, twice_form, TwiceIsNode, OneIsMissing, both_plan, SharedForBoth}
+use Rattle.gos_windows.proofs.OpenLemmas.{ground_node_is_open}
+use Rattle.gos_windows.specs.SmallNodes.{number_of_second, port_of_second, second_out, first_stage, second_stage, twice_form, TwiceIsNode, OneIsMissing, TwiceIsOpen, function_plan, deaf_stage, DeafIsNone, both_plan, SharedForBoth}
 
 -- a cut is a region without Shares
 no_serving : (n : Serving) → Contains [] n → ⊥
@@ -242,6 +243,20 @@ only_first g (suc n, l, is) asked = omega (arith, l)
 
 pub one_is_missing : OneIsMissing
 one_is_missing node = let (g, has, asked, ty) = node.staged Second 0 _ refl in only_first g has asked
+
+pub twice_is_open : TwiceIsOpen
+twice_is_open = ground_node_is_open twice_plan 0 twice_form (first_stage ∷ second_stage ∷ []) twice_is_node
+
+-- the child that lacks the end at which f asks
+not_there : StandsIn deaf_stage.plan (ImportEnd 0 0) → ⊥
+not_there (j, (zero, within, is), stands) = let clash : stands_in (ImportEnd 0 0) j ≡ false = ap (stands_in (ImportEnd 0 0)) (sym is) in cc (stands, clash)
+not_there (j, (suc n, within, is), stands) = omega (arith, within)
+
+pub deaf_is_none : DeafIsNone
+deaf_is_none stage =
+    let result : StandsIn deaf_stage.plan (ImportEnd 0 1) = (joint (ResultEnd 0) (ImportEnd 0 1), (0, omega arith, refl), refl) in
+    let argument : StandsIn function_plan (ImportEnd 0 0) = (joint (ImportEnd 0 0) (PartEnd 1 0), (2, omega arith, refl), refl) in
+    not_there ((stage.heard 0 1 0 0 _ result refl refl refl).1 argument)
 
 -- a Share that serves both callers, state by state
 abbrev begun : Tokens

@@ -12,17 +12,17 @@ use Rattle.gos_plan.specs.TokenBits.{AllFit}
 use Rattle.gos_plan.proofs.JointLemmas.{found, same_is}
 use Rattle.gos_plan.proofs.HeldLemmas.{nothing_there, takes_of}
 use Rattle.gos_realises.specs.Regular.{count, InputsKeepTurns}
-use Rattle.gos_realises.specs.Realises.{AllGround}
 use Rattle.gos_realises.proofs.InputLemmas.{result_asks, in_there, out_there}
 use Rattle.gos_webs.specs.Cutting.{lies_at, StandsIn, IsCut, asks_in, out_if, in_if}
 use Rattle.gos_webs.proofs.CutLemmas.{Owns, outside_name, asks_there, place_there, number_at, fire_cut, taken_out, put_in, element_is_cut}
 use Rattle.gos_sessions.specs.Sessions.{Form, bits}
 use Rattle.gos_windows.specs.Regions.{Serving, IsOther}
-use Rattle.gos_windows.specs.Nodes.{Stage, IsStage, IsNode}
+use Rattle.gos_windows.specs.Nodes.{Stage, IsStage}
+use Rattle.gos_windows.specs.OpenNodes.{IsOpenNode}
 use Rattle.gos_windows.specs.Windows.{seen}
 use Rattle.gos_windows.proofs.InlayLemmas.{laid, inlay, same_contact, from_laid, inlay_cut, inlay_place, place_agrees, Agree, agree_token, agree_put, AllAgree, agree_fired, agrees_or_other, LiesOn, lies_on}
 use Rattle.gos_windows.proofs.ShareLemmas.{share_puts, not_source, not_branch}
-use Rattle.gos_windows.proofs.PortLemmas.{stands_contact, stands_place, place_stands, ground_within, result_bits, result_there, run_one}
+use Rattle.gos_windows.proofs.PortLemmas.{stands_contact, stands_place, place_stands, result_bits, result_there, run_one}
 
 abbrev pub TokenIn : Token → List Token → Type 0
 TokenIn x [] = ⊥
@@ -56,12 +56,9 @@ record Other (r : Plan) (g : Stage) (i h j : ℕ) : Type 0 where
   number : g.cut.number n.part ≡ Some j
 
 module _
-    (r : Plan) (d : ℕ) (f : Form) (gs : List Stage) (node : IsNode r d f gs) (g : Stage) (has : Contains gs g) where
+    (r : Plan) (d : ℕ) (f : Form) (gs : List Stage) (node : IsOpenNode r d f gs) (g : Stage) (has : Contains gs g) where
   pub stage : IsStage r d g
-  stage = node.stages g has
-
-  pub ground_stage : AllGround g.plan.imports
-  ground_stage = ground_within g.plan.imports r.imports node.ground stage.imports
+  stage = (node.stages g has).stage
 
   pub cut : IsCut g.cut (inlay g.cut r g.plan) g.plan
   cut = inlay_cut g.cut g.sides r g.plan stage.region
@@ -342,6 +339,24 @@ module _
       still =
           subst (λ (x : Tokens). InStage x) (agree_put g.cut g.sides r g.plan stage.region b agrees (way_put there.0.role) (Some v) s ∙ sym passes.1)
           (in_stage_put s within b (way_put there.0.role) (Some v))
+
+  -- where no joint is nothing comes in
+  pub in_none : (b : End) (v : ℕ) (s t : Tokens) (i h : ℕ) (c : Contact) → InStage s → contact_at r b ≡ Some c → contact_at g.plan (ImportEnd i h) ≡ Some c
+      → places_of r b ≡ None → places_of g.plan (ImportEnd i h) ≡ None → Does r (In b v) s t
+      → Does g.plan (In (ImportEnd i h) v) (seen g s) (seen g t) × InStage t
+  in_none b v s t i h c within at own_at none own_none does = (
+    (tt, subst (λ (o : Option Contact). Passes g.plan (In (ImportEnd i h) v) o (seen g s) (seen g t)) (sym own_at) (passes.0, lost)),
+    subst (λ (x : Tokens). InStage x) (sym stays) within,
+  )
+    where
+      passes : (v < 2 ^ bits_of c (way_put c.role)) × (t ≡ with_token r b (way_put c.role) (Some v) s)
+      passes = subst (λ (o : Option Contact). Passes r (In b v) o s t) at does.1
+
+      stays : t ≡ s
+      stays = passes.1 ∙ ap (λ (o : Option End). with_held (way_put c.role) o (Some v) s) none
+
+      lost : seen g t ≡ with_token g.plan (ImportEnd i h) (way_put c.role) (Some v) (seen g s)
+      lost = ap (seen g) stays ∙ sym (ap (λ (o : Option End). with_held (way_put c.role) o (Some v) (seen g s)) own_none)
 
   -- the own part takes its answer
   pub own_contact : StandsIn g.plan (ResultEnd 0) → contact_at r (PartEnd d g.asked_at) ≡ contact_at g.plan (ResultEnd 0)

@@ -1,25 +1,32 @@
--- Turns at the ports of a plan with ground imports and a command or an expression for its result; and at those of a stage.
+-- Turns at the ports of a plan with a command or an expression for its result; and at those of a stage.
 use Rattle.std.specs.Prelude.{◌+◌, ◌-◌, ◌<◌, slice_get, nat_lt, Contains}
-use Rattle.std.proofs.Common.{◌≡◌, ℕ, zero, suc, Bool, true, false, List, [], ◌∷◌, Some, refl, sym, ◌∙◌, ap, subst, arith, if◌then◌else◌}
-use Rattle.std.proofs.lemmas.Option.{none-some, slice_get_within}
+use Rattle.std.proofs.Common.{◌≡◌, ℕ, zero, suc, Bool, true, false, List, [], ◌∷◌, ◌⊎◌, Option, Some, inl, inr, refl, sym, ◌∙◌, ap, subst, arith, if◌then◌else◌}
+use Rattle.std.proofs.lemmas.Option.{none-some, same_Some, slice_get_within}
 use Rattle.std.proofs.lemmas.Bool.Decides.{nat_tests}
+use Rattle.gos_types.specs.declared.shakes.Role.{Role}
+use Rattle.gos_types.specs.declared.shakes.Role.TheVariants.{Serve, Ask}
 use Rattle.gos_types.specs.Types.{Type', Com, Exp, Var, Pair, Fun, IsDone}
 use Rattle.gos_netlist.specs.Events.{Direction, Request, Answer}
 use Rattle.gos_model.specs.Typing.{Imported}
 use Rattle.gos_plan.specs.Kinds.{Contact, contacts_of}
 use Rattle.gos_plan.specs.Plans.{End, ImportEnd, ResultEnd, Plan, contact_at, contacts_of_import, turned_if, same_end}
 use Rattle.gos_plan.specs.Tokens.{Element, Fire, Out, In, way_taken, way_put}
-use Rattle.gos_plan.proofs.JointLemmas.{same_is}
-use Rattle.gos_realises.specs.Regular.{count, Pass, pass, way_in, way_out, is_request, is_open, KeepsTurnsOf, whole_type, whole_end, InputsKeepTurns}
-use Rattle.gos_realises.specs.Realises.{AllGround}
-use Rattle.gos_realises.proofs.GroundTurnLemmas.{width, width_small, there_some, result_open, turns_kept, all_closed, result_end, import_end}
+use Rattle.gos_plan.proofs.JointLemmas.{same_is, same_itself}
+use Rattle.gos_realises.specs.Regular.{count, some_open, Pass, pass, way_in, way_out, is_request, is_open, KeepsTurnsOf, whole_type, whole_end, ComesInTurn, KeepsTurns, InputsKeepTurns}
+use Rattle.gos_realises.proofs.GroundTurnLemmas.{width, width_small, some_there, there_some, done_kept, result_open, result_end}
 use Rattle.gos_realises.proofs.RingLemmas.{after}
-use Rattle.gos_webs.specs.Cutting.{StandsIn}
-use Rattle.gos_webs.proofs.CutLemmas.{same_lies}
+use Rattle.gos_realises.proofs.ToldLemmas.{there_is}
+use Rattle.gos_renumbered.proofs.TurnLemmas.{of_import, of_result, ImportKeeps, keeps_each, each_keeps}
+use Rattle.gos_webs.specs.Cutting.{Cut, lies_at, StandsIn}
+use Rattle.gos_webs.proofs.CutLemmas.{place_there}
 use Rattle.gos_sessions.specs.Sessions.{Form}
-use Rattle.gos_windows.specs.Nodes.{Stage, IsNode}
-use Rattle.gos_windows.proofs.InlayLemmas.{inlay}
+use Rattle.gos_windows.specs.Nodes.{Stage, IsStage}
+use Rattle.gos_windows.specs.OpenNodes.{IsOpenNode}
+use Rattle.gos_windows.proofs.InlayLemmas.{inlay, inlay_place}
+use Rattle.gos_windows.proofs.MeetLemmas.{Meets, met_joined, HasPorts, AreFollowed, met_at, met_import, heard_meets, followed_pass, alike}
+use Rattle.gos_windows.proofs.PortLemmas.{stands_place, place_stands}
 use Rattle.gos_windows.proofs.StageLemmas.{stage, cut}
+use Rattle.gos_windows.proofs.TypeTurnLemmas.{OpenServed, closed_kept, open_served}
 
 -- the ways at a result and at an import
 result_way_in : (t : Type') → IsDone t → way_in (turned_if (slice_get (contacts_of t) 0)) ≡ Request
@@ -52,28 +59,113 @@ way_out_of p e c is = ap way_out is
 abbrev pub Turned : Plan → List Pass → Type 0
 Turned p past = KeepsTurnsOf (whole_type p.imports p.outcome) (λ h. is_open past (whole_end 0 p.imports h))
 
-pub first_turned : (p : Plan) → AllGround p.imports → IsDone p.outcome → Turned p (pass (ResultEnd 0) Request ∷ [])
-first_turned p ground done =
-    turns_kept p.imports p.outcome ground done (λ h. false) (λ h. is_open (pass (ResultEnd 0) Request ∷ []) (whole_end 0 p.imports h)) less
-    (λ up. ap (is_open (pass (ResultEnd 0) Request ∷ [])) (result_end 0 p.imports)) (all_closed p.imports p.outcome ground done (λ h. false) (λ h. refl))
+-- The turns of the whole are those of its imports, each of which has an open handshake only where the result has.
+pub import_kept : (p : Plan) (past : List Pass) → Turned p past → (i : ℕ) (x : Imported) → slice_get p.imports i ≡ Some x
+    → KeepsTurnsOf x.ty (λ h. is_open past (ImportEnd i h))
+import_kept p past turned i x there =
+    let each = keeps_each 0 p.imports p.outcome (λ h. is_open past (whole_end 0 p.imports h)) (is_open past) (λ h. refl) turned in
+    let same : 0 + i ≡ i = omega arith in
+    subst (λ (m : ℕ). KeepsTurnsOf x.ty (λ h. is_open past (ImportEnd m h))) same (each.0 i x there).0
+
+pub imports_turned : (p : Plan) → IsDone p.outcome → (past : List Pass)
+    → ((i h : ℕ) (x : Imported) → slice_get p.imports i ≡ Some x → is_open past (ImportEnd i h) ≡ true → KeepsTurnsOf x.ty (λ n. is_open past (ImportEnd i n)))
+    → ((i h : ℕ) → is_open past (ImportEnd i h) ≡ true → is_open past (ResultEnd 0) ≡ true) → Turned p past
+imports_turned p done past kept led =
+    each_keeps 0 p.imports p.outcome (λ h. is_open past (whole_end 0 p.imports h)) (is_open past) (λ h. refl)
+    (λ i x there. subst (λ (m : ℕ). ImportKeeps (is_open past) m x p.outcome) (zero_plus i) (one i x there), done_kept p.outcome done (of_result (is_open past)))
   where
-    less : (h : ℕ) → h < width p.imports → is_open (pass (ResultEnd 0) Request ∷ []) (whole_end 0 p.imports h) ≡ true → false ≡ true
-    less h low up = let (i, g, at) = import_end 0 p.imports h low in sym (ap (is_open (pass (ResultEnd 0) Request ∷ [])) at) ∙ up
+    zero_plus : (i : ℕ) → i ≡ 0 + i
+    zero_plus i = omega arith
 
-closed_more : (b held : Bool) → (if b then false else held) ≡ true → held ≡ true
-closed_more true held h = absurd (cc h)
-closed_more false held h = h
+    closed : (i : ℕ) (x : Imported) → some_open (count x.ty) (of_import (is_open past) i) ≡ false → (h : ℕ) → h < count x.ty → is_open past (ImportEnd i h) ≡ false
+    closed i x none h low = by_test (is_open past (ImportEnd i h)) refl
+      where
+        by_test : (b : Bool) → is_open past (ImportEnd i h) ≡ b → b ≡ false
+        by_test false t = refl
+        by_test true t = sym (there_some (count x.ty) (of_import (is_open past) i) h low t) ∙ none
 
-pub answer_turned : (p : Plan) → AllGround p.imports → IsDone p.outcome → (i g : ℕ) (past : List Pass) → Turned p past → Turned p (pass (ImportEnd i g) Answer ∷ past)
-answer_turned p ground done i g past turned =
-    turns_kept p.imports p.outcome ground done (λ h. is_open past (whole_end 0 p.imports h)) (λ h. is_open (pass (ImportEnd i g) Answer ∷ past) (whole_end 0 p.imports h)) less more
-    turned
+    one : (i : ℕ) (x : Imported) → slice_get p.imports i ≡ Some x → ImportKeeps (is_open past) i x p.outcome
+    one i x there = (
+      by_test (some_open (count x.ty) (of_import (is_open past) i)) refl,
+      λ some.
+          (let (h, low, up) = some_there (count x.ty) (of_import (is_open past) i) some in
+          there_some (count p.outcome) (of_result (is_open past)) 0 (width_small [] p.outcome done) (led i h up)),
+    )
+      where
+        by_test : (b : Bool) → some_open (count x.ty) (of_import (is_open past) i) ≡ b → KeepsTurnsOf x.ty (of_import (is_open past) i)
+        by_test false none = closed_kept x.ty (of_import (is_open past) i) (closed i x none)
+        by_test true some = let (h, low, up) = some_there (count x.ty) (of_import (is_open past) i) some in kept i h x there up
+
+-- the result alone is open; nothing is
+abbrev pub ImportsClosed : List Pass → Type 0
+ImportsClosed past = (k h : ℕ) → is_open past (ImportEnd k h) ≡ false
+
+abbrev pub OnlyResult : List Pass → Type 0
+OnlyResult past = (is_open past (ResultEnd 0) ≡ true) × ImportsClosed past
+
+abbrev pub NoneOpen : List Pass → Type 0
+NoneOpen past = (is_open past (ResultEnd 0) ≡ false) × ImportsClosed past
+
+-- where no import has an open handshake
+pub closed_turned : (p : Plan) → IsDone p.outcome → (past : List Pass) → ImportsClosed past → Turned p past
+closed_turned p done past closed =
+    imports_turned p done past (λ i h x there up. absurd (never i h up)) (λ i h up. absurd (never i h up))
   where
-    less : (h : ℕ) → h < width p.imports → is_open (pass (ImportEnd i g) Answer ∷ past) (whole_end 0 p.imports h) ≡ true → is_open past (whole_end 0 p.imports h) ≡ true
-    less h low up = closed_more (same_end (ImportEnd i g) (whole_end 0 p.imports h)) (is_open past (whole_end 0 p.imports h)) up
+    never : (i h : ℕ) → is_open past (ImportEnd i h) ≡ true → ⊥
+    never i h up = let clash : true ≡ false = sym up ∙ closed i h in cc clash
 
-    more : is_open past (whole_end 0 p.imports (width p.imports)) ≡ true → is_open (pass (ImportEnd i g) Answer ∷ past) (whole_end 0 p.imports (width p.imports)) ≡ true
-    more up = ap (is_open (pass (ImportEnd i g) Answer ∷ past)) (result_end 0 p.imports) ∙ (sym (ap (is_open past) (result_end 0 p.imports)) ∙ up)
+pub first_turned : (p : Plan) → IsDone p.outcome → Turned p (pass (ResultEnd 0) Request ∷ [])
+first_turned p done = closed_turned p done (pass (ResultEnd 0) Request ∷ []) (λ k h. refl)
+
+-- Where the surroundings ask at an import, another of its handshakes is open, and so is the result.
+pub asked_beside : (p : Plan) (past : List Pass) (i h : ℕ) (c : Contact) → Turned p (pass (ImportEnd i h) Request ∷ past) → contact_at p (ImportEnd i h) ≡ Some c → c.role ≡ Ask
+    → (n : ℕ) × (x : Contact) × (contact_at p (ImportEnd i n) ≡ Some x) × (is_open past (ImportEnd i n) ≡ true)
+asked_beside p past i h c turned there asks =
+    (served.0, served.1, ap (λ (o : Option Imported). slice_get (contacts_of_import o) served.0) x.1 ∙ served.2, by_test (same_end (ImportEnd i h) (ImportEnd i served.0)) refl served.4)
+  where
+    x : (x : Imported) × (slice_get p.imports i ≡ Some x)
+    x = there_is p.imports i h c there
+
+    own : slice_get (contacts_of x.0.ty) h ≡ Some c
+    own = sym (ap (λ (o : Option Imported). slice_get (contacts_of_import o) h) x.1) ∙ there
+
+    served : OpenServed x.0.ty (λ n. is_open (pass (ImportEnd i h) Request ∷ past) (ImportEnd i n))
+    served =
+        open_served x.0.ty (λ n. is_open (pass (ImportEnd i h) Request ∷ past) (ImportEnd i n))
+        (import_kept p (pass (ImportEnd i h) Request ∷ past) turned i x.0 x.1) h (slice_get_within (contacts_of x.0.ty) h c own)
+        (ap (λ (b : Bool). if b then true else is_open past (ImportEnd i h)) (same_itself (ImportEnd i h)))
+
+    by_test : (b : Bool) → same_end (ImportEnd i h) (ImportEnd i served.0) ≡ b → (if b then true else is_open past (ImportEnd i served.0)) ≡ true
+        → is_open past (ImportEnd i served.0) ≡ true
+    by_test false t up = up
+    by_test true t up =
+        let same : ImportEnd i h ≡ ImportEnd i served.0 = same_is (ImportEnd i h) (ImportEnd i served.0) t in
+        let shake : h ≡ served.0 = cc same in
+        let one : c ≡ served.1 = same_Some c served.1 (sym own ∙ (ap (slice_get (contacts_of x.0.ty)) shake ∙ served.2)) in
+        let clash : Ask ≡ Serve = sym asks ∙ (ap (λ (k : Contact). k.role) one ∙ served.3) in absurd (cc clash)
+
+pub asked_within : (p : Plan) (past : List Pass) (i h : ℕ) (c : Contact) → Turned p (pass (ImportEnd i h) Request ∷ past) → contact_at p (ImportEnd i h) ≡ Some c → c.role ≡ Ask
+    → (n : ℕ) × (is_open past (ImportEnd i n) ≡ true)
+asked_within p past i h c turned there asks = let (n, x, is, up) = asked_beside p past i h c turned there asks in (n, up)
+
+-- Where an input comes at an import, this or another of its handshakes is open.
+pub open_before : (r : Plan) (past : List Pass) (k h : ℕ) (c : Contact) → contact_at r (ImportEnd k h) ≡ Some c
+    → KeepsTurns r past (pass (ImportEnd k h) (way_in (contact_at r (ImportEnd k h)))) → (n : ℕ) × (is_open past (ImportEnd k n) ≡ true) × ((n ≡ h) ⊎ (c.role ≡ Ask))
+open_before r past k h c there turn = by_role c.role refl
+  where
+    keeps : KeepsTurns r past (pass (ImportEnd k h) (way_put c.role))
+    keeps = subst (λ (way : Direction). KeepsTurns r past (pass (ImportEnd k h) way)) (ap way_in there) turn
+
+    by_role : (role : Role) → c.role ≡ role → (n : ℕ) × (is_open past (ImportEnd k n) ≡ true) × ((n ≡ h) ⊎ (c.role ≡ Ask))
+    by_role Serve serves = (h, subst (ComesInTurn past (ImportEnd k h)) (ap way_put serves) keeps.0, inl refl)
+    by_role Ask asks =
+        let turned : Turned r (pass (ImportEnd k h) Request ∷ past) =
+        subst (λ (way : Direction). Turned r (pass (ImportEnd k h) way ∷ past)) (ap way_put asks) keeps.1 in
+        let (n, up) = asked_within r past k h c turned there asks in (n, up, inr asks)
+
+pub comes_so : (past own : List Pass) (a b : End) (way : Direction) → is_open own b ≡ is_open past a → ComesInTurn past a way → ComesInTurn own b way
+comes_so past own a b Request same turn = same ∙ turn
+comes_so past own a b Answer same turn = same ∙ turn
 
 -- the number of an import's handshake among all
 whole_index : (is : List Imported) (n i h : ℕ) (c : Contact) → slice_get (contacts_of_import (slice_get is i)) h ≡ Some c
@@ -111,6 +203,14 @@ import_shut p done past turned shut i h c there = by_test (is_open past (ImportE
         let result = result_open p.imports p.outcome done (λ m. is_open past (whole_end 0 p.imports m)) turned some in
         sym (sym (ap (is_open past) (result_end 0 p.imports)) ∙ result) ∙ shut
 
+pub import_result : (p : Plan) → IsDone p.outcome → (past : List Pass) → Turned p past → (i h : ℕ) (c : Contact) → contact_at p (ImportEnd i h) ≡ Some c
+    → is_open past (ImportEnd i h) ≡ true → is_open past (ResultEnd 0) ≡ true
+import_result p done past turned i h c there up = by_test (is_open past (ResultEnd 0)) refl
+  where
+    by_test : (b : Bool) → is_open past (ResultEnd 0) ≡ b → b ≡ true
+    by_test true t = refl
+    by_test false t = sym (import_shut p done past turned t i h c there) ∙ up
+
 -- turns of a list with one element more in front
 pub turns_before : (p : Plan) (past : List Pass) (y : Element) (ys : List Element) → InputsKeepTurns p past (y ∷ []) → InputsKeepTurns p (after p y past) ys
     → InputsKeepTurns p past (y ∷ ys)
@@ -118,62 +218,139 @@ turns_before p past (Fire i t) ys one others = others
 turns_before p past (Out e v) ys one others = others
 turns_before p past (In e v) ys one others = (one.0, others)
 
+-- A region keeps its turns where the whole does: its result is open, and no other has one of its imports.
+pub region_turned : (r : Plan) (f : Cut) (c : Plan) (has : HasPorts r f c) → IsDone c.outcome → (own past : List Pass) → AreFollowed r f c own past
+    → ((i h k : ℕ) → Meets r f c i h → f.outer (ImportEnd i h) ≡ ImportEnd k h → (n : ℕ) → is_open past (ImportEnd k n) ≡ true
+    → (j : ℕ) × Meets r f c j n × (f.outer (ImportEnd j n) ≡ ImportEnd k n))
+    → is_open own (ResultEnd 0) ≡ true → Turned r past → Turned c own
+region_turned r f c has done own past followed only result turned = imports_turned c done own kept (λ i h up. result)
+  where
+    kept : (i h : ℕ) (x : Imported) → slice_get c.imports i ≡ Some x → is_open own (ImportEnd i h) ≡ true → KeepsTurnsOf x.ty (λ n. is_open own (ImportEnd i n))
+    kept i h x is up =
+        let meets = followed.met i h up in
+        let (k, at, same) = met_at r f c has i h meets in
+        subst (KeepsTurnsOf x.ty) (λ l n. sym (alike r f c has own past followed i h k meets at (only i h k meets at) n) l) (import_kept r past turned k x (same ∙ is))
+
 -- What passed a stage's ports, and the whole's: the result of both is open, and the open handshakes of imports are the same.
-pub record Follows (g : Stage) (own past : List Pass) : Type 0 where
+pub record Follows (r : Plan) (g : Stage) (own past : List Pass) : Type 0 where
   pub result : is_open past (ResultEnd 0) ≡ true
   pub of_stage : is_open own (ResultEnd 0) ≡ true
-  pub same : (i h : ℕ) → StandsIn g.plan (ImportEnd i h) → is_open own (ImportEnd i h) ≡ is_open past (g.cut.outer (ImportEnd i h))
+  pub imports : AreFollowed r g.cut g.plan own past
   pub only :
       (k h : ℕ) → is_open past (ImportEnd k h) ≡ true
-      → (i : ℕ) × StandsIn g.plan (ImportEnd i h) × (g.cut.outer (ImportEnd i h) ≡ ImportEnd k h)
-
--- the result alone is open; nothing is
-abbrev pub ImportsClosed : List Pass → Type 0
-ImportsClosed past = (k h : ℕ) → is_open past (ImportEnd k h) ≡ false
-
-abbrev pub OnlyResult : List Pass → Type 0
-OnlyResult past = (is_open past (ResultEnd 0) ≡ true) × ImportsClosed past
-
-abbrev pub NoneOpen : List Pass → Type 0
-NoneOpen past = (is_open past (ResultEnd 0) ≡ false) × ImportsClosed past
+      → (i : ℕ) × Meets r g.cut g.plan i h × (g.cut.outer (ImportEnd i h) ≡ ImportEnd k h)
 
 module _
-    (r : Plan) (d : ℕ) (f : Form) (gs : List Stage) (node : IsNode r d f gs) (g : Stage) (has : Contains gs g) where
-  pub follows_first : (past : List Pass) → OnlyResult past → Follows g (pass (ResultEnd 0) Request ∷ []) past
+    (r : Plan) (d : ℕ) (f : Form) (gs : List Stage) (node : IsOpenNode r d f gs) (g : Stage) (has : Contains gs g) where
+  there : IsStage r d g
+  there = stage r d f gs node g has
+
+  pub has_ports : HasPorts r g.cut g.plan
+  has_ports =
+      record {
+        right = there.region.right;
+        whole_right = node.right;
+        names = there.names;
+        whole_names = node.names;
+        ports = λ i h k stands at.
+            let (q, at_q, same) = there.ports i h stands in
+            let both : ImportEnd q h ≡ ImportEnd k h = sym at_q ∙ at in
+            let one : q ≡ k = cc both in
+            ap (slice_get r.imports) (sym one) ∙ same;
+        joined = λ i h stands.
+            let (a, named) = stands_place g.plan there.region.right (ImportEnd i h) stands in
+            let laid = place_there g.cut (inlay g.cut r g.plan) g.plan (cut r d f gs node g has) (ImportEnd i h) a named in
+            place_stands r (g.cut.outer (ImportEnd i h)) (lies_at g.cut a)
+            (inlay_place g.cut g.sides r g.plan there.region (g.cut.outer (ImportEnd i h)) (lies_at g.cut a) laid);
+        heard = (node.stages g has).heard;
+      }
+
+  -- what stands in a joint leads to an import of the whole
+  pub standing : (i h : ℕ) → StandsIn g.plan (ImportEnd i h) → Meets r g.cut g.plan i h
+  standing i h stands = let (k, at, same) = there.ports i h stands in met_joined r g.cut g.plan i h k stands at
+
+  pub follows_first : (past : List Pass) → OnlyResult past → Follows r g (pass (ResultEnd 0) Request ∷ []) past
   follows_first past (result, closed) =
       record {
         result = result;
         of_stage = refl;
-        same = λ i h stands.
-            let (k, at, is) = (stage r d f gs node g has).ports i h stands in
-            sym (ap (is_open past) at ∙ closed k h);
+        imports = record { same = λ i h k meets at. sym (closed k h); met = λ i h up. absurd (cc up) };
         only = λ k h up. let clash : false ≡ true = sym (closed k h) ∙ up in absurd (cc clash);
       }
 
-  follows_at : (own past : List Pass) → Follows g own past → (i h k : ℕ) → StandsIn g.plan (ImportEnd i h) → g.cut.outer (ImportEnd i h) ≡ ImportEnd k h → (way : Direction)
-      → Follows g (pass (ImportEnd i h) way ∷ own) (pass (ImportEnd k h) way ∷ past)
-  follows_at own past follows i h k stands at way =
-      record { result = follows.result; of_stage = follows.of_stage; same = same; only = λ m n up. only m n (same_end (ImportEnd k h) (ImportEnd m n)) refl up }
+  follows_at : (own past : List Pass) → Follows r g own past → (i h k : ℕ) → Meets r g.cut g.plan i h → g.cut.outer (ImportEnd i h) ≡ ImportEnd k h → (way : Direction)
+      → Follows r g (pass (ImportEnd i h) way ∷ own) (pass (ImportEnd k h) way ∷ past)
+  follows_at own past follows i h k meets at way =
+      record {
+        result = follows.result;
+        of_stage = follows.of_stage;
+        imports = followed_pass r g.cut g.plan has_ports own past follows.imports i h k meets at way;
+        only = λ m n up. only m n (same_end (ImportEnd k h) (ImportEnd m n)) refl up;
+      }
     where
-      same : (j n : ℕ) → StandsIn g.plan (ImportEnd j n)
-          → is_open (pass (ImportEnd i h) way ∷ own) (ImportEnd j n) ≡ is_open (pass (ImportEnd k h) way ∷ past) (g.cut.outer (ImportEnd j n))
-      same j n also =
-          let ends : same_end (ImportEnd k h) (g.cut.outer (ImportEnd j n)) ≡ same_end (ImportEnd i h) (ImportEnd j n) =
-          ap (λ (x : End). same_end x (g.cut.outer (ImportEnd j n))) (sym at)
-          ∙ same_lies g.cut (inlay g.cut r g.plan) g.plan (cut r d f gs node g has) (ImportEnd i h) (ImportEnd j n) stands also in
-          λ l. if sym ends l then is_request way else follows.same j n also l
-
       only : (m n : ℕ) (b : Bool) → same_end (ImportEnd k h) (ImportEnd m n) ≡ b → (if b then is_request way else is_open past (ImportEnd m n)) ≡ true
-          → (j : ℕ) × StandsIn g.plan (ImportEnd j n) × (g.cut.outer (ImportEnd j n) ≡ ImportEnd m n)
+          → (j : ℕ) × Meets r g.cut g.plan j n × (g.cut.outer (ImportEnd j n) ≡ ImportEnd m n)
       only m n true t up =
           let is : ImportEnd k h ≡ ImportEnd m n = same_is (ImportEnd k h) (ImportEnd m n) t in
           let shake : h ≡ n = cc is in
-          let both = subst (λ (x : ℕ). StandsIn g.plan (ImportEnd i x) × (g.cut.outer (ImportEnd i x) ≡ ImportEnd m n)) shake (stands, at ∙ is) in
+          let both = subst (λ (x : ℕ). Meets r g.cut g.plan i x × (g.cut.outer (ImportEnd i x) ≡ ImportEnd m n)) shake (meets, at ∙ is) in
           (i, both.0, both.1)
       only m n false t up = follows.only m n up
 
-  pub follows_step : (own past : List Pass) → Follows g own past → (i h : ℕ) (b : End) → StandsIn g.plan (ImportEnd i h) → g.cut.outer (ImportEnd i h) ≡ b → (way : Direction)
-      → Follows g (pass (ImportEnd i h) way ∷ own) (pass b way ∷ past)
-  follows_step own past follows i h b stands at way =
-      let (k, there, is) = (stage r d f gs node g has).ports i h stands in
-      subst (λ (x : End). Follows g (pass (ImportEnd i h) way ∷ own) (pass x way ∷ past)) (sym there ∙ at) (follows_at own past follows i h k stands there way)
+  pub follows_step : (own past : List Pass) → Follows r g own past → (i h : ℕ) (b : End) → Meets r g.cut g.plan i h → g.cut.outer (ImportEnd i h) ≡ b → (way : Direction)
+      → Follows r g (pass (ImportEnd i h) way ∷ own) (pass b way ∷ past)
+  follows_step own past follows i h b meets at way =
+      let (k, at_k, is) = met_at r g.cut g.plan has_ports i h meets in
+      subst (λ (x : End). Follows r g (pass (ImportEnd i h) way ∷ own) (pass x way ∷ past)) (sym at_k ∙ at) (follows_at own past follows i h k meets at_k way)
+
+  -- an end at which the surroundings ask, of an import that is open in the stage
+  pub asked_meets : (own past : List Pass) → Follows r g own past → (k h n : ℕ) (c : Contact) → is_open past (ImportEnd k n) ≡ true
+      → contact_at r (ImportEnd k h) ≡ Some c → c.role ≡ Ask → (i : ℕ) × Meets r g.cut g.plan i h × (g.cut.outer (ImportEnd i h) ≡ ImportEnd k h)
+  asked_meets own past follows k h n c up at_k asks =
+      let (i, meets, at) = follows.only k n up in
+      let (here, there) = heard_meets r g.cut g.plan has_ports i n k h c meets at at_k asks in (i, here, there)
+
+  -- So the turns of both are the same.
+  module _ (own past : List Pass) (follows : Follows r g own past) where
+    alike_there : (i h k : ℕ) → Meets r g.cut g.plan i h → g.cut.outer (ImportEnd i h) ≡ ImportEnd k h → (n : ℕ)
+        → is_open own (ImportEnd i n) ≡ is_open past (ImportEnd k n)
+    alike_there i h k meets at = alike r g.cut g.plan has_ports own past follows.imports i h k meets at (λ n up. follows.only k n up)
+
+    pub stage_turned : Turned r past → Turned g.plan own
+    stage_turned =
+        region_turned r g.cut g.plan has_ports there.outcome own past follows.imports (λ i h k meets at n up. follows.only k n up) follows.of_stage
+
+    pub whole_turned : Turned g.plan own → Turned r past
+    whole_turned turned = imports_turned r (subst IsDone (sym node.outcome) node.done) past kept (λ i h up. follows.result)
+      where
+        kept : (k h : ℕ) (x : Imported) → slice_get r.imports k ≡ Some x → is_open past (ImportEnd k h) ≡ true → KeepsTurnsOf x.ty (λ n. is_open past (ImportEnd k n))
+        kept k h x is up =
+            let (i, meets, at) = follows.only k h up in
+            subst (KeepsTurnsOf x.ty) (λ l n. alike_there i h k meets at n l)
+            (import_kept g.plan own turned i x (sym (met_import r g.cut g.plan has_ports i h k meets at) ∙ is))
+
+    -- an input or an output comes in turn in both
+    same_there : (i h : ℕ) (b : End) → Meets r g.cut g.plan i h → g.cut.outer (ImportEnd i h) ≡ b → is_open own (ImportEnd i h) ≡ is_open past b
+    same_there i h b meets at =
+        let (k, at_k, is) = met_at r g.cut g.plan has_ports i h meets in
+        follows.imports.same i h k meets at_k ∙ ap (is_open past) (sym at_k ∙ at)
+
+    pub comes_as : (i h : ℕ) (b : End) → Meets r g.cut g.plan i h → g.cut.outer (ImportEnd i h) ≡ b → (way : Direction) → ComesInTurn past b way
+        → ComesInTurn own (ImportEnd i h) way
+    comes_as i h b meets at Request turn = same_there i h b meets at ∙ turn
+    comes_as i h b meets at Answer turn = same_there i h b meets at ∙ turn
+
+    pub goes_as : (i h : ℕ) (b : End) → Meets r g.cut g.plan i h → g.cut.outer (ImportEnd i h) ≡ b → (way : Direction) → ComesInTurn own (ImportEnd i h) way
+        → ComesInTurn past b way
+    goes_as i h b meets at Request turn = sym (same_there i h b meets at) ∙ turn
+    goes_as i h b meets at Answer turn = sym (same_there i h b meets at) ∙ turn
+
+    pub imports_shut : ((k h : ℕ) → is_open past (ImportEnd k h) ≡ false) → (i h : ℕ) → is_open own (ImportEnd i h) ≡ false
+    imports_shut closed i h = by_test (is_open own (ImportEnd i h)) refl
+      where
+        by_test : (b : Bool) → is_open own (ImportEnd i h) ≡ b → b ≡ false
+        by_test false shut = refl
+        by_test true up =
+            let meets = follows.imports.met i h up in
+            let (k, at, same) = met_at r g.cut g.plan has_ports i h meets in
+            sym up ∙ (follows.imports.same i h k meets at ∙ closed k h)

@@ -2,6 +2,7 @@
 use Rattle.std.specs.Prelude.{◌≢◌, ◌^◌, ◌<◌, ◌&&◌, None, nat_eq, slice_get, Contains}
 use Rattle.std.proofs.Common.{◌≡◌, ℕ, Bool, true, false, List, [], ◌∷◌, ◌⊎◌, Option, Some, inl, inr, refl, sym, ◌∙◌, ap, subst, arith, if◌then◌else◌}
 use Rattle.std.proofs.lemmas.Option.{same_Some}
+use Rattle.gos_types.specs.declared.shakes.Role.{Role}
 use Rattle.gos_types.specs.declared.shakes.Role.TheVariants.{Serve, Ask}
 use Rattle.gos_types.specs.Types.{Type', Com, Exp, Var, Pair, Fun, IsDone}
 use Rattle.gos_netlist.specs.Events.{Direction, Request, Answer}
@@ -21,12 +22,13 @@ use Rattle.gos_webs.specs.Cutting.{lies_at, StandsIn}
 use Rattle.gos_webs.proofs.MovedLemmas.{listed}
 use Rattle.gos_webs.proofs.CutLemmas.{which_end, stands_by, first_stands, last_stands, stands_own, lies_there, same_ways}
 use Rattle.gos_sessions.specs.Sessions.{Form, Session, own_part, own_term, run_shake, session_of, LeadsOn}
-use Rattle.gos_windows.specs.Nodes.{Stage, IsStage, IsNode}
+use Rattle.gos_windows.specs.Nodes.{Stage, IsStage}
+use Rattle.gos_windows.specs.OpenNodes.{IsOpenNode}
 use Rattle.gos_windows.specs.Windows.{seen, StirsOnly, HoldsOnly}
-use Rattle.gos_windows.proofs.PortLemmas.{port_role}
+use Rattle.gos_windows.proofs.PortLemmas.{port_end}
 use Rattle.gos_windows.proofs.OwnLemmas.{asked_apart}
-use Rattle.gos_windows.proofs.StageLemmas.{Emptied, stage, ground_stage, InStage, Ran, end_is, idle_seen, asked}
-use Rattle.gos_windows.proofs.TurnLemmas.{Turned, first_turned, result_in, way_in_of, Follows, follows_first, OnlyResult}
+use Rattle.gos_windows.proofs.StageLemmas.{Emptied, stage, InStage, Ran, end_is, idle_seen, asked}
+use Rattle.gos_windows.proofs.TurnLemmas.{Turned, asked_within, first_turned, result_in, way_in_of, Follows, follows_first, OnlyResult}
 
 way_is : (a b : Direction) → same_way a b ≡ true → a ≡ b
 way_is Request Request t = refl
@@ -133,7 +135,7 @@ idle_token r s idle e way v held = by_place (places_of r e) refl
 abbrev pub LeadsTo : Plan → Form → Row → ℕ → Type 0
 LeadsTo r f row v = LeadsOn (record { imports = r.imports; body = own_term f }) f (own_term f) (row.next v) (row.puts v) false
 
-module _ (r : Plan) (d : ℕ) (f : Form) (gs : List Stage) (node : IsNode r d f gs) where
+module _ (r : Plan) (d : ℕ) (f : Form) (gs : List Stage) (node : IsOpenNode r d f gs) where
   abbrev pub own_end : End
   own_end = PartEnd d (run_shake (own_part f))
 
@@ -159,14 +161,16 @@ module _ (r : Plan) (d : ℕ) (f : Form) (gs : List Stage) (node : IsNode r d f 
       (stands_by (ResultEnd 0) at.joint (inl (sym at.named))) (first_stands (joint (ResultEnd 0) own_end)) in
       which_end b (joint (ResultEnd 0) own_end) (subst (λ (x : Joint). stands_in b x ≡ true) same at.stands)
 
-  -- which inputs may come
-  pub in_turn_at : (b : End) (v : ℕ) (s t : Tokens) (past : List Pass) → Does r (In b v) s t → ComesInTurn past b (way_in (contact_at r b))
+  -- which inputs may come: the request, an answer to an import, or a request at an import of which another handshake is open
+  pub in_turn_at : (b : End) (v : ℕ) (s t : Tokens) (past : List Pass) → Does r (In b v) s t → KeepsTurns r past (pass b (way_in (contact_at r b)))
       → ((b ≡ ResultEnd 0) × (v ≡ 0) × (is_open past (ResultEnd 0) ≡ false) × (t ≡ with_token r (ResultEnd 0) Request (Some 0) s))
-      ⊎ ((k h : ℕ) × (b ≡ ImportEnd k h) × (is_open past (ImportEnd k h) ≡ true))
+      ⊎ ((k h n : ℕ) × (b ≡ ImportEnd k h) × (is_open past (ImportEnd k n) ≡ true)
+      × ((n ≡ h) ⊎ ((c : Contact) × (contact_at r (ImportEnd k h) ≡ Some c) × (c.role ≡ Ask))))
   in_turn_at b v s t past does turn =
-      elim (port_role r node.ground done b c does.0 at_b) [
+      elim (port_end r done b c does.0 at_b) [
         | inl result ↦ inl (at_result result.0 result.1)
-        | inr import ↦ inr (import.0, import.1, import.2, at_import import.0 import.1 import.2 import.3)
+        | inr import ↦
+            (let (n, is, up, which) = at_import import.0 import.1 import.2 c.role refl in inr (import.0, import.1, n, is, up, which))
       ]
     where
       there : (c : Contact) × (contact_at r b ≡ Some c)
@@ -181,8 +185,8 @@ module _ (r : Plan) (d : ℕ) (f : Form) (gs : List Stage) (node : IsNode r d f 
       passes : (v < 2 ^ bits_of c (way_put c.role)) × (t ≡ with_token r b (way_put c.role) (Some v) s)
       passes = subst (λ (o : Option Contact). Passes r (In b v) o s t) at_b does.1
 
-      comes : ComesInTurn past b (way_put c.role)
-      comes = subst (ComesInTurn past b) (way_in_of r b c at_b) turn
+      keeps : KeepsTurns r past (pass b (way_put c.role))
+      keeps = subst (λ (way : Direction). KeepsTurns r past (pass b way)) (way_in_of r b c at_b) turn
 
       at_result : b ≡ ResultEnd 0 → c.role ≡ Ask
           → (b ≡ ResultEnd 0) × (v ≡ 0) × (is_open past (ResultEnd 0) ≡ false) × (t ≡ with_token r (ResultEnd 0) Request (Some 0) s)
@@ -191,12 +195,19 @@ module _ (r : Plan) (d : ℕ) (f : Form) (gs : List Stage) (node : IsNode r d f 
           let small : v < 2 ^ bits_of c Request = subst (λ (w : Direction). v < 2 ^ bits_of c w) way passes.0 in
           let none = no_bits r.outcome done c (ap (contact_at r) (sym is) ∙ at_b) in
           let zero_is : v ≡ 0 = zero_only v (subst (λ (n : ℕ). v < 2 ^ n) none small) in
-          let closed : is_open past b ≡ false = subst (ComesInTurn past b) way comes in
+          let closed : is_open past b ≡ false = subst (ComesInTurn past b) way keeps.0 in
           (is, zero_is, ap (is_open past) (sym is) ∙ closed, passes.1 ∙ (λ l. with_token r (is l) (way l) (Some (zero_is l)) s))
 
-      at_import : (k h : ℕ) → b ≡ ImportEnd k h → c.role ≡ Serve → is_open past (ImportEnd k h) ≡ true
-      at_import k h is serves =
-          let open_there : is_open past b ≡ true = subst (ComesInTurn past b) (ap way_put serves) comes in ap (is_open past) (sym is) ∙ open_there
+      at_import : (k h : ℕ) → b ≡ ImportEnd k h → (role : Role) → c.role ≡ role
+          → (n : ℕ) × (b ≡ ImportEnd k h) × (is_open past (ImportEnd k n) ≡ true) × ((n ≡ h) ⊎ ((c : Contact) × (contact_at r (ImportEnd k h) ≡ Some c) × (c.role ≡ Ask)))
+      at_import k h is Serve serves =
+          let open_there : is_open past b ≡ true = subst (ComesInTurn past b) (ap way_put serves) keeps.0 in
+          (h, is, ap (is_open past) (sym is) ∙ open_there, inl refl)
+      at_import k h is Ask asks =
+          let turned : Turned r (pass (ImportEnd k h) Request ∷ past) =
+          subst (λ (x : Pass). Turned r (x ∷ past)) (λ l. pass (is l) (ap way_put asks l)) keeps.1 in
+          let at_k = ap (contact_at r) (sym is) ∙ at_b in
+          let (n, up) = asked_within r past k h c turned at_k asks in (n, is, up, inr (c, at_k, asks))
 
   -- a stage that the own part asks has its joint
   module _ (g : Stage) (has : Contains gs g) (apart : g.asked_at ≡ run_shake (own_part f) → ⊥) where
@@ -237,7 +248,7 @@ module _ (r : Plan) (d : ℕ) (f : Form) (gs : List Stage) (node : IsNode r d f 
     pub ran : Ran r d f gs node g has before hs s
     pub turned : Turned g.plan (passed g.plan [] hs)
     pub stirs : StirsOnly d f g s
-    pub follows : Follows g (passed g.plan [] hs) past
+    pub follows : Follows r g (passed g.plan [] hs) past
 
   -- what the own part's firing leads to
   pub data Led (row : Row) (v : ℕ) (t : Tokens) (past : List Pass) : Type 0 where
@@ -301,7 +312,7 @@ module _ (r : Plan) (d : ℕ) (f : Form) (gs : List Stage) (node : IsNode r d f 
         outcome = (stage r d f gs node g has).outcome
 
         first : Turned g.plan (pass (ResultEnd 0) Request ∷ [])
-        first = first_turned g.plan (ground_stage r d f gs node g has) outcome
+        first = first_turned g.plan outcome
 
         turn : KeepsTurns g.plan [] (pass (ResultEnd 0) (way_in (contact_at g.plan (ResultEnd 0))))
         turn = subst (λ (way : Direction). KeepsTurns g.plan [] (pass (ResultEnd 0) way)) (sym (result_in g.plan outcome)) (refl, first)
@@ -312,7 +323,7 @@ module _ (r : Plan) (d : ℕ) (f : Form) (gs : List Stage) (node : IsNode r d f 
               ran = record { idle = idle_seen r d f gs node g has between empty_between; ran = (seen g t, does, refl); turns = (turn, tt) };
               turned = turn.1;
               stirs = stirring;
-              follows = subst (λ (way : Direction). Follows g (pass (ResultEnd 0) way ∷ []) past) (sym (result_in g.plan outcome)) (follows_first r d f gs node g has past only);
+              follows = subst (λ (way : Direction). Follows r g (pass (ResultEnd 0) way ∷ []) past) (sym (result_in g.plan outcome)) (follows_first r d f gs node g has past only);
             }
 
     to_reply : (k : ℕ) → (row.next v).phase ≡ Rest → row.puts v ≡ put (Ans (run_shake (own_part f))) k ∷ [] → Led row v t past

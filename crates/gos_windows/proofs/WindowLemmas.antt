@@ -7,7 +7,7 @@ use Rattle.gos_netlist.specs.Events.{Direction, Request, Answer}
 use Rattle.gos_plan.specs.Kinds.{Contact}
 use Rattle.gos_plan.specs.Firing.{Phase, State, Slot, Ans, Row, at, firing}
 use Rattle.gos_plan.specs.Plans.{End, PartEnd, ImportEnd, ResultEnd, Plan, contact_at}
-use Rattle.gos_plan.specs.Tokens.{Tokens, Element, Fire, Out, In, with_token, with_state, with_puts, token_at, end_of, way_of, shake_of, way_taken, way_put, fired, firing_of, Passes, Does, Runs, IsIdle}
+use Rattle.gos_plan.specs.Tokens.{Tokens, Element, Fire, Out, In, places_of, with_token, with_state, with_puts, token_at, end_of, way_of, shake_of, way_taken, way_put, fired, firing_of, Passes, Does, Runs, IsIdle}
 use Rattle.gos_plan.specs.TokenBits.{AllFit}
 use Rattle.gos_plan.proofs.TurnLemmas.{token_state, fired_state}
 use Rattle.gos_plan.proofs.TokenBitsLemmas.{all_stay_fit, idle_fits}
@@ -18,34 +18,37 @@ use Rattle.gos_webs.specs.Cutting.{StandsIn}
 use Rattle.gos_sessions.specs.Sessions.{Form, Session, bits, own_part, own_term, run_shake, session_of, value_of}
 use Rattle.gos_sessions.proofs.TableLemmas.{tables_are_right}
 use Rattle.gos_windows.specs.Regions.{whole_element}
-use Rattle.gos_windows.specs.Nodes.{Stage, IsNode}
+use Rattle.gos_windows.specs.Nodes.{Stage}
+use Rattle.gos_windows.specs.OpenNodes.{IsOpenNode}
 use Rattle.gos_windows.specs.Windows as windows
 use Rattle.gos_windows.specs.Windows.{seen, StirsOnly, HoldsOnly, Where, Resting, Asked, Within, Answered, to_session, to_answer, Staged, rests, waits, stays, holds, is_asked, begins, stirs, goes_on, ListsAreStaged}
-use Rattle.gos_windows.proofs.PortLemmas.{port_role, stands_contact}
 use Rattle.gos_windows.proofs.OwnLemmas.{none_at_rest}
-use Rattle.gos_windows.proofs.StageLemmas.{Emptied, stage, ground_stage, InStage, OnStage, lies, end_is, fires_in, out_in, in_in, answers, answer_fits, emptied}
-use Rattle.gos_windows.proofs.TurnLemmas.{Turned, answer_turned, turns_before, way_in_of, result_out, import_shut, Follows, follows_step, OnlyResult, NoneOpen}
+use Rattle.gos_windows.proofs.StageLemmas.{Emptied, stage, InStage, OnStage, lies, end_is, fires_in, out_in, in_in, in_none, answers, answer_fits, emptied}
+use Rattle.gos_windows.proofs.MeetLemmas.{Meets, met_contact, met_contacts}
+use Rattle.gos_windows.proofs.TurnLemmas.{Turned, turns_before, result_out, import_shut, OnlyResult, NoneOpen, Follows, has_ports, standing, follows_step, asked_meets, stage_turned, comes_as}
+use Rattle.gos_windows.proofs.OpenLemmas.{ground_node_is_open}
 use Rattle.gos_windows.proofs.WholeLemmas as whole
 use Rattle.gos_windows.proofs.WholeLemmas.{in_turn_at, other_state, Going, Led, asks, own_leads}
 use Rattle.gos_windows.proofs.NodeLemmas.{Place, AtRest, AtAsked, AtStage, AtAnswer, InTurn, first_turn, turns_after, Holds, Result, rest_step, asked_step, answer_step, own_fired, own_firing}
 
--- the ends at which an element passes stand in joints
-abbrev pub Standing : Plan → Element → Type 0
-Standing p (Fire i t) = Unit {0}
-Standing p (Out e v) = StandsIn p e
-Standing p (In e v) = StandsIn p e
+-- The ends at which an element of a stage passes: an output is at a joint; an input is at an import, and at no joint where the
+-- whole has none.
+abbrev pub Standing : Plan → Stage → Element → Type 0
+Standing r g (Fire i t) = Unit {0}
+Standing r g (Out e v) = StandsIn g.plan e
+Standing r g (In e v) = (i n : ℕ) × (e ≡ ImportEnd i n) × Meets r g.cut g.plan i n
 
 abbrev OneTurn : Plan → List Pass → Element → Type 0
 OneTurn p past y = InputsKeepTurns p past (y ∷ [])
 
-module _ (r : Plan) (d : ℕ) (f : Form) (gs : List Stage) (node : IsNode r d f gs) where
+module _ (r : Plan) (d : ℕ) (f : Form) (gs : List Stage) (node : IsOpenNode r d f gs) where
   -- what an element of a stage is: one of its plan, in turn, after which the stage still runs
   pub record StageStep (g : Stage) (has : Contains gs g) (hs : List Element) (before s t : Tokens) (past : List Pass) (x : Element) : Type 0 where
     pub y : Element
     pub is : whole_element g.cut y ≡ x
     pub does : Does g.plan y (seen g s) (seen g t)
     pub turn : OneTurn g.plan (passed g.plan [] hs) y
-    pub standing : Standing g.plan y
+    pub standing : Standing r g y
     pub going : Going r d f gs node g has (hs ++ y ∷ []) before t past
 
   -- the own part takes the stage's answer
@@ -63,6 +66,7 @@ module _ (r : Plan) (d : ℕ) (f : Form) (gs : List Stage) (node : IsNode r d f 
     pub leads : t ≡ fired r d row v s
     pub fires : firing (own_part f) (s.state d) (Ans g.asked_at) ≡ Some row
     pub state : t.state d ≡ row.next v
+    pub only : OnlyResult past
     pub led : Led r d f gs node row v t past
 
   pub stage_out_turned : (g : Stage) (has : Contains gs g) (hs : List Element) (before s t : Tokens) (past : List Pass) → Going r d f gs node g has hs before s past
@@ -83,9 +87,9 @@ module _ (r : Plan) (d : ℕ) (f : Form) (gs : List Stage) (node : IsNode r d f 
     within = going.stirs.places
 
     -- the stage goes on
-    on_by : (x y : Element) (later : List Pass) → whole_element g.cut y ≡ x → Does g.plan y (seen g s) (seen g t) → OneTurn g.plan own y → Standing g.plan y → Turned g.plan (after g.plan y own)
+    on_by : (x y : Element) (later : List Pass) → whole_element g.cut y ≡ x → Does g.plan y (seen g s) (seen g t) → OneTurn g.plan own y → Standing r g y → Turned g.plan (after g.plan y own)
         → InStage r d f gs node g has t → t.state d ≡ s.state d → ((i : ℕ) → g.cut.number i ≡ None → t.state i ≡ s.state i)
-        → Follows g (after g.plan y own) later → StageStep g has hs before s t later x
+        → Follows r g (after g.plan y own) later → StageStep g has hs before s t later x
     on_by x y later is does turn standing turned in_stage own_state others follows =
         record {
           y = y;
@@ -109,7 +113,7 @@ module _ (r : Plan) (d : ℕ) (f : Form) (gs : List Stage) (node : IsNode r d f 
                       states = λ i apart out. ap (λ (q : State). q.phase) (others i out) ∙ going.stirs.states i apart out;
                       places = in_stage;
                     };
-                follows = subst (λ (l : List Pass). Follows g l later) (sym (passed_then g.plan [] hs y)) follows;
+                follows = subst (λ (l : List Pass). Follows r g l later) (sym (passed_then g.plan [] hs y)) follows;
               };
         }
 
@@ -141,44 +145,61 @@ module _ (r : Plan) (d : ℕ) (f : Form) (gs : List Stage) (node : IsNode r d f 
         let ways = ap way_out (port_contact i h b stands at) in
         on_by (Out b v) (Out (ImportEnd i h) v) (after r (Out b v) past) (ap (λ (e : End). Out e v) at) own_does tt stands
         (stage_out_turned g has hs before s t past going (ImportEnd i h) v own_does).1 in_stage (state d) (λ n out. state n)
-        (subst (λ (way : Direction). Follows g (after g.plan (Out (ImportEnd i h) v) own) (pass b way ∷ past)) (sym ways)
-        (follows_step r d f gs node g has own past going.follows i h b stands at (way_out (contact_at g.plan (ImportEnd i h)))))
+        (subst (λ (way : Direction). Follows r g (after g.plan (Out (ImportEnd i h) v) own) (pass b way ∷ past)) (sym ways)
+        (follows_step r d f gs node g has own past going.follows i h b (standing r d f gs node g has i h stands) at (way_out (contact_at g.plan (ImportEnd i h)))))
 
-    -- an input at a port
-    in_at : (b : End) (v k h : ℕ) → Does r (In b v) s t → b ≡ ImportEnd k h → is_open past (ImportEnd k h) ≡ true
+    -- an input at an import
+    in_at : (b : End) (v i h : ℕ) → Does r (In b v) s t → KeepsTurns r past (pass b (way_in (contact_at r b))) → Meets r g.cut g.plan i h → g.cut.outer (ImportEnd i h) ≡ b
         → StageStep g has hs before s t (after r (In b v) past) (In b v)
-    in_at b v k h does is up =
-        let (i, stands, at) = going.follows.only k h up in
-        let at_b : g.cut.outer (ImportEnd i h) ≡ b = at ∙ sym is in
-        let (own_does, in_stage) = in_in r d f gs node g has b v s t i h fit within stands at_b does in
-        let (c, there) = in_there r b v s t does in
-        let passes = subst (λ (o : Option Contact). Passes r (In b v) o s t) there does.1 in
-        let state = λ (n : ℕ). ap (λ (x : Tokens). x.state n) passes.1 ∙ token_state r b (way_put c.role) (Some v) s n in
-        let ways = ap way_in (port_contact i h b stands at_b) in
-        let open_there : is_open own (ImportEnd i h) ≡ true = going.follows.same i h stands ∙ (ap (is_open past) at ∙ up) in
-        let turn = in_turn i h stands open_there in
-        on_by (In b v) (In (ImportEnd i h) v) (after r (In b v) past) (ap (λ (e : End). In e v) at_b) own_does (turn, tt) stands turn.1 in_stage (state d) (λ n out. state n)
-        (subst (λ (way : Direction). Follows g (after g.plan (In (ImportEnd i h) v) own) (pass b way ∷ past)) (sym ways)
-        (follows_step r d f gs node g has own past going.follows i h b stands at_b (way_in (contact_at g.plan (ImportEnd i h)))))
+    in_at b v i h does turn meets at =
+        on_by (In b v) (In (ImportEnd i h) v) (after r (In b v) past) (ap (λ (e : End). In e v) at) own_does.0 (own_turn, tt) (i, h, refl, meets) own_turn.1 own_does.1 (state d)
+        (λ n out. state n) follows
       where
-        in_turn : (i h : ℕ) → StandsIn g.plan (ImportEnd i h) → is_open own (ImportEnd i h) ≡ true
-            → KeepsTurns g.plan own (pass (ImportEnd i h) (way_in (contact_at g.plan (ImportEnd i h))))
-        in_turn i h stands up =
-            let (c, there) = stands_contact g.plan (stage r d f gs node g has).region.right (ImportEnd i h) stands in
-            elim (port_role g.plan (ground_stage r d f gs node g has) (stage r d f gs node g has).outcome (ImportEnd i h) c tt there) [
-              | inl result ↦ (let clash : ImportEnd i h ≡ ResultEnd 0 = result.0 in absurd (cc clash))
-              | inr import ↦
-                  (let way : way_in (contact_at g.plan (ImportEnd i h)) ≡ Answer = way_in_of g.plan (ImportEnd i h) c there ∙ ap way_put import.3 in
-                  subst (λ (w : Direction). KeepsTurns g.plan own (pass (ImportEnd i h) w)) (sym way)
-                  (up, answer_turned g.plan (ground_stage r d f gs node g has) (stage r d f gs node g has).outcome i h own going.turned))
+        there : (c : Contact) × (contact_at r b ≡ Some c)
+        there = in_there r b v s t does
+
+        contacts : contact_at r b ≡ contact_at g.plan (ImportEnd i h)
+        contacts = met_contacts r g.cut g.plan (has_ports r d f gs node g has) i h b meets at
+
+        passes : Passes r (In b v) (Some there.0) s t
+        passes = subst (λ (o : Option Contact). Passes r (In b v) o s t) there.1 does.1
+
+        state : (n : ℕ) → t.state n ≡ s.state n
+        state n = ap (λ (x : Tokens). x.state n) passes.1 ∙ token_state r b (way_put there.0.role) (Some v) s n
+
+        own_does : Does g.plan (In (ImportEnd i h) v) (seen g s) (seen g t) × InStage r d f gs node g has t
+        own_does =
+            elim meets [
+              | inl joined ↦ in_in r d f gs node g has b v s t i h fit within joined.stands at does
+              | inr none ↦
+                  (let none_there : places_of r b ≡ None = ap (places_of r) (sym at ∙ none.outer) ∙ none.none in
+                  in_none r d f gs node g has b v s t i h there.0 within there.1 (sym contacts ∙ there.1) none_there none.own_none does)
             ]
 
-    in_step : (b : End) (v : ℕ) → Does r (In b v) s t → ComesInTurn past b (way_in (contact_at r b)) → StageStep g has hs before s t (after r (In b v) past) (In b v)
+        follows : Follows r g (after g.plan (In (ImportEnd i h) v) own) (after r (In b v) past)
+        follows =
+            subst (λ (way : Direction). Follows r g (after g.plan (In (ImportEnd i h) v) own) (pass b way ∷ past)) (sym (ap way_in contacts))
+            (follows_step r d f gs node g has own past going.follows i h b meets at (way_in (contact_at g.plan (ImportEnd i h))))
+
+        own_turn : KeepsTurns g.plan own (pass (ImportEnd i h) (way_in (contact_at g.plan (ImportEnd i h))))
+        own_turn = (
+          subst (ComesInTurn own (ImportEnd i h)) (ap way_in contacts)
+              (comes_as r d f gs node g has own past going.follows i h b meets at (way_in (contact_at r b)) turn.0),
+          stage_turned r d f gs node g has (after g.plan (In (ImportEnd i h) v) own) (after r (In b v) past) follows turn.1,
+        )
+
+    in_step : (b : End) (v : ℕ) → Does r (In b v) s t → KeepsTurns r past (pass b (way_in (contact_at r b)))
+        → StageStep g has hs before s t (after r (In b v) past) (In b v)
     in_step b v does turn =
         elim (in_turn_at r d f gs node b v s t past does turn) [
           | inl (is, none, shut, leads) ↦
               (let clash : true ≡ false = sym going.follows.result ∙ shut in absurd (cc clash))
-          | inr (k, h, is, up) ↦ in_at b v k h does is up
+          | inr (k, h, n, is, up, inl same) ↦
+              (let (i, meets, at) = going.follows.only k h (ap (λ (m : ℕ). is_open past (ImportEnd k m)) (sym same) ∙ up) in
+              in_at b v i h does turn meets (at ∙ sym is))
+          | inr (k, h, n, is, up, inr (c, at_k, role)) ↦
+              (let (i, meets, at) = asked_meets r d f gs node g has own past going.follows k h n c up at_k role in
+              in_at b v i h does turn meets (at ∙ sym is))
         ]
 
     -- the own part
@@ -198,6 +219,7 @@ module _ (r : Plan) (d : ℕ) (f : Form) (gs : List Stage) (node : IsNode r d f 
           leads = leads ∙ ap (λ (n : ℕ). fired r n row v s) which.0;
           fires = fires.1;
           state = fires.2;
+          only = only;
           led = led;
         }
       where
@@ -260,9 +282,9 @@ module _ (r : Plan) (d : ℕ) (f : Form) (gs : List Stage) (node : IsNode r d f 
             closed : (k h : ℕ) (b : Bool) → is_open past (ImportEnd k h) ≡ b → b ≡ false
             closed k h false shut = refl
             closed k h true up =
-                let (i, stands, at) = going.follows.only k h up in
-                let (c, there) = stands_contact g.plan (stage r d f gs node g has).region.right (ImportEnd i h) stands in
-                let own_up : is_open own (ImportEnd i h) ≡ true = going.follows.same i h stands ∙ (ap (is_open past) at ∙ up) in
+                let (i, meets, at) = going.follows.only k h up in
+                let (c, there) = met_contact r g.cut g.plan (has_ports r d f gs node g has) i h meets in
+                let own_up : is_open own (ImportEnd i h) ≡ true = going.follows.imports.same i h k meets at ∙ up in
                 sym own_up
                 ∙ import_shut g.plan (stage r d f gs node g has).outcome (pass (ResultEnd 0) Answer ∷ own) answered refl i h c there
 
@@ -391,4 +413,4 @@ module _ (r : Plan) (d : ℕ) (f : Form) (gs : List Stage) (node : IsNode r d f 
 
 pub lists_are_staged : ListsAreStaged
 lists_are_staged r d f gs s t xs node idle runs turns =
-    along r d f gs node xs AtRest s t [] (idle_fits r s idle) (idle, (refl, λ k h. refl)) runs turns
+    along r d f gs (ground_node_is_open r d f gs node) xs AtRest s t [] (idle_fits r s idle) (idle, (refl, λ k h. refl)) runs turns

@@ -4,10 +4,19 @@
 use Rattle.std.specs.Prelude.{◌≡◌, false, List}
 use Rattle.gos_types.specs.Types.{IsDone}
 use Rattle.gos_plan.specs.Plans.{End, ResultEnd, Plan, IsRight}
-use Rattle.gos_plan.specs.Tokens.{Tokens, Element, IsIdle}
+use Rattle.gos_plan.specs.Tokens.{Tokens, Element, IsPortEnd, IsIdle}
 use Rattle.gos_plan.specs.Orderly.{Open, none_open, OrderlyFrom}
 use Rattle.gos_realises.specs.Realises.{AllGround}
 
+-- After an orderly list from an idle state to an idle state no handshake is open, if none is that a port has the name of.
+abbrev pub OpenIdleIsClosed : Type 0
+OpenIdleIsClosed =
+    (p : Plan) (xs : List Element) (o : Open) (s t : Tokens)
+    → IsRight p → IsIdle p s → OrderlyFrom p xs none_open s o t → IsIdle p t
+    → ((e : End) → IsPortEnd e → o e ≡ false) → (e : End) → o e ≡ false
+
+-- With ground imports the surroundings ask at the result alone.
+--
 -- After an orderly list from an idle state to an idle state no handshake is open, if the result's is not.
 abbrev pub IdleIsClosed : Type 0
 IdleIsClosed =

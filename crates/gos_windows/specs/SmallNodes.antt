@@ -2,7 +2,7 @@
 --
 -- Read first: Windows; SmallWebs of gos_webs. They show that these definitions can be met and can be missed.
 use Rattle.std.specs.Prelude.{ℕ, zero, suc, List, [], ◌∷◌, Option, Some, None, codes}
-use Rattle.gos_types.specs.Types.{Com}
+use Rattle.gos_types.specs.Types.{Com, Fun}
 use Rattle.gos_model.specs.Terms as terms
 use Rattle.gos_model.specs.Typing.{Imported}
 use Rattle.gos_plan.specs.Kinds.{Skip, Seq, Share}
@@ -14,6 +14,7 @@ use Rattle.gos_webs.specs.Cutting.{Cut}
 use Rattle.gos_sessions.specs.Sessions.{Form, Sequence}
 use Rattle.gos_windows.specs.Regions.{Serving, IsRegion, IsLoyal}
 use Rattle.gos_windows.specs.Nodes.{Stage, IsNode}
+use Rattle.gos_windows.specs.OpenNodes.{IsOpenStage, IsOpenNode}
 
 -- the second Skip, cut out
 abbrev pub number_of_second : ℕ → Option ℕ
@@ -49,6 +50,36 @@ TwiceIsNode = IsNode twice_plan 0 twice_form (first_stage ∷ second_stage ∷ [
 
 abbrev pub OneIsMissing : Type 0
 OneIsMissing = IsNode twice_plan 0 twice_form (first_stage ∷ []) → ⊥
+
+-- It is a node with imports of any types, of which it has none.
+abbrev pub TwiceIsOpen : Type 0
+TwiceIsOpen = IsOpenNode twice_plan 0 twice_form (first_stage ∷ second_stage ∷ [])
+
+-- a plan with an import `f : com -> com`: the first child of its own part is asked for by f's result, and a Skip answers f's argument
+abbrev pub function_plan : Plan
+function_plan =
+    record {
+      weight = 10;
+      imports = record { name = codes "f"; ty = Fun Com Com } ∷ [];
+      outcome = Com;
+      parts = Seq 0 ∷ Skip ∷ [];
+      joints =
+          joint (ResultEnd 0) (PartEnd 0 2) ∷ joint (PartEnd 0 0) (ImportEnd 0 1) ∷ joint (ImportEnd 0 0) (PartEnd 1 0) ∷ [];
+    }
+
+-- that child without the Skip
+abbrev pub deaf_stage : Stage
+deaf_stage =
+    record {
+      cut = record { part = λ i. 1; number = λ i. None; outer = λ e. e; inner = λ e. None };
+      sides = [];
+      plan = record function_plan { parts = []; joints = joint (ResultEnd 0) (ImportEnd 0 1) ∷ [] };
+      asked_at = 0;
+    }
+
+-- is no stage: f asks for its argument, and the stage doesn't hear it
+abbrev pub DeafIsNone : Type 0
+DeafIsNone = IsOpenStage function_plan 0 deaf_stage → ⊥
 
 -- a Skip that both children share
 abbrev pub both_plan : Plan

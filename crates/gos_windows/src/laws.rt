@@ -1,8 +1,9 @@
 // What the definitions give. Each theorem is the contract of a function that does nothing.
-ghost use Rattle.gos_windows.specs.Closing.{IdleIsClosed};
+ghost use Rattle.gos_windows.specs.Closing.{IdleIsClosed, OpenIdleIsClosed};
 ghost use Rattle.gos_windows.specs.Keeping.{TurnsKeepProtocol};
 ghost use Rattle.gos_windows.specs.Nodes.{NodeIsRegular, NodeKeepsTurns};
-ghost use Rattle.gos_windows.specs.SmallNodes.{CallIsLoyal, CallIsRegion, OneIsMissing, SharedForBoth, TwiceIsNode, WrongSideIsNone};
+ghost use Rattle.gos_windows.specs.OpenNodes.{GroundNodeIsOpen, OpenNodeIsRegular};
+ghost use Rattle.gos_windows.specs.SmallNodes.{CallIsLoyal, CallIsRegion, DeafIsNone, OneIsMissing, SharedForBoth, TwiceIsNode, TwiceIsOpen, WrongSideIsNone};
 ghost use Rattle.gos_windows.specs.Windows.{ListsAreStaged, OwnPartCan, QuietIsWithin};
 
 /// Inputs that keep turns keep the protocol.
@@ -10,9 +11,11 @@ pub fn turns_keep_protocol()
     ensures { TurnsKeepProtocol }
 {}
 
-/// Where an orderly list leads from an idle state to an idle state, no handshake is open but perhaps the result's.
+/// Where an orderly list leads from an idle state to an idle state, no handshake is open but what ports asked; with ground
+/// imports, perhaps the result's.
 pub fn idle_is_closed()
-    ensures { IdleIsClosed }
+    ensures ground { IdleIsClosed }
+    ensures any { OpenIdleIsClosed }
 {}
 
 /// From the request of a child to its answer, what a node does is a list of the child's, from an idle state of it. Where
@@ -29,10 +32,19 @@ pub fn nodes_are_regular()
     ensures regular { NodeIsRegular }
 {}
 
-/// The plan of `skip ; skip` is a node of two stages, and with one of them left out it is none. A Share by which both
-/// children use one source is loyal to neither.
+/// A node whose imports may have any types is regular, and rests after its answer. One with ground imports is such a node.
+pub fn open_nodes_are_regular()
+    ensures regular { OpenNodeIsRegular }
+    ensures of_ground { GroundNodeIsOpen }
+{}
+
+/// The plan of `skip ; skip` is a node of two stages, and with one of them left out it is none. A child that asks a
+/// function, and lacks the end at which this asks for its argument, is no stage. A Share by which both children use one
+/// source is loyal to neither.
 pub fn small_nodes()
     ensures node { TwiceIsNode }
+    ensures open_node { TwiceIsOpen }
+    ensures deaf { DeafIsNone }
     ensures missing { OneIsMissing }
     ensures both { SharedForBoth }
 {}

@@ -6,5 +6,6 @@
 mod laws;
 
 pub use laws::{
-    idle_is_closed, lists_of_nodes, nodes_are_regular, small_nodes, turns_keep_protocol,
+    idle_is_closed, lists_of_nodes, nodes_are_regular, open_nodes_are_regular, small_nodes,
+    turns_keep_protocol,
 };

@@ -22,7 +22,8 @@ use Rattle.gos_nodes.proofs.SilentLemmas.{inner_stays}
 use Rattle.gos_windows.specs.Regions.{whole_element}
 use Rattle.gos_windows.specs.Nodes.{Stage}
 use Rattle.gos_windows.specs.Windows.{seen}
-use Rattle.gos_windows.proofs.TurnLemmas.{Turned, answer_turned, way_in_of}
+use Rattle.gos_windows.proofs.GroundLemmas.{answer_turned}
+use Rattle.gos_windows.proofs.TurnLemmas.{Turned, way_in_of}
 use Rattle.gos_writes.specs.OneSession.{Stays, AllStay}
 use Rattle.gos_writes.specs.Writes.{waits_at, IsWriteStage, HasStages}
 use Rattle.gos_writes.specs.Windows.{StirsOnly}

@@ -100,7 +100,7 @@ module _
   )
 
   first : Turned q (pass (ResultEnd 0) Request ∷ [])
-  first = first_turned q lone.base.ground done
+  first = first_turned q done
 
   turn : KeepsTurns q [] (pass (ResultEnd 0) (way_in (contact_at q (ResultEnd 0))))
   turn = subst (λ (way : Direction). KeepsTurns q [] (pass (ResultEnd 0) way)) (sym (result_in q done)) (refl, first)

@@ -16,9 +16,9 @@ use Rattle.gos_realises.proofs.ToldLemmas.{there_is}
 use Rattle.gos_webs.specs.Cutting.{StandsIn}
 use Rattle.gos_windows.specs.Nodes.{Stage, IsRestful, OutputsInTurn}
 use Rattle.gos_windows.specs.Windows.{seen}
-use Rattle.gos_windows.proofs.PortLemmas.{stands_contact}
-use Rattle.gos_windows.proofs.TurnLemmas.{Turned, way_out_of, result_out, OnlyResult}
-use Rattle.gos_windows.proofs.GroundLemmas.{closed_turned, turned_shut, Shut, shut_turned, one_place}
+use Rattle.gos_windows.proofs.PortLemmas.{stands_contact, one_place}
+use Rattle.gos_windows.proofs.TurnLemmas.{Turned, way_out_of, result_out, OnlyResult, closed_turned}
+use Rattle.gos_windows.proofs.GroundLemmas.{turned_shut, Shut, shut_turned}
 use Rattle.gos_windows.proofs.NodeLemmas.{InTurn, first_turn, turns_after}
 use Rattle.gos_writes.specs.Writes.{IsWriteStage, IsWrite, AreRestful}
 use Rattle.gos_writes.proofs.OneSessionLemmas.{then_one}
@@ -171,7 +171,7 @@ module _ (r : Plan) (d : ℕ) (wide : ℕ) (gs : List Stage) (node : IsWrite r d
   answer_out : (k : ℕ) (past : List Pass) → OnlyResult past → KeepsTurns r past (pass (ResultEnd 0) (way_out (contact_at r (ResultEnd 0))))
   answer_out k past only =
       subst (λ (way : Direction). KeepsTurns r past (pass (ResultEnd 0) way)) (sym (result_out r (done r d wide gs node)))
-      (only.0, closed_turned r node.base.ground (done r d wide gs node) (pass (ResultEnd 0) Answer ∷ past) only.1)
+      (only.0, closed_turned r (done r d wide gs node) (pass (ResultEnd 0) Answer ∷ past) only.1)
 
   out_turn : (pl : Place gs) (x : Element) (s t : Tokens) (past : List Pass) → AllFit r s → Holds r d wide gs node pl s past → Does r x s t → InTurn r past x → OutTurn r past x
   out_turn pl (Fire i slot) s t past fit holding does turn = tt

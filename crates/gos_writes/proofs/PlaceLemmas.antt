@@ -59,7 +59,7 @@ module _ (r : Plan) (d : ℕ) (wide : ℕ) (gs : List Stage) (node : IsWrite r d
       let passes = subst (λ (o : Option Contact). Passes r (Out b v) o s t) there does.1 in
       absurd (idle_token r s idle b (way_taken c.role) v passes.0)
   rest_step (In b v) s t past idle closed does turn =
-      elim (in_turn_at r d wide gs node b v s t past does turn) [
+      elim (in_turn_at r d wide gs node b v s t past does turn.0) [
         | inl (is, zero_is, shut, leads) ↦ (
           (λ l. In (is l) (zero_is l)),
           subst (λ (x : Tokens). HoldsOnly r (PartEnd d 2) Request 0 x) (sym leads)
@@ -151,7 +151,7 @@ module _ (r : Plan) (d : ℕ) (wide : ℕ) (gs : List Stage) (node : IsWrite r d
 
   pub asked_step : (x : Element) (s t : Tokens) (past : List Pass) → HoldsOnly r (PartEnd d 2) Request 0 s → OnlyResult past → Does r x s t → InTurn r past x
       → AskedStep x s t (after r x past)
-  asked_step (In b v) s t past holding only does turn = absurd (no_input b v s t past only does turn)
+  asked_step (In b v) s t past holding only does turn = absurd (no_input b v s t past only does turn.0)
   asked_step (Out b v) s t past holding only does turn =
       let out = out_answer b v Request 0 s t (PartEnd d 2) (own_place r d wide gs node) holding does in
       let clash : Answer ≡ Request = out.1 in absurd (cc clash)
@@ -208,7 +208,7 @@ module _ (r : Plan) (d : ℕ) (wide : ℕ) (gs : List Stage) (node : IsWrite r d
   -- answered: the answer alone can go out
   pub answer_step : (k : ℕ) (x : Element) (s t : Tokens) (past : List Pass) → HoldsOnly r (ResultEnd 0) Answer k s → OnlyResult past → Does r x s t → InTurn r past x
       → (x ≡ Out (ResultEnd 0) k) × IsIdle r t × NoneOpen (after r x past)
-  answer_step k (In b v) s t past holding only does turn = absurd (no_input b v s t past only does turn)
+  answer_step k (In b v) s t past holding only does turn = absurd (no_input b v s t past only does turn.0)
   answer_step k (Fire i slot) s t past holding only (v, row, held, by, leads) turn =
       elim (table.no_other wide (s.state d) (Ans 2) row by_own) [
         | inl (resting, is) ↦ (let clash : Ans 2 ≡ Req 2 = is in absurd (cc clash))

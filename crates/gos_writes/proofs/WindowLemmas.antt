@@ -344,7 +344,7 @@ module _ (r : Plan) (d : ℕ) (wide : ℕ) (gs : List Stage) (node : IsWrite r d
     pub stage_step : (x : Element) → Does r x s w → InTurn r past x
         → StageStep g has hs before s w (after r x past) x ⊎ OwnStep g has hs before s w (after r x past) x
     stage_step (Out b v) does turn = inl (out_step g has hs before s w past going fit b v does)
-    stage_step (In b v) does turn = inl (in_step g has hs before s w past going fit b v does turn)
+    stage_step (In b v) does turn = inl (in_step g has hs before s w past going fit b v does turn.0)
     stage_step (Fire i slot) does turn = by_number (g.cut.number i) refl
       where
         by_number : (o : Option ℕ) → g.cut.number i ≡ o

@@ -5,12 +5,14 @@ use Rattle.gos_netlist.specs.Nets.{Netlist}
 use Rattle.gos_plan.specs.Plans.{Plan}
 use Rattle.gos_link.specs.declared.build.Build.{Build}
 use Rattle.gos_command.specs.declared.report.Report.{Report}
-use Rattle.gos_circuits.specs.Linked.{IsWhole, IsWritten}
+use Rattle.gos_circuits.specs.Plans.{IsWritten}
+use Rattle.gos_circuits.specs.Linked.{IsWhole, KeepsPaceOfWhole}
 
--- the circuit of the linked plan was written, and the report has its weight
+-- the circuit of the linked plan was written, which keeps pace with the linked programs, and the report has its weight
 pub record IsWholeDone (old new : Option Files) (b : Build) (report : Report) : Type 0 where
   pub whole : Plan
   pub net : Netlist
   pub linked : IsWhole old b whole
   pub written : IsWritten old new b whole net
+  pub pace : KeepsPaceOfWhole old b whole linked net
   pub tells : report ≡ record { weight = Some whole.weight; run = None }

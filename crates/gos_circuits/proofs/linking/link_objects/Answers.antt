@@ -1,65 +1,56 @@
-use Rattle.std.proofs.Common.{◌≡◌, ◌∙◌, ap, inr, length, List, Option, Some, None, sym, subst}
+use Rattle.std.proofs.Common.{◌≡◌, ◌∙◌, length, Err, List, Some, None, ap, refl, sym, subst}
 use Rattle.std.specs.Prelude.{IfSome}
-use Rattle.gos_outside.specs.Files.{Files}
-use Rattle.gos_netlist.specs.Nets.{Netlist}
-use Rattle.gos_plan.specs.Seen.{SeenPlan, plan_of}
+use Rattle.std.proofs.lemmas.Result.{err_from_is_err_and}
+use Rattle.gos_plan.specs.Seen.{SeenPlan}
 use Rattle.gos_link.specs.declared.build.Instance.{Instance}
 use Rattle.gos_link.specs.Linked.{AllKeepLimits, plans_of}
-use Rattle.gos_command.specs.declared.report.Report.{Report}
-use Rattle.gos_command.proofs.EndLemmas.{of_result_both}
-use Rattle.gos_circuits.specs.Objects.{HoldPlans}
-use Rattle.gos_circuits.specs.Linked.{IsWhole, IsWritten, IsWriteCall, IsWriteCutShort}
-use Rattle.gos_circuits.specs.inner.Wholes.{IsWholeDone}
-use Rattle.gos_circuits.proofs.LinkLemmas.{whole_done}
-use Rattle.gos_circuits.proofs.linking.link_objects.Given.{Over}
+use Rattle.gos_command.specs.declared.stop.Stop.TheVariants.{StoreFailed, NoMemory}
+use Rattle.gos_command.proofs.EndLemmas.{of_stopped}
+use Rattle.gos_circuits.specs.Linked.{RejectsWhole}
+use Rattle.gos_circuits.proofs.LinkLemmas.{held_as, whole_done, rejected_plans, plans_call, plans_cut_short}
 use Rattle.gos_circuits.proofs.linking.link_objects.Goals as goal
 
--- the plans that are linked are those that the objects hold
-held_by : (g : Over) (c : goal.After-drop-plans g) → IfSome (g.S.Store.contents c.args.store.now) (λ files. HoldPlans files c.args.build.now.instances.items c.as_slice-2.result.now)
-held_by g c =
-    let old = g.S.Store.contents c.args.store.now in
-    subst (λ (ps : List SeenPlan). IfSome old (λ files. HoldPlans files c.args.build.now.instances.items ps)) (sym c.as_slice-2.ensures.value)
-    (subst (λ (is : List Instance). IfSome old (λ files. HoldPlans files is c.in_ok-plans.plans.items)) c.as_slice.ensures.value c.in_ok-plans.ensures.held)
+pub returns-clause-done : goal.returns-clause-done
+returns-clause-done g c =
+    let linked = c.in_ok-linked.linked in
+    let each = ap (λ (ps : List SeenPlan). length ps) c.as_slice-2.ensures.value
+    ∙ (c.in_ok-plans.ensures.each ∙ ap (λ (is : List Instance). length is) c.as_slice.ensures.value) in
+    whole_done c.paced_circuits.ensures.linked (g.S.Store.contents c.args.store.now) (g.S.Store.contents c.plans_in.new.store) (g.S.Store.contents c.link_plans.new.store) c.args.build.now
+    c.as_slice-2.result.now linked.weight linked.net (record { weight = Some linked.weight; run = None }) c.in_ok-plans.ensures.same_files each
+    (held_as (g.S.Store.contents c.args.store.now) c.as_slice.result.now c.args.build.now.instances.items c.in_ok-plans.plans.items c.as_slice-2.result.now
+    c.as_slice.ensures.value c.as_slice-2.ensures.value c.in_ok-plans.ensures.held) c.in_ok-linked.ensures.done refl
 
-is_whole : (g : Over) (c : goal.After-drop-plans g) → IsWhole (g.S.Store.contents c.args.store.now) c.args.build.now (plan_of c.in-Ok.whole)
-is_whole g c = record { plans = c.as_slice-2.result.now; held = held_by g c; linked = c.in-Ok.ensures.linked }
-
-pub returns-in-Ok-clause-done : goal.returns-in-Ok-clause-done
-returns-in-Ok-clause-done g c =
+pub returns-in_err-linked-clause-rejected : goal.returns-in_err-linked-clause-rejected
+returns-in_err-linked-clause-rejected g c =
     let old = g.S.Store.contents c.args.store.now in
-    let mid = g.S.Store.contents c.plans_in.new.store in
-    let new = g.S.Store.contents c.write_circuit.new.store in
     let b = c.args.build.now in
-    let whole = plan_of c.in-Ok.whole in
-    of_result_both (λ (report : Report). (net : Netlist) × IsWritten mid new b whole net)
-    (λ (report : Report). report ≡ record { weight = Some whole.weight; run = None })
-    (λ (report : Report). IsWholeDone old new b report) c.write_circuit.result
-    (λ report written tells. whole_done old mid new b c.as_slice-2.result.now whole report c.in_ok-plans.ensures.same_files (held_by g c) c.in-Ok.ensures.linked written tells)
-    c.write_circuit.ensures.written c.write_circuit.ensures.tells
+    let p = err_from_is_err_and c.from_residual-in_err-linked.result c.from_residual-in_err-linked.ensures.1 in
+    rw (p.1, p.2)
+    (of_stopped _ (λ fault line. IfSome old (λ files. RejectsWhole files c.args.own.now b fault line)) c.in_err-linked.field-0.0
+    (λ fault line h. rejected_plans old c.args.own.now b c.as_slice-2.result.now fault line (held_as (g.S.Store.contents c.args.store.now) c.as_slice.result.now c.args.build.now.instances.items c.in_ok-plans.plans.items c.as_slice-2.result.now
+    c.as_slice.ensures.value c.as_slice-2.ensures.value c.in_ok-plans.ensures.held) h) c.in_err-linked.ensures.rejected)
 
-pub returns-in-Ok-clause-failed_call : goal.returns-in-Ok-clause-failed_call
-returns-in-Ok-clause-failed_call g c = λ failed.
-    let new = g.S.Store.contents c.write_circuit.new.store in
-    let whole = plan_of c.in-Ok.whole in
-    let fault = g.S.Store.last_fault c.write_circuit.new.store in
-    inr (
-      whole,
-      is_whole g c,
-      subst (λ (told : Option Files). IsWriteCall told new c.args.build.now whole fault) c.in_ok-plans.ensures.same_files (c.write_circuit.ensures.failed_call failed),
-    )
+pub returns-in_err-linked-clause-failed_call : goal.returns-in_err-linked-clause-failed_call
+returns-in_err-linked-clause-failed_call g c =
+    let p = err_from_is_err_and c.from_residual-in_err-linked.result c.from_residual-in_err-linked.ensures.1 in
+    rw (p.1, p.2)
+    (λ failed. let at : c.in_err-linked.field-0.0 ≡ StoreFailed = cc in
+    plans_call (g.S.Store.contents c.args.store.now) (g.S.Store.contents c.plans_in.new.store) (g.S.Store.contents c.link_plans.new.store) c.args.build.now
+    c.as_slice-2.result.now (g.S.Store.last_fault c.link_plans.new.store) c.in_ok-plans.ensures.same_files (held_as (g.S.Store.contents c.args.store.now) c.as_slice.result.now c.args.build.now.instances.items c.in_ok-plans.plans.items c.as_slice-2.result.now
+    c.as_slice.ensures.value c.as_slice-2.ensures.value c.in_ok-plans.ensures.held)
+    (c.in_err-linked.ensures.failed_call (ap Err at)))
 
-pub returns-in-Ok-clause-memory_files : goal.returns-in-Ok-clause-memory_files
-returns-in-Ok-clause-memory_files g c = λ failed.
-    let new = g.S.Store.contents c.write_circuit.new.store in
-    let whole = plan_of c.in-Ok.whole in
-    inr (
-      whole,
-      is_whole g c,
-      subst (λ (told : Option Files). IsWriteCutShort told new c.args.build.now whole) c.in_ok-plans.ensures.same_files (c.write_circuit.ensures.memory_files failed),
-    )
+pub returns-in_err-linked-clause-memory_files : goal.returns-in_err-linked-clause-memory_files
+returns-in_err-linked-clause-memory_files g c =
+    let p = err_from_is_err_and c.from_residual-in_err-linked.result c.from_residual-in_err-linked.ensures.1 in
+    rw (p.1, p.2)
+    (λ failed. let at : c.in_err-linked.field-0.0 ≡ NoMemory = cc in
+    plans_cut_short (g.S.Store.contents c.args.store.now) (g.S.Store.contents c.plans_in.new.store) (g.S.Store.contents c.link_plans.new.store) c.args.build.now
+    c.as_slice-2.result.now c.in_ok-plans.ensures.same_files (held_as (g.S.Store.contents c.args.store.now) c.as_slice.result.now c.args.build.now.instances.items c.in_ok-plans.plans.items c.as_slice-2.result.now
+    c.as_slice.ensures.value c.as_slice-2.ensures.value c.in_ok-plans.ensures.held) (c.in_err-linked.ensures.memory_files (ap Err at)))
 
-pub link-requires : goal.link-requires
-link-requires g c =
+pub link_plans-requires-clause-plans : goal.link_plans-requires-clause-plans
+link_plans-requires-clause-plans g c =
     let plans : c.as_slice-2.result.now ≡ c.in_ok-plans.plans.items = c.as_slice-2.ensures.value in
     record {
       each = ap (λ (ps : List SeenPlan). length ps) plans ∙ (c.in_ok-plans.ensures.each ∙ ap (λ (is : List Instance). length is) c.as_slice.ensures.value);

@@ -2,6 +2,7 @@ use Rattle.std.proofs.Common.{◌≡◌, ◌∙◌, take}
 use Rattle.gos_outside.specs.Files.{bytes_at}
 use Rattle.gos_command.proofs.EndLemmas.{of_some}
 use Rattle.gos_objects.proofs.CheckedLemmas.{typed_file}
+use Rattle.gos_objects.proofs.CompiledLemmas.{few}
 use Rattle.gos_objects.proofs.checking.module_in.Goals as goal
 
 pub returns-in-Ok-clause-typed : goal.returns-in-Ok-clause-typed
@@ -11,3 +12,6 @@ returns-in-Ok-clause-typed g c =
     (of_some (λ files. c.in_ok-text.text.items ≡ take 65537 (bytes_at files c.args.source.now)) (λ files. c.as_slice.result.now ≡ take 65537 (bytes_at files c.args.source.now)) old
     (λ files e. c.as_slice.ensures.value ∙ e) c.in_ok-text.ensures.read)
     c.in-Ok.ensures.typed
+
+pub returns-in-Ok-clause-few_imports : goal.returns-in-Ok-clause-few_imports
+returns-in-Ok-clause-few_imports g c = few c.as_slice.result.now c.in-Ok.linear c.in-Ok.ensures.typed

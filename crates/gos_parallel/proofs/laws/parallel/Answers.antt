@@ -1,6 +1,12 @@
-use Rattle.gos_parallel.proofs.RegularLemmas.{parallel_is_regular}
+use Rattle.gos_parallel.proofs.RegularLemmas.{open_parallel_is_regular, open_parallel_is_restful, parallel_is_regular}
 use Rattle.gos_parallel.proofs.RealisesLemmas.{parallel_realises}
 use Rattle.gos_parallel.proofs.laws.parallel.Goals as goal
+
+pub returns-clause-any : goal.returns-clause-any
+returns-clause-any c = open_parallel_is_regular
+
+pub returns-clause-restful : goal.returns-clause-restful
+returns-clause-restful c = open_parallel_is_restful
 
 pub returns-clause-regular : goal.returns-clause-regular
 returns-clause-regular c = parallel_is_regular

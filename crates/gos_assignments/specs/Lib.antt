@@ -1,0 +1,6 @@
+-- In reading order: a file uses only files above it.
+pub mod Variables
+pub mod Made
+pub mod Sides
+pub mod Cases
+pub mod SmallAssignments

@@ -1,0 +1,6 @@
+mod ApartLemmas
+mod GroundLemmas
+mod ObjectLemmas
+mod PlansLemmas
+mod PacedLemmas
+mod BuildLemmas

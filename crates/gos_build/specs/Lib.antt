@@ -1,0 +1,7 @@
+-- In reading order: a file uses only files above it.
+pub mod Objects
+pub mod Programs
+pub mod SmallPrograms
+pub mod Built
+pub mod Paced
+pub mod inner

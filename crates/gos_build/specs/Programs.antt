@@ -1,0 +1,25 @@
+-- The program of the linked modules of a build.
+--
+-- Read first: Linking of gos_model (the program that links make of programs); Services of gos_link (what bind lines mean). A
+-- service speaks of an import by its number, and the program by its name.
+use Rattle.std.specs.Prelude.{ℕ, List, [], map, Option, Some, None, slice_get}
+use Rattle.gos_syntax.specs.Modules.{SeenModule}
+use Rattle.gos_model.specs.Typing.{Imports}
+use Rattle.gos_model.specs.Moves.{Program}
+use Rattle.gos_model.specs.Sources.{program_of}
+use Rattle.gos_model.specs.Linking.{Instances, Bind, substituted}
+use Rattle.gos_link.specs.declared.services.Service.{Service}
+use Rattle.gos_linked.specs.Linked.{name_if}
+
+-- the imports of a program that there is, or of none
+abbrev pub imports_if : Option Program → Imports
+imports_if None = []
+imports_if (Some p) = p.imports
+
+-- what a service binds, among these programs
+abbrev pub bind_in : Instances → Service → Bind
+bind_in ps s = record { user = s.user; import = name_if (slice_get (imports_if (slice_get ps s.user)) s.import); giver = s.giver }
+
+-- the root's program, in which each import that is served is the program of its giver
+abbrev pub program_along : List SeenModule → List Service → ℕ → Program
+program_along ms ss root = substituted (map program_of ms) (map (bind_in (map program_of ms)) ss) root

@@ -1,0 +1,25 @@
+// What the circuits of plans that realise programs do. Each theorem is the contract of a function that does nothing.
+
+ghost use Rattle.gos_circuits.specs.Paced.{LinkedCircuitsKeepPace, ModuleCircuitsKeepPace, OpenCircuitsKeepPace};
+ghost use Rattle.gos_circuits.specs.SmallPaced.{CallHasPorts, FunctionHasNone};
+
+use gos_linked::linked_modules;
+use gos_ports::ports;
+
+/// The circuit of a slim plan keeps pace with each term that the plan realises with any supplies, where its imports have
+/// different names and ground types and its result is a command or an expression; so it does where the plan realises a
+/// module, and where it links plans that do.
+pub fn paced_circuits()
+    ensures open_imports { OpenCircuitsKeepPace }
+    ensures modules { ModuleCircuitsKeepPace }
+    ensures linked { LinkedCircuitsKeepPace }
+{
+    ports();
+    linked_modules();
+}
+
+/// A command that calls an imported one has ports as a circuit may have, and a function has not.
+pub fn small_circuits()
+    ensures call { CallHasPorts }
+    ensures function { FunctionHasNone }
+{}

@@ -1,0 +1,4 @@
+pub mod BranchLemmas
+pub mod SideLemmas
+pub mod EndLemmas
+mod SmallLemmas

@@ -1,0 +1,6 @@
+pub mod BranchLemmas
+pub mod NumberLemmas
+pub mod ChildLemmas
+pub mod PartLemmas
+pub mod FormLemmas
+mod SmallForkLemmas

@@ -1,0 +1,201 @@
+-- A node `m || n` of a typed term has no splits: what is split would be free on both sides.
+use Rattle.std.specs.Prelude.{◌≡◌, ℕ, zero, suc, ◌+◌, ◌-◌, ◌<◌, ◌||◌, Bool, true, false, List, [], ◌∷◌, ◌++◌, length, nat_eq, if◌then◌else◌}
+use Rattle.std.proofs.Common.{refl, sym, subst, arith, inl, inr}
+use Rattle.gos_types.specs.Types.{Type', Var, type_of}
+use Rattle.gos_model.specs.Terms as terms
+use Rattle.gos_model.specs.Terms.{Term}
+use Rattle.gos_model.specs.Typing.{Imports, Typed, Apart, Thing, Variable, Named}
+use Rattle.gos_check.specs.declared.linear.Split.{Split}
+use Rattle.gos_check.specs.Nodes.{Numbered, Closed, Use, Under, One, Two, If, OfFun, OfNew, OfFst, OfSnd, OfDeref, OfNot, OfApp, OfBoth, OfSeq, OfPar, OfWhile, OfAssign, OfBin, Meaning, meaning, below, shifted, inside, inside_one, argument_of, node_seen}
+use Rattle.gos_check.specs.Linearity.{times, used, made, sides, import_at}
+use Rattle.gos_check.specs.Checked.{program_in}
+use Rattle.gos_check.proofs.TimesLemmas.{times-append}
+use Rattle.gos_compile.specs.Wiring.{Types, all_types}
+use Rattle.gos_compile.specs.Typed.{CheckedIsTyped}
+use Rattle.gos_leaves.proofs.CountLemmas.{left_in, right_in}
+use Rattle.gos_leaves.proofs.LostLemmas.{is_loc, uses_stand, lost_in, lost}
+use Rattle.gos_leaves.proofs.StandLemmas.{none_lost}
+use Rattle.gos_wired.specs.Modules.{numbers_from}
+use Rattle.gos_numbers.specs.Kept.{IsKept}
+use Rattle.gos_numbers.specs.Inherited.{own_numbers, first_numbers}
+use Rattle.gos_numbers.specs.Unsplit.{ParallelsAreUnsplit, CheckedIsUnsplit}
+use Rattle.gos_numbers.proofs.ListLemmas.{either}
+use Rattle.gos_numbers.proofs.ApartLemmas.{side_comes}
+use Rattle.gos_numbers.proofs.InheritedLemmas.{body_is_kept, part_is_kept, both_are_kept, three_are_kept}
+use Rattle.gos_numbers.proofs.RootLemmas.{two_none, first_kept, checked_is_kept}
+use Rattle.gos_numbers.proofs.ReachLemmas.{reach_left, reach_right}
+use Rattle.gos_numbers.proofs.FreeLemmas.{IsThing, free, two_used, two_away}
+
+-- numbers stand for variables, imports and locations alone
+abbrev IsName : Term → Type 0
+IsName (terms.Bound i) = Unit {0}
+IsName (terms.Import x) = Unit {0}
+IsName (terms.Loc l) = Unit {0}
+IsName m = ⊥
+
+abbrev AreNames : Meaning → Type 0
+AreNames env = (k : ℕ) → IsName (env k)
+
+shifted_name : (m : Term) → IsName m → IsName (shifted m)
+shifted_name (terms.Bound i) h = tt
+shifted_name m h = h
+
+below_names : (n : ℕ) (env : Meaning) → AreNames env → AreNames (below n env)
+below_names n env names k = by (nat_eq k n)
+  where
+    by : (b : Bool) → IsName (if b then terms.Bound 0 else shifted (env k))
+    by true = tt
+    by false = shifted_name (env k) (names k)
+
+one_names : (s : Split) (env : Meaning) → AreNames env → AreNames (inside_one s env)
+one_names s env names k = by (nat_eq k s.left || nat_eq k s.right)
+  where
+    by : (b : Bool) → IsName (if b then env s.of else env k)
+    by true = names s.of
+    by false = names k
+
+inside_names : (ss : List Split) (env : Meaning) → AreNames env → AreNames (inside ss env)
+inside_names [] env names = names
+inside_names (s ∷ ss) env names = inside_names ss (inside_one s env) (one_names s env names)
+
+import_names : (is : Imports) → AreNames (import_at is)
+import_names [] k = tt
+import_names (i ∷ is) zero = tt
+import_names (i ∷ is) (suc k) = import_names is k
+
+named : (m : Term) → IsName m → is_loc m ≡ false → (th : Thing) × IsThing 0 m th
+named (terms.Bound i) h stands = (Variable (i - 0), (omega arith, refl))
+named (terms.Import x) h stands = (Named x, refl)
+named (terms.Loc l) h stands = absurd (cc stands)
+named m h stands = absurd h
+
+-- what is split would be free on both sides
+parallel_unsplit : (types : Types) (ns : List ℕ) (t : Type') (ss : List Split) (m n : Numbered) (env : Meaning) → IsKept types ns (Two t ss OfPar m n)
+    → AreNames env → lost_in env ss ≡ [] → Apart (meaning (inside ss env) m) (meaning (inside ss env) n) → ss ≡ []
+parallel_unsplit types ns t [] m n env is names none apart = refl
+parallel_unsplit types ns t (s ∷ ss) m n env is names none apart =
+    let (first, second, rest) = both_are_kept types ns t (s ∷ ss) OfPar m n is in
+    let use_two = two_used types ns t (s ∷ ss) OfPar m n is in
+    let (a, c, u, same) = reach_left s ss env (λ j. times j (used m) + times j (used n)) use_two in
+    let (b, d, v, again) = reach_right s ss env (λ j. times j (used m) + times j (used n)) use_two in
+    let (th, thing) = named (env s.of) (names s.of) (first_kept env s ss none).0 in
+    let thing_a : IsThing 0 (inside (s ∷ ss) env a) th = subst (λ (x : Term). IsThing 0 x th) (sym same) thing in
+    let thing_b : IsThing 0 (inside (s ∷ ss) env b) th = subst (λ (x : Term). IsThing 0 x th) (sym again) thing in
+    let away_a = unmade a (side_comes (s ∷ ss) s.left a c (left_in s (s ∷ ss) (inl refl))) in
+    let away_b = unmade b (side_comes (s ∷ ss) s.right b d (right_in s (s ∷ ss) (inl refl))) in
+    elim (either (times a (used m)) (times a (used n)) u) [
+      | inl h ↦
+          elim (either (times b (used m)) (times b (used n)) v) [
+            | inl j ↦ absurd (is.apart.0 s a b (inl refl) c d h j)
+            | inr j ↦ absurd (apart th
+                (free types (first_numbers (s ∷ ss) ns (used n)) m (inside (s ∷ ss) env) 0 a th first.kept h away_a.0 thing_a)
+                (free types (own_numbers (s ∷ ss) ns n) n (inside (s ∷ ss) env) 0 b th second.kept j away_b.1 thing_b))
+          ]
+      | inr h ↦
+          elim (either (times b (used m)) (times b (used n)) v) [
+            | inl j ↦ absurd (apart th
+                (free types (first_numbers (s ∷ ss) ns (used n)) m (inside (s ∷ ss) env) 0 b th first.kept j away_b.0 thing_b)
+                (free types (own_numbers (s ∷ ss) ns n) n (inside (s ∷ ss) env) 0 a th second.kept h away_a.1 thing_a))
+            | inr j ↦ absurd (is.apart.1 s a b (inl refl) c d h j)
+          ]
+    ]
+  where
+    unmade : (k : ℕ) → 0 < times k (sides (s ∷ ss)) → (times k (made m) ≡ 0) × (times k (made n) ≡ 0)
+    unmade k small =
+        let none = two_away types ns t (s ∷ ss) OfPar m n is k small in let two = times-append k (made m) (made n) in (omega (arith, none, two), omega (arith, none, two))
+
+unsplit : (types : Types) (ns : List ℕ) (m : Numbered) (i : Imports) (g : List Type') (env : Meaning) (t : Type') → IsKept types ns m
+    → AreNames env → Typed i g (meaning env m) t → lost env m ≡ [] → ParallelsAreUnsplit m
+unsplit types ns (Closed t ss c) i g env u is names typed none = tt
+unsplit types ns (Use t ss n) i g env u is names typed none = tt
+unsplit types ns (Under t ss OfFun n m) i g env u is names typed none =
+    unsplit types (ns ++ n ∷ []) m i (argument_of t ∷ g) (below n (inside ss env)) typed.0 (body_is_kept types ns t ss OfFun n m is).1
+    (below_names n (inside ss env) (inside_names ss env names)) typed.2 (two_none (lost_in env ss) (lost (below n (inside ss env)) m) none).1
+unsplit types ns (Under t ss (OfNew w) n m) i g env u is names typed none =
+    unsplit types (ns ++ n ∷ []) m i (Var w ∷ g) (below n (inside ss env)) u (body_is_kept types ns t ss (OfNew w) n m is).1
+    (below_names n (inside ss env) (inside_names ss env names)) typed.2 (two_none (lost_in env ss) (lost (below n (inside ss env)) m) none).1
+unsplit types ns (One t ss OfFst m) i g env u is names typed none =
+    unsplit types ns m i g (inside ss env) _ (part_is_kept types ns t ss OfFst m is).1.kept
+    (inside_names ss env names) typed.1 (two_none (lost_in env ss) (lost (inside ss env) m) none).1
+unsplit types ns (One t ss OfSnd m) i g env u is names typed none =
+    unsplit types ns m i g (inside ss env) _ (part_is_kept types ns t ss OfSnd m is).1.kept
+    (inside_names ss env names) typed.1 (two_none (lost_in env ss) (lost (inside ss env) m) none).1
+unsplit types ns (One t ss OfDeref m) i g env u is names typed none =
+    unsplit types ns m i g (inside ss env) _ (part_is_kept types ns t ss OfDeref m is).1.kept
+    (inside_names ss env names) typed.2 (two_none (lost_in env ss) (lost (inside ss env) m) none).1
+unsplit types ns (One t ss OfNot m) i g env u is names typed none =
+    unsplit types ns m i g (inside ss env) _ (part_is_kept types ns t ss OfNot m is).1.kept
+    (inside_names ss env names) typed.2 (two_none (lost_in env ss) (lost (inside ss env) m) none).1
+unsplit types ns (Two t ss OfApp m n) i g env u is names typed none =
+    let (row, both) = two_none (lost_in env ss) (lost (inside ss env) m ++ lost (inside ss env) n) none in
+    let (one, other) = two_none (lost (inside ss env) m) (lost (inside ss env) n) both in
+    let (first, second, rest) = both_are_kept types ns t ss OfApp m n is in (
+      tt,
+      unsplit types (first_numbers ss ns (used n)) m i g (inside ss env) _ first.kept (inside_names ss env names) typed.1 one,
+      unsplit types (own_numbers ss ns n) n i g (inside ss env) _ second.kept (inside_names ss env names) typed.2 other,
+    )
+unsplit types ns (Two t ss OfBoth m n) i g env u is names typed none =
+    let (row, both) = two_none (lost_in env ss) (lost (inside ss env) m ++ lost (inside ss env) n) none in
+    let (one, other) = two_none (lost (inside ss env) m) (lost (inside ss env) n) both in
+    let (first, second, rest) = both_are_kept types ns t ss OfBoth m n is in (
+      tt,
+      unsplit types (first_numbers ss ns (used n)) m i g (inside ss env) _ first.kept (inside_names ss env names) typed.3 one,
+      unsplit types (own_numbers ss ns n) n i g (inside ss env) _ second.kept (inside_names ss env names) typed.4 other,
+    )
+unsplit types ns (Two t ss OfSeq m n) i g env u is names typed none =
+    let (row, both) = two_none (lost_in env ss) (lost (inside ss env) m ++ lost (inside ss env) n) none in
+    let (one, other) = two_none (lost (inside ss env) m) (lost (inside ss env) n) both in
+    let (first, second, rest) = both_are_kept types ns t ss OfSeq m n is in (
+      tt,
+      unsplit types (first_numbers ss ns (used n)) m i g (inside ss env) _ first.kept (inside_names ss env names) typed.1 one,
+      unsplit types (own_numbers ss ns n) n i g (inside ss env) _ second.kept (inside_names ss env names) typed.2 other,
+    )
+unsplit types ns (Two t ss OfPar m n) i g env u is names typed none =
+    let (row, both) = two_none (lost_in env ss) (lost (inside ss env) m ++ lost (inside ss env) n) none in
+    let (one, other) = two_none (lost (inside ss env) m) (lost (inside ss env) n) both in
+    let (first, second, rest) = both_are_kept types ns t ss OfPar m n is in (
+      parallel_unsplit types ns t ss m n env is names row typed.3,
+      unsplit types (first_numbers ss ns (used n)) m i g (inside ss env) _ first.kept (inside_names ss env names) typed.1 one,
+      unsplit types (own_numbers ss ns n) n i g (inside ss env) _ second.kept (inside_names ss env names) typed.2 other,
+    )
+unsplit types ns (Two t ss OfWhile m n) i g env u is names typed none =
+    let (row, both) = two_none (lost_in env ss) (lost (inside ss env) m ++ lost (inside ss env) n) none in
+    let (one, other) = two_none (lost (inside ss env) m) (lost (inside ss env) n) both in
+    let (first, second, rest) = both_are_kept types ns t ss OfWhile m n is in (
+      tt,
+      unsplit types (first_numbers ss ns (used n)) m i g (inside ss env) _ first.kept (inside_names ss env names) typed.1 one,
+      unsplit types (own_numbers ss ns n) n i g (inside ss env) _ second.kept (inside_names ss env names) typed.2 other,
+    )
+unsplit types ns (Two t ss OfAssign m n) i g env u is names typed none =
+    let (row, both) = two_none (lost_in env ss) (lost (inside ss env) m ++ lost (inside ss env) n) none in
+    let (one, other) = two_none (lost (inside ss env) m) (lost (inside ss env) n) both in
+    let (first, second, rest) = both_are_kept types ns t ss OfAssign m n is in (
+      tt,
+      unsplit types (first_numbers ss ns (used n)) m i g (inside ss env) _ first.kept (inside_names ss env names) typed.2 one,
+      unsplit types (own_numbers ss ns n) n i g (inside ss env) _ second.kept (inside_names ss env names) typed.3 other,
+    )
+unsplit types ns (Two t ss (OfBin op) m n) i g env u is names typed none =
+    let (row, both) = two_none (lost_in env ss) (lost (inside ss env) m ++ lost (inside ss env) n) none in
+    let (one, other) = two_none (lost (inside ss env) m) (lost (inside ss env) n) both in
+    let (first, second, rest) = both_are_kept types ns t ss (OfBin op) m n is in (
+      tt,
+      unsplit types (first_numbers ss ns (used n)) m i g (inside ss env) _ first.kept (inside_names ss env names) typed.2 one,
+      unsplit types (own_numbers ss ns n) n i g (inside ss env) _ second.kept (inside_names ss env names) typed.3 other,
+    )
+unsplit types ns (If t ss m n p) i g env u is names typed none =
+    let (row, three) = two_none (lost_in env ss) (lost (inside ss env) m ++ (lost (inside ss env) n ++ lost (inside ss env) p)) none in
+    let (one, both) = two_none (lost (inside ss env) m) (lost (inside ss env) n ++ lost (inside ss env) p) three in
+    let (other, last) = two_none (lost (inside ss env) n) (lost (inside ss env) p) both in
+    let (first, second, third, rest) = three_are_kept types ns t ss m n p is in (
+      unsplit types (first_numbers ss ns (used n ++ used p)) m i g (inside ss env) _ first.kept (inside_names ss env names) typed.1 one,
+      unsplit types (own_numbers ss ns n) n i g (inside ss env) _ second.kept (inside_names ss env names) typed.2 other,
+      unsplit types (own_numbers ss ns p) p i g (inside ss env) _ third.kept (inside_names ss env names) typed.3 last,
+    )
+
+pub checked_is_unsplit : CheckedIsTyped → CheckedIsUnsplit
+checked_is_unsplit law l c ground =
+    let uses = uses_stand (program_in l).imports [] (import_at (program_in l).imports) (node_seen l.term) (type_of l.result) c.typed in
+    let none = none_lost (program_in l).imports (node_seen l.term) uses c.term.made_once c.term.no_import c.term.sides_used in
+    unsplit (all_types (program_in l).imports (node_seen l.term)) (numbers_from 0 (length (program_in l).imports)) (node_seen l.term)
+    (program_in l).imports [] (import_at (program_in l).imports) (type_of l.result) (checked_is_kept law l c ground)
+    (import_names (program_in l).imports) c.typed none

@@ -1,0 +1,11 @@
+use Rattle.gos_numbers.proofs.UnsplitLemmas.{checked_is_unsplit}
+use Rattle.gos_numbers.proofs.laws.parallels_are_unsplit.Goals as goal
+
+pub returns-clause-checked : goal.returns-clause-checked
+returns-clause-checked c = checked_is_unsplit c.typed_terms.ensures.checked
+
+pub returns-clause-met : goal.returns-clause-met
+returns-clause-met c = (tt, tt, tt)
+
+pub returns-clause-missed : goal.returns-clause-missed
+returns-clause-missed c h = cc h.0

@@ -1,0 +1,40 @@
+-- What is known of a source that was checked, and of the plan that it is compiled to.
+--
+-- Read first: Checked; Checked of gos_check (the module that checking makes); Wiring of gos_compile (the plan of a module);
+-- Modules of gos_realises (what it is to realise a module), Ground of gos_modules (ground programs).
+use Rattle.std.specs.Prelude.{◌≡◌, ◌≤◌, ℕ, List, length}
+use Rattle.gos_types.specs.Types.{type_of}
+use Rattle.gos_syntax.specs.Modules.{SeenModule}
+use Rattle.gos_model.specs.Sources.{program_of}
+use Rattle.gos_check.specs.Accepted.{weighed}
+use Rattle.gos_check.specs.Checked.{SeenLinear, program_in}
+use Rattle.gos_check.specs.Nodes.{node_seen}
+use Rattle.gos_check.specs.Linearity.{StandsFor}
+use Rattle.gos_plan.specs.Plans.{Plan}
+use Rattle.gos_plan.specs.ObjectText.{text_of}
+use Rattle.gos_plan.specs.ObjectFaults.{IsRead}
+use Rattle.gos_realises.specs.Realises.{AllGround}
+use Rattle.gos_realises.specs.Modules.{RealisesModule}
+use Rattle.gos_realises.specs.Slim.{IsSlim}
+use Rattle.gos_compile.specs.Wiring.{IsPlanOf}
+use Rattle.gos_ports.specs.Ports.{HaveWidths}
+use Rattle.gos_modules.specs.Ground.{IsGroundProgram}
+use Rattle.gos_objects.specs.Checked.{SaysModule}
+
+-- the text is that of a module that is accepted, and for which this checked module stands
+pub record IsTypedAs (text : List ℕ) (linear : SeenLinear) : Type 0 where
+  pub made : SeenModule
+  pub says : SaysModule text made
+  pub program : program_in linear ≡ program_of made
+  pub outcome : type_of linear.result ≡ type_of made.result
+  pub weight : linear.weight ≡ weighed made
+  pub term : StandsFor (program_of made) (node_seen linear.term)
+
+-- The plan of this checked module. It is slim, and where the module has at most 64 imports, its text is read as it. Where the
+-- module's program is ground, it realises it, and its imports are such as ports of a circuit may be.
+pub record IsPlanFor (linear : SeenLinear) (plan : Plan) : Type 0 where
+  pub made : IsPlanOf (program_in linear).imports (type_of linear.result) linear.weight (node_seen linear.term) plan
+  pub slim : IsSlim plan
+  pub read_back : length linear.imports ≤ 64 → IsRead (text_of plan) plan
+  pub realises : IsGroundProgram (program_in linear) → RealisesModule plan (program_in linear).body
+  pub ports : IsGroundProgram (program_in linear) → AllGround plan.imports × HaveWidths plan.imports

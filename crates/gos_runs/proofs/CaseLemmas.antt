@@ -1,0 +1,305 @@
+-- The cases of the forms that run their parts one at a time.
+use Rattle.std.specs.Prelude.{◌≡◌, ◌≢◌, ℕ, zero, suc, ◌+◌, List, [], ◌∷◌, ◌++◌, Contains}
+use Rattle.std.proofs.Common.{refl, sym, ◌∙◌, subst, arith, inr}
+use Rattle.gos_types.specs.Types.{Type', Com, Exp, Var, Pair, Fun}
+use Rattle.gos_model.specs.Terms.{Op, result_width}
+use Rattle.gos_model.specs.Typing.{Typed}
+use Rattle.gos_check.specs.declared.linear.Split.{Split}
+use Rattle.gos_check.specs.Nodes.{Numbered, One, Two, If, OfNot, TwoForm, OfSeq, OfWhile, OfBin, inside, meaning, type_of_node}
+use Rattle.gos_check.specs.Linearity.{times, sides, used, made}
+use Rattle.gos_check.proofs.TimesLemmas.{times-append}
+use Rattle.gos_plan.specs.Kinds as kinds
+use Rattle.gos_plan.specs.Plans.{Plan}
+use Rattle.gos_realises.specs.Realises.{NamesDiffer}
+use Rattle.gos_sessions.specs.Sessions.{Sequence, Choice, Loop, Binary, Complement, bits}
+use Rattle.gos_compile.specs.Wiring.{Types, answer_bits}
+use Rattle.gos_compile.specs.Typed.{SidesTyped, NodesTyped}
+use Rattle.gos_wired.specs.Wired.{Supplies, Placing, IsWired, AreRealised, terms_of}
+use Rattle.gos_stages.specs.Inside.{AreSplit, numbers_inside}
+use Rattle.gos_meanings.specs.Meanings.{HasLeaves}
+use Rattle.gos_grounds.specs.Cases.{RealisesWired}
+use Rattle.gos_leaves.specs.Splits.{SplitsAtForks}
+use Rattle.gos_numbers.specs.Kept.{InScope, IsKept}
+use Rattle.gos_numbers.specs.Inherited.{own_numbers, first_numbers, IsPart, PartIsKept, BothAreKept, ThreeAreKept}
+use Rattle.gos_forks.specs.Forks.{Branch, IsFork, AreBranches}
+use Rattle.gos_forks.specs.Forms.{branch, SequenceIsFork, ChoiceIsFork, LoopIsFork, OperatorIsFork, ComplementIsFork}
+use Rattle.gos_runs.specs.Runs.{ForkRealises}
+use Rattle.gos_runs.specs.Cases.{SequenceCase, ChoiceCase, LoopCase, OperatorCase, ComplementCase}
+use Rattle.gos_runs.proofs.TypeLemmas.{known, inside_types, type_is, supplies_have}
+use Rattle.gos_runs.proofs.BranchLemmas.{scope_there}
+use Rattle.gos_runs.proofs.SessionLemmas.{of_sequence, of_choice, of_loop, of_operator, of_complement}
+
+-- the bits of an answer, as the wiring and the sessions have them
+same_bits : (t : Type') → answer_bits t ≡ bits t
+same_bits Com = refl
+same_bits (Exp w) = refl
+same_bits (Var w) = refl
+same_bits (Pair a b) = refl
+same_bits (Fun a b) = refl
+
+no_empty : (b : Branch) (bs : List Branch) → b ∷ bs ≢ []
+no_empty b bs e = cc e
+
+-- what holds of each of some branches
+of_one : (P : Branch → Type 0) (a : Branch) → P a → (x : Branch) → Contains (a ∷ []) x → P x
+of_one P a pa x (zero, small, at) = subst P at pa
+of_one P a pa x (suc k, small, at) = absurd (omega (arith, small))
+
+pub of_two : (P : Branch → Type 0) (a b : Branch) → P a → P b → (x : Branch) → Contains (a ∷ b ∷ []) x → P x
+of_two P a b pa pb x (zero, small, at) = subst P at pa
+of_two P a b pa pb x (suc zero, small, at) = subst P at pb
+of_two P a b pa pb x (suc (suc k), small, at) = absurd (omega (arith, small))
+
+of_three : (P : Branch → Type 0) (a b c : Branch) → P a → P b → P c → (x : Branch) → Contains (a ∷ b ∷ c ∷ []) x → P x
+of_three P a b c pa pb pc x (zero, small, at) = subst P at pa
+of_three P a b c pa pb pc x (suc zero, small, at) = subst P at pb
+of_three P a b c pa pb pc x (suc (suc zero), small, at) = subst P at pc
+of_three P a b c pa pb pc x (suc (suc (suc k)), small, at) = absurd (omega (arith, small))
+
+times_inside : (k : ℕ) (ss : List Split) (ns : List ℕ) → times k (numbers_inside ss ns) ≡ times k (sides ss) + times k ns
+times_inside k [] ns = omega arith
+times_inside k (s ∷ ss) ns = let rest = times_inside k ss (s.left ∷ s.right ∷ ns) in omega (arith, rest)
+
+-- the branches of a node of one, two and three parts
+one_branch : (types : Types) (ns : List ℕ) (t : Type') (m : Numbered) → IsPart types [] ns ns m → IsKept types ns (One t [] OfNot m)
+    → AreBranches types [] ns (branch m ns ∷ [])
+one_branch types ns t m part is =
+    record {
+      parts = of_one (λ b. IsPart types [] ns b.uses b.term) (branch m ns) part;
+      covers = λ k none. (let sum = times-append k ns [] in omega (arith, sum));
+      once = λ k. (let sum = times-append k (made m) [] in let one = is.once k in omega (arith, sum, one));
+    }
+
+module _ (types : Types) (ns : List ℕ) (t : Type') (ss : List Split) where
+  two_branches : BothAreKept → (f : TwoForm) (m n : Numbered) → IsKept types ns (Two t ss f m n)
+      → AreBranches types ss ns (branch m (first_numbers ss ns (used n)) ∷ branch n (own_numbers ss ns n) ∷ [])
+  two_branches kept f m n is =
+      let (first, second, all) = kept types ns t ss f m n is in
+      record {
+        parts = of_two (λ b. IsPart types ss ns b.uses b.term) (branch m ms) (branch n ks) first second;
+        covers =
+            λ k none.
+            (let sum = all k none in let one = times-append k ms (ks ++ []) in let two = times-append k ks [] in omega (arith, sum, one, two));
+        once =
+            λ k.
+            (let one = is.once k in let inner = times_inside k ss ns in
+            let two = times-append k (sides ss) (made m ++ made n) in let three = times-append k (made m) (made n) in
+            let four = times-append k (made m) (made n ++ []) in let five = times-append k (made n) [] in
+            omega (arith, one, inner, two, three, four, five));
+      }
+    where
+      ms : List ℕ
+      ms = first_numbers ss ns (used n)
+
+      ks : List ℕ
+      ks = own_numbers ss ns n
+
+  three_branches : ThreeAreKept → (m n p : Numbered) → IsKept types ns (If t ss m n p)
+      → AreBranches types ss ns
+      (branch m (first_numbers ss ns (used n ++ used p)) ∷ branch n (own_numbers ss ns n) ∷ branch p (own_numbers ss ns p) ∷ [])
+  three_branches kept m n p is =
+      let (first, second, third, all) = kept types ns t ss m n p is in
+      record {
+        parts = of_three (λ b. IsPart types ss ns b.uses b.term) (branch m ms) (branch n ks) (branch p ls) first second third;
+        covers =
+            λ k none.
+            (let sum = all k none in let one = times-append k ms (ks ++ (ls ++ [])) in let two = times-append k ks (ls ++ []) in
+            let three = times-append k ls [] in omega (arith, sum, one, two, three));
+        once =
+            λ k.
+            (let one = is.once k in let inner = times_inside k ss ns in
+            let two = times-append k (sides ss) (made m ++ (made n ++ made p)) in let three = times-append k (made m) (made n ++ made p) in
+            let four = times-append k (made n) (made p) in let five = times-append k (made m) (made n ++ (made p ++ [])) in
+            let six = times-append k (made n) (made p ++ []) in let seven = times-append k (made p) [] in
+            omega (arith, one, inner, two, three, four, five, six, seven));
+      }
+    where
+      ms : List ℕ
+      ms = first_numbers ss ns (used n ++ used p)
+
+      ks : List ℕ
+      ks = own_numbers ss ns n
+
+      ls : List ℕ
+      ls = own_numbers ss ns p
+
+  -- the type of a part's term is the part's
+  retyped : (i j : ℕ) (m n : Numbered) (u : Type') (env : Supplies) (pl : Placing) (r : Plan)
+      → SidesTyped types ss → AreSplit ss ns → NodesTyped types m → SplitsAtForks m → InScope (numbers_inside ss ns) m
+      → IsWired types i j n ns env pl r → AreRealised types env ns → NamesDiffer r.imports
+      → Typed r.imports [] (meaning (inside ss (terms_of env)) m) u → Typed r.imports [] (meaning (inside ss (terms_of env)) m) (type_of_node m)
+  retyped i j m n u env pl r agree split nodes forks scope w realised differ typed =
+      subst (λ (v : Type'). Typed r.imports [] (meaning (inside ss (terms_of env)) m) v)
+      (sym (known r.imports [] (meaning (inside ss (terms_of env)) m) u (inr typed))
+      ∙ type_is r.imports types m [] (numbers_inside ss ns) (inside ss (terms_of env)) nodes (scope_there m (numbers_inside ss ns) forks scope)
+      (inside_types r.imports types [] ss ns (terms_of env) agree split (supplies_have types i j n ns env pl r w realised differ)))
+      typed
+
+-- the numbers of the parts
+abbrev first_branch : List Split → List ℕ → List ℕ → Numbered → Branch
+first_branch ss ns others m = branch m (first_numbers ss ns others)
+
+abbrev own_branch : List Split → List ℕ → Numbered → Branch
+own_branch ss ns m = branch m (own_numbers ss ns m)
+
+-- a part's term has this type
+abbrev HasType : List Split → Supplies → Plan → Numbered → Type' → Type 0
+HasType ss env r m t = Typed r.imports [] (meaning (inside ss (terms_of env)) m) t
+
+abbrev HasItsType : List Split → Supplies → Plan → Branch → Type 0
+HasItsType ss env r b = HasType ss env r b.term (type_of_node b.term)
+
+abbrev Leaved : Branch → Type 0
+Leaved b = HasLeaves b.term
+
+abbrev Real : Types → Branch → Type 0
+Real types b = RealisesWired types b.uses b.term
+
+its_type : (ss : List Split) (env : Supplies) (r : Plan) (m : Numbered) (t : Type')
+    → type_of_node m ≡ t → HasType ss env r m t → HasType ss env r m (type_of_node m)
+its_type ss env r m t e typed = subst (λ (u : Type'). HasType ss env r m u) (sym e) typed
+
+pub sequence_case : SequenceIsFork → BothAreKept → ForkRealises → SequenceCase
+sequence_case fork kept law types ns t ss m n is leaves_m leaves_n rm rn i j env pl r w supplies differ fit (done, typed_m, typed_n) =
+    law (Sequence t (meaning (inside ss (terms_of env)) m) (meaning (inside ss (terms_of env)) n)) types i j (Two t ss OfSeq m n) ss (a ∷ b ∷ []) ns env pl r
+    (subst (λ (v : ℕ). IsFork types (Two t ss OfSeq m n) ss (kinds.Seq v) (a ∷ b ∷ [])) (same_bits t) (fork types t ss m n a.uses b.uses done em en))
+    (two_branches types ns t ss kept OfSeq m n is) (no_empty a (b ∷ [])) refl w supplies differ fit
+    (record {
+      session = of_sequence (inside ss (terms_of env)) m n n a.uses b.uses b.uses t em en;
+      typed = of_two (HasItsType ss env r) a b (its_type ss env r m Com em typed_m) (its_type ss env r n t en typed_n);
+    })
+    (of_two Leaved a b leaves_m leaves_n) (of_two (Real types) a b rm rn)
+  where
+    a : Branch
+    a = first_branch ss ns (used n) m
+
+    b : Branch
+    b = own_branch ss ns n
+
+    em : type_of_node m ≡ Com
+    em = is.typed.1.1
+
+    en : type_of_node n ≡ t
+    en = is.typed.1.2
+
+pub choice_case : ChoiceIsFork → ThreeAreKept → ForkRealises → ChoiceCase
+choice_case fork kept law types ns t ss m n p is leaves_m leaves_n leaves_p rm rn rp i j env pl r w supplies differ fit (done, typed_m, typed_n, typed_p) =
+    law (Choice t (meaning (inside ss (terms_of env)) m) (meaning (inside ss (terms_of env)) n) (meaning (inside ss (terms_of env)) p))
+    types i j (If t ss m n p) ss
+    (a ∷ b ∷ c ∷ []) ns env pl r
+    (subst (λ (v : ℕ). IsFork types (If t ss m n p) ss (kinds.If v) (a ∷ b ∷ c ∷ [])) (same_bits t)
+    (fork types t ss m n p a.uses b.uses c.uses done em en ep))
+    (three_branches types ns t ss kept m n p is) (no_empty a (b ∷ c ∷ [])) refl w supplies differ fit
+    (record {
+      session = of_choice (inside ss (terms_of env)) m n p a.uses b.uses c.uses t em en ep;
+      typed =
+          of_three (HasItsType ss env r) a b c (its_type ss env r m (Exp 1) em typed_m) (its_type ss env r n t en typed_n)
+          (its_type ss env r p t ep typed_p);
+    })
+    (of_three Leaved a b c leaves_m leaves_n leaves_p) (of_three (Real types) a b c rm rn rp)
+  where
+    a : Branch
+    a = first_branch ss ns (used n ++ used p) m
+
+    b : Branch
+    b = own_branch ss ns n
+
+    c : Branch
+    c = own_branch ss ns p
+
+    em : type_of_node m ≡ Exp 1
+    em = is.typed.1.1
+
+    en : type_of_node n ≡ t
+    en = is.typed.1.2
+
+    ep : type_of_node p ≡ t
+    ep = is.typed.1.3
+
+module _ (fork : LoopIsFork) (kept : BothAreKept) (law : ForkRealises) (types : Types) (ns : List ℕ) (ss : List Split) (m n : Numbered) where
+  plain_loop : IsKept types ns (Two Com ss OfWhile m n) → HasLeaves m → HasLeaves n → RealisesWired types (first_numbers ss ns (used n)) m
+      → RealisesWired types (own_numbers ss ns n) n → RealisesWired types ns (Two Com ss OfWhile m n)
+  plain_loop is leaves_m leaves_n rm rn i j env pl r w supplies differ fit (e, typed_m, typed_n) =
+      law (Loop (meaning (inside ss (terms_of env)) m) (meaning (inside ss (terms_of env)) n)) types i j (Two Com ss OfWhile m n) ss (a ∷ b ∷ []) ns env pl r
+      (fork types ss m n a.uses b.uses em en) (two_branches types ns Com ss kept OfWhile m n is) (no_empty a (b ∷ [])) refl w supplies differ fit
+      (record {
+        session = of_loop (inside ss (terms_of env)) m n n a.uses b.uses b.uses em en;
+        typed = of_two (HasItsType ss env r) a b (its_type ss env r m (Exp 1) em typed_m) (its_type ss env r n Com en typed_n);
+      })
+      (of_two Leaved a b leaves_m leaves_n) (of_two (Real types) a b rm rn)
+    where
+      a : Branch
+      a = first_branch ss ns (used n) m
+
+      b : Branch
+      b = own_branch ss ns n
+
+      em : type_of_node m ≡ Exp 1
+      em = is.typed.1.1
+
+      en : type_of_node n ≡ Com
+      en = is.typed.1.2
+
+pub loop_case : LoopIsFork → BothAreKept → ForkRealises → LoopCase
+loop_case fork kept law types ns t ss m n is leaves_m leaves_n rm rn =
+    let e : t ≡ Com = is.typed.1.0 in
+    subst (λ (u : Type'). RealisesWired types ns (Two u ss OfWhile m n)) (sym e)
+    (plain_loop fork kept law types ns ss m n (subst (λ (u : Type'). IsKept types ns (Two u ss OfWhile m n)) e is) leaves_m leaves_n rm rn)
+
+module _ (fork : OperatorIsFork) (kept : BothAreKept) (law : ForkRealises) (types : Types) (ns : List ℕ) (ss : List Split)
+    (op : Op) (w : ℕ) (m n : Numbered) where
+  abbrev operation : Numbered
+  operation = Two (Exp (result_width op w)) ss (OfBin op) m n
+
+  plain_operator : type_of_node m ≡ Exp w → type_of_node n ≡ Exp w → IsKept types ns operation → HasLeaves m → HasLeaves n
+      → RealisesWired types (first_numbers ss ns (used n)) m → RealisesWired types (own_numbers ss ns n) n → RealisesWired types ns operation
+  plain_operator em en is leaves_m leaves_n rm rn i j env pl r wired supplies differ fit (v, e, typed_m, typed_n) =
+      law (Binary op w (meaning (inside ss (terms_of env)) m) (meaning (inside ss (terms_of env)) n)) types i j operation ss (a ∷ b ∷ []) ns env pl r
+      (fork types op w ss m n a.uses b.uses em en) (two_branches types ns (Exp (result_width op w)) ss kept (OfBin op) m n is) (no_empty a (b ∷ [])) refl wired
+      supplies differ fit
+      (record {
+        session = of_operator (inside ss (terms_of env)) m n n a.uses b.uses b.uses op w em en;
+        typed =
+            of_two (HasItsType ss env r) a b
+            (retyped types ns (Exp (result_width op w)) ss i j m operation (Exp v) env pl r is.typed.0 is.scope.0 is.typed.2 is.forks.0 is.scope.1 wired
+            supplies.realised differ typed_m)
+            (retyped types ns (Exp (result_width op w)) ss i j n operation (Exp v) env pl r is.typed.0 is.scope.0 is.typed.3 is.forks.1 is.scope.2 wired
+            supplies.realised differ typed_n);
+      })
+      (of_two Leaved a b leaves_m leaves_n) (of_two (Real types) a b rm rn)
+    where
+      a : Branch
+      a = first_branch ss ns (used n) m
+
+      b : Branch
+      b = own_branch ss ns n
+
+pub operator_case : OperatorIsFork → BothAreKept → ForkRealises → OperatorCase
+operator_case fork kept law types ns t ss op m n is leaves_m leaves_n rm rn =
+    let (w, e, em, en) = is.typed.1 in
+    subst (λ (u : Type'). RealisesWired types ns (Two u ss (OfBin op) m n)) (sym e)
+    (plain_operator fork kept law types ns ss op w m n em en (subst (λ (u : Type'). IsKept types ns (Two u ss (OfBin op) m n)) e is) leaves_m leaves_n rm rn)
+
+module _ (fork : ComplementIsFork) (kept : PartIsKept) (law : ForkRealises) (types : Types) (ns : List ℕ) (m : Numbered) where
+  plain_complement : (w : ℕ) → type_of_node m ≡ Exp w → IsKept types ns (One (Exp w) [] OfNot m) → HasLeaves m → RealisesWired types ns m
+      → RealisesWired types ns (One (Exp w) [] OfNot m)
+  plain_complement w em is leaves real i j env pl r wired supplies differ fit (v, e, typed) =
+      law (Complement w (meaning (terms_of env) m)) types i j (One (Exp w) [] OfNot m) [] (branch m ns ∷ []) ns env pl r (fork types w [] m ns em)
+      (one_branch types ns (Exp w) m (kept types ns (Exp w) [] OfNot m is).1 is) (no_empty (branch m ns) []) refl wired supplies differ fit
+      (record {
+        session = of_complement (terms_of env) m ns w em;
+        typed = of_one (HasItsType [] env r) (branch m ns) (its_type [] env r m (Exp v) (em ∙ e) typed);
+      })
+      (of_one Leaved (branch m ns) leaves) (of_one (Real types) (branch m ns) real)
+
+  unsplit_complement : (t : Type') → IsKept types ns (One t [] OfNot m) → HasLeaves m → RealisesWired types ns m → RealisesWired types ns (One t [] OfNot m)
+  unsplit_complement t is leaves real =
+      let (w, e, em) = is.typed.1 in
+      subst (λ (u : Type'). RealisesWired types ns (One u [] OfNot m)) (sym e)
+      (plain_complement w em (subst (λ (u : Type'). IsKept types ns (One u [] OfNot m)) e is) leaves real)
+
+pub complement_case : ComplementIsFork → PartIsKept → ForkRealises → ComplementCase
+complement_case fork kept law types ns t ss m is leaves real =
+    let none : ss ≡ [] = (kept types ns t ss OfNot m is).0 in
+    subst (λ (us : List Split). RealisesWired types ns (One t us OfNot m)) (sym none)
+    (unsplit_complement fork kept law types ns m t (subst (λ (us : List Split). IsKept types ns (One t us OfNot m)) none is) leaves real)

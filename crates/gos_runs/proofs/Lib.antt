@@ -1,0 +1,7 @@
+pub mod TypeLemmas
+pub mod ChildLemmas
+pub mod BranchLemmas
+pub mod RunLemmas
+pub mod SessionLemmas
+pub mod CaseLemmas
+pub mod SmallLemmas

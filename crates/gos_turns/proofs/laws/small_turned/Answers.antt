@@ -1,0 +1,11 @@
+use Rattle.gos_turns.proofs.SmallTurnedLemmas.{same_of_skip_is_regular, call_is_name, unjoined_is_none}
+use Rattle.gos_turns.proofs.laws.small_turned.Goals as goal
+
+pub returns-clause-same : goal.returns-clause-same
+returns-clause-same c = same_of_skip_is_regular c.functions.ensures.same c.small_realisers.ensures.skip
+
+pub returns-clause-call : goal.returns-clause-call
+returns-clause-call c = call_is_name
+
+pub returns-clause-unjoined : goal.returns-clause-unjoined
+returns-clause-unjoined c = unjoined_is_none

@@ -1,0 +1,6 @@
+-- In reading order: a file uses only files above it.
+pub mod Composed
+pub mod Names
+pub mod Pairs
+pub mod SmallTurned
+pub mod Trees

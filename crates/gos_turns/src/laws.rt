@@ -1,0 +1,56 @@
+// What the definitions give. Each theorem is the contract of a function that does nothing.
+ghost use Rattle.gos_turns.specs.Composed.{ApplyingIsRegular, FunctionIsRegular, ServingIsRegular, SidesAreRegular, SuppliedIsRegular};
+ghost use Rattle.gos_turns.specs.Names.{NameIsRegular, NamePlanIsThere};
+ghost use Rattle.gos_turns.specs.Pairs.{PairIsRegular, PairPlanIsRegular, PairPlanIsThere};
+ghost use Rattle.gos_turns.specs.SmallTurned.{CallIsName, SameOfSkipIsRegular, UnjoinedIsNone};
+ghost use Rattle.gos_turns.specs.Trees.{RewiredTreeIsRegular, TreeIsRegular};
+
+/// A plan of a function and one of its argument, joined, are regular where both are.
+pub fn applications()
+    ensures { ApplyingIsRegular }
+{}
+
+/// So is a plan with one that serves an import of it, and a plan with supplies for all its imports.
+pub fn servings()
+    ensures served { ServingIsRegular }
+    ensures supplied { SuppliedIsRegular }
+{}
+
+/// So is the joining of a tree of instances, in whatever order these stand.
+pub fn trees()
+    ensures tree { TreeIsRegular }
+    ensures rewired { RewiredTreeIsRegular }
+{}
+
+/// So is each side of a product.
+pub fn sides()
+    ensures { SidesAreRegular }
+{}
+
+/// The plan of a function is regular exactly where that of its body is.
+pub fn functions()
+    ensures { FunctionIsRegular }
+{}
+
+/// The plan of a name is regular, at every type, and there is one.
+pub fn names()
+    ensures regular { NameIsRegular }
+    ensures there { NamePlanIsThere }
+{}
+
+/// The plan that makes a pair of two arguments is there, and regular. So is the pair of two regular plans.
+pub fn pairs()
+    ensures maker { PairPlanIsRegular }
+    ensures there { PairPlanIsThere }
+    ensures pair { PairIsRegular }
+{}
+
+/// `fun a : com . a` with `skip` is regular; the plan of a call is that of a name, and without its joint it isn't.
+pub fn small_turned()
+    ensures same { SameOfSkipIsRegular }
+    ensures call { CallIsName }
+    ensures unjoined { UnjoinedIsNone }
+{
+    gos_realises::functions();
+    gos_realises::small_realisers();
+}
