@@ -452,7 +452,7 @@ module _ (i : ℕ) (t : Type') (c : ℕ) (r p : Plan) (is : IsBehind i t c r p) 
       of_from (of_asker l k at_l same) = of_asking l k.role same
       of_from (of_server l k at_l same) = of_serving l k.role same
 
-  before_it : IsBefore (lying i p) i t c r p
+  pub before_it : IsBefore (lying i p) i t c r p
   before_it =
       record {
         cut = is_cut i t c r p is;

@@ -40,7 +40,7 @@ result_port (ResultEnd h) is = tt
 pub results_are_ports : (ls : List Link) → AllResults ls → AllPortPlaces ls
 results_are_ports ls all l has = let both = all l has in ((λ same. result_port l.one.end (both.0 same)), λ same. result_port l.other.end (both.1 same))
 
-listed_list : (k i : ℕ) (xs : List Imported) (j : ℕ) (x : Imported) → slice_get xs j ≡ Some x → slice_get (left_list k i xs) j ≡ Some (record { plan = k; number = i + j; import = x })
+pub listed_list : (k i : ℕ) (xs : List Imported) (j : ℕ) (x : Imported) → slice_get xs j ≡ Some x → slice_get (left_list k i xs) j ≡ Some (record { plan = k; number = i + j; import = x })
 listed_list k i [] j x there = absurd (cc there)
 listed_list k i (y ∷ xs) zero x there =
     let e : i ≡ i + 0 = omega arith in
@@ -48,12 +48,12 @@ listed_list k i (y ∷ xs) zero x there =
 listed_list k i (y ∷ xs) (suc j) x there =
     listed_list k (suc i) xs j x there ∙ (let e : suc i + j ≡ i + suc j = omega arith in λ l. Some (record { plan = k; number = e l; import = x }))
 
-front_some : {A : Type 0} (xs ys : List A) (n : ℕ) (x : A) → slice_get xs n ≡ Some x → slice_get (xs ++ ys) n ≡ Some x
+pub front_some : {A : Type 0} (xs ys : List A) (n : ℕ) (x : A) → slice_get xs n ≡ Some x → slice_get (xs ++ ys) n ≡ Some x
 front_some [] ys n x e = absurd (cc e)
 front_some (y ∷ xs) ys zero x e = e
 front_some (y ∷ xs) ys (suc n) x e = front_some xs ys n x e
 
-mapped_some : (ls : List LeftImport) (n : ℕ) (l : LeftImport) → slice_get ls n ≡ Some l → slice_get (map (λ y. y.import) ls) n ≡ Some l.import
+pub mapped_some : (ls : List LeftImport) (n : ℕ) (l : LeftImport) → slice_get ls n ≡ Some l → slice_get (map (λ y. y.import) ls) n ≡ Some l.import
 mapped_some [] n l e = absurd (cc e)
 mapped_some (y ∷ ys) zero l e = let same : y ≡ l = cc e in ap (λ z. Some z.import) same
 mapped_some (y ∷ ys) (suc n) l e = mapped_some ys n l e

@@ -22,11 +22,11 @@ use Rattle.gos_split.specs.Joined.{wiring, IsPortPlace, AllPortPlaces}
 use Rattle.gos_split.specs.Split.{Splitting, IsUsed, IsSplit}
 
 -- handshakes of a Share
-share_source : (r : Plan) (k : ℕ) (t : Type') (j : ℕ) (d : Contact) → slice_get r.parts k ≡ Some (Share t) → slice_get (contacts_of t) j ≡ Some d
+pub share_source : (r : Plan) (k : ℕ) (t : Type') (j : ℕ) (d : Contact) → slice_get r.parts k ≡ Some (Share t) → slice_get (contacts_of t) j ≡ Some d
     → contact_at r (source_end k j) ≡ Some (turned_contact d)
 share_source r k t j d there at_j = ap (λ y. slice_get (contacts_of_part y) j) there ∙ source_at t j d at_j
 
-share_caller : (r : Plan) (k : ℕ) (t : Type') (c : ℕ) → c < 2 → (j : ℕ) (d : Contact) → slice_get r.parts k ≡ Some (Share t) → slice_get (contacts_of t) j ≡ Some d
+pub share_caller : (r : Plan) (k : ℕ) (t : Type') (c : ℕ) → c < 2 → (j : ℕ) (d : Contact) → slice_get r.parts k ≡ Some (Share t) → slice_get (contacts_of t) j ≡ Some d
     → contact_at r (caller_end k t c j) ≡ Some d
 share_caller r k t zero two j d there at_j =
     let e : count t + 0 * count t + j ≡ count t + j = omega arith in

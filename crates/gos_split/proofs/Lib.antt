@@ -8,3 +8,11 @@ pub mod JoinedLemmas
 pub mod CarriedLemmas
 pub mod BeforeLemmas
 pub mod MeansLemmas
+pub mod SideLemmas
+pub mod NumberLemmas
+pub mod PlacedLemmas
+pub mod HomeLemmas
+pub mod StandLemmas
+pub mod FrameLemmas
+pub mod AppliedLemmas
+pub mod PassingLemmas

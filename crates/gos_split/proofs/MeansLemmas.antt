@@ -48,7 +48,7 @@ one_more l ls one other rest m (zero, small, e) =
     (subst (λ (x : Link). Rattle.gos_split.proofs.BeforeLemmas.IsResultPlace x.one) e one, subst (λ (x : Link). Rattle.gos_split.proofs.BeforeLemmas.IsResultPlace x.other) e other)
 one_more l ls one other rest m (suc k, small, e) = rest m (k, omega (arith, small), e)
 
-results : (n m : ℕ) → AllResults (results_linked 1 n m)
+pub results : (n m : ℕ) → AllResults (results_linked 1 n m)
 results n zero = no_links
 results n (suc m) =
     one_more (link 0 (ResultEnd n) 1 (ResultEnd n)) (results_linked 1 (suc n) m) (λ same. tt) (λ same. tt) (results (suc n) m)

@@ -1,4 +1,5 @@
 pub mod Split
 pub mod Joined
 pub mod Realised
+pub mod Passing
 pub mod SmallSplit

@@ -1,5 +1,6 @@
 // What the definitions give. Each theorem is the contract of a function that does nothing.
 ghost use Rattle.gos_split.specs.Joined.{JoinedIsSplit};
+ghost use Rattle.gos_split.specs.Passing.{FunctionsAreWithout, PairsAreNot, PassingIsRealised};
 ghost use Rattle.gos_split.specs.Realised.{SplitIsRealised};
 ghost use Rattle.gos_split.specs.SmallSplit.{SameIsSplit, WholeIsNoSplit};
 ghost use Rattle.gos_split.specs.Split.{SplitIsDone, SplitIsRegular};
@@ -14,6 +15,20 @@ pub fn splits()
 /// It realises a term of any type that the other realises, where a region that is a regular plan is joined to its source.
 pub fn realising()
     ensures { SplitIsRealised }
+{}
+
+/// So a plan of any type in which no pair stands realises behind either caller of a Share what it realises.
+pub fn passing()
+    ensures { PassingIsRealised }
+{
+    gos_passing::order();
+    gos_joints::ground();
+}
+
+/// A type of functions on functions is such a type, one of functions on pairs is none.
+pub fn small_types()
+    ensures functions { FunctionsAreWithout }
+    ensures pairs { PairsAreNot }
 {}
 
 /// What is joined to split plans is split.
