@@ -291,15 +291,15 @@ fn tells_where_a_line_breaks_off(rt: HostRuntime) -> Result<(), Fail> {
     let sorts = SORTS.as_bytes();
     // An output is no input.
     let text = with_end(alloc, latch, b"run;\n  assign n1", b"done;\n")?;
-    assert_eq!(rt; refused_at(alloc, &text), Some(text.len() - 6));
+    assert_eq!(rt; refused_at(alloc, &text), text.len().checked_sub(6));
     // This input has more bits.
     let text = with_end(alloc, sorts, b";\n  assign n2", b"value;\n")?;
-    assert_eq!(rt; refused_at(alloc, &text), Some(text.len() - 7));
+    assert_eq!(rt; refused_at(alloc, &text), text.len().checked_sub(7));
     // 16 has more than four bits, and 32 more than none.
     let text = with_end(alloc, sorts, b"9;\n  assign n5", b"16;\n")?;
-    assert_eq!(rt; refused_at(alloc, &text), Some(text.len() - 3));
+    assert_eq!(rt; refused_at(alloc, &text), text.len().checked_sub(3));
     let text = with_end(alloc, sorts, b"0:0] n0", b"32:0] n0")?;
-    assert_eq!(rt; refused_at(alloc, &text), Some(text.len() - 7));
+    assert_eq!(rt; refused_at(alloc, &text), text.len().checked_sub(7));
     Ok(())
 }
 
