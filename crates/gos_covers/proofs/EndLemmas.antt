@@ -27,10 +27,10 @@ use Rattle.gos_stages.proofs.ServedLemmas.{servings_serve}
 use Rattle.gos_stages.proofs.ChildPartLemmas.{low, no_more_than, plain_source, own_source_back}
 use Rattle.gos_stages.proofs.ContactLemmas.{turned_some, part_there, import_there, some_shake, share_ground, shares_length}
 use Rattle.gos_stages.proofs.CoverLemmas.{live_is_covered, own_is_covered}
+use Rattle.gos_stages.proofs.SideLemmas.{served_side, AreUsed, AreOld, all_live, all_serve}
 use Rattle.gos_forks.specs.Forks.{Branch, IsFork, AreBranches, BranchIsChild, branch_parts, branch_child}
 use Rattle.gos_covers.specs.Covers.{AreBranchChildren, BranchesCover}
 use Rattle.gos_covers.proofs.BranchLemmas.{Standing, IsOfFork, some_standing, standing_at, standing_used, of_fork, child_of}
-use Rattle.gos_covers.proofs.SideLemmas.{served_side, AreUsed, AreOld, all_live, all_serve}
 
 of_spot : (a : Option Spot) (x : Dot) → spot_dot a ≡ Some x → (z : Spot) × (a ≡ Some z)
 of_spot None x e = absurd (no_more_than x e)

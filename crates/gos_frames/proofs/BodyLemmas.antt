@@ -26,8 +26,9 @@ use Rattle.gos_names.specs.Names.{name_plan, imported}
 use Rattle.gos_compile.specs.Wiring.{Types, row, led, parts_of, type_of_node, ties_of, answer_bits}
 use Rattle.gos_wired.specs.Wired.{Supplies, Placing, dot_of, dot_ties, result_ties, supply_ties, all_supply_ties}
 use Rattle.gos_wired.proofs.TieLemmas.{result_tie, in_results, in_supplies}
+use Rattle.gos_stages.proofs.ChildBackLemmas.{some_times}
 use Rattle.gos_frames.specs.Blocks.{with_name, IsBound}
-use Rattle.gos_frames.proofs.NumberingLemmas.{times_some, numbering}
+use Rattle.gos_frames.proofs.NumberingLemmas.{numbering}
 use Rattle.gos_frames.proofs.FrameLemmas as frames
 use Rattle.gos_frames.proofs.FrameLemmas.{Frame, kept, known, size, out_of_range, kept_true, own_part, back, laid, laid_end, Comes, its_ties_there}
 use Rattle.gos_frames.proofs.FoldLemmas.{follows_none}
@@ -151,7 +152,7 @@ module _
   not_bound k has =
       eq_false k n
       (λ (same : k ≡ n).
-      let many = times_some ns k has in
+      let many = some_times k ns has in
       let one = once_in k in
       let last = times_same k [] in
       let more : times k (k ∷ []) ≡ times k (n ∷ []) = ap (λ (a : ℕ). times k (a ∷ [])) same in

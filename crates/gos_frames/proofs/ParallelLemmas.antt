@@ -32,8 +32,9 @@ use Rattle.gos_parallel.specs.Parallel.{IsJointOf, IsPartOf, IsParallel}
 use Rattle.gos_compile.specs.Wiring.{Types, row, parts_of, nodes, type_of_node, ties_of}
 use Rattle.gos_wired.specs.Wired.{Supplies, Source, Own, Supplied, Placing, IsFrom, placed, source_dot, dot_of, dot_ties, all_supply_ties, IsWired}
 use Rattle.gos_wired.specs.Wired as origins
+use Rattle.gos_stages.proofs.ChildBackLemmas.{some_times, listed_times}
 use Rattle.gos_frames.specs.Frames.{AreParted, AreSides, ParallelIsWired}
-use Rattle.gos_frames.proofs.NumberingLemmas.{got_below, times_some, some_times}
+use Rattle.gos_frames.proofs.NumberingLemmas.{got_below}
 use Rattle.gos_frames.proofs.FrameLemmas.{Frame, kept, in_range_true, in_range_is, itself_true, kept_true, kept_is, own_part, back}
 use Rattle.gos_frames.proofs.ChildLemmas.{Sitting, IsSitting, HasPorts, child_placing, child_plan, number_of, its_cut, whole_web}
 use Rattle.gos_frames.proofs.FoldLemmas.{HasPlan}
@@ -226,10 +227,10 @@ module _
     where
       tested : (b : ℕ) → times a ms ≡ b → (kept fl a ≡ true) ⊎ (kept fr a ≡ true)
       tested zero e =
-          let many = times_some ns a has in
+          let many = some_times a ns has in
           let both = parted.split a in
-          inr (kept_true fr a (some_times ks a (omega (arith, many, both, e))) refl)
-      tested (suc b) e = inl (kept_true fl a (some_times ms a (omega (arith, e))) refl)
+          inr (kept_true fr a (listed_times a ks (omega (arith, many, both, e))) refl)
+      tested (suc b) e = inl (kept_true fl a (listed_times a ms (omega (arith, e))) refl)
 
   whose : (x : Part) (o : Source) → IsFrom (parts_of types whole) ns env x o → Whose o
   whose x (Own zero) has = inr refl
@@ -252,8 +253,8 @@ module _
   -- no part is that of both
   number_apart : (a : ℕ) → Contains ms a → Contains ks a → ⊥
   number_apart a one other =
-      let many = times_some ms a one in
-      let more = times_some ks a other in
+      let many = some_times a ms one in
+      let more = some_times a ks other in
       let both = parted.split a in
       let once = parted.once a in omega (arith, many, more, both, once)
 

@@ -31,7 +31,7 @@ use Rattle.gos_stages.specs.Inside.{AreGroundSupplies}
 use Rattle.gos_stages.proofs.ChildBackLemmas.{some_times, listed_times}
 use Rattle.gos_meanings.specs.Meanings.{HasLeaves, standing, BodyIsInstantiated}
 use Rattle.gos_frames.specs.Blocks.{with_name, IsBound, HasBody, BlockIsWired}
-use Rattle.gos_grounds.specs.Scopes.{InScope}
+use Rattle.gos_numbers.specs.Kept.{InScope}
 use Rattle.gos_grounds.specs.Cases.{RealisesWired, BlockCase}
 use Rattle.gos_grounds.proofs.ImportLemmas.{contained_at, stands_at, differ_at, at_differ, type_has}
 use Rattle.gos_grounds.proofs.WhoseLemmas.{before, below_whose, whose}

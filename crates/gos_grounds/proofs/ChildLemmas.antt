@@ -28,7 +28,7 @@ use Rattle.gos_stages.proofs.PartHomeLemmas.{numbers_are_at_home}
 use Rattle.gos_stages.proofs.HousingLemmas.{imports_are_from}
 use Rattle.gos_stages.proofs.ChildBackLemmas.{some_times}
 use Rattle.gos_meanings.specs.Meanings.{HasLeaves}
-use Rattle.gos_grounds.specs.Scopes.{InScope}
+use Rattle.gos_numbers.specs.Kept.{InScope}
 use Rattle.gos_grounds.specs.Cases.{RealisesWired}
 use Rattle.gos_grounds.proofs.ImportLemmas.{contained_at, stands_at, differ_at, at_differ, type_has}
 use Rattle.gos_grounds.proofs.WhoseLemmas.{whose}

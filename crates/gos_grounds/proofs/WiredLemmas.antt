@@ -18,7 +18,7 @@ use Rattle.gos_typing.proofs.NameLemmas.{typed_under_fewer}
 use Rattle.gos_wired.specs.Wired.{Supplies, Placing, Origin, IsWired, AreRealised, terms_of}
 use Rattle.gos_stages.specs.Inside.{AreGroundSupplies}
 use Rattle.gos_meanings.specs.Meanings.{HasLeaves}
-use Rattle.gos_grounds.specs.Scopes.{InScope}
+use Rattle.gos_numbers.specs.Kept.{InScope}
 use Rattle.gos_grounds.proofs.ImportLemmas.{contained_at, stands_at, differ_at, at_differ, type_has}
 use Rattle.gos_grounds.proofs.WhoseLemmas.{whose}
 

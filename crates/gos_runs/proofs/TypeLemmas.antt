@@ -22,7 +22,7 @@ use Rattle.gos_stages.specs.Inside.{AreSplit, numbers_inside}
 use Rattle.gos_wired.specs.Wired.{Supplies, Placing, IsWired, AreRealised, terms_of}
 use Rattle.gos_unions.proofs.LeftLemmas.{front}
 use Rattle.gos_meanings.proofs.StillLemmas.{shift_still}
-use Rattle.gos_grounds.specs.Scopes.{InScope}
+use Rattle.gos_numbers.specs.Kept.{InScope}
 use Rattle.gos_grounds.proofs.ImportLemmas.{contained_at, stands_at, type_has}
 
 module _ (i : Imports) where
