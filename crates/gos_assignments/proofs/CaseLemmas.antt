@@ -1,5 +1,5 @@
 -- A wired assignment to a variable's number realises its term, where the number's side does.
-use Rattle.std.specs.Prelude.{◌≡◌, ℕ, List, [], ◌∷◌, ◌++◌, length, Contains, All}
+use Rattle.std.specs.Prelude.{◌≡◌, ℕ, List, [], length, Contains, All}
 use Rattle.std.specs.Str.{bytes_eq}
 use Rattle.std.proofs.Common.{true, refl, sym, ◌∙◌, ap, subst, arith}
 use Rattle.std.proofs.lemmas.Slice.Eq.{bytes_eq-Decides}
@@ -14,24 +14,25 @@ use Rattle.gos_plan.specs.Plans.{End, ResultEnd, Plan}
 use Rattle.gos_plan.proofs.JointLemmas.{IsIn}
 use Rattle.gos_plan.specs.TokenBits.{LiteralFits}
 use Rattle.gos_realises.specs.Realises.{NamesDiffer, Realises}
+use Rattle.gos_realises.proofs.PlaceLemmas.{contains_at, place_of}
+use Rattle.gos_renumbered.proofs.ImportLemmas.{type_has}
 use Rattle.gos_webs.specs.Webs.{Tie, joint}
 use Rattle.gos_typing.proofs.WhenceLemmas.{named}
 use Rattle.gos_typing.proofs.NameLemmas.{typed_under_fewer}
 use Rattle.gos_compile.specs.Wiring.{Types, parts_of}
 use Rattle.gos_wired.specs.Wired.{Supplies, Placing, IsWired, terms_of, wired_ties}
-use Rattle.gos_stages.specs.Inside.{numbers_inside, AreGroundSupplies}
+use Rattle.gos_stages.specs.Inside.{AreGroundSupplies}
 use Rattle.gos_stages.specs.Folding.{Child}
 use Rattle.gos_stages.specs.Stages.{stage_of}
 use Rattle.gos_stages.proofs.InsideLemmas.{inside_means}
 use Rattle.gos_stages.proofs.LodgingLemmas.{lodged_are_inside}
 use Rattle.gos_stages.proofs.ChildStageLemmas.{child_is_staged}
-use Rattle.gos_grounds.proofs.ImportLemmas.{contained_at, stands_at, type_has}
 use Rattle.gos_grounds.proofs.ChildLemmas.{child_realises}
 use Rattle.gos_numbers.specs.Kept.{IsKept}
 use Rattle.gos_writes.proofs.AssignmentLemmas.{assignment_is_realised}
 use Rattle.gos_assignments.specs.Variables.{Target, is_target, target_lodge, target_plan}
 use Rattle.gos_assignments.specs.Made.{target_stage, target_of, IsWiredAssignment}
-use Rattle.gos_assignments.specs.Sides.{assigning, other_numbers, number_side}
+use Rattle.gos_assignments.specs.Sides.{assigning, number_side}
 use Rattle.gos_assignments.specs.Cases.{AssignCase}
 use Rattle.gos_assignments.proofs.TargetBackLemmas.{plan_realised, plan_joined, plan_right, plan_ground}
 use Rattle.gos_assignments.proofs.TargetFoldLemmas.{import_of}
@@ -80,10 +81,10 @@ module _ (types : Types) (ns : List ℕ) (ss : List Split) (w x : ℕ) (n : Numb
       agree : (y : Name) → Contains (things 0 variable) (Named y) → import_type r.imports y ≡ import_type (target_plan g).imports y
       agree y has =
           let name = named (target_plan g).imports (Named y) variable 0 [] (Var w) (omega arith) variable_realised.suits.typed has in
-          let (q, at) = stands_at (target_plan g).imports name.import name.has in
+          let (q, at) = place_of (target_plan g).imports name.import name.has in
           let is_y : bytes_eq name.import.name y ≡ true = (bytes_eq-Decides name.import.name y).1 (sym (cc (name.same))) in
           let it = import_of g ts w made.variable it_reads.0 it_reads.1 own pl r made.assign made.laid q name.import at in
-          type_has r.imports differ y name.import (contained_at r.imports (pl.import ((target_lodge g).root x) q) name.import it.there) is_y
+          type_has r.imports differ y name.import (contains_at r.imports (pl.import ((target_lodge g).root x) q) name.import it.there) is_y
           ∙ sym (type_has (target_plan g).imports variable_realised.suits.names y name.import name.has is_y)
 
   one_width : OneType → (v : ℕ) → Typed r.imports [] (inside ss (terms_of env) x) (Var v) → v ≡ w

@@ -11,7 +11,7 @@ use Rattle.gos_stages.specs.Inside.{numbers_inside}
 use Rattle.gos_stages.specs.Lodging.{AreTidy}
 use Rattle.gos_stages.proofs.ChildBackLemmas.{some_times}
 use Rattle.gos_numbers.specs.Kept.{IsKept}
-use Rattle.gos_numbers.specs.Inherited.{first_numbers, IsPart}
+use Rattle.gos_numbers.specs.Inherited.{IsPart}
 use Rattle.gos_numbers.proofs.ScopeLemmas.{split_covered}
 use Rattle.gos_numbers.proofs.ApartLemmas.{are_apart}
 use Rattle.gos_numbers.proofs.InheritedLemmas.{first_all, first_none, first_suits, two_once, two_sides, back_is_kept}

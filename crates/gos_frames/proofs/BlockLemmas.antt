@@ -19,6 +19,7 @@ use Rattle.gos_plan.proofs.JointLemmas.{one_joint, contained}
 use Rattle.gos_realises.specs.Regular.{count}
 use Rattle.gos_realises.specs.Modules.{Supply}
 use Rattle.gos_realises.proofs.ToldLemmas.{there_is}
+use Rattle.gos_realises.proofs.PlaceLemmas.{place_of, contains_at}
 use Rattle.gos_webs.specs.Webs.{Dot, Of, Number, Within, Tie, tie, Way, here, along, joint, own_web}
 use Rattle.gos_webs.specs.Cutting.{Cut, IsOutside, StandsIn}
 use Rattle.gos_webs.proofs.CutLemmas.{part_at}
@@ -43,7 +44,7 @@ use Rattle.gos_frames.proofs.ChildLemmas.{Sitting, child_parts, child_placing, c
 use Rattle.gos_frames.proofs.ChildLemmas as children
 use Rattle.gos_frames.proofs.FoldLemmas.{HasPlan, has_plan}
 use Rattle.gos_frames.proofs.CutLemmas.{region_is_cut}
-use Rattle.gos_frames.proofs.RegionLemmas.{listed_at, at_listed, lies_joined, IsIn, in_number, in_back}
+use Rattle.gos_frames.proofs.RegionLemmas.{lies_joined, IsIn, in_number, in_back}
 use Rattle.gos_frames.proofs.BodyLemmas as bodies
 use Rattle.gos_frames.proofs.BodyLemmas.{block_port, block_port_end, done_contact, done_only, variable_contact}
 
@@ -378,11 +379,11 @@ module _
 
     its_others : (y : Imported) → Contains body.imports y → (y ≡ variable) ⊎ Contains r.imports y
     its_others y has =
-        let (a, at) = listed_at body.imports y has in by_case a (which_import a y at)
+        let (a, at) = place_of body.imports y has in by_case a (which_import a y at)
       where
         by_case : (a : ℕ) → ((place ≡ a) × (variable ≡ y)) ⊎ Other a y → (y ≡ variable) ⊎ Contains r.imports y
         by_case a (inl (same, is_y)) = inl (sym is_y)
-        by_case a (inr there) = inr (at_listed r.imports (pl.import (plc.origin a).number (plc.origin a).import) y there.at)
+        by_case a (inr there) = inr (contains_at r.imports (pl.import (plc.origin a).number (plc.origin a).import) y there.at)
 
     abbrev Joined : End → End → Type 0
     Joined a b = IsJointOf cut body a b ⊎ ((a ≡ ResultEnd 0) × (b ≡ PartEnd (pl.own 0) 3))

@@ -15,6 +15,7 @@ use Rattle.gos_plan.proofs.JointLemmas.{one_joint, contained}
 use Rattle.gos_realises.specs.Regular.{count}
 use Rattle.gos_realises.specs.Realises.{NamesDiffer, HaveOtherNames}
 use Rattle.gos_realises.proofs.ToldLemmas.{there_is}
+use Rattle.gos_realises.proofs.PlaceLemmas.{place_of, differ_at}
 use Rattle.gos_ties.specs.declared.points.Place.TheVariants as places
 use Rattle.gos_ties.specs.declared.points.Point.{Point}
 use Rattle.gos_ties.specs.declared.points.Tie as point_ties
@@ -39,7 +40,7 @@ use Rattle.gos_frames.proofs.FrameLemmas.{Frame, kept, in_range_true, in_range_i
 use Rattle.gos_frames.proofs.ChildLemmas.{Sitting, IsSitting, HasPorts, child_placing, child_plan, number_of, its_cut, whole_web}
 use Rattle.gos_frames.proofs.FoldLemmas.{HasPlan}
 use Rattle.gos_frames.proofs.SideLemmas.{side_frame, side_sitting, IsSideOf, is_sitting, has_ports}
-use Rattle.gos_frames.proofs.RegionLemmas.{listed_at, differ_at, IsIn, in_number, number_in, in_back, side_plan, import_in, is_side, joint_of}
+use Rattle.gos_frames.proofs.RegionLemmas.{IsIn, in_number, number_in, in_back, side_plan, import_in, is_side, joint_of}
 
 abbrev by_role : Role → Bool
 by_role Serve = false
@@ -395,8 +396,8 @@ module _
 
     names_apart : HaveOtherNames p.imports q.imports
     names_apart x y in_p in_q same =
-        let (a, at_a) = listed_at p.imports x in_p in
-        let (b, at_b) = listed_at q.imports y in_q in
+        let (a, at_a) = place_of p.imports x in_p in
+        let (b, at_b) = place_of q.imports y in_q in
         let one = import_in types i 0 1 (suc j) m ms 1 (1 + lm) (suc j + nodes m) n ks j whole ns run env pl left_of r is differ kinds.Par driver.0 driver.1 refl a x at_a in
         let other = import_in types i 1 (1 + lm) (suc j + nodes m) n ks 0 1 (suc j) m ms j whole ns run env pl right_of r is differ kinds.Par driver.0 driver.1 refl b y at_b in
         let place = differ_at r.imports differ (pl.import one.number one.import) (pl.import other.number other.import) x y one.at other.at same in

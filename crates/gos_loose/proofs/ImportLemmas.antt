@@ -8,23 +8,11 @@ use Rattle.gos_model.specs.Terms.{Name, Term, Skip, Lit, Bound, Import, Lam, App
 use Rattle.gos_model.specs.Typing.{Imported, Imports, import_type, Typed}
 use Rattle.gos_realises.specs.Realises.{AllGround, NamesDiffer, HaveOtherNames}
 use Rattle.gos_contexts.specs.Widening.{AreAmong}
-use Rattle.gos_renumbered.proofs.ImportLemmas.{has_type, name_is}
+use Rattle.gos_renumbered.proofs.ImportLemmas.{has_type, type_has}
 
 -- all of these are among those
 abbrev pub AllAmong : Imports → Imports → Type 0
 AllAmong is js = (i : Imported) → Contains is i → Contains js i
-
-type_has : (is : Imports) → NamesDiffer is → (x : Name) (i : Imported) → Contains is i → bytes_eq i.name x ≡ true → import_type is x ≡ Some i.ty
-type_has [] differ x i (k, small, e) test = absurd (omega (arith, small))
-type_has (j ∷ is) differ x i (zero, small, e) test =
-    let there : bytes_eq j.name x ≡ true = subst (λ (y : Imported). bytes_eq y.name x ≡ true) (sym e) test in
-    (λ k. if there k then Some j.ty else import_type is x) ∙ ap (λ (y : Imported). Some y.ty) e
-type_has (j ∷ is) differ x i (suc k, small, e) test = by_test (bytes_eq j.name x) refl (type_has is differ.1 x i (k, omega (arith, small), e) test)
-  where
-    by_test : (b : Bool) → bytes_eq j.name x ≡ b → import_type is x ≡ Some i.ty → (if b then Some j.ty else import_type is x) ≡ Some i.ty
-    by_test true there rest =
-        absurd (differ.0 i (k, omega (arith, small), e) (name_is j.name x there ∙ sym (name_is i.name x test)))
-    by_test false there rest = rest
 
 pub among : (is js : Imports) → NamesDiffer js → AllAmong is js → AreAmong is js
 among is js differ all x t e =

@@ -20,6 +20,7 @@ use Rattle.gos_plan.specs.Tokens.{Element}
 use Rattle.gos_plan.specs.Cycles.{import_number, out_of, in_of, outs_of, ins_of}
 use Rattle.gos_realises.specs.Matched.{shows, all_shown}
 use Rattle.gos_realises.specs.Realises.{AllGround, NamesDiffer}
+use Rattle.gos_realises.proofs.PlaceLemmas.{contains_at}
 use Rattle.gos_pace.specs.Ports.{AreTaken, HasPorts}
 
 -- names
@@ -32,9 +33,6 @@ test_differ x y differ = by_test (bytes_eq x y) refl
     by_test : (b : Bool) → bytes_eq x y ≡ b → bytes_eq x y ≡ false
     by_test true e = let is : x ≡ y = grind (arith, bytes_eq-Decides, e) in absurd (differ is)
     by_test false e = e
-
-contains_at : {X : Type 0} (xs : List X) (k : ℕ) (x : X) → slice_get xs k ≡ Some x → Contains xs x
-contains_at xs k x e = (k, slice_get_within xs k x e, get_or_from_slice_get xs k x x e)
 
 -- a label is what its element shows
 abbrev pub IsShown : Plan → Label → Type 0

@@ -1,3 +1,4 @@
+pub mod PlaceLemmas
 pub mod LiteralLemmas
 pub mod RingLemmas
 pub mod OneJointLemmas

@@ -15,6 +15,7 @@ use Rattle.gos_plan.specs.Tokens.{IsPortEnd}
 use Rattle.gos_realises.specs.Regular.{is_request}
 use Rattle.gos_realises.specs.Matched.{port_if, event_number, label_at}
 use Rattle.gos_realises.specs.Realises.{NamesDiffer}
+pub use Rattle.gos_realises.proofs.PlaceLemmas.{contains_at}
 use Rattle.gos_realises.proofs.RenumberLemmas.{tests_agree}
 use Rattle.gos_realises.proofs.RingLemmas.{told_open}
 
@@ -28,9 +29,6 @@ test_differ x y differ = by_test (bytes_eq x y) refl
     by_test : (b : Bool) → bytes_eq x y ≡ b → bytes_eq x y ≡ false
     by_test true e = let is : x ≡ y = grind (arith, bytes_eq-Decides, e) in absurd (differ is)
     by_test false e = e
-
-pub contains_at : (xs : Imports) (k : ℕ) (x : Imported) → slice_get xs k ≡ Some x → Contains xs x
-contains_at xs k x e = (k, slice_get_within xs k x e, get_or_from_slice_get xs k x x e)
 
 next_number : (j i : ℕ) → nat_eq j i ≡ nat_eq (suc j) (suc i)
 next_number j i = tests_agree j i (suc j) (suc i) (λ e. ap suc e) (λ e. omega (arith, e))

@@ -11,7 +11,8 @@ use Rattle.gos_realises.specs.Regular.{count}
 use Rattle.gos_realises.specs.Wirings.{link}
 use Rattle.gos_realises.specs.Realises.{NamesDiffer, Realises}
 use Rattle.gos_realises.specs.Modules.{Supply, plans_of, AreSupplied, term_for, import_linked, imports_linked}
-use Rattle.gos_renumbered.proofs.ImportLemmas.{name_is, of_at}
+use Rattle.gos_realises.proofs.PlaceLemmas.{contains_at}
+use Rattle.gos_renumbered.proofs.ImportLemmas.{name_is}
 
 -- handshake h of import i, linked to its supply
 abbrev pub supply_link : ℕ → ℕ → Link
@@ -158,5 +159,5 @@ at_term (j ∷ is) (t ∷ ss) x zero i s differ at_i at_s named =
 at_term (j ∷ is) (t ∷ ss) x (suc n) i s differ at_i at_s named = by_test (bytes_eq j.name x) refl (at_term is ss x n i s differ.1 at_i at_s named)
   where
     by_test : (b : Bool) → bytes_eq j.name x ≡ b → term_for is ss x ≡ Some s.term → (if b then Some t.term else term_for is ss x) ≡ Some s.term
-    by_test true there rest = absurd (differ.0 i (of_at is n i at_i) (name_is j.name x there ∙ sym (name_is i.name x named)))
+    by_test true there rest = absurd (differ.0 i (contains_at is n i at_i) (name_is j.name x there ∙ sym (name_is i.name x named)))
     by_test false there rest = rest

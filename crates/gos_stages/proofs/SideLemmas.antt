@@ -124,7 +124,7 @@ module _ {P : Type 0} (inner : P → ℕ → Bool) where
     serving x t c = record { part = pl.own x; ty = t; side = c }
 
     -- Share q of the node, of type t, serves one of them from side c; the Shares have numbers from x on
-    abbrev Serves : List Split → ℕ → ℕ → Type' → ℕ → Type 0
+    abbrev pub Serves : List Split → ℕ → ℕ → Type' → ℕ → Type 0
     Serves ss x q t c = (p : P) × Contains (servings types pl (inner p) x ss) (serving q t c)
 
     -- the first one
