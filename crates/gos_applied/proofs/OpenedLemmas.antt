@@ -16,7 +16,8 @@ use Rattle.gos_realises.specs.Regular.{count}
 use Rattle.gos_realises.specs.Links.{contact_of}
 use Rattle.gos_realises.specs.Wirings.{link, applying}
 use Rattle.gos_realises.specs.Modules.{Supply, plans_of, supplying}
-use Rattle.gos_realises.proofs.GroundTurnLemmas.{count_fun}
+use Rattle.gos_realises.proofs.CountLemmas.{some_shake}
+use Rattle.gos_realises.proofs.LeftLemmas.{left_joined}
 use Rattle.gos_joined.proofs.OriginLemmas.{import_of}
 use Rattle.gos_joined.proofs.ReachLemmas.{Step, Paths}
 use Rattle.gos_webs.specs.Webs.{joint}
@@ -41,27 +42,7 @@ data Seam : Type 0 where
   Passes : (shake : ℕ) → Seam
   Given : (import shake : ℕ) → Seam
 
--- a type has a handshake
-count_pair : (a b : Type') → count (Pair a b) ≡ count a + count b
-count_pair a b = ap (λ (cs : List Contact). length cs) (pairs_join a b).joined ∙ length-append (contacts_of a) (contacts_of b)
-
-pub some_shake : (t : Type') → 0 < count t
-some_shake Com = omega arith
-some_shake (Exp w) = omega arith
-some_shake (Var w) = omega arith
-some_shake (Pair a b) = let first = some_shake a in let sum = count_pair a b in omega (arith, first, sum)
-some_shake (Fun a b) = let first = some_shake a in let sum = count_fun a b in omega (arith, first, sum)
-
--- imports that are all joined, or none
-left_joined : (ls : List Link) (k i : ℕ) (xs : List Imported) → ((j : ℕ) (z : Imported) → slice_get xs j ≡ Some z → is_joined ls k (i + j) ≡ true)
-    → left_in ls k i xs ≡ []
-left_joined ls k i [] all = refl
-left_joined ls k i (x ∷ xs) all =
-    let zeros : i + 0 ≡ i = omega arith in
-    let here : is_joined ls k i ≡ true = ap (is_joined ls k) (sym zeros) ∙ all 0 x refl in
-    let rest = left_joined ls k (suc i) xs (λ j z at. (let sum : suc i + j ≡ i + suc j = omega arith in ap (is_joined ls k) sum ∙ all (suc j) z at)) in
-    (λ j. if here j then left_in ls k (suc i) xs else record { plan = k; number = i; import = x } ∷ left_in ls k (suc i) xs) ∙ rest
-
+-- imports that other links join too
 in_same : (ls ms : List Link) (k i : ℕ) (xs : List Imported) → ((j : ℕ) → is_joined ls k j ≡ is_joined ms k j) → left_in ls k i xs ≡ left_in ms k i xs
 in_same ls ms k i [] same = refl
 in_same ls ms k i (x ∷ xs) same =

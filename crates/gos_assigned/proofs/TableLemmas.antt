@@ -14,6 +14,7 @@ use Rattle.gos_plan.specs.Kinds.{Assign}
 use Rattle.gos_plan.specs.Firing.{Phase, Rest, Value, Writing, State, Slot, Req, Ans, Row, at, put, row, row_for, rows, same_slot, firing}
 use Rattle.gos_plan.specs.Plans.{ImportEnd, Plan, contacts_of_import}
 use Rattle.gos_plan.specs.Tokens.{Out, In}
+use Rattle.gos_plan.proofs.SlotLemmas.{one_row}
 use Rattle.gos_realises.specs.Regular.{way_in, way_out}
 use Rattle.gos_realises.specs.Matched.{port_if, event_number, shows}
 use Rattle.gos_assigned.specs.Tables.{Leads, AssignDoes, WriteMoves, WriteShows, AssignsDo, WritesMove, WritesShow}
@@ -21,20 +22,6 @@ use Rattle.gos_assigned.specs.Tables.{Leads, AssignDoes, WriteMoves, WriteShows,
 -- a state's one row
 by_row : (P : Row → Type 0) (a r : Row) → Some a ≡ Some r → P a → P r
 by_row P a r e h = subst P (same_Some a r e) h
-
--- what takes a token takes that of its row
-slots_same : (a b : Slot) → same_slot a b ≡ true → b ≡ a
-slots_same (Req h) (Req j) e = let same : h ≡ j = grind (arith, e) in ap Req (sym same)
-slots_same (Req h) (Ans j) e = absurd (cc e)
-slots_same (Ans h) (Req j) e = absurd (cc e)
-slots_same (Ans h) (Ans j) e = let same : h ≡ j = grind (arith, e) in ap Ans (sym same)
-
-one_row : (a r : Row) (slot : Slot) → row_for slot (a ∷ []) ≡ Some r → slot ≡ a.takes
-one_row a r slot e = by_test (same_slot a.takes slot) refl
-  where
-    by_test : (b : Bool) → same_slot a.takes slot ≡ b → slot ≡ a.takes
-    by_test true t = slots_same a.takes slot t
-    by_test false t = absurd (none-some r (sym (ap (λ (b : Bool). if b then Some a else None) t) ∙ e))
 
 -- the part takes no other token than that of its state
 abbrev Taken' : Phase → Slot → Type 0

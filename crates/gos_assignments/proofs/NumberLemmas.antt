@@ -5,11 +5,10 @@ use Rattle.gos_types.specs.Types.{Com, Var}
 use Rattle.gos_check.specs.declared.linear.Split.{Split}
 use Rattle.gos_check.specs.Nodes.{Numbered, Use, OfAssign}
 use Rattle.gos_check.specs.Linearity.{times, split_in, sides, used, made}
-use Rattle.gos_check.proofs.TimesLemmas.{number_cases, eq_false, true_eq, times_same, times_other, times-append}
+use Rattle.gos_check.proofs.TimesLemmas.{number_cases, eq_false, true_eq, times_same, times_other, times-append, some_times}
 use Rattle.gos_compile.specs.Wiring.{Types}
 use Rattle.gos_stages.specs.Inside.{numbers_inside}
 use Rattle.gos_stages.specs.Lodging.{AreTidy}
-use Rattle.gos_stages.proofs.ChildBackLemmas.{some_times}
 use Rattle.gos_numbers.specs.Kept.{IsKept}
 use Rattle.gos_numbers.specs.Inherited.{IsPart}
 use Rattle.gos_numbers.proofs.ScopeLemmas.{split_covered}

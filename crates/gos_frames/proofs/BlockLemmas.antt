@@ -47,6 +47,7 @@ use Rattle.gos_frames.proofs.CutLemmas.{region_is_cut}
 use Rattle.gos_frames.proofs.RegionLemmas.{lies_joined, IsIn, in_number, in_back}
 use Rattle.gos_frames.proofs.BodyLemmas as bodies
 use Rattle.gos_frames.proofs.BodyLemmas.{block_port, block_port_end, done_contact, done_only, variable_contact}
+use Rattle.gos_frames.proofs.ParallelLemmas.{serves_not}
 
 pub same_bits : (t : Type') → IsDone t → answer_bits t ≡ bits t
 same_bits Com done = refl
@@ -54,18 +55,6 @@ same_bits (Exp w) done = refl
 same_bits (Var w) done = absurd done
 same_bits (Pair a b) done = absurd done
 same_bits (Fun a b) done = absurd done
-
-abbrev by_role : roles.Role → Bool
-by_role sides.Serve = false
-by_role sides.Ask = true
-
-serves_not : (q v c d : ℕ) → Some (serves q v) ≡ Some (asks c d) → ⊥
-serves_not q v c d e =
-    let one : serves q v ≡ asks c d = same_Some (serves q v) (asks c d) e in
-    clash (ap (λ (x : Contact). by_role x.role) one)
-  where
-    clash : by_role (serves q v).role ≡ by_role (asks c d).role → ⊥
-    clash e = let bad : false ≡ true = e in cc bad
 
 module _
     (types : Types) (i j w n : ℕ) (t : Type') (m : Numbered) (ns : List ℕ) (env : Supplies) (pl : Placing) (x : Name) (r : Plan)

@@ -4,7 +4,7 @@ use Rattle.std.proofs.Common.{refl, sym, ◌∙◌, ap, subst, arith, inl, inr}
 use Rattle.std.proofs.lemmas.Option.{none-some}
 use Rattle.gos_check.specs.Nodes.{Numbered}
 use Rattle.gos_check.specs.Linearity.{times, made, used}
-use Rattle.gos_check.proofs.TimesLemmas.{eq_true, eq_false}
+use Rattle.gos_check.proofs.TimesLemmas.{eq_true, eq_false, some_times, listed_times}
 use Rattle.gos_plan.specs.Plans.{End, PartEnd, ImportEnd, ResultEnd}
 use Rattle.gos_ties.specs.declared.points.Place.TheVariants as places
 use Rattle.gos_ties.specs.declared.points.Point.{Point}
@@ -19,7 +19,6 @@ use Rattle.gos_wired.specs.Wired.{Supplies, dot_of, dot_ties, result_ties, suppl
 use Rattle.gos_wired.proofs.TieLemmas.{of_results}
 use Rattle.gos_stages.specs.Leading.{dot_leading}
 use Rattle.gos_stages.proofs.FollowLemmas.{dots_lead}
-use Rattle.gos_stages.proofs.ChildBackLemmas.{some_times, listed_times}
 use Rattle.gos_frames.proofs.SpanLemmas.{EachPoint, Both, HoldsInside, spans, one_tie}
 
 -- A child: the numbers for which it has supplies, of which some are names that only it knows; its node has parts from `first`

@@ -5,11 +5,10 @@ use Rattle.std.proofs.lemmas.Option.{none-some}
 use Rattle.gos_model.specs.Typing.{Imported}
 use Rattle.gos_plan.specs.Kinds.{Part}
 use Rattle.gos_check.specs.Linearity.{times}
-use Rattle.gos_check.proofs.TimesLemmas.{number_cases, eq_true, eq_false, times_same}
+use Rattle.gos_check.proofs.TimesLemmas.{number_cases, eq_true, eq_false, times_same, some_times}
 use Rattle.gos_joined.proofs.OriginLemmas.{front_at, behind_at}
 use Rattle.gos_unions.proofs.LeftLemmas.{front, behind}
 use Rattle.gos_wired.specs.Wired.{Supplies, Source, Own, Supplied, Origin, Placing, IsFrom, placed}
-use Rattle.gos_stages.proofs.ChildBackLemmas.{some_times}
 
 abbrev pub origin : ℕ → ℕ → Origin
 origin n k = record { number = n; import = k }

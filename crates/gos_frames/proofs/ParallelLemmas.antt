@@ -8,6 +8,7 @@ use Rattle.gos_types.specs.declared.shakes.Role.{Role}
 use Rattle.gos_types.specs.declared.shakes.Role.TheVariants.{Serve, Ask}
 use Rattle.gos_check.specs.Nodes.{Numbered, Two, OfPar}
 use Rattle.gos_check.specs.Linearity.{times}
+use Rattle.gos_check.proofs.TimesLemmas.{some_times, listed_times}
 use Rattle.gos_plan.specs.Kinds as kinds
 use Rattle.gos_plan.specs.Kinds.{Part, Contact, asks, serves, contacts_of, part_contacts}
 use Rattle.gos_plan.specs.Plans.{End, PartEnd, ImportEnd, ResultEnd, Joint, Plan, contacts_of_part, turned_if, contact_at}
@@ -33,7 +34,6 @@ use Rattle.gos_parallel.specs.Parallel.{IsJointOf, IsPartOf, IsParallel}
 use Rattle.gos_compile.specs.Wiring.{Types, row, parts_of, nodes, type_of_node, ties_of}
 use Rattle.gos_wired.specs.Wired.{Supplies, Source, Own, Supplied, Placing, IsFrom, placed, source_dot, dot_of, dot_ties, all_supply_ties, IsWired}
 use Rattle.gos_wired.specs.Wired as origins
-use Rattle.gos_stages.proofs.ChildBackLemmas.{some_times, listed_times}
 use Rattle.gos_frames.specs.Frames.{AreParted, AreSides, ParallelIsWired}
 use Rattle.gos_frames.proofs.NumberingLemmas.{got_below}
 use Rattle.gos_frames.proofs.FrameLemmas.{Frame, kept, in_range_true, in_range_is, itself_true, kept_true, kept_is, own_part, back}
@@ -46,7 +46,7 @@ abbrev by_role : Role → Bool
 by_role Serve = false
 by_role Ask = true
 
-serves_not : (q v c d : ℕ) → Some (serves q v) ≡ Some (asks c d) → ⊥
+pub serves_not : (q v c d : ℕ) → Some (serves q v) ≡ Some (asks c d) → ⊥
 serves_not q v c d e =
     let one : serves q v ≡ asks c d = same_Some (serves q v) (asks c d) e in
     clash (ap (λ (x : Contact). by_role x.role) one)

@@ -5,7 +5,7 @@ use Rattle.std.proofs.lemmas.Option.{none-some, same_Some}
 use Rattle.gos_types.specs.Types.{Type', Com}
 use Rattle.gos_check.specs.Nodes.{Numbered}
 use Rattle.gos_check.specs.Linearity.{times, made, used}
-use Rattle.gos_check.proofs.TimesLemmas.{eq_true, true_eq}
+use Rattle.gos_check.proofs.TimesLemmas.{eq_true, true_eq, some_times, listed_times}
 use Rattle.gos_plan.specs.Kinds.{Part, Contact, asks, contacts_of, part_contacts}
 use Rattle.gos_plan.specs.Plans.{End, PartEnd, ResultEnd, Plan, contacts_of_part, turned_if, contact_at}
 use Rattle.gos_realises.specs.Regular.{count}
@@ -17,7 +17,6 @@ use Rattle.gos_unions.proofs.UnionLemmas.{of_image}
 use Rattle.gos_folds.specs.Folds as folds
 use Rattle.gos_compile.specs.Wiring.{Types, row, parts_of, nodes, type_of_node, ties_of}
 use Rattle.gos_wired.specs.Wired.{Supplies, Source, Own, Placing, source_dot, dot_of, dot_ties}
-use Rattle.gos_stages.proofs.ChildBackLemmas.{some_times, listed_times}
 use Rattle.gos_frames.proofs.SpanLemmas.{Both, HoldsInside, spans, one_tie}
 use Rattle.gos_frames.proofs.FrameLemmas.{Frame, is_in, kept, known, size, in_range, itself_false, out_of_range, lt_false, other_part, own_part, back, Gone, its_ties_there}
 use Rattle.gos_frames.proofs.FoldLemmas.{follows_none}

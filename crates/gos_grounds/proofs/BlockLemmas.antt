@@ -13,7 +13,7 @@ use Rattle.gos_model.specs.Typing.{Imported, import_type, Named, things, Typed}
 use Rattle.gos_model.specs.Substitution.{put_at, instantiate}
 use Rattle.gos_check.specs.Nodes.{Numbered, Under, OfNew, Meaning, below, meaning, type_of_node}
 use Rattle.gos_check.specs.Linearity.{times}
-use Rattle.gos_check.proofs.TimesLemmas.{eq_true, true_eq, times-append, times_same}
+use Rattle.gos_check.proofs.TimesLemmas.{eq_true, true_eq, times-append, times_same, some_times, listed_times}
 use Rattle.gos_plan.specs.Plans.{ImportEnd, ResultEnd, Plan}
 use Rattle.gos_plan.specs.TokenBits.{LiteralFits}
 use Rattle.gos_realises.specs.Modules.{Supply}
@@ -29,7 +29,6 @@ use Rattle.gos_blocks.specs.Block.{BlockRealises}
 use Rattle.gos_compile.specs.Wiring.{Types}
 use Rattle.gos_wired.specs.Wired.{Supplies, Placing, Origin, IsWired, terms_of}
 use Rattle.gos_stages.specs.Inside.{AreGroundSupplies}
-use Rattle.gos_stages.proofs.ChildBackLemmas.{some_times, listed_times}
 use Rattle.gos_meanings.specs.Meanings.{HasLeaves, standing, BodyIsInstantiated}
 use Rattle.gos_frames.specs.Blocks.{with_name, IsBound, HasBody, BlockIsWired}
 use Rattle.gos_numbers.specs.Kept.{InScope}

@@ -9,6 +9,7 @@ use Rattle.gos_model.specs.Terms.{Name}
 use Rattle.gos_model.specs.Typing.{Imported, Imports, import_type, Named, things, Typed}
 use Rattle.gos_check.specs.Nodes.{Meaning, inside, meaning, type_of_node}
 use Rattle.gos_check.specs.Linearity.{times}
+use Rattle.gos_check.proofs.TimesLemmas.{some_times}
 use Rattle.gos_plan.specs.Kinds.{Part}
 use Rattle.gos_plan.specs.Plans.{ImportEnd, Plan}
 use Rattle.gos_plan.specs.TokenBits.{LiteralFits}
@@ -28,7 +29,6 @@ use Rattle.gos_stages.proofs.InsideLemmas.{inside_is_realised, inside_means}
 use Rattle.gos_stages.proofs.LodgingLemmas.{lodged_are_inside}
 use Rattle.gos_stages.proofs.PartHomeLemmas.{numbers_are_at_home}
 use Rattle.gos_stages.proofs.HousingLemmas.{imports_are_from}
-use Rattle.gos_stages.proofs.ChildBackLemmas.{some_times}
 use Rattle.gos_meanings.specs.Meanings.{HasLeaves}
 use Rattle.gos_numbers.specs.Kept.{InScope}
 use Rattle.gos_grounds.specs.Cases.{RealisesWired}

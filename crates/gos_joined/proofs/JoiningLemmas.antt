@@ -10,9 +10,10 @@ use Rattle.gos_plan.specs.Plans.{End, PartEnd, ImportEnd, ResultEnd, Joint, Plan
 use Rattle.gos_plan.specs.Joining.{Place, Link, Wiring, Path, Connects, origin, IsJoining}
 use Rattle.gos_plan.proofs.JointLemmas.{IsIn, same_is, contained}
 use Rattle.gos_plan.proofs.JointLemmas as joints
+use Rattle.gos_plan.proofs.DecidedLemmas.{Told, both}
 use Rattle.gos_realises.specs.Links.{contact_of, contact_in, EndsFit, LinkFits, LinksFit}
 use Rattle.gos_realises.proofs.PlaceLemmas.{place_of}
-use Rattle.gos_joined.proofs.ReachLemmas.{Told, both, told_number, told_path, Step, Paths, paths_then, paths_back}
+use Rattle.gos_joined.proofs.ReachLemmas.{told_number, told_path, Step, Paths, paths_then, paths_back}
 use Rattle.gos_joined.proofs.StepLemmas.{one_outside}
 use Rattle.gos_joined.specs.Joined.{FittingIsJoined}
 use Rattle.gos_joined.proofs.OriginLemmas.{whole, at_origin, one_origin}

@@ -9,7 +9,7 @@ use Rattle.gos_types.specs.Handshakes.{turned}
 use Rattle.gos_plan.specs.Kinds.{Contact, asks, serves}
 use Rattle.gos_plan.specs.Plans.{End, PartEnd, ImportEnd, ResultEnd, Joint, Plan, contact_at, same_end, stands_in, is_free, Fits, IsRight}
 use Rattle.gos_plan.specs.Joining.{Place, Link, Wiring, JoinedWithin, Linked, Path}
-use Rattle.gos_plan.proofs.JointLemmas.{IsIn, same_itself, one_joint, contained}
+use Rattle.gos_plan.proofs.JointLemmas.{IsIn, same_itself, one_joint, contained, free_later}
 use Rattle.gos_plan.proofs.JointLemmas as joints
 use Rattle.gos_realises.specs.Links.{contact_of, contact_in, IsUnjoined, EndsFit, LinkFits, StandsIn, LinksFit}
 use Rattle.gos_realises.proofs.PlaceLemmas.{place_of}
@@ -76,12 +76,6 @@ stands j e b (inl (at, is)) =
 stands j e b (inr (at, is)) =
     subst (λ (x : End). stands_in x j ≡ true) (sym at)
     (ap (λ (t : Bool). same_end j.serving j.asking || t) (same_itself j.serving) ∙ or_right (same_end j.serving j.asking))
-
-pub free_later : (e : End) (before : List Joint) (j : Joint) → IsIn j before → IsTrue (is_free e before) → stands_in e j ≡ true → ⊥
-free_later e [] j h f t = h
-free_later e (x ∷ xs) j (inl i) f t =
-    let u : stands_in e x ≡ true = subst (λ (y : Joint). stands_in e y ≡ true) i t in grind (arith, f, u)
-free_later e (x ∷ xs) j (inr i) f t = free_later e xs j i (grind (arith, f)) t
 
 joined_one : (w : Wiring) → LinksFit w → (a b c : Place) → JoinedWithin w a b → JoinedWithin w a c → b ≡ c
 joined_one w fit a b c (p, j, same, is, has, ways) (q, k, same_too, is_too, has_too, ways_too) =

@@ -8,6 +8,7 @@ use Rattle.gos_model.specs.Typing.{Imported, import_type}
 use Rattle.gos_model.specs.Labels.{Port, Given, Taken, Label}
 use Rattle.gos_model.specs.Moves.{Program, Config, Idle, Running, Act, Move, Moves, Stalled}
 use Rattle.gos_model.specs.Protocol.{FitsAnswer, event_of, Allowed, KeepsAfter, KeepsProtocol}
+use Rattle.gos_model.proofs.MoveLemmas.{moves_then}
 use Rattle.gos_plan.specs.Kinds.{Contact}
 use Rattle.gos_plan.specs.Firing.{Rest, Req, Ans}
 use Rattle.gos_plan.specs.Plans.{End, PartEnd, ImportEnd, ResultEnd, Plan, contact_at}
@@ -29,10 +30,6 @@ use Rattle.gos_loose.proofs.ImportLemmas.{AllAmong, among, named_type}
 
 pub own_imports : (f : Placing) (r c : Plan) → IsPlaced f r c → AllAmong c.imports r.imports
 own_imports f r c is i has = let (n, at) = place_of c.imports i has in contains_at r.imports (f.import n) i (is.imports n ∙ at)
-
-moves_after : (p : Program) (xs ys : List Act) (c d e : Config) → Moves p xs c d → Moves p ys d e → Moves p (xs ++ ys) c e
-moves_after p [] ys c d e h k = subst (λ (x : Config). Moves p ys x e) (sym h) k
-moves_after p (a ∷ xs) ys c d e (b, h, hs) k = (b, h, moves_after p xs ys b d e hs k)
 
 module _ (f : Placing) (r c : Plan) (is : IsPlaced f r c) where
   -- what is shown
@@ -150,7 +147,7 @@ module _ (f : Placing) (r c : Plan) (is : IsPlaced f r c) where
               shown ∙ sym (shows_whole y),
               goes_whole y s acts goes,
               matched_whole xs t d (stays_still f r c is y s t still does)
-                  (reached.0 ++ acts, moves_after small reached.0 acts Idle x d reached.1 moves) rest,
+                  (reached.0 ++ acts, moves_then small reached.0 acts Idle x d reached.1 moves) rest,
             ),
       )
 

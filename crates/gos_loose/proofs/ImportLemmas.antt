@@ -57,26 +57,7 @@ typed_more i j all g (Held k op n) t h = h
 typed_more i j all g (Put m k) t h = h
 
 -- imports one after another
-contains_either : (is js : List Imported) (i : Imported) → Contains (is ++ js) i → Contains is i ⊎ Contains js i
-contains_either [] js i has = inr has
-contains_either (x ∷ is) js i (zero, small, e) = inl (zero, omega arith, e)
-contains_either (x ∷ is) js i (suc k, small, e) =
-    elim (contains_either is js i (k, omega (arith, small), e)) [
-      | inl (n, low, at) ↦ inl (suc n, omega (arith, low), at)
-      | inr has ↦ inr has
-    ]
-
 pub ground_both : (is js : List Imported) → AllGround is → AllGround js → AllGround (is ++ js)
 ground_both [] js one other = other
 ground_both (i ∷ is) js one other = (one.0, ground_both is js one.1 other)
 
-pub names_both : (is js : List Imported) → NamesDiffer is → NamesDiffer js → HaveOtherNames is js → NamesDiffer (is ++ js)
-names_both [] js one other apart = other
-names_both (i ∷ is) js one other apart = (
-  λ j has.
-      elim (contains_either is js j has) [
-        | inl own ↦ one.0 j own
-        | inr far ↦ apart i j (zero, omega arith, refl) far
-      ],
-  names_both is js one.1 other (λ x y in_is in_js. apart x y (suc in_is.0, (let low = in_is.1 in omega (arith, low)), in_is.2) in_js),
-)

@@ -7,10 +7,6 @@ use Rattle.gos_check.specs.Linearity.{times, sides}
 use Rattle.gos_check.proofs.TimesLemmas.{number_cases, eq_true, eq_false, times_same, times_other}
 use Rattle.gos_stages.specs.Inside.{numbers_inside}
 
-pub either : (a b : ℕ) → 0 < a + b → (0 < a) ⊎ (0 < b)
-either zero b h = inr (omega (arith, h))
-either (suc a) b h = inl (omega arith)
-
 pub times_inside : (k : ℕ) (ss : List Split) (ns : List ℕ) → times k (numbers_inside ss ns) ≡ times k (sides ss) + times k ns
 times_inside k [] ns = omega arith
 times_inside k (s ∷ ss) ns = let rest = times_inside k ss (s.left ∷ s.right ∷ ns) in omega (arith, rest)

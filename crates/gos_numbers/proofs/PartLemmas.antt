@@ -1,18 +1,19 @@
 -- A part of a node, by what is made and used beside it.
 use Rattle.std.specs.Prelude.{◌≡◌, ℕ, ◌+◌, ◌<◌, ◌≤◌, ◌⊎◌, List, [], ◌∷◌, Contains}
 use Rattle.std.proofs.Common.{arith, inl, inr}
+use Rattle.gos_model.proofs.NumberLemmas.{either}
 use Rattle.gos_check.specs.declared.linear.Split.{Split}
 use Rattle.gos_check.specs.Nodes.{Numbered}
 use Rattle.gos_check.specs.Linearity.{times, split_in, sides, used, made, IsSplitBetween, SidesApart}
+use Rattle.gos_check.proofs.TimesLemmas.{some_times, listed_times}
 use Rattle.gos_leaves.specs.Splits.{SidesUsedWithin, SplitsAtForks}
 use Rattle.gos_leaves.proofs.CountLemmas.{left_in, right_in}
 use Rattle.gos_compile.specs.Wiring.{Types}
 use Rattle.gos_compile.specs.Typed.{NodesTyped, SidesTyped}
 use Rattle.gos_stages.specs.Inside.{numbers_inside, AreSplit, SidesAgree}
-use Rattle.gos_stages.proofs.ChildBackLemmas.{some_times, listed_times}
 use Rattle.gos_numbers.specs.Kept.{InScope, NodesGround}
 use Rattle.gos_numbers.specs.Inherited.{IsPart, is_in}
-use Rattle.gos_numbers.proofs.ListLemmas.{either, times_inside, true_lt}
+use Rattle.gos_numbers.proofs.ListLemmas.{times_inside, true_lt}
 use Rattle.gos_numbers.proofs.ScopeLemmas.{restrict, covered, in_order}
 use Rattle.gos_numbers.proofs.ApartLemmas.{side_comes, are_apart}
 

@@ -9,15 +9,14 @@ use Rattle.gos_check.specs.declared.linear.Split.{Split}
 use Rattle.gos_check.specs.Nodes.{Numbered, Closed, Use, Under, One, Two, If, Meaning, below, shifted, inside, inside_one, node_seen}
 use Rattle.gos_check.specs.Linearity.{times, made, import_at}
 use Rattle.gos_check.specs.Checked.{program_in}
-use Rattle.gos_check.proofs.TimesLemmas.{number_cases, times_same, times_other, times-append, one_other}
+use Rattle.gos_check.proofs.TimesLemmas.{number_cases, times_same, times_other, times-append, one_other, listed_times}
 use Rattle.gos_compile.specs.Typed.{CheckedIsTyped}
 use Rattle.gos_leaves.proofs.CountLemmas.{behind}
 use Rattle.gos_leaves.proofs.LostLemmas.{is_loc, UsesStand, uses_stand, lost_in, lost, kept}
 use Rattle.gos_leaves.proofs.StandLemmas.{none_lost}
-use Rattle.gos_leaves.proofs.WithinLemmas.{standing_is_split_at_forks}
+use Rattle.gos_leaves.proofs.WithinLemmas.{standing_is_split_at_forks, two_none}
 use Rattle.gos_wired.specs.Modules.{numbers_from}
 use Rattle.gos_stages.specs.Inside.{numbers_inside, AreSplit}
-use Rattle.gos_stages.proofs.ChildBackLemmas.{listed_times}
 use Rattle.gos_numbers.specs.Kept.{InScope, CheckedIsKept}
 
 -- what stands for no location is there
@@ -53,10 +52,6 @@ below_there n env ns there k bound =
 kept_none : (b : Bool) (s : Split) (ss : List Split) → kept b s ss ≡ [] → (b ≡ false) × (ss ≡ [])
 kept_none true s ss e = absurd (cc e)
 kept_none false s ss e = (refl, e)
-
-pub two_none : (ss ts : List Split) → ss ++ ts ≡ [] → (ss ≡ []) × (ts ≡ [])
-two_none [] ts e = (refl, e)
-two_none (s ∷ ss) ts e = absurd (cc e)
 
 pub first_kept : (env : Meaning) (s : Split) (ss : List Split) → lost_in env (s ∷ ss) ≡ [] → (is_loc (env s.of) ≡ false) × (lost_in (inside_one s env) ss ≡ [])
 first_kept env s ss e = kept_none (is_loc (env s.of)) s (lost_in (inside_one s env) ss) e

@@ -21,18 +21,8 @@ use Rattle.gos_plan.specs.Cycles.{import_number, out_of, in_of, outs_of, ins_of}
 use Rattle.gos_realises.specs.Matched.{shows, all_shown}
 use Rattle.gos_realises.specs.Realises.{AllGround, NamesDiffer}
 use Rattle.gos_realises.proofs.PlaceLemmas.{contains_at}
+use Rattle.gos_realises.proofs.ToldLemmas.{test_same, test_differ}
 use Rattle.gos_pace.specs.Ports.{AreTaken, HasPorts}
-
--- names
-test_same : (x y : List ℕ) → x ≡ y → bytes_eq x y ≡ true
-test_same x y e = grind (arith, bytes_eq-Decides, e)
-
-test_differ : (x y : List ℕ) → (x ≡ y → ⊥) → bytes_eq x y ≡ false
-test_differ x y differ = by_test (bytes_eq x y) refl
-  where
-    by_test : (b : Bool) → bytes_eq x y ≡ b → bytes_eq x y ≡ false
-    by_test true e = let is : x ≡ y = grind (arith, bytes_eq-Decides, e) in absurd (differ is)
-    by_test false e = e
 
 -- a label is what its element shows
 abbrev pub IsShown : Plan → Label → Type 0

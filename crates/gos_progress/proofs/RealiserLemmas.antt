@@ -19,11 +19,11 @@ use Rattle.gos_progress.specs.Realisers.{RealisersAreJoined}
 use Rattle.gos_progress.proofs.WaitLemmas.{WaitsForNone, source_waits, unasked}
 use Rattle.gos_progress.proofs.ProgressLemmas.{unasked_runs_go_on}
 
-abbrev Found : List Joint → End → Type 0
+abbrev pub Found : List Joint → End → Type 0
 Found js e = (j : Joint) × Contains js j × IsTrue (stands_in e j)
 
 -- an end stands in a joint, or has no places
-joint_or_none : (js : List Joint) (e : End) → Found js e ⊎ (asking_in js e ≡ None)
+pub joint_or_none : (js : List Joint) (e : End) → Found js e ⊎ (asking_in js e ≡ None)
 joint_or_none [] e = inr refl
 joint_or_none (j ∷ js) e = tested (stands_in e j) refl (joint_or_none js e)
   where

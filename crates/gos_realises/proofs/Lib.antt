@@ -1,4 +1,5 @@
 pub mod PlaceLemmas
+pub mod CountLemmas
 pub mod LiteralLemmas
 pub mod RingLemmas
 pub mod OneJointLemmas
@@ -16,6 +17,8 @@ mod UseLemmas
 pub mod FittingLemmas
 mod FunctionLemmas
 mod ModuleLemmas
+pub mod SimulationLemmas
+pub mod ReadyLemmas
 mod HeadLemmas
 mod SameLemmas
 mod SameTurnLemmas

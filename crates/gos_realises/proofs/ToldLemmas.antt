@@ -20,10 +20,10 @@ use Rattle.gos_realises.proofs.RenumberLemmas.{tests_agree}
 use Rattle.gos_realises.proofs.RingLemmas.{told_open}
 
 -- names
-test_same : (x y : List ℕ) → x ≡ y → bytes_eq x y ≡ true
+pub test_same : (x y : List ℕ) → x ≡ y → bytes_eq x y ≡ true
 test_same x y e = grind (arith, bytes_eq-Decides, e)
 
-test_differ : (x y : List ℕ) → (x ≡ y → ⊥) → bytes_eq x y ≡ false
+pub test_differ : (x y : List ℕ) → (x ≡ y → ⊥) → bytes_eq x y ≡ false
 test_differ x y differ = by_test (bytes_eq x y) refl
   where
     by_test : (b : Bool) → bytes_eq x y ≡ b → bytes_eq x y ≡ false

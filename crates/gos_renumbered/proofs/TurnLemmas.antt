@@ -12,12 +12,10 @@ use Rattle.gos_plan.specs.Kinds.{Contact, contacts_of}
 use Rattle.gos_plan.specs.Plans.{End, ImportEnd, ResultEnd, Plan}
 use Rattle.gos_plan.proofs.SideLemmas.{pairs_join}
 use Rattle.gos_realises.specs.Regular.{Pass, pass, is_request, is_open, count, some_open, beyond, KeepsTurnsOf, whole_type, whole_end, ComesInTurn, KeepsTurns}
-use Rattle.gos_realises.proofs.GroundTurnLemmas.{some_there, there_some, count_fun}
+use Rattle.gos_realises.proofs.GroundTurnLemmas.{some_there, there_some}
+use Rattle.gos_realises.proofs.CountLemmas.{count_pair, count_fun}
 use Rattle.gos_webs.specs.Renumbering.{Renumber, IsRenumbered, moved_end}
 use Rattle.gos_webs.proofs.MovedLemmas.{both_moved}
-
-count_pair : (a b : Type') → count (Pair a b) ≡ count a + count b
-count_pair a b = ap (λ (cs : List Contact). length cs) (pairs_join a b).joined ∙ length-append (contacts_of a) (contacts_of b)
 
 -- turns of a type depend on its handshakes alone
 abbrev Agree : ℕ → (ℕ → Bool) → (ℕ → Bool) → Type 0

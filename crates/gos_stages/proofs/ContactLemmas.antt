@@ -27,13 +27,6 @@ import_there None h k e = absurd (no_more_than k e)
 import_there (Some y) h k e = (y, refl)
 
 -- the type of a Share
-pub some_shake : (t : Type') → IsGround t → 0 < count t
-some_shake Com g = omega arith
-some_shake (Exp w) g = omega arith
-some_shake (Var w) g = omega arith
-some_shake (Pair a b) g = absurd g
-some_shake (Fun a b) g = absurd g
-
 pub share_ground : (types : Types) (ss : List Split) (ns : List ℕ) (x : ℕ) (t : Type') → SidesAgree ss types → AreSplit ss ns → ((n : ℕ) → Contains ns n → IsGround (types n))
     → slice_get (shares ss types) x ≡ Some (Share t) → IsGround t
 share_ground types [] ns x t agree split ground e = absurd (no_more_than (Share t) e)

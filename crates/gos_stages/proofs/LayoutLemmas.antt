@@ -3,9 +3,8 @@ use Rattle.std.specs.Prelude.{◌≢◌, ◌+◌, ◌-◌, ◌<◌, ◌≤◌, l
 use Rattle.std.proofs.Common.{◌≡◌, ℕ, zero, suc, Bool, true, false, List, [], ◌∷◌, ◌++◌, Some, refl, sym, ◌∙◌, ap, subst, arith, if◌then◌else◌}
 use Rattle.std.proofs.lemmas.Bool.Decides.{nat_tests}
 use Rattle.gos_check.specs.Linearity.{times}
-use Rattle.gos_check.proofs.TimesLemmas.{number_cases, eq_true, eq_false, times_same}
+use Rattle.gos_check.proofs.TimesLemmas.{number_cases, eq_true, eq_false, times_same, some_times}
 use Rattle.gos_unions.proofs.LeftLemmas.{front, behind}
-use Rattle.gos_stages.proofs.ChildBackLemmas.{some_times}
 
 low : (a b : ℕ) → a < b → nat_lt a b ≡ true
 low a b h = grind (arith, nat_tests)

@@ -8,6 +8,7 @@ use Rattle.gos_types.specs.Types.{Type', Fun}
 use Rattle.gos_model.specs.Typing.{Imported}
 use Rattle.gos_check.specs.Nodes.{Numbered, Two, OfApp, type_of_node}
 use Rattle.gos_check.specs.Linearity.{times}
+use Rattle.gos_check.proofs.TimesLemmas.{some_times, listed_times}
 use Rattle.gos_plan.specs.Kinds.{Part, Contact}
 use Rattle.gos_plan.specs.Plans.{End, PartEnd, ImportEnd, ResultEnd, Joint, Plan, contact_at}
 use Rattle.gos_plan.specs.Joining.{Place as Spot, place, LeftImport, all_left, left_place, origin}
@@ -18,7 +19,7 @@ use Rattle.gos_ties.specs.Ties.{point}
 use Rattle.gos_realises.specs.Regular.{count}
 use Rattle.gos_realises.specs.Links.{IsJoined}
 use Rattle.gos_realises.specs.Wirings.{applying}
-use Rattle.gos_realises.proofs.GroundTurnLemmas.{count_fun}
+use Rattle.gos_realises.proofs.CountLemmas.{count_fun}
 use Rattle.gos_joined.proofs.WholeLemmas.{applied_is_joined}
 use Rattle.gos_webs.specs.Webs.{Dot, Of, Within, Tie, Web, Way, here, IsOfWeb}
 use Rattle.gos_webs.specs.Renumbering.{Renumber, IsOneToOne, moved_end}
@@ -42,7 +43,7 @@ use Rattle.gos_uses.proofs.PermuteLemmas.{chosen, others, total, put, taken, the
 use Rattle.gos_uses.proofs.ChosenLemmas as choices
 use Rattle.gos_uses.proofs.ChosenLemmas.{Choice, Placed, child_wired}
 use Rattle.gos_uses.proofs.ApplyWebLemmas as apply
-use Rattle.gos_uses.proofs.ApplyWebLemmas.{pick, sink, some_times, times_some, below, not_below}
+use Rattle.gos_uses.proofs.ApplyWebLemmas.{pick, sink, below, not_below}
 use Rattle.gos_uses.proofs.PartedLemmas.{up, down, itself, of_first, first_choice, second_choice}
 
 row_all : (j x l : ℕ) → map (renamed (λ h. point (places.Node j) h)) (row places.Result x l) ≡ row (places.Node j) x l

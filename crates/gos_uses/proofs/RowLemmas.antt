@@ -54,6 +54,3 @@ rows_two n k a b =
     ap (map (renamed (to_two n a b))) (row_two places.Result 0 n k)
     ∙ (map_two (renamed (to_two n a b)) (row places.Result 0 n) (row places.Result (0 + n) k)
     ∙ (λ i. first_row n a b 0 n (omega arith) i ++ second_row n a b (0 + n) 0 k (omega arith) i))
-
-pub count_pair : (a b : Type') → count (Pair a b) ≡ count a + count b
-count_pair a b = ap (λ (cs : List Contact). length cs) (pairs_join a b).joined ∙ length-append (contacts_of a) (contacts_of b)
