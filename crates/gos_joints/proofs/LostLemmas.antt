@@ -39,4 +39,3 @@ never_quiet p t m xs s done suits realises runs shown quiet =
         unasked (program_of p m) acts Idle (source_waits p.imports [] m t suits.typed) moves (e ∙ shown)
     by_end (acts, Running u store, moves, e, agrees) =
         unasked_runs_go_on (program_of p m) t acts u store suits.all_ground suits.typed done moves (e ∙ shown) (agrees.0 quiet)
-

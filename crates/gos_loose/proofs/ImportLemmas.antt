@@ -60,4 +60,3 @@ typed_more i j all g (Put m k) t h = h
 pub ground_both : (is js : List Imported) → AllGround is → AllGround js → AllGround (is ++ js)
 ground_both [] js one other = other
 ground_both (i ∷ is) js one other = (one.0, ground_both is js one.1 other)
-

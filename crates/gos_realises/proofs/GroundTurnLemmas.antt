@@ -2,12 +2,11 @@
 --
 -- An import has an open handshake only where the result has. So turns are kept where handshakes of imports are closed, and
 -- where the result is opened (`turns_kept`).
-use Rattle.std.specs.Prelude.{◌≡◌, ℕ, zero, suc, ◌+◌, ◌-◌, ◌<◌, Bool, true, false, ◌&&◌, ◌||◌, IsFalse, List, [], ◌∷◌, length, nat_eq, nat_lt}
-use Rattle.std.proofs.Common.{refl, sym, ◌∙◌, ap, arith, length-append}
+use Rattle.std.specs.Prelude.{◌≡◌, ℕ, zero, suc, ◌+◌, ◌-◌, ◌<◌, Bool, true, false, ◌&&◌, ◌||◌, IsFalse, List, [], ◌∷◌, nat_eq, nat_lt}
+use Rattle.std.proofs.Common.{refl, sym, ◌∙◌, ap, arith}
 use Rattle.std.proofs.lemmas.Bool.Decides.{nat_tests}
 use Rattle.gos_types.specs.Types.{Type', Com, Exp, Var, Pair, Fun, IsGround, IsDone}
 use Rattle.gos_model.specs.Typing.{Imported}
-use Rattle.gos_plan.specs.Kinds.{Contact, contacts_of, other_side}
 use Rattle.gos_plan.specs.Plans.{ImportEnd, ResultEnd}
 use Rattle.gos_realises.specs.Regular.{count, some_open, beyond, KeepsTurnsOf, whole_type, whole_end}
 use Rattle.gos_realises.specs.Realises.{AllGround}

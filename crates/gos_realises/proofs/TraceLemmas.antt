@@ -1,13 +1,13 @@
 -- Lists that are matched are traces. What matches no list does not realise: the empty plan, and the other order.
 use Rattle.std.specs.Prelude.{◌≡◌, ℕ, zero, suc, List, [], ◌∷◌, ◌++◌, Some, None}
-use Rattle.std.proofs.Common.{refl, sym, ◌∙◌, ap, subst, arith, inl}
+use Rattle.std.proofs.Common.{refl, sym, ◌∙◌, subst, arith, inl}
 use Rattle.gos_netlist.specs.Events.{Request}
 use Rattle.gos_model.specs.Terms as terms
 use Rattle.gos_model.specs.Terms.{Term, Import}
 use Rattle.gos_model.specs.Reach.{Unfolds}
-use Rattle.gos_model.specs.Labels.{given, taken}
-use Rattle.gos_model.specs.Moves.{Program, Config, Idle, Running, Act, Computing, Showing, Move, Moves, labels, Unfoldings, ActsTo, Stalled}
-use Rattle.gos_model.specs.SmallPrograms.{c, d, two_commands, one_then_other}
+use Rattle.gos_model.specs.Labels.{given}
+use Rattle.gos_model.specs.Moves.{Program, Config, Idle, Running, Act, Computing, Showing, Moves, labels, Unfoldings, ActsTo, Stalled}
+use Rattle.gos_model.specs.SmallPrograms.{one_then_other}
 use Rattle.gos_model.proofs.MoveLemmas.{moves_then, labels_then}
 use Rattle.gos_model.proofs.SequenceLemmas.{seq_waits}
 use Rattle.gos_plan.specs.Firing.{First, Slot, Req, Row, row, at, put}
