@@ -1,23 +1,22 @@
 -- The table of `:=` is right: state by state, and what the term does meanwhile.
-use Rattle.std.specs.Prelude.{◌≡◌, ◌⊎◌, ℕ, zero, suc, Bool, true, false, IsTrue, [], ◌∷◌, Option, Some, None, nat_eq, slice_get, if◌then◌else◌}
-use Rattle.std.proofs.Common.{arith, refl, sym, ap, subst, inl, inr, ◌∙◌}
+use Rattle.std.specs.Prelude.{◌≡◌, ◌⊎◌, ℕ, zero, suc, true, false, IsTrue, [], ◌∷◌, Option, Some, slice_get}
+use Rattle.std.proofs.Common.{refl, sym, ap, subst, inl, inr, ◌∙◌}
 use Rattle.std.proofs.lemmas.Option.{none-some, same_Some}
-use Rattle.gos_types.specs.Types.{Type', Var}
+use Rattle.gos_types.specs.Types.{Type'}
 use Rattle.gos_model.specs.Terms as terms
 use Rattle.gos_model.specs.Terms.{Name, Term, Lit, Import, Wait, Put}
 use Rattle.gos_model.specs.Typing.{Imported, Imports, import_type}
 use Rattle.gos_model.specs.Stores.{Store}
 use Rattle.gos_model.specs.Reach.{Unfolds}
-use Rattle.gos_model.specs.Labels.{Port, Taken, Label, taken, is_output, is_output_at, IsAnswer}
-use Rattle.gos_model.specs.Moves.{Program, Config, Idle, Running, Act, Computing, Showing, Unfoldings, ActsTo, Moves, Stalled}
+use Rattle.gos_model.specs.Labels.{Label, is_output, is_output_at, IsAnswer}
+use Rattle.gos_model.specs.Moves.{Program, Config, Idle, Running, Act, Computing, Showing, Unfoldings, ActsTo, Stalled}
 use Rattle.gos_plan.specs.Kinds.{Assign}
-use Rattle.gos_plan.specs.Firing.{Phase, Rest, Value, Writing, State, Slot, Req, Ans, Row, at, put, row, row_for, rows, same_slot, firing}
-use Rattle.gos_plan.specs.Plans.{ImportEnd, Plan, contacts_of_import}
-use Rattle.gos_plan.specs.Tokens.{Out, In}
+use Rattle.gos_plan.specs.Firing.{Phase, Rest, Value, Writing, Slot, Req, Ans, Row, at, row_for, rows}
+use Rattle.gos_plan.specs.Plans.{contacts_of_import}
 use Rattle.gos_plan.proofs.SlotLemmas.{one_row}
 use Rattle.gos_realises.specs.Regular.{way_in, way_out}
-use Rattle.gos_realises.specs.Matched.{port_if, event_number, shows}
-use Rattle.gos_assigned.specs.Tables.{Leads, AssignDoes, WriteMoves, WriteShows, AssignsDo, WritesMove, WritesShow}
+use Rattle.gos_realises.specs.Matched.{port_if, event_number}
+use Rattle.gos_assigned.specs.Tables.{Leads, AssignsDo, WritesMove, WritesShow}
 
 -- a state's one row
 by_row : (P : Row → Type 0) (a r : Row) → Some a ≡ Some r → P a → P r

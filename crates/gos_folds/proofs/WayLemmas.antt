@@ -1,7 +1,6 @@
--- Ways: turned, joined, and from where there is none.
-use Rattle.std.proofs.Common.{◌≡◌, List, Contains, inl, inr, refl}
-use Rattle.gos_webs.specs.Webs.{Dot, Tie, tie, Meet, Way, here, along}
-use Rattle.gos_webs.proofs.WayLemmas.{meet_back, way_then, way_back}
+-- Where no tie leads from a dot, no way does.
+use Rattle.std.proofs.Common.{◌≡◌, List, refl}
+use Rattle.gos_webs.specs.Webs.{Dot, Tie, Meet, Way, here, along}
 use Rattle.gos_folds.specs.Folds.{UnmetIsAlone}
 
 -- from a dot that meets nothing there is no way but to itself

@@ -1,14 +1,14 @@
 -- A plan that is quiet after its request, without an answer or an output, realises no command and no expression.
-use Rattle.std.specs.Prelude.{◌≡◌, ◌⊎◌, suc, Bool, true, false, IsTrue, List, [], ◌∷◌, ◌++◌, Contains, None}
-use Rattle.std.proofs.Common.{refl, sym, ◌∙◌, ap, subst, arith, inl, inr}
+use Rattle.std.specs.Prelude.{◌≡◌, List, [], ◌∷◌, ◌++◌}
+use Rattle.std.proofs.Common.{refl, sym, ◌∙◌, subst}
 use Rattle.gos_types.specs.Types.{Type', IsDone}
 use Rattle.gos_model.specs.Terms.{Term}
 use Rattle.gos_model.specs.Labels.{given}
-use Rattle.gos_model.specs.Moves.{Program, Config, Idle, Running, Act, Computing, Showing, Moves, labels}
+use Rattle.gos_model.specs.Moves.{Program, Config, Idle, Running, Act, Moves, labels}
 use Rattle.gos_model.specs.Protocol.{KeepsProtocol}
 use Rattle.gos_model.proofs.MoveLemmas.{moves_then, labels_then}
-use Rattle.gos_plan.specs.Plans.{End, Joint, Plan, stands_in}
-use Rattle.gos_plan.specs.Tokens.{Tokens, Element, asking_in, Runs, IsQuiet}
+use Rattle.gos_plan.specs.Plans.{Plan}
+use Rattle.gos_plan.specs.Tokens.{Tokens, Element, Runs, IsQuiet}
 use Rattle.gos_realises.specs.Matched.{all_shown, Agrees, IsMatched, program_of, RealisesDone}
 use Rattle.gos_realises.specs.Realises.{Suits}
 use Rattle.gos_progress.proofs.WaitLemmas.{source_waits, unasked}

@@ -1,17 +1,12 @@
 -- Of a plan and its supplies the imports of the supplies stay, in their order.
-use Rattle.std.specs.Prelude.{◌≡◌, ℕ, suc, ◌+◌, ◌<◌, Bool, true, false, List, [], ◌∷◌, ◌++◌, ◌⊎◌, length, map, Some, slice_get, if◌then◌else◌}
-use Rattle.std.proofs.Common.{refl, sym, ◌∙◌, ap, arith, inl, inr}
-use Rattle.std.proofs.lemmas.List.{map-append, length-append, length-map}
-use Rattle.gos_types.specs.Types.{Type', Com, Exp, Var, Pair, Fun}
+use Rattle.std.specs.Prelude.{◌≡◌, ℕ, suc, List, [], ◌∷◌, ◌++◌, map}
+use Rattle.std.proofs.Common.{refl, ◌∙◌, ap}
+use Rattle.std.proofs.lemmas.List.{map-append}
 use Rattle.gos_model.specs.Typing.{Imported}
-use Rattle.gos_plan.specs.Kinds.{contacts_of}
-use Rattle.gos_plan.specs.Plans.{ImportEnd, ResultEnd}
-use Rattle.gos_plan.specs.Joining.{Place, Link, LeftImport, is_joined, left_in, left_among}
-use Rattle.gos_realises.specs.Regular.{count}
+use Rattle.gos_plan.specs.Joining.{LeftImport, left_in, left_among}
 use Rattle.gos_realises.specs.Modules.{Supply, plans_of, imports_linked}
 use Rattle.gos_realises.proofs.LeftLemmas.{left_list, left_all, left_joined}
-use Rattle.gos_unions.proofs.LinkLemmas.{IsAt, joined_by, by_joined}
-use Rattle.gos_renumbered.proofs.SupplyLemmas.{supply_link, OfImports, of_imports, in_imports, first_joined, supply_free}
+use Rattle.gos_renumbered.proofs.SupplyLemmas.{first_joined, supply_free}
 use Rattle.gos_typing.specs.Supplied.{imports_of, ImportsAreOfSupplies}
 
 abbrev import_of : LeftImport → Imported

@@ -2,7 +2,7 @@
 use Rattle.std.specs.Prelude.{◌≡◌, zero, suc, List, [], ◌∷◌, ◌⊎◌, Contains}
 use Rattle.std.proofs.Common.{refl, sym, ap, subst, arith, inl, inr}
 use Rattle.gos_webs.specs.Webs.{Dot, Tie, tie, Meet, Way, here, along}
-use Rattle.gos_webs.proofs.WayLemmas.{meet_back, way_then, way_back}
+use Rattle.gos_webs.proofs.WayLemmas.{way_then}
 use Rattle.gos_woven.proofs.DotLemmas.{Decided, one_dot}
 
 pub still : (ts : List Tie) (a b : Dot) → a ≡ b → Way ts a b
