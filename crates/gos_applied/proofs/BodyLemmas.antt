@@ -1,12 +1,11 @@
 -- The plan of a function, supplied and applied, realises the body with the argument in it.
-use Rattle.std.specs.Prelude.{◌≢◌, suc, List, [], ◌∷◌, ◌++◌, ◌⊎◌, Contains}
-use Rattle.std.proofs.Common.{refl, sym, subst, arith, inl, inr}
-use Rattle.std.proofs.lemmas.List.Elements.{Contains-append_cases}
+use Rattle.std.specs.Prelude.{List, [], ◌∷◌, ◌++◌, Contains}
+use Rattle.std.proofs.Common.{sym, subst, arith}
 use Rattle.gos_model.specs.Typing.{Imported}
 use Rattle.gos_model.specs.Linking.{supplied}
 use Rattle.gos_plan.specs.Joining.{Link}
 use Rattle.gos_realises.specs.Wirings.{applying}
-use Rattle.gos_realises.specs.Realises.{NamesDiffer, HaveOtherNames}
+use Rattle.gos_realises.specs.Realises.{NamesDiffer}
 use Rattle.gos_realises.specs.Modules.{Supply, AreSupplied, supplying, term_for}
 use Rattle.gos_realises.proofs.PlaceLemmas.{differ_both}
 use Rattle.gos_joined.proofs.WholeLemmas.{supplied_is_joined}

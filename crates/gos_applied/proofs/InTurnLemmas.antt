@@ -9,7 +9,7 @@ use Rattle.gos_realises.specs.Modules.{Supply, plans_of, imports_linked, supplyi
 use Rattle.gos_joined.proofs.ReachLemmas.{place_is}
 use Rattle.gos_unions.specs.Flat.{first_of, later, later_link, origin_if, deeper, deeper_link, flat}
 use Rattle.gos_unions.proofs.LeftLemmas.{front, behind}
-use Rattle.gos_unions.proofs.LinkLemmas.{flat_inner, flat_outer, OfWiring, OfOuter, of_flat, IsAt, joined_by, by_joined}
+use Rattle.gos_unions.proofs.LinkLemmas.{flat_inner, flat_outer, OfWiring, OfOuter, of_flat, IsAt, joined_by}
 use Rattle.gos_unions.proofs.FlatLemmas.{joinings_join}
 use Rattle.gos_unions.proofs.FlatFitLemmas.{in_two, links_stand}
 use Rattle.gos_renumbered.specs.Rewired.{rewired, IsRewired}

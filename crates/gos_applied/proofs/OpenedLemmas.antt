@@ -1,15 +1,14 @@
 -- The supplied function applied to an argument is the body that has the argument for a supply: of the two flat wirings each
 -- path of one is a path of the other, with the argument's handshakes at the result in place of an import.
 use Rattle.std.specs.Prelude.{◌≡◌, ℕ, zero, suc, ◌+◌, ◌-◌, ◌<◌, ◌≤◌, Bool, true, false, List, [], ◌∷◌, ◌++◌, ◌⊎◌, length, map, Option, Some, None, Contains, slice_get, nat_eq, nat_lt, if◌then◌else◌}
-use Rattle.std.proofs.Common.{refl, sym, ◌∙◌, ap, subst, arith, inl, inr, length-append}
+use Rattle.std.proofs.Common.{refl, sym, ◌∙◌, ap, subst, arith, inl, inr}
 use Rattle.std.proofs.lemmas.Bool.Decides.{nat_tests}
 use Rattle.std.proofs.lemmas.Option.{slice_get_within}
-use Rattle.gos_types.specs.Types.{Type', Com, Exp, Var, Pair, Fun}
+use Rattle.gos_types.specs.Types.{Type'}
 use Rattle.gos_model.specs.Typing.{Imported}
-use Rattle.gos_plan.specs.Kinds.{Part, Contact, asks, serves, contacts_of}
+use Rattle.gos_plan.specs.Kinds.{Part, Contact, asks, serves}
 use Rattle.gos_plan.specs.Plans.{End, PartEnd, ImportEnd, ResultEnd, Plan, contact_at, contacts_of_import}
 use Rattle.gos_plan.specs.Joining.{Place, place, Link, Wiring, is_joined, LeftImport, left_in, left_among, all_left, left_place, part_place, all_parts, origin, JoinedWithin, Linked, IsJoining}
-use Rattle.gos_plan.proofs.SideLemmas.{pairs_join}
 use Rattle.gos_plan.proofs.JointLemmas.{contained}
 use Rattle.gos_plan.proofs.JointLemmas as joints
 use Rattle.gos_realises.specs.Regular.{count}

@@ -1,11 +1,9 @@
 -- What reads or writes a head unfolds in one way, as the head does, and does nothing else.
 use Rattle.std.specs.Prelude.{◌≡◌, ℕ}
 use Rattle.std.proofs.Common.{refl, sym, ◌∙◌, ap, subst, arith, inl, inr}
-use Rattle.gos_types.specs.Types.{Type'}
-use Rattle.gos_model.specs.Terms.{Name, Term, Import, Loc, Lam, App, Both, Fst, Snd, Deref, Put}
+use Rattle.gos_model.specs.Terms.{Name, Term, Import, Loc, Deref, Put}
 use Rattle.gos_model.specs.Stores.{Store}
 use Rattle.gos_model.specs.Typing.{Imports}
-use Rattle.gos_model.specs.Substitution.{instantiate}
 use Rattle.gos_model.specs.Reach.{Unfolds}
 use Rattle.gos_model.specs.Moves.{Config, Idle, Running, Act, Computing, Showing, ActsTo}
 use Rattle.gos_model.proofs.HeadLemmas.{lower_one, IsReady}

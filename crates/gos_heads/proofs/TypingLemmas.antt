@@ -1,13 +1,10 @@
 -- A typed term has its type under more imports, and terms whose imports have other names share nothing.
-use Rattle.std.specs.Prelude.{◌≡◌, ℕ, zero, suc, ◌-◌, Bool, true, false, List, [], ◌∷◌, ◌++◌, ◌⊎◌, length, Some, Contains, nat_lt, if◌then◌else◌, slice_get}
+use Rattle.std.specs.Prelude.{◌≡◌, suc, Bool, true, false, List, [], ◌∷◌, ◌++◌, Some, if◌then◌else◌}
 use Rattle.std.specs.Str.{bytes_eq}
-use Rattle.std.proofs.Common.{refl, sym, ◌∙◌, ap, subst, arith, inl, inr}
-use Rattle.std.proofs.lemmas.Bool.Decides.{nat_tests}
-use Rattle.std.proofs.lemmas.Option.{slice_get_within}
-use Rattle.std.proofs.lemmas.List.Elements.{Contains-append_cases}
+use Rattle.std.proofs.Common.{refl, sym, ◌∙◌, arith}
 use Rattle.gos_types.specs.Types.{Type', Com, Exp, Var, Pair, Fun}
 use Rattle.gos_model.specs.Terms.{Name, Term, Skip, Lit, Bound, Import, Lam, App, Both, Fst, Snd, Seq, Par, If, While, Assign, Deref, New, Not, Bin}
-use Rattle.gos_model.specs.Typing.{Imported, Imports, import_type, Thing, Variable, Named, things, Apart, Typed}
+use Rattle.gos_model.specs.Typing.{Imports, import_type, Named, Apart, Typed}
 use Rattle.gos_realises.specs.Realises.{HaveOtherNames}
 use Rattle.gos_renumbered.proofs.ImportLemmas.{has_type, name_is}
 use Rattle.gos_typing.proofs.WhenceLemmas.{named}

@@ -1,12 +1,12 @@
 -- The imports of the plan are among those of the whole, and so are their names.
-use Rattle.std.specs.Prelude.{◌≡◌, zero, suc, Bool, true, false, List, [], ◌∷◌, ◌++◌, ◌⊎◌, Some, Contains, if◌then◌else◌}
+use Rattle.std.specs.Prelude.{◌≡◌, zero, suc, Bool, true, false, List, [], ◌∷◌, ◌++◌, Some, Contains, if◌then◌else◌}
 use Rattle.std.specs.Str.{bytes_eq}
-use Rattle.std.proofs.Common.{refl, sym, ◌∙◌, ap, subst, arith, inl, inr}
+use Rattle.std.proofs.Common.{refl, ◌∙◌, ap, arith}
 use Rattle.std.proofs.lemmas.Slice.Eq.{bytes_eq-Decides}
 use Rattle.gos_types.specs.Types.{Type', Com, Exp, Var}
-use Rattle.gos_model.specs.Terms.{Name, Term, Skip, Lit, Bound, Import, Lam, App, Both, Fst, Snd, Seq, Par, If, While, Assign, Deref, New, Not, Bin, Loc, Scope, Wait, Held, Put}
+use Rattle.gos_model.specs.Terms.{Term, Skip, Lit, Bound, Import, Lam, App, Both, Fst, Snd, Seq, Par, If, While, Assign, Deref, New, Not, Bin, Loc, Scope, Wait, Held, Put}
 use Rattle.gos_model.specs.Typing.{Imported, Imports, import_type, Typed}
-use Rattle.gos_realises.specs.Realises.{AllGround, NamesDiffer, HaveOtherNames}
+use Rattle.gos_realises.specs.Realises.{AllGround, NamesDiffer}
 use Rattle.gos_contexts.specs.Widening.{AreAmong}
 use Rattle.gos_renumbered.proofs.ImportLemmas.{has_type, type_has}
 

@@ -1,18 +1,14 @@
 -- Where the parts and the imports of a plan that is joined to its supplies come from.
-use Rattle.std.specs.Prelude.{◌≡◌, ℕ, zero, suc, ◌+◌, ◌-◌, ◌<◌, ◌≤◌, Bool, true, false, List, [], ◌∷◌, ◌++◌, ◌⊎◌, length, Option, Some, None, Contains, slice_get, if◌then◌else◌, option_map}
-use Rattle.std.proofs.Common.{refl, sym, ◌∙◌, ap, subst, arith, inl, inr, length-append}
-use Rattle.std.proofs.lemmas.List.{length-map}
+use Rattle.std.specs.Prelude.{◌≡◌, ℕ, zero, suc, ◌+◌, ◌-◌, ◌<◌, ◌≤◌, false, List, [], ◌∷◌, ◌++◌, length, Option, Some, None, Contains, slice_get, option_map}
+use Rattle.std.proofs.Common.{refl, sym, ◌∙◌, ap, subst, arith}
 use Rattle.std.proofs.lemmas.Option.{slice_get-map, slice_get_within}
-use Rattle.gos_types.specs.Types.{Type', Com, Exp, Var, Pair, Fun}
 use Rattle.gos_model.specs.Typing.{Imports, Imported}
 use Rattle.gos_plan.specs.Kinds.{Part}
 use Rattle.gos_plan.specs.Plans.{End, PartEnd, ImportEnd, ResultEnd, Plan}
-use Rattle.gos_plan.specs.Joining.{Place, Link, LeftImport, is_joined, left_in, left_among, all_left, all_parts, part_place, IsJoining}
-use Rattle.gos_realises.specs.Regular.{count}
+use Rattle.gos_plan.specs.Joining.{Place, Link, LeftImport, is_joined, left_among, all_left, all_parts, part_place, IsJoining}
 use Rattle.gos_realises.specs.Modules.{Supply, plans_of, AreSupplied, imports_linked, supplying}
 use Rattle.gos_realises.proofs.LeftLemmas.{left_all, left_joined}
 use Rattle.gos_joined.proofs.OriginLemmas.{before, import_of}
-use Rattle.gos_unions.proofs.LinkLemmas.{IsAt, joined_by, by_joined}
 use Rattle.gos_unions.proofs.DeepLemmas.{place_of_part}
 use Rattle.gos_renumbered.proofs.SupplyLemmas as supplies
 use Rattle.gos_renumbered.proofs.SupplyLemmas.{supply_link, OfImports, of_imports, in_imports, supply_of, import_for, plan_at, first_joined, supply_free}

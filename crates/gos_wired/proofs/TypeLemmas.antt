@@ -1,14 +1,11 @@
 -- The number of an import has the import's type: the term doesn't make it.
-use Rattle.std.specs.Prelude.{◌≡◌, ◌≢◌, ℕ, zero, suc, List, [], ◌∷◌, ◌++◌, Some, slice_get}
+use Rattle.std.specs.Prelude.{◌≡◌, ℕ, zero, suc, Some, slice_get}
 use Rattle.std.proofs.Common.{refl, ◌∙◌, arith}
 use Rattle.std.proofs.lemmas.Option.{slice_get_within}
-use Rattle.gos_types.specs.Types.{Type'}
 use Rattle.gos_model.specs.Typing.{Imports, Imported}
-use Rattle.gos_check.specs.declared.linear.Split.{Split}
-use Rattle.gos_check.specs.Nodes.{Numbered, Closed, Use, Under, One, Two, If, bound_type}
-use Rattle.gos_check.specs.Linearity.{times, sides, made}
-use Rattle.gos_check.proofs.TimesLemmas.{eq_false, times_none, times-append}
-use Rattle.gos_compile.specs.Wiring.{Types, with_type, with_sides, with_types, import_types, all_types}
+use Rattle.gos_check.specs.Nodes.{Numbered}
+use Rattle.gos_check.specs.Linearity.{times, made}
+use Rattle.gos_compile.specs.Wiring.{import_types, all_types}
 use Rattle.gos_wired.specs.Modules.{MakesNoImport}
 use Rattle.gos_wired.proofs.TieLemmas.{import_type}
 use Rattle.gos_compile.proofs.AgreeLemmas.{types_keep}

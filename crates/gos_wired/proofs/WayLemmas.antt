@@ -9,7 +9,6 @@ use Rattle.gos_ties.specs.declared.points.Tie as point_ties
 use Rattle.gos_ties.specs.Ties as paths
 use Rattle.gos_ties.specs.Ties.{point, at, Path}
 use Rattle.gos_webs.specs.Webs.{Dot, Of, Number, Node, Within, Tie, tie, Meet, Way, here, along}
-use Rattle.gos_webs.proofs.WayLemmas.{way_then, meet_back, one_way, way_back, mapped_way}
 use Rattle.gos_unions.proofs.UnionLemmas.{Image, of_image}
 use Rattle.gos_wired.specs.Wired.{dot_of_place, dot_of, dot_ties}
 
