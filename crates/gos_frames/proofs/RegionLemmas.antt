@@ -1,7 +1,7 @@
 -- A side of a node of two parts is a region of its plan, asked by the own part of the node.
-use Rattle.std.specs.Prelude.{◌≡◌, ℕ, zero, suc, ◌+◌, ◌-◌, ◌<◌, Bool, true, false, List, [], ◌∷◌, Option, Some, None, slice_get, Contains}
+use Rattle.std.specs.Prelude.{◌≡◌, ℕ, suc, ◌+◌, ◌-◌, ◌<◌, Bool, true, false, List, [], Option, Some, None, slice_get, Contains}
 use Rattle.std.proofs.Common.{refl, sym, ◌∙◌, ap, arith, inl}
-use Rattle.std.proofs.lemmas.Option.{none-some, same_Some}
+use Rattle.std.proofs.lemmas.Option.{none-some}
 use Rattle.gos_model.specs.Typing.{Imported}
 use Rattle.gos_check.specs.Nodes.{Numbered}
 use Rattle.gos_plan.specs.Kinds.{Part, asks, part_contacts}

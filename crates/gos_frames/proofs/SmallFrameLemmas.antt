@@ -1,6 +1,6 @@
 -- Small examples of numbers that are parted and bound, and of what ties speak.
-use Rattle.std.specs.Prelude.{◌≤◌, ℕ, zero, suc, [], ◌∷◌}
-use Rattle.std.proofs.Common.{refl, arith, subst}
+use Rattle.std.specs.Prelude.{◌≤◌, ℕ, [], ◌∷◌}
+use Rattle.std.proofs.Common.{arith, subst}
 use Rattle.gos_check.specs.Linearity.{times}
 use Rattle.gos_check.proofs.TimesLemmas.{number_cases, times_same, times_other}
 use Rattle.gos_frames.specs.SmallFrames.{UsesAreParted, SharedIsNotParted, UseIsBound, OtherIsNotBound, UseSpeaksOfIt, NotOfParts}

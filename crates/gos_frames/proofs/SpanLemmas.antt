@@ -8,8 +8,6 @@ use Rattle.gos_check.specs.Linearity.{times, split_in, sides, used, made}
 use Rattle.gos_check.proofs.TimesLemmas.{times-append, times_same}
 use Rattle.gos_plan.specs.Kinds as kinds
 use Rattle.gos_plan.specs.Kinds.{Part}
-use Rattle.gos_model.specs.Terms as terms
-use Rattle.gos_model.specs.Terms.{Term}
 use Rattle.gos_realises.specs.Regular.{count}
 use Rattle.gos_ties.specs.declared.points.Place.{Place}
 use Rattle.gos_ties.specs.declared.points.Place.TheVariants as places

@@ -7,7 +7,7 @@ use Rattle.gos_types.specs.Types.{Type'}
 use Rattle.gos_check.specs.declared.linear.Split.{Split}
 use Rattle.gos_check.specs.Nodes.{type_of_node}
 use Rattle.gos_check.specs.Linearity.{times, used, made}
-use Rattle.gos_check.proofs.TimesLemmas.{number_cases, eq_true, eq_false, times_same, some_times, listed_times}
+use Rattle.gos_check.proofs.TimesLemmas.{eq_true, eq_false, some_times, listed_times}
 use Rattle.gos_plan.specs.Plans.{End, PartEnd, ResultEnd}
 use Rattle.gos_realises.specs.Regular.{count}
 use Rattle.gos_ties.specs.declared.points.Place.{Place}

@@ -1,8 +1,7 @@
 -- The plan of a child lies as a fold in its node's: its ports, the Shares that serve it, and its ends.
-use Rattle.std.specs.Prelude.{◌+◌, ◌-◌, ◌*◌, ◌<◌, ◌≤◌, ◌⊎◌, length, nat_eq, nat_lt, slice_get, None, Contains}
+use Rattle.std.specs.Prelude.{◌+◌, ◌-◌, ◌*◌, ◌<◌, ◌≤◌, ◌⊎◌, length, nat_eq, slice_get, None, Contains}
 use Rattle.std.proofs.Common.{◌≡◌, ℕ, suc, Bool, true, false, not, List, Option, Some, inl, inr, refl, sym, ◌∙◌, ap, subst, arith, if◌then◌else◌}
 use Rattle.std.proofs.lemmas.Option.{slice_get_within}
-use Rattle.std.proofs.lemmas.Bool.Decides.{nat_tests}
 use Rattle.std.proofs.lemmas.List.Elements.{Contains-append_cases}
 use Rattle.gos_types.specs.Types.{Type'}
 use Rattle.gos_model.specs.Typing.{Imported}
@@ -37,7 +36,7 @@ use Rattle.gos_stages.proofs.ServedLemmas.{servings_serve}
 use Rattle.gos_stages.proofs.SpareLemmas.{spares_are_others}
 use Rattle.gos_stages.proofs.ChildTieLemmas.{put_in, of_supplies, of_supply, child_ways}
 use Rattle.gos_stages.proofs.ChildBackLemmas.{own_back, used_so, spot_used, child_stays}
-use Rattle.gos_stages.proofs.ContactLemmas.{turned_some, part_there, import_there, share_ground, shares_length, other_unserved}
+use Rattle.gos_stages.proofs.ContactLemmas.{turned_some, part_there, import_there, shares_length, other_unserved}
 use Rattle.gos_stages.proofs.ChildPartLemmas.{low, there_at, no_more_than, plain_source, supplied_back, own_source_back, source_from, part_lies, number_so, child_is_part}
 
 module _ (f : Child) (own : List Part) (ts : List Tie) (pl plc : Placing) (r c : Plan) (is : IsChild f ts) (has : HasChild f own c)

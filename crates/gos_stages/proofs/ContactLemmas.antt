@@ -1,12 +1,11 @@
 -- Handshakes that there are, and the types of Shares.
 use Rattle.std.specs.Prelude.{◌+◌, ◌-◌, ◌*◌, ◌<◌, length, slice_get, None, Contains}
 use Rattle.std.proofs.Common.{◌≡◌, ℕ, zero, suc, false, List, [], ◌∷◌, Option, Some, refl, sym, ap, subst, arith}
-use Rattle.gos_types.specs.Types.{Type', Com, Exp, Var, Pair, Fun, IsGround}
+use Rattle.gos_types.specs.Types.{Type', IsGround}
 use Rattle.gos_model.specs.Typing.{Imported}
 use Rattle.gos_check.specs.declared.linear.Split.{Split}
 use Rattle.gos_plan.specs.Kinds.{Contact, Part, Share}
 use Rattle.gos_plan.specs.Plans.{contacts_of_part, contacts_of_import, turned_if}
-use Rattle.gos_realises.specs.Regular.{count}
 use Rattle.gos_compile.specs.Wiring.{Types, shares}
 use Rattle.gos_stages.specs.Inside.{AreSplit, SidesAgree}
 use Rattle.gos_stages.specs.Lodging.{serves_side}

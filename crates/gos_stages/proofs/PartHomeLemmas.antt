@@ -12,7 +12,7 @@ use Rattle.gos_webs.specs.Webs.{Dot, Of, Within}
 use Rattle.gos_compile.specs.Wiring.{Types}
 use Rattle.gos_buffers.proofs.DrivenLemmas.{one_longer}
 use Rattle.gos_wired.specs.Wired.{Supplies, Source, Own, source_dot}
-use Rattle.gos_stages.specs.Lodging.{Spot, spot, spot_if, Lodging, live, first_lodging, seen_from, side_number, serves_side, moved_spot, moved, share_spot, one_lodging, lodging, IsAtHome, NumbersAreAtHome}
+use Rattle.gos_stages.specs.Lodging.{Spot, spot, spot_if, Lodging, live, first_lodging, side_number, serves_side, moved_spot, moved, share_spot, one_lodging, lodging, IsAtHome, NumbersAreAtHome}
 use Rattle.gos_stages.proofs.InsideLemmas.{one_stays}
 use Rattle.gos_stages.proofs.HomeLemmas.{Untouched, no_side, untouched_later, plainly}
 use Rattle.gos_stages.proofs.StepLemmas.{differ, side_is, side_env}

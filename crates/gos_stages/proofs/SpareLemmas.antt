@@ -24,7 +24,7 @@ use Rattle.gos_buffers.proofs.BranchLemmas.{one_of_two}
 use Rattle.gos_buffers.proofs.BufferedLemmas.{at_last, before_last, buffered_is_buffer}
 use Rattle.gos_wired.specs.Wired.{Own, Placing}
 use Rattle.gos_stages.specs.Inside.{numbers_inside, AreSplit, SidesAgree, AreGroundSupplies}
-use Rattle.gos_stages.specs.Lodging.{Lodging, live, first_lodging, seen_from, side_number, serves_side, one_lodging, lodging}
+use Rattle.gos_stages.specs.Lodging.{Lodging, live, first_lodging, side_number, serves_side, one_lodging, lodging}
 use Rattle.gos_stages.specs.Folding.{serving_if, servings}
 use Rattle.gos_stages.specs.Served.{SparesAreOthers}
 use Rattle.gos_stages.proofs.InsideLemmas.{of_cons, one_stays, one_inside}

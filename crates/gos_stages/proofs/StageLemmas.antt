@@ -1,6 +1,6 @@
 -- A child of a wired node is a stage of it.
 use Rattle.std.specs.Prelude.{◌+◌, ◌⊎◌, length, slice_get, Contains}
-use Rattle.std.proofs.Common.{◌≡◌, ℕ, zero, suc, List, [], ◌∷◌, Some, inl, inr, refl, sym, ◌∙◌, ap, subst, arith}
+use Rattle.std.proofs.Common.{◌≡◌, ℕ, List, [], Some, inl, inr, refl, sym, ◌∙◌, ap, subst}
 use Rattle.gos_plan.specs.Kinds.{Contact, asks, serves, Part, Share, contacts_of}
 use Rattle.gos_plan.specs.Plans.{End, ImportEnd, Plan, contact_at, turned_if}
 use Rattle.gos_plan.proofs.JointLemmas.{fits, contained}

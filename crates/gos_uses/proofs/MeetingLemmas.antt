@@ -1,9 +1,9 @@
 -- How often a dot stands in the ties of a node and of its supplies.
-use Rattle.std.specs.Prelude.{◌≡◌, ◌≢◌, ℕ, zero, suc, ◌+◌, ◌≤◌, Bool, true, false, ◌&&◌, IsTrue, List, [], ◌∷◌, ◌++◌, map, length, Option, Some, None, if◌then◌else◌}
+use Rattle.std.specs.Prelude.{◌≡◌, ◌≢◌, ℕ, ◌+◌, ◌≤◌, Bool, true, false, ◌&&◌, IsTrue, List, [], ◌∷◌, ◌++◌, map, length, Option, Some, None, if◌then◌else◌}
 use Rattle.std.proofs.Common.{refl, sym, ◌∙◌, ap, subst, arith, inl, inr}
 use Rattle.gos_check.specs.Nodes.{Numbered}
 use Rattle.gos_check.specs.Linearity.{times, used, made}
-use Rattle.gos_check.proofs.TimesLemmas.{number_cases, eq_true, eq_false}
+use Rattle.gos_check.proofs.TimesLemmas.{eq_true, eq_false}
 use Rattle.gos_types.specs.declared.shakes.Role.{Role}
 use Rattle.gos_types.specs.declared.shakes.Role.TheVariants.{Serve, Ask}
 use Rattle.gos_plan.specs.Kinds.{Contact}
@@ -19,7 +19,7 @@ use Rattle.gos_webs.specs.Webs.{Dot, Of, Number, Node, Within, Tie, tie, own_web
 use Rattle.gos_unions.specs.Unions.{within}
 use Rattle.gos_compile.specs.Wiring.{Types, row, parts_of, nodes, ties_of}
 use Rattle.gos_compile.proofs.TallyLemmas.{row_once, tallied}
-use Rattle.gos_compile.proofs.ThinLemmas.{span, span_beyond, part_tells, node_tells, number_tells, outside_tells, span_once}
+use Rattle.gos_compile.proofs.ThinLemmas.{part_tells, node_tells, number_tells, outside_tells, span_once}
 use Rattle.gos_wired.specs.Wired.{dot_of_place, dot_of, dot_ties}
 use Rattle.gos_woven.specs.Woven.{same_dot, once, meetings}
 use Rattle.gos_woven.proofs.DotLemmas.{dot_is}
