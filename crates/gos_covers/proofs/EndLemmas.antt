@@ -26,7 +26,7 @@ use Rattle.gos_stages.specs.Nodes.{Cared, AreCovering}
 use Rattle.gos_stages.proofs.HousingLemmas.{homes_are_there}
 use Rattle.gos_stages.proofs.ServedLemmas.{servings_serve}
 use Rattle.gos_stages.proofs.ChildPartLemmas.{low, no_more_than, plain_source, own_source_back}
-use Rattle.gos_stages.proofs.ContactLemmas.{turned_some, part_there, import_there, share_ground, shares_length}
+use Rattle.gos_stages.proofs.ContactLemmas.{turned_some, part_there, import_there, shares_length}
 use Rattle.gos_stages.proofs.CoverLemmas.{live_is_covered, own_is_covered}
 use Rattle.gos_stages.proofs.SideLemmas.{served_side, AreUsed, AreOld, all_live, all_serve}
 use Rattle.gos_forks.specs.Forks.{Branch, IsFork, AreBranches, BranchIsChild, branch_parts, branch_child}

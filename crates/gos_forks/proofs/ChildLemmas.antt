@@ -4,7 +4,6 @@ use Rattle.std.proofs.Common.{◌≡◌, ℕ, suc, Bool, true, false, List, ◌�
 use Rattle.std.proofs.lemmas.Bool.Decides.{nat_tests}
 use Rattle.std.proofs.lemmas.List.{length-append}
 use Rattle.std.proofs.lemmas.List.Elements.{Contains-append_left, Contains-append_right, Contains-append_cases}
-use Rattle.gos_types.specs.Types.{Type', Com, Exp, Var, Pair, Fun, IsDone}
 use Rattle.gos_check.specs.declared.linear.Split.{Split}
 use Rattle.gos_check.specs.Nodes.{Numbered, type_of_node}
 use Rattle.gos_check.specs.Linearity.{times, made}
@@ -19,7 +18,6 @@ use Rattle.gos_ties.specs.declared.points.Tie as point_ties
 use Rattle.gos_realises.proofs.CountLemmas.{done_count}
 use Rattle.gos_webs.specs.Webs.{Dot, Of, Number, Node, Within, Tie}
 use Rattle.gos_unions.specs.Unions.{within}
-use Rattle.gos_unions.proofs.UnionLemmas.{of_image, in_image}
 use Rattle.gos_compile.specs.Wiring.{Types, row, led, parts_of, nodes, ties_of, shares_ties}
 use Rattle.gos_wired.specs.Wired.{Supplies, dot_of_place, dot_ties, all_supply_ties, wired_ties}
 use Rattle.gos_stages.specs.Inside.{AreGroundSupplies}
@@ -27,7 +25,7 @@ use Rattle.gos_stages.specs.Lodging.{spot_if, AreTidy}
 use Rattle.gos_stages.specs.Folding.{Child, is_used, lodge, child_out, in_range, spot_dot, asks_child, is_number, child_back, shared_ties, own_ties, IsForeign, IsChild}
 use Rattle.gos_stages.proofs.LodgingLemmas.{lifted, led_listed, numbers_are_held}
 use Rattle.gos_stages.proofs.HousingLemmas.{far_is_nothing}
-use Rattle.gos_stages.proofs.ChildTieLemmas.{dot_tie, put_in, tie_of, tie_in}
+use Rattle.gos_stages.proofs.ChildTieLemmas.{tie_of, tie_in}
 use Rattle.gos_stages.proofs.ChildBackLemmas.{range_below}
 use Rattle.gos_stages.proofs.ImportHomeLemmas.{result_is_nowhere}
 use Rattle.gos_numbers.specs.Inherited.{IsPart}

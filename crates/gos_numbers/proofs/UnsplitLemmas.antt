@@ -1,5 +1,5 @@
 -- A node `m || n` of a typed term has no splits: what is split would be free on both sides.
-use Rattle.std.specs.Prelude.{◌≡◌, ℕ, zero, suc, ◌+◌, ◌-◌, ◌<◌, ◌||◌, Bool, true, false, List, [], ◌∷◌, ◌++◌, length, nat_eq, if◌then◌else◌}
+use Rattle.std.specs.Prelude.{◌≡◌, ℕ, ◌+◌, ◌-◌, ◌<◌, true, false, List, [], ◌∷◌, ◌++◌, length}
 use Rattle.std.proofs.Common.{refl, sym, subst, arith, inl, inr}
 use Rattle.gos_types.specs.Types.{Type', Var, type_of}
 use Rattle.gos_model.specs.Terms as terms
@@ -7,7 +7,7 @@ use Rattle.gos_model.specs.Terms.{Term}
 use Rattle.gos_model.specs.Typing.{Imports, Typed, Apart, Thing, Variable, Named}
 use Rattle.gos_model.proofs.NumberLemmas.{either}
 use Rattle.gos_check.specs.declared.linear.Split.{Split}
-use Rattle.gos_check.specs.Nodes.{Numbered, Closed, Use, Under, One, Two, If, OfFun, OfNew, OfFst, OfSnd, OfDeref, OfNot, OfApp, OfBoth, OfSeq, OfPar, OfWhile, OfAssign, OfBin, Meaning, meaning, below, shifted, inside, inside_one, argument_of, node_seen}
+use Rattle.gos_check.specs.Nodes.{Numbered, Closed, Use, Under, One, Two, If, OfFun, OfNew, OfFst, OfSnd, OfDeref, OfNot, OfApp, OfBoth, OfSeq, OfPar, OfWhile, OfAssign, OfBin, Meaning, meaning, below, inside, argument_of, node_seen}
 use Rattle.gos_check.specs.Linearity.{times, used, made, sides, import_at}
 use Rattle.gos_check.specs.Checked.{program_in}
 use Rattle.gos_check.proofs.TimesLemmas.{times-append}
