@@ -1,6 +1,6 @@
 -- The variable's stage: its Shares are loyal, and its imports are those of the node's plan.
 use Rattle.std.specs.Prelude.{◌+◌, ◌-◌, ◌*◌, ◌⊎◌, length, slice_get, None, Contains}
-use Rattle.std.proofs.Common.{◌≡◌, ℕ, zero, suc, Bool, true, false, not, List, [], ◌∷◌, Some, inl, inr, refl, sym, ◌∙◌, ap, subst, arith}
+use Rattle.std.proofs.Common.{◌≡◌, ℕ, Bool, true, false, not, [], Some, inl, inr, refl, sym, ◌∙◌, ap, subst, arith}
 use Rattle.std.proofs.lemmas.Option.{slice_get_within}
 use Rattle.gos_plan.specs.Kinds.{Contact, Share, asks, serves}
 use Rattle.gos_plan.specs.Plans.{End, PartEnd, ImportEnd, ResultEnd, Plan, contact_at, IsRight}

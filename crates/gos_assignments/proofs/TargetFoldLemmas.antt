@@ -1,5 +1,5 @@
 -- The variable's plan, without the joint by which it is read, lies as a fold in the node's plan: so it is a region of it.
-use Rattle.std.specs.Prelude.{◌+◌, ◌-◌, ◌*◌, ◌<◌, ◌≤◌, ◌⊎◌, length, nat_eq, nat_lt, slice_get, None, Contains}
+use Rattle.std.specs.Prelude.{◌+◌, ◌-◌, ◌*◌, ◌<◌, ◌⊎◌, length, nat_eq, nat_lt, slice_get, None, Contains}
 use Rattle.std.proofs.Common.{◌≡◌, ℕ, zero, suc, Bool, true, false, not, List, Option, Some, inl, inr, refl, sym, ◌∙◌, ap, subst, arith, if◌then◌else◌}
 use Rattle.std.proofs.lemmas.Option.{slice_get_within}
 use Rattle.std.proofs.lemmas.Bool.Decides.{nat_tests}
@@ -34,7 +34,7 @@ use Rattle.gos_stages.proofs.ImportHomeLemmas.{imports_are_there, result_is_nowh
 use Rattle.gos_stages.proofs.ServedLemmas.{servings_serve}
 use Rattle.gos_stages.proofs.SpareLemmas.{spares_are_others}
 use Rattle.gos_stages.proofs.ChildPartLemmas.{low, there_at, no_more_than}
-use Rattle.gos_stages.proofs.ContactLemmas.{part_there, import_there, share_ground, shares_length, other_unserved}
+use Rattle.gos_stages.proofs.ContactLemmas.{part_there, import_there, shares_length, other_unserved}
 use Rattle.gos_writes.specs.Written.{unread}
 use Rattle.gos_writes.proofs.JoinedLemmas.{unread_right}
 use Rattle.gos_assignments.specs.Variables.{Target, is_target, target_lodge, target_plan, end_part, spot_part, spot_end, target_outer, target_inner, target_cut, target_servings, kept, target_back, IsTarget, HasAssign, TargetIsRegion}

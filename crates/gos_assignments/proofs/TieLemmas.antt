@@ -13,12 +13,11 @@ use Rattle.gos_ties.specs.Ties as ties
 use Rattle.gos_ties.specs.Ties.{point}
 use Rattle.gos_webs.specs.Webs.{Tie}
 use Rattle.gos_unions.specs.Unions.{within}
-use Rattle.gos_unions.proofs.UnionLemmas.{of_image, in_image}
 use Rattle.gos_compile.specs.Wiring.{Types, row, shares_ties, ties_of}
 use Rattle.gos_wired.specs.Wired.{Supplies, dot_ties, all_supply_ties, wired_ties}
 use Rattle.gos_stages.specs.Folding.{Child, child_out, shared_ties, own_ties}
 use Rattle.gos_stages.proofs.LodgingLemmas.{lifted}
-use Rattle.gos_stages.proofs.ChildTieLemmas.{dot_tie, put_in, tie_of, tie_in}
+use Rattle.gos_stages.proofs.ChildTieLemmas.{tie_of, tie_in}
 use Rattle.gos_assignments.specs.Variables.{Target, target_ties}
 use Rattle.gos_assignments.specs.Made.{target_of}
 use Rattle.gos_assignments.specs.Sides.{assigning, number_side}

@@ -18,7 +18,7 @@ use Rattle.gos_windows.specs.Nodes.{IsStage}
 use Rattle.gos_compile.specs.Wiring.{Types, parts_of}
 use Rattle.gos_wired.specs.Wired.{Supplies, Placing, IsWired, terms_of, wired_ties}
 use Rattle.gos_nodes.proofs.RestLemmas.{realisers_rest}
-use Rattle.gos_stages.specs.Inside.{numbers_inside, AreGroundSupplies}
+use Rattle.gos_stages.specs.Inside.{AreGroundSupplies}
 use Rattle.gos_stages.specs.Folding.{Child, IsChild, IsLaid}
 use Rattle.gos_stages.specs.Regions.{HasParts, IsStaged}
 use Rattle.gos_stages.specs.Stages.{stage_of}

@@ -1,12 +1,12 @@
 -- The cases of the forms that run their parts one at a time.
-use Rattle.std.specs.Prelude.{◌≡◌, ◌≢◌, ℕ, zero, suc, ◌+◌, List, [], ◌∷◌, ◌++◌, Contains}
+use Rattle.std.specs.Prelude.{◌≡◌, ◌≢◌, ℕ, zero, suc, List, [], ◌∷◌, ◌++◌, Contains}
 use Rattle.std.proofs.Common.{refl, sym, ◌∙◌, subst, arith, inr}
 use Rattle.gos_types.specs.Types.{Type', Com, Exp, Var, Pair, Fun}
 use Rattle.gos_model.specs.Terms.{Op, result_width}
 use Rattle.gos_model.specs.Typing.{Typed}
 use Rattle.gos_check.specs.declared.linear.Split.{Split}
 use Rattle.gos_check.specs.Nodes.{Numbered, One, Two, If, OfNot, TwoForm, OfSeq, OfWhile, OfBin, inside, meaning, type_of_node}
-use Rattle.gos_check.specs.Linearity.{times, sides, used, made}
+use Rattle.gos_check.specs.Linearity.{sides, used, made}
 use Rattle.gos_check.proofs.TimesLemmas.{times-append}
 use Rattle.gos_plan.specs.Kinds as kinds
 use Rattle.gos_plan.specs.Plans.{Plan}
