@@ -4,6 +4,7 @@ use Rattle.std.proofs.Common.{sym, subst}
 use Rattle.gos_types.specs.Types.{Type', Com, Exp, Var, IsGround}
 use Rattle.gos_model.specs.Terms as terms
 use Rattle.gos_model.specs.Terms.{Term}
+use Rattle.gos_check.specs.declared.linear.Split.{Split}
 use Rattle.gos_check.specs.Nodes.{Numbered, Closed, Use, Under, One, Two, If, OfFun, OfNew, OfFst, OfSnd, OfDeref, OfNot, OfApp, OfBoth, OfSeq, OfPar, OfWhile, OfAssign, OfBin}
 use Rattle.gos_check.specs.Linearity.{used}
 use Rattle.gos_compile.specs.Wiring.{Types}

@@ -20,10 +20,10 @@ use Rattle.gos_served.proofs.TogetherLemmas.{served_leaves}
 use Rattle.gos_served.proofs.OpenLemmas.{served_is_open}
 
 -- a term for each name: the name where f has none
-abbrev or_itself : (Name → Option Term) → Name → Option Term
+abbrev pub or_itself : (Name → Option Term) → Name → Option Term
 or_itself f y = Some (or_import y (f y))
 
-with_names : (f : Name → Option Term) (m : Term) → supplied f m ≡ supplied (or_itself f) m
+pub with_names : (f : Name → Option Term) (m : Term) → supplied f m ≡ supplied (or_itself f) m
 with_names f Skip = refl
 with_names f (Lit k w) = refl
 with_names f (Bound n) = refl

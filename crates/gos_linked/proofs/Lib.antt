@@ -1,0 +1,13 @@
+mod CountLemmas
+mod ChainLemmas
+mod SoundLemmas
+mod NamedLemmas
+mod GrowLemmas
+mod WholeLemmas
+mod RewiredLemmas
+mod BodyLemmas
+mod TypedLemmas
+mod OpenLemmas
+mod LinkedLemmas
+mod ModuleLemmas
+mod SmallLemmas
