@@ -1,10 +1,9 @@
 -- What the rows of types say of nodes: leaves are `skip` and literals, and a variable of a ground term is a number that is used.
-use Rattle.std.specs.Prelude.{◌≡◌, ℕ, List, [], ◌∷◌, ◌++◌, Contains}
+use Rattle.std.specs.Prelude.{◌≡◌, ℕ, []}
 use Rattle.std.proofs.Common.{sym, ◌∙◌, subst}
 use Rattle.gos_types.specs.Types.{Type', Com, Exp, Var, IsGround, IsDone}
 use Rattle.gos_model.specs.Terms as terms
 use Rattle.gos_model.specs.Terms.{Term}
-use Rattle.gos_check.specs.declared.linear.Split.{Split}
 use Rattle.gos_check.specs.Nodes.{Numbered, Closed, Use, Under, One, Two, If, OfFun, OfNew, OfFst, OfSnd, OfDeref, OfNot, OfApp, OfBoth, OfSeq, OfPar, OfWhile, OfAssign, OfBin, type_of_node}
 use Rattle.gos_compile.specs.Wiring.{Types}
 use Rattle.gos_compile.specs.Typed.{ClosedTyped, NodesTyped}
