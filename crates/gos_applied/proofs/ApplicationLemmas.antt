@@ -8,13 +8,14 @@ use Rattle.gos_model.specs.Linking.{supplied}
 use Rattle.gos_realises.specs.Links.{IsJoined}
 use Rattle.gos_realises.specs.Realises.{NamesDiffer, Realises}
 use Rattle.gos_realises.specs.Modules.{Supply, AreSupplied, term_for, supplying}
+use Rattle.gos_realises.proofs.PlaceLemmas.{differ_first, differ_second, differ_between}
 use Rattle.gos_joined.proofs.WholeLemmas.{applied_is_joined, supplied_is_joined}
 use Rattle.gos_renumbered.proofs.ImportLemmas.{names_same}
 use Rattle.gos_renumbered.proofs.OrderLemmas.{reordered}
 use Rattle.gos_renumbered.proofs.HigherLemmas.{renumbered_is_realised}
 use Rattle.gos_applied.specs.Applied.{ApplicationIsRealised}
 use Rattle.gos_applied.proofs.TogetherLemmas.{imports_of, applied_is_supplied}
-use Rattle.gos_applied.proofs.TermLemmas.{supplied_same, term_first, term_second, differ_first, differ_second, differ_between, supplies_split}
+use Rattle.gos_applied.proofs.TermLemmas.{supplied_same, term_first, term_second, supplies_split}
 
 pub application_is_realised : ApplicationIsRealised
 application_is_realised a b p q s m n right_p right_q type_p type_q names typed_m typed_n of_s open_p open_q us z are_us of_z names_z =

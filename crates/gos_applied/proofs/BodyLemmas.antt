@@ -1,13 +1,13 @@
 -- The plan of a function, supplied and applied, realises the body with the argument in it.
-use Rattle.std.specs.Prelude.{◌≢◌, suc, List, [], ◌∷◌, ◌++◌, ◌⊎◌, Contains}
-use Rattle.std.proofs.Common.{refl, sym, subst, arith, inl, inr}
-use Rattle.std.proofs.lemmas.List.Elements.{Contains-append_cases}
+use Rattle.std.specs.Prelude.{List, [], ◌∷◌, ◌++◌, Contains}
+use Rattle.std.proofs.Common.{sym, subst, arith}
 use Rattle.gos_model.specs.Typing.{Imported}
 use Rattle.gos_model.specs.Linking.{supplied}
 use Rattle.gos_plan.specs.Joining.{Link}
 use Rattle.gos_realises.specs.Wirings.{applying}
-use Rattle.gos_realises.specs.Realises.{NamesDiffer, HaveOtherNames}
+use Rattle.gos_realises.specs.Realises.{NamesDiffer}
 use Rattle.gos_realises.specs.Modules.{Supply, AreSupplied, supplying, term_for}
+use Rattle.gos_realises.proofs.PlaceLemmas.{differ_both}
 use Rattle.gos_joined.proofs.WholeLemmas.{supplied_is_joined}
 use Rattle.gos_unions.proofs.FlatLemmas.{joinings_join}
 use Rattle.gos_unions.proofs.FlatFitLemmas.{links_stand}
@@ -31,17 +31,6 @@ opened_is_supplied x p q y r z ss u is of_ss of_u of_y of_r of_z =
     (links_stand (supplying p ss) of_y.fits, ((λ l has. absurd (no_link l has)), tt)) (links_stand (applying x.ty q.outcome y u.plan) of_r.fits) of_r.joining
     in
     (unchanged, is_body x p q y ss u is own_size r z applied_joins of_z.joining)
-
-differ_both : (is js : List Imported) → NamesDiffer is → NamesDiffer js → HaveOtherNames is js → NamesDiffer (is ++ js)
-differ_both [] js first second apart = second
-differ_both (i ∷ is) js first second apart = (
-  λ j has. differs j (Contains-append_cases is js j has),
-  differ_both is js first.1 second (λ k j of_is of_js. apart k j (suc of_is.0, (let small = of_is.1 in omega (arith, small)), of_is.2) of_js),
-)
-  where
-    differs : (j : Imported) → Contains is j ⊎ Contains js j → i.name ≢ j.name
-    differs j (inl has) = first.0 j has
-    differs j (inr has) = apart i j (0, omega arith, refl) has
 
 pub body_is_realised : BodyIsRealised
 body_is_realised x p q y r ss u m is open_q of_ss of_y names_y of_u apart of_r =

@@ -9,20 +9,19 @@ use Rattle.gos_realises.specs.Modules.{Supply, plans_of, imports_linked, supplyi
 use Rattle.gos_joined.proofs.ReachLemmas.{place_is}
 use Rattle.gos_unions.specs.Flat.{first_of, later, later_link, origin_if, deeper, deeper_link, flat}
 use Rattle.gos_unions.proofs.LeftLemmas.{front, behind}
-use Rattle.gos_unions.proofs.LinkLemmas.{flat_inner, flat_outer, OfWiring, OfOuter, of_flat, IsAt, joined_by, by_joined}
+use Rattle.gos_unions.proofs.LinkLemmas.{flat_inner, flat_outer, OfWiring, OfOuter, of_flat, IsAt, joined_by}
 use Rattle.gos_unions.proofs.FlatLemmas.{joinings_join}
 use Rattle.gos_unions.proofs.FlatFitLemmas.{in_two, links_stand}
 use Rattle.gos_renumbered.specs.Rewired.{rewired, IsRewired}
 use Rattle.gos_renumbered.specs.SmallRewirings.{unchanged}
 use Rattle.gos_renumbered.proofs.RewireLemmas.{rewired_is_renumbered}
 use Rattle.gos_renumbered.proofs.HigherLemmas.{unchanged_end, unchanged_one, is_itself}
-use Rattle.gos_renumbered.proofs.SupplyLemmas.{supply_link, OfImports, of_imports, in_imports, supply_right}
+use Rattle.gos_renumbered.proofs.SupplyLemmas.{supply_link, OfImports, of_imports, in_imports, supply_right, first_joined}
 use Rattle.gos_applied.specs.InTurn.{supplying_first, InTurnIsAtOnce}
 use Rattle.gos_applied.proofs.SeamLemmas.{singles, single_plans, single_first, single_at, single_links, listed, listed_at}
 use Rattle.gos_applied.proofs.SingleLemmas.{singles_join, singles_stand}
 use Rattle.gos_applied.proofs.TogetherLemmas.{supplied_length, plans_length, plans_two}
 use Rattle.gos_applied.proofs.SideLemmas.{IsSupply, plain, later_plain}
-use Rattle.gos_applied.proofs.OpenedLemmas.{some_shake}
 
 -- of imports of which the first are joined, the others stay
 left_free : (ls : List Link) (k i : ℕ) (xs : List Imported) → ((j : ℕ) → is_joined ls k (i + j) ≡ false) → left_in ls k i xs ≡ listed k i xs
@@ -48,9 +47,6 @@ left_behind ls k i (x ∷ is) js all free =
     in
     (λ j. if here j then left_in ls k (suc i) (is ++ js) else record { plan = k; number = i; import = x } ∷ left_in ls k (suc i) (is ++ js))
     ∙ (rest ∙ ap (λ (n : ℕ). listed k n js) sum)
-
-first_joined : (is : List Imported) (j : ℕ) (z : Imported) → slice_get is j ≡ Some z → is_joined (imports_linked 0 is) 0 (0 + j) ≡ true
-first_joined is j z at = by_joined (imports_linked 0 is) 0 (0 + j) (supply_link (0 + j) 0, in_imports 0 is j 0 z at (some_shake z.ty), inl (0, refl))
 
 others_free : (is : List Imported) (j : ℕ) → is_joined (imports_linked 0 is) 0 (0 + length is + j) ≡ false
 others_free is j = by_test (is_joined (imports_linked 0 is) 0 (0 + length is + j)) refl

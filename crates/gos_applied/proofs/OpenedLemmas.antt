@@ -1,22 +1,22 @@
 -- The supplied function applied to an argument is the body that has the argument for a supply: of the two flat wirings each
 -- path of one is a path of the other, with the argument's handshakes at the result in place of an import.
 use Rattle.std.specs.Prelude.{◌≡◌, ℕ, zero, suc, ◌+◌, ◌-◌, ◌<◌, ◌≤◌, Bool, true, false, List, [], ◌∷◌, ◌++◌, ◌⊎◌, length, map, Option, Some, None, Contains, slice_get, nat_eq, nat_lt, if◌then◌else◌}
-use Rattle.std.proofs.Common.{refl, sym, ◌∙◌, ap, subst, arith, inl, inr, length-append}
+use Rattle.std.proofs.Common.{refl, sym, ◌∙◌, ap, subst, arith, inl, inr}
 use Rattle.std.proofs.lemmas.Bool.Decides.{nat_tests}
 use Rattle.std.proofs.lemmas.Option.{slice_get_within}
-use Rattle.gos_types.specs.Types.{Type', Com, Exp, Var, Pair, Fun}
+use Rattle.gos_types.specs.Types.{Type'}
 use Rattle.gos_model.specs.Typing.{Imported}
-use Rattle.gos_plan.specs.Kinds.{Part, Contact, asks, serves, contacts_of}
+use Rattle.gos_plan.specs.Kinds.{Part, Contact, asks, serves}
 use Rattle.gos_plan.specs.Plans.{End, PartEnd, ImportEnd, ResultEnd, Plan, contact_at, contacts_of_import}
 use Rattle.gos_plan.specs.Joining.{Place, place, Link, Wiring, is_joined, LeftImport, left_in, left_among, all_left, left_place, part_place, all_parts, origin, JoinedWithin, Linked, IsJoining}
-use Rattle.gos_plan.proofs.SideLemmas.{pairs_join}
 use Rattle.gos_plan.proofs.JointLemmas.{contained}
 use Rattle.gos_plan.proofs.JointLemmas as joints
 use Rattle.gos_realises.specs.Regular.{count}
 use Rattle.gos_realises.specs.Links.{contact_of}
 use Rattle.gos_realises.specs.Wirings.{link, applying}
 use Rattle.gos_realises.specs.Modules.{Supply, plans_of, supplying}
-use Rattle.gos_realises.proofs.GroundTurnLemmas.{count_fun}
+use Rattle.gos_realises.proofs.CountLemmas.{some_shake}
+use Rattle.gos_realises.proofs.LeftLemmas.{left_joined}
 use Rattle.gos_joined.proofs.OriginLemmas.{import_of}
 use Rattle.gos_joined.proofs.ReachLemmas.{Step, Paths}
 use Rattle.gos_webs.specs.Webs.{joint}
@@ -41,27 +41,7 @@ data Seam : Type 0 where
   Passes : (shake : ℕ) → Seam
   Given : (import shake : ℕ) → Seam
 
--- a type has a handshake
-count_pair : (a b : Type') → count (Pair a b) ≡ count a + count b
-count_pair a b = ap (λ (cs : List Contact). length cs) (pairs_join a b).joined ∙ length-append (contacts_of a) (contacts_of b)
-
-pub some_shake : (t : Type') → 0 < count t
-some_shake Com = omega arith
-some_shake (Exp w) = omega arith
-some_shake (Var w) = omega arith
-some_shake (Pair a b) = let first = some_shake a in let sum = count_pair a b in omega (arith, first, sum)
-some_shake (Fun a b) = let first = some_shake a in let sum = count_fun a b in omega (arith, first, sum)
-
--- imports that are all joined, or none
-left_joined : (ls : List Link) (k i : ℕ) (xs : List Imported) → ((j : ℕ) (z : Imported) → slice_get xs j ≡ Some z → is_joined ls k (i + j) ≡ true)
-    → left_in ls k i xs ≡ []
-left_joined ls k i [] all = refl
-left_joined ls k i (x ∷ xs) all =
-    let zeros : i + 0 ≡ i = omega arith in
-    let here : is_joined ls k i ≡ true = ap (is_joined ls k) (sym zeros) ∙ all 0 x refl in
-    let rest = left_joined ls k (suc i) xs (λ j z at. (let sum : suc i + j ≡ i + suc j = omega arith in ap (is_joined ls k) sum ∙ all (suc j) z at)) in
-    (λ j. if here j then left_in ls k (suc i) xs else record { plan = k; number = i; import = x } ∷ left_in ls k (suc i) xs) ∙ rest
-
+-- imports that other links join too
 in_same : (ls ms : List Link) (k i : ℕ) (xs : List Imported) → ((j : ℕ) → is_joined ls k j ≡ is_joined ms k j) → left_in ls k i xs ≡ left_in ms k i xs
 in_same ls ms k i [] same = refl
 in_same ls ms k i (x ∷ xs) same =

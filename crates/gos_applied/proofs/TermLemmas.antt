@@ -1,8 +1,8 @@
 -- A term sees the supplies of its own imports alone.
-use Rattle.std.specs.Prelude.{◌≡◌, ◌≢◌, zero, suc, Bool, true, false, List, [], ◌∷◌, ◌++◌, Option, Some, Contains, if◌then◌else◌}
+use Rattle.std.specs.Prelude.{◌≡◌, Bool, true, false, List, [], ◌∷◌, ◌++◌, Option, Some, if◌then◌else◌}
 use Rattle.std.specs.Str.{bytes_eq}
-use Rattle.std.proofs.Common.{refl, sym, ◌∙◌, ap, subst, arith}
-use Rattle.std.proofs.lemmas.List.Elements.{Contains-append_left, Contains-append_right}
+use Rattle.std.proofs.Common.{refl, sym, ◌∙◌, ap}
+use Rattle.std.proofs.lemmas.List.Elements.{Contains-append_right}
 use Rattle.gos_types.specs.Types.{Type', Com, Exp, Var, Fun, Pair}
 use Rattle.gos_model.specs.Terms.{Name, Term, Skip, Lit, Bound, Import, Lam, App, Both, Fst, Snd, Seq, Par, If, While, Assign, Deref, New, Not, Bin, Loc, Scope, Wait, Held, Put}
 use Rattle.gos_model.specs.Typing.{Imported, Imports, import_type, Typed}
@@ -90,21 +90,6 @@ term_second (i ∷ is) js (s ∷ ss) ts differ are x t e = by_test (bytes_eq i.n
         let (j, has, named, typed) = has_type js x t e in
         absurd (differ.0 j (Contains-append_right is js j has) (name_is i.name x test ∙ sym (name_is j.name x named)))
     by_test false test rest = rest
-
--- names that differ in two lists
-pub differ_first : (is js : List Imported) → NamesDiffer (is ++ js) → NamesDiffer is
-differ_first [] js differ = tt
-differ_first (i ∷ is) js differ = (λ j has. differ.0 j (Contains-append_left is js j has), differ_first is js differ.1)
-
-pub differ_second : (is js : List Imported) → NamesDiffer (is ++ js) → NamesDiffer js
-differ_second [] js differ = differ
-differ_second (i ∷ is) js differ = differ_second is js differ.1
-
-pub differ_between : (is js : List Imported) → NamesDiffer (is ++ js) → (i j : Imported) → Contains is i → Contains js j → i.name ≢ j.name
-differ_between [] js differ i j (k, small, e) of_j = absurd (omega (arith, small))
-differ_between (x ∷ is) js differ i j (zero, small, e) of_j =
-    subst (λ (y : Imported). y.name ≢ j.name) e (differ.0 j (Contains-append_right is js j of_j))
-differ_between (x ∷ is) js differ i j (suc k, small, e) of_j = differ_between is js differ.1 i j (k, omega (arith, small), e) of_j
 
 -- supplies of two lists of imports
 abbrev Supplies : List Imported → List Imported → List Supply → Type 0

@@ -1,21 +1,20 @@
 -- The region of a plan that writes at a port: its ends, and what it makes of each element.
-use Rattle.std.specs.Prelude.{◌≡◌, ◌⊎◌, ℕ, zero, suc, true, List, [], ◌∷◌, ◌++◌, Option, Some, None, Contains, slice_get}
+use Rattle.std.specs.Prelude.{◌≡◌, ◌⊎◌, ℕ, [], ◌∷◌, ◌++◌, Option, Some, None, Contains, slice_get}
 use Rattle.std.proofs.Common.{arith, refl, sym, ap, subst, inl, inr, ◌∙◌}
-use Rattle.std.proofs.lemmas.Option.{none-some, same_Some}
-use Rattle.gos_types.specs.Types.{Type', Exp, IsDone}
-use Rattle.gos_netlist.specs.Events.{Direction, Request, Answer}
+use Rattle.std.proofs.lemmas.Option.{none-some}
+use Rattle.gos_types.specs.Types.{IsDone}
+use Rattle.gos_netlist.specs.Events.{Answer}
 use Rattle.gos_model.specs.Terms.{Name}
 use Rattle.gos_plan.specs.Kinds.{Part, Contact, Assign}
-use Rattle.gos_plan.specs.Firing.{Phase, State, Rest, Value, Writing, Slot, Req, Ans, Token, Row, at, put, firing}
-use Rattle.gos_plan.specs.Plans.{End, PartEnd, ImportEnd, ResultEnd, Joint, Plan, contact_at, contacts_of_part, stands_in}
-use Rattle.gos_plan.specs.Tokens.{Tokens, Element, Fire, Out, In, IsPortEnd, places_of, held_at, token_at, end_of, shake_of, way_of, firing_of, Does}
+use Rattle.gos_plan.specs.Firing.{Phase, Rest, Value, Writing, Slot, Req, Ans, Row, at, firing}
+use Rattle.gos_plan.specs.Plans.{End, PartEnd, ImportEnd, ResultEnd, Joint, Plan, contact_at, contacts_of_part}
+use Rattle.gos_plan.specs.Tokens.{Tokens, Fire, Out, IsPortEnd, places_of, held_at, token_at, end_of, shake_of, way_of, firing_of, Does}
 use Rattle.gos_plan.proofs.JointLemmas.{contained, found, joined, one_joint, stands_there}
 use Rattle.gos_realises.proofs.InputLemmas.{result_asks}
 use Rattle.gos_webs.specs.Webs.{joint}
 use Rattle.gos_webs.specs.Cutting.{Cut, lies_at, StandsIn, out_if, in_if, ins_of, outside_firing, firing_in, cut_element}
 use Rattle.gos_webs.proofs.MovedLemmas.{listed}
 use Rattle.gos_webs.proofs.CutLemmas.{which_end, first_stands, last_stands, stands_by}
-use Rattle.gos_assigned.specs.Tables.{Leads}
 use Rattle.gos_assigned.specs.Writes.{IsJointOf, IsPortWrite}
 use Rattle.gos_assigned.specs.Cuts.{RegionEnds, RegionDoes, EndsOfWrites, CutsOfWrites}
 use Rattle.gos_assigned.proofs.TableLemmas.{assigns_do}

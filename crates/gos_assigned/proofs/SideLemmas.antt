@@ -1,9 +1,9 @@
 -- The right side of an assignment: a context beside which nothing is reached.
-use Rattle.std.specs.Prelude.{ℕ, List, [], ◌∷◌}
+use Rattle.std.specs.Prelude.{[], ◌∷◌}
 use Rattle.std.proofs.Common.{refl, inl}
-use Rattle.gos_model.specs.Terms.{Term, Skip, Lit, Import, Assign, Wait, Put}
+use Rattle.gos_model.specs.Terms.{Skip, Lit, Import, Assign, Wait, Put}
 use Rattle.gos_model.specs.Labels.{given, taken}
-use Rattle.gos_model.specs.Moves.{Config, Idle, Running, Act, Computing, Showing, Moves}
+use Rattle.gos_model.specs.Moves.{Idle, Running, Computing, Showing, Moves}
 use Rattle.gos_contexts.specs.Contexts.{AssignRight}
 use Rattle.gos_contexts.proofs.PluggedLemmas.{unfoldings_plugged, moves_plugged}
 use Rattle.gos_contexts.proofs.BackwardLemmas.{waits_within}

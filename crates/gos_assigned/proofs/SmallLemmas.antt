@@ -1,8 +1,8 @@
 -- The plan of `x := 8:1` is a write at a port, and what is none.
-use Rattle.std.specs.Prelude.{◌≡◌, ◌⊎◌, ℕ, zero, suc, true, [], ◌∷◌, Some, Contains, slice_get}
+use Rattle.std.specs.Prelude.{◌≡◌, ◌⊎◌, ℕ, zero, suc, [], ◌∷◌, Some, Contains, slice_get}
 use Rattle.std.proofs.Common.{arith, refl, sym, ap, subst, inl, inr}
 use Rattle.std.proofs.lemmas.Option.{none-some, same_Some}
-use Rattle.gos_types.specs.Types.{Type', Com, Exp}
+use Rattle.gos_types.specs.Types.{Type', Exp}
 use Rattle.gos_plan.specs.Kinds.{Part, Lit, Assign}
 use Rattle.gos_plan.specs.Plans.{End, PartEnd, ImportEnd, ResultEnd, Joint, contact_at, IsRight}
 use Rattle.gos_plan.specs.Tokens.{IsPortEnd}

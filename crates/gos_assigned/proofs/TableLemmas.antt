@@ -1,40 +1,26 @@
 -- The table of `:=` is right: state by state, and what the term does meanwhile.
-use Rattle.std.specs.Prelude.{◌≡◌, ◌⊎◌, ℕ, zero, suc, Bool, true, false, IsTrue, [], ◌∷◌, Option, Some, None, nat_eq, slice_get, if◌then◌else◌}
-use Rattle.std.proofs.Common.{arith, refl, sym, ap, subst, inl, inr, ◌∙◌}
+use Rattle.std.specs.Prelude.{◌≡◌, ◌⊎◌, ℕ, zero, suc, true, false, IsTrue, [], ◌∷◌, Option, Some, slice_get}
+use Rattle.std.proofs.Common.{refl, sym, ap, subst, inl, inr, ◌∙◌}
 use Rattle.std.proofs.lemmas.Option.{none-some, same_Some}
-use Rattle.gos_types.specs.Types.{Type', Var}
+use Rattle.gos_types.specs.Types.{Type'}
 use Rattle.gos_model.specs.Terms as terms
 use Rattle.gos_model.specs.Terms.{Name, Term, Lit, Import, Wait, Put}
 use Rattle.gos_model.specs.Typing.{Imported, Imports, import_type}
 use Rattle.gos_model.specs.Stores.{Store}
 use Rattle.gos_model.specs.Reach.{Unfolds}
-use Rattle.gos_model.specs.Labels.{Port, Taken, Label, taken, is_output, is_output_at, IsAnswer}
-use Rattle.gos_model.specs.Moves.{Program, Config, Idle, Running, Act, Computing, Showing, Unfoldings, ActsTo, Moves, Stalled}
+use Rattle.gos_model.specs.Labels.{Label, is_output, is_output_at, IsAnswer}
+use Rattle.gos_model.specs.Moves.{Program, Config, Idle, Running, Act, Computing, Showing, Unfoldings, ActsTo, Stalled}
 use Rattle.gos_plan.specs.Kinds.{Assign}
-use Rattle.gos_plan.specs.Firing.{Phase, Rest, Value, Writing, State, Slot, Req, Ans, Row, at, put, row, row_for, rows, same_slot, firing}
-use Rattle.gos_plan.specs.Plans.{ImportEnd, Plan, contacts_of_import}
-use Rattle.gos_plan.specs.Tokens.{Out, In}
+use Rattle.gos_plan.specs.Firing.{Phase, Rest, Value, Writing, Slot, Req, Ans, Row, at, row_for, rows}
+use Rattle.gos_plan.specs.Plans.{contacts_of_import}
+use Rattle.gos_plan.proofs.SlotLemmas.{one_row}
 use Rattle.gos_realises.specs.Regular.{way_in, way_out}
-use Rattle.gos_realises.specs.Matched.{port_if, event_number, shows}
-use Rattle.gos_assigned.specs.Tables.{Leads, AssignDoes, WriteMoves, WriteShows, AssignsDo, WritesMove, WritesShow}
+use Rattle.gos_realises.specs.Matched.{port_if, event_number}
+use Rattle.gos_assigned.specs.Tables.{Leads, AssignsDo, WritesMove, WritesShow}
 
 -- a state's one row
 by_row : (P : Row → Type 0) (a r : Row) → Some a ≡ Some r → P a → P r
 by_row P a r e h = subst P (same_Some a r e) h
-
--- what takes a token takes that of its row
-slots_same : (a b : Slot) → same_slot a b ≡ true → b ≡ a
-slots_same (Req h) (Req j) e = let same : h ≡ j = grind (arith, e) in ap Req (sym same)
-slots_same (Req h) (Ans j) e = absurd (cc e)
-slots_same (Ans h) (Req j) e = absurd (cc e)
-slots_same (Ans h) (Ans j) e = let same : h ≡ j = grind (arith, e) in ap Ans (sym same)
-
-one_row : (a r : Row) (slot : Slot) → row_for slot (a ∷ []) ≡ Some r → slot ≡ a.takes
-one_row a r slot e = by_test (same_slot a.takes slot) refl
-  where
-    by_test : (b : Bool) → same_slot a.takes slot ≡ b → slot ≡ a.takes
-    by_test true t = slots_same a.takes slot t
-    by_test false t = absurd (none-some r (sym (ap (λ (b : Bool). if b then Some a else None) t) ∙ e))
 
 -- the part takes no other token than that of its state
 abbrev Taken' : Phase → Slot → Type 0

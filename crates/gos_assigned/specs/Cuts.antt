@@ -2,12 +2,12 @@
 --
 -- Read first: Elements; Cutting of gos_webs. The region is asked when the Assign is run, and answers when the Assign takes
 -- its number; of the write, of what the Assign does after it, and of its own answer the region knows nothing.
-use Rattle.std.specs.Prelude.{◌≡◌, ℕ, List, [], ◌∷◌, Some, None}
+use Rattle.std.specs.Prelude.{◌≡◌, ℕ, [], ◌∷◌, Some, None}
 use Rattle.gos_netlist.specs.Events.{Answer}
 use Rattle.gos_model.specs.Terms.{Name}
 use Rattle.gos_plan.specs.Firing.{Slot, Req, Ans}
 use Rattle.gos_plan.specs.Plans.{End, PartEnd, ImportEnd, ResultEnd, Plan}
-use Rattle.gos_plan.specs.Tokens.{Tokens, Element, Fire, Out, In, token_at, Does}
+use Rattle.gos_plan.specs.Tokens.{Tokens, Fire, Out, In, token_at, Does}
 use Rattle.gos_webs.specs.Cutting.{Cut, in_if, cut_element}
 use Rattle.gos_assigned.specs.Writes.{IsPortWrite}
 

@@ -1,7 +1,7 @@
 -- What may be done where a number is written at a port: by the region, by the part that writes, and at the ports.
 --
 -- Read first: Writes, Tables; Tokens of gos_plan.
-use Rattle.std.specs.Prelude.{◌≡◌, ◌⊎◌, ℕ, Some}
+use Rattle.std.specs.Prelude.{◌≡◌, ℕ, Some}
 use Rattle.gos_model.specs.Terms.{Name}
 use Rattle.gos_plan.specs.Firing.{Rest, Value, Writing, Slot, Req, Ans}
 use Rattle.gos_plan.specs.Plans.{End, ImportEnd, ResultEnd, Plan}

@@ -2,18 +2,18 @@
 --
 -- Read first: Firing of gos_plan; Moves of gos_model; Matched of gos_realises. The number is asked for first, then it is
 -- written, and then the Assign answers.
-use Rattle.std.specs.Prelude.{◌≡◌, ◌⊎◌, ℕ, List, [], ◌∷◌, Some, slice_get}
+use Rattle.std.specs.Prelude.{◌≡◌, ◌⊎◌, ℕ, [], ◌∷◌, Some, slice_get}
 use Rattle.gos_types.specs.Types.{Var}
 use Rattle.gos_model.specs.Terms as terms
 use Rattle.gos_model.specs.Terms.{Name, Term, Lit, Import, Wait, Put}
 use Rattle.gos_model.specs.Typing.{import_type}
 use Rattle.gos_model.specs.Stores.{Store}
 use Rattle.gos_model.specs.Labels.{taken}
-use Rattle.gos_model.specs.Moves.{Program, Running, Act, Computing, Showing, Moves, Stalled}
+use Rattle.gos_model.specs.Moves.{Program, Running, Computing, Showing, Moves, Stalled}
 use Rattle.gos_plan.specs.Kinds.{Assign}
 use Rattle.gos_plan.specs.Firing.{Rest, Value, Writing, State, Slot, Req, Ans, Row, at, put, firing}
 use Rattle.gos_plan.specs.Plans.{ImportEnd, Plan}
-use Rattle.gos_plan.specs.Tokens.{Element, Out, In}
+use Rattle.gos_plan.specs.Tokens.{Out, In}
 use Rattle.gos_realises.specs.Matched.{shows}
 
 -- an Assign that is taken so leads to this state and puts this token

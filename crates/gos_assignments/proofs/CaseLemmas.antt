@@ -1,5 +1,5 @@
 -- A wired assignment to a variable's number realises its term, where the number's side does.
-use Rattle.std.specs.Prelude.{◌≡◌, ℕ, List, [], ◌∷◌, ◌++◌, length, Contains, All}
+use Rattle.std.specs.Prelude.{◌≡◌, ℕ, List, [], length, Contains, All}
 use Rattle.std.specs.Str.{bytes_eq}
 use Rattle.std.proofs.Common.{true, refl, sym, ◌∙◌, ap, subst, arith}
 use Rattle.std.proofs.lemmas.Slice.Eq.{bytes_eq-Decides}
@@ -8,33 +8,31 @@ use Rattle.gos_model.specs.Terms.{Name, Term, Assign}
 use Rattle.gos_model.specs.Typing.{import_type, Named, things, Typed}
 use Rattle.gos_model.specs.Laws.{OneType}
 use Rattle.gos_check.specs.declared.linear.Split.{Split}
-use Rattle.gos_check.specs.Nodes.{Numbered, Closed, Use, Under, One, Two, If, inside, meaning}
+use Rattle.gos_check.specs.Nodes.{Numbered, inside, meaning}
 use Rattle.gos_plan.specs.Kinds.{Part}
 use Rattle.gos_plan.specs.Plans.{End, ResultEnd, Plan}
 use Rattle.gos_plan.proofs.JointLemmas.{IsIn}
 use Rattle.gos_plan.specs.TokenBits.{LiteralFits}
 use Rattle.gos_realises.specs.Realises.{NamesDiffer, Realises}
+use Rattle.gos_realises.proofs.PlaceLemmas.{contains_at, place_of}
+use Rattle.gos_renumbered.proofs.ImportLemmas.{type_has}
 use Rattle.gos_webs.specs.Webs.{Tie, joint}
 use Rattle.gos_typing.proofs.WhenceLemmas.{named}
 use Rattle.gos_typing.proofs.NameLemmas.{typed_under_fewer}
 use Rattle.gos_compile.specs.Wiring.{Types, parts_of}
 use Rattle.gos_wired.specs.Wired.{Supplies, Placing, IsWired, terms_of, wired_ties}
-use Rattle.gos_stages.specs.Inside.{numbers_inside, AreGroundSupplies}
+use Rattle.gos_stages.specs.Inside.{AreGroundSupplies}
 use Rattle.gos_stages.specs.Folding.{Child}
 use Rattle.gos_stages.specs.Stages.{stage_of}
 use Rattle.gos_stages.proofs.InsideLemmas.{inside_means}
 use Rattle.gos_stages.proofs.LodgingLemmas.{lodged_are_inside}
 use Rattle.gos_stages.proofs.ChildStageLemmas.{child_is_staged}
-use Rattle.gos_leaves.specs.Splits.{SplitsAtForks}
-use Rattle.gos_grounds.specs.Scopes.{InScope}
-use Rattle.gos_grounds.proofs.ImportLemmas.{contained_at, stands_at, type_has}
 use Rattle.gos_grounds.proofs.ChildLemmas.{child_realises}
-use Rattle.gos_numbers.specs.Kept as kept
 use Rattle.gos_numbers.specs.Kept.{IsKept}
 use Rattle.gos_writes.proofs.AssignmentLemmas.{assignment_is_realised}
 use Rattle.gos_assignments.specs.Variables.{Target, is_target, target_lodge, target_plan}
 use Rattle.gos_assignments.specs.Made.{target_stage, target_of, IsWiredAssignment}
-use Rattle.gos_assignments.specs.Sides.{assigning, other_numbers, number_side}
+use Rattle.gos_assignments.specs.Sides.{assigning, number_side}
 use Rattle.gos_assignments.specs.Cases.{AssignCase}
 use Rattle.gos_assignments.proofs.TargetBackLemmas.{plan_realised, plan_joined, plan_right, plan_ground}
 use Rattle.gos_assignments.proofs.TargetFoldLemmas.{import_of}
@@ -43,24 +41,6 @@ use Rattle.gos_assignments.proofs.MadeLemmas.{assignment_is_made}
 use Rattle.gos_assignments.proofs.NumberLemmas.{number_part}
 use Rattle.gos_assignments.proofs.NumberSideLemmas.{number_type}
 use Rattle.gos_assignments.proofs.NodeLemmas.{node_is_assignment}
-
--- where nodes without parts have no splits, a use is of a number that is there outside
-in_scope : (m : Numbered) (ns : List ℕ) → SplitsAtForks m → kept.InScope ns m → InScope ns m
-in_scope (Closed t ss c) ns forks scope = scope
-in_scope (Use t ss n) ns forks (split, there) = subst (λ (ts : List Split). Contains (numbers_inside ts ns) n) forks there
-in_scope (Under t ss b n m) ns forks (split, scope) = (split, in_scope m (numbers_inside ss ns ++ n ∷ []) forks.1 scope)
-in_scope (One t ss f m) ns forks (split, scope) = (split, in_scope m (numbers_inside ss ns) forks.1 scope)
-in_scope (Two t ss f m n) ns forks (split, one, other) = (
-  split,
-  in_scope m (numbers_inside ss ns) forks.0 one,
-  in_scope n (numbers_inside ss ns) forks.1 other,
-)
-in_scope (If t ss m n p) ns forks (split, one, other, last) = (
-  split,
-  in_scope m (numbers_inside ss ns) forks.0 one,
-  in_scope n (numbers_inside ss ns) forks.1 other,
-  in_scope p (numbers_inside ss ns) forks.2 last,
-)
 
 module _ (types : Types) (ns : List ℕ) (ss : List Split) (w x : ℕ) (n : Numbered) (is : IsKept types ns (assigning ss w x n))
     (i j : ℕ) (env : Supplies) (pl : Placing)
@@ -101,10 +81,10 @@ module _ (types : Types) (ns : List ℕ) (ss : List Split) (w x : ℕ) (n : Numb
       agree : (y : Name) → Contains (things 0 variable) (Named y) → import_type r.imports y ≡ import_type (target_plan g).imports y
       agree y has =
           let name = named (target_plan g).imports (Named y) variable 0 [] (Var w) (omega arith) variable_realised.suits.typed has in
-          let (q, at) = stands_at (target_plan g).imports name.import name.has in
+          let (q, at) = place_of (target_plan g).imports name.import name.has in
           let is_y : bytes_eq name.import.name y ≡ true = (bytes_eq-Decides name.import.name y).1 (sym (cc (name.same))) in
           let it = import_of g ts w made.variable it_reads.0 it_reads.1 own pl r made.assign made.laid q name.import at in
-          type_has r.imports differ y name.import (contained_at r.imports (pl.import ((target_lodge g).root x) q) name.import it.there) is_y
+          type_has r.imports differ y name.import (contains_at r.imports (pl.import ((target_lodge g).root x) q) name.import it.there) is_y
           ∙ sym (type_has (target_plan g).imports variable_realised.suits.names y name.import name.has is_y)
 
   one_width : OneType → (v : ℕ) → Typed r.imports [] (inside ss (terms_of env) x) (Var v) → v ≡ w
@@ -129,7 +109,7 @@ assign_case one_type types ns ss w x n is leaves real i j env pl r wired supplie
     let realises =
     child_realises (number_side types i j ss env ns x n) (parts_of types (assigning ss w x n)) (wired_ties types i j (assigning ss w x n) ns env)
     pl plc r c it.number it.laid staged
-    real differ fit leaves (in_scope n (other_numbers ss ns x) part.kept.forks part.kept.scope)
+    real differ fit leaves part.kept.scope
     (subst (λ (t : Type'). Typed r.imports [] (meaning (inside ss (terms_of env)) n) t) (sym of_number) typed)
     in
     let side_realises : Realises (Exp w) c (meaning (inside ss (terms_of env)) n) =

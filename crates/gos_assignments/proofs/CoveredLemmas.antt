@@ -17,11 +17,13 @@ use Rattle.gos_webs.specs.Webs.{Dot, Of, Within}
 use Rattle.gos_compile.specs.Wiring.{Types, answer_bits, shares, parts_of}
 use Rattle.gos_wired.specs.Wired.{Supplies, Source, Own, Supplied, Placing, IsFrom, source_dot}
 use Rattle.gos_stages.specs.Inside.{AreGroundSupplies}
+use Rattle.gos_stages.specs.Lodging.{AreApart}
 use Rattle.gos_stages.specs.Folding.{Child, is_used, child_back, IsChild, IsLaid}
 use Rattle.gos_stages.proofs.StepLemmas.{serves_source}
 use Rattle.gos_stages.proofs.ServedLemmas.{servings_serve}
 use Rattle.gos_stages.proofs.ChildPartLemmas.{no_more_than, own_source_back}
-use Rattle.gos_stages.proofs.CoverLemmas.{live_is_covered, served_is_covered, own_is_covered}
+use Rattle.gos_stages.proofs.CoverLemmas.{live_stands, live_is_covered, served_is_covered, own_is_covered}
+use Rattle.gos_stages.proofs.SideLemmas.{AreUsed, AreOld, Lives, Serves, all_live, all_serve}
 use Rattle.gos_stages.proofs.ContactLemmas.{part_there, import_there, share_ground, shares_length}
 use Rattle.gos_stages.proofs.LayoutLemmas.{in_front, in_back}
 use Rattle.gos_numbers.specs.Kept.{IsKept}
@@ -32,7 +34,6 @@ use Rattle.gos_assignments.specs.Sides.{assigning, other_numbers, number_side}
 use Rattle.gos_assignments.proofs.NumberLemmas.{number_part, variable_tidy, either_side}
 use Rattle.gos_assignments.proofs.TieLemmas.{all_ties}
 use Rattle.gos_assignments.proofs.NumberSideLemmas.{number_is_child, assign_at}
-use Rattle.gos_assignments.proofs.LivingLemmas.{AreShared, all_live, all_serve, live_stands}
 
 -- what serves doesn't ask
 abbrev role_at : Option Contact → Role
@@ -99,53 +100,43 @@ module _ (types : Types) (i j : ℕ) (ss : List Split) (w x : ℕ) (n : Numbered
   abbrev Covered : Dot → Type 0
   Covered d = ((y : Dot) × (child_back f d ≡ Some y)) ⊎ ((read : End) → (y : Dot) × (target_back g read d ≡ Some y))
 
+  -- the two sides, and their numbers
+  abbrev user : Bool → ℕ → Bool
+  user true = is_used f
+  user false = is_target g
+
   -- each number is one's
-  shared : AreShared (is_used f) (is_target g) ss ns []
-  shared =
-      record {
-        order = part.tidy.in_order;
-        new = λ k some. refl;
-        ones =
-            λ k there none.
-            elim (either_side types ns ss w x n is k there (omega (arith, none))) [
-              | inl same ↦ inr (eq_true k x same)
-              | inr some ↦ inl (used_so k some)
-            ];
-      }
+  all_used : AreUsed user ss ns []
+  all_used k there none =
+      elim (either_side types ns ss w x n is k there (omega (arith, none))) [
+        | inl same ↦ (false, eq_true k x same)
+        | inr some ↦ (true, used_so k some)
+      ]
     where
       used_so : (k : ℕ) → 0 < times k (other_numbers ss ns x) → nat_lt 0 (times k (other_numbers ss ns x)) ≡ true
       used_so k some = grind (arith, nat_tests, some)
 
+  none_old : AreOld user ss []
+  none_old k some = refl
+
+  apart : (p : Bool) → AreApart (user p) ss
+  apart true = part.tidy.apart
+  apart false = (variable_tidy types ns ss w x n is).apart
+
   -- an end of a supply
   supply_covered : (m : ℕ) (e : End) → Contains ns m → Covered (Within (suc m) (Of e))
-  supply_covered m e there =
-      elim (all_live (is_used f) (is_target g) ss ns [] shared m there refl) [
-        | inl lives ↦ inl (live_is_covered f m e lives)
-        | inr lives ↦
-            inr (λ read. let (z, at) = live_stands types i (is_target g) ss env m e lives in (Of (kept_end read z.end), ap (kept read) at))
-      ]
+  supply_covered m e there = by_side (all_live user ss ns [] all_used part.tidy.in_order none_old m there refl)
+    where
+      by_side : Lives user ss m → Covered (Within (suc m) (Of e))
+      by_side (true, lives) = inl (live_is_covered f m e lives)
+      by_side (false, lives) =
+          inr (λ read. let (z, at) = live_stands types i (is_target g) ss env m e lives in (Of (kept_end read z.end), ap (kept read) at))
 
   -- a Share
   share_covered : (k h : ℕ) (t : Type') (q v : ℕ) → slice_get (shares ss types) k ≡ Some (Share t) → slice_get (part_contacts (Share t)) h ≡ Some (asks q v)
       → Covered (source_dot i (Own k) h)
   share_covered k h t q v share asking =
-      elim (all_serve (is_used f) (is_target g) types plainly ss ns [] shared 0 k k t (omega arith) share) [
-        | inl one ↦
-            (let (c, listed) = one in
-            let (y, same, covers) = served_is_covered f (all_ties types i j ss w x n ns env) plainly (record { part = k; ty = t; side = c }) child listed in
-            inl (subst (λ (m : ℕ). (d : Dot) × (child_back f (source_dot i (Own m) h) ≡ Some d)) (sym same) (covers h (serves_source (count t) c h low))))
-        | inr other ↦
-            (let (c, listed) = other in
-            let (y, same, it) =
-            servings_serve types i (is_target g) ss env ns plainly (record { part = k; ty = t; side = c }) (variable_tidy types ns ss w x n is) listed
-            in
-            let (z, at) = it.seen h (serves_source (count t) c h low) in
-            inr (λ read. (
-              Of (kept_end read z.end),
-              plain read ∙ ap (kept read)
-                  (subst (λ (m : ℕ). (target_lodge g).home (source_dot i (Own m) h) ≡ Some z) (sym same) at),
-            )))
-      ]
+      by_side (all_serve user types plainly ss ns [] all_used part.tidy.in_order none_old apart 0 k k t 0 (omega arith) share (omega arith))
     where
       low : h < count t
       low = asks_source t h q v (share_ground types ss ns k t part.agree part.split supplies.ground share) asking
@@ -159,6 +150,20 @@ module _ (types : Types) (i j : ℕ) (ss : List Split) (w x : ℕ) (n : Numbered
           in
           ap (λ (b : Bool). if b then (if nat_eq h 1 then Some (Of (ResultEnd 1)) else None)
           else kept read ((target_lodge g).home (source_dot i (Own k) h))) far
+
+      by_side : Serves user types plainly ss 0 k t 0 → Covered (source_dot i (Own k) h)
+      by_side (true, listed) =
+          let (y, same, covers) = served_is_covered f (all_ties types i j ss w x n ns env) plainly (record { part = k; ty = t; side = 0 }) child listed in
+          inl (subst (λ (m : ℕ). (d : Dot) × (child_back f (source_dot i (Own m) h) ≡ Some d)) (sym same) (covers h (serves_source (count t) 0 h low)))
+      by_side (false, listed) =
+          let (y, same, it) =
+          servings_serve types i (is_target g) ss env ns plainly (record { part = k; ty = t; side = 0 }) (variable_tidy types ns ss w x n is) listed
+          in
+          let (z, at) = it.seen h (serves_source (count t) 0 h low) in
+          inr (λ read. (
+            Of (kept_end read z.end),
+            plain read ∙ ap (kept read) (subst (λ (m : ℕ). (target_lodge g).home (source_dot i (Own m) h) ≡ Some z) (sym same) at),
+          ))
 
   -- its own part
   assign_covered : (h q v : ℕ) → slice_get (part_contacts (Assign w)) h ≡ Some (asks q v) → Covered (source_dot i (Own (length ss)) h)

@@ -1,15 +1,15 @@
 -- The variable's stage: its Shares are loyal, and its imports are those of the node's plan.
 use Rattle.std.specs.Prelude.{◌+◌, ◌-◌, ◌*◌, ◌⊎◌, length, slice_get, None, Contains}
-use Rattle.std.proofs.Common.{◌≡◌, ℕ, zero, suc, Bool, true, false, not, List, [], ◌∷◌, Some, inl, inr, refl, sym, ◌∙◌, ap, subst, arith}
+use Rattle.std.proofs.Common.{◌≡◌, ℕ, Bool, true, false, not, [], Some, inl, inr, refl, sym, ◌∙◌, ap, subst, arith}
 use Rattle.std.proofs.lemmas.Option.{slice_get_within}
 use Rattle.gos_plan.specs.Kinds.{Contact, Share, asks, serves}
 use Rattle.gos_plan.specs.Plans.{End, PartEnd, ImportEnd, ResultEnd, Plan, contact_at, IsRight}
 use Rattle.gos_plan.proofs.JointLemmas.{IsIn, fits, contained}
 use Rattle.gos_realises.specs.Regular.{count}
+use Rattle.gos_realises.proofs.PlaceLemmas.{contains_at, place_of}
 use Rattle.gos_webs.specs.Webs.{joint}
 use Rattle.gos_webs.specs.Cutting.{StandsIn}
 use Rattle.gos_webs.proofs.CutLemmas.{which_end}
-use Rattle.gos_unions.proofs.FlatFitLemmas.{contained_at}
 use Rattle.gos_windows.specs.Regions.{Serving, IsLoyal, IsRegion}
 use Rattle.gos_sharing.specs.Sharing.{caller_end}
 use Rattle.gos_folds.specs.Folds.{joined_cut}
@@ -26,11 +26,6 @@ use Rattle.gos_assignments.specs.Made.{TargetIsLaid}
 use Rattle.gos_assignments.proofs.ReadLemmas.{reads}
 use Rattle.gos_assignments.proofs.TargetBackLemmas.{plan_right, plan_ground, plan_joined, plan_regular, itself}
 use Rattle.gos_assignments.proofs.TargetFoldLemmas.{part_home, part_lies, own_outside, import_of, target_is_region}
-
-found_at : {X : Type 0} (xs : List X) (x : X) → Contains xs x → (k : ℕ) × (slice_get xs k ≡ Some x)
-found_at [] x (k, lt, e) = absurd (omega (arith, lt))
-found_at (y ∷ xs) x (zero, lt, e) = (0, ap Some e)
-found_at (y ∷ xs) x (suc k, lt, e) = let (j, at) = found_at xs x (k, omega (arith, lt), e) in (suc j, at)
 
 pub contact_of : (c : Plan) → IsRight c → (e : End) → StandsIn c e → (k : Contact) × (contact_at c e ≡ Some k)
 contact_of c right e (j, listed, stands) = by_end (which_end e j stands)
@@ -53,9 +48,9 @@ target_is_laid f own ts w pl r is has laid web =
       run_by = λ stands. refl;
       imports =
           λ y listed.
-          let (q, at) = found_at (target_plan f).imports y listed in
+          let (q, at) = place_of (target_plan f).imports y listed in
           let it = import_of f ts w is read joined own pl r has laid q y at in
-          contained_at r.imports (pl.import ((target_lodge f).root f.variable) q) y it.there;
+          contains_at r.imports (pl.import ((target_lodge f).root f.variable) q) y it.there;
       ports = ports;
     }
   where

@@ -8,7 +8,6 @@ pub mod NumberLemmas
 pub mod TieLemmas
 pub mod NumberSideLemmas
 pub mod VariableSideLemmas
-pub mod LivingLemmas
 pub mod CoveredLemmas
 pub mod NodeLemmas
 pub mod CaseLemmas

@@ -1,58 +1,26 @@
 -- The numbers of the two sides of an assignment: the variable's is neither split nor the other side's, and no split has two sides that it uses.
-use Rattle.std.specs.Prelude.{◌≡◌, ℕ, zero, suc, ◌+◌, ◌<◌, ◌⊎◌, false, List, [], ◌∷◌, ◌++◌, nat_eq, Contains}
+use Rattle.std.specs.Prelude.{◌≡◌, ℕ, zero, suc, ◌+◌, ◌<◌, ◌⊎◌, false, List, [], ◌∷◌, nat_eq, Contains}
 use Rattle.std.proofs.Common.{refl, sym, subst, arith, inl, inr}
-use Rattle.gos_types.specs.Types.{Type', Com, Var}
-use Rattle.gos_model.specs.Terms as terms
+use Rattle.gos_types.specs.Types.{Com, Var}
 use Rattle.gos_check.specs.declared.linear.Split.{Split}
-use Rattle.gos_check.specs.Nodes.{Numbered, Closed, Use, Two, TwoForm}
+use Rattle.gos_check.specs.Nodes.{Numbered, Use, OfAssign}
 use Rattle.gos_check.specs.Linearity.{times, split_in, sides, used, made}
-use Rattle.gos_check.proofs.TimesLemmas.{number_cases, eq_false, true_eq, times_same, times_other, times-append}
+use Rattle.gos_check.proofs.TimesLemmas.{number_cases, eq_false, true_eq, times_same, times_other, times-append, some_times}
 use Rattle.gos_compile.specs.Wiring.{Types}
 use Rattle.gos_stages.specs.Inside.{numbers_inside}
 use Rattle.gos_stages.specs.Lodging.{AreTidy}
-use Rattle.gos_stages.proofs.ChildBackLemmas.{some_times}
 use Rattle.gos_numbers.specs.Kept.{IsKept}
-use Rattle.gos_numbers.specs.Inherited.{first_numbers, IsPart}
-use Rattle.gos_numbers.proofs.ScopeLemmas.{covered}
+use Rattle.gos_numbers.specs.Inherited.{IsPart}
+use Rattle.gos_numbers.proofs.ScopeLemmas.{split_covered}
 use Rattle.gos_numbers.proofs.ApartLemmas.{are_apart}
-use Rattle.gos_numbers.proofs.PartLemmas.{is_part}
-use Rattle.gos_numbers.proofs.InheritedLemmas.{first_few, first_free, first_all, first_none}
+use Rattle.gos_numbers.proofs.InheritedLemmas.{first_all, first_none, first_suits, two_once, two_sides, back_is_kept}
 use Rattle.gos_assignments.specs.Sides.{assigning, other_numbers, NumberIsKept}
 
--- the last part of a form of two, with the numbers that neither are split nor the first part's
-last_is_kept : (types : Types) (ns : List ℕ) (t : Type') (ss : List Split) (f : TwoForm) (m n : Numbered)
-    → IsKept types ns (Two t ss f m n) → IsPart types ss ns (first_numbers ss ns (used m)) n
-last_is_kept types ns t ss f m n is =
-    is_part types ss ns (first_numbers ss ns (used m)) n
-    (record {
-      once = λ k. (let all = made_all k in let one = is.once k in omega (arith, all, one));
-      used_once = λ k. (let all = used_all k in let one = is.used_once k in omega (arith, all, one));
-      split = is.scope.0;
-      scope = is.scope.2;
-      between = is.apart.1;
-      agree = is.typed.0;
-      within = is.within.2;
-      apart = is.apart.3;
-      forks = is.forks.1;
-      typed = is.typed.3;
-      ground = is.ground.2;
-      few = first_few ss ns (used m);
-      unsplit = λ k small. (let none = first_free ss ns (used m) k small in omega (arith, none));
-      all = λ k small there. (
-          let all = used_all k in let one = is.used_once k in
-          let same = first_all ss ns (used m) k (omega (arith, small, all, one)) in omega (arith, same, there));
-      sides = λ k side small. (
-          let none = first_free ss ns (used m) k small in let all = used_all k in let one = is.within.0 k side in omega (arith, none, all, one));
-    })
-  where
-    made_all : (k : ℕ) → times k (made (Two t ss f m n)) ≡ times k (sides ss) + (times k (made m) + times k (made n))
-    made_all k = let one = times-append k (sides ss) (made m ++ made n) in let two = times-append k (made m) (made n) in omega (arith, one, two)
-
-    used_all : (k : ℕ) → times k (used (Two t ss f m n)) ≡ times k (split_in ss) + (times k (used m) + times k (used n))
-    used_all k = let one = times-append k (split_in ss) (used m ++ used n) in let two = times-append k (used m) (used n) in omega (arith, one, two)
-
 pub number_is_kept : NumberIsKept
-number_is_kept types ns ss w x n is = last_is_kept types ns Com ss _ (Use (Var w) [] x) n is
+number_is_kept types ns ss w x n is =
+    back_is_kept types ns Com ss OfAssign (Use (Var w) [] x) n is (other_numbers ss ns x)
+    (first_suits ss ns (x ∷ []) n (λ k. (let one = two_once types ns Com ss OfAssign (Use (Var w) [] x) n is k in omega (arith, one)))
+    (λ k side. (let one = two_sides types ns Com ss OfAssign (Use (Var w) [] x) n is k side in omega (arith, one))))
 
 module _ (types : Types) (ns : List ℕ) (ss : List Split) (w x : ℕ) (n : Numbered) (is : IsKept types ns (assigning ss w x n)) where
   pub number_part : IsPart types ss ns (other_numbers ss ns x) n
@@ -66,7 +34,7 @@ module _ (types : Types) (ns : List ℕ) (ss : List Split) (w x : ℕ) (n : Numb
 
   -- the variable's number
   pub variable_there : Contains (numbers_inside ss ns) x
-  variable_there = is.scope.1.1
+  variable_there = is.scope.1
 
   pub variable_unsplit : times x (split_in ss) ≡ 0
   variable_unsplit = let all = used_all x in let one = is.used_once x in let some = times_same x [] in omega (arith, all, one, some)
@@ -87,7 +55,7 @@ module _ (types : Types) (ns : List ℕ) (ss : List Split) (w x : ℕ) (n : Numb
       by_size : (a : ℕ) → times k (split_in ss) ≡ a → times k (split_in ss) ≡ 0
       by_size zero e = e
       by_size (suc a) e =
-          let there = covered (Closed Com ss terms.Skip) ns is.scope.0 k (omega (arith, e)) in
+          let there = split_covered ss ns is.scope.0 k (omega (arith, e)) in
           let all = made_all k in let one = is.once k in let uses = used_all k in let two = is.used_once k in
           absurd (omega (arith, e, there, all, one, uses, two, some))
 

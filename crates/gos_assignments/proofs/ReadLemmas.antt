@@ -11,8 +11,8 @@ use Rattle.gos_webs.specs.Cutting.{StandsIn}
 use Rattle.gos_webs.proofs.WebLemmas.{asks_there}
 use Rattle.gos_webs.proofs.MovedLemmas.{listed}
 use Rattle.gos_webs.proofs.CutLemmas.{which_end}
+use Rattle.gos_webs.proofs.WayLemmas.{mapped_way}
 use Rattle.gos_unions.proofs.UnionLemmas.{of_image, in_image}
-use Rattle.gos_folds.proofs.WayLemmas.{mapped_way}
 use Rattle.gos_stages.proofs.ChildTieLemmas.{joint_tie}
 use Rattle.gos_stages.proofs.WayLemmas.{by_tie}
 use Rattle.gos_writes.specs.Written.{unread_joints, unread}

@@ -21,7 +21,7 @@ one_is_kept =
     record {
       once = λ k. let one = once k in omega (arith, one);
       used_once = once;
-      scope = (tt, (tt, (0, omega arith, refl)), tt);
+      scope = (tt, (0, omega arith, refl), tt);
       within = (no_sides, (no_sides, refl), (λ k some. absurd (omega (arith, some))));
       apart = ((λ s a b one c d small more. absurd one), (λ s a b one c d small more. absurd one), tt, tt);
       forks = (refl, refl);

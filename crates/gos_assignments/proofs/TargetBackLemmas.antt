@@ -17,6 +17,7 @@ use Rattle.gos_ties.specs.Ties as ties
 use Rattle.gos_ties.specs.Ties.{point}
 use Rattle.gos_webs.specs.Webs.{Dot, Of, Number, Node, Within, Tie, tie, Way, here, own_web, joint}
 use Rattle.gos_webs.proofs.MovedLemmas.{listed}
+use Rattle.gos_webs.proofs.WayLemmas.{way_then}
 use Rattle.gos_unions.specs.Unions.{within}
 use Rattle.gos_unions.proofs.UnionLemmas.{of_image}
 use Rattle.gos_folds.specs.Folds.{Follows}
@@ -27,13 +28,14 @@ use Rattle.gos_stages.specs.Lodging.{Spot, spot, spot_if, Near, lies}
 use Rattle.gos_stages.proofs.InsideLemmas.{inside_is_realised}
 use Rattle.gos_stages.proofs.LodgingLemmas.{lifted, led_listed, homes_are_kept, numbers_are_held, lodged_are_inside}
 use Rattle.gos_stages.proofs.LiveLemmas.{spots_are_live}
-use Rattle.gos_stages.proofs.WayLemmas.{by_tie, way_then, joints_are_ways}
+use Rattle.gos_stages.proofs.WayLemmas.{by_tie, joints_are_ways}
 use Rattle.gos_stages.proofs.ChildTieLemmas.{joint_tie, dot_tie, put_in, of_supplies, of_supply}
 use Rattle.gos_stages.proofs.ChildPartLemmas.{no_more_than}
 use Rattle.gos_writes.specs.Written.{unread_joints, unread}
 use Rattle.gos_writes.proofs.JoinedLemmas.{was_in}
 use Rattle.gos_assignments.specs.Variables.{Target, is_target, target_lodge, target_plan, kept, target_back, target_shared, target_ties, IsTarget}
 use Rattle.gos_assignments.proofs.ReadLemmas.{no_result, end_way}
+use Rattle.gos_stages.proofs.ChildBackLemmas.{follows_by}
 
 -- a tie of a Share
 abbrev ShareTie : ℕ → ℕ → point_ties.Tie → Type 0
@@ -62,10 +64,6 @@ share_of types (s ∷ ss) q u has =
           ]
       | inr rest ↦ (let (n, h, r, g, lt, e) = share_of types ss (suc q) u rest in (n, h, r, g, omega (arith, lt), e))
     ]
-
-follows_by : (ts : List Tie) (a b : Option Dot) (x y : Dot) → a ≡ Some x → b ≡ Some y → Way ts x y → Follows ts a b
-follows_by ts a b x y at_a at_b way =
-    subst (λ (z : Option Dot). Follows ts z b) (sym at_a) (subst (λ (z : Option Dot). Follows ts (Some x) z) (sym at_b) way)
 
 pub var_low : (w h : ℕ) (k : Contact) → turned_if (slice_get (contacts_of (Var w)) h) ≡ Some k → h < 2
 var_low w zero k e = omega arith

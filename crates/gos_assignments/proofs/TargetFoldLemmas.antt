@@ -1,16 +1,18 @@
 -- The variable's plan, without the joint by which it is read, lies as a fold in the node's plan: so it is a region of it.
-use Rattle.std.specs.Prelude.{◌+◌, ◌-◌, ◌*◌, ◌<◌, ◌≤◌, ◌⊎◌, length, nat_eq, nat_lt, slice_get, None, Contains}
+use Rattle.std.specs.Prelude.{◌+◌, ◌-◌, ◌*◌, ◌<◌, ◌⊎◌, length, nat_eq, nat_lt, slice_get, None, Contains}
 use Rattle.std.proofs.Common.{◌≡◌, ℕ, zero, suc, Bool, true, false, not, List, Option, Some, inl, inr, refl, sym, ◌∙◌, ap, subst, arith, if◌then◌else◌}
 use Rattle.std.proofs.lemmas.Option.{slice_get_within}
 use Rattle.std.proofs.lemmas.Bool.Decides.{nat_tests}
 use Rattle.gos_types.specs.Types.{Type', Var}
 use Rattle.gos_model.specs.Typing.{Imported}
+use Rattle.gos_model.proofs.NumberLemmas.{low_or_high}
 use Rattle.gos_check.proofs.TimesLemmas.{eq_true, true_eq}
 use Rattle.gos_plan.specs.Kinds.{Contact, Part, Share, Assign, contacts_of, part_contacts}
 use Rattle.gos_plan.specs.Plans.{End, PartEnd, ImportEnd, ResultEnd, Joint, Plan, contact_at, contacts_of_part, contacts_of_import, same_end, stands_in, turned_if}
 use Rattle.gos_plan.specs.Tokens.{IsPortEnd}
 use Rattle.gos_plan.proofs.JointLemmas.{IsIn}
 use Rattle.gos_realises.specs.Regular.{count}
+use Rattle.gos_realises.proofs.CountLemmas.{some_shake}
 use Rattle.gos_webs.specs.Webs.{Dot, Of, Within, Tie, Web, IsOfWeb, own_web, joint}
 use Rattle.gos_webs.specs.Cutting.{Cut, IsOutside, StandsIn}
 use Rattle.gos_webs.proofs.WebLemmas.{asks_there, serves_there, right_is_of_its_web}
@@ -32,7 +34,7 @@ use Rattle.gos_stages.proofs.ImportHomeLemmas.{imports_are_there, result_is_nowh
 use Rattle.gos_stages.proofs.ServedLemmas.{servings_serve}
 use Rattle.gos_stages.proofs.SpareLemmas.{spares_are_others}
 use Rattle.gos_stages.proofs.ChildPartLemmas.{low, there_at, no_more_than}
-use Rattle.gos_stages.proofs.ContactLemmas.{part_there, import_there, some_shake, share_ground, shares_length, other_unserved}
+use Rattle.gos_stages.proofs.ContactLemmas.{part_there, import_there, shares_length, other_unserved}
 use Rattle.gos_writes.specs.Written.{unread}
 use Rattle.gos_writes.proofs.JoinedLemmas.{unread_right}
 use Rattle.gos_assignments.specs.Variables.{Target, is_target, target_lodge, target_plan, end_part, spot_part, spot_end, target_outer, target_inner, target_cut, target_servings, kept, target_back, IsTarget, HasAssign, TargetIsRegion}
@@ -47,13 +49,6 @@ assign_contact w (suc (suc h)) k e = absurd (no_more_than k e)
 
 told : (a b : ℕ) → nat_lt a b ≡ true → a < b
 told a b h = grind (arith, nat_tests)
-
-low_or_high : (a b : ℕ) → (a < b) ⊎ (b ≤ a)
-low_or_high a b = split (nat_lt a b) refl
-  where
-    split : (t : Bool) → nat_lt a b ≡ t → (a < b) ⊎ (b ≤ a)
-    split true h = inl (told a b h)
-    split false h = inr (grind (arith, nat_tests, h))
 
 module _ (f : Target) (ts : List Tie) (w : ℕ) (is : IsTarget f ts w) (read : End) (joined : IsIn (joint (ResultEnd 0) read) (target_plan f).joints)
     (own : List Part) (pl : Placing) (r : Plan) (has : HasAssign f own w) (laid : IsLaid own f.numbers f.env pl r) where
@@ -225,8 +220,7 @@ module _ (f : Target) (ts : List Tie) (w : ℕ) (is : IsTarget f ts w) (read : E
   serving_so : (n : Serving) → Contains (target_servings f pl) n → Serves n
   serving_so n known =
       let (s, at, it) = servings_serve f.types f.first (is_target f) f.splits f.env f.numbers pl n is.tidy known in
-      let ground = share_ground f.types f.splits f.numbers s n.ty is.agree is.split is.supplies.ground it.share in
-      let (z, home) = it.seen 0 (serves_source (count n.ty) n.side 0 (some_shake n.ty ground)) in
+      let (z, home) = it.seen 0 (serves_source (count n.ty) n.side 0 (some_shake n.ty)) in
       let mine = home_of (Own s) 0 z (share_low s n.ty n.side it) home in
       let place : placed pl (l.part x mine.part) ≡ n.part = ap (placed pl) mine.from ∙ sym at in
       let kind : Some mine.kind ≡ Some (Share n.ty) =

@@ -13,25 +13,14 @@ use Rattle.gos_ties.specs.Ties as ties
 use Rattle.gos_ties.specs.Ties.{point}
 use Rattle.gos_webs.specs.Webs.{Tie}
 use Rattle.gos_unions.specs.Unions.{within}
-use Rattle.gos_unions.proofs.UnionLemmas.{of_image, in_image}
 use Rattle.gos_compile.specs.Wiring.{Types, row, shares_ties, ties_of}
 use Rattle.gos_wired.specs.Wired.{Supplies, dot_ties, all_supply_ties, wired_ties}
 use Rattle.gos_stages.specs.Folding.{Child, child_out, shared_ties, own_ties}
 use Rattle.gos_stages.proofs.LodgingLemmas.{lifted}
-use Rattle.gos_stages.proofs.ChildTieLemmas.{dot_tie, put_in}
+use Rattle.gos_stages.proofs.ChildTieLemmas.{tie_of, tie_in}
 use Rattle.gos_assignments.specs.Variables.{Target, target_ties}
 use Rattle.gos_assignments.specs.Made.{target_of}
 use Rattle.gos_assignments.specs.Sides.{assigning, number_side}
-
--- ties of points, as those of a web
-lift_in : (us : List point_ties.Tie) (u : point_ties.Tie) → Contains us u → Contains (within 0 (dot_ties us)) (lifted u)
-lift_in us u has = in_image (put_in 0) (dot_ties us) (dot_tie u) (in_image dot_tie us u has)
-
-lift_of : (us : List point_ties.Tie) (t : Tie) → Contains (within 0 (dot_ties us)) t → (u : point_ties.Tie) × Contains us u × (lifted u ≡ t)
-lift_of us t has =
-    let (v, there, at_v) = of_image (put_in 0) (dot_ties us) t has in
-    let (u, listed, at_u) = of_image dot_tie us v there in
-    (u, listed, ap (put_in 0) at_u ∙ at_v)
 
 module _ (types : Types) (i j : ℕ) (ss : List Split) (w x : ℕ) (n : Numbered) (ns : List ℕ) (env : Supplies) where
   abbrev f : Child
@@ -70,7 +59,7 @@ module _ (types : Types) (i j : ℕ) (ss : List Split) (w x : ℕ) (n : Numbered
   in_wiring : (u : point_ties.Tie) → Contains (shares_ties i ss types ++ behind) u → Contains all_ties (lifted u)
   in_wiring u has =
       Contains-append_left (within 0 (dot_ties wiring)) (all_supply_ties types env ns) (lifted u)
-      (lift_in wiring u (subst (λ (us : List point_ties.Tie). Contains us u) (sym wiring_is) has))
+      (tie_in wiring u (subst (λ (us : List point_ties.Tie). Contains us u) (sym wiring_is) has))
 
   in_behind : (u : point_ties.Tie) → Contains behind u → Contains all_ties (lifted u)
   in_behind u has = in_wiring u (Contains-append_right (shares_ties i ss types) behind u has)
@@ -79,14 +68,14 @@ module _ (types : Types) (i j : ℕ) (ss : List Split) (w x : ℕ) (n : Numbered
   shared_in t has =
       elim (Contains-append_cases (within 0 (dot_ties (shares_ties i ss types))) (all_supply_ties types env ns) t has) [
         | inl share ↦
-            (let (u, listed, same) = lift_of (shares_ties i ss types) t share in
+            (let (u, listed, same) = tie_of (shares_ties i ss types) t share in
             subst (Contains all_ties) same (in_wiring u (Contains-append_left (shares_ties i ss types) behind u listed)))
         | inr supply ↦ Contains-append_right (within 0 (dot_ties wiring)) (all_supply_ties types env ns) t supply
       ]
 
   pub own_in : (t : Tie) → Contains (own_ties f) t → Contains all_ties t
   own_in t has =
-      let (u, (k, lt, e), same) = lift_of its_ties t has in
+      let (u, (k, lt, e), same) = tie_of its_ties t has in
       subst (Contains all_ties) same (in_behind u (suc (suc (suc k)), omega (arith, lt), e))
 
   pub run_in : Contains all_ties (lifted run_tie)
@@ -108,17 +97,17 @@ module _ (types : Types) (i j : ℕ) (ss : List Split) (w x : ℕ) (n : Numbered
   by_place u t same (suc zero, lt, e) = inr (inr (inl (ap lifted e ∙ same)))
   by_place u t same (suc (suc zero), lt, e) = inr (inr (inr (inl (ap lifted e ∙ same))))
   by_place u t same (suc (suc (suc k)), lt, e) =
-      inr (inr (inr (inr (subst (Contains (own_ties f)) same (lift_in its_ties u (k, omega (arith, lt), e))))))
+      inr (inr (inr (inr (subst (Contains (own_ties f)) same (tie_in its_ties u (k, omega (arith, lt), e))))))
 
   pub of_ties : (t : Tie) → Contains all_ties t → IsOneOf t
   of_ties t has =
       elim (Contains-append_cases (within 0 (dot_ties wiring)) (all_supply_ties types env ns) t has) [
         | inl own ↦
-            (let (u, listed, same) = lift_of wiring t own in
+            (let (u, listed, same) = tie_of wiring t own in
             elim (Contains-append_cases (shares_ties i ss types) behind u (subst (λ (us : List point_ties.Tie). Contains us u) wiring_is listed)) [
               | inl share ↦
                   inl (Contains-append_left (within 0 (dot_ties (shares_ties i ss types))) (all_supply_ties types env ns) t
-                  (subst (Contains (within 0 (dot_ties (shares_ties i ss types)))) same (lift_in (shares_ties i ss types) u share)))
+                  (subst (Contains (within 0 (dot_ties (shares_ties i ss types)))) same (tie_in (shares_ties i ss types) u share)))
               | inr more ↦ by_place u t same more
             ])
         | inr supply ↦ inl (Contains-append_right (within 0 (dot_ties (shares_ties i ss types))) (all_supply_ties types env ns) t supply)

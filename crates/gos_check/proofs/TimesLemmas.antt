@@ -1,30 +1,10 @@
 -- How often numbers are in lists, and what splits leave as it is.
-use Rattle.std.specs.Prelude.{◌≡◌, ◌≢◌, ℕ, ◌+◌, List, [], ◌∷◌, ◌++◌, Bool, true, false, nat_eq}
-use Rattle.std.proofs.Common.{arith, refl, sym, ap, ◌∙◌}
-use Rattle.std.proofs.lemmas.Bool.Decides.{nat_tests}
+use Rattle.std.specs.Prelude.{◌≡◌, ◌≢◌, ℕ, zero, suc, ◌+◌, ◌<◌, List, [], ◌∷◌, ◌++◌, Contains}
+use Rattle.std.proofs.Common.{arith, refl, sym, ap, subst, ◌∙◌}
+pub use Rattle.gos_model.proofs.NumberLemmas.{eq_true, eq_false, true_eq, false_ne, number_cases}
 use Rattle.gos_check.specs.declared.linear.Split.{Split}
 use Rattle.gos_check.specs.Nodes.{Meaning, inside_one, inside}
 use Rattle.gos_check.specs.Linearity.{times, split_in, sides}
-
-pub eq_true : (k n : ℕ) → k ≡ n → nat_eq k n ≡ true
-eq_true k n h = grind (arith, nat_tests)
-
-pub eq_false : (k n : ℕ) → k ≢ n → nat_eq k n ≡ false
-eq_false k n h = grind (arith, nat_tests)
-
-pub true_eq : (k n : ℕ) → nat_eq k n ≡ true → k ≡ n
-true_eq k n h = grind (arith, nat_tests)
-
-pub false_ne : (k n : ℕ) → nat_eq k n ≡ false → k ≢ n
-false_ne k n h = grind (arith, nat_tests)
-
--- two numbers are one, or they aren't
-pub number_cases : {P : Type 0} (k n : ℕ) → (k ≡ n → nat_eq k n ≡ true → P) → (k ≢ n → nat_eq k n ≡ false → P) → P
-number_cases {P} k n same other = tested (nat_eq k n) refl
-  where
-    tested : (b : Bool) → nat_eq k n ≡ b → P
-    tested true e = same (true_eq k n e) e
-    tested false e = other (false_ne k n e) e
 
 -- a number is once in front of what comes after it
 pub times_same : (n : ℕ) (ns : List ℕ) → times n (n ∷ ns) ≡ 1 + times n ns
@@ -38,6 +18,20 @@ pub times_none : (k n : ℕ) (ns : List ℕ) → times k (n ∷ ns) ≡ 0 → (k
 times_none k n ns h =
     number_cases n k (λ e t. let q : 1 + times k ns ≡ 0 = sym (rw t refl) ∙ h in absurd (omega (arith, q)))
     (λ other f. let q : 0 + times k ns ≡ 0 = sym (rw f refl) ∙ h in ((λ e. other (sym e)), omega (arith, q)))
+
+-- a number is in a list where it is there some times
+pub some_times : (n : ℕ) (ns : List ℕ) → Contains ns n → 0 < times n ns
+some_times n [] (k, lt, e) = absurd (omega (arith, lt))
+some_times n (m ∷ ms) (zero, lt, e) =
+    let same = subst (λ (r : ℕ). times r (m ∷ ms) ≡ 1 + times r ms) e (times_same m ms) in omega (arith, same)
+some_times n (m ∷ ms) (suc k, lt, e) = let rest = some_times n ms (k, omega (arith, lt), e) in omega (arith, rest)
+
+pub listed_times : (n : ℕ) (ns : List ℕ) → 0 < times n ns → Contains ns n
+listed_times n [] some = absurd (omega (arith, some))
+listed_times n (m ∷ ms) some =
+    number_cases m n
+    (λ e t. (0, omega arith, e))
+    (λ e t. let rest = times_other n m ms e in let (k, lt, is) = listed_times n ms (omega (arith, some, rest)) in (suc k, omega (arith, lt), is))
 
 pub times-append : (k : ℕ) (xs ys : List ℕ) → times k (xs ++ ys) ≡ times k xs + times k ys
 times-append k [] ys = omega arith

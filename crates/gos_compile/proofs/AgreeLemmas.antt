@@ -14,7 +14,7 @@ use Rattle.gos_check.specs.declared.linear.Split.{Split}
 use Rattle.gos_check.specs.Linearity.{times, sides, made}
 use Rattle.gos_check.specs.Nodes.{Numbered, Closed, Use, Under, One, Two, If, Meaning, below, shifted, inside, inside_one, HasTypes, bound_type}
 use Rattle.gos_compile.specs.Wiring.{Types, with_type, with_sides, with_types}
-use Rattle.gos_compile.proofs.KnownLemmas.{is_bound, UsesBound, sides_counted, side_bound, inside_bound}
+use Rattle.gos_compile.proofs.KnownLemmas.{is_bound, UsesBound, sides_counted, side_bound, inside_bound, shifted_bound}
 use Rattle.gos_compile.proofs.BoundLemmas.{SplitsBound, AllBound}
 
 -- both sides of splits have the type of what is split
@@ -151,10 +151,6 @@ before_inside ss env here later all once before parted k h =
     let whole = parted k in
     let few = once k in
     elim (bound_behind k env ss h) [ inl g ↦ (let none = before k g in omega (arith, none, whole)) | inr some ↦ omega (arith, few, some, whole) ]
-
-shifted_bound : (m : Term) → is_bound (shifted m) ≡ true → is_bound m ≡ true
-shifted_bound (terms.Bound i) h = refl
-shifted_bound m h = h
 
 before_below : (n : ℕ) (env : Meaning) (here later : List ℕ) → Once (n ∷ here) later → Before env (n ∷ here) later → Before (below n env) here later
 before_below n env here later once before k h =

@@ -18,7 +18,7 @@ use Rattle.gos_realises.specs.Regular.{count}
 use Rattle.gos_compile.proofs.KnownLemmas.{is_bound, UsesBound, lost, all_lost}
 
 -- a term is a variable, an import or a location
-abbrev is_name : Term → Bool
+abbrev pub is_name : Term → Bool
 is_name (terms.Bound i) = true
 is_name (terms.Import x) = true
 is_name (terms.Loc l) = true
@@ -37,7 +37,7 @@ shifted_name : (m : Term) → is_name m ≡ true → is_name (shifted m) ≡ tru
 shifted_name (terms.Bound n) h = refl
 shifted_name m h = h
 
-below_names : (n : ℕ) (env : Meaning) → AreNames env → AreNames (below n env)
+pub below_names : (n : ℕ) (env : Meaning) → AreNames env → AreNames (below n env)
 below_names n env names k = by (nat_eq k n)
   where
     by : (b : Bool) → is_name (if b then terms.Bound 0 else shifted (env k)) ≡ true
@@ -51,7 +51,7 @@ one_names s env names k = by (nat_eq k s.left || nat_eq k s.right)
     by true = names s.of
     by false = names k
 
-inside_names : (ss : List Split) (env : Meaning) → AreNames env → AreNames (inside ss env)
+pub inside_names : (ss : List Split) (env : Meaning) → AreNames env → AreNames (inside ss env)
 inside_names [] env names = names
 inside_names (s ∷ ss) env names = inside_names ss (inside_one s env) (one_names s env names)
 

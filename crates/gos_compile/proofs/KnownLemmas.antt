@@ -8,6 +8,7 @@ use Rattle.gos_model.specs.Terms as terms
 use Rattle.gos_model.specs.Terms.{Term}
 use Rattle.gos_model.specs.Typing.{Imports}
 use Rattle.gos_model.specs.Moves.{Program}
+use Rattle.gos_model.proofs.NumberLemmas.{either}
 use Rattle.gos_check.proofs.TimesLemmas.{number_cases, eq_true, times_same, times-append, split_in-append, sides-append}
 use Rattle.gos_check.specs.declared.linear.Split.{Split}
 use Rattle.gos_check.specs.Linearity.{times, split_in, sides, used, made, all_sides, import_at, StandsFor}
@@ -161,12 +162,7 @@ from_split : (k : ℕ) (env : Meaning) (ss : List Split) (x : ℕ) → 0 < times
     → (is_bound (env k) ≡ true) ⊎ (0 < times k (sides (kept env ss)) + x)
 from_split k env ss x h = elim (split_bound k env ss h) [ inl g ↦ inl g | inr more ↦ inr (omega (arith, more)) ]
 
--- one of two numbers isn't 0
-either : (a b : ℕ) → 0 < a + b → (0 < a) ⊎ (0 < b)
-either zero b h = inr (omega (arith, h))
-either (suc a) b h = inl (omega arith)
-
-shifted_bound : (m : Term) → is_bound (shifted m) ≡ true → is_bound m ≡ true
+pub shifted_bound : (m : Term) → is_bound (shifted m) ≡ true → is_bound m ≡ true
 shifted_bound (terms.Bound i) h = refl
 shifted_bound m h = h
 

@@ -9,8 +9,8 @@ pub mod ThinLemmas
 mod RangeLemmas
 mod SmallPlanLemmas
 mod KnownLemmas
-mod BoundLemmas
-mod AgreeLemmas
+pub mod BoundLemmas
+pub mod AgreeLemmas
 mod LoadLemmas
 mod TypedLemmas
 mod EndLemmas

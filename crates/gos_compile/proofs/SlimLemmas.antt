@@ -6,7 +6,7 @@ use Rattle.std.proofs.Common.{refl, ap, sym, ◌∙◌, arith, length-append}
 use Rattle.std.proofs.lemmas.List.{length-map}
 use Rattle.std.proofs.lemmas.List.Elements.{All-nil, All-cons}
 use Rattle.std.proofs.lemmas.List.Sums.{sum_by-cons}
-use Rattle.gos_types.specs.Types.{Type', Com, Exp, Var, Pair, Fun, type_of}
+use Rattle.gos_types.specs.Types.{Type', type_of}
 use Rattle.gos_syntax.specs.Modules.{SeenImport}
 use Rattle.gos_model.specs.Typing.{Imported, Imports}
 use Rattle.gos_model.specs.Weight as weights
@@ -20,22 +20,15 @@ use Rattle.gos_plan.specs.Kinds.{Part, part_contacts, contacts_of, other_side}
 use Rattle.gos_plan.specs.Plans.{Plan}
 use Rattle.gos_realises.specs.Regular.{count}
 use Rattle.gos_realises.specs.Slim.{all_shakes, IsSlim}
+use Rattle.gos_realises.proofs.CountLemmas.{some_shake}
 use Rattle.gos_compile.specs.Wiring.{type_of_node, all_parts, IsPlanOf}
 use Rattle.gos_compile.specs.inner.Loads.{HasFewShakes}
 use Rattle.gos_compile.proofs.BoundLemmas.{same_count}
 use Rattle.gos_compile.proofs.EndLemmas.{imports_shakes, few_joints}
 use Rattle.gos_compile.proofs.LoadLemmas.{few_ends}
 use Rattle.gos_compile.proofs.RangeLemmas.{node_typed}
-use Rattle.gos_compile.proofs.RowLemmas.{count_pair, count_fun}
 
 -- each import has a handshake, which is in the weight
-some_shake : (t : Type') → 1 ≤ count t
-some_shake Com = omega arith
-some_shake (Exp w) = omega arith
-some_shake (Var w) = omega arith
-some_shake (Pair a b) = let one = some_shake a in let all = count_pair a b in omega (arith, one, all)
-some_shake (Fun a b) = let one = some_shake a in let all = count_fun a b in omega (arith, one, all)
-
 pub imports_weigh : (is : Imports) → (length is ≤ imports_shakes is) × (imports_shakes is ≡ sum_by (λ (x : Imported). weights.count x.ty) is)
 imports_weigh [] = (omega arith, refl)
 imports_weigh (i ∷ is) =

@@ -17,9 +17,9 @@ use Rattle.gos_types.specs.Widths.{HasWidths}
 use Rattle.gos_plan.specs.ObjectText.{number_text, type_text, bits_text, body_text, word_text, word_of, operands_text, part_text, import_text, end_text, joint_text, section_text, imports_text, parts_text, joints_text, text_of, IsNumber, IsWritablePart, IsWritableImport, IsWritableEnd, IsWritableJoint, IsWritable, IsSmallType, IsSmallPlan}
 use Rattle.gos_realises.specs.Regular.{count}
 use Rattle.gos_realises.specs.Slim.{all_shakes, IsSlim}
+use Rattle.gos_realises.proofs.CountLemmas.{count_pair, count_fun}
 use Rattle.gos_compile.proofs.BoundLemmas.{same_count}
 use Rattle.gos_compile.proofs.LoadLemmas.{share_shakes}
-use Rattle.gos_compile.proofs.RowLemmas.{count_pair, count_fun}
 
 -- numbers
 number_length : (e k n : ℕ) → 0 < k → n < 10 ^ k → n < 2 ^ 64 → length (number_text e n) ≤ k + 1

@@ -65,11 +65,11 @@ span_past k i (suc n) low =
     rw other (omega (arith, rest))
 
 -- the parts of a term
-shares_length : (ss : List Split) (types : Types) → length (shares ss types) ≡ length ss
+pub shares_length : (ss : List Split) (types : Types) → length (shares ss types) ≡ length ss
 shares_length [] types = refl
 shares_length (s ∷ ss) types = ap (λ (n : ℕ). suc n) (shares_length ss types)
 
-closed_length : (c : Term) → length (closed_part c) ≡ 1
+pub closed_length : (c : Term) → length (closed_part c) ≡ 1
 closed_length (terms.Lit k w) = refl
 closed_length c = refl
 

@@ -1,28 +1,8 @@
 -- What a store has at a location after each change of it.
-use Rattle.std.specs.Prelude.{◌≡◌, ◌≢◌, ℕ, Bool, true, false, [], ◌∷◌, Option, Some, None, nat_eq, if◌then◌else◌}
-use Rattle.std.proofs.Common.{arith, refl, sym, ap, ◌∙◌}
-use Rattle.std.proofs.lemmas.Bool.Decides.{nat_tests}
+use Rattle.std.specs.Prelude.{◌≡◌, ◌≢◌, ℕ, [], ◌∷◌, Option, Some, None, nat_eq, if◌then◌else◌}
+use Rattle.std.proofs.Common.{refl, sym, ap, ◌∙◌}
 use Rattle.gos_model.specs.Stores.{Entry, Store, entry_at, store_put, without}
-
-pub eq_true : (k n : ℕ) → k ≡ n → nat_eq k n ≡ true
-eq_true k n h = grind (arith, nat_tests)
-
-pub eq_false : (k n : ℕ) → k ≢ n → nat_eq k n ≡ false
-eq_false k n h = grind (arith, nat_tests)
-
-pub true_eq : (k n : ℕ) → nat_eq k n ≡ true → k ≡ n
-true_eq k n h = grind (arith, nat_tests)
-
-pub false_ne : (k n : ℕ) → nat_eq k n ≡ false → k ≢ n
-false_ne k n h = grind (arith, nat_tests)
-
--- two numbers are one, or they aren't
-pub number_cases : {P : Type 0} (k n : ℕ) → (k ≡ n → nat_eq k n ≡ true → P) → (k ≢ n → nat_eq k n ≡ false → P) → P
-number_cases {P} k n same other = tested (nat_eq k n) refl
-  where
-    tested : (b : Bool) → nat_eq k n ≡ b → P
-    tested true e = same (true_eq k n e) e
-    tested false e = other (false_ne k n e) e
+pub use Rattle.gos_model.proofs.NumberLemmas.{eq_true, eq_false, true_eq, false_ne, number_cases}
 
 -- nothing and something differ
 pub not_both : (o : Option Entry) (e : Entry) → o ≡ None → o ≡ Some e → ⊥

@@ -8,9 +8,11 @@ use Rattle.gos_types.specs.Types.{Type', Com, Exp, Var, Pair, Fun, IsDone}
 use Rattle.gos_check.specs.declared.linear.Split.{Split}
 use Rattle.gos_check.specs.Nodes.{Numbered}
 use Rattle.gos_check.specs.Linearity.{times}
+use Rattle.gos_check.proofs.TimesLemmas.{some_times}
 use Rattle.gos_plan.specs.Kinds.{Contact, Part, Share, contacts_of, other_side, part_contacts}
 use Rattle.gos_plan.specs.Plans.{End, PartEnd, ImportEnd, ResultEnd, Plan, contacts_of_part, contact_at}
 use Rattle.gos_realises.specs.Regular.{count}
+use Rattle.gos_realises.proofs.CountLemmas.{some_shake}
 use Rattle.gos_webs.specs.Webs.{Dot, Of, Within, Tie}
 use Rattle.gos_sessions.specs.Sessions.{Form, own_part, run_shake}
 use Rattle.gos_compile.specs.Wiring.{Types, shares, parts_of}
@@ -22,15 +24,14 @@ use Rattle.gos_stages.specs.Housing.{IsOutsider, IsThere}
 use Rattle.gos_stages.specs.Folding.{Child, is_used, lodge, spot_dot, child_back, child_cut, part_of_dot, IsChild}
 use Rattle.gos_stages.specs.Nodes.{Cared, AreCovering}
 use Rattle.gos_stages.proofs.HousingLemmas.{homes_are_there}
-use Rattle.gos_stages.proofs.ChildBackLemmas.{some_times}
 use Rattle.gos_stages.proofs.ServedLemmas.{servings_serve}
 use Rattle.gos_stages.proofs.ChildPartLemmas.{low, no_more_than, plain_source, own_source_back}
-use Rattle.gos_stages.proofs.ContactLemmas.{turned_some, part_there, import_there, some_shake, share_ground, shares_length}
+use Rattle.gos_stages.proofs.ContactLemmas.{turned_some, part_there, import_there, shares_length}
 use Rattle.gos_stages.proofs.CoverLemmas.{live_is_covered, own_is_covered}
+use Rattle.gos_stages.proofs.SideLemmas.{served_side, AreUsed, AreOld, all_live, all_serve}
 use Rattle.gos_forks.specs.Forks.{Branch, IsFork, AreBranches, BranchIsChild, branch_parts, branch_child}
 use Rattle.gos_covers.specs.Covers.{AreBranchChildren, BranchesCover}
 use Rattle.gos_covers.proofs.BranchLemmas.{Standing, IsOfFork, some_standing, standing_at, standing_used, of_fork, child_of}
-use Rattle.gos_covers.proofs.SideLemmas.{served_side, AreUsed, AreOld, all_live, all_serve}
 
 of_spot : (a : Option Spot) (x : Dot) → spot_dot a ≡ Some x → (z : Spot) × (a ≡ Some z)
 of_spot None x e = absurd (no_more_than x e)
@@ -219,8 +220,7 @@ module _ (f : Form) (types : Types) (i j : ℕ) (m : Numbered) (ss : List Split)
       let size = shares_length types ss in
       let below : k < length ss = omega (arith, lt, size) in
       let contacts : length (part_contacts y) ≡ count t + (count t + count t) = ap (λ (x : Part). length (part_contacts x)) is ∙ share_contacts t in
-      let one = its_child (some_standing bs some) in
-      let many = some_shake t (share_ground types ss ns k t one.agree one.split supplied.ground share) in
+      let many = some_shake t in
       housed_all q y (Own k) at from below below (λ h less. share_housed k h t share (omega (arith, less, contacts)))
       (share_housed k 0 t share (omega (arith, many)))
 

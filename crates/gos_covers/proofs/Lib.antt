@@ -1,4 +1,3 @@
 pub mod BranchLemmas
-pub mod SideLemmas
 pub mod EndLemmas
 mod SmallLemmas

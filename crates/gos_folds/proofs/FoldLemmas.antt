@@ -9,9 +9,9 @@ use Rattle.gos_plan.specs.Plans.{End, PartEnd, ImportEnd, ResultEnd, Plan, conta
 use Rattle.gos_webs.specs.Webs.{Dot, Tie, tie, Web, Meet, Way, here, along, Connects, joint}
 use Rattle.gos_webs.specs.Cutting.{lies_at, IsOutside}
 use Rattle.gos_webs.proofs.CutLemmas.{name_by, name_of, outside_name, part_at, port_lies}
+use Rattle.gos_webs.proofs.WayLemmas.{way_then, way_back, mapped_way}
 use Rattle.gos_windows.specs.Regions.{Serving}
 use Rattle.gos_folds.specs.Folds.{Fold, Follows, IsFolded, IsSpare, IsFold}
-use Rattle.gos_folds.proofs.WayLemmas.{joined_way, turned_way, mapped_way}
 
 abbrev by_role : Role → Bool
 by_role Serve = false
@@ -43,7 +43,7 @@ back_there : (ts : List Tie) (o p : Option Dot) (y : Dot) → Follows ts o p →
 back_there ts o None y h e = absurd (none-some y e)
 back_there ts None (Some d) y h e = absurd h
 back_there ts (Some x) (Some d) y h e =
-    record { to = x; stands = refl; way = turned_way ts x y (subst (λ (z : Dot). Way ts x z) (same_Some d y e) h) }
+    record { to = x; stands = refl; way = way_back ts x y (subst (λ (z : Dot). Way ts x z) (same_Some d y e) h) }
 
 module _
     (f : Fold) (ss : List Serving) (w v : Web) (r c : Plan) (is : IsFold f ss w v r c) where
@@ -61,7 +61,7 @@ module _
   lifted a b (along d m z meets way) x e =
       let first = meets_there d m x e meets in
       let rest = lifted m z way first.to first.stands in
-      record { to = rest.to; stands = rest.stands; way = joined_way v.ties x first.to rest.to first.way rest.way }
+      record { to = rest.to; stands = rest.stands; way = way_then v.ties x first.to rest.to first.way rest.way }
 
   -- ends of the region have their handshakes in the whole, and their names
   pub laid_contact : (e : End) (k : Contact) → contact_at c e ≡ Some k → contact_at r (lies_at f.cut e) ≡ Some k
@@ -138,7 +138,7 @@ module _
       → Way w.ties (w.at (lies_at f.cut a)) (w.at (lies_at f.cut b))
   laid_ends a b k l at_a at_b differ way =
       let one = is_folded a b k l at_a at_b differ way in
-      let other = is_folded b a l k at_b at_a (λ same. differ (sym same)) (turned_way v.ties (v.at a) (v.at b) way) in
+      let other = is_folded b a l k at_b at_a (λ same. differ (sym same)) (way_back v.ties (v.at a) (v.at b) way) in
       subst (λ (x : Dot). Way w.ties x (w.at (lies_at f.cut b))) one.0
       (subst (λ (y : Dot). Way w.ties (f.dot (v.at a)) y) other.0 (laid_way (v.at a) (v.at b) way))
 
@@ -186,5 +186,5 @@ module _
   lifted_joint a b has x (inl stands) = lift_from a b ((is.whole.joints a b).0 has) x stands
   lifted_joint a b has x (inr stands) =
       let (q, m, asked, served, way) = (is.whole.joints a b).0 has in
-      let near = lifted (w.at b) (w.at a) (turned_way w.ties (w.at a) (w.at b) way) x stands in
+      let near = lifted (w.at b) (w.at a) (way_back w.ties (w.at a) (w.at b) way) x stands in
       lift_from a b (q, m, asked, served, way) near.to near.stands

@@ -4,11 +4,11 @@ use Rattle.std.proofs.Common.{subst, arith, inl, refl}
 use Rattle.gos_plan.specs.Plans.{PartEnd, ImportEnd, ResultEnd}
 use Rattle.gos_webs.specs.Webs.{Dot, Of, Number, Node, Within, Tie, tie, Way, here, along, IsOfWeb, SameWays, own_web}
 use Rattle.gos_webs.proofs.WebLemmas.{right_is_of_its_web, same_ways}
+use Rattle.gos_webs.proofs.WayLemmas.{mapped_way}
 use Rattle.gos_windows.specs.SmallNodes.{calls_plan, call_plan}
 use Rattle.gos_windows.proofs.SmallRegionLemmas.{call_is_region}
 use Rattle.gos_folds.specs.Folds.{Follows}
 use Rattle.gos_folds.specs.SmallFolds.{call_dot, numbered_web, numbered_back, NumberedIsFold, UnnumberedIsNone}
-use Rattle.gos_folds.proofs.WayLemmas.{mapped_way}
 use Rattle.gos_folds.proofs.SmallFoldLemmas.{its_ports, its_others, its_ends, its_comes}
 
 -- one tie is a way

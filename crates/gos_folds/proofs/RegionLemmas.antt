@@ -11,10 +11,10 @@ use Rattle.gos_webs.specs.Webs.{Dot, Web, Connects, joint, IsOfWeb}
 use Rattle.gos_webs.specs.Cutting.{lies_at, IsInside, StandsIn}
 use Rattle.gos_webs.proofs.MovedLemmas.{listed}
 use Rattle.gos_webs.proofs.CutLemmas.{which_end}
+use Rattle.gos_webs.proofs.WayLemmas.{way_back}
 use Rattle.gos_sharing.specs.Sharing.{caller_end}
 use Rattle.gos_windows.specs.Regions.{Serving, IsOther, IsRegion}
 use Rattle.gos_folds.specs.Folds.{Fold, IsFolded, IsAlone, IsSpare, IsFold, is_port, port_if, joined_cut, FoldedIsRegion, FoldedJoint}
-use Rattle.gos_folds.proofs.WayLemmas.{turned_way}
 use Rattle.gos_folds.proofs.FoldLemmas as folds
 
 -- an end stands in one of these joints, or in none
@@ -96,7 +96,7 @@ module _
   alone_of e j alone has (inr serves_there) =
       let con = (web.joints j.asking j.serving).0 has in
       let here : IsAlone v c j.serving = subst (λ (x : End). IsAlone v c x) serves_there alone in
-      folds.connects_two v c j.asking j.serving con (here j.asking (asks con.0 con.1) con.2 (turned_way v.ties (v.at j.asking) (v.at j.serving) con.4))
+      folds.connects_two v c j.asking j.serving con (here j.asking (asks con.0 con.1) con.2 (way_back v.ties (v.at j.asking) (v.at j.serving) con.4))
 
   alone_free : (e : End) → IsAlone v c e → StandsIn c e → ⊥
   alone_free e alone (j, has, stands) = alone_of e j alone has (which_end e j stands)

@@ -5,7 +5,7 @@ use Rattle.std.proofs.lemmas.List.{length-append}
 use Rattle.std.proofs.lemmas.List.Elements.{Contains-append_left, Contains-append_right, Contains-append_cases}
 use Rattle.gos_check.specs.Nodes.{Numbered}
 use Rattle.gos_check.specs.Linearity.{times, used, made}
-use Rattle.gos_check.proofs.TimesLemmas.{times-append}
+use Rattle.gos_check.proofs.TimesLemmas.{times-append, some_times}
 use Rattle.gos_ties.specs.declared.points.Place.{Place}
 use Rattle.gos_ties.specs.declared.points.Place.TheVariants as places
 use Rattle.gos_ties.specs.declared.points.Point.{Point}
@@ -17,7 +17,6 @@ use Rattle.gos_stages.specs.Leading.{at_place, leading}
 use Rattle.gos_stages.specs.Ranges.{IsWithin}
 use Rattle.gos_stages.proofs.RangeLemmas.{ties_stay_within}
 use Rattle.gos_stages.proofs.FollowLemmas.{result_leads}
-use Rattle.gos_stages.proofs.ChildBackLemmas.{some_times}
 use Rattle.gos_forks.specs.Forks.{Branch, branch_parts, branch_nodes, branch_made, branch_uses, branch_ties}
 
 -- a branch's ties, with other names for its numbers

@@ -4,7 +4,6 @@ use Rattle.std.proofs.Common.{◌≡◌, ℕ, suc, Bool, true, false, List, ◌�
 use Rattle.std.proofs.lemmas.Bool.Decides.{nat_tests}
 use Rattle.std.proofs.lemmas.List.{length-append}
 use Rattle.std.proofs.lemmas.List.Elements.{Contains-append_left, Contains-append_right, Contains-append_cases}
-use Rattle.gos_types.specs.Types.{Type', Com, Exp, Var, Pair, Fun, IsDone}
 use Rattle.gos_check.specs.declared.linear.Split.{Split}
 use Rattle.gos_check.specs.Nodes.{Numbered, type_of_node}
 use Rattle.gos_check.specs.Linearity.{times, made}
@@ -16,9 +15,9 @@ use Rattle.gos_ties.specs.declared.points.Place.{Place}
 use Rattle.gos_ties.specs.declared.points.Place.TheVariants as places
 use Rattle.gos_ties.specs.declared.points.Point.{Point}
 use Rattle.gos_ties.specs.declared.points.Tie as point_ties
+use Rattle.gos_realises.proofs.CountLemmas.{done_count}
 use Rattle.gos_webs.specs.Webs.{Dot, Of, Number, Node, Within, Tie}
 use Rattle.gos_unions.specs.Unions.{within}
-use Rattle.gos_unions.proofs.UnionLemmas.{of_image, in_image}
 use Rattle.gos_compile.specs.Wiring.{Types, row, led, parts_of, nodes, ties_of, shares_ties}
 use Rattle.gos_wired.specs.Wired.{Supplies, dot_of_place, dot_ties, all_supply_ties, wired_ties}
 use Rattle.gos_stages.specs.Inside.{AreGroundSupplies}
@@ -26,7 +25,7 @@ use Rattle.gos_stages.specs.Lodging.{spot_if, AreTidy}
 use Rattle.gos_stages.specs.Folding.{Child, is_used, lodge, child_out, in_range, spot_dot, asks_child, is_number, child_back, shared_ties, own_ties, IsForeign, IsChild}
 use Rattle.gos_stages.proofs.LodgingLemmas.{lifted, led_listed, numbers_are_held}
 use Rattle.gos_stages.proofs.HousingLemmas.{far_is_nothing}
-use Rattle.gos_stages.proofs.ChildTieLemmas.{dot_tie, put_in}
+use Rattle.gos_stages.proofs.ChildTieLemmas.{tie_of, tie_in}
 use Rattle.gos_stages.proofs.ChildBackLemmas.{range_below}
 use Rattle.gos_stages.proofs.ImportHomeLemmas.{result_is_nowhere}
 use Rattle.gos_numbers.specs.Inherited.{IsPart}
@@ -44,25 +43,8 @@ range_past a n k le = ap (λ (t : Bool). not (nat_lt k a) && t) (high k (a + n) 
     never true = refl
     never false = refl
 
-one_shake : (t : Type') → IsDone t → count t ≡ 1
-one_shake Com done = refl
-one_shake (Exp w) done = refl
-one_shake (Var w) done = absurd done
-one_shake (Pair a b) done = absurd done
-one_shake (Fun a b) done = absurd done
-
 pub amid : (before after : List Branch) (b : Branch) → Contains (before ++ b ∷ after) b
 amid before after b = Contains-append_right before (b ∷ after) b (0, omega arith, refl)
-
--- ties within a web
-tie_of : (us : List point_ties.Tie) (t : Tie) → Contains (within 0 (dot_ties us)) t → (u : point_ties.Tie) × Contains us u × (lifted u ≡ t)
-tie_of us t has =
-    let (v, there, at_v) = of_image (put_in 0) (dot_ties us) t has in
-    let (u, listed, at_u) = of_image dot_tie us v there in
-    (u, listed, ap (put_in 0) at_u ∙ at_v)
-
-tie_in : (us : List point_ties.Tie) (u : point_ties.Tie) → Contains us u → Contains (within 0 (dot_ties us)) (lifted u)
-tie_in us u has = in_image (put_in 0) (dot_ties us) (dot_tie u) (in_image dot_tie us u has)
 
 -- What stands for nothing of a branch.
 module _ (types : Types) (i j : ℕ) (ss : List Split) (env : Supplies) (ns : List ℕ) (before : List Branch) (b : Branch) where
@@ -296,7 +278,7 @@ module _ (types : Types) (i j : ℕ) (m : Numbered) (ss : List Split) (own : Par
         has_shared = has_shared;
         has_own = has_own;
         only = only;
-        one = one_shake (type_of_node b.term) (fork.done b (amid before after b));
+        one = done_count (type_of_node b.term) (fork.done b (amid before after b));
       }
 
 pub branch_is_child : BranchIsChild

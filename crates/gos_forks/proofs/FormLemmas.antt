@@ -2,7 +2,7 @@
 use Rattle.std.specs.Prelude.{◌+◌, length, slice_get, Contains}
 use Rattle.std.proofs.Common.{◌≡◌, ℕ, zero, suc, List, [], ◌∷◌, ◌++◌, Some, refl, sym, ◌∙◌, ap, subst, arith}
 use Rattle.std.proofs.lemmas.List.{append-nil}
-use Rattle.gos_types.specs.Types.{Type', Com, Exp, Var, Pair, Fun, IsDone}
+use Rattle.gos_types.specs.Types.{Type', Com, Exp, IsDone}
 use Rattle.gos_check.specs.Nodes.{Numbered, type_of_node}
 use Rattle.gos_plan.specs.Kinds as kinds
 use Rattle.gos_plan.specs.Kinds.{Contact, Part, asks, contacts_of}
@@ -13,6 +13,7 @@ use Rattle.gos_ties.specs.Ties.{point}
 use Rattle.gos_compile.specs.Wiring.{answer_bits, led, shares, shares_ties, parts_of, ties_of, nodes}
 use Rattle.gos_forks.specs.Forks.{Branch}
 use Rattle.gos_forks.specs.Forms.{branch, SequenceIsFork, ChoiceIsFork, LoopIsFork, OperatorIsFork, ComplementIsFork}
+use Rattle.gos_frames.proofs.BodyLemmas.{done_contact}
 
 -- a branch of a command or an expression, and the handshake at which it is asked
 record IsAskedAt (c : Contact) (m : Numbered) : Type 0 where
@@ -29,14 +30,6 @@ asked_at : (v : ℕ) (t : Type') (m : Numbered) → IsDone t → type_of_node m 
 asked_at v t m done at_m at_v =
     record { done = subst IsDone (sym at_m) done; asked = ap (asks 0) (at_v ∙ ap answer_bits (sym at_m)) }
 
--- what the other side of such a type asks
-asked_contact : (t : Type') → IsDone t → turned_if (slice_get (contacts_of t) 0) ≡ Some (asks 0 (answer_bits t))
-asked_contact Com done = refl
-asked_contact (Exp w) done = refl
-asked_contact (Var w) done = absurd done
-asked_contact (Pair a b) done = absurd done
-asked_contact (Fun a b) done = absurd done
-
 all_done : (cs : List Contact) (bs : List Branch) → AreAskedAt cs bs → (b : Branch) → Contains bs b → IsDone (type_of_node b.term)
 all_done cs [] are b (k, lt, e) = absurd (omega (arith, lt))
 all_done [] (a ∷ bs) are b there = absurd are
@@ -46,7 +39,7 @@ all_done (c ∷ cs) (a ∷ bs) (it, are) b (suc k, lt, e) = all_done cs bs are b
 all_asked : (cs : List Contact) (before after : List Branch) (b : Branch) (k : Contact) → AreAskedAt cs (before ++ b ∷ after)
     → turned_if (slice_get (contacts_of (type_of_node b.term)) 0) ≡ Some k → slice_get cs (length before) ≡ Some k
 all_asked [] [] after b k are at = absurd are
-all_asked (c ∷ cs) [] after b k (it, are) at = ap Some it.asked ∙ (sym (asked_contact (type_of_node b.term) it.done) ∙ at)
+all_asked (c ∷ cs) [] after b k (it, are) at = ap Some it.asked ∙ (sym (done_contact (type_of_node b.term) it.done) ∙ at)
 all_asked [] (a ∷ before) after b k are at = absurd are
 all_asked (c ∷ cs) (a ∷ before) after b k (it, are) at = all_asked cs before after b k are at
 

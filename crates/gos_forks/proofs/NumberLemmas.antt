@@ -1,18 +1,14 @@
 -- The numbers of other branches: a branch doesn't use them or make them, and the node doesn't split them.
-use Rattle.std.specs.Prelude.{◌+◌, ◌<◌, ◌≤◌, ◌⊎◌, Contains}
-use Rattle.std.proofs.Common.{◌≡◌, ℕ, zero, suc, List, [], ◌∷◌, ◌++◌, inl, inr, refl, subst, arith}
+use Rattle.std.specs.Prelude.{◌+◌, ◌<◌, ◌≤◌, Contains}
+use Rattle.std.proofs.Common.{◌≡◌, ℕ, suc, List, [], ◌∷◌, ◌++◌, inl, inr, refl, subst, arith}
+use Rattle.gos_model.proofs.NumberLemmas.{either}
 use Rattle.gos_check.specs.declared.linear.Split.{Split}
 use Rattle.gos_check.specs.Linearity.{times, split_in, sides, made}
-use Rattle.gos_check.proofs.TimesLemmas.{number_cases, times_other, times-append}
+use Rattle.gos_check.proofs.TimesLemmas.{number_cases, times_other, times-append, some_times, listed_times}
 use Rattle.gos_compile.specs.Wiring.{Types}
 use Rattle.gos_stages.specs.Inside.{numbers_inside, AreSplit}
-use Rattle.gos_stages.proofs.ChildBackLemmas.{some_times, listed_times}
 use Rattle.gos_numbers.specs.Inherited.{IsPart}
 use Rattle.gos_forks.specs.Forks.{Branch, branch_made, branch_uses, AreBranches}
-
-either : (a b : ℕ) → 0 < a + b → (0 < a) ⊎ (0 < b)
-either zero b h = inr (omega (arith, h))
-either (suc a) b h = inl (omega arith)
 
 -- in all branches
 pub all_made : (before after : List Branch) (b : Branch) (k : ℕ)

@@ -4,8 +4,6 @@ use Rattle.std.proofs.Common.{refl, sym, ◌∙◌, ap, subst, arith, inl, inr}
 use Rattle.std.proofs.lemmas.Option.{none-some, same_Some}
 use Rattle.std.proofs.lemmas.List.Elements.{Contains-append_left, Contains-append_cases}
 use Rattle.gos_types.specs.Types.{Type', Com, Exp, Var, Pair, Fun, IsDone}
-use Rattle.gos_types.specs.declared.shakes.Role as roles
-use Rattle.gos_types.specs.declared.shakes.Role.TheVariants as sides
 use Rattle.gos_model.specs.Terms.{Name}
 use Rattle.gos_model.specs.Typing.{Imported}
 use Rattle.gos_sessions.specs.Sessions.{bits}
@@ -19,6 +17,7 @@ use Rattle.gos_plan.proofs.JointLemmas.{one_joint, contained}
 use Rattle.gos_realises.specs.Regular.{count}
 use Rattle.gos_realises.specs.Modules.{Supply}
 use Rattle.gos_realises.proofs.ToldLemmas.{there_is}
+use Rattle.gos_realises.proofs.PlaceLemmas.{place_of, contains_at}
 use Rattle.gos_webs.specs.Webs.{Dot, Of, Number, Within, Tie, tie, Way, here, along, joint, own_web}
 use Rattle.gos_webs.specs.Cutting.{Cut, IsOutside, StandsIn}
 use Rattle.gos_webs.proofs.CutLemmas.{part_at}
@@ -43,9 +42,10 @@ use Rattle.gos_frames.proofs.ChildLemmas.{Sitting, child_parts, child_placing, c
 use Rattle.gos_frames.proofs.ChildLemmas as children
 use Rattle.gos_frames.proofs.FoldLemmas.{HasPlan, has_plan}
 use Rattle.gos_frames.proofs.CutLemmas.{region_is_cut}
-use Rattle.gos_frames.proofs.RegionLemmas.{listed_at, at_listed, lies_joined, IsIn, in_number, in_back}
+use Rattle.gos_frames.proofs.RegionLemmas.{lies_joined, IsIn, in_number, in_back}
 use Rattle.gos_frames.proofs.BodyLemmas as bodies
 use Rattle.gos_frames.proofs.BodyLemmas.{block_port, block_port_end, done_contact, done_only, variable_contact}
+use Rattle.gos_frames.proofs.ParallelLemmas.{serves_not}
 
 pub same_bits : (t : Type') → IsDone t → answer_bits t ≡ bits t
 same_bits Com done = refl
@@ -53,18 +53,6 @@ same_bits (Exp w) done = refl
 same_bits (Var w) done = absurd done
 same_bits (Pair a b) done = absurd done
 same_bits (Fun a b) done = absurd done
-
-abbrev by_role : roles.Role → Bool
-by_role sides.Serve = false
-by_role sides.Ask = true
-
-serves_not : (q v c d : ℕ) → Some (serves q v) ≡ Some (asks c d) → ⊥
-serves_not q v c d e =
-    let one : serves q v ≡ asks c d = same_Some (serves q v) (asks c d) e in
-    clash (ap (λ (x : Contact). by_role x.role) one)
-  where
-    clash : by_role (serves q v).role ≡ by_role (asks c d).role → ⊥
-    clash e = let bad : false ≡ true = e in cc bad
 
 module _
     (types : Types) (i j w n : ℕ) (t : Type') (m : Numbered) (ns : List ℕ) (env : Supplies) (pl : Placing) (x : Name) (r : Plan)
@@ -378,11 +366,11 @@ module _
 
     its_others : (y : Imported) → Contains body.imports y → (y ≡ variable) ⊎ Contains r.imports y
     its_others y has =
-        let (a, at) = listed_at body.imports y has in by_case a (which_import a y at)
+        let (a, at) = place_of body.imports y has in by_case a (which_import a y at)
       where
         by_case : (a : ℕ) → ((place ≡ a) × (variable ≡ y)) ⊎ Other a y → (y ≡ variable) ⊎ Contains r.imports y
         by_case a (inl (same, is_y)) = inl (sym is_y)
-        by_case a (inr there) = inr (at_listed r.imports (pl.import (plc.origin a).number (plc.origin a).import) y there.at)
+        by_case a (inr there) = inr (contains_at r.imports (pl.import (plc.origin a).number (plc.origin a).import) y there.at)
 
     abbrev Joined : End → End → Type 0
     Joined a b = IsJointOf cut body a b ⊎ ((a ≡ ResultEnd 0) × (b ≡ PartEnd (pl.own 0) 3))

@@ -8,7 +8,7 @@ use Rattle.gos_model.specs.Terms.{Name, Import}
 use Rattle.gos_model.specs.Typing.{Imported}
 use Rattle.gos_check.specs.Nodes.{Numbered, Under, OfNew}
 use Rattle.gos_check.specs.Linearity.{times, made}
-use Rattle.gos_check.proofs.TimesLemmas.{eq_true, eq_false, false_ne, times-append, times_same}
+use Rattle.gos_check.proofs.TimesLemmas.{eq_true, eq_false, false_ne, times-append, times_same, some_times}
 use Rattle.gos_plan.specs.Kinds as kinds
 use Rattle.gos_plan.specs.Kinds.{Part, Contact, asks, serves, contacts_of, part_contacts}
 use Rattle.gos_plan.specs.Plans.{End, PartEnd, ImportEnd, ResultEnd, turned_if}
@@ -18,6 +18,7 @@ use Rattle.gos_ties.specs.declared.points.Place.TheVariants as places
 use Rattle.gos_ties.specs.declared.points.Tie as point_ties
 use Rattle.gos_ties.specs.Ties as paths
 use Rattle.gos_ties.specs.Ties.{point}
+use Rattle.gos_realises.proofs.CountLemmas.{done_count}
 use Rattle.gos_webs.specs.Webs.{Dot, Of, Number, Within, Tie, tie, Way, here, along, own_web}
 use Rattle.gos_unions.specs.Unions.{within}
 use Rattle.gos_unions.proofs.UnionLemmas.{of_image, in_image}
@@ -27,7 +28,7 @@ use Rattle.gos_compile.specs.Wiring.{Types, row, led, parts_of, type_of_node, ti
 use Rattle.gos_wired.specs.Wired.{Supplies, Placing, dot_of, dot_ties, result_ties, supply_ties, all_supply_ties}
 use Rattle.gos_wired.proofs.TieLemmas.{result_tie, in_results, in_supplies}
 use Rattle.gos_frames.specs.Blocks.{with_name, IsBound}
-use Rattle.gos_frames.proofs.NumberingLemmas.{times_some, numbering}
+use Rattle.gos_frames.proofs.NumberingLemmas.{numbering}
 use Rattle.gos_frames.proofs.FrameLemmas as frames
 use Rattle.gos_frames.proofs.FrameLemmas.{Frame, kept, known, size, out_of_range, kept_true, own_part, back, laid, laid_end, Comes, its_ties_there}
 use Rattle.gos_frames.proofs.FoldLemmas.{follows_none}
@@ -78,13 +79,6 @@ body_sitting types i j n m ns inner env whole pl =
     }
 
 -- the handshake of a command or an expression
-pub done_count : (t : Type') → IsDone t → count t ≡ 1
-done_count Com done = refl
-done_count (Exp w) done = refl
-done_count (Var w) done = absurd done
-done_count (Pair a b) done = absurd done
-done_count (Fun a b) done = absurd done
-
 pub done_contact : (t : Type') → IsDone t → turned_if (slice_get (contacts_of t) 0) ≡ Some (asks 0 (answer_bits t))
 done_contact Com done = refl
 done_contact (Exp w) done = refl
@@ -151,7 +145,7 @@ module _
   not_bound k has =
       eq_false k n
       (λ (same : k ≡ n).
-      let many = times_some ns k has in
+      let many = some_times k ns has in
       let one = once_in k in
       let last = times_same k [] in
       let more : times k (k ∷ []) ≡ times k (n ∷ []) = ap (λ (a : ℕ). times k (a ∷ [])) same in

@@ -4,7 +4,7 @@ use Rattle.std.proofs.Common.{refl, sym, ◌∙◌, ap, subst, arith, inl, inr}
 use Rattle.std.proofs.lemmas.Option.{none-some}
 use Rattle.gos_check.specs.Nodes.{Numbered}
 use Rattle.gos_check.specs.Linearity.{times, made, used}
-use Rattle.gos_check.proofs.TimesLemmas.{eq_true, eq_false}
+use Rattle.gos_check.proofs.TimesLemmas.{eq_true, eq_false, some_times, listed_times}
 use Rattle.gos_plan.specs.Plans.{End, PartEnd, ImportEnd, ResultEnd}
 use Rattle.gos_ties.specs.declared.points.Place.TheVariants as places
 use Rattle.gos_ties.specs.declared.points.Point.{Point}
@@ -20,7 +20,6 @@ use Rattle.gos_wired.proofs.TieLemmas.{of_results}
 use Rattle.gos_stages.specs.Leading.{dot_leading}
 use Rattle.gos_stages.proofs.FollowLemmas.{dots_lead}
 use Rattle.gos_frames.proofs.SpanLemmas.{EachPoint, Both, HoldsInside, spans, one_tie}
-use Rattle.gos_frames.proofs.NumberingLemmas.{times_some, some_times}
 
 -- A child: the numbers for which it has supplies, of which some are names that only it knows; its node has parts from `first`
 -- on, and it has its own `shift` later. What a handshake of the node's own part stands for; and where its handshakes lead.
@@ -155,17 +154,17 @@ lt_false a b h = grind (arith, h)
 
 pub kept_true : (f : Frame) (n : ℕ) → Contains f.numbers n → f.named n ≡ false → kept f n ≡ true
 kept_true f n has unnamed =
-    let many = times_some f.numbers n has in
+    let many = some_times n f.numbers has in
     both_true (is_in n f.numbers) (not (f.named n)) (lt_true 0 (times n f.numbers) (omega (arith, many))) (ap not unnamed)
 
 pub kept_is : (f : Frame) (n : ℕ) → kept f n ≡ true → Contains f.numbers n × (f.named n ≡ false)
 kept_is f n e =
     let one : nat_lt 0 (times n f.numbers) ≡ true = and_first (is_in n f.numbers) (not (f.named n)) e in
     let many : 1 ≤ times n f.numbers = grind (arith, one) in
-    (some_times f.numbers n many, not_true (f.named n) (and_second (is_in n f.numbers) (not (f.named n)) e))
+    (listed_times n f.numbers many, not_true (f.named n) (and_second (is_in n f.numbers) (not (f.named n)) e))
 
 pub known_of : (f : Frame) (n : ℕ) → Contains f.numbers n → known f n ≡ true
-known_of f n has = let many = times_some f.numbers n has in lt_true 0 (times n (made f.child) + times n f.numbers) (omega (arith, many))
+known_of f n has = let many = some_times n f.numbers has in lt_true 0 (times n (made f.child) + times n f.numbers) (omega (arith, many))
 
 -- a dot of a part of the node that isn't its own
 pub other_part : (f : Frame) (k h : ℕ) → k ≢ f.first

@@ -1,7 +1,6 @@
 -- In reading order: a file uses only files above it.
 pub mod SpanLemmas
 pub mod NumberingLemmas
-pub mod ScopedLemmas
 pub mod FrameLemmas
 pub mod ChildLemmas
 pub mod FoldLemmas

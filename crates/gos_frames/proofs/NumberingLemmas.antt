@@ -5,7 +5,7 @@ use Rattle.std.proofs.lemmas.Option.{none-some}
 use Rattle.gos_model.specs.Typing.{Imported}
 use Rattle.gos_plan.specs.Kinds.{Part}
 use Rattle.gos_check.specs.Linearity.{times}
-use Rattle.gos_check.proofs.TimesLemmas.{number_cases, eq_true, eq_false, times_same}
+use Rattle.gos_check.proofs.TimesLemmas.{number_cases, eq_true, eq_false, times_same, some_times}
 use Rattle.gos_joined.proofs.OriginLemmas.{front_at, behind_at}
 use Rattle.gos_unions.proofs.LeftLemmas.{front, behind}
 use Rattle.gos_wired.specs.Wired.{Supplies, Source, Own, Supplied, Origin, Placing, IsFrom, placed}
@@ -40,23 +40,6 @@ got_below (y ∷ xs) (suc k) x e = let h = got_below xs k x e in omega (arith, h
 pub contains_cons : (a : ℕ) (ns : List ℕ) (n : ℕ) → Contains (a ∷ ns) n → a ≢ n → Contains ns n
 contains_cons a ns n (zero, lt, e) other = absurd (other e)
 contains_cons a ns n (suc k, lt, e) other = (k, omega (arith, lt), e)
-
--- a number is in a list where it is there some times
-pub times_some : (ns : List ℕ) (n : ℕ) → Contains ns n → 1 ≤ times n ns
-times_some [] n (i, lt, e) = absurd (omega (arith, lt))
-times_some (a ∷ ns) n (zero, lt, e) =
-    let twice = times_same n ns in subst (λ m. 1 ≤ times n (m ∷ ns)) (sym e) (omega (arith, twice))
-times_some (a ∷ ns) n (suc i, lt, e) = let h = times_some ns n (i, omega (arith, lt), e) in omega (arith, h)
-
-pub some_times : (ns : List ℕ) (n : ℕ) → 1 ≤ times n ns → Contains ns n
-some_times [] n h = absurd (omega (arith, h))
-some_times (a ∷ ns) n h =
-    number_cases a n (λ same test. (0, omega arith, same))
-    (λ other test.
-    let more : 1 ≤ 0 + times n ns = subst (λ (b : Bool). 1 ≤ (if b then 1 else 0) + times n ns) test h in
-    let fewer : 1 ≤ times n ns = omega (arith, more) in
-    let there = some_times ns n (omega (arith, fewer)) in
-    (suc there.0, omega (arith, there.1), there.2))
 
 module _ {A : Type 0} (of : ℕ → List A) where
   abbrev len : ℕ → ℕ
@@ -100,7 +83,7 @@ module _ {A : Type 0} (of : ℕ → List A) where
       later large ((j, lt, same), is, at) =
           let o : Origin = item len ns (i - len a) in
           let n : ℕ = o.number in
-          let many : 1 ≤ times n ns = times_some ns n (j, lt, same) in
+          let many : 1 ≤ times n ns = some_times n ns (j, lt, same) in
           let differ : n ≢ a =
           λ (e : n ≡ a). let twice = times_same n ns in let one = once n in
           let over : times n (n ∷ ns) ≤ 1 = subst (λ m. times n (m ∷ ns) ≤ 1) (sym e) one in omega (arith, twice, over, many) in (

@@ -8,6 +8,7 @@ use Rattle.gos_types.specs.declared.shakes.Role.{Role}
 use Rattle.gos_types.specs.declared.shakes.Role.TheVariants.{Serve, Ask}
 use Rattle.gos_check.specs.Nodes.{Numbered, Two, OfPar}
 use Rattle.gos_check.specs.Linearity.{times}
+use Rattle.gos_check.proofs.TimesLemmas.{some_times, listed_times}
 use Rattle.gos_plan.specs.Kinds as kinds
 use Rattle.gos_plan.specs.Kinds.{Part, Contact, asks, serves, contacts_of, part_contacts}
 use Rattle.gos_plan.specs.Plans.{End, PartEnd, ImportEnd, ResultEnd, Joint, Plan, contacts_of_part, turned_if, contact_at}
@@ -15,6 +16,7 @@ use Rattle.gos_plan.proofs.JointLemmas.{one_joint, contained}
 use Rattle.gos_realises.specs.Regular.{count}
 use Rattle.gos_realises.specs.Realises.{NamesDiffer, HaveOtherNames}
 use Rattle.gos_realises.proofs.ToldLemmas.{there_is}
+use Rattle.gos_realises.proofs.PlaceLemmas.{place_of, differ_at}
 use Rattle.gos_ties.specs.declared.points.Place.TheVariants as places
 use Rattle.gos_ties.specs.declared.points.Point.{Point}
 use Rattle.gos_ties.specs.declared.points.Tie as point_ties
@@ -33,18 +35,18 @@ use Rattle.gos_compile.specs.Wiring.{Types, row, parts_of, nodes, type_of_node, 
 use Rattle.gos_wired.specs.Wired.{Supplies, Source, Own, Supplied, Placing, IsFrom, placed, source_dot, dot_of, dot_ties, all_supply_ties, IsWired}
 use Rattle.gos_wired.specs.Wired as origins
 use Rattle.gos_frames.specs.Frames.{AreParted, AreSides, ParallelIsWired}
-use Rattle.gos_frames.proofs.NumberingLemmas.{got_below, times_some, some_times}
+use Rattle.gos_frames.proofs.NumberingLemmas.{got_below}
 use Rattle.gos_frames.proofs.FrameLemmas.{Frame, kept, in_range_true, in_range_is, itself_true, kept_true, kept_is, own_part, back}
 use Rattle.gos_frames.proofs.ChildLemmas.{Sitting, IsSitting, HasPorts, child_placing, child_plan, number_of, its_cut, whole_web}
 use Rattle.gos_frames.proofs.FoldLemmas.{HasPlan}
 use Rattle.gos_frames.proofs.SideLemmas.{side_frame, side_sitting, IsSideOf, is_sitting, has_ports}
-use Rattle.gos_frames.proofs.RegionLemmas.{listed_at, differ_at, IsIn, in_number, number_in, in_back, side_plan, import_in, is_side, joint_of}
+use Rattle.gos_frames.proofs.RegionLemmas.{IsIn, in_number, number_in, in_back, side_plan, import_in, is_side, joint_of}
 
 abbrev by_role : Role → Bool
 by_role Serve = false
 by_role Ask = true
 
-serves_not : (q v c d : ℕ) → Some (serves q v) ≡ Some (asks c d) → ⊥
+pub serves_not : (q v c d : ℕ) → Some (serves q v) ≡ Some (asks c d) → ⊥
 serves_not q v c d e =
     let one : serves q v ≡ asks c d = same_Some (serves q v) (asks c d) e in
     clash (ap (λ (x : Contact). by_role x.role) one)
@@ -226,10 +228,10 @@ module _
     where
       tested : (b : ℕ) → times a ms ≡ b → (kept fl a ≡ true) ⊎ (kept fr a ≡ true)
       tested zero e =
-          let many = times_some ns a has in
+          let many = some_times a ns has in
           let both = parted.split a in
-          inr (kept_true fr a (some_times ks a (omega (arith, many, both, e))) refl)
-      tested (suc b) e = inl (kept_true fl a (some_times ms a (omega (arith, e))) refl)
+          inr (kept_true fr a (listed_times a ks (omega (arith, many, both, e))) refl)
+      tested (suc b) e = inl (kept_true fl a (listed_times a ms (omega (arith, e))) refl)
 
   whose : (x : Part) (o : Source) → IsFrom (parts_of types whole) ns env x o → Whose o
   whose x (Own zero) has = inr refl
@@ -252,8 +254,8 @@ module _
   -- no part is that of both
   number_apart : (a : ℕ) → Contains ms a → Contains ks a → ⊥
   number_apart a one other =
-      let many = times_some ms a one in
-      let more = times_some ks a other in
+      let many = some_times a ms one in
+      let more = some_times a ks other in
       let both = parted.split a in
       let once = parted.once a in omega (arith, many, more, both, once)
 
@@ -394,8 +396,8 @@ module _
 
     names_apart : HaveOtherNames p.imports q.imports
     names_apart x y in_p in_q same =
-        let (a, at_a) = listed_at p.imports x in_p in
-        let (b, at_b) = listed_at q.imports y in_q in
+        let (a, at_a) = place_of p.imports x in_p in
+        let (b, at_b) = place_of q.imports y in_q in
         let one = import_in types i 0 1 (suc j) m ms 1 (1 + lm) (suc j + nodes m) n ks j whole ns run env pl left_of r is differ kinds.Par driver.0 driver.1 refl a x at_a in
         let other = import_in types i 1 (1 + lm) (suc j + nodes m) n ks 0 1 (suc j) m ms j whole ns run env pl right_of r is differ kinds.Par driver.0 driver.1 refl b y at_b in
         let place = differ_at r.imports differ (pl.import one.number one.import) (pl.import other.number other.import) x y one.at other.at same in

@@ -1,13 +1,14 @@
 -- A side of a node of two parts is a region of its plan, asked by the own part of the node.
-use Rattle.std.specs.Prelude.{◌≡◌, ℕ, zero, suc, ◌+◌, ◌-◌, ◌<◌, Bool, true, false, List, [], ◌∷◌, Option, Some, None, slice_get, Contains}
+use Rattle.std.specs.Prelude.{◌≡◌, ℕ, suc, ◌+◌, ◌-◌, ◌<◌, Bool, true, false, List, [], Option, Some, None, slice_get, Contains}
 use Rattle.std.proofs.Common.{refl, sym, ◌∙◌, ap, arith, inl}
-use Rattle.std.proofs.lemmas.Option.{none-some, same_Some}
+use Rattle.std.proofs.lemmas.Option.{none-some}
 use Rattle.gos_model.specs.Typing.{Imported}
 use Rattle.gos_check.specs.Nodes.{Numbered}
 use Rattle.gos_plan.specs.Kinds.{Part, asks, part_contacts}
 use Rattle.gos_plan.specs.Plans as plans
 use Rattle.gos_plan.specs.Plans.{End, PartEnd, ImportEnd, ResultEnd, Plan, contacts_of_part, turned_if, contact_at, stands_in}
 use Rattle.gos_realises.specs.Realises.{NamesDiffer}
+use Rattle.gos_realises.proofs.PlaceLemmas.{contains_at, place_of}
 use Rattle.gos_realises.proofs.ToldLemmas.{there_is}
 use Rattle.gos_webs.specs.Webs.{Dot, Of, Within, Tie, joint}
 use Rattle.gos_webs.specs.Cutting.{Cut, lies_at}
@@ -24,26 +25,6 @@ use Rattle.gos_frames.proofs.ChildLemmas as children
 use Rattle.gos_frames.proofs.FoldLemmas.{HasPlan, has_plan}
 use Rattle.gos_frames.proofs.CutLemmas.{region_is_cut}
 use Rattle.gos_frames.proofs.SideLemmas.{side_sitting, IsSideOf, is_sitting, has_ports, own_outside}
-
--- lists by number
-pub listed_at : {A : Type 0} (xs : List A) (x : A) → Contains xs x → (k : ℕ) × (slice_get xs k ≡ Some x)
-listed_at [] x (k, lt, e) = absurd (omega (arith, lt))
-listed_at (y ∷ xs) x (zero, lt, e) = (0, ap Some e)
-listed_at (y ∷ xs) x (suc k, lt, e) = let (n, at) = listed_at xs x (k, omega (arith, lt), e) in (suc n, at)
-
-pub at_listed : {A : Type 0} (xs : List A) (k : ℕ) (x : A) → slice_get xs k ≡ Some x → Contains xs x
-at_listed [] k x e = absurd (none-some x e)
-at_listed (y ∷ xs) zero x e = (0, omega arith, same_Some y x e)
-at_listed (y ∷ xs) (suc k) x e = let (n, lt, at) = at_listed xs k x e in (suc n, omega (arith, lt), at)
-
-pub differ_at : (is : List Imported) → NamesDiffer is → (a b : ℕ) (x y : Imported) → slice_get is a ≡ Some x → slice_get is b ≡ Some y → x.name ≡ y.name → a ≡ b
-differ_at [] differ a b x y at_a at_b e = absurd (none-some x at_a)
-differ_at (z ∷ is) differ zero zero x y at_a at_b e = refl
-differ_at (z ∷ is) differ zero (suc b) x y at_a at_b e =
-    absurd (differ.0 y (at_listed is b y at_b) (ap (λ (i : Imported). i.name) (same_Some z x at_a) ∙ e))
-differ_at (z ∷ is) differ (suc a) zero x y at_a at_b e =
-    absurd (differ.0 x (at_listed is a x at_a) (ap (λ (i : Imported). i.name) (same_Some z y at_b) ∙ sym e))
-differ_at (z ∷ is) differ (suc a) (suc b) x y at_a at_b e = ap suc (differ_at is differ.1 a b x y at_a at_b e)
 
 pub lies_joined : (f : Cut) (js : List plans.Joint) (e : End) → lies_at (joined_cut f js) e ≡ lies_at f e
 lies_joined f js (PartEnd i h) = refl
@@ -137,8 +118,8 @@ module _
         among =
             among (child_plan s).imports r.imports differ
             (λ y has.
-            (let (a, at) = listed_at (child_plan s).imports y has in
-            let one = import_in a y at in at_listed r.imports (pl.import one.number one.import) y one.at));
+            (let (a, at) = place_of (child_plan s).imports y has in
+            let one = import_in a y at in contains_at r.imports (pl.import one.number one.import) y one.at));
       }
 
   pub joint_of : (h : HasPlan s r sits ports wired) (a b : End) (y : Dot)

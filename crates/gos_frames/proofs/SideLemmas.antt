@@ -5,7 +5,7 @@ use Rattle.std.proofs.lemmas.Option.{none-some, same_Some}
 use Rattle.gos_types.specs.Types.{Type', Com}
 use Rattle.gos_check.specs.Nodes.{Numbered}
 use Rattle.gos_check.specs.Linearity.{times, made, used}
-use Rattle.gos_check.proofs.TimesLemmas.{eq_true, true_eq}
+use Rattle.gos_check.proofs.TimesLemmas.{eq_true, true_eq, some_times, listed_times}
 use Rattle.gos_plan.specs.Kinds.{Part, Contact, asks, contacts_of, part_contacts}
 use Rattle.gos_plan.specs.Plans.{End, PartEnd, ResultEnd, Plan, contacts_of_part, turned_if, contact_at}
 use Rattle.gos_realises.specs.Regular.{count}
@@ -18,7 +18,6 @@ use Rattle.gos_folds.specs.Folds as folds
 use Rattle.gos_compile.specs.Wiring.{Types, row, parts_of, nodes, type_of_node, ties_of}
 use Rattle.gos_wired.specs.Wired.{Supplies, Source, Own, Placing, source_dot, dot_of, dot_ties}
 use Rattle.gos_frames.proofs.SpanLemmas.{Both, HoldsInside, spans, one_tie}
-use Rattle.gos_frames.proofs.NumberingLemmas.{times_some, some_times}
 use Rattle.gos_frames.proofs.FrameLemmas.{Frame, is_in, kept, known, size, in_range, itself_false, out_of_range, lt_false, other_part, own_part, back, Gone, its_ties_there}
 use Rattle.gos_frames.proofs.FoldLemmas.{follows_none}
 use Rattle.gos_frames.proofs.ChildLemmas.{Sitting, child_placing, child_plan, number_of, number_if, its_cut, its_web, whole_web, IsPort, IsSitting, HasPorts}
@@ -155,7 +154,7 @@ module _
       false_true e = cc e
 
       among : (n : ℕ) → Contains ms n → Contains ns n
-      among n has = let many = times_some ms n has in let both = is.split n in some_times ns n (omega (arith, many, both))
+      among n has = let many = some_times n ms has in let both = is.split n in listed_times n ns (omega (arith, many, both))
 
       out_of : (b : Bool) → b && true ≡ false → b ≡ false
       out_of true e = e
@@ -165,7 +164,7 @@ module _
       unused n has out =
           let off : nat_lt 0 (times n ms) ≡ false = out_of (is_in n ms) out in
           let none : times n ms ≤ 0 = grind (arith, off) in
-          let many = times_some ns n has in
+          let many = some_times n ns has in
           let one = is.once n in omega (arith, none, many, one)
 
       Off : Tie → Type 0

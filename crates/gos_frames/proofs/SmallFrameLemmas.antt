@@ -1,9 +1,9 @@
 -- Small examples of numbers that are parted and bound, and of what ties speak.
-use Rattle.std.specs.Prelude.{◌≤◌, ℕ, zero, suc, [], ◌∷◌}
-use Rattle.std.proofs.Common.{refl, arith, subst}
+use Rattle.std.specs.Prelude.{◌≤◌, ℕ, [], ◌∷◌}
+use Rattle.std.proofs.Common.{arith, subst}
 use Rattle.gos_check.specs.Linearity.{times}
 use Rattle.gos_check.proofs.TimesLemmas.{number_cases, times_same, times_other}
-use Rattle.gos_frames.specs.SmallFrames.{UsesAreParted, SharedIsNotParted, UseIsBound, OtherIsNotBound, UseIsScoped, OtherIsNotScoped, UseSpeaksOfIt, NotOfParts}
+use Rattle.gos_frames.specs.SmallFrames.{UsesAreParted, SharedIsNotParted, UseIsBound, OtherIsNotBound, UseSpeaksOfIt, NotOfParts}
 
 -- a list of one number has it once, and of two numbers each once
 one_at_most : (k a : ℕ) → times k (a ∷ []) ≤ 1
@@ -42,10 +42,3 @@ use_speaks_of_it types = omega arith
 
 pub not_of_parts : NotOfParts
 not_of_parts types k (low, high) = omega (arith, low, high)
-
-pub use_is_scoped : UseIsScoped
-use_is_scoped = (tt, (0, omega arith, refl))
-
-pub other_is_not_scoped : OtherIsNotScoped
-other_is_not_scoped (are, (zero, lt, e)) = omega (arith, e)
-other_is_not_scoped (are, (suc k, lt, e)) = omega (arith, lt)

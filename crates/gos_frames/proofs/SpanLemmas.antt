@@ -8,8 +8,6 @@ use Rattle.gos_check.specs.Linearity.{times, split_in, sides, used, made}
 use Rattle.gos_check.proofs.TimesLemmas.{times-append, times_same}
 use Rattle.gos_plan.specs.Kinds as kinds
 use Rattle.gos_plan.specs.Kinds.{Part}
-use Rattle.gos_model.specs.Terms as terms
-use Rattle.gos_model.specs.Terms.{Term}
 use Rattle.gos_realises.specs.Regular.{count}
 use Rattle.gos_ties.specs.declared.points.Place.{Place}
 use Rattle.gos_ties.specs.declared.points.Place.TheVariants as places
@@ -18,6 +16,7 @@ use Rattle.gos_ties.specs.declared.points.Tie.{Tie}
 use Rattle.gos_ties.specs.Ties.{point}
 use Rattle.gos_compile.specs.Wiring.{Types, row, led, shares, share_ties, shares_ties, ties_of, parts_of, type_of_node, nodes, closed_part, binder_part, binder_ties, binder_out, one_part, one_ties, one_out, two_part, two_ties, first_out, second_out, answer_bits}
 use Rattle.gos_frames.specs.Spans.{IsSpoken, TiesSpan}
+use Rattle.gos_compile.proofs.ThinLemmas.{shares_length, closed_length}
 
 -- all of a list
 abbrev pub EachPoint : (Point → Type 0) → List Point → Type 0
@@ -32,19 +31,11 @@ append_nil : {A : Type 0} (xs : List A) → xs ++ [] ≡ xs
 append_nil [] = refl
 append_nil (x ∷ xs) = ap (λ ys. x ∷ ys) (append_nil xs)
 
-closed_has : (c : Term) → length (closed_part c) ≡ 1
-closed_has (terms.Lit k w) = refl
-closed_has c = refl
-
 -- A term's own points: its parts have numbers from i on, and its nodes from j on.
 pub record HoldsInside (P : Point → Type 0) (types : Types) (i j : ℕ) (m : Numbered) : Type 0 where
   pub parts : (k h : ℕ) → i ≤ k → k < i + length (parts_of types m) → P (point (places.Part k) h)
   pub nodes : (k h : ℕ) → j ≤ k → k < j + nodes m → P (point (places.Node k) h)
   pub numbers : (k h : ℕ) → 0 < times k (made m) + times k (used m) → P (point (places.Number k) h)
-
-pub length_shares : (ss : List Split) (types : Types) → length (shares ss types) ≡ length ss
-length_shares [] types = refl
-length_shares (s ∷ ss) types = ap suc (length_shares ss types)
 
 module _ (P : Point → Type 0) where
   abbrev pub Both : Tie → Type 0
@@ -213,7 +204,7 @@ module _ (P : Point → Type 0) where
   )
     where
       long : length (parts_of types m) ≡ length ss + length rest
-      long = ap length own ∙ (length-append (shares ss types) rest ∙ ap (λ n. n + length rest) (length_shares ss types))
+      long = ap length own ∙ (length-append (shares ss types) rest ∙ ap (λ n. n + length rest) (shares_length ss types))
 
       made_in : (k : ℕ) → times k (made m) ≡ times k (sides ss) + times k ns
       made_in k = ap (times k) makes ∙ times-append k (sides ss) ns
@@ -230,7 +221,7 @@ module _ (P : Point → Type 0) where
   spans types i j (Closed t ss c) out inside all =
       let (of_shares, parts, numbers) = front types i j (Closed t ss c) ss (closed_part c) [] [] inside refl (sym (append_nil (sides ss))) (sym (append_nil (split_in ss))) in
       ties_both (shares_ties i ss types) (led out (places.Part (i + length ss)) 0) of_shares
-      (led_holds (places.Part (i + length ss)) (λ h. parts (i + length ss) h (omega arith) (let some = closed_has c in omega (arith, some))) out all 0)
+      (led_holds (places.Part (i + length ss)) (λ h. parts (i + length ss) h (omega arith) (let some = closed_length c in omega (arith, some))) out all 0)
   spans types i j (Use t ss n) out inside all =
       let (of_shares, parts, numbers) = front types i j (Use t ss n) ss [] [] (n ∷ []) inside (sym (append_nil (shares ss types))) (sym (append_nil (sides ss))) refl in
       ties_both (shares_ties i ss types) (led out (places.Number n) 0) of_shares

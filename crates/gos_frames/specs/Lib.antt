@@ -2,5 +2,4 @@
 pub mod Spans
 pub mod Frames
 pub mod Blocks
-pub mod Scoped
 pub mod SmallFrames

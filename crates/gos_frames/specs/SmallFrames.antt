@@ -1,6 +1,6 @@
 -- Numbers of two sides and of a body, and what are none; and of what the ties of a use speak.
 --
--- Read first: Spans, Frames, Blocks, Scoped. They show that these definitions can be met and can be missed.
+-- Read first: Spans, Frames, Blocks. They show that these definitions can be met and can be missed.
 use Rattle.std.specs.Prelude.{List, ℕ, [], ◌∷◌}
 use Rattle.gos_types.specs.Types.{Com}
 use Rattle.gos_check.specs.Nodes.{Numbered, Use}
@@ -9,7 +9,6 @@ use Rattle.gos_compile.specs.Wiring.{Types}
 use Rattle.gos_frames.specs.Spans.{IsOwnPlace}
 use Rattle.gos_frames.specs.Frames.{AreParted}
 use Rattle.gos_frames.specs.Blocks.{IsBound}
-use Rattle.gos_frames.specs.Scoped.{IsScoped}
 
 -- uses of two numbers
 abbrev pub one_use : Numbered
@@ -31,13 +30,6 @@ UseIsBound = IsBound 0 one_use []
 
 abbrev pub OtherIsNotBound : Type 0
 OtherIsNotBound = IsBound 0 other_use [] → ⊥
-
--- something stands for number 0 alone
-abbrev pub UseIsScoped : Type 0
-UseIsScoped = IsScoped (0 ∷ []) one_use
-
-abbrev pub OtherIsNotScoped : Type 0
-OtherIsNotScoped = IsScoped (0 ∷ []) other_use → ⊥
 
 -- a use speaks of its number, and of no part
 abbrev pub UseSpeaksOfIt : Type 0

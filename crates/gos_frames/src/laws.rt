@@ -2,8 +2,7 @@
 ghost use Rattle.gos_frames.specs.Blocks.{BlockIsWired};
 ghost use Rattle.gos_frames.specs.Frames.{ParallelIsWired, RegionIsCut};
 ghost use Rattle.gos_frames.specs.Spans.{TiesSpan};
-ghost use Rattle.gos_frames.specs.Scoped.{NumbersPart, ScopedElsewhere, ScopedIsBound, ScopedIsKnown};
-ghost use Rattle.gos_frames.specs.SmallFrames.{NotOfParts, OtherIsNotBound, OtherIsNotScoped, SharedIsNotParted, UseIsBound, UseIsScoped, UseSpeaksOfIt, UsesAreParted};
+ghost use Rattle.gos_frames.specs.SmallFrames.{NotOfParts, OtherIsNotBound, SharedIsNotParted, UseIsBound, UseSpeaksOfIt, UsesAreParted};
 
 /// The ties of a term speak of its own parts, nodes and numbers, and of where its handshakes lead.
 pub fn spans()
@@ -25,24 +24,13 @@ pub fn block_bodies()
     ensures { BlockIsWired }
 {}
 
-/// Where something stands for each number that a term uses, it makes or knows them. So the numbers of `||` are parted
-/// between its sides, and those of a block are bound, and something stands for each number there.
-pub fn scopes()
-    ensures known { ScopedIsKnown }
-    ensures elsewhere { ScopedElsewhere }
-    ensures part { NumbersPart }
-    ensures bound { ScopedIsBound }
-{}
-
 /// Two uses of two numbers have one each, and two of one number don't. A use of the bound number is bound, and that of
-/// another one isn't; so it is of numbers for which something stands. The ties of a use speak of its number, and of no part.
+/// another one isn't. The ties of a use speak of its number, and of no part.
 pub fn small_frames()
     ensures parted { UsesAreParted }
     ensures shared { SharedIsNotParted }
     ensures bound { UseIsBound }
     ensures unbound { OtherIsNotBound }
-    ensures scoped { UseIsScoped }
-    ensures unscoped { OtherIsNotScoped }
     ensures spoken { UseSpeaksOfIt }
     ensures unspoken { NotOfParts }
 {}

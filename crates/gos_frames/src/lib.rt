@@ -5,4 +5,4 @@
 
 mod laws;
 
-pub use laws::{block_bodies, parallel_sides, regions_are_cut, scopes, small_frames, spans};
+pub use laws::{block_bodies, parallel_sides, regions_are_cut, small_frames, spans};

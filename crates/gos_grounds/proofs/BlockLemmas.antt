@@ -13,12 +13,13 @@ use Rattle.gos_model.specs.Typing.{Imported, import_type, Named, things, Typed}
 use Rattle.gos_model.specs.Substitution.{put_at, instantiate}
 use Rattle.gos_check.specs.Nodes.{Numbered, Under, OfNew, Meaning, below, meaning, type_of_node}
 use Rattle.gos_check.specs.Linearity.{times}
-use Rattle.gos_check.proofs.TimesLemmas.{eq_true, true_eq, times-append, times_same}
+use Rattle.gos_check.proofs.TimesLemmas.{eq_true, true_eq, times-append, times_same, some_times, listed_times}
 use Rattle.gos_plan.specs.Plans.{ImportEnd, ResultEnd, Plan}
 use Rattle.gos_plan.specs.TokenBits.{LiteralFits}
 use Rattle.gos_realises.specs.Modules.{Supply}
 use Rattle.gos_realises.specs.Realises.{NamesDiffer, Realises}
-use Rattle.gos_renumbered.proofs.ImportLemmas.{name_is}
+use Rattle.gos_realises.proofs.PlaceLemmas.{contains_at, place_of, differ_at, at_differ}
+use Rattle.gos_renumbered.proofs.ImportLemmas.{name_is, type_has}
 use Rattle.gos_webs.specs.Webs.{joint}
 use Rattle.gos_buffers.specs.Buffering.{ResultIsJoined}
 use Rattle.gos_typing.proofs.WhenceLemmas.{named}
@@ -28,12 +29,10 @@ use Rattle.gos_blocks.specs.Block.{BlockRealises}
 use Rattle.gos_compile.specs.Wiring.{Types}
 use Rattle.gos_wired.specs.Wired.{Supplies, Placing, Origin, IsWired, terms_of}
 use Rattle.gos_stages.specs.Inside.{AreGroundSupplies}
-use Rattle.gos_stages.proofs.ChildBackLemmas.{some_times, listed_times}
 use Rattle.gos_meanings.specs.Meanings.{HasLeaves, standing, BodyIsInstantiated}
 use Rattle.gos_frames.specs.Blocks.{with_name, IsBound, HasBody, BlockIsWired}
-use Rattle.gos_grounds.specs.Scopes.{InScope}
+use Rattle.gos_numbers.specs.Kept.{InScope}
 use Rattle.gos_grounds.specs.Cases.{RealisesWired, BlockCase}
-use Rattle.gos_grounds.proofs.ImportLemmas.{contained_at, stands_at, differ_at, at_differ, type_has}
 use Rattle.gos_grounds.proofs.WhoseLemmas.{before, below_whose, whose}
 use Rattle.gos_grounds.proofs.WiredLemmas.{imports_are_ground, literals_within}
 use Rattle.gos_grounds.proofs.AgreeLemmas.{AgreeAt, below_agrees, meaning_agrees}
@@ -145,9 +144,9 @@ module _
         by_sort : (k l : ℕ) (y z : Imported) → y.name ≡ z.name → IsOf k y → IsOf l z → k ≡ l
         by_sort k l y z e (inl (at_k, name_y)) (inl (at_l, name_z)) = at_k ∙ sym at_l
         by_sort k l y z e (inl (at_k, name_y)) (inr (q, at_q, at_l)) =
-            absurd (fresh z (contained_at r.imports q z at_q) (sym e ∙ name_y))
+            absurd (fresh z (contains_at r.imports q z at_q) (sym e ∙ name_y))
         by_sort k l y z e (inr (p, at_p, at_k)) (inl (at_l, name_z)) =
-            absurd (fresh y (contained_at r.imports p y at_p) (e ∙ name_z))
+            absurd (fresh y (contains_at r.imports p y at_p) (e ∙ name_z))
         by_sort k l y z e (inr (p, at_p, at_k)) (inr (q, at_q, at_l)) =
             let same = differ_at r.imports differ p q y z at_p at_q e in
             at_k ∙ (ap (λ (c : ℕ). pc.import (pl.origin c).number (pl.origin c).import) same ∙ sym at_l)
@@ -164,7 +163,7 @@ module _
     is_imported k has f y of_k =
         let of : Realises (types k) (env k).plan (env k).term = supplies.realised k has in
         let name = named (env k).plan.imports (Named y) (env k).term f [] (types k) (omega arith) of.suits.typed of_k in
-        let (q, at) = stands_at (env k).plan.imports name.import name.has in
+        let (q, at) = place_of (env k).plan.imports name.import name.has in
         let there = wired.imports k q name.import has at in
         let here =
         v.imports k q name.import (Contains-append_left ns (n ∷ []) k has)
@@ -172,8 +171,8 @@ module _
         record {
           import = name.import;
           own = name.has;
-          outside = contained_at r.imports (pl.import k q) name.import there.0;
-          within = contained_at body.imports (pc.import k q) name.import here.0;
+          outside = contains_at r.imports (pl.import k q) name.import there.0;
+          within = contains_at body.imports (pc.import k q) name.import here.0;
           same = (bytes_eq-Decides name.import.name y).1 (sym (cc (name.same)));
         }
 
@@ -194,7 +193,7 @@ module _
     name_typed : import_type body.imports x ≡ Some (Var w)
     name_typed =
         type_has body.imports body_differ x (imported x (Var w))
-        (contained_at body.imports (pc.import n 0) (imported x (Var w))
+        (contains_at body.imports (pc.import n 0) (imported x (Var w))
         (v.imports n 0 (imported x (Var w)) (Contains-append_right ns (n ∷ []) n (0, omega arith, refl))
         (ap (λ (s : Supply). slice_get s.plan.imports 0) (inner_here n (eq_true n n refl)))).0)
         ((bytes_eq-Decides x x).1 refl)

@@ -1,36 +1,37 @@
 -- The plan of a child of a node: its imports, its literals and the type of its term, and so what it realises.
-use Rattle.std.specs.Prelude.{◌≡◌, ℕ, zero, suc, ◌+◌, ◌<◌, true, List, [], Option, Some, None, Contains, length, nat_lt, slice_get, All}
+use Rattle.std.specs.Prelude.{◌≡◌, ℕ, suc, ◌+◌, ◌<◌, true, List, [], Option, Some, None, Contains, length, nat_lt, slice_get, All}
 use Rattle.std.specs.Str.{bytes_eq}
-use Rattle.std.proofs.Common.{refl, sym, ◌∙◌, ap, subst, arith}
+use Rattle.std.proofs.Common.{sym, ◌∙◌, ap, subst, arith}
 use Rattle.std.proofs.lemmas.Bool.Decides.{nat_tests}
 use Rattle.std.proofs.lemmas.Slice.Eq.{bytes_eq-Decides}
 use Rattle.gos_types.specs.Types.{Type'}
 use Rattle.gos_model.specs.Terms.{Name}
 use Rattle.gos_model.specs.Typing.{Imported, Imports, import_type, Named, things, Typed}
 use Rattle.gos_check.specs.Nodes.{Meaning, inside, meaning, type_of_node}
-use Rattle.gos_check.specs.Linearity.{times, split_in}
+use Rattle.gos_check.specs.Linearity.{times}
+use Rattle.gos_check.proofs.TimesLemmas.{some_times}
 use Rattle.gos_plan.specs.Kinds.{Part}
 use Rattle.gos_plan.specs.Plans.{ImportEnd, Plan}
 use Rattle.gos_plan.specs.TokenBits.{LiteralFits}
 use Rattle.gos_realises.proofs.LiteralLemmas.{literals_among}
 use Rattle.gos_realises.specs.Realises.{NamesDiffer, Realises}
+use Rattle.gos_realises.proofs.PlaceLemmas.{contains_at, place_of, differ_at, at_differ}
+use Rattle.gos_renumbered.proofs.ImportLemmas.{type_has}
 use Rattle.gos_webs.specs.Webs.{Of, Within, Tie}
 use Rattle.gos_typing.proofs.WhenceLemmas.{named}
 use Rattle.gos_typing.proofs.NameLemmas.{typed_under_fewer}
-use Rattle.gos_wired.specs.Wired.{Supplies, Placing, Origin, AreRealised, terms_of}
+use Rattle.gos_wired.specs.Wired.{Supplies, Placing, Origin, terms_of}
 use Rattle.gos_stages.specs.Inside.{inside_supplies, numbers_inside, AreGroundSupplies}
-use Rattle.gos_stages.specs.Lodging.{Spot, lodged}
+use Rattle.gos_stages.specs.Lodging.{Spot}
 use Rattle.gos_stages.specs.Folding.{Child, is_used, lodge, child_cut, IsChild, IsLaid}
 use Rattle.gos_stages.specs.Regions.{IsStaged}
 use Rattle.gos_stages.proofs.InsideLemmas.{inside_is_realised, inside_means}
 use Rattle.gos_stages.proofs.LodgingLemmas.{lodged_are_inside}
 use Rattle.gos_stages.proofs.PartHomeLemmas.{numbers_are_at_home}
 use Rattle.gos_stages.proofs.HousingLemmas.{imports_are_from}
-use Rattle.gos_stages.proofs.ChildBackLemmas.{some_times}
 use Rattle.gos_meanings.specs.Meanings.{HasLeaves}
-use Rattle.gos_grounds.specs.Scopes.{InScope}
+use Rattle.gos_numbers.specs.Kept.{InScope}
 use Rattle.gos_grounds.specs.Cases.{RealisesWired}
-use Rattle.gos_grounds.proofs.ImportLemmas.{contained_at, stands_at, differ_at, at_differ, type_has}
 use Rattle.gos_grounds.proofs.WhoseLemmas.{whose}
 use Rattle.gos_grounds.proofs.WiredLemmas.{fewer}
 
@@ -108,12 +109,12 @@ module _ (f : Child) (own : List Part) (ts : List Tie) (pl plc : Placing) (r c :
           let (k, d, in_uses, of_k) = whose f.term f.uses (terms_of Inner) 0 x leaves scope has in
           let of : Realises (f.types k) (Inner k).plan (Inner k).term = supplied.realised k in_uses in
           let name = named (Inner k).plan.imports (Named x) (Inner k).term d [] (f.types k) (omega arith) of.suits.typed of_k in
-          let (q, at_q) = stands_at (Inner k).plan.imports name.import name.has in
+          let (q, at_q) = place_of (Inner k).plan.imports name.import name.has in
           let is_x : bytes_eq name.import.name x ≡ true = (bytes_eq-Decides name.import.name x).1 (sym (cc (name.same))) in
           let here = staged.wired.imports k q name.import in_uses at_q in
           let there = outside k q name.import in_uses at_q in
-          type_has c.imports (names_below differ) x name.import (contained_at c.imports (plc.import k q) name.import here.0) is_x
-          ∙ sym (type_has r.imports differ x name.import (contained_at r.imports (pl.import (root k) q) name.import there.0) is_x)
+          type_has c.imports (names_below differ) x name.import (contains_at c.imports (plc.import k q) name.import here.0) is_x
+          ∙ sym (type_has r.imports differ x name.import (contains_at r.imports (pl.import (root k) q) name.import there.0) is_x)
 
   literals_below : All LiteralFits r.parts → All LiteralFits c.parts
   literals_below fit = literals_among (child_cut f pl plc (length r.parts)).part c.parts r.parts (λ k x at. (staged.region.parts k x at).0) fit

@@ -1,4 +1,3 @@
-pub mod ImportLemmas
 pub mod WhoseLemmas
 pub mod WiredLemmas
 pub mod ChildLemmas

@@ -4,13 +4,13 @@ use Rattle.std.proofs.Common.{sym, subst, arith}
 use Rattle.gos_types.specs.Types.{Type', Com}
 use Rattle.gos_model.specs.Typing.{Typed}
 use Rattle.gos_check.specs.Nodes.{Numbered, Two, OfPar, meaning, type_of_node}
+use Rattle.gos_check.proofs.TimesLemmas.{some_times, listed_times}
 use Rattle.gos_realises.specs.Realises.{Realises}
 use Rattle.gos_compile.specs.Wiring.{Types, parts_of, nodes}
 use Rattle.gos_parallel.specs.Parallel.{ParallelRealises}
 use Rattle.gos_wired.specs.Wired.{terms_of}
 use Rattle.gos_frames.specs.Frames.{AreParted, AreSides, ParallelIsWired}
 use Rattle.gos_grounds.specs.Cases.{ParallelCase}
-use Rattle.gos_stages.proofs.ChildBackLemmas.{some_times, listed_times}
 use Rattle.gos_grounds.proofs.WiredLemmas.{imports_are_ground, names_differ, typed_there, literals_within, fewer}
 
 module _ (types : Types) (ns ms ks : List ℕ) (m n : Numbered) (parted : AreParted m n ns ms ks) where

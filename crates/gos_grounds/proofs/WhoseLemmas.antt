@@ -10,7 +10,7 @@ use Rattle.gos_check.specs.declared.linear.Split.{Split}
 use Rattle.gos_check.specs.Nodes.{Numbered, Closed, Use, Under, One, Two, If, Binding, OfFun, OfNew, OneForm, OfFst, OfSnd, OfDeref, OfNot, TwoForm, OfApp, OfBoth, OfSeq, OfPar, OfWhile, OfAssign, OfBin, Meaning, shifted, below, inside_one, inside, meaning, binder_term, one_term, two_term}
 use Rattle.gos_stages.specs.Inside.{AreSplit, numbers_inside}
 use Rattle.gos_meanings.specs.Meanings.{IsLeaf, HasLeaves}
-use Rattle.gos_grounds.specs.Scopes.{InScope}
+use Rattle.gos_numbers.specs.Kept.{InScope}
 
 pub none : (X : Type 0) (x : X) → Contains [] x → ⊥
 none X x (k, small, at) = omega (arith, small)

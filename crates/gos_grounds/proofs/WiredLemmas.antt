@@ -11,6 +11,8 @@ use Rattle.gos_plan.specs.Plans.{Plan}
 use Rattle.gos_plan.specs.TokenBits.{LiteralFits}
 use Rattle.gos_realises.proofs.LiteralLemmas.{literals_among}
 use Rattle.gos_realises.specs.Realises.{AllGround, NamesDiffer, Realises}
+use Rattle.gos_realises.proofs.PlaceLemmas.{contains_at, place_of, differ_at, at_differ}
+use Rattle.gos_renumbered.proofs.ImportLemmas.{type_has}
 use Rattle.gos_compile.specs.Wiring.{Types}
 use Rattle.gos_webs.specs.Cutting.{Cut, IsCut}
 use Rattle.gos_typing.proofs.WhenceLemmas.{named}
@@ -18,8 +20,7 @@ use Rattle.gos_typing.proofs.NameLemmas.{typed_under_fewer}
 use Rattle.gos_wired.specs.Wired.{Supplies, Placing, Origin, IsWired, AreRealised, terms_of}
 use Rattle.gos_stages.specs.Inside.{AreGroundSupplies}
 use Rattle.gos_meanings.specs.Meanings.{HasLeaves}
-use Rattle.gos_grounds.specs.Scopes.{InScope}
-use Rattle.gos_grounds.proofs.ImportLemmas.{contained_at, stands_at, differ_at, at_differ, type_has}
+use Rattle.gos_numbers.specs.Kept.{InScope}
 use Rattle.gos_grounds.proofs.WhoseLemmas.{whose}
 
 abbrev origin_of : Origin → Origin
@@ -74,12 +75,12 @@ module _ (types : Types) (i j : ℕ) (m : Numbered) (ns : List ℕ) (env : Suppl
             let (k, f, in_ms, of_k) = whose n ms (terms_of env) 0 x leaves scope has in
             let of : Realises (types k) (env k).plan (env k).term = realised k (among k in_ms) in
             let name = named (env k).plan.imports (Named x) (env k).term f [] (types k) (omega arith) of.suits.typed of_k in
-            let (q, at_q) = stands_at (env k).plan.imports name.import name.has in
+            let (q, at_q) = place_of (env k).plan.imports name.import name.has in
             let is_x : bytes_eq name.import.name x ≡ true = (bytes_eq-Decides name.import.name x).1 (sym (cc (name.same))) in
             let here = v.imports k q name.import in_ms at_q in
             let there = w.imports k q name.import (among k in_ms) at_q in
-            type_has c.imports (names_differ differ) x name.import (contained_at c.imports (pc.import k q) name.import here.0) is_x
-            ∙ sym (type_has r.imports differ x name.import (contained_at r.imports (pl.import k q) name.import there.0) is_x)
+            type_has c.imports (names_differ differ) x name.import (contains_at c.imports (pc.import k q) name.import here.0) is_x
+            ∙ sym (type_has r.imports differ x name.import (contains_at r.imports (pl.import k q) name.import there.0) is_x)
 
 -- the literals of a region's parts fit, since they are parts of the whole
 pub literals_within : (f : Cut) (r c : Plan) → IsCut f r c → All LiteralFits r.parts → All LiteralFits c.parts

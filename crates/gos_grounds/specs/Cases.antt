@@ -1,6 +1,6 @@
 -- A wired node of a ground type realises its term: the cases of the induction, form by form.
 --
--- Read first: Scopes; Wired of gos_wired; Inside of gos_stages; Frames and Blocks of gos_frames; Leaves of gos_leaves.
+-- Read first: Wired of gos_wired; Inside of gos_stages; Frames and Blocks of gos_frames; Leaves of gos_leaves; Kept of gos_numbers (`InScope`).
 use Rattle.std.specs.Prelude.{◌≡◌, ℕ, List, [], ◌∷◌, ◌++◌, All, Contains}
 use Rattle.gos_types.specs.Types.{Type', Com, Exp, Var, IsDone}
 use Rattle.gos_model.specs.Terms as terms
@@ -15,7 +15,7 @@ use Rattle.gos_stages.specs.Inside.{AreGroundSupplies}
 use Rattle.gos_frames.specs.Frames.{AreParted}
 use Rattle.gos_frames.specs.Blocks.{IsBound}
 use Rattle.gos_meanings.specs.Meanings.{HasLeaves}
-use Rattle.gos_grounds.specs.Scopes.{InScope}
+use Rattle.gos_numbers.specs.Kept.{InScope}
 
 -- However a node is wired to supplies for these numbers, which realise their terms at ground types, its plan realises its
 -- term with these. The literals of all parts fit their widths.

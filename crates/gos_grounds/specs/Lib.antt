@@ -1,3 +1,2 @@
 -- In reading order: a file uses only files above it.
-pub mod Scopes
 pub mod Cases

@@ -5,20 +5,21 @@ use Rattle.std.proofs.lemmas.List.{append-nil}
 use Rattle.gos_types.specs.Types.{Type', Com, Exp, Var, Pair, Fun}
 use Rattle.gos_model.specs.Terms.{Term, Lit, App, Fst, Snd, Assign, Deref}
 use Rattle.gos_model.specs.Typing.{Imports, Typed}
+use Rattle.gos_model.proofs.HeadLemmas.{head_ready}
 use Rattle.gos_plan.specs.Plans.{PartEnd, ResultEnd, Plan}
 use Rattle.gos_plan.specs.Joining.{Link, is_joined, left_in, all_left, IsJoining}
 use Rattle.gos_realises.specs.Regular.{count}
 use Rattle.gos_realises.specs.Links.{IsJoined}
 use Rattle.gos_realises.specs.Wirings.{link, writing, applying}
 use Rattle.gos_realises.specs.Realises.{HaveOtherNames, Suits, Means}
+use Rattle.gos_realises.proofs.ReadyLemmas.{ready_is_realised}
 use Rattle.gos_joined.proofs.OriginLemmas.{import_of}
 use Rattle.gos_applied.proofs.SeamLemmas.{and_none, listed, left_none, listed_imports}
 use Rattle.gos_applied.proofs.SideLemmas.{side_imports}
 use Rattle.gos_applied.proofs.ReadingLemmas.{reading_imports}
 use Rattle.gos_applied.proofs.TogetherLemmas.{imports_of}
 use Rattle.gos_heads.specs.Heads.{UnfoldsHead, HeadIsRealised}
-use Rattle.gos_heads.proofs.OneWayLemmas.{head_ready, deref_ready, put_ready}
-use Rattle.gos_heads.proofs.ReadyLemmas.{ready_is_realised}
+use Rattle.gos_heads.proofs.OneWayLemmas.{deref_ready, put_ready}
 use Rattle.gos_heads.proofs.WriteLemmas.{writing_is_realised}
 use Rattle.gos_heads.proofs.TypingLemmas.{typed_more, among_first, among_second, are_apart}
 

@@ -1,6 +1,4 @@
 mod OneWayLemmas
-pub mod SimulationLemmas
-mod ReadyLemmas
 mod WriteLemmas
 pub mod TypingLemmas
 pub mod HeadLemmas

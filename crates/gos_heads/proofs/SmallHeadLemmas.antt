@@ -7,7 +7,7 @@ use Rattle.gos_model.specs.Typing.{Thing, Typed}
 use Rattle.gos_plan.specs.SmallPlans.{skip_plan}
 use Rattle.gos_realises.proofs.SkipLemmas.{skip_is_realised}
 use Rattle.gos_heads.specs.SmallHeads.{same, same_of_skip, ArgumentUnfolds, BelowUnfolds, FunctionIsNoHead, InsideIsNoHead, UnfoldedIsRealised}
-use Rattle.gos_heads.proofs.TypingLemmas.{no_member}
+use Rattle.gos_typing.proofs.WhenceLemmas.{no_member}
 use Rattle.gos_heads.proofs.HeadLemmas.{head_is_realised}
 
 pub argument_unfolds : ArgumentUnfolds

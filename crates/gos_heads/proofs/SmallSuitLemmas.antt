@@ -15,7 +15,7 @@ use Rattle.gos_renumbered.specs.SmallRewirings.{unchanged}
 use Rattle.gos_renumbered.proofs.HigherLemmas.{is_itself, joined_moved, renumbered_is_realised}
 use Rattle.gos_applied.proofs.SingleLemmas.{alone_joins}
 use Rattle.gos_heads.specs.SmallSuits.{SkipSuits, NumberSuitsNot}
-use Rattle.gos_heads.proofs.TypingLemmas.{no_member}
+use Rattle.gos_typing.proofs.WhenceLemmas.{no_member}
 
 -- what is joined of the plan alone is the plan but for numbers
 alone_suits : (r : Plan) → IsJoined (supplying skip_plan []) r → Suits Com r Skip

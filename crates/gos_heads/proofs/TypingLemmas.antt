@@ -1,15 +1,13 @@
 -- A typed term has its type under more imports, and terms whose imports have other names share nothing.
-use Rattle.std.specs.Prelude.{◌≡◌, ℕ, zero, suc, ◌-◌, Bool, true, false, List, [], ◌∷◌, ◌++◌, ◌⊎◌, length, Some, Contains, nat_lt, if◌then◌else◌, slice_get}
+use Rattle.std.specs.Prelude.{◌≡◌, suc, Bool, true, false, List, [], ◌∷◌, ◌++◌, Some, if◌then◌else◌}
 use Rattle.std.specs.Str.{bytes_eq}
-use Rattle.std.proofs.Common.{refl, sym, ◌∙◌, ap, subst, arith, inl, inr}
-use Rattle.std.proofs.lemmas.Bool.Decides.{nat_tests}
-use Rattle.std.proofs.lemmas.Option.{slice_get_within}
-use Rattle.std.proofs.lemmas.List.Elements.{Contains-append_cases}
+use Rattle.std.proofs.Common.{refl, sym, ◌∙◌, arith}
 use Rattle.gos_types.specs.Types.{Type', Com, Exp, Var, Pair, Fun}
 use Rattle.gos_model.specs.Terms.{Name, Term, Skip, Lit, Bound, Import, Lam, App, Both, Fst, Snd, Seq, Par, If, While, Assign, Deref, New, Not, Bin}
-use Rattle.gos_model.specs.Typing.{Imported, Imports, import_type, Thing, Variable, Named, things, Apart, Typed}
+use Rattle.gos_model.specs.Typing.{Imports, import_type, Named, Apart, Typed}
 use Rattle.gos_realises.specs.Realises.{HaveOtherNames}
 use Rattle.gos_renumbered.proofs.ImportLemmas.{has_type, name_is}
+use Rattle.gos_typing.proofs.WhenceLemmas.{named}
 
 -- the first imports have their types among the second
 abbrev AreAmong : Imports → Imports → Type 0
@@ -60,71 +58,11 @@ among_second (i ∷ is) js other x t h =
         absurd (other i j (0, omega arith, refl) has (name_is i.name x test ∙ sym (name_is j.name x named)))
     by_test false test rest = rest
 
--- the name of an import of these
-pub record IsName (is : Imports) (x : Thing) : Type 0 where
-  pub import : Imported
-  pub has : Contains is import
-  pub same : x ≡ Named import.name
-
-pub no_member : (X : Type 0) (x : X) → Contains [] x → ⊥
-no_member X x (k, small, at) = omega (arith, small)
-
-of_two : (xs ys : List Thing) (x : Thing) (A : Type 0) → (Contains xs x → A) → (Contains ys x → A) → Contains (xs ++ ys) x → A
-of_two xs ys x A f g has = by_side (Contains-append_cases xs ys x has)
-  where
-    by_side : Contains xs x ⊎ Contains ys x → A
-    by_side (inl h) = f h
-    by_side (inr h) = g h
-
--- all that is free in a typed term are names of its imports
-module _ (i : Imports) (x : Thing) where
-  one_named : (y : Name) (t : Type') → import_type i y ≡ Some t → Contains (Named y ∷ []) x → IsName i x
-  one_named y t h (zero, small, at) =
-      let (j, has, named, typed) = has_type i y t h in
-      let same : Named y ≡ x = at in
-      record { import = j; has = has; same = sym same ∙ ap (λ z. Named z) (sym (name_is j.name y named)) }
-  one_named y t h (suc k, small, at) = absurd (omega (arith, small))
-
-  bound_inside : (g : List Type') (n : ℕ) (t : Type') → slice_get g n ≡ Some t → Contains (things (length g) (Bound n)) x → IsName i x
-  bound_inside g n t at has =
-      let low = slice_get_within g n t at in
-      let test : nat_lt n (length g) ≡ true = grind (arith, nat_tests, low) in
-      absurd (no_member Thing x (subst (λ (b : Bool). Contains (if b then [] else Variable (n - length g) ∷ []) x) test has))
-
-  pub named : (m : Term) (g : List Type') (t : Type') → Typed i g m t → Contains (things (length g) m) x → IsName i x
-  named Skip g t h has = absurd (no_member Thing x has)
-  named (Lit k w) g t h has = absurd (no_member Thing x has)
-  named (Bound n) g t h has = bound_inside g n t h has
-  named (Import y) g t h has = one_named y t h has
-  named (Lam a m) g t (b, e, h) has = named m (a ∷ g) b h has
-  named (App m n) g t (a, h, k, apart) has =
-      of_two (things (length g) m) (things (length g) n) x (IsName i x) (named m g (Fun a t) h) (named n g a k) has
-  named (Both m n) g t (a, b, e, h, k) has =
-      of_two (things (length g) m) (things (length g) n) x (IsName i x) (named m g a h) (named n g b k) has
-  named (Fst m) g t (b, h) has = named m g (Pair t b) h has
-  named (Snd m) g t (a, h) has = named m g (Pair a t) h has
-  named (Seq m n) g t (d, h, k) has =
-      of_two (things (length g) m) (things (length g) n) x (IsName i x) (named m g Com h) (named n g t k) has
-  named (Par m n) g t (e, h, k, apart) has =
-      of_two (things (length g) m) (things (length g) n) x (IsName i x) (named m g Com h) (named n g Com k) has
-  named (If m n p) g t (d, h, k, l) has =
-      of_two (things (length g) m) (things (length g) n ++ things (length g) p) x (IsName i x) (named m g (Exp 1) h)
-      (of_two (things (length g) n) (things (length g) p) x (IsName i x) (named n g t k) (named p g t l)) has
-  named (While m n) g t (e, h, k) has =
-      of_two (things (length g) m) (things (length g) n) x (IsName i x) (named m g (Exp 1) h) (named n g Com k) has
-  named (Assign m n) g t (w, e, h, k) has =
-      of_two (things (length g) m) (things (length g) n) x (IsName i x) (named m g (Var w) h) (named n g (Exp w) k) has
-  named (Deref m) g t (w, e, h) has = named m g (Var w) h has
-  named (New w m) g t (d, k, h) has = named m (Var w ∷ g) t h has
-  named (Not m) g t (w, e, h) has = named m g (Exp w) h has
-  named (Bin op m n) g t (w, e, h, k) has =
-      of_two (things (length g) m) (things (length g) n) x (IsName i x) (named m g (Exp w) h) (named n g (Exp w) k) has
-  named m g t h has = absurd h
-
+-- terms under imports of other names share nothing
 pub are_apart : (i j : Imports) (m n : Term) (t u : Type') → HaveOtherNames i j → Typed i [] m t → Typed j [] n u → Apart m n
 are_apart i j m n t u other h k x in_m in_n =
-    let one = named i x m [] t h in_m in
-    let two = named j x n [] u k in_n in
+    let one = named i x m 0 [] t (omega arith) h in_m in
+    let two = named j x n 0 [] u (omega arith) k in_n in
     let both : Named one.import.name ≡ Named two.import.name = sym one.same ∙ two.same in
     let same : one.import.name ≡ two.import.name = cc both in
     other one.import two.import one.has two.has same

@@ -7,11 +7,11 @@ use Rattle.gos_model.specs.Stores.{Store}
 use Rattle.gos_model.specs.Typing.{Imports}
 use Rattle.gos_model.specs.Reach.{Unfolds}
 use Rattle.gos_model.specs.Moves.{Program, Config, Idle, Running, Act, Computing, Showing, Move, ActsTo, Stalled}
+use Rattle.gos_model.proofs.HeadLemmas.{IsReady}
 use Rattle.gos_plan.specs.Plans.{Plan}
 use Rattle.gos_realises.specs.Matched.{RealisesDone}
-use Rattle.gos_heads.proofs.OneWayLemmas.{IsReady}
-use Rattle.gos_heads.proofs.SimulationLemmas.{Follows, followed_is_realised}
-use Rattle.gos_heads.proofs.ReadyLemmas.{more, stalls_before}
+use Rattle.gos_realises.proofs.SimulationLemmas.{Follows, followed_is_realised}
+use Rattle.gos_realises.proofs.ReadyLemmas.{more, stalls_before}
 
 -- an assignment of a literal: nothing in it unfolds, and all that it does is to hold the literal
 no_unfolding : (m v : Term) (k w : ℕ) → Unfolds (Assign m (Lit k w)) v → ⊥

@@ -10,9 +10,11 @@ use Rattle.gos_plan.specs.Plans.{End, PartEnd, ImportEnd, ResultEnd, Joint, Plan
 use Rattle.gos_plan.specs.Joining.{Place, Link, Wiring, Path, Connects, origin, IsJoining}
 use Rattle.gos_plan.proofs.JointLemmas.{IsIn, same_is, contained}
 use Rattle.gos_plan.proofs.JointLemmas as joints
+use Rattle.gos_plan.proofs.DecidedLemmas.{Told, both}
 use Rattle.gos_realises.specs.Links.{contact_of, contact_in, EndsFit, LinkFits, LinksFit}
-use Rattle.gos_joined.proofs.ReachLemmas.{Told, both, told_number, told_path, Step, Paths, paths_then, paths_back}
-use Rattle.gos_joined.proofs.StepLemmas.{in_list, one_outside}
+use Rattle.gos_realises.proofs.PlaceLemmas.{place_of}
+use Rattle.gos_joined.proofs.ReachLemmas.{told_number, told_path, Step, Paths, paths_then, paths_back}
+use Rattle.gos_joined.proofs.StepLemmas.{one_outside}
 use Rattle.gos_joined.specs.Joined.{FittingIsJoined}
 use Rattle.gos_joined.proofs.OriginLemmas.{whole, at_origin, one_origin}
 
@@ -51,7 +53,7 @@ step_bits w fit a b (inl (p, j, same, is, has, ways)) = by_way (joints.fits p []
     by_way (q, v, asked, served) (inl (e, f)) = ap plain (at_a j.asking e ∙ asked) ∙ sym (ap plain (at_b j.serving f ∙ served))
     by_way (q, v, asked, served) (inr (e, f)) = ap plain (at_a j.serving e ∙ served) ∙ sym (ap plain (at_b j.asking f ∙ asked))
 step_bits w fit a b (inr (l, has, ways)) =
-    let (k, at) = in_list w.links l has in
+    let (k, at) = place_of w.links l has in
     let bits = link_bits w l (fit.each k l at) in
     elim ways [
       | inl (e, f) ↦ ap (λ (x : Place). plain (contact_of w x)) e ∙ (bits ∙ ap (λ (x : Place). plain (contact_of w x)) (sym f))

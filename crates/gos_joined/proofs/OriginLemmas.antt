@@ -7,7 +7,8 @@ use Rattle.gos_plan.specs.Kinds.{Part, Contact, contacts_of}
 use Rattle.gos_plan.specs.Plans.{End, PartEnd, ImportEnd, ResultEnd, Joint, Plan, contact_at, contacts_of_part, contacts_of_import, turned_if}
 use Rattle.gos_plan.specs.Joining.{Place, place, Link, Wiring, all_parts, all_weight, is_at_import, is_joined, LeftImport, left_in, left_among, all_left, part_place, left_place, origin, contacts_of_result}
 use Rattle.gos_realises.specs.Links.{contact_of, contact_in, StandsIn, LinksFit}
-use Rattle.gos_joined.proofs.StepLemmas.{IsOutside, in_list, stands_link}
+use Rattle.gos_realises.proofs.PlaceLemmas.{place_of}
+use Rattle.gos_joined.proofs.StepLemmas.{IsOutside, stands_link}
 
 -- the joining, with these joints
 abbrev pub whole : Wiring → List Joint → Plan
@@ -258,7 +259,7 @@ at_origin w fit js (ImportEnd i h) c e =
       inr
           (λ b linked.
           let (m, has, ways) = linked in
-          let (n, at) = in_list w.links m has in
+          let (n, at) = place_of w.links m has in
           no_link w.links l.plan l.number h m n at (stands_link m (place l.plan (ImportEnd l.number h)) b ways) there.at.stays),
     )
 at_origin w fit js (ResultEnd h) c e = by_contact (slice_get (contacts_of w.outcome) h) refl e
@@ -271,7 +272,7 @@ at_origin w fit js (ResultEnd h) c e = by_contact (slice_get (contacts_of w.outc
           inr
               (λ b linked.
               let (m, has, ways) = linked in
-              let (n, at) = in_list w.links m has in
+              let (n, at) = place_of w.links m has in
               left.1 n m at (stands_link m (place w.giver (ResultEnd (w.skipped + h))) b ways)),
         )
 

@@ -4,14 +4,7 @@ use Rattle.std.proofs.Common.{refl, sym, ◌∙◌, ap, subst, arith, inl, inr}
 use Rattle.gos_plan.specs.Plans.{End, Joint, Plan, same_end}
 use Rattle.gos_plan.specs.Joining.{Place, place, Link, Wiring, JoinedWithin, Linked, Path}
 use Rattle.gos_plan.proofs.JointLemmas.{same_itself, same_is}
-
-abbrev pub Told : Type 0 → Type 0
-Told A = A ⊎ (A → ⊥)
-
-pub both : {A B : Type 0} → Told A → Told B → Told (A × B)
-both (inl a) (inl b) = inl (a, b)
-both (inl a) (inr fails) = inr (λ h. fails h.1)
-both (inr fails) b = inr (λ h. fails h.0)
+use Rattle.gos_plan.proofs.DecidedLemmas.{Told, both}
 
 pub one_of : {A B : Type 0} → Told A → Told B → Told (A ⊎ B)
 one_of (inl a) b = inl (inl a)

@@ -1,17 +1,18 @@
 -- The joints and links of a wiring whose links fit make chains.
 --
 -- An end is seen by its joint as the plan has it. Its link sees a part's end so too, and a port's from the other side.
-use Rattle.std.specs.Prelude.{◌≡◌, ◌≢◌, ℕ, zero, suc, ◌||◌, Bool, true, false, IsTrue, List, [], ◌∷◌, ◌⊎◌, Option, Some, None, Contains, slice_get}
-use Rattle.std.proofs.Common.{refl, sym, ◌∙◌, ap, subst, arith, inl, inr}
+use Rattle.std.specs.Prelude.{◌≡◌, ◌≢◌, ℕ, zero, suc, ◌||◌, Bool, true, false, [], ◌⊎◌, Option, Some, None, Contains, slice_get}
+use Rattle.std.proofs.Common.{refl, sym, ◌∙◌, ap, subst, inl, inr}
 use Rattle.gos_types.specs.declared.shakes.Role.{Role}
 use Rattle.gos_types.specs.declared.shakes.Role.TheVariants.{Serve, Ask}
 use Rattle.gos_types.specs.Handshakes.{turned}
 use Rattle.gos_plan.specs.Kinds.{Contact, asks, serves}
-use Rattle.gos_plan.specs.Plans.{End, PartEnd, ImportEnd, ResultEnd, Joint, Plan, contact_at, same_end, stands_in, is_free, Fits, IsRight}
+use Rattle.gos_plan.specs.Plans.{End, PartEnd, ImportEnd, ResultEnd, Joint, Plan, contact_at, same_end, stands_in, Fits, IsRight}
 use Rattle.gos_plan.specs.Joining.{Place, Link, Wiring, JoinedWithin, Linked, Path}
-use Rattle.gos_plan.proofs.JointLemmas.{IsIn, same_itself, one_joint, contained}
+use Rattle.gos_plan.proofs.JointLemmas.{IsIn, same_itself, one_joint, contained, free_later}
 use Rattle.gos_plan.proofs.JointLemmas as joints
 use Rattle.gos_realises.specs.Links.{contact_of, contact_in, IsUnjoined, EndsFit, LinkFits, StandsIn, LinksFit}
+use Rattle.gos_realises.proofs.PlaceLemmas.{place_of}
 use Rattle.gos_joined.proofs.ReachLemmas.{place_is, Step, Paths}
 use Rattle.gos_joined.proofs.ChainLemmas.{Chains, Walk, IsOnly, one_end}
 
@@ -76,12 +77,6 @@ stands j e b (inr (at, is)) =
     subst (λ (x : End). stands_in x j ≡ true) (sym at)
     (ap (λ (t : Bool). same_end j.serving j.asking || t) (same_itself j.serving) ∙ or_right (same_end j.serving j.asking))
 
-pub free_later : (e : End) (before : List Joint) (j : Joint) → IsIn j before → IsTrue (is_free e before) → stands_in e j ≡ true → ⊥
-free_later e [] j h f t = h
-free_later e (x ∷ xs) j (inl i) f t =
-    let u : stands_in e x ≡ true = subst (λ (y : Joint). stands_in e y ≡ true) i t in grind (arith, f, u)
-free_later e (x ∷ xs) j (inr i) f t = free_later e xs j i (grind (arith, f)) t
-
 joined_one : (w : Wiring) → LinksFit w → (a b c : Place) → JoinedWithin w a b → JoinedWithin w a c → b ≡ c
 joined_one w fit a b c (p, j, same, is, has, ways) (q, k, same_too, is_too, has_too, ways_too) =
     let right : IsRight p = fit.right a.plan p is in
@@ -123,11 +118,6 @@ joined_roles w fit a b (p, j, same, is, has, ways) = by_way (joints.fits p [] p.
         (Serve, ap joint_role (at_a j.serving e ∙ served), ap joint_role (at_b j.asking f ∙ asked))
 
 -- links
-pub in_list : {X : Type 0} (xs : List X) (x : X) → Contains xs x → (k : ℕ) × (slice_get xs k ≡ Some x)
-in_list [] x (k, small, e) = absurd (omega (arith, small))
-in_list (y ∷ xs) x (zero, small, e) = (0, ap Some e)
-in_list (y ∷ xs) x (suc k, small, e) = let (n, is) = in_list xs x (k, omega (arith, small), e) in (suc n, is)
-
 abbrev Between : Link → Place → Place → Type 0
 Between l a b = ((a ≡ l.one) × (b ≡ l.other)) ⊎ ((a ≡ l.other) × (b ≡ l.one))
 
@@ -143,8 +133,8 @@ other_place l apart a b c (inr (at, is)) (inr (at_too, is_too)) = is ∙ sym is_
 
 linked_one : (w : Wiring) → LinksFit w → (a b c : Place) → Linked w a b → Linked w a c → b ≡ c
 linked_one w fit a b c (l, has, ways) (m, has_too, ways_too) =
-    let (j, at_j) = in_list w.links l has in
-    let (k, at_k) = in_list w.links m has_too in
+    let (j, at_j) = place_of w.links l has in
+    let (k, at_k) = place_of w.links m has_too in
     let same : j ≡ k = fit.once j k l m a at_j at_k (stands_link l a b ways) (stands_link m a c ways_too) in
     let there : Some l ≡ Some m = sym at_j ∙ (ap (slice_get w.links) same ∙ at_k) in
     let l_is : l ≡ m = cc there in
@@ -162,7 +152,7 @@ fit_seen w a b c d (ResultEnd h) (ImportEnd j g) fit = ap (λ (x : Contact). tur
 fit_seen w a b c d (ResultEnd h) (ResultEnd g) fit = ap (λ (x : Contact). turned x.role) fit
 
 link_fits : (w : Wiring) → LinksFit w → (l : Link) → Contains w.links l → LinkFits w l
-link_fits w fit l has = let (k, at) = in_list w.links l has in fit.each k l at
+link_fits w fit l has = let (k, at) = place_of w.links l has in fit.each k l at
 
 abbrev role_at_link : Wiring → Place → Option Role
 role_at_link w a = link_role a.end (contact_of w a)

@@ -1,27 +1,19 @@
 -- A plan that is quiet after its request, without an answer or an output, realises no command and no expression.
-use Rattle.std.specs.Prelude.{◌≡◌, ◌⊎◌, suc, Bool, true, false, IsTrue, List, [], ◌∷◌, ◌++◌, Contains, None}
-use Rattle.std.proofs.Common.{refl, sym, ◌∙◌, ap, subst, arith, inl, inr}
+use Rattle.std.specs.Prelude.{◌≡◌, List, [], ◌∷◌, ◌++◌}
+use Rattle.std.proofs.Common.{refl, sym, ◌∙◌, subst}
 use Rattle.gos_types.specs.Types.{Type', IsDone}
 use Rattle.gos_model.specs.Terms.{Term}
 use Rattle.gos_model.specs.Labels.{given}
-use Rattle.gos_model.specs.Moves.{Program, Config, Idle, Running, Act, Computing, Showing, Moves, labels}
+use Rattle.gos_model.specs.Moves.{Program, Config, Idle, Running, Act, Moves, labels}
 use Rattle.gos_model.specs.Protocol.{KeepsProtocol}
-use Rattle.gos_plan.specs.Plans.{End, Joint, Plan, stands_in}
-use Rattle.gos_plan.specs.Tokens.{Tokens, Element, asking_in, Runs, IsQuiet}
+use Rattle.gos_model.proofs.MoveLemmas.{moves_then, labels_then}
+use Rattle.gos_plan.specs.Plans.{Plan}
+use Rattle.gos_plan.specs.Tokens.{Tokens, Element, Runs, IsQuiet}
 use Rattle.gos_realises.specs.Matched.{all_shown, Agrees, IsMatched, program_of, RealisesDone}
 use Rattle.gos_realises.specs.Realises.{Suits}
 use Rattle.gos_progress.proofs.WaitLemmas.{source_waits, unasked}
 use Rattle.gos_progress.proofs.ProgressLemmas.{unasked_runs_go_on}
 use Rattle.gos_joints.proofs.TokenLemmas.{resting, resting_idle}
-
-append_moves : (g : Program) (xs ys : List Act) (a b e : Config) → Moves g xs a b → Moves g ys b e → Moves g (xs ++ ys) a e
-append_moves g [] ys a b e same after = subst (λ (x : Config). Moves g ys x e) (sym same) after
-append_moves g (x ∷ xs) ys a b e (m, move, moves) after = (m, move, append_moves g xs ys m b e moves after)
-
-append_labels : (xs ys : List Act) → labels (xs ++ ys) ≡ labels xs ++ labels ys
-append_labels [] ys = refl
-append_labels (Computing ∷ xs) ys = append_labels xs ys
-append_labels (Showing o ∷ xs) ys = ap (λ ls. o ∷ ls) (append_labels xs ys)
 
 -- where a matched list ends
 abbrev Ends : Plan → Program → List Element → Tokens → Config → Type 0
@@ -32,7 +24,7 @@ ends p g [] s t a matched runs = ([], a, refl, refl, subst (λ (x : Tokens). Agr
 ends p g (x ∷ xs) s t a matched (w, does, runs) =
     let (acts, b, moves, shown, goes, rest) = matched.1 w does in
     let (others, e, then, told, agrees) = ends p g xs w t b rest runs in
-    (acts ++ others, e, append_moves g acts others a b e moves then, append_labels acts others ∙ (λ i. shown i ++ told i), agrees)
+    (acts ++ others, e, moves_then g acts others a b e moves then, labels_then acts others ∙ (λ i. shown i ++ told i), agrees)
 
 pub never_quiet : (p : Plan) (t : Type') (m : Term) (xs : List Element) (s : Tokens)
     → IsDone t → Suits t p m → RealisesDone p m → Runs p xs resting s → all_shown p xs ≡ given 0 0 ∷ [] → IsQuiet p s → ⊥
@@ -47,16 +39,3 @@ never_quiet p t m xs s done suits realises runs shown quiet =
         unasked (program_of p m) acts Idle (source_waits p.imports [] m t suits.typed) moves (e ∙ shown)
     by_end (acts, Running u store, moves, e, agrees) =
         unasked_runs_go_on (program_of p m) t acts u store suits.all_ground suits.typed done moves (e ∙ shown) (agrees.0 quiet)
-
--- an end stands in a joint, or has no places
-abbrev pub Found : List Joint → End → Type 0
-Found js e = (j : Joint) × Contains js j × IsTrue (stands_in e j)
-
-pub joint_or_none : (js : List Joint) (e : End) → Found js e ⊎ (asking_in js e ≡ None)
-joint_or_none [] e = inr refl
-joint_or_none (j ∷ js) e = tested (stands_in e j) refl (joint_or_none js e)
-  where
-    tested : (b : Bool) → stands_in e j ≡ b → Found js e ⊎ (asking_in js e ≡ None) → Found (j ∷ js) e ⊎ (asking_in (j ∷ js) e ≡ None)
-    tested true s r = inl (j, (0, omega arith, refl), s)
-    tested false s (inl (k, (n, less, here), st)) = inl (k, (suc n, omega (arith, less), here), st)
-    tested false s (inr none) = inr (rw s none)

@@ -30,7 +30,8 @@ use Rattle.gos_buffers.proofs.ReadingLemmas.{ReadOwn, read_is_driven}
 use Rattle.gos_buffers.proofs.WritingLemmas.{WriteOwn, write_is_driven}
 use Rattle.gos_joints.specs.Joints.{VariableIsJoined}
 use Rattle.gos_joints.proofs.TokenLemmas.{resting, Only, put_there, state_kept, empty_quiet, request, comes, fires, puts_one, loses_one, state_after}
-use Rattle.gos_joints.proofs.LostLemmas.{never_quiet, Found, joint_or_none}
+use Rattle.gos_joints.proofs.LostLemmas.{never_quiet}
+use Rattle.gos_progress.proofs.RealiserLemmas.{Found, joint_or_none}
 
 or_cases : (a b : Bool) → (a || b) ≡ true → (a ≡ true) ⊎ (b ≡ true)
 or_cases true b t = inl refl

@@ -16,9 +16,9 @@ use Rattle.gos_realises.specs.Wirings.{lone}
 use Rattle.gos_realises.specs.Realises.{AllGround, NamesDiffer, Realises}
 use Rattle.gos_webs.specs.Webs.{Dot, Of, Number, Node, Within, Tie, Way, here, own_web}
 use Rattle.gos_webs.proofs.WebLemmas.{right_is_of_its_web}
+use Rattle.gos_webs.proofs.WayLemmas.{one_way}
 use Rattle.gos_compile.specs.Wiring.{Types, row, led, closed_part}
 use Rattle.gos_wired.specs.Wired.{dot_of, Supplies, Source, Own, Supplied, Placing, IsFrom, source_dot, wired_ties, IsWired}
-use Rattle.gos_wired.proofs.WayLemmas.{one_way}
 use Rattle.gos_loose.specs.Homes.{AreHome}
 use Rattle.gos_literals.proofs.NumberLemmas.{literal_is_realised}
 use Rattle.gos_literals.proofs.LeafLemmas.{done_is_realised}

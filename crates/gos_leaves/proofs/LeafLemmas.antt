@@ -10,9 +10,9 @@ use Rattle.gos_plan.specs.Plans.{End, PartEnd, ImportEnd, ResultEnd, Plan, conta
 use Rattle.gos_plan.specs.TokenBits.{LiteralFits}
 use Rattle.gos_realises.specs.Realises.{AllGround, NamesDiffer, Realises}
 use Rattle.gos_webs.specs.Webs.{Dot, Of, Within, Tie, tie, Web, Way, joint, IsOfWeb}
+use Rattle.gos_webs.proofs.WayLemmas.{way_then, way_back, mapped_way}
 use Rattle.gos_compile.specs.Wiring.{Types, parts_of}
 use Rattle.gos_wired.specs.Wired.{Supplies, Source, Origin, Placing, IsFrom, placed, source_dot, dot_at, wired_ties, wired_web, IsWired}
-use Rattle.gos_wired.proofs.WayLemmas.{way_then, way_back, mapped_way}
 use Rattle.gos_loose.specs.Beside as beside
 use Rattle.gos_loose.specs.Beside.{IsLoose, LiesIn, IsBeside}
 use Rattle.gos_loose.specs.Homes.{AreHome, IsHome}

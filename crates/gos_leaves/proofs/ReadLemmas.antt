@@ -23,6 +23,7 @@ use Rattle.gos_joined.proofs.OriginLemmas.{before}
 use Rattle.gos_joined.proofs.WholeLemmas.{variables_are_joined}
 use Rattle.gos_webs.specs.Webs.{Dot, Of, Number, Node, Within, Tie, tie, Web, Way, here, along, IsOfWeb, own_web}
 use Rattle.gos_webs.proofs.WebLemmas.{right_is_of_its_web}
+use Rattle.gos_webs.proofs.WayLemmas.{one_way}
 use Rattle.gos_unions.specs.Unions.{within, all_within, dot_at, link_ties, union}
 use Rattle.gos_unions.proofs.UnionLemmas.{Image, of_image, in_image, joining_is_union}
 use Rattle.gos_unions.proofs.DeepLemmas.{place_of_part}
@@ -30,7 +31,6 @@ use Rattle.gos_unions.proofs.FlatFitLemmas.{links_stand}
 use Rattle.gos_compile.specs.Wiring.{Types, row, ties_of}
 use Rattle.gos_wired.specs.Wired.{dot_of, Supplies, Source, Own, Supplied, Origin, IsFrom, source_dot, wired_ties}
 use Rattle.gos_wired.proofs.NumberLemmas.{PartOf, part_of, part_there}
-use Rattle.gos_wired.proofs.WayLemmas.{one_way}
 use Rattle.gos_loose.specs.Homes.{AreHome}
 use Rattle.gos_leaves.specs.Leaves.{ReadIsRealised}
 use Rattle.gos_leaves.proofs.TieLemmas.{if_number, same_number, other_number, own_tie, inner_tie, outer_tie, by_tie}

@@ -10,9 +10,9 @@ use Rattle.gos_ties.specs.declared.points.Tie as point_ties
 use Rattle.gos_realises.specs.Regular.{count}
 use Rattle.gos_webs.specs.Webs.{Dot, Of, Number, Node, Within, Tie, tie, Web, Way, here, along, own_web}
 use Rattle.gos_webs.proofs.WebLemmas.{right_is_of_its_web}
+use Rattle.gos_webs.proofs.WayLemmas.{one_way}
 use Rattle.gos_compile.specs.Wiring.{Types, row, led}
 use Rattle.gos_wired.specs.Wired.{dot_of, Supplies, Source, Own, Supplied, Origin, IsFrom, source_dot, wired_ties}
-use Rattle.gos_wired.proofs.WayLemmas.{one_way}
 use Rattle.gos_loose.specs.Homes.{AreHome}
 use Rattle.gos_leaves.specs.Leaves.{UseIsRealised}
 use Rattle.gos_leaves.proofs.TieLemmas.{if_number, same_number, other_number, row_tie, of_row, in_row, shake_there, own_tie, inner_tie, outer_tie, by_tie}

@@ -14,7 +14,7 @@ use Rattle.gos_leaves.proofs.SplitLemmas.{leaves_have_no_splits}
 use Rattle.gos_leaves.proofs.LostLemmas.{is_loc, UsesStand, uses_stand, lost_in, lost, sides_made, row_uses, below_loc}
 use Rattle.gos_leaves.proofs.StandLemmas.{lost_uses, loc_first, none_lost}
 
-two_none : (ss ts : List Split) → ss ++ ts ≡ [] → (ss ≡ []) × (ts ≡ [])
+pub two_none : (ss ts : List Split) → ss ++ ts ≡ [] → (ss ≡ []) × (ts ≡ [])
 two_none [] ts e = (refl, e)
 two_none (s ∷ ss) ts e = absurd (cc e)
 

@@ -10,10 +10,11 @@ use Rattle.gos_model.specs.Typing.{Imported, import_type}
 use Rattle.gos_model.specs.Linking.{or_import, supplied, Instances, body_at, giver_of, with_giver, linked}
 use Rattle.gos_plan.specs.Plans.{Plan}
 use Rattle.gos_realises.specs.Realises.{NamesDiffer}
+use Rattle.gos_realises.proofs.PlaceLemmas.{differ_at}
 use Rattle.gos_link.specs.declared.services.Service.{Service}
 use Rattle.gos_link.specs.Services.{HasService}
 use Rattle.gos_link.specs.Linked.{imports_of}
-use Rattle.gos_renumbered.proofs.ImportLemmas.{name_is, of_at}
+use Rattle.gos_renumbered.proofs.ImportLemmas.{name_is}
 use Rattle.gos_applied.proofs.TermLemmas.{supplied_same}
 use Rattle.gos_served.specs.Trees.{first, after, served_by, term_among, Serve, left_of, meaning, names_of, body_of}
 use Rattle.gos_served.proofs.TypeLemmas.{or_itself, with_names}
@@ -92,16 +93,6 @@ module _ (gs : ℕ → Option Service) (f : ℕ → Grown) (lefts : (k : ℕ) (s
         ∙ (from_meaning (suc k) (is ++ x ∷ []) xs (ts ++ t ∷ []) sizes
         ∙ ap (λ (l : List Term). supplied (term_among p.imports l) m) (append_assoc ts (t ∷ []) (given gs bodies (suc k) xs)))
 
--- names that differ have different numbers
-at_names : (is : List Imported) → NamesDiffer is → (i j : ℕ) (x y : Imported) → slice_get is i ≡ Some x → slice_get is j ≡ Some y → x.name ≡ y.name → i ≡ j
-at_names [] differ i j x y at_x at_y e = absurd (cc at_x)
-at_names (z ∷ is) differ zero zero x y at_x at_y e = refl
-at_names (z ∷ is) differ zero (suc j) x y at_x at_y e =
-    let here : z ≡ x = cc at_x in absurd (differ.0 y (of_at is j y at_y) (ap (λ (r : Imported). r.name) here ∙ e))
-at_names (z ∷ is) differ (suc i) zero x y at_x at_y e =
-    let here : z ≡ y = cc at_y in absurd (differ.0 x (of_at is i x at_x) (ap (λ (r : Imported). r.name) here ∙ sym e))
-at_names (z ∷ is) differ (suc i) (suc j) x y at_x at_y e = ap suc (at_names is differ.1 i j x y at_x at_y e)
-
 pub own_name : (x : Name) → bytes_eq x x ≡ true
 own_name x = grind (arith, bytes_eq-Decides)
 
@@ -121,7 +112,7 @@ same_test is differ i j x y at_x at_y = by_test (nat_eq i j) refl
         let both : Some x ≡ Some y = sym at_x ∙ (ap (slice_get is) (is_same i j test) ∙ at_y) in
         let one : x ≡ y = cc both in
         ap (λ (z : Imported). bytes_eq x.name z.name) (sym one) ∙ own_name x.name
-    by_test false test = other_name x.name y.name (λ e. is_other i j test (at_names is differ i j x y at_x at_y e))
+    by_test false test = other_name x.name y.name (λ e. is_other i j test (differ_at is differ i j x y at_x at_y e))
 
 abbrev pub giver_if : Option Service → Option ℕ
 giver_if None = None

@@ -10,8 +10,8 @@ use Rattle.gos_plan.specs.Seen.{SeenPlan}
 use Rattle.gos_plan.specs.Joining.{Link, is_at_import, is_joined, LeftImport, left_in, left_among, all_left}
 use Rattle.gos_realises.specs.Regular.{count}
 use Rattle.gos_realises.specs.Realises.{AllGround, NamesDiffer}
-use Rattle.gos_applied.proofs.OpenedLemmas.{some_shake}
-use Rattle.gos_renumbered.proofs.ImportLemmas.{at_of}
+use Rattle.gos_realises.proofs.CountLemmas.{some_shake}
+use Rattle.gos_realises.proofs.PlaceLemmas.{place_of}
 use Rattle.gos_link.specs.declared.build.Build.{Build}
 use Rattle.gos_link.specs.declared.build.Instance.{Instance}
 use Rattle.gos_link.specs.declared.services.Service.{Service}
@@ -38,7 +38,7 @@ differ_in : (ls : List LeftImport)
 differ_in [] apart = tt
 differ_in (l ∷ ls) apart = (
   λ z has.
-      let (n, at) = at_of (map import_of ls) z has in
+      let (n, at) = place_of (map import_of ls) z has in
       let (y, at_y, is) = image import_of ls n z at in
       λ e. apart 0 (suc n) l y (omega arith) refl at_y (e ∙ ap (λ (r : Imported). r.name) (sym is)),
   differ_in ls (λ i j x y less at_x at_y. apart (suc i) (suc j) x y (omega (arith, less)) at_x at_y),

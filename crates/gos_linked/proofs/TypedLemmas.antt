@@ -9,13 +9,13 @@ use Rattle.gos_model.specs.Typing.{Imported, Imports, import_type, Named, things
 use Rattle.gos_model.specs.Linking.{Instances, body_at, linked}
 use Rattle.gos_plan.specs.Plans.{Plan}
 use Rattle.gos_realises.specs.Realises.{NamesDiffer}
+use Rattle.gos_realises.proofs.PlaceLemmas.{differ_first, differ_second, differ_between}
 use Rattle.gos_link.specs.declared.services.Service.{Service}
 use Rattle.gos_link.specs.Services.{HasService}
 use Rattle.gos_renumbered.proofs.ImportLemmas.{name_is}
 use Rattle.gos_typing.specs.Supplied.{AreTyped, ShareNothing}
 use Rattle.gos_typing.proofs.NameLemmas.{typed_under}
 use Rattle.gos_typing.proofs.WhenceLemmas.{named, with_supplies}
-use Rattle.gos_applied.proofs.TermLemmas.{differ_first, differ_second, differ_between}
 use Rattle.gos_served.specs.Trees.{term_among}
 use Rattle.gos_linked.specs.Linked.{binds_of}
 use Rattle.gos_linked.proofs.ChainLemmas.{IsRooted, Below, reached, same_level, giver_low}

@@ -8,6 +8,7 @@ use Rattle.gos_model.specs.Typing.{Imported, import_type}
 use Rattle.gos_model.specs.Labels.{Port, Given, Taken, Label}
 use Rattle.gos_model.specs.Moves.{Program, Config, Idle, Running, Act, Move, Moves, Stalled}
 use Rattle.gos_model.specs.Protocol.{FitsAnswer, event_of, Allowed, KeepsAfter, KeepsProtocol}
+use Rattle.gos_model.proofs.MoveLemmas.{moves_then}
 use Rattle.gos_plan.specs.Kinds.{Contact}
 use Rattle.gos_plan.specs.Firing.{Rest, Req, Ans}
 use Rattle.gos_plan.specs.Plans.{End, PartEnd, ImportEnd, ResultEnd, Plan, contact_at}
@@ -18,7 +19,7 @@ use Rattle.gos_realises.specs.Matched.{port_if, event_number, label_at, shows, a
 use Rattle.gos_realises.specs.Realises.{AllGround, NamesDiffer}
 use Rattle.gos_contexts.specs.Widening.{AreAmong, Knows}
 use Rattle.gos_contexts.proofs.WideningLemmas.{runs_known, move_widens, waits_widely}
-use Rattle.gos_renumbered.proofs.ImportLemmas.{at_of, of_at}
+use Rattle.gos_realises.proofs.PlaceLemmas.{place_of, contains_at}
 use Rattle.gos_loose.specs.Beside.{Placing, placed}
 use Rattle.gos_loose.proofs.PlacedLemmas.{IsPlaced, end_in, placed_in, contact_placed}
 use Rattle.gos_loose.proofs.TokenLemmas.{set, set_list, own_tokens, own_idle, token_own, firing_own, does_own, runs_own, quiet_own}
@@ -28,11 +29,7 @@ use Rattle.gos_loose.proofs.ProtocolLemmas.{none_shut, all_kept}
 use Rattle.gos_loose.proofs.ImportLemmas.{AllAmong, among, named_type}
 
 pub own_imports : (f : Placing) (r c : Plan) → IsPlaced f r c → AllAmong c.imports r.imports
-own_imports f r c is i has = let (n, at) = at_of c.imports i has in of_at r.imports (f.import n) i (is.imports n ∙ at)
-
-moves_after : (p : Program) (xs ys : List Act) (c d e : Config) → Moves p xs c d → Moves p ys d e → Moves p (xs ++ ys) c e
-moves_after p [] ys c d e h k = subst (λ (x : Config). Moves p ys x e) (sym h) k
-moves_after p (a ∷ xs) ys c d e (b, h, hs) k = (b, h, moves_after p xs ys b d e hs k)
+own_imports f r c is i has = let (n, at) = place_of c.imports i has in contains_at r.imports (f.import n) i (is.imports n ∙ at)
 
 module _ (f : Placing) (r c : Plan) (is : IsPlaced f r c) where
   -- what is shown
@@ -93,7 +90,7 @@ module _ (f : Placing) (r c : Plan) (is : IsPlaced f r c) where
     same_if : (o : Option Imported) (i : ℕ) → slice_get c.imports i ≡ o → SameAt (port_if o)
     same_if None i at = tt
     same_if (Some x) i at =
-        let (t, typed) = named_type c.imports x (of_at c.imports i x at) in more x.name t typed ∙ sym typed
+        let (t, typed) = named_type c.imports x (contains_at c.imports i x at) in more x.name t typed ∙ sym typed
 
     same_label : (e : End) (way : Direction) (v : ℕ) → SameAt (label_at c e way v).port
     same_label (PartEnd i h) way v = tt
@@ -150,7 +147,7 @@ module _ (f : Placing) (r c : Plan) (is : IsPlaced f r c) where
               shown ∙ sym (shows_whole y),
               goes_whole y s acts goes,
               matched_whole xs t d (stays_still f r c is y s t still does)
-                  (reached.0 ++ acts, moves_after small reached.0 acts Idle x d reached.1 moves) rest,
+                  (reached.0 ++ acts, moves_then small reached.0 acts Idle x d reached.1 moves) rest,
             ),
       )
 

@@ -15,11 +15,12 @@ use Rattle.gos_realises.specs.Wirings.{lone, link, results_linked}
 use Rattle.gos_realises.specs.Realises.{AllGround, NamesDiffer, HaveOtherNames, Suits, Means, Realises}
 use Rattle.gos_realises.proofs.LiteralLemmas.{no_literals, reading_literals, writing_literals, literals_append, literals_joined}
 use Rattle.gos_contexts.proofs.WideningLemmas.{sources_known}
+use Rattle.gos_realises.proofs.PlaceLemmas.{differ_both}
 use Rattle.gos_joined.proofs.WholeLemmas.{applied_is_joined, sides_are_joined, variables_are_joined}
 use Rattle.gos_loose.specs.Beside.{Placing}
 use Rattle.gos_loose.proofs.PlacedLemmas.{IsPlaced}
 use Rattle.gos_loose.proofs.RegularLemmas.{whole_regular}
-use Rattle.gos_loose.proofs.ImportLemmas.{among, typed_more, ground_both, names_both}
+use Rattle.gos_loose.proofs.ImportLemmas.{among, typed_more, ground_both}
 use Rattle.gos_loose.proofs.DoneLemmas.{own_imports, whole_done}
 use Rattle.gos_loose.proofs.LeftLemmas.{ArePlain, all_imports}
 use Rattle.gos_loose.proofs.JoinedLemmas.{wiring, numbers, large_imports, joinings_placed}
@@ -42,7 +43,7 @@ no_others : (is : Imports) → HaveOtherNames is []
 no_others is i j has (k, small, e) = absurd (omega (arith, small))
 
 more_fine : (is js : Imports) → Fine is → Fine js → HaveOtherNames is js → Fine (is ++ js)
-more_fine is js one other apart = (ground_both is js one.0 other.0, names_both is js one.1 other.1 apart)
+more_fine is js one other apart = (ground_both is js one.0 other.0, differ_both is js one.1 other.1 apart)
 
 append_none : (is : Imports) → is ++ [] ≡ is
 append_none [] = refl

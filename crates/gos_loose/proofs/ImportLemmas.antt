@@ -1,30 +1,18 @@
 -- The imports of the plan are among those of the whole, and so are their names.
-use Rattle.std.specs.Prelude.{◌≡◌, zero, suc, Bool, true, false, List, [], ◌∷◌, ◌++◌, ◌⊎◌, Some, Contains, if◌then◌else◌}
+use Rattle.std.specs.Prelude.{◌≡◌, zero, suc, Bool, true, false, List, [], ◌∷◌, ◌++◌, Some, Contains, if◌then◌else◌}
 use Rattle.std.specs.Str.{bytes_eq}
-use Rattle.std.proofs.Common.{refl, sym, ◌∙◌, ap, subst, arith, inl, inr}
+use Rattle.std.proofs.Common.{refl, ◌∙◌, ap, arith}
 use Rattle.std.proofs.lemmas.Slice.Eq.{bytes_eq-Decides}
 use Rattle.gos_types.specs.Types.{Type', Com, Exp, Var}
-use Rattle.gos_model.specs.Terms.{Name, Term, Skip, Lit, Bound, Import, Lam, App, Both, Fst, Snd, Seq, Par, If, While, Assign, Deref, New, Not, Bin, Loc, Scope, Wait, Held, Put}
+use Rattle.gos_model.specs.Terms.{Term, Skip, Lit, Bound, Import, Lam, App, Both, Fst, Snd, Seq, Par, If, While, Assign, Deref, New, Not, Bin, Loc, Scope, Wait, Held, Put}
 use Rattle.gos_model.specs.Typing.{Imported, Imports, import_type, Typed}
-use Rattle.gos_realises.specs.Realises.{AllGround, NamesDiffer, HaveOtherNames}
+use Rattle.gos_realises.specs.Realises.{AllGround, NamesDiffer}
 use Rattle.gos_contexts.specs.Widening.{AreAmong}
-use Rattle.gos_renumbered.proofs.ImportLemmas.{has_type, name_is}
+use Rattle.gos_renumbered.proofs.ImportLemmas.{has_type, type_has}
 
 -- all of these are among those
 abbrev pub AllAmong : Imports → Imports → Type 0
 AllAmong is js = (i : Imported) → Contains is i → Contains js i
-
-type_has : (is : Imports) → NamesDiffer is → (x : Name) (i : Imported) → Contains is i → bytes_eq i.name x ≡ true → import_type is x ≡ Some i.ty
-type_has [] differ x i (k, small, e) test = absurd (omega (arith, small))
-type_has (j ∷ is) differ x i (zero, small, e) test =
-    let there : bytes_eq j.name x ≡ true = subst (λ (y : Imported). bytes_eq y.name x ≡ true) (sym e) test in
-    (λ k. if there k then Some j.ty else import_type is x) ∙ ap (λ (y : Imported). Some y.ty) e
-type_has (j ∷ is) differ x i (suc k, small, e) test = by_test (bytes_eq j.name x) refl (type_has is differ.1 x i (k, omega (arith, small), e) test)
-  where
-    by_test : (b : Bool) → bytes_eq j.name x ≡ b → import_type is x ≡ Some i.ty → (if b then Some j.ty else import_type is x) ≡ Some i.ty
-    by_test true there rest =
-        absurd (differ.0 i (k, omega (arith, small), e) (name_is j.name x there ∙ sym (name_is i.name x test)))
-    by_test false there rest = rest
 
 pub among : (is js : Imports) → NamesDiffer js → AllAmong is js → AreAmong is js
 among is js differ all x t e =
@@ -69,26 +57,6 @@ typed_more i j all g (Held k op n) t h = h
 typed_more i j all g (Put m k) t h = h
 
 -- imports one after another
-contains_either : (is js : List Imported) (i : Imported) → Contains (is ++ js) i → Contains is i ⊎ Contains js i
-contains_either [] js i has = inr has
-contains_either (x ∷ is) js i (zero, small, e) = inl (zero, omega arith, e)
-contains_either (x ∷ is) js i (suc k, small, e) =
-    elim (contains_either is js i (k, omega (arith, small), e)) [
-      | inl (n, low, at) ↦ inl (suc n, omega (arith, low), at)
-      | inr has ↦ inr has
-    ]
-
 pub ground_both : (is js : List Imported) → AllGround is → AllGround js → AllGround (is ++ js)
 ground_both [] js one other = other
 ground_both (i ∷ is) js one other = (one.0, ground_both is js one.1 other)
-
-pub names_both : (is js : List Imported) → NamesDiffer is → NamesDiffer js → HaveOtherNames is js → NamesDiffer (is ++ js)
-names_both [] js one other apart = other
-names_both (i ∷ is) js one other apart = (
-  λ j has.
-      elim (contains_either is js j has) [
-        | inl own ↦ one.0 j own
-        | inr far ↦ apart i j (zero, omega arith, refl) far
-      ],
-  names_both is js one.1 other (λ x y in_is in_js. apart x y (suc in_is.0, (let low = in_is.1 in omega (arith, low)), in_is.2) in_js),
-)

@@ -1,8 +1,8 @@
 -- The term of a module with its supplies.
-use Rattle.std.specs.Prelude.{◌≡◌, ℕ, zero, suc, Bool, true, false, List, [], ◌∷◌, ◌||◌, Option, Some, nat_eq, slice_get, Contains, if◌then◌else◌}
+use Rattle.std.specs.Prelude.{◌≡◌, ℕ, zero, suc, Bool, true, false, List, [], ◌∷◌, ◌||◌, Option, Some, nat_eq, slice_get, if◌then◌else◌}
 use Rattle.std.specs.Str.{bytes_eq}
 use Rattle.std.proofs.lemmas.Slice.Eq.{bytes_eq-Decides}
-use Rattle.std.proofs.Common.{refl, sym, ◌∙◌, ap, subst, arith}
+use Rattle.std.proofs.Common.{refl, sym, ◌∙◌, ap, subst}
 use Rattle.gos_types.specs.Types.{Type', Com, Exp, Var, Pair, Fun}
 use Rattle.gos_model.specs.Terms as terms
 use Rattle.gos_model.specs.Terms.{Term, Name, Op}
@@ -13,6 +13,7 @@ use Rattle.gos_check.specs.Nodes.{Numbered, Closed, Use, Under, One, Two, If, Bi
 use Rattle.gos_check.specs.Linearity.{import_at}
 use Rattle.gos_realises.specs.Realises.{NamesDiffer}
 use Rattle.gos_realises.specs.Modules.{Supply, term_for}
+use Rattle.gos_realises.proofs.PlaceLemmas.{contains_at}
 use Rattle.gos_meanings.specs.Meanings.{IsLeaf, ModuleIsSupplied, term_or}
 use Rattle.gos_meanings.proofs.MapLemmas.{IsByForms, UsesKnown, IsShifted, mapped}
 use Rattle.gos_meanings.proofs.StillLemmas.{shift_still}
@@ -243,11 +244,6 @@ sources is k = of (at_number is k)
     of (named i at e) = subst IsSource (sym e) tt
     of (located l e) = subst IsSource (sym e) tt
 
-contained_at : (is : Imports) (k : ℕ) (i : Imported) → slice_get is k ≡ Some i → Contains is i
-contained_at [] k i at = absurd (cc at)
-contained_at (j ∷ is) zero i at = (0, omega arith, cc at)
-contained_at (j ∷ is) (suc k) i at = let (n, l, e) = contained_at is k i at in (suc n, omega (arith, l), e)
-
 -- the term for the name of an import is that of its supply
 term_at : (is : Imports) (ss : List Supply) (k : ℕ) (i : Imported) (s : Supply) → NamesDiffer is → slice_get is k ≡ Some i → slice_get ss k ≡ Some s
     → term_for is ss i.name ≡ Some s.term
@@ -261,7 +257,7 @@ term_at (j ∷ is) (u ∷ ss) zero i s differ at_i at_s =
 term_at (j ∷ is) (u ∷ ss) (suc k) i s differ at_i at_s = by_test (bytes_eq j.name i.name) refl (term_at is ss k i s differ.1 at_i at_s)
   where
     by_test : (b : Bool) → bytes_eq j.name i.name ≡ b → term_for is ss i.name ≡ Some s.term → (if b then Some u.term else term_for is ss i.name) ≡ Some s.term
-    by_test true e rest = absurd (differ.0 i (contained_at is k i at_i) ((bytes_eq-Decides j.name i.name).0 e))
+    by_test true e rest = absurd (differ.0 i (contains_at is k i at_i) ((bytes_eq-Decides j.name i.name).0 e))
     by_test false e rest = rest
 
 pub module_is_supplied : ModuleIsSupplied

@@ -1,4 +1,4 @@
-mod SequenceLemmas
+pub mod SequenceLemmas
 mod TraceLemmas
 mod ModuleLemmas
 pub mod ReachLemmas
@@ -8,3 +8,6 @@ mod LatchLemmas
 pub mod SmallPaceLemmas
 mod SilentLemmas
 pub mod StoreLemmas
+pub mod NumberLemmas
+pub mod HeadLemmas
+pub mod MoveLemmas

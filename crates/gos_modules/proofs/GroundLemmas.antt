@@ -9,7 +9,6 @@ use Rattle.gos_check.specs.Nodes.{Numbered, Closed, Use, Under, One, Two, If, Of
 use Rattle.gos_check.specs.Linearity.{used}
 use Rattle.gos_compile.specs.Wiring.{Types}
 use Rattle.gos_compile.specs.Typed.{NodesTyped}
-use Rattle.gos_stages.specs.Inside.{numbers_inside}
 use Rattle.gos_numbers.specs.Kept.{InScope, IsKept}
 use Rattle.gos_numbers.specs.Inherited.{own_numbers, first_numbers, BodyIsKept, PartIsKept, BothAreKept, BothAreParted, ThreeAreKept}
 use Rattle.gos_grounds.specs.Cases.{RealisesWired, UseCase, SkipCase, LiteralCase, ReadCase, ParallelCase, BlockCase}
@@ -17,7 +16,7 @@ use Rattle.gos_runs.specs.Cases.{SequenceCase, ChoiceCase, LoopCase, OperatorCas
 use Rattle.gos_assignments.specs.Sides.{assigning, other_numbers, NumberIsKept}
 use Rattle.gos_assignments.specs.Cases.{AssignCase}
 use Rattle.gos_modules.specs.Modules.{GroundIsRealised}
-use Rattle.gos_modules.proofs.NodeLemmas.{has_leaves, node_ground, in_scope, is_use}
+use Rattle.gos_modules.proofs.NodeLemmas.{has_leaves, node_ground, is_use}
 
 -- the laws of the forms, and of what their parts inherit
 pub record Laws : Type 0 where
@@ -56,14 +55,14 @@ module _ (laws : Laws) (types : Types) (ns : List ℕ) where
   number_used : (t : Type') (ss : List Split) (n : ℕ) → IsKept types ns (Use t ss n) → RealisesWired types ns (Use t ss n)
   number_used t ss n kept =
       same (Use t ss n) (Use t [] n) (λ i. Use t (kept.forks i) n)
-      (laws.used types ns n t (subst (λ (ts : List Split). Contains (numbers_inside ts ns) n) kept.forks kept.scope.1) kept.typed.1)
+      (laws.used types ns n t kept.scope kept.typed.1)
 
   variable_read : (t : Type') (ss : List Split) (m : Numbered) → IsKept types ns (One t ss OfDeref m) → RealisesWired types ns (One t ss OfDeref m)
   variable_read t ss m kept =
       let (w, is_exp, is_var) = kept.typed.1 in
       let (none, part) = laws.one types ns t ss OfDeref m kept in
       let (n, is) = is_use types w m part.kept.typed part.kept.ground part.kept.forks is_var in
-      let there : Contains ns n = (subst (λ (x : Numbered). InScope ns x) is part.kept.scope).1 in
+      let there : Contains ns n = subst (λ (x : Numbered). InScope ns x) is part.kept.scope in
       let of : types n ≡ Var w = sym (subst (λ (x : Numbered). NodesTyped types x) is part.kept.typed).1 in
       same (One t ss OfDeref m) (One (Exp w) [] OfDeref (Use (Var w) [] n)) (λ i. One (is_exp i) (none i) OfDeref (is i)) (laws.read types ns n w there of)
 
@@ -75,7 +74,7 @@ ground_is_realised laws types ns (Under t ss (OfNew w) n m) kept unsplit =
     let (none, body, bound) = laws.body types ns t ss (OfNew w) n m kept in
     same laws types ns (Under t ss (OfNew w) n m) (Under t [] (OfNew w) n m) (λ i. Under t (none i) (OfNew w) n m)
     (laws.block types ns t w n m kept.typed.1.0 kept.typed.1.2 kept.typed.1.1 bound (has_leaves types m body.typed)
-    (in_scope m (ns ++ n ∷ []) body.forks body.scope) (ground_is_realised laws types (ns ++ n ∷ []) m body unsplit))
+    body.scope (ground_is_realised laws types (ns ++ n ∷ []) m body unsplit))
 ground_is_realised laws types ns (One t ss OfFst m) kept unsplit = absurd (subst IsGround kept.typed.1.1 (node_ground m kept.ground.1))
 ground_is_realised laws types ns (One t ss OfSnd m) kept unsplit = absurd (subst IsGround kept.typed.1.1 (node_ground m kept.ground.1))
 ground_is_realised laws types ns (One t ss OfDeref m) kept unsplit = variable_read laws types ns t ss m kept
@@ -96,8 +95,7 @@ ground_is_realised laws types ns (Two t ss OfPar m n) kept unsplit =
     same laws types ns (Two t ss OfPar m n) (Two Com [] OfPar m n) path
     (laws.parallel types ns (first_numbers [] ns (used n)) (own_numbers [] ns n) m n (laws.parted types ns Com OfPar m n plain)
     kept.typed.1.1 kept.typed.1.2 (has_leaves types m first.kept.typed) (has_leaves types n second.kept.typed)
-    (in_scope m (first_numbers [] ns (used n)) first.kept.forks first.kept.scope)
-    (in_scope n (own_numbers [] ns n) second.kept.forks second.kept.scope)
+    first.kept.scope second.kept.scope
     (ground_is_realised laws types (first_numbers [] ns (used n)) m first.kept unsplit.1)
     (ground_is_realised laws types (own_numbers [] ns n) n second.kept unsplit.2))
 ground_is_realised laws types ns (Two t ss OfWhile m n) kept unsplit =

@@ -17,6 +17,8 @@ use Rattle.gos_plan.specs.TokenBits.{LiteralFits}
 use Rattle.gos_realises.specs.Links.{IsJoined}
 use Rattle.gos_realises.specs.Realises.{AllGround, NamesDiffer, Realises}
 use Rattle.gos_realises.specs.Modules.{Supply, AreSupplied, term_for, supplying, RealisesOpen}
+use Rattle.gos_realises.proofs.PlaceLemmas.{contains_at}
+use Rattle.gos_renumbered.proofs.ImportLemmas.{type_has}
 use Rattle.gos_compile.specs.Wiring.{Types, IsPlanOf, all_types}
 use Rattle.gos_renumbered.proofs.SupplyLemmas.{supply_of, import_for, at_term}
 use Rattle.gos_typing.specs.Supplied.{SuppliedIsTyped}
@@ -32,7 +34,6 @@ use Rattle.gos_wired.proofs.TypeLemmas.{type_is}
 use Rattle.gos_stages.specs.Inside.{AreGroundSupplies}
 use Rattle.gos_numbers.specs.Kept.{CheckedIsKept}
 use Rattle.gos_numbers.specs.Unsplit.{CheckedIsUnsplit}
-use Rattle.gos_grounds.proofs.ImportLemmas.{contained_at, type_has}
 use Rattle.gos_modules.specs.Modules.{GroundIsRealised, IsGroundLinear, CheckedIsOpen, CheckedIsRealised, PortsAreGround}
 use Rattle.gos_modules.proofs.NodeLemmas.{has_leaves, node_ground}
 use Rattle.gos_modules.proofs.LiteralLemmas.{literals_fit, joined_fit}
@@ -111,7 +112,7 @@ module _ (l : SeenLinear) (w : ℕ) (p : Plan) (c : IsChecked l) (of : IsPlanOf 
       each_typed n s at =
           let (x, at_x, realised) = import_for p.imports ss n s are at in
           let type : import_type p.imports x.name ≡ Some x.ty =
-          type_has p.imports differ_there x.name x (contained_at p.imports n x at_x) (own_name x.name) in
+          type_has p.imports differ_there x.name x (contains_at p.imports n x at_x) (own_name x.name) in
           let term : term_for p.imports ss x.name ≡ Some s.term = at_term p.imports ss x.name n x s differ_there at_x at (own_name x.name) in (
             x.ty,
             subst (λ (o : Option Term). Typed r.imports [] (or_import x.name o) x.ty) term

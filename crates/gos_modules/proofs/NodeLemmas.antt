@@ -1,19 +1,15 @@
 -- What the rows of types say of nodes: leaves are `skip` and literals, and a variable of a ground term is a number that is used.
-use Rattle.std.specs.Prelude.{◌≡◌, ℕ, List, [], ◌∷◌, ◌++◌, Contains}
+use Rattle.std.specs.Prelude.{◌≡◌, ℕ, []}
 use Rattle.std.proofs.Common.{sym, ◌∙◌, subst}
 use Rattle.gos_types.specs.Types.{Type', Com, Exp, Var, IsGround, IsDone}
 use Rattle.gos_model.specs.Terms as terms
 use Rattle.gos_model.specs.Terms.{Term}
-use Rattle.gos_check.specs.declared.linear.Split.{Split}
 use Rattle.gos_check.specs.Nodes.{Numbered, Closed, Use, Under, One, Two, If, OfFun, OfNew, OfFst, OfSnd, OfDeref, OfNot, OfApp, OfBoth, OfSeq, OfPar, OfWhile, OfAssign, OfBin, type_of_node}
 use Rattle.gos_compile.specs.Wiring.{Types}
 use Rattle.gos_compile.specs.Typed.{ClosedTyped, NodesTyped}
 use Rattle.gos_leaves.specs.Splits.{SplitsAtForks}
-use Rattle.gos_stages.specs.Inside.{numbers_inside}
 use Rattle.gos_meanings.specs.Meanings.{IsLeaf, HasLeaves}
-use Rattle.gos_numbers.specs.Kept as kept
 use Rattle.gos_numbers.specs.Kept.{NodesGround}
-use Rattle.gos_grounds.specs.Scopes.{InScope}
 
 closed_leaf : (c : Term) (t : Type') → ClosedTyped c t → IsLeaf c
 closed_leaf terms.Skip t e = tt
@@ -35,24 +31,6 @@ node_ground (Under t ss b n m) ground = ground.0
 node_ground (One t ss f m) ground = ground.0
 node_ground (Two t ss f m n) ground = ground.0
 node_ground (If t ss m n p) ground = ground.0
-
--- where only forks have splits, what is used there is there outside
-pub in_scope : (m : Numbered) (ns : List ℕ) → SplitsAtForks m → kept.InScope ns m → InScope ns m
-in_scope (Closed t ss c) ns forks scope = scope
-in_scope (Use t ss n) ns forks scope = subst (λ (ts : List Split). Contains (numbers_inside ts ns) n) forks scope.1
-in_scope (Under t ss b n m) ns forks scope = (scope.0, in_scope m (numbers_inside ss ns ++ n ∷ []) forks.1 scope.1)
-in_scope (One t ss f m) ns forks scope = (scope.0, in_scope m (numbers_inside ss ns) forks.1 scope.1)
-in_scope (Two t ss f m n) ns forks scope = (
-  scope.0,
-  in_scope m (numbers_inside ss ns) forks.0 scope.1,
-  in_scope n (numbers_inside ss ns) forks.1 scope.2,
-)
-in_scope (If t ss m n p) ns forks scope = (
-  scope.0,
-  in_scope m (numbers_inside ss ns) forks.0 scope.1,
-  in_scope n (numbers_inside ss ns) forks.1 scope.2,
-  in_scope p (numbers_inside ss ns) forks.2 scope.3,
-)
 
 -- no other node is a variable
 no_command : (t : Type') (w : ℕ) → t ≡ Com → t ≡ Var w → ⊥

@@ -7,6 +7,7 @@ use Rattle.gos_types.specs.Types.{Type'}
 use Rattle.gos_model.specs.Terms as terms
 use Rattle.gos_model.specs.Terms.{Term}
 use Rattle.gos_model.specs.Typing.{Thing, Variable, Named, things}
+use Rattle.gos_model.proofs.NumberLemmas.{either}
 use Rattle.gos_check.specs.declared.linear.Split.{Split}
 use Rattle.gos_check.specs.Nodes.{Numbered, Closed, Use, Under, One, Two, If, Binding, OfFun, OfNew, OneForm, OfFst, OfSnd, OfDeref, OfNot, TwoForm, OfApp, OfBoth, OfSeq, OfPar, OfWhile, OfAssign, OfBin, Meaning, meaning, below, shifted, inside, binder_term, one_term, two_term}
 use Rattle.gos_check.specs.Linearity.{times, split_in, sides, used, made}
@@ -15,7 +16,6 @@ use Rattle.gos_compile.specs.Wiring.{Types}
 use Rattle.gos_leaves.proofs.CountLemmas.{behind}
 use Rattle.gos_numbers.specs.Kept.{IsKept}
 use Rattle.gos_numbers.specs.Inherited.{own_numbers, first_numbers}
-use Rattle.gos_numbers.proofs.ListLemmas.{either}
 use Rattle.gos_numbers.proofs.ScopeLemmas.{in_order}
 use Rattle.gos_numbers.proofs.InheritedLemmas.{body_is_kept, part_is_kept, both_are_kept, three_are_kept}
 use Rattle.gos_numbers.proofs.ReachLemmas.{Used, reach, comes_none}

@@ -1,4 +1,4 @@
-mod ListLemmas
+pub mod ListLemmas
 pub mod ScopeLemmas
 pub mod ApartLemmas
 pub mod PartLemmas

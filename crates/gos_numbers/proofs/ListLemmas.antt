@@ -1,31 +1,11 @@
 -- How often a number is among those inside splits, and among those that pass a test.
-use Rattle.std.specs.Prelude.{◌≡◌, ◌≢◌, ℕ, zero, suc, ◌+◌, ◌<◌, ◌⊎◌, Bool, true, false, cond, List, [], ◌∷◌, nat_eq, nat_lt, filter, Contains}
-use Rattle.std.proofs.Common.{refl, sym, ◌∙◌, ap, subst, arith, inl, inr}
+use Rattle.std.specs.Prelude.{◌≡◌, ◌≢◌, ℕ, ◌+◌, ◌<◌, Bool, true, false, cond, List, [], ◌∷◌, nat_eq, nat_lt, filter}
+use Rattle.std.proofs.Common.{refl, sym, ◌∙◌, ap, subst, arith}
 use Rattle.std.proofs.lemmas.Bool.Decides.{nat_tests}
 use Rattle.gos_check.specs.declared.linear.Split.{Split}
 use Rattle.gos_check.specs.Linearity.{times, sides}
 use Rattle.gos_check.proofs.TimesLemmas.{number_cases, eq_true, eq_false, times_same, times_other}
 use Rattle.gos_stages.specs.Inside.{numbers_inside}
-
--- a number is in a list where it is there some times
-pub times_some : (ns : List ℕ) (n : ℕ) → Contains ns n → 0 < times n ns
-times_some [] n (i, lt, e) = absurd (omega (arith, lt))
-times_some (a ∷ ns) n (zero, lt, e) =
-    let twice = times_same n ns in subst (λ m. 0 < times n (m ∷ ns)) (sym e) (omega (arith, twice))
-times_some (a ∷ ns) n (suc i, lt, e) = let h = times_some ns n (i, omega (arith, lt), e) in omega (arith, h)
-
-pub some_times : (ns : List ℕ) (n : ℕ) → 0 < times n ns → Contains ns n
-some_times [] n h = absurd (omega (arith, h))
-some_times (a ∷ ns) n h =
-    number_cases a n (λ same test. (0, omega arith, same))
-    (λ other test.
-    let same = times_other n a ns other in
-    let there = some_times ns n (omega (arith, h, same)) in
-    (suc there.0, omega (arith, there.1), there.2))
-
-pub either : (a b : ℕ) → 0 < a + b → (0 < a) ⊎ (0 < b)
-either zero b h = inr (omega (arith, h))
-either (suc a) b h = inl (omega arith)
 
 pub times_inside : (k : ℕ) (ss : List Split) (ns : List ℕ) → times k (numbers_inside ss ns) ≡ times k (sides ss) + times k ns
 times_inside k [] ns = omega arith

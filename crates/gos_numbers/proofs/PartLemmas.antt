@@ -1,9 +1,11 @@
 -- A part of a node, by what is made and used beside it.
 use Rattle.std.specs.Prelude.{◌≡◌, ℕ, ◌+◌, ◌<◌, ◌≤◌, ◌⊎◌, List, [], ◌∷◌, Contains}
 use Rattle.std.proofs.Common.{arith, inl, inr}
+use Rattle.gos_model.proofs.NumberLemmas.{either}
 use Rattle.gos_check.specs.declared.linear.Split.{Split}
 use Rattle.gos_check.specs.Nodes.{Numbered}
 use Rattle.gos_check.specs.Linearity.{times, split_in, sides, used, made, IsSplitBetween, SidesApart}
+use Rattle.gos_check.proofs.TimesLemmas.{some_times, listed_times}
 use Rattle.gos_leaves.specs.Splits.{SidesUsedWithin, SplitsAtForks}
 use Rattle.gos_leaves.proofs.CountLemmas.{left_in, right_in}
 use Rattle.gos_compile.specs.Wiring.{Types}
@@ -11,7 +13,7 @@ use Rattle.gos_compile.specs.Typed.{NodesTyped, SidesTyped}
 use Rattle.gos_stages.specs.Inside.{numbers_inside, AreSplit, SidesAgree}
 use Rattle.gos_numbers.specs.Kept.{InScope, NodesGround}
 use Rattle.gos_numbers.specs.Inherited.{IsPart, is_in}
-use Rattle.gos_numbers.proofs.ListLemmas.{times_some, some_times, either, times_inside, true_lt}
+use Rattle.gos_numbers.proofs.ListLemmas.{times_inside, true_lt}
 use Rattle.gos_numbers.proofs.ScopeLemmas.{restrict, covered, in_order}
 use Rattle.gos_numbers.proofs.ApartLemmas.{side_comes, are_apart}
 
@@ -62,18 +64,18 @@ is_part types ss ns uses m is =
                 (λ s a b one c d i j. is.between s a b one c d
                 (is.sides a (side_comes ss s.left a c (left_in s ss one)) (true_lt (times a uses) i))
                 (is.sides b (side_comes ss s.right b d (right_in s ss one)) (true_lt (times b uses) j)));
-            outside = λ n there. (let one = is.once n in let here = times_some ns n there in omega (arith, one, here));
+            outside = λ n there. (let one = is.once n in let here = some_times n ns there in omega (arith, one, here));
           };
       agree = sides_agree types ss is.agree;
       split = is.split;
       scope = λ n there. (
-          let here = times_some uses n there in let less = is.few n in
-          (some_times (numbers_inside ss ns) n (omega (arith, here, less)), is.unsplit n here));
-      covers = λ n small. by_part n (either (times n (made m)) (times n uses) (covered m uses scope n small));
+          let here = some_times n uses there in let less = is.few n in
+          (listed_times n (numbers_inside ss ns) (omega (arith, here, less)), is.unsplit n here));
+      covers = λ n small. by_part n (either (times n (made m)) (times n uses) (covered m uses is.forks scope n small));
       unmade = λ n there. (
-          let here = times_some (numbers_inside ss ns) n there in let one = is.once n in let inside = times_inside n ss ns in omega (arith, here, one, inside));
+          let here = some_times n (numbers_inside ss ns) there in let one = is.once n in let inside = times_inside n ss ns in omega (arith, here, one, inside));
     }
   where
     by_part : (n : ℕ) → (0 < times n (made m)) ⊎ (0 < times n uses) → (0 < times n (made m)) ⊎ Contains uses n
     by_part n (inl h) = inl h
-    by_part n (inr h) = inr (some_times uses n h)
+    by_part n (inr h) = inr (listed_times n uses h)

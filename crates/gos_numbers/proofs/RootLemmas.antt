@@ -9,16 +9,15 @@ use Rattle.gos_check.specs.declared.linear.Split.{Split}
 use Rattle.gos_check.specs.Nodes.{Numbered, Closed, Use, Under, One, Two, If, Meaning, below, shifted, inside, inside_one, node_seen}
 use Rattle.gos_check.specs.Linearity.{times, made, import_at}
 use Rattle.gos_check.specs.Checked.{program_in}
-use Rattle.gos_check.proofs.TimesLemmas.{number_cases, times_same, times_other, times-append, one_other}
+use Rattle.gos_check.proofs.TimesLemmas.{number_cases, times_same, times_other, times-append, one_other, listed_times}
 use Rattle.gos_compile.specs.Typed.{CheckedIsTyped}
 use Rattle.gos_leaves.proofs.CountLemmas.{behind}
 use Rattle.gos_leaves.proofs.LostLemmas.{is_loc, UsesStand, uses_stand, lost_in, lost, kept}
 use Rattle.gos_leaves.proofs.StandLemmas.{none_lost}
-use Rattle.gos_leaves.proofs.WithinLemmas.{standing_is_split_at_forks}
+use Rattle.gos_leaves.proofs.WithinLemmas.{standing_is_split_at_forks, two_none}
 use Rattle.gos_wired.specs.Modules.{numbers_from}
 use Rattle.gos_stages.specs.Inside.{numbers_inside, AreSplit}
 use Rattle.gos_numbers.specs.Kept.{InScope, CheckedIsKept}
-use Rattle.gos_numbers.proofs.ListLemmas.{some_times, times_inside}
 
 -- what stands for no location is there
 abbrev AllThere : Meaning → List ℕ → Type 0
@@ -54,10 +53,6 @@ kept_none : (b : Bool) (s : Split) (ss : List Split) → kept b s ss ≡ [] → 
 kept_none true s ss e = absurd (cc e)
 kept_none false s ss e = (refl, e)
 
-pub two_none : (ss ts : List Split) → ss ++ ts ≡ [] → (ss ≡ []) × (ts ≡ [])
-two_none [] ts e = (refl, e)
-two_none (s ∷ ss) ts e = absurd (cc e)
-
 pub first_kept : (env : Meaning) (s : Split) (ss : List Split) → lost_in env (s ∷ ss) ≡ [] → (is_loc (env s.of) ≡ false) × (lost_in (inside_one s env) ss ≡ [])
 first_kept env s ss e = kept_none (is_loc (env s.of)) s (lost_in (inside_one s env) ss) e
 
@@ -65,16 +60,13 @@ splits_there : (ss : List Split) (env : Meaning) (ns : List ℕ) → AllThere en
 splits_there [] env ns there none = tt
 splits_there (s ∷ ss) env ns there none =
     let (stands, rest) = first_kept env s ss none in (
-      some_times ns s.of (there s.of stands),
+      listed_times s.of ns (there s.of stands),
       splits_there ss (inside_one s env) (s.left ∷ s.right ∷ ns) (split_there s env ns there) rest,
     )
 
 in_scope : (m : Numbered) (env : Meaning) (ns : List ℕ) → AllThere env ns → UsesStand env m → lost env m ≡ [] → InScope ns m
 in_scope (Closed t ss c) env ns there uses none = splits_there ss env ns there none
-in_scope (Use t ss n) env ns there uses none = (
-  splits_there ss env ns there none,
-  some_times (numbers_inside ss ns) n (let here = there n uses in let more = times_inside n ss ns in omega (arith, here, more)),
-)
+in_scope (Use t ss n) env ns there uses none = listed_times n ns (there n uses)
 in_scope (Under t ss b n m) env ns there uses none =
     let (row, rest) = two_none (lost_in env ss) (lost (below n (inside ss env)) m) none in (
       splits_there ss env ns there row,

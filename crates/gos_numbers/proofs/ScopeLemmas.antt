@@ -1,14 +1,16 @@
 -- A term is in scope where all numbers are that it uses.
-use Rattle.std.specs.Prelude.{◌≡◌, ℕ, zero, suc, ◌+◌, ◌<◌, ◌≤◌, ◌⊎◌, List, [], ◌∷◌, ◌++◌}
-use Rattle.std.proofs.Common.{subst, arith, inl, inr}
+use Rattle.std.specs.Prelude.{◌≡◌, ℕ, zero, suc, ◌+◌, ◌<◌, ◌≤◌, List, [], ◌∷◌, ◌++◌}
+use Rattle.std.proofs.Common.{ap, subst, arith, inl, inr}
+use Rattle.gos_model.proofs.NumberLemmas.{either}
 use Rattle.gos_check.specs.declared.linear.Split.{Split}
 use Rattle.gos_check.specs.Nodes.{Numbered, Closed, Use, Under, One, Two, If}
 use Rattle.gos_check.specs.Linearity.{times, split_in, sides, used, made}
-use Rattle.gos_check.proofs.TimesLemmas.{number_cases, times_same, times_other, times-append}
+use Rattle.gos_check.proofs.TimesLemmas.{number_cases, times_same, times_other, times-append, some_times, listed_times}
+use Rattle.gos_leaves.specs.Splits.{SplitsAtForks}
 use Rattle.gos_stages.specs.Inside.{numbers_inside, AreSplit}
 use Rattle.gos_stages.specs.Lodging.{AreInOrder}
 use Rattle.gos_numbers.specs.Kept.{InScope}
-use Rattle.gos_numbers.proofs.ListLemmas.{times_some, some_times, either, times_inside}
+use Rattle.gos_numbers.proofs.ListLemmas.{times_inside}
 
 -- there where it was
 abbrev pub Stays : ℕ → List ℕ → List ℕ → Type 0
@@ -30,7 +32,7 @@ stays_below k n ns ms h small =
 pub restrict_split : (ss : List Split) (ns ms : List ℕ) → ((k : ℕ) → 0 < times k (split_in ss) → Stays k ns ms) → AreSplit ss ns → AreSplit ss ms
 restrict_split [] ns ms h there = tt
 restrict_split (s ∷ ss) ns ms h there = (
-  some_times ms s.of (let one = times_same s.of (split_in ss) in h s.of (omega (arith, one)) (times_some ns s.of there.0)),
+  listed_times s.of ms (let one = times_same s.of (split_in ss) in h s.of (omega (arith, one)) (some_times s.of ns there.0)),
   restrict_split ss (s.left ∷ s.right ∷ ns) (s.left ∷ s.right ∷ ms)
       (λ k small. stays_by k ns ms (times k (s.left ∷ s.right ∷ [])) (times k (s.left ∷ s.right ∷ ns)) (times k (s.left ∷ s.right ∷ ms)) (omega arith) (omega arith)
       (h k (omega (arith, small)))) there.1,
@@ -38,13 +40,9 @@ restrict_split (s ∷ ss) ns ms h there = (
 
 pub restrict : (m : Numbered) (ns ms : List ℕ) → ((k : ℕ) → 0 < times k (used m) → Stays k ns ms) → InScope ns m → InScope ms m
 restrict (Closed t ss c) ns ms h there = restrict_split ss ns ms h there
-restrict (Use t ss n) ns ms h there = (
-  restrict_split ss ns ms (λ k small. let two = times-append k (split_in ss) (n ∷ []) in h k (omega (arith, small, two))) there.0,
-  some_times (numbers_inside ss ms) n
-      (stays_inside n ss ns ms
-      (let two = times-append n (split_in ss) (n ∷ []) in let one = times_same n [] in h n (omega (arith, one, two)))
-      (times_some (numbers_inside ss ns) n there.1)),
-)
+restrict (Use t ss n) ns ms h there =
+    listed_times n ms
+    (let two = times-append n (split_in ss) (n ∷ []) in let one = times_same n [] in h n (omega (arith, one, two)) (some_times n ns there))
 restrict (Under t ss b n m) ns ms h there = (
   restrict_split ss ns ms (λ k small. let two = times-append k (split_in ss) (used m) in h k (omega (arith, small, two))) there.0,
   restrict m (numbers_inside ss ns ++ n ∷ []) (numbers_inside ss ms ++ n ∷ [])
@@ -74,40 +72,38 @@ restrict (If t ss m n p) ns ms h there =
     )
 
 -- what is used is there, or made
-split_covered : (ss : List Split) (ns : List ℕ) → AreSplit ss ns → (k : ℕ) → 0 < times k (split_in ss) → 0 < times k (sides ss) + times k ns
+pub split_covered : (ss : List Split) (ns : List ℕ) → AreSplit ss ns → (k : ℕ) → 0 < times k (split_in ss) → 0 < times k (sides ss) + times k ns
 split_covered [] ns there k small = absurd (omega (arith, small))
 split_covered (s ∷ ss) ns there k small = number_cases s.of k
-    (λ e t. let here : 0 < times k ns = subst (λ (a : ℕ). 0 < times a ns) e (times_some ns s.of there.0) in omega (arith, here))
+    (λ e t. let here : 0 < times k ns = subst (λ (a : ℕ). 0 < times a ns) e (some_times s.of ns there.0) in omega (arith, here))
     (λ e f. let less = times_other k s.of (split_in ss) e in
     let rest = split_covered ss (s.left ∷ s.right ∷ ns) there.1 k (omega (arith, small, less)) in omega (arith, rest))
 
-pub covered : (m : Numbered) (ns : List ℕ) → InScope ns m → (k : ℕ) → 0 < times k (used m) → 0 < times k (made m) + times k ns
-covered (Closed t ss c) ns there k small = split_covered ss ns there k small
-covered (Use t ss n) ns there k small = by_part (either (times k (split_in ss)) (times k (n ∷ [])) (let two = times-append k (split_in ss) (n ∷ []) in omega (arith, small, two)))
-  where
-    by_part : (0 < times k (split_in ss)) ⊎ (0 < times k (n ∷ [])) → 0 < times k (sides ss) + times k ns
-    by_part (inl h) = split_covered ss ns there.0 k h
-    by_part (inr h) = number_cases n k
-        (λ e t. let here : 0 < times k (numbers_inside ss ns) = subst (λ (a : ℕ). 0 < times a (numbers_inside ss ns)) e (times_some (numbers_inside ss ns) n there.1) in
-        let all = times_inside k ss ns in omega (arith, here, all))
-        (λ e f. let none = times_other k n [] e in absurd (omega (arith, h, none)))
-covered (Under t ss b n m) ns there k small =
+pub covered : (m : Numbered) (ns : List ℕ) → SplitsAtForks m → InScope ns m → (k : ℕ) → 0 < times k (used m) → 0 < times k (made m) + times k ns
+covered (Closed t ss c) ns forks there k small = split_covered ss ns there k small
+covered (Use t ss n) ns forks there k small =
+    let two = times-append k (split_in ss) (n ∷ []) in
+    let none = ap (λ (ts : List Split). times k (split_in ts)) forks in
+    number_cases n k
+    (λ e t. let here : 0 < times k ns = subst (λ (a : ℕ). 0 < times a ns) e (some_times n ns there) in omega (arith, here))
+    (λ e f. let less = times_other k n [] e in absurd (omega (arith, small, two, none, less)))
+covered (Under t ss b n m) ns forks there k small =
     let all = times-append k (sides ss) (n ∷ made m) in
     let has : times k (n ∷ made m) ≡ times k (n ∷ []) + times k (made m) = omega arith in
     let more = times-append k (numbers_inside ss ns) (n ∷ []) in
     let at = times_inside k ss ns in
     elim (either (times k (split_in ss)) (times k (used m)) (let two = times-append k (split_in ss) (used m) in omega (arith, small, two))) [
       | inl h ↦ (let here = split_covered ss ns there.0 k h in omega (arith, here, all))
-      | inr h ↦ (let here = covered m (numbers_inside ss ns ++ n ∷ []) there.1 k h in omega (arith, here, all, has, more, at))
+      | inr h ↦ (let here = covered m (numbers_inside ss ns ++ n ∷ []) forks.1 there.1 k h in omega (arith, here, all, has, more, at))
     ]
-covered (One t ss f m) ns there k small =
+covered (One t ss f m) ns forks there k small =
     let all = times-append k (sides ss) (made m) in
     let at = times_inside k ss ns in
     elim (either (times k (split_in ss)) (times k (used m)) (let two = times-append k (split_in ss) (used m) in omega (arith, small, two))) [
       | inl h ↦ (let here = split_covered ss ns there.0 k h in omega (arith, here, all))
-      | inr h ↦ (let here = covered m (numbers_inside ss ns) there.1 k h in omega (arith, here, all, at))
+      | inr h ↦ (let here = covered m (numbers_inside ss ns) forks.1 there.1 k h in omega (arith, here, all, at))
     ]
-covered (Two t ss f m n) ns there k small =
+covered (Two t ss f m n) ns forks there k small =
     let all = times-append k (sides ss) (made m ++ made n) in
     let more = times-append k (made m) (made n) in
     let at = times_inside k ss ns in
@@ -115,11 +111,11 @@ covered (Two t ss f m n) ns there k small =
       | inl h ↦ (let here = split_covered ss ns there.0 k h in omega (arith, here, all))
       | inr j ↦
           elim (either (times k (used m)) (times k (used n)) (let two = times-append k (used m) (used n) in omega (arith, j, two))) [
-            | inl h ↦ (let here = covered m (numbers_inside ss ns) there.1 k h in omega (arith, here, all, more, at))
-            | inr h ↦ (let here = covered n (numbers_inside ss ns) there.2 k h in omega (arith, here, all, more, at))
+            | inl h ↦ (let here = covered m (numbers_inside ss ns) forks.0 there.1 k h in omega (arith, here, all, more, at))
+            | inr h ↦ (let here = covered n (numbers_inside ss ns) forks.1 there.2 k h in omega (arith, here, all, more, at))
           ]
     ]
-covered (If t ss m n p) ns there k small =
+covered (If t ss m n p) ns forks there k small =
     let all = times-append k (sides ss) (made m ++ (made n ++ made p)) in
     let more = times-append k (made m) (made n ++ made p) in
     let last = times-append k (made n) (made p) in
@@ -128,11 +124,11 @@ covered (If t ss m n p) ns there k small =
       | inl h ↦ (let here = split_covered ss ns there.0 k h in omega (arith, here, all))
       | inr j ↦
           elim (either (times k (used m)) (times k (used n ++ used p)) (let two = times-append k (used m) (used n ++ used p) in omega (arith, j, two))) [
-            | inl h ↦ (let here = covered m (numbers_inside ss ns) there.1 k h in omega (arith, here, all, more, last, at))
+            | inl h ↦ (let here = covered m (numbers_inside ss ns) forks.0 there.1 k h in omega (arith, here, all, more, last, at))
             | inr i ↦
                 elim (either (times k (used n)) (times k (used p)) (let two = times-append k (used n) (used p) in omega (arith, i, two))) [
-                  | inl h ↦ (let here = covered n (numbers_inside ss ns) there.2 k h in omega (arith, here, all, more, last, at))
-                  | inr h ↦ (let here = covered p (numbers_inside ss ns) there.3 k h in omega (arith, here, all, more, last, at))
+                  | inl h ↦ (let here = covered n (numbers_inside ss ns) forks.1 there.2 k h in omega (arith, here, all, more, last, at))
+                  | inr h ↦ (let here = covered p (numbers_inside ss ns) forks.2 there.3 k h in omega (arith, here, all, more, last, at))
                 ]
           ]
     ]
@@ -141,6 +137,6 @@ covered (If t ss m n p) ns there k small =
 pub in_order : (ss : List Split) (ns : List ℕ) → ((k : ℕ) → times k (sides ss) + times k ns ≤ 1) → AreSplit ss ns → AreInOrder ss
 in_order [] ns once there = tt
 in_order (s ∷ ss) ns once there = (
-  (let here = times_some ns s.of there.0 in let one = once s.of in omega (arith, here, one)),
+  (let here = some_times s.of ns there.0 in let one = once s.of in omega (arith, here, one)),
   in_order ss (s.left ∷ s.right ∷ ns) (λ k. let one = once k in omega (arith, one)) there.1,
 )

@@ -61,7 +61,7 @@ twice_is_kept is =
     record {
       once = once;
       used_once = used_once;
-      scope = (((0, omega arith, refl), tt), (tt, (0, omega arith, refl)), (tt, (1, omega arith, refl)));
+      scope = (((0, omega arith, refl), tt), (0, omega arith, refl), (1, omega arith, refl));
       within = is.0;
       apart = (apart 1, apart 2, tt, tt);
       forks = is.1;

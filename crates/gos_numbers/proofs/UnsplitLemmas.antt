@@ -1,12 +1,13 @@
 -- A node `m || n` of a typed term has no splits: what is split would be free on both sides.
-use Rattle.std.specs.Prelude.{◌≡◌, ℕ, zero, suc, ◌+◌, ◌-◌, ◌<◌, ◌||◌, Bool, true, false, List, [], ◌∷◌, ◌++◌, length, nat_eq, if◌then◌else◌}
+use Rattle.std.specs.Prelude.{◌≡◌, ℕ, ◌+◌, ◌-◌, ◌<◌, true, false, List, [], ◌∷◌, ◌++◌, length}
 use Rattle.std.proofs.Common.{refl, sym, subst, arith, inl, inr}
 use Rattle.gos_types.specs.Types.{Type', Var, type_of}
 use Rattle.gos_model.specs.Terms as terms
 use Rattle.gos_model.specs.Terms.{Term}
 use Rattle.gos_model.specs.Typing.{Imports, Typed, Apart, Thing, Variable, Named}
+use Rattle.gos_model.proofs.NumberLemmas.{either}
 use Rattle.gos_check.specs.declared.linear.Split.{Split}
-use Rattle.gos_check.specs.Nodes.{Numbered, Closed, Use, Under, One, Two, If, OfFun, OfNew, OfFst, OfSnd, OfDeref, OfNot, OfApp, OfBoth, OfSeq, OfPar, OfWhile, OfAssign, OfBin, Meaning, meaning, below, shifted, inside, inside_one, argument_of, node_seen}
+use Rattle.gos_check.specs.Nodes.{Numbered, Closed, Use, Under, One, Two, If, OfFun, OfNew, OfFst, OfSnd, OfDeref, OfNot, OfApp, OfBoth, OfSeq, OfPar, OfWhile, OfAssign, OfBin, Meaning, meaning, below, inside, argument_of, node_seen}
 use Rattle.gos_check.specs.Linearity.{times, used, made, sides, import_at}
 use Rattle.gos_check.specs.Checked.{program_in}
 use Rattle.gos_check.proofs.TimesLemmas.{times-append}
@@ -19,55 +20,20 @@ use Rattle.gos_wired.specs.Modules.{numbers_from}
 use Rattle.gos_numbers.specs.Kept.{IsKept}
 use Rattle.gos_numbers.specs.Inherited.{own_numbers, first_numbers}
 use Rattle.gos_numbers.specs.Unsplit.{ParallelsAreUnsplit, CheckedIsUnsplit}
-use Rattle.gos_numbers.proofs.ListLemmas.{either}
 use Rattle.gos_numbers.proofs.ApartLemmas.{side_comes}
 use Rattle.gos_numbers.proofs.InheritedLemmas.{body_is_kept, part_is_kept, both_are_kept, three_are_kept}
-use Rattle.gos_numbers.proofs.RootLemmas.{two_none, first_kept, checked_is_kept}
+use Rattle.gos_numbers.proofs.RootLemmas.{first_kept, checked_is_kept}
 use Rattle.gos_numbers.proofs.ReachLemmas.{reach_left, reach_right}
 use Rattle.gos_numbers.proofs.FreeLemmas.{IsThing, free, two_used, two_away}
+use Rattle.gos_leaves.proofs.WithinLemmas.{two_none}
+use Rattle.gos_compile.proofs.BoundLemmas.{is_name, AreNames, below_names, inside_names, import_names}
 
 -- numbers stand for variables, imports and locations alone
-abbrev IsName : Term → Type 0
-IsName (terms.Bound i) = Unit {0}
-IsName (terms.Import x) = Unit {0}
-IsName (terms.Loc l) = Unit {0}
-IsName m = ⊥
-
-abbrev AreNames : Meaning → Type 0
-AreNames env = (k : ℕ) → IsName (env k)
-
-shifted_name : (m : Term) → IsName m → IsName (shifted m)
-shifted_name (terms.Bound i) h = tt
-shifted_name m h = h
-
-below_names : (n : ℕ) (env : Meaning) → AreNames env → AreNames (below n env)
-below_names n env names k = by (nat_eq k n)
-  where
-    by : (b : Bool) → IsName (if b then terms.Bound 0 else shifted (env k))
-    by true = tt
-    by false = shifted_name (env k) (names k)
-
-one_names : (s : Split) (env : Meaning) → AreNames env → AreNames (inside_one s env)
-one_names s env names k = by (nat_eq k s.left || nat_eq k s.right)
-  where
-    by : (b : Bool) → IsName (if b then env s.of else env k)
-    by true = names s.of
-    by false = names k
-
-inside_names : (ss : List Split) (env : Meaning) → AreNames env → AreNames (inside ss env)
-inside_names [] env names = names
-inside_names (s ∷ ss) env names = inside_names ss (inside_one s env) (one_names s env names)
-
-import_names : (is : Imports) → AreNames (import_at is)
-import_names [] k = tt
-import_names (i ∷ is) zero = tt
-import_names (i ∷ is) (suc k) = import_names is k
-
-named : (m : Term) → IsName m → is_loc m ≡ false → (th : Thing) × IsThing 0 m th
+named : (m : Term) → is_name m ≡ true → is_loc m ≡ false → (th : Thing) × IsThing 0 m th
 named (terms.Bound i) h stands = (Variable (i - 0), (omega arith, refl))
 named (terms.Import x) h stands = (Named x, refl)
 named (terms.Loc l) h stands = absurd (cc stands)
-named m h stands = absurd h
+named m h stands = absurd (cc h)
 
 -- what is split would be free on both sides
 parallel_unsplit : (types : Types) (ns : List ℕ) (t : Type') (ss : List Split) (m n : Numbered) (env : Meaning) → IsKept types ns (Two t ss OfPar m n)

@@ -13,10 +13,11 @@ use Rattle.gos_leaves.specs.Splits.{SidesUsedWithin, SplitsAtForks}
 use Rattle.gos_wired.specs.Modules.{numbers_from}
 use Rattle.gos_stages.specs.Inside.{numbers_inside, AreSplit}
 
--- Each number that is used or split is there: it is one of these, or a side of a split at or above it, or a binder's above it.
+-- Each number that is used, and each that is split, is there: it is one of these, or a side of a split above it, or a binder's. In a node
+-- with parts what is split may be a side of a split before it. (A use has no splits, as only nodes of two parts or more do.)
 abbrev pub InScope : List ℕ → Numbered → Type 0
 InScope ns (Closed t ss c) = AreSplit ss ns
-InScope ns (Use t ss n) = AreSplit ss ns × Contains (numbers_inside ss ns) n
+InScope ns (Use t ss n) = Contains ns n
 InScope ns (Under t ss b n m) = AreSplit ss ns × InScope (numbers_inside ss ns ++ n ∷ []) m
 InScope ns (One t ss f m) = AreSplit ss ns × InScope (numbers_inside ss ns) m
 InScope ns (Two t ss f m n) = AreSplit ss ns × InScope (numbers_inside ss ns) m × InScope (numbers_inside ss ns) n

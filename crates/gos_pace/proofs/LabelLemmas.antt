@@ -2,11 +2,8 @@
 --
 -- A label leads to an end of the plan and back to itself: the ports have the names of the imports, which are
 -- different.
-use Rattle.std.specs.Prelude.{not, Contains}
+use Rattle.std.specs.Prelude.{not}
 use Rattle.std.proofs.Common.{◌≡◌, ℕ, zero, suc, ◌+◌, Bool, true, false, List, [], ◌∷◌, ◌++◌, map, filter, Some, None, slice_get, refl, sym, ◌∙◌, ap, subst, arith, if◌then◌else◌, nat_eq}
-use Rattle.std.specs.Str.{bytes_eq}
-use Rattle.std.proofs.lemmas.Slice.Eq.{bytes_eq-Decides}
-use Rattle.std.proofs.lemmas.Option.{slice_get_within, get_or_from_slice_get}
 use Rattle.gos_types.specs.Types.{Type', Com, Exp, Var, Pair, Fun, IsGround, IsDone}
 use Rattle.gos_netlist.specs.Events.{Event, Is, events}
 use Rattle.gos_netlist.specs.Nets.{NetPort, Netlist}
@@ -20,21 +17,9 @@ use Rattle.gos_plan.specs.Tokens.{Element}
 use Rattle.gos_plan.specs.Cycles.{import_number, out_of, in_of, outs_of, ins_of}
 use Rattle.gos_realises.specs.Matched.{shows, all_shown}
 use Rattle.gos_realises.specs.Realises.{AllGround, NamesDiffer}
+use Rattle.gos_realises.proofs.PlaceLemmas.{contains_at}
+use Rattle.gos_realises.proofs.ToldLemmas.{test_same, test_differ}
 use Rattle.gos_pace.specs.Ports.{AreTaken, HasPorts}
-
--- names
-test_same : (x y : List ℕ) → x ≡ y → bytes_eq x y ≡ true
-test_same x y e = grind (arith, bytes_eq-Decides, e)
-
-test_differ : (x y : List ℕ) → (x ≡ y → ⊥) → bytes_eq x y ≡ false
-test_differ x y differ = by_test (bytes_eq x y) refl
-  where
-    by_test : (b : Bool) → bytes_eq x y ≡ b → bytes_eq x y ≡ false
-    by_test true e = let is : x ≡ y = grind (arith, bytes_eq-Decides, e) in absurd (differ is)
-    by_test false e = e
-
-contains_at : {X : Type 0} (xs : List X) (k : ℕ) (x : X) → slice_get xs k ≡ Some x → Contains xs x
-contains_at xs k x e = (k, slice_get_within xs k x e, get_or_from_slice_get xs k x x e)
 
 -- a label is what its element shows
 abbrev pub IsShown : Plan → Label → Type 0

@@ -14,10 +14,10 @@ use Rattle.gos_plan.specs.Turns.{IsEmptyAt}
 use Rattle.gos_plan.specs.Orderly.{handshake_at, Open, after_taken, after_put, ComesWell, AllComeWell, after_puts, ComesInOrder, AllWelcome, OrderlyFrom}
 use Rattle.gos_plan.specs.Decided.{ElementsLeadOneWay, OrderIsDecided, ListsAreDecided, OrderlyIsPossible}
 
-abbrev Told : Type 0 → Type 0
+abbrev pub Told : Type 0 → Type 0
 Told A = A ⊎ (A → ⊥)
 
-both : {A B : Type 0} → Told A → Told B → Told (A × B)
+pub both : {A B : Type 0} → Told A → Told B → Told (A × B)
 both (inl a) (inl b) = inl (a, b)
 both (inl a) (inr fails) = inr (λ h. fails h.1)
 both (inr fails) b = inr (λ h. fails h.0)

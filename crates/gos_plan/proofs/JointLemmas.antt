@@ -12,6 +12,11 @@ abbrev pub IsIn : Joint → List Joint → Type 0
 IsIn j [] = ⊥
 IsIn j (x ∷ xs) = (j ≡ x) ⊎ IsIn j xs
 
+pub listed : (js : List Joint) (j : Joint) → IsIn j js → Contains js j
+listed [] j h = absurd h
+listed (x ∷ xs) j (inl e) = (zero, omega arith, sym e)
+listed (x ∷ xs) j (inr h) = let rest = listed xs j h in (suc rest.0, omega (arith, rest.1), rest.2)
+
 pub same_itself : (e : End) → same_end e e ≡ true
 same_itself (PartEnd i h) = grind arith
 same_itself (ImportEnd i h) = grind arith
@@ -34,7 +39,7 @@ fits p before (x ∷ xs) j r (inl e) = subst (λ (y : Joint). Fits p y) (sym e) 
 fits p before (x ∷ xs) j r (inr h) = fits p (x ∷ before) xs j r.1 h
 
 -- neither end of a later joint stands in an earlier one
-free_later : (e : End) (before : List Joint) (j : Joint) → IsIn j before → IsTrue (is_free e before) → stands_in e j ≡ true → ⊥
+pub free_later : (e : End) (before : List Joint) (j : Joint) → IsIn j before → IsTrue (is_free e before) → stands_in e j ≡ true → ⊥
 free_later e [] j h f t = h
 free_later e (x ∷ xs) j (inl i) f t =
     let u : stands_in e x ≡ true = subst (λ (y : Joint). stands_in e y ≡ true) i t in grind (arith, f, u)

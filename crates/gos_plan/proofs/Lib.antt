@@ -1,5 +1,6 @@
 pub mod JointLemmas
 pub mod BalanceLemmas
+pub mod SlotLemmas
 pub mod RowLemmas
 pub mod TurnLemmas
 pub mod HeldLemmas

@@ -18,14 +18,14 @@ use Rattle.gos_realises.specs.Links.{IsJoined}
 use Rattle.gos_realises.specs.Realises.{Realises}
 use Rattle.gos_realises.specs.Modules.{Supply, imports_linked, supplying, RealisesOpen}
 use Rattle.gos_realises.specs.SmallRealisers.{NameIsRealised}
-use Rattle.gos_realises.proofs.LeftLemmas.{left_list, left_all, left_at}
+use Rattle.gos_realises.proofs.LeftLemmas.{left_list, left_all, left_at, left_joined}
 use Rattle.gos_joined.proofs.ReachLemmas.{Step, Paths, paths_then, paths_back}
 use Rattle.gos_webs.specs.Webs.{joint}
 use Rattle.gos_unions.proofs.DeepLemmas.{place_of_part}
 use Rattle.gos_renumbered.specs.SmallRewirings.{unchanged}
 use Rattle.gos_renumbered.proofs.HigherLemmas.{renumbered_is_realised}
-use Rattle.gos_renumbered.proofs.SupplyLemmas.{supply_link, OfImports, of_imports, in_imports}
-use Rattle.gos_typing.proofs.LeftLemmas.{left_joined, first_joined, supply_free, imports_are_of_supplies}
+use Rattle.gos_renumbered.proofs.SupplyLemmas.{supply_link, OfImports, of_imports, in_imports, first_joined, supply_free}
+use Rattle.gos_typing.proofs.LeftLemmas.{imports_are_of_supplies}
 use Rattle.gos_names.specs.Names.{imported, name_plan}
 use Rattle.gos_ports.specs.SmallPorts.{NameIsOpen, CallIsModule}
 use Rattle.gos_ports.proofs.ShadowLemmas.{Near, OfJoint, joint_near, IsShadow, shadow_is_it}

@@ -15,13 +15,13 @@ use Rattle.gos_plan.specs.Joining.{Place, place, Link, Wiring, LeftImport, all_p
 use Rattle.gos_realises.specs.Regular.{count}
 use Rattle.gos_realises.specs.Realises.{AllGround}
 use Rattle.gos_realises.specs.Modules.{Supply, plans_of, AreSupplied, term_for, imports_linked, supplying}
+use Rattle.gos_realises.proofs.LeftLemmas.{left_joined}
 use Rattle.gos_joined.proofs.ReachLemmas.{Step, Paths, paths_then, paths_back}
 use Rattle.gos_webs.specs.Webs.{joint}
 use Rattle.gos_unions.proofs.DeepLemmas.{place_of_part}
 use Rattle.gos_renumbered.proofs.ImportLemmas.{name_is}
-use Rattle.gos_renumbered.proofs.SupplyLemmas.{supply_link, OfImports, of_imports, in_imports, plan_at, supply_at}
+use Rattle.gos_renumbered.proofs.SupplyLemmas.{supply_link, OfImports, of_imports, in_imports, plan_at, supply_at, first_joined, supply_free}
 use Rattle.gos_typing.specs.Supplied.{imports_of}
-use Rattle.gos_typing.proofs.LeftLemmas.{left_joined, first_joined, supply_free}
 use Rattle.gos_names.specs.Names.{passed_on, name_plan, HasWidth, NameIsRealised}
 use Rattle.gos_ports.specs.Ports.{HaveWidths, WidthsAreHad, own_supply, own_supplies}
 use Rattle.gos_ports.proofs.ShadowLemmas.{Near, OfJoint, joint_near, IsShadow}

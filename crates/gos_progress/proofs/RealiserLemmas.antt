@@ -1,5 +1,5 @@
 -- A plan whose result stands in no joint realises no command and no expression: the request is lost.
-use Rattle.std.specs.Prelude.{◌≡◌, ◌⊎◌, ◌^◌, ◌<◌, ℕ, zero, suc, Bool, true, false, IsTrue, List, [], ◌∷◌, Contains, Option, Some, None, slice_get}
+use Rattle.std.specs.Prelude.{◌≡◌, ◌⊎◌, ◌^◌, ◌<◌, ℕ, suc, Bool, true, false, IsTrue, List, [], ◌∷◌, Contains, Option, Some, None, slice_get}
 use Rattle.std.proofs.Common.{arith, refl, sym, ap, subst, inl, inr, ◌∙◌}
 use Rattle.gos_types.specs.Types.{Type', Com, Exp, Var, Pair, Fun, IsDone}
 use Rattle.gos_netlist.specs.Events.{Direction, Request}
@@ -8,22 +8,22 @@ use Rattle.gos_model.specs.Labels.{given}
 use Rattle.gos_model.specs.Moves.{Config, Idle, Running, Act, Moves, labels}
 use Rattle.gos_model.specs.Protocol.{KeepsProtocol}
 use Rattle.gos_plan.specs.Kinds.{Contact, asks, contacts_of}
-use Rattle.gos_plan.specs.Firing.{Rest, Slot, Row}
+use Rattle.gos_plan.specs.Firing.{Rest}
 use Rattle.gos_plan.specs.Plans.{End, ResultEnd, Joint, Plan, contact_at, turned_if, stands_in}
-use Rattle.gos_plan.specs.Tokens.{Tokens, Element, Fire, Out, In, asking_in, places_of, held_at, with_held, end_of, way_of, way_taken, Passes, Does, Runs, IsIdle, IsQuiet}
+use Rattle.gos_plan.specs.Tokens.{Tokens, Element, Out, In, asking_in, places_of, held_at, with_held, end_of, way_of, way_taken, Passes, Does, IsIdle, IsQuiet}
 use Rattle.gos_realises.specs.Regular.{count, way_in}
-use Rattle.gos_realises.specs.Matched.{label_at, shows, all_shown, GoesOn, Agrees, IsMatched, program_of, RealisesDone}
-use Rattle.gos_realises.specs.Realises.{AllGround, Realises}
+use Rattle.gos_realises.specs.Matched.{label_at, shows, all_shown, GoesOn, IsMatched, program_of, RealisesDone}
+use Rattle.gos_realises.specs.Realises.{Realises}
 use Rattle.gos_webs.specs.Cutting.{StandsIn}
 use Rattle.gos_progress.specs.Realisers.{RealisersAreJoined}
-use Rattle.gos_progress.proofs.WaitLemmas.{WaitsForNone, source_waits, unasked}
+use Rattle.gos_progress.proofs.WaitLemmas.{source_waits, unasked}
 use Rattle.gos_progress.proofs.ProgressLemmas.{unasked_runs_go_on}
 
-abbrev Found : List Joint → End → Type 0
+abbrev pub Found : List Joint → End → Type 0
 Found js e = (j : Joint) × Contains js j × IsTrue (stands_in e j)
 
 -- an end stands in a joint, or has no places
-joint_or_none : (js : List Joint) (e : End) → Found js e ⊎ (asking_in js e ≡ None)
+pub joint_or_none : (js : List Joint) (e : End) → Found js e ⊎ (asking_in js e ≡ None)
 joint_or_none [] e = inr refl
 joint_or_none (j ∷ js) e = tested (stands_in e j) refl (joint_or_none js e)
   where

@@ -1,7 +1,7 @@
 -- The joining of one plan without links is that plan, but for the order of its joints.
 --
 -- A path in a plan whose joints are right goes to and fro along one joint (`short`).
-use Rattle.std.specs.Prelude.{◌≡◌, ◌↔◌, ℕ, zero, suc, ◌+◌, Bool, true, false, List, [], ◌∷◌, ◌++◌, ◌⊎◌, length, map, Option, Some, None, Contains, slice_get, nat_lt}
+use Rattle.std.specs.Prelude.{◌≡◌, ◌↔◌, ℕ, zero, suc, ◌+◌, Bool, true, false, List, [], ◌++◌, ◌⊎◌, length, map, Option, Some, None, Contains, slice_get, nat_lt}
 use Rattle.std.proofs.Common.{refl, sym, ◌∙◌, ap, subst, arith, inl, inr}
 use Rattle.std.proofs.lemmas.Bool.Decides.{nat_tests}
 use Rattle.std.proofs.lemmas.List.{append-nil}
@@ -15,7 +15,7 @@ use Rattle.gos_plan.specs.Plans.{End, PartEnd, ImportEnd, ResultEnd, Joint, Plan
 use Rattle.gos_plan.specs.Tokens.{places_of}
 use Rattle.gos_plan.specs.Joining.{Place, place, Wiring, JoinedWithin, Linked, Path, Connects, all_left, left_place, origin, IsJoining}
 use Rattle.gos_plan.proofs.JointLemmas as joints
-use Rattle.gos_plan.proofs.JointLemmas.{IsIn, same_itself, one_joint, contained, stands_there, found, Found}
+use Rattle.gos_plan.proofs.JointLemmas.{IsIn, same_itself, one_joint, contained, stands_there, found, Found, listed}
 use Rattle.gos_realises.specs.Wirings.{side}
 use Rattle.gos_realises.specs.Renumbered.{moved, moved_if, IsRenumbered}
 use Rattle.gos_realises.specs.Alone.{AloneIsItself, OrderIsFree}
@@ -187,11 +187,6 @@ alone_is_itself p r right join =
 module _
     (p r : Plan) (right : IsRight p) (also_right : IsRight r) (parts : r.parts ≡ p.parts) (imports : r.imports ≡ p.imports)
     (outcome : r.outcome ≡ p.outcome) (joints_same : (j : Joint) → Contains r.joints j ↔ Contains p.joints j) where
-  listed : (js : List Joint) (j : Joint) → IsIn j js → Contains js j
-  listed [] j h = absurd h
-  listed (x ∷ xs) j (inl e) = (zero, omega arith, sym e)
-  listed (x ∷ xs) j (inr h) = let rest = listed xs j h in (suc rest.0, omega (arith, rest.1), rest.2)
-
   same_place : (e : End) → places_of p e ≡ places_of r e
   same_place e = by_place (places_of p e) refl
     where

@@ -2,16 +2,16 @@
 --
 -- An import has an open handshake only where the result has. So turns are kept where handshakes of imports are closed, and
 -- where the result is opened (`turns_kept`).
-use Rattle.std.specs.Prelude.{◌≡◌, ℕ, zero, suc, ◌+◌, ◌-◌, ◌<◌, Bool, true, false, ◌&&◌, ◌||◌, IsFalse, List, [], ◌∷◌, length, nat_eq, nat_lt}
-use Rattle.std.proofs.Common.{refl, sym, ◌∙◌, ap, arith, length-append}
+use Rattle.std.specs.Prelude.{◌≡◌, ℕ, zero, suc, ◌+◌, ◌-◌, ◌<◌, Bool, true, false, ◌&&◌, ◌||◌, IsFalse, List, [], ◌∷◌, nat_eq, nat_lt}
+use Rattle.std.proofs.Common.{refl, sym, ◌∙◌, ap, arith}
 use Rattle.std.proofs.lemmas.Bool.Decides.{nat_tests}
 use Rattle.gos_types.specs.Types.{Type', Com, Exp, Var, Pair, Fun, IsGround, IsDone}
 use Rattle.gos_model.specs.Typing.{Imported}
-use Rattle.gos_plan.specs.Kinds.{Contact, contacts_of, other_side}
 use Rattle.gos_plan.specs.Plans.{ImportEnd, ResultEnd}
-use Rattle.gos_plan.proofs.SideLemmas.{functions_join}
 use Rattle.gos_realises.specs.Regular.{count, some_open, beyond, KeepsTurnsOf, whole_type, whole_end}
 use Rattle.gos_realises.specs.Realises.{AllGround}
+pub use Rattle.gos_realises.proofs.CountLemmas.{count_fun}
+use Rattle.gos_realises.proofs.CountLemmas.{some_shake}
 
 or_true : (b x : Bool) → x ≡ true → b || x ≡ true
 or_true true x h = refl
@@ -38,31 +38,13 @@ there_some (suc n) f k low is = by_test (nat_eq k n) refl (λ other. there_some 
     by_test false t further =
         let other : k < n = grind (arith, nat_tests, t, low) in or_true (f n) (some_open n f) (further other)
 
-lengths : (cs : List Contact) → length (other_side cs) ≡ length cs
-lengths [] = refl
-lengths (c ∷ cs) = ap suc (lengths cs)
-
-pub count_fun : (a b : Type') → count (Fun a b) ≡ count a + count b
-count_fun a b =
-    let joined = ap (λ (cs : List Contact). length cs) (functions_join a b).joined in
-    let both = length-append (other_side (contacts_of a)) (contacts_of b) in
-    let same = lengths (contacts_of a) in
-    joined ∙ (both ∙ ap (λ n. n + count b) same)
-
 -- how many handshakes imports have together: the number of the result's
 abbrev pub width : List Imported → ℕ
 width [] = 0
 width (i ∷ is) = count i.ty + width is
 
-one_done : (t : Type') → IsDone t → 0 < count t
-one_done Com d = omega arith
-one_done (Exp w) d = omega arith
-one_done (Var w) d = absurd d
-one_done (Pair a b) d = absurd d
-one_done (Fun a b) d = absurd d
-
 pub width_small : (is : List Imported) (t : Type') → IsDone t → width is < count (whole_type is t)
-width_small [] t d = one_done t d
+width_small [] t d = some_shake t
 width_small (i ∷ is) t d =
     let rest = width_small is t d in
     let sum = count_fun i.ty (whole_type is t) in omega (arith, rest, sum)

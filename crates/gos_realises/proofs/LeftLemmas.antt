@@ -1,6 +1,6 @@
--- The imports that stay where no link joins any of a plan: all of them, in their order.
-use Rattle.std.specs.Prelude.{◌≡◌, ℕ, zero, suc, ◌+◌, false, List, [], ◌∷◌, ◌++◌, map, Some, slice_get}
-use Rattle.std.proofs.Common.{refl, ◌∙◌, ap, arith}
+-- The imports that stay: all of them, in their order, where no link joins any of a plan, and none where each is joined.
+use Rattle.std.specs.Prelude.{◌≡◌, ℕ, zero, suc, ◌+◌, true, false, List, [], ◌∷◌, ◌++◌, map, Some, slice_get, if◌then◌else◌}
+use Rattle.std.proofs.Common.{refl, sym, ◌∙◌, ap, arith}
 use Rattle.gos_model.specs.Typing.{Imported}
 use Rattle.gos_plan.specs.Joining.{Link, LeftImport, is_joined, left_in}
 
@@ -14,6 +14,15 @@ left_all ls k none i [] = refl
 left_all ls k none i (x ∷ xs) =
     let free = none i in
     let rest = left_all ls k none (suc i) xs in rw free (ap (λ l. record { plan = k; number = i; import = x } ∷ l) rest)
+
+pub left_joined : (ls : List Link) (k i : ℕ) (xs : List Imported) → ((j : ℕ) (z : Imported) → slice_get xs j ≡ Some z → is_joined ls k (i + j) ≡ true)
+    → left_in ls k i xs ≡ []
+left_joined ls k i [] all = refl
+left_joined ls k i (x ∷ xs) all =
+    let zeros : i + 0 ≡ i = omega arith in
+    let here : is_joined ls k i ≡ true = ap (is_joined ls k) (sym zeros) ∙ all 0 x refl in
+    let rest = left_joined ls k (suc i) xs (λ j z at. (let sum : suc i + j ≡ i + suc j = omega arith in ap (is_joined ls k) sum ∙ all (suc j) z at)) in
+    (λ j. if here j then left_in ls k (suc i) xs else record { plan = k; number = i; import = x } ∷ left_in ls k (suc i) xs) ∙ rest
 
 pub imports_left : (k i : ℕ) (xs : List Imported) → map (λ l. l.import) (left_list k i xs ++ []) ≡ xs
 imports_left k i [] = refl

@@ -1,3 +1,5 @@
+pub mod PlaceLemmas
+pub mod CountLemmas
 pub mod LiteralLemmas
 pub mod RingLemmas
 pub mod OneJointLemmas
@@ -15,6 +17,8 @@ mod UseLemmas
 pub mod FittingLemmas
 mod FunctionLemmas
 mod ModuleLemmas
+pub mod SimulationLemmas
+pub mod ReadyLemmas
 mod HeadLemmas
 mod SameLemmas
 mod SameTurnLemmas

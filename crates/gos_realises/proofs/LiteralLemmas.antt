@@ -1,15 +1,16 @@
 -- The literals of a plan fit where those of what it is made of do.
 --
 -- A joining has the parts of its plans, in order; a plan that is one with another but for numbers has its parts.
-use Rattle.std.specs.Prelude.{◌≡◌, ℕ, zero, suc, ◌^◌, ◌<◌, List, [], ◌∷◌, ◌++◌, Some, All, Contains, slice_get}
+use Rattle.std.specs.Prelude.{◌≡◌, ℕ, suc, ◌^◌, ◌<◌, List, [], ◌∷◌, ◌++◌, Some, All, slice_get}
 use Rattle.std.specs.List.{AllByRecursion}
-use Rattle.std.proofs.Common.{refl, arith}
+use Rattle.std.proofs.Common.{refl}
 use Rattle.std.proofs.lemmas.List.Elements.{All-nil, All-cons, All-append, All-same, All-contains, All-from_recursion}
 use Rattle.gos_plan.specs.Kinds as kinds
 use Rattle.gos_plan.specs.Kinds.{Part}
 use Rattle.gos_plan.specs.Plans.{Plan}
 use Rattle.gos_plan.specs.TokenBits.{LiteralFits}
 use Rattle.gos_plan.specs.Joining.{all_parts}
+use Rattle.gos_realises.proofs.PlaceLemmas.{contains_at}
 
 -- no parts, a part that reads, and two that write
 pub no_literals : All LiteralFits []
@@ -34,11 +35,6 @@ pub literals_joined : (p : Plan) (ps : List Plan) (r : Plan) → r.parts ≡ all
 literals_joined p ps r are one others = literals_same r.parts (p.parts ++ all_parts ps) are (literals_append p.parts (all_parts ps) one others)
 
 -- parts that each stand somewhere among others
-part_there : (xs : List Part) (k : ℕ) (x : Part) → slice_get xs k ≡ Some x → Contains xs x
-part_there [] k x at = absurd (cc at)
-part_there (y ∷ xs) zero x at = (0, omega arith, cc at)
-part_there (y ∷ xs) (suc k) x at = let (n, within, is) = part_there xs k x at in (suc n, omega (arith, within), is)
-
 each_fits : (xs : List Part) → ((k : ℕ) (x : Part) → slice_get xs k ≡ Some x → LiteralFits x) → AllByRecursion LiteralFits xs
 each_fits [] each = tt
 each_fits (x ∷ xs) each = (each 0 x refl, each_fits xs (λ k y at. each (suc k) y at))
@@ -46,4 +42,4 @@ each_fits (x ∷ xs) each = (each 0 x refl, each_fits xs (λ k y at. each (suc k
 pub literals_among : (f : ℕ → ℕ) (xs ys : List Part) → ((k : ℕ) (x : Part) → slice_get xs k ≡ Some x → slice_get ys (f k) ≡ Some x)
     → All LiteralFits ys → All LiteralFits xs
 literals_among f xs ys moved fit =
-    All-from_recursion LiteralFits xs (each_fits xs (λ k x at. All-contains LiteralFits ys x fit (part_there ys (f k) x (moved k x at))))
+    All-from_recursion LiteralFits xs (each_fits xs (λ k x at. All-contains LiteralFits ys x fit (contains_at ys (f k) x (moved k x at))))

@@ -1,10 +1,10 @@
 -- What labels leave open at ports is what passed there leaves open: a port has one name, and an event one handshake.
-use Rattle.std.specs.Prelude.{◌≡◌, ℕ, zero, suc, ◌+◌, Bool, true, false, not, ◌&&◌, List, [], ◌∷◌, Option, Some, None, Contains, slice_get, nat_eq, if◌then◌else◌}
+use Rattle.std.specs.Prelude.{◌≡◌, ℕ, zero, suc, ◌+◌, Bool, true, false, not, ◌&&◌, List, [], ◌∷◌, Option, Some, None, slice_get, nat_eq, if◌then◌else◌}
 use Rattle.std.proofs.Common.{refl, sym, ◌∙◌, ap, arith}
 use Rattle.std.specs.Str.{bytes_eq}
 use Rattle.std.proofs.lemmas.Bool.Decides.{nat_tests}
 use Rattle.std.proofs.lemmas.Slice.Eq.{bytes_eq-Decides}
-use Rattle.std.proofs.lemmas.Option.{slice_get_within, get_or_from_slice_get, none-some, same_Some}
+use Rattle.std.proofs.lemmas.Option.{none-some, same_Some}
 use Rattle.gos_netlist.specs.Events.{Direction, Request, Answer}
 use Rattle.gos_model.specs.Typing.{Imported, Imports}
 use Rattle.gos_model.specs.Labels.{Given, Label, is_answer}
@@ -15,22 +15,20 @@ use Rattle.gos_plan.specs.Tokens.{IsPortEnd}
 use Rattle.gos_realises.specs.Regular.{is_request}
 use Rattle.gos_realises.specs.Matched.{port_if, event_number, label_at}
 use Rattle.gos_realises.specs.Realises.{NamesDiffer}
+pub use Rattle.gos_realises.proofs.PlaceLemmas.{contains_at}
 use Rattle.gos_realises.proofs.RenumberLemmas.{tests_agree}
 use Rattle.gos_realises.proofs.RingLemmas.{told_open}
 
 -- names
-test_same : (x y : List ℕ) → x ≡ y → bytes_eq x y ≡ true
+pub test_same : (x y : List ℕ) → x ≡ y → bytes_eq x y ≡ true
 test_same x y e = grind (arith, bytes_eq-Decides, e)
 
-test_differ : (x y : List ℕ) → (x ≡ y → ⊥) → bytes_eq x y ≡ false
+pub test_differ : (x y : List ℕ) → (x ≡ y → ⊥) → bytes_eq x y ≡ false
 test_differ x y differ = by_test (bytes_eq x y) refl
   where
     by_test : (b : Bool) → bytes_eq x y ≡ b → bytes_eq x y ≡ false
     by_test true e = let is : x ≡ y = grind (arith, bytes_eq-Decides, e) in absurd (differ is)
     by_test false e = e
-
-pub contains_at : (xs : Imports) (k : ℕ) (x : Imported) → slice_get xs k ≡ Some x → Contains xs x
-contains_at xs k x e = (k, slice_get_within xs k x e, get_or_from_slice_get xs k x x e)
 
 next_number : (j i : ℕ) → nat_eq j i ≡ nat_eq (suc j) (suc i)
 next_number j i = tests_agree j i (suc j) (suc i) (λ e. ap suc e) (λ e. omega (arith, e))

@@ -1,13 +1,15 @@
 -- Lists that are matched are traces. What matches no list does not realise: the empty plan, and the other order.
 use Rattle.std.specs.Prelude.{◌≡◌, ℕ, zero, suc, List, [], ◌∷◌, ◌++◌, Some, None}
-use Rattle.std.proofs.Common.{refl, sym, ◌∙◌, ap, subst, arith, inl}
+use Rattle.std.proofs.Common.{refl, sym, ◌∙◌, subst, arith, inl}
 use Rattle.gos_netlist.specs.Events.{Request}
 use Rattle.gos_model.specs.Terms as terms
 use Rattle.gos_model.specs.Terms.{Term, Import}
 use Rattle.gos_model.specs.Reach.{Unfolds}
-use Rattle.gos_model.specs.Labels.{given, taken}
-use Rattle.gos_model.specs.Moves.{Program, Config, Idle, Running, Act, Computing, Showing, Move, Moves, labels, Unfoldings, ActsTo, Stalled}
-use Rattle.gos_model.specs.SmallPrograms.{c, d, two_commands, one_then_other}
+use Rattle.gos_model.specs.Labels.{given}
+use Rattle.gos_model.specs.Moves.{Program, Config, Idle, Running, Act, Computing, Showing, Moves, labels, Unfoldings, ActsTo, Stalled}
+use Rattle.gos_model.specs.SmallPrograms.{one_then_other}
+use Rattle.gos_model.proofs.MoveLemmas.{moves_then, labels_then}
+use Rattle.gos_model.proofs.SequenceLemmas.{seq_waits}
 use Rattle.gos_plan.specs.Firing.{First, Slot, Req, Row, row, at, put}
 use Rattle.gos_plan.specs.Plans.{End, PartEnd, ImportEnd, ResultEnd, Plan}
 use Rattle.gos_plan.specs.Tokens.{Tokens, Element, Fire, Out, In, fired, with_token, Does, Runs, IsIdle, IsQuiet}
@@ -16,22 +18,13 @@ use Rattle.gos_realises.specs.Matched.{all_shown, IsMatched, program_of}
 use Rattle.gos_realises.specs.SmallRealisers.{ListsAreTraces}
 use Rattle.gos_realises.specs.OtherPlans.{empty_plan, EmptyIsNotSkip, other_first, OrderIsTold}
 
-append_moves : (g : Program) (xs ys : List Act) (a b e : Config) → Moves g xs a b → Moves g ys b e → Moves g (xs ++ ys) a e
-append_moves g [] ys a b e same after = subst (λ x. Moves g ys x e) (sym same) after
-append_moves g (x ∷ xs) ys a b e (m, move, moves) after = (m, move, append_moves g xs ys m b e moves after)
-
-append_labels : (xs ys : List Act) → labels (xs ++ ys) ≡ labels xs ++ labels ys
-append_labels [] ys = refl
-append_labels (Computing ∷ xs) ys = append_labels xs ys
-append_labels (Showing o ∷ xs) ys = ap (λ ls. o ∷ ls) (append_labels xs ys)
-
 traced : (p : Plan) (g : Program) (xs : List Element) (s t : Tokens) (a : Config) → IsMatched p g xs s a → Runs p xs s t
     → (acts : List Act) × (b : Config) × Moves g acts a b × (labels acts ≡ all_shown p xs)
 traced p g [] s t a matched runs = ([], a, refl, refl)
 traced p g (x ∷ xs) s t a matched (w, does, runs) =
     let (acts, b, moves, shown, goes, rest) = matched.1 w does in
     let (others, e, then, told) = traced p g xs w t b rest runs in
-    (acts ++ others, e, append_moves g acts others a b e moves then, append_labels acts others ∙ (λ i. shown i ++ told i))
+    (acts ++ others, e, moves_then g acts others a b e moves then, labels_then acts others ∙ (λ i. shown i ++ told i))
 
 pub lists_are_traces : ListsAreTraces
 lists_are_traces p m xs s t done idle runs keeps = traced p (program_of p m) xs s t Idle (done s t xs idle runs keeps).0 runs
@@ -89,34 +82,7 @@ empty_is_not_skip r =
     let (acts, e, moves, shown, goes, last) = both.0.1 at_first comes in
     can_answer (subst (λ x. Stalled skip x) (first_moves acts e moves shown) (last.0 (empty_is_quiet at_first)))
 
--- the plan of the other order asks d first, which `c ; d` does not
-no_unfolding : (u : Term) → Unfolds one_then_other.body u → ⊥
-no_unfolding u h = grind (arith, h)
-
-begun : (n : ℕ) (u : Term) → Unfoldings n one_then_other.body u → one_then_other.body ≡ u
-begun zero u h = h
-begun (suc n) u h = absurd (no_unfolding h.0 h.1)
-
-acts_first : (a : Act) (e : Config) → ActsTo two_commands a [] one_then_other.body e → a ≡ Showing (taken c 0 0)
-acts_first Computing Idle h = grind (arith, h)
-acts_first Computing (Running m s) h = grind (arith, h)
-acts_first (Showing o) Idle h = grind (arith, h)
-acts_first (Showing o) (Running m s) h = grind (arith, h)
-
-first_label : (a : Act) (e : Config) → Move one_then_other a (Running one_then_other.body []) e → a ≡ Showing (taken c 0 0)
-first_label a e (n, u, us, h) = acts_first a e (subst (λ v. ActsTo two_commands a [] v e) (sym (begun n u us)) h)
-
-waits : (acts : List Act) (b : Config) → Moves one_then_other acts Idle b → labels acts ≡ given 0 0 ∷ taken d 0 0 ∷ [] → ⊥
-waits [] b ms e = grind (arith, e)
-waits (Computing ∷ acts) b ms e = grind (arith, ms.1)
-waits (Showing o ∷ []) b ms e = grind (arith, e)
-waits (Showing o ∷ a ∷ acts) b ms e =
-    let at_start = ms.1.1 in
-    let first = first_label a ms.2.0 (subst (λ x. Move one_then_other a x ms.2.0) at_start ms.2.1) in
-    let e' = subst (λ x. labels (Showing o ∷ x ∷ acts) ≡ given 0 0 ∷ taken d 0 0 ∷ []) first e in
-    grind (arith, e')
-
--- run, the part fires, and d is asked
+-- The plan of the other order asks d first, which `c ; d` does not: run, the part fires, and d is asked.
 abbrev d_first : List Element
 d_first = In (ResultEnd 0) 0 ∷ Fire 0 (Req 2) ∷ Out (ImportEnd 1 0) 0 ∷ []
 
@@ -139,4 +105,4 @@ order_is_told r =
     let (acts, b, moves, told) =
     lists_are_traces other_first one_then_other.body d_first at_first gone r.means (first_is_idle other_first) runs
     ((λ shut. (refl, refl, refl)), ((λ shut. absurd (cc shut)), tt)) in
-    waits acts b moves told
+    seq_waits (acts, b, moves, told)

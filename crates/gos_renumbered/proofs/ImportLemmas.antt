@@ -3,7 +3,7 @@ use Rattle.std.specs.Prelude.{◌≡◌, ℕ, zero, suc, Bool, true, false, List
 use Rattle.std.specs.Str.{bytes_eq}
 use Rattle.std.proofs.Common.{refl, sym, ◌∙◌, ap, subst, arith, inl, inr}
 use Rattle.std.proofs.lemmas.Slice.Eq.{bytes_eq-Decides}
-use Rattle.gos_types.specs.Types.{Type', Com, Exp, Var, IsGround}
+use Rattle.gos_types.specs.Types.{Type', Com, Exp, Var}
 use Rattle.gos_model.specs.Terms.{Name, Term, Skip, Lit, Bound, Import, Lam, App, Both, Fst, Snd, Seq, Par, If, While, Assign, Deref, New, Not, Bin, Loc, Scope, Wait, Held, Put}
 use Rattle.gos_model.specs.Typing.{Imported, Imports, import_type, Typed}
 use Rattle.gos_model.specs.Stores.{Store}
@@ -12,6 +12,7 @@ use Rattle.gos_model.specs.Moves.{Program, Config, Idle, Running, Act, Computing
 use Rattle.gos_model.specs.Protocol.{FitsAnswer, event_of, Allowed, KeepsAfter, KeepsProtocol}
 use Rattle.gos_model.proofs.ReachLemmas.{reached_map}
 use Rattle.gos_realises.specs.Realises.{AllGround, NamesDiffer, HaveOtherNames}
+use Rattle.gos_realises.proofs.PlaceLemmas.{contains_at, place_of, ground_at, ground_by, differ_at, at_differ}
 
 -- each name has one type in both
 abbrev pub SameImports : Imports → Imports → Type 0
@@ -142,56 +143,17 @@ pub record AreReordered (to from : ℕ → ℕ) (is js : List Imported) : Type 0
   pub here : (n : ℕ) → slice_get is (from n) ≡ slice_get js n
   pub returns : (n : ℕ) → to (from n) ≡ n
 
-pub at_of : {X : Type 0} (xs : List X) (x : X) → Contains xs x → (n : ℕ) × (slice_get xs n ≡ Some x)
-at_of [] x (k, small, e) = absurd (omega (arith, small))
-at_of (y ∷ xs) x (zero, small, e) = (0, ap Some e)
-at_of (y ∷ xs) x (suc k, small, e) = let (n, is) = at_of xs x (k, omega (arith, small), e) in (suc n, is)
-
-pub of_at : {X : Type 0} (xs : List X) (n : ℕ) (x : X) → slice_get xs n ≡ Some x → Contains xs x
-of_at [] n x e = absurd (cc e)
-of_at (y ∷ xs) zero x e = (0, omega arith, cc e)
-of_at (y ∷ xs) (suc n) x e = let (k, small, is) = of_at xs n x e in (suc k, omega (arith, small), is)
-
 pub contains_same : (to from : ℕ → ℕ) (is js : List Imported) → AreReordered to from is js → (i : Imported) → Contains js i → Contains is i
-contains_same to from is js same i has = let (n, at) = at_of js i has in of_at is (from n) i (same.here n ∙ at)
+contains_same to from is js same i has = let (n, at) = place_of js i has in contains_at is (from n) i (same.here n ∙ at)
 
 contains_back : (to from : ℕ → ℕ) (is js : List Imported) → AreReordered to from is js → (i : Imported) → Contains is i → Contains js i
-contains_back to from is js same i has = let (n, at) = at_of is i has in of_at js (to n) i (same.there n ∙ at)
+contains_back to from is js same i has = let (n, at) = place_of is i has in contains_at js (to n) i (same.there n ∙ at)
 
 pub other_names_same : (to from : ℕ → ℕ) (is js ks : List Imported) → AreReordered to from is js → HaveOtherNames is ks → HaveOtherNames js ks
 other_names_same to from is js ks same apart i k in_j in_k = apart i k (contains_same to from is js same i in_j) in_k
 
--- by number
-ground_at : (is : List Imported) → AllGround is → (i : Imported) → Contains is i → IsGround i.ty
-ground_at [] all i (k, small, e) = absurd (omega (arith, small))
-ground_at (x ∷ is) all i (zero, small, e) = subst (λ (y : Imported). IsGround y.ty) e all.0
-ground_at (x ∷ is) all i (suc k, small, e) = ground_at is all.1 i (k, omega (arith, small), e)
-
-all_at : (is : List Imported) → ((i : Imported) → Contains is i → IsGround i.ty) → AllGround is
-all_at [] each = tt
-all_at (x ∷ is) each = (each x (0, omega arith, refl), all_at is (λ i has. each i (suc has.0, (let small = has.1 in omega (arith, small)), has.2)))
-
 pub ground_same : (to from : ℕ → ℕ) (is js : List Imported) → AreReordered to from is js → AllGround is → AllGround js
-ground_same to from is js same all = all_at js (λ i has. ground_at is all i (contains_same to from is js same i has))
-
-abbrev DifferAt : List Imported → Type 0
-DifferAt is = (m n : ℕ) (i j : Imported) → slice_get is m ≡ Some i → slice_get is n ≡ Some j → i.name ≡ j.name → m ≡ n
-
-differ_at : (is : List Imported) → NamesDiffer is → DifferAt is
-differ_at [] differ m n i j at_m at_n e = absurd (cc at_m)
-differ_at (x ∷ is) differ zero zero i j at_m at_n e = refl
-differ_at (x ∷ is) differ zero (suc n) i j at_m at_n e =
-    let same : x ≡ i = cc at_m in absurd (differ.0 j (of_at is n j at_n) (ap (λ (y : Imported). y.name) same ∙ e))
-differ_at (x ∷ is) differ (suc m) zero i j at_m at_n e =
-    let same : x ≡ j = cc at_n in absurd (differ.0 i (of_at is m i at_m) (ap (λ (y : Imported). y.name) same ∙ sym e))
-differ_at (x ∷ is) differ (suc m) (suc n) i j at_m at_n e = ap suc (differ_at is differ.1 m n i j at_m at_n e)
-
-at_differ : (is : List Imported) → DifferAt is → NamesDiffer is
-at_differ [] differ = tt
-at_differ (x ∷ is) differ = (
-  λ j has e. (let (n, at) = at_of is j has in let same = differ 0 (suc n) x j refl at e in omega (arith, same)),
-  at_differ is (λ m n i j at_m at_n e. (let same = differ (suc m) (suc n) i j at_m at_n e in omega (arith, same))),
-)
+ground_same to from is js same all = ground_by js (λ i has. ground_at is all i (contains_same to from is js same i has))
 
 pub names_same : (to from : ℕ → ℕ) (is js : List Imported) → AreReordered to from is js → NamesDiffer is → NamesDiffer js
 names_same to from is js same differ =
@@ -216,7 +178,7 @@ has_type (i ∷ is) x t e = by_test (bytes_eq i.name x) refl e (has_type is x t)
 pub name_is : (x y : Name) → bytes_eq x y ≡ true → x ≡ y
 name_is x y test = grind (arith, bytes_eq-Decides, test)
 
-type_has : (is : Imports) → NamesDiffer is → (x : Name) (i : Imported) → Contains is i → bytes_eq i.name x ≡ true → import_type is x ≡ Some i.ty
+pub type_has : (is : Imports) → NamesDiffer is → (x : Name) (i : Imported) → Contains is i → bytes_eq i.name x ≡ true → import_type is x ≡ Some i.ty
 type_has [] differ x i (k, small, e) test = absurd (omega (arith, small))
 type_has (j ∷ is) differ x i (zero, small, e) test =
     let there : bytes_eq j.name x ≡ true = subst (λ (y : Imported). bytes_eq y.name x ≡ true) (sym e) test in

@@ -6,12 +6,15 @@ use Rattle.std.proofs.lemmas.List.Elements.{Contains-append_left, Contains-appen
 use Rattle.gos_model.specs.Terms.{Name, Term}
 use Rattle.gos_model.specs.Typing.{Imported}
 use Rattle.gos_plan.specs.Plans.{ImportEnd, ResultEnd, Plan, IsRight}
-use Rattle.gos_plan.specs.Joining.{Link}
+use Rattle.gos_plan.specs.Joining.{Place, Link, is_joined}
 use Rattle.gos_realises.specs.Regular.{count}
 use Rattle.gos_realises.specs.Wirings.{link}
 use Rattle.gos_realises.specs.Realises.{NamesDiffer, Realises}
 use Rattle.gos_realises.specs.Modules.{Supply, plans_of, AreSupplied, term_for, import_linked, imports_linked}
-use Rattle.gos_renumbered.proofs.ImportLemmas.{name_is, of_at}
+use Rattle.gos_realises.proofs.PlaceLemmas.{contains_at}
+use Rattle.gos_realises.proofs.CountLemmas.{some_shake}
+use Rattle.gos_unions.proofs.LinkLemmas.{IsAt, joined_by, by_joined}
+use Rattle.gos_renumbered.proofs.ImportLemmas.{name_is}
 
 -- handshake h of import i, linked to its supply
 abbrev pub supply_link : ℕ → ℕ → Link
@@ -84,6 +87,23 @@ in_imports n (y ∷ xs) (suc i) h x at small =
     let sum : suc n + i ≡ n + suc i = omega arith in
     Contains-append_right (import_linked n (suc n) 0 (count y.ty)) (imports_linked (suc n) xs) (supply_link (n + suc i) h)
     (subst (λ (m : ℕ). Contains (imports_linked (suc n) xs) (supply_link m h)) sum (in_imports (suc n) xs i h x at small))
+
+-- so each import of the plan is joined, and none of a supply
+pub first_joined : (is : List Imported) (j : ℕ) (z : Imported) → slice_get is j ≡ Some z → is_joined (imports_linked 0 is) 0 (0 + j) ≡ true
+first_joined is j z at = by_joined (imports_linked 0 is) 0 (0 + j) (supply_link (0 + j) 0, in_imports 0 is j 0 z at (some_shake z.ty), inl (0, refl))
+
+pub supply_free : (is : List Imported) (k j : ℕ) → is_joined (imports_linked 0 is) (suc k) j ≡ false
+supply_free is k j = by_test (is_joined (imports_linked 0 is) (suc k) j) refl
+  where
+    at_link : (l : Link) → OfImports 0 is l → IsAt (suc k) j l.one ⊎ IsAt (suc k) j l.other → ⊥
+    at_link l there (inl (h, e)) =
+        let plans : 0 ≡ suc k = ap (λ (a : Place). a.plan) (ap (λ (m : Link). m.one) (sym there.same) ∙ e) in omega (arith, plans)
+    at_link l there (inr (h, e)) =
+        let ends : ResultEnd there.shake ≡ ImportEnd j h = ap (λ (a : Place). a.end) (ap (λ (m : Link). m.other) (sym there.same) ∙ e) in cc ends
+
+    by_test : (b : Bool) → is_joined (imports_linked 0 is) (suc k) j ≡ b → is_joined (imports_linked 0 is) (suc k) j ≡ false
+    by_test true test = let (l, has, ends) = joined_by (imports_linked 0 is) (suc k) j test in absurd (at_link l (of_imports 0 is l has) ends)
+    by_test false test = test
 
 -- the supply of an import
 pub supply_of : (is : List Imported) (ss : List Supply) (n : ℕ) (x : Imported) → AreSupplied is ss → slice_get is n ≡ Some x
@@ -158,5 +178,5 @@ at_term (j ∷ is) (t ∷ ss) x zero i s differ at_i at_s named =
 at_term (j ∷ is) (t ∷ ss) x (suc n) i s differ at_i at_s named = by_test (bytes_eq j.name x) refl (at_term is ss x n i s differ.1 at_i at_s named)
   where
     by_test : (b : Bool) → bytes_eq j.name x ≡ b → term_for is ss x ≡ Some s.term → (if b then Some t.term else term_for is ss x) ≡ Some s.term
-    by_test true there rest = absurd (differ.0 i (of_at is n i at_i) (name_is j.name x there ∙ sym (name_is i.name x named)))
+    by_test true there rest = absurd (differ.0 i (contains_at is n i at_i) (name_is j.name x there ∙ sym (name_is i.name x named)))
     by_test false there rest = rest

@@ -2,22 +2,18 @@
 --
 -- Open handshakes keep turns where those of each import do, where the outcome's do, and where an import has an open one only
 -- where the outcome has (`keeps_each`, `each_keeps`).
-use Rattle.std.specs.Prelude.{◌≡◌, ℕ, zero, suc, ◌+◌, ◌-◌, ◌<◌, Bool, true, false, ◌&&◌, ◌||◌, IsTrue, IsFalse, List, [], ◌∷◌, length, Some, slice_get, nat_lt, if◌then◌else◌}
-use Rattle.std.proofs.Common.{refl, sym, ◌∙◌, ap, subst, arith, length-append}
+use Rattle.std.specs.Prelude.{◌≡◌, ℕ, zero, suc, ◌+◌, ◌-◌, ◌<◌, Bool, true, false, ◌&&◌, ◌||◌, IsTrue, IsFalse, List, [], ◌∷◌, Some, slice_get, nat_lt, if◌then◌else◌}
+use Rattle.std.proofs.Common.{refl, sym, ◌∙◌, ap, subst, arith}
 use Rattle.std.proofs.lemmas.Bool.Decides.{nat_tests}
 use Rattle.gos_types.specs.Types.{Type', Com, Exp, Var, Pair, Fun}
 use Rattle.gos_model.specs.Typing.{Imported}
 use Rattle.gos_netlist.specs.Events.{Direction, Request, Answer}
-use Rattle.gos_plan.specs.Kinds.{Contact, contacts_of}
 use Rattle.gos_plan.specs.Plans.{End, ImportEnd, ResultEnd, Plan}
-use Rattle.gos_plan.proofs.SideLemmas.{pairs_join}
 use Rattle.gos_realises.specs.Regular.{Pass, pass, is_request, is_open, count, some_open, beyond, KeepsTurnsOf, whole_type, whole_end, ComesInTurn, KeepsTurns}
-use Rattle.gos_realises.proofs.GroundTurnLemmas.{some_there, there_some, count_fun}
+use Rattle.gos_realises.proofs.GroundTurnLemmas.{some_there, there_some}
+use Rattle.gos_realises.proofs.CountLemmas.{count_pair, count_fun}
 use Rattle.gos_webs.specs.Renumbering.{Renumber, IsRenumbered, moved_end}
 use Rattle.gos_webs.proofs.MovedLemmas.{both_moved}
-
-count_pair : (a b : Type') → count (Pair a b) ≡ count a + count b
-count_pair a b = ap (λ (cs : List Contact). length cs) (pairs_join a b).joined ∙ length-append (contacts_of a) (contacts_of b)
 
 -- turns of a type depend on its handshakes alone
 abbrev Agree : ℕ → (ℕ → Bool) → (ℕ → Bool) → Type 0

@@ -8,6 +8,7 @@ use Rattle.gos_model.specs.Stores.{Entry, Store}
 use Rattle.gos_model.specs.Steps.{Computes, IsValue}
 use Rattle.gos_model.specs.Labels.{given}
 use Rattle.gos_model.specs.Moves.{Program, Config, Idle, Running, Act, Computing, Showing, Acts, Answers, Move, Moves}
+pub use Rattle.gos_model.proofs.MoveLemmas.{moves_then}
 use Rattle.gos_contexts.proofs.BackwardLemmas.{OneLabel}
 use Rattle.gos_contexts.proofs.PluggedLemmas.{acts_of}
 use Rattle.gos_contexts.proofs.ReachedLemmas.{reached_lifted}
@@ -17,11 +18,6 @@ use Rattle.gos_results.specs.Results.{IsResult, RunsKeepTypes, ResultsAreTyped, 
 use Rattle.gos_results.proofs.TypeLemmas.{settled, sources_have}
 use Rattle.gos_results.proofs.PutLemmas.{KeepsType, keeps_in, unfoldings_typed}
 use Rattle.gos_results.proofs.StepLemmas.{either, Kept, kept_in, same_store, row_kept, label_keeps}
-
--- moves after moves
-pub moves_then : (p : Program) (xs ys : List Act) (c d e : Config) → Moves p xs c d → Moves p ys d e → Moves p (xs ++ ys) c e
-moves_then p [] ys c d e h k = subst (λ (x : Config). Moves p ys x e) (sym h) k
-moves_then p (a ∷ xs) ys c d e (b, h, hs) k = (b, h, moves_then p xs ys b d e hs k)
 
 acts_keep : (i : Imports) (a : Act) (s u : Store) (m b : Term) → Acts i a s u m b → Kept i s u m b
 acts_keep i Computing s u m b h = reached_lifted (Computes s u) (Kept i s u) (row_kept i s u) (kept_in i s u) m b h

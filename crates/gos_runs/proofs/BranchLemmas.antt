@@ -6,7 +6,7 @@ use Rattle.gos_types.specs.Types.{Type', Com, Exp, Var, Pair, Fun, IsDone}
 use Rattle.gos_model.specs.Terms.{Term}
 use Rattle.gos_model.specs.Typing.{Typed}
 use Rattle.gos_check.specs.declared.linear.Split.{Split}
-use Rattle.gos_check.specs.Nodes.{Numbered, Closed, Use, Under, One, Two, If, inside, meaning, type_of_node}
+use Rattle.gos_check.specs.Nodes.{Numbered, inside, meaning, type_of_node}
 use Rattle.gos_check.specs.Linearity.{times}
 use Rattle.gos_plan.specs.Kinds.{Part}
 use Rattle.gos_plan.specs.Plans.{Plan}
@@ -16,10 +16,9 @@ use Rattle.gos_realises.specs.Realises.{NamesDiffer, Means, Realises}
 use Rattle.gos_webs.specs.Webs.{Tie}
 use Rattle.gos_windows.specs.Nodes.{IsStage}
 use Rattle.gos_compile.specs.Wiring.{Types, parts_of}
-use Rattle.gos_leaves.specs.Splits.{SplitsAtForks}
 use Rattle.gos_wired.specs.Wired.{Supplies, Placing, IsWired, terms_of, wired_ties}
 use Rattle.gos_nodes.proofs.RestLemmas.{realisers_rest}
-use Rattle.gos_stages.specs.Inside.{numbers_inside, AreGroundSupplies}
+use Rattle.gos_stages.specs.Inside.{AreGroundSupplies}
 use Rattle.gos_stages.specs.Folding.{Child, IsChild, IsLaid}
 use Rattle.gos_stages.specs.Regions.{HasParts, IsStaged}
 use Rattle.gos_stages.specs.Stages.{stage_of}
@@ -28,25 +27,8 @@ use Rattle.gos_stages.proofs.ChildStageLemmas.{child_is_staged}
 use Rattle.gos_stages.proofs.StageLemmas.{child_is_stage}
 use Rattle.gos_meanings.specs.Meanings.{HasLeaves}
 use Rattle.gos_grounds.specs.Cases.{RealisesWired}
-use Rattle.gos_grounds.specs.Scopes as grounds
-use Rattle.gos_numbers.specs.Kept.{InScope}
+use Rattle.gos_grounds.proofs.ChildLemmas.{child_realises}
 use Rattle.gos_forks.specs.Forks.{Branch, IsFork, AreBranches, branch_child, BranchIsChild, BranchHasParts}
-use Rattle.gos_runs.proofs.ChildLemmas.{child_realises}
-
--- where only forks have splits, what is in scope is so without them
-pub scope_there : (m : Numbered) (ns : List ℕ) → SplitsAtForks m → InScope ns m → grounds.InScope ns m
-scope_there (Closed t ss c) ns forks scope = scope
-scope_there (Use t ss n) ns forks (split, there) = subst (λ (ts : List Split). Contains (numbers_inside ts ns) n) forks there
-scope_there (Under t ss b n m) ns (none, forks) (split, scope) = (split, scope_there m (numbers_inside ss ns ++ n ∷ []) forks scope)
-scope_there (One t ss f m) ns (none, forks) (split, scope) = (split, scope_there m (numbers_inside ss ns) forks scope)
-scope_there (Two t ss f m n) ns (one, two) (split, first, second) =
-    (split, scope_there m (numbers_inside ss ns) one first, scope_there n (numbers_inside ss ns) two second)
-scope_there (If t ss m n p) ns (one, two, three) (split, first, second, third) = (
-  split,
-  scope_there m (numbers_inside ss ns) one first,
-  scope_there n (numbers_inside ss ns) two second,
-  scope_there p (numbers_inside ss ns) three third,
-)
 
 pub means_run : (t : Type') (p : Plan) (m : Term) → IsDone t → Means t p m → RealisesDone p m
 means_run Com p m done h = h
@@ -95,7 +77,7 @@ module _ (child : BranchIsChild) (parts : BranchHasParts) (types : Types) (i j :
     pub realises : Realises (type_of_node b.term) cared.plan (meaning (inside ss (terms_of env)) b.term)
     realises =
         child_realises its_child all_parts ties pl found.0 r found.1 is_child laid found.2 (real b listed) differ fit (leaves b listed)
-        (scope_there b.term b.uses (branches.parts b listed).kept.forks (branches.parts b listed).kept.scope) (typed b listed)
+        (branches.parts b listed).kept.scope (typed b listed)
 
     pub outcome : cared.plan.outcome ≡ type_of_node b.term
     outcome = realises.suits.outcome

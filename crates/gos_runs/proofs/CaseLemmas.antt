@@ -1,12 +1,12 @@
 -- The cases of the forms that run their parts one at a time.
-use Rattle.std.specs.Prelude.{◌≡◌, ◌≢◌, ℕ, zero, suc, ◌+◌, List, [], ◌∷◌, ◌++◌, Contains}
+use Rattle.std.specs.Prelude.{◌≡◌, ◌≢◌, ℕ, zero, suc, List, [], ◌∷◌, ◌++◌, Contains}
 use Rattle.std.proofs.Common.{refl, sym, ◌∙◌, subst, arith, inr}
 use Rattle.gos_types.specs.Types.{Type', Com, Exp, Var, Pair, Fun}
 use Rattle.gos_model.specs.Terms.{Op, result_width}
 use Rattle.gos_model.specs.Typing.{Typed}
 use Rattle.gos_check.specs.declared.linear.Split.{Split}
 use Rattle.gos_check.specs.Nodes.{Numbered, One, Two, If, OfNot, TwoForm, OfSeq, OfWhile, OfBin, inside, meaning, type_of_node}
-use Rattle.gos_check.specs.Linearity.{times, sides, used, made}
+use Rattle.gos_check.specs.Linearity.{sides, used, made}
 use Rattle.gos_check.proofs.TimesLemmas.{times-append}
 use Rattle.gos_plan.specs.Kinds as kinds
 use Rattle.gos_plan.specs.Plans.{Plan}
@@ -18,15 +18,14 @@ use Rattle.gos_wired.specs.Wired.{Supplies, Placing, IsWired, AreRealised, terms
 use Rattle.gos_stages.specs.Inside.{AreSplit, numbers_inside}
 use Rattle.gos_meanings.specs.Meanings.{HasLeaves}
 use Rattle.gos_grounds.specs.Cases.{RealisesWired}
-use Rattle.gos_leaves.specs.Splits.{SplitsAtForks}
 use Rattle.gos_numbers.specs.Kept.{InScope, IsKept}
 use Rattle.gos_numbers.specs.Inherited.{own_numbers, first_numbers, IsPart, PartIsKept, BothAreKept, ThreeAreKept}
+use Rattle.gos_numbers.proofs.ListLemmas.{times_inside}
 use Rattle.gos_forks.specs.Forks.{Branch, IsFork, AreBranches}
 use Rattle.gos_forks.specs.Forms.{branch, SequenceIsFork, ChoiceIsFork, LoopIsFork, OperatorIsFork, ComplementIsFork}
 use Rattle.gos_runs.specs.Runs.{ForkRealises}
 use Rattle.gos_runs.specs.Cases.{SequenceCase, ChoiceCase, LoopCase, OperatorCase, ComplementCase}
 use Rattle.gos_runs.proofs.TypeLemmas.{known, inside_types, type_is, supplies_have}
-use Rattle.gos_runs.proofs.BranchLemmas.{scope_there}
 use Rattle.gos_runs.proofs.SessionLemmas.{of_sequence, of_choice, of_loop, of_operator, of_complement}
 
 -- the bits of an answer, as the wiring and the sessions have them
@@ -55,10 +54,6 @@ of_three P a b c pa pb pc x (zero, small, at) = subst P at pa
 of_three P a b c pa pb pc x (suc zero, small, at) = subst P at pb
 of_three P a b c pa pb pc x (suc (suc zero), small, at) = subst P at pc
 of_three P a b c pa pb pc x (suc (suc (suc k)), small, at) = absurd (omega (arith, small))
-
-times_inside : (k : ℕ) (ss : List Split) (ns : List ℕ) → times k (numbers_inside ss ns) ≡ times k (sides ss) + times k ns
-times_inside k [] ns = omega arith
-times_inside k (s ∷ ss) ns = let rest = times_inside k ss (s.left ∷ s.right ∷ ns) in omega (arith, rest)
 
 -- the branches of a node of one, two and three parts
 one_branch : (types : Types) (ns : List ℕ) (t : Type') (m : Numbered) → IsPart types [] ns ns m → IsKept types ns (One t [] OfNot m)
@@ -125,13 +120,13 @@ module _ (types : Types) (ns : List ℕ) (t : Type') (ss : List Split) where
 
   -- the type of a part's term is the part's
   retyped : (i j : ℕ) (m n : Numbered) (u : Type') (env : Supplies) (pl : Placing) (r : Plan)
-      → SidesTyped types ss → AreSplit ss ns → NodesTyped types m → SplitsAtForks m → InScope (numbers_inside ss ns) m
+      → SidesTyped types ss → AreSplit ss ns → NodesTyped types m → InScope (numbers_inside ss ns) m
       → IsWired types i j n ns env pl r → AreRealised types env ns → NamesDiffer r.imports
       → Typed r.imports [] (meaning (inside ss (terms_of env)) m) u → Typed r.imports [] (meaning (inside ss (terms_of env)) m) (type_of_node m)
-  retyped i j m n u env pl r agree split nodes forks scope w realised differ typed =
+  retyped i j m n u env pl r agree split nodes scope w realised differ typed =
       subst (λ (v : Type'). Typed r.imports [] (meaning (inside ss (terms_of env)) m) v)
       (sym (known r.imports [] (meaning (inside ss (terms_of env)) m) u (inr typed))
-      ∙ type_is r.imports types m [] (numbers_inside ss ns) (inside ss (terms_of env)) nodes (scope_there m (numbers_inside ss ns) forks scope)
+      ∙ type_is r.imports types m [] (numbers_inside ss ns) (inside ss (terms_of env)) nodes scope
       (inside_types r.imports types [] ss ns (terms_of env) agree split (supplies_have types i j n ns env pl r w realised differ)))
       typed
 
@@ -261,9 +256,9 @@ module _ (fork : OperatorIsFork) (kept : BothAreKept) (law : ForkRealises) (type
         session = of_operator (inside ss (terms_of env)) m n n a.uses b.uses b.uses op w em en;
         typed =
             of_two (HasItsType ss env r) a b
-            (retyped types ns (Exp (result_width op w)) ss i j m operation (Exp v) env pl r is.typed.0 is.scope.0 is.typed.2 is.forks.0 is.scope.1 wired
+            (retyped types ns (Exp (result_width op w)) ss i j m operation (Exp v) env pl r is.typed.0 is.scope.0 is.typed.2 is.scope.1 wired
             supplies.realised differ typed_m)
-            (retyped types ns (Exp (result_width op w)) ss i j n operation (Exp v) env pl r is.typed.0 is.scope.0 is.typed.3 is.forks.1 is.scope.2 wired
+            (retyped types ns (Exp (result_width op w)) ss i j n operation (Exp v) env pl r is.typed.0 is.scope.0 is.typed.3 is.scope.2 wired
             supplies.realised differ typed_n);
       })
       (of_two Leaved a b leaves_m leaves_n) (of_two (Real types) a b rm rn)

@@ -1,5 +1,4 @@
 pub mod TypeLemmas
-pub mod ChildLemmas
 pub mod BranchLemmas
 pub mod RunLemmas
 pub mod SessionLemmas

@@ -18,6 +18,7 @@ use Rattle.gos_ties.specs.declared.points.Place.TheVariants as places
 use Rattle.gos_ties.specs.declared.points.Tie as point_ties
 use Rattle.gos_ties.specs.Ties as points
 use Rattle.gos_ties.specs.Ties.{point}
+use Rattle.gos_realises.proofs.CountLemmas.{done_count}
 use Rattle.gos_webs.specs.Webs.{Dot, Of, Within, Tie, tie, Way, here, along, joint}
 use Rattle.gos_unions.specs.Unions.{within}
 use Rattle.gos_unions.proofs.UnionLemmas.{in_image}
@@ -56,13 +57,6 @@ done_contact (Exp w) done = refl
 done_contact (Var w) done = absurd done
 done_contact (Pair a b) done = absurd done
 done_contact (Fun a b) done = absurd done
-
-done_count : (t : Type') → IsDone t → count t ≡ 1
-done_count Com done = refl
-done_count (Exp w) done = refl
-done_count (Var w) done = absurd done
-done_count (Pair a b) done = absurd done
-done_count (Fun a b) done = absurd done
 
 run_contact : (f : Form) → slice_get (part_contacts (own_part f)) (run_shake (own_part f)) ≡ Some (serves 0 (bits (own_type f)))
 run_contact (Sequence t m n) = refl

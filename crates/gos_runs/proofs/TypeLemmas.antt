@@ -14,6 +14,8 @@ use Rattle.gos_check.specs.Nodes.{Numbered, Closed, Use, Under, One, Two, If, Of
 use Rattle.gos_check.proofs.TimesLemmas.{eq_true, true_eq}
 use Rattle.gos_plan.specs.Plans.{Plan}
 use Rattle.gos_realises.specs.Realises.{NamesDiffer}
+use Rattle.gos_realises.proofs.PlaceLemmas.{contains_at, place_of}
+use Rattle.gos_renumbered.proofs.ImportLemmas.{type_has}
 use Rattle.gos_typing.proofs.WhenceLemmas.{named}
 use Rattle.gos_typing.proofs.NameLemmas.{typed_under_fewer}
 use Rattle.gos_compile.specs.Wiring.{Types}
@@ -22,8 +24,7 @@ use Rattle.gos_stages.specs.Inside.{AreSplit, numbers_inside}
 use Rattle.gos_wired.specs.Wired.{Supplies, Placing, IsWired, AreRealised, terms_of}
 use Rattle.gos_unions.proofs.LeftLemmas.{front}
 use Rattle.gos_meanings.proofs.StillLemmas.{shift_still}
-use Rattle.gos_grounds.specs.Scopes.{InScope}
-use Rattle.gos_grounds.proofs.ImportLemmas.{contained_at, stands_at, type_has}
+use Rattle.gos_numbers.specs.Kept.{InScope}
 
 module _ (i : Imports) where
   -- more binders around a typed term change nothing of its type
@@ -163,8 +164,8 @@ supplies_have types i j m ns env pl r w realised differ k has =
     agree : (x : Name) → Contains (things 0 (env k).term) (Named x) → import_type r.imports x ≡ import_type (env k).plan.imports x
     agree x free =
         let name = named (env k).plan.imports (Named x) (env k).term 0 [] (types k) (omega arith) (realised k has).suits.typed free in
-        let (q, at_q) = stands_at (env k).plan.imports name.import name.has in
+        let (q, at_q) = place_of (env k).plan.imports name.import name.has in
         let is_x : bytes_eq name.import.name x ≡ true = (bytes_eq-Decides name.import.name x).1 (sym (cc (name.same))) in
         let there = w.imports k q name.import has at_q in
-        type_has r.imports differ x name.import (contained_at r.imports (pl.import k q) name.import there.0) is_x
+        type_has r.imports differ x name.import (contains_at r.imports (pl.import k q) name.import there.0) is_x
         ∙ sym (type_has (env k).plan.imports (realised k has).suits.names x name.import name.has is_x)

@@ -10,7 +10,8 @@ use Rattle.gos_model.specs.Typing.{Imported, import_type}
 use Rattle.gos_model.specs.Linking.{or_import, supplied}
 use Rattle.gos_realises.specs.Realises.{NamesDiffer, Realises}
 use Rattle.gos_realises.specs.Modules.{Supply, AreSupplied, term_for}
-use Rattle.gos_renumbered.proofs.ImportLemmas.{names_same, name_is, of_at}
+use Rattle.gos_realises.proofs.PlaceLemmas.{contains_at}
+use Rattle.gos_renumbered.proofs.ImportLemmas.{names_same, name_is}
 use Rattle.gos_renumbered.proofs.OrderLemmas.{reordered}
 use Rattle.gos_renumbered.proofs.RewireLemmas.{rewired_is_renumbered}
 use Rattle.gos_renumbered.specs.Open.{RenumberedIsOpen}
@@ -113,7 +114,7 @@ term_at (j ∷ is) (r ∷ ss) differ (suc n) i s at at_s = by_test (bytes_eq j.n
   where
     by_test : (b : Bool) → bytes_eq j.name i.name ≡ b → term_for is ss i.name ≡ Some s.term
         → (if b then Some r.term else term_for is ss i.name) ≡ Some s.term
-    by_test true test rest = absurd (differ.0 i (of_at is n i at) (name_is j.name i.name test))
+    by_test true test rest = absurd (differ.0 i (contains_at is n i at) (name_is j.name i.name test))
     by_test false test rest = rest
 
 names_given : (g : Name → Option Term) (is : List Imported) (ss : List Supply) → AreSupplied is ss

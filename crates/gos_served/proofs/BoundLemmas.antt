@@ -8,11 +8,11 @@ use Rattle.gos_plan.specs.Joining.{Place, place, Link, is_joined, LeftImport, le
 use Rattle.gos_realises.specs.Regular.{count}
 use Rattle.gos_realises.specs.Wirings.{link}
 use Rattle.gos_realises.specs.Modules.{import_linked}
+use Rattle.gos_realises.proofs.CountLemmas.{some_shake}
 use Rattle.gos_joined.proofs.OriginLemmas.{import_of}
 use Rattle.gos_unions.proofs.LeftLemmas.{front, behind}
 use Rattle.gos_unions.proofs.LinkLemmas.{IsAt, joined_by, by_joined}
 use Rattle.gos_applied.proofs.SeamLemmas.{listed, left_none, listed_imports, listed_at, listed_length}
-use Rattle.gos_applied.proofs.OpenedLemmas.{some_shake}
 use Rattle.gos_served.specs.Served.{serving}
 
 -- handshake h of import k of the first plan, linked to the second

@@ -9,6 +9,7 @@ use Rattle.gos_model.specs.Linking.{supplied}
 use Rattle.gos_realises.specs.Links.{IsJoined}
 use Rattle.gos_realises.specs.Realises.{NamesDiffer, Realises}
 use Rattle.gos_realises.specs.Modules.{Supply, AreSupplied, term_for, supplying}
+use Rattle.gos_realises.proofs.PlaceLemmas.{differ_second}
 use Rattle.gos_joined.proofs.WholeLemmas.{supplied_is_joined}
 use Rattle.gos_renumbered.proofs.ImportLemmas.{names_same}
 use Rattle.gos_renumbered.proofs.OrderLemmas.{reordered}
@@ -16,7 +17,7 @@ use Rattle.gos_renumbered.proofs.HigherLemmas.{renumbered_is_realised}
 use Rattle.gos_typing.specs.Supplied.{imports_of}
 use Rattle.gos_typing.proofs.LeftLemmas.{imports_are_of_supplies}
 use Rattle.gos_applied.proofs.TogetherLemmas.{supplied_two}
-use Rattle.gos_applied.proofs.TermLemmas.{supplied_same, differ_second, supplies_split}
+use Rattle.gos_applied.proofs.TermLemmas.{supplied_same, supplies_split}
 use Rattle.gos_served.specs.Served.{bound_to, ServedIsOpen}
 use Rattle.gos_served.proofs.TermLemmas.{supplied_then, supplied_twice, agrees}
 use Rattle.gos_served.proofs.TogetherLemmas.{served_leaves, served_is_supplied}

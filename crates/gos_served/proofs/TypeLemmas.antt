@@ -9,11 +9,11 @@ use Rattle.gos_model.specs.Terms.{Name, Term, Skip, Lit, Bound, Import, Lam, App
 use Rattle.gos_model.specs.Typing.{Imported, import_type, Named, things, Apart, Typed}
 use Rattle.gos_model.specs.Linking.{or_import, supplied}
 use Rattle.gos_realises.specs.Realises.{NamesDiffer}
+use Rattle.gos_realises.proofs.PlaceLemmas.{differ_between}
 use Rattle.gos_renumbered.proofs.ImportLemmas.{has_type, name_is}
 use Rattle.gos_typing.specs.Supplied.{AreTyped, ShareNothing}
 use Rattle.gos_typing.proofs.NameLemmas.{typed_under}
 use Rattle.gos_typing.proofs.WhenceLemmas.{named, with_supplies}
-use Rattle.gos_applied.proofs.TermLemmas.{differ_between}
 use Rattle.gos_served.specs.Served.{bound_to, ServedIsTyped, ServedIsModule}
 use Rattle.gos_served.proofs.TermLemmas.{other_type}
 use Rattle.gos_served.proofs.TogetherLemmas.{served_leaves}

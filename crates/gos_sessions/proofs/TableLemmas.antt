@@ -1,14 +1,15 @@
 -- The table of sessions is right: form by form, state by state.
 use Rattle.std.specs.Prelude.{◌≢◌, ◌^◌, ◌<◌, ◌⊎◌, None, nat_eq}
-use Rattle.std.proofs.Common.{◌≡◌, inl, inr, ℕ, zero, suc, Bool, true, false, List, [], ◌∷◌, Option, Some, refl, sym, ◌∙◌, ap, subst, arith, if◌then◌else◌}
+use Rattle.std.proofs.Common.{◌≡◌, inl, inr, ℕ, zero, suc, Bool, true, false, List, [], ◌∷◌, Option, Some, refl, subst, arith, if◌then◌else◌}
 use Rattle.std.proofs.lemmas.Option.{none-some}
 use Rattle.gos_types.specs.Types.{Type', Com, Exp}
 use Rattle.gos_model.specs.Terms as terms
 use Rattle.gos_model.specs.Terms.{Op, Term}
 use Rattle.gos_model.specs.Steps as steps
 use Rattle.gos_model.specs.Moves.{Program, Running, Act, Computing}
-use Rattle.gos_plan.specs.Firing.{Phase, Rest, First, Second, Test, Branch, Body, Left, Right, Waiting, State, Slot, Req, Ans, Row, at, put, row, row_for, rows, same_slot, firing}
+use Rattle.gos_plan.specs.Firing.{Phase, Rest, First, Second, Test, Branch, Body, Left, Right, Waiting, State, Slot, Req, Ans, Row, at, put, row, row_for, rows, firing}
 use Rattle.gos_plan.specs.Kinds as kinds
+use Rattle.gos_plan.proofs.SlotLemmas.{one_row}
 use Rattle.gos_sessions.specs.Sessions.{run_shake, Form, Sequence, Choice, Loop, Binary, Complement, Session, session, session_of, own_part, own_term, value_of, bits, Computes, LeadsOn, TablesAreRight}
 
 none : (g : Program) (m : Term) → Computes g [] m m
@@ -159,20 +160,6 @@ goes_on g (Choice t a b c) q s e = in_choice g t a b c q.phase q.number s e
 goes_on g (Loop a b) q s e = in_loop g a b q.phase q.number s e
 goes_on g (Binary op w a b) q s e = in_binary g op w a b q.phase q.number s e
 goes_on g (Complement w a) q s e = in_complement g w a q.phase q.number s e
-
--- what takes a token takes that of its row
-slots_same : (a b : Slot) → same_slot a b ≡ true → b ≡ a
-slots_same (Req h) (Req j) e = let same : h ≡ j = grind (arith, e) in ap Req (sym same)
-slots_same (Req h) (Ans j) e = absurd (cc e)
-slots_same (Ans h) (Req j) e = absurd (cc e)
-slots_same (Ans h) (Ans j) e = let same : h ≡ j = grind (arith, e) in ap Ans (sym same)
-
-one_row : (a r : Row) (slot : Slot) → row_for slot (a ∷ []) ≡ Some r → slot ≡ a.takes
-one_row a r slot e = by_test (same_slot a.takes slot) refl
-  where
-    by_test : (b : Bool) → same_slot a.takes slot ≡ b → slot ≡ a.takes
-    by_test true t = slots_same a.takes slot t
-    by_test false t = absurd (none-some r (sym (ap (λ (b : Bool). if b then Some a else None) t) ∙ e))
 
 -- the own part takes its request where it rests, and the answer of the session that it is in
 abbrev Taken : Form → Phase → ℕ → Slot → Type 0

@@ -7,7 +7,7 @@ use Rattle.gos_types.specs.Types.{Type'}
 use Rattle.gos_check.specs.declared.linear.Split.{Split}
 use Rattle.gos_check.specs.Nodes.{type_of_node}
 use Rattle.gos_check.specs.Linearity.{times, used, made}
-use Rattle.gos_check.proofs.TimesLemmas.{number_cases, eq_true, eq_false, times_same}
+use Rattle.gos_check.proofs.TimesLemmas.{eq_true, eq_false, some_times, listed_times}
 use Rattle.gos_plan.specs.Plans.{End, PartEnd, ResultEnd}
 use Rattle.gos_realises.specs.Regular.{count}
 use Rattle.gos_ties.specs.declared.points.Place.{Place}
@@ -16,6 +16,7 @@ use Rattle.gos_ties.specs.declared.points.Tie as point_ties
 use Rattle.gos_ties.specs.Ties as ties
 use Rattle.gos_ties.specs.Ties.{point}
 use Rattle.gos_webs.specs.Webs.{Dot, Of, Number, Node, Within, Tie, tie, Way, own_web}
+use Rattle.gos_webs.proofs.WayLemmas.{way_then}
 use Rattle.gos_unions.specs.Unions.{within}
 use Rattle.gos_unions.proofs.UnionLemmas.{of_image, in_image}
 use Rattle.gos_folds.specs.Folds.{Follows}
@@ -29,7 +30,7 @@ use Rattle.gos_stages.specs.Folding.{Child, is_used, lodge, child_out, child_web
 use Rattle.gos_stages.proofs.RangeLemmas.{ties_stay_within}
 use Rattle.gos_stages.proofs.LodgingLemmas.{lifted, led_listed, homes_are_kept, numbers_are_held}
 use Rattle.gos_stages.proofs.LiveLemmas.{spots_are_live}
-use Rattle.gos_stages.proofs.WayLemmas.{by_tie, way_then}
+use Rattle.gos_stages.proofs.WayLemmas.{by_tie}
 use Rattle.gos_stages.proofs.HomeLemmas.{way_mapped}
 use Rattle.gos_stages.proofs.ChildTieLemmas.{dot_tie, put_in, of_supplies, in_supplies, ResultTie, in_results, of_supply, led_of}
 
@@ -48,23 +49,8 @@ range_in a n k le lt = rw (high k a le, low k (a + n) lt) refl
 pub range_below : (a n k : ℕ) → k < a → in_range a n k ≡ false
 range_below a n k lt = rw (low k a lt) refl
 
--- numbers in lists
-pub some_times : (n : ℕ) (ns : List ℕ) → Contains ns n → 0 < times n ns
-some_times n [] (k, lt, e) = absurd (omega (arith, lt))
-some_times n (m ∷ ms) (zero, lt, e) =
-    let same = subst (λ (r : ℕ). times r (m ∷ ms) ≡ 1 + times r ms) e (times_same m ms) in omega (arith, same)
-some_times n (m ∷ ms) (suc k, lt, e) = let rest = some_times n ms (k, omega (arith, lt), e) in omega (arith, rest)
-
-pub listed_times : (n : ℕ) (ns : List ℕ) → 0 < times n ns → Contains ns n
-listed_times n [] some = absurd (omega (arith, some))
-listed_times n (m ∷ ms) some =
-    number_cases m n
-    (λ e t. (0, omega arith, e))
-    (λ e t. let rest : (if nat_eq m n then 1 else 0) + times n ms ≡ 0 + times n ms = ap (λ (b : Bool). (if b then 1 else 0) + times n ms) t in
-    let (k, lt, is) = listed_times n ms (omega (arith, some, rest)) in (suc k, omega (arith, lt), is))
-
 -- what a tie connects, from what it stands for
-follows_by : (ts : List Tie) (a b : Option Dot) (x y : Dot) → a ≡ Some x → b ≡ Some y → Way ts x y → Follows ts a b
+pub follows_by : (ts : List Tie) (a b : Option Dot) (x y : Dot) → a ≡ Some x → b ≡ Some y → Way ts x y → Follows ts a b
 follows_by ts a b x y at_a at_b way =
     subst (λ (z : Option Dot). Follows ts z b) (sym at_a) (subst (λ (z : Option Dot). Follows ts (Some x) z) (sym at_b) way)
 

@@ -1,11 +1,11 @@
 -- The plan of a child lies as a fold in its node's: its ports, the Shares that serve it, and its ends.
-use Rattle.std.specs.Prelude.{◌+◌, ◌-◌, ◌*◌, ◌<◌, ◌≤◌, ◌⊎◌, length, nat_eq, nat_lt, slice_get, None, Contains}
+use Rattle.std.specs.Prelude.{◌+◌, ◌-◌, ◌*◌, ◌<◌, ◌≤◌, ◌⊎◌, length, nat_eq, slice_get, None, Contains}
 use Rattle.std.proofs.Common.{◌≡◌, ℕ, suc, Bool, true, false, not, List, Option, Some, inl, inr, refl, sym, ◌∙◌, ap, subst, arith, if◌then◌else◌}
 use Rattle.std.proofs.lemmas.Option.{slice_get_within}
-use Rattle.std.proofs.lemmas.Bool.Decides.{nat_tests}
 use Rattle.std.proofs.lemmas.List.Elements.{Contains-append_cases}
 use Rattle.gos_types.specs.Types.{Type'}
 use Rattle.gos_model.specs.Typing.{Imported}
+use Rattle.gos_model.proofs.NumberLemmas.{low_or_high}
 use Rattle.gos_check.specs.Nodes.{type_of_node}
 use Rattle.gos_check.proofs.TimesLemmas.{eq_true, true_eq}
 use Rattle.gos_plan.specs.Kinds.{Contact, Part, Share, contacts_of, turned_contact}
@@ -13,6 +13,7 @@ use Rattle.gos_plan.specs.Plans.{End, PartEnd, ImportEnd, ResultEnd, Joint, Plan
 use Rattle.gos_plan.specs.Tokens.{IsPortEnd}
 use Rattle.gos_realises.specs.Regular.{count}
 use Rattle.gos_ties.specs.declared.points.Place.TheVariants as places
+use Rattle.gos_realises.proofs.CountLemmas.{some_shake}
 use Rattle.gos_webs.specs.Webs.{Dot, Of, Number, Within, Tie, tie, Way, here, along, Web}
 use Rattle.gos_webs.specs.Cutting.{IsOutside, StandsIn}
 use Rattle.gos_webs.proofs.WebLemmas.{asks_there, serves_there}
@@ -35,7 +36,7 @@ use Rattle.gos_stages.proofs.ServedLemmas.{servings_serve}
 use Rattle.gos_stages.proofs.SpareLemmas.{spares_are_others}
 use Rattle.gos_stages.proofs.ChildTieLemmas.{put_in, of_supplies, of_supply, child_ways}
 use Rattle.gos_stages.proofs.ChildBackLemmas.{own_back, used_so, spot_used, child_stays}
-use Rattle.gos_stages.proofs.ContactLemmas.{turned_some, part_there, import_there, some_shake, share_ground, shares_length, other_unserved}
+use Rattle.gos_stages.proofs.ContactLemmas.{turned_some, part_there, import_there, shares_length, other_unserved}
 use Rattle.gos_stages.proofs.ChildPartLemmas.{low, there_at, no_more_than, plain_source, supplied_back, own_source_back, source_from, part_lies, number_so, child_is_part}
 
 module _ (f : Child) (own : List Part) (ts : List Tie) (pl plc : Placing) (r c : Plan) (is : IsChild f ts) (has : HasChild f own c)
@@ -158,8 +159,7 @@ module _ (f : Child) (own : List Part) (ts : List Tie) (pl plc : Placing) (r c :
   serving_so : (n : Serving) → Contains (child_servings f pl) n → Serves n
   serving_so n listed =
       let (x, at, it) = servings_serve f.types f.first (is_used f) f.splits f.env f.numbers pl n is.tidy listed in
-      let ground = share_ground f.types f.splits f.numbers x n.ty is.agree is.split is.supplies.ground it.share in
-      let (z, home) = it.seen 0 (serves_source (count n.ty) n.side 0 (some_shake n.ty ground)) in
+      let (z, home) = it.seen 0 (serves_source (count n.ty) n.side 0 (some_shake n.ty)) in
       let home_in = homes_are_there f.types f.first (is_used f) f.splits f.env f.numbers (Own x) 0 z is.tidy (share_low x n.ty n.side it) home in
       let (y, part) = there_at ((lodge f).env z.number).plan.parts home_in.part home_in.within in
       let used = spot_used f ts pl is (source_dot f.first (Own x) 0) z home in
@@ -379,13 +379,6 @@ module _ (f : Child) (own : List Part) (ts : List Tie) (pl plc : Placing) (r c :
       by_home true t none e = absurd (no_more_than (plc.own (f.first + q - (f.first + f.off))) (sym none))
       by_home false t none e = by_size (low_or_high q (length f.splits))
         where
-          low_or_high : (a b : ℕ) → (a < b) ⊎ (b ≤ a)
-          low_or_high a b = split (nat_lt a b) refl
-            where
-              split : (t : Bool) → nat_lt a b ≡ t → (a < b) ⊎ (b ≤ a)
-              split true h = inl (grind (arith, nat_tests, h))
-              split false h = inr (grind (arith, nat_tests, h))
-
           by_size : (q < length f.splits) ⊎ (length f.splits ≤ q) → Comes (PartEnd i h) k
           by_size (inl lt) =
               let (z, home) = spot_some ((lodge f).home (source_dot f.first (Own q) h)) y e in

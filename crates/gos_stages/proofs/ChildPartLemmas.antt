@@ -3,6 +3,7 @@ use Rattle.std.specs.Prelude.{◌+◌, ◌-◌, ◌<◌, ◌≤◌, ◌⊎◌, l
 use Rattle.std.proofs.Common.{◌≡◌, ℕ, zero, suc, Bool, true, false, not, List, [], ◌∷◌, Option, Some, inl, inr, refl, sym, ◌∙◌, ap, subst, arith, if◌then◌else◌}
 use Rattle.std.proofs.lemmas.Bool.Decides.{nat_tests}
 use Rattle.std.proofs.lemmas.Option.{slice_get_within}
+use Rattle.gos_model.proofs.NumberLemmas.{low_or_high}
 use Rattle.gos_plan.specs.Kinds.{Part}
 use Rattle.gos_plan.specs.Plans.{End, PartEnd, ResultEnd, Plan}
 use Rattle.gos_ties.specs.declared.points.Place.TheVariants as places
@@ -142,13 +143,6 @@ module _ (f : Child) (ts : List Tie) (pl plc : Placing) (is : IsChild f ts) wher
         by_home true t e = in_child t e
         by_home false t e = by_size (low_or_high q (length f.splits))
           where
-            low_or_high : (a b : ℕ) → (a < b) ⊎ (b ≤ a)
-            low_or_high a b = split (nat_lt a b) refl
-              where
-                split : (t : Bool) → nat_lt a b ≡ t → (a < b) ⊎ (b ≤ a)
-                split true h = inl (told a b h)
-                split false h = inr (grind (arith, nat_tests, h))
-
             by_size : (q < length f.splits) ⊎ (length f.splits ≤ q) → Told i j
             by_size (inl lt) = by_spot (Own q) i j lt at_i ((lodge f).home (source_dot f.first (Own q) 0)) refl e
             by_size (inr le) =

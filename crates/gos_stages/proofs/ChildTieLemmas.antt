@@ -17,6 +17,7 @@ use Rattle.gos_stages.specs.Leading.{dot_leading}
 use Rattle.gos_stages.specs.Folding.{Child, is_used, lodge, child_out, child_web, child_dot, own_ties, IsChild, ChildWays}
 use Rattle.gos_stages.proofs.FollowLemmas.{dots_lead}
 use Rattle.gos_stages.proofs.WayLemmas.{by_tie, joints_are_ways}
+use Rattle.gos_stages.proofs.LodgingLemmas.{lifted}
 
 abbrev pub joint_tie : Joint → Tie
 joint_tie j = tie (Of j.asking) (Of j.serving)
@@ -26,6 +27,16 @@ dot_tie u = tie (dot_of u.one) (dot_of u.other)
 
 abbrev pub put_in : ℕ → Tie → Tie
 put_in k v = tie (Within k v.one) (Within k v.other)
+
+-- ties of points, as those of a web
+pub tie_of : (us : List point_ties.Tie) (t : Tie) → Contains (within 0 (dot_ties us)) t → (u : point_ties.Tie) × Contains us u × (lifted u ≡ t)
+tie_of us t has =
+    let (v, there, at_v) = of_image (put_in 0) (dot_ties us) t has in
+    let (u, listed, at_u) = of_image dot_tie us v there in
+    (u, listed, ap (put_in 0) at_u ∙ at_v)
+
+pub tie_in : (us : List point_ties.Tie) (u : point_ties.Tie) → Contains us u → Contains (within 0 (dot_ties us)) (lifted u)
+tie_in us u has = in_image (put_in 0) (dot_ties us) (dot_tie u) (in_image dot_tie us u has)
 
 -- the ties of supplies, by number
 pub of_supplies : (types : Types) (env : Supplies) (ns : List ℕ) (t : Tie) → Contains (all_supply_ties types env ns) t

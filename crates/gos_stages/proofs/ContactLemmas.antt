@@ -1,12 +1,11 @@
 -- Handshakes that there are, and the types of Shares.
 use Rattle.std.specs.Prelude.{◌+◌, ◌-◌, ◌*◌, ◌<◌, length, slice_get, None, Contains}
 use Rattle.std.proofs.Common.{◌≡◌, ℕ, zero, suc, false, List, [], ◌∷◌, Option, Some, refl, sym, ap, subst, arith}
-use Rattle.gos_types.specs.Types.{Type', Com, Exp, Var, Pair, Fun, IsGround}
+use Rattle.gos_types.specs.Types.{Type', IsGround}
 use Rattle.gos_model.specs.Typing.{Imported}
 use Rattle.gos_check.specs.declared.linear.Split.{Split}
 use Rattle.gos_plan.specs.Kinds.{Contact, Part, Share}
 use Rattle.gos_plan.specs.Plans.{contacts_of_part, contacts_of_import, turned_if}
-use Rattle.gos_realises.specs.Regular.{count}
 use Rattle.gos_compile.specs.Wiring.{Types, shares}
 use Rattle.gos_stages.specs.Inside.{AreSplit, SidesAgree}
 use Rattle.gos_stages.specs.Lodging.{serves_side}
@@ -27,13 +26,6 @@ import_there None h k e = absurd (no_more_than k e)
 import_there (Some y) h k e = (y, refl)
 
 -- the type of a Share
-pub some_shake : (t : Type') → IsGround t → 0 < count t
-some_shake Com g = omega arith
-some_shake (Exp w) g = omega arith
-some_shake (Var w) g = omega arith
-some_shake (Pair a b) g = absurd g
-some_shake (Fun a b) g = absurd g
-
 pub share_ground : (types : Types) (ss : List Split) (ns : List ℕ) (x : ℕ) (t : Type') → SidesAgree ss types → AreSplit ss ns → ((n : ℕ) → Contains ns n → IsGround (types n))
     → slice_get (shares ss types) x ≡ Some (Share t) → IsGround t
 share_ground types [] ns x t agree split ground e = absurd (no_more_than (Share t) e)

@@ -1,6 +1,6 @@
 -- What a child covers of its node.
 use Rattle.std.specs.Prelude.{◌+◌, ◌<◌, length, nat_eq, slice_get, None}
-use Rattle.std.proofs.Common.{◌≡◌, ℕ, suc, Bool, List, [], ◌∷◌, Option, Some, ◌∙◌, ap, arith}
+use Rattle.std.proofs.Common.{◌≡◌, ℕ, suc, Bool, true, List, [], ◌∷◌, Option, Some, ◌∙◌, ap, arith}
 use Rattle.std.proofs.lemmas.Option.{slice_get_within}
 use Rattle.gos_plan.specs.Kinds.{Share}
 use Rattle.gos_check.specs.declared.linear.Split.{Split}
@@ -8,8 +8,8 @@ use Rattle.gos_plan.specs.Plans.{End, ResultEnd}
 use Rattle.gos_ties.specs.declared.points.Place.TheVariants as places
 use Rattle.gos_webs.specs.Webs.{Of, Within}
 use Rattle.gos_compile.specs.Wiring.{Types, shares}
-use Rattle.gos_wired.specs.Wired.{Own, Placing, source_dot}
-use Rattle.gos_stages.specs.Lodging.{Spot, spot, spot_if, Lodging, live, first_lodging, side_number, moved_spot, moved, one_lodging, lodging}
+use Rattle.gos_wired.specs.Wired.{Supplies, Own, Placing, source_dot}
+use Rattle.gos_stages.specs.Lodging.{Spot, spot, spot_if, Lodging, live, first_lodging, side_number, moved_spot, moved, one_lodging, lodging, lodged}
 use Rattle.gos_stages.specs.Folding.{is_used, spot_dot}
 use Rattle.gos_stages.specs.Covering.{LiveIsCovered, ServedIsCovered, OwnIsCovered}
 use Rattle.gos_stages.proofs.LodgingLemmas.{seen}
@@ -19,7 +19,7 @@ use Rattle.gos_stages.proofs.ChildPartLemmas.{plain_source, own_source_back}
 use Rattle.gos_stages.proofs.ContactLemmas.{shares_length}
 
 -- what stands for something stands for something inside one split more
-abbrev Stands : Option Spot → Type 0
+abbrev pub Stands : Option Spot → Type 0
 Stands a = (z : Spot) × (a ≡ Some z)
 
 stands_moved : (s : Split) (b : Option ℕ) (k : ℕ) (a : Option Spot) → Stands a → Stands (moved s b k a)
@@ -34,13 +34,15 @@ final_stands types inner (s ∷ ss) q x l n e it =
     final_stands types inner ss (suc q) (suc x) (one_lodging types q x s (seen types inner ss s) l) n e
     (stands_moved s (seen types inner ss s) (length (l.env s.of).plan.parts) (l.home (Within (suc n) (Of e))) it)
 
+-- so each end of the supply of a live number does
+pub live_stands : (types : Types) (i : ℕ) (inner : ℕ → Bool) (ss : List Split) (env : Supplies) (n : ℕ) (e : End)
+    → live ss inner n ≡ true → Stands ((lodged types i inner ss env).home (Within (suc n) (Of e)))
+live_stands types i inner ss env n e lives =
+    final_stands types inner ss i 0 (first_lodging (live ss inner) env) n e (spot n e, ap (λ (b : Bool). spot_if b n e) lives)
+
 pub live_is_covered : LiveIsCovered
 live_is_covered f n e lives =
-    let (z, at) =
-    final_stands f.types (is_used f) f.splits f.first 0 (first_lodging (live f.splits (is_used f)) f.env) n e
-    (spot n e, ap (λ b. spot_if b n e) lives)
-    in
-    (Within (suc z.number) (Of z.end), ap spot_dot at)
+    let (z, at) = live_stands f.types f.first (is_used f) f.splits f.env n e lives in (Within (suc z.number) (Of z.end), ap spot_dot at)
 
 pub served_is_covered : ServedIsCovered
 served_is_covered f ts pl s is listed =

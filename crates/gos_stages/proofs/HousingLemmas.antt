@@ -1,7 +1,6 @@
 -- Parts and imports of supplies inside splits, split by split.
 use Rattle.std.specs.Prelude.{◌≢◌, ◌+◌, ◌<◌, ◌≤◌, length, nat_eq, slice_get, None, Contains}
 use Rattle.std.proofs.Common.{◌≡◌, ℕ, suc, Bool, true, false, not, List, [], ◌∷◌, ◌++◌, Option, Some, inl, inr, refl, sym, ◌∙◌, ap, subst, arith, if◌then◌else◌}
-use Rattle.gos_types.specs.Types.{Type', Com, Exp, Var, Pair, Fun, IsGround}
 use Rattle.gos_check.specs.declared.linear.Split.{Split}
 use Rattle.gos_check.specs.Linearity.{times, sides}
 use Rattle.gos_check.proofs.TimesLemmas.{number_cases, eq_true, eq_false}
@@ -9,6 +8,7 @@ use Rattle.gos_plan.specs.Kinds.{Part, Share}
 use Rattle.gos_plan.specs.Plans.{PartEnd}
 use Rattle.gos_realises.specs.Regular.{count}
 use Rattle.gos_realises.specs.Modules.{Supply}
+use Rattle.gos_realises.proofs.CountLemmas.{some_shake}
 use Rattle.gos_webs.specs.Webs.{Of, Within}
 use Rattle.gos_compile.specs.Wiring.{Types, shares}
 use Rattle.gos_buffers.specs.Buffering.{end_behind}
@@ -312,13 +312,6 @@ far_is_nothing types i inner ss env x h le =
     far_on types inner i ss i 0 (omega arith) (first_lodging (live ss inner) env) x h (omega (arith, le)) refl
 
 -- the first handshake
-some_shake : (t : Type') → IsGround t → 0 < count t
-some_shake Com g = omega arith
-some_shake (Exp w) g = omega arith
-some_shake (Var w) g = omega arith
-some_shake (Pair a b) g = absurd g
-some_shake (Fun a b) g = absurd g
-
 first_on : (types : Types) (inner : ℕ → Bool) (ss : List Split) (q x : ℕ) (l : Lodging) (ms : List ℕ) → SidesAgree ss types → AreSplit ss ms → AreGroundSupplies types l.env ms
     → ((n k : ℕ) → l.spare n k 0 ≡ false) → (n k : ℕ) → (lodging types q x inner ss l).spare n k 0 ≡ false
 first_on types inner [] q x l ms agree split are none n k = none n k
@@ -330,7 +323,7 @@ first_on types inner (s ∷ ss) q x l ms (left, right, agree) (of, split) are no
     next n k = by_side (is_side s n) (nat_eq k (length (l.env s.of).plan.parts))
       where
         served : (c : ℕ) → not (serves_side (count (types s.of)) c 0) ≡ false
-        served c = ap not (serves_source (count (types s.of)) c 0 (some_shake (types s.of) (are.ground s.of of)))
+        served c = ap not (serves_source (count (types s.of)) c 0 (some_shake (types s.of)))
 
         by_side : (b d : Bool) → (if b then if d then not (serves_side (count (types s.of)) (if nat_eq n s.left then 0 else 1) 0) else l.spare s.of k 0 else l.spare n k 0) ≡ false
         by_side true true = served (if nat_eq n s.left then 0 else 1)

@@ -3,7 +3,7 @@ use Rattle.std.specs.Prelude.{◌≢◌, ◌+◌, ◌-◌, ◌<◌, ◌≤◌, l
 use Rattle.std.proofs.Common.{◌≡◌, ℕ, zero, suc, Bool, true, false, List, [], ◌∷◌, ◌++◌, Some, refl, sym, ◌∙◌, ap, subst, arith, if◌then◌else◌}
 use Rattle.std.proofs.lemmas.Bool.Decides.{nat_tests}
 use Rattle.gos_check.specs.Linearity.{times}
-use Rattle.gos_check.proofs.TimesLemmas.{number_cases, eq_true, eq_false, times_same}
+use Rattle.gos_check.proofs.TimesLemmas.{number_cases, eq_true, eq_false, times_same, some_times}
 use Rattle.gos_unions.proofs.LeftLemmas.{front, behind}
 
 low : (a b : ℕ) → a < b → nat_lt a b ≡ true
@@ -111,13 +111,8 @@ module _ {X : Type 0} (lists : ℕ → List X) where
       apart n there e =
           let all = once m in
           let same = times_same m ns in
-          let some = some_times ns (subst (Contains ns) e there) in
+          let some = some_times m ns (subst (Contains ns) e there) in
           omega (arith, all, same, some)
-        where
-          some_times : (ms : List ℕ) → Contains ms m → 1 ≤ times m ms
-          some_times [] (k, lt, e) = absurd (omega (arith, lt))
-          some_times (a ∷ ms) (zero, lt, e) = let here = subst (λ (r : ℕ). times r (a ∷ ms) ≡ 1 + times r ms) e (times_same a ms) in omega (arith, here)
-          some_times (a ∷ ms) (suc k, lt, e) = let more = some_times ms (k, omega (arith, lt), e) in omega (arith, more)
 
       further : length (lists m) ≤ j → find (m ∷ ns) j ≡ find ns (j - length (lists m)) → IsFound ns (j - length (lists m)) x → IsFound (m ∷ ns) j x
       further le at_find it =

@@ -22,6 +22,5 @@ pub mod LayoutLemmas
 pub mod ChildStageLemmas
 pub mod StageLemmas
 pub mod NodeLemmas
-pub mod NumberLemmas
 pub mod CoverLemmas
-pub mod SequenceLemmas
+pub mod SideLemmas

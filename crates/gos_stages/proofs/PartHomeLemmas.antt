@@ -12,11 +12,11 @@ use Rattle.gos_webs.specs.Webs.{Dot, Of, Within}
 use Rattle.gos_compile.specs.Wiring.{Types}
 use Rattle.gos_buffers.proofs.DrivenLemmas.{one_longer}
 use Rattle.gos_wired.specs.Wired.{Supplies, Source, Own, source_dot}
-use Rattle.gos_stages.specs.Lodging.{Spot, spot, spot_if, Lodging, live, first_lodging, seen_from, side_number, serves_side, moved_spot, moved, share_spot, one_lodging, lodging, IsAtHome, NumbersAreAtHome}
+use Rattle.gos_stages.specs.Lodging.{Spot, spot, spot_if, Lodging, live, first_lodging, side_number, serves_side, moved_spot, moved, share_spot, one_lodging, lodging, IsAtHome, NumbersAreAtHome}
 use Rattle.gos_stages.proofs.InsideLemmas.{one_stays}
 use Rattle.gos_stages.proofs.HomeLemmas.{Untouched, no_side, untouched_later, plainly}
 use Rattle.gos_stages.proofs.StepLemmas.{differ, side_is, side_env}
-use Rattle.gos_stages.proofs.LodgingLemmas.{IsTidy, tidy_on, tidy_first, of_gone, seen}
+use Rattle.gos_stages.proofs.LodgingLemmas.{IsTidy, tidy_on, tidy_first, of_gone, seen, seen_first, seen_second, either_live, first_live}
 
 -- where a part's handshake is at home, and no later split touches it
 abbrev Placed : ℕ → ℕ → List Split → (Dot → Option Spot) → Source → Bool → ℕ → ℕ → ℕ → Type 0
@@ -182,20 +182,6 @@ module _ (types : Types) (i : ℕ) (inner : ℕ → Bool) where
   abbrev AllPlaced : ℕ → List Split → List ℕ → Lodging → Type 0
   AllPlaced q ss gone l =
       (n : ℕ) → times n (sides ss) ≡ 0 → times n gone ≡ 0 → live ss inner n ≡ true → IsPlaced i q ss l n
-
-  seen_first : (a b : Bool) → a ≡ true → seen_from a b ≡ Some 0
-  seen_first a b e = ap (λ (x : Bool). seen_from x b) e
-
-  seen_second : (a b : Bool) → (a ≡ true → b ≡ true → ⊥) → b ≡ true → seen_from a b ≡ Some 1
-  seen_second true b apart e = absurd (apart refl e)
-  seen_second false b apart e = ap (seen_from false) e
-
-  either_live : (a b : Bool) → b ≡ true → (a || b) ≡ true
-  either_live true b e = refl
-  either_live false b e = e
-
-  first_live : (a b : Bool) → a ≡ true → (a || b) ≡ true
-  first_live a b e = ap (λ (x : Bool). x || b) e
 
   placed_on : (s : Split) (ss : List Split) (q x : ℕ) → q ≡ i + x → (l : Lodging) (gone : List ℕ) → IsTidy inner (s ∷ ss) gone → AllPlaced q (s ∷ ss) gone l
       → AllPlaced (suc q) ss (s.of ∷ gone) (one_lodging types q x s (seen types inner ss s) l)

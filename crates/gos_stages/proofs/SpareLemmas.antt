@@ -24,13 +24,13 @@ use Rattle.gos_buffers.proofs.BranchLemmas.{one_of_two}
 use Rattle.gos_buffers.proofs.BufferedLemmas.{at_last, before_last, buffered_is_buffer}
 use Rattle.gos_wired.specs.Wired.{Own, Placing}
 use Rattle.gos_stages.specs.Inside.{numbers_inside, AreSplit, SidesAgree, AreGroundSupplies}
-use Rattle.gos_stages.specs.Lodging.{Lodging, live, first_lodging, seen_from, side_number, serves_side, one_lodging, lodging}
+use Rattle.gos_stages.specs.Lodging.{Lodging, live, first_lodging, side_number, serves_side, one_lodging, lodging}
 use Rattle.gos_stages.specs.Folding.{serving_if, servings}
 use Rattle.gos_stages.specs.Served.{SparesAreOthers}
 use Rattle.gos_stages.proofs.InsideLemmas.{of_cons, one_stays, one_inside}
 use Rattle.gos_stages.proofs.HomeLemmas.{no_side}
 use Rattle.gos_stages.proofs.StepLemmas.{serves_source, serves_caller, differ, side_is, side_env}
-use Rattle.gos_stages.proofs.LodgingLemmas.{IsTidy, tidy_on, tidy_first, of_gone, seen}
+use Rattle.gos_stages.proofs.LodgingLemmas.{IsTidy, tidy_on, tidy_first, of_gone, seen, seen_first, seen_second, either_live, first_live}
 
 -- a handshake that is neither the source's nor caller c's
 caller_of : (t : Type') (c h : ℕ) (d : Contact) → IsGround t → c < 2 → slice_get (part_contacts (Share t)) h ≡ Some d → serves_side (count t) c h ≡ false
@@ -222,20 +222,6 @@ module _ (Known : ℕ → Type' → ℕ → Type 0) (types : Types) (inner : ℕ
 
   abbrev NumbersSpare : List Split → List ℕ → List ℕ → Lodging → Type 0
   NumbersSpare ss gone ms l = (n : ℕ) → Contains ms n → times n (sides ss) ≡ 0 → times n gone ≡ 0 → live ss inner n ≡ true → AllSpare Known l n
-
-  seen_first : (a b : Bool) → a ≡ true → seen_from a b ≡ Some 0
-  seen_first a b e = ap (λ (x : Bool). seen_from x b) e
-
-  seen_second : (a b : Bool) → (a ≡ true → b ≡ true → ⊥) → b ≡ true → seen_from a b ≡ Some 1
-  seen_second true b apart e = absurd (apart refl e)
-  seen_second false b apart e = ap (seen_from false) e
-
-  either_live : (a b : Bool) → b ≡ true → (a || b) ≡ true
-  either_live true b e = refl
-  either_live false b e = e
-
-  first_live : (a b : Bool) → a ≡ true → (a || b) ≡ true
-  first_live a b e = ap (λ (x : Bool). x || b) e
 
   spare_on : (s : Split) (ss : List Split) (q x : ℕ) (l : Lodging) (gone ms : List ℕ) → IsTidy inner (s ∷ ss) gone → Contains ms s.of → AreGroundSupplies types l.env ms
       → ((c : ℕ) → seen types inner ss s ≡ Some c → Known x (types s.of) c) → NumbersSpare (s ∷ ss) gone ms l

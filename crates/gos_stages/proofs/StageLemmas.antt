@@ -1,13 +1,13 @@
 -- A child of a wired node is a stage of it.
 use Rattle.std.specs.Prelude.{◌+◌, ◌⊎◌, length, slice_get, Contains}
-use Rattle.std.proofs.Common.{◌≡◌, ℕ, zero, suc, List, [], ◌∷◌, Some, inl, inr, refl, sym, ◌∙◌, ap, subst, arith}
+use Rattle.std.proofs.Common.{◌≡◌, ℕ, List, [], Some, inl, inr, refl, sym, ◌∙◌, ap, subst}
 use Rattle.gos_plan.specs.Kinds.{Contact, asks, serves, Part, Share, contacts_of}
 use Rattle.gos_plan.specs.Plans.{End, ImportEnd, Plan, contact_at, turned_if}
 use Rattle.gos_plan.proofs.JointLemmas.{fits, contained}
+use Rattle.gos_realises.proofs.PlaceLemmas.{contains_at, place_of}
 use Rattle.gos_webs.specs.Webs.{IsOfWeb}
 use Rattle.gos_webs.specs.Cutting.{StandsIn}
 use Rattle.gos_webs.proofs.CutLemmas.{which_end}
-use Rattle.gos_unions.proofs.FlatFitLemmas.{contained_at}
 use Rattle.gos_windows.specs.Regions.{Serving, IsLoyal}
 use Rattle.gos_loyal.proofs.LoyalLemmas.{shares_of_one_are_loyal}
 use Rattle.gos_compile.specs.Wiring.{parts_of}
@@ -20,11 +20,6 @@ use Rattle.gos_stages.proofs.LodgingLemmas.{lodged_are_inside}
 use Rattle.gos_stages.proofs.ServedLemmas.{servings_serve}
 use Rattle.gos_stages.proofs.ContactLemmas.{share_ground, import_there}
 use Rattle.gos_stages.proofs.ChildFoldLemmas.{own_outside, import_of}
-
-found_at : {X : Type 0} (xs : List X) (x : X) → Contains xs x → (k : ℕ) × (slice_get xs k ≡ Some x)
-found_at [] x (k, lt, e) = absurd (omega (arith, lt))
-found_at (y ∷ xs) x (zero, lt, e) = (0, ap Some e)
-found_at (y ∷ xs) x (suc k, lt, e) = let (j, at) = found_at xs x (k, omega (arith, lt), e) in (suc j, at)
 
 -- what is known of its plan
 pub has_child_of : (f : Child) (own : List Part) (pl plc : Placing) (r c : Plan) → HasParts f own → IsStaged f pl plc r c → HasChild f own c
@@ -59,9 +54,9 @@ child_is_stage f own ts pl plc r c is has laid staged done regular restful names
       run_by = λ stands. refl;
       imports =
           λ x listed.
-          let (q, at) = found_at c.imports x listed in
+          let (q, at) = place_of c.imports x listed in
           let it = import_of f own ts pl plc r c is has_child laid laidc q x at in
-          contained_at r.imports (pl.import ((lodge f).root (plc.origin q).number) (plc.origin q).import) x it.there;
+          contains_at r.imports (pl.import ((lodge f).root (plc.origin q).number) (plc.origin q).import) x it.there;
       names = names;
       ports = ports;
     }

@@ -16,7 +16,8 @@ use Rattle.gos_ties.specs.declared.points.Place.TheVariants as places
 use Rattle.gos_ties.specs.declared.points.Tie as point_ties
 use Rattle.gos_ties.specs.Ties as ties
 use Rattle.gos_ties.specs.Ties.{point}
-use Rattle.gos_webs.specs.Webs.{Dot, Of, Number, Within, Tie, tie, Meet, Way, here, along, own_web, joint}
+use Rattle.gos_webs.specs.Webs.{Dot, Of, Number, Within, Tie, tie, Way, here, along, own_web, joint}
+use Rattle.gos_webs.proofs.WayLemmas.{way_then, way_back}
 use Rattle.gos_unions.specs.Unions.{within}
 use Rattle.gos_unions.proofs.UnionLemmas.{of_image, in_image}
 use Rattle.gos_compile.specs.Wiring.{Types, row, led, share_ties, shares_ties}
@@ -32,18 +33,6 @@ use Rattle.gos_stages.proofs.StepLemmas.{side_is, side_env}
 use Rattle.gos_stages.proofs.LodgingLemmas.{IsTidy, tidy_on, tidy_first, lifted, seen}
 
 -- ways
-pub way_then : (ts : List Tie) (a b c : Dot) → Way ts a b → Way ts b c → Way ts a c
-way_then ts a b c (here x) other = other
-way_then ts a b c (along x y z meet way) other = along x y c meet (way_then ts y z c way other)
-
-turned_meet : (ts : List Tie) (a b : Dot) → Meet ts a b → Meet ts b a
-turned_meet ts a b (inl h) = inr h
-turned_meet ts a b (inr h) = inl h
-
-pub way_turned : (ts : List Tie) (a b : Dot) → Way ts a b → Way ts b a
-way_turned ts a b (here x) = here x
-way_turned ts a b (along x y z meet way) = way_then ts z y x (way_turned ts y z way) (along y x x (turned_meet ts x y meet) (here x))
-
 pub by_tie : (ts : List Tie) (a b : Dot) → Contains ts (tie a b) → Way ts a b
 by_tie ts a b has = along a b b (inl has) (here b)
 
@@ -173,7 +162,7 @@ module _ (types : Types) (i q x : ℕ) (at_q : q ≡ i + x) (s : Split) (ss : Li
         let one = lies i l s.of j.asking in
         let other = lies i l s.of j.serving in
         way_then ts (lies i next n (end_behind (length plan.parts) j.asking)) (lies i l s.of j.asking) (lies i next n (end_behind (length plan.parts) j.serving))
-        (way_turned ts (lies i l s.of j.asking) (lies i next n (end_behind (length plan.parts) j.asking)) (connects j.asking (asks fit.0 fit.1) fit.2))
+        (way_back ts (lies i l s.of j.asking) (lies i next n (end_behind (length plan.parts) j.asking)) (connects j.asking (asks fit.0 fit.1) fit.2))
         (way_then ts (lies i l s.of j.asking) (lies i l s.of j.serving) (lies i next n (end_behind (length plan.parts) j.serving))
         (ways s.of j of has) (connects j.serving (serves fit.0 fit.1) fit.3))
 
@@ -300,7 +289,7 @@ module _ (types : Types) (i : ℕ) (inner : ℕ → Bool) (ts : List Tie) where
         (Contains-append_left (within (suc n) (own_web (env n).plan).ties) (result_ties n 0 (count (types n))) (tie (Within (suc n) (Of j.asking)) (Within (suc n) (Of j.serving)))
         (in_image (λ (v : Tie). tie (Within (suc n) v.one) (Within (suc n) v.other)) (own_web (env n).plan).ties (joint_tie j)
         (in_image joint_tie (env n).plan.joints j listed))))))
-        (way_turned ts (lies i first n j.serving) (Within (suc n) (Of j.serving)) (to_end n j.serving (serves fit.0 fit.1) there fit.3)))
+        (way_back ts (lies i first n j.serving) (Within (suc n) (Of j.serving)) (to_end n j.serving (serves fit.0 fit.1) there fit.3)))
 
 pub joints_are_ways : JointsAreWays
 joints_are_ways types i inner ss env ns ts n j tidy agree split are among there has =

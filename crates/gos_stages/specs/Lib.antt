@@ -5,7 +5,6 @@ pub mod Leading
 pub mod Ranges
 pub mod Lodging
 pub mod Housing
-pub mod Numbers
 pub mod Folding
 pub mod Served
 pub mod Folded
@@ -13,4 +12,3 @@ pub mod Regions
 pub mod Stages
 pub mod Nodes
 pub mod Covering
-pub mod Sequence

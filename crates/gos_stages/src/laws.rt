@@ -7,10 +7,8 @@ ghost use Rattle.gos_stages.specs.Housing.{FarIsNothing, FirstIsKept, HomesAreTh
 ghost use Rattle.gos_stages.specs.Leading.{DotsLead, ResultLeads, TiesFollow};
 ghost use Rattle.gos_stages.specs.Lodging.{HomesAreKept, JointsAreWays, LodgedAreInside, NumbersAreAtHome, NumbersAreHeld, SpotsAreLive};
 ghost use Rattle.gos_stages.specs.Nodes.{StagesMakeNode};
-ghost use Rattle.gos_stages.specs.Numbers.{BetweenIsApart, ChildNumbersStand, FirstNumbersStand, NumbersAreFound, NumbersOnce};
 ghost use Rattle.gos_stages.specs.Ranges.{TiesStayWithin};
 ghost use Rattle.gos_stages.specs.Regions.{ChildIsStaged};
-ghost use Rattle.gos_stages.specs.Sequence.{SequenceIsTidy};
 ghost use Rattle.gos_stages.specs.Served.{ServingsServe, SparesAreOthers};
 ghost use Rattle.gos_stages.specs.Stages.{ChildIsStage};
 ghost use Rattle.gos_stages.specs.SmallInside.{BothHaveShares, EmptyIsNone, UnboundIsNotSplit};
@@ -81,24 +79,9 @@ pub fn stages_make_nodes()
     ensures { StagesMakeNode }
 {}
 
-/// The numbers of a child stand for something and aren't split, each is there once, and the child uses one side of a
-/// split.
-pub fn numbers_of_children()
-    ensures stand { ChildNumbersStand }
-    ensures first { FirstNumbersStand }
-    ensures found { NumbersAreFound }
-    ensures once { NumbersOnce }
-    ensures apart { BetweenIsApart }
-{}
-
 /// A child covers the supplies of its live numbers, its own parts, and what its Shares do for it.
 pub fn children_cover()
     ensures live { LiveIsCovered }
     ensures served { ServedIsCovered }
     ensures own { OwnIsCovered }
-{}
-
-/// Of `m ; n`, whose numbers are used as in a term that stands for a program, each child uses one side of a split at most.
-pub fn sequences()
-    ensures { SequenceIsTidy }
 {}

@@ -6,6 +6,6 @@
 mod laws;
 
 pub use laws::{
-    children_cover, children_fold, numbers_of_children, parts_lodge, sequences, shares_serve,
-    small_insides, stages_make_nodes, supplies_inside, supplies_lodge, ties_lead,
+    children_cover, children_fold, parts_lodge, shares_serve, small_insides, stages_make_nodes,
+    supplies_inside, supplies_lodge, ties_lead,
 };

@@ -4,7 +4,7 @@
 -- more than two numbers are in one bond at most.
 use Rattle.std.specs.Prelude.{◌≡◌, ◌≢◌, ℕ, zero, suc, ◌+◌, ◌≤◌, ◌<◌, ◌⊎◌, List, [], ◌∷◌, drop, nat_eq, if◌then◌else◌}
 use Rattle.std.proofs.Common.{refl, ap, sym, ◌∙◌, subst, arith, inl, inr}
-use Rattle.gos_ties.proofs.NumberLemmas.{number_cases, eq_true, eq_false}
+use Rattle.gos_model.proofs.NumberLemmas.{number_cases, eq_true, eq_false}
 use Rattle.gos_ties.specs.declared.joining.Bond.{Bond}
 use Rattle.gos_ties.specs.inner.Joined.{Joins, Leads, stays, goes, touches, AreFar, AreBelow, joined}
 

@@ -1,4 +1,3 @@
-mod NumberLemmas
 mod JoinLemmas
 mod FarLemmas
 mod CodeLemmas

@@ -1,7 +1,7 @@
 -- A number is in bonds as often as its point is in ties.
 use Rattle.std.specs.Prelude.{◌≡◌, ℕ, ◌+◌, ◌≤◌, ◌⊎◌, List, [], ◌∷◌, map, nat_eq, if◌then◌else◌, Some}
 use Rattle.std.proofs.Common.{refl, sym, subst, arith, inl, inr}
-use Rattle.gos_ties.proofs.NumberLemmas.{number_cases, eq_true}
+use Rattle.gos_model.proofs.NumberLemmas.{number_cases, eq_true}
 use Rattle.gos_plan.specs.Plans.{End}
 use Rattle.gos_ties.specs.declared.points.Place.{Place}
 use Rattle.gos_ties.specs.declared.points.Place.TheVariants as places

@@ -11,7 +11,8 @@ use Rattle.gos_plan.proofs.JointLemmas.{IsIn}
 use Rattle.gos_realises.specs.Regular.{Pass, is_open, is_request}
 use Rattle.gos_realises.specs.Links.{contact_of, LinksFit}
 use Rattle.gos_webs.specs.Webs.{joint}
-use Rattle.gos_joined.proofs.ReachLemmas.{Told, place_is, told_number}
+use Rattle.gos_plan.proofs.DecidedLemmas.{Told}
+use Rattle.gos_joined.proofs.ReachLemmas.{place_is, told_number}
 use Rattle.gos_turns.proofs.StandLemmas.{placed_here, placed_apart, Passed, passed_here, passed_apart, Stands, not_empty}
 use Rattle.gos_turns.proofs.TrailLemmas.{LinksArePorts, IsUnlinked, AsksAt, Trail, link_back, link_one, link_ports, link_apart, link_contacts}
 use Rattle.gos_turns.proofs.FollowLemmas.{Stand, Family, open_at, lying, shown, OnTrail, HasSource, Follows, told_place, is_free, port_there, joint_trail, seat_contact}

@@ -13,7 +13,8 @@ use Rattle.gos_realises.specs.Regular.{Pass, pass, way_in, way_out, is_open, Kee
 use Rattle.gos_realises.specs.Links.{LinksFit}
 use Rattle.gos_realises.proofs.InputLemmas.{in_there, out_there}
 use Rattle.gos_realises.proofs.RingLemmas.{after}
-use Rattle.gos_joined.proofs.ReachLemmas.{Told, told_number}
+use Rattle.gos_plan.proofs.DecidedLemmas.{Told}
+use Rattle.gos_joined.proofs.ReachLemmas.{told_number}
 use Rattle.gos_turns.proofs.RunLemmas.{Reached, out_next, in_next}
 use Rattle.gos_turns.proofs.TrailLemmas.{LinksArePorts, plan_at}
 use Rattle.gos_turns.proofs.FollowLemmas.{Stand, Family, Follows, Seat, at_place, port_there}

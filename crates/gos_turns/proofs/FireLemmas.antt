@@ -14,7 +14,8 @@ use Rattle.gos_plan.proofs.TurnLemmas.{fired_state, way_to_take, way_to_put}
 use Rattle.gos_plan.proofs.AskingLemmas.{PutsInRole, RowInRole, row_roles}
 use Rattle.gos_realises.specs.Regular.{Pass, is_open, IsRegular}
 use Rattle.gos_realises.specs.Links.{LinksFit}
-use Rattle.gos_joined.proofs.ReachLemmas.{Told, told_number}
+use Rattle.gos_plan.proofs.DecidedLemmas.{Told}
+use Rattle.gos_joined.proofs.ReachLemmas.{told_number}
 use Rattle.gos_joined.proofs.OriginLemmas.{before}
 use Rattle.gos_turns.proofs.StandLemmas.{Passed, lies_in}
 use Rattle.gos_turns.proofs.RunLemmas.{Reached, Next, next}

@@ -17,7 +17,8 @@ use Rattle.gos_plan.proofs.JointLemmas.{IsIn, stands_there, contained}
 use Rattle.gos_realises.specs.Regular.{Pass, is_open}
 use Rattle.gos_realises.specs.Links.{contact_of, LinksFit}
 use Rattle.gos_webs.specs.Webs.{joint}
-use Rattle.gos_joined.proofs.ReachLemmas.{Told, Paths, paths_then, place_is, told_number, told_end}
+use Rattle.gos_plan.proofs.DecidedLemmas.{Told}
+use Rattle.gos_joined.proofs.ReachLemmas.{Paths, paths_then, place_is, told_number, told_end}
 use Rattle.gos_joined.proofs.StepLemmas.{IsOutside, IsPart}
 use Rattle.gos_joined.proofs.OriginLemmas.{at_origin, sort, sort_of, before, front_at, behind_at, next_place}
 use Rattle.gos_unions.specs.Unions.{HasFieldsOf}

@@ -19,7 +19,8 @@ use Rattle.gos_plan.proofs.TokenBitsLemmas.{all_stay_fit, idle_fits}
 use Rattle.gos_realises.specs.Regular.{Pass, pass, is_open, KeepsTurnsOf, whole_type, whole_end, ComesInTurn, IsRegular}
 use Rattle.gos_realises.specs.Links.{contact_of, LinksFit}
 use Rattle.gos_webs.specs.Webs.{joint}
-use Rattle.gos_joined.proofs.ReachLemmas.{Told, place_is, told_number}
+use Rattle.gos_plan.proofs.DecidedLemmas.{Told}
+use Rattle.gos_joined.proofs.ReachLemmas.{place_is, told_number}
 use Rattle.gos_turns.proofs.StandLemmas.{asks_own, names_own, serves_in, asks_itself, serves_itself, opened_here, Stands, open_by_fit, taken_stands, put_stands, taken_apart, put_apart, well_empty}
 use Rattle.gos_turns.proofs.RunLemmas.{Reached, out_next, in_next}
 use Rattle.gos_turns.proofs.TrailLemmas.{LinksArePorts, IsUnlinked, AsksAt, Segment, Trail, contact_place, link_back, link_one, link_ports, link_apart, link_contacts, segment_roles, trail_first}

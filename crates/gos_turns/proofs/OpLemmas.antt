@@ -17,7 +17,8 @@ use Rattle.gos_plan.proofs.HeldLemmas as holding
 use Rattle.gos_realises.specs.Regular.{Pass, is_open}
 use Rattle.gos_realises.specs.Links.{contact_of, LinksFit}
 use Rattle.gos_webs.specs.Webs.{joint}
-use Rattle.gos_joined.proofs.ReachLemmas.{Told, place_is, told_number, told_end}
+use Rattle.gos_plan.proofs.DecidedLemmas.{Told}
+use Rattle.gos_joined.proofs.ReachLemmas.{place_is, told_number, told_end}
 use Rattle.gos_turns.proofs.StandLemmas.{asks_own, names_own, serves_in, asks_itself, serves_itself, placed_here, placed_apart, lies_in, opened_here, opened_apart, Passed, passed_here, passed_apart, Stands, not_empty, stands_same, took_answer, took_request, put_request, put_answer}
 use Rattle.gos_turns.proofs.TrailLemmas.{LinksArePorts, IsUnlinked, AsksAt, Segment, Trail, contact_place, link_back, link_ports, segment_roles, segment_one, trail_rest, trail_first, trail_start}
 use Rattle.gos_turns.proofs.FollowLemmas.{Stand, Family, open_at, lying, shown, OnTrail, HasSource, Follows, told_place, at_place, is_free, is_alone, port_there, joint_trail, trail_joint, chain, seat_contact, one_seat}

@@ -16,7 +16,8 @@ use Rattle.gos_plan.specs.Joining.{Place, place, Wiring, Linked, LeftImport, all
 use Rattle.gos_realises.specs.Regular.{Pass, pass, is_open, is_request, count, some_open, KeepsTurnsOf}
 use Rattle.gos_realises.specs.Links.{contact_of, LinksFit}
 use Rattle.gos_realises.proofs.GroundTurnLemmas.{some_there, there_some, count_fun}
-use Rattle.gos_joined.proofs.ReachLemmas.{Told, place_is, told_number, told_end}
+use Rattle.gos_plan.proofs.DecidedLemmas.{Told}
+use Rattle.gos_joined.proofs.ReachLemmas.{place_is, told_number, told_end}
 use Rattle.gos_joined.proofs.OriginLemmas.{left_at}
 use Rattle.gos_plan.proofs.JointLemmas.{same_itself}
 use Rattle.gos_turns.proofs.StandLemmas.{same_apart}

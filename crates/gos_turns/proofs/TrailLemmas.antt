@@ -14,7 +14,8 @@ use Rattle.gos_plan.proofs.JointLemmas.{IsIn, fits, one_joint, serving_role, con
 use Rattle.gos_realises.specs.Links.{contact_in, contact_of, EndsFit, LinkFits, LinksFit}
 use Rattle.gos_webs.specs.Webs.{joint}
 use Rattle.gos_joined.proofs.ReachLemmas.{place_is}
-use Rattle.gos_joined.proofs.StepLemmas.{role_twice, in_list, stands_link}
+use Rattle.gos_realises.proofs.PlaceLemmas.{place_of}
+use Rattle.gos_joined.proofs.StepLemmas.{role_twice, stands_link}
 use Rattle.gos_turns.proofs.StandLemmas.{ask_not_serve, asks_itself, serves_itself}
 
 -- every link joins two ports
@@ -79,12 +80,12 @@ link_back w a b (l, has, ways) = (l, has, elim ways [ inl (e, f) ↦ inr (f, e) 
 
 module _ (w : Wiring) (fit : LinksFit w) (ported : LinksArePorts w) where
   link_fits : (l : Link) → Contains w.links l → LinkFits w l
-  link_fits l has = let (k, at) = in_list w.links l has in fit.each k l at
+  link_fits l has = let (k, at) = place_of w.links l has in fit.each k l at
 
   pub link_one : (a b c : Place) → Linked w a b → Linked w a c → b ≡ c
   link_one a b c (l, has, ways) (m, has_too, ways_too) =
-      let (j, at_j) = in_list w.links l has in
-      let (k, at_k) = in_list w.links m has_too in
+      let (j, at_j) = place_of w.links l has in
+      let (k, at_k) = place_of w.links m has_too in
       let same : j ≡ k = fit.once j k l m a at_j at_k (stands_link l a b ways) (stands_link m a c ways_too) in
       let there : Some l ≡ Some m = sym at_j ∙ (ap (slice_get w.links) same ∙ at_k) in
       let l_is : l ≡ m = cc there in

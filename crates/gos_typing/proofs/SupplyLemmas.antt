@@ -1,5 +1,5 @@
 -- The supplies of a plan are typed under the imports of the plan that is joined to them, and share nothing.
-use Rattle.std.specs.Prelude.{◌≡◌, ◌≢◌, ℕ, zero, suc, Bool, true, false, List, [], ◌∷◌, ◌++◌, Some, Contains, slice_get, if◌then◌else◌}
+use Rattle.std.specs.Prelude.{◌≡◌, ◌≢◌, ℕ, zero, suc, Bool, true, false, List, [], ◌∷◌, Some, Contains, slice_get, if◌then◌else◌}
 use Rattle.std.specs.Str.{bytes_eq}
 use Rattle.std.proofs.Common.{refl, sym, ◌∙◌, ap, subst, arith}
 use Rattle.std.proofs.lemmas.Slice.Eq.{bytes_eq-Decides}
@@ -9,27 +9,12 @@ use Rattle.gos_model.specs.Terms.{Name, Term}
 use Rattle.gos_model.specs.Typing.{Imported, Imports, import_type, Named, things, Typed}
 use Rattle.gos_realises.specs.Realises.{NamesDiffer, HaveOtherNames, Realises}
 use Rattle.gos_realises.specs.Modules.{Supply, AreSupplied, term_for}
+use Rattle.gos_realises.proofs.PlaceLemmas.{differ_second, differ_between}
 use Rattle.gos_renumbered.proofs.ImportLemmas.{name_is}
 use Rattle.gos_typing.specs.Supplied.{AreTyped, ShareNothing, imports_of, SuppliedIsTyped}
 use Rattle.gos_typing.proofs.NameLemmas.{typed_under}
 use Rattle.gos_typing.proofs.WhenceLemmas.{named, with_supplies}
 use Rattle.gos_typing.proofs.LeftLemmas.{imports_are_of_supplies}
-
--- imports one behind the other
-differ_first : (is js : List Imported) → NamesDiffer (is ++ js) → NamesDiffer is
-differ_first [] js differ = tt
-differ_first (i ∷ is) js differ = (λ j has. differ.0 j (Contains-append_left is js j has), differ_first is js differ.1)
-
-differ_second : (is js : List Imported) → NamesDiffer (is ++ js) → NamesDiffer js
-differ_second [] js differ = differ
-differ_second (i ∷ is) js differ = differ_second is js differ.1
-
-differ_both : (is js : List Imported) → NamesDiffer (is ++ js) → HaveOtherNames is js
-differ_both [] js differ i j (k, small, at) in_j = absurd (omega (arith, small))
-differ_both (x ∷ is) js differ i j (zero, small, at) in_j =
-    let same : x ≡ i = at in
-    subst (λ (y : Imported). y.name ≢ j.name) same (differ.0 j (Contains-append_right is js j in_j))
-differ_both (x ∷ is) js differ i j (suc k, small, at) in_j = differ_both is js differ.1 i j (k, omega (arith, small), at) in_j
 
 -- all imports of one supply are among those of all
 in_all : (ss : List Supply) (n : ℕ) (s : Supply) (i : Imported) → slice_get ss n ≡ Some s → Contains s.plan.imports i → Contains (imports_of ss) i
@@ -46,10 +31,10 @@ others [] m n r s differ at_r at_s apart i j in_i in_j = absurd (cc at_r)
 others (x ∷ ss) zero zero r s differ at_r at_s apart i j in_i in_j = absurd (apart refl)
 others (x ∷ ss) zero (suc n) r s differ at_r at_s apart i j in_i in_j =
     let same : x ≡ r = cc at_r in
-    differ_both x.plan.imports (imports_of ss) differ i j (subst (λ (y : Supply). Contains y.plan.imports i) (sym same) in_i) (in_all ss n s j at_s in_j)
+    differ_between x.plan.imports (imports_of ss) differ i j (subst (λ (y : Supply). Contains y.plan.imports i) (sym same) in_i) (in_all ss n s j at_s in_j)
 others (x ∷ ss) (suc m) zero r s differ at_r at_s apart i j in_i in_j =
     let same : x ≡ s = cc at_s in
-    λ e. differ_both x.plan.imports (imports_of ss) differ j i (subst (λ (y : Supply). Contains y.plan.imports j) (sym same) in_j) (in_all ss m r i at_r in_i) (sym e)
+    λ e. differ_between x.plan.imports (imports_of ss) differ j i (subst (λ (y : Supply). Contains y.plan.imports j) (sym same) in_j) (in_all ss m r i at_r in_i) (sym e)
 others (x ∷ ss) (suc m) (suc n) r s differ at_r at_s apart i j in_i in_j =
     others ss m n r s (differ_second x.plan.imports (imports_of ss) differ) at_r at_s (λ e. apart (ap suc e)) i j in_i in_j
 

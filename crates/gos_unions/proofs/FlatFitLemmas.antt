@@ -5,9 +5,10 @@ use Rattle.gos_plan.specs.Kinds.{Contact, contacts_of, turned_contact}
 use Rattle.gos_plan.specs.Plans.{End, PartEnd, ImportEnd, ResultEnd, Plan, contact_at, turned_if, IsRight}
 use Rattle.gos_plan.specs.Joining.{Place, place, Link, Wiring, origin, contacts_of_result, IsJoining}
 use Rattle.gos_realises.specs.Links.{contact_of, contact_in, IsUnjoined, EndsFit, LinkFits, StandsIn, LinksFit}
+use Rattle.gos_realises.proofs.PlaceLemmas.{contains_at, place_of}
 use Rattle.gos_joined.proofs.OriginLemmas.{sort, sort_of, at_origin}
 use Rattle.gos_joined.proofs.ReachLemmas.{place_is}
-use Rattle.gos_joined.proofs.StepLemmas.{in_list, IsPart}
+use Rattle.gos_joined.proofs.StepLemmas.{IsPart}
 use Rattle.gos_unions.specs.Unions.{IsThere, LinksStand, HasResult}
 use Rattle.gos_unions.specs.Flat.{all_plans, first_of, later, later_link, inner_links, deeper, deeper_link, flat, AreJoinings, AreJoined, AllLinksStand, IsBare, LinkedPartsAreBare, FlatFits, JoinedIsFlat, FlatIsJoined}
 use Rattle.gos_unions.proofs.PlaceLemmas.{fields_of, same_contact, stands_alone}
@@ -19,7 +20,7 @@ use Rattle.gos_unions.proofs.FlatLemmas.{joinings_join, flat_joins}
 -- what fits stands
 pub links_stand : (w : Wiring) → LinksFit w → LinksStand w
 links_stand w fit l has =
-    let (k, at) = in_list w.links l has in
+    let (k, at) = place_of w.links l has in
     let (apart, (c, d, at_one, at_other, ends)) = fit.each k l at in
     ((c, at_one), (d, at_other))
 
@@ -43,11 +44,6 @@ fits_of [] ps k v are is = absurd (cc is)
 fits_of (u ∷ vs) [] k v are is = absurd are
 fits_of (u ∷ vs) (p ∷ ps) zero v are is = let same : u ≡ v = cc is in subst LinksFit same are.0.fits
 fits_of (u ∷ vs) (p ∷ ps) (suc k) v are is = fits_of vs ps k v are.1 is
-
-pub contained_at : {X : Type 0} (xs : List X) (k : ℕ) (x : X) → slice_get xs k ≡ Some x → Contains xs x
-contained_at [] k x e = absurd (cc e)
-contained_at (y ∷ xs) zero x e = (0, omega arith, cc e)
-contained_at (y ∷ xs) (suc k) x e = let (n, small, is) = contained_at xs k x e in (suc n, omega (arith, small), is)
 
 -- an element of two lists stands in one of them
 abbrev pub InTwo : {X : Type 0} → List X → List X → ℕ → X → Type 0
@@ -349,7 +345,7 @@ module _ (w : Wiring) (vs : List Wiring) (are : AreJoined vs w.plans) (bare : Li
           let bare_v : IsBare (Some v) a.end = subst (λ (o : Option Wiring). IsBare o a.end) is bare_a in
           elim (at_origin v (fits_of vs w.plans n v are is_v) joins.plan.joints a.end c plain).1 [
             | inl part ↦ bare_apart v a.end k l part sorts bare_v at stands_v
-            | inr none ↦ none (other_of (origin v a.end) l stands_v) (l, contained_at v.links k l at, across stands_v)
+            | inr none ↦ none (other_of (origin v a.end) l stands_v) (l, contains_at v.links k l at, across stands_v)
           ]
         where
           across : (s : StandsIn (origin v a.end) l)
@@ -377,7 +373,7 @@ module _ (w : Wiring) (vs : List Wiring) (are : AreJoined vs w.plans) (bare : Li
         | inl x ↦
             subst (LinkFits (flat w vs)) (inner_same j m x)
             (inner_fits x.joining x.wiring x.link x.is ((fits_of vs w.plans x.joining x.wiring are x.is).each x.number x.link x.at))
-        | inr (n, l, sum, at, same) ↦ subst (LinkFits (flat w vs)) same (outer_fits l (contained_at w.links n l at) (fit.each n l at))
+        | inr (n, l, sum, at, same) ↦ subst (LinkFits (flat w vs)) same (outer_fits l (contains_at w.links n l at) (fit.each n l at))
       ]
 
   -- a place of an inner link
@@ -420,7 +416,7 @@ module _ (w : Wiring) (vs : List Wiring) (are : AreJoined vs w.plans) (bare : Li
 
   not_two : (i j : ℕ) (l m : Link) (a : Place) → InnerAt 0 vs i l → OuterAt j m → StandsIn a l → StandsIn a m → ⊥
   not_two i j l m a x (n, k, sum, at, same) in_l in_m =
-      let has = contained_at w.links n k at in
+      let has = contains_at w.links n k at in
       let (b, b_in, (c, b_there), b_is) = outer_place k a (fit.each n k at) (subst (StandsIn a) (sym same) in_m) in
       not_inner b c x.joining x.wiring x.number x.link b_there (bare k b has b_in) x.is x.at
       (subst (λ (z : Place). StandsIn z (later_link (first_of vs x.joining) x.link)) b_is (subst (StandsIn a) (sym (inner_same i l x)) in_l))

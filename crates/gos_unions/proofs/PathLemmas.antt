@@ -7,8 +7,9 @@ use Rattle.gos_types.specs.declared.shakes.Role.TheVariants.{Serve, Ask}
 use Rattle.gos_plan.specs.Kinds.{Contact, asks, serves, turned_contact}
 use Rattle.gos_plan.specs.Plans.{End, Plan, contact_at}
 use Rattle.gos_plan.specs.Joining.{Place, Link, Wiring, JoinedWithin, Linked, Path}
+use Rattle.gos_plan.proofs.DecidedLemmas.{Told}
 use Rattle.gos_realises.specs.Links.{contact_in}
-use Rattle.gos_joined.proofs.ReachLemmas.{Told, told_end, place_is, Step, Paths, paths_then}
+use Rattle.gos_joined.proofs.ReachLemmas.{told_end, place_is, Step, Paths, paths_then}
 use Rattle.gos_webs.specs.Webs.{joint}
 use Rattle.gos_unions.specs.Unions.{IsThere, LinksStand}
 use Rattle.gos_unions.proofs.WalkLemmas.{Walk, Walks, stays, goes, walks_then, walks_back, mapped_walk}

@@ -8,6 +8,7 @@ use Rattle.gos_plan.specs.Joining as joining
 use Rattle.gos_plan.specs.Joining.{Place, Link, Wiring, origin, IsJoining}
 use Rattle.gos_joined.proofs.ReachLemmas.{Paths}
 use Rattle.gos_webs.specs.Webs.{Dot, Within, Tie, tie, Web, Meet, Way, here, along, Connects, IsOfWeb}
+use Rattle.gos_webs.proofs.WayLemmas.{meet_back}
 use Rattle.gos_unions.specs.Unions.{within, all_within, at_of, dot_at, link_ties, union, AreOfWebs, IsThere, LinksStand, JoiningIsUnion, UnionIsJoining}
 use Rattle.gos_unions.proofs.WalkLemmas.{Walk, Walks, goes, mapped_walk, followed_walk}
 use Rattle.gos_unions.proofs.PathLemmas.{IsLed, spot, Whole, path_to_walk, walk_to_path}
@@ -21,10 +22,6 @@ way_walks ts a b (along d c e meets way) = let (n, u) = way_walks ts c e way in 
 walk_way : (ts : List Tie) (n : ℕ) (a b : Dot) → Walk Dot (Meet ts) n a b → Way ts a b
 walk_way ts zero a b e = subst (λ (x : Dot). Way ts a x) e (here a)
 walk_way ts (suc n) a b (c, s, u) = along a c b s (walk_way ts n c b u)
-
-meet_back : (ts : List Tie) (a b : Dot) → Meet ts a b → Meet ts b a
-meet_back ts a b (inl h) = inr h
-meet_back ts a b (inr h) = inl h
 
 -- lists of images
 abbrev pub Image : {X Y : Type 0} → (X → Y) → List X → Y → Type 0

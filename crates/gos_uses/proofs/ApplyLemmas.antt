@@ -18,7 +18,7 @@ use Rattle.gos_ties.specs.Ties.{point}
 use Rattle.gos_realises.specs.Regular.{count}
 use Rattle.gos_realises.specs.Links.{IsJoined}
 use Rattle.gos_realises.specs.Wirings.{applying}
-use Rattle.gos_realises.proofs.GroundTurnLemmas.{count_fun}
+use Rattle.gos_realises.proofs.CountLemmas.{count_fun}
 use Rattle.gos_joined.proofs.WholeLemmas.{applied_is_joined}
 use Rattle.gos_webs.specs.Webs.{Dot, Of, Within, Tie, Web, Way, here, IsOfWeb}
 use Rattle.gos_webs.specs.Renumbering.{Renumber, IsOneToOne, moved_end}
@@ -42,7 +42,7 @@ use Rattle.gos_uses.proofs.PermuteLemmas.{chosen, others, total, put, taken, the
 use Rattle.gos_uses.proofs.ChosenLemmas as choices
 use Rattle.gos_uses.proofs.ChosenLemmas.{Choice, Placed, child_wired}
 use Rattle.gos_uses.proofs.ApplyWebLemmas as apply
-use Rattle.gos_uses.proofs.ApplyWebLemmas.{pick, sink, some_times, times_some, below, not_below}
+use Rattle.gos_uses.proofs.ApplyWebLemmas.{pick, sink, below, not_below}
 use Rattle.gos_uses.proofs.PartedLemmas.{up, down, itself, of_first, first_choice, second_choice}
 
 row_all : (j x l : ℕ) → map (renamed (λ h. point (places.Node j) h)) (row places.Result x l) ≡ row (places.Node j) x l

@@ -6,7 +6,7 @@ use Rattle.std.proofs.lemmas.Bool.Decides.{nat_tests}
 use Rattle.gos_types.specs.Types.{Type'}
 use Rattle.gos_check.specs.Nodes.{Numbered, type_of_node}
 use Rattle.gos_check.specs.Linearity.{times, used, made}
-use Rattle.gos_check.proofs.TimesLemmas.{eq_true, eq_false, number_cases}
+use Rattle.gos_check.proofs.TimesLemmas.{eq_true, eq_false, some_times, listed_times}
 use Rattle.gos_plan.specs.Plans.{PartEnd, ImportEnd, ResultEnd, Plan}
 use Rattle.gos_plan.specs.Joining.{Link}
 use Rattle.gos_ties.specs.declared.points.Place.{Place}
@@ -17,13 +17,13 @@ use Rattle.gos_ties.specs.Ties.{point}
 use Rattle.gos_realises.specs.Regular.{count}
 use Rattle.gos_realises.specs.Wirings.{link, results_linked, applying}
 use Rattle.gos_webs.specs.Webs.{Dot, Of, Number, Node, Within, Tie, tie, Web, Way}
+use Rattle.gos_webs.proofs.WayLemmas.{way_then, way_back}
 use Rattle.gos_unions.specs.Unions as unions
 use Rattle.gos_unions.specs.Unions.{within, link_ties, union}
 use Rattle.gos_unions.proofs.UnionLemmas.{Image, of_image, in_image}
 use Rattle.gos_compile.specs.Wiring.{Types, parts_of, nodes}
 use Rattle.gos_wired.specs.Wired.{Supplies, Placing, dot_at, dot_of_place, dot_of, all_supply_ties, wired_web}
 use Rattle.gos_wired.proofs.TieLemmas.{OfSupplies, of_supplies, in_supplies}
-use Rattle.gos_wired.proofs.WayLemmas.{way_then, way_back}
 use Rattle.gos_woven.proofs.CrossingLemmas.{still}
 use Rattle.gos_uses.specs.Uses.{Stands, AreParted, AreApart}
 use Rattle.gos_uses.proofs.RenamedLemmas.{renamed_at}
@@ -47,24 +47,6 @@ sink to (Within (suc n) d) = Within (suc n) d
 pub supply_sink : (to : ℕ → Point) (n : ℕ) (t : Tie) → IsSupplyTie n t → (t.one ≡ sink to t.one) × (t.other ≡ sink to t.other)
 supply_sink to n t (inl (y, same)) = (subst (λ (x : Tie). x.one ≡ sink to x.one) same refl, subst (λ (x : Tie). x.other ≡ sink to x.other) same refl)
 supply_sink to n t (inr (h, same)) = (subst (λ (x : Tie). x.one ≡ sink to x.one) same refl, subst (λ (x : Tie). x.other ≡ sink to x.other) same refl)
-
-pub some_times : (k : ℕ) (ns : List ℕ) → Contains ns k → 0 < times k ns
-some_times k [] (n, small, e) = absurd (omega (arith, small))
-some_times k (x ∷ ns) (zero, small, e) = let same = eq_true x k e in rw same (omega arith)
-some_times k (x ∷ ns) (suc n, small, e) = let more = some_times k ns (n, omega (arith, small), e) in omega (arith, more)
-
-pub times_some : (k : ℕ) (ns : List ℕ) → 0 < times k ns → Contains ns k
-times_some k [] some = absurd (omega (arith, some))
-times_some k (x ∷ ns) some =
-    by_rest (λ more. times_some k ns more)
-  where
-    later : Contains ns k → Contains (x ∷ ns) k
-    later (n, small, e) = (suc n, omega (arith, small), e)
-
-    by_rest : (0 < times k ns → Contains ns k) → Contains (x ∷ ns) k
-    by_rest further =
-        number_cases x k (λ same t. (0, omega arith, same))
-        (λ other f. let none : times k (x ∷ ns) ≡ times k ns = rw f (omega arith) in later (further (omega (arith, none, some))))
 
 pub below : (k n : ℕ) → k < n → nat_lt k n ≡ true
 below k n low = grind (arith, nat_tests)
@@ -216,7 +198,7 @@ module _
         zero_or (times k (used m) + times k (made m))
         (λ none.
         zero_or (times k ms) (λ also. not_below 0 (times k (used m) + times k (made m) + times k ms) (omega (arith, none, also)))
-        (λ some. absurd (no_supply (times_some k ms some))))
+        (λ some. absurd (no_supply (listed_times k ms some))))
         (λ some. absurd (no_stand some))
 
     has_it : (k : ℕ) → Contains ms k → has_m k ≡ true
@@ -224,7 +206,7 @@ module _
 
     has_not : (k : ℕ) → (Contains ms k → ⊥) → has_m k ≡ false
     has_not k no_supply =
-        zero_or (times k ms) (λ none. not_below 0 (times k ms) (omega (arith, none))) (λ some. absurd (no_supply (times_some k ms some)))
+        zero_or (times k ms) (λ none. not_below 0 (times k ms) (omega (arith, none))) (λ some. absurd (no_supply (listed_times k ms some)))
 
     first_lifted : (x : Place) (h : ℕ) → IsOf types i (suc j) m (count (type_of_node m)) x h
         → Within 0 (Within 0 (dot_of_place x h)) ≡ lift (dot_of (renamed_at to_m x h))

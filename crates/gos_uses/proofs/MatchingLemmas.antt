@@ -7,7 +7,7 @@ use Rattle.gos_plan.specs.Kinds.{Part, Contact, asks, serves, contacts_of}
 use Rattle.gos_plan.specs.Plans.{End, PartEnd, ImportEnd, ResultEnd, Plan, contact_at, contacts_of_part, contacts_of_import, turned_if}
 use Rattle.gos_webs.specs.Webs.{Dot, Tie, Web, Way, Connects, IsOfWeb}
 use Rattle.gos_webs.specs.Renumbering.{Renumber, IsOneToOne, IsRenumbered, moved_end}
-use Rattle.gos_wired.proofs.WayLemmas.{way_then, way_back, mapped_way}
+use Rattle.gos_webs.proofs.WayLemmas.{way_then, way_back, mapped_way}
 
 pub record Matching (g : Renumber) (w u : Web) (r s : Plan) : Type 0 where
   pub web : IsOfWeb w r

@@ -1,9 +1,9 @@
 -- How often a dot stands in the ties of a node and of its supplies.
-use Rattle.std.specs.Prelude.{◌≡◌, ◌≢◌, ℕ, zero, suc, ◌+◌, ◌≤◌, Bool, true, false, ◌&&◌, IsTrue, List, [], ◌∷◌, ◌++◌, map, length, Option, Some, None, if◌then◌else◌}
+use Rattle.std.specs.Prelude.{◌≡◌, ◌≢◌, ℕ, ◌+◌, ◌≤◌, Bool, true, false, ◌&&◌, IsTrue, List, [], ◌∷◌, ◌++◌, map, length, Option, Some, None, if◌then◌else◌}
 use Rattle.std.proofs.Common.{refl, sym, ◌∙◌, ap, subst, arith, inl, inr}
 use Rattle.gos_check.specs.Nodes.{Numbered}
 use Rattle.gos_check.specs.Linearity.{times, used, made}
-use Rattle.gos_check.proofs.TimesLemmas.{number_cases, eq_true, eq_false}
+use Rattle.gos_check.proofs.TimesLemmas.{eq_true, eq_false}
 use Rattle.gos_types.specs.declared.shakes.Role.{Role}
 use Rattle.gos_types.specs.declared.shakes.Role.TheVariants.{Serve, Ask}
 use Rattle.gos_plan.specs.Kinds.{Contact}
@@ -19,11 +19,12 @@ use Rattle.gos_webs.specs.Webs.{Dot, Of, Number, Node, Within, Tie, tie, own_web
 use Rattle.gos_unions.specs.Unions.{within}
 use Rattle.gos_compile.specs.Wiring.{Types, row, parts_of, nodes, ties_of}
 use Rattle.gos_compile.proofs.TallyLemmas.{row_once, tallied}
-use Rattle.gos_compile.proofs.ThinLemmas.{span, span_beyond, part_tells, node_tells, number_tells, outside_tells}
+use Rattle.gos_compile.proofs.ThinLemmas.{part_tells, node_tells, number_tells, outside_tells, span_once}
 use Rattle.gos_wired.specs.Wired.{dot_of_place, dot_of, dot_ties}
 use Rattle.gos_woven.specs.Woven.{same_dot, once, meetings}
 use Rattle.gos_woven.proofs.DotLemmas.{dot_is}
 use Rattle.gos_uses.proofs.StandLemmas.{once_at}
+use Rattle.gos_wired.proofs.WayLemmas.{point_of, there_and_back}
 
 pub meet_two : (d : Dot) (ts us : List Tie) → meetings d (ts ++ us) ≡ meetings d ts + meetings d us
 meet_two d [] us = omega arith
@@ -53,21 +54,6 @@ other_meetings n k x (t ∷ ts) differ =
     omega (arith, one, other, rest)
 
 -- a point's dot stands in ties no more often than the point
-abbrev point_of : Dot → Point
-point_of (Of (PartEnd i h)) = point (places.Part i) h
-point_of (Of (ImportEnd i h)) = point (places.Import i) h
-point_of (Of (ResultEnd h)) = point places.Result h
-point_of (Number n h) = point (places.Number n) h
-point_of (Node n h) = point (places.Node n) h
-point_of (Within k d) = point places.Result 0
-
-there_and_back : (q : Place) (h : ℕ) → point_of (dot_of_place q h) ≡ point q h
-there_and_back (places.Part i) h = refl
-there_and_back (places.Import i) h = refl
-there_and_back places.Result h = refl
-there_and_back (places.Number n) h = refl
-there_and_back (places.Node n) h = refl
-
 dot_once : (q p : Point) → once (dot_of q) (dot_of p) ≤ points.once q p
 dot_once q p = by_test (same_dot (dot_of q) (dot_of p)) refl
   where
@@ -103,13 +89,6 @@ within_none k d (t ∷ ts) =
     apart places.Result h = refl
     apart (places.Number n) h = refl
     apart (places.Node n) h = refl
-
-span_once : (k i n : ℕ) → span k i n ≤ 1
-span_once k i zero = omega arith
-span_once k i (suc n) =
-    number_cases i k
-    (λ e t. let rest = span_beyond k (suc i) n (omega (arith, e)) in rw t (omega (arith, rest)))
-    (λ e t. let rest = span_once k (suc i) n in rw t (omega (arith, rest)))
 
 -- in the ties of a node
 abbrev pub most : Numbered → Dot → ℕ

@@ -4,12 +4,13 @@ use Rattle.std.proofs.Common.{refl, sym, ◌∙◌, ap, arith, inl, inr}
 use Rattle.std.proofs.lemmas.Option.{slice_get_within}
 use Rattle.std.proofs.lemmas.Bool.Decides.{nat_tests}
 use Rattle.gos_check.specs.Linearity.{times}
+use Rattle.gos_check.proofs.TimesLemmas.{some_times, listed_times}
 use Rattle.gos_plan.specs.Kinds.{Part}
 use Rattle.gos_wired.specs.Wired.{Supplies, Source, Own, Supplied, IsFrom}
 use Rattle.gos_uses.specs.Uses.{AreParted}
 use Rattle.gos_uses.proofs.PermuteLemmas.{front, behind}
 use Rattle.gos_uses.proofs.ChosenLemmas.{Choice}
-use Rattle.gos_uses.proofs.ApplyWebLemmas.{some_times, times_some, below, not_below}
+use Rattle.gos_uses.proofs.ApplyWebLemmas.{below, not_below}
 
 -- the sources of the argument, among the node's, where the function has so many parts
 abbrev pub up : ℕ → Source → Source
@@ -37,7 +38,7 @@ module _
   has_it k among = below 0 (times k ms) (some_times k ms among)
 
   it_has : (k : ℕ) → has k ≡ true → Contains ms k
-  it_has k is = let some : 0 < times k ms = grind (arith, nat_tests) in times_some k ms some
+  it_has k is = let some : 0 < times k ms = grind (arith, nat_tests) in listed_times k ms some
 
   has_not : (k : ℕ) → Contains ks k → has k ≡ false
   has_not k among = by_test (has k) refl

@@ -4,7 +4,7 @@ use Rattle.std.proofs.Common.{refl, sym, ◌∙◌, ap, subst, arith, inl, inr}
 use Rattle.std.proofs.lemmas.List.Elements.{Contains-append_cases}
 use Rattle.gos_check.specs.Nodes.{Numbered, type_of_node}
 use Rattle.gos_check.specs.Linearity.{times, used, made}
-use Rattle.gos_check.proofs.TimesLemmas.{number_cases, eq_false, times_none}
+use Rattle.gos_check.proofs.TimesLemmas.{number_cases, eq_false, times_none, listed_times}
 use Rattle.gos_plan.specs.Kinds.{Contact}
 use Rattle.gos_plan.specs.Plans.{End, PartEnd, ImportEnd, ResultEnd, Plan, contact_at, IsRight}
 use Rattle.gos_realises.specs.Regular.{count}
@@ -20,7 +20,6 @@ use Rattle.gos_uses.specs.Plain.{WiredIsThin}
 use Rattle.gos_uses.proofs.SideLemmas.{its_part, its_import}
 use Rattle.gos_uses.proofs.SupplyLemmas.{inside, OfNumber, of_number}
 use Rattle.gos_uses.proofs.ChildLemmas.{child_ties, own_ties}
-use Rattle.gos_uses.proofs.ApplyWebLemmas.{times_some}
 use Rattle.gos_uses.proofs.MeetingLemmas.{meet_two, inner_once, other_once, inner_meetings, other_meetings, most, node_most, own_most, own_number, own_node, own_within}
 
 zero_not : (n : ℕ) → 0 ≢ suc n
@@ -225,7 +224,7 @@ module _
     where
       tested : (k : ℕ) → times n ns ≡ k → P
       tested zero is = none is
-      tested (suc k) is = some (times_some n ns (omega (arith, is)))
+      tested (suc k) is = some (listed_times n ns (omega (arith, is)))
 
 -- where a dot stands in no tie
 none_by : (d : Dot) (ts : List Tie) → ((t : Tie) → Contains ts t → (once d t.one ≡ 0) × (once d t.other ≡ 0)) → meetings d ts ≡ 0

@@ -14,11 +14,11 @@ use Rattle.gos_ties.specs.Ties.{point}
 use Rattle.gos_realises.specs.Regular.{count}
 use Rattle.gos_realises.specs.Wirings.{lone, reading}
 use Rattle.gos_webs.specs.Webs.{Dot, Of, Number, Node, Within, Tie, tie, Web, Way, here, own_web}
+use Rattle.gos_webs.proofs.WayLemmas.{way_then, way_back}
 use Rattle.gos_unions.specs.Unions.{within, union}
 use Rattle.gos_unions.proofs.UnionLemmas.{Image, of_image, in_image}
 use Rattle.gos_compile.specs.Wiring.{Types}
 use Rattle.gos_wired.specs.Wired.{Supplies, Placing, dot_at, dot_of_place, dot_of, all_supply_ties, wired_web}
-use Rattle.gos_wired.proofs.WayLemmas.{way_then, way_back}
 use Rattle.gos_woven.proofs.CrossingLemmas.{still, first_or_later}
 use Rattle.gos_uses.proofs.RenamedLemmas.{renamed_at}
 use Rattle.gos_uses.proofs.StandLemmas.{IsOf}

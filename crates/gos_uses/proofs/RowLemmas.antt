@@ -1,15 +1,11 @@
 -- Rows of points that lead to two places, one after the other.
-use Rattle.std.specs.Prelude.{◌≡◌, ℕ, zero, suc, ◌+◌, ◌-◌, ◌<◌, ◌≤◌, Bool, true, false, List, ◌∷◌, ◌++◌, length, map, nat_lt, if◌then◌else◌}
-use Rattle.std.proofs.Common.{refl, ◌∙◌, ap, arith, length-append}
+use Rattle.std.specs.Prelude.{◌≡◌, ℕ, zero, suc, ◌+◌, ◌-◌, ◌<◌, ◌≤◌, Bool, true, false, List, ◌∷◌, ◌++◌, map, nat_lt, if◌then◌else◌}
+use Rattle.std.proofs.Common.{refl, ◌∙◌, ap, arith}
 use Rattle.std.proofs.lemmas.Bool.Decides.{nat_tests}
-use Rattle.gos_types.specs.Types.{Type', Pair}
-use Rattle.gos_plan.specs.Kinds.{Contact, contacts_of}
-use Rattle.gos_plan.proofs.SideLemmas.{pairs_join}
 use Rattle.gos_ties.specs.declared.points.Place.{Place}
 use Rattle.gos_ties.specs.declared.points.Place.TheVariants as places
 use Rattle.gos_ties.specs.declared.points.Point.{Point}
 use Rattle.gos_ties.specs.Ties.{point}
-use Rattle.gos_realises.specs.Regular.{count}
 use Rattle.gos_compile.specs.Wiring.{row}
 use Rattle.gos_uses.proofs.RenamedLemmas.{renamed, map_two}
 
@@ -54,6 +50,3 @@ rows_two n k a b =
     ap (map (renamed (to_two n a b))) (row_two places.Result 0 n k)
     ∙ (map_two (renamed (to_two n a b)) (row places.Result 0 n) (row places.Result (0 + n) k)
     ∙ (λ i. first_row n a b 0 n (omega arith) i ++ second_row n a b (0 + n) 0 k (omega arith) i))
-
-pub count_pair : (a b : Type') → count (Pair a b) ≡ count a + count b
-count_pair a b = ap (λ (cs : List Contact). length cs) (pairs_join a b).joined ∙ length-append (contacts_of a) (contacts_of b)

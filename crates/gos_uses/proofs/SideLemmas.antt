@@ -19,6 +19,7 @@ use Rattle.gos_ties.specs.declared.points.Tie as point_ties
 use Rattle.gos_realises.specs.Regular.{count}
 use Rattle.gos_realises.specs.Links.{IsJoined}
 use Rattle.gos_realises.specs.Wirings.{side}
+use Rattle.gos_realises.proofs.CountLemmas.{count_pair}
 use Rattle.gos_joined.proofs.WholeLemmas.{sides_are_joined}
 use Rattle.gos_webs.specs.Webs.{Dot, Of, Number, Node, Within, Tie, Web, Way, here, IsOfWeb}
 use Rattle.gos_unions.specs.Unions as unions
@@ -36,7 +37,7 @@ use Rattle.gos_woven.proofs.PlanLemmas.{web_has_plan}
 use Rattle.gos_uses.specs.Uses.{IsPlaced, IsSide, FirstIsSide, SecondIsSide}
 use Rattle.gos_uses.proofs.RenamedLemmas.{renamed_at, renamed, renamed_tie, ties_renamed}
 use Rattle.gos_uses.proofs.StandLemmas.{IsOf}
-use Rattle.gos_uses.proofs.RowLemmas.{to_two, to_first, to_second, rows_two, count_pair}
+use Rattle.gos_uses.proofs.RowLemmas.{to_two, to_first, to_second, rows_two}
 use Rattle.gos_uses.proofs.MatchingLemmas.{Matching, matched}
 use Rattle.gos_uses.proofs.SupplyLemmas.{inside, IsSupplyTie, OfNumber, of_number, tied_at}
 use Rattle.gos_uses.proofs.ChildLemmas.{lower, lowered, child_ties, own_ties, node_ties, own_tie, node_tie, of_own, in_own, of_node, in_node, one_stands, other_stands}

@@ -1,57 +1,18 @@
 -- Two unfoldings of a term come together, and what is possible beside an unfolding stays possible.
 use Rattle.std.specs.Prelude.{◌≡◌, ◌⊎◌, ℕ, zero, suc}
 use Rattle.std.proofs.Common.{arith, refl, sym, ap, subst, inl, inr, ◌∙◌}
-use Rattle.gos_types.specs.Types.{Type'}
-use Rattle.gos_model.specs.Terms.{Name, Term, Skip, Lit, Import, Lam, App, Both, Fst, Snd, Seq, Par, If, Assign, Deref, Not, Bin, Loc, Scope, Wait, Held, Put}
+use Rattle.gos_model.specs.Terms.{Name, Term, Skip, Lit, Import, App, Fst, Snd, Seq, Par, If, Assign, Deref, Not, Bin, Loc, Scope, Wait, Held, Put}
 use Rattle.gos_model.specs.Typing.{Imports}
-use Rattle.gos_model.specs.Substitution.{instantiate}
 use Rattle.gos_model.specs.Stores.{Store}
-use Rattle.gos_model.specs.Reach.{Rel, Reached, Below, Rewrites, Under, Unfolds}
+use Rattle.gos_model.specs.Reach.{Rel, Reached, Below, Unfolds}
 use Rattle.gos_model.specs.Steps.{Computes, IsValue}
 use Rattle.gos_model.specs.Labels.{Label}
 use Rattle.gos_model.specs.Moves.{Program, Config, Idle, Running, Act, Computing, Showing, ActsTo, Answers, Unfoldings, Move, Stalled}
+use Rattle.gos_model.proofs.HeadLemmas.{Lower, lower_one}
 use Rattle.gos_contexts.specs.Contexts.{Context, SeqFirst, ParLeft, ParRight, IfTest, BinLeft, HeldRight, NotOf, AssignRight, ScopeBody, plug}
 use Rattle.gos_contexts.proofs.BackwardLemmas.{OneHead, OneLabel}
 use Rattle.gos_contexts.proofs.PluggedLemmas.{acts_of, acts_to, reached_plugged}
 use Rattle.gos_variables.specs.Unfolded.{UnfoldingsMeet, ActsStay, WaitsBefore}
-
--- below a function or a pair there is no head
-abbrev Lower : Term → Term → Type 0
-Lower m t = Rewrites m t ⊎ Under Rewrites m t
-
-not_in_lam : (m : Term) (a : Type') (b t : Term) → m ≡ Lam a b → Lower m t → ⊥
-not_in_lam m a b t is h = none (subst (λ (x : Term). Lower x t) is h)
-  where
-    none : Lower (Lam a b) t → ⊥
-    none (inl g) = g
-    none (inr g) = g
-
-not_in_both : (m a b t : Term) → m ≡ Both a b → Lower m t → ⊥
-not_in_both m a b t is h = none (subst (λ (x : Term). Lower x t) is h)
-  where
-    none : Lower (Both a b) t → ⊥
-    none (inl g) = g
-    none (inr g) = g
-
--- a head unfolds in one way
-lower_one : (m t u : Term) → Lower m t → Lower m u → t ≡ u
-lower_one (App m n) t u (inl (a, b, em, et)) (inl (c, d, eu, ed)) =
-    let both : Lam a b ≡ Lam c d = sym em ∙ eu in
-    let body : b ≡ d = cc both in
-    et ∙ (ap (λ (x : Term). instantiate x n) body ∙ sym ed)
-lower_one (App m n) t u (inl (a, b, em, et)) (inr (m', e, h)) = absurd (not_in_lam m a b m' em h)
-lower_one (App m n) t u (inr (m', e, h)) (inl (a, b, em, et)) = absurd (not_in_lam m a b m' em h)
-lower_one (App m n) t u (inr (m', e, h)) (inr (m'', f, g)) = e ∙ (ap (λ (x : Term). App x n) (lower_one m m' m'' h g) ∙ sym f)
-lower_one (Fst m) t u (inl (n, e)) (inl (b, f)) = let both : Both t n ≡ Both u b = sym e ∙ f in cc both
-lower_one (Fst m) t u (inl (n, e)) (inr (m', f, h)) = absurd (not_in_both m t n m' e h)
-lower_one (Fst m) t u (inr (m', f, h)) (inl (n, e)) = absurd (not_in_both m u n m' e h)
-lower_one (Fst m) t u (inr (m', e, h)) (inr (m'', f, g)) = e ∙ (ap (λ (x : Term). Fst x) (lower_one m m' m'' h g) ∙ sym f)
-lower_one (Snd m) t u (inl (n, e)) (inl (b, f)) = let both : Both n t ≡ Both b u = sym e ∙ f in cc both
-lower_one (Snd m) t u (inl (n, e)) (inr (m', f, h)) = absurd (not_in_both m n t m' e h)
-lower_one (Snd m) t u (inr (m', f, h)) (inl (n, e)) = absurd (not_in_both m n u m' e h)
-lower_one (Snd m) t u (inr (m', e, h)) (inr (m'', f, g)) = e ∙ (ap (λ (x : Term). Snd x) (lower_one m m' m'' h g) ∙ sym f)
-lower_one m t u (inl h) k = absurd h
-lower_one m t u (inr h) k = absurd h
 
 head_one : (m t u : Term) → OneHead m t → OneHead m u → t ≡ u
 head_one (Put m k) t u (inr (m', e, h)) (inr (m'', f, g)) = e ∙ (ap (λ (x : Term). Put x k) (lower_one m m' m'' h g) ∙ sym f)

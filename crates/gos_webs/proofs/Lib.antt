@@ -1,3 +1,4 @@
+pub mod WayLemmas
 pub mod IdleLemmas
 pub mod WebLemmas
 pub mod MovedLemmas

@@ -2,7 +2,7 @@
 --
 -- Read first: SightLemmas; Typed of gos_compile.
 use Rattle.std.specs.Prelude.{◌≡◌, ℕ, zero, suc, ◌+◌, ◌-◌, List, [], ◌∷◌, ◌++◌, length, take, drop, Some, slice_get}
-use Rattle.std.proofs.Common.{refl, sym, ◌∙◌, ap, subst, arith, inl, length-append}
+use Rattle.std.proofs.Common.{refl, sym, ◌∙◌, ap, subst, arith, inl}
 use Rattle.gos_types.specs.Types.{Type', Com, Exp, Var, Pair, Fun, IsDone}
 use Rattle.gos_model.specs.Terms as terms
 use Rattle.gos_model.specs.Terms.{Term, result_width}
@@ -18,6 +18,7 @@ use Rattle.gos_ties.specs.declared.points.Point.{Point}
 use Rattle.gos_ties.specs.declared.points.Tie.{Tie}
 use Rattle.gos_ties.specs.Ties.{point}
 use Rattle.gos_realises.specs.Regular.{count}
+use Rattle.gos_realises.proofs.CountLemmas.{count_pair}
 use Rattle.gos_compile.specs.Wiring.{Types, row, led, answer_bits, shares, closed_part, binder_part, one_part, two_part, share_ties, shares_ties, binder_ties, binder_out, one_ties, one_out, two_ties, first_out, second_out}
 use Rattle.gos_compile.specs.Typed.{SidesTyped, ClosedTyped, BinderTyped, OneTyped, TwoTyped, ChoiceTyped}
 use Rattle.gos_wired.proofs.FlowLemmas.{Flow}
@@ -50,14 +51,6 @@ take_front zero [] (d ∷ ds) e = refl
 take_front zero (c ∷ cs) ds e = absurd (omega (arith, e))
 take_front (suc n) [] ds e = absurd (omega (arith, e))
 take_front (suc n) (c ∷ cs) ds e = ap (λ (xs : List Contact). c ∷ xs) (take_front n cs ds (omega (arith, e)))
-
-count_pair : (a b : Type') → count (Pair a b) ≡ count a + count b
-count_pair a b =
-    let whole = seen_length (Pair a b) in
-    let split = ap length (seen_pair a b) ∙ length-append (seen a) (seen b) in
-    let left = seen_length a in
-    let right = seen_length b in
-    omega (arith, whole, split, left, right)
 
 module _ (parts : List Part) (is : Imports) (outcome : Type') (types : Types) (table : ℕ → List Contact) where
   abbrev Has : Place → ℕ → Contact → Type 0

@@ -19,6 +19,7 @@ use Rattle.gos_realises.specs.Links.{IsJoined}
 use Rattle.gos_realises.specs.Modules.{Supply, plans_of, AreSupplied, imports_linked, supplying}
 use Rattle.gos_webs.specs.Webs.{Dot, Of, Number, Node, Within, Tie, tie, Web, Way, here, along, joint, IsOfWeb, own_web, SameWays}
 use Rattle.gos_webs.proofs.WebLemmas.{same_ways, right_is_of_its_web}
+use Rattle.gos_webs.proofs.WayLemmas.{mapped_way, one_way}
 use Rattle.gos_unions.specs.Unions.{within, all_within, at_of, link_ties, union, AreOfWebs}
 use Rattle.gos_unions.specs.Unions as unions
 use Rattle.gos_unions.proofs.UnionLemmas.{Image, of_image, in_image, joining_is_union}
@@ -28,7 +29,7 @@ use Rattle.gos_compile.specs.Wiring.{Types, row, ties_of, import_ties, all_types
 use Rattle.gos_wired.specs.Wired.{dot_of, dot_ties, Supplies, result_ties, all_supply_ties, Source, source_dot, wired_web}
 use Rattle.gos_wired.specs.Modules.{supply_at, numbers_from, PathsFit, MakesNoImport, SuppliedIsWired}
 use Rattle.gos_wired.proofs.NumberLemmas.{part_of, import_in}
-use Rattle.gos_wired.proofs.WayLemmas.{mapped_way, way_path, path_way, one_way}
+use Rattle.gos_wired.proofs.WayLemmas.{way_path, path_way}
 use Rattle.gos_wired.proofs.AwayLemmas.{for_import, stays_away, row_away, ties_away, tie_away}
 use Rattle.gos_wired.proofs.PlacingLemmas.{left_is, from_plan, source_of, one_less, origin_of, placing, import_numbered, numbered_import, supply_there, number_there, parts_there, no_more_parts, imports_there, left_at_number, no_more_imports}
 use Rattle.gos_wired.proofs.TieLemmas.{import_tie, of_import_ties, in_import_ties, result_tie, of_results, in_results, in_supplies, OfSupplies, of_supplies, webs_of, inside, OfWebs, in_webs, of_webs, web_at}

@@ -19,16 +19,18 @@ use Rattle.gos_compile.specs.Typed.{NodesTyped}
 use Rattle.gos_wired.specs.Wired.{dot_of, Supplies, Source, Own, Supplied, Placing, IsFrom, placed, source_dot, dot_at, wired_ties}
 use Rattle.gos_wired.specs.NodeFitting.{IsPlaced, IsLinear, AreOfTypes, WiredNodeFits, WiredIsPlaced, FittingIsPlain, RealisedAreOfTypes, CheckedStarts, UseIsLinear, TwiceIsNotLinear}
 use Rattle.gos_wired.specs.Modules.{supply_at, numbers_from}
-use Rattle.gos_wired.proofs.WayLemmas.{point_is, way_then, way_back}
+use Rattle.gos_wired.proofs.WayLemmas.{point_is}
 use Rattle.gos_wired.proofs.TypeLemmas.{type_is}
 use Rattle.gos_wired.proofs.PlacingLemmas.{import_numbered, of_numbers, supply_there}
 use Rattle.gos_renumbered.proofs.SupplyLemmas.{supply_of}
-use Rattle.gos_joined.proofs.ReachLemmas.{Told, told_end}
+use Rattle.gos_joined.proofs.ReachLemmas.{told_end}
 use Rattle.gos_check.specs.Linearity.{times, made}
 use Rattle.gos_check.specs.Checked.{program_in}
 use Rattle.gos_check.specs.Nodes.{node_seen}
+use Rattle.gos_plan.proofs.DecidedLemmas.{Told}
 use Rattle.gos_realises.specs.Modules.{Supply}
 use Rattle.gos_realises.specs.Realises.{Realises}
+use Rattle.gos_webs.proofs.WayLemmas.{way_then, way_back}
 use Rattle.gos_compile.specs.Wiring.{all_types}
 use Rattle.gos_wired.proofs.FlowLemmas.{Leaves}
 use Rattle.gos_wired.proofs.FlowedLemmas.{seen, flows_of}

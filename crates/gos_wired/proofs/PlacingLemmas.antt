@@ -1,65 +1,22 @@
 -- Where the parts and the imports of a plan that is joined to its supplies come from.
-use Rattle.std.specs.Prelude.{◌≡◌, ℕ, zero, suc, ◌+◌, ◌-◌, ◌<◌, ◌≤◌, Bool, true, false, List, [], ◌∷◌, ◌++◌, ◌⊎◌, length, Option, Some, None, Contains, slice_get, if◌then◌else◌, option_map}
-use Rattle.std.proofs.Common.{refl, sym, ◌∙◌, ap, subst, arith, inl, inr, length-append}
-use Rattle.std.proofs.lemmas.List.{length-map}
+use Rattle.std.specs.Prelude.{◌≡◌, ℕ, zero, suc, ◌+◌, ◌-◌, ◌<◌, ◌≤◌, false, List, [], ◌∷◌, ◌++◌, length, Option, Some, None, Contains, slice_get, option_map}
+use Rattle.std.proofs.Common.{refl, sym, ◌∙◌, ap, subst, arith}
 use Rattle.std.proofs.lemmas.Option.{slice_get-map, slice_get_within}
-use Rattle.gos_types.specs.Types.{Type', Com, Exp, Var, Pair, Fun}
 use Rattle.gos_model.specs.Typing.{Imports, Imported}
 use Rattle.gos_plan.specs.Kinds.{Part}
 use Rattle.gos_plan.specs.Plans.{End, PartEnd, ImportEnd, ResultEnd, Plan}
-use Rattle.gos_plan.specs.Joining.{Place, Link, LeftImport, is_joined, left_in, left_among, all_left, all_parts, part_place, IsJoining}
-use Rattle.gos_realises.specs.Regular.{count}
+use Rattle.gos_plan.specs.Joining.{Place, Link, LeftImport, is_joined, left_among, all_left, all_parts, part_place, IsJoining}
 use Rattle.gos_realises.specs.Modules.{Supply, plans_of, AreSupplied, imports_linked, supplying}
-use Rattle.gos_realises.proofs.LeftLemmas.{left_all}
+use Rattle.gos_realises.proofs.LeftLemmas.{left_all, left_joined}
 use Rattle.gos_joined.proofs.OriginLemmas.{before, import_of}
-use Rattle.gos_unions.proofs.LinkLemmas.{IsAt, joined_by, by_joined}
 use Rattle.gos_unions.proofs.DeepLemmas.{place_of_part}
 use Rattle.gos_renumbered.proofs.SupplyLemmas as supplies
-use Rattle.gos_renumbered.proofs.SupplyLemmas.{supply_link, OfImports, of_imports, in_imports, supply_of, import_for, plan_at}
+use Rattle.gos_renumbered.proofs.SupplyLemmas.{supply_link, OfImports, of_imports, in_imports, supply_of, import_for, plan_at, first_joined, supply_free}
 use Rattle.gos_wired.specs.Wired.{Supplies, Source, Own, Supplied, Origin, Placing, IsFrom, placed}
 use Rattle.gos_wired.specs.Modules.{supply_at, numbers_from}
 use Rattle.gos_wired.proofs.NumberLemmas.{PartOf, part_of, part_there, imports_before, all_imports, import_in, import_there}
 
--- a type has a handshake
-count_pair : (a b : Type') → count (Pair a b) ≡ count a + count b
-count_pair a b = simp (length-append, length-map) refl
-
-count_fun : (a b : Type') → count (Fun a b) ≡ count a + count b
-count_fun a b = simp (length-append, length-map) refl
-
-some_shake : (t : Type') → 0 < count t
-some_shake Com = omega arith
-some_shake (Exp w) = omega arith
-some_shake (Var w) = omega arith
-some_shake (Pair a b) = let first = some_shake a in let sum = count_pair a b in omega (arith, first, sum)
-some_shake (Fun a b) = let first = some_shake a in let sum = count_fun a b in omega (arith, first, sum)
-
 -- The imports that stay: none of the plan's own, and all of the supplies'.
-left_joined : (ls : List Link) (k i : ℕ) (xs : List Imported) → ((j : ℕ) (z : Imported) → slice_get xs j ≡ Some z → is_joined ls k (i + j) ≡ true)
-    → left_in ls k i xs ≡ []
-left_joined ls k i [] all = refl
-left_joined ls k i (x ∷ xs) all =
-    let zeros : i + 0 ≡ i = omega arith in
-    let here : is_joined ls k i ≡ true = ap (is_joined ls k) (sym zeros) ∙ all 0 x refl in
-    let rest = left_joined ls k (suc i) xs (λ j z at. (let sum : suc i + j ≡ i + suc j = omega arith in ap (is_joined ls k) sum ∙ all (suc j) z at)) in
-    (λ j. if here j then left_in ls k (suc i) xs else record { plan = k; number = i; import = x } ∷ left_in ls k (suc i) xs) ∙ rest
-
-first_joined : (is : List Imported) (j : ℕ) (z : Imported) → slice_get is j ≡ Some z → is_joined (imports_linked 0 is) 0 (0 + j) ≡ true
-first_joined is j z at = by_joined (imports_linked 0 is) 0 (0 + j) (supply_link (0 + j) 0, in_imports 0 is j 0 z at (some_shake z.ty), inl (0, refl))
-
-others_free : (is : List Imported) (n j : ℕ) → is_joined (imports_linked 0 is) (suc n) j ≡ false
-others_free is n j = by_test (is_joined (imports_linked 0 is) (suc n) j) refl
-  where
-    at_link : (l : Link) → OfImports 0 is l → IsAt (suc n) j l.one ⊎ IsAt (suc n) j l.other → ⊥
-    at_link l there (inl (h, e)) =
-        let plans : 0 ≡ suc n = ap (λ (a : Place). a.plan) (ap (λ (m : Link). m.one) (sym there.same) ∙ e) in omega (arith, plans)
-    at_link l there (inr (h, e)) =
-        let ends : ResultEnd there.shake ≡ ImportEnd j h = ap (λ (a : Place). a.end) (ap (λ (m : Link). m.other) (sym there.same) ∙ e) in cc ends
-
-    by_test : (b : Bool) → is_joined (imports_linked 0 is) (suc n) j ≡ b → is_joined (imports_linked 0 is) (suc n) j ≡ false
-    by_test true test = let (l, has, ends) = joined_by (imports_linked 0 is) (suc n) j test in absurd (at_link l (of_imports 0 is l has) ends)
-    by_test false test = test
-
 among_free : (ls : List Link) (n : ℕ) (qs : List Plan) → ((k j : ℕ) → is_joined ls (suc k) j ≡ false) → left_among ls (suc n) qs ≡ all_imports (suc n) qs
 among_free ls n [] free = refl
 among_free ls n (q ∷ qs) free =
@@ -68,7 +25,7 @@ among_free ls n (q ∷ qs) free =
 pub left_is : (p : Plan) (ss : List Supply) → all_left (supplying p ss) ≡ all_imports 1 (plans_of ss)
 left_is p ss =
     let first = left_joined (imports_linked 0 p.imports) 0 0 p.imports (first_joined p.imports) in
-    let rest = among_free (imports_linked 0 p.imports) 0 (plans_of ss) (others_free p.imports) in
+    let rest = among_free (imports_linked 0 p.imports) 0 (plans_of ss) (supply_free p.imports) in
     (λ i. first i ++ rest i)
 
 -- how they are numbered

@@ -13,6 +13,7 @@ use Rattle.gos_ties.specs.declared.points.Place.TheVariants as places
 use Rattle.gos_ties.specs.declared.points.Point.{Point}
 use Rattle.gos_ties.specs.declared.points.Tie.{Tie}
 use Rattle.gos_ties.specs.Ties.{point, tie}
+use Rattle.gos_unions.proofs.LeftLemmas.{front}
 use Rattle.gos_compile.specs.Wiring.{Types, row, led}
 use Rattle.gos_wired.proofs.FlowLemmas.{Flow, tie_in, twice_turned}
 use Rattle.gos_wired.proofs.FlowedLemmas.{seen, flowing}
@@ -149,11 +150,6 @@ module _ (parts : List Part) (is : Imports) (outcome : Type') (types : Types) (t
   -- parts that stand in the list from number i on
   abbrev pub PartsAt : ℕ → List Part → Type 0
   PartsAt i ks = (k : ℕ) (x : Part) → slice_get ks k ≡ Some x → slice_get parts (i + k) ≡ Some x
-
-  front : {X : Type 0} (xs ys : List X) (i : ℕ) (x : X) → slice_get xs i ≡ Some x → slice_get (xs ++ ys) i ≡ Some x
-  front [] ys i x e = absurd (cc e)
-  front (y ∷ xs) ys zero x e = e
-  front (y ∷ xs) ys (suc i) x e = front xs ys i x e
 
   behind : {X : Type 0} (xs ys : List X) (i : ℕ) → slice_get (xs ++ ys) (length xs + i) ≡ slice_get ys i
   behind [] ys i = let zeros : 0 + i ≡ i = omega arith in ap (slice_get ys) zeros

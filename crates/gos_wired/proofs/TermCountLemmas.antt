@@ -23,10 +23,10 @@ use Rattle.gos_wired.proofs.OutLemmas.{seen_length}
 use Rattle.gos_wired.proofs.SightLemmas as sight
 use Rattle.gos_wired.proofs.FormLemmas as forms
 use Rattle.gos_wired.proofs.TableLemmas.{TableFits}
-use Rattle.gos_wired.proofs.TermFlowLemmas.{shares_length}
 use Rattle.gos_wired.proofs.CountLemmas.{meets, occurs, meets_two, meets_flowing}
 use Rattle.gos_wired.proofs.WeightLemmas as weights
 use Rattle.gos_wired.proofs.WeightLemmas.{weight}
+use Rattle.gos_compile.proofs.ThinLemmas.{shares_length}
 
 module _ (parts : List Part) (is : Imports) (outcome : Type') (table : ℕ → List Contact) (types : Types) (r : Role) (q : Point) (U M N : ℕ → ℕ)
     (no_part : (i : ℕ) → place_once q.place (places.Part i) ≡ 0)

@@ -23,10 +23,7 @@ use Rattle.gos_wired.proofs.FlowedLemmas.{seen, flowing, shares_flows, binder_fl
 use Rattle.gos_wired.proofs.SightLemmas as sight
 use Rattle.gos_wired.proofs.FormLemmas as forms
 use Rattle.gos_wired.proofs.TableLemmas.{TableFits}
-
-pub shares_length : (ss : List Split) (types : Types) → length (shares ss types) ≡ length ss
-shares_length [] types = refl
-shares_length (s ∷ ss) types = ap suc (shares_length ss types)
+use Rattle.gos_compile.proofs.ThinLemmas.{shares_length}
 
 module _ (parts : List Part) (is : Imports) (outcome : Type') (types : Types) (table : ℕ → List Contact) where
   abbrev See : List Contact → List Point → Type 0

@@ -1,4 +1,4 @@
--- Ways of ties: one after another, back, and from one web to another; and the ways of dots are the paths of points.
+-- The ways of dots are the paths of points.
 use Rattle.std.specs.Prelude.{◌≡◌, ℕ, zero, suc, List, [], ◌∷◌, Contains}
 use Rattle.std.proofs.Common.{refl, sym, ◌∙◌, ap, subst, arith, inl, inr}
 use Rattle.gos_plan.specs.Plans.{End, PartEnd, ImportEnd, ResultEnd}
@@ -12,39 +12,14 @@ use Rattle.gos_webs.specs.Webs.{Dot, Of, Number, Node, Within, Tie, tie, Meet, W
 use Rattle.gos_unions.proofs.UnionLemmas.{Image, of_image}
 use Rattle.gos_wired.specs.Wired.{dot_of_place, dot_of, dot_ties}
 
-pub way_then : (ts : List Tie) (a b c : Dot) → Way ts a b → Way ts b c → Way ts a c
-way_then ts a b c (here d) v = v
-way_then ts a b c (along d e f meets way) v = along d e c meets (way_then ts e f c way v)
-
-pub meet_back : (ts : List Tie) (a b : Dot) → Meet ts a b → Meet ts b a
-meet_back ts a b (inl h) = inr h
-meet_back ts a b (inr h) = inl h
-
-pub one_way : (ts : List Tie) (a b : Dot) → Meet ts a b → Way ts a b
-one_way ts a b meets = along a b b meets (here b)
-
-pub way_back : (ts : List Tie) (a b : Dot) → Way ts a b → Way ts b a
-way_back ts a b (here d) = here d
-way_back ts a b (along d e f meets way) = way_then ts f e d (way_back ts e f way) (one_way ts e d (meet_back ts d e meets))
-
--- where each tie becomes a way, so does each way
-pub mapped_way : (ts us : List Tie) (f : Dot → Dot) → ((t : Tie) → Contains ts t → Way us (f t.one) (f t.other))
-    → (a b : Dot) → Way ts a b → Way us (f a) (f b)
-mapped_way ts us f each a b (here d) = here (f d)
-mapped_way ts us f each a b (along d e g meets way) = way_then us (f d) (f e) (f g) (by_meet meets) (mapped_way ts us f each e g way)
-  where
-    by_meet : Meet ts d e → Way us (f d) (f e)
-    by_meet (inl has) = each (tie d e) has
-    by_meet (inr has) = way_back us (f e) (f d) (each (tie e d) has)
-
 -- the point of a dot
-abbrev point_of : Dot → Point
+abbrev pub point_of : Dot → Point
 point_of (Of e) = at e
 point_of (Number n h) = point (places.Number n) h
 point_of (Node n h) = point (places.Node n) h
 point_of (Within k d) = point places.Result 0
 
-there_and_back : (q : Place) (h : ℕ) → point_of (dot_of_place q h) ≡ point q h
+pub there_and_back : (q : Place) (h : ℕ) → point_of (dot_of_place q h) ≡ point q h
 there_and_back (places.Part i) h = refl
 there_and_back (places.Import i) h = refl
 there_and_back places.Result h = refl

@@ -2,20 +2,8 @@
 use Rattle.std.specs.Prelude.{◌≡◌, zero, suc, List, [], ◌∷◌, ◌⊎◌, Contains}
 use Rattle.std.proofs.Common.{refl, sym, ap, subst, arith, inl, inr}
 use Rattle.gos_webs.specs.Webs.{Dot, Tie, tie, Meet, Way, here, along}
+use Rattle.gos_webs.proofs.WayLemmas.{way_then}
 use Rattle.gos_woven.proofs.DotLemmas.{Decided, one_dot}
-
-pub turned_meet : (ts : List Tie) (a b : Dot) → Meet ts a b → Meet ts b a
-turned_meet ts a b (inl h) = inr h
-turned_meet ts a b (inr h) = inl h
-
-pub joined_way : (ts : List Tie) (a c b : Dot) → Way ts a c → Way ts c b → Way ts a b
-joined_way ts a c b (here d) two = two
-joined_way ts a c b (along d e z meets one) two = along d e b meets (joined_way ts e z b one two)
-
-pub turned_way : (ts : List Tie) (a b : Dot) → Way ts a b → Way ts b a
-turned_way ts a b (here d) = here d
-turned_way ts a b (along d c z meets way) =
-    joined_way ts z c d (turned_way ts c z way) (along c d d (turned_meet ts d c meets) (here d))
 
 pub still : (ts : List Tie) (a b : Dot) → a ≡ b → Way ts a b
 still ts a b same = subst (λ (x : Dot). Way ts a x) same (here a)
@@ -79,10 +67,10 @@ crossing ts p q a b (along d c z meets way) = onward ts p q d c z (met ts p q d 
 crossed : (ts : List Tie) (p q a b : Dot) → Crossing ts p q a b → Way (tie p q ∷ ts) a b
 crossed ts p q a b (Past way) = later_way ts (tie p q) a b way
 crossed ts p q a b (Forth first then) =
-    joined_way (tie p q ∷ ts) a p b (later_way ts (tie p q) a p first)
+    way_then (tie p q ∷ ts) a p b (later_way ts (tie p q) a p first)
     (along p q b (inl (0, omega arith, refl)) (later_way ts (tie p q) q b then))
 crossed ts p q a b (Back first then) =
-    joined_way (tie p q ∷ ts) a q b (later_way ts (tie p q) a q first)
+    way_then (tie p q ∷ ts) a q b (later_way ts (tie p q) a q first)
     (along q p b (inr (0, omega arith, refl)) (later_way ts (tie p q) p b then))
 
 -- without ties a way leads nowhere

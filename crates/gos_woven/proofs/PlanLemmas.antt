@@ -10,9 +10,10 @@ use Rattle.gos_plan.proofs.JointLemmas.{IsIn, contained}
 use Rattle.gos_webs.specs.Webs.{Web, Way, Connects, WaysFit, joint, IsOfWeb}
 use Rattle.gos_webs.proofs.MovedLemmas.{listed}
 use Rattle.gos_webs.proofs.CutLemmas.{which_end}
+use Rattle.gos_webs.proofs.WayLemmas.{way_back}
 use Rattle.gos_woven.specs.Woven.{IsPlain, WebHasPlan}
 use Rattle.gos_woven.proofs.DotLemmas.{Decided, one_end}
-use Rattle.gos_woven.proofs.CrossingLemmas.{turned_way, decided_way}
+use Rattle.gos_woven.proofs.CrossingLemmas.{decided_way}
 use Rattle.gos_woven.proofs.EndLemmas.{ends_of, there, pairs, pair}
 
 -- who asks doesn't serve
@@ -103,8 +104,8 @@ module _
       plain j.serving j.asking k.asking (serves one.0 one.1) (asks one.0 one.1) (asks moved.0 moved.1) one.3 one.2 moved.2
       (λ is. differ j.asking j.serving one.0 one.1 one.0 one.1 one.2 one.3 (sym is))
       (λ is. differ k.asking j.serving moved.0 moved.1 one.0 one.1 moved.2 one.3 (sym is))
-      (turned_way v.ties (v.at j.asking) (v.at j.serving) one.4)
-      (turned_way v.ties (v.at k.asking) (v.at j.serving) moved.4) in
+      (way_back v.ties (v.at j.asking) (v.at j.serving) one.4)
+      (way_back v.ties (v.at k.asking) (v.at j.serving) moved.4) in
       λ i. joint (far i) (same i)
 
   asking_held : (j k : Joint) → Connected j → Connected k → (j.asking ≡ k.asking) ⊎ (j.asking ≡ k.serving) → j ≡ k

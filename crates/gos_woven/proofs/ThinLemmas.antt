@@ -2,9 +2,10 @@
 use Rattle.std.specs.Prelude.{◌≡◌, ℕ, ◌+◌, ◌≤◌, Bool, true, List, [], ◌∷◌, ◌⊎◌, Contains, if◌then◌else◌}
 use Rattle.std.proofs.Common.{refl, sym, ◌∙◌, ap, subst, arith, inl, inr}
 use Rattle.gos_webs.specs.Webs.{Dot, Tie, tie, Meet, Way, here, along}
+use Rattle.gos_webs.proofs.WayLemmas.{way_back}
 use Rattle.gos_woven.specs.Woven.{same_dot, once, meetings, ThinIsPlain}
 use Rattle.gos_woven.proofs.DotLemmas.{dot_itself}
-use Rattle.gos_woven.proofs.CrossingLemmas.{turned_way, first_or_later, Crossing, Past, Forth, Back, crossing, no_way}
+use Rattle.gos_woven.proofs.CrossingLemmas.{first_or_later, Crossing, Past, Forth, Back, crossing, no_way}
 
 pub once_same : (d e : Dot) → d ≡ e → once d e ≡ 1
 once_same d e same =
@@ -86,7 +87,7 @@ past_forth ts p q x y z is at_x at_y way first =
     by_far : Far x y p → Far x y z
     by_far (inl same) = inl same
     by_far (inr (inl same)) = inl (no_further ts x y (few_once ts p q x at_x same) way)
-    by_far (inr (inr same)) = inl (sym (no_further ts y x (few_once ts p q y at_y same) (turned_way ts x y way)))
+    by_far (inr (inr same)) = inl (sym (no_further ts y x (few_once ts p q y at_y same) (way_back ts x y way)))
 
 -- both use it in one way
 both_forth : (ts : List Tie) (p q x y z : Dot) → Ready ts p q → Few ts p q y → Few ts p q z → Way ts q y → Way ts q z → Far x y z
@@ -115,7 +116,7 @@ no_both ts p q x is at_x forth back =
     by_far (inr (inl same)) =
         few_twice ts p q x at_x (no_further ts x p (few_once ts q p x (turned_few ts p q x at_x) same) forth) same
     by_far (inr (inr same)) =
-        let at_p = sym (no_further ts p x (is.ring same) (turned_way ts x p forth)) in
+        let at_p = sym (no_further ts p x (is.ring same) (way_back ts x p forth)) in
         few_twice ts p q x at_x at_p (at_p ∙ same)
 
 onward : (ts : List Tie) (p q x y z : Dot) → Ready ts p q → Few ts p q x → Few ts p q y → Few ts p q z

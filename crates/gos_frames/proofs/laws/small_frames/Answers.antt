@@ -1,4 +1,4 @@
-use Rattle.gos_frames.proofs.SmallFrameLemmas.{uses_are_parted, shared_is_not_parted, use_is_bound, other_is_not_bound, use_is_scoped, other_is_not_scoped, use_speaks_of_it, not_of_parts}
+use Rattle.gos_frames.proofs.SmallFrameLemmas.{uses_are_parted, shared_is_not_parted, use_is_bound, other_is_not_bound, use_speaks_of_it, not_of_parts}
 use Rattle.gos_frames.proofs.laws.small_frames.Goals as goal
 
 pub returns-clause-parted : goal.returns-clause-parted
@@ -12,12 +12,6 @@ returns-clause-bound c = use_is_bound
 
 pub returns-clause-unbound : goal.returns-clause-unbound
 returns-clause-unbound c = other_is_not_bound
-
-pub returns-clause-scoped : goal.returns-clause-scoped
-returns-clause-scoped c = use_is_scoped
-
-pub returns-clause-unscoped : goal.returns-clause-unscoped
-returns-clause-unscoped c = other_is_not_scoped
 
 pub returns-clause-spoken : goal.returns-clause-spoken
 returns-clause-spoken c = use_speaks_of_it

@@ -14,6 +14,7 @@ use Rattle.gos_wired.specs.Wired.{Placing}
 use Rattle.gos_stages.specs.Inside.{numbers_inside}
 use Rattle.gos_stages.specs.Lodging.{live, seen_from, serves_side, AreInOrder, AreApart}
 use Rattle.gos_stages.specs.Folding.{serving_if, servings}
+use Rattle.gos_stages.proofs.LodgingLemmas.{seen_first, seen_second}
 use Rattle.gos_stages.proofs.ChildPartLemmas.{no_more_than}
 
 -- a handshake of a Share with n of each is the source's or a caller's
@@ -124,7 +125,7 @@ module _ {P : Type 0} (inner : P → ℕ → Bool) where
     serving x t c = record { part = pl.own x; ty = t; side = c }
 
     -- Share q of the node, of type t, serves one of them from side c; the Shares have numbers from x on
-    abbrev Serves : List Split → ℕ → ℕ → Type' → ℕ → Type 0
+    abbrev pub Serves : List Split → ℕ → ℕ → Type' → ℕ → Type 0
     Serves ss x q t c = (p : P) × Contains (servings types pl (inner p) x ss) (serving q t c)
 
     -- the first one
@@ -137,17 +138,12 @@ module _ {P : Type 0} (inner : P → ℕ → Bool) where
           (subst (λ (b : Option ℕ). Contains (serving_if (pl.own x) (types s.of) b) (serving x (types s.of) c)) (sym sees) (0, omega arith, refl)),
     )
 
-    right_alone : (a b : Bool) → b ≡ true → (a ≡ true → b ≡ true → ⊥) → seen_from a b ≡ Some 1
-    right_alone true b right apart = absurd (apart refl right)
-    right_alone false true right apart = refl
-    right_alone false false right apart = absurd (cc right)
-
     by_side : (s : Split) (ss : List Split) (x c : ℕ) → ((p : P) → AreApart (inner p) (s ∷ ss)) → Lives ss s.left → Lives ss s.right → c < 2
         → Serves (s ∷ ss) x x (types s.of) c
     by_side s ss x zero apart (p, alive) right two =
-        seen s ss x 0 p (ap (λ (a : Bool). seen_from a (live ss (inner p) s.right)) alive)
+        seen s ss x 0 p (seen_first (live ss (inner p) s.left) (live ss (inner p) s.right) alive)
     by_side s ss x (suc zero) apart left (p, alive) two =
-        seen s ss x 1 p (right_alone (live ss (inner p) s.left) (live ss (inner p) s.right) alive (apart p).0)
+        seen s ss x 1 p (seen_second (live ss (inner p) s.left) (live ss (inner p) s.right) (apart p).0 alive)
     by_side s ss x (suc (suc c)) apart left right two = absurd (omega (arith, two))
 
     pub all_serve : (ss : List Split) (ns old : List ℕ) → AreUsed ss ns old → AreInOrder ss → AreOld ss old → ((p : P) → AreApart (inner p) ss)

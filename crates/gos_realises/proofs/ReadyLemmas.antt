@@ -5,10 +5,10 @@ use Rattle.gos_model.specs.Terms.{Term}
 use Rattle.gos_model.specs.Stores.{Store}
 use Rattle.gos_model.specs.Typing.{Imports}
 use Rattle.gos_model.specs.Moves.{Program, Config, Idle, Running, Act, Computing, Showing, Move, Unfoldings, ActsTo, Stalled}
+use Rattle.gos_model.proofs.HeadLemmas.{IsReady}
 use Rattle.gos_plan.specs.Plans.{Plan}
 use Rattle.gos_realises.specs.Matched.{RealisesDone}
-use Rattle.gos_heads.proofs.OneWayLemmas.{IsReady}
-use Rattle.gos_heads.proofs.SimulationLemmas.{Follows, followed_is_realised}
+use Rattle.gos_realises.proofs.SimulationLemmas.{Follows, followed_is_realised}
 
 -- of any two programs with these imports: a running term does what it unfolds to does
 module _ (g f : Program) (same_imports : f.imports ≡ g.imports) (m n : Term) (ready : IsReady m n) where
