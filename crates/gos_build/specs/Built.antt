@@ -1,8 +1,9 @@
 -- The command `build BUILD`: what it leaves, why it rejects a file, and which calls it makes.
 --
 -- Read first: Objects, Programs; Plans of gos_circuits (linking, and the circuit of the whole); Pace of gos_model; Simulation of
--- gos_simulate (its run under the pulse file). `old` and `new` are the files of the store before and after, `files` those before where it tells them. The
--- pulse file is read after all but the trace is written, and no file that is written is one that is read.
+-- gos_simulate (its run under the pulse file). `old` and `new` are the files of the store before and after, `files` those
+-- before where it tells them. The pulse file is read after all but the trace is written, and no file that is written is one
+-- that is read.
 use Rattle.std.specs.Prelude.{◌≡◌, ◌⊎◌, ◌++◌, ◌+◌, ◌*◌, ◌≤◌, ℕ, List, [], ◌∷◌, length, map, Option, Some, IfSome}
 use Rattle.gos_outside.specs.Files.{Files, bytes_at}
 use Rattle.gos_outside.specs.OtherFiles.{OthersSame}
