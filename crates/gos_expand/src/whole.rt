@@ -23,7 +23,7 @@ use std::alloc::Global;
 pub enum Policy {
     /// One in each direction of each joint.
     All,
-    /// As `All`, for now.
+    /// The same registers as `All`.
     Few,
 }
 
