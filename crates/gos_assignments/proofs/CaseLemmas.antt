@@ -20,8 +20,9 @@ use Rattle.gos_webs.specs.Webs.{Tie, joint}
 use Rattle.gos_typing.proofs.WhenceLemmas.{named}
 use Rattle.gos_typing.proofs.NameLemmas.{typed_under_fewer}
 use Rattle.gos_compile.specs.Wiring.{Types, parts_of}
-use Rattle.gos_wired.specs.Wired.{Supplies, Placing, IsWired, terms_of, wired_ties}
-use Rattle.gos_stages.specs.Inside.{AreGroundSupplies}
+use Rattle.gos_wired.specs.Wired.{Supplies, Placing, IsWired, AreRealised, terms_of, wired_ties}
+use Rattle.gos_joints.specs.Joints.{GroundResultIsJoined}
+use Rattle.gos_stages.specs.Inside.{InsideIsRealised}
 use Rattle.gos_stages.specs.Folding.{Child}
 use Rattle.gos_stages.specs.Stages.{stage_of}
 use Rattle.gos_stages.proofs.InsideLemmas.{inside_means}
@@ -34,7 +35,7 @@ use Rattle.gos_assignments.specs.Variables.{Target, is_target, target_lodge, tar
 use Rattle.gos_assignments.specs.Made.{target_stage, target_of, IsWiredAssignment}
 use Rattle.gos_assignments.specs.Sides.{assigning, number_side}
 use Rattle.gos_assignments.specs.Cases.{AssignCase}
-use Rattle.gos_assignments.proofs.TargetBackLemmas.{plan_realised, plan_joined, plan_right, plan_ground}
+use Rattle.gos_assignments.proofs.TargetBackLemmas.{plan_realised, plan_right, plan_ground}
 use Rattle.gos_assignments.proofs.TargetFoldLemmas.{import_of}
 use Rattle.gos_assignments.proofs.ReadLemmas.{reads}
 use Rattle.gos_assignments.proofs.MadeLemmas.{assignment_is_made}
@@ -42,9 +43,9 @@ use Rattle.gos_assignments.proofs.NumberLemmas.{number_part}
 use Rattle.gos_assignments.proofs.NumberSideLemmas.{number_type}
 use Rattle.gos_assignments.proofs.NodeLemmas.{node_is_assignment}
 
-module _ (types : Types) (ns : List ℕ) (ss : List Split) (w x : ℕ) (n : Numbered) (is : IsKept types ns (assigning ss w x n))
+module _ (insides : InsideIsRealised) (joins : GroundResultIsJoined) (types : Types) (ns : List ℕ) (ss : List Split) (w x : ℕ) (n : Numbered) (is : IsKept types ns (assigning ss w x n))
     (i j : ℕ) (env : Supplies) (pl : Placing)
-    (r : Plan) (wired : IsWired types i j (assigning ss w x n) ns env pl r) (supplies : AreGroundSupplies types env ns) (differ : NamesDiffer r.imports)
+    (r : Plan) (wired : IsWired types i j (assigning ss w x n) ns env pl r) (supplies : AreRealised types env ns) (differ : NamesDiffer r.imports)
     (fit : All LiteralFits r.parts) where
   abbrev f : Child
   f = number_side types i j ss env ns x n
@@ -59,7 +60,7 @@ module _ (types : Types) (ns : List ℕ) (ss : List Split) (w x : ℕ) (n : Numb
   ts = wired_ties types i j (assigning ss w x n) ns env
 
   made : IsWiredAssignment f j x own ts w pl r
-  made = node_is_assignment types i j ss w x n ns env pl r is wired supplies differ fit
+  made = node_is_assignment insides joins types i j ss w x n ns env pl r is wired supplies differ fit
 
   -- what the sides mean
   abbrev variable : Term
@@ -69,14 +70,14 @@ module _ (types : Types) (ns : List ℕ) (ss : List Split) (w x : ℕ) (n : Numb
   variable_is = ap (λ (e : Supplies). (e x).term) (lodged_are_inside types i (is_target g) ss env) ∙ inside_means types ss env x
 
   variable_realised : Realises (Var w) (target_plan g) variable
-  variable_realised = subst (λ (t : Type'). Realises t (target_plan g) variable) made.variable.width (plan_realised g ts w made.variable)
+  variable_realised = subst (λ (t : Type'). Realises t (target_plan g) variable) made.variable.width (plan_realised g ts w made.variable insides made.realised)
 
   variable_typed : Typed r.imports [] variable (Var w)
   variable_typed = typed_under_fewer (target_plan g).imports r.imports [] variable (Var w) agree variable_realised.suits.typed
     where
       it_reads : (e : End) × IsIn (joint (ResultEnd 0) e) (target_plan g).joints
       it_reads =
-          reads (target_plan g) (plan_right g ts w made.variable) (plan_ground g ts w made.variable) (plan_joined g ts w made.variable 0 (omega arith))
+          reads (target_plan g) (plan_right g ts w made.variable) (plan_ground g ts w made.variable) made.variable.joined
 
       agree : (y : Name) → Contains (things 0 variable) (Named y) → import_type r.imports y ≡ import_type (target_plan g).imports y
       agree y has =
@@ -92,12 +93,12 @@ module _ (types : Types) (ns : List ℕ) (ss : List Split) (w x : ℕ) (n : Numb
       let same = one_type r.imports [] variable (Var v) (Var w) (subst (λ (m : Term). Typed r.imports [] m (Var v)) (sym variable_is) typed) variable_typed in
       cc same
 
-pub assign_case : OneType → AssignCase
-assign_case one_type types ns ss w x n is leaves real i j env pl r wired supplies differ fit (v, is_com, typed_variable, typed_number) =
-    let it = made types ns ss w x n is i j env pl r wired supplies differ fit in
+pub assign_case : InsideIsRealised → GroundResultIsJoined → OneType → AssignCase
+assign_case insides joins one_type types ns ss w x n is leaves real i j env pl r wired supplies differ fit (v, is_com, typed_variable, typed_number) =
+    let it = made insides joins types ns ss w x n is i j env pl r wired supplies differ fit in
     let part = number_part types ns ss w x n is in
     let of_number = number_type types i j ss w x n ns env is in
-    let width = one_width types ns ss w x n is i j env pl r wired supplies differ fit one_type v typed_variable in
+    let width = one_width insides joins types ns ss w x n is i j env pl r wired supplies differ fit one_type v typed_variable in
     let typed : Typed r.imports [] (meaning (inside ss (terms_of env)) n) (Exp w) =
     subst (λ (u : ℕ). Typed r.imports [] (meaning (inside ss (terms_of env)) n) (Exp u)) width typed_number
     in
@@ -108,7 +109,7 @@ assign_case one_type types ns ss w x n is leaves real i j env pl r wired supplie
     in
     let realises =
     child_realises (number_side types i j ss env ns x n) (parts_of types (assigning ss w x n)) (wired_ties types i j (assigning ss w x n) ns env)
-    pl plc r c it.number it.laid staged
+    pl plc r c it.number it.laid staged insides it.realised
     real differ fit leaves part.kept.scope
     (subst (λ (t : Type'). Typed r.imports [] (meaning (inside ss (terms_of env)) n) t) (sym of_number) typed)
     in
@@ -118,12 +119,12 @@ assign_case one_type types ns ss w x n is leaves real i j env pl r wired supplie
     let whole =
     assignment_is_realised r (pl.own (length ss)) w (stage_of (number_side types i j ss env ns x n) pl plc r c)
     (target_stage (target_of (number_side types i j ss env ns x n) j x) pl r) (target_plan (target_of (number_side types i j ss env ns x n) j x))
-    (variable types ns ss w x n is i j env pl r wired supplies differ fit) (meaning (inside ss (terms_of env)) n)
-    (assignment_is_made (number_side types i j ss env ns x n) j x (parts_of types (assigning ss w x n))
+    (variable insides joins types ns ss w x n is i j env pl r wired supplies differ fit) (meaning (inside ss (terms_of env)) n)
+    (assignment_is_made insides (number_side types i j ss env ns x n) j x (parts_of types (assigning ss w x n))
     (wired_ties types i j (assigning ss w x n) ns env) w pl plc r c
     (meaning (inside ss (terms_of env)) n) it staged side_realises)
-    side_realises (variable_realised types ns ss w x n is i j env pl r wired supplies differ fit)
-    (w, refl, variable_typed types ns ss w x n is i j env pl r wired supplies differ fit, typed)
+    side_realises (variable_realised insides joins types ns ss w x n is i j env pl r wired supplies differ fit)
+    (w, refl, variable_typed insides joins types ns ss w x n is i j env pl r wired supplies differ fit, typed)
     in
     subst (λ (m : Term). Realises Com r (Assign m (meaning (inside ss (terms_of env)) n)))
-    (variable_is types ns ss w x n is i j env pl r wired supplies differ fit) whole.0
+    (variable_is insides joins types ns ss w x n is i j env pl r wired supplies differ fit) whole.0

@@ -5,7 +5,7 @@ use Rattle.std.proofs.lemmas.Bool.Decides.{nat_tests}
 use Rattle.std.proofs.lemmas.Option.{slice_get_within}
 use Rattle.gos_types.specs.declared.shakes.Role.{Role}
 use Rattle.gos_types.specs.declared.shakes.Role.TheVariants.{Serve, Ask}
-use Rattle.gos_types.specs.Types.{Type', Com, Exp, Var, Pair, Fun, IsGround}
+use Rattle.gos_types.specs.Types.{Type', Com}
 use Rattle.gos_check.specs.declared.linear.Split.{Split}
 use Rattle.gos_check.specs.Nodes.{Numbered, type_of_node}
 use Rattle.gos_check.specs.Linearity.{times}
@@ -16,15 +16,15 @@ use Rattle.gos_realises.specs.Regular.{count}
 use Rattle.gos_webs.specs.Webs.{Dot, Of, Within}
 use Rattle.gos_compile.specs.Wiring.{Types, answer_bits, shares, parts_of}
 use Rattle.gos_wired.specs.Wired.{Supplies, Source, Own, Supplied, Placing, IsFrom, source_dot}
-use Rattle.gos_stages.specs.Inside.{AreGroundSupplies}
-use Rattle.gos_stages.specs.Lodging.{AreApart}
+use Rattle.gos_wired.specs.NodeFitting.{AreOfTypes}
+use Rattle.gos_stages.specs.Lodging.{serves_side, AreApart}
 use Rattle.gos_stages.specs.Folding.{Child, is_used, child_back, IsChild, IsLaid}
-use Rattle.gos_stages.proofs.StepLemmas.{serves_source}
+use Rattle.gos_stages.proofs.SpareLemmas.{has_size}
 use Rattle.gos_stages.proofs.ServedLemmas.{servings_serve}
 use Rattle.gos_stages.proofs.ChildPartLemmas.{no_more_than, own_source_back}
 use Rattle.gos_stages.proofs.CoverLemmas.{live_stands, live_is_covered, served_is_covered, own_is_covered}
-use Rattle.gos_stages.proofs.SideLemmas.{AreUsed, AreOld, Lives, Serves, all_live, all_serve}
-use Rattle.gos_stages.proofs.ContactLemmas.{part_there, import_there, share_ground, shares_length}
+use Rattle.gos_stages.proofs.SideLemmas.{served_side, AreUsed, AreOld, Lives, Serves, all_live, all_serve}
+use Rattle.gos_stages.proofs.ContactLemmas.{part_there, import_there, shares_length}
 use Rattle.gos_stages.proofs.LayoutLemmas.{in_front, in_back}
 use Rattle.gos_numbers.specs.Kept.{IsKept}
 use Rattle.gos_numbers.specs.Inherited.{IsPart}
@@ -42,26 +42,6 @@ role_at (Some k) = k.role
 
 none_asks : (a : Option Contact) (q v : ℕ) → role_at a ≡ Serve → a ≡ Some (asks q v) → ⊥
 none_asks a q v serving e = let clash : Serve ≡ Ask = sym serving ∙ ap role_at e in cc clash
-
--- a Share of a ground type asks its source alone
-asks_source : (t : Type') (h q v : ℕ) → IsGround t → slice_get (part_contacts (Share t)) h ≡ Some (asks q v) → h < count t
-asks_source Com zero q v ground e = omega arith
-asks_source Com (suc zero) q v ground e = absurd (none_asks (Some (serves 0 0)) q v refl e)
-asks_source Com (suc (suc zero)) q v ground e = absurd (none_asks (Some (serves 0 0)) q v refl e)
-asks_source Com (suc (suc (suc h))) q v ground e = absurd (no_more_than (asks q v) e)
-asks_source (Exp w) zero q v ground e = omega arith
-asks_source (Exp w) (suc zero) q v ground e = absurd (none_asks (Some (serves 0 w)) q v refl e)
-asks_source (Exp w) (suc (suc zero)) q v ground e = absurd (none_asks (Some (serves 0 w)) q v refl e)
-asks_source (Exp w) (suc (suc (suc h))) q v ground e = absurd (no_more_than (asks q v) e)
-asks_source (Var w) zero q v ground e = omega arith
-asks_source (Var w) (suc zero) q v ground e = omega arith
-asks_source (Var w) (suc (suc zero)) q v ground e = absurd (none_asks (Some (serves 0 w)) q v refl e)
-asks_source (Var w) (suc (suc (suc zero))) q v ground e = absurd (none_asks (Some (serves w 0)) q v refl e)
-asks_source (Var w) (suc (suc (suc (suc zero)))) q v ground e = absurd (none_asks (Some (serves 0 w)) q v refl e)
-asks_source (Var w) (suc (suc (suc (suc (suc zero))))) q v ground e = absurd (none_asks (Some (serves w 0)) q v refl e)
-asks_source (Var w) (suc (suc (suc (suc (suc (suc h)))))) q v ground e = absurd (no_more_than (asks q v) e)
-asks_source (Pair a b) h q v ground e = absurd ground
-asks_source (Fun a b) h q v ground e = absurd ground
 
 -- a Share of the list is one
 share_is : (types : Types) (ss : List Split) (k : ℕ) (y : Part) → slice_get (shares ss types) k ≡ Some y → (t : Type') × (y ≡ Share t)
@@ -81,7 +61,7 @@ plainly =
     }
 
 module _ (types : Types) (i j : ℕ) (ss : List Split) (w x : ℕ) (n : Numbered) (ns : List ℕ) (env : Supplies) (is : IsKept types ns (assigning ss w x n))
-    (supplies : AreGroundSupplies types env ns) where
+    (supplies : AreOfTypes types env ns) where
   abbrev f : Child
   f = number_side types i j ss env ns x n
 
@@ -136,11 +116,11 @@ module _ (types : Types) (i j : ℕ) (ss : List Split) (w x : ℕ) (n : Numbered
   share_covered : (k h : ℕ) (t : Type') (q v : ℕ) → slice_get (shares ss types) k ≡ Some (Share t) → slice_get (part_contacts (Share t)) h ≡ Some (asks q v)
       → Covered (source_dot i (Own k) h)
   share_covered k h t q v share asking =
-      by_side (all_serve user types plainly ss ns [] all_used part.tidy.in_order none_old apart 0 k k t 0 (omega arith) share (omega arith))
+      let size = has_size t in
+      let within = slice_get_within (part_contacts (Share t)) h (asks q v) asking in
+      let (c, two, serves) = served_side (count t) h (omega (arith, within, size)) in
+      by_side c serves (all_serve user types plainly ss ns [] all_used part.tidy.in_order none_old apart 0 k k t c (omega arith) share two)
     where
-      low : h < count t
-      low = asks_source t h q v (share_ground types ss ns k t part.agree part.split supplies.ground share) asking
-
       plain : (read : End) → target_back g read (source_dot i (Own k) h) ≡ kept read ((target_lodge g).home (source_dot i (Own k) h))
       plain read =
           let small = slice_get_within (shares ss types) k (Share t) share in
@@ -151,15 +131,15 @@ module _ (types : Types) (i j : ℕ) (ss : List Split) (w x : ℕ) (n : Numbered
           ap (λ (b : Bool). if b then (if nat_eq h 1 then Some (Of (ResultEnd 1)) else None)
           else kept read ((target_lodge g).home (source_dot i (Own k) h))) far
 
-      by_side : Serves user types plainly ss 0 k t 0 → Covered (source_dot i (Own k) h)
-      by_side (true, listed) =
-          let (y, same, covers) = served_is_covered f (all_ties types i j ss w x n ns env) plainly (record { part = k; ty = t; side = 0 }) child listed in
-          inl (subst (λ (m : ℕ). (d : Dot) × (child_back f (source_dot i (Own m) h) ≡ Some d)) (sym same) (covers h (serves_source (count t) 0 h low)))
-      by_side (false, listed) =
+      by_side : (c : ℕ) → serves_side (count t) c h ≡ true → Serves user types plainly ss 0 k t c → Covered (source_dot i (Own k) h)
+      by_side c serves (true, listed) =
+          let (y, same, covers) = served_is_covered f (all_ties types i j ss w x n ns env) plainly (record { part = k; ty = t; side = c }) child listed in
+          inl (subst (λ (m : ℕ). (d : Dot) × (child_back f (source_dot i (Own m) h) ≡ Some d)) (sym same) (covers h serves))
+      by_side c serves (false, listed) =
           let (y, same, it) =
-          servings_serve types i (is_target g) ss env ns plainly (record { part = k; ty = t; side = 0 }) (variable_tidy types ns ss w x n is) listed
+          servings_serve types i (is_target g) ss env ns plainly (record { part = k; ty = t; side = c }) (variable_tidy types ns ss w x n is) listed
           in
-          let (z, at) = it.seen h (serves_source (count t) 0 h low) in
+          let (z, at) = it.seen h serves in
           inr (λ read. (
             Of (kept_end read z.end),
             plain read ∙ ap (kept read) (subst (λ (m : ℕ). (target_lodge g).home (source_dot i (Own m) h) ≡ Some z) (sym same) at),
@@ -167,7 +147,7 @@ module _ (types : Types) (i j : ℕ) (ss : List Split) (w x : ℕ) (n : Numbered
 
   -- its own part
   assign_covered : (h q v : ℕ) → slice_get (part_contacts (Assign w)) h ≡ Some (asks q v) → Covered (source_dot i (Own (length ss)) h)
-  assign_covered zero q v asking = inl (own_is_covered f (all_ties types i j ss w x n ns env) child).1
+  assign_covered zero q v asking = inl ((own_is_covered f (all_ties types i j ss w x n ns env) child).1 0 0 refl)
   assign_covered (suc zero) q v asking =
       inr (λ read. (
         Of (ResultEnd 1),

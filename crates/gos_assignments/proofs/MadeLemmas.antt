@@ -8,18 +8,21 @@ use Rattle.gos_plan.specs.Plans.{End, PartEnd, ImportEnd, ResultEnd, Joint, Plan
 use Rattle.gos_plan.proofs.JointLemmas.{IsIn, fits, one_joint, contained}
 use Rattle.gos_realises.specs.Realises.{Realises}
 use Rattle.gos_webs.specs.Webs.{Dot, Of, Within, Tie, Web, Way, joint, own_web}
-use Rattle.gos_webs.specs.Cutting.{lies_at}
+use Rattle.gos_webs.specs.Cutting.{StandsIn, lies_at}
 use Rattle.gos_webs.proofs.WebLemmas.{asks_there, right_is_of_its_web}
 use Rattle.gos_windows.specs.Nodes.{Stage, IsStage, IsOfStage}
 use Rattle.gos_nodes.proofs.RestLemmas.{realisers_rest}
 use Rattle.gos_folds.specs.Folds.{IsFold}
 use Rattle.gos_folds.proofs.RegionLemmas.{folded_joint}
 use Rattle.gos_wired.specs.Wired.{Source, Own, Placing, source_dot, dot_at}
-use Rattle.gos_stages.specs.Folding.{Child, child_web, child_back, child_cut, child_fold, child_servings}
+use Rattle.gos_stages.specs.Folding.{asked, asked_in, Child, child_web, child_back, child_cut, child_fold, child_servings}
 use Rattle.gos_stages.specs.Regions.{IsStaged}
 use Rattle.gos_stages.specs.Stages.{stage_of}
 use Rattle.gos_stages.proofs.WayLemmas.{by_tie}
 use Rattle.gos_stages.proofs.ChildFoldLemmas.{child_is_folded}
+use Rattle.gos_stages.specs.Inside.{InsideIsRealised}
+use Rattle.gos_stages.proofs.InsideLemmas.{realised_are_ordered}
+use Rattle.gos_stages.proofs.LoyalLemmas.{servings_are_loyal}
 use Rattle.gos_stages.proofs.StageLemmas.{has_child_of, laid_of, web_of, child_is_stage}
 use Rattle.gos_writes.specs.Written.{unread}
 use Rattle.gos_writes.proofs.JoinedLemmas.{unread_right}
@@ -27,7 +30,7 @@ use Rattle.gos_writes.specs.Assignments as assignments
 use Rattle.gos_assignments.specs.Variables.{Target, target_plan, target_cut, target_servings, target_back}
 use Rattle.gos_assignments.specs.Made.{target_stage, target_of, IsWiredAssignment, AssignmentIsMade}
 use Rattle.gos_assignments.proofs.ReadLemmas.{reads}
-use Rattle.gos_assignments.proofs.TargetBackLemmas.{plan_realised, target_dot, plan_right, plan_ground, plan_joined}
+use Rattle.gos_assignments.proofs.TargetBackLemmas.{plan_realised, target_dot, plan_right, plan_ground}
 use Rattle.gos_assignments.proofs.TargetFoldLemmas.{target_is_fold}
 use Rattle.gos_assignments.proofs.LaidLemmas.{target_is_laid}
 
@@ -46,7 +49,7 @@ module _ (f : Child) (node x : ℕ) (own : List Part) (ts : List Tie) (w : ℕ) 
   whole = record { ties = ts; at = dot_at f.first pl }
 
   abbrev it_reads : (e : End) × IsIn (joint (ResultEnd 0) e) p.joints
-  it_reads = reads p (plan_right g ts w is.variable) (plan_ground g ts w is.variable) (plan_joined g ts w is.variable 0 (omega arith))
+  it_reads = reads p (plan_right g ts w is.variable) (plan_ground g ts w is.variable) is.variable.joined
 
   abbrev read : End
   read = it_reads.0
@@ -137,8 +140,12 @@ module _ (f : Child) (node x : ℕ) (own : List Part) (ts : List Tie) (w : ℕ) 
 
     number_stage : IsStage r d (stage_of f pl plc r c)
     number_stage =
-        child_is_stage f own ts pl plc r c is.number is.parts is.laid staged done realised.suits.regular
+        child_is_stage f own ts pl plc r c 0 is.number is.leads is.parts is.laid staged done realised.suits.regular
         (realisers_rest c n realised.suits.all_ground realised.suits.names done realised.means) realised.suits.names
+        (servings_are_loyal f own ts pl plc r c is.number is.parts is.laid staged (realised_are_ordered f.types f.env f.numbers is.realised))
+
+    first : asked f ≡ 0
+    first = ap asked_in is.leads
 
     number_laid : assignments.IsLaid r d (stage_of f pl plc r c) c
     number_laid =
@@ -146,13 +153,16 @@ module _ (f : Child) (node x : ℕ) (own : List Part) (ts : List Tie) (w : ℕ) 
           region = number_stage.region;
           outside = number_stage.outside;
           loyal = number_stage.loyal;
-          run_by = λ stands. refl;
+          run_by =
+              λ stands.
+              ap (λ (h : ℕ). (stage_of f pl plc r c).cut.outer (ResultEnd h)) first
+              ∙ number_stage.run_by (subst (λ (h : ℕ). StandsIn c (ResultEnd h)) first stands);
           imports = number_stage.imports;
           ports = number_stage.ports;
         }
 
-pub assignment_is_made : AssignmentIsMade
-assignment_is_made f node x own ts w pl plc r c n is staged realised =
+pub assignment_is_made : InsideIsRealised → AssignmentIsMade
+assignment_is_made insides f node x own ts w pl plc r c n is staged realised =
     record {
       right = is.web.right;
       own = own_there f node x own ts w pl plc r c is staged;
@@ -160,12 +170,14 @@ assignment_is_made f node x own ts w pl plc r c n is staged realised =
       literals = is.literals;
       ground = is.ground;
       names = is.names;
-      asked = is.asked;
+      asked = ap asked_in is.leads;
       written = refl;
       plan = refl;
-      own_literals = (plan_realised (target_of f node x) ts w is.variable).suits.literals;
+      own_literals = (plan_realised (target_of f node x) ts w is.variable insides is.realised).suits.literals;
       laid_number = number_laid f node x own ts w pl plc r c is staged n realised;
-      laid_variable = target_is_laid (target_of f node x) own ts w pl r is.variable is.assign is.laid is.web;
+      laid_variable =
+          target_is_laid (target_of f node x) own ts w pl r is.variable is.assign is.laid is.web (realised_are_ordered f.types f.env f.numbers is.realised)
+          (plan_realised (target_of f node x) ts w is.variable insides is.realised).suits.all_ground;
       result = result f node x own ts w pl plc r c is staged;
       joints = joints_so f node x own ts w pl plc r c is staged;
     }

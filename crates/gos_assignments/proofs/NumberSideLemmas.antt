@@ -1,26 +1,27 @@
 -- The number's side of an assignment to a variable's number is a child of the node, and its parts are among the node's.
 use Rattle.std.specs.Prelude.{◌+◌, ◌⊎◌, ◌||◌, length, nat_eq, nat_lt, slice_get, None, Contains, if◌then◌else◌}
-use Rattle.std.proofs.Common.{◌≡◌, ℕ, suc, Bool, false, List, ◌∷◌, Some, Option, inl, inr, refl, sym, ◌∙◌, ap, subst, arith}
+use Rattle.std.proofs.Common.{◌≡◌, ℕ, zero, suc, Bool, false, List, [], ◌∷◌, Some, Option, inl, inr, refl, sym, ◌∙◌, ap, subst, arith}
 use Rattle.gos_types.specs.Types.{Type', Exp}
 use Rattle.gos_check.specs.declared.linear.Split.{Split}
 use Rattle.gos_check.specs.Nodes.{Numbered, type_of_node}
 use Rattle.gos_check.specs.Linearity.{times, made}
 use Rattle.gos_check.proofs.TimesLemmas.{eq_true}
-use Rattle.gos_plan.specs.Kinds.{Part, Assign, contacts_of}
+use Rattle.gos_plan.specs.Kinds.{Contact, Part, Assign, contacts_of}
 use Rattle.gos_plan.specs.Plans.{PartEnd, ResultEnd, contacts_of_part, turned_if}
 use Rattle.gos_realises.specs.Regular.{count}
 use Rattle.gos_webs.specs.Webs.{Of, Number, Node, Within, Tie}
 use Rattle.gos_unions.proofs.LeftLemmas.{front, behind}
 use Rattle.gos_compile.specs.Wiring.{Types, answer_bits, shares, parts_of, nodes}
 use Rattle.gos_wired.specs.Wired.{Supplies}
-use Rattle.gos_stages.specs.Inside.{AreGroundSupplies}
+use Rattle.gos_wired.specs.NodeFitting.{AreOfTypes}
 use Rattle.gos_stages.specs.Lodging.{spot_if}
 use Rattle.gos_stages.specs.Housing.{HasShares}
-use Rattle.gos_stages.specs.Folding.{Child, is_used, lodge, in_range, asks_child, spot_dot, child_back, shared_ties, own_ties, IsForeign, IsChild}
+use Rattle.gos_stages.specs.Folding.{Lead, AtOwn, Child, is_used, lodge, in_range, asks_child, spot_dot, child_back, shared_ties, own_ties, IsForeign, IsChild}
+use Rattle.gos_stages.specs.Folded.{Sees}
 use Rattle.gos_stages.specs.Regions.{HasParts}
 use Rattle.gos_stages.proofs.LodgingLemmas.{numbers_are_held}
-use Rattle.gos_stages.proofs.ImportHomeLemmas.{result_is_nowhere}
-use Rattle.gos_stages.proofs.ChildBackLemmas.{range_below}
+use Rattle.gos_stages.proofs.ChildBackLemmas.{one_lead, range_below}
+use Rattle.gos_stages.proofs.ChildPartLemmas.{no_more_than}
 use Rattle.gos_stages.proofs.ContactLemmas.{shares_length}
 use Rattle.gos_numbers.specs.Kept.{IsKept}
 use Rattle.gos_numbers.specs.Inherited.{IsPart}
@@ -68,7 +69,7 @@ module _ (types : Types) (i j : ℕ) (ss : List Split) (w x : ℕ) (n : Numbered
       ∙ ap (λ (b : Bool). if b then Some (Within 0 (Of (ResultEnd 0))) else None) apart
 
   result_foreign : child_back f (Within 0 (Of (ResultEnd 0))) ≡ None
-  result_foreign = ap spot_dot (result_is_nowhere types i (is_used f) ss env 0)
+  result_foreign = refl
 
   -- each tie
   abbrev Told : Tie → Type 0
@@ -81,7 +82,7 @@ module _ (types : Types) (i j : ℕ) (ss : List Split) (w x : ℕ) (n : Numbered
   by_tie t (inr (inr (inr (inl write)))) = inr (inr (subst (IsForeign f) write (own_foreign 1 refl, variable_foreign 1)))
   by_tie t (inr (inr (inr (inr own)))) = inr (inl own)
 
-  pub number_is_child : AreGroundSupplies types env ns → IsChild f (all_ties types i j ss w x n ns env)
+  pub number_is_child : AreOfTypes types env ns → IsChild f (all_ties types i j ss w x n ns env)
   number_is_child supplies =
       record {
         tidy = part.tidy;
@@ -92,11 +93,13 @@ module _ (types : Types) (i j : ℕ) (ss : List Split) (w x : ℕ) (n : Numbered
         covers = part.covers;
         unmade = part.unmade;
         shares_first = omega arith;
-        own_first = omega arith;
+        off_first = omega arith;
+        own_apart = inl (omega arith);
         has_shared = shared_in types i j ss w x n ns env;
         has_own = own_in types i j ss w x n ns env;
         only = λ t has. by_tie t (of_ties types i j ss w x n ns env t has);
-        one = ap count number_type;
+        long = sym (ap count number_type);
+        distinct = one_lead (AtOwn 0);
       }
 
   -- the parts of the node
@@ -124,14 +127,14 @@ module _ (types : Types) (i j : ℕ) (ss : List Split) (w x : ℕ) (n : Numbered
       let place : length (shares ss types) + suc k ≡ length ss + 1 + k = omega (arith, size) in
       subst (λ (m : ℕ). slice_get own m ≡ Some y) place (behind (shares ss types) rest (suc k) ∙ at)
 
-  pub number_has_parts : HasParts f own
-  number_has_parts =
-      record {
-        shares = has_shares;
-        own_part = (Assign w, assign_at);
-        child = child_at;
-        asks =
-            λ k at.
-            ap (λ (a : Option Part). slice_get (contacts_of_part a) 0) assign_at
-            ∙ (sym (ap (λ (t : Type'). turned_if (slice_get (contacts_of t) 0)) number_type) ∙ at);
-      }
+  seen : (t : Type') (h : ℕ) (l : Lead) (k : Contact) → slice_get (AtOwn 0 ∷ []) h ≡ Some l → turned_if (slice_get (contacts_of (type_of_node n)) h) ≡ Some k
+      → Sees (length ss) own t l k
+  seen t zero l k lead at =
+      let same : AtOwn 0 ≡ l = cc lead in
+      subst (λ (x : Lead). Sees (length ss) own t x k) same
+      (ap (λ (a : Option Part). slice_get (contacts_of_part a) 0) assign_at
+      ∙ (sym (ap (λ (t : Type'). turned_if (slice_get (contacts_of t) 0)) number_type) ∙ at))
+  seen t (suc h) l k lead at = absurd (no_more_than l lead)
+
+  pub number_has_parts : (t : Type') → HasParts f own t
+  number_has_parts t = record { shares = has_shares; child = child_at; asks = seen t }

@@ -1,12 +1,13 @@
 -- The sides of `x := 1` and of `x := y`, and what is no assignment.
 use Rattle.std.specs.Prelude.{◌≡◌, ℕ, zero, suc, ◌≤◌, [], ◌∷◌}
-use Rattle.std.proofs.Common.{refl, sym, ◌∙◌, arith}
+use Rattle.std.proofs.Common.{ap, refl, sym, ◌∙◌, arith}
 use Rattle.gos_types.specs.Types.{Com, Var}
 use Rattle.gos_check.specs.Linearity.{times}
 use Rattle.gos_check.proofs.TimesLemmas.{times_other}
 use Rattle.gos_leaves.specs.Splits.{AreOnceIn}
 use Rattle.gos_plan.specs.Kinds.{Assign}
 use Rattle.gos_stages.proofs.ChildPartLemmas.{no_more_than}
+use Rattle.gos_stages.specs.Folding.{asked_in}
 use Rattle.gos_assignments.specs.SmallAssignments.{OneIsKept, SevenIsNotKept, OtherIsLeft, SideIsLeft, NodeIsRead, OtherIsNotRead, AssignWrites, NothingWrites, CommandIsNoTarget, SecondIsNoNumber}
 
 once : (k : ℕ) → times k (0 ∷ []) ≤ 1
@@ -26,7 +27,6 @@ one_is_kept =
       apart = ((λ s a b one c d small more. absurd one), (λ s a b one c d small more. absurd one), tt, tt);
       forks = (refl, refl);
       typed = (tt, (8, refl, refl, refl), (tt, refl), (tt, refl));
-      ground = (tt, tt, tt);
     }
 
 same_bits : (w v : ℕ) → Var w ≡ Var v → w ≡ v
@@ -57,4 +57,4 @@ pub command_is_no_target : CommandIsNoTarget
 command_is_no_target f ts w command is = let clash : Com ≡ Var w = sym command ∙ is.width in cc clash
 
 pub second_is_no_number : SecondIsNoNumber
-second_is_no_number f node x own ts w pl r second is = let clash : 1 ≡ 0 = sym second ∙ is.asked in omega (arith, clash)
+second_is_no_number f node x own ts w pl r second is = let clash : 1 ≡ 0 = ap asked_in (sym second ∙ is.leads) in omega (arith, clash)

@@ -7,9 +7,9 @@ use Rattle.gos_types.specs.Types.{Type', Var, IsGround}
 use Rattle.gos_check.specs.declared.linear.Split.{Split}
 use Rattle.gos_check.proofs.TimesLemmas.{eq_true, eq_false, true_eq}
 use Rattle.gos_plan.specs.Kinds.{Contact, asks, contacts_of}
-use Rattle.gos_plan.specs.Plans.{End, PartEnd, ImportEnd, ResultEnd, Joint, contact_at, same_end, stands_in, turned_if, IsRight}
+use Rattle.gos_plan.specs.Plans.{End, PartEnd, ImportEnd, ResultEnd, Joint, contact_at, same_end, turned_if, IsRight}
 use Rattle.gos_plan.proofs.JointLemmas.{IsIn, fits, contained}
-use Rattle.gos_realises.specs.Regular.{count, IsRegular}
+use Rattle.gos_realises.specs.Regular.{count}
 use Rattle.gos_realises.specs.Realises.{Realises}
 use Rattle.gos_ties.specs.declared.points.Place.TheVariants as places
 use Rattle.gos_ties.specs.declared.points.Tie as point_ties
@@ -22,10 +22,10 @@ use Rattle.gos_unions.specs.Unions.{within}
 use Rattle.gos_unions.proofs.UnionLemmas.{of_image}
 use Rattle.gos_folds.specs.Folds.{Follows}
 use Rattle.gos_compile.specs.Wiring.{Types, row, led, share_ties, shares_ties}
-use Rattle.gos_wired.specs.Wired.{Supplies, source_dot, dot_ties, all_supply_ties}
-use Rattle.gos_stages.specs.Inside.{numbers_inside, AreGroundSupplies}
+use Rattle.gos_wired.specs.Wired.{Supplies, AreRealised, source_dot, dot_ties, all_supply_ties}
+use Rattle.gos_stages.specs.Inside.{InsideIsRealised}
 use Rattle.gos_stages.specs.Lodging.{Spot, spot, spot_if, Near, lies}
-use Rattle.gos_stages.proofs.InsideLemmas.{inside_is_realised}
+use Rattle.gos_stages.proofs.InsideLemmas.{inside_is_of_types}
 use Rattle.gos_stages.proofs.LodgingLemmas.{lifted, led_listed, homes_are_kept, numbers_are_held, lodged_are_inside}
 use Rattle.gos_stages.proofs.LiveLemmas.{spots_are_live}
 use Rattle.gos_stages.proofs.WayLemmas.{by_tie, joints_are_ways}
@@ -79,32 +79,27 @@ target_dot f d = d
 
 module _ (f : Target) (ts : List Tie) (w : ℕ) (is : IsTarget f ts w) where
   -- the variable's plan
-  supplied : AreGroundSupplies f.types (target_lodge f).env (numbers_inside f.splits f.numbers)
-  supplied =
-      subst (λ (e : Supplies). AreGroundSupplies f.types e (numbers_inside f.splits f.numbers))
+  of_type : IsRight (target_plan f) × ((target_plan f).outcome ≡ f.types f.variable)
+  of_type =
+      subst (λ (e : Supplies). IsRight (e f.variable).plan × ((e f.variable).plan.outcome ≡ f.types f.variable))
       (sym (lodged_are_inside f.types f.first (is_target f) f.splits f.env))
-      (inside_is_realised f.types f.splits f.env f.numbers is.agree is.split is.supplies)
+      (inside_is_of_types f.types f.splits f.env f.numbers is.agree is.split is.supplies f.variable is.there)
 
-  pub plan_realised : Realises (f.types f.variable) (target_plan f) ((target_lodge f).env f.variable).term
-  plan_realised = supplied.realised f.variable is.there
+  pub plan_realised : InsideIsRealised → AreRealised f.types f.env f.numbers
+      → Realises (f.types f.variable) (target_plan f) ((target_lodge f).env f.variable).term
+  plan_realised insides realised =
+      subst (λ (e : Supplies). Realises (f.types f.variable) (e f.variable).plan (e f.variable).term)
+      (sym (lodged_are_inside f.types f.first (is_target f) f.splits f.env))
+      (insides f.types f.splits f.env f.numbers is.agree is.split realised f.variable is.there)
 
   pub plan_right : IsRight (target_plan f)
-  plan_right = plan_realised.suits.right
-
-  pub plan_regular : IsRegular (target_plan f)
-  plan_regular = plan_realised.suits.regular
+  plan_right = of_type.0
 
   pub plan_outcome : (target_plan f).outcome ≡ Var w
-  plan_outcome = plan_realised.suits.outcome ∙ is.width
+  plan_outcome = of_type.1 ∙ is.width
 
   pub plan_ground : IsGround (target_plan f).outcome
   plan_ground = subst IsGround (sym plan_outcome) tt
-
-  pub plan_joined : (h : ℕ) → h < 2 → (j : Joint) × Contains (target_plan f).joints j × (stands_in (ResultEnd h) j ≡ true)
-  plan_joined h lt = supplied.joined f.variable is.there h (omega (arith, lt, size))
-    where
-      size : count (target_plan f).outcome ≡ 2
-      size = ap count plan_outcome
 
   pub itself : is_target f f.variable ≡ true
   itself = eq_true f.variable f.variable refl

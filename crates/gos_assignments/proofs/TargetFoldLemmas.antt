@@ -39,7 +39,7 @@ use Rattle.gos_writes.specs.Written.{unread}
 use Rattle.gos_writes.proofs.JoinedLemmas.{unread_right}
 use Rattle.gos_assignments.specs.Variables.{Target, is_target, target_lodge, target_plan, end_part, spot_part, spot_end, target_outer, target_inner, target_cut, target_servings, kept, target_back, IsTarget, HasAssign, TargetIsRegion}
 use Rattle.gos_assignments.proofs.ReadLemmas.{no_result, reads, unmet}
-use Rattle.gos_assignments.proofs.TargetBackLemmas.{target_dot, plan_right, plan_outcome, plan_ground, plan_joined, itself, spot_is, result_low, plain_share, own_back, stays_so, ways_so}
+use Rattle.gos_assignments.proofs.TargetBackLemmas.{target_dot, plan_right, plan_outcome, plan_ground, itself, spot_is, result_low, plain_share, own_back, stays_so, ways_so}
 
 -- the own part asks as the user of a variable does
 assign_contact : (w h : ℕ) (k : Contact) → turned_if (slice_get (contacts_of (Var w)) h) ≡ Some k → slice_get (part_contacts (Assign w)) h ≡ Some k
@@ -107,7 +107,7 @@ module _ (f : Target) (ts : List Tie) (w : ℕ) (is : IsTarget f ts w) (read : E
       ∙ (ap (λ (s : Source). spot_part (l.home (source_dot f.first s 0))) same
       ∙ (ap spot_part (part_home k 0 (slice_get_within p.parts k y at))
       ∙ ap (λ (b : Bool). spot_part (spot_if (not b) x (PartEnd k 0)))
-      (first_is_kept f.types f.first (is_target f) f.splits f.env f.numbers x k is.agree is.split is.supplies)))
+      (first_is_kept f.types f.first (is_target f) f.splits f.env x k)))
 
   -- a part that is at home is one of the plan's
   pub record Home (s : Source) (h : ℕ) (z : Spot) : Type 0 where
@@ -385,7 +385,7 @@ module _ (f : Target) (ts : List Tie) (w : ℕ) (is : IsTarget f ts w) (read : E
 
 pub target_is_region : TargetIsRegion
 target_is_region f own ts w pl r is has laid web =
-    let (read, joined) = reads (target_plan f) (plan_right f ts w is) (plan_ground f ts w is) (plan_joined f ts w is 0 (omega arith)) in
+    let (read, joined) = reads (target_plan f) (plan_right f ts w is) (plan_ground f ts w is) is.joined in
     folded_is_region (record { cut = target_cut f pl (length r.parts); dot = target_dot f; back = target_back f read }) (target_servings f pl)
     (record { ties = ts; at = dot_at f.first pl }) (own_web (unread (target_plan f))) r (unread (target_plan f))
     (target_is_fold f ts w is read joined own pl r has laid web)

@@ -12,13 +12,15 @@ use Rattle.gos_ties.specs.declared.points.Place.TheVariants as places
 use Rattle.gos_webs.specs.Webs.{Dot, Of, Number, Within, Tie}
 use Rattle.gos_compile.specs.Wiring.{Types, parts_of}
 use Rattle.gos_wired.specs.Wired.{Supplies, Placing, dot_of_place}
-use Rattle.gos_stages.specs.Inside.{AreGroundSupplies}
+use Rattle.gos_webs.specs.Cutting.{StandsIn}
+use Rattle.gos_wired.specs.NodeFitting.{AreOfTypes}
+use Rattle.gos_stages.specs.Inside.{inside_supplies}
 use Rattle.gos_stages.specs.Leading.{dot_leading}
 use Rattle.gos_stages.specs.Ranges.{IsWithin}
 use Rattle.gos_stages.specs.Lodging.{spot_if}
 use Rattle.gos_stages.specs.Folding.{Child, child_out, own_ties, IsChild}
 use Rattle.gos_stages.proofs.RangeLemmas.{ties_stay_within}
-use Rattle.gos_stages.proofs.LodgingLemmas.{numbers_are_held}
+use Rattle.gos_stages.proofs.LodgingLemmas.{numbers_are_held, lodged_are_inside}
 use Rattle.gos_stages.proofs.ImportHomeLemmas.{result_is_nowhere}
 use Rattle.gos_stages.proofs.HousingLemmas.{far_is_nothing}
 use Rattle.gos_stages.proofs.ChildTieLemmas.{led_of}
@@ -100,8 +102,8 @@ module _ (types : Types) (i j : ℕ) (ss : List Split) (w x : ℕ) (n : Numbered
   by_tie pl t child (inr (inr (inr (inl writes)))) = inr (inl (1, omega arith, writes))
   by_tie pl t child (inr (inr (inr (inr own)))) = inr (inr (λ read. own_back read pl t child own))
 
-  pub variable_is_target : Placing → AreGroundSupplies types env ns → IsTarget g (all_ties types i j ss w x n ns env) w
-  variable_is_target pl supplies =
+  pub variable_is_target : Placing → AreOfTypes types env ns → StandsIn (inside_supplies types ss env x).plan (ResultEnd 0) → IsTarget g (all_ties types i j ss w x n ns env) w
+  variable_is_target pl supplies joined =
       record {
         tidy = variable_tidy types ns ss w x n is;
         agree = part.agree;
@@ -110,6 +112,8 @@ module _ (types : Types) (i j : ℕ) (ss : List Split) (w x : ℕ) (n : Numbered
         there = variable_there types ns ss w x n is;
         unsplit = variable_unsplit types ns ss w x n is;
         width = sym is.typed.2.1;
+        joined =
+            subst (λ (e : Supplies). StandsIn (e x).plan (ResultEnd 0)) (sym (lodged_are_inside types i (is_target g) ss env)) joined;
         shares_first = omega arith;
         has_shared = shared_in types i j ss w x n ns env;
         has_own = variable_in types i j ss w x n ns env;

@@ -10,9 +10,8 @@ use Rattle.gos_plan.specs.Plans.{Plan}
 use Rattle.gos_plan.specs.TokenBits.{LiteralFits}
 use Rattle.gos_realises.specs.Realises.{NamesDiffer}
 use Rattle.gos_compile.specs.Wiring.{Types, parts_of}
-use Rattle.gos_wired.specs.Wired.{Supplies, Placing, IsWired, wired_ties}
-use Rattle.gos_stages.specs.Inside.{AreGroundSupplies}
-use Rattle.gos_stages.specs.Folding.{Child}
+use Rattle.gos_wired.specs.Wired.{Supplies, Placing, IsWired, AreRealised, wired_ties}
+use Rattle.gos_stages.specs.Folding.{AtOwn, Child}
 use Rattle.gos_numbers.specs.Kept.{IsKept}
 use Rattle.gos_numbers.specs.Inherited.{first_numbers, IsPart}
 use Rattle.gos_assignments.specs.Made.{IsWiredAssignment}
@@ -35,7 +34,7 @@ number_side types i j ss env ns x n =
       env = env;
       numbers = ns;
       own = length ss;
-      shake = 0;
+      out = AtOwn 0 ∷ [];
       off = length ss + 1;
       node = suc j + 1;
       term = n;
@@ -53,6 +52,6 @@ abbrev pub NodeIsAssignment : Type 0
 NodeIsAssignment =
     (types : Types) (i j : ℕ) (ss : List Split) (w x : ℕ) (n : Numbered) (ns : List ℕ) (env : Supplies) (pl : Placing) (r : Plan)
     → IsKept types ns (assigning ss w x n) → IsWired types i j (assigning ss w x n) ns env pl r
-    → AreGroundSupplies types env ns → NamesDiffer r.imports → All LiteralFits r.parts
+    → AreRealised types env ns → NamesDiffer r.imports → All LiteralFits r.parts
     → IsWiredAssignment (number_side types i j ss env ns x n) j x (parts_of types (assigning ss w x n))
     (wired_ties types i j (assigning ss w x n) ns env) w pl r

@@ -10,7 +10,7 @@ use Rattle.gos_plan.specs.Plans.{End, Plan}
 use Rattle.gos_webs.specs.Webs.{Of, Node, Within, Tie}
 use Rattle.gos_compile.specs.Wiring.{Types}
 use Rattle.gos_wired.specs.Wired.{Supplies, Placing}
-use Rattle.gos_stages.specs.Folding.{Child}
+use Rattle.gos_stages.specs.Folding.{AtOwn, Child}
 use Rattle.gos_numbers.specs.Kept.{IsKept}
 use Rattle.gos_assignments.specs.Variables.{Target, target_back, IsTarget, HasAssign}
 use Rattle.gos_assignments.specs.Made.{target_of, IsWiredAssignment}
@@ -63,4 +63,4 @@ CommandIsNoTarget = (f : Target) (ts : List Tie) (w : ℕ) → f.types f.variabl
 abbrev pub SecondIsNoNumber : Type 0
 SecondIsNoNumber =
     (f : Child) (node x : ℕ) (own : List Part) (ts : List Tie) (w : ℕ) (pl : Placing) (r : Plan)
-    → f.shake ≡ 1 → IsWiredAssignment f node x own ts w pl r → ⊥
+    → f.out ≡ AtOwn 1 ∷ [] → IsWiredAssignment f node x own ts w pl r → ⊥

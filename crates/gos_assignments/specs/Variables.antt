@@ -10,13 +10,14 @@ use Rattle.gos_check.specs.Linearity.{times, split_in}
 use Rattle.gos_plan.specs.Kinds.{Part, Assign}
 use Rattle.gos_plan.specs.Plans.{End, PartEnd, ImportEnd, ResultEnd, Plan, same_end}
 use Rattle.gos_webs.specs.Webs.{Dot, Of, Number, Node, Within, Tie, tie, IsOfWeb}
-use Rattle.gos_webs.specs.Cutting.{Cut}
+use Rattle.gos_webs.specs.Cutting.{Cut, StandsIn}
 use Rattle.gos_unions.specs.Unions.{within}
 use Rattle.gos_windows.specs.Regions.{Serving, IsRegion}
 use Rattle.gos_folds.specs.Folds.{joined_cut}
 use Rattle.gos_compile.specs.Wiring.{Types, shares_ties}
 use Rattle.gos_wired.specs.Wired.{Supplies, Placing, placed, source_dot, dot_at, dot_ties, all_supply_ties}
-use Rattle.gos_stages.specs.Inside.{numbers_inside, AreSplit, SidesAgree, AreGroundSupplies}
+use Rattle.gos_wired.specs.NodeFitting.{AreOfTypes}
+use Rattle.gos_stages.specs.Inside.{numbers_inside, AreSplit, SidesAgree}
 use Rattle.gos_stages.specs.Lodging.{Spot, Lodging, lodged, AreTidy}
 use Rattle.gos_stages.specs.Housing.{HasShares}
 use Rattle.gos_stages.specs.Folding.{servings, IsLaid}
@@ -99,7 +100,7 @@ target_back f read (Within zero (Node q h)) = if nat_eq q f.node then Some (Of r
 target_back f read d = kept read ((target_lodge f).home d)
 
 -- The ties of the node's web are those of the Shares and supplies, two of the variable, and others, whose dots stand for
--- nothing of it.
+-- nothing of it. The handshake at which the variable is read is joined.
 abbrev pub target_shared : Target → List Tie
 target_shared f = within 0 (dot_ties (shares_ties f.first f.splits f.types)) ++ all_supply_ties f.types f.env f.numbers
 
@@ -115,10 +116,11 @@ pub record IsTarget (f : Target) (ts : List Tie) (w : ℕ) : Type 0 where
   pub tidy : AreTidy (is_target f) f.splits f.numbers
   pub agree : SidesAgree f.splits f.types
   pub split : AreSplit f.splits f.numbers
-  pub supplies : AreGroundSupplies f.types f.env f.numbers
+  pub supplies : AreOfTypes f.types f.env f.numbers
   pub there : Contains (numbers_inside f.splits f.numbers) f.variable
   pub unsplit : times f.variable (split_in f.splits) ≡ 0
   pub width : f.types f.variable ≡ Var w
+  pub joined : StandsIn (target_plan f) (ResultEnd 0)
   pub shares_first : length f.splits ≤ f.own
   pub has_shared : (t : Tie) → Contains (target_shared f) t → Contains ts t
   pub has_own : (t : Tie) → Contains (target_ties f) t → Contains ts t

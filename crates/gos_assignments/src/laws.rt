@@ -5,7 +5,9 @@ ghost use Rattle.gos_assignments.specs.Sides.{NodeIsAssignment, NumberIsKept};
 ghost use Rattle.gos_assignments.specs.SmallAssignments.{AssignWrites, CommandIsNoTarget, NodeIsRead, NothingWrites, OneIsKept, OtherIsLeft, OtherIsNotRead, SecondIsNoNumber, SevenIsNotKept, SideIsLeft};
 ghost use Rattle.gos_assignments.specs.Variables.{TargetIsRegion};
 
+use gos_joints::ground;
 use gos_model::types_of_terms;
+use gos_stages::supplies_inside;
 
 /// The plan of the variable that a wired assignment writes is a region of its plan, but for the joint by which it is read.
 pub fn targets_lie()
@@ -17,13 +19,18 @@ pub fn targets_lie()
 pub fn assignments_are_made()
     ensures made { AssignmentIsMade }
     ensures node { NodeIsAssignment }
-{}
+{
+    supplies_inside();
+    ground();
+}
 
 /// It realises its term where the number's side does, with the numbers that the variable leaves to it.
 pub fn assignment_case()
     ensures kept { NumberIsKept }
     ensures realised { AssignCase }
 {
+    supplies_inside();
+    ground();
     types_of_terms();
 }
 

@@ -3,4 +3,6 @@ mod GroundLemmas
 mod ObjectLemmas
 mod PlansLemmas
 mod PacedLemmas
+mod RoleLemmas
+mod HeadlineLemmas
 mod BuildLemmas

@@ -29,7 +29,7 @@ pub module_keeps_pace : ModuleCircuitsKeepPace → ModuleKeepsPace
 module_keeps_pace law m plan root net is ground done circuit =
     let body : Term = (program_of m).body in
     let (all, wide) = is.ports ground in
-    let paced = law root plan body net (is.realises ground) all wide (subst IsDone (sym is.made.outcome) done) circuit in
+    let paced = law root plan body net is.realises all wide (subst IsDone (sym is.made.outcome) done) circuit in
     subst (λ (w : ℕ). KeepsPaceAlways w (program_of m) net) is.made.weight
     (subst (λ (i : Imports). KeepsPaceAlways plan.weight (record { imports = i; body = body }) net) is.made.imports paced)
 
@@ -47,12 +47,12 @@ are_modules files is [] (p ∷ ps) say have = absurd have
 are_modules files is (m ∷ ms) [] say have = absurd have
 are_modules files [] (m ∷ ms) (p ∷ ps) say have = absurd say
 are_modules files (i ∷ is) (m ∷ ms) (p ∷ ps) say have = (
-  record { imports = have.0.made.imports; realises = have.0.realises say.0.ground; widths = (have.0.ports say.0.ground).1 },
+  record { imports = have.0.made.imports; realises = have.0.realises; widths = (have.0.ports say.0.ground).1 },
   are_modules files is ms ps say.1 have.1,
 )
 
 -- what services bind among the plans, they bind among the programs
-same_imports : (ms : List SeenModule) (ps : List SeenPlan) (n : ℕ) → HavePlans ms ps
+pub same_imports : (ms : List SeenModule) (ps : List SeenPlan) (n : ℕ) → HavePlans ms ps
     → imports_of (slice_get (plans_of ps) n) ≡ imports_if (slice_get (map program_of ms) n)
 same_imports [] [] n have = refl
 same_imports [] (p ∷ ps) n have = absurd have

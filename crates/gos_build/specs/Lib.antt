@@ -2,6 +2,7 @@
 pub mod Objects
 pub mod Programs
 pub mod SmallPrograms
+pub mod Headline
 pub mod Built
 pub mod Paced
 pub mod inner

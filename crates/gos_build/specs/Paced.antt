@@ -2,7 +2,7 @@
 --
 -- Read first: Ground of gos_modules; Compiled of gos_objects (the plan of a module); Circuit and Plans of gos_circuits; Pace of
 -- gos_model; Programs, Objects.
-use Rattle.std.specs.Prelude.{◌≡◌, ℕ, ◌+◌, ◌*◌, ◌≤◌, List, length, map, Option}
+use Rattle.std.specs.Prelude.{◌≡◌, ℕ, ◌+◌, ◌*◌, ◌≤◌, List, length, map, Option, Some}
 use Rattle.gos_outside.specs.Files.{Files}
 use Rattle.gos_lines.specs.Lines.{Word}
 use Rattle.gos_types.specs.Types.{IsDone, type_of}
@@ -20,7 +20,10 @@ use Rattle.gos_objects.specs.Compiled.{IsPlanOfModule}
 use Rattle.gos_circuits.specs.Circuit.{IsCircuitOf}
 use Rattle.gos_circuits.specs.Plans.{IsPlansDone}
 use Rattle.gos_build.specs.Programs.{program_along}
+use Rattle.gos_command.specs.declared.report.Report.{Report}
 use Rattle.gos_build.specs.Objects.{AllWritten}
+use Rattle.gos_build.specs.Headline.{Headline}
+use Rattle.gos_build.specs.Built.{IsBuilt}
 
 -- The circuit of the plan of a ground module, whose result is a command or an expression, keeps pace with the module's program.
 abbrev pub ModuleKeepsPace : Type 0
@@ -55,3 +58,7 @@ BuildIsSmall =
     (files : Files) (objects old new : Option Files) (b : Build) (plans : List SeenPlan) (weight : ℕ) (net : Netlist)
     → AllWritten files objects b.instances.items plans → IsPlansDone old new b plans weight net
     → length net.cells ≤ 128 * (weight + 1)
+
+-- The headline holds where `build` is done, in a store that tells its files.
+abbrev pub HeadlineHolds : Type 0
+HeadlineHolds = (old new : Files) (own : Word) (report : Report) → IsBuilt old (Some new) own report → Headline old new own

@@ -1,6 +1,6 @@
 // What the circuits of ground modules do. Each theorem is the contract of a function that does nothing.
 
-ghost use Rattle.gos_build.specs.Paced.{BuildHasImports, BuildHasWeight, BuildIsSmall, BuildKeepsPace, ModuleKeepsPace};
+ghost use Rattle.gos_build.specs.Paced.{BuildHasImports, BuildHasWeight, BuildIsSmall, BuildKeepsPace, HeadlineHolds, ModuleKeepsPace};
 ghost use Rattle.gos_build.specs.SmallPrograms.{FirstIsNot, SecondIsBound};
 
 use gos_circuits::paced_circuits;
@@ -25,4 +25,9 @@ pub fn paced_modules()
 pub fn small_programs()
     ensures second { SecondIsBound }
     ensures first { FirstIsNot }
+{}
+
+/// Where `build` is done, the headline holds of the files that it has left.
+pub fn headlines()
+    ensures { HeadlineHolds }
 {}

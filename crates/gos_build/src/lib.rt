@@ -8,7 +8,7 @@
 #![tactic(auto)]
 
 pub use building::build;
-pub use laws::{paced_modules, small_programs};
+pub use laws::{headlines, paced_modules, small_programs};
 
 mod building;
 mod compiling;

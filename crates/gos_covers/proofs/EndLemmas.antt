@@ -18,7 +18,8 @@ use Rattle.gos_sessions.specs.Sessions.{Form, own_part, run_shake}
 use Rattle.gos_compile.specs.Wiring.{Types, shares, parts_of}
 use Rattle.gos_unions.proofs.LeftLemmas.{front}
 use Rattle.gos_wired.specs.Wired.{Supplies, Source, Own, Supplied, Placing, IsFrom, IsWired, placed, source_dot, dot_at, wired_ties}
-use Rattle.gos_stages.specs.Inside.{numbers_inside, AreGroundSupplies}
+use Rattle.gos_wired.specs.NodeFitting.{AreOfTypes}
+use Rattle.gos_stages.specs.Inside.{numbers_inside}
 use Rattle.gos_stages.specs.Lodging.{Spot, live, AreInOrder}
 use Rattle.gos_stages.specs.Housing.{IsOutsider, IsThere}
 use Rattle.gos_stages.specs.Folding.{Child, is_used, lodge, spot_dot, child_back, child_cut, part_of_dot, IsChild}
@@ -53,7 +54,7 @@ share_contacts t =
 
 module _ (f : Form) (types : Types) (i j : ℕ) (m : Numbered) (ss : List Split) (bs : List Branch) (ns : List ℕ) (env : Supplies) (pl : Placing) (r : Plan)
     (es : List Cared) (children : BranchIsChild) (fork : IsFork types m ss (own_part f) bs) (are : AreBranches types ss ns bs)
-    (supplied : AreGroundSupplies types env ns) (some : bs ≢ []) (wired : IsWired types i j m ns env pl r)
+    (supplied : AreOfTypes types env ns) (some : bs ≢ []) (wired : IsWired types i j m ns env pl r)
     (cared : AreBranchChildren types i j ss env ns [] bs es) where
   abbrev ties : List Tie
   ties = wired_ties types i j m ns env
@@ -191,7 +192,7 @@ module _ (f : Form) (types : Types) (i j : ℕ) (m : Numbered) (ss : List Split)
       by_test : (t : Bool) → nat_lt h (length bs) ≡ t → IsRun (PartEnd q h) ⊎ Covered (PartEnd q h)
       by_test true t =
           let (p, asked) = standing_at bs h (grind (arith, nat_tests, t)) in
-          let (y, back) = (own_is_covered (child p) ties (its_child p)).1 in
+          let (y, back) = (own_is_covered (child p) ties (its_child p)).1 0 (length p.before) refl in
           inr (by_child p (PartEnd q h) y
           (ap (λ (s : Source). child_back (child p) (source_dot i s h)) from
           ∙ (ap (λ (g : ℕ). child_back (child p) (source_dot i (Own (length ss)) g)) (sym asked) ∙ back)))

@@ -1,6 +1,6 @@
 -- Children of one branch, and what are none.
 use Rattle.std.proofs.Common.{◌≡◌, refl, sym, ◌∙◌, ap, arith}
-use Rattle.gos_stages.specs.Folding.{Child}
+use Rattle.gos_stages.specs.Folding.{asked}
 use Rattle.gos_covers.specs.SmallCovers.{OneIsItsChild, NoneIsLeftOut, NoneIsTwice}
 
 pub one_is_its_child : OneIsItsChild
@@ -11,4 +11,4 @@ none_is_left_out types i j ss env ns b none = none
 
 pub none_is_twice : NoneIsTwice
 none_is_twice types i j ss env ns a b e (one, (other, rest)) =
-    let same : 0 ≡ 1 = ap (λ (c : Child). c.shake) (sym one ∙ other) in absurd (omega (arith, same))
+    let same : 0 ≡ 1 = ap asked (sym one ∙ other) in absurd (omega (arith, same))

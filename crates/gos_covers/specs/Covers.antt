@@ -9,7 +9,7 @@ use Rattle.gos_plan.specs.Plans.{Plan}
 use Rattle.gos_sessions.specs.Sessions.{Form, own_part}
 use Rattle.gos_compile.specs.Wiring.{Types}
 use Rattle.gos_wired.specs.Wired.{Supplies, Placing, IsWired}
-use Rattle.gos_stages.specs.Inside.{AreGroundSupplies}
+use Rattle.gos_wired.specs.NodeFitting.{AreOfTypes}
 use Rattle.gos_stages.specs.Nodes.{Cared, AreCovering}
 use Rattle.gos_forks.specs.Forks.{Branch, IsFork, AreBranches, branch_child}
 
@@ -25,6 +25,6 @@ abbrev pub BranchesCover : Type 0
 BranchesCover =
     (f : Form) (types : Types) (i j : ℕ) (m : Numbered) (ss : List Split) (bs : List Branch) (ns : List ℕ) (env : Supplies) (pl : Placing) (r : Plan)
     (es : List Cared)
-    → IsFork types m ss (own_part f) bs → AreBranches types ss ns bs → AreGroundSupplies types env ns → bs ≢ []
+    → IsFork types m ss (own_part f) bs → AreBranches types ss ns bs → AreOfTypes types env ns → bs ≢ []
     → IsWired types i j m ns env pl r → AreBranchChildren types i j ss env ns [] bs es
     → AreCovering f i pl r (pl.own (length ss)) es

@@ -1,6 +1,6 @@
 -- What the blocks of ports, of joints and of loose ends are of, as the tables of the program tell it.
 use Rattle.std.specs.Prelude.{Option, None, Some, IsSome}
-use Rattle.std.proofs.Common.{◌≡◌, ℕ, zero, suc, ◌+◌, ◌<◌, List, [], ◌∷◌, ◌++◌, length, map, slice_index_or, refl, ap, subst, arith, ◌∙◌, slice_get}
+use Rattle.std.proofs.Common.{◌≡◌, ℕ, zero, suc, ◌<◌, List, [], ◌∷◌, ◌++◌, length, map, slice_index_or, refl, ap, subst, arith, ◌∙◌, slice_get}
 use Rattle.gos_netlist.specs.Nets.{Cell, Side}
 use Rattle.gos_netlist.specs.Events.{Request, Answer}
 use Rattle.gos_plan.specs.Kinds.{Contact, turned_contact}

@@ -10,7 +10,9 @@ ghost use Rattle.gos_expand.specs.Gates.{outs_of, part_size};
 ghost use Rattle.gos_expand.specs.Starts.{keep_all};
 ghost use Rattle.gos_expand.specs.Laid.{nets_out, request_start, leaves, arrives};
 ghost use Rattle.gos_expand.specs.inner.Tokens.{held_nets};
-ghost use Rattle.gos_expand.specs.inner.Numbering.{IsExpandable, IsNumbered};
+ghost use Rattle.gos_plan.specs.Size.{plan_size};
+ghost use Rattle.gos_expand.specs.Acceptance.{HasGroundPorts};
+ghost use Rattle.gos_expand.specs.inner.Numbering.{IsNumbered};
 
 use crate::gates::gates_of;
 use crate::numbering::Numbering;
@@ -22,7 +24,8 @@ use gos_types::{Role, Ty};
 
 // The nets of what goes into the circuit at an end: of a part's gates, or of the inputs of a port.
 pub(crate) fn leaves(plan: &Plan, numbering: &Numbering, end: End) -> Nets
-    requires small { IsExpandable plan.now }
+    requires ports { HasGroundPorts plan.now }
+    requires size { plan_size (plan_of plan.now) ≤ 5000000 }
     requires numbered { IsNumbered (plan_of plan.now) numbering.now }
     requires there { IsSome (contact_at (plan_of plan.now) (end_of end)) }
     ensures { held_nets result ≡ leaves keep_all (plan_of plan.now) (end_of end) }

@@ -5,7 +5,7 @@ ghost use Rattle.gos_netlist.specs.Events.{Request, Answer};
 ghost use Rattle.gos_plan.specs.Kinds.{contacts_of, part_contacts};
 ghost use Rattle.gos_plan.specs.Plans.{End as AnEnd, Plan as APlan, contact_at, is_free};
 ghost use Rattle.gos_plan.specs.Seen.{plan_of, part_of, end_of, joint_of};
-ghost use Rattle.gos_plan.specs.Size.{shakes_of};
+ghost use Rattle.gos_plan.specs.Size.{plan_size, shakes_of};
 ghost use Rattle.gos_plan.specs.Ranges.{IsInRange};
 ghost use Rattle.gos_expand.specs.Blocks.{token_size, total};
 ghost use Rattle.gos_expand.specs.Gates.{part_size};
@@ -25,7 +25,8 @@ ghost use Rattle.gos_expand.specs.Starts.{
   bits_taken,
 };
 ghost use Rattle.gos_expand.specs.inner.Arrivals.{AreAt, Exist, or_else, start_by, start_by_joints, start_by_ends, joined_start, start_at};
-ghost use Rattle.gos_expand.specs.inner.Numbering.{IsExpandable, IsNumbered, starts};
+ghost use Rattle.gos_expand.specs.Acceptance.{HasGroundPorts};
+ghost use Rattle.gos_expand.specs.inner.Numbering.{IsNumbered, starts};
 
 use crate::arrivals::Arrivals;
 use crate::gates::gates_of;
@@ -54,7 +55,8 @@ pub(crate) struct Numbering {
 
 // Numbers the blocks of a plan.
 pub(crate) fn number(alloc: Global, plan: &Plan) -> Result<Numbering, NoMemory>
-    requires { IsExpandable plan.now }
+    requires ports { HasGroundPorts plan.now }
+    requires size { plan_size (plan_of plan.now) ≤ 5000000 }
     ensures { IfOk result (IsNumbered (plan_of plan.now)) }
 {
     let mut arrivals = Arrivals::new(alloc, plan)?;
@@ -89,7 +91,8 @@ pub(crate) fn port_cells(ty: &Ty) -> u32
 
 // Where the ports begin, and what comes behind them.
 fn port_starts(alloc: Global, plan: &Plan) -> Result<(Vec<u32>, u32), NoMemory>
-    requires { IsExpandable plan.now }
+    requires ports { HasGroundPorts plan.now }
+    requires size { plan_size (plan_of plan.now) ≤ 5000000 }
     ensures starts { IfOk result (λ r. r.0.items ≡ starts port_size 0 0 (ports_of (plan_of plan.now))) }
     ensures next { IfOk result (λ r. r.1 ≡ joints_start (plan_of plan.now)) }
     ensures few { IfOk result (λ r. r.1 ≤ 6 * (length plan.now.imports + 1)) }
@@ -153,7 +156,8 @@ fn joint_sizes(arrivals: &Arrivals, joint: Joint) -> (u32, u32)
 
 // The ends at which nothing comes in by a joint.
 fn loose_ends(alloc: Global, plan: &Plan, arrivals: &Arrivals) -> Result<Vec<End>, NoMemory>
-    requires small { IsExpandable plan.now }
+    requires ports { HasGroundPorts plan.now }
+    requires size { plan_size (plan_of plan.now) ≤ 5000000 }
     requires table { AreAt (plan_of plan.now) (joined_start (plan_of plan.now)) arrivals.now }
     ensures ends { IfOk result (λ ends. map end_of ends.items ≡ loose_ends (plan_of plan.now)) }
     ensures few { IfOk result (λ ends. length ends.items ≤ 2 * (length plan.now.imports + 1) + shakes_of (plan_of plan.now).parts) }
@@ -217,7 +221,8 @@ pub(crate) fn bits_at(arrivals: &Arrivals, end: End) -> u32
 
 // Where the parts begin, and what comes behind them.
 fn part_starts(alloc: Global, plan: &Plan, from: u32) -> Result<(Vec<u32>, u32), NoMemory>
-    requires small { IsExpandable plan.now }
+    requires ports { HasGroundPorts plan.now }
+    requires size { plan_size (plan_of plan.now) ≤ 5000000 }
     requires room { from ≤ 1000000000 }
     ensures starts { IfOk result (λ r. r.0.items ≡ starts (λ _ k. part_size k) 0 from (plan_of plan.now).parts) }
     ensures next { IfOk result (λ r. r.1 ≡ from + total (λ _ k. part_size k) 0 (plan_of plan.now).parts) }

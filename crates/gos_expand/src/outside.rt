@@ -8,7 +8,9 @@ ghost use Rattle.gos_plan.specs.Seen.{plan_of};
 ghost use Rattle.gos_expand.specs.Blocks.{nets_on, total};
 ghost use Rattle.gos_expand.specs.Starts.{shake_size};
 ghost use Rattle.gos_expand.specs.Laid.{laid_port, taken};
-ghost use Rattle.gos_expand.specs.inner.Numbering.{IsExpandable, IsNumbered};
+ghost use Rattle.gos_plan.specs.Size.{plan_size};
+ghost use Rattle.gos_expand.specs.Acceptance.{HasGroundPorts};
+ghost use Rattle.gos_expand.specs.inner.Numbering.{IsNumbered};
 
 use crate::numbering::{Numbering, port_cells};
 use gos_lex::{LexFault, Name};
@@ -24,7 +26,8 @@ pub(crate) fn ports(
     root: &Name,
     numbering: &Numbering,
 ) -> Result<Vec<Port>, NoMemory>
-    requires small { IsExpandable plan.now }
+    requires ports { HasGroundPorts plan.now }
+    requires size { plan_size (plan_of plan.now) ≤ 5000000 }
     requires numbered { IsNumbered (plan_of plan.now) numbering.now }
     ensures { IfOk result (λ ports. ports.items ≡ laid_port (plan_of plan.now) 0 root.now Give (type_of plan.now.outcome) ∷ taken
         (plan_of plan.now) 1 (plan_of plan.now).imports) }

@@ -5,7 +5,9 @@ ghost use Rattle.gos_plan.specs.Kinds.{part_contacts};
 ghost use Rattle.gos_plan.specs.Seen.{plan_of, part_of, end_of};
 ghost use Rattle.gos_plan.specs.Ranges.{IsInRange};
 ghost use Rattle.gos_expand.specs.Starts.{ports_of, taken_ports, port_ends, part_ends};
-ghost use Rattle.gos_expand.specs.inner.Numbering.{IsExpandable, end_at, ends_from};
+ghost use Rattle.gos_plan.specs.Size.{plan_size};
+ghost use Rattle.gos_expand.specs.Acceptance.{HasGroundPorts};
+ghost use Rattle.gos_expand.specs.inner.Numbering.{end_at, ends_from};
 ghost use Rattle.gos_expand.specs.inner.Outers.{side_at};
 
 use gos_netlist::Side;
@@ -76,7 +78,8 @@ fn add_ends(ends: &mut Vec<End>, place: Place, count: u32) -> Result<(), NoMemor
 
 // All ends of a plan: of the result, of the imports, and of the parts.
 pub(crate) fn all_ends(alloc: Global, plan: &Plan) -> Result<Vec<End>, NoMemory>
-    requires { IsExpandable plan.now }
+    requires ports { HasGroundPorts plan.now }
+    requires size { plan_size (plan_of plan.now) ≤ 5000000 }
     ensures { IfOk result (λ ends. map end_of ends.items ≡ port_ends (ports_of (plan_of plan.now)) ++ part_ends 0 (plan_of plan.now).parts) }
 {
     let mut ends = Vec::new(alloc);
@@ -88,7 +91,8 @@ pub(crate) fn all_ends(alloc: Global, plan: &Plan) -> Result<Vec<End>, NoMemory>
 
 // Adds the ends of the imports.
 fn add_imports(ends: &mut Vec<End>, plan: &Plan) -> Result<(), NoMemory>
-    requires { IsExpandable plan.now }
+    requires ports { HasGroundPorts plan.now }
+    requires size { plan_size (plan_of plan.now) ≤ 5000000 }
     ensures { OnOk result (map end_of ends.new.items ≡ map end_of ends.old.items ++ port_ends (taken_ports 0 (plan_of plan.now).imports)) }
 {
     let imports = plan.imports();
@@ -104,7 +108,8 @@ fn add_imports(ends: &mut Vec<End>, plan: &Plan) -> Result<(), NoMemory>
 
 // Adds the ends of the parts.
 fn add_parts(ends: &mut Vec<End>, plan: &Plan) -> Result<(), NoMemory>
-    requires { IsExpandable plan.now }
+    requires ports { HasGroundPorts plan.now }
+    requires size { plan_size (plan_of plan.now) ≤ 5000000 }
     ensures { OnOk result (map end_of ends.new.items ≡ map end_of ends.old.items ++ part_ends 0 (plan_of plan.now).parts) }
 {
     let parts = plan.parts();

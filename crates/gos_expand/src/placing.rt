@@ -12,7 +12,9 @@ ghost use Rattle.gos_expand.specs.Gates.{part_size};
 ghost use Rattle.gos_expand.specs.Starts.{keep_all, shake_size, joint_size, ports_of, taken_ports, loose_ends, port_size, part_start, parts_start};
 ghost use Rattle.gos_expand.specs.Laid.{side_cells, port_cells, joint_cells, loose_cells, part_cells, incoming};
 ghost use Rattle.gos_expand.specs.inner.Tokens.{held_nets, Places};
-ghost use Rattle.gos_expand.specs.inner.Numbering.{IsExpandable, IsNumbered};
+ghost use Rattle.gos_plan.specs.Size.{plan_size};
+ghost use Rattle.gos_expand.specs.Acceptance.{HasGroundPorts};
+ghost use Rattle.gos_expand.specs.inner.Numbering.{IsNumbered};
 ghost use Rattle.gos_expand.specs.inner.Outers.{outer_at, side_at};
 
 use crate::gates::gates_of;
@@ -27,7 +29,8 @@ use gos_types::count;
 
 // Places the cells of the ports.
 pub(crate) fn place_ports(pool: &mut NetPool, plan: &Plan, numbering: &Numbering)
-    requires small { IsExpandable plan.now }
+    requires ports { HasGroundPorts plan.now }
+    requires size { plan_size (plan_of plan.now) ≤ 5000000 }
     requires numbered { IsNumbered (plan_of plan.now) numbering.now }
     requires begun { pool.old.begun ≡ None }
     requires spare { length (blocks (port_cells keep_all (plan_of plan.now)) 0 (ports_of (plan_of plan.now))) + 1 ≤ pool.old.spare }
@@ -48,7 +51,8 @@ pub(crate) fn place_ports(pool: &mut NetPool, plan: &Plan, numbering: &Numbering
 
 // Places the cells of the imports' ports.
 fn place_imports(pool: &mut NetPool, region: &mut Region, plan: &Plan, numbering: &Numbering)
-    requires small { IsExpandable plan.now }
+    requires ports { HasGroundPorts plan.now }
+    requires size { plan_size (plan_of plan.now) ≤ 5000000 }
     requires numbered { IsNumbered (plan_of plan.now) numbering.now }
     requires begun { pool.old.begun ≡ Some region.old }
     requires spare { length (blocks (port_cells keep_all (plan_of plan.now)) 0 (taken_ports 0 (plan_of plan.now).imports)) ≤ pool.old.spare }
@@ -110,7 +114,8 @@ fn place_shake(pool: &mut NetPool, region: &mut Region, side: Side, contact: Con
 
 // Places the registers of the joints. Each of these is right.
 pub(crate) fn place_joints(pool: &mut NetPool, plan: &Plan, numbering: &Numbering)
-    requires small { IsExpandable plan.now }
+    requires ports { HasGroundPorts plan.now }
+    requires size { plan_size (plan_of plan.now) ≤ 5000000 }
     requires numbered { IsNumbered (plan_of plan.now) numbering.now }
     requires begun { pool.old.begun ≡ None }
     requires spare { length (blocks (joint_cells keep_all (plan_of plan.now)) 0 (plan_of plan.now).joints) + 1 ≤ pool.old.spare }
@@ -133,7 +138,8 @@ fn place_joint(
     numbering: &Numbering,
     joint: Joint,
 )
-    requires small { IsExpandable plan.now }
+    requires ports { HasGroundPorts plan.now }
+    requires size { plan_size (plan_of plan.now) ≤ 5000000 }
     requires numbered { IsNumbered (plan_of plan.now) numbering.now }
     requires asks { IsSome (contact_at (plan_of plan.now) (joint_of joint).asking) }
     requires serves { IsSome (contact_at (plan_of plan.now) (joint_of joint).serving) }
@@ -170,7 +176,8 @@ pub(crate) fn place_loose(pool: &mut NetPool, plan: &Plan, numbering: &Numbering
 
 // Places the cells of the parts.
 pub(crate) fn place_parts(pool: &mut NetPool, plan: &Plan, numbering: &Numbering)
-    requires small { IsExpandable plan.now }
+    requires ports { HasGroundPorts plan.now }
+    requires size { plan_size (plan_of plan.now) ≤ 5000000 }
     requires numbered { IsNumbered (plan_of plan.now) numbering.now }
     requires begun { pool.old.begun ≡ None }
     requires start { length pool.old.cells ≡ parts_start keep_all (plan_of plan.now) }
@@ -184,7 +191,8 @@ pub(crate) fn place_parts(pool: &mut NetPool, plan: &Plan, numbering: &Numbering
 
 // Places the cells of a part, in a region of its own.
 fn place_part(pool: &mut NetPool, plan: &Plan, numbering: &Numbering, index: usize)
-    requires small { IsExpandable plan.now }
+    requires ports { HasGroundPorts plan.now }
+    requires size { plan_size (plan_of plan.now) ≤ 5000000 }
     requires numbered { IsNumbered (plan_of plan.now) numbering.now }
     requires there { index < length plan.now.parts }
     requires begun { pool.old.begun ≡ None }

@@ -20,14 +20,13 @@ use Rattle.gos_webs.specs.Webs.{Dot, Of, Number, Node, Within, Tie}
 use Rattle.gos_unions.specs.Unions.{within}
 use Rattle.gos_compile.specs.Wiring.{Types, row, led, parts_of, nodes, ties_of, shares_ties}
 use Rattle.gos_wired.specs.Wired.{Supplies, dot_of_place, dot_ties, all_supply_ties, wired_ties}
-use Rattle.gos_stages.specs.Inside.{AreGroundSupplies}
+use Rattle.gos_wired.specs.NodeFitting.{AreOfTypes}
 use Rattle.gos_stages.specs.Lodging.{spot_if, AreTidy}
-use Rattle.gos_stages.specs.Folding.{Child, is_used, lodge, child_out, in_range, spot_dot, asks_child, is_number, child_back, shared_ties, own_ties, IsForeign, IsChild}
+use Rattle.gos_stages.specs.Folding.{AtOwn, Child, is_used, lodge, child_out, in_range, spot_dot, asks_child, is_number, child_back, shared_ties, own_ties, IsForeign, IsChild}
 use Rattle.gos_stages.proofs.LodgingLemmas.{lifted, led_listed, numbers_are_held}
 use Rattle.gos_stages.proofs.HousingLemmas.{far_is_nothing}
 use Rattle.gos_stages.proofs.ChildTieLemmas.{tie_of, tie_in}
-use Rattle.gos_stages.proofs.ChildBackLemmas.{range_below}
-use Rattle.gos_stages.proofs.ImportHomeLemmas.{result_is_nowhere}
+use Rattle.gos_stages.proofs.ChildBackLemmas.{one_lead, range_below}
 use Rattle.gos_numbers.specs.Inherited.{IsPart}
 use Rattle.gos_forks.specs.Forks.{Branch, branch_parts, branch_nodes, branch_made, branch_uses, branch_ties, IsFork, AreBranches, branch_child, BranchIsChild}
 use Rattle.gos_forks.proofs.BranchLemmas.{in_branches, of_branches, Knows, IsAside, ties_aside}
@@ -80,7 +79,7 @@ module _ (types : Types) (i j : ℕ) (ss : List Split) (env : Supplies) (ns : Li
           (far_is_nothing types i (is_used child) ss env (k - i) h (omega (arith, lt)))
 
   result_nothing : (h : ℕ) → IsNothing (Of (ResultEnd h))
-  result_nothing h = ap spot_dot (result_is_nowhere types i (is_used child) ss env h)
+  result_nothing h = refl
 
   node_nothing : (k h : ℕ) → in_range (suc j + branch_nodes before) (nodes b.term) k ≡ false → IsNothing (Node k h)
   node_nothing k h out = ap (λ (t : Bool). if t then Some (Within 0 (Node k h)) else None) out
@@ -263,7 +262,7 @@ module _ (types : Types) (i j : ℕ) (m : Numbered) (ss : List Split) (own : Par
         | inr supply ↦ inl (Contains-append_right (within 0 (dot_ties (shares_ties i ss types))) (all_supply_ties types env ns) t supply)
       ]
 
-  child_so : AreGroundSupplies types env ns → IsChild me (wired_ties types i j m ns env)
+  child_so : AreOfTypes types env ns → IsChild me (wired_ties types i j m ns env)
   child_so supplies =
       record {
         tidy = part.tidy;
@@ -274,11 +273,13 @@ module _ (types : Types) (i j : ℕ) (m : Numbered) (ss : List Split) (own : Par
         covers = part.covers;
         unmade = part.unmade;
         shares_first = omega arith;
-        own_first = omega arith;
+        off_first = omega arith;
+        own_apart = inl (omega arith);
         has_shared = has_shared;
         has_own = has_own;
         only = only;
-        one = done_count (type_of_node b.term) (fork.done b (amid before after b));
+        long = sym (done_count (type_of_node b.term) (fork.done b (amid before after b)));
+        distinct = one_lead (AtOwn (length before));
       }
 
 pub branch_is_child : BranchIsChild

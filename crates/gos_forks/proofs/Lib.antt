@@ -4,3 +4,4 @@ pub mod ChildLemmas
 pub mod PartLemmas
 pub mod FormLemmas
 mod SmallForkLemmas
+pub mod PairLemmas

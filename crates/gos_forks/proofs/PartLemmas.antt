@@ -1,7 +1,8 @@
 -- The parts of a branch are among the node's.
 use Rattle.std.specs.Prelude.{◌+◌, length, slice_get}
-use Rattle.std.proofs.Common.{◌≡◌, ℕ, suc, List, [], ◌∷◌, ◌++◌, Option, Some, refl, sym, ◌∙◌, ap, subst, arith}
+use Rattle.std.proofs.Common.{◌≡◌, ℕ, zero, suc, List, [], ◌∷◌, ◌++◌, Option, Some, refl, sym, ◌∙◌, ap, subst, arith}
 use Rattle.std.proofs.lemmas.List.{append_assoc}
+use Rattle.gos_types.specs.Types.{Type'}
 use Rattle.gos_check.specs.declared.linear.Split.{Split}
 use Rattle.gos_check.specs.Nodes.{Numbered, type_of_node}
 use Rattle.gos_plan.specs.Kinds.{Contact, Part, contacts_of}
@@ -9,7 +10,10 @@ use Rattle.gos_plan.specs.Plans.{contacts_of_part, turned_if}
 use Rattle.gos_unions.proofs.LeftLemmas.{front, behind}
 use Rattle.gos_compile.specs.Wiring.{Types, shares, parts_of}
 use Rattle.gos_wired.specs.Wired.{Supplies}
+use Rattle.gos_stages.specs.Folding.{Lead, AtOwn}
+use Rattle.gos_stages.specs.Folded.{Sees}
 use Rattle.gos_stages.specs.Regions.{HasParts}
+use Rattle.gos_stages.proofs.ChildPartLemmas.{no_more_than}
 use Rattle.gos_stages.proofs.ContactLemmas.{shares_length}
 use Rattle.gos_forks.specs.Forks.{Branch, branch_parts, IsFork, branch_child, BranchHasParts}
 
@@ -51,16 +55,20 @@ module _ (types : Types) (i j : ℕ) (m : Numbered) (ss : List Split) (own : Par
   asked k at =
       subst (λ (p : Option Part). slice_get (contacts_of_part p) (length before) ≡ Some k) (sym own_there) (fork.asks before after b k refl at)
 
-  parts_so : HasParts (branch_child types i j ss env ns before b) (parts_of types m)
-  parts_so =
+  seen : (t : Type') (h : ℕ) (l : Lead) (k : Contact) → slice_get (AtOwn (length before) ∷ []) h ≡ Some l
+      → turned_if (slice_get (contacts_of (type_of_node b.term)) h) ≡ Some k → Sees (length ss) (parts_of types m) t l k
+  seen t zero l k lead at = let same : AtOwn (length before) ≡ l = cc lead in subst (λ (x : Lead). Sees (length ss) (parts_of types m) t x k) same (asked k at)
+  seen t (suc h) l k lead at = absurd (no_more_than l lead)
+
+  parts_so : (t : Type') → HasParts (branch_child types i j ss env ns before b) (parts_of types m) t
+  parts_so t =
       record {
         shares =
             λ x y at. subst (λ (ps : List Part). slice_get ps x ≡ Some y) (sym fork.parts) (front (shares ss types) rest x y at);
-        own_part = (own, own_there);
         child = its_part;
-        asks = asked;
+        asks = seen t;
       }
 
 pub branch_has_parts : BranchHasParts
-branch_has_parts types i j m ss own bs before after b ns env fork e =
-    parts_so types i j m ss own before after b ns env (subst (IsFork types m ss own) e fork)
+branch_has_parts types i j m ss own bs before after b ns env t fork e =
+    parts_so types i j m ss own before after b ns env (subst (IsFork types m ss own) e fork) t

@@ -29,7 +29,6 @@ skip_is_part =
             apart = tt;
             forks = refl;
             typed = (tt, refl);
-            ground = tt;
           };
       tidy =
           record {

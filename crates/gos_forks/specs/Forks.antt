@@ -4,7 +4,7 @@
 -- splits such a node has its own part, which asks branch number c at its handshake c and is run at its last. The parts of the
 -- branches come behind, from left to right.
 use Rattle.std.specs.Prelude.{◌≡◌, ℕ, suc, ◌+◌, ◌≤◌, List, [], ◌∷◌, ◌++◌, length, Some, slice_get, Contains}
-use Rattle.gos_types.specs.Types.{IsDone}
+use Rattle.gos_types.specs.Types.{Type', IsDone}
 use Rattle.gos_check.specs.declared.linear.Split.{Split}
 use Rattle.gos_check.specs.Nodes.{Numbered, type_of_node}
 use Rattle.gos_check.specs.Linearity.{times, split_in, made}
@@ -16,8 +16,9 @@ use Rattle.gos_ties.specs.declared.points.Tie.{Tie}
 use Rattle.gos_ties.specs.Ties.{point}
 use Rattle.gos_compile.specs.Wiring.{Types, led, shares, shares_ties, parts_of, ties_of, nodes}
 use Rattle.gos_wired.specs.Wired.{Supplies, wired_ties}
-use Rattle.gos_stages.specs.Inside.{numbers_inside, AreGroundSupplies}
-use Rattle.gos_stages.specs.Folding.{Child, IsChild}
+use Rattle.gos_wired.specs.NodeFitting.{AreOfTypes}
+use Rattle.gos_stages.specs.Inside.{numbers_inside}
+use Rattle.gos_stages.specs.Folding.{AtOwn, Child, IsChild}
 use Rattle.gos_stages.specs.Regions.{HasParts}
 use Rattle.gos_numbers.specs.Inherited.{IsPart}
 
@@ -83,7 +84,7 @@ branch_child types i j ss env ns before b =
       env = env;
       numbers = ns;
       own = length ss;
-      shake = length before;
+      out = AtOwn (length before) ∷ [];
       off = length ss + 1 + length (branch_parts types before);
       node = suc j + branch_nodes before;
       term = b.term;
@@ -94,11 +95,12 @@ branch_child types i j ss env ns before b =
 abbrev pub BranchIsChild : Type 0
 BranchIsChild =
     (types : Types) (i j : ℕ) (m : Numbered) (ss : List Split) (own : Part) (bs before after : List Branch) (b : Branch) (ns : List ℕ) (env : Supplies)
-    → IsFork types m ss own bs → AreBranches types ss ns bs → AreGroundSupplies types env ns → bs ≡ before ++ b ∷ after
+    → IsFork types m ss own bs → AreBranches types ss ns bs → AreOfTypes types env ns → bs ≡ before ++ b ∷ after
     → IsChild (branch_child types i j ss env ns before b) (wired_ties types i j m ns env)
 
 -- And its parts are among the node's.
 abbrev pub BranchHasParts : Type 0
 BranchHasParts =
     (types : Types) (i j : ℕ) (m : Numbered) (ss : List Split) (own : Part) (bs before after : List Branch) (b : Branch) (ns : List ℕ) (env : Supplies)
-    → IsFork types m ss own bs → bs ≡ before ++ b ∷ after → HasParts (branch_child types i j ss env ns before b) (parts_of types m)
+    (t : Type')
+    → IsFork types m ss own bs → bs ≡ before ++ b ∷ after → HasParts (branch_child types i j ss env ns before b) (parts_of types m) t

@@ -1,12 +1,19 @@
 // The branches of a node that runs them one at a time. Each theorem is the contract of a function that does nothing.
 ghost use Rattle.gos_forks.specs.Forks.{BranchIsChild, BranchHasParts};
 ghost use Rattle.gos_forks.specs.Forms.{ChoiceIsFork, ComplementIsFork, LoopIsFork, OperatorIsFork, SequenceIsFork};
+ghost use Rattle.gos_forks.specs.Pairs.{SidesAreChildren, SidesHaveParts};
 ghost use Rattle.gos_forks.specs.SmallForks.{BothAreBranches, NoneIsLeft, OneIsNotAll, ZeroIsLeft};
 
 /// A branch of a wired fork is a child of it, and has its parts among the node's.
 pub fn branches_are_children()
     ensures child { BranchIsChild }
     ensures parts { BranchHasParts }
+{}
+
+/// Both sides of a pair are children of its node, whose handshakes lead to those of its result.
+pub fn pair_sides()
+    ensures children { SidesAreChildren }
+    ensures parts { SidesHaveParts }
 {}
 
 /// `;`, a choice, a loop, an operator and `not` are forks.

@@ -5,4 +5,4 @@
 
 mod laws;
 
-pub use laws::{branches_are_children, forms_are_forks, small_forks};
+pub use laws::{branches_are_children, forms_are_forks, pair_sides, small_forks};

@@ -42,7 +42,7 @@ use Rattle.gos_frames.proofs.ChildLemmas.{Sitting, child_parts, child_placing, c
 use Rattle.gos_frames.proofs.ChildLemmas as children
 use Rattle.gos_frames.proofs.FoldLemmas.{HasPlan, has_plan}
 use Rattle.gos_frames.proofs.CutLemmas.{region_is_cut}
-use Rattle.gos_frames.proofs.RegionLemmas.{lies_joined, IsIn, in_number, in_back}
+use Rattle.gos_frames.proofs.RegionLemmas.{lies_joined, IsIn, in_number, in_back, keeps_imports}
 use Rattle.gos_frames.proofs.BodyLemmas as bodies
 use Rattle.gos_frames.proofs.BodyLemmas.{block_port, block_port_end, done_contact, done_only, variable_contact}
 use Rattle.gos_frames.proofs.ParallelLemmas.{serves_not}
@@ -414,7 +414,7 @@ module _
         }
 
     has_body : HasBody types i j n m ns env (pl.own 0) w x r
-    has_body = record { block = block; placing = plc; at = refl; width = refl; name = refl; wired = h.wired; is_block = is_block }
+    has_body = record { block = block; placing = plc; at = refl; width = refl; name = refl; wired = h.wired; is_block = is_block; imports = keeps_imports s r h.joints }
 
 pub block_is_wired : BlockIsWired
 block_is_wired types i j w n t m ns env pl x r is done type_m type_n bound fresh =

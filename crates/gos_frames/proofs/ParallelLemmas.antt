@@ -40,7 +40,7 @@ use Rattle.gos_frames.proofs.FrameLemmas.{Frame, kept, in_range_true, in_range_i
 use Rattle.gos_frames.proofs.ChildLemmas.{Sitting, IsSitting, HasPorts, child_placing, child_plan, number_of, its_cut, whole_web}
 use Rattle.gos_frames.proofs.FoldLemmas.{HasPlan}
 use Rattle.gos_frames.proofs.SideLemmas.{side_frame, side_sitting, IsSideOf, is_sitting, has_ports}
-use Rattle.gos_frames.proofs.RegionLemmas.{IsIn, in_number, number_in, in_back, side_plan, import_in, is_side, joint_of}
+use Rattle.gos_frames.proofs.RegionLemmas.{IsIn, in_number, number_in, in_back, side_plan, import_in, is_side, joint_of, keeps_imports}
 
 abbrev by_role : Role → Bool
 by_role Serve = false
@@ -442,6 +442,8 @@ module _
             subst
             (λ (a : ℕ). IsWired types a (suc j + nodes m) n ks env (child_placing sr) (with_joints (child_plan sr) right.joints)) sum right.wired;
         parallel = is_parallel left right;
+        left_imports = keeps_imports sl r left.joints;
+        right_imports = keeps_imports sr r right.joints;
       }
 
 pub parallel_is_wired : ParallelIsWired

@@ -19,8 +19,9 @@ use Rattle.gos_folds.proofs.RegionLemmas.{folded_joint}
 use Rattle.gos_parallel.specs.Parallel.{IsSide, IsJointOf}
 use Rattle.gos_compile.specs.Wiring.{Types}
 use Rattle.gos_wired.specs.Wired.{Supplies, Source, Own, Supplied, Placing, source_dot, IsWired}
+use Rattle.gos_frames.specs.Frames.{KeepsImports}
 use Rattle.gos_frames.proofs.FrameLemmas.{Frame, kept, size, in_range, in_range_is, itself_true, part_held, back}
-use Rattle.gos_frames.proofs.ChildLemmas.{Sitting, child_placing, child_plan, number_of, number_if, its_cut, its_fold, its_web, whole_web, IsSitting, HasPorts}
+use Rattle.gos_frames.proofs.ChildLemmas.{Sitting, port_of, child_placing, child_plan, number_of, number_if, its_cut, its_fold, its_web, whole_web, IsSitting, HasPorts}
 use Rattle.gos_frames.proofs.ChildLemmas as children
 use Rattle.gos_frames.proofs.FoldLemmas.{HasPlan, has_plan}
 use Rattle.gos_frames.proofs.CutLemmas.{region_is_cut}
@@ -30,6 +31,16 @@ pub lies_joined : (f : Cut) (js : List plans.Joint) (e : End) → lies_at (joine
 lies_joined f js (PartEnd i h) = refl
 lies_joined f js (ImportEnd i h) = refl
 lies_joined f js (ResultEnd h) = refl
+
+-- an import of the child leads to the node's own part, or to an import of the node
+port_kept : (b : Bool) (own q h k n : ℕ) → port_of b own h (ImportEnd q h) ≡ ImportEnd k h → port_of b own n (ImportEnd q n) ≡ ImportEnd k n
+port_kept true own q h k n at = absurd (cc at)
+port_kept false own q h k n at = let same : q ≡ k = cc at in ap (λ (x : ℕ). ImportEnd x n) same
+
+pub keeps_imports : (s : Sitting) (r : Plan) (js : List plans.Joint) → KeepsImports (joined_cut (its_cut s r) js)
+keeps_imports s r js i h k n at =
+    port_kept (s.frame.named ((child_placing s).origin i).number) (s.placing.own 0)
+    (s.placing.import ((child_placing s).origin i).number ((child_placing s).origin i).import) h k n at
 
 -- a source is the child's
 abbrev pub IsIn : Frame → Source → Type 0

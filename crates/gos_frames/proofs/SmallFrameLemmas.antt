@@ -1,9 +1,11 @@
 -- Small examples of numbers that are parted and bound, and of what ties speak.
 use Rattle.std.specs.Prelude.{◌≤◌, ℕ, [], ◌∷◌}
 use Rattle.std.proofs.Common.{arith, subst}
+use Rattle.std.proofs.Common.{◌≡◌, ap, refl}
+use Rattle.gos_plan.specs.Plans.{PartEnd, ImportEnd}
 use Rattle.gos_check.specs.Linearity.{times}
 use Rattle.gos_check.proofs.TimesLemmas.{number_cases, times_same, times_other}
-use Rattle.gos_frames.specs.SmallFrames.{UsesAreParted, SharedIsNotParted, UseIsBound, OtherIsNotBound, UseSpeaksOfIt, NotOfParts}
+use Rattle.gos_frames.specs.SmallFrames.{UsesAreParted, SharedIsNotParted, UseIsBound, OtherIsNotBound, UseSpeaksOfIt, NotOfParts, WholeIsKept, TornIsNotKept}
 
 -- a list of one number has it once, and of two numbers each once
 one_at_most : (k a : ℕ) → times k (a ∷ []) ≤ 1
@@ -42,3 +44,9 @@ use_speaks_of_it types = omega arith
 
 pub not_of_parts : NotOfParts
 not_of_parts types k (low, high) = omega (arith, low, high)
+
+pub whole_is_kept : WholeIsKept
+whole_is_kept i h k n at = let same : 1 ≡ k = cc at in ap (λ (x : ℕ). ImportEnd x n) same
+
+pub torn_is_not_kept : TornIsNotKept
+torn_is_not_kept keeps = let clash : PartEnd 0 0 ≡ ImportEnd 1 1 = keeps 0 0 1 1 refl in cc clash

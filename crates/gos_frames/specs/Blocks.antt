@@ -11,6 +11,7 @@ use Rattle.gos_plan.specs.Plans.{Plan}
 use Rattle.gos_names.specs.Names.{name_plan}
 use Rattle.gos_blocks.specs.Block.{Block, IsBlock}
 use Rattle.gos_compile.specs.Wiring.{Types}
+use Rattle.gos_frames.specs.Frames.{KeepsImports}
 use Rattle.gos_wired.specs.Wired.{Supplies, Placing, IsWired}
 
 -- with a name for a number
@@ -31,6 +32,7 @@ pub record HasBody (types : Types) (i j n : ℕ) (m : Numbered) (ns : List ℕ) 
   pub name : block.variable ≡ record { name = x; ty = Var w }
   pub wired : IsWired types (i + 1) (suc j) m (ns ++ n ∷ []) (with_name n x (Var w) env) placing block.body
   pub is_block : IsBlock r block
+  pub imports : KeepsImports block.cut
 
 -- A node `new x : w in m` that is wired to supplies is made of its body, wired to them and to a name that no import has.
 abbrev pub BlockIsWired : Type 0

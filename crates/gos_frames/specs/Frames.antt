@@ -5,7 +5,7 @@ use Rattle.std.specs.Prelude.{◌≡◌, ℕ, suc, ◌+◌, ◌<◌, ◌≤◌, 
 use Rattle.gos_types.specs.Types.{Com}
 use Rattle.gos_check.specs.Nodes.{Numbered, Two, OfPar, type_of_node}
 use Rattle.gos_check.specs.Linearity.{times, made, used}
-use Rattle.gos_plan.specs.Plans.{Plan}
+use Rattle.gos_plan.specs.Plans.{ImportEnd, Plan}
 use Rattle.gos_webs.specs.Cutting.{Cut, IsCut}
 use Rattle.gos_windows.specs.Regions.{IsRegion}
 use Rattle.gos_realises.specs.Realises.{NamesDiffer}
@@ -25,6 +25,10 @@ pub record AreParted (m n : Numbered) (ns ms ks : List ℕ) : Type 0 where
   pub left : (k : ℕ) → 0 < times k (used m) → 0 < times k (made m) + times k ms
   pub right : (k : ℕ) → 0 < times k (used n) → 0 < times k (made n) + times k ks
 
+-- An import of the region of which one end leads to an import of the whole does so end by end.
+abbrev pub KeepsImports : Cut → Type 0
+KeepsImports f = (i h k n : ℕ) → f.outer (ImportEnd i h) ≡ ImportEnd k h → f.outer (ImportEnd i n) ≡ ImportEnd k n
+
 -- What `m || n` is made of: a plan for each side, wired to the supplies of its numbers, and where it lies.
 pub record AreSides (types : Types) (i j : ℕ) (m n : Numbered) (ms ks : List ℕ) (env : Supplies) (own : ℕ) (r : Plan) : Type 0 where
   pub left : Plan
@@ -36,6 +40,8 @@ pub record AreSides (types : Types) (i j : ℕ) (m n : Numbered) (ms ks : List �
   pub left_wired : IsWired types (i + 1) (suc j) m ms env left_placing left
   pub right_wired : IsWired types (i + 1 + length (parts_of types m)) (suc j + nodes m) n ks env right_placing right
   pub parallel : IsParallel own left_cut right_cut r left right
+  pub left_imports : KeepsImports left_cut
+  pub right_imports : KeepsImports right_cut
 
 -- A node `m || n` that is wired to supplies is made of its sides, wired to theirs.
 abbrev pub ParallelIsWired : Type 0

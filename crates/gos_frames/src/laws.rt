@@ -2,7 +2,7 @@
 ghost use Rattle.gos_frames.specs.Blocks.{BlockIsWired};
 ghost use Rattle.gos_frames.specs.Frames.{ParallelIsWired, RegionIsCut};
 ghost use Rattle.gos_frames.specs.Spans.{TiesSpan};
-ghost use Rattle.gos_frames.specs.SmallFrames.{NotOfParts, OtherIsNotBound, SharedIsNotParted, UseIsBound, UseSpeaksOfIt, UsesAreParted};
+ghost use Rattle.gos_frames.specs.SmallFrames.{NotOfParts, OtherIsNotBound, SharedIsNotParted, TornIsNotKept, UseIsBound, UseSpeaksOfIt, UsesAreParted, WholeIsKept};
 
 /// The ties of a term speak of its own parts, nodes and numbers, and of where its handshakes lead.
 pub fn spans()
@@ -26,6 +26,7 @@ pub fn block_bodies()
 
 /// Two uses of two numbers have one each, and two of one number don't. A use of the bound number is bound, and that of
 /// another one isn't. The ties of a use speak of its number, and of no part.
+/// A region keeps an import of which all ends lead to one of the whole's, and not one of which one leads to a part.
 pub fn small_frames()
     ensures parted { UsesAreParted }
     ensures shared { SharedIsNotParted }
@@ -33,4 +34,6 @@ pub fn small_frames()
     ensures unbound { OtherIsNotBound }
     ensures spoken { UseSpeaksOfIt }
     ensures unspoken { NotOfParts }
+    ensures whole { WholeIsKept }
+    ensures torn { TornIsNotKept }
 {}

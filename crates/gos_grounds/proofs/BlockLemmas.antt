@@ -6,7 +6,7 @@ use Rattle.std.proofs.lemmas.Option.{none-some, same_Some}
 use Rattle.std.proofs.lemmas.Bool.Decides.{nat_tests}
 use Rattle.std.proofs.lemmas.Slice.Eq.{bytes_eq-Decides}
 use Rattle.std.proofs.lemmas.List.Elements.{Contains-append_left, Contains-append_right}
-use Rattle.gos_types.specs.Types.{Type', Com, Var, IsGround}
+use Rattle.gos_types.specs.Types.{Type', Com, Var}
 use Rattle.gos_types.specs.Widths.{IsWidth}
 use Rattle.gos_model.specs.Terms.{Term, Name, Import, New, Skip}
 use Rattle.gos_model.specs.Typing.{Imported, import_type, Named, things, Typed}
@@ -14,21 +14,18 @@ use Rattle.gos_model.specs.Substitution.{put_at, instantiate}
 use Rattle.gos_check.specs.Nodes.{Numbered, Under, OfNew, Meaning, below, meaning, type_of_node}
 use Rattle.gos_check.specs.Linearity.{times}
 use Rattle.gos_check.proofs.TimesLemmas.{eq_true, true_eq, times-append, times_same, some_times, listed_times}
-use Rattle.gos_plan.specs.Plans.{ImportEnd, ResultEnd, Plan}
+use Rattle.gos_plan.specs.Plans.{Plan}
 use Rattle.gos_plan.specs.TokenBits.{LiteralFits}
 use Rattle.gos_realises.specs.Modules.{Supply}
 use Rattle.gos_realises.specs.Realises.{NamesDiffer, Realises}
 use Rattle.gos_realises.proofs.PlaceLemmas.{contains_at, place_of, differ_at, at_differ}
 use Rattle.gos_renumbered.proofs.ImportLemmas.{name_is, type_has}
-use Rattle.gos_webs.specs.Webs.{joint}
-use Rattle.gos_buffers.specs.Buffering.{ResultIsJoined}
 use Rattle.gos_typing.proofs.WhenceLemmas.{named}
 use Rattle.gos_typing.proofs.NameLemmas.{typed_under_fewer}
 use Rattle.gos_names.specs.Names.{name_plan, imported, NameIsRealised}
 use Rattle.gos_blocks.specs.Block.{BlockRealises}
 use Rattle.gos_compile.specs.Wiring.{Types}
-use Rattle.gos_wired.specs.Wired.{Supplies, Placing, Origin, IsWired, terms_of}
-use Rattle.gos_stages.specs.Inside.{AreGroundSupplies}
+use Rattle.gos_wired.specs.Wired.{Supplies, Placing, Origin, IsWired, AreRealised, terms_of}
 use Rattle.gos_meanings.specs.Meanings.{HasLeaves, standing, BodyIsInstantiated}
 use Rattle.gos_frames.specs.Blocks.{with_name, IsBound, HasBody, BlockIsWired}
 use Rattle.gos_numbers.specs.Kept.{InScope}
@@ -39,12 +36,6 @@ use Rattle.gos_grounds.proofs.AgreeLemmas.{AgreeAt, below_agrees, meaning_agrees
 use Rattle.gos_grounds.proofs.FreshLemmas.{fresh_name, is_fresh}
 use Rattle.gos_grounds.proofs.PutLemmas.{IsWithout, put_typed}
 
--- both handshakes of a variable's name are joined
-name_joined : (x : Name) (w : ℕ) → ResultIsJoined (name_plan x (Var w))
-name_joined x w zero small = (joint (ResultEnd 0) (ImportEnd 0 0), (0, omega arith, refl), refl)
-name_joined x w (suc zero) small = (joint (ResultEnd 1) (ImportEnd 0 1), (1, omega arith, refl), refl)
-name_joined x w (suc (suc j)) small = absurd (omega (arith, small))
-
 -- its one import is the name
 only_import : (x : Name) (w q : ℕ) (y : Imported) → slice_get (name_plan x (Var w)).imports q ≡ Some y → (q ≡ 0) × (y.name ≡ x)
 only_import x w zero y e = (refl, ap (λ (z : Imported). z.name) (sym (same_Some (imported x (Var w)) y e)))
@@ -52,7 +43,7 @@ only_import x w (suc q) y e = absurd (none-some y e)
 
 module _
     (types : Types) (ns : List ℕ) (w n : ℕ) (m : Numbered) (type_n : types n ≡ Var w) (bound : IsBound n m ns)
-    (env : Supplies) (supplies : AreGroundSupplies types env ns) (x : Name) where
+    (env : Supplies) (supplies : AreRealised types env ns) (x : Name) where
   abbrev name_supply : Supply
   name_supply = record { plan = name_plan x (Var w); term = Import x }
 
@@ -80,30 +71,16 @@ module _
 
   -- the supplies of the body
   abbrev Stands : ℕ → Supply → Type 0
-  Stands k s = Realises (types k) s.plan s.term × IsGround (types k) × ResultIsJoined s.plan
+  Stands k s = Realises (types k) s.plan s.term
 
-  stands : NameIsRealised → IsWidth w → (k : ℕ) → Contains (ns ++ n ∷ []) k → Stands k (inner k)
-  stands law wide k has = by_test (nat_eq k n) refl
+  inner_supplies : NameIsRealised → IsWidth w → AreRealised types inner (ns ++ n ∷ [])
+  inner_supplies law wide k has = by_test (nat_eq k n) refl
     where
       by_test : (b : Bool) → nat_eq k n ≡ b → Stands k (inner k)
       by_test true is =
           let type_k : types k ≡ Var w = ap types (true_eq k n is) ∙ type_n in
-          subst (Stands k) (sym (inner_here k is)) (
-            subst (λ (u : Type'). Realises u (name_plan x (Var w)) (Import x)) (sym type_k) (law x (Var w) tt wide),
-            subst IsGround (sym type_k) tt,
-            name_joined x w,
-          )
-      by_test false is =
-          let there = before ns n k is has in
-          subst (Stands k) (sym (inner_there k is)) (supplies.realised k there, supplies.ground k there, supplies.joined k there)
-
-  inner_supplies : NameIsRealised → IsWidth w → AreGroundSupplies types inner (ns ++ n ∷ [])
-  inner_supplies law wide =
-      record {
-        realised = λ k has. (stands law wide k has).0;
-        ground = λ k has. (stands law wide k has).1;
-        joined = λ k has. (stands law wide k has).2;
-      }
+          subst (Stands k) (sym (inner_here k is)) (subst (λ (u : Type'). Realises u (name_plan x (Var w)) (Import x)) (sym type_k) (law x (Var w) tt wide))
+      by_test false is = subst (Stands k) (sym (inner_there k is)) (supplies k (before ns n k is has))
 
   module _
       (t : Type') (i j a b : ℕ) (pl pc : Placing) (r body : Plan) (wired : IsWired types i j (Under t [] (OfNew w) n m) ns env pl r)
@@ -161,7 +138,7 @@ module _
 
     is_imported : (k : ℕ) → Contains ns k → (f : ℕ) (y : Name) → Contains (things f (env k).term) (Named y) → IsImported k y
     is_imported k has f y of_k =
-        let of : Realises (types k) (env k).plan (env k).term = supplies.realised k has in
+        let of : Realises (types k) (env k).plan (env k).term = supplies k has in
         let name = named (env k).plan.imports (Named y) (env k).term f [] (types k) (omega arith) of.suits.typed of_k in
         let (q, at) = place_of (env k).plan.imports name.import name.has in
         let there = wired.imports k q name.import has at in
@@ -179,7 +156,7 @@ module _
     -- what stands for a number is typed under the body's imports
     supply_typed : (k : ℕ) → Contains ns k → Typed body.imports [] (env k).term (types k)
     supply_typed k has =
-        let of : Realises (types k) (env k).plan (env k).term = supplies.realised k has in
+        let of : Realises (types k) (env k).plan (env k).term = supplies k has in
         typed_under_fewer (env k).plan.imports body.imports [] (env k).term (types k) (agree of.suits.names) of.suits.typed
       where
         agree : NamesDiffer (env k).plan.imports → (y : Name) → Contains (things 0 (env k).term) (Named y)
@@ -280,7 +257,7 @@ block_case wiring law names means types ns t w n m done type_m type_n bound leav
             subst (λ (u : Type'). Realises u r (New w (meaning (below n (terms_of env)) m))) wired.outcome
             (subst (λ (v : ℕ). Realises r.outcome r (New v (meaning (below n (terms_of env)) m))) h.width
             (law r h.block (meaning (below n (terms_of env)) m) h.is_block fit
-            (imports_are_ground types i j (Under t [] (OfNew w) n m) ns env pl r wired supplies.realised) differ
+            (imports_are_ground types i j (Under t [] (OfNew w) n m) ns env pl r wired supplies) differ
             (subst (λ (u : Type'). Typed r.imports [] (New h.block.width (meaning (below n (terms_of env)) m)) u) (sym wired.outcome)
             (subst (λ (v : ℕ). Typed r.imports [] (New v (meaning (below n (terms_of env)) m)) t) (sym h.width) (is_done, wide, typed)))
             (subst (λ (y : Imported). Realises r.outcome h.block.body (instantiate (meaning (below n (terms_of env)) m) (Import y.name))) (sym h.name)

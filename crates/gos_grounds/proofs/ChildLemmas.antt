@@ -20,12 +20,12 @@ use Rattle.gos_renumbered.proofs.ImportLemmas.{type_has}
 use Rattle.gos_webs.specs.Webs.{Of, Within, Tie}
 use Rattle.gos_typing.proofs.WhenceLemmas.{named}
 use Rattle.gos_typing.proofs.NameLemmas.{typed_under_fewer}
-use Rattle.gos_wired.specs.Wired.{Supplies, Placing, Origin, terms_of}
-use Rattle.gos_stages.specs.Inside.{inside_supplies, numbers_inside, AreGroundSupplies}
+use Rattle.gos_wired.specs.Wired.{Supplies, Placing, Origin, IsWired, AreRealised, terms_of}
+use Rattle.gos_stages.specs.Inside.{inside_supplies, numbers_inside, InsideIsRealised}
 use Rattle.gos_stages.specs.Lodging.{Spot}
 use Rattle.gos_stages.specs.Folding.{Child, is_used, lodge, child_cut, IsChild, IsLaid}
 use Rattle.gos_stages.specs.Regions.{IsStaged}
-use Rattle.gos_stages.proofs.InsideLemmas.{inside_is_realised, inside_means}
+use Rattle.gos_stages.proofs.InsideLemmas.{inside_means}
 use Rattle.gos_stages.proofs.LodgingLemmas.{lodged_are_inside}
 use Rattle.gos_stages.proofs.PartHomeLemmas.{numbers_are_at_home}
 use Rattle.gos_stages.proofs.HousingLemmas.{imports_are_from}
@@ -44,7 +44,9 @@ number_at None = 0
 number_at (Some z) = z.number
 
 module _ (f : Child) (own : List Part) (ts : List Tie) (pl plc : Placing) (r c : Plan) (is : IsChild f ts) (laid : IsLaid own f.numbers f.env pl r)
-    (staged : IsStaged f pl plc r c) where
+    (wired : IsWired f.types (f.first + f.off) f.node f.term f.uses (inside_supplies f.types f.splits f.env) plc c)
+    (among : (k : ℕ) (x : Part) → slice_get c.parts k ≡ Some x → slice_get r.parts ((child_cut f pl plc (length r.parts)).part k) ≡ Some x)
+    (within : InsideIsRealised) (realised : AreRealised f.types f.env f.numbers) where
   -- what stands for its numbers
   abbrev Inner : Supplies
   Inner = inside_supplies f.types f.splits f.env
@@ -52,10 +54,10 @@ module _ (f : Child) (own : List Part) (ts : List Tie) (pl plc : Placing) (r c :
   abbrev root : ℕ → ℕ
   root n = (lodge f).root n
 
-  supplied : AreGroundSupplies f.types Inner f.uses
+  supplied : AreRealised f.types Inner f.uses
   supplied =
       fewer f.types Inner (numbers_inside f.splits f.numbers) f.uses (λ k has. (is.scope k has).0)
-      (inside_is_realised f.types f.splits f.env f.numbers is.agree is.split is.supplies)
+      (within f.types f.splits f.env f.numbers is.agree is.split realised)
 
   -- the imports of what stands for a number are those of a supply outside
   rooted : (n : ℕ) → Contains f.uses n → Contains f.numbers (root n) × ((Inner n).plan.imports ≡ (f.env (root n)).plan.imports)
@@ -82,8 +84,8 @@ module _ (f : Child) (own : List Part) (ts : List Tie) (pl plc : Placing) (r c :
     where
       each : (k l : ℕ) (x y : Imported) → slice_get c.imports k ≡ Some x → slice_get c.imports l ≡ Some y → x.name ≡ y.name → k ≡ l
       each k l x y at_k at_l e =
-          let (has_k, there_k, back_k) = staged.wired.no_import k x at_k in
-          let (has_l, there_l, back_l) = staged.wired.no_import l y at_l in
+          let (has_k, there_k, back_k) = wired.no_import k x at_k in
+          let (has_l, there_l, back_l) = wired.no_import l y at_l in
           let (in_k, from_k) = outside (plc.origin k).number (plc.origin k).import x has_k there_k in
           let (in_l, from_l) = outside (plc.origin l).number (plc.origin l).import y has_l there_l in
           let same =
@@ -107,23 +109,31 @@ module _ (f : Child) (own : List Part) (ts : List Tie) (pl plc : Placing) (r c :
       agree : (x : Name) → Contains (things 0 (meaning (terms_of Inner) f.term)) (Named x) → import_type c.imports x ≡ import_type r.imports x
       agree x has =
           let (k, d, in_uses, of_k) = whose f.term f.uses (terms_of Inner) 0 x leaves scope has in
-          let of : Realises (f.types k) (Inner k).plan (Inner k).term = supplied.realised k in_uses in
+          let of : Realises (f.types k) (Inner k).plan (Inner k).term = supplied k in_uses in
           let name = named (Inner k).plan.imports (Named x) (Inner k).term d [] (f.types k) (omega arith) of.suits.typed of_k in
           let (q, at_q) = place_of (Inner k).plan.imports name.import name.has in
           let is_x : bytes_eq name.import.name x ≡ true = (bytes_eq-Decides name.import.name x).1 (sym (cc (name.same))) in
-          let here = staged.wired.imports k q name.import in_uses at_q in
+          let here = wired.imports k q name.import in_uses at_q in
           let there = outside k q name.import in_uses at_q in
           type_has c.imports (names_below differ) x name.import (contains_at c.imports (plc.import k q) name.import here.0) is_x
           ∙ sym (type_has r.imports differ x name.import (contains_at r.imports (pl.import (root k) q) name.import there.0) is_x)
 
   literals_below : All LiteralFits r.parts → All LiteralFits c.parts
-  literals_below fit = literals_among (child_cut f pl plc (length r.parts)).part c.parts r.parts (λ k x at. (staged.region.parts k x at).0) fit
+  literals_below fit = literals_among (child_cut f pl plc (length r.parts)).part c.parts r.parts among fit
 
-  pub child_realises : RealisesWired f.types f.uses f.term → NamesDiffer r.imports → All LiteralFits r.parts → HasLeaves f.term → InScope f.uses f.term
+  pub wired_child_realises : RealisesWired f.types f.uses f.term → NamesDiffer r.imports → All LiteralFits r.parts → HasLeaves f.term → InScope f.uses f.term
       → Typed r.imports [] (meaning (inside f.splits (terms_of f.env)) f.term) (type_of_node f.term)
       → Realises (type_of_node f.term) c (meaning (inside f.splits (terms_of f.env)) f.term)
-  child_realises real differ fit leaves scope typed =
+  wired_child_realises real differ fit leaves scope typed =
       subst (λ (e : Meaning). Realises (type_of_node f.term) c (meaning e f.term)) terms_within
-      (real (f.first + f.off) f.node Inner plc c staged.wired supplied (names_below differ) (literals_below fit)
+      (real (f.first + f.off) f.node Inner plc c wired supplied (names_below differ) (literals_below fit)
       (typed_below (type_of_node f.term) differ leaves scope
       (subst (λ (e : Meaning). Typed r.imports [] (meaning e f.term) (type_of_node f.term)) (sym terms_within) typed)))
+
+pub child_realises : (f : Child) (own : List Part) (ts : List Tie) (pl plc : Placing) (r c : Plan)
+    → IsChild f ts → IsLaid own f.numbers f.env pl r → IsStaged f pl plc r c → InsideIsRealised
+    → AreRealised f.types f.env f.numbers → RealisesWired f.types f.uses f.term
+    → NamesDiffer r.imports → All LiteralFits r.parts → HasLeaves f.term → InScope f.uses f.term
+    → Typed r.imports [] (meaning (inside f.splits (terms_of f.env)) f.term) (type_of_node f.term)
+    → Realises (type_of_node f.term) c (meaning (inside f.splits (terms_of f.env)) f.term)
+child_realises f own ts pl plc r c is laid staged = wired_child_realises f own ts pl plc r c is laid staged.wired (λ k x at. (staged.region.parts k x at).0)

@@ -11,19 +11,19 @@ use Rattle.gos_grounds.proofs.WiredLemmas.{imports_are_ground}
 
 pub use_case : UseIsRealised → UseCase
 use_case law types ns n t has e i j env pl r w supplies differ fit typed =
-    law types i j n t ns env pl r w has e fit (imports_are_ground types i j (Use t [] n) ns env pl r w supplies.realised) differ
-    (subst (λ (u : Type'). Realises u (env n).plan (env n).term) (sym e) (supplies.realised n has))
+    law types i j n t ns env pl r w has e fit (imports_are_ground types i j (Use t [] n) ns env pl r w supplies) differ
+    (subst (λ (u : Type'). Realises u (env n).plan (env n).term) (sym e) (supplies n has))
 
 pub skip_case : SkipIsRealised → SkipCase
 skip_case law types ns i j env pl r w supplies differ fit typed =
-    law types i j ns env pl r w fit (imports_are_ground types i j (Closed Com [] terms.Skip) ns env pl r w supplies.realised) differ
+    law types i j ns env pl r w fit (imports_are_ground types i j (Closed Com [] terms.Skip) ns env pl r w supplies) differ
 
 pub literal_case : LiteralIsRealised → LiteralCase
 literal_case law types ns w k i j env pl r wired supplies differ fit (e, wide, small) =
-    law types i j w k ns env pl r wired wide small fit (imports_are_ground types i j (Closed (Exp w) [] (terms.Lit k w)) ns env pl r wired supplies.realised) differ
+    law types i j w k ns env pl r wired wide small fit (imports_are_ground types i j (Closed (Exp w) [] (terms.Lit k w)) ns env pl r wired supplies) differ
 
 pub read_case : ReadIsRealised → ReadCase
 read_case law types ns n w has e i j env pl r wired supplies differ fit typed =
     law types i j w n ns env pl r wired has e fit
-    (imports_are_ground types i j (One (Exp w) [] OfDeref (Use (Var w) [] n)) ns env pl r wired supplies.realised) differ
-    (subst (λ (u : Type'). Realises u (env n).plan (env n).term) e (supplies.realised n has))
+    (imports_are_ground types i j (One (Exp w) [] OfDeref (Use (Var w) [] n)) ns env pl r wired supplies) differ
+    (subst (λ (u : Type'). Realises u (env n).plan (env n).term) e (supplies n has))

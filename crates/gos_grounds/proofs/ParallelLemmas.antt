@@ -29,7 +29,7 @@ module _ (types : Types) (ns ms ks : List ℕ) (m n : Numbered) (parted : ArePar
 pub parallel_case : ParallelIsWired → ParallelRealises → ParallelCase
 parallel_case wiring law types ns ms ks m n parted em en leaves_m leaves_n scope_m scope_n rm rn i j env pl r w supplies differ fit (e, typed_m, typed_n, apart) =
     law (pl.own 0) sides.left_cut sides.right_cut r sides.left sides.right (meaning (terms_of env) m) (meaning (terms_of env) n) sides.parallel fit
-    (imports_are_ground types i j (Two Com [] OfPar m n) ns env pl r w supplies.realised) differ (e, typed_m, typed_n, apart)
+    (imports_are_ground types i j (Two Com [] OfPar m n) ns env pl r w supplies) differ (e, typed_m, typed_n, apart)
     (subst (λ (t : Type'). Realises t sides.left (meaning (terms_of env) m)) em left)
     (subst (λ (t : Type'). Realises t sides.right (meaning (terms_of env) n)) en right)
   where
@@ -43,7 +43,7 @@ parallel_case wiring law types ns ms ks m n parted em en leaves_m leaves_n scope
         (left_among types ns ms ks m n parted) differ)
         (literals_within sides.left_cut r sides.left sides.parallel.left.cut fit)
         (typed_there types i j (Two Com [] OfPar m n) ns env pl r w (i + 1) (suc j) m ms sides.left_placing sides.left sides.left_wired
-        (left_among types ns ms ks m n parted) (type_of_node m) supplies.realised differ leaves_m scope_m
+        (left_among types ns ms ks m n parted) (type_of_node m) supplies differ leaves_m scope_m
         (subst (λ (t : Type'). Typed r.imports [] (meaning (terms_of env) m) t) (sym em) typed_m))
 
     right : Realises (type_of_node n) sides.right (meaning (terms_of env) n)
@@ -54,5 +54,5 @@ parallel_case wiring law types ns ms ks m n parted em en leaves_m leaves_n scope
         sides.right_wired (right_among types ns ms ks m n parted) differ)
         (literals_within sides.right_cut r sides.right sides.parallel.right.cut fit)
         (typed_there types i j (Two Com [] OfPar m n) ns env pl r w (i + 1 + length (parts_of types m)) (suc j + nodes m) n ks sides.right_placing sides.right
-        sides.right_wired (right_among types ns ms ks m n parted) (type_of_node n) supplies.realised differ leaves_n scope_n
+        sides.right_wired (right_among types ns ms ks m n parted) (type_of_node n) supplies differ leaves_n scope_n
         (subst (λ (t : Type'). Typed r.imports [] (meaning (terms_of env) n) t) (sym en) typed_n))

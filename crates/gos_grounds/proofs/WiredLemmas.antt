@@ -18,7 +18,6 @@ use Rattle.gos_webs.specs.Cutting.{Cut, IsCut}
 use Rattle.gos_typing.proofs.WhenceLemmas.{named}
 use Rattle.gos_typing.proofs.NameLemmas.{typed_under_fewer}
 use Rattle.gos_wired.specs.Wired.{Supplies, Placing, Origin, IsWired, AreRealised, terms_of}
-use Rattle.gos_stages.specs.Inside.{AreGroundSupplies}
 use Rattle.gos_meanings.specs.Meanings.{HasLeaves}
 use Rattle.gos_numbers.specs.Kept.{InScope}
 use Rattle.gos_grounds.proofs.WhoseLemmas.{whose}
@@ -88,10 +87,5 @@ literals_within f r c cut fit = literals_among f.part c.parts r.parts (λ k x at
 
 -- supplies for some of the numbers
 pub fewer : (types : Types) (env : Supplies) (ns ms : List ℕ) → ((k : ℕ) → Contains ms k → Contains ns k)
-    → AreGroundSupplies types env ns → AreGroundSupplies types env ms
-fewer types env ns ms among all =
-    record {
-      realised = λ k has. all.realised k (among k has);
-      ground = λ k has. all.ground k (among k has);
-      joined = λ k has. all.joined k (among k has);
-    }
+    → AreRealised types env ns → AreRealised types env ms
+fewer types env ns ms among all k has = all k (among k has)

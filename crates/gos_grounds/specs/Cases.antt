@@ -1,6 +1,6 @@
--- A wired node of a ground type realises its term: the cases of the induction, form by form.
+-- A wired node realises its term: the cases of the induction, form by form.
 --
--- Read first: Wired of gos_wired; Inside of gos_stages; Frames and Blocks of gos_frames; Leaves of gos_leaves; Kept of gos_numbers (`InScope`).
+-- Read first: Wired of gos_wired; Frames and Blocks of gos_frames; Leaves of gos_leaves; Kept of gos_numbers (`InScope`).
 use Rattle.std.specs.Prelude.{◌≡◌, ℕ, List, [], ◌∷◌, ◌++◌, All, Contains}
 use Rattle.gos_types.specs.Types.{Type', Com, Exp, Var, IsDone}
 use Rattle.gos_model.specs.Terms as terms
@@ -10,19 +10,18 @@ use Rattle.gos_plan.specs.Plans.{Plan}
 use Rattle.gos_plan.specs.TokenBits.{LiteralFits}
 use Rattle.gos_realises.specs.Realises.{NamesDiffer, Realises}
 use Rattle.gos_compile.specs.Wiring.{Types}
-use Rattle.gos_wired.specs.Wired.{Supplies, Placing, IsWired, terms_of}
-use Rattle.gos_stages.specs.Inside.{AreGroundSupplies}
+use Rattle.gos_wired.specs.Wired.{Supplies, Placing, IsWired, AreRealised, terms_of}
 use Rattle.gos_frames.specs.Frames.{AreParted}
 use Rattle.gos_frames.specs.Blocks.{IsBound}
 use Rattle.gos_meanings.specs.Meanings.{HasLeaves}
 use Rattle.gos_numbers.specs.Kept.{InScope}
 
--- However a node is wired to supplies for these numbers, which realise their terms at ground types, its plan realises its
+-- However a node is wired to supplies for these numbers, which realise their terms at any types, its plan realises its
 -- term with these. The literals of all parts fit their widths.
 abbrev pub RealisesWired : Types → List ℕ → Numbered → Type 0
 RealisesWired types ns m =
     (i j : ℕ) (env : Supplies) (pl : Placing) (r : Plan)
-    → IsWired types i j m ns env pl r → AreGroundSupplies types env ns → NamesDiffer r.imports → All LiteralFits r.parts
+    → IsWired types i j m ns env pl r → AreRealised types env ns → NamesDiffer r.imports → All LiteralFits r.parts
     → Typed r.imports [] (meaning (terms_of env) m) (type_of_node m) → Realises (type_of_node m) r (meaning (terms_of env) m)
 
 -- a number that is used

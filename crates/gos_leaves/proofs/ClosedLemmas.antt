@@ -123,7 +123,7 @@ module _ (types : Types) (i j : ℕ) (t : Type') (m : Term) (ns : List ℕ) (env
         (in_row places.Result (places.Part (i + 0)) 0 0 (count t) 0 (omega (arith, single))))))
     out_ties s (suc k, small, e) = absurd (omega (arith, small))
 
-    closed_leaf : Leaf types i j (Closed t [] m) ns env (lone kind 0 t) (own_web (lone kind 0 t))
+    pub closed_leaf : Leaf types i j (Closed t [] m) ns env (lone kind 0 t) (own_web (lone kind 0 t))
     closed_leaf =
         record {
           pick = first_own;

@@ -8,6 +8,8 @@ use Rattle.gos_check.specs.Nodes.{Numbered, type_of_node}
 use Rattle.gos_plan.specs.Kinds.{Part, Contact, asks, serves}
 use Rattle.gos_plan.specs.Plans.{End, PartEnd, ImportEnd, ResultEnd, Plan, contact_at, contacts_of_part, contacts_of_import}
 use Rattle.gos_plan.specs.TokenBits.{LiteralFits}
+use Rattle.gos_realises.specs.Regular.{IsRegular}
+use Rattle.gos_turns.specs.Rests.{Rests}
 use Rattle.gos_realises.specs.Realises.{AllGround, NamesDiffer, Realises}
 use Rattle.gos_webs.specs.Webs.{Dot, Of, Within, Tie, tie, Web, Way, joint, IsOfWeb}
 use Rattle.gos_webs.proofs.WayLemmas.{way_then, way_back, mapped_way}
@@ -17,7 +19,7 @@ use Rattle.gos_loose.specs.Beside as beside
 use Rattle.gos_loose.specs.Beside.{IsLoose, LiesIn, IsBeside}
 use Rattle.gos_loose.specs.Homes.{AreHome, IsHome}
 use Rattle.gos_loose.proofs.HomeLemmas.{web_is_beside}
-use Rattle.gos_loose.proofs.LooseLemmas.{loose_is_realised}
+use Rattle.gos_loose.proofs.LooseLemmas.{loose_is_regular, loose_rests, loose_is_realised}
 
 -- How a smaller plan c, of the web v, lies in the node m wired to supplies: where each of its parts and imports comes from, which of
 -- what comes from somewhere is one of them, which dot of v a dot of the wired web is, and a dot of that for each of v.
@@ -221,3 +223,7 @@ module _ (types : Types) (i j : ℕ) (m : Numbered) (ns : List ℕ) (env : Suppl
     pub leaf_realises : (t : Type') (term : Term) → All LiteralFits r.parts → AllGround r.imports → NamesDiffer r.imports → Realises t c term
         → Realises t r term
     leaf_realises t term literals ground names realised = loose_is_realised placing r c t term leaf_beside literals ground names realised
+
+    -- and it is regular, and rests, where the smaller plan does
+    pub leaf_regular : IsRegular c → Rests c → IsRegular r × Rests r
+    leaf_regular regular rests = (loose_is_regular placing r c leaf_beside regular, loose_rests placing r c leaf_beside rests)

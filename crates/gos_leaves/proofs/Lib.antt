@@ -11,3 +11,5 @@ pub mod StandLemmas
 pub mod WithinLemmas
 mod SmallLemmas
 mod SmallLeafLemmas
+pub mod ReaderLemmas
+pub mod RegularLemmas

@@ -58,7 +58,7 @@ module _ (f : Placing) (r c : Plan) (is : IsPlaced f r c) where
   goes_whole (Out e v) s acts goes = tt
   goes_whole (In e v) s acts goes = tt
 
-  idle_whole : (s : Tokens) → IsStill f s → IsIdle c (own_tokens f s) → IsIdle r s
+  pub idle_whole : (s : Tokens) → IsStill f s → IsIdle c (own_tokens f s) → IsIdle r s
   idle_whole s still idle = (
     λ way e. at_end way e (end_in f e) refl,
     λ i. at_part i (f.number i) refl,

@@ -60,7 +60,7 @@ module _ (f : Placing) (r c : Plan) (is : IsPlaced f r c) (literals : All Litera
         all_ground = fine.0;
         names = fine.1;
         typed = typed_more c.imports r.imports (among c.imports r.imports fine.1 (own_imports f r c is)) [] m t suits.typed;
-        regular = whole_regular f r c is fine.0 suits.regular;
+        regular = whole_regular f r c is suits.regular;
       }
 
   done_whole : (t : Type') (m : Term) → Suits t c m → RealisesDone c m → RealisesDone r m

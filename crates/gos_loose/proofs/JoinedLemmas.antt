@@ -103,7 +103,7 @@ module _ (f : Placing) (p q : Plan) (is : IsPlaced f p q) (ps : List Plan) (ls :
   link_there a b (l, has, inl (e, g)) = let both = unmoved l has in (l, has, inl (ap there e ∙ both.0, ap there g ∙ both.1))
   link_there a b (l, has, inr (e, g)) = let both = unmoved l has in (l, has, inr (ap there e ∙ both.1, ap there g ∙ both.0))
 
-  path_there : (n : ℕ) (a b : Place) → Path small n a b → Path large n (there a) (there b)
+  pub path_there : (n : ℕ) (a b : Place) → Path small n a b → Path large n (there a) (there b)
   path_there zero a b e = ap there e
   path_there (suc n) a b (d, inl s, path) = (there d, inl (joint_there a d s), path_there n d b path)
   path_there (suc n) a b (d, inr s, path) = (there d, inr (link_there a d s), path_there n d b path)
@@ -193,7 +193,7 @@ module _ (f : Placing) (p q : Plan) (is : IsPlaced f p q) (ps : List Plan) (ls :
       let test : nat_lt i (length x.parts) ≡ false = grind (arith, nat_tests, large) in
       ap (λ (b : Bool). if b then place 0 (PartEnd i h) else part_place 1 ps (i - length x.parts) h) test
 
-  part_stands : (i h : ℕ) → origin large (PartEnd (numbers.part i) h) ≡ there (origin small (PartEnd i h))
+  pub part_stands : (i h : ℕ) → origin large (PartEnd (numbers.part i) h) ≡ there (origin small (PartEnd i h))
   part_stands i h = by_test (nat_lt i (length q.parts)) refl
     where
       by_test : (b : Bool) → nat_lt i (length q.parts) ≡ b → origin large (PartEnd (numbers.part i) h) ≡ there (origin small (PartEnd i h))
@@ -232,7 +232,7 @@ module _ (f : Placing) (p q : Plan) (is : IsPlaced f p q) (ps : List Plan) (ls :
       let zeros : 0 + i ≡ i = omega arith in
       ap (λ (o : Option LeftImport). left_place o h) (left_front x i y at) ∙ ap (λ (n : ℕ). place 0 (ImportEnd n h)) zeros
 
-  import_stands : (i h : ℕ) → i < length (left_among ls 0 (q ∷ ps)) → origin large (ImportEnd (numbers.import i) h) ≡ there (origin small (ImportEnd i h))
+  pub import_stands : (i h : ℕ) → i < length (left_among ls 0 (q ∷ ps)) → origin large (ImportEnd (numbers.import i) h) ≡ there (origin small (ImportEnd i h))
   import_stands i h low = by_test (nat_lt i (length q.imports)) refl
     where
       by_test : (b : Bool) → nat_lt i (length q.imports) ≡ b → origin large (ImportEnd (numbers.import i) h) ≡ there (origin small (ImportEnd i h))
@@ -316,7 +316,7 @@ module _ (f : Placing) (p q : Plan) (is : IsPlaced f p q) (ps : List Plan) (ls :
         (of_large.joints (placed numbers a) (placed numbers b)).1 (x, y, n, contact_same a ∙ asked, contact_same b ∙ served, at_ends)
 
     -- a loose end is one of the first plan
-    loose_stands : (e : End) → end_in numbers e ≡ None → ((origin large e).plan ≡ 0) × (end_in f (origin large e).end ≡ None)
+    pub loose_stands : (e : End) → end_in numbers e ≡ None → ((origin large e).plan ≡ 0) × (end_in f (origin large e).end ≡ None)
     loose_stands (PartEnd i h) none = by_number (in_front_back (length q.parts) (length p.parts) f.number i) refl none
       where
         by_number : (o : Option ℕ) → in_front_back (length q.parts) (length p.parts) f.number i ≡ o → part_if o h ≡ None

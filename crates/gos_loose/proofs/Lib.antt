@@ -3,6 +3,7 @@ pub mod TokenLemmas
 pub mod StillLemmas
 pub mod OrderLemmas
 pub mod TurnLemmas
+pub mod AskedLemmas
 pub mod RegularLemmas
 pub mod ProtocolLemmas
 pub mod ImportLemmas

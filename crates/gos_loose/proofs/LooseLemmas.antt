@@ -1,12 +1,15 @@
 -- The laws, of plans beside loose parts.
-use Rattle.gos_loose.specs.Loose.{LooseIsRegular, LooseIsDone, LooseIsRealised}
+use Rattle.gos_loose.specs.Loose.{LooseIsRegular, LooseRests, LooseIsDone, LooseIsRealised}
 use Rattle.gos_loose.proofs.SettledLemmas.{settling, settled_placed}
-use Rattle.gos_loose.proofs.RegularLemmas.{whole_regular}
+use Rattle.gos_loose.proofs.RegularLemmas.{whole_regular, whole_rests}
 use Rattle.gos_loose.proofs.DoneLemmas.{whole_done}
 use Rattle.gos_loose.proofs.HigherLemmas.{whole_realises}
 
 pub loose_is_regular : LooseIsRegular
-loose_is_regular f r c is ground regular = whole_regular (settling f r c is) r c (settled_placed f r c is) ground regular
+loose_is_regular f r c is regular = whole_regular (settling f r c is) r c (settled_placed f r c is) regular
+
+pub loose_rests : LooseRests
+loose_rests f r c is rests = whole_rests (settling f r c is) r c (settled_placed f r c is) rests
 
 pub loose_is_done : LooseIsDone
 loose_is_done f r c m is ground names knows done = whole_done (settling f r c is) r c (settled_placed f r c is) m names knows ground done

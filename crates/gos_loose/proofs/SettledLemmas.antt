@@ -150,6 +150,9 @@ module _ (f : Placing) (r c : Plan) (is : IsBeside f r c) where
   placed_same (ImportEnd i h) there = ap (λ (k : ℕ). ImportEnd k h) (low (length c.imports) (length r.imports) f.import i there)
   placed_same (ResultEnd h) there = refl
 
+  pub joint_placed : (a b : End) → Contains c.joints (joint a b) → (placed settling a ≡ placed f a) × (placed settling b ≡ placed f b)
+  joint_placed a b has = let both = joint_there c a b is.right has in (placed_same a both.0, placed_same b both.1)
+
   loose_same : (e : End) → IsIn r e → IsLoose f e → end_in settling e ≡ None
   loose_same (PartEnd i h) there loose =
       ap (λ (o : Option ℕ). part_if o h) (low_back (length c.parts) (length r.parts) f.number i there ∙ loose)

@@ -1,17 +1,15 @@
 -- What passes the plan's ports keeps turns in the whole where it does in the plan, and back: at loose imports nothing is
 -- open.
-use Rattle.std.specs.Prelude.{◌≡◌, ℕ, ◌+◌, Bool, true, false, ◌&&◌, IsTrue, List, [], ◌∷◌, Option, Some, None, slice_get, if◌then◌else◌}
+use Rattle.std.specs.Prelude.{◌≡◌, ℕ, zero, suc, ◌+◌, Bool, true, false, ◌&&◌, ◌||◌, IsTrue, List, [], ◌∷◌, Option, Some, None, slice_get, if◌then◌else◌}
 use Rattle.std.proofs.Common.{refl, sym, ◌∙◌, ap, subst, arith}
-use Rattle.gos_types.specs.Types.{Type', Com, Exp, Var, Pair, Fun, IsGround}
+use Rattle.gos_types.specs.Types.{Type', Com, Exp, Var, Pair, Fun}
 use Rattle.gos_netlist.specs.Events.{Direction, Request, Answer}
 use Rattle.gos_model.specs.Typing.{Imported}
 use Rattle.gos_plan.specs.Kinds.{Contact}
 use Rattle.gos_plan.specs.Plans.{End, ImportEnd, ResultEnd, Plan, contact_at}
 use Rattle.gos_plan.specs.Tokens.{Element, Fire, Out, In}
-use Rattle.gos_realises.specs.Regular.{Pass, pass, way_in, way_out, is_request, is_open, count, some_open, KeepsTurnsOf, whole_end, ComesInTurn, KeepsTurns, InputsKeepTurns, OutputsKeepTurns}
-use Rattle.gos_realises.specs.Realises.{AllGround}
+use Rattle.gos_realises.specs.Regular.{Pass, pass, way_in, way_out, is_request, is_open, count, some_open, beyond, KeepsTurnsOf, whole_end, ComesInTurn, KeepsTurns, InputsKeepTurns, OutputsKeepTurns}
 use Rattle.gos_realises.proofs.GroundTurnLemmas.{some_there}
-use Rattle.gos_realises.proofs.InputLemmas.{one_ground}
 use Rattle.gos_renumbered.proofs.TurnLemmas.{of_import, of_result, ImportKeeps, EachKeeps, keeps_each, each_keeps}
 use Rattle.gos_loose.specs.Beside.{Placing, placed}
 use Rattle.gos_loose.proofs.PlacedLemmas.{IsPlaced, end_in, import_if, same_placed, other_loose, contact_placed}
@@ -25,16 +23,28 @@ abbrev pub set_passes : Placing → List Pass → List Pass
 set_passes f [] = []
 set_passes f (x ∷ past) = set_pass f x ∷ set_passes f past
 
--- where nothing is open a ground type keeps its turns
-closed_keeps : (t : Type') → IsGround t → (g : ℕ → Bool) → ((h : ℕ) → g h ≡ false) → KeepsTurnsOf t g
-closed_keeps Com ground g closed = tt
-closed_keeps (Exp w) ground g closed = tt
-closed_keeps (Var w) ground g closed = ap (λ (b : Bool). b && g 1) (closed 0)
-closed_keeps (Pair a b) ground g closed = absurd ground
-closed_keeps (Fun a b) ground g closed = absurd ground
+-- where nothing is open a type keeps its turns
+none_open : (n : ℕ) (g : ℕ → Bool) → ((h : ℕ) → g h ≡ false) → some_open n g ≡ false
+none_open zero g closed = refl
+none_open (suc n) g closed = let rest = none_open n g closed in λ i. closed n i || rest i
+
+closed_keeps : (t : Type') (g : ℕ → Bool) → ((h : ℕ) → g h ≡ false) → KeepsTurnsOf t g
+closed_keeps Com g closed = tt
+closed_keeps (Exp w) g closed = tt
+closed_keeps (Var w) g closed = ap (λ (b : Bool). b && g 1) (closed 0)
+closed_keeps (Pair a b) g closed = (
+  closed_keeps a g closed,
+  closed_keeps b (beyond (count a) g) (λ h. closed (count a + h)),
+  λ i. none_open (count a) g closed i && some_open (count b) (beyond (count a) g),
+)
+closed_keeps (Fun a b) g closed = (
+  closed_keeps a g closed,
+  closed_keeps b (beyond (count a) g) (λ h. closed (count a + h)),
+  λ busy. (let never : false ≡ true = sym (none_open (count a) g closed) ∙ busy in absurd (cc never)),
+)
 
 module _ (f : Placing) (r c : Plan) (is : IsPlaced f r c) where
-  open_placed : (past : List Pass) (e : End) → is_open (set_passes f past) (placed f e) ≡ is_open past e
+  pub open_placed : (past : List Pass) (e : End) → is_open (set_passes f past) (placed f e) ≡ is_open past e
   open_placed [] e = refl
   open_placed (x ∷ past) e = λ i. if same_placed f r c is x.end e i then is_request x.way else open_placed past e i
 
@@ -80,56 +90,55 @@ module _ (f : Placing) (r c : Plan) (is : IsPlaced f r c) where
     subst (λ (t : Type'). KeepsTurnsOf t (of_result (is_open past))) is.outcome (subst (KeepsTurnsOf r.outcome) (result_same past) result),
   )
 
-  module _ (ground : AllGround r.imports) where
-    each_whole : (past : List Pass) → EachKeeps 0 c.imports c.outcome (is_open past) → EachKeeps 0 r.imports r.outcome (is_open (set_passes f past))
-    each_whole past (each, result) = (
-      one,
-      subst (λ (t : Type'). KeepsTurnsOf t (of_result (is_open (set_passes f past)))) (sym is.outcome)
-          (subst (KeepsTurnsOf c.outcome) (sym (result_same past)) result),
-    )
-      where
-        of_own : (i j : ℕ) (x : Imported) → slice_get r.imports i ≡ Some x → f.import j ≡ i → ImportKeeps (is_open (set_passes f past)) (0 + i) x r.outcome
-        of_own i j x at lands =
-            let zeros : 0 + j ≡ j = omega arith in
-            let sum : f.import j ≡ 0 + i = omega (arith, lands) in
-            let at_c : slice_get c.imports j ≡ Some x = sym (is.imports j) ∙ (ap (slice_get r.imports) lands ∙ at) in
-            let plain : ImportKeeps (is_open past) j x c.outcome =
-            subst (λ (m : ℕ). ImportKeeps (is_open past) m x c.outcome) zeros (each j x at_c)
-            in
-            let of_r : ImportKeeps (is_open past) j x r.outcome =
-            subst (λ (t : Type'). ImportKeeps (is_open past) j x t) (sym is.outcome) plain
-            in
-            let shown : Shown x r.outcome (of_import (is_open (set_passes f past)) (f.import j)) (of_result (is_open (set_passes f past))) =
-            subst (λ (g : ℕ → Bool). Shown x r.outcome g (of_result (is_open (set_passes f past)))) (sym (import_same past j))
-            (subst (λ (h : ℕ → Bool). Shown x r.outcome (of_import (is_open past) j) h) (sym (result_same past)) of_r)
-            in
-            subst (λ (m : ℕ). ImportKeeps (is_open (set_passes f past)) m x r.outcome) sum shown
+  each_whole : (past : List Pass) → EachKeeps 0 c.imports c.outcome (is_open past) → EachKeeps 0 r.imports r.outcome (is_open (set_passes f past))
+  each_whole past (each, result) = (
+    one,
+    subst (λ (t : Type'). KeepsTurnsOf t (of_result (is_open (set_passes f past)))) (sym is.outcome)
+        (subst (KeepsTurnsOf c.outcome) (sym (result_same past)) result),
+  )
+    where
+      of_own : (i j : ℕ) (x : Imported) → slice_get r.imports i ≡ Some x → f.import j ≡ i → ImportKeeps (is_open (set_passes f past)) (0 + i) x r.outcome
+      of_own i j x at lands =
+          let zeros : 0 + j ≡ j = omega arith in
+          let sum : f.import j ≡ 0 + i = omega (arith, lands) in
+          let at_c : slice_get c.imports j ≡ Some x = sym (is.imports j) ∙ (ap (slice_get r.imports) lands ∙ at) in
+          let plain : ImportKeeps (is_open past) j x c.outcome =
+          subst (λ (m : ℕ). ImportKeeps (is_open past) m x c.outcome) zeros (each j x at_c)
+          in
+          let of_r : ImportKeeps (is_open past) j x r.outcome =
+          subst (λ (t : Type'). ImportKeeps (is_open past) j x t) (sym is.outcome) plain
+          in
+          let shown : Shown x r.outcome (of_import (is_open (set_passes f past)) (f.import j)) (of_result (is_open (set_passes f past))) =
+          subst (λ (g : ℕ → Bool). Shown x r.outcome g (of_result (is_open (set_passes f past)))) (sym (import_same past j))
+          (subst (λ (h : ℕ → Bool). Shown x r.outcome (of_import (is_open past) j) h) (sym (result_same past)) of_r)
+          in
+          subst (λ (m : ℕ). ImportKeeps (is_open (set_passes f past)) m x r.outcome) sum shown
 
-        of_loose : (i : ℕ) (x : Imported) → slice_get r.imports i ≡ Some x → f.import_number i ≡ None → ImportKeeps (is_open (set_passes f past)) (0 + i) x r.outcome
-        of_loose i x at loose =
-            let sum : 0 + i ≡ i = omega arith in
-            let closed : (h : ℕ) → of_import (is_open (set_passes f past)) (0 + i) h ≡ false =
-            λ h. loose_closed past (ImportEnd (0 + i) h) (ap (λ (n : ℕ). import_if (f.import_number n) h) sum ∙ ap (λ (o : Option ℕ). import_if o h) loose)
-            in (
-              closed_keeps x.ty (one_ground r.imports ground i x at) (of_import (is_open (set_passes f past)) (0 + i)) closed,
-              λ busy.
-                  (let (h, low, up) = some_there (count x.ty) (of_import (is_open (set_passes f past)) (0 + i)) busy in
-                  let both : true ≡ false = sym up ∙ closed h in absurd (cc both)),
-            )
+      of_loose : (i : ℕ) (x : Imported) → slice_get r.imports i ≡ Some x → f.import_number i ≡ None → ImportKeeps (is_open (set_passes f past)) (0 + i) x r.outcome
+      of_loose i x at loose =
+          let sum : 0 + i ≡ i = omega arith in
+          let closed : (h : ℕ) → of_import (is_open (set_passes f past)) (0 + i) h ≡ false =
+          λ h. loose_closed past (ImportEnd (0 + i) h) (ap (λ (n : ℕ). import_if (f.import_number n) h) sum ∙ ap (λ (o : Option ℕ). import_if o h) loose)
+          in (
+            closed_keeps x.ty (of_import (is_open (set_passes f past)) (0 + i)) closed,
+            λ busy.
+                (let (h, low, up) = some_there (count x.ty) (of_import (is_open (set_passes f past)) (0 + i)) busy in
+                let both : true ≡ false = sym up ∙ closed h in absurd (cc both)),
+          )
 
-        one : (i : ℕ) (x : Imported) → slice_get r.imports i ≡ Some x → ImportKeeps (is_open (set_passes f past)) (0 + i) x r.outcome
-        one i x at = by_number (f.import_number i) refl
-          where
-            by_number : (o : Option ℕ) → f.import_number i ≡ o → ImportKeeps (is_open (set_passes f past)) (0 + i) x r.outcome
-            by_number None loose = of_loose i x at loose
-            by_number (Some j) own = of_own i j x at (is.number_import i j own)
+      one : (i : ℕ) (x : Imported) → slice_get r.imports i ≡ Some x → ImportKeeps (is_open (set_passes f past)) (0 + i) x r.outcome
+      one i x at = by_number (f.import_number i) refl
+        where
+          by_number : (o : Option ℕ) → f.import_number i ≡ o → ImportKeeps (is_open (set_passes f past)) (0 + i) x r.outcome
+          by_number None loose = of_loose i x at loose
+          by_number (Some j) own = of_own i j x at (is.number_import i j own)
 
-    turns_whole : (past : List Pass) (x : Pass) → KeepsTurns c past x → KeepsTurns r (set_passes f past) (set_pass f x)
-    turns_whole past x (turn, keeps) = (
-      in_turn_whole past x.end x.way turn,
-      each_keeps 0 r.imports r.outcome (λ h. is_open (set_passes f (x ∷ past)) (whole_end 0 r.imports h)) (is_open (set_passes f (x ∷ past))) (λ h. refl)
-          (each_whole (x ∷ past) (keeps_each 0 c.imports c.outcome (λ h. is_open (x ∷ past) (whole_end 0 c.imports h)) (is_open (x ∷ past)) (λ h. refl) keeps)),
-    )
+  turns_whole : (past : List Pass) (x : Pass) → KeepsTurns c past x → KeepsTurns r (set_passes f past) (set_pass f x)
+  turns_whole past x (turn, keeps) = (
+    in_turn_whole past x.end x.way turn,
+    each_keeps 0 r.imports r.outcome (λ h. is_open (set_passes f (x ∷ past)) (whole_end 0 r.imports h)) (is_open (set_passes f (x ∷ past))) (λ h. refl)
+        (each_whole (x ∷ past) (keeps_each 0 c.imports c.outcome (λ h. is_open (x ∷ past) (whole_end 0 c.imports h)) (is_open (x ∷ past)) (λ h. refl) keeps)),
+  )
 
   turns_own : (past : List Pass) (x : Pass) → KeepsTurns r (set_passes f past) (set_pass f x) → KeepsTurns c past x
   turns_own past x (turn, keeps) = (
@@ -175,15 +184,15 @@ module _ (f : Placing) (r c : Plan) (is : IsPlaced f r c) where
   abbrev OutThen : List Pass → List Element → Pass → Type 0
   OutThen past xs x = KeepsTurns r past x × OutputsKeepTurns r (x ∷ past) xs
 
-  pub outputs_whole : AllGround r.imports → (xs : List Element) (past : List Pass) → OutputsKeepTurns c past xs
+  pub outputs_whole : (xs : List Element) (past : List Pass) → OutputsKeepTurns c past xs
       → OutputsKeepTurns r (set_passes f past) (set_list f xs)
-  outputs_whole ground [] past keeps = tt
-  outputs_whole ground (Fire i k ∷ xs) past keeps = outputs_whole ground xs past keeps
-  outputs_whole ground (In e v ∷ xs) past keeps =
+  outputs_whole [] past keeps = tt
+  outputs_whole (Fire i k ∷ xs) past keeps = outputs_whole xs past keeps
+  outputs_whole (In e v ∷ xs) past keeps =
       subst (λ (x : Pass). OutputsKeepTurns r (x ∷ set_passes f past) (set_list f xs)) (sym (in_pass e))
-      (outputs_whole ground xs (pass e (way_in (contact_at c e)) ∷ past) keeps)
-  outputs_whole ground (Out e v ∷ xs) past keeps =
+      (outputs_whole xs (pass e (way_in (contact_at c e)) ∷ past) keeps)
+  outputs_whole (Out e v ∷ xs) past keeps =
       subst (OutThen (set_passes f past) (set_list f xs)) (sym (out_pass e)) (
-        turns_whole ground past (pass e (way_out (contact_at c e))) keeps.0,
-        outputs_whole ground xs (pass e (way_out (contact_at c e)) ∷ past) keeps.1,
+        turns_whole past (pass e (way_out (contact_at c e))) keeps.0,
+        outputs_whole xs (pass e (way_out (contact_at c e)) ∷ past) keeps.1,
       )

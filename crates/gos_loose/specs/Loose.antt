@@ -11,11 +11,17 @@ use Rattle.gos_realises.specs.Regular.{IsRegular}
 use Rattle.gos_realises.specs.Matched.{RealisesDone}
 use Rattle.gos_realises.specs.Realises.{AllGround, NamesDiffer, Realises}
 use Rattle.gos_contexts.specs.Widening.{Knows}
+use Rattle.gos_turns.specs.Rests.{Rests}
 use Rattle.gos_loose.specs.Beside.{Placing, IsBeside}
 
--- The whole is regular where the plan is. An input at a loose import is an answer, and no loose part has asked.
+-- The whole is regular where the plan is. An input at a loose import is an answer, and no loose part has asked; or a request of an
+-- argument, which keeps turns only where the function itself is asked.
 abbrev pub LooseIsRegular : Type 0
-LooseIsRegular = (f : Placing) (r c : Plan) → IsBeside f r c → AllGround r.imports → IsRegular c → IsRegular r
+LooseIsRegular = (f : Placing) (r c : Plan) → IsBeside f r c → IsRegular c → IsRegular r
+
+-- And it rests where the plan does.
+abbrev pub LooseRests : Type 0
+LooseRests = (f : Placing) (r c : Plan) → IsBeside f r c → Rests c → Rests r
 
 -- It realises the commands and expressions that the plan realises, where the plan's imports have all their names.
 abbrev pub LooseIsDone : Type 0

@@ -1,6 +1,6 @@
 // What the definitions give. Each theorem is the contract of a function that does nothing.
 ghost use Rattle.gos_loose.specs.Homes.{WebIsBeside};
-ghost use Rattle.gos_loose.specs.Loose.{LooseIsDone, LooseIsRealised, LooseIsRegular};
+ghost use Rattle.gos_loose.specs.Loose.{LooseIsDone, LooseIsRealised, LooseIsRegular, LooseRests};
 ghost use Rattle.gos_loose.specs.SmallBeside.{JoinedIsNotBeside, OtherIsNotHome, SkipIsBeside, SkipIsHome};
 
 /// The plan of a web stands beside what no tie joins to that web.
@@ -8,9 +8,10 @@ pub fn web_is_beside()
     ensures { WebIsBeside }
 {}
 
-/// A plan with loose parts and ground loose imports beside it is regular where it is by itself.
+/// A plan with loose parts and loose imports beside it is regular where it is by itself, and rests where it does.
 pub fn loose_is_regular()
-    ensures { LooseIsRegular }
+    ensures regular { LooseIsRegular }
+    ensures rests { LooseRests }
 {}
 
 /// And realises the programs of commands and expressions that it realises by itself.

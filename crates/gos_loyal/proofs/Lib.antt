@@ -1,2 +1,3 @@
-pub mod LoyalLemmas
-pub mod SmallLoyalLemmas
+pub mod SeatLemmas
+pub mod BeforeLemmas
+pub mod SmallSeatLemmas

@@ -1,3 +1,3 @@
 -- In reading order: a file uses only files above it.
-pub mod Loyal
-pub mod SmallLoyal
+pub mod Seats
+pub mod SmallSeats

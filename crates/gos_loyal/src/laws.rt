@@ -1,16 +1,20 @@
 // What the definitions give. Each theorem is the contract of a function that does nothing.
-ghost use Rattle.gos_loyal.specs.Loyal.{BufferedIsOfOne, SharesOfOneAreLoyal};
-ghost use Rattle.gos_loyal.specs.SmallLoyal.{CallIsOfOne, SharedIsOfNone};
+ghost use Rattle.gos_loyal.specs.Seats.{BehindIsSeated, ItselfIsSeated, SeatedIsBefore, SeatedIsLoyal, SeatsCompose};
+ghost use Rattle.gos_loyal.specs.SmallSeats.{SameIsSeated, SkipIsNotSeated};
 
-/// In a regular plan a Share of a ground type, of which one caller alone is joined, is loyal to it. So is that of a
-/// plan behind a Share.
-pub fn shares_of_one()
-    ensures loyal { SharesOfOneAreLoyal }
-    ensures buffered { BufferedIsOfOne }
+/// Where a plan behind a Share lies in a greater one up to its result, that Share is loyal to its one caller, at any type.
+pub fn seats()
+    ensures compose { SeatsCompose }
+    ensures itself { ItselfIsSeated }
+    ensures behind { BehindIsSeated }
+    ensures before { SeatedIsBefore }
+    ensures loyal { SeatedIsLoyal }
 {}
 
-/// The Share of the first child of `c ; c` is used by one caller; that of `c ; c` is used by two.
-pub fn small_shares()
-    ensures one { CallIsOfOne }
-    ensures none { SharedIsOfNone }
-{}
+/// The plan of `fun a : com . a` lies so in itself behind a Share, and that of `skip` doesn't.
+pub fn small_seats()
+    ensures same { SameIsSeated }
+    ensures skip { SkipIsNotSeated }
+{
+    gos_passing::small_plans();
+}

@@ -1,8 +1,8 @@
-// Shares that one caller alone uses.
+// Shares that one caller alone uses, in plans that lie in greater ones.
 //
-// Definitions and laws alone. Read `specs/Loyal`, and then laws.rt.
+// Definitions and laws alone. Read `specs/Seats`, and then laws.rt.
 #![tactic(auto)]
 
 mod laws;
 
-pub use laws::{shares_of_one, small_shares};
+pub use laws::{seats, small_seats};

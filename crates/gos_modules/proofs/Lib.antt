@@ -1,8 +1,8 @@
 -- In reading order: a file uses only files above it.
-mod NodeLemmas
-mod LiteralLemmas
+pub mod NodeLemmas
+pub mod LiteralLemmas
 mod GroundLemmas
-mod ImportLemmas
-mod ModuleLemmas
+pub mod ImportLemmas
+pub mod ModuleLemmas
 mod SmallModuleLemmas
 pub mod SourceLemmas

@@ -1,5 +1,5 @@
 -- The plan of a checked module of ground types, joined to supplies, is its term's node wired to them, and realises what it means with these.
-use Rattle.std.specs.Prelude.{◌≡◌, ℕ, true, List, [], Option, Some, Contains, All, length, slice_get}
+use Rattle.std.specs.Prelude.{◌≡◌, ℕ, true, List, [], Option, Some, All, length, slice_get}
 use Rattle.std.specs.Str.{bytes_eq}
 use Rattle.std.proofs.Common.{sym, ◌∙◌, ap, subst, arith}
 use Rattle.std.proofs.lemmas.Slice.Eq.{bytes_eq-Decides}
@@ -22,34 +22,28 @@ use Rattle.gos_renumbered.proofs.ImportLemmas.{type_has}
 use Rattle.gos_compile.specs.Wiring.{Types, IsPlanOf, all_types}
 use Rattle.gos_renumbered.proofs.SupplyLemmas.{supply_of, import_for, at_term}
 use Rattle.gos_typing.specs.Supplied.{SuppliedIsTyped}
-use Rattle.gos_joints.specs.Joints.{GroundResultIsJoined}
 use Rattle.gos_ports.specs.Ports.{HaveWidths, WidthsAreHad, OpenIsRealised}
 use Rattle.gos_meanings.specs.Meanings.{ModuleIsSupplied}
-use Rattle.gos_wired.specs.Wired.{Supplies, terms_of}
+use Rattle.gos_wired.specs.Wired.{Supplies, AreRealised, terms_of}
 use Rattle.gos_wired.specs.Modules.{supply_at, numbers_from}
 use Rattle.gos_wired.specs.Fitting.{CheckedFits, CheckedIsWired}
 use Rattle.gos_wired.specs.NodeFitting.{CheckedStarts}
-use Rattle.gos_wired.proofs.PlacingLemmas.{import_numbered}
-use Rattle.gos_wired.proofs.TypeLemmas.{type_is}
-use Rattle.gos_stages.specs.Inside.{AreGroundSupplies}
 use Rattle.gos_numbers.specs.Kept.{CheckedIsKept}
 use Rattle.gos_numbers.specs.Unsplit.{CheckedIsUnsplit}
+use Rattle.gos_grounds.specs.Cases.{RealisesWired}
 use Rattle.gos_modules.specs.Modules.{GroundIsRealised, IsGroundLinear, CheckedIsOpen, CheckedIsRealised, PortsAreGround}
 use Rattle.gos_modules.proofs.NodeLemmas.{has_leaves, node_ground}
 use Rattle.gos_modules.proofs.LiteralLemmas.{literals_fit, joined_fit}
-use Rattle.gos_modules.proofs.ImportLemmas.{names_differ, widths_are_had, ground_at, import_there, term_there}
+use Rattle.gos_modules.proofs.ImportLemmas.{names_differ, widths_are_had, import_there, term_there}
 
 -- the laws of nodes, and of modules
 pub record ModuleLaws : Type 0 where
-  pub ground : GroundIsRealised
   pub kept : CheckedIsKept
-  pub unsplit : CheckedIsUnsplit
   pub fits : CheckedFits
   pub wired : CheckedIsWired
   pub starts : CheckedStarts
   pub means : ModuleIsSupplied
   pub typed : SuppliedIsTyped
-  pub joined : GroundResultIsJoined
 
 own_name : (x : Name) → bytes_eq x x ≡ true
 own_name x = grind (arith, bytes_eq-Decides)
@@ -67,17 +61,17 @@ module _ (l : SeenLinear) (w : ℕ) (p : Plan) (c : IsChecked l) (of : IsPlanOf 
   abbrev numbers : List ℕ
   numbers = numbers_from 0 (length imports)
 
-  differ_there : NamesDiffer p.imports
+  pub differ_there : NamesDiffer p.imports
   differ_there = subst NamesDiffer (sym of.imports) (names_differ l.imports c.names)
 
-  typed_there : Typed p.imports [] (program_in l).body (type_of l.result)
+  pub typed_there : Typed p.imports [] (program_in l).body (type_of l.result)
   typed_there = subst (λ (is : Imports). Typed is [] (program_in l).body (type_of l.result)) (sym of.imports) c.typed
 
-  own_literals : All LiteralFits p.parts
+  pub own_literals : All LiteralFits p.parts
   own_literals =
       subst (λ (xs : List Part). All LiteralFits xs) (sym of.parts) (literals_fit types imports [] (import_at imports) node (type_of l.result) c.typed)
 
-  module _ (laws : ModuleLaws) (ground : IsGroundLinear l) (ss : List Supply) (r : Plan) (are : AreSupplied p.imports ss) (join : IsJoined (supplying p ss) r)
+  module _ (laws : ModuleLaws) (realised : RealisesWired types numbers node) (ss : List Supply) (r : Plan) (are : AreSupplied p.imports ss) (join : IsJoined (supplying p ss) r)
       (differ : NamesDiffer r.imports)
     where
       -- the module's type is the node's
@@ -90,22 +84,9 @@ module _ (l : SeenLinear) (w : ℕ) (p : Plan) (c : IsChecked l) (of : IsPlanOf 
       supplied_there : AreSupplied imports ss
       supplied_there = subst (λ (is : Imports). AreSupplied is ss) of.imports are
 
-      -- what is supplied realises the numbers' terms, at ground types
-      supplies : AreGroundSupplies types env numbers
-      supplies =
-          record {
-            realised = realised;
-            ground = is_ground;
-            joined = λ n among. laws.joined (types n) (env n).plan (env n).term (is_ground n among) (realised n among);
-          }
-        where
-          realised : (n : ℕ) → Contains numbers n → Realises (types n) (env n).plan (env n).term
-          realised = (laws.starts l ss c supplied_there).1
-
-          is_ground : (n : ℕ) → Contains numbers n → IsGround (types n)
-          is_ground n among =
-              let (x, at) = import_numbered imports n among in
-              subst IsGround (sym (type_is imports node c.term.no_import n x at)) (ground_at imports n x ground.imports at)
+      -- what is supplied realises the numbers' terms
+      supplies : AreRealised types env numbers
+      supplies = (laws.starts l ss c supplied_there).1
 
       -- and each of its terms has a type under the imports of the whole
       each_typed : (n : ℕ) (s : Supply) → slice_get ss n ≡ Some s → (t : Type') × Typed r.imports [] s.term t
@@ -123,7 +104,7 @@ module _ (l : SeenLinear) (w : ℕ) (p : Plan) (c : IsChecked l) (of : IsPlanOf 
       means : supplied (term_for p.imports ss) (program_in l).body ≡ meaning (terms_of env) node
       means =
           ap (λ (is : Imports). supplied (term_for is ss) (program_in l).body) of.imports
-          ∙ (laws.means imports r.imports ss node (type_of l.result) (has_leaves types node (laws.kept l c ground.nodes).typed)
+          ∙ (laws.means imports r.imports ss node (type_of l.result) (has_leaves types node (laws.kept l c).typed)
           (names_differ l.imports c.names) c.typed each_typed stand
           ∙ ap (λ (f : Meaning). meaning f node) (λ i n. term_there ss n i))
         where
@@ -142,13 +123,16 @@ module _ (l : SeenLinear) (w : ℕ) (p : Plan) (c : IsChecked l) (of : IsPlanOf 
       whole_realises =
           let (pl, wired) = laws.wired l w p r ss c of supplied_there join in
           let node_realised : Realises (type_of_node node) r (meaning (terms_of env) node) =
-          laws.ground types numbers node (laws.kept l c ground.nodes) (laws.unsplit l c ground.nodes) 0 0 env pl r wired supplies differ
+          realised 0 0 env pl r wired supplies differ
           (joined_fit p.imports p r ss are join own_literals) whole_typed in
           subst (λ (t : Type'). Realises t r (supplied (term_for p.imports ss) (program_in l).body)) (sym (of.outcome ∙ same_type))
           (subst (λ (m : Term). Realises (type_of_node node) r m) (sym means) node_realised)
 
-pub checked_is_open : ModuleLaws → CheckedIsOpen
-checked_is_open laws l w p c ground of ss r are join differ = whole_realises l w p c of laws ground ss r are join differ
+pub checked_is_open : ModuleLaws → GroundIsRealised → CheckedIsUnsplit → CheckedIsOpen
+checked_is_open laws law unsplit l w p c ground of ss r are join differ =
+    let types : Types = all_types (program_in l).imports (node_seen l.term) in
+    let realised = law types (numbers_from 0 (length (program_in l).imports)) (node_seen l.term) (laws.kept l c) ground.nodes (unsplit l c).0 in
+    whole_realises l w p c of laws realised ss r are join differ
 
 pub ports_are_ground : CheckedFits → WidthsAreHad → PortsAreGround
 ports_are_ground fits had l w p c ground of = (

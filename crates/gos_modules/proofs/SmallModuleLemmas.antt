@@ -24,4 +24,4 @@ pub function_is_not_ground : FunctionIsNotGround
 function_is_not_ground l a b is ground = subst IsGround is (node_ground (node_seen l.term) ground.nodes)
 
 pub twice_is_realised : GroundIsRealised → TwiceIsKept → TwiceIsRealised
-twice_is_realised law kept = law (λ n. Com) (0 ∷ []) twice kept (tt, tt, tt)
+twice_is_realised law kept = law (λ n. Com) (0 ∷ []) twice kept (tt, tt, tt) (tt, tt, tt)

@@ -17,7 +17,9 @@ use Rattle.gos_grounds.specs.Cases.{RealisesWired}
 
 -- However a typed node of ground types is wired to supplies for its numbers, its plan realises its term with these.
 abbrev pub GroundIsRealised : Type 0
-GroundIsRealised = (types : Types) (ns : List ℕ) (m : Numbered) → IsKept types ns m → ParallelsAreUnsplit m → RealisesWired types ns m
+GroundIsRealised =
+    (types : Types) (ns : List ℕ) (m : Numbered)
+    → IsKept types ns m → NodesGround m → ParallelsAreUnsplit m → RealisesWired types ns m
 
 -- each import of a checked module, and each node of its term, is a command, an expression or a variable
 pub record IsGroundLinear (l : SeenLinear) : Type 0 where

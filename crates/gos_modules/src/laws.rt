@@ -6,7 +6,6 @@ ghost use Rattle.gos_modules.specs.Sources.{NodesAreThose, ProgramHasPorts, Prog
 
 use gos_assignments::assignment_case;
 use gos_grounds::{blocks, leaves, parallel_nodes};
-use gos_joints::ground;
 use gos_meanings::meanings;
 use gos_numbers::{checked_is_kept, parallels_are_unsplit, parts_are_kept, small_kept};
 use gos_ports::ports;
@@ -37,7 +36,6 @@ pub fn open_modules()
     starts();
     meanings();
     supplies();
-    ground();
 }
 
 /// So it realises the module, if it is slim. Its imports and its outcome may be ports of a circuit.

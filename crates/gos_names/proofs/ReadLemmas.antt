@@ -14,15 +14,16 @@ use Rattle.gos_model.specs.Moves.{Program, Config, Idle, Running, Act, Showing, 
 use Rattle.gos_plan.specs.Kinds.{Contact, asks, serves}
 use Rattle.gos_plan.specs.Firing.{Phase, Rest, Waiting, Slot, Req, Ans, Row, row, at, put}
 use Rattle.gos_plan.specs.Plans.{End, PartEnd, ImportEnd, ResultEnd, contact_at}
-use Rattle.gos_plan.specs.Tokens.{Tokens, Element, Fire, Out, In, with_place, with_state, with_token, firing_of, fired, end_of, way_of, way_taken, way_put, Does, IsIdle}
+use Rattle.gos_plan.specs.Tokens.{Tokens, Element, Fire, Out, In, with_place, with_state, with_token, firing_of, fired, end_of, way_of, way_taken, way_put, Does, Runs, IsIdle}
 use Rattle.gos_plan.specs.Turns.{IsEmptyAt}
 use Rattle.gos_plan.specs.Orderly.{Open, with_open, after_taken, after_put, after_puts, ComesWell, AllComeWell, ComesInOrder, AllWelcome}
-use Rattle.gos_realises.specs.Regular.{Pass, way_in, is_open, ComesInTurn, IsRegular}
+use Rattle.gos_realises.specs.Regular.{Pass, way_in, is_open, ComesInTurn, InputsKeepTurns, IsRegular}
 use Rattle.gos_realises.specs.Matched.{label_at, shows, asks_on, GoesOn, Agrees, program_of, RealisesDone}
+use Rattle.gos_realises.proofs.InputLemmas.{passed as passed_along}
 use Rattle.gos_realises.proofs.OneJointLemmas.{not_both}
 use Rattle.gos_realises.proofs.SkipLemmas.{run_is_no_output, running_is_not_idle}
 use Rattle.gos_realises.proofs.RingLemmas.{after, told_open, OutputTurns, MayCome, IsFirst}
-use Rattle.gos_names.proofs.TrackLemmas.{IsTrack, IsProgramTrack, track_is_regular, track_realises}
+use Rattle.gos_names.proofs.TrackLemmas.{IsTrack, IsProgramTrack, track_ends, track_is_regular, track_realises}
 use Rattle.gos_names.proofs.WaitLemmas.{wait_is_stalled}
 use Rattle.gos_names.proofs.PlaceLemmas.{Places, nowhere, placed_at, Holds, put_there, turned_to, emptied, exchanged, true_is_not_false, or_false, none_open_at, not_both_open}
 use Rattle.gos_names.proofs.ReadingLemmas.{read_plan}
@@ -611,6 +612,25 @@ module _ (n : Name) (w : ℕ) where
 
   pub read_is_regular : IsRegular (read_plan n w)
   read_is_regular = track_is_regular (read_plan n w) Stage (Next w) succ (At w) OpenAt Opened track Resting first
+
+  -- where the result is not open all is idle
+  pub read_is_idle : (s t : Tokens) (xs : List Element) → IsIdle (read_plan n w) s → Runs (read_plan n w) xs s t → InputsKeepTurns (read_plan n w) [] xs
+      → is_open (passed_along (read_plan n w) [] xs) (ResultEnd 0) ≡ false → IsIdle (read_plan n w) t
+  read_is_idle s t xs idle runs keeps shut = by_stage ends.0 ends.1 ends.2
+    where
+      ends : (z : Stage) × At w z t × Opened z (is_open (passed_along (read_plan n w) [] xs))
+      ends = track_ends (read_plan n w) Stage (Next w) succ (At w) OpenAt Opened track xs Resting s t [] (first.rests s idle) runs first.closed keeps
+
+      up : is_open (passed_along (read_plan n w) [] xs) (ResultEnd 0) ≡ true → ⊥
+      up opened = true_is_not_false (is_open (passed_along (read_plan n w) [] xs) (ResultEnd 0)) opened shut
+
+      by_stage : (z : Stage) → At w z t → Opened z (is_open (passed_along (read_plan n w) [] xs)) → IsIdle (read_plan n w) t
+      by_stage Resting (here, fits) opened = is_idle t here
+      by_stage Run here opened = absurd (up opened.0)
+      by_stage Reading here opened = absurd (up opened.0)
+      by_stage Away here opened = absurd (up opened.0)
+      by_stage (Read v) here opened = absurd (up opened.0)
+      by_stage (Back v) here opened = absurd (up opened.0)
 
   pub read_realises : RealisesDone (read_plan n w) (Deref (Import n))
   read_realises =

@@ -2,7 +2,7 @@
 --
 -- As RingLemmas of gos_realises, but an element may bring any number, by which the stages after it go on.
 use Rattle.std.specs.Prelude.{◌≡◌, ℕ, Bool, List, [], ◌∷◌, ◌++◌}
-use Rattle.std.proofs.Common.{refl, subst}
+use Rattle.std.proofs.Common.{refl, sym, subst}
 use Rattle.gos_model.specs.Terms.{Term}
 use Rattle.gos_model.specs.Labels.{Label}
 use Rattle.gos_model.specs.Moves.{Program, Config, Idle, Act, Moves, labels}
@@ -13,6 +13,7 @@ use Rattle.gos_plan.specs.Tokens.{Tokens, Element, Fire, Out, In, Does, Runs}
 use Rattle.gos_plan.specs.Orderly.{Open, none_open, ComesInOrder, AllWelcome, OrderlyFrom}
 use Rattle.gos_realises.specs.Regular.{Pass, pass, way_in, is_open, KeepsTurns, InputsKeepTurns, OutputsKeepTurns, IsRegular}
 use Rattle.gos_realises.specs.Matched.{label_at, shows, all_shown, GoesOn, Agrees, IsMatched, program_of, RealisesDone}
+use Rattle.gos_realises.proofs.InputLemmas.{passed}
 use Rattle.gos_realises.proofs.RingLemmas.{after, told_open, OutputTurns, MayCome, IsFirst}
 
 -- The stages of a plan: in each the tokens, the handshakes that are open and those that are open at ports are of some form,
@@ -91,6 +92,20 @@ module _
     turned xs (succ q (Out a v)) (after p (Out a v) past) (track.passed q (Out a v) past e o) follows,
   )
   turned (In a v ∷ xs) q past o (e, follows) = turned xs (succ q (In a v)) (after p (In a v) past) (track.passed q (In a v) past e o) follows
+
+  -- where a list ends
+  pub track_ends : (xs : List Element) (q : S) (s t : Tokens) (past : List Pass) → At q s → Runs p xs s t → Opened q (is_open past) → InputsKeepTurns p past xs
+      → (z : S) × At z t × Opened z (is_open (passed p past xs))
+  track_ends [] q s t past here runs o keeps = (q, subst (At q) (sym runs) here, o)
+  track_ends (Fire i k ∷ xs) q s t past here (w, does, runs) o keeps =
+      let e = track.fires q i k s w here does in
+      track_ends xs (succ q (Fire i k)) w t past (track.leads q (Fire i k) s w e here does) runs (track.passed q (Fire i k) past e o) keeps
+  track_ends (Out a v ∷ xs) q s t past here (w, does, runs) o keeps =
+      let e = track.puts_out q a v s w here does in
+      track_ends xs (succ q (Out a v)) w t (after p (Out a v) past) (track.leads q (Out a v) s w e here does) runs (track.passed q (Out a v) past e o) keeps
+  track_ends (In a v ∷ xs) q s t past here (w, does, runs) o keeps =
+      let e = track.in_turn q a v s w past does o here keeps.0 in
+      track_ends xs (succ q (In a v)) w t (after p (In a v) past) (track.leads q (In a v) s w e here does) runs (track.passed q (In a v) past e o) keeps.1
 
   pub track_is_regular : (q : S) → IsFirst p S At OpenAt Opened q → IsRegular p
   track_is_regular q first s t xs idle runs keeps =

@@ -27,7 +27,6 @@ plain_body types ns t b n m is = (
     apart = is.apart.1;
     forks = is.forks.1;
     typed = is.typed.2;
-    ground = is.ground.1;
   },
   record { once = once; knows = λ k small. covered m (ns ++ n ∷ []) is.forks.1 is.scope.1 k small },
 )
@@ -58,7 +57,6 @@ plain_part types ns t f m is =
       apart = is.apart.1;
       forks = is.forks.1;
       typed = is.typed.2;
-      ground = is.ground.1;
       few = λ k. omega arith;
       unsplit = λ k small. refl;
       all = λ k small there. there;
@@ -182,7 +180,6 @@ module _ (types : Types) (ns : List ℕ) (t : Type') (ss : List Split) (f : TwoF
         apart = is.apart.2;
         forks = is.forks.0;
         typed = is.typed.2;
-        ground = is.ground.1;
         few = suits.few;
         unsplit = suits.unsplit;
         all = suits.all;
@@ -203,7 +200,6 @@ module _ (types : Types) (ns : List ℕ) (t : Type') (ss : List Split) (f : TwoF
         apart = is.apart.3;
         forks = is.forks.1;
         typed = is.typed.3;
-        ground = is.ground.2;
         few = suits.few;
         unsplit = suits.unsplit;
         all = suits.all;
@@ -245,7 +241,6 @@ three_are_kept types ns t ss m n p is = (
         apart = is.apart.3;
         forks = is.forks.0;
         typed = is.typed.2;
-        ground = is.ground.1;
         few = first.few;
         unsplit = first.unsplit;
         all = first.all;
@@ -263,7 +258,6 @@ three_are_kept types ns t ss m n p is = (
         apart = is.apart.4;
         forks = is.forks.1;
         typed = is.typed.3;
-        ground = is.ground.2;
         few = second.few;
         unsplit = second.unsplit;
         all = second.all;
@@ -281,7 +275,6 @@ three_are_kept types ns t ss m n p is = (
         apart = is.apart.5;
         forks = is.forks.2;
         typed = is.typed.4;
-        ground = is.ground.3;
         few = third.few;
         unsplit = third.unsplit;
         all = third.all;

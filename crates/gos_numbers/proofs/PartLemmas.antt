@@ -11,7 +11,7 @@ use Rattle.gos_leaves.proofs.CountLemmas.{left_in, right_in}
 use Rattle.gos_compile.specs.Wiring.{Types}
 use Rattle.gos_compile.specs.Typed.{NodesTyped, SidesTyped}
 use Rattle.gos_stages.specs.Inside.{numbers_inside, AreSplit, SidesAgree}
-use Rattle.gos_numbers.specs.Kept.{InScope, NodesGround}
+use Rattle.gos_numbers.specs.Kept.{InScope}
 use Rattle.gos_numbers.specs.Inherited.{IsPart, is_in}
 use Rattle.gos_numbers.proofs.ListLemmas.{times_inside, true_lt}
 use Rattle.gos_numbers.proofs.ScopeLemmas.{restrict, covered, in_order}
@@ -33,7 +33,6 @@ pub record Beside (types : Types) (ss : List Split) (ns uses : List ℕ) (m : Nu
   pub apart : SidesApart m
   pub forks : SplitsAtForks m
   pub typed : NodesTyped types m
-  pub ground : NodesGround m
   pub few : (k : ℕ) → times k uses ≤ times k (numbers_inside ss ns)
   pub unsplit : (k : ℕ) → 0 < times k uses → times k (split_in ss) ≡ 0
   pub all : (k : ℕ) → 0 < times k (used m) → 0 < times k (numbers_inside ss ns) → 0 < times k uses
@@ -52,7 +51,6 @@ is_part types ss ns uses m is =
             apart = is.apart;
             forks = is.forks;
             typed = is.typed;
-            ground = is.ground;
           };
       tidy =
           record {

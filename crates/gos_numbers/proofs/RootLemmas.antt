@@ -10,6 +10,7 @@ use Rattle.gos_check.specs.Nodes.{Numbered, Closed, Use, Under, One, Two, If, Me
 use Rattle.gos_check.specs.Linearity.{times, made, import_at}
 use Rattle.gos_check.specs.Checked.{program_in}
 use Rattle.gos_check.proofs.TimesLemmas.{number_cases, times_same, times_other, times-append, one_other, listed_times}
+use Rattle.gos_compile.specs.Wiring.{all_types}
 use Rattle.gos_compile.specs.Typed.{CheckedIsTyped}
 use Rattle.gos_leaves.proofs.CountLemmas.{behind}
 use Rattle.gos_leaves.proofs.LostLemmas.{is_loc, UsesStand, uses_stand, lost_in, lost, kept}
@@ -128,22 +129,22 @@ number_once (suc m) n k = number_cases n k
     (λ e f. let rest = number_once m (suc n) k in let same = times_other k n (numbers_from (suc n) m) e in omega (arith, rest, same))
 
 pub checked_is_kept : CheckedIsTyped → CheckedIsKept
-checked_is_kept law l c ground =
+checked_is_kept law l c =
     let uses = uses_stand (program_in l).imports [] (import_at (program_in l).imports) (node_seen l.term) (type_of l.result) c.typed in
     let lost = none_lost (program_in l).imports (node_seen l.term) uses c.term.made_once c.term.no_import c.term.sides_used in
     let (within, forks) = standing_is_split_at_forks (program_in l) (node_seen l.term) (type_of l.result) c.term c.typed in
+    let scope =
+    in_scope (node_seen l.term) (import_at (program_in l).imports) (numbers_from 0 (length (program_in l).imports))
+    (λ k bound. (let low = import_low (program_in l).imports k bound in number_there (length (program_in l).imports) 0 k (omega arith) (omega (arith, low))))
+    uses lost in
     record {
       once = λ k. once k (times k (made (node_seen l.term))) refl;
       used_once = c.term.used_once;
-      scope =
-          in_scope (node_seen l.term) (import_at (program_in l).imports) (numbers_from 0 (length (program_in l).imports))
-          (λ k bound. (let low = import_low (program_in l).imports k bound in number_there (length (program_in l).imports) 0 k (omega arith) (omega (arith, low))))
-          uses lost;
+      scope = scope;
       within = within;
       apart = c.term.apart;
       forks = forks;
       typed = (law l c).0;
-      ground = ground;
     }
   where
     once : (k a : ℕ) → times k (made (node_seen l.term)) ≡ a → times k (made (node_seen l.term)) + times k (numbers_from 0 (length (program_in l).imports)) ≤ 1

@@ -66,7 +66,6 @@ twice_is_kept is =
       apart = (apart 1, apart 2, tt, tt);
       forks = is.1;
       typed = ((refl, refl, tt), (tt, refl, refl), (tt, refl), (tt, refl));
-      ground = (tt, tt, tt);
     }
 
 pub none_is_not_kept : NoneIsNotKept

@@ -1,4 +1,4 @@
--- A node `m || n` of a typed term has no splits: what is split would be free on both sides.
+-- A node `m || n` of a typed term, or one that applies, has no splits: what is split would be free on both sides.
 use Rattle.std.specs.Prelude.{◌≡◌, ℕ, ◌+◌, ◌-◌, ◌<◌, true, false, List, [], ◌∷◌, ◌++◌, length}
 use Rattle.std.proofs.Common.{refl, sym, subst, arith, inl, inr}
 use Rattle.gos_types.specs.Types.{Type', Var, type_of}
@@ -7,7 +7,7 @@ use Rattle.gos_model.specs.Terms.{Term}
 use Rattle.gos_model.specs.Typing.{Imports, Typed, Apart, Thing, Variable, Named}
 use Rattle.gos_model.proofs.NumberLemmas.{either}
 use Rattle.gos_check.specs.declared.linear.Split.{Split}
-use Rattle.gos_check.specs.Nodes.{Numbered, Closed, Use, Under, One, Two, If, OfFun, OfNew, OfFst, OfSnd, OfDeref, OfNot, OfApp, OfBoth, OfSeq, OfPar, OfWhile, OfAssign, OfBin, Meaning, meaning, below, inside, argument_of, node_seen}
+use Rattle.gos_check.specs.Nodes.{Numbered, Closed, Use, Under, One, Two, If, TwoForm, OfFun, OfNew, OfFst, OfSnd, OfDeref, OfNot, OfApp, OfBoth, OfSeq, OfPar, OfWhile, OfAssign, OfBin, Meaning, meaning, below, inside, argument_of, node_seen}
 use Rattle.gos_check.specs.Linearity.{times, used, made, sides, import_at}
 use Rattle.gos_check.specs.Checked.{program_in}
 use Rattle.gos_check.proofs.TimesLemmas.{times-append}
@@ -19,7 +19,7 @@ use Rattle.gos_leaves.proofs.StandLemmas.{none_lost}
 use Rattle.gos_wired.specs.Modules.{numbers_from}
 use Rattle.gos_numbers.specs.Kept.{IsKept}
 use Rattle.gos_numbers.specs.Inherited.{own_numbers, first_numbers}
-use Rattle.gos_numbers.specs.Unsplit.{ParallelsAreUnsplit, CheckedIsUnsplit}
+use Rattle.gos_numbers.specs.Unsplit.{Row, AtForks, ParallelUnsplit, AppliedUnsplit, CheckedIsUnsplit}
 use Rattle.gos_numbers.proofs.ApartLemmas.{side_comes}
 use Rattle.gos_numbers.proofs.InheritedLemmas.{body_is_kept, part_is_kept, both_are_kept, three_are_kept}
 use Rattle.gos_numbers.proofs.RootLemmas.{first_kept, checked_is_kept}
@@ -36,12 +36,12 @@ named (terms.Loc l) h stands = absurd (cc stands)
 named m h stands = absurd (cc h)
 
 -- what is split would be free on both sides
-parallel_unsplit : (types : Types) (ns : List ℕ) (t : Type') (ss : List Split) (m n : Numbered) (env : Meaning) → IsKept types ns (Two t ss OfPar m n)
+apart_unsplit : (types : Types) (ns : List ℕ) (t : Type') (ss : List Split) (f : TwoForm) (m n : Numbered) (env : Meaning) → IsKept types ns (Two t ss f m n)
     → AreNames env → lost_in env ss ≡ [] → Apart (meaning (inside ss env) m) (meaning (inside ss env) n) → ss ≡ []
-parallel_unsplit types ns t [] m n env is names none apart = refl
-parallel_unsplit types ns t (s ∷ ss) m n env is names none apart =
-    let (first, second, rest) = both_are_kept types ns t (s ∷ ss) OfPar m n is in
-    let use_two = two_used types ns t (s ∷ ss) OfPar m n is in
+apart_unsplit types ns t [] f m n env is names none apart = refl
+apart_unsplit types ns t (s ∷ ss) f m n env is names none apart =
+    let (first, second, rest) = both_are_kept types ns t (s ∷ ss) f m n is in
+    let use_two = two_used types ns t (s ∷ ss) f m n is in
     let (a, c, u, same) = reach_left s ss env (λ j. times j (used m) + times j (used n)) use_two in
     let (b, d, v, again) = reach_right s ss env (λ j. times j (used m) + times j (used n)) use_two in
     let (th, thing) = named (env s.of) (names s.of) (first_kept env s ss none).0 in
@@ -68,10 +68,16 @@ parallel_unsplit types ns t (s ∷ ss) m n env is names none apart =
   where
     unmade : (k : ℕ) → 0 < times k (sides (s ∷ ss)) → (times k (made m) ≡ 0) × (times k (made n) ≡ 0)
     unmade k small =
-        let none = two_away types ns t (s ∷ ss) OfPar m n is k small in let two = times-append k (made m) (made n) in (omega (arith, none, two), omega (arith, none, two))
+        let none = two_away types ns t (s ∷ ss) f m n is k small in let two = times-append k (made m) (made n) in (omega (arith, none, two), omega (arith, none, two))
+
+-- of the forms whose parts have nothing in common
+abbrev ApartUnsplit : Row
+ApartUnsplit OfApp ss = ss ≡ []
+ApartUnsplit OfPar ss = ss ≡ []
+ApartUnsplit f ss = Unit {0}
 
 unsplit : (types : Types) (ns : List ℕ) (m : Numbered) (i : Imports) (g : List Type') (env : Meaning) (t : Type') → IsKept types ns m
-    → AreNames env → Typed i g (meaning env m) t → lost env m ≡ [] → ParallelsAreUnsplit m
+    → AreNames env → Typed i g (meaning env m) t → lost env m ≡ [] → AtForks ApartUnsplit m
 unsplit types ns (Closed t ss c) i g env u is names typed none = tt
 unsplit types ns (Use t ss n) i g env u is names typed none = tt
 unsplit types ns (Under t ss OfFun n m) i g env u is names typed none =
@@ -96,7 +102,7 @@ unsplit types ns (Two t ss OfApp m n) i g env u is names typed none =
     let (row, both) = two_none (lost_in env ss) (lost (inside ss env) m ++ lost (inside ss env) n) none in
     let (one, other) = two_none (lost (inside ss env) m) (lost (inside ss env) n) both in
     let (first, second, rest) = both_are_kept types ns t ss OfApp m n is in (
-      tt,
+      apart_unsplit types ns t ss OfApp m n env is names row typed.3,
       unsplit types (first_numbers ss ns (used n)) m i g (inside ss env) _ first.kept (inside_names ss env names) typed.1 one,
       unsplit types (own_numbers ss ns n) n i g (inside ss env) _ second.kept (inside_names ss env names) typed.2 other,
     )
@@ -120,7 +126,7 @@ unsplit types ns (Two t ss OfPar m n) i g env u is names typed none =
     let (row, both) = two_none (lost_in env ss) (lost (inside ss env) m ++ lost (inside ss env) n) none in
     let (one, other) = two_none (lost (inside ss env) m) (lost (inside ss env) n) both in
     let (first, second, rest) = both_are_kept types ns t ss OfPar m n is in (
-      parallel_unsplit types ns t ss m n env is names row typed.3,
+      apart_unsplit types ns t ss OfPar m n env is names row typed.3,
       unsplit types (first_numbers ss ns (used n)) m i g (inside ss env) _ first.kept (inside_names ss env names) typed.1 one,
       unsplit types (own_numbers ss ns n) n i g (inside ss env) _ second.kept (inside_names ss env names) typed.2 other,
     )
@@ -158,10 +164,38 @@ unsplit types ns (If t ss m n p) i g env u is names typed none =
       unsplit types (own_numbers ss ns p) p i g (inside ss env) _ third.kept (inside_names ss env names) typed.3 last,
     )
 
+weaker : (P Q : Row) → ((f : TwoForm) (ss : List Split) → P f ss → Q f ss) → (m : Numbered) → AtForks P m → AtForks Q m
+weaker P Q w (Closed t ss c) h = tt
+weaker P Q w (Use t ss n) h = tt
+weaker P Q w (Under t ss b n m) h = weaker P Q w m h
+weaker P Q w (One t ss f m) h = weaker P Q w m h
+weaker P Q w (Two t ss f m n) h = (w f ss h.0, weaker P Q w m h.1, weaker P Q w n h.2)
+weaker P Q w (If t ss m n p) h = (weaker P Q w m h.0, weaker P Q w n h.1, weaker P Q w p h.2)
+
+parallel : (f : TwoForm) (ss : List Split) → ApartUnsplit f ss → ParallelUnsplit f ss
+parallel OfPar ss h = h
+parallel OfApp ss h = tt
+parallel OfBoth ss h = tt
+parallel OfSeq ss h = tt
+parallel OfWhile ss h = tt
+parallel OfAssign ss h = tt
+parallel (OfBin op) ss h = tt
+
+applied : (f : TwoForm) (ss : List Split) → ApartUnsplit f ss → AppliedUnsplit f ss
+applied OfPar ss h = tt
+applied OfApp ss h = h
+applied OfBoth ss h = tt
+applied OfSeq ss h = tt
+applied OfWhile ss h = tt
+applied OfAssign ss h = tt
+applied (OfBin op) ss h = tt
+
 pub checked_is_unsplit : CheckedIsTyped → CheckedIsUnsplit
-checked_is_unsplit law l c ground =
+checked_is_unsplit law l c =
     let uses = uses_stand (program_in l).imports [] (import_at (program_in l).imports) (node_seen l.term) (type_of l.result) c.typed in
     let none = none_lost (program_in l).imports (node_seen l.term) uses c.term.made_once c.term.no_import c.term.sides_used in
+    let both =
     unsplit (all_types (program_in l).imports (node_seen l.term)) (numbers_from 0 (length (program_in l).imports)) (node_seen l.term)
-    (program_in l).imports [] (import_at (program_in l).imports) (type_of l.result) (checked_is_kept law l c ground)
-    (import_names (program_in l).imports) c.typed none
+    (program_in l).imports [] (import_at (program_in l).imports) (type_of l.result) (checked_is_kept law l c)
+    (import_names (program_in l).imports) c.typed none in
+    (weaker ApartUnsplit ParallelUnsplit parallel (node_seen l.term) both, weaker ApartUnsplit AppliedUnsplit applied (node_seen l.term) both)

@@ -43,10 +43,9 @@ pub record IsKept (types : Types) (ns : List ℕ) (m : Numbered) : Type 0 where
   pub apart : SidesApart m
   pub forks : SplitsAtForks m
   pub typed : NodesTyped types m
-  pub ground : NodesGround m
 
--- So it is in a checked module, of which all nodes are ground, with the numbers of its imports.
+-- So it is in a checked module, with the numbers of its imports.
 abbrev pub CheckedIsKept : Type 0
 CheckedIsKept =
-    (l : SeenLinear) → IsChecked l → NodesGround (node_seen l.term)
+    (l : SeenLinear) → IsChecked l
     → IsKept (all_types (program_in l).imports (node_seen l.term)) (numbers_from 0 (length (program_in l).imports)) (node_seen l.term)

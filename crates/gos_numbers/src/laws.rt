@@ -1,13 +1,13 @@
 // What is kept of a typed term's numbers. Each theorem is the contract of a function that does nothing.
 ghost use Rattle.gos_numbers.specs.Kept.{CheckedIsKept};
 ghost use Rattle.gos_numbers.specs.Inherited.{BodyIsKept, PartIsKept, BothAreKept, BothAreParted, ThreeAreKept};
-ghost use Rattle.gos_numbers.specs.Unsplit.{CheckedIsUnsplit, SidesAreNotUnsplit, TwiceIsUnsplit};
+ghost use Rattle.gos_numbers.specs.Unsplit.{AppliedAreNotUnsplit, CheckedIsUnsplit, OthersAreUnsplit, SidesAreNotUnsplit, TwiceIsUnsplit};
 ghost use Rattle.gos_numbers.specs.SmallKept.{TwiceIsKept, NoneIsNotKept};
 
 use gos_compile::typed_terms;
 use gos_leaves::small_splits;
 
-/// It is kept at first, in a checked module of ground nodes.
+/// It is kept at first, in a checked module.
 pub fn checked_is_kept()
     ensures { CheckedIsKept }
 {
@@ -23,11 +23,13 @@ pub fn parts_are_kept()
     ensures three { ThreeAreKept }
 {}
 
-/// No node `m || n` of a checked module of ground nodes has splits. A sequence may have them.
+/// No node `m || n` of a checked module has splits, and neither has one that applies. A sequence may have them.
 pub fn parallels_are_unsplit()
     ensures checked { CheckedIsUnsplit }
     ensures met { TwiceIsUnsplit }
     ensures missed { SidesAreNotUnsplit }
+    ensures applied_met { OthersAreUnsplit }
+    ensures applied_missed { AppliedAreNotUnsplit }
 {
     typed_terms();
 }

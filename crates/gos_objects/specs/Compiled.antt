@@ -24,15 +24,15 @@ use Rattle.gos_modules.specs.Ground.{IsGroundModule}
 use Rattle.gos_command.specs.declared.report.Report.{Report}
 use Rattle.gos_objects.specs.Checked.{SaysModule}
 
--- The plan of a module: its parts and joints are those of a typed term that stands for the module. The plan is slim, and its
--- text is read as it. Where the module is ground, the plan realises its program, and has imports such as ports may be.
+-- The plan of a module: its parts and joints are those of a typed term that stands for the module. The plan is slim and realises
+-- the module's program, and its text is read as it. Where the module is ground, its imports are such as ports may be.
 pub record IsPlanOfModule (m : SeenModule) (plan : Plan) : Type 0 where
   pub term : Numbered
   pub stands : StandsFor (program_of m) term
   pub made : IsPlanOf (program_of m).imports (type_of m.result) (weighed m) term plan
   pub slim : IsSlim plan
   pub read : IsRead (text_of plan) plan
-  pub realises : IsGroundModule m → RealisesModule plan (program_of m).body
+  pub realises : RealisesModule plan (program_of m).body
   pub ports : IsGroundModule m → AllGround plan.imports × HaveWidths plan.imports
 
 -- the text is that of the plan of a module

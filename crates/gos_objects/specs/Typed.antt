@@ -30,11 +30,11 @@ pub record IsTypedAs (text : List ℕ) (linear : SeenLinear) : Type 0 where
   pub weight : linear.weight ≡ weighed made
   pub term : StandsFor (program_of made) (node_seen linear.term)
 
--- The plan of this checked module. It is slim, and where the module has at most 64 imports, its text is read as it. Where the
--- module's program is ground, it realises it, and its imports are such as ports of a circuit may be.
+-- The plan of this checked module. It is slim and realises the module's program, and where the module has at most 64 imports, its
+-- text is read as it. Where the program is ground, its imports are such as ports of a circuit may be.
 pub record IsPlanFor (linear : SeenLinear) (plan : Plan) : Type 0 where
   pub made : IsPlanOf (program_in linear).imports (type_of linear.result) linear.weight (node_seen linear.term) plan
   pub slim : IsSlim plan
   pub read_back : length linear.imports ≤ 64 → IsRead (text_of plan) plan
-  pub realises : IsGroundProgram (program_in linear) → RealisesModule plan (program_in linear).body
+  pub realises : RealisesModule plan (program_in linear).body
   pub ports : IsGroundProgram (program_in linear) → AllGround plan.imports × HaveWidths plan.imports

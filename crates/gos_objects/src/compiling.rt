@@ -18,6 +18,7 @@ use gos_compile::compile;
 use gos_modules::ground_programs;
 use gos_outside::Store;
 use gos_plan::{Plan, print_object};
+use gos_terms::modules;
 use gos_types::NoMemory;
 use std::alloc::Global;
 
@@ -86,6 +87,7 @@ fn plan_for(alloc: Global, linear: &Linear) -> Result<Plan, NoMemory>
     ensures { IfOk result (λ plan. IsPlanFor linear.now (plan_of plan)) }
 {
     ground_programs();
+    modules();
     // A module is known to be checked where its term is seen.
     let _term = linear.term();
     compile(alloc, linear)

@@ -11,6 +11,8 @@ pub mod OuterLemmas
 pub mod ResultLemmas
 pub mod ShareLemmas
 pub mod RegularLemmas
+pub mod RestLemmas
 pub mod PassingLemmas
 pub mod SourceLemmas
 pub mod SmallLemmas
+mod SmallSourceLemmas

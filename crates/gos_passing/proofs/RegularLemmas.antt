@@ -13,6 +13,7 @@ use Rattle.gos_plan.specs.TokenBits.{LiteralFits}
 use Rattle.gos_plan.specs.Orderly.{Open, none_open, AllWelcome}
 use Rattle.gos_plan.proofs.TokenBitsLemmas.{idle_fits}
 use Rattle.gos_realises.specs.Regular.{count, Pass, is_open, InputsKeepTurns, OutputsKeepTurns, IsRegular}
+use Rattle.gos_realises.proofs.InputLemmas.{passed}
 use Rattle.gos_realises.proofs.RingLemmas.{after}
 use Rattle.gos_renumbered.proofs.TurnLemmas.{EachKeeps}
 use Rattle.gos_webs.proofs.CutLemmas.{part_at, part_there}
@@ -44,7 +45,7 @@ none_at n past e none = ap (λ (x : List Pass). is_open x e) none
 
 module _ (i : ℕ) (t : Type') (c : ℕ) (r p : Plan) (is : IsBehind i t c r p) (literals : All LiteralFits p.parts) where
   -- a part is one behind the Share, or the Share
-  told_part : (n : ℕ) → n < length r.parts → (n < length p.parts) ⊎ (n ≡ i)
+  pub told_part : (n : ℕ) → n < length r.parts → (n < length p.parts) ⊎ (n ≡ i)
   told_part n low = by_test (nat_lt n (length p.parts)) refl
     where
       size : length r.parts ≡ length p.parts + 1
@@ -117,6 +118,21 @@ module _ (i : ℕ) (t : Type') (c : ℕ) (r p : Plan) (is : IsBehind i t c r p) 
   step past own o mine s w h (In (ImportEnd n l) v) does turn = import_in i t c r p is literals past own o mine s w h n l v does turn
   step past own o mine s w h (In (ResultEnd j) v) does turn = result_in i t c r p is literals past own o mine s w h j v does turn
 
+  -- how both stand after a list
+  pub record Stood (past : List Pass) (w : Tokens) : Type 0 where
+    pub own : List Pass
+    pub opened : Open
+    pub mine : Open
+    pub held : Held i t c r p is past own opened mine w
+
+  pub held_on : (xs : List Element) (past own : List Pass) (o mine : Open) (s w : Tokens) → Held i t c r p is past own o mine s → Runs r xs s w → InputsKeepTurns r past xs
+      → Stood (passed r past xs) w
+  held_on [] past own o mine s w h runs turns =
+      subst (Stood past) (sym runs) (record { own = own; opened = o; mine = mine; held = h })
+  held_on (x ∷ xs) past own o mine s w h (v, does, runs) turns =
+      let next = step past own o mine s v h x does (first_turn r past x xs turns) in
+      held_on xs (after r x past) next.own next.opened next.mine v w next.held runs (later_turns r past x xs turns)
+
   -- and so each list
   regular_on : (xs : List Element) (past own : List Pass) (o mine : Open) (s w : Tokens) → Held i t c r p is past own o mine s → Runs r xs s w → InputsKeepTurns r past xs
       → Ordered r xs o s × OutputsKeepTurns r past xs
@@ -135,7 +151,7 @@ module _ (i : ℕ) (t : Type') (c : ℕ) (r p : Plan) (is : IsBehind i t c r p) 
   )
 
   -- where all begins
-  held_first : (s : Tokens) → IsRegular p → IsIdle r s → Held i t c r p is [] [] none_open none_open s
+  pub held_first : (s : Tokens) → IsRegular p → IsIdle r s → Held i t c r p is [] [] none_open none_open s
   held_first s regular idle =
       record {
         going = from_idle p (seen i t c r p is s) regular own_idle;

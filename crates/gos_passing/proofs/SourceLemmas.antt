@@ -19,7 +19,7 @@ use Rattle.gos_plan.proofs.HeldLemmas.{nothing_there}
 use Rattle.gos_plan.proofs.RowLemmas.{EachRow, row_with, role_taking}
 use Rattle.gos_plan.proofs.AskingLemmas.{RoleIs, each_append, row_roles}
 use Rattle.gos_plan.proofs.TurnLemmas.{fired_state, token_state, way_to_take}
-use Rattle.gos_realises.specs.Regular.{count, Pass, pass, way_in, way_out, is_open, KeepsTurns, InputsKeepTurns, IsRegular}
+use Rattle.gos_realises.specs.Regular.{count, Pass, pass, way_in, way_out, is_open, is_request, KeepsTurnsOf, KeepsTurns, InputsKeepTurns, IsRegular}
 use Rattle.gos_realises.specs.Realises.{AllGround}
 use Rattle.gos_realises.proofs.RingLemmas.{after}
 use Rattle.gos_realises.proofs.InputLemmas.{in_there, out_there, import_serves}
@@ -32,8 +32,8 @@ use Rattle.gos_sharing.specs.Sharing.{source_end, caller_end, IsForCaller}
 use Rattle.gos_buffers.proofs.GroundLemmas.{next_rests}
 use Rattle.gos_buffers.proofs.BranchLemmas.{stands, one_of_two}
 use Rattle.gos_passing.specs.Behind.{IsBehind}
-use Rattle.gos_passing.specs.Source.{IsBefore, SourcesAreLoyal, BehindIsLoyal}
-use Rattle.gos_passing.proofs.BetweenLemmas.{ServedOpen}
+use Rattle.gos_passing.specs.Source.{IsBefore, HasItsImports, SourcesAreLoyal, GroundSourcesAreLoyal, BehindIsLoyal}
+use Rattle.gos_passing.proofs.BetweenLemmas.{ServedOpen, positive}
 use Rattle.gos_passing.proofs.EndLemmas.{Owned, asker, server, share, not_share}
 use Rattle.gos_passing.proofs.LyingLemmas.{lying, share_outside, is_cut, From, of_inner, of_asker, of_server, from_joint}
 use Rattle.gos_passing.proofs.StepLemmas.{RegularFrom, InputTurns, first_turn, later_turns, stepped, from_idle}
@@ -129,7 +129,11 @@ module _ (p : Plan) (o : Open) (s : Tokens) (going : RegularFrom p [] o s) where
       of_contact : (k : Contact) × (contact_at p e ≡ Some k) → ⊥
       of_contact (k, there) = at_end e k does.0 there (way_taken k.role) refl (subst (λ (y : Option Contact). KeepsTurns p [] (pass e (way_out y))) there keeps)
 
-module _ (f : Cut) (i : ℕ) (t : Type') (c : ℕ) (r p : Plan) (is : IsBefore f i t c r p) (ground : AllGround r.imports) where
+-- what is open at an import
+abbrev of_import_ends : List Pass → ℕ → ℕ → Bool
+of_import_ends past m g = is_open past (ImportEnd m g)
+
+module _ (f : Cut) (i : ℕ) (t : Type') (c : ℕ) (r p : Plan) (is : IsBefore f i t c r p) (has : HasItsImports f r p) where
   abbrev within : Tokens → Tokens
   within = cut_tokens f p
 
@@ -246,6 +250,36 @@ module _ (f : Cut) (i : ℕ) (t : Type') (c : ℕ) (r p : Plan) (is : IsBefore f
       ∙ (state_lost f r p is.cut n k out (row.next v) (with_token r (end_of n row.takes) (way_of row.takes) None s)
       ∙ lost_at n (shake_of row.takes) apart out (way_of row.takes) None s))
 
+  -- What the whole asked at an import it asked along a joint.
+  abbrev Asked : List Pass → Type 0
+  Asked past =
+      (m g : ℕ) (k : Contact) → contact_at r (ImportEnd m g) ≡ Some k → k.role ≡ Serve → is_open past (ImportEnd m g) ≡ true → StandsIn r (ImportEnd m g)
+
+  asked_then : (past : List Pass) (s w : Tokens) (z : Element) → Asked past → Does r z s w → Asked (after r z past)
+  asked_then past s w (Fire n slot) asked does m g k at_g serves up = asked m g k at_g serves up
+  asked_then past s w (Out e v) asked does m g k at_g serves up = elim (told_end e (ImportEnd m g)) [
+    | inl same ↦ of_contact same (out_there r e v s w does)
+    | inr apart ↦ asked m g k at_g serves (sym (open_other e (ImportEnd m g) (way_out (contact_at r e)) past apart) ∙ up)
+  ]
+    where
+      of_contact : e ≡ ImportEnd m g → (d : Contact) × (contact_at r e ≡ Some d) → StandsIn r (ImportEnd m g)
+      of_contact same (d, there) =
+          let passes : (token_at r s e (way_taken d.role) ≡ Some v) × (w ≡ with_token r e (way_taken d.role) None s) =
+          subst (λ (y : Option Contact). Passes r (Out e v) y s w) there does.1 in
+          subst (StandsIn r) same (by_place passes.0 (places_of r e) refl)
+        where
+          by_place : token_at r s e (way_taken d.role) ≡ Some v → (o : Option End) → places_of r e ≡ o → StandsIn r e
+          by_place lies None none = absurd (nothing_there r e (way_taken d.role) v s lies none)
+          by_place lies (Some a) named = stands r e a named
+  asked_then past s w (In e v) asked does m g k at_g serves up = elim (told_end e (ImportEnd m g)) [
+    | inl same ↦
+        (let ways : way_in (contact_at r e) ≡ Answer = ap way_in (ap (contact_at r) same ∙ at_g) ∙ ap way_put serves in
+        let shut : is_open (pass e (way_in (contact_at r e)) ∷ past) (ImportEnd m g) ≡ false =
+        ap (is_open (pass e (way_in (contact_at r e)) ∷ past)) (sym same) ∙ (open_this e (way_in (contact_at r e)) past ∙ ap is_request ways) in
+        let clash : true ≡ false = sym up ∙ shut in absurd (cc clash))
+    | inr apart ↦ asked m g k at_g serves (sym (open_other e (ImportEnd m g) (way_in (contact_at r e)) past apart) ∙ up)
+  ]
+
   -- ports that are not the region's
   still_closed : (past : List Pass) (s : Tokens) → Asleep past s → (e : End) (way : Direction) → f.inner e ≡ None → (n h : ℕ) → StandsIn p (ImportEnd n h)
       → is_open (pass e way ∷ past) (f.outer (ImportEnd n h)) ≡ false
@@ -304,8 +338,8 @@ module _ (f : Cut) (i : ℕ) (t : Type') (c : ℕ) (r p : Plan) (is : IsBefore f
               let out = subst (λ (o : Option End). Runs p (out_if o v) (within s) (within (with_token r e (way_taken k.role) None s))) some runs in
               absurd (silent p asleep.opened (within s) asleep.going d v out.0 out.1)
 
-  wakes_in : (past : List Pass) (s w : Tokens) → Asleep past s → (e : End) (v : ℕ) → Does r (In e v) s w → InputTurns r past (In e v) → Asleep (after r (In e v) past) w
-  wakes_in past s w asleep e v does turn = of_contact (in_there r e v s w does)
+  wakes_in : (past : List Pass) (s w : Tokens) → Asked past → Asleep past s → (e : End) (v : ℕ) → Does r (In e v) s w → InputTurns r past (In e v) → Asleep (after r (In e v) past) w
+  wakes_in past s w asked asleep e v does turn = of_contact (in_there r e v s w does)
     where
       of_contact : (k : Contact) × (contact_at r e ≡ Some k) → Asleep (after r (In e v) past) w
       of_contact (k, there) = by_inner (f.inner e) refl
@@ -313,16 +347,43 @@ module _ (f : Cut) (i : ℕ) (t : Type') (c : ℕ) (r p : Plan) (is : IsBefore f
           leads : w ≡ with_token r e (way_put k.role) (Some v) s
           leads = (subst (λ (y : Option Contact). Passes r (In e v) y s w) there does.1).1
 
-          of_import : (e : End) → contact_at r e ≡ Some k → KeepsTurns r past (pass e (way_in (contact_at r e))) → (m l : ℕ) → e ≡ ImportEnd m l → is_open past e ≡ false → ⊥
-          of_import e at_e keeps m l same shut = of_slice (slice_get r.imports m) refl (sym (ap (contact_at r) same) ∙ at_e)
+          -- an answer comes where it was asked, and where the surroundings ask the import is open elsewhere
+          of_import : (n h m l : ℕ) → StandsIn p (ImportEnd n h) → f.outer (ImportEnd n h) ≡ ImportEnd m l → contact_at r (ImportEnd m l) ≡ Some k
+              → KeepsTurns r past (pass (ImportEnd m l) (way_put k.role)) → ⊥
+          of_import n h m l stood at_m at_l keeps = by_role k.role refl keeps
             where
-              of_slice : (o : Option Imported) → slice_get r.imports m ≡ o → slice_get (contacts_of_import o) l ≡ Some k → ⊥
-              of_slice None none at_l = cc at_l
-              of_slice (Some x) at_m at_l =
-                  let serves = import_serves x.ty (ground_at r.imports ground m x at_m) l k at_l in
-                  let way : way_in (contact_at r e) ≡ Answer = ap way_in at_e ∙ ap way_put (sym serves) in
-                  let now = subst (λ (d : Direction). KeepsTurns r past (pass e d)) way keeps in
+              shut : is_open past (ImportEnd m l) ≡ false
+              shut = ap (is_open past) (sym at_m) ∙ asleep.closed n h stood
+
+              of_served : k.role ≡ Ask → (x : Imported) → slice_get r.imports m ≡ Some x → ServedOpen x.ty (of_import_ends (pass (ImportEnd m l) Request ∷ past) m) → ⊥
+              of_served role x at_x (g, d, at_g, serves, up) =
+                  let there_g : contact_at r (ImportEnd m g) ≡ Some d = ap (λ (o : Option Imported). slice_get (contacts_of_import o) g) at_x ∙ at_g in
+                  let apart : ImportEnd m l ≡ ImportEnd m g → ⊥ =
+                  (λ same. let one : k ≡ d = same_Some k d (sym at_l ∙ (ap (contact_at r) same ∙ there_g)) in
+                  let clash : Ask ≡ Serve = sym role ∙ (ap (λ (y : Contact). y.role) one ∙ serves) in cc clash) in
+                  let was : is_open past (ImportEnd m g) ≡ true = sym (open_other (ImportEnd m l) (ImportEnd m g) Request past apart) ∙ up in
+                  let (a, b, own, at_a) = has n h m l g k stood at_m at_l role (asked m g d there_g serves was) in
+                  let closed : is_open past (ImportEnd m g) ≡ false = ap (is_open past) (sym at_a) ∙ asleep.closed a b own in
+                  let clash : true ≡ false = sym was ∙ closed in cc clash
+
+              of_slice : k.role ≡ Ask → KeepsTurns r past (pass (ImportEnd m l) Request) → (o : Option Imported) → slice_get r.imports m ≡ o
+                  → slice_get (contacts_of_import o) l ≡ Some k → ⊥
+              of_slice role turns None none at_none = cc at_none
+              of_slice role turns (Some x) at_x at_k =
+                  let zeros : 0 + m ≡ m = omega arith in
+                  let all = ports_of_turns r r.imports r.outcome refl refl past (pass (ImportEnd m l) Request) turns in
+                  let keeps_x : KeepsTurnsOf x.ty (of_import_ends (pass (ImportEnd m l) Request ∷ past) m) =
+                  subst (λ (a : ℕ). KeepsTurnsOf x.ty (of_import_ends (pass (ImportEnd m l) Request ∷ past) a)) zeros (all.0 m x at_x).0 in
+                  let busy = there_some (count x.ty) (of_import_ends (pass (ImportEnd m l) Request ∷ past) m) l (slice_get_within (contacts_of x.ty) l k at_k)
+                  (open_this (ImportEnd m l) Request past) in
+                  of_served role x at_x (positive x.ty (of_import_ends (pass (ImportEnd m l) Request ∷ past) m) keeps_x busy)
+
+              by_role : (role : Role) → k.role ≡ role → KeepsTurns r past (pass (ImportEnd m l) (way_put k.role)) → ⊥
+              by_role Serve role turns =
+                  let now = subst (λ (d : Direction). KeepsTurns r past (pass (ImportEnd m l) d)) (ap way_put role) turns in
                   let clash : true ≡ false = sym now.0 ∙ shut in cc clash
+              by_role Ask role turns =
+                  of_slice role (subst (λ (d : Direction). KeepsTurns r past (pass (ImportEnd m l) d)) (ap way_put role) turns) (slice_get r.imports m) refl at_l
 
           of_port : (d : End) → IsPortEnd d → StandsIn p d → f.outer d ≡ e → ⊥
           of_port (PartEnd n h) port stood at_e = port
@@ -330,7 +391,9 @@ module _ (f : Cut) (i : ℕ) (t : Type') (c : ℕ) (r p : Plan) (is : IsBefore f
               subst IsPortEnd (sym at_e ∙ is.source j stood) does.0
           of_port (ImportEnd n h) port stood at_e =
               let (m, l, at_m) = is.ports n h stood in
-              of_import e there turn m l (sym at_e ∙ at_m) (ap (is_open past) (sym at_e) ∙ asleep.closed n h stood)
+              let same : e ≡ ImportEnd m l = sym at_e ∙ at_m in
+              of_import n h m l stood at_m (ap (contact_at r) (sym same) ∙ there)
+              (subst (λ (a : End). KeepsTurns r past (pass a (way_put k.role))) same (subst (λ (o : Option Contact). KeepsTurns r past (pass e (way_in o))) there turn))
 
           by_inner : (o : Option End) → f.inner e ≡ o → Asleep (after r (In e v) past) w
           by_inner None none =
@@ -372,28 +435,42 @@ module _ (f : Cut) (i : ℕ) (t : Type') (c : ℕ) (r p : Plan) (is : IsBefore f
           ∙ (ap (λ (q : State). q.number) (fired_state r n does.1 does.0 s i)
           ∙ (ap (λ (b : Bool). (if b then does.1.next does.0 else s.state i).number) apart ∙ known))
 
-  wakes : (past : List Pass) (s w : Tokens) (z : Element) → Wakes past s → Does r z s w → InputTurns r past z → Wakes (after r z past) w
-  wakes past s w (Fire n slot) (inl known) does turn = inl (stays_fire n slot s w known does)
-  wakes past s w (Out e v) (inl known) does turn = inl (ap (λ (q : State). q.number) (stays_out e v s w does) ∙ known)
-  wakes past s w (In e v) (inl known) does turn = inl (ap (λ (q : State). q.number) (stays_in e v s w does) ∙ known)
-  wakes past s w (Fire n slot) (inr asleep) does turn = wakes_fire past s w asleep n slot does
-  wakes past s w (Out e v) (inr asleep) does turn = inr (wakes_out past s w asleep e v does)
-  wakes past s w (In e v) (inr asleep) does turn = inr (wakes_in past s w asleep e v does turn)
+  wakes : (past : List Pass) (s w : Tokens) (z : Element) → Asked past → Wakes past s → Does r z s w → InputTurns r past z → Wakes (after r z past) w
+  wakes past s w (Fire n slot) asked (inl known) does turn = inl (stays_fire n slot s w known does)
+  wakes past s w (Out e v) asked (inl known) does turn = inl (ap (λ (q : State). q.number) (stays_out e v s w does) ∙ known)
+  wakes past s w (In e v) asked (inl known) does turn = inl (ap (λ (q : State). q.number) (stays_in e v s w does) ∙ known)
+  wakes past s w (Fire n slot) asked (inr asleep) does turn = wakes_fire past s w asleep n slot does
+  wakes past s w (Out e v) asked (inr asleep) does turn = inr (wakes_out past s w asleep e v does)
+  wakes past s w (In e v) asked (inr asleep) does turn = inr (wakes_in past s w asked asleep e v does turn)
 
-  loyal_on : (xs : List Element) (past : List Pass) (s w u : Tokens) (slot : Slot) → Wakes past s → Runs r xs s w → InputsKeepTurns r past xs → shake_of slot < count t
+  loyal_on : (xs : List Element) (past : List Pass) (s w u : Tokens) (slot : Slot) → Asked past → Wakes past s → Runs r xs s w → InputsKeepTurns r past xs → shake_of slot < count t
       → Does r (Fire i slot) w u → (w.state i).number ≡ c
-  loyal_on [] past s w u slot (inl known) runs turns low does = ap (λ (z : Tokens). (z.state i).number) runs ∙ known
-  loyal_on [] past s w u slot (inr asleep) runs turns low does = absurd (source_still past s u asleep slot low (subst (λ (z : Tokens). Does r (Fire i slot) z u) runs does))
-  loyal_on (z ∷ zs) past s w u slot wake (v, first, runs) turns low does =
-      loyal_on zs (after r z past) v w u slot (wakes past s v z wake first (first_turn r past z zs turns)) runs (later_turns r past z zs turns) low does
+  loyal_on [] past s w u slot asked (inl known) runs turns low does = ap (λ (z : Tokens). (z.state i).number) runs ∙ known
+  loyal_on [] past s w u slot asked (inr asleep) runs turns low does = absurd (source_still past s u asleep slot low (subst (λ (z : Tokens). Does r (Fire i slot) z u) runs does))
+  loyal_on (z ∷ zs) past s w u slot asked wake (v, first, runs) turns low does =
+      loyal_on zs (after r z past) v w u slot (asked_then past s v z asked first) (wakes past s v z asked wake first (first_turn r past z zs turns)) runs (later_turns r past z zs turns) low does
 
   sleeps_first : (s : Tokens) → IsRegular p → IsIdle r s → Asleep [] s
   sleeps_first s regular idle =
       record { opened = none_open; going = from_idle p (within s) regular (idle_is_cut f r p s idle); closed = λ n h stood. refl }
 
 pub sources_are_loyal : SourcesAreLoyal
-sources_are_loyal f i t c r p is ground regular xs slot s w u idle runs turns low does =
-    loyal_on f i t c r p is ground xs [] s w u slot (inr (sleeps_first f i t c r p is ground s regular idle)) runs turns low does
+sources_are_loyal f i t c r p is has regular xs slot s w u idle runs turns low does =
+    loyal_on f i t c r p is has xs [] s w u slot (λ m g k at_g serves up. absurd (cc up)) (inr (sleeps_first f i t c r p is has s regular idle)) runs turns low does
+
+-- ground imports serve
+ground_serve : (f : Cut) (r p : Plan) → AllGround r.imports → HasItsImports f r p
+ground_serve f r p ground n h m l g x stood at_m at_l role joined = of_slice (slice_get r.imports m) refl at_l
+  where
+    of_slice : (o : Option Imported) → slice_get r.imports m ≡ o → slice_get (contacts_of_import o) l ≡ Some x
+        → (k : ℕ) × (j : ℕ) × StandsIn p (ImportEnd k j) × (f.outer (ImportEnd k j) ≡ ImportEnd m g)
+    of_slice None none at_x = absurd (cc at_x)
+    of_slice (Some y) at_y at_x =
+        let serves = import_serves y.ty (ground_at r.imports ground m y at_y) l x at_x in
+        let clash : Serve ≡ Ask = serves ∙ role in absurd (cc clash)
+
+pub ground_sources_are_loyal : GroundSourcesAreLoyal
+ground_sources_are_loyal f i t c r p is ground regular = sources_are_loyal f i t c r p is (ground_serve f r p ground) regular
 
 -- a plan behind a Share
 module _ (i : ℕ) (t : Type') (c : ℕ) (r p : Plan) (is : IsBehind i t c r p) where
@@ -452,6 +529,31 @@ module _ (i : ℕ) (t : Type') (c : ℕ) (r p : Plan) (is : IsBehind i t c r p) 
       of_from (of_asker l k at_l same) = of_asking l k.role same
       of_from (of_server l k at_l same) = of_serving l k.role same
 
+  -- all of its imports are its own
+  pub import_joined : (m g : ℕ) → StandsIn r (ImportEnd m g) → StandsIn p (ImportEnd m g)
+  import_joined m g (x, inside, stood) = of_from (from_joint i t c r p is x (ImportEnd m g) (Rattle.gos_plan.proofs.JointLemmas.contained r.joints x inside) stood)
+    where
+      of_end : (d : End) → StandsIn p d → ImportEnd m g ≡ Rattle.gos_buffers.specs.Buffering.end_behind i d → StandsIn p (ImportEnd m g)
+      of_end (PartEnd n h) stands_p same = absurd (cc same)
+      of_end (ImportEnd n h) stands_p same = subst (StandsIn p) (sym same) stands_p
+      of_end (ResultEnd h) stands_p same = absurd (cc same)
+
+      not_asking : (l : ℕ) (role : Role) → ImportEnd m g ≡ asker i t c l role → ⊥
+      not_asking l Serve same = cc same
+      not_asking l Ask same = cc same
+
+      not_serving : (l : ℕ) (role : Role) → ImportEnd m g ≡ server i t c l role → ⊥
+      not_serving l Serve same = cc same
+      not_serving l Ask same = cc same
+
+      of_from : From i t c r p is (ImportEnd m g) → StandsIn p (ImportEnd m g)
+      of_from (of_inner d own stands_p same) = of_end d stands_p same
+      of_from (of_asker l k at_l same) = absurd (not_asking l k.role same)
+      of_from (of_server l k at_l same) = absurd (not_serving l k.role same)
+
+  has_imports : HasItsImports (lying i p) r p
+  has_imports n h m l g x stood at_m at_l role joined = (m, g, import_joined m g joined, refl)
+
   pub before_it : IsBefore (lying i p) i t c r p
   before_it =
       record {
@@ -467,4 +569,4 @@ module _ (i : ℕ) (t : Type') (c : ℕ) (r p : Plan) (is : IsBehind i t c r p) 
       }
 
 pub behind_is_loyal : BehindIsLoyal
-behind_is_loyal i t c r p is ground regular = sources_are_loyal (lying i p) i t c r p (before_it i t c r p is) ground regular
+behind_is_loyal i t c r p is regular = sources_are_loyal (lying i p) i t c r p (before_it i t c r p is) (has_imports i t c r p is) regular

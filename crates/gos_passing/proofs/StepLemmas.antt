@@ -1,20 +1,31 @@
 -- A regular plan, step by step: from where a list led, each element that comes in turn comes in order, and keeps turns.
-use Rattle.std.specs.Prelude.{List, [], ◌∷◌}
-use Rattle.std.proofs.Common.{refl, sym, subst}
+use Rattle.std.specs.Prelude.{◌≡◌, List, [], ◌∷◌, ◌++◌}
+use Rattle.std.proofs.Common.{refl, sym, ◌∙◌, ap, subst}
 use Rattle.gos_plan.specs.Plans.{Plan, contact_at}
 use Rattle.gos_plan.specs.Tokens.{Tokens, Element, Fire, Out, In, Does, Runs, IsIdle}
 use Rattle.gos_plan.specs.Orderly.{Open, none_open, ComesInOrder, AllWelcome, OrderlyFrom}
 use Rattle.gos_plan.proofs.DecidedLemmas.{one_state, one_open}
 use Rattle.gos_realises.specs.Regular.{Pass, pass, way_in, KeepsTurns, InputsKeepTurns, OutputsKeepTurns, IsRegular}
+use Rattle.gos_realises.proofs.InputLemmas.{passed, passed_then, inputs_then, runs_then}
 use Rattle.gos_realises.proofs.RingLemmas.{after, OutputTurns}
 
 abbrev pub Ordered : Plan → List Element → Open → Tokens → Type 0
 Ordered p zs o s = (u : Open) × (v : Tokens) × OrderlyFrom p zs o s u v
 
--- each list from here on whose inputs keep turns is orderly, and its outputs keep turns
+-- the list that led here from an idle state
+pub record Came (p : Plan) (past : List Pass) (s : Tokens) : Type 0 where
+  pub list : List Element
+  pub first : Tokens
+  pub idle : IsIdle p first
+  pub runs : Runs p list first s
+  pub inputs : InputsKeepTurns p [] list
+  pub is_past : passed p [] list ≡ past
+
+-- a list led here, and each list from here on whose inputs keep turns is orderly, and its outputs keep turns
 abbrev pub RegularFrom : Plan → List Pass → Open → Tokens → Type 0
 RegularFrom p past o s =
-    (zs : List Element) (w : Tokens) → Runs p zs s w → InputsKeepTurns p past zs → Ordered p zs o s × OutputsKeepTurns p past zs
+    Came p past s
+    × ((zs : List Element) (w : Tokens) → Runs p zs s w → InputsKeepTurns p past zs → Ordered p zs o s × OutputsKeepTurns p past zs)
 
 -- an input keeps turns
 abbrev pub InputTurns : Plan → List Pass → Element → Type 0
@@ -59,6 +70,21 @@ no_inputs p past (Fire i t) one = tt
 no_inputs p past (Out e v) one = tt
 no_inputs p past (In e v) one = (one, tt)
 
+came_first : (p : Plan) (s : Tokens) → IsIdle p s → Came p [] s
+came_first p s idle = record { list = []; first = s; idle = idle; runs = refl; inputs = tt; is_past = refl }
+
+came_then : (p : Plan) (past : List Pass) (s : Tokens) (x : Element) (w : Tokens) → Came p past s → Does p x s w → InputTurns p past x → Came p (after p x past) w
+came_then p past s x w came does turn =
+    record {
+      list = came.list ++ x ∷ [];
+      first = came.first;
+      idle = came.idle;
+      runs = runs_then p came.list x came.first s w came.runs does;
+      inputs = inputs_then p [] came.list (x ∷ []) came.inputs
+          (subst (λ (q : List Pass). InputsKeepTurns p q (x ∷ [])) (sym came.is_past) (no_inputs p past x turn));
+      is_past = passed_then p [] came.list x ∙ ap (after p x) came.is_past;
+    }
+
 -- one element
 pub record Stepped (p : Plan) (past : List Pass) (o : Open) (s : Tokens) (x : Element) (w : Tokens) : Type 0 where
   pub opened : Open
@@ -69,7 +95,7 @@ pub record Stepped (p : Plan) (past : List Pass) (o : Open) (s : Tokens) (x : El
 
 pub stepped : (p : Plan) (past : List Pass) (o : Open) (s : Tokens) (x : Element) (w : Tokens) → RegularFrom p past o s → Does p x s w → InputTurns p past x
     → Stepped p past o s x w
-stepped p past o s x w regular does turn = of_one (regular (x ∷ []) w (w, does, refl) (no_inputs p past x turn))
+stepped p past o s x w regular does turn = of_one (regular.1 (x ∷ []) w (w, does, refl) (no_inputs p past x turn))
   where
     of_more : (m : Open) → ComesInOrder p x s o m → (zs : List Element) → Ordered p (x ∷ zs) o s → Ordered p zs m w
     of_more m comes zs (u, v, (n, z, also, now, welcome, list)) = (
@@ -86,10 +112,13 @@ stepped p past o s x w regular does turn = of_one (regular (x ∷ []) w (w, does
           comes = now;
           welcome = subst (λ (k : Tokens). AllWelcome p k) (sym (one_state p x s w z does also)) welcome;
           turns = out_first p past x [] outs;
-          further = λ zs k runs keeps.
-              (let both = regular (x ∷ zs) k (w, does, runs) (with_turn p past x zs turn keeps) in
-              (of_more m now zs both.0, out_later p past x zs both.1));
+          further = (
+            came_then p past s x w regular.0 does turn,
+            λ zs k runs keeps.
+                (let both = regular.1 (x ∷ zs) k (w, does, runs) (with_turn p past x zs turn keeps) in
+                (of_more m now zs both.0, out_later p past x zs both.1)),
+          );
         }
 
 pub from_idle : (p : Plan) (s : Tokens) → IsRegular p → IsIdle p s → RegularFrom p [] none_open s
-from_idle p s regular idle zs w runs keeps = regular s w zs idle runs keeps
+from_idle p s regular idle = (came_first p s idle, λ zs w runs keeps. regular s w zs idle runs keeps)

@@ -10,6 +10,7 @@ use Rattle.gos_plan.specs.Kinds.{Contact, Share, contacts_of}
 use Rattle.gos_plan.specs.Plans.{End, ResultEnd, Joint, Plan, IsRight}
 use Rattle.gos_plan.specs.TokenBits.{LiteralFits}
 use Rattle.gos_realises.specs.Regular.{IsRegular}
+use Rattle.gos_turns.specs.Rests.{Rests}
 use Rattle.gos_webs.specs.Webs.{joint}
 use Rattle.gos_sharing.specs.Sharing.{caller_end}
 use Rattle.gos_buffers.specs.Buffering.{end_behind, joint_behind, buffered}
@@ -58,6 +59,10 @@ LiesBehind = (c : ℕ) (p : Plan) → c < 2 → IsRight p → IsBehind (length p
 -- What is behind a Share is regular where the plan is, whatever of its result is joined.
 abbrev pub BehindIsRegular : Type 0
 BehindIsRegular = (i : ℕ) (t : Type') (c : ℕ) (r p : Plan) → IsBehind i t c r p → All LiteralFits p.parts → IsRegular p → IsRegular r
+
+-- So it rests where the plan does.
+abbrev pub BehindRests : Type 0
+BehindRests = (i : ℕ) (t : Type') (c : ℕ) (r p : Plan) → IsBehind i t c r p → All LiteralFits p.parts → IsRegular p → Rests p → Rests r
 
 -- at a ground type it is the plan of a buffer
 abbrev pub GroundIsBuffered : Type 0

@@ -2,3 +2,4 @@
 pub mod Behind
 pub mod Source
 pub mod SmallBehind
+pub mod SmallSource

@@ -1,13 +1,15 @@
 // What the definitions give. Each theorem is the contract of a function that does nothing.
-ghost use Rattle.gos_passing.specs.Behind.{BehindIsRegular, GroundIsBuffered, LiesBehind};
-ghost use Rattle.gos_passing.specs.Source.{BehindIsLoyal, SourcesAreLoyal};
+ghost use Rattle.gos_passing.specs.Behind.{BehindIsRegular, BehindRests, GroundIsBuffered, LiesBehind};
+ghost use Rattle.gos_passing.specs.Source.{BehindIsLoyal, GroundSourcesAreLoyal, SourcesAreLoyal};
+ghost use Rattle.gos_passing.specs.SmallSource.{ArgumentHasNot, WholeHasImports};
 ghost use Rattle.gos_passing.specs.SmallBehind.{FirstIsBehind, FirstIsRegular, ReversedIsNot, SecondIsNot, SharedIs};
 
-/// A plan of any type behind either caller of a Share lies behind it, and is regular where the plan is. At a ground type
-/// it is the plan of a buffer.
+/// A plan of any type behind either caller of a Share lies behind it, is regular where the plan is, and rests where it does.
+/// At a ground type it is the plan of a buffer.
 pub fn order()
     ensures lies { LiesBehind }
     ensures regular { BehindIsRegular }
+    ensures rests { BehindRests }
     ensures ground { GroundIsBuffered }
 {}
 
@@ -15,6 +17,7 @@ pub fn order()
 /// behind it.
 pub fn loyalty()
     ensures sources { SourcesAreLoyal }
+    ensures ground { GroundSourcesAreLoyal }
     ensures behind { BehindIsLoyal }
 {}
 
@@ -29,3 +32,9 @@ pub fn small_plans()
 {
     gos_realises::functions();
 }
+
+/// The plan of `f skip`, with `f` imported, has its imports; the argument alone has not.
+pub fn small_sources()
+    ensures whole { WholeHasImports }
+    ensures argument { ArgumentHasNot }
+{}

@@ -5,4 +5,4 @@
 
 mod laws;
 
-pub use laws::{loyalty, order, small_plans};
+pub use laws::{loyalty, order, small_plans, small_sources};

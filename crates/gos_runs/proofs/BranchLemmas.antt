@@ -16,14 +16,17 @@ use Rattle.gos_realises.specs.Realises.{NamesDiffer, Means, Realises}
 use Rattle.gos_webs.specs.Webs.{Tie}
 use Rattle.gos_windows.specs.Nodes.{IsStage}
 use Rattle.gos_compile.specs.Wiring.{Types, parts_of}
-use Rattle.gos_wired.specs.Wired.{Supplies, Placing, IsWired, terms_of, wired_ties}
+use Rattle.gos_wired.specs.Wired.{Supplies, Placing, IsWired, AreRealised, terms_of, wired_ties}
 use Rattle.gos_nodes.proofs.RestLemmas.{realisers_rest}
-use Rattle.gos_stages.specs.Inside.{AreGroundSupplies}
+use Rattle.gos_wired.proofs.NodeFitLemmas.{realised_are_of_types}
+use Rattle.gos_stages.specs.Inside.{InsideIsRealised}
 use Rattle.gos_stages.specs.Folding.{Child, IsChild, IsLaid}
 use Rattle.gos_stages.specs.Regions.{HasParts, IsStaged}
 use Rattle.gos_stages.specs.Stages.{stage_of}
 use Rattle.gos_stages.specs.Nodes.{Cared, IsCared}
 use Rattle.gos_stages.proofs.ChildStageLemmas.{child_is_staged}
+use Rattle.gos_stages.proofs.InsideLemmas.{realised_are_ordered}
+use Rattle.gos_stages.proofs.LoyalLemmas.{servings_are_loyal}
 use Rattle.gos_stages.proofs.StageLemmas.{child_is_stage}
 use Rattle.gos_meanings.specs.Meanings.{HasLeaves}
 use Rattle.gos_grounds.specs.Cases.{RealisesWired}
@@ -37,9 +40,9 @@ means_run (Var w) p m done h = absurd done
 means_run (Pair a b) p m done h = absurd done
 means_run (Fun a b) p m done h = absurd done
 
-module _ (child : BranchIsChild) (parts : BranchHasParts) (types : Types) (i j : ℕ) (m : Numbered) (ss : List Split) (own : Part)
+module _ (within : InsideIsRealised) (child : BranchIsChild) (parts : BranchHasParts) (types : Types) (i j : ℕ) (m : Numbered) (ss : List Split) (own : Part)
     (bs : List Branch) (ns : List ℕ) (env : Supplies) (pl : Placing) (r : Plan) (fork : IsFork types m ss own bs) (branches : AreBranches types ss ns bs)
-    (w : IsWired types i j m ns env pl r) (supplies : AreGroundSupplies types env ns)
+    (w : IsWired types i j m ns env pl r) (supplies : AreRealised types env ns)
     (differ : NamesDiffer r.imports) (fit : All LiteralFits r.parts)
     (typed : (b : Branch) → Contains bs b → Typed r.imports [] (meaning (inside ss (terms_of env)) b.term) (type_of_node b.term))
     (leaves : (b : Branch) → Contains bs b → HasLeaves b.term) (real : (b : Branch) → Contains bs b → RealisesWired types b.uses b.term) where
@@ -60,10 +63,10 @@ module _ (child : BranchIsChild) (parts : BranchHasParts) (types : Types) (i j :
     listed = subst (λ (xs : List Branch). Contains xs b) (sym at) (Contains-append_right before (b ∷ after) b (0, omega arith, refl))
 
     pub is_child : IsChild its_child ties
-    is_child = child types i j m ss own bs before after b ns env fork branches supplies at
+    is_child = child types i j m ss own bs before after b ns env fork branches (realised_are_of_types types env ns supplies) at
 
-    pub has_parts : HasParts its_child all_parts
-    has_parts = parts types i j m ss own bs before after b ns env fork at
+    pub has_parts : HasParts its_child all_parts r.outcome
+    has_parts = parts types i j m ss own bs before after b ns env r.outcome fork at
 
     pub once : (k : ℕ) → times k b.uses ≤ 1
     once k = let all = (branches.parts b listed).kept.once k in omega (arith, all)
@@ -76,7 +79,7 @@ module _ (child : BranchIsChild) (parts : BranchHasParts) (types : Types) (i j :
 
     pub realises : Realises (type_of_node b.term) cared.plan (meaning (inside ss (terms_of env)) b.term)
     realises =
-        child_realises its_child all_parts ties pl found.0 r found.1 is_child laid found.2 (real b listed) differ fit (leaves b listed)
+        child_realises its_child all_parts ties pl found.0 r found.1 is_child laid found.2 within supplies (real b listed) differ fit (leaves b listed)
         (branches.parts b listed).kept.scope (typed b listed)
 
     pub outcome : cared.plan.outcome ≡ type_of_node b.term
@@ -90,8 +93,9 @@ module _ (child : BranchIsChild) (parts : BranchHasParts) (types : Types) (i j :
 
     is_stage : IsStage r (pl.own (length ss)) (stage_of its_child pl cared.placing r cared.plan)
     is_stage =
-        child_is_stage its_child all_parts ties pl cared.placing r cared.plan is_child has_parts laid found.2 done realises.suits.regular
+        child_is_stage its_child all_parts ties pl cared.placing r cared.plan (length before) is_child refl has_parts laid found.2 done realises.suits.regular
         (realisers_rest cared.plan (meaning (inside ss (terms_of env)) b.term) realises.suits.all_ground realises.suits.names done is_run) realises.suits.names
+        (servings_are_loyal its_child all_parts ties pl cared.placing r cared.plan is_child has_parts laid found.2 (realised_are_ordered types env ns supplies))
 
     pub is_cared : IsCared all_parts ties i pl r (pl.own (length ss)) cared
     is_cared = record { child = is_child; parts = has_parts; laid = laid; staged = found.2; stage = is_stage; begins = refl }

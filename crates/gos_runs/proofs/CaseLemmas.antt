@@ -257,9 +257,9 @@ module _ (fork : OperatorIsFork) (kept : BothAreKept) (law : ForkRealises) (type
         typed =
             of_two (HasItsType ss env r) a b
             (retyped types ns (Exp (result_width op w)) ss i j m operation (Exp v) env pl r is.typed.0 is.scope.0 is.typed.2 is.scope.1 wired
-            supplies.realised differ typed_m)
+            supplies differ typed_m)
             (retyped types ns (Exp (result_width op w)) ss i j n operation (Exp v) env pl r is.typed.0 is.scope.0 is.typed.3 is.scope.2 wired
-            supplies.realised differ typed_n);
+            supplies differ typed_n);
       })
       (of_two Leaved a b leaves_m leaves_n) (of_two (Real types) a b rm rn)
     where

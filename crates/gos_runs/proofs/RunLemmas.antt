@@ -28,8 +28,11 @@ use Rattle.gos_windows.specs.Nodes.{IsNode}
 use Rattle.gos_nodes.specs.Realised.{AreRealised}
 use Rattle.gos_nodes.proofs.SuitLemmas.{node_realises_by_type}
 use Rattle.gos_compile.specs.Wiring.{Types, row, led, shares, shares_ties, parts_of, ties_of}
+use Rattle.gos_wired.specs.Wired as wirings
 use Rattle.gos_wired.specs.Wired.{Supplies, Source, Own, Placing, IsWired, source_dot, dot_of, dot_ties, all_supply_ties, wired_ties, terms_of}
-use Rattle.gos_stages.specs.Inside.{AreGroundSupplies}
+use Rattle.gos_wired.proofs.NodeFitLemmas.{realised_are_of_types}
+use Rattle.gos_stages.specs.Inside.{InsideIsRealised}
+use Rattle.gos_stages.specs.Folding.{asked}
 use Rattle.gos_stages.specs.Nodes.{Cared, stage, IsCared, IsFormed}
 use Rattle.gos_stages.proofs.ContactLemmas.{shares_length}
 use Rattle.gos_stages.proofs.NodeLemmas.{stages_make_node}
@@ -70,10 +73,10 @@ led_first : (n : ℕ) (place : Place) (h : ℕ) → n ≡ 1 → Contains (led (r
 led_first zero place h e = absurd (omega (arith, e))
 led_first (suc n) place h e = (0, omega arith, refl)
 
-module _ (child : BranchIsChild) (parts : BranchHasParts) (cover : BranchesCover) (f : Form) (types : Types) (i j : ℕ) (m : Numbered)
+module _ (insides : InsideIsRealised) (child : BranchIsChild) (parts : BranchHasParts) (cover : BranchesCover) (f : Form) (types : Types) (i j : ℕ) (m : Numbered)
     (ss : List Split) (bs : List Branch) (ns : List ℕ) (env : Supplies) (pl : Placing) (r : Plan)
     (fork : IsFork types m ss (own_part f) bs) (branches : AreBranches types ss ns bs) (some : bs ≢ [])
-    (same : own_type f ≡ type_of_node m) (w : IsWired types i j m ns env pl r) (supplies : AreGroundSupplies types env ns) (differ : NamesDiffer r.imports)
+    (same : own_type f ≡ type_of_node m) (w : IsWired types i j m ns env pl r) (supplies : wirings.AreRealised types env ns) (differ : NamesDiffer r.imports)
     (fit : All LiteralFits r.parts) (sessions : AreSessionsOf f ss bs env r) (leaves : (b : Branch) → Contains bs b → HasLeaves b.term)
     (real : (b : Branch) → Contains bs b → RealisesWired types b.uses b.term) where
   abbrev own_number : ℕ
@@ -83,31 +86,31 @@ module _ (child : BranchIsChild) (parts : BranchHasParts) (cover : BranchesCover
   its_ties = wired_ties types i j m ns env
 
   abbrev cared : (before after : List Branch) (b : Branch) → bs ≡ before ++ b ∷ after → Cared
-  cared = branch_lemmas.cared child parts types i j m ss (own_part f) bs ns env pl r fork branches w supplies differ fit sessions.typed leaves real
+  cared = branch_lemmas.cared insides child parts types i j m ss (own_part f) bs ns env pl r fork branches w supplies differ fit sessions.typed leaves real
 
   abbrev IsCaredHere : Cared → Type 0
   IsCaredHere x = IsCared (parts_of types m) its_ties i pl r own_number x
 
   is_cared : (before after : List Branch) (b : Branch) (at : bs ≡ before ++ b ∷ after) → IsCaredHere (cared before after b at)
-  is_cared = branch_lemmas.is_cared child parts types i j m ss (own_part f) bs ns env pl r fork branches w supplies differ fit sessions.typed leaves real
+  is_cared = branch_lemmas.is_cared insides child parts types i j m ss (own_part f) bs ns env pl r fork branches w supplies differ fit sessions.typed leaves real
 
   -- a child that runs the branch at this handshake
   record Runs (b : Branch) (h : ℕ) (x : Cared) : Type 0 where
-    shake : x.child.shake ≡ h
+    shake : asked x.child ≡ h
     realises : Realises (type_of_node b.term) x.plan (meaning (inside ss (terms_of env)) b.term)
     is_run : RealisesDone x.plan (meaning (inside ss (terms_of env)) b.term)
 
   runs : (before after : List Branch) (b : Branch) (at : bs ≡ before ++ b ∷ after) → Runs b (length before) (cared before after b at)
   runs before after b at =
       let it =
-      branch_lemmas.realises child parts types i j m ss (own_part f) bs ns env pl r fork branches w supplies differ fit sessions.typed leaves real before
+      branch_lemmas.realises insides child parts types i j m ss (own_part f) bs ns env pl r fork branches w supplies differ fit sessions.typed leaves real before
       after b at
       in
       record {
         shake = refl;
         realises = it;
         is_run =
-            branch_lemmas.is_run child parts types i j m ss (own_part f) bs ns env pl r fork branches w supplies differ fit sessions.typed leaves real before
+            branch_lemmas.is_run insides child parts types i j m ss (own_part f) bs ns env pl r fork branches w supplies differ fit sessions.typed leaves real before
             after b at;
       }
 
@@ -129,10 +132,10 @@ module _ (child : BranchIsChild) (parts : BranchHasParts) (cover : BranchesCover
   longer before b = let sum = length-append before (b ∷ []) in omega (arith, sum)
 
   shake_of : (before rest : List Branch) (at : bs ≡ before ++ rest) (x : Cared) (has : Contains (cares before rest at) x)
-      → x.child.shake ≡ length before + has.0
+      → asked x.child ≡ length before + has.0
   shake_of before [] at x (k, small, is) = absurd (omega (arith, small))
   shake_of before (b ∷ after) at x (zero, small, is) =
-      let it : x.child.shake ≡ length before = ap (λ (y : Cared). y.child.shake) (sym is) in omega (arith, it)
+      let it : asked x.child ≡ length before = ap (λ (y : Cared). asked y.child) (sym is) in omega (arith, it)
   shake_of before (b ∷ after) at x (suc k, small, is) =
       let rest = shake_of (before ++ b ∷ []) after (onward before after b at) x (k, omega (arith, small), is) in
       let more = longer before b in omega (arith, rest, more)
@@ -166,7 +169,7 @@ module _ (child : BranchIsChild) (parts : BranchHasParts) (cover : BranchesCover
   abbrev es : List Cared
   es = cares [] bs refl
 
-  one_each : (x y : Cared) → Contains es x → Contains es y → x.child.shake ≡ y.child.shake → x ≡ y
+  one_each : (x y : Cared) → Contains es x → Contains es y → asked x.child ≡ asked y.child → x ≡ y
   one_each x y one other e =
       let at_x = shake_of [] bs refl x one in
       let at_y = shake_of [] bs refl y other in
@@ -175,7 +178,7 @@ module _ (child : BranchIsChild) (parts : BranchHasParts) (cover : BranchesCover
   -- and so each session of the form has one
   record Served (s : Session) (x : Cared) : Type 0 where
     listed : Contains es x
-    shake : x.child.shake ≡ s.asked_at
+    shake : asked x.child ≡ s.asked_at
     realises : Realises s.ty x.plan s.term
     is_run : RealisesDone x.plan s.term
 
@@ -269,7 +272,7 @@ module _ (child : BranchIsChild) (parts : BranchHasParts) (cover : BranchesCover
         outcome = outcome;
         done = done;
         literals = fit;
-        ground = imports_are_ground types i j m ns env pl r w supplies.realised;
+        ground = imports_are_ground types i j m ns env pl r w supplies;
         names = differ;
         result = run_joint;
       }
@@ -277,7 +280,7 @@ module _ (child : BranchIsChild) (parts : BranchHasParts) (cover : BranchesCover
   node : IsNode r own_number f (map (stage pl r) es)
   node =
       stages_make_node f (parts_of types m) its_ties i pl r own_number es w.web formed (each_cared [] bs refl)
-      (cover f types i j m ss bs ns env pl r es fork branches supplies some w (are_children [] bs refl)) one_each
+      (cover f types i j m ss bs ns env pl r es fork branches (realised_are_of_types types env ns supplies) some w (are_children [] bs refl)) one_each
       (λ p n s e. let (x, it) = served p n s e in (x, it.listed, it.shake, it.realises.suits.outcome))
 
   realised : AreRealised f (map (stage pl r) es)
@@ -294,6 +297,6 @@ module _ (child : BranchIsChild) (parts : BranchHasParts) (cover : BranchesCover
   pub fork_is_realised : Realises (own_type f) r (own_term f)
   fork_is_realised = node_realises_by_type r own_number f (map (stage pl r) es) node realised
 
-pub fork_realises : BranchIsChild → BranchHasParts → BranchesCover → ForkRealises
-fork_realises child parts cover f types i j m ss bs ns env pl r fork branches some same w supplies differ fit sessions leaves real =
-    fork_is_realised child parts cover f types i j m ss bs ns env pl r fork branches some same w supplies differ fit sessions leaves real
+pub fork_realises : InsideIsRealised → BranchIsChild → BranchHasParts → BranchesCover → ForkRealises
+fork_realises insides child parts cover f types i j m ss bs ns env pl r fork branches some same w supplies differ fit sessions leaves real =
+    fork_is_realised insides child parts cover f types i j m ss bs ns env pl r fork branches some same w supplies differ fit sessions leaves real

@@ -12,8 +12,7 @@ use Rattle.gos_realises.specs.Realises.{NamesDiffer, Realises}
 use Rattle.gos_sessions.specs.Sessions.{Form, Session, own_part, own_term, own_type, session_of}
 use Rattle.gos_compile.specs.Wiring.{Types}
 use Rattle.gos_meanings.specs.Meanings.{HasLeaves}
-use Rattle.gos_wired.specs.Wired.{Supplies, Placing, IsWired, terms_of}
-use Rattle.gos_stages.specs.Inside.{AreGroundSupplies}
+use Rattle.gos_wired.specs.Wired.{Supplies, Placing, IsWired, AreRealised, terms_of}
 use Rattle.gos_grounds.specs.Cases.{RealisesWired}
 use Rattle.gos_forks.specs.Forks.{Branch, IsFork, AreBranches}
 
@@ -29,7 +28,7 @@ abbrev pub ForkRealises : Type 0
 ForkRealises =
     (f : Form) (types : Types) (i j : ℕ) (m : Numbered) (ss : List Split) (bs : List Branch) (ns : List ℕ) (env : Supplies) (pl : Placing) (r : Plan)
     → IsFork types m ss (own_part f) bs → AreBranches types ss ns bs → bs ≢ [] → own_type f ≡ type_of_node m
-    → IsWired types i j m ns env pl r → AreGroundSupplies types env ns → NamesDiffer r.imports → All LiteralFits r.parts
+    → IsWired types i j m ns env pl r → AreRealised types env ns → NamesDiffer r.imports → All LiteralFits r.parts
     → AreSessionsOf f ss bs env r
     → ((b : Branch) → Contains bs b → HasLeaves b.term)
     → ((b : Branch) → Contains bs b → RealisesWired types b.uses b.term)

@@ -6,11 +6,13 @@ ghost use Rattle.gos_runs.specs.SmallRuns.{BothHaveBranches, SecondHasNone};
 use gos_covers::branches_cover;
 use gos_forks::{branches_are_children, forms_are_forks};
 use gos_numbers::parts_are_kept;
+use gos_stages::supplies_inside;
 
 /// A fork realises its term, where its branches realise theirs.
 pub fn forks_realise()
     ensures { ForkRealises }
 {
+    supplies_inside();
     branches_are_children();
     branches_cover();
 }

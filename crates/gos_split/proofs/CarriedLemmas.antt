@@ -21,7 +21,7 @@ use Rattle.gos_split.specs.Joined.{wiring, IsPortPlace, AllPortPlaces, JoinedIsS
 use Rattle.gos_split.specs.Split.{Splitting, IsUsed, IsSplit}
 use Rattle.gos_split.proofs.JoinedLemmas.{stands_low, low_origin, contact_moved, lands, part_low, back_low, argument_low, outcome_low, wide_low, joined_end, joined_back, joined_split}
 
-later_plan : (m : ℕ) (ps : List Plan) (i h : ℕ) → (n : ℕ) × ((part_place (suc m) ps i h).plan ≡ suc n)
+pub later_plan : (m : ℕ) (ps : List Plan) (i h : ℕ) → (n : ℕ) × ((part_place (suc m) ps i h).plan ≡ suc n)
 later_plan m [] i h = (m, refl)
 later_plan m (p ∷ ps) i h = by_test (nat_lt i (length p.parts)) refl (later_plan (suc m) ps (i - length p.parts) h)
   where

@@ -20,7 +20,7 @@ use Rattle.gos_joined.proofs.WholeLemmas.{applied_is_joined, sides_are_joined, v
 use Rattle.gos_webs.specs.Cutting.{Cut}
 use Rattle.gos_buffers.specs.Buffers.{IsLoyal}
 use Rattle.gos_passing.specs.Source.{IsBefore}
-use Rattle.gos_passing.proofs.SourceLemmas.{sources_are_loyal}
+use Rattle.gos_passing.proofs.SourceLemmas.{ground_sources_are_loyal}
 use Rattle.gos_split.specs.Split.{Splitting, IsSplit}
 use Rattle.gos_split.specs.Joined.{wiring}
 use Rattle.gos_split.specs.Realised.{SplitIsRealised}
@@ -30,17 +30,17 @@ use Rattle.gos_split.proofs.CarriedLemmas.{joined_is_split}
 use Rattle.gos_split.proofs.BeforeLemmas.{AllResults, results_are_ports, joined_before}
 
 -- literals
-part_there : (xs : List Part) (k : ℕ) (x : Part) → slice_get xs k ≡ Some x → Contains xs x
+pub part_there : (xs : List Part) (k : ℕ) (x : Part) → slice_get xs k ≡ Some x → Contains xs x
 part_there [] k x at = absurd (cc at)
 part_there (y ∷ xs) zero x at = (0, omega arith, cc at)
 part_there (y ∷ xs) (suc k) x at = let (n, within, is) = part_there xs k x at in (suc n, omega (arith, within), is)
 
-each_fits : (xs : List Part) → ((k : ℕ) (x : Part) → slice_get xs k ≡ Some x → LiteralFits x) → AllByRecursion LiteralFits xs
+pub each_fits : (xs : List Part) → ((k : ℕ) (x : Part) → slice_get xs k ≡ Some x → LiteralFits x) → AllByRecursion LiteralFits xs
 each_fits [] each = tt
 each_fits (x ∷ xs) each = (each 0 x refl, each_fits xs (λ k y at. each (suc k) y at))
 
 -- the links join results
-no_links : AllResults []
+pub no_links : AllResults []
 no_links l (k, small, e) = absurd (omega (arith, small))
 
 one_more : (l : Link) (ls : List Link) → Rattle.gos_split.proofs.BeforeLemmas.IsResultPlace l.one → Rattle.gos_split.proofs.BeforeLemmas.IsResultPlace l.other → AllResults ls → AllResults (l ∷ ls)
@@ -53,10 +53,10 @@ results n zero = no_links
 results n (suc m) =
     one_more (link 0 (ResultEnd n) 1 (ResultEnd n)) (results_linked 1 (suc n) m) (λ same. tt) (λ same. tt) (results (suc n) m)
 
-read_link : AllResults (link 0 (ResultEnd 0) 1 (PartEnd 0 0) ∷ [])
+pub read_link : AllResults (link 0 (ResultEnd 0) 1 (PartEnd 0 0) ∷ [])
 read_link = one_more (link 0 (ResultEnd 0) 1 (PartEnd 0 0)) [] (λ same. tt) (λ same. absurd (omega (arith, same))) no_links
 
-write_links : AllResults (link 0 (ResultEnd 1) 1 (PartEnd 0 1) ∷ link 1 (PartEnd 0 0) 2 (ResultEnd 0) ∷ [])
+pub write_links : AllResults (link 0 (ResultEnd 1) 1 (PartEnd 0 1) ∷ link 1 (PartEnd 0 0) 2 (ResultEnd 0) ∷ [])
 write_links =
     one_more (link 0 (ResultEnd 1) 1 (PartEnd 0 1)) (link 1 (PartEnd 0 0) 2 (ResultEnd 0) ∷ []) (λ same. tt) (λ same. absurd (omega (arith, same)))
     (one_more (link 1 (PartEnd 0 0) 2 (ResultEnd 0)) [] (λ same. absurd (omega (arith, same))) (λ same. tt) no_links)
@@ -79,7 +79,7 @@ module _ (f : Splitting) (h : Cut) (x u p : Plan) (is : IsSplit f x u) (before :
   ground_x ground = subst AllGround is.imports ground
 
   loyal : AllGround u.imports → IsLoyal f.wide f.caller (Fun f.of f.to) x
-  loyal ground = sources_are_loyal h f.wide (Fun f.of f.to) f.caller x p before (ground_x ground) regular
+  loyal ground = ground_sources_are_loyal h f.wide (Fun f.of f.to) f.caller x p before (ground_x ground) regular
 
   pub suits_back : (t : Type') (m : Term) → Suits t u m → Suits t x m
   suits_back t m suits =

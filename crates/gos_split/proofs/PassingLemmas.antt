@@ -29,11 +29,11 @@ use Rattle.gos_split.proofs.HomeLemmas.{one_longer}
 use Rattle.gos_split.proofs.AppliedLemmas.{applied_split}
 
 -- a plan of the type lies behind the Share
-lies : (t : Type') (c : ℕ) (p : Plan) (m : Term) → c < 2 → Suits t p m → IsBehind (length p.parts) t c (passing t c p) p
+pub lies : (t : Type') (c : ℕ) (p : Plan) (m : Term) → c < 2 → Suits t p m → IsBehind (length p.parts) t c (passing t c p) p
 lies t c p m two suits =
     subst (λ (s : Type'). IsBehind (length p.parts) s c (passing s c p) p) suits.outcome (lies_behind_share c p two suits.right)
 
-suits_behind : (t : Type') (c : ℕ) (p : Plan) (m : Term) → c < 2 → Suits t p m → Suits t (passing t c p) m
+pub suits_behind : (t : Type') (c : ℕ) (p : Plan) (m : Term) → c < 2 → Suits t p m → Suits t (passing t c p) m
 suits_behind t c p m two suits =
     let behind = lies t c p m two suits in
     record {
@@ -47,7 +47,7 @@ suits_behind t c p m two suits =
     }
 
 -- the application of the function behind it, where that of the function to the argument behind one realises what it should behind one
-applied_realises : (a b : Type') (c : ℕ) (p q y x : Plan) (m n : Term) → c < 2 → Suits (Fun a b) p m → Suits a q n
+pub applied_realises : (a b : Type') (c : ℕ) (p q y x : Plan) (m n : Term) → c < 2 → Suits (Fun a b) p m → Suits a q n
     → IsJoining (applying a b p (passing a c q)) y → IsJoining (applying a b (passing (Fun a b) c p) q) x → Suits b y (App m n)
     → Realises b (passing b c y) (App m n) → Realises b x (App m n)
 applied_realises a b c p q y x m n two of_p of_q of_y of_x also realised =
@@ -75,7 +75,7 @@ applied_realises a b c p q y x m n two of_p of_q of_y of_x also realised =
         (before_it (length p.parts) (Fun a b) c (passing (Fun a b) c p) p behind_p) (q ∷ []) (results_linked 1 0 (count a)) 0 (count a) b (results 0 (count a)) x of_x
 
 module _ (ground : GroundIsBuffered) (realises : BufferedGroundIsRealised) where
-  at_ground : (t : Type') (c : ℕ) (p : Plan) (m : Term) → c < 2 → IsGround t → Realises t p m → Realises t (passing t c p) m
+  pub at_ground : (t : Type') (c : ℕ) (p : Plan) (m : Term) → c < 2 → IsGround t → Realises t p m → Realises t (passing t c p) m
   at_ground t c p m two is realised = subst (λ (r : Plan). Realises t r m) (sym (ground t c p is)) (realises t c p m two is realised)
 
   pub passing_is_realised : PassingIsRealised

@@ -1,5 +1,5 @@
 -- What a tie of the node's web connects stands for nothing of the child, or for what its own web connects.
-use Rattle.std.specs.Prelude.{◌+◌, ◌<◌, ◌≤◌, ◌⊎◌, ◌||◌, length, nat_eq, nat_lt, None, Contains}
+use Rattle.std.specs.Prelude.{◌+◌, ◌<◌, ◌≤◌, ◌⊎◌, ◌||◌, length, map, nat_eq, nat_lt, slice_get, None, Contains}
 use Rattle.std.proofs.Common.{◌≡◌, ℕ, zero, suc, Bool, true, false, List, [], ◌∷◌, ◌++◌, Option, Some, inl, inr, refl, sym, ◌∙◌, ap, subst, arith, if◌then◌else◌}
 use Rattle.std.proofs.lemmas.Bool.Decides.{nat_tests}
 use Rattle.std.proofs.lemmas.List.Elements.{Contains-append_left, Contains-append_right, Contains-append_cases}
@@ -7,7 +7,7 @@ use Rattle.gos_types.specs.Types.{Type'}
 use Rattle.gos_check.specs.declared.linear.Split.{Split}
 use Rattle.gos_check.specs.Nodes.{type_of_node}
 use Rattle.gos_check.specs.Linearity.{times, used, made}
-use Rattle.gos_check.proofs.TimesLemmas.{eq_true, eq_false, some_times, listed_times}
+use Rattle.gos_check.proofs.TimesLemmas.{eq_true, eq_false, true_eq, some_times, listed_times}
 use Rattle.gos_plan.specs.Plans.{End, PartEnd, ResultEnd}
 use Rattle.gos_realises.specs.Regular.{count}
 use Rattle.gos_ties.specs.declared.points.Place.{Place}
@@ -23,10 +23,11 @@ use Rattle.gos_folds.specs.Folds.{Follows}
 use Rattle.gos_compile.specs.Wiring.{row, led, parts_of, nodes, ties_of, share_ties, shares_ties}
 use Rattle.gos_wired.specs.Wired.{Placing, dot_of_place, dot_of, dot_ties, result_ties, supply_ties, all_supply_ties}
 use Rattle.gos_stages.specs.Inside.{numbers_inside, AreSplit, SidesAgree}
-use Rattle.gos_stages.specs.Leading.{dot_leading}
+use Rattle.gos_ties.specs.declared.points.Point.{Point}
+use Rattle.gos_stages.specs.Leading.{or_point, dot_leading}
 use Rattle.gos_stages.specs.Ranges.{IsWithin}
 use Rattle.gos_stages.specs.Lodging.{spot, spot_if, Spot, Near}
-use Rattle.gos_stages.specs.Folding.{Child, is_used, lodge, child_out, child_web, in_range, spot_dot, asks_child, is_number, child_back, shared_ties, own_ties, IsChild, ChildStays}
+use Rattle.gos_stages.specs.Folding.{Lead, AtOwn, AtResult, lead_point, of_own, of_result, AreDistinct, Child, is_used, lodge, child_out, child_web, in_range, spot_dot, asks_child, is_number, child_back, shared_ties, own_ties, IsChild, ChildStays}
 use Rattle.gos_stages.proofs.RangeLemmas.{ties_stay_within}
 use Rattle.gos_stages.proofs.LodgingLemmas.{lifted, led_listed, homes_are_kept, numbers_are_held}
 use Rattle.gos_stages.proofs.LiveLemmas.{spots_are_live}
@@ -54,7 +55,105 @@ pub follows_by : (ts : List Tie) (a b : Option Dot) (x y : Dot) → a ≡ Some x
 follows_by ts a b x y at_a at_b way =
     subst (λ (z : Option Dot). Follows ts z b) (sym at_a) (subst (λ (z : Option Dot). Follows ts (Some x) z) (sym at_b) way)
 
+-- the handshake that leads there
+abbrev pub lead_back : List Lead → ℕ → Lead → Option Dot
+lead_back ls k (AtOwn s) = of_own ls k s
+lead_back ls k (AtResult s) = of_result ls k s
+
+no_lead : (l : Lead) → None ≡ Some l → ⊥
+no_lead l e = cc e
+
+pub at_lead : (ls : List Lead) (h : ℕ) → h < length ls → (l : Lead) × (slice_get ls h ≡ Some l)
+at_lead [] h lt = absurd (omega (arith, lt))
+at_lead (l ∷ ls) zero lt = (l, refl)
+at_lead (l ∷ ls) (suc h) lt = at_lead ls h (omega (arith, lt))
+
+-- one alone
+pub one_lead : (l : Lead) → AreDistinct (l ∷ [])
+one_lead l zero zero x at_h at_k = refl
+one_lead l zero (suc k) x at_h at_k = absurd (no_lead x at_k)
+one_lead l (suc h) k x at_h at_k = absurd (no_lead x at_h)
+
+behind_distinct : (x : Lead) (ls : List Lead) → AreDistinct (x ∷ ls) → AreDistinct ls
+behind_distinct x ls apart h k l at_h at_k = let same = apart (suc h) (suc k) l at_h at_k in omega (arith, same)
+
+here_back : (l : Lead) (ls : List Lead) (k : ℕ) → lead_back (l ∷ ls) k l ≡ Some (Within 0 (Of (ResultEnd k)))
+here_back (AtOwn s) ls k = ap (λ (b : Bool). if b then Some (Within 0 (Of (ResultEnd k))) else of_own ls (suc k) s) (eq_true s s refl)
+here_back (AtResult s) ls k = ap (λ (b : Bool). if b then Some (Within 0 (Of (ResultEnd k))) else of_result ls (suc k) s) (eq_true s s refl)
+
+later_back : (x l : Lead) (ls : List Lead) (k : ℕ) → (x ≡ l → ⊥) → lead_back (x ∷ ls) k l ≡ lead_back ls (suc k) l
+later_back (AtOwn a) (AtOwn s) ls k apart =
+    ap (λ (b : Bool). if b then Some (Within 0 (Of (ResultEnd k))) else of_own ls (suc k) s) (eq_false s a (λ e. apart (ap AtOwn (sym e))))
+later_back (AtOwn a) (AtResult s) ls k apart = refl
+later_back (AtResult a) (AtOwn s) ls k apart = refl
+later_back (AtResult a) (AtResult s) ls k apart =
+    ap (λ (b : Bool). if b then Some (Within 0 (Of (ResultEnd k))) else of_result ls (suc k) s) (eq_false s a (λ e. apart (ap AtResult (sym e))))
+
+found_lead : (ls : List Lead) (k h : ℕ) (l : Lead) → AreDistinct ls → slice_get ls h ≡ Some l → lead_back ls k l ≡ Some (Within 0 (Of (ResultEnd (k + h))))
+found_lead [] k h l apart at = absurd (no_lead l at)
+found_lead (x ∷ ls) k zero l apart at =
+    let same : x ≡ l = cc at in
+    let sum : k ≡ k + 0 = omega arith in
+    subst (λ (z : Lead). lead_back (x ∷ ls) k z ≡ Some (Within 0 (Of (ResultEnd (k + 0))))) same (here_back x ls k ∙ ap (λ (m : ℕ). Some (Within 0 (Of (ResultEnd m)))) sum)
+found_lead (x ∷ ls) k (suc h) l apart at =
+    let sum : suc k + h ≡ k + suc h = omega arith in
+    later_back x l ls k (λ e. let same = apart 0 (suc h) l (ap Some e) at in omega (arith, same))
+    ∙ (found_lead ls (suc k) h l (behind_distinct x ls apart) at ∙ ap (λ (m : ℕ). Some (Within 0 (Of (ResultEnd m)))) sum)
+
+-- and back
+abbrev Told : List Lead → ℕ → Lead → Dot → Type 0
+Told ls k l y = (h : ℕ) × (slice_get ls h ≡ Some l) × (y ≡ Within 0 (Of (ResultEnd (k + h))))
+
+told_here : (ls : List Lead) (l : Lead) (k : ℕ) (y : Dot) → Some (Within 0 (Of (ResultEnd k))) ≡ Some y → Told (l ∷ ls) k l y
+told_here ls l k y e =
+    let same : Within 0 (Of (ResultEnd k)) ≡ y = cc e in
+    let sum : k ≡ k + 0 = omega arith in (0, refl, sym same ∙ ap (λ (m : ℕ). Within 0 (Of (ResultEnd m))) sum)
+
+told_later : (x : Lead) (ls : List Lead) (l : Lead) (k : ℕ) (y : Dot) → Told ls (suc k) l y → Told (x ∷ ls) k l y
+told_later x ls l k y (h, at, same) =
+    let sum : suc k + h ≡ k + suc h = omega arith in (suc h, at, same ∙ ap (λ (m : ℕ). Within 0 (Of (ResultEnd m))) sum)
+
+pub told_lead : (ls : List Lead) (k : ℕ) (l : Lead) (y : Dot) → lead_back ls k l ≡ Some y → Told ls k l y
+told_lead [] k (AtOwn s) y e = absurd (cc e)
+told_lead [] k (AtResult s) y e = absurd (cc e)
+told_lead (AtOwn a ∷ ls) k (AtOwn s) y e = by_test (nat_eq s a) refl e (λ d. told_lead ls (suc k) (AtOwn s) y d)
+  where
+    by_test : (b : Bool) → nat_eq s a ≡ b → (if b then Some (Within 0 (Of (ResultEnd k))) else of_own ls (suc k) s) ≡ Some y
+        → (of_own ls (suc k) s ≡ Some y → Told ls (suc k) (AtOwn s) y) → Told (AtOwn a ∷ ls) k (AtOwn s) y
+    by_test true t e more = subst (λ (m : ℕ). Told (AtOwn m ∷ ls) k (AtOwn s) y) (true_eq s a t) (told_here ls (AtOwn s) k y e)
+    by_test false t e more = told_later (AtOwn a) ls (AtOwn s) k y (more e)
+told_lead (AtOwn a ∷ ls) k (AtResult s) y e = told_later (AtOwn a) ls (AtResult s) k y (told_lead ls (suc k) (AtResult s) y e)
+told_lead (AtResult a ∷ ls) k (AtOwn s) y e = told_later (AtResult a) ls (AtOwn s) k y (told_lead ls (suc k) (AtOwn s) y e)
+told_lead (AtResult a ∷ ls) k (AtResult s) y e = by_test (nat_eq s a) refl e (λ d. told_lead ls (suc k) (AtResult s) y d)
+  where
+    by_test : (b : Bool) → nat_eq s a ≡ b → (if b then Some (Within 0 (Of (ResultEnd k))) else of_result ls (suc k) s) ≡ Some y
+        → (of_result ls (suc k) s ≡ Some y → Told ls (suc k) (AtResult s) y) → Told (AtResult a ∷ ls) k (AtResult s) y
+    by_test true t e more = subst (λ (m : ℕ). Told (AtResult m ∷ ls) k (AtResult s) y) (true_eq s a t) (told_here ls (AtResult s) k y e)
+    by_test false t e more = told_later (AtResult a) ls (AtResult s) k y (more e)
+
+mapped_at : (q : ℕ) (ls : List Lead) (h : ℕ) (l : Lead) → slice_get ls h ≡ Some l → slice_get (map (lead_point q) ls) h ≡ Some (lead_point q l)
+mapped_at q [] h l at = absurd (no_lead l at)
+mapped_at q (x ∷ ls) zero l at = let same : x ≡ l = cc at in ap (λ (z : Lead). Some (lead_point q z)) same
+mapped_at q (x ∷ ls) (suc h) l at = mapped_at q ls h l at
+
 module _ (f : Child) (ts : List Tie) (pl : Placing) (is : IsChild f ts) where
+  -- where its handshakes lead, and what that stands for
+  pub lead_lies : (h : ℕ) (l : Lead) → slice_get f.out h ≡ Some l → dot_leading (child_out f) (Of (ResultEnd h)) ≡ dot_of (lead_point (f.first + f.own) l)
+  lead_lies h l at = ap (λ (o : Option Point). dot_of (or_point o (point places.Result h))) (mapped_at (f.first + f.own) f.out h l at)
+
+  pub lead_stands : (h : ℕ) (l : Lead) → slice_get f.out h ≡ Some l → child_back f (Within 0 (dot_of (lead_point (f.first + f.own) l))) ≡ Some (Within 0 (Of (ResultEnd h)))
+  lead_stands h l at = to_back l ∙ (found_lead f.out 0 h l is.distinct at ∙ ap (λ (m : ℕ). Some (Within 0 (Of (ResultEnd m)))) sum)
+    where
+      sum : 0 + h ≡ h
+      sum = omega arith
+
+      to_back : (l : Lead) → child_back f (Within 0 (dot_of (lead_point (f.first + f.own) l))) ≡ lead_back f.out 0 l
+      to_back (AtOwn s) =
+          ap (λ (b : Bool). if b then asks_child f s
+          else if in_range (f.first + f.off) (length (parts_of f.types f.term)) (f.first + f.own) then Some (Within 0 (Of (PartEnd (f.first + f.own) s)))
+          else spot_dot ((lodge f).home (Within 0 (Of (PartEnd (f.first + f.own) s))))) (eq_true (f.first + f.own) (f.first + f.own) refl)
+      to_back (AtResult s) = refl
+
   abbrev web : List Tie
   web = (child_web f pl).ties
 
@@ -82,20 +181,22 @@ module _ (f : Child) (ts : List Tie) (pl : Placing) (is : IsChild f ts) where
       → child_back f (Within 0 (dot_leading (child_out f) (dot_of_place p h))) ≡ Some (Within 0 (dot_of_place p h))
   own_back (places.Part q) h (le, lt) =
       let far : nat_eq q (f.first + f.own) ≡ false =
-      eq_false q (f.first + f.own) (λ e. let same : q ≡ f.first + f.own = e in let less = is.own_first in omega (arith, same, less, le))
+      eq_false q (f.first + f.own) (λ e. let same : q ≡ f.first + f.own = e in not_own same is.own_apart)
       in
       ap (λ (b : Bool). if b then asks_child f h
       else if in_range (f.first + f.off) (length (parts_of f.types f.term)) q then Some (Within 0 (Of (PartEnd q h)))
       else spot_dot ((lodge f).home (Within 0 (Of (PartEnd q h))))) far
       ∙ ap (λ (b : Bool). if b then Some (Within 0 (Of (PartEnd q h))) else spot_dot ((lodge f).home (Within 0 (Of (PartEnd q h)))))
       (range_in (f.first + f.off) (length (parts_of f.types f.term)) q le lt)
+    where
+      not_own : q ≡ f.first + f.own → (f.own < f.off) ⊎ (f.off + length (parts_of f.types f.term) ≤ f.own) → ⊥
+      not_own same (inl less) = omega (arith, same, less, le)
+      not_own same (inr more) = omega (arith, same, more, lt)
   own_back (places.Import q) h inside = absurd inside
-  own_back places.Result zero inside =
-      ap (λ (b : Bool). if b then asks_child f f.shake
-      else if in_range (f.first + f.off) (length (parts_of f.types f.term)) (f.first + f.own) then Some (Within 0 (Of (PartEnd (f.first + f.own) f.shake)))
-      else spot_dot ((lodge f).home (Within 0 (Of (PartEnd (f.first + f.own) f.shake))))) (eq_true (f.first + f.own) (f.first + f.own) refl)
-      ∙ ap (λ (b : Bool). if b then Some (Within 0 (Of (ResultEnd 0))) else None) (eq_true f.shake f.shake refl)
-  own_back places.Result (suc h) inside = let one = is.one in absurd (omega (arith, inside, one))
+  own_back places.Result h inside =
+      let long = is.long in
+      let (l, at) = at_lead f.out h (omega (arith, inside, long)) in
+      ap (λ (d : Dot). child_back f (Within 0 d)) (lead_lies h l at) ∙ lead_stands h l at
   own_back (places.Number n) h some =
       ap (λ (b : Bool). if b then Some (Within 0 (Number n h)) else spot_dot ((lodge f).home (Within 0 (Number n h)))) number
     where
@@ -204,7 +305,7 @@ module _ (f : Child) (ts : List Tie) (pl : Placing) (is : IsChild f ts) where
   pub plain_share : (q h : ℕ) → q < f.first + length f.splits → Plainly (Within 0 (Of (PartEnd q h)))
   plain_share q h lt =
       let less = is.shares_first in
-      let more = is.own_first in
+      let more = is.off_first in
       let far : nat_eq q (f.first + f.own) ≡ false =
       eq_false q (f.first + f.own) (λ e. let same : q ≡ f.first + f.own = e in omega (arith, same, less, lt))
       in
@@ -212,7 +313,7 @@ module _ (f : Child) (ts : List Tie) (pl : Placing) (is : IsChild f ts) where
       else if in_range (f.first + f.off) (length (parts_of f.types f.term)) q then Some (Within 0 (Of (PartEnd q h)))
       else spot_dot ((lodge f).home (Within 0 (Of (PartEnd q h))))) far
       ∙ ap (λ (b : Bool). if b then Some (Within 0 (Of (PartEnd q h))) else spot_dot ((lodge f).home (Within 0 (Of (PartEnd q h)))))
-      (range_below (f.first + f.off) (length (parts_of f.types f.term)) q (omega (arith, lt, less, more)))
+      (range_below (f.first + f.off) (length (parts_of f.types f.term)) q (omega (arith, lt, more)))
 
   -- a tie of a Share: of a number that is there, at a handshake of its type
   abbrev ShareTie : List ℕ → ℕ → ℕ → point_ties.Tie → Type 0

@@ -1,6 +1,6 @@
 -- The plan of a child lies as a fold in its node's: its ports, the Shares that serve it, and its ends.
 use Rattle.std.specs.Prelude.{◌+◌, ◌-◌, ◌*◌, ◌<◌, ◌≤◌, ◌⊎◌, length, nat_eq, slice_get, None, Contains}
-use Rattle.std.proofs.Common.{◌≡◌, ℕ, suc, Bool, true, false, not, List, Option, Some, inl, inr, refl, sym, ◌∙◌, ap, subst, arith, if◌then◌else◌}
+use Rattle.std.proofs.Common.{◌≡◌, ℕ, suc, Bool, true, false, not, List, [], ◌∷◌, Option, Some, inl, inr, refl, sym, ◌∙◌, ap, subst, arith, if◌then◌else◌}
 use Rattle.std.proofs.lemmas.Option.{slice_get_within}
 use Rattle.std.proofs.lemmas.List.Elements.{Contains-append_cases}
 use Rattle.gos_types.specs.Types.{Type'}
@@ -22,24 +22,24 @@ use Rattle.gos_unions.proofs.UnionLemmas.{of_image}
 use Rattle.gos_windows.specs.Regions.{Serving, IsOther}
 use Rattle.gos_folds.specs.Folds.{IsFolded, IsSpare}
 use Rattle.gos_compile.specs.Wiring.{parts_of, shares, row, ties_of}
-use Rattle.gos_wired.specs.Wired.{Origin, Source, Own, Supplied, Placing, IsFrom, placed, source_dot, dot_at, dot_ties, all_supply_ties}
+use Rattle.gos_wired.specs.Wired.{Origin, Source, Own, Supplied, Placing, IsFrom, placed, source_dot, dot_of, dot_at, dot_ties, all_supply_ties}
 use Rattle.gos_stages.specs.Lodging.{Spot, spot_if}
-use Rattle.gos_stages.specs.Folding.{Child, is_used, lodge, child_web, child_dot, in_range, spot_dot, asks_child, child_back, child_source, part_of_dot, port_of_dot, child_outer, child_cut, child_fold, child_servings, IsChild, IsLaid}
+use Rattle.gos_stages.specs.Folding.{Lead, AtOwn, AtResult, lead_point, of_own, lead_end, led_end, Child, is_used, lodge, child_web, child_dot, in_range, spot_dot, asks_child, child_back, child_source, part_of_dot, port_of_dot, child_outer, child_cut, child_fold, child_servings, IsChild, IsLaid}
 use Rattle.gos_stages.specs.Housing.{IsThere}
 use Rattle.gos_stages.specs.Folded.{HasChild, ChildIsFolded}
 use Rattle.gos_stages.specs.Served.{IsSeenFrom}
 use Rattle.gos_stages.proofs.StepLemmas.{serves_source}
 use Rattle.gos_stages.proofs.PartHomeLemmas.{numbers_are_at_home}
 use Rattle.gos_stages.proofs.HousingLemmas.{imports_are_from, homes_are_there, far_is_nothing}
-use Rattle.gos_stages.proofs.ImportHomeLemmas.{imports_are_there, result_is_nowhere}
+use Rattle.gos_stages.proofs.ImportHomeLemmas.{imports_are_there}
 use Rattle.gos_stages.proofs.ServedLemmas.{servings_serve}
 use Rattle.gos_stages.proofs.SpareLemmas.{spares_are_others}
 use Rattle.gos_stages.proofs.ChildTieLemmas.{put_in, of_supplies, of_supply, child_ways}
-use Rattle.gos_stages.proofs.ChildBackLemmas.{own_back, used_so, spot_used, child_stays}
+use Rattle.gos_stages.proofs.ChildBackLemmas.{lead_back, at_lead, told_lead, lead_lies, lead_stands, used_so, spot_used, child_stays}
 use Rattle.gos_stages.proofs.ContactLemmas.{turned_some, part_there, import_there, shares_length, other_unserved}
 use Rattle.gos_stages.proofs.ChildPartLemmas.{low, there_at, no_more_than, plain_source, supplied_back, own_source_back, source_from, part_lies, number_so, child_is_part}
 
-module _ (f : Child) (own : List Part) (ts : List Tie) (pl plc : Placing) (r c : Plan) (is : IsChild f ts) (has : HasChild f own c)
+module _ (f : Child) (own : List Part) (ts : List Tie) (pl plc : Placing) (r c : Plan) (is : IsChild f ts) (has : HasChild f own r.outcome c)
     (laid : IsLaid own f.numbers f.env pl r) (laidc : IsLaid (parts_of f.types f.term) f.uses (lodge f).env plc c) where
   abbrev whole : Web
   whole = record { ties = ts; at = dot_at f.first pl }
@@ -48,42 +48,74 @@ module _ (f : Child) (own : List Part) (ts : List Tie) (pl plc : Placing) (r c :
   size = length r.parts
 
   -- the own part
-  own_there : slice_get r.parts (pl.own f.own) ≡ Some has.own_part.0
-  own_there = (laid.parts has.own_part.0 (Own f.own) has.own_part.1).0
+  own_there : (y : Part) → slice_get own f.own ≡ Some y → (slice_get r.parts (pl.own f.own) ≡ Some y) × (pl.source (pl.own f.own) ≡ Own f.own)
+  own_there y at = laid.parts y (Own f.own) at
 
-  own_source : pl.source (pl.own f.own) ≡ Own f.own
-  own_source = (laid.parts has.own_part.0 (Own f.own) has.own_part.1).1
+  asks_no_part : (ls : List Lead) (k h : ℕ) → part_of_dot f plc (of_own ls k h) ≡ None
+  asks_no_part [] k h = refl
+  asks_no_part (AtOwn s ∷ ls) k h = by_test (nat_eq h s) (asks_no_part ls (suc k) h)
+    where
+      by_test : (b : Bool) → part_of_dot f plc (of_own ls (suc k) h) ≡ None → part_of_dot f plc (if b then Some (Within 0 (Of (ResultEnd k))) else of_own ls (suc k) h) ≡ None
+      by_test true more = refl
+      by_test false more = more
+  asks_no_part (AtResult s ∷ ls) k h = asks_no_part ls (suc k) h
 
-  one_shake : count c.outcome ≡ 1
-  one_shake = ap count has.outcome ∙ is.one
-
-  result_first : (h : ℕ) (k : Contact) → contact_at c (ResultEnd h) ≡ Some k → h ≡ 0
-  result_first h k e =
-      let (d, at) = turned_some (slice_get (contacts_of c.outcome) h) k e in
-      let lt = slice_get_within (contacts_of c.outcome) h d at in
-      let one = one_shake in
-      omega (arith, lt, one)
-
-  own_asked : child_back f (source_dot f.first (Own f.own) f.shake) ≡ Some (Within 0 (Of (ResultEnd 0)))
-  own_asked = let one = is.one in own_back f ts pl is places.Result 0 (omega (arith, one))
-
-  asks_no_part : (b : Bool) → part_of_dot f plc (if b then Some (Within 0 (Of (ResultEnd 0))) else None) ≡ None
-  asks_no_part true = refl
-  asks_no_part false = refl
-
-  pub own_outside : (child_cut f pl plc size).number (pl.own f.own) ≡ None
-  own_outside =
+  pub own_outside : (y : Part) → slice_get own f.own ≡ Some y → (child_cut f pl plc size).number (pl.own f.own) ≡ None
+  own_outside y at =
       ap (λ (b : Bool). if b then part_of_dot f plc (child_back f (source_dot f.first (pl.source (pl.own f.own)) 0)) else None)
-      (low (pl.own f.own) size (slice_get_within r.parts (pl.own f.own) has.own_part.0 own_there))
-      ∙ (ap (λ (s : Source). part_of_dot f plc (child_back f (source_dot f.first s 0))) own_source
+      (low (pl.own f.own) size (slice_get_within r.parts (pl.own f.own) y (own_there y at).0))
+      ∙ (ap (λ (s : Source). part_of_dot f plc (child_back f (source_dot f.first s 0))) (own_there y at).1
       ∙ (ap (λ (b : Bool). part_of_dot f plc
       (if b then asks_child f 0
       else if in_range (f.first + f.off) (length (parts_of f.types f.term)) (f.first + f.own) then Some (Within 0 (Of (PartEnd (f.first + f.own) 0)))
       else spot_dot ((lodge f).home (Within 0 (Of (PartEnd (f.first + f.own) 0)))))) (eq_true (f.first + f.own) (f.first + f.own) refl)
-      ∙ asks_no_part (nat_eq 0 f.shake)))
+      ∙ asks_no_part f.out 0 0))
 
-  result_dot : dot_at f.first pl (PartEnd (pl.own f.own) f.shake) ≡ source_dot f.first (Own f.own) f.shake
-  result_dot = ap (λ (s : Source). source_dot f.first s f.shake) own_source
+  -- where its handshakes lead
+  pub lead_at : (h : ℕ) (k : Contact) → contact_at c (ResultEnd h) ≡ Some k → (l : Lead) × (slice_get f.out h ≡ Some l)
+  lead_at h k e =
+      let (d, at) = turned_some (slice_get (contacts_of c.outcome) h) k e in
+      let lt = slice_get_within (contacts_of c.outcome) h d at in
+      let size : count c.outcome ≡ count (type_of_node f.term) = ap count has.outcome in
+      let long = is.long in
+      at_lead f.out h (omega (arith, lt, size, long))
+
+  pub led_contact : (h : ℕ) (l : Lead) → slice_get f.out h ≡ Some l → (k : Contact) × (contact_at c (ResultEnd h) ≡ Some k)
+  led_contact h l at =
+      let lt = slice_get_within f.out h l at in
+      let size : count c.outcome ≡ count (type_of_node f.term) = ap count has.outcome in
+      let long = is.long in
+      let (d, there) = there_at (contacts_of c.outcome) h (omega (arith, lt, size, long)) in
+      (turned_contact d, ap turned_if there)
+
+  record Led (h : ℕ) (k : Contact) (l : Lead) : Type 0 where
+    outer : child_outer f pl plc (ResultEnd h) ≡ lead_end (pl.own f.own) l
+    outside : IsOutside (child_cut f pl plc size) (lead_end (pl.own f.own) l)
+    contact : contact_at r (lead_end (pl.own f.own) l) ≡ Some k
+    dot : dot_at f.first pl (lead_end (pl.own f.own) l) ≡ Within 0 (dot_of (lead_point (f.first + f.own) l))
+
+  led : (h : ℕ) (k : Contact) (l : Lead) → slice_get f.out h ≡ Some l → contact_at c (ResultEnd h) ≡ Some k → Led h k l
+  led h k (AtOwn s) at contact =
+      let sees = has.asks h (AtOwn s) k at contact in
+      let (y, part) = part_there (slice_get own f.own) s k sees in
+      let (there, source) = own_there y part in
+      record {
+        outer = ap (λ (o : Option Lead). led_end (pl.own f.own) o h) at;
+        outside = own_outside y part;
+        contact = ap (λ (a : Option Part). slice_get (contacts_of_part a) s) (there ∙ sym part) ∙ sees;
+        dot = ap (λ (o : Source). source_dot f.first o s) source;
+      }
+  led h k (AtResult s) at contact =
+      record {
+        outer = ap (λ (o : Option Lead). led_end (pl.own f.own) o h) at;
+        outside = tt;
+        contact = has.asks h (AtResult s) k at contact;
+        dot = refl;
+      }
+
+  led_back : (h : ℕ) (k : Contact) (l : Lead) → slice_get f.out h ≡ Some l → Led h k l
+      → child_back f (dot_at f.first pl (lead_end (pl.own f.own) l)) ≡ Some (Within 0 (Of (ResultEnd h)))
+  led_back h k l at it = ap (child_back f) it.dot ∙ lead_stands f ts pl is h l at
 
   -- an import
   pub record ImportOf (q : ℕ) (x : Imported) : Type 0 where
@@ -119,12 +151,12 @@ module _ (f : Child) (own : List Part) (ts : List Tie) (pl plc : Placing) (r c :
             (plc.origin q).import h);
       }
 
-  abbrev Port : End → Contact → Type 0
+  abbrev pub Port : End → Contact → Type 0
   Port e k =
       IsOutside (child_cut f pl plc size) (child_outer f pl plc e)
       × ((child_cut f pl plc size).inner (child_outer f pl plc e) ≡ Some e) × (contact_at r (child_outer f pl plc e) ≡ Some k)
 
-  ports_so : (e : End) (k : Contact) → IsPortEnd e → contact_at c e ≡ Some k → Port e k
+  pub ports_so : (e : End) (k : Contact) → IsPortEnd e → contact_at c e ≡ Some k → Port e k
   ports_so (PartEnd j h) k port at = absurd port
   ports_so (ImportEnd q h) k port at =
       let (x, listed) = import_there (slice_get c.imports q) h k at in
@@ -135,12 +167,10 @@ module _ (f : Child) (own : List Part) (ts : List Tie) (pl plc : Placing) (r c :
         ap (λ (a : Option Imported). slice_get (contacts_of_import a) h) (it.there ∙ sym listed) ∙ at,
       )
   ports_so (ResultEnd h) k port at =
-      subst (λ (m : ℕ). Port (ResultEnd m) k) (sym (result_first h k at)) (
-        own_outside,
-        ap (λ (d : Dot). port_of_dot plc (child_back f d)) result_dot ∙ ap (port_of_dot plc) own_asked,
-        ap (λ (a : Option Part). slice_get (contacts_of_part a) f.shake) (own_there ∙ sym has.own_part.1)
-            ∙ has.asks k (subst (λ (m : ℕ). contact_at c (ResultEnd m) ≡ Some k) (result_first h k at) at),
-      )
+      let (l, lead) = lead_at h k at in
+      let it = led h k l lead at in
+      subst (λ (b : End). IsOutside (child_cut f pl plc size) b × ((child_cut f pl plc size).inner b ≡ Some (ResultEnd h)) × (contact_at r b ≡ Some k)) (sym it.outer)
+      (it.outside, ap (port_of_dot plc) (led_back h k l lead it), it.contact)
 
   -- the Shares
   abbrev Seen : ℕ → Type' → ℕ → Type 0
@@ -153,10 +183,10 @@ module _ (f : Child) (own : List Part) (ts : List Tie) (pl plc : Placing) (r c :
   share_low x t side it =
       let lt = slice_get_within (shares f.splits f.types) x (Share t) it.share in let size = shares_length f.types f.splits in omega (arith, lt, size)
 
-  abbrev Serves : Serving → Type 0
+  abbrev pub Serves : Serving → Type 0
   Serves n = (n.side < 2) × ((i : ℕ) × ((child_cut f pl plc size).number n.part ≡ Some i) × (slice_get c.parts i ≡ Some (Share n.ty)))
 
-  serving_so : (n : Serving) → Contains (child_servings f pl) n → Serves n
+  pub serving_so : (n : Serving) → Contains (child_servings f pl) n → Serves n
   serving_so n listed =
       let (x, at, it) = servings_serve f.types f.first (is_used f) f.splits f.env f.numbers pl n is.tidy listed in
       let (z, home) = it.seen 0 (serves_source (count n.ty) n.side 0 (some_shake n.ty)) in
@@ -174,7 +204,7 @@ module _ (f : Child) (own : List Part) (ts : List Tie) (pl plc : Placing) (r c :
         (plc.supplied z.number home_in.part, subst (λ (m : ℕ). (child_cut f pl plc size).number m ≡ Some (plc.supplied z.number home_in.part)) place number, (laidc.parts y (Supplied z.number home_in.part) from).0 ∙ same),
       )
 
-  others_so : (e : End) → IsOther (child_servings f pl) e → child_back f (dot_at f.first pl e) ≡ None
+  pub others_so : (e : End) → IsOther (child_servings f pl) e → child_back f (dot_at f.first pl e) ≡ None
   others_so e (n, j, listed, lt, is_end) =
       let (x, at, it) = servings_serve f.types f.first (is_used f) f.splits f.env f.numbers pl n is.tidy listed in
       let source : pl.source n.part ≡ Own x = ap pl.source at ∙ (share_there x n.ty n.side it).1 in
@@ -185,7 +215,7 @@ module _ (f : Child) (own : List Part) (ts : List Tie) (pl plc : Placing) (r c :
       ∙ ap spot_dot (it.unseen (count n.ty + (1 - n.side) * count n.ty + j) (other_unserved (count n.ty) n.side j it.side lt))))
 
   -- ends
-  abbrev Ends : End → Type 0
+  abbrev pub Ends : End → Type 0
   Ends e = IsFolded (child_fold f pl plc size) whole (child_web f plc) e ⊎ IsSpare (child_fold f pl plc size) (child_servings f pl) whole (child_web f plc) c e
 
   -- a spare handshake meets nothing
@@ -254,7 +284,7 @@ module _ (f : Child) (own : List Part) (ts : List Tie) (pl plc : Placing) (r c :
   one_end n q h (ImportEnd j g) k at e = absurd (cc e)
   one_end n q h (ResultEnd g) k at e = absurd (cc e)
 
-  ends_so : (e : End) (k : Contact) → contact_at c e ≡ Some k → Ends e
+  pub ends_so : (e : End) (k : Contact) → contact_at c e ≡ Some k → Ends e
   ends_so (PartEnd j h) k at =
       let (y, listed) = part_there (slice_get c.parts j) h k at in
       let (from, same) = laidc.no_more j y listed in
@@ -318,10 +348,15 @@ module _ (f : Child) (own : List Part) (ts : List Tie) (pl plc : Placing) (r c :
       let it = import_of q x listed in
       inl (sym (it.dot h), ap (child_back f) (it.dot h) ∙ it.home h)
   ends_so (ResultEnd h) k at =
-      subst (λ (m : ℕ). Ends (ResultEnd m)) (sym (result_first h k at)) (inl (sym result_dot, ap (child_back f) result_dot ∙ own_asked))
+      let (l, lead) = lead_at h k at in
+      let it = led h k l lead at in
+      inl (
+        ap (Within 0) (lead_lies f ts pl is h l lead) ∙ (sym it.dot ∙ ap (dot_at f.first pl) (sym it.outer)),
+        ap (λ (b : End). child_back f (dot_at f.first pl b)) it.outer ∙ led_back h k l lead it,
+      )
 
   -- what comes in
-  abbrev Comes : End → Contact → Type 0
+  abbrev pub Comes : End → Contact → Type 0
   Comes e k = (d : End) × IsPortEnd d × (child_outer f pl plc d ≡ e) × (contact_at c d ≡ Some k)
 
   -- a part at home would be inside
@@ -336,28 +371,14 @@ module _ (f : Child) (own : List Part) (ts : List Tie) (pl plc : Placing) (r c :
       no_more_than (plc.supplied z.number it.part)
       (sym outside ∙ subst (λ (m : ℕ). (child_cut f pl plc size).number m ≡ Some (plc.supplied z.number it.part)) place number)
 
-  -- the own part's handshake
-  asked_by : (h : ℕ) (y : Dot) → asks_child f h ≡ Some y → h ≡ f.shake
-  asked_by h y e = by_test (nat_eq h f.shake) refl e
-    where
-      by_test : (b : Bool) → nat_eq h f.shake ≡ b → (if b then Some (Within 0 (Of (ResultEnd 0))) else None) ≡ Some y → h ≡ f.shake
-      by_test true t e = true_eq h f.shake t
-      by_test false t e = absurd (no_more_than y e)
-
-  result_comes : (i h : ℕ) (k : Contact) → pl.own f.own ≡ i → h ≡ f.shake → contact_at r (PartEnd i h) ≡ Some k → Comes (PartEnd i h) k
-  result_comes i h k at_i at_h at = (ResultEnd 0, tt, (λ n. PartEnd (at_i n) (sym at_h n)), contact ∙ same)
-    where
-      first : (d : Contact) × (slice_get (contacts_of c.outcome) 0 ≡ Some d)
-      first = let one = one_shake in there_at (contacts_of c.outcome) 0 (omega (arith, one))
-
-      contact : contact_at c (ResultEnd 0) ≡ Some (turned_contact first.0)
-      contact = ap turned_if first.1
-
-      same : Some (turned_contact first.0) ≡ Some k
-      same =
-          sym (has.asks (turned_contact first.0) contact)
-          ∙ (ap (λ (a : Option Part). slice_get (contacts_of_part a) f.shake) (has.own_part.1 ∙ sym own_there)
-          ∙ (ap (λ (m : ℕ). contact_at r (PartEnd m f.shake)) at_i ∙ (ap (λ (m : ℕ). contact_at r (PartEnd i m)) (sym at_h) ∙ at)))
+  -- a handshake to which one of its own leads
+  lead_comes : (l : Lead) (e : End) (k : Contact) (y : Dot) → lead_back f.out 0 l ≡ Some y → lead_end (pl.own f.own) l ≡ e → contact_at r e ≡ Some k → Comes e k
+  lead_comes l e k y back at_e at =
+      let (h, lead, same) = told_lead f.out 0 l y back in
+      let (d, contact) = led_contact h l lead in
+      let it = led h d l lead contact in
+      let both : Some d ≡ Some k = sym it.contact ∙ (ap (contact_at r) at_e ∙ at) in
+      (ResultEnd h, tt, it.outer ∙ at_e, contact ∙ both)
 
   spot_some : (a : Option Spot) (y : Dot) → spot_dot a ≡ Some y → (z : Spot) × (a ≡ Some z)
   spot_some None y e = absurd (no_more_than y e)
@@ -397,7 +418,7 @@ module _ (f : Child) (own : List Part) (ts : List Tie) (pl plc : Placing) (r c :
       by_asking true t none e =
           let sum : f.first + q ≡ f.first + f.own = true_eq (f.first + q) (f.first + f.own) t in
           let same : q ≡ f.own = omega (arith, sum) in
-          result_comes i h k (ap pl.own (sym same) ∙ at_i) (asked_by h y e) at
+          lead_comes (AtOwn h) (PartEnd i h) k y e (ap (λ (m : ℕ). PartEnd m h) (ap pl.own (sym same) ∙ at_i)) at
       by_asking false t none e = by_home (in_range (f.first + f.off) (length (parts_of f.types f.term)) (f.first + q)) refl none e
 
   part_comes : (s : Source) (x : Part) (i h : ℕ) (k : Contact) (y : Dot) → (child_cut f pl plc size).number i ≡ None → IsFrom own f.numbers f.env x s → placed pl s ≡ i
@@ -407,7 +428,7 @@ module _ (f : Child) (own : List Part) (ts : List Tie) (pl plc : Placing) (r c :
       let (z, home) = spot_some ((lodge f).home (source_dot f.first (Supplied n q) h)) y e in
       absurd (inside_spot i h (Supplied n q) z outside at_i (there, slice_get_within (f.env n).plan.parts q x known) home)
 
-  comes_so : (e : End) (k : Contact) (y : Dot) → IsOutside (child_cut f pl plc size) e → contact_at r e ≡ Some k → child_back f (dot_at f.first pl e) ≡ Some y → Comes e k
+  pub comes_so : (e : End) (k : Contact) (y : Dot) → IsOutside (child_cut f pl plc size) e → contact_at r e ≡ Some k → child_back f (dot_at f.first pl e) ≡ Some y → Comes e k
   comes_so (PartEnd i h) k y outside at e =
       let (x, listed) = part_there (slice_get r.parts i) h k at in
       let (from, same) = laid.no_more i x listed in
@@ -430,8 +451,7 @@ module _ (f : Child) (own : List Part) (ts : List Tie) (pl plc : Placing) (r c :
       ∙ (ap (λ (m : ℕ). ImportEnd (pl.import m (pl.origin i).import) h) it.root ∙ ap (λ (m : ℕ). ImportEnd m h) back)
       in
       (ImportEnd (plc.import z.number (pl.origin i).import) h, tt, outer, ap (λ (a : Option Imported). slice_get (contacts_of_import a) h) (mine ∙ sym listed) ∙ at)
-  comes_so (ResultEnd h) k y outside at e =
-      absurd (no_more_than y (sym (ap spot_dot (result_is_nowhere f.types f.first (is_used f) f.splits f.env h)) ∙ e))
+  comes_so (ResultEnd h) k y outside at e = lead_comes (AtResult h) (ResultEnd h) k y e refl at
 
 pub child_is_folded : ChildIsFolded
 child_is_folded f own ts pl plc r c is has laid laidc web =

@@ -12,7 +12,7 @@ use Rattle.gos_compile.specs.Wiring.{parts_of}
 use Rattle.gos_wired.specs.Wired.{Source, Own, Supplied, Placing, IsFrom, placed, source_dot}
 use Rattle.gos_stages.specs.Lodging.{Spot, spot_if}
 use Rattle.gos_stages.specs.Housing.{IsOutsider, IsThere}
-use Rattle.gos_stages.specs.Folding.{Child, is_used, lodge, in_range, spot_dot, asks_child, child_back, child_source, part_of_dot, IsChild, IsLaid}
+use Rattle.gos_stages.specs.Folding.{Lead, AtOwn, AtResult, of_own, Child, is_used, lodge, in_range, spot_dot, asks_child, child_back, child_source, part_of_dot, IsChild, IsLaid}
 use Rattle.gos_stages.specs.Folded.{HasChild, ChildIsPart}
 use Rattle.gos_stages.proofs.PartHomeLemmas.{numbers_are_at_home}
 use Rattle.gos_stages.proofs.HousingLemmas.{parts_are_from, parts_are_outsiders, homes_are_there, far_is_nothing, first_is_kept}
@@ -64,13 +64,13 @@ module _ (f : Child) (ts : List Tie) (pl plc : Placing) (is : IsChild f ts) wher
   first_back (Supplied n k) y (there, at) =
       supplied_back n k 0 there (slice_get_within ((lodge f).env n).plan.parts k y at)
       ∙ ap (λ (b : Bool). spot_dot (spot_if (not b) n (PartEnd k 0)))
-      (first_is_kept f.types f.first (is_used f) f.splits f.env f.numbers n k is.agree is.split is.supplies)
+      (first_is_kept f.types f.first (is_used f) f.splits f.env n k)
 
   pub number_of_source : (s : Source) → part_of_dot f plc (Some (source_dot (f.first + f.off) s 0)) ≡ Some (placed plc s)
   number_of_source (Own k) = let same : f.first + f.off + k - (f.first + f.off) ≡ k = omega arith in ap (λ (j : ℕ). Some (plc.own j)) same
   number_of_source (Supplied n k) = refl
 
-  module _ (own : List Part) (r c : Plan) (has : HasChild f own c) (laid : IsLaid own f.numbers f.env pl r)
+  module _ (own : List Part) (r c : Plan) (has : HasChild f own r.outcome c) (laid : IsLaid own f.numbers f.env pl r)
       (laidc : IsLaid (parts_of f.types f.term) f.uses (lodge f).env plc c) where
     abbrev cut_part : ℕ → ℕ
     cut_part j = placed pl (child_source f (plc.source j))
@@ -121,9 +121,15 @@ module _ (f : Child) (ts : List Tie) (pl plc : Placing) (is : IsChild f ts) wher
         back_of (Supplied z.number it.part) y i j (spot_used f ts pl is (source_dot f.first s 0) z at, listed) (ap (placed pl) it.from ∙ at_i) same
 
     -- a part of the node
-    asked_none : (j : ℕ) (b : Bool) → part_of_dot f plc (if b then Some (Within 0 (Of (ResultEnd 0))) else None) ≡ Some j → ⊥
-    asked_none j true e = no_more_than j e
-    asked_none j false e = no_more_than j e
+    asked_none : (ls : List Lead) (k h j : ℕ) → part_of_dot f plc (of_own ls k h) ≡ Some j → ⊥
+    asked_none [] k h j e = no_more_than j e
+    asked_none (AtOwn s ∷ ls) k h j e = by_test (nat_eq h s) e (asked_none ls (suc k) h j)
+      where
+        by_test : (b : Bool) → part_of_dot f plc (if b then Some (Within 0 (Of (ResultEnd k))) else of_own ls (suc k) h) ≡ Some j
+            → (part_of_dot f plc (of_own ls (suc k) h) ≡ Some j → ⊥) → ⊥
+        by_test true e more = no_more_than j e
+        by_test false e more = more e
+    asked_none (AtResult s ∷ ls) k h j e = asked_none ls (suc k) h j e
 
     by_own : (q i j : ℕ) → placed pl (Own q) ≡ i → part_of_dot f plc (child_back f (source_dot f.first (Own q) 0)) ≡ Some j → Told i j
     by_own q i j at_i e = by_asking (nat_eq (f.first + q) (f.first + f.own)) refl e
@@ -154,7 +160,7 @@ module _ (f : Child) (ts : List Tie) (pl plc : Placing) (is : IsChild f ts) wher
             (if b then asks_child f 0
             else if in_range (f.first + f.off) (length (parts_of f.types f.term)) (f.first + q) then Some (Within 0 (Of (PartEnd (f.first + q) 0)))
             else spot_dot ((lodge f).home (Within 0 (Of (PartEnd (f.first + q) 0))))) ≡ Some j → Told i j
-        by_asking true t e = absurd (asked_none j (nat_eq 0 f.shake) e)
+        by_asking true t e = absurd (asked_none f.out 0 0 j e)
         by_asking false t e = by_home (in_range (f.first + f.off) (length (parts_of f.types f.term)) (f.first + q)) refl e
 
     by_source : (s : Source) (y : Part) (i j : ℕ) → IsFrom own f.numbers f.env y s → placed pl s ≡ i

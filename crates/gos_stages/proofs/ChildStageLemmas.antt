@@ -29,16 +29,16 @@ high : (a b : ℕ) → b ≤ a → nat_lt a b ≡ false
 high a b h = grind (arith, nat_tests)
 
 module _ (own : List Part) (ns : List ℕ) (env : Supplies) (once : (k : ℕ) → times k ns ≤ 1) where
-  abbrev parts_for : ℕ → List Part
+  abbrev pub parts_for : ℕ → List Part
   parts_for n = (env n).plan.parts
 
-  abbrev imports_for : ℕ → List Imported
+  abbrev pub imports_for : ℕ → List Imported
   imports_for n = (env n).plan.imports
 
   abbrev source_at : Found → Source
   source_at d = Supplied d.number d.index
 
-  abbrev laying : Placing
+  abbrev pub laying : Placing
   laying =
       record {
         own = λ k. k;
@@ -132,8 +132,8 @@ child_is_staged f own ts pl r is has once laid web =
           joints = [];
         }
 
-    has_child : HasChild f own c
-    has_child = record { shares = has.shares; own_part = has.own_part; child = has.child; outcome = refl; asks = has.asks }
+    has_child : HasChild f own r.outcome c
+    has_child = record { shares = has.shares; child = has.child; outcome = refl; asks = has.asks }
 
     laidc : IsLaid (parts_of f.types f.term) f.uses (lodge f).env plc c
     laidc = laid_so (parts_of f.types f.term) f.uses (lodge f).env once c refl refl

@@ -1,6 +1,7 @@
 -- The ties of a child's web are ways of its node's, and back.
 use Rattle.std.specs.Prelude.{◌≢◌, ◌+◌, ◌<◌, ◌≤◌, ◌⊎◌, map, Contains}
 use Rattle.std.proofs.Common.{◌≡◌, ℕ, zero, suc, List, [], ◌∷◌, inl, inr, refl, sym, ◌∙◌, ap, subst, arith}
+use Rattle.std.proofs.lemmas.List.{length-map}
 use Rattle.std.proofs.lemmas.List.Elements.{Contains-append_left, Contains-append_right, Contains-append_cases}
 use Rattle.gos_check.specs.Nodes.{type_of_node}
 use Rattle.gos_check.proofs.TimesLemmas.{number_cases}
@@ -14,7 +15,7 @@ use Rattle.gos_unions.proofs.UnionLemmas.{of_image, in_image}
 use Rattle.gos_compile.specs.Wiring.{Types, row, ties_of}
 use Rattle.gos_wired.specs.Wired.{Supplies, Placing, dot_of, dot_ties, result_ties, supply_ties, all_supply_ties}
 use Rattle.gos_stages.specs.Leading.{dot_leading}
-use Rattle.gos_stages.specs.Folding.{Child, is_used, lodge, child_out, child_web, child_dot, own_ties, IsChild, ChildWays}
+use Rattle.gos_stages.specs.Folding.{Child, lead_point, is_used, lodge, child_out, child_web, child_dot, own_ties, IsChild, ChildWays}
 use Rattle.gos_stages.proofs.FollowLemmas.{dots_lead}
 use Rattle.gos_stages.proofs.WayLemmas.{by_tie, joints_are_ways}
 use Rattle.gos_stages.proofs.LodgingLemmas.{lifted}
@@ -101,7 +102,7 @@ module _ (f : Child) (ts : List Tie) (pl : Placing) (is : IsChild f ts) where
   led_ties : dot_ties (ties_of f.types (f.first + f.off) f.node f.term (child_out f)) ≡ map (λ (t : Tie). tie (leads t.one) (leads t.other)) (dot_ties mine)
   led_ties =
       dots_lead f.types (f.first + f.off) f.node f.term (child_out f)
-      ∙ ap (λ (m : ℕ). map (λ (t : Tie). tie (leads t.one) (leads t.other)) (dot_ties (ties_of f.types (f.first + f.off) f.node f.term (row places.Result 0 m)))) (sym is.one)
+      ∙ ap (λ (m : ℕ). map (λ (t : Tie). tie (leads t.one) (leads t.other)) (dot_ties (ties_of f.types (f.first + f.off) f.node f.term (row places.Result 0 m)))) (length-map f.out (lead_point (f.first + f.own)) ∙ is.long)
 
   led_in : (u : point_ties.Tie) → Contains mine u → Contains (own_ties f) (tie (Within 0 (leads (dot_of u.one))) (Within 0 (leads (dot_of u.other))))
   led_in u has =

@@ -5,16 +5,15 @@ use Rattle.std.proofs.lemmas.Option.{slice_get_within}
 use Rattle.gos_plan.specs.Kinds.{Share}
 use Rattle.gos_check.specs.declared.linear.Split.{Split}
 use Rattle.gos_plan.specs.Plans.{End, ResultEnd}
-use Rattle.gos_ties.specs.declared.points.Place.TheVariants as places
 use Rattle.gos_webs.specs.Webs.{Of, Within}
 use Rattle.gos_compile.specs.Wiring.{Types, shares}
 use Rattle.gos_wired.specs.Wired.{Supplies, Own, Placing, source_dot}
 use Rattle.gos_stages.specs.Lodging.{Spot, spot, spot_if, Lodging, live, first_lodging, side_number, moved_spot, moved, one_lodging, lodging, lodged}
-use Rattle.gos_stages.specs.Folding.{is_used, spot_dot}
+use Rattle.gos_stages.specs.Folding.{AtOwn, is_used, spot_dot}
 use Rattle.gos_stages.specs.Covering.{LiveIsCovered, ServedIsCovered, OwnIsCovered}
 use Rattle.gos_stages.proofs.LodgingLemmas.{seen}
 use Rattle.gos_stages.proofs.ServedLemmas.{servings_serve}
-use Rattle.gos_stages.proofs.ChildBackLemmas.{own_back}
+use Rattle.gos_stages.proofs.ChildBackLemmas.{lead_stands}
 use Rattle.gos_stages.proofs.ChildPartLemmas.{plain_source, own_source_back}
 use Rattle.gos_stages.proofs.ContactLemmas.{shares_length}
 
@@ -58,7 +57,7 @@ served_is_covered f ts pl s is listed =
 pub own_is_covered : OwnIsCovered
 own_is_covered f ts is = (
   (λ k h lt. (source_dot (f.first + f.off) (Own k) h, own_source_back f ts none none is k h lt)),
-  (Within 0 (Of (ResultEnd 0)), let one = is.one in own_back f ts none is places.Result 0 (omega (arith, one))),
+  (λ h s at. (Within 0 (Of (ResultEnd h)), lead_stands f ts none is h (AtOwn s) at)),
 )
   where
     none : Placing

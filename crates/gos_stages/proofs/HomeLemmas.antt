@@ -1,17 +1,21 @@
 -- Inside one split: what is connected stays so, and the split's own ties are within one plan.
-use Rattle.std.specs.Prelude.{◌≢◌, ◌+◌, ◌<◌, ◌≤◌, ◌||◌, length, map, nat_eq, None, Contains}
-use Rattle.std.proofs.Common.{◌≡◌, ℕ, zero, suc, Bool, true, false, List, ◌∷◌, Option, Some, inl, inr, refl, sym, ap, subst, arith, if◌then◌else◌}
+use Rattle.std.specs.Prelude.{◌≢◌, ◌+◌, ◌<◌, ◌||◌, length, map, nat_eq, slice_get, None, Contains}
+use Rattle.std.proofs.Common.{◌≡◌, ℕ, zero, suc, Bool, true, false, List, [], ◌∷◌, Option, Some, inl, inr, refl, ap, subst, arith, if◌then◌else◌}
 use Rattle.std.proofs.lemmas.List.Elements.{Contains-append_left, Contains-append_right}
+use Rattle.gos_types.specs.declared.shakes.Role.{Role}
+use Rattle.gos_types.specs.declared.shakes.Role.TheVariants.{Serve, Ask}
 use Rattle.gos_types.specs.Types.{Type'}
 use Rattle.gos_check.specs.declared.linear.Split.{Split}
 use Rattle.gos_check.specs.Linearity.{times, sides}
-use Rattle.gos_check.proofs.TimesLemmas.{number_cases, eq_true, eq_false, times_none}
+use Rattle.gos_check.proofs.TimesLemmas.{eq_true, eq_false, times_none}
+use Rattle.gos_plan.specs.Kinds.{Contact, contacts_of}
 use Rattle.gos_plan.specs.Plans.{End, PartEnd, ResultEnd, Joint, Plan}
 use Rattle.gos_realises.specs.Regular.{count}
 use Rattle.gos_webs.specs.Webs.{Dot, Of, Number, Node, Within, Tie, tie, Meet, Way, here, along, own_web, joint}
 use Rattle.gos_unions.proofs.UnionLemmas.{of_image, in_image}
 use Rattle.gos_sharing.specs.Sharing.{caller_end}
-use Rattle.gos_buffers.specs.Buffering.{buffered, end_behind, joint_behind, callers_joined}
+use Rattle.gos_buffers.specs.Buffering.{end_behind, joint_behind}
+use Rattle.gos_passing.specs.Behind.{outer_joint, outer_joints, passing}
 use Rattle.gos_stages.specs.Lodging.{Spot, is_side, moved, share_spot, side_spot, one_home}
 
 -- ways, with other dots
@@ -35,41 +39,57 @@ dot_behind k (Within n d) = Within n d
 
 -- behind a Share
 pub way_behind : (t : Type') (c : ℕ) (p : Plan) (a b : End) → Way (own_web p).ties (Of a) (Of b)
-    → Way (own_web (buffered t c p)).ties (Of (end_behind (length p.parts) a)) (Of (end_behind (length p.parts) b))
-way_behind t c p a b way = way_mapped (dot_behind k) (own_web p).ties (own_web (buffered t c p)).ties keeps (Of a) (Of b) way
+    → Way (own_web (passing t c p)).ties (Of (end_behind (length p.parts) a)) (Of (end_behind (length p.parts) b))
+way_behind t c p a b way = way_mapped (dot_behind k) (own_web p).ties (own_web (passing t c p)).ties keeps (Of a) (Of b) way
   where
     k : ℕ
     k = length p.parts
 
-    keeps : (x : Tie) → Contains (own_web p).ties x → Contains (own_web (buffered t c p)).ties (tie (dot_behind k x.one) (dot_behind k x.other))
+    keeps : (x : Tie) → Contains (own_web p).ties x → Contains (own_web (passing t c p)).ties (tie (dot_behind k x.one) (dot_behind k x.other))
     keeps x has =
         let (j, there, is) = of_image joint_tie p.joints x has in
-        subst (λ (y : Tie). Contains (own_web (buffered t c p)).ties (tie (dot_behind k y.one) (dot_behind k y.other))) is
-        (in_image joint_tie (buffered t c p).joints (joint_behind k j)
-        (Contains-append_left (map (joint_behind k) p.joints) (callers_joined k t c 0 (count t)) (joint_behind k j) (in_image (joint_behind k) p.joints j there)))
+        subst (λ (y : Tie). Contains (own_web (passing t c p)).ties (tie (dot_behind k y.one) (dot_behind k y.other))) is
+        (in_image joint_tie (passing t c p).joints (joint_behind k j)
+        (Contains-append_left (map (joint_behind k) p.joints) (outer_joints k t c 0 (contacts_of t)) (joint_behind k j) (in_image (joint_behind k) p.joints j there)))
 
 -- and at its caller
-caller_listed : (i : ℕ) (t : Type') (c n m h : ℕ) → n ≤ h → h < n + m → Contains (callers_joined i t c n m) (joint (ResultEnd h) (caller_end i t c h))
-caller_listed i t c n zero h le lt = absurd (omega (arith, le, lt))
-caller_listed i t c n (suc m) h le lt =
-    number_cases h n
-    (λ e b. (0, omega arith, ap (λ (x : ℕ). joint (ResultEnd x) (caller_end i t c x)) (sym e)))
-    (λ apart b. let rest = caller_listed i t c (suc n) m h (above apart) (omega (arith, lt)) in (suc rest.0, omega (arith, rest.1), rest.2))
-  where
-    above : h ≢ n → suc n ≤ h
-    above apart = grind (arith, le, apart)
+there_is : (ks : List Contact) (h : ℕ) → h < length ks → (k : Contact) × (slice_get ks h ≡ Some k)
+there_is [] h lt = absurd (omega (arith, lt))
+there_is (k ∷ ks) zero lt = (k, refl)
+there_is (k ∷ ks) (suc h) lt = there_is ks h (omega (arith, lt))
+
+outer_listed : (i : ℕ) (t : Type') (c n : ℕ) (ks : List Contact) (h : ℕ) (k : Contact) → slice_get ks h ≡ Some k
+    → Contains (outer_joints i t c n ks) (outer_joint i t c (n + h) k.role)
+outer_listed i t c n [] h k at = absurd (cc at)
+outer_listed i t c n (d ∷ ks) zero k at =
+    let same : d ≡ k = cc at in
+    let here : n ≡ n + 0 = omega arith in
+    (0, omega arith, λ l. outer_joint i t c (here l) (same l).role)
+outer_listed i t c n (d ∷ ks) (suc h) k at =
+    let (u, low, is) = outer_listed i t c (suc n) ks h k at in
+    let there : suc n + h ≡ n + suc h = omega arith in
+    subst (λ (m : ℕ). Contains (outer_joints i t c n (d ∷ ks)) (outer_joint i t c m k.role)) there (suc u, omega (arith, low), is)
 
 pub way_to_caller : (t : Type') (c : ℕ) (p : Plan) (h : ℕ) → h < count t
-    → Way (own_web (buffered t c p)).ties (Of (ResultEnd h)) (Of (caller_end (length p.parts) t c h))
+    → Way (own_web (passing t c p)).ties (Of (ResultEnd h)) (Of (caller_end (length p.parts) t c h))
 way_to_caller t c p h lt =
-    along (Of (ResultEnd h)) (Of (caller_end k t c h)) (Of (caller_end k t c h))
-    (inl (in_image joint_tie (buffered t c p).joints (joint (ResultEnd h) (caller_end k t c h))
-    (Contains-append_right (map (joint_behind k) p.joints) (callers_joined k t c 0 (count t)) (joint (ResultEnd h) (caller_end k t c h))
-    (caller_listed k t c 0 (count t) h (omega arith) (omega (arith, lt))))))
-    (here (Of (caller_end k t c h)))
+    let (d, at) = there_is (contacts_of t) h lt in
+    let same : 0 + h ≡ h = omega arith in
+    by_role d.role
+    (subst (λ (m : ℕ). Contains (passing t c p).joints (outer_joint k t c m d.role)) same
+    (Contains-append_right (map (joint_behind k) p.joints) (outer_joints k t c 0 (contacts_of t)) (outer_joint k t c (0 + h) d.role)
+    (outer_listed k t c 0 (contacts_of t) h d at)))
   where
     k : ℕ
     k = length p.parts
+
+    by_role : (r : Role) → Contains (passing t c p).joints (outer_joint k t c h r) → Way (own_web (passing t c p)).ties (Of (ResultEnd h)) (Of (caller_end k t c h))
+    by_role Serve has =
+        along (Of (ResultEnd h)) (Of (caller_end k t c h)) (Of (caller_end k t c h)) (inl (in_image joint_tie (passing t c p).joints (joint (ResultEnd h) (caller_end k t c h)) has))
+        (here (Of (caller_end k t c h)))
+    by_role Ask has =
+        along (Of (ResultEnd h)) (Of (caller_end k t c h)) (Of (caller_end k t c h)) (inr (in_image joint_tie (passing t c p).joints (joint (caller_end k t c h) (ResultEnd h)) has))
+        (here (Of (caller_end k t c h)))
 
 -- a dot that no split from Share q on touches
 abbrev pub Untouched : ℕ → List Split → Dot → Type 0

@@ -15,10 +15,10 @@ use Rattle.gos_buffers.specs.Buffering.{end_behind}
 use Rattle.gos_buffers.proofs.BufferedLemmas.{at_last, before_last}
 use Rattle.gos_buffers.proofs.DrivenLemmas.{one_longer}
 use Rattle.gos_wired.specs.Wired.{Supplies, Source, Own, Supplied, IsFrom, source_dot}
-use Rattle.gos_stages.specs.Inside.{numbers_inside, AreSplit, SidesAgree, AreGroundSupplies}
+use Rattle.gos_stages.specs.Inside.{numbers_inside, AreSplit}
 use Rattle.gos_stages.specs.Lodging.{Spot, spot, spot_if, Lodging, live, first_lodging, side_number, is_side, serves_side, moved_spot, moved, share_spot, one_lodging, lodging, lodged}
 use Rattle.gos_stages.specs.Housing.{FarIsNothing, FirstIsKept, PartsAreFrom, ImportsAreFrom, IsOutsider, PartsAreOutsiders, IsIn, HomesAreThere}
-use Rattle.gos_stages.proofs.InsideLemmas.{of_cons, one_stays, one_inside}
+use Rattle.gos_stages.proofs.InsideLemmas.{of_cons, one_stays}
 use Rattle.gos_stages.proofs.HomeLemmas.{Untouched, IsOld, neither_side, no_side, plainly}
 use Rattle.gos_stages.proofs.StepLemmas.{serves_source, side_is, side_env, side_gone, seen_caller, IsCaller}
 use Rattle.gos_stages.proofs.LodgingLemmas.{IsTidy, tidy_on, tidy_first, seen}
@@ -312,12 +312,11 @@ far_is_nothing types i inner ss env x h le =
     far_on types inner i ss i 0 (omega arith) (first_lodging (live ss inner) env) x h (omega (arith, le)) refl
 
 -- the first handshake
-first_on : (types : Types) (inner : ℕ → Bool) (ss : List Split) (q x : ℕ) (l : Lodging) (ms : List ℕ) → SidesAgree ss types → AreSplit ss ms → AreGroundSupplies types l.env ms
+first_on : (types : Types) (inner : ℕ → Bool) (ss : List Split) (q x : ℕ) (l : Lodging)
     → ((n k : ℕ) → l.spare n k 0 ≡ false) → (n k : ℕ) → (lodging types q x inner ss l).spare n k 0 ≡ false
-first_on types inner [] q x l ms agree split are none n k = none n k
-first_on types inner (s ∷ ss) q x l ms (left, right, agree) (of, split) are none n k =
-    first_on types inner ss (suc q) (suc x) (one_lodging types q x s (seen types inner ss s) l) (s.left ∷ s.right ∷ ms) agree split
-    (one_inside types s l.env ms left right of are) next n k
+first_on types inner [] q x l none n k = none n k
+first_on types inner (s ∷ ss) q x l none n k =
+    first_on types inner ss (suc q) (suc x) (one_lodging types q x s (seen types inner ss s) l) next n k
   where
     next : (n k : ℕ) → (one_lodging types q x s (seen types inner ss s) l).spare n k 0 ≡ false
     next n k = by_side (is_side s n) (nat_eq k (length (l.env s.of).plan.parts))
@@ -331,8 +330,7 @@ first_on types inner (s ∷ ss) q x l ms (left, right, agree) (of, split) are no
         by_side false d = none n k
 
 pub first_is_kept : FirstIsKept
-first_is_kept types i inner ss env ns n k agree split are =
-    first_on types inner ss i 0 (first_lodging (live ss inner) env) ns agree split are (λ n k. refl) n k
+first_is_kept types i inner ss env n k = first_on types inner ss i 0 (first_lodging (live ss inner) env) (λ n k. refl) n k
 
 pub parts_are_from : PartsAreFrom
 parts_are_from types i inner ss env ns own n k y tidy split has there at =

@@ -1,5 +1,7 @@
 pub mod InsideLemmas
+pub mod InsideRegularLemmas
 mod SmallInsideLemmas
+mod SmallLeadsLemmas
 pub mod FollowLemmas
 pub mod RangeLemmas
 pub mod HomeLemmas
@@ -20,6 +22,8 @@ pub mod ImportHomeLemmas
 pub mod ChildFoldLemmas
 pub mod LayoutLemmas
 pub mod ChildStageLemmas
+pub mod SeatedLemmas
+pub mod LoyalLemmas
 pub mod StageLemmas
 pub mod NodeLemmas
 pub mod CoverLemmas

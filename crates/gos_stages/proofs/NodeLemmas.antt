@@ -13,13 +13,14 @@ use Rattle.gos_windows.specs.Nodes.{Stage, IsStage, IsOfStage}
 use Rattle.gos_folds.specs.Folds.{IsFold}
 use Rattle.gos_folds.proofs.RegionLemmas.{folded_joint}
 use Rattle.gos_wired.specs.Wired.{Placing, dot_at}
-use Rattle.gos_stages.specs.Folding.{child_web, child_back, child_fold, child_cut, child_servings}
-use Rattle.gos_stages.specs.Nodes.{Cared, stage, IsCared, AreCovering, IsFormed, StagesMakeNode}
+use Rattle.gos_stages.specs.Folding.{asked, child_web, child_back, child_fold, child_cut, child_servings}
+use Rattle.gos_stages.specs.Nodes.{Cared, stage, IsCared, AreCovering, StagesMakeNode}
 use Rattle.gos_stages.proofs.ChildFoldLemmas.{child_is_folded}
 use Rattle.gos_stages.proofs.StageLemmas.{has_child_of, laid_of, web_of}
 
 module _ (f : Form) (own : List Part) (ts : List Tie) (first : ℕ) (pl : Placing) (r : Plan) (d : ℕ) (es : List Cared)
-    (web : IsOfWeb (record { ties = ts; at = dot_at first pl }) r) (formed : IsFormed f r d) (cared : (e : Cared) → Contains es e → IsCared own ts first pl r d e)
+    (web : IsOfWeb (record { ties = ts; at = dot_at first pl }) r)
+    (result : Contains r.joints (joint (ResultEnd 0) (PartEnd d (run_shake (own_part f))))) (cared : (e : Cared) → Contains es e → IsCared own ts first pl r d e)
     (covers : AreCovering f first pl r d es) where
   abbrev whole : ℕ → Web
   whole n = record { ties = ts; at = dot_at n pl }
@@ -60,11 +61,11 @@ module _ (f : Form) (own : List Part) (ts : List Tie) (first : ℕ) (pl : Placin
       → (a ≡ ResultEnd 0) × (b ≡ PartEnd d (run_shake (own_part f)))
   is_run a b has e one other =
       let same = one_joint r [] r.joints (joint a b) (joint (ResultEnd 0) (PartEnd d (run_shake (own_part f)))) e web.right (contained r.joints (joint a b) has)
-      (contained r.joints (joint (ResultEnd 0) (PartEnd d (run_shake (own_part f)))) formed.result) one other
+      (contained r.joints (joint (ResultEnd 0) (PartEnd d (run_shake (own_part f)))) result) one other
       in
       (ap (λ (j : Joint). j.asking) same, ap (λ (j : Joint). j.serving) same)
 
-  joints_so : (a b : End) → Contains r.joints (joint a b)
+  pub joints_so : (a b : End) → Contains r.joints (joint a b)
       → ((a ≡ ResultEnd 0) × (b ≡ PartEnd d (run_shake (own_part f)))) ⊎ IsOfStage Stages a b
   joints_so a b has =
       let fit = fits r [] r.joints (joint a b) web.right (contained r.joints (joint a b) has) in
@@ -83,6 +84,22 @@ module _ (f : Form) (own : List Part) (ts : List Tie) (first : ℕ) (pl : Placin
             ]
       ]
 
+  -- one stage for each child, and each part is a stage's
+  pub ones : ((e b : Cared) → Contains es e → Contains es b → asked e.child ≡ asked b.child → e ≡ b) → (g b : Stage) → Contains Stages g → Contains Stages b
+      → g.asked_at ≡ b.asked_at → g ≡ b
+  ones one g b has also same =
+      let (e, listed, at_g) = of_image (stage pl r) es g has in
+      let (c, known, at_b) = of_image (stage pl r) es b also in
+      let shakes : asked e.child ≡ asked c.child = ap (λ (x : Stage). x.asked_at) at_g ∙ (same ∙ ap (λ (x : Stage). x.asked_at) (sym at_b)) in
+      sym at_g ∙ (ap (stage pl r) (one e c listed known shakes) ∙ at_b)
+
+  pub parts_so : (i : ℕ) (k : Part) → slice_get r.parts i ≡ Some k → (i ≡ d) ⊎ ((g : Stage) × (j : ℕ) × Contains Stages g × (g.cut.number i ≡ Some j))
+  parts_so i k at =
+      elim (covers.parts i k at) [
+        | inl own ↦ inl own
+        | inr child ↦ (let (e, j, listed, number) = child in inr (stage pl r e, j, in_image (stage pl r) es e listed, number))
+      ]
+
 pub stages_make_node : StagesMakeNode
 stages_make_node f own ts first pl r d es web formed cared covers one staged =
     record {
@@ -94,29 +111,14 @@ stages_make_node f own ts first pl r d es web formed cared covers one staged =
       ground = formed.ground;
       names = formed.names;
       stages = stages;
-      one = ones;
+      one = ones f own ts first pl r d es web formed.result cared covers one;
       staged =
           λ p n s e.
           let (c, listed, at, ty) = staged p n s e in (stage pl r c, in_image (stage pl r) es c listed, at, ty);
       result = formed.result;
-      joints = joints_so f own ts first pl r d es web formed cared covers;
-      parts = parts;
+      joints = joints_so f own ts first pl r d es web formed.result cared covers;
+      parts = parts_so f own ts first pl r d es web formed.result cared covers;
     }
   where
     stages : (g : Stage) → Contains (map (stage pl r) es) g → IsStage r d g
     stages g has = let (e, listed, same) = of_image (stage pl r) es g has in subst (IsStage r d) same (cared e listed).stage
-
-    ones : (g b : Stage) → Contains (map (stage pl r) es) g → Contains (map (stage pl r) es) b → g.asked_at ≡ b.asked_at → g ≡ b
-    ones g b has also same =
-        let (e, listed, at_g) = of_image (stage pl r) es g has in
-        let (c, known, at_b) = of_image (stage pl r) es b also in
-        let shakes : e.child.shake ≡ c.child.shake = ap (λ (x : Stage). x.asked_at) at_g ∙ (same ∙ ap (λ (x : Stage). x.asked_at) (sym at_b)) in
-        sym at_g ∙ (ap (stage pl r) (one e c listed known shakes) ∙ at_b)
-
-    parts : (i : ℕ) (k : Part) → slice_get r.parts i ≡ Some k
-        → (i ≡ d) ⊎ ((g : Stage) × (j : ℕ) × Contains (map (stage pl r) es) g × (g.cut.number i ≡ Some j))
-    parts i k at =
-        elim (covers.parts i k at) [
-          | inl own ↦ inl own
-          | inr child ↦ (let (e, j, listed, number) = child in inr (stage pl r e, j, in_image (stage pl r) es e listed, number))
-        ]

@@ -45,12 +45,12 @@ module _ (types : Types) (inner : ℕ → Bool) where
     pub seen_at : (h : ℕ) → serves_side (count t) c h ≡ true → (z : Spot) × ((lodging types q x inner ss l).home (source_dot i (Own y) h) ≡ Some z)
     pub unseen : (h : ℕ) → serves_side (count t) c h ≡ false → (lodging types q x inner ss l).home (source_dot i (Own y) h) ≡ None
 
-  of_serving : (part : ℕ) (t : Type') (b : Option ℕ) (n : Serving) → Contains (serving_if part t b) n → (c : ℕ) × (b ≡ Some c) × (record { part = part; ty = t; side = c } ≡ n)
+  pub of_serving : (part : ℕ) (t : Type') (b : Option ℕ) (n : Serving) → Contains (serving_if part t b) n → (c : ℕ) × (b ≡ Some c) × (record { part = part; ty = t; side = c } ≡ n)
   of_serving part t None n (k, lt, e) = absurd (omega (arith, lt))
   of_serving part t (Some c) n (zero, lt, e) = (c, refl, e)
   of_serving part t (Some c) n (suc k, lt, e) = absurd (omega (arith, lt))
 
-  two_sides : (a b : Bool) (c : ℕ) → seen_from a b ≡ Some c → c < 2
+  pub two_sides : (a b : Bool) (c : ℕ) → seen_from a b ≡ Some c → c < 2
   two_sides true b c e = let same : 0 ≡ c = cc e in omega (arith, same)
   two_sides false true c e = let same : 1 ≡ c = cc e in omega (arith, same)
   two_sides false false c e = let clash : None ≡ Some c = e in absurd (cc clash)

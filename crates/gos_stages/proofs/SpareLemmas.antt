@@ -1,42 +1,58 @@
 -- What serves somebody else is a handshake of a Share's other caller, and stands in no joint.
-use Rattle.std.specs.Prelude.{◌≢◌, ◌+◌, ◌-◌, ◌*◌, ◌<◌, ◌≤◌, ◌⊎◌, ◌||◌, length, map, nat_eq, slice_get, Contains}
-use Rattle.std.proofs.Common.{◌≡◌, ℕ, zero, suc, Bool, true, false, not, List, [], ◌∷◌, ◌++◌, Option, Some, inl, inr, refl, sym, ◌∙◌, ap, subst, arith, if◌then◌else◌, true≢false}
-use Rattle.std.proofs.lemmas.List.Elements.{Contains-append_left, Contains-append_right, Contains-append_cases}
-use Rattle.gos_types.specs.Types.{Type', IsGround}
+use Rattle.std.specs.Prelude.{◌≢◌, ◌+◌, ◌-◌, ◌*◌, ◌<◌, ◌≤◌, ◌⊎◌, ◌||◌, length, nat_eq, nat_lt, slice_get, Contains}
+use Rattle.std.proofs.Common.{◌≡◌, ℕ, zero, suc, Bool, true, false, not, List, [], ◌∷◌, ◌++◌, Option, Some, inl, inr, refl, sym, ◌∙◌, ap, subst, arith, if◌then◌else◌, true≢false, length-append}
+use Rattle.std.proofs.lemmas.List.{length-map}
+use Rattle.std.proofs.lemmas.Bool.Decides.{nat_tests}
+use Rattle.std.proofs.lemmas.Option.{slice_get_within}
+use Rattle.std.proofs.lemmas.List.Elements.{Contains-append_left, Contains-append_right}
+use Rattle.gos_types.specs.Types.{Type'}
 use Rattle.gos_types.specs.declared.shakes.Role.{Role}
 use Rattle.gos_types.specs.declared.shakes.Role.TheVariants.{Serve, Ask}
 use Rattle.gos_check.specs.declared.linear.Split.{Split}
 use Rattle.gos_check.specs.Linearity.{times, split_in, sides}
 use Rattle.gos_check.proofs.TimesLemmas.{number_cases, eq_true, eq_false, times_none, times_other}
-use Rattle.gos_plan.specs.Kinds.{Contact, Part, Share, part_contacts}
-use Rattle.gos_plan.specs.Plans.{End, PartEnd, ImportEnd, ResultEnd, Joint, Plan, contact_at, contacts_of_part, stands_in, IsRight}
+use Rattle.gos_plan.specs.Kinds.{Contact, Part, Share, contacts_of, other_side, turned_contact, part_contacts}
+use Rattle.gos_plan.specs.Plans.{End, PartEnd, ImportEnd, ResultEnd, Joint, Plan, contact_at, contacts_of_part, stands_in}
 use Rattle.gos_realises.specs.Regular.{count}
 use Rattle.gos_realises.specs.Modules.{Supply}
+use Rattle.gos_webs.specs.Webs.{joint}
 use Rattle.gos_webs.specs.Cutting.{StandsIn}
 use Rattle.gos_webs.proofs.CutLemmas.{which_end}
 use Rattle.gos_webs.proofs.WebLemmas.{asks_there, serves_there}
-use Rattle.gos_unions.proofs.UnionLemmas.{of_image}
 use Rattle.gos_compile.specs.Wiring.{Types}
-use Rattle.gos_sharing.specs.Sharing.{caller_end}
-use Rattle.gos_buffers.specs.Buffering.{buffered, end_behind, joint_behind, callers_joined, ResultIsJoined}
-use Rattle.gos_buffers.proofs.GroundLemmas.{source_asks, callers_serve}
+use Rattle.gos_buffers.specs.Buffering.{end_behind}
 use Rattle.gos_buffers.proofs.BranchLemmas.{one_of_two}
-use Rattle.gos_buffers.proofs.BufferedLemmas.{at_last, before_last, buffered_is_buffer}
+use Rattle.gos_buffers.proofs.BufferedLemmas.{at_last, before_last}
+use Rattle.gos_passing.specs.Behind.{outer_joint, passing, IsBehind}
+use Rattle.gos_passing.proofs.SourceLemmas.{before_it}
 use Rattle.gos_wired.specs.Wired.{Own, Placing}
-use Rattle.gos_stages.specs.Inside.{numbers_inside, AreSplit, SidesAgree, AreGroundSupplies}
+use Rattle.gos_wired.specs.NodeFitting.{AreOfTypes}
+use Rattle.gos_stages.specs.Inside.{numbers_inside, AreSplit, SidesAgree}
 use Rattle.gos_stages.specs.Lodging.{Lodging, live, first_lodging, side_number, serves_side, one_lodging, lodging}
 use Rattle.gos_stages.specs.Folding.{serving_if, servings}
 use Rattle.gos_stages.specs.Served.{SparesAreOthers}
-use Rattle.gos_stages.proofs.InsideLemmas.{of_cons, one_stays, one_inside}
+use Rattle.gos_stages.proofs.InsideLemmas.{lies_there, of_cons, one_stays, one_inside}
 use Rattle.gos_stages.proofs.HomeLemmas.{no_side}
 use Rattle.gos_stages.proofs.StepLemmas.{serves_source, serves_caller, differ, side_is, side_env}
 use Rattle.gos_stages.proofs.LodgingLemmas.{IsTidy, tidy_on, tidy_first, of_gone, seen, seen_first, seen_second, either_live, first_live}
 
 -- a handshake that is neither the source's nor caller c's
-caller_of : (t : Type') (c h : ℕ) (d : Contact) → IsGround t → c < 2 → slice_get (part_contacts (Share t)) h ≡ Some d → serves_side (count t) c h ≡ false
-    → (j : ℕ) × (j < count t) × (h ≡ count t + (1 - c) * count t + j)
-caller_of t c h d ground two at unserved = by_role d.role refl
+pub has_size : (t : Type') → length (part_contacts (Share t)) ≡ count t + count t + count t
+has_size t =
+    length-append (other_side (contacts_of t)) (contacts_of t ++ contacts_of t)
+    ∙ (ap2 (length-map (contacts_of t) turned_contact) (length-append (contacts_of t) (contacts_of t)))
   where
+    ap2 : length (other_side (contacts_of t)) ≡ count t → length (contacts_of t ++ contacts_of t) ≡ count t + count t
+        → length (other_side (contacts_of t)) + length (contacts_of t ++ contacts_of t) ≡ count t + count t + count t
+    ap2 a b = omega (arith, a, b)
+
+caller_of : (t : Type') (c h : ℕ) (d : Contact) → c < 2 → slice_get (part_contacts (Share t)) h ≡ Some d → serves_side (count t) c h ≡ false
+    → (j : ℕ) × (j < count t) × (h ≡ count t + (1 - c) * count t + j)
+caller_of t c h d two at unserved = by_size (nat_lt h (count t)) (nat_lt h (count t + count t)) refl refl
+  where
+    within : h < count t + count t + count t
+    within = let size = has_size t in let lt = slice_get_within (part_contacts (Share t)) h d at in omega (arith, lt, size)
+
     of_caller : (b : ℕ) × (j : ℕ) × (b < 2) × (j < count t) × (h ≡ count t + b * count t + j) → (j : ℕ) × (j < count t) × (h ≡ count t + (1 - c) * count t + j)
     of_caller (b, j, lt, low, same) =
         elim (one_of_two c b two lt) [
@@ -46,9 +62,16 @@ caller_of t c h d ground two at unserved = by_role d.role refl
           | inr e ↦ (j, low, same ∙ ap (λ (x : ℕ). count t + x * count t + j) e)
         ]
 
-    by_role : (r : Role) → d.role ≡ r → (j : ℕ) × (j < count t) × (h ≡ count t + (1 - c) * count t + j)
-    by_role Serve e = of_caller (callers_serve t h d ground at e)
-    by_role Ask e = absurd (true≢false (sym (serves_source (count t) c h (source_asks t h d ground at e)) ∙ unserved))
+    by_size : (a b : Bool) → nat_lt h (count t) ≡ a → nat_lt h (count t + count t) ≡ b → (j : ℕ) × (j < count t) × (h ≡ count t + (1 - c) * count t + j)
+    by_size true b one other =
+        let lt : h < count t = grind (arith, nat_tests, one) in absurd (true≢false (sym (serves_source (count t) c h lt) ∙ unserved))
+    by_size false true one other =
+        let ge : count t ≤ h = grind (arith, nat_tests, one) in
+        let lt : h < count t + count t = grind (arith, nat_tests, other) in
+        of_caller (0, h - count t, omega arith, omega (arith, ge, lt), omega (arith, ge))
+    by_size false false one other =
+        let ge : count t + count t ≤ h = grind (arith, nat_tests, other) in
+        of_caller (1, h - (count t + count t), omega arith, omega (arith, ge, within), omega (arith, ge))
 
 -- a part of the plan stands in a joint behind a Share where it does before it
 part_of : (k h i g : ℕ) → PartEnd k h ≡ PartEnd i g → k ≡ i
@@ -58,35 +81,27 @@ joint_at : (e : End) (js : List Joint) (j : Joint) → Contains js j → (e ≡ 
 joint_at e js j has (inl is) = (j, has, subst (λ (x : End). stands_in x j ≡ true) (sym is) (asks_there j.asking j.serving))
 joint_at e js j has (inr is) = (j, has, subst (λ (x : End). stands_in x j ≡ true) (sym is) (serves_there j.asking j.serving))
 
-stood_before : (t : Type') (c : ℕ) (p : Plan) (k h : ℕ) → k ≢ length p.parts → StandsIn (buffered t c p) (PartEnd k h) → StandsIn p (PartEnd k h)
-stood_before t c p k h apart (j, has, stands) =
-    elim (Contains-append_cases (map (joint_behind (length p.parts)) p.joints) (callers_joined (length p.parts) t c 0 (count t)) j has) [
-      | inl behind ↦ (let (d, there, is) = of_image (joint_behind (length p.parts)) p.joints j behind in of_behind d there is (which_end (PartEnd k h) j stands))
-      | inr caller ↦ absurd (of_caller 0 (count t) caller (which_end (PartEnd k h) j stands))
-    ]
+stood_before : (t : Type') (c : ℕ) (p : Plan) (k h : ℕ) → IsBehind (length p.parts) t c (passing t c p) p → k ≢ length p.parts → StandsIn (passing t c p) (PartEnd k h)
+    → StandsIn p (PartEnd k h)
+stood_before t c p k h is apart (j, has, stands) = of_joint ((is.joints j.asking j.serving).0 has) (which_end (PartEnd k h) j stands)
   where
     back : (e : End) → PartEnd k h ≡ end_behind (length p.parts) e → PartEnd k h ≡ e
     back (PartEnd m g) e = e
     back (ImportEnd m g) e = e
     back (ResultEnd g) e = absurd (apart (part_of k h (length p.parts) g e))
 
-    of_behind : (d : Joint) → Contains p.joints d → joint_behind (length p.parts) d ≡ j → (PartEnd k h ≡ j.asking) ⊎ (PartEnd k h ≡ j.serving) → StandsIn p (PartEnd k h)
-    of_behind d there is (inl e) = joint_at (PartEnd k h) p.joints d there (inl (back d.asking (e ∙ ap (λ (x : Joint). x.asking) (sym is))))
-    of_behind d there is (inr e) = joint_at (PartEnd k h) p.joints d there (inr (back d.serving (e ∙ ap (λ (x : Joint). x.serving) (sym is))))
+    of_outer : (n : ℕ) (r : Role) → joint j.asking j.serving ≡ outer_joint (length p.parts) t c n r → (PartEnd k h ≡ j.asking) ⊎ (PartEnd k h ≡ j.serving) → ⊥
+    of_outer n Serve same (inl is) = let clash : PartEnd k h ≡ ResultEnd n = is ∙ ap (λ (x : Joint). x.asking) same in cc clash
+    of_outer n Serve same (inr is) = apart (part_of k h (length p.parts) (count t + c * count t + n) (is ∙ ap (λ (x : Joint). x.serving) same))
+    of_outer n Ask same (inl is) = apart (part_of k h (length p.parts) (count t + c * count t + n) (is ∙ ap (λ (x : Joint). x.asking) same))
+    of_outer n Ask same (inr is) = let clash : PartEnd k h ≡ ResultEnd n = is ∙ ap (λ (x : Joint). x.serving) same in cc clash
 
-    of_caller : (g m : ℕ) → Contains (callers_joined (length p.parts) t c g m) j → (PartEnd k h ≡ j.asking) ⊎ (PartEnd k h ≡ j.serving) → ⊥
-    of_caller g zero (u, lt, e) side = omega (arith, lt)
-    of_caller g (suc m) (zero, lt, e) (inl is) =
-        let clash : PartEnd k h ≡ ResultEnd g = is ∙ ap (λ (x : Joint). x.asking) (sym e) in cc clash
-    of_caller g (suc m) (zero, lt, e) (inr is) =
-        apart (part_of k h (length p.parts) (count t + c * count t + g) (is ∙ ap (λ (x : Joint). x.serving) (sym e)))
-    of_caller g (suc m) (suc u, lt, e) side = of_caller (suc g) m (u, omega (arith, lt), e) side
-
-other_alone : (t : Type') (c : ℕ) (p : Plan) → c < 2 → p.outcome ≡ t → IsRight p → IsGround t → ResultIsJoined p
-    → (j : ℕ) → j < count t → StandsIn (buffered t c p) (caller_end (length p.parts) t (1 - c) j) → ⊥
-other_alone t c p two outcome right ground result =
-    subst (λ (u : Type'). (j : ℕ) → j < count u → StandsIn (buffered u c p) (caller_end (length p.parts) u (1 - c) j) → ⊥) outcome
-    (buffered_is_buffer c p two right (subst IsGround (sym outcome) ground) result).alone
+    of_joint : ((d : End) × (e : End) × Contains p.joints (joint d e) × (j.asking ≡ end_behind (length p.parts) d) × (j.serving ≡ end_behind (length p.parts) e))
+        ⊎ ((n : ℕ) × (x : Contact) × (slice_get (contacts_of t) n ≡ Some x) × (joint j.asking j.serving ≡ outer_joint (length p.parts) t c n x.role))
+        → (PartEnd k h ≡ j.asking) ⊎ (PartEnd k h ≡ j.serving) → StandsIn p (PartEnd k h)
+    of_joint (inl (d, e, here, at_d, at_e)) (inl is) = joint_at (PartEnd k h) p.joints (joint d e) here (inl (back d (is ∙ at_d)))
+    of_joint (inl (d, e, here, at_d, at_e)) (inr is) = joint_at (PartEnd k h) p.joints (joint d e) here (inr (back e (is ∙ at_e)))
+    of_joint (inr (n, x, at, same)) side = absurd (of_outer n x.role same side)
 
 -- what is known of a spare handshake
 record Spare (Known : ℕ → Type' → ℕ → Type 0) (l : Lodging) (n k h : ℕ) : Type 0 where
@@ -108,7 +123,7 @@ not_true true e = sym e
 not_true false e = refl
 
 module _ (Known : ℕ → Type' → ℕ → Type 0) (types : Types) (q x : ℕ) (s : Split) (ss : List Split) (once : (k : ℕ) → times k (sides (s ∷ ss)) ≤ 1) (l : Lodging) (a : Option ℕ)
-    (ns : List ℕ) (of : Contains ns s.of) (are : AreGroundSupplies types l.env ns) where
+    (ns : List ℕ) (of : Contains ns s.of) (are : AreOfTypes types l.env ns) where
   abbrev plan : Plan
   plan = (l.env s.of).plan
 
@@ -148,18 +163,17 @@ module _ (Known : ℕ → Type' → ℕ → Type 0) (types : Types) (q x : ℕ) 
         contact : slice_get (contacts_of_part (slice_get ((l.env s.of).plan.parts ++ (Share (types s.of) ∷ [])) k)) h ≡ Some d
         contact = subst (λ (e : Supply). contact_at e.plan (PartEnd k h) ≡ Some d) (side_env types s ss once l.env c two) there
 
-        stands : StandsIn (next.env n).plan (PartEnd k h) → StandsIn (buffered (types s.of) c (l.env s.of).plan) (PartEnd k h)
+        stands : StandsIn (next.env n).plan (PartEnd k h) → StandsIn (passing (types s.of) c (l.env s.of).plan) (PartEnd k h)
         stands it = subst (λ (e : Supply). StandsIn e.plan (PartEnd k h)) (side_env types s ss once l.env c two) it
 
         own : k ≡ place → nat_eq k place ≡ true → Spare Known next n k h
         own e t =
-            let realised = are.realised s.of of in
             let at : slice_get (part_contacts (Share (types s.of))) h ≡ Some d =
             sym (ap (λ (y : Option Part). slice_get (contacts_of_part y) h)
             (ap (slice_get ((l.env s.of).plan.parts ++ (Share (types s.of) ∷ []))) e ∙ at_last (l.env s.of).plan.parts (Share (types s.of)))) ∙ contact
             in
             let unserved : serves_side size c h ≡ false = not_true (serves_side size c h) (sym (at_spare k h true t) ∙ spare) in
-            let (j, low, same) = caller_of (types s.of) c h d (are.ground s.of of) two at unserved in
+            let (j, low, same) = caller_of (types s.of) c h d two at unserved in
             record {
               number = x;
               ty = types s.of;
@@ -171,9 +185,9 @@ module _ (Known : ℕ → Type' → ℕ → Type 0) (types : Types) (q x : ℕ) 
               at = same;
               alone =
                   λ it.
-                  other_alone (types s.of) c (l.env s.of).plan two realised.suits.outcome realised.suits.right (are.ground s.of of) (are.joined s.of of) j low
-                  (subst (λ (m : ℕ). StandsIn (buffered (types s.of) c (l.env s.of).plan) (PartEnd place m)) same
-                  (subst (λ (m : ℕ). StandsIn (buffered (types s.of) c (l.env s.of).plan) (PartEnd m h)) e (stands it)));
+                  (before_it place (types s.of) c (passing (types s.of) c (l.env s.of).plan) (l.env s.of).plan (lies_there (types s.of) c (l.env s.of).plan two (are s.of of))).alone j low
+                  (subst (λ (m : ℕ). StandsIn (passing (types s.of) c (l.env s.of).plan) (PartEnd place m)) same
+                  (subst (λ (m : ℕ). StandsIn (passing (types s.of) c (l.env s.of).plan) (PartEnd m h)) e (stands it)));
             }
 
         old : k ≢ place → nat_eq k place ≡ false → Spare Known next n k h
@@ -191,7 +205,7 @@ module _ (Known : ℕ → Type' → ℕ → Type 0) (types : Types) (q x : ℕ) 
               known = it.known;
               small = it.small;
               at = it.at;
-              alone = λ there. it.alone (stood_before (types s.of) c (l.env s.of).plan k h e (stands there));
+              alone = λ there. it.alone (stood_before (types s.of) c (l.env s.of).plan k h (lies_there (types s.of) c (l.env s.of).plan two (are s.of of)) e (stands there));
             }
 
   other_spare : (n : ℕ) → n ≢ s.left → n ≢ s.right → AllSpare Known l n → AllSpare Known next n
@@ -223,7 +237,7 @@ module _ (Known : ℕ → Type' → ℕ → Type 0) (types : Types) (inner : ℕ
   abbrev NumbersSpare : List Split → List ℕ → List ℕ → Lodging → Type 0
   NumbersSpare ss gone ms l = (n : ℕ) → Contains ms n → times n (sides ss) ≡ 0 → times n gone ≡ 0 → live ss inner n ≡ true → AllSpare Known l n
 
-  spare_on : (s : Split) (ss : List Split) (q x : ℕ) (l : Lodging) (gone ms : List ℕ) → IsTidy inner (s ∷ ss) gone → Contains ms s.of → AreGroundSupplies types l.env ms
+  spare_on : (s : Split) (ss : List Split) (q x : ℕ) (l : Lodging) (gone ms : List ℕ) → IsTidy inner (s ∷ ss) gone → Contains ms s.of → AreOfTypes types l.env ms
       → ((c : ℕ) → seen types inner ss s ≡ Some c → Known x (types s.of) c) → NumbersSpare (s ∷ ss) gone ms l
       → NumbersSpare ss (s.of ∷ gone) (s.left ∷ s.right ∷ ms) (one_lodging types q x s (seen types inner ss s) l)
   spare_on s ss q x l gone ms tidy of are known was n there none away lives =
@@ -267,7 +281,7 @@ module _ (Known : ℕ → Type' → ℕ → Type 0) (types : Types) (inner : ℕ
           in
           other_spare Known types q x s ss tidy.once l (seen types inner ss s) ms of are n left right (was n (listed left right) aside gone_too same)
 
-  final_spare : (ss : List Split) (q x : ℕ) (l : Lodging) (gone ms : List ℕ) → IsTidy inner ss gone → SidesAgree ss types → AreSplit ss ms → AreGroundSupplies types l.env ms
+  final_spare : (ss : List Split) (q x : ℕ) (l : Lodging) (gone ms : List ℕ) → IsTidy inner ss gone → SidesAgree ss types → AreSplit ss ms → AreOfTypes types l.env ms
       → AllKnown x ss → NumbersSpare ss gone ms l
       → (n : ℕ) → Contains (numbers_inside ss ms) n → times n (split_in ss) ≡ 0 → times n gone ≡ 0 → inner n ≡ true → AllSpare Known (lodging types q x inner ss l) n
   final_spare [] q x l gone ms tidy agree split are known was n there none away lives = was n there refl away lives

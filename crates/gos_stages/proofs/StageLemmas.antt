@@ -1,35 +1,31 @@
 -- A child of a wired node is a stage of it.
-use Rattle.std.specs.Prelude.{◌+◌, ◌⊎◌, length, slice_get, Contains}
+use Rattle.std.specs.Prelude.{◌+◌, ◌⊎◌, slice_get}
 use Rattle.std.proofs.Common.{◌≡◌, ℕ, List, [], Some, inl, inr, refl, sym, ◌∙◌, ap, subst}
-use Rattle.gos_plan.specs.Kinds.{Contact, asks, serves, Part, Share, contacts_of}
-use Rattle.gos_plan.specs.Plans.{End, ImportEnd, Plan, contact_at, turned_if}
+use Rattle.gos_plan.specs.Kinds.{Contact, asks, serves, Part, contacts_of}
+use Rattle.gos_plan.specs.Plans.{End, PartEnd, ImportEnd, Plan, contact_at, turned_if}
 use Rattle.gos_plan.proofs.JointLemmas.{fits, contained}
 use Rattle.gos_realises.proofs.PlaceLemmas.{contains_at, place_of}
 use Rattle.gos_webs.specs.Webs.{IsOfWeb}
 use Rattle.gos_webs.specs.Cutting.{StandsIn}
 use Rattle.gos_webs.proofs.CutLemmas.{which_end}
-use Rattle.gos_windows.specs.Regions.{Serving, IsLoyal}
-use Rattle.gos_loyal.proofs.LoyalLemmas.{shares_of_one_are_loyal}
 use Rattle.gos_compile.specs.Wiring.{parts_of}
 use Rattle.gos_wired.specs.Wired.{Supplies, Placing, wired_web}
-use Rattle.gos_stages.specs.Folding.{Child, is_used, lodge, child_web, child_cut, child_servings, IsLaid}
+use Rattle.gos_stages.specs.Folding.{Lead, AtOwn, asked_in, led_end, Child, is_used, lodge, child_web, IsLaid}
 use Rattle.gos_stages.specs.Folded.{HasChild}
 use Rattle.gos_stages.specs.Regions.{HasParts, IsStaged}
 use Rattle.gos_stages.specs.Stages.{ChildIsStage}
 use Rattle.gos_stages.proofs.LodgingLemmas.{lodged_are_inside}
-use Rattle.gos_stages.proofs.ServedLemmas.{servings_serve}
-use Rattle.gos_stages.proofs.ContactLemmas.{share_ground, import_there}
-use Rattle.gos_stages.proofs.ChildFoldLemmas.{own_outside, import_of}
+use Rattle.gos_stages.proofs.ContactLemmas.{part_there, import_there}
+use Rattle.gos_stages.proofs.ChildFoldLemmas.{own_outside, led_contact, import_of}
 
 -- what is known of its plan
-pub has_child_of : (f : Child) (own : List Part) (pl plc : Placing) (r c : Plan) → HasParts f own → IsStaged f pl plc r c → HasChild f own c
+pub has_child_of : (f : Child) (own : List Part) (pl plc : Placing) (r c : Plan) → HasParts f own r.outcome → IsStaged f pl plc r c → HasChild f own r.outcome c
 has_child_of f own pl plc r c has staged =
     record {
       shares = has.shares;
-      own_part = has.own_part;
       child = has.child;
       outcome = staged.wired.outcome;
-      asks = λ k at. has.asks k (ap (λ t. turned_if (slice_get (contacts_of t) 0)) (sym staged.wired.outcome) ∙ at);
+      asks = λ h l k lead at. has.asks h l k lead (ap (λ t. turned_if (slice_get (contacts_of t) h)) (sym staged.wired.outcome) ∙ at);
     }
 
 pub laid_of : (f : Child) (pl plc : Placing) (r c : Plan) → IsStaged f pl plc r c → IsLaid (parts_of f.types f.term) f.uses (lodge f).env plc c
@@ -43,15 +39,15 @@ web_of f pl plc r c staged =
     staged.wired.web
 
 pub child_is_stage : ChildIsStage
-child_is_stage f own ts pl plc r c is has laid staged done regular restful names =
+child_is_stage f own ts pl plc r c h is leads has laid staged done regular restful names loyal =
     record {
       region = staged.region;
-      outside = own_outside f own ts pl plc r c is has_child laid laidc;
+      outside = own_outside f own ts pl plc r c is has_child laid laidc own_part.0 own_part.1;
       outcome = done;
       regular = regular;
       restful = restful;
       loyal = loyal;
-      run_by = λ stands. refl;
+      run_by = λ stands. ap (λ (ls : List Lead). led_end (pl.own f.own) (slice_get ls 0) 0) leads ∙ ap (λ (ls : List Lead). PartEnd (pl.own f.own) (asked_in ls)) (sym leads);
       imports =
           λ x listed.
           let (q, at) = place_of c.imports x listed in
@@ -61,27 +57,17 @@ child_is_stage f own ts pl plc r c is has laid staged done regular restful names
       ports = ports;
     }
   where
-    has_child : HasChild f own c
+    has_child : HasChild f own r.outcome c
     has_child = has_child_of f own pl plc r c has staged
 
     laidc : IsLaid (parts_of f.types f.term) f.uses (lodge f).env plc c
     laidc = laid_of f pl plc r c staged
 
-    loyal : (n : Serving) (i : ℕ) → Contains (child_servings f pl) n → (child_cut f pl plc (length r.parts)).number n.part ≡ Some i → IsLoyal i n.ty n.side c
-    loyal n i listed at =
-        let (two, at_region) = staged.region.serving n listed in
-        let (k, known, share) = at_region in
-        let both : Some k ≡ Some i = sym known ∙ at in
-        let same : k ≡ i = cc both in
-        let (x, place, it) = servings_serve f.types f.first (is_used f) f.splits f.env f.numbers pl n is.tidy listed in
-        shares_of_one_are_loyal i n.ty n.side c
-        (record {
-          right = staged.region.right;
-          share = subst (λ (m : ℕ). slice_get c.parts m ≡ Some (Share n.ty)) same share;
-          ground = share_ground f.types f.splits f.numbers x n.ty is.agree is.split is.supplies.ground it.share;
-          caller = two;
-          alone = λ j low. staged.region.unused n i j listed at low;
-        }) regular
+    own_part : (y : Part) × (slice_get own f.own ≡ Some y)
+    own_part =
+        let first : slice_get f.out 0 ≡ Some (AtOwn h) = ap (λ (ls : List Lead). slice_get ls 0) leads in
+        let (k, contact) = led_contact f own ts pl plc r c is has_child laid laidc 0 (AtOwn h) first in
+        part_there (slice_get own f.own) h k (has_child.asks 0 (AtOwn h) k first contact)
 
     contact_of : (e : End) → StandsIn c e → (k : Contact) × (contact_at c e ≡ Some k)
     contact_of e (j, listed, stands) = by_end (which_end e j stands)

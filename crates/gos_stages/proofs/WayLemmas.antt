@@ -1,13 +1,16 @@
 -- A joint of what stands for a number inside splits is a way of the node's web.
-use Rattle.std.specs.Prelude.{◌≢◌, ◌+◌, ◌*◌, ◌<◌, ◌≤◌, length, map, nat_eq, Contains}
+use Rattle.std.specs.Prelude.{◌≢◌, ◌+◌, ◌*◌, ◌<◌, ◌≤◌, length, nat_eq, slice_get, None, Contains}
 use Rattle.std.proofs.Common.{◌≡◌, ℕ, zero, suc, Bool, true, false, List, [], ◌∷◌, ◌++◌, Option, Some, inl, inr, refl, sym, ◌∙◌, ap, subst, arith, if◌then◌else◌}
-use Rattle.std.proofs.lemmas.List.Elements.{Contains-append_left, Contains-append_right, Contains-append_cases}
-use Rattle.gos_types.specs.Types.{Type', IsGround}
+use Rattle.std.proofs.lemmas.Option.{slice_get_within}
+use Rattle.std.proofs.lemmas.List.Elements.{Contains-append_left, Contains-append_right}
+use Rattle.gos_types.specs.declared.shakes.Role.{Role}
+use Rattle.gos_types.specs.declared.shakes.Role.TheVariants.{Serve, Ask}
+use Rattle.gos_types.specs.Types.{Type'}
 use Rattle.gos_check.specs.declared.linear.Split.{Split}
 use Rattle.gos_check.specs.Linearity.{times, sides}
 use Rattle.gos_check.proofs.TimesLemmas.{number_cases, eq_true, eq_false}
-use Rattle.gos_plan.specs.Kinds.{Contact, asks, serves}
-use Rattle.gos_plan.specs.Plans.{End, PartEnd, ImportEnd, ResultEnd, Joint, Plan, contact_at, IsRight}
+use Rattle.gos_plan.specs.Kinds.{Contact, asks, serves, contacts_of}
+use Rattle.gos_plan.specs.Plans.{End, PartEnd, ImportEnd, ResultEnd, Joint, Plan, contact_at, turned_if, IsRight}
 use Rattle.gos_plan.proofs.JointLemmas.{fits, contained}
 use Rattle.gos_realises.specs.Regular.{count}
 use Rattle.gos_realises.specs.Modules.{Supply}
@@ -19,18 +22,34 @@ use Rattle.gos_ties.specs.Ties.{point}
 use Rattle.gos_webs.specs.Webs.{Dot, Of, Number, Within, Tie, tie, Way, here, along, own_web, joint}
 use Rattle.gos_webs.proofs.WayLemmas.{way_then, way_back}
 use Rattle.gos_unions.specs.Unions.{within}
-use Rattle.gos_unions.proofs.UnionLemmas.{of_image, in_image}
+use Rattle.gos_unions.proofs.UnionLemmas.{in_image}
 use Rattle.gos_compile.specs.Wiring.{Types, row, led, share_ties, shares_ties}
 use Rattle.gos_sharing.specs.Sharing.{caller_end}
-use Rattle.gos_buffers.specs.Buffering.{end_behind, joint_behind, callers_joined}
-use Rattle.gos_buffers.proofs.BufferedLemmas.{known_part, result_within}
+use Rattle.gos_buffers.specs.Buffering.{end_behind}
+use Rattle.gos_passing.specs.Behind.{outer_joint}
+use Rattle.gos_webs.proofs.CutLemmas.{part_at}
 use Rattle.gos_wired.specs.Wired.{Supplies, Own, source_dot, dot_of, dot_ties, result_ties, supply_ties, all_supply_ties}
-use Rattle.gos_stages.specs.Inside.{numbers_inside, AreSplit, SidesAgree, AreGroundSupplies}
+use Rattle.gos_wired.specs.NodeFitting.{AreOfTypes}
+use Rattle.gos_stages.specs.Inside.{numbers_inside, AreSplit, SidesAgree}
 use Rattle.gos_stages.specs.Lodging.{Lodging, live, first_lodging, side_number, one_lodging, lodging, lies, JointsAreWays}
-use Rattle.gos_stages.proofs.InsideLemmas.{of_cons, one_stays, one_inside}
+use Rattle.gos_stages.proofs.InsideLemmas.{lies_there, of_cons, one_stays, one_inside}
 use Rattle.gos_stages.proofs.HomeLemmas.{no_side}
 use Rattle.gos_stages.proofs.StepLemmas.{side_is, side_env}
 use Rattle.gos_stages.proofs.LodgingLemmas.{IsTidy, tidy_on, tidy_first, lifted, seen}
+
+turned_there : (a : Option Contact) (k : Contact) → turned_if a ≡ Some k → (d : Contact) × (a ≡ Some d)
+turned_there None k e = absurd (cc e)
+turned_there (Some d) k e = (d, refl)
+
+-- a handshake that there is is of a part that there is, or of the result
+pub known_there : (p : Plan) (k h : ℕ) (d : Contact) → contact_at p (PartEnd k h) ≡ Some d → k ≢ length p.parts
+known_there p k h d at e =
+    let (x, there) = part_at (slice_get p.parts k) h d at in
+    let lt = slice_get_within p.parts k x there in
+    let same : k ≡ length p.parts = e in omega (arith, lt, same)
+
+pub result_there : (p : Plan) (h : ℕ) (d : Contact) → contact_at p (ResultEnd h) ≡ Some d → h < count p.outcome
+result_there p h d at = let (k, there) = turned_there (slice_get (contacts_of p.outcome) h) d at in slice_get_within (contacts_of p.outcome) h k there
 
 -- ways
 pub by_tie : (ts : List Tie) (a b : Dot) → Contains ts (tie a b) → Way ts a b
@@ -60,7 +79,7 @@ AreWays i l ns ts = (n : ℕ) (j : Joint) → Contains ns n → Contains (l.env 
 
 -- one split more
 module _ (types : Types) (i q x : ℕ) (at_q : q ≡ i + x) (s : Split) (ss : List Split) (once : (k : ℕ) → times k (sides (s ∷ ss)) ≤ 1) (l : Lodging) (a : Option ℕ) (ns : List ℕ)
-    (of : Contains ns s.of) (are : AreGroundSupplies types l.env ns) (ts : List Tie) (shared : Lifts types q (s ∷ ss) ts) (ways : AreWays i l ns ts) where
+    (of : Contains ns s.of) (are : AreOfTypes types l.env ns) (ts : List Tie) (shared : Lifts types q (s ∷ ss) ts) (ways : AreWays i l ns ts) where
   abbrev size : ℕ
   size = count (types s.of)
 
@@ -71,13 +90,10 @@ module _ (types : Types) (i q x : ℕ) (at_q : q ≡ i + x) (s : Split) (ss : Li
   next = one_lodging types q x s a l
 
   right : IsRight plan
-  right = (are.realised s.of of).suits.right
+  right = (are s.of of).0
 
   outcome : plan.outcome ≡ types s.of
-  outcome = (are.realised s.of of).suits.outcome
-
-  ground : IsGround plan.outcome
-  ground = subst IsGround (sym outcome) (are.ground s.of of)
+  outcome = (are s.of of).1
 
   own_tie : (u : point_ties.Tie) → Contains (share_ties q size s) u → Contains ts (lifted u)
   own_tie u has = shared u (Contains-append_left (share_ties q size s) (shares_ties (suc q) ss types) u has)
@@ -146,13 +162,13 @@ module _ (types : Types) (i q x : ℕ) (at_q : q ≡ i + x) (s : Split) (ss : Li
     -- an end of the plan, and the same end behind the Share
     connects : (e : End) (k : Contact) → contact_at plan e ≡ Some k → Way ts (lies i l s.of e) (lies i next n (end_behind (length plan.parts) e))
     connects (PartEnd k h) d there =
-        let apart : k ≢ length plan.parts = λ e. known_part 0 plan (omega arith) right ground k h d there e in
+        let apart : k ≢ length plan.parts = λ e. known_there plan k h d there e in
         subst (Way ts (source_dot i (l.part s.of k) h)) (sym (at_part k h false (eq_false k (length plan.parts) apart))) (here (source_dot i (l.part s.of k) h))
     connects (ImportEnd k h) d there =
         subst (λ (r : ℕ). Way ts (Within (suc (l.root s.of)) (Of (ImportEnd k h))) (Within (suc r) (Of (ImportEnd k h))))
         (sym (ap (λ (t : Bool). if t then l.root s.of else l.root n) (side_is types s ss once c))) (here (Within (suc (l.root s.of)) (Of (ImportEnd k h))))
     connects (ResultEnd h) d there =
-        let lt : h < count plan.outcome = result_within 0 plan (omega arith) right ground h d there in
+        let lt : h < count plan.outcome = result_there plan h d there in
         subst (Way ts (Within 0 (Number s.of h))) (sym (at_share h)) (source_way h (subst (λ (t : Type'). h < count t) outcome lt))
 
     behind_way : (j : Joint) → Contains plan.joints j
@@ -166,27 +182,24 @@ module _ (types : Types) (i q x : ℕ) (at_q : q ≡ i + x) (s : Split) (ss : Li
         (way_then ts (lies i l s.of j.asking) (lies i l s.of j.serving) (lies i next n (end_behind (length plan.parts) j.serving))
         (ways s.of j of has) (connects j.serving (serves fit.0 fit.1) fit.3))
 
-    of_callers : (k g m : ℕ) (j : Joint) → Contains (callers_joined k (types s.of) c g m) j
-        → (h : ℕ) × (h < g + m) × (joint (ResultEnd h) (caller_end k (types s.of) c h) ≡ j)
-    of_callers k g zero j (u, lt, e) = absurd (omega (arith, lt))
-    of_callers k g (suc m) j (zero, lt, e) = (g, omega arith, e)
-    of_callers k g (suc m) j (suc u, lt, e) =
-        let (h, low, is) = of_callers k (suc g) m j (u, omega (arith, lt), e) in (h, omega (arith, low), is)
-
     callers_way : (h : ℕ) → h < size → Way ts (lies i next n (ResultEnd h)) (lies i next n (caller_end (length plan.parts) (types s.of) c h))
     callers_way h lt =
         subst (Way ts (Within 0 (Number n h))) (sym (at_share (size + c * size + h))) (caller_way c h two lt)
 
+    outer_way : (h : ℕ) → h < size → (r : Role) → Way ts (lies i next n (outer_joint (length plan.parts) (types s.of) c h r).asking) (lies i next n (outer_joint (length plan.parts) (types s.of) c h r).serving)
+    outer_way h lt Serve = callers_way h lt
+    outer_way h lt Ask = way_back ts (lies i next n (ResultEnd h)) (lies i next n (caller_end (length plan.parts) (types s.of) c h)) (callers_way h lt)
+
     pub side_ways : (j : Joint) → Contains (next.env (side_number s c)).plan.joints j → Way ts (lies i next (side_number s c) j.asking) (lies i next (side_number s c) j.serving)
     side_ways j has =
-        elim (Contains-append_cases (map (joint_behind (length plan.parts)) plan.joints) (callers_joined (length plan.parts) (types s.of) c 0 (count (types s.of))) j
+        elim (((lies_there (types s.of) c plan two (are s.of of)).joints j.asking j.serving).0
         (subst (λ (e : Supply). Contains e.plan.joints j) (side_env types s ss once l.env c two) has)) [
-          | inl behind ↦
-              (let (d, there, is) = of_image (joint_behind (length plan.parts)) plan.joints j behind in
-              subst (λ (k : Joint). Way ts (lies i next n k.asking) (lies i next n k.serving)) is (behind_way d there))
-          | inr caller ↦
-              (let (h, low, is) = of_callers (length plan.parts) 0 (count (types s.of)) j caller in
-              subst (λ (k : Joint). Way ts (lies i next n k.asking) (lies i next n k.serving)) is (callers_way h (omega (arith, low))))
+          | inl (d, e, there, at_d, at_e) ↦
+              subst (λ (b : End). Way ts (lies i next n j.asking) (lies i next n b)) (sym at_e)
+              (subst (λ (a : End). Way ts (lies i next n a) (lies i next n (end_behind (length plan.parts) e))) (sym at_d) (behind_way (joint d e) there))
+          | inr (h, k, at, same) ↦
+              subst (λ (x : Joint). Way ts (lies i next n x.asking) (lies i next n x.serving)) (sym same)
+              (outer_way h (slice_get_within (contacts_of (types s.of)) h k at) k.role)
         ]
 
   -- another number
@@ -223,7 +236,7 @@ module _ (types : Types) (i q x : ℕ) (at_q : q ≡ i + x) (s : Split) (ss : Li
 -- all splits
 module _ (types : Types) (i : ℕ) (inner : ℕ → Bool) (ts : List Tie) where
   final_ways : (ss : List Split) (q x : ℕ) → q ≡ i + x → (l : Lodging) (gone ns : List ℕ) → IsTidy inner ss gone → SidesAgree ss types → AreSplit ss ns
-      → AreGroundSupplies types l.env ns → Lifts types q ss ts → AreWays i l ns ts → AreWays i (lodging types q x inner ss l) (numbers_inside ss ns) ts
+      → AreOfTypes types l.env ns → Lifts types q ss ts → AreWays i l ns ts → AreWays i (lodging types q x inner ss l) (numbers_inside ss ns) ts
   final_ways [] q x at_q l gone ns tidy agree split are shared ways = ways
   final_ways (s ∷ ss) q x at_q l gone ns tidy (left, right, agree) (of, split) are shared ways =
       final_ways ss (suc q) (suc x) (omega (arith, at_q)) (one_lodging types q x s (seen types inner ss s) l) (s.of ∷ gone) (s.left ∷ s.right ∷ ns)
@@ -234,7 +247,7 @@ module _ (types : Types) (i : ℕ) (inner : ℕ → Bool) (ts : List Tie) where
   abbrev joint_tie : Joint → Tie
   joint_tie j = tie (Of j.asking) (Of j.serving)
 
-  module _ (ss : List Split) (env : Supplies) (ns : List ℕ) (are : AreGroundSupplies types env ns) (has : (t : Tie) → Contains (all_supply_ties types env ns) t → Contains ts t) where
+  module _ (ss : List Split) (env : Supplies) (ns : List ℕ) (are : AreOfTypes types env ns) (has : (t : Tie) → Contains (all_supply_ties types env ns) t → Contains ts t) where
     abbrev first : Lodging
     first = first_lodging (live ss inner) env
 
@@ -269,17 +282,13 @@ module _ (types : Types) (i : ℕ) (inner : ℕ → Bool) (ts : List Tie) where
     to_end n (PartEnd k h) d there known = here (Within (suc n) (Of (PartEnd k h)))
     to_end n (ImportEnd k h) d there known = here (Within (suc n) (Of (ImportEnd k h)))
     to_end n (ResultEnd h) d there known =
-        let realised = are.realised n there in
-        let outcome = realised.suits.outcome in
-        let lt : h < count (env n).plan.outcome =
-        result_within 0 (env n).plan (omega arith) realised.suits.right (subst IsGround (sym outcome) (are.ground n there)) h d known
-        in
-        result_way n h there (subst (λ (t : Type'). h < count t) outcome lt)
+        let lt : h < count (env n).plan.outcome = result_there (env n).plan h d known in
+        result_way n h there (subst (λ (t : Type'). h < count t) (are n there).1 lt)
 
     first_ways : AreWays i first ns ts
     first_ways n j there listed =
         let plan = (env n).plan in
-        let right : IsRight (env n).plan = (are.realised n there).suits.right in
+        let right : IsRight (env n).plan = (are n there).0 in
         let fit = fits (env n).plan [] (env n).plan.joints j right (contained (env n).plan.joints j listed) in
         way_then ts (lies i first n j.asking) (Within (suc n) (Of j.asking)) (lies i first n j.serving) (to_end n j.asking (asks fit.0 fit.1) there fit.2)
         (way_then ts (Within (suc n) (Of j.asking)) (Within (suc n) (Of j.serving)) (lies i first n j.serving)

@@ -3,22 +3,29 @@
 -- Read first: Folding, Housing; Folds of gos_folds.
 use Rattle.std.specs.Prelude.{◌≡◌, ℕ, ◌+◌, List, length, Some, slice_get}
 use Rattle.gos_check.specs.Nodes.{type_of_node}
-use Rattle.gos_plan.specs.Kinds.{Contact, Part}
-use Rattle.gos_plan.specs.Plans.{ResultEnd, Plan, contact_at, contacts_of_part}
+use Rattle.gos_types.specs.Types.{Type'}
+use Rattle.gos_plan.specs.Kinds.{Contact, Part, contacts_of}
+use Rattle.gos_plan.specs.Plans.{ResultEnd, Plan, contact_at, contacts_of_part, turned_if}
 use Rattle.gos_webs.specs.Webs.{Tie, IsOfWeb}
 use Rattle.gos_folds.specs.Folds.{IsFold}
 use Rattle.gos_compile.specs.Wiring.{parts_of}
 use Rattle.gos_wired.specs.Wired.{Placing, dot_at}
-use Rattle.gos_stages.specs.Folding.{Child, lodge, child_web, child_cut, child_fold, child_servings, IsChild, IsLaid}
+use Rattle.gos_stages.specs.Folding.{Lead, AtOwn, AtResult, Child, lodge, child_web, child_cut, child_fold, child_servings, IsChild, IsLaid}
 use Rattle.gos_stages.specs.Housing.{HasShares}
 
--- The parts of the node: those of its splits first, its own, which asks the child at one handshake, and the child's.
-pub record HasChild (f : Child) (own : List Part) (c : Plan) : Type 0 where
+-- a handshake to which one of the child leads is seen so, by the node's parts and its type
+abbrev pub Sees : ℕ → List Part → Type' → Lead → Contact → Type 0
+Sees q own t (AtOwn s) k = slice_get (contacts_of_part (slice_get own q)) s ≡ Some k
+Sees q own t (AtResult s) k = turned_if (slice_get (contacts_of t) s) ≡ Some k
+
+-- The parts of the node, of this type: those of its splits first, its own, and the child's. A handshake of the child is seen alike
+-- where it leads.
+pub record HasChild (f : Child) (own : List Part) (t : Type') (c : Plan) : Type 0 where
   pub shares : HasShares f.types f.splits own
-  pub own_part : (y : Part) × (slice_get own f.own ≡ Some y)
   pub child : (x : ℕ) (y : Part) → slice_get (parts_of f.types f.term) x ≡ Some y → slice_get own (f.off + x) ≡ Some y
   pub outcome : c.outcome ≡ type_of_node f.term
-  pub asks : (k : Contact) → contact_at c (ResultEnd 0) ≡ Some k → slice_get (contacts_of_part (slice_get own f.own)) f.shake ≡ Some k
+  pub asks :
+      (h : ℕ) (l : Lead) (k : Contact) → slice_get f.out h ≡ Some l → contact_at c (ResultEnd h) ≡ Some k → Sees f.own own t l k
 
 -- Each part of the child's plan is one of the node's, and is told by it.
 pub record IsPartOf (f : Child) (pl plc : Placing) (r c : Plan) : Type 0 where
@@ -33,13 +40,13 @@ pub record IsPartOf (f : Child) (pl plc : Placing) (r c : Plan) : Type 0 where
 abbrev pub ChildIsPart : Type 0
 ChildIsPart =
     (f : Child) (own : List Part) (ts : List Tie) (pl plc : Placing) (r c : Plan)
-    → IsChild f ts → HasChild f own c → IsLaid own f.numbers f.env pl r → IsLaid (parts_of f.types f.term) f.uses (lodge f).env plc c
+    → IsChild f ts → HasChild f own r.outcome c → IsLaid own f.numbers f.env pl r → IsLaid (parts_of f.types f.term) f.uses (lodge f).env plc c
     → IsPartOf f pl plc r c
 
 -- So the plan is a fold.
 abbrev pub ChildIsFolded : Type 0
 ChildIsFolded =
     (f : Child) (own : List Part) (ts : List Tie) (pl plc : Placing) (r c : Plan)
-    → IsChild f ts → HasChild f own c → IsLaid own f.numbers f.env pl r → IsLaid (parts_of f.types f.term) f.uses (lodge f).env plc c
+    → IsChild f ts → HasChild f own r.outcome c → IsLaid own f.numbers f.env pl r → IsLaid (parts_of f.types f.term) f.uses (lodge f).env plc c
     → IsOfWeb (record { ties = ts; at = dot_at f.first pl }) r
     → IsFold (child_fold f pl plc (length r.parts)) (child_servings f pl) (record { ties = ts; at = dot_at f.first pl }) (child_web f plc) r c

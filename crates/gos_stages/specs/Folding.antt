@@ -1,9 +1,9 @@
 -- The web of a child within the web of its node: a fold.
 --
--- Read first: Lodging, Leading, Ranges; Folds of gos_folds. The child is one that its node's own part asks at one handshake. Its own
--- points are the same in the node's web, but for its result, which is the own part's handshake. A number that it uses and
--- that is split is the source of the Share from which the child's supply comes.
-use Rattle.std.specs.Prelude.{◌≡◌, ℕ, zero, suc, ◌+◌, ◌-◌, ◌<◌, ◌≤◌, Bool, not, ◌&&◌, ◌||◌, List, [], ◌∷◌, ◌++◌, ◌⊎◌, length, Option, Some, None, nat_eq, nat_lt, slice_get, Contains, if◌then◌else◌}
+-- Read first: Lodging, Leading, Ranges; Folds of gos_folds. The handshakes of the child's result lead to the node's own part, or to the
+-- node's result. Its own points are the same in the node's web, but for its result, which is where these lead. A number that it
+-- uses and that is split is the source of the Share from which the child's supply comes.
+use Rattle.std.specs.Prelude.{◌≡◌, ℕ, zero, suc, ◌+◌, ◌-◌, ◌<◌, ◌≤◌, Bool, not, ◌&&◌, ◌||◌, List, [], ◌∷◌, ◌++◌, ◌⊎◌, length, map, Option, Some, None, nat_eq, nat_lt, slice_get, Contains, if◌then◌else◌}
 use Rattle.gos_types.specs.Types.{Type'}
 use Rattle.gos_model.specs.Typing.{Imported}
 use Rattle.gos_check.specs.declared.linear.Split.{Split}
@@ -22,13 +22,20 @@ use Rattle.gos_windows.specs.Regions.{Serving}
 use Rattle.gos_folds.specs.Folds.{Fold, Follows}
 use Rattle.gos_compile.specs.Wiring.{Types, parts_of, nodes, shares_ties, ties_of}
 use Rattle.gos_wired.specs.Wired.{Supplies, Source, Own, Supplied, Placing, IsFrom, placed, source_dot, dot_at, dot_ties, all_supply_ties, wired_web}
-use Rattle.gos_stages.specs.Inside.{numbers_inside, AreSplit, SidesAgree, AreGroundSupplies}
+use Rattle.gos_wired.specs.NodeFitting.{AreOfTypes}
+use Rattle.gos_stages.specs.Inside.{numbers_inside, AreSplit, SidesAgree}
 use Rattle.gos_stages.specs.Leading.{dot_leading}
 use Rattle.gos_stages.specs.Lodging.{Spot, Lodging, live, seen_from, lodged, lies, AreTidy}
 
+-- where a handshake of the child's result leads: to one of the node's own part, or of the node's result
+pub data Lead : Type 0 where
+  AtOwn : (shake : ℕ) → Lead
+  AtResult : (shake : ℕ) → Lead
+
 -- A child of a node: the types of numbers; the node's first part, its splits, and what stands for numbers outside it; among the
--- node's parts the place of its own part, the handshake at which that asks the child, and the place of the child's first
--- part; the child's first node, the child, and the numbers for which it has supplies.
+-- node's parts the place of its own part; where the child's handshakes lead, one after another; the place of the child's first
+-- part; the child's first node, the child, and the numbers for which it has supplies. Where a node has no own part its place is
+-- one that no Share has and no part of the child.
 pub record Child : Type 0 where
   pub types : Types
   pub first : ℕ
@@ -36,7 +43,7 @@ pub record Child : Type 0 where
   pub env : Supplies
   pub numbers : List ℕ
   pub own : ℕ
-  pub shake : ℕ
+  pub out : List Lead
   pub off : ℕ
   pub node : ℕ
   pub term : Numbered
@@ -49,9 +56,22 @@ is_used f n = nat_lt 0 (times n f.uses)
 abbrev pub lodge : Child → Lodging
 lodge f = lodged f.types f.first (is_used f) f.splits f.env
 
--- where its handshake leads
+-- where its handshakes lead; part q is the own one
+abbrev pub lead_point : ℕ → Lead → Point
+lead_point q (AtOwn s) = point (places.Part q) s
+lead_point q (AtResult s) = point places.Result s
+
 abbrev pub child_out : Child → List Point
-child_out f = point (places.Part (f.first + f.own)) f.shake ∷ []
+child_out f = map (lead_point (f.first + f.own)) f.out
+
+-- the handshake of the own part at which a child is asked that has but one
+abbrev pub asked_in : List Lead → ℕ
+asked_in [] = 0
+asked_in (AtOwn s ∷ ls) = s
+asked_in (AtResult s ∷ ls) = s
+
+abbrev pub asked : Child → ℕ
+asked f = asked_in f.out
 
 -- its web
 abbrev pub child_web : Child → Placing → Web
@@ -71,8 +91,19 @@ abbrev pub spot_dot : Option Spot → Option Dot
 spot_dot None = None
 spot_dot (Some x) = Some (Within (suc x.number) (Of x.end))
 
+-- the handshake of its result, from number k on, that leads to handshake h of the own part, or of the node's result
+abbrev pub of_own : List Lead → ℕ → ℕ → Option Dot
+of_own [] k h = None
+of_own (AtOwn s ∷ ls) k h = if nat_eq h s then Some (Within 0 (Of (ResultEnd k))) else of_own ls (suc k) h
+of_own (AtResult s ∷ ls) k h = of_own ls (suc k) h
+
+abbrev pub of_result : List Lead → ℕ → ℕ → Option Dot
+of_result [] k h = None
+of_result (AtOwn s ∷ ls) k h = of_result ls (suc k) h
+of_result (AtResult s ∷ ls) k h = if nat_eq h s then Some (Within 0 (Of (ResultEnd k))) else of_result ls (suc k) h
+
 abbrev pub asks_child : Child → ℕ → Option Dot
-asks_child f h = if nat_eq h f.shake then Some (Within 0 (Of (ResultEnd 0))) else None
+asks_child f h = of_own f.out 0 h
 
 abbrev pub is_number : Child → ℕ → Bool
 is_number f n = is_used f n || nat_lt 0 (times n (made f.term))
@@ -82,6 +113,7 @@ child_back f (Within zero (Of (PartEnd q h))) =
     if nat_eq q (f.first + f.own) then asks_child f h
     else if in_range (f.first + f.off) (length (parts_of f.types f.term)) q then Some (Within 0 (Of (PartEnd q h)))
     else spot_dot ((lodge f).home (Within 0 (Of (PartEnd q h))))
+child_back f (Within zero (Of (ResultEnd h))) = of_result f.out 0 h
 child_back f (Within zero (Node q h)) = if in_range f.node (nodes f.term) q then Some (Within 0 (Node q h)) else None
 child_back f (Within zero (Number n h)) =
     if is_number f n then Some (Within 0 (Number n h)) else spot_dot ((lodge f).home (Within 0 (Number n h)))
@@ -103,10 +135,18 @@ port_of_dot pl (Some (Within zero (Of (ResultEnd h)))) = Some (ResultEnd h)
 port_of_dot pl (Some (Within (suc n) (Of (ImportEnd q h)))) = Some (ImportEnd (pl.import n q) h)
 port_of_dot pl d = None
 
+abbrev pub lead_end : ℕ → Lead → End
+lead_end q (AtOwn s) = PartEnd q s
+lead_end q (AtResult s) = ResultEnd s
+
+abbrev pub led_end : ℕ → Option Lead → ℕ → End
+led_end q None h = ResultEnd h
+led_end q (Some l) h = lead_end q l
+
 abbrev pub child_outer : Child → Placing → Placing → End → End
 child_outer f pl plc (PartEnd k h) = PartEnd k h
 child_outer f pl plc (ImportEnd k h) = ImportEnd (pl.import ((lodge f).root (plc.origin k).number) (plc.origin k).import) h
-child_outer f pl plc (ResultEnd h) = PartEnd (pl.own f.own) f.shake
+child_outer f pl plc (ResultEnd h) = led_end (pl.own f.own) (slice_get f.out h) h
 
 -- how it lies in the node, whose plan has so many parts, numbered by pl, where its own plan is numbered by plc
 abbrev pub child_cut : Child → Placing → Placing → ℕ → Cut
@@ -145,20 +185,26 @@ own_ties f = within 0 (dot_ties (ties_of f.types (f.first + f.off) f.node f.term
 abbrev pub IsForeign : Child → Tie → Type 0
 IsForeign f t = (child_back f t.one ≡ None) × (child_back f t.other ≡ None)
 
+-- no two lead to one
+abbrev pub AreDistinct : List Lead → Type 0
+AreDistinct ls = (h k : ℕ) (l : Lead) → slice_get ls h ≡ Some l → slice_get ls k ≡ Some l → h ≡ k
+
 pub record IsChild (f : Child) (ts : List Tie) : Type 0 where
   pub tidy : AreTidy (is_used f) f.splits f.numbers
   pub agree : SidesAgree f.splits f.types
   pub split : AreSplit f.splits f.numbers
-  pub supplies : AreGroundSupplies f.types f.env f.numbers
+  pub supplies : AreOfTypes f.types f.env f.numbers
   pub scope : (n : ℕ) → Contains f.uses n → Contains (numbers_inside f.splits f.numbers) n × (times n (split_in f.splits) ≡ 0)
   pub covers : (n : ℕ) → 0 < times n (used f.term) → (0 < times n (made f.term)) ⊎ Contains f.uses n
   pub unmade : (n : ℕ) → Contains (numbers_inside f.splits f.numbers) n → times n (made f.term) ≡ 0
   pub shares_first : length f.splits ≤ f.own
-  pub own_first : f.own < f.off
+  pub off_first : length f.splits ≤ f.off
+  pub own_apart : (f.own < f.off) ⊎ (f.off + length (parts_of f.types f.term) ≤ f.own)
   pub has_shared : (t : Tie) → Contains (shared_ties f) t → Contains ts t
   pub has_own : (t : Tie) → Contains (own_ties f) t → Contains ts t
   pub only : (t : Tie) → Contains ts t → Contains (shared_ties f) t ⊎ Contains (own_ties f) t ⊎ IsForeign f t
-  pub one : count (type_of_node f.term) ≡ 1
+  pub long : length f.out ≡ count (type_of_node f.term)
+  pub distinct : AreDistinct f.out
 
 -- A tie of the child's web is a way of the node's.
 abbrev pub ChildWays : Type 0

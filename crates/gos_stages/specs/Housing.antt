@@ -8,7 +8,7 @@ use Rattle.gos_plan.specs.Kinds.{Part}
 use Rattle.gos_plan.specs.Plans.{PartEnd}
 use Rattle.gos_compile.specs.Wiring.{Types, shares}
 use Rattle.gos_wired.specs.Wired.{Supplies, Source, Own, Supplied, IsFrom, source_dot}
-use Rattle.gos_stages.specs.Inside.{numbers_inside, AreSplit, SidesAgree, AreGroundSupplies}
+use Rattle.gos_stages.specs.Inside.{numbers_inside, AreSplit}
 use Rattle.gos_stages.specs.Lodging.{Spot, Lodging, lodged, AreTidy}
 
 -- the first parts of the node are the Shares of its splits
@@ -48,8 +48,7 @@ FarIsNothing =
 
 abbrev pub FirstIsKept : Type 0
 FirstIsKept =
-    (types : Types) (i : ℕ) (inner : ℕ → Bool) (ss : List Split) (env : Supplies) (ns : List ℕ) (n k : ℕ)
-    → SidesAgree ss types → AreSplit ss ns → AreGroundSupplies types env ns → (lodged types i inner ss env).spare n k 0 ≡ false
+    (types : Types) (i : ℕ) (inner : ℕ → Bool) (ss : List Split) (env : Supplies) (n k : ℕ) → (lodged types i inner ss env).spare n k 0 ≡ false
 
 -- the part of a supply where a handshake of this source is at home
 pub record IsIn (l : Lodging) (s : Source) (h : ℕ) (z : Spot) : Type 0 where

@@ -1,20 +1,25 @@
 -- What stands for the numbers inside a node: a side of a split has the supply of what is split, behind a Share.
 --
--- Read first: Wired of gos_wired; Buffering of gos_buffers; Nodes of gos_check (`inside`). A side may be split in turn, by a
--- later split of the same node, so that a supply may stand behind several Shares.
-use Rattle.std.specs.Prelude.{◌≡◌, ℕ, List, [], ◌∷◌, nat_eq, Contains, if◌then◌else◌}
-use Rattle.gos_types.specs.Types.{Type', IsGround}
+-- Read first: Wired of gos_wired; Behind of gos_passing; Passing of gos_split; Nodes of gos_check (`inside`). A side may be split in
+-- turn, by a later split of the same node, so that a supply may stand behind several Shares. Supplies are of any type; that a side
+-- realises what is split is known where no pair stands in its type.
+use Rattle.std.specs.Prelude.{◌≡◌, ℕ, List, [], ◌∷◌, All, nat_eq, Contains, if◌then◌else◌}
+use Rattle.gos_types.specs.Types.{Type'}
 use Rattle.gos_check.specs.declared.linear.Split.{Split}
 use Rattle.gos_check.specs.Nodes.{inside}
 use Rattle.gos_check.specs.Linearity.{times, sides}
 use Rattle.gos_compile.specs.Wiring.{Types}
+use Rattle.gos_plan.specs.Plans.{Plan}
+use Rattle.gos_plan.specs.TokenBits.{LiteralFits}
+use Rattle.gos_realises.specs.Regular.{IsRegular}
 use Rattle.gos_realises.specs.Modules.{Supply}
-use Rattle.gos_buffers.specs.Buffering.{buffered, ResultIsJoined}
+use Rattle.gos_passing.specs.Behind.{passing}
 use Rattle.gos_wired.specs.Wired.{Supplies, AreRealised, terms_of}
+use Rattle.gos_wired.specs.NodeFitting.{AreOfTypes}
 
 -- a supply behind caller c of a Share
 abbrev pub behind_share : Type' → ℕ → Supply → Supply
-behind_share t c s = record s { plan = buffered t c s.plan }
+behind_share t c s = record s { plan = passing t c s.plan }
 
 -- inside one split
 abbrev pub inside_one_supply : Types → Split → Supplies → Supplies
@@ -44,18 +49,38 @@ abbrev pub SidesAgree : List Split → Types → Type 0
 SidesAgree [] types = Unit {0}
 SidesAgree (s ∷ ss) types = (types s.left ≡ types s.of) × (types s.right ≡ types s.of) × SidesAgree ss types
 
--- What stands for these numbers realises its terms, at ground types, and each handshake of its results is joined.
-pub record AreGroundSupplies (types : Types) (env : Supplies) (ns : List ℕ) : Type 0 where
-  pub realised : AreRealised types env ns
-  pub ground : (n : ℕ) → Contains ns n → IsGround (types n)
-  pub joined : (n : ℕ) → Contains ns n → ResultIsJoined (env n).plan
+-- the supplies' plans are regular, and their literals fit
+pub record IsOrdered (p : Plan) : Type 0 where
+  pub literals : All LiteralFits p.parts
+  pub regular : IsRegular p
 
--- So it is inside splits.
+abbrev pub AreOrdered : Supplies → List ℕ → Type 0
+AreOrdered env ns = (n : ℕ) → Contains ns n → IsOrdered (env n).plan
+
+-- What realises terms is so.
+abbrev pub RealisedAreOrdered : Type 0
+RealisedAreOrdered = (types : Types) (env : Supplies) (ns : List ℕ) → AreRealised types env ns → AreOrdered env ns
+
+-- Supplies of these types are so inside splits too.
+abbrev pub InsideIsOfTypes : Type 0
+InsideIsOfTypes =
+    (types : Types) (ss : List Split) (env : Supplies) (ns : List ℕ)
+    → SidesAgree ss types → AreSplit ss ns → AreOfTypes types env ns
+    → AreOfTypes types (inside_supplies types ss env) (numbers_inside ss ns)
+
+-- If they are regular, they are so there.
+abbrev pub InsideIsOrdered : Type 0
+InsideIsOrdered =
+    (types : Types) (ss : List Split) (env : Supplies) (ns : List ℕ)
+    → SidesAgree ss types → AreSplit ss ns → AreOfTypes types env ns → AreOrdered env ns
+    → AreOrdered (inside_supplies types ss env) (numbers_inside ss ns)
+
+-- And what they realise they realise there.
 abbrev pub InsideIsRealised : Type 0
 InsideIsRealised =
     (types : Types) (ss : List Split) (env : Supplies) (ns : List ℕ)
-    → SidesAgree ss types → AreSplit ss ns → AreGroundSupplies types env ns
-    → AreGroundSupplies types (inside_supplies types ss env) (numbers_inside ss ns)
+    → SidesAgree ss types → AreSplit ss ns → AreRealised types env ns
+    → AreRealised types (inside_supplies types ss env) (numbers_inside ss ns)
 
 -- The terms are those that the numbers stand for there.
 abbrev pub InsideMeans : Type 0

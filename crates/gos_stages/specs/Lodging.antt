@@ -13,7 +13,8 @@ use Rattle.gos_unions.specs.Unions.{within}
 use Rattle.gos_compile.specs.Wiring.{Types, shares_ties}
 use Rattle.gos_buffers.specs.Buffering.{end_behind}
 use Rattle.gos_wired.specs.Wired.{Supplies, Source, Own, Supplied, source_dot, dot_ties, all_supply_ties}
-use Rattle.gos_stages.specs.Inside.{inside_one_supply, inside_supplies, numbers_inside, AreSplit, SidesAgree, AreGroundSupplies}
+use Rattle.gos_wired.specs.NodeFitting.{AreOfTypes}
+use Rattle.gos_stages.specs.Inside.{inside_one_supply, inside_supplies, numbers_inside, AreSplit, SidesAgree}
 
 -- an end of the plan of a number's supply
 pub record Spot : Type 0 where
@@ -183,7 +184,7 @@ lies i l n (ResultEnd h) = Within 0 (Number n h)
 abbrev pub JointsAreWays : Type 0
 JointsAreWays =
     (types : Types) (i : ℕ) (inner : ℕ → Bool) (ss : List Split) (env : Supplies) (ns : List ℕ) (ts : List Tie) (n : ℕ) (j : Joint)
-    → AreTidy inner ss ns → SidesAgree ss types → AreSplit ss ns → AreGroundSupplies types env ns
+    → AreTidy inner ss ns → SidesAgree ss types → AreSplit ss ns → AreOfTypes types env ns
     → ((t : Tie) → Contains (within 0 (dot_ties (shares_ties i ss types)) ++ all_supply_ties types env ns) t → Contains ts t)
     → Contains (numbers_inside ss ns) n → Contains ((lodged types i inner ss env).env n).plan.joints j
     → Way ts (lies i (lodged types i inner ss env) n j.asking) (lies i (lodged types i inner ss env) n j.serving)

@@ -12,7 +12,7 @@ use Rattle.gos_webs.specs.Webs.{Dot, Tie, IsOfWeb, joint}
 use Rattle.gos_sessions.specs.Sessions.{Form, Session, own_part, own_type, run_shake, session_of}
 use Rattle.gos_windows.specs.Nodes.{Stage, IsStage, IsNode}
 use Rattle.gos_wired.specs.Wired.{Placing, dot_at}
-use Rattle.gos_stages.specs.Folding.{Child, child_back, child_cut, IsChild, IsLaid}
+use Rattle.gos_stages.specs.Folding.{Child, asked, child_back, child_cut, IsChild, IsLaid}
 use Rattle.gos_stages.specs.Regions.{HasParts, IsStaged}
 use Rattle.gos_stages.specs.Stages.{stage_of}
 
@@ -28,7 +28,7 @@ stage pl r e = stage_of e.child pl e.placing r e.plan
 -- what is known of it: the node's parts are `own`, and number d is its own part
 pub record IsCared (own : List Part) (ts : List Tie) (first : ℕ) (pl : Placing) (r : Plan) (d : ℕ) (e : Cared) : Type 0 where
   pub child : IsChild e.child ts
-  pub parts : HasParts e.child own
+  pub parts : HasParts e.child own r.outcome
   pub laid : IsLaid own e.child.numbers e.child.env pl r
   pub staged : IsStaged e.child pl e.placing r e.plan
   pub stage : IsStage r d (stage pl r e)
@@ -61,7 +61,7 @@ StagesMakeNode =
     → IsOfWeb (record { ties = ts; at = dot_at first pl }) r → IsFormed f r d
     → ((e : Cared) → Contains es e → IsCared own ts first pl r d e)
     → AreCovering f first pl r d es
-    → ((e b : Cared) → Contains es e → Contains es b → e.child.shake ≡ b.child.shake → e ≡ b)
+    → ((e b : Cared) → Contains es e → Contains es b → asked e.child ≡ asked b.child → e ≡ b)
     → ((p : Phase) (n : ℕ) (s : Session) → session_of f p n ≡ Some s
-    → (e : Cared) × Contains es e × (e.child.shake ≡ s.asked_at) × (e.plan.outcome ≡ s.ty))
+    → (e : Cared) × Contains es e × (asked e.child ≡ s.asked_at) × (e.plan.outcome ≡ s.ty))
     → IsNode r d f (map (stage pl r) es)

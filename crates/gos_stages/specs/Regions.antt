@@ -4,8 +4,9 @@
 use Rattle.std.specs.Prelude.{◌≡◌, ℕ, ◌+◌, ◌≤◌, List, length, Some, slice_get}
 use Rattle.gos_check.specs.Nodes.{type_of_node}
 use Rattle.gos_check.specs.Linearity.{times}
+use Rattle.gos_types.specs.Types.{Type'}
 use Rattle.gos_plan.specs.Kinds.{Contact, Part, contacts_of}
-use Rattle.gos_plan.specs.Plans.{Plan, contacts_of_part, turned_if}
+use Rattle.gos_plan.specs.Plans.{Plan, turned_if}
 use Rattle.gos_webs.specs.Webs.{Tie, IsOfWeb}
 use Rattle.gos_windows.specs.Regions.{IsRegion}
 use Rattle.gos_folds.specs.Folds.{joined_cut}
@@ -13,16 +14,17 @@ use Rattle.gos_compile.specs.Wiring.{parts_of}
 use Rattle.gos_wired.specs.Wired.{Placing, IsWired, dot_at}
 use Rattle.gos_stages.specs.Inside.{inside_supplies}
 use Rattle.gos_stages.specs.Housing.{HasShares}
-use Rattle.gos_stages.specs.Folding.{Child, child_cut, child_servings, IsChild, IsLaid}
+use Rattle.gos_stages.specs.Folded.{Sees}
+use Rattle.gos_stages.specs.Folding.{Lead, Child, child_cut, child_servings, IsChild, IsLaid}
 
--- The parts of the node: those of its splits first, its own, which asks the child at one handshake, and the child's.
-pub record HasParts (f : Child) (own : List Part) : Type 0 where
+-- The parts of the node, of this type: those of its splits first, its own, and the child's. A handshake of the child is seen alike
+-- where it leads.
+pub record HasParts (f : Child) (own : List Part) (t : Type') : Type 0 where
   pub shares : HasShares f.types f.splits own
-  pub own_part : (y : Part) × (slice_get own f.own ≡ Some y)
   pub child : (x : ℕ) (y : Part) → slice_get (parts_of f.types f.term) x ≡ Some y → slice_get own (f.off + x) ≡ Some y
   pub asks :
-      (k : Contact) → turned_if (slice_get (contacts_of (type_of_node f.term)) 0) ≡ Some k
-      → slice_get (contacts_of_part (slice_get own f.own)) f.shake ≡ Some k
+      (h : ℕ) (l : Lead) (k : Contact)
+      → slice_get f.out h ≡ Some l → turned_if (slice_get (contacts_of (type_of_node f.term)) h) ≡ Some k → Sees f.own own t l k
 
 -- the child's plan, numbered by plc, is wired to its supplies and lies in the node's
 pub record IsStaged (f : Child) (pl plc : Placing) (r c : Plan) : Type 0 where
@@ -32,6 +34,6 @@ pub record IsStaged (f : Child) (pl plc : Placing) (r c : Plan) : Type 0 where
 abbrev pub ChildIsStaged : Type 0
 ChildIsStaged =
     (f : Child) (own : List Part) (ts : List Tie) (pl : Placing) (r : Plan)
-    → IsChild f ts → HasParts f own → ((k : ℕ) → times k f.uses ≤ 1) → IsLaid own f.numbers f.env pl r
+    → IsChild f ts → HasParts f own r.outcome → ((k : ℕ) → times k f.uses ≤ 1) → IsLaid own f.numbers f.env pl r
     → IsOfWeb (record { ties = ts; at = dot_at f.first pl }) r
     → (plc : Placing) × (c : Plan) × IsStaged f pl plc r c

@@ -12,7 +12,8 @@ use Rattle.gos_webs.specs.Cutting.{StandsIn}
 use Rattle.gos_windows.specs.Regions.{Serving}
 use Rattle.gos_compile.specs.Wiring.{Types, shares}
 use Rattle.gos_wired.specs.Wired.{Supplies, Own, Placing, source_dot}
-use Rattle.gos_stages.specs.Inside.{numbers_inside, AreSplit, SidesAgree, AreGroundSupplies}
+use Rattle.gos_wired.specs.NodeFitting.{AreOfTypes}
+use Rattle.gos_stages.specs.Inside.{numbers_inside, AreSplit, SidesAgree}
 use Rattle.gos_stages.specs.Lodging.{Spot, serves_side, lodged, AreTidy}
 use Rattle.gos_stages.specs.Folding.{servings}
 
@@ -45,7 +46,7 @@ pub record IsSpareOf (types : Types) (i : ℕ) (inner : ℕ → Bool) (ss : List
 abbrev pub SparesAreOthers : Type 0
 SparesAreOthers =
     (types : Types) (i : ℕ) (inner : ℕ → Bool) (ss : List Split) (env : Supplies) (ns : List ℕ) (pl : Placing) (n k h : ℕ) (d : Contact)
-    → AreTidy inner ss ns → SidesAgree ss types → AreSplit ss ns → AreGroundSupplies types env ns
+    → AreTidy inner ss ns → SidesAgree ss types → AreSplit ss ns → AreOfTypes types env ns
     → Contains (numbers_inside ss ns) n → times n (split_in ss) ≡ 0 → inner n ≡ true
     → contact_at ((lodged types i inner ss env).env n).plan (PartEnd k h) ≡ Some d → (lodged types i inner ss env).spare n k h ≡ true
     → IsSpareOf types i inner ss env pl n k h

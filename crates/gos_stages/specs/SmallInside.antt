@@ -2,16 +2,16 @@
 --
 -- Read first: Inside; SmallBuffers of gos_buffers. They show that these definitions can be met and can be missed.
 use Rattle.std.specs.Prelude.{◌≡◌, List, [], ◌∷◌}
-use Rattle.gos_types.specs.Types.{Com}
+use Rattle.gos_types.specs.Types.{Com, Pair, Fun}
 use Rattle.gos_model.specs.Terms as terms
 use Rattle.gos_check.specs.declared.linear.Split.{Split}
 use Rattle.gos_compile.specs.Wiring.{Types}
 use Rattle.gos_plan.specs.SmallPlans.{skip_plan}
 use Rattle.gos_realises.specs.OtherPlans.{empty_plan}
-use Rattle.gos_wired.specs.Wired.{Supplies}
-use Rattle.gos_buffers.specs.Buffering.{buffered}
+use Rattle.gos_wired.specs.Wired.{Supplies, AreRealised}
 use Rattle.gos_buffers.specs.SmallBuffers.{shared_skip}
-use Rattle.gos_stages.specs.Inside.{inside_supplies, AreSplit, AreGroundSupplies}
+use Rattle.gos_passing.specs.Behind.{passing}
+use Rattle.gos_stages.specs.Inside.{inside_supplies, AreSplit}
 
 -- every number is a command, and stands for `skip`
 abbrev pub commands : Types
@@ -34,8 +34,8 @@ two_splits = record { of = 0; left = 1; right = 2 } ∷ record { of = 1; left = 
 abbrev pub BothHaveShares : Type 0
 BothHaveShares =
     ((inside_supplies commands one_split skips 1).plan ≡ shared_skip)
-    × ((inside_supplies commands one_split skips 2).plan ≡ buffered Com 1 skip_plan)
-    × ((inside_supplies commands two_splits skips 4).plan ≡ buffered Com 1 (buffered Com 0 skip_plan))
+    × ((inside_supplies commands one_split skips 2).plan ≡ passing Com 1 skip_plan)
+    × ((inside_supplies commands two_splits skips 4).plan ≡ passing Com 1 (passing Com 0 skip_plan))
 
 -- a number for which nothing stands isn't split
 abbrev pub UnboundIsNotSplit : Type 0
@@ -43,4 +43,4 @@ UnboundIsNotSplit = AreSplit one_split (1 ∷ []) → ⊥
 
 -- what has no joints is no supply
 abbrev pub EmptyIsNone : Type 0
-EmptyIsNone = AreGroundSupplies commands nothings (0 ∷ []) → ⊥
+EmptyIsNone = AreRealised commands nothings (0 ∷ []) → ⊥

@@ -1,5 +1,6 @@
 // What the definitions give. Each theorem is the contract of a function that does nothing.
-ghost use Rattle.gos_stages.specs.Inside.{InsideIsRealised, InsideMeans, OthersStay};
+ghost use Rattle.gos_stages.specs.Inside.{InsideIsOfTypes, InsideIsOrdered, InsideIsRealised, InsideMeans, OthersStay, RealisedAreOrdered};
+ghost use Rattle.gos_stages.specs.InsideRegular.{InsideIsRegular, PassingIsRegularOf};
 ghost use Rattle.gos_stages.specs.Covering.{LiveIsCovered, OwnIsCovered, ServedIsCovered};
 ghost use Rattle.gos_stages.specs.Folded.{ChildIsFolded, ChildIsPart};
 ghost use Rattle.gos_stages.specs.Folding.{ChildStays, ChildWays};
@@ -10,14 +11,28 @@ ghost use Rattle.gos_stages.specs.Nodes.{StagesMakeNode};
 ghost use Rattle.gos_stages.specs.Ranges.{TiesStayWithin};
 ghost use Rattle.gos_stages.specs.Regions.{ChildIsStaged};
 ghost use Rattle.gos_stages.specs.Served.{ServingsServe, SparesAreOthers};
-ghost use Rattle.gos_stages.specs.Stages.{ChildIsStage};
+ghost use Rattle.gos_stages.specs.Seated.{ServedIsLoyal, SuppliesAreSeated};
+ghost use Rattle.gos_stages.specs.Stages.{ChildIsStage, ServingsAreLoyal};
+ghost use Rattle.gos_stages.specs.SmallLeads.{LeadsStand, TwiceIsNotDistinct, TwoAreDistinct};
 ghost use Rattle.gos_stages.specs.SmallInside.{BothHaveShares, EmptyIsNone, UnboundIsNotSplit};
 
-/// Inside the splits of a node, what stands for its numbers realises the terms that they stand for there.
+/// Inside the splits of a node, what stands for its numbers has their types, is regular, and realises the terms that they
+/// stand for there.
 pub fn supplies_inside()
+    ensures types { InsideIsOfTypes }
+    ensures ordered { InsideIsOrdered }
+    ensures are_ordered { RealisedAreOrdered }
     ensures realised { InsideIsRealised }
     ensures means { InsideMeans }
     ensures others { OthersStay }
+{
+    gos_sided::passing();
+}
+
+/// A plan of any type that is regular and rests is such behind a Share; so supplies that are such are so inside splits.
+pub fn regular_inside()
+    ensures passing { PassingIsRegularOf }
+    ensures inside { InsideIsRegular }
 {}
 
 /// Inside a split of `skip` both sides stand for it behind a Share. A number that nothing stands for isn't split; a plan
@@ -26,7 +41,9 @@ pub fn small_insides()
     ensures both { BothHaveShares }
     ensures unbound { UnboundIsNotSplit }
     ensures empty { EmptyIsNone }
-{}
+{
+    gos_joints::ground();
+}
 
 /// The ties of a term whose handshakes lead elsewhere are those that lead to a result, with other points in its place.
 pub fn ties_lead()
@@ -57,6 +74,13 @@ pub fn children_fold()
     ensures stage { ChildIsStage }
 {}
 
+/// A handshake to which one of a child leads stands for that one; no two lead to one.
+pub fn small_leads()
+    ensures stand { LeadsStand }
+    ensures two { TwoAreDistinct }
+    ensures twice { TwiceIsNotDistinct }
+{}
+
 /// The parts and imports of what stands for numbers inside splits are parts of the node and of supplies outside, and what is
 /// at home there is one of its parts.
 pub fn parts_lodge()
@@ -72,6 +96,14 @@ pub fn parts_lodge()
 pub fn shares_serve()
     ensures serve { ServingsServe }
     ensures others { SparesAreOthers }
+{}
+
+/// What stands for a number lies in what is wired to it, up to its result. So the Shares that serve a child are loyal to it, at
+/// any type.
+pub fn shares_are_loyal()
+    ensures seated { SuppliesAreSeated }
+    ensures served { ServedIsLoyal }
+    ensures loyal { ServingsAreLoyal }
 {}
 
 /// A wired node whose children cover it is a node of their stages.

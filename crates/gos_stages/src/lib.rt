@@ -6,6 +6,6 @@
 mod laws;
 
 pub use laws::{
-    children_cover, children_fold, parts_lodge, shares_serve, small_insides, stages_make_nodes,
-    supplies_inside, supplies_lodge, ties_lead,
+    children_cover, children_fold, parts_lodge, regular_inside, shares_are_loyal, shares_serve,
+    small_insides, small_leads, stages_make_nodes, supplies_inside, supplies_lodge, ties_lead,
 };

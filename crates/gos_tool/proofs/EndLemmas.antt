@@ -14,8 +14,11 @@ use Rattle.gos_command.specs.declared.stop.Stop.TheVariants as stops
 use Rattle.gos_objects.specs.Checked.{IsSourceFault}
 use Rattle.gos_circuits.specs.Linked.{RejectsLink}
 use Rattle.gos_simulate.specs.Sim.{IsSimFault}
-use Rattle.gos_tool.specs.Command.{Command, Check, Compile, Link, Sim, Build, Means}
-use Rattle.gos_tool.specs.Run.{IsDone, IsRejected, IsCutShort, EndsDone, EndsRejected, IsUnsaid, IsUntold}
+use Rattle.gos_build.specs.Headline.{Headline}
+use Rattle.gos_build.specs.Paced.{HeadlineHolds}
+use Rattle.gos_tool.specs.Command.{Command, Check, Compile, Link, Sim, Build, Demo, Means}
+use Rattle.gos_tool.proofs.WordLemmas.{levels_in, levels_back}
+use Rattle.gos_tool.specs.Run.{IsDone, IsRejected, IsCutShort, KeepsOthers, EndsDone, EndsRejected, IsUnsaid, IsUntold}
 
 -- a command is done only where its work is
 pub ends_done : (words : List Word) (old new : Option Files) (written printed : Option (List ℕ)) (c : Command) (ended : Result Report Stop) (status : Status)
@@ -36,7 +39,8 @@ third (a ∷ b ∷ c ∷ letters) = c
 third letters = 0
 
 abbrev with_one_file : ℕ → Word → Command
-with_one_file letter file = if nat_eq letter 101 then Check file else (if nat_eq letter 110 then Link file else Build file)
+with_one_file letter file =
+    if nat_eq letter 101 then Check file else (if nat_eq letter 110 then Link file else (if nat_eq letter 105 then Build file else Demo (levels_in file)))
 
 abbrev read_back : List Word → Option Command
 read_back (verb ∷ file ∷ []) = Some (with_one_file (third verb) file)
@@ -50,10 +54,25 @@ is_read_back words (Compile source object) means = ap read_back means.0
 is_read_back words (Link own) means = ap read_back means.0
 is_read_back words (Sim net pulses trace) means = ap read_back means.0
 is_read_back words (Build own) means = ap read_back means.0
+is_read_back words (Demo levels) means = ap read_back means.0 ∙ ap (λ (n : ℕ). Some (Demo n)) (levels_back levels means.1.1)
 
 -- words are one command at most
 same_meaning : (words : List Word) (c d : Command) → Means words c → Means words d → c ≡ d
 same_meaning words c d m n = let same : Some c ≡ Some d = sym (is_read_back words c m) ∙ is_read_back words d n in cc
+
+-- what holds of the files where a build is done
+pub headline : HeadlineHolds → (words : List Word) (old new : Option Files) (written printed : Option (List ℕ)) (own : Word)
+    → Means words (Build own) → EndsDone words old new written printed → IfSome old (λ files. IfSome new (λ held. Headline files held own))
+headline law words None new written printed own means done = tt
+headline law words (Some files) None written printed own means done = tt
+headline law words (Some files) (Some held) written printed own means done =
+    let build : IsDone (Build own) (Some files) (Some held) done.report =
+    subst (λ (c : Command). IsDone c (Some files) (Some held) done.report) (same_meaning words done.command (Build own) done.means means) done.done in
+    law files held own done.report build
+
+-- what is known of all other files, of one command and so of any that the words are
+pub kept : (words : List Word) (old new : Option Files) (c d : Command) → Means words c → Means words d → KeepsOthers c old new → KeepsOthers d old new
+kept words old new c d m n keeps = subst (λ (e : Command). KeepsOthers e old new) (same_meaning words c d m n) keeps
 
 -- a command whose line could not be printed
 unsaid_as : (old new : Option Files) (written printed : Option (List ℕ)) (c : Command) (ended : Result Report Stop) (status : Status)

@@ -1,6 +1,9 @@
--- Words that are as many as a command has.
-use Rattle.std.proofs.Common.{◌≡◌, ◌≤◌, ◌<◌, List, [], ◌∷◌, length, get_or, String, Global, arith, sym, refl, ◌∙◌, ap, ℕ}
+-- Words that are as many as a command has, and the number that one of them is.
+use Rattle.std.proofs.Common.{◌≡◌, ◌≤◌, ◌<◌, List, [], ◌∷◌, length, get_or, String, Global, arith, sym, refl, ◌∙◌, ap, ℕ, zero, suc, ◌-◌}
 use Rattle.std.specs.Prelude.{string_bytes}
+use Rattle.std.specs.Fmt.{decimal}
+use Rattle.gos_lines.specs.Lines.{Word}
+use Rattle.gos_demo.proofs.PlainLemmas.{digits_of, same_digits}
 use Rattle.gos_tool.specs.Command.{texts}
 
 four : (words : List (String Global)) (d e f h : String Global) → 4 ≤ length words → length words < 5 → words ≡ get_or words 0 d ∷ get_or words 1 e ∷ get_or words 2 f ∷ get_or words 3 h ∷ []
@@ -35,3 +38,28 @@ pub three_texts : (words : List (String Global)) (a b c : String Global) (p q r 
 three_texts words a b c p q r some few ea eb ec ep eq er =
     let all : words ≡ a ∷ b ∷ c ∷ [] = three words a b c some few ∙ (λ i. sym ea i ∷ sym eb i ∷ sym ec i ∷ []) in
     ap texts all ∙ (λ i. sym ep i ∷ sym eq i ∷ sym er i ∷ [])
+
+-- the number that one or two digits are, and that of levels
+abbrev pub levels_in : Word → ℕ
+levels_in (digit ∷ []) = digit - 48
+levels_in (ten ∷ digit ∷ []) = digit - 38
+levels_in word = 0
+
+in_digits : (n : ℕ) → n ≤ 12 → levels_in (digits_of n) ≡ n
+in_digits zero few = refl
+in_digits (suc zero) few = refl
+in_digits (suc (suc zero)) few = refl
+in_digits (suc (suc (suc zero))) few = refl
+in_digits (suc (suc (suc (suc zero)))) few = refl
+in_digits (suc (suc (suc (suc (suc zero))))) few = refl
+in_digits (suc (suc (suc (suc (suc (suc zero)))))) few = refl
+in_digits (suc (suc (suc (suc (suc (suc (suc zero))))))) few = refl
+in_digits (suc (suc (suc (suc (suc (suc (suc (suc zero)))))))) few = refl
+in_digits (suc (suc (suc (suc (suc (suc (suc (suc (suc zero))))))))) few = refl
+in_digits (suc (suc (suc (suc (suc (suc (suc (suc (suc (suc zero)))))))))) few = refl
+in_digits (suc (suc (suc (suc (suc (suc (suc (suc (suc (suc (suc zero))))))))))) few = refl
+in_digits (suc (suc (suc (suc (suc (suc (suc (suc (suc (suc (suc (suc zero)))))))))))) few = refl
+in_digits (suc (suc (suc (suc (suc (suc (suc (suc (suc (suc (suc (suc (suc n))))))))))))) few = absurd (omega (arith, few))
+
+pub levels_back : (n : ℕ) → n ≤ 12 → levels_in (decimal n) ≡ n
+levels_back n few = ap levels_in (same_digits n few) ∙ in_digits n few

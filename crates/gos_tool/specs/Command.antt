@@ -1,16 +1,19 @@
 -- The commands, and their words.
 use Rattle.std.specs.Prelude.{String, string_bytes, ◌≡◌, ◌≢◌, ◌++◌, ℕ, List, [], ◌∷◌, map, codes}
 use Rattle.std.specs.Global.{Global}
+use Rattle.std.specs.Fmt.{decimal}
 use Rattle.gos_outside.specs.FileName.{IsFileName}
 use Rattle.gos_lines.specs.Lines.{Word}
+use Rattle.gos_demo.specs.DemoFiles.{IsLevelCount}
 
--- a command, with the files that its words name
+-- a command, with the files that its words name, or the number
 pub data Command : Type 0 where
   Check : (source : Word) → Command
   Compile : (source object : Word) → Command
   Link : (own : Word) → Command
   Sim : (net pulses trace : Word) → Command
   Build : (own : Word) → Command
+  Demo : (levels : ℕ) → Command
 
 -- the words as their bytes
 abbrev pub texts : List (String Global) → List Word
@@ -26,6 +29,7 @@ Means words (Sim net pulses trace) =
     (words ≡ codes "sim" ∷ net ∷ pulses ∷ trace ∷ []) × IsFileName net × IsFileName pulses × IsFileName trace
     × (trace ≢ net) × (trace ≢ pulses)
 Means words (Build own) = (words ≡ codes "build" ∷ own ∷ []) × IsFileName own
+Means words (Demo levels) = (words ≡ codes "demo" ∷ decimal levels ∷ []) × IsLevelCount levels
 
 -- the words are no command
 abbrev pub MeanNothing : List Word → Type 0
@@ -33,4 +37,4 @@ MeanNothing words = (c : Command) → Means words c → ⊥
 
 -- the line for words that are no command
 abbrev pub usage_line : List ℕ
-usage_line = codes "usage: gos check SRC | compile SRC OBJ | link BUILD | sim NET PULSES TRACE | build BUILD" ++ 10 ∷ []
+usage_line = codes "usage: gos check SRC | compile SRC OBJ | link BUILD | sim NET PULSES TRACE | build BUILD | demo N" ++ 10 ∷ []

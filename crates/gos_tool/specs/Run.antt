@@ -1,9 +1,10 @@
 -- How the tool's commands end.
 --
--- Read first: Command; Checked and Compiled of gos_objects; Linked of gos_circuits; Sim of gos_simulate; Built of gos_build; Lines
+-- Read first: Command; Checked and Compiled of gos_objects; Linked of gos_circuits; Sim of gos_simulate; Built of gos_build; Demo of gos_demo; Lines
 -- of gos_command. `old` and `new` are the files of the store before and after, `written` and `printed` the bytes of the sink.
 use Rattle.std.specs.Prelude.{◌≡◌, ◌⊎◌, ℕ, List, Option, IfSome}
 use Rattle.gos_outside.specs.Files.{Files, SameBut}
+use Rattle.gos_outside.specs.OtherFiles.{OthersSame}
 use Rattle.gos_outside.specs.Faults.{LastFault, ReadFault}
 use Rattle.gos_outside.specs.Written.{appended, AppendsPrefix}
 use Rattle.gos_lines.specs.Lines.{Word}
@@ -18,7 +19,9 @@ use Rattle.gos_circuits.specs.Linked.{IsLinkDone, RejectsLink, IsLinkCall, IsLin
 use Rattle.gos_simulate.specs.Sim.{IsSimDone, IsSimFault, IsSimCall}
 use Rattle.gos_build.specs.Built as building
 use Rattle.gos_build.specs.Built.{IsBuilt, RejectsBuild, IsBuildCall, IsBuildCutShort}
-use Rattle.gos_tool.specs.Command.{Command, Check, Compile, Link, Sim, Build, Means}
+use Rattle.gos_demo.specs.Demo as showing
+use Rattle.gos_demo.specs.Demo.{IsDemoDone, IsDemoRejected, IsDemoCall, IsDemoCutShort}
+use Rattle.gos_tool.specs.Command.{Command, Check, Compile, Link, Sim, Build, Demo, Means}
 
 -- all that the command is to do is done, with this report
 abbrev pub IsDone : Command → Option Files → Option Files → Report → Type 0
@@ -27,6 +30,7 @@ IsDone (Compile source object) old new report = IfSome old (λ files. IsCompiled
 IsDone (Link own) old new report = IsLinkDone old new own report
 IsDone (Sim net pulses trace) old new report = IsSimDone old new net pulses trace report
 IsDone (Build own) old new report = IfSome old (λ files. IsBuilt files new own report)
+IsDone (Demo levels) old new report = IfSome old (λ files. IsDemoDone files new levels report)
 
 -- The command rejects a file for this fault, with this line: the first that it finds.
 abbrev pub IsRejected : Command → Option Files → Option Files → Fault → List ℕ → Type 0
@@ -37,6 +41,7 @@ IsRejected (Link own) old new fault line = (new ≡ old) × IfSome old (λ files
 IsRejected (Sim net pulses trace) old new fault line =
     (new ≡ old) × ((fault.file ≡ net) ⊎ (fault.file ≡ pulses)) × IfSome old (λ files. IsSimFault files net pulses fault line)
 IsRejected (Build own) old new fault line = IfSome old (λ files. RejectsBuild files new own fault line)
+IsRejected (Demo levels) old new fault line = IfSome old (λ files. IsDemoRejected files new levels fault line)
 
 -- The command makes this call of the store, after all that is judged before it was right, and this is what it wrote before.
 abbrev pub IsCall : Command → Option Files → Option Files → LastFault → Type 0
@@ -45,6 +50,7 @@ IsCall (Compile source object) old new fault = IsCompileCall old new source obje
 IsCall (Link own) old new fault = IsLinkCall old new own fault
 IsCall (Sim net pulses trace) old new fault = IsSimCall old new net pulses trace fault
 IsCall (Build own) old new fault = IfSome old (λ files. IsBuildCall files new own fault)
+IsCall (Demo levels) old new fault = IfSome old (λ files. IsDemoCall files new levels fault)
 
 -- What the command leaves where memory runs out before its end: the first of its files, each as where all is done.
 abbrev pub IsCutShort : Command → Option Files → Option Files → Type 0
@@ -53,6 +59,7 @@ IsCutShort (Compile source object) old new = new ≡ old
 IsCutShort (Link own) old new = IsLinkCutShort old new own
 IsCutShort (Sim net pulses trace) old new = new ≡ old
 IsCutShort (Build own) old new = IfSome old (λ files. IsBuildCutShort files new own)
+IsCutShort (Demo levels) old new = IfSome old (λ files. IsDemoCutShort files new levels)
 
 -- all files but those that the command writes are as they were
 abbrev pub KeepsOthers : Command → Option Files → Option Files → Type 0
@@ -61,6 +68,7 @@ KeepsOthers (Compile source object) old new = SameBut object old new
 KeepsOthers (Link own) old new = linking.KeepsUnnamed own old new
 KeepsOthers (Sim net pulses trace) old new = SameBut trace old new
 KeepsOthers (Build own) old new = building.KeepsUnnamed own old new
+KeepsOthers (Demo levels) old new = OthersSame (showing.written_by levels) old new
 
 -- the words are a command, which is done, and the line that tells so was printed
 pub record EndsDone (words : List Word) (old new : Option Files) (written printed : Option (List ℕ)) : Type 0 where

@@ -1,6 +1,6 @@
 // The commands and their words.
 
-ghost use Rattle.std.specs.Prelude.{◌≡◌, ◌∷◌, [], IfOk, IfErr, IsErrOf, MatchOption};
+ghost use Rattle.std.specs.Prelude.{◌≡◌, ◌≢◌, ◌∷◌, [], IfOk, IfErr, IsErrOf, MatchOption, codes};
 ghost use Rattle.gos_outside.specs.Faults.{Rose};
 ghost use Rattle.gos_command.specs.Ends.{IfStopped, IsTold};
 ghost use Rattle.gos_tool.specs.Command.{texts, Means, MeanNothing};
@@ -10,12 +10,13 @@ ghost use Rattle.gos_tool.specs.Run.{IsDone, IsRejected, IsCall, IsCutShort, Kee
 use gos_build::build;
 use gos_circuits::link_build;
 use gos_command::{Report, Stop};
+use gos_demo::{demo, levels_of};
 use gos_objects::{check_source, compile_source};
 use gos_outside::{Store, is_file_name};
 use gos_simulate::sim;
 use std::alloc::Global;
 
-/// A command, with the files that its words name.
+/// A command, with the files that its words name, or the number.
 #[derive(Clone, Copy)]
 pub enum Command<'a> {
     /// `check SRC`.
@@ -41,6 +42,10 @@ pub enum Command<'a> {
     Build {
         own: &'a [u8],
     },
+    /// `demo N`.
+    Demo {
+        levels: u64,
+    },
 }
 
 /// The command that the words are.
@@ -57,7 +62,7 @@ pub fn command_of(words: &[String]) -> Option<Command<'_>>
         [verb, source, object] => {
             compile_of(verb.as_bytes(), source.as_bytes(), object.as_bytes())
         }
-        [verb, file] => one_file_of(verb.as_bytes(), file.as_bytes()),
+        [verb, word] => one_word_of(verb.as_bytes(), word.as_bytes()),
         _ => None,
     }
 }
@@ -92,7 +97,26 @@ fn compile_of<'a>(verb: &[u8], source: &'a [u8], object: &'a [u8]) -> Option<Com
     Some(Command::Compile { source, object })
 }
 
+fn one_word_of<'a>(verb: &[u8], word: &'a [u8]) -> Option<Command<'a>>
+    ensures { MatchOption result (MeanNothing (verb.now ∷ word.now ∷ [])) (λ command. Means (verb.now ∷ word.now ∷ []) (meant command)) }
+{
+    if verb == b"demo".as_slice() {
+        return demo_of(word);
+    }
+    one_file_of(verb, word)
+}
+
+fn demo_of<'a>(word: &[u8]) -> Option<Command<'a>>
+    ensures { MatchOption result (MeanNothing (codes "demo" ∷ word.now ∷ [])) (λ command. Means (codes "demo" ∷ word.now ∷ []) (meant command)) }
+{
+    match levels_of(word) {
+        Some(levels) => Some(Command::Demo { levels }),
+        None => None,
+    }
+}
+
 fn one_file_of<'a>(verb: &[u8], file: &'a [u8]) -> Option<Command<'a>>
+    requires { verb.now ≢ codes "demo" }
     ensures { MatchOption result (MeanNothing (verb.now ∷ file.now ∷ [])) (λ command. Means (verb.now ∷ file.now ∷ []) (meant command)) }
 {
     if !is_file_name(file) {
@@ -133,5 +157,6 @@ pub fn run_command<S: Store>(
         Command::Link { own } => link_build(alloc, own, store),
         Command::Sim { net, pulses, trace } => sim(alloc, net, pulses, trace, store),
         Command::Build { own } => build(alloc, own, store),
+        Command::Demo { levels } => demo(alloc, levels, store),
     }
 }

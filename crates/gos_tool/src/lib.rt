@@ -2,19 +2,22 @@
 //
 // `run` is the top call. It knows the outside only as a store of files and a sink of bytes. What it promises is said in
 // specs/: Command (the words), Run (how each command ends). The commands are crates of their own: `check` and `compile`
-// gos_objects, `link` gos_circuits, `sim` gos_simulate, `build` gos_build.
+// gos_objects, `link` gos_circuits, `sim` gos_simulate, `build` gos_build, `demo` gos_demo.
 #![tactic(auto)]
 
-ghost use Rattle.std.specs.Prelude.{◌≡◌, ◌≢◌};
+ghost use Rattle.std.specs.Prelude.{◌≡◌, ◌≢◌, IfSome};
 ghost use Rattle.gos_outside.specs.Faults.{Rose};
 ghost use Rattle.gos_outside.specs.Written.{appended, AppendsPrefix};
 ghost use Rattle.gos_command.specs.Ends.{IfRejected, IsSaid};
-ghost use Rattle.gos_tool.specs.Command.{Command as Meaning, texts, Means, MeanNothing, usage_line};
+ghost use Rattle.gos_lines.specs.Lines.{Word};
+ghost use Rattle.gos_build.specs.Headline.{Headline};
+ghost use Rattle.gos_tool.specs.Command.{Command as Meaning, Build, texts, Means, MeanNothing, usage_line};
 ghost use Rattle.gos_tool.specs.Run.{IsCall, KeepsOthers, EndsDone, EndsRejected, IsUnsaid, IsUntold};
 
 mod command;
 
 use command::{command_of, run_command};
+use gos_build::headlines;
 pub use gos_command::{Cause, Fault, Status};
 use gos_command::{finish, say};
 pub use gos_link::FileName;
@@ -28,7 +31,8 @@ use std::alloc::Global;
 /// plans, and writes the netlist of a circuit of the whole and its Verilog text. `sim NET PULSES TRACE` reads a netlist and a
 /// pulse file, runs the netlist and writes the trace. `build BUILD` reads the build file, compiles the source of each instance
 /// as `compile` does, links their plans and writes the circuit as `link` does, and runs it as `sim` does; it takes modules of
-/// ground types. Each status but `NoMemory` has its cause; want of memory may end a command anywhere.
+/// ground types. `demo N` writes the files of a demo of N levels, and then does what `build demo.txt` does. Each status but
+/// `NoMemory` has its cause; want of memory may end a command anywhere.
 pub fn run<S: Store, O: Sink>(alloc: Global, words: &[String], store: &mut S, out: &mut O) -> Status
     // Other words are answered with the usage line, and no file is touched.
     ensures usage { result ≡ Status.Usage → MeanNothing (texts words.now) }
@@ -40,6 +44,11 @@ pub fn run<S: Store, O: Sink>(alloc: Global, words: &[String], store: &mut S, ou
     // its instance's source, the netlist file that of a circuit of the linked plans, the Verilog file its Verilog text, and the
     // trace file its run under the pulse file.
     ensures done { result ≡ Status.Done → EndsDone (texts words.now) (S.contents store.old) (S.contents store.new) (O.written out.old) (O.written out.new) }
+
+    // The headline: where a build is done, the netlist and the Verilog text that were written are one circuit without a
+    // combinational cycle, and for all inputs that keep the protocol it keeps pace with the program of the linked modules.
+    ensures headline { result ≡ Status.Done → (own : Word) → Means (texts words.now) (Build own)
+        → IfSome (S.contents store.old) (λ old. IfSome (S.contents store.new) (λ new. Headline old new own)) }
 
     // A file is rejected only for the first fault that is found, and its line is printed.
     ensures rejected { IfRejected result (EndsRejected (texts words.now) (S.contents store.old) (S.contents store.new)
@@ -71,12 +80,13 @@ pub fn run<S: Store, O: Sink>(alloc: Global, words: &[String], store: &mut S, ou
 {
     match command_of(words) {
         Some(command) => {
+            headlines();
             let ended = run_command(alloc, command, store);
             finish(alloc, ended, out)
         }
         None => say(
             alloc,
-            b"usage: gos check SRC | compile SRC OBJ | link BUILD | sim NET PULSES TRACE | build BUILD\n",
+            b"usage: gos check SRC | compile SRC OBJ | link BUILD | sim NET PULSES TRACE | build BUILD | demo N\n",
             Status::Usage,
             out,
         ),

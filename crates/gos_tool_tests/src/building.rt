@@ -358,7 +358,7 @@ fn no_words_are_answered_with_the_usage(rt: HostRuntime) -> Result<(), Fail> {
     assert_eq!(rt; status.code(), 1);
     assert!(rt;
         out.bytes()
-            == b"usage: gos check SRC | compile SRC OBJ | link BUILD | sim NET PULSES TRACE | build BUILD\n".as_slice()
+            == b"usage: gos check SRC | compile SRC OBJ | link BUILD | sim NET PULSES TRACE | build BUILD | demo N\n".as_slice()
     );
     Ok(())
 }

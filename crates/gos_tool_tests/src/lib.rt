@@ -8,6 +8,8 @@ mod building;
 #[cfg(test)]
 mod compiling;
 #[cfg(test)]
+mod demo;
+#[cfg(test)]
 mod linking;
 #[cfg(test)]
 mod rows;

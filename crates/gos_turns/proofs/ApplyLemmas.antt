@@ -21,9 +21,12 @@ use Rattle.gos_turns.proofs.TurnedLemmas.{res, to_each, result_changed, in_resul
 use Rattle.gos_turns.proofs.PassLemmas.{StandsForImport, StandsForArgument, IsPair, Composes, passes_turns}
 use Rattle.gos_turns.proofs.LinkLemmas.{of_results, in_results}
 use Rattle.gos_turns.proofs.WholeLemmas.{joining_is_regular}
+use Rattle.gos_turns.specs.Rests.{Rests}
+use Rattle.gos_turns.specs.Resting.{ApplyingRests}
+use Rattle.gos_turns.proofs.JoinedRestLemmas.{joining_rests}
 
 module _ (a b : Type') (p q r : Plan) (p_type : p.outcome ≡ Fun a b) (q_type : q.outcome ≡ a) where
-  ported : LinksArePorts (applying a b p q)
+  pub ported : LinksArePorts (applying a b p q)
   ported l has = let (h, low, high, same) = of_results 1 0 (count a) l has in subst (λ (x : Link). IsPortEnd x.one.end × IsPortEnd x.other.end) (sym same) (tt, tt)
 
   stands : StandsForArgument (applying a b p q) 0 p 1 q
@@ -58,10 +61,10 @@ module _ (a b : Type') (p q r : Plan) (p_type : p.outcome ≡ Fun a b) (q_type :
   parent (suc zero) z at = let same : q ≡ z = cc at in inr (inr (subst (StandsForArgument (applying a b p q) 0 p 1) same stands))
   parent (suc (suc m)) z at = absurd (cc at)
 
-  fun_turns : (P : List Pass) → IsTurned p P → KeepsTurnsOf (Fun a b) (res P)
+  pub fun_turns : (P : List Pass) → IsTurned p P → KeepsTurnsOf (Fun a b) (res P)
   fun_turns P turned = subst (λ (t : Type'). KeepsTurnsOf t (res P)) p_type (to_each p P turned).1
 
-  in_rest : (P : List Pass) (h : ℕ) (c : Contact) (way : Direction) → IsTurned p P → slice_get (contacts_of b) h ≡ Some c → way_taken c.role ≡ way
+  pub in_rest : (P : List Pass) (h : ℕ) (c : Contact) (way : Direction) → IsTurned p P → slice_get (contacts_of b) h ≡ Some c → way_taken c.role ≡ way
       → KeepsTurnsOf b (beyond (count a) (res (pass (ResultEnd (count a + h)) way ∷ P))) → IsTurned p (pass (ResultEnd (count a + h)) way ∷ P)
   in_rest P h c way turned there ways keeps =
       in_result p P (count a + h) c way turned contact ways (subst (λ (t : Type'). KeepsTurnsOf t new) (sym p_type) (first, keeps, leads))
@@ -103,7 +106,7 @@ module _ (a b : Type') (p q r : Plan) (p_type : p.outcome ≡ Fun a b) (q_type :
           still_busy b (beyond (count a) (res P)) (beyond (count a) new) h c way changed_b there ways before.1
           (before.2 (some_agree (count a) (res P) new same_a ∙ busy))
 
-  composes : Composes (applying a b p q) r
+  pub composes : Composes (applying a b p q) r
   composes =
       record {
         giver = p;
@@ -116,7 +119,7 @@ module _ (a b : Type') (p q r : Plan) (p_type : p.outcome ≡ Fun a b) (q_type :
             fun_busy a b (res (P 0)) (fun_turns (P 0) turned) (subst (λ (t : Type'). some_open (count t) (res (P 0)) ≡ true) p_type busy);
       }
 
-  all_of : (Q : Plan → Type 0) → Q p → Q q → (k : ℕ) (z : Plan) → slice_get (p ∷ q ∷ []) k ≡ Some z → Q z
+  pub all_of : (Q : Plan → Type 0) → Q p → Q q → (k : ℕ) (z : Plan) → slice_get (p ∷ q ∷ []) k ≡ Some z → Q z
   all_of Q of_p of_q zero z at = let same : p ≡ z = cc at in subst Q same of_p
   all_of Q of_p of_q (suc zero) z at = let same : q ≡ z = cc at in subst Q same of_q
   all_of Q of_p of_q (suc (suc k)) z at = absurd (cc at)
@@ -128,3 +131,10 @@ applying_is_regular a b p q r p_type q_type p_literals q_literals p_regular q_re
     joining_is_regular (applying a b p q) r joined.fits ports joined.joining (all_of a b p q r p_type q_type IsRegular p_regular q_regular)
     (all_of a b p q r p_type q_type (λ (z : Plan). All LiteralFits z.parts) p_literals q_literals)
     (passes_turns (applying a b p q) r joined.fits ports joined.joining parts)
+
+-- and rest where both do
+pub applying_rests : ApplyingRests
+applying_rests a b p q r p_type q_type p_literals q_literals p_regular q_regular p_rests q_rests joined =
+    joining_rests (applying a b p q) r joined.fits (ported a b p q r p_type q_type) joined.joining (all_of a b p q r p_type q_type IsRegular p_regular q_regular)
+    (all_of a b p q r p_type q_type (λ (z : Plan). All LiteralFits z.parts) p_literals q_literals) (all_of a b p q r p_type q_type Rests p_rests q_rests)
+    (composes a b p q r p_type q_type)

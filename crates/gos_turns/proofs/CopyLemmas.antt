@@ -11,17 +11,20 @@ use Rattle.gos_types.specs.Types.{Type'}
 use Rattle.gos_types.specs.Handshakes.{turned}
 use Rattle.gos_netlist.specs.Events.{Direction, Request, Answer}
 use Rattle.gos_plan.specs.Kinds.{Part, Contact, contacts_of, turned_contact}
-use Rattle.gos_plan.specs.Plans.{End, PartEnd, Plan, IsRight, contact_at, contacts_of_part}
+use Rattle.gos_plan.specs.Plans.{End, PartEnd, ImportEnd, ResultEnd, Plan, IsRight, contact_at, contacts_of_part}
 use Rattle.gos_plan.specs.Tokens.{Tokens, Element, Fire, Out, In, IsPortEnd, places_of, held_at, token_at, way_taken, way_put, firing_of, Passes, Runs, IsIdle}
 use Rattle.gos_plan.specs.Orderly.{Open, none_open, named_by, after_taken, after_put, ComesWell, AllWelcome, OrderlyFrom}
-use Rattle.gos_plan.proofs.JointLemmas.{IsIn, same_itself, stands_there}
+use Rattle.gos_plan.proofs.JointLemmas.{IsIn, fits, same_itself, stands_there}
 use Rattle.gos_realises.specs.Regular.{Pass, pass, way_in, way_out, is_open, is_request, count, some_open, KeepsTurnsOf, ComesInTurn, KeepsTurns, InputsKeepTurns, OutputsKeepTurns, IsRegular}
-use Rattle.gos_realises.proofs.InputLemmas.{in_there, out_there}
+use Rattle.gos_realises.proofs.InputLemmas.{passed, in_there, out_there}
+use Rattle.gos_realises.proofs.RingLemmas.{after}
 use Rattle.gos_webs.specs.Webs.{joint}
 use Rattle.gos_plan.proofs.HeldLemmas as holding
 use Rattle.gos_turns.proofs.StandLemmas.{same_apart, names_own, asks_itself, serves_itself, lies_in, Stands, not_empty, open_by_fit, taken_stands, put_stands}
 use Rattle.gos_turns.proofs.GoesLemmas.{IsTurned}
 use Rattle.gos_turns.proofs.WholeLemmas.{first_turned}
+use Rattle.gos_turns.specs.Rests.{Rests}
+use Rattle.gos_turns.proofs.RestLemmas.{passes_are, Neat, neat_first, stays_neat, told_asker}
 use Rattle.gos_turns.proofs.TypeLemmas.{told_same, Agree, some_agree, turns_agree}
 use Rattle.gos_turns.proofs.BetweenLemmas.{Leads, Between, busy_to, busy_from, between_keeps}
 
@@ -58,10 +61,10 @@ pub record IsCopy (t : Type') (p : Plan) (first second : ℕ → End) : Type 0 w
       (past : List Pass) → KeepsTurnsOf t (shown_at first past) → KeepsTurnsOf t (shown_at second past)
       → (some_open (count t) (shown_at first past) ≡ true → some_open (count t) (shown_at second past) ≡ true) → IsTurned p past
 
-passed_same : (e : End) (way : Direction) (past : List Pass) → is_open (pass e way ∷ past) e ≡ is_request way
+pub passed_same : (e : End) (way : Direction) (past : List Pass) → is_open (pass e way ∷ past) e ≡ is_request way
 passed_same e way past = let one = same_itself e in λ i. if one i then is_request way else is_open past e
 
-passed_else : (e d : End) (way : Direction) (past : List Pass) → (e ≡ d → ⊥) → is_open (pass e way ∷ past) d ≡ is_open past d
+pub passed_else : (e d : End) (way : Direction) (past : List Pass) → (e ≡ d → ⊥) → is_open (pass e way ∷ past) d ≡ is_open past d
 passed_else e d way past apart = let other = same_apart e d apart in λ i. if other i then is_request way else is_open past d
 
 module _ (t : Type') (p : Plan) (first second : ℕ → End) (is : IsCopy t p first second) where
@@ -296,3 +299,73 @@ module _ (t : Type') (p : Plan) (first second : ℕ → End) (is : IsCopy t p fi
 
   pub copy_is_regular : IsRegular p
   copy_is_regular s t' xs idle runs inputs = all_go xs none_open [] s t' (first_stand s idle) (first_turned p) runs inputs
+
+  -- how it stands after a list, and where nothing is open it rests
+  ends_so : (xs : List Element) (o : Open) (past : List Pass) (s z : Tokens) → Stands p o (is_open past) s → IsTurned p past → Runs p xs s z → InputsKeepTurns p past xs
+      → (u : Open) × Stands p u (is_open (passed p past xs)) z
+  ends_so [] o past s z st turned_so runs inputs = (o, subst (Stands p o (is_open past)) (sym runs) st)
+  ends_so (Fire i slot ∷ xs) o past s z st turned_so (y, (v, row, lies, fires, led), runs) inputs =
+      let never : None ≡ Some row = sym (ap (λ (fs : List Part). firing_of (slice_get fs i) (s.state i) slot) is.parts) ∙ fires in absurd (cc never)
+  ends_so (Out e v ∷ xs) o past s z st turned_so (y, does, runs) inputs =
+      let (c, there) = out_there p e v s y does in
+      let moves = subst (λ (f : Option Contact). Passes p (Out e v) f s y) there does.1 in
+      let led : way_out (contact_at p e) ≡ way_taken c.role = ap way_out there in
+      let (turn, turned_then) = out_keeps o past s st turned_so e c v (way_taken c.role) does.0 there refl moves.0 in
+      let now = taken_stands p e c v o (is_open past) (is_open (pass e (way_taken c.role) ∷ past)) s (way_taken c.role) is.right there refl moves.0 (λ d port. refl) st in
+      ends_so xs (after_taken p e (way_taken c.role) o) (after p (Out e v) past) y z
+      (subst (λ (u : Direction). Stands p (after_taken p e (way_taken c.role) o) (is_open (pass e u ∷ past)) y) (sym led)
+      (subst (Stands p (after_taken p e (way_taken c.role) o) (is_open (pass e (way_taken c.role) ∷ past))) (sym moves.1) now))
+      (subst (λ (u : Direction). IsTurned p (pass e u ∷ past)) (sym led) turned_then) runs inputs
+  ends_so (In e v ∷ xs) o past s z st turned_so (y, does, runs) (keeps, rest) =
+      let (c, there) = in_there p e v s y does in
+      let moves = subst (λ (f : Option Contact). Passes p (In e v) f s y) there does.1 in
+      let led : way_in (contact_at p e) ≡ way_put c.role = ap way_in there in
+      let (turn, turned_then) = subst (λ (u : Direction). KeepsTurns p past (pass e u)) led keeps in
+      let well = in_well o past s st turned_so e c (way_put c.role) does.0 there refl turn in
+      let now = put_stands p e c v o (is_open past) (is_open (pass e (way_put c.role) ∷ past)) s (way_put c.role) is.right there refl well (λ d port. refl) st in
+      ends_so xs (after_put p e (way_put c.role) o) (after p (In e v) past) y z
+      (subst (λ (u : Direction). Stands p (after_put p e (way_put c.role) o) (is_open (pass e u ∷ past)) y) (sym led)
+      (subst (Stands p (after_put p e (way_put c.role) o) (is_open (pass e (way_put c.role) ∷ past))) (sym moves.1) now)) keeps.1 runs rest
+
+  is_port : (e : End) (c : Contact) → contact_at p e ≡ Some c → IsPortEnd e
+  is_port (PartEnd i h) c there = absurd (no_part i h c there)
+  is_port (ImportEnd i h) c there = tt
+  is_port (ResultEnd h) c there = tt
+
+  closed_empty : (b : Bool) (q r : Option ℕ) → holding.Fits b q r → b ≡ false → (q ≡ None) × (r ≡ None)
+  closed_empty false q r fit shut = fit
+  closed_empty true q r fit shut = absurd (cc shut)
+
+  pub copy_rests : Rests p
+  copy_rests s z xs idle runs inputs shut = (empty, λ i. neat.states i (ap (λ (fs : List Part). slice_get fs i) is.parts))
+    where
+      neat : Neat p z
+      neat = stays_neat p xs s z runs (neat_first p s idle)
+
+      ends : (u : Open) × Stands p u (is_open (passed p [] xs)) z
+      ends = ends_so xs none_open [] s z (first_stand s idle) (first_turned p) runs inputs
+
+      joint_empty : (way : Direction) (a b : End) → IsIn (joint a b) p.joints → z.in_place way a ≡ None
+      joint_empty way a b has = by_way way
+        where
+          asker : (c : Contact) × (contact_at p a ≡ Some c) × (c.role ≡ Ask)
+          asker = let (k, l, asked, served) = fits p [] p.joints (joint a b) is.right has in (_, asked, refl)
+
+          closed : ends.0 a ≡ false
+          closed =
+              ends.1.asks_open a asker.0 (is_port a asker.0 asker.1) asker.1 asker.2
+              ∙ subst (λ (past : List Pass). is_open past a ≡ false) (passes_are p [] xs) (shut a)
+
+          both : (z.in_place Request a ≡ None) × (z.in_place Answer a ≡ None)
+          both = closed_empty (ends.0 a) (z.in_place Request a) (z.in_place Answer a) (ends.1.fit a) closed
+
+          by_way : (w : Direction) → z.in_place w a ≡ None
+          by_way Request = both.0
+          by_way Answer = both.1
+
+      empty : (way : Direction) (a : End) → z.in_place way a ≡ None
+      empty way a = by_joint (told_asker p.joints a)
+        where
+          by_joint : ((b : End) × IsIn (joint a b) p.joints) ⊎ ((b : End) → IsIn (joint a b) p.joints → ⊥) → z.in_place way a ≡ None
+          by_joint (inl (b, has)) = joint_empty way a b has
+          by_joint (inr none) = neat.places way a none

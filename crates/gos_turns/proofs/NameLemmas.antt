@@ -9,11 +9,12 @@ use Rattle.gos_plan.specs.Tokens.{IsPortEnd}
 use Rattle.gos_plan.proofs.JointLemmas.{contained}
 use Rattle.gos_realises.specs.Regular.{Pass, count, some_open, KeepsTurnsOf}
 use Rattle.gos_webs.specs.Webs.{joint}
+use Rattle.gos_turns.specs.Resting.{NameRests}
 use Rattle.gos_turns.specs.Names.{IsNamePlan, NameIsRegular}
 use Rattle.gos_turns.proofs.TrailLemmas.{turned_twice}
 use Rattle.gos_turns.proofs.GoesLemmas.{IsTurned}
 use Rattle.gos_turns.proofs.TurnedLemmas.{imp, res, to_each, from_each}
-use Rattle.gos_turns.proofs.CopyLemmas.{IsCopy, copy_is_regular}
+use Rattle.gos_turns.proofs.CopyLemmas.{copy_rests, IsCopy, copy_is_regular}
 
 pub unturned : (o : Option Contact) (c : Contact) → turned_if o ≡ Some c → o ≡ Some (turned_contact c)
 unturned None c e = absurd (cc e)
@@ -83,3 +84,6 @@ module _ (x : Imported) (p : Plan) (is : IsNamePlan x p) where
 
 pub name_is_regular : NameIsRegular
 name_is_regular x p is = copy_is_regular x.ty p (ImportEnd 0) ResultEnd (is_copy x p is)
+
+pub name_rests : NameRests
+name_rests x p is = copy_rests x.ty p (ImportEnd 0) ResultEnd (is_copy x p is)

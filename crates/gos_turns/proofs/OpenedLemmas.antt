@@ -15,10 +15,11 @@ use Rattle.gos_webs.specs.Webs.{joint}
 use Rattle.gos_applied.specs.Opened.{opened, IsFunctionOf}
 use Rattle.gos_joined.proofs.OriginLemmas.{front_at, behind_at}
 use Rattle.gos_turns.specs.Composed.{FunctionIsRegular}
+use Rattle.gos_turns.specs.Resting.{FunctionRests}
 use Rattle.gos_turns.proofs.TypeLemmas.{sides}
 use Rattle.gos_turns.proofs.TrailLemmas.{turned_twice}
 use Rattle.gos_turns.proofs.FollowLemmas.{listed}
-use Rattle.gos_turns.proofs.RelabelLemmas.{Relabels, relabels_back, relabelled_is_regular, moved_if}
+use Rattle.gos_turns.proofs.RelabelLemmas.{Relabels, relabels_back, relabelled_is_regular, relabelled_rests, moved_if}
 
 -- the ends of the function as the body has them, and back, for argument k with n handshakes: one to one also beyond what there is
 abbrev forth : ℕ → ℕ → End → End
@@ -309,4 +310,11 @@ function_is_regular x p q is = (
   λ regular. relabelled_is_regular (forth (length p.imports) (count x.ty)) (back (length p.imports) (count x.ty)) p q (relabels x p q is) regular,
   λ regular. relabelled_is_regular (back (length p.imports) (count x.ty)) (forth (length p.imports) (count x.ty)) q p
       (relabels_back (forth (length p.imports) (count x.ty)) (back (length p.imports) (count x.ty)) p q (relabels x p q is)) regular,
+)
+
+pub function_rests : FunctionRests
+function_rests x p q is = (
+  λ rests. relabelled_rests (forth (length p.imports) (count x.ty)) (back (length p.imports) (count x.ty)) p q (relabels x p q is) rests,
+  λ rests. relabelled_rests (back (length p.imports) (count x.ty)) (forth (length p.imports) (count x.ty)) q p
+      (relabels_back (forth (length p.imports) (count x.ty)) (back (length p.imports) (count x.ty)) p q (relabels x p q is)) rests,
 )

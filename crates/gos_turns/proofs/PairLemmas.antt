@@ -16,15 +16,16 @@ use Rattle.gos_realises.proofs.GroundTurnLemmas.{some_there, there_some}
 use Rattle.gos_realises.proofs.LiteralLemmas.{no_literals, literals_same, literals_append, literals_joined}
 use Rattle.gos_webs.specs.Webs.{joint}
 use Rattle.gos_joined.proofs.OriginLemmas.{front_at, behind_at}
+use Rattle.gos_turns.specs.Resting.{PairPlanRests, PairRests}
 use Rattle.gos_turns.specs.Pairs.{IsPairPlan, PairPlanIsRegular, PairIsRegular}
 use Rattle.gos_turns.proofs.TrailLemmas.{turned_twice}
 use Rattle.gos_turns.proofs.GoesLemmas.{IsTurned}
 use Rattle.gos_turns.proofs.TypeLemmas.{count_pair, sides}
 use Rattle.gos_turns.proofs.TurnedLemmas.{res, to_each, from_each, busy_fun}
 use Rattle.gos_turns.proofs.BetweenLemmas.{Leads, busy_to, pair_first, pair_second, fun_first, both_up, not_both}
-use Rattle.gos_turns.proofs.CopyLemmas.{IsCopy, shown_at, copy_is_regular}
+use Rattle.gos_turns.proofs.CopyLemmas.{copy_rests, IsCopy, shown_at, copy_is_regular}
 use Rattle.gos_turns.proofs.NameLemmas.{unturned, result_number}
-use Rattle.gos_turns.proofs.ApplyLemmas.{applying_is_regular}
+use Rattle.gos_turns.proofs.ApplyLemmas.{applying_is_regular, applying_rests}
 
 first_busy : (a b : Type') (f : ℕ → Bool) → some_open (count a) f ≡ true → some_open (count (Pair a b)) f ≡ true
 first_busy a b f busy =
@@ -174,3 +175,16 @@ pair_is_regular a b e p q s r is p_type q_type p_literals q_literals p_regular q
     literals_joined e (p ∷ []) s first.joining.parts e_literals (literals_append p.parts [] p_literals no_literals) in
     applying_is_regular b (Pair a b) s q r first.joining.outcome q_type s_literals q_literals
     (applying_is_regular a (Fun b (Pair a b)) e p s is.outcome p_type e_literals p_literals (pair_plan_is_regular a b e is) p_regular first) q_regular second
+
+pub pair_plan_rests : PairPlanRests
+pair_plan_rests a b p is = copy_rests (Pair a b) p ResultEnd (λ h. ResultEnd (count a + (count b + h))) (is_copy a b p is)
+
+pub pair_rests : PairRests
+pair_rests a b e p q s r is p_type q_type p_literals q_literals p_regular q_regular p_rests q_rests first second =
+    let e_literals : All LiteralFits e.parts = literals_same e.parts [] is.parts no_literals in
+    let s_literals : All LiteralFits s.parts =
+    literals_joined e (p ∷ []) s first.joining.parts e_literals (literals_append p.parts [] p_literals no_literals) in
+    let e_regular = pair_plan_is_regular a b e is in
+    applying_rests b (Pair a b) s q r first.joining.outcome q_type s_literals q_literals
+    (applying_is_regular a (Fun b (Pair a b)) e p s is.outcome p_type e_literals p_literals e_regular p_regular first) q_regular
+    (applying_rests a (Fun b (Pair a b)) e p s is.outcome p_type e_literals p_literals e_regular p_regular (pair_plan_rests a b e is) p_rests first) q_rests second

@@ -150,13 +150,13 @@ module _ (w : Wiring) (r : Plan) (fit : LinksFit w) (ported : LinksArePorts w) (
       let (c, there) = there_is (contacts_of x.ty) h low in
       ports (ImportEnd i h) c tt (import_contact i h x c at there) ∙ ap (λ (z : Place). is_open (P z.plan) z.end) (v.stands h)
 
-  result_agree : (P : ℕ → List Pass) (past : List Pass) → PortsAgree w r P past → Agree (count w.outcome) (res past) (λ g. res (P w.giver) (w.skipped + g))
+  pub result_agree : (P : ℕ → List Pass) (past : List Pass) → PortsAgree w r P past → Agree (count w.outcome) (res past) (λ g. res (P w.giver) (w.skipped + g))
   result_agree P past ports h low =
       let (c, there) = there_is (contacts_of w.outcome) h low in
       ports (ResultEnd h) (turned_contact c) tt (ap (λ (t : Type'). turned_if (slice_get (contacts_of t) h)) whole.outcome ∙ ap turned_if there)
 
   -- where a plan's result is busy the giver's is
-  giver_busy : (P : ℕ → List Pass) → AllAgree w P → AllTurned w P → (m : ℕ) (q : Plan) → slice_get w.plans m ≡ Some q
+  pub giver_busy : (P : ℕ → List Pass) → AllAgree w P → AllTurned w P → (m : ℕ) (q : Plan) → slice_get w.plans m ≡ Some q
       → some_open (count q.outcome) (res (P m)) ≡ true → some_open (count composes.giver.outcome) (res (P w.giver)) ≡ true
   giver_busy P agree turned m q is busy = by_parent (composes.parent m q is)
     where

@@ -6,11 +6,12 @@ use Rattle.gos_netlist.specs.Events.{Direction, Request, Answer}
 use Rattle.gos_plan.specs.Kinds.{Part, Contact}
 use Rattle.gos_plan.specs.Firing.{Slot, Token, Row}
 use Rattle.gos_plan.specs.Plans.{End, PartEnd, Plan, contact_at, same_end}
-use Rattle.gos_plan.specs.Tokens.{Tokens, Element, Fire, Out, In, IsPortEnd, places_of, same_way, held_at, with_held, token_at, with_token, with_state, with_puts, end_of, way_of, shake_of, fired, firing_of, way_taken, way_put, Passes, Does, Runs}
+use Rattle.gos_plan.specs.Tokens.{Tokens, Element, Fire, Out, In, IsPortEnd, places_of, same_way, held_at, with_held, token_at, with_token, with_state, with_puts, end_of, way_of, shake_of, fired, firing_of, way_taken, way_put, Passes, Does, Runs, IsIdle}
 use Rattle.gos_plan.specs.Orderly.{Open, none_open, named_by, handshake_at, with_open, after_taken, after_put, after_puts, ComesWell, AllComeWell, ComesInOrder, AllWelcome, OrderlyFrom, IsOrderly}
 use Rattle.gos_plan.proofs.JointLemmas.{same_itself, same_is}
 use Rattle.gos_realises.specs.Regular.{Pass, pass, way_in, way_out, is_open, is_request, KeepsTurnsOf, whole_type, whole_end, ComesInTurn, KeepsTurns, InputsKeepTurns, OutputsKeepTurns, IsRegular}
 use Rattle.gos_webs.proofs.MovedLemmas.{same_bool}
+use Rattle.gos_turns.specs.Rests.{passes, AllShut, Rests}
 
 abbrev pub moved_if : (End → End) → Option End → Option End
 moved_if m None = None
@@ -321,3 +322,28 @@ relabelled_is_regular m b p q is regular s t xs idle runs keeps = (orderly both.
     outputs : OutputsKeepTurns p [] xs
     outputs =
         subst (OutputsKeepTurns p []) (list_round m b p q is xs) (outputs_moved b m q p back (moved_list m xs) [] both.1)
+
+-- and rests where the other does
+passes_moved : (m b : End → End) (p q : Plan) → Relabels m b p q → (xs : List Element) (past : List Pass)
+    → passes q (moved_passes m past) (moved_list m xs) ≡ moved_passes m (passes p past xs)
+passes_moved m b p q is [] past = refl
+passes_moved m b p q is (Fire i k ∷ xs) past = passes_moved m b p q is xs past
+passes_moved m b p q is (Out e v ∷ xs) past =
+    ap (λ (u : Direction). passes q (pass (m e) u ∷ moved_passes m past) (moved_list m xs)) (ap way_out (is.contacts e))
+    ∙ passes_moved m b p q is xs (pass e (way_out (contact_at p e)) ∷ past)
+passes_moved m b p q is (In e v ∷ xs) past =
+    ap (λ (u : Direction). passes q (pass (m e) u ∷ moved_passes m past) (moved_list m xs)) (ap way_in (is.contacts e))
+    ∙ passes_moved m b p q is xs (pass e (way_in (contact_at p e)) ∷ past)
+
+pub relabelled_rests : (m b : End → End) (p q : Plan) → Relabels m b p q → Rests q → Rests p
+relabelled_rests m b p q is rests s t xs idle runs keeps shut = ((λ way e. ap (t.in_place way) (sym (is.back e)) ∙ there.0 way (m e)), there.1)
+  where
+    shut_there : AllShut (passes q [] (moved_list m xs))
+    shut_there e =
+        ap (λ (past : List Pass). is_open past e) (passes_moved m b p q is xs [])
+        ∙ (ap (is_open (moved_passes m (passes p [] xs))) (sym (is.there e)) ∙ (shown_moved m b p q is (passes p [] xs) (b e) ∙ shut (b e)))
+
+    there : IsIdle q (moved_tokens b t)
+    there =
+        rests (moved_tokens b s) (moved_tokens b t) (moved_list m xs) ((λ way e. idle.0 way (b e)), idle.1) (runs_moved m b p q is xs s t runs)
+        (inputs_moved m b p q is xs [] keeps) shut_there

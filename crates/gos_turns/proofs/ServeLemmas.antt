@@ -18,6 +18,9 @@ use Rattle.gos_turns.proofs.PassLemmas.{StandsForImport, StandsForArgument, IsPa
 use Rattle.gos_turns.proofs.LinkLemmas.{of_import, in_import, of_imports, in_imports}
 use Rattle.gos_turns.proofs.PlainLemmas.{plain_in, plain_out, plain_busy}
 use Rattle.gos_turns.proofs.WholeLemmas.{joining_is_regular}
+use Rattle.gos_turns.specs.Rests.{Rests}
+use Rattle.gos_turns.specs.Resting.{ServingRests}
+use Rattle.gos_turns.proofs.JoinedRestLemmas.{joining_rests}
 
 -- the ends of a link, where it is that of handshake h of import n and of plan m
 of_ends : (w : Wiring) (c d : Place) (l : Link) (n m h : ℕ) → ((c ≡ l.one) × (d ≡ l.other)) ⊎ ((c ≡ l.other) × (d ≡ l.one)) → l ≡ link 0 (ImportEnd n h) m (ResultEnd h)
@@ -85,6 +88,13 @@ serving_is_regular k x p q r at q_type p_literals q_literals p_regular q_regular
     joining_is_regular (serving k x.ty p q) r joined.fits ports joined.joining (both_of k x p q r at q_type IsRegular p_regular q_regular)
     (both_of k x p q r at q_type (λ (z : Plan). All LiteralFits z.parts) p_literals q_literals)
     (passes_turns (serving k x.ty p q) r joined.fits ports joined.joining (served_composes k x p q r at q_type))
+
+-- and rest where both do
+pub serving_rests : ServingRests
+serving_rests k x p q r at q_type p_literals q_literals p_regular q_regular p_rests q_rests joined =
+    joining_rests (serving k x.ty p q) r joined.fits (served_ports k x p q r at q_type) joined.joining (both_of k x p q r at q_type IsRegular p_regular q_regular)
+    (both_of k x p q r at q_type (λ (z : Plan). All LiteralFits z.parts) p_literals q_literals) (both_of k x p q r at q_type Rests p_rests q_rests)
+    (served_composes k x p q r at q_type)
 
 -- the supply of an import, and the import of a supply
 supply_of : (is : List Imported) (ss : List Supply) (k : ℕ) (x : Imported) → AreSupplied is ss → slice_get is k ≡ Some x

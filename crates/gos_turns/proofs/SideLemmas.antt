@@ -25,6 +25,9 @@ use Rattle.gos_turns.proofs.TypeLemmas.{Agree, some_agree, turns_agree, count_pa
 use Rattle.gos_turns.proofs.TurnedLemmas.{res, to_each, result_changed, in_result}
 use Rattle.gos_turns.proofs.PassLemmas.{StandsForImport, StandsForArgument, Composes, passes_turns}
 use Rattle.gos_turns.proofs.WholeLemmas.{joining_is_regular}
+use Rattle.gos_turns.specs.Rests.{Rests}
+use Rattle.gos_turns.specs.Resting.{SidesRest}
+use Rattle.gos_turns.proofs.JoinedRestLemmas.{joining_rests}
 
 none_some : (n : ℕ) (f : ℕ → Bool) → ((h : ℕ) → h < n → f h ≡ false) → some_open n f ≡ false
 none_some n f shut = by_test (some_open n f) refl
@@ -63,14 +66,14 @@ module _ (a b : Type') (p : Plan) (p_type : p.outcome ≡ Pair a b) where
   pair_turns : (P : List Pass) → IsTurned p P → KeepsTurnsOf (Pair a b) (res P)
   pair_turns P turned = subst (λ (t : Type'). KeepsTurnsOf t (res P)) p_type (to_each p P turned).1
 
-  one_of : (Q : Plan → Type 0) → Q p → (m : ℕ) (z : Plan) → slice_get (p ∷ []) m ≡ Some z → Q z
+  pub one_of : (Q : Plan → Type 0) → Q p → (m : ℕ) (z : Plan) → slice_get (p ∷ []) m ≡ Some z → Q z
   one_of Q of_p zero z is = let same : p ≡ z = cc is in subst Q same of_p
   one_of Q of_p (suc m) z is = absurd (cc is)
 
-  no_link : (n : ℕ) (t : Type') (c d : Place) → Linked (side n t p) c d → ⊥
+  pub no_link : (n : ℕ) (t : Type') (c d : Place) → Linked (side n t p) c d → ⊥
   no_link n t c d (l, (k, small, is), ways) = omega (arith, small)
 
-  no_ports : (n : ℕ) (t : Type') → LinksArePorts (side n t p)
+  pub no_ports : (n : ℕ) (t : Type') → LinksArePorts (side n t p)
   no_ports n t l (k, small, is) = absurd (omega (arith, small))
 
   parent : (n : ℕ) (t : Type') (m : ℕ) (z : Plan) → slice_get (p ∷ []) m ≡ Some z → (m ≡ 0) ⊎ (StandsForImport (side n t p) 0 p m z ⊎ StandsForArgument (side n t p) 0 p m z)
@@ -78,7 +81,7 @@ module _ (a b : Type') (p : Plan) (p_type : p.outcome ≡ Pair a b) where
   parent n t (suc m) z is = absurd (cc is)
 
   -- what of the result is not the whole's stands for nothing
-  loose : (n : ℕ) (t : Type') (r : Plan) → LinksFit (side n t p) → (whole : IsJoining (side n t p) r) → (g : ℕ) → ((h : ℕ) → h < count t → n + h ≡ g → ⊥)
+  pub loose : (n : ℕ) (t : Type') (r : Plan) → LinksFit (side n t p) → (whole : IsJoining (side n t p) r) → (g : ℕ) → ((h : ℕ) → h < count t → n + h ≡ g → ⊥)
       → IsLoose (side n t p) r (place 0 (ResultEnd g))
   loose n t r fit whole g apart = ((λ c linked. no_link n t (place 0 (ResultEnd g)) c linked), of_end)
     where
@@ -104,7 +107,7 @@ module _ (a b : Type') (p : Plan) (p_type : p.outcome ≡ Pair a b) where
         none_some (count b) (beyond (count a) (res (P 0)))
         (λ h low. shut (place 0 (ResultEnd (count a + h))) tt (loose 0 a r fit whole (count a + h) (λ g small same. omega (arith, small, same))))
 
-    first_composes : LinksFit (side 0 a p) → IsJoining (side 0 a p) r → Composes (side 0 a p) r
+    pub first_composes : LinksFit (side 0 a p) → IsJoining (side 0 a p) r → Composes (side 0 a p) r
     first_composes fit whole =
         record {
           giver = p;
@@ -166,7 +169,7 @@ module _ (a b : Type') (p : Plan) (p_type : p.outcome ≡ Pair a b) where
     second_shut fit whole P shut =
         none_some (count a) (res (P 0)) (λ h low. shut (place 0 (ResultEnd h)) tt (loose (count a) b r fit whole h (λ g small same. omega (arith, low, same))))
 
-    second_composes : LinksFit (side (count a) b p) → IsJoining (side (count a) b p) r → Composes (side (count a) b p) r
+    pub second_composes : LinksFit (side (count a) b p) → IsJoining (side (count a) b p) r → Composes (side (count a) b p) r
     second_composes fit whole =
         record {
           giver = p;
@@ -228,4 +231,17 @@ sides_are_regular a b p p_type literals regular = (
       joining_is_regular (side (count a) b p) r joined.fits (no_ports a b p p_type (count a) b) joined.joining (one_of a b p p_type IsRegular regular)
       (one_of a b p p_type (λ (z : Plan). All LiteralFits z.parts) literals)
       (passes_turns (side (count a) b p) r joined.fits (no_ports a b p p_type (count a) b) joined.joining (second_composes a b p p_type r joined.fits joined.joining)),
+)
+
+-- and rests where the plan does
+pub sides_rest : SidesRest
+sides_rest a b p p_type literals regular rests = (
+  λ r joined.
+      joining_rests (side 0 a p) r joined.fits (no_ports a b p p_type 0 a) joined.joining (one_of a b p p_type IsRegular regular)
+      (one_of a b p p_type (λ (z : Plan). All LiteralFits z.parts) literals) (one_of a b p p_type Rests rests)
+      (first_composes a b p p_type r joined.fits joined.joining),
+  λ r joined.
+      joining_rests (side (count a) b p) r joined.fits (no_ports a b p p_type (count a) b) joined.joining (one_of a b p p_type IsRegular regular)
+      (one_of a b p p_type (λ (z : Plan). All LiteralFits z.parts) literals) (one_of a b p p_type Rests rests)
+      (second_composes a b p p_type r joined.fits joined.joining),
 )

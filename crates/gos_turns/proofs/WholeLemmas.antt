@@ -1,6 +1,6 @@
 -- A joining of regular plans is regular where turns pass through its wiring.
 use Rattle.std.specs.Prelude.{ℕ, zero, suc, ◌+◌, Bool, true, false, ◌&&◌, ◌||◌, List, Option, Some, None, All, slice_get}
-use Rattle.std.proofs.Common.{◌≡◌, [], ◌∷◌, refl, sym, ◌∙◌, ap}
+use Rattle.std.proofs.Common.{◌≡◌, [], ◌∷◌, refl, sym, ◌∙◌, ap, subst}
 use Rattle.gos_types.specs.Types.{Type', Com, Exp, Var, Pair, Fun}
 use Rattle.gos_plan.specs.Plans.{Plan}
 use Rattle.gos_plan.specs.Tokens.{Tokens, Element, Fire, Out, In, Does, Runs, IsIdle}
@@ -9,6 +9,7 @@ use Rattle.gos_plan.specs.Orderly.{Open, none_open, OrderlyFrom}
 use Rattle.gos_plan.specs.Joining.{Wiring, IsJoining}
 use Rattle.gos_realises.specs.Regular.{Pass, count, some_open, beyond, KeepsTurnsOf, whole_type, InputsKeepTurns, OutputsKeepTurns, IsRegular}
 use Rattle.gos_realises.specs.Links.{LinksFit}
+use Rattle.gos_realises.proofs.InputLemmas.{passed}
 use Rattle.gos_realises.proofs.RingLemmas.{after}
 use Rattle.gos_joined.proofs.OriginLemmas.{before}
 use Rattle.gos_turns.proofs.RunLemmas.{at_first}
@@ -102,3 +103,14 @@ module _ (w : Wiring) (r : Plan) (fit : LinksFit w) (ported : LinksArePorts w) (
 
   pub joining_is_regular : IsRegular r
   joining_is_regular s t xs idle runs inputs = all_go xs (first_family w s) none_open [] s t (goes_first s idle) runs inputs
+
+  -- how the whole stands after a list
+  ends_so : (xs : List Element) (F : Family) (o : Open) (past : List Pass) (s t : Tokens) → Goes w r F o past s → Runs r xs s t → InputsKeepTurns r past xs
+      → (G : Family) × (u : Open) × Goes w r G u (passed r past xs) t
+  ends_so [] F o past s t so runs inputs = (F, o, subst (Goes w r F o past) (sym runs) so)
+  ends_so (x ∷ xs) F o past s t so (y, does, runs) inputs =
+      let (one, rest) = went F o past s y x xs so does inputs in ends_so xs one.family one.open_then (after r x past) y t one.goes runs rest
+
+  pub goes_all : (s t : Tokens) (xs : List Element) → IsIdle r s → Runs r xs s t → InputsKeepTurns r [] xs
+      → (G : Family) × (u : Open) × Goes w r G u (passed r [] xs) t
+  goes_all s t xs idle runs inputs = ends_so xs (first_family w s) none_open [] s t (goes_first s idle) runs inputs

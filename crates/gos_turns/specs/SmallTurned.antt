@@ -1,14 +1,17 @@
 -- Small plans that are joined, or are plans of names, and one that is none.
 --
 -- Read first: Composed, Names; SmallPlans and SmallCycles of gos_plan.
-use Rattle.std.specs.Prelude.{[], codes}
+use Rattle.std.specs.Prelude.{[], ◌∷◌, codes}
 use Rattle.gos_types.specs.Types.{Com}
 use Rattle.gos_model.specs.Typing.{Imported}
-use Rattle.gos_plan.specs.Plans.{Plan}
+use Rattle.gos_plan.specs.Kinds.{Seq, Skip}
+use Rattle.gos_plan.specs.Plans.{PartEnd, ResultEnd, Plan}
 use Rattle.gos_plan.specs.SmallPlans.{same_of_skip}
 use Rattle.gos_plan.specs.SmallCycles.{call_plan}
 use Rattle.gos_realises.specs.Regular.{IsRegular}
 use Rattle.gos_realises.specs.Links.{IsJoined}
+use Rattle.gos_webs.specs.Webs.{joint}
+use Rattle.gos_turns.specs.Rests.{Rests}
 use Rattle.gos_turns.specs.Names.{IsNamePlan}
 
 -- `fun a : com . a` with its argument `skip` is regular
@@ -25,3 +28,21 @@ CallIsName = IsNamePlan called call_plan
 -- without its joint it isn't
 abbrev pub UnjoinedIsNone : Type 0
 UnjoinedIsNone = IsNamePlan called (record call_plan { joints = [] }) → ⊥
+
+-- The plan of that call rests.
+abbrev pub CallRests : Type 0
+CallRests = Rests call_plan
+
+-- A Seq whose first request goes where the request of the whole lies, to a Skip that answers the whole: the Seq waits on.
+abbrev pub astray : Plan
+astray =
+    record {
+      weight = 0;
+      imports = [];
+      outcome = Com;
+      parts = Seq 0 ∷ Skip ∷ [];
+      joints = joint (ResultEnd 0) (PartEnd 0 2) ∷ joint (ResultEnd 0) (PartEnd 0 0) ∷ joint (ResultEnd 0) (PartEnd 1 0) ∷ [];
+    }
+
+abbrev pub AstrayDoesNotRest : Type 0
+AstrayDoesNotRest = Rests astray → ⊥

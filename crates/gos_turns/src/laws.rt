@@ -2,7 +2,8 @@
 ghost use Rattle.gos_turns.specs.Composed.{ApplyingIsRegular, FunctionIsRegular, ServingIsRegular, SidesAreRegular, SuppliedIsRegular};
 ghost use Rattle.gos_turns.specs.Names.{NameIsRegular, NamePlanIsThere};
 ghost use Rattle.gos_turns.specs.Pairs.{PairIsRegular, PairPlanIsRegular, PairPlanIsThere};
-ghost use Rattle.gos_turns.specs.SmallTurned.{CallIsName, SameOfSkipIsRegular, UnjoinedIsNone};
+ghost use Rattle.gos_turns.specs.Resting.{ApplyingRests, FunctionRests, NameRests, PairPlanRests, PairRests, RenumberedRests, ServingRests, SidesRest};
+ghost use Rattle.gos_turns.specs.SmallTurned.{AstrayDoesNotRest, CallIsName, CallRests, SameOfSkipIsRegular, UnjoinedIsNone};
 ghost use Rattle.gos_turns.specs.Trees.{RewiredTreeIsRegular, TreeIsRegular};
 
 /// A plan of a function and one of its argument, joined, are regular where both are.
@@ -45,11 +46,26 @@ pub fn pairs()
     ensures pair { PairIsRegular }
 {}
 
-/// `fun a : com . a` with `skip` is regular; the plan of a call is that of a name, and without its joint it isn't.
+/// Joinings of regular plans that rest do so, and so do the plans of functions, of names and of pairs.
+pub fn rests()
+    ensures applied { ApplyingRests }
+    ensures served { ServingRests }
+    ensures sides { SidesRest }
+    ensures function { FunctionRests }
+    ensures name { NameRests }
+    ensures maker { PairPlanRests }
+    ensures pair { PairRests }
+    ensures renumbered { RenumberedRests }
+{}
+
+/// `fun a : com . a` with `skip` is regular; the plan of a call is that of a name, and rests; without its joint it is none. A
+/// plan whose Seq waits on after the answer doesn't rest.
 pub fn small_turned()
     ensures same { SameOfSkipIsRegular }
     ensures call { CallIsName }
     ensures unjoined { UnjoinedIsNone }
+    ensures rests { CallRests }
+    ensures astray { AstrayDoesNotRest }
 {
     gos_realises::functions();
     gos_realises::small_realisers();

@@ -6,4 +6,6 @@
 
 mod laws;
 
-pub use laws::{applications, functions, names, pairs, servings, sides, small_turned, trees};
+pub use laws::{
+    applications, functions, names, pairs, rests, servings, sides, small_turned, trees,
+};

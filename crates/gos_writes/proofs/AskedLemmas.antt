@@ -8,20 +8,31 @@ use Rattle.gos_types.specs.Types.{Type', Com, Exp, Var, Pair, Fun, IsGround}
 use Rattle.gos_netlist.specs.Events.{Request, Answer}
 use Rattle.gos_model.specs.Typing.{Imported}
 use Rattle.gos_plan.specs.Kinds.{Contact, asks, contacts_of}
-use Rattle.gos_plan.specs.Plans.{End, PartEnd, ImportEnd, ResultEnd, Plan, contact_at, contacts_of_import, turned_if, same_end}
-use Rattle.gos_plan.specs.Tokens.{IsPortEnd}
-use Rattle.gos_realises.specs.Regular.{count, Pass, pass, way_in, way_out, is_open, beyond, KeepsTurnsOf, whole_type, whole_end}
+use Rattle.gos_plan.specs.Plans.{End, PartEnd, ImportEnd, ResultEnd, Plan, contact_at, contacts_of_import, turned_if}
+use Rattle.gos_plan.specs.Tokens.{IsPortEnd, In}
+use Rattle.gos_realises.specs.Regular.{count, Pass, pass, way_in, way_out, is_open, beyond, KeepsTurnsOf, whole_type, whole_end, some_open}
 use Rattle.gos_realises.specs.Realises.{AllGround}
-use Rattle.gos_realises.proofs.GroundTurnLemmas.{width, count_fun, there_some, some_there, ground_kept, import_end}
+use Rattle.gos_realises.proofs.GroundTurnLemmas.{width, count_fun, there_some, some_there}
 use Rattle.gos_realises.proofs.InputLemmas.{import_serves, one_ground}
 use Rattle.gos_realises.proofs.ToldLemmas.{there_is}
 use Rattle.gos_windows.proofs.TurnLemmas.{Turned}
 use Rattle.gos_writes.specs.Writes.{asked_type, request_bits, answer_bits}
+use Rattle.gos_renumbered.proofs.TurnLemmas.{of_import, of_result, ImportKeeps, each_keeps}
+use Rattle.gos_windows.proofs.TypeTurnLemmas.{closed_kept}
+use Rattle.gos_writes.specs.OneSession.{IsAsked, Stays}
+use Rattle.gos_webs.specs.Cutting.{Cut, StandsIn}
+use Rattle.gos_plan.proofs.TurnLemmas.{nat_eq_self}
+use Rattle.gos_windows.specs.OpenNodes.{IsHeard}
 
 type_contact : (h w : ℕ) → h < 2 → turned_if (slice_get (contacts_of (asked_type h w)) h) ≡ Some (asks (request_bits h w) (answer_bits h w))
 type_contact zero w low = refl
 type_contact (suc zero) w low = refl
 type_contact (suc (suc h)) w low = absurd (omega (arith, low))
+
+type_below : (h w : ℕ) → h < 2 → h < count (asked_type h w)
+type_below zero w low = omega arith
+type_below (suc zero) w low = omega arith
+type_below (suc (suc h)) w low = absurd (omega (arith, low))
 
 type_ground : (h w : ℕ) → IsGround (asked_type h w)
 type_ground zero w = tt
@@ -39,6 +50,14 @@ ground_asks (Var w) g (suc (suc h)) c is = absurd (none-some c is)
 ground_asks (Pair a b) g h c is = absurd g
 ground_asks (Fun a b) g h c is = absurd g
 
+-- which ports there are
+pub ground_port : (p : Plan) → IsGround p.outcome → (e : End) (c : Contact) → IsPortEnd e → contact_at p e ≡ Some c
+    → ((h : ℕ) × (e ≡ ResultEnd h) × (c.role ≡ Ask)) ⊎ ((i h : ℕ) × (e ≡ ImportEnd i h))
+ground_port p done (PartEnd i h) c port is = absurd port
+ground_port p done (ImportEnd i h) c port is = inr (i, h, refl)
+ground_port p done (ResultEnd h) c port is = inl (h, refl, sym (ground_asks p.outcome done h c is))
+
+-- with ground imports
 pub ground_role : (p : Plan) → AllGround p.imports → IsGround p.outcome → (e : End) (c : Contact) → IsPortEnd e → contact_at p e ≡ Some c
     → ((h : ℕ) × (e ≡ ResultEnd h) × (c.role ≡ Ask)) ⊎ ((i h : ℕ) × (e ≡ ImportEnd i h) × (c.role ≡ Serve))
 ground_role p ground done (PartEnd i h) c port is = absurd port
@@ -89,46 +108,48 @@ result_some (i ∷ is) t f r same (own, rest, leads) k low up =
         let small : k - count i.ty < count (whole_type is t) = omega (arith, low, sum, past) in
         further (k - count i.ty) small (ap f past ∙ up)
 
--- turns are kept where handshakes of imports are closed, and of the result one is open where one was
-result_turns : (is : List Imported) (t : Type') → AllGround is → (f g a b : ℕ → Bool) → ((j : ℕ) → f (width is + j) ≡ a j) → ((j : ℕ) → g (width is + j) ≡ b j)
-    → ((h : ℕ) → h < width is → g h ≡ true → f h ≡ true) → ((j : ℕ) → j < count t → a j ≡ true → (k : ℕ) × (k < count t) × (b k ≡ true)) → KeepsTurnsOf t b
-    → KeepsTurnsOf (whole_type is t) f → KeepsTurnsOf (whole_type is t) g
-result_turns [] t ground f g a b fa gb less more here keeps =
-    subst (λ (r : ℕ → Bool). KeepsTurnsOf t r) (λ l h. (sym (gb h) ∙ ap g (zero_plus h)) l) here
+-- Turns are kept where those of the result are, and those of each import that has an open handshake, if then the result has one.
+pub ports_turned : (p : Plan) (past : List Pass) → KeepsTurnsOf p.outcome (of_result (is_open past))
+    → ((i g : ℕ) (x : Imported) → slice_get p.imports i ≡ Some x → is_open past (ImportEnd i g) ≡ true → KeepsTurnsOf x.ty (λ n. is_open past (ImportEnd i n)))
+    → ((i g : ℕ) → is_open past (ImportEnd i g) ≡ true → some_open (count p.outcome) (of_result (is_open past)) ≡ true) → Turned p past
+ports_turned p past result kept led =
+    each_keeps 0 p.imports p.outcome (λ h. is_open past (whole_end 0 p.imports h)) (is_open past) (λ h. refl)
+    (λ i x there. subst (λ (m : ℕ). ImportKeeps (is_open past) m x p.outcome) (zero_plus i) (one i x there), result)
   where
-    zero_plus : (h : ℕ) → 0 + h ≡ h
-    zero_plus h = omega arith
-result_turns (i ∷ is) t ground f g a b fa gb less more here (own, rest, leads) = (
-  ground_kept i.ty ground.0 f g (λ h low up. less h (omega (arith, low)) up) own,
-  result_turns is t ground.1 (beyond (count i.ty) f) (beyond (count i.ty) g) a b (λ j. ap f (order j) ∙ fa j) (λ j. ap g (order j) ∙ gb j)
-      (λ h low up. less (count i.ty + h) (omega (arith, low)) up) more here rest,
-  λ some.
-      let (k, low, up) = some_there (count i.ty) g some in
-      let (n, small, before) = some_there (count (whole_type is t)) (beyond (count i.ty) f) (leads (there_some (count i.ty) f k low (less k (omega (arith, low)) up))) in
-      let (j, at, was) = result_some is t (beyond (count i.ty) f) a (λ j. ap f (order j) ∙ fa j) rest n small before in
-      let (m, within, now) = more j at was in
-      let sum = count_whole is t in
-      there_some (count (whole_type is t)) (beyond (count i.ty) g) (width is + m) (omega (arith, within, sum)) (ap g (order m) ∙ (gb m ∙ now)),
-)
-  where
-    order : (j : ℕ) → count i.ty + (width is + j) ≡ count i.ty + width is + j
-    order j = omega arith
+    zero_plus : (i : ℕ) → i ≡ 0 + i
+    zero_plus i = omega arith
 
--- where nothing is open
-no_turns : (t : Type') → IsGround t → KeepsTurnsOf t (λ h. false)
-no_turns Com ground = tt
-no_turns (Exp w) ground = tt
-no_turns (Var w) ground = refl
-no_turns (Pair a b) ground = absurd ground
-no_turns (Fun a b) ground = absurd ground
+    closed : (i : ℕ) (x : Imported) → some_open (count x.ty) (of_import (is_open past) i) ≡ false → (h : ℕ) → h < count x.ty → is_open past (ImportEnd i h) ≡ false
+    closed i x none h low = by_test (is_open past (ImportEnd i h)) refl
+      where
+        by_test : (b : Bool) → is_open past (ImportEnd i h) ≡ b → b ≡ false
+        by_test false t = refl
+        by_test true t = sym (there_some (count x.ty) (of_import (is_open past) i) h low t) ∙ none
 
-none_turns : (is : List Imported) (t : Type') → AllGround is → IsGround t → KeepsTurnsOf (whole_type is t) (λ h. false)
-none_turns [] t all ground = no_turns t ground
-none_turns (i ∷ is) t all ground = (
-  no_turns i.ty all.0,
-  none_turns is t all.1 ground,
-  λ some. let (k, low, up) = some_there (count i.ty) (λ h. false) some in absurd (cc up),
-)
+    one : (i : ℕ) (x : Imported) → slice_get p.imports i ≡ Some x → ImportKeeps (is_open past) i x p.outcome
+    one i x there = (
+      by_test (some_open (count x.ty) (of_import (is_open past) i)) refl,
+      λ some. let (h, low, up) = some_there (count x.ty) (of_import (is_open past) i) some in led i h up,
+    )
+      where
+        by_test : (b : Bool) → some_open (count x.ty) (of_import (is_open past) i) ≡ b → KeepsTurnsOf x.ty (of_import (is_open past) i)
+        by_test false none = closed_kept x.ty (of_import (is_open past) i) (closed i x none)
+        by_test true some = let (h, low, up) = some_there (count x.ty) (of_import (is_open past) i) some in kept i h x there up
+
+-- ground imports don't ask
+pub not_asked : (p : Plan) → AllGround p.imports → IsGround p.outcome → (i h : ℕ) → IsAsked p (ImportEnd i h) → ⊥
+not_asked p ground done i h (c, there, asks) =
+    elim (ground_role p ground done (ImportEnd i h) c tt there) [
+      | inl result ↦ (let clash : ImportEnd i h ≡ ResultEnd result.0 = result.1 in cc clash)
+      | inr import ↦ (let clash : Ask ≡ Serve = sym asks ∙ import.3 in cc clash)
+    ]
+
+pub ground_in : (p : Plan) → AllGround p.imports → IsGround p.outcome → (i h v : ℕ) → Stays p (In (ImportEnd i h) v) → StandsIn p (ImportEnd i h)
+ground_in p ground done i h v (inl stands) = stands
+ground_in p ground done i h v (inr asked) = absurd (not_asked p ground done i h asked)
+
+pub ground_heard : (f : Cut) (r p : Plan) → AllGround p.imports → IsGround p.outcome → IsHeard f r p
+ground_heard f r p ground done i h n k c stands at is asks = absurd (not_asked p ground done i n (c, is, asks))
 
 -- where the ends of the whole type stand
 result_ends : (k : ℕ) (is : List Imported) (j : ℕ) → whole_end k is (width is + j) ≡ ResultEnd j
@@ -159,13 +180,23 @@ whole_index (x ∷ xs) n (suc i) h c there =
           ∙ (ap (whole_end (suc n) xs) less ∙ (at ∙ ap (λ (m : ℕ). ImportEnd m h) same)),
     )
 
-closed_more : (b held : Bool) → (if b then false else held) ≡ true → held ≡ true
-closed_more true held h = absurd (cc h)
-closed_more false held h = h
-
 -- only this handshake of the result is open
 abbrev pub OnlyAt : ℕ → List Pass → Type 0
 OnlyAt h past = (k : ℕ) → is_open past (ResultEnd k) ≡ true → k ≡ h
+
+-- its answer closes it
+pub answered_shut : (h : ℕ) (past : List Pass) → OnlyAt h past → (k : ℕ) → is_open (pass (ResultEnd h) Answer ∷ past) (ResultEnd k) ≡ false
+answered_shut h past only k = by_test (nat_eq h k) refl
+  where
+    by_open : (b : Bool) → is_open past (ResultEnd k) ≡ b → nat_eq h k ≡ false → b ≡ false
+    by_open false shut t = refl
+    by_open true up t =
+        let same : k ≡ h = only k up in
+        let clash : nat_eq h k ≡ true = grind (arith, same) in absurd (cc (sym t ∙ clash))
+
+    by_test : (b : Bool) → nat_eq h k ≡ b → (if b then false else is_open past (ResultEnd k)) ≡ false
+    by_test true t = refl
+    by_test false t = by_open (is_open past (ResultEnd k)) refl t
 
 -- a plan whose result is asked at handshake h, with w bits
 module _ (p : Plan) (h w : ℕ) (low : h < 2) (is : p.outcome ≡ asked_type h w) where
@@ -193,28 +224,24 @@ module _ (p : Plan) (h w : ℕ) (low : h < 2) (is : p.outcome ≡ asked_type h w
   result_at : (past : List Pass) (j : ℕ) → is_open past (whole_end 0 p.imports (width p.imports + j)) ≡ is_open past (ResultEnd j)
   result_at past j = ap (is_open past) (result_ends 0 p.imports j)
 
-  pub asked_first : AllGround p.imports → Turned p (pass (ResultEnd h) Request ∷ [])
-  asked_first ground =
-      result_turns p.imports p.outcome ground (λ n. false) (λ n. is_open (pass (ResultEnd h) Request ∷ []) (whole_end 0 p.imports n)) (λ n. false)
-      (λ n. is_open (pass (ResultEnd h) Request ∷ []) (ResultEnd n)) (λ j. refl) (result_at (pass (ResultEnd h) Request ∷ [])) less (λ j at up. absurd (cc up))
-      (result_keeps (λ n. is_open (pass (ResultEnd h) Request ∷ []) (ResultEnd n)) one) (none_turns p.imports p.outcome ground asked_ground)
+  -- where the result is open at this handshake alone
+  pub asked_turned : (past : List Pass) → OnlyAt h past → is_open past (ResultEnd h) ≡ true
+      → ((i g : ℕ) (x : Imported) → slice_get p.imports i ≡ Some x → is_open past (ImportEnd i g) ≡ true → KeepsTurnsOf x.ty (λ n. is_open past (ImportEnd i n)))
+      → Turned p past
+  asked_turned past only up kept =
+      ports_turned p past (result_keeps (of_result (is_open past)) only) kept (λ i g there. there_some (count p.outcome) (of_result (is_open past)) h below up)
     where
-      less : (n : ℕ) → n < width p.imports → is_open (pass (ResultEnd h) Request ∷ []) (whole_end 0 p.imports n) ≡ true → false ≡ true
-      less n small up = let (i, g, at) = import_end 0 p.imports n small in sym (ap (is_open (pass (ResultEnd h) Request ∷ [])) at) ∙ up
+      below : h < count p.outcome
+      below = subst (λ (t : Type'). h < count t) (sym is) (type_below h w low)
 
-      by_test : (k : ℕ) (b : Bool) → nat_eq h k ≡ b → (if b then true else false) ≡ true → k ≡ h
-      by_test k true t up = grind (arith, t)
-      by_test k false t up = absurd (cc up)
-
-      one : (k : ℕ) → is_open (pass (ResultEnd h) Request ∷ []) (ResultEnd k) ≡ true → k ≡ h
-      one k up = by_test k (nat_eq h k) refl up
-
-  pub asked_answer : AllGround p.imports → (i g : ℕ) (past : List Pass) → OnlyAt h past → Turned p past → Turned p (pass (ImportEnd i g) Answer ∷ past)
-  asked_answer ground i g past only turned =
-      result_turns p.imports p.outcome ground (λ n. is_open past (whole_end 0 p.imports n)) (λ n. is_open (pass (ImportEnd i g) Answer ∷ past) (whole_end 0 p.imports n))
-      (λ n. is_open past (ResultEnd n)) (λ n. is_open past (ResultEnd n)) (result_at past) (result_at (pass (ImportEnd i g) Answer ∷ past))
-      (λ n small up. closed_more (same_end (ImportEnd i g) (whole_end 0 p.imports n)) (is_open past (whole_end 0 p.imports n)) up) (λ j at up. (j, at, up))
-      (result_keeps (λ n. is_open past (ResultEnd n)) only) turned
+  pub asked_first : Turned p (pass (ResultEnd h) Request ∷ [])
+  asked_first =
+      asked_turned (pass (ResultEnd h) Request ∷ []) (λ k up. one k (nat_eq h k) refl up) (ap (λ (b : Bool). if b then true else false) (nat_eq_self h))
+      (λ i g x there up. absurd (cc up))
+    where
+      one : (k : ℕ) (b : Bool) → nat_eq h k ≡ b → (if b then true else false) ≡ true → k ≡ h
+      one k true t up = grind (arith, t)
+      one k false t up = absurd (cc up)
 
   -- where the result is closed so are the imports
   pub asked_shut : (past : List Pass) → Turned p past → ((k : ℕ) → is_open past (ResultEnd k) ≡ false) → (i g : ℕ) (c : Contact) → contact_at p (ImportEnd i g) ≡ Some c

@@ -1,12 +1,12 @@
 -- The whole law, from the parts: stages that are laid so are stages of a write, where their plans realise the two sides.
 use Rattle.std.specs.Prelude.{◌^◌, ◌<◌, Contains}
 use Rattle.std.proofs.Common.{◌≡◌, ℕ, zero, suc, List, [], ◌∷◌, refl, sym, ◌∙◌, ap, subst, arith}
-use Rattle.gos_types.specs.Types.{Type', Com, Exp, Var, IsDone}
+use Rattle.gos_types.specs.Types.{Type', Com, Exp, Var, IsDone, IsGround}
 use Rattle.gos_model.specs.Terms.{Term, Assign, Lit}
 use Rattle.gos_model.specs.Typing.{Typed}
 use Rattle.gos_plan.specs.Plans.{ResultEnd, Plan}
 use Rattle.gos_realises.specs.Matched.{RealisesDone}
-use Rattle.gos_realises.specs.Realises.{Realises, NamesDiffer}
+use Rattle.gos_realises.specs.Realises.{AllGround, Realises, NamesDiffer}
 use Rattle.gos_realises.proofs.InputLemmas.{result_asks}
 use Rattle.gos_webs.specs.Cutting.{StandsIn}
 use Rattle.gos_windows.specs.Regions.{IsLoyal}
@@ -17,6 +17,7 @@ use Rattle.gos_writes.specs.Writes.{asked_type, IsWriteStage, IsWrite, AreRestfu
 use Rattle.gos_writes.specs.Realised.{SessionIsRealised, AreWritten}
 use Rattle.gos_writes.specs.Written.{unread}
 use Rattle.gos_writes.specs.Assignments.{IsAssignment, AssignmentIsRealised}
+use Rattle.gos_writes.proofs.AskedLemmas.{ground_heard}
 use Rattle.gos_writes.proofs.JoinedLemmas.{only_written}
 use Rattle.gos_writes.proofs.OrderLemmas.{write_is_regular}
 use Rattle.gos_writes.proofs.MatchedLemmas.{write_realises_by_type}
@@ -72,6 +73,7 @@ module _
         imports = laid.imports;
         names = asks.suits.names;
         ports = laid.ports;
+        heard = ground_heard number.cut r number.plan asks.suits.all_ground (subst IsGround (sym asks.suits.outcome) tt);
       }
 
   variable_stage : IsWriteStage r d w variable
@@ -88,11 +90,14 @@ module _
         regular = variable_at IsRegularAt written.0;
         loyal = λ x i has at.
             variable_at (λ h q. IsLoyalAt h i x.ty x.side q)
-            (unread_loyal p w writes.suits.right writes.suits.outcome writes.suits.all_ground writes.suits.regular i x.ty x.side (laid.loyal x i has at));
+            (unread_loyal p w writes.suits.right writes.suits.outcome writes.suits.regular i x.ty x.side (laid.loyal x i has at));
         run_by = laid.run_by;
         imports = laid.imports;
         names = subst (λ (x : Plan). NamesDiffer x.imports) (sym whole.plan) writes.suits.names;
         ports = laid.ports;
+        heard =
+            ground_heard variable.cut r variable.plan (subst (λ (x : Plan). AllGround x.imports) (sym whole.plan) writes.suits.all_ground)
+            (subst (λ (x : Plan). IsGround x.outcome) (sym whole.plan) (subst IsGround (sym writes.suits.outcome) tt));
       }
 
   abbrev SameAs : Stage → Stage → Type 0
@@ -117,11 +122,10 @@ module _
               right = whole.right;
               own = whole.own;
               literals = whole.literals;
-              ground = whole.ground;
+              names = whole.names;
               stages = of_two (λ (x : Stage). IsWriteStage r d w x) number_stage variable_stage;
             };
         outcome = whole.outcome;
-        names = whole.names;
         one = one_each;
         staged = staged;
         result = whole.result;
@@ -149,7 +153,7 @@ module _
       }
 
   pub realised : Typed r.imports [] (Assign m n) Com → Realises Com r (Assign m n) × IsRestful r
-  realised typed = (write_realises_by_type r d w gs m n is_write restful are_written typed, (write_is_regular r d w gs is_write restful).1)
+  realised typed = (write_realises_by_type r d w gs m n is_write whole.ground restful are_written typed, (write_is_regular r d w gs is_write restful).1)
 
 pub assignment_is_realised : AssignmentIsRealised
 assignment_is_realised r d w number variable p m n whole asks writes typed = realised r d w number variable p m n whole asks writes typed

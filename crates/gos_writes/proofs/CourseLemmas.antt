@@ -34,12 +34,13 @@ use Rattle.gos_writes.proofs.AskedLemmas.{ground_role, asked_ground}
 use Rattle.gos_writes.proofs.OwnLemmas as table
 use Rattle.gos_writes.proofs.StageLemmas.{stage, ground_stage, Ran, OnStage, lies, end_is, fires_in, out_in, answers}
 use Rattle.gos_writes.proofs.LiftLemmas.{Lifted, fire_up, out_up, in_up, goes_down}
-use Rattle.gos_writes.proofs.FollowLemmas.{Follows, follows_step}
+use Rattle.gos_writes.proofs.FollowLemmas.{Follows, standing, follows_step, goes_as}
 use Rattle.gos_writes.proofs.RegionLemmas.{outside_stays, out_shown, in_shown}
-use Rattle.gos_writes.proofs.SessionLemmas.{Stirred, stirred}
+use Rattle.gos_writes.proofs.SessionLemmas.{Stirred, stirred, in_stage_stands}
+use Rattle.gos_realises.specs.Realises.{AllGround}
 
 module _
-    (q : Plan) (d w : ℕ) (f : Cut) (p : Plan) (base : HasStages q d w (lone_stage f p ∷ [])) (outcome : q.outcome ≡ Com) (regular : IsRegular q)
+    (q : Plan) (d w : ℕ) (f : Cut) (p : Plan) (base : HasStages q d w (lone_stage f p ∷ [])) (ground : AllGround q.imports) (outcome : q.outcome ≡ Com) (regular : IsRegular q)
     (before first : Tokens) (idle_first : IsIdle q first) where
   abbrev pub g : Stage
   g = lone_stage f p
@@ -63,7 +64,7 @@ module _
     pub whole : Runs q ks first s
     pub turns : InputsKeepTurns q [] ks
     pub turned : Turned q (passed q [] ks)
-    pub follows : Follows g (passed p [] hs) (passed q [] ks)
+    pub follows : Follows q g (passed p [] hs) (passed q [] ks)
     pub fit : AllFit q s
 
   pub record Up (hs ks : List Element) (y : Element) (s u : Tokens) : Type 0 where
@@ -75,7 +76,7 @@ module _
 
   make : (hs ks : List Element) (y : Element) (s u : Tokens) → At hs ks s → Stays p y → InputsKeepTurns p (passed p [] hs) (y ∷ []) → Does p y (seen g s) u
       → Lifted q d w gs base g has (whole_element f y) s u → InputsKeepTurns q (passed q [] ks) (whole_element f y ∷ []) → Turned q (after q (whole_element f y) (passed q [] ks))
-      → Follows g (after p y (passed p [] hs)) (after q (whole_element f y) (passed q [] ks)) → Up hs ks y s u
+      → Follows q g (after p y (passed p [] hs)) (after q (whole_element f y) (passed q [] ks)) → Up hs ks y s u
   make hs ks y s u at stays own_turn own_does lifted turn turned follows =
       record {
         to = lifted.to;
@@ -103,8 +104,8 @@ module _
               turns = inputs_then q [] ks (whole_element f y ∷ []) at.turns turn;
               turned = subst (Turned q) (sym (passed_then q [] ks (whole_element f y))) turned;
               follows =
-                  subst (λ (x : List Pass). Follows g x (passed q [] (ks ++ whole_element f y ∷ []))) (sym (passed_then p [] hs y))
-                  (subst (λ (x : List Pass). Follows g (after p y (passed p [] hs)) x) (sym (passed_then q [] ks (whole_element f y))) follows);
+                  subst (λ (x : List Pass). Follows q g x (passed q [] (ks ++ whole_element f y ∷ []))) (sym (passed_then p [] hs y))
+                  (subst (λ (x : List Pass). Follows q g (after p y (passed p [] hs)) x) (sym (passed_then q [] ks (whole_element f y))) follows);
               fit = all_stay_fit q (whole_element f y ∷ []) s lifted.to base.right base.literals at.fit (lifted.to, lifted.does, refl);
             };
         turn = turn;
@@ -119,11 +120,11 @@ module _
   ways_in : (i h : ℕ) → StandsIn p (ImportEnd i h) → way_in (contact_at q (f.outer (ImportEnd i h))) ≡ way_in (contact_at p (ImportEnd i h))
   ways_in i h stands = ap way_in (there.region.contacts (ImportEnd i h) tt stands)
 
-  follows_at : (own past : List Pass) → Follows g own past → (i h : ℕ) → StandsIn p (ImportEnd i h) → (way other : Direction) → other ≡ way
-      → Follows g (pass (ImportEnd i h) way ∷ own) (pass (f.outer (ImportEnd i h)) other ∷ past)
+  follows_at : (own past : List Pass) → Follows q g own past → (i h : ℕ) → StandsIn p (ImportEnd i h) → (way other : Direction) → other ≡ way
+      → Follows q g (pass (ImportEnd i h) way ∷ own) (pass (f.outer (ImportEnd i h)) other ∷ past)
   follows_at own past follows i h stands way other same =
-      subst (λ (x : Direction). Follows g (pass (ImportEnd i h) way ∷ own) (pass (f.outer (ImportEnd i h)) x ∷ past)) (sym same)
-      (follows_step q d w gs base g has own past follows i h (f.outer (ImportEnd i h)) stands refl way)
+      subst (λ (x : Direction). Follows q g (pass (ImportEnd i h) way ∷ own) (pass (f.outer (ImportEnd i h)) x ∷ past)) (sym same)
+      (follows_step q d w gs base g has own past follows i h (f.outer (ImportEnd i h)) (standing q d w gs base g has i h stands) refl way)
 
   pub up : (hs ks : List Element) (y : Element) (s u : Tokens) → At hs ks s → Stays p y → InputsKeepTurns p (passed p [] hs) (y ∷ []) → Does p y (seen g s) u → Up hs ks y s u
   up hs ks (Fire j slot) s u at stays own_turn does =
@@ -147,16 +148,19 @@ module _
   up hs ks (In (PartEnd i h) v) s u at stays own_turn does = absurd stays
   up hs ks (In (ResultEnd h) v) s u at stays own_turn does = absurd stays
   up hs ks (In (ImportEnd i h) v) s u at stays own_turn does =
-      make hs ks (In (ImportEnd i h) v) s u at stays own_turn does (in_up q d w gs base g has s at.fit at.stirs.places i h v u stays does) (turn, tt) turn.1
-      (follows_at (passed p [] hs) (passed q [] ks) at.follows i h stays (way_in (contact_at p (ImportEnd i h))) (way_in (contact_at q b)) (ways_in i h stays))
+      make hs ks (In (ImportEnd i h) v) s u at stays own_turn does (in_up q d w gs base g has s at.fit at.stirs.places i h v u stands does) (turn, tt) turn.1
+      (follows_at (passed p [] hs) (passed q [] ks) at.follows i h stands (way_in (contact_at p (ImportEnd i h))) (way_in (contact_at q b)) (ways_in i h stands))
     where
       b : End
       b = f.outer (ImportEnd i h)
 
+      stands : StandsIn p (ImportEnd i h)
+      stands = in_stage_stands q d w g ground there i h v stays
+
       comes : way_in (contact_at p (ImportEnd i h)) ≡ Answer
       comes =
           let (c, at_end) = in_there p (ImportEnd i h) v (seen g s) u does in
-          elim (ground_role p (ground_stage q d w gs base g has) (asked_ground p 1 w there.low there.outcome) (ImportEnd i h) c tt at_end) [
+          elim (ground_role p (ground_stage q d w gs base g has ground) (asked_ground p 1 w there.low there.outcome) (ImportEnd i h) c tt at_end) [
             | inl result ↦ (let clash : ImportEnd i h ≡ ResultEnd result.0 = result.1 in absurd (cc clash))
             | inr import ↦ way_in_of p (ImportEnd i h) c at_end ∙ ap way_put import.3
           ]
@@ -166,10 +170,10 @@ module _
 
       turn : KeepsTurns q (passed q [] ks) (pass b (way_in (contact_at q b)))
       turn =
-          let (n, at_n, same) = there.ports i h stays in
-          subst (λ (x : Direction). KeepsTurns q (passed q [] ks) (pass b x)) (sym (ways_in i h stays ∙ comes)) (
-            sym (at.follows.same i h stays) ∙ own_open,
-            subst (λ (x : End). Turned q (pass x Answer ∷ passed q [] ks)) (sym at_n) (answer_turned q base.ground done n h (passed q [] ks) at.turned),
+          let (n, at_n, same) = there.ports i h stands in
+          subst (λ (x : Direction). KeepsTurns q (passed q [] ks) (pass b x)) (sym (ways_in i h stands ∙ comes)) (
+            goes_as q d w gs base g has (passed p [] hs) (passed q [] ks) at.follows i h b (standing q d w gs base g has i h stands) refl Answer own_open,
+            subst (λ (x : End). Turned q (pass x Answer ∷ passed q [] ks)) (sym at_n) (answer_turned q ground done n h (passed q [] ks) at.turned),
           )
 
   -- where the plan is quiet, so is the lone write
@@ -231,7 +235,7 @@ module _
   shown_down (Out (ImportEnd i h) v) stays = out_shown q d w g there i h v stays
   shown_down (In (PartEnd i h) v) stays = absurd stays
   shown_down (In (ResultEnd h) v) stays = absurd stays
-  shown_down (In (ImportEnd i h) v) stays = in_shown q d w g there i h v stays
+  shown_down (In (ImportEnd i h) v) stays = in_shown q d w g there i h v (in_stage_stands q d w g ground there i h v stays)
 
   goes_so : (y : Element) (s u : Tokens) (acts : List Act) → Does p y (seen g s) u → GoesOn q s (whole_element f y) acts → GoesOn p (seen g s) y acts
   goes_so (Fire j slot) s u acts does goes = goes_down q d w gs base g has s u j slot acts does goes
@@ -297,7 +301,7 @@ module _
           let shown = n.3 ∙ shown_down y one in
           let goes = goes_so y s u n.0 does n.4 in
           let own : Does p y (seen g s) (seen g step.to) = subst (λ (x : Tokens). Does p y (seen g s) x) (sym step.same) does in
-          let stir : Stirred q g y s n.0 = stirred q d w g there y s (seen g step.to) step.to n.0 own one step.does shown goes in
+          let stir : Stirred q g y s n.0 = stirred q d w g ground there y s (seen g step.to) step.to n.0 own one step.does shown goes in
           let stays = inner_stays G n.0 b st n.1 stir.inner n.2 in
           let rest =
           matched_down zs all (hs ++ y ∷ []) (ks ++ whole_element f y ∷ []) step.to stays.0 stays.1 step.at (later_turns hs y (zs ++ tp) turns)

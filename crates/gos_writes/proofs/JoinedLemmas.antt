@@ -29,7 +29,7 @@ use Rattle.gos_writes.specs.OneSession.{IsRegularAt}
 use Rattle.gos_writes.specs.Writes.{IsWriteStage, HasStages}
 use Rattle.gos_writes.specs.Variables.{lone_stage, IsLoneWrite}
 use Rattle.gos_writes.specs.Written.{unread_joints, unread, if_there, written_cut}
-use Rattle.gos_writes.proofs.AskedLemmas.{ground_asks, asked_contact}
+use Rattle.gos_writes.proofs.AskedLemmas.{ground_asks, ground_heard, asked_contact}
 
 -- joints without those of handshake 0
 kept_in : (x : Joint) (js : List Joint) → same_end x.asking (ResultEnd 0) ≡ false → IsIn x js → IsIn x (unread_joints js)
@@ -334,6 +334,7 @@ module _
         imports = λ i has. subst (λ (xs : List Imported). Contains xs i) (sym driven.imports) has;
         names = differ;
         ports = λ i h stands. (i, refl, ap (λ (xs : List Imported). slice_get xs i) driven.imports);
+        heard = ground_heard f q c ground (subst IsGround (sym outcome) tt);
       }
 
   one_member : (g e : Stage) → Contains (g ∷ []) e → g ≡ e
@@ -346,7 +347,7 @@ module _
         right = driven.right;
         own = own_part;
         literals = literals_same q.parts (p.parts ++ drivers) driven.parts (literals_append p.parts drivers literals (writing_literals w k small));
-        ground = subst AllGround (sym driven.imports) ground;
+        names = subst NamesDiffer (sym driven.imports) differ;
         stages = λ g has. subst (λ (x : Stage). IsWriteStage q n w x) (one_member (lone_stage f c) g has) stage_so;
       }
 
@@ -379,7 +380,7 @@ module _
       record {
         base = base;
         outcome = join.joining.outcome;
-        names = subst NamesDiffer (sym driven.imports) differ;
+        ground = subst AllGround (sym driven.imports) ground;
         imports = driven.imports;
         lit = lit_part;
         beside = lit_out;

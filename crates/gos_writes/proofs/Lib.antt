@@ -9,7 +9,6 @@ pub mod PlaceLemmas
 pub mod WindowLemmas
 pub mod QuietLemmas
 pub mod OutputLemmas
-pub mod ClosedLemmas
 pub mod MatchLemmas
 pub mod OrderLemmas
 pub mod RegionLemmas

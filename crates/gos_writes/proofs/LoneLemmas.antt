@@ -106,7 +106,7 @@ module _
   turn = subst (λ (way : Direction). KeepsTurns q [] (pass (ResultEnd 0) way)) (sym (result_in q done)) (refl, first)
 
   -- the plan has been asked
-  asked : At q d w f p lone.base lone.outcome regular before s0 idle_first (In (ResultEnd 1) k ∷ []) first_list s4
+  asked : At q d w f p lone.base lone.ground lone.outcome regular before s0 idle_first (In (ResultEnd 1) k ∷ []) first_list s4
   asked =
       record {
         ran =
@@ -122,19 +122,19 @@ module _
         turns = (turn, tt);
         turned = turn.1;
         follows =
-            subst (λ (way : Direction). Follows g (passed p [] (In (ResultEnd 1) k ∷ [])) (pass (ResultEnd 0) way ∷ [])) (sym (result_in q done))
-            (subst (λ (way : Direction). Follows g (pass (ResultEnd 1) way ∷ []) (pass (ResultEnd 0) Request ∷ [])) (sym own_in)
-            (follows_first q d w (g ∷ []) lone.base g (course.has q d w f p lone.base lone.outcome regular before s0 idle_first) (pass (ResultEnd 0) Request ∷ []) (refl, λ i h. refl)));
+            subst (λ (way : Direction). Follows q g (passed p [] (In (ResultEnd 1) k ∷ [])) (pass (ResultEnd 0) way ∷ [])) (sym (result_in q done))
+            (subst (λ (way : Direction). Follows q g (pass (ResultEnd 1) way ∷ []) (pass (ResultEnd 0) Request ∷ [])) (sym own_in)
+            (follows_first q d w (g ∷ []) lone.base g (course.has q d w f p lone.base lone.ground lone.outcome regular before s0 idle_first) (pass (ResultEnd 0) Request ∷ []) (refl, λ i h. refl)));
         fit = all_stay_fit q first_list s0 s4 lone.base.right lone.base.literals (idle_fits q s0 idle_first) runs;
       }
     where
       own_in : way_in (contact_at p (ResultEnd 1)) ≡ Request
       own_in =
-          let there = course.there q d w f p lone.base lone.outcome regular before s0 idle_first in asked_in p 1 w there.low there.outcome
+          let there = course.there q d w f p lone.base lone.ground lone.outcome regular before s0 idle_first in asked_in p 1 w there.low there.outcome
 
   -- its session's list, with this end
   module _
-      (tp tq zs : List Element) (tails : Tails q d w f p lone.base lone.outcome regular before s0 idle_first G tp tq) (all : AllStay p zs) (t : Tokens)
+      (tp tq zs : List Element) (tails : Tails q d w f p lone.base lone.ground lone.outcome regular before s0 idle_first G tp tq) (all : AllStay p zs) (t : Tokens)
       (later : Runs p (zs ++ tp) u t) (turns : InputsKeepTurns p (passed p [] (In (ResultEnd 1) k ∷ [])) (zs ++ tp)) where
     abbrev rest : List Element
     rest = map (whole_element f) zs ++ tq
@@ -144,7 +144,7 @@ module _
 
     raised : (x : Tokens) × Runs q rest s4 x × InputsKeepTurns q (passed q [] first_list) rest
     raised =
-        course.runs_up q d w f p lone.base lone.outcome regular before s0 idle_first G tp tq tails zs all (In (ResultEnd 1) k ∷ []) first_list s4 t asked
+        course.runs_up q d w f p lone.base lone.ground lone.outcome regular before s0 idle_first G tp tq tails zs all (In (ResultEnd 1) k ∷ []) first_list s4 t asked
         (subst (λ (x : Tokens). Runs p (zs ++ tp) x t) (sym seen_is) later) turns
 
     whole_runs : Runs q (In (ResultEnd 0) 0 ∷ Fire d (Req 2) ∷ Fire l (Req 0) ∷ Fire d (Ans 0) ∷ rest) s0 raised.0
@@ -165,7 +165,7 @@ module _
     matched : IsMatched q G (In (ResultEnd 0) 0 ∷ Fire d (Req 2) ∷ Fire l (Req 0) ∷ Fire d (Ans 0) ∷ rest) s0 Idle
     matched =
         (realises s0 raised.0 (In (ResultEnd 0) 0 ∷ Fire d (Req 2) ∷ Fire l (Req 0) ∷ Fire d (Ans 0) ∷ rest) idle_first whole_runs
-        (turns_keep_protocol q (In (ResultEnd 0) 0 ∷ Fire d (Req 2) ∷ Fire l (Req 0) ∷ Fire d (Ans 0) ∷ rest) s0 raised.0 lone.base.ground lone.names done whole_runs
+        (turns_keep_protocol q (In (ResultEnd 0) 0 ∷ Fire d (Req 2) ∷ Fire l (Req 0) ∷ Fire d (Ans 0) ∷ rest) s0 raised.0 lone.ground lone.base.names done whole_runs
         (turn, raised.2))).0
 
     abbrev pub Session : Program → Type 0
@@ -183,7 +183,7 @@ module _
         let joined =
         four_moves G one.0 two.0 three.0 four.0 one.1 two.1 three.1 four.1 one.2 (one.3 ∙ request_shown q 0 done) two.2 two.3 three.2 three.3 four.2 four.3 some in
         let down =
-        course.matched_down q d w f p lone.base lone.outcome regular before s0 idle_first G tp tq tails zs all (In (ResultEnd 1) k ∷ []) first_list s4 joined.4 joined.5 asked turns
+        course.matched_down q d w f p lone.base lone.ground lone.outcome regular before s0 idle_first G tp tq tails zs all (In (ResultEnd 1) k ∷ []) first_list s4 joined.4 joined.5 asked turns
         (subst (λ (x : Config). IsMatched q G rest s4 x) joined.6 four.5) in (
           joined.0,
           four.1,
@@ -219,13 +219,13 @@ lone_write_is_session q d l w k f p m lone regular realises s u t ys tidy idle w
     by_end (inl all) =
         subst (Matches p (terms.Assign m (terms.Lit k w)) u) (no_more ys)
         (session q d l w k f p m lone regular realises s u tidy idle does one [] [] ys
-        (no_tails q d w f p lone.base lone.outcome regular s (prefix.s0 q d l w k f p lone s u tidy idle does)
+        (no_tails q d w f p lone.base lone.ground lone.outcome regular s (prefix.s0 q d l w k f p lone s u tidy idle does)
         (prefix.idle_first q d l w k f p lone s u tidy idle does) (program_of q (terms.Assign m (terms.Lit k w)))) all t
         (subst (λ (x : List Element). Runs p x u t) (sym (no_more ys)) runs)
         (subst (λ (x : List Element). InputsKeepTurns p (passed p [] (In (ResultEnd 1) k ∷ [])) x) (sym (no_more ys)) later))
     by_end (inr (zs, v, all, is)) =
         subst (Matches p (terms.Assign m (terms.Lit k w)) u) (sym is)
         (session q d l w k f p m lone regular realises s u tidy idle does one (Out (ResultEnd 1) v ∷ []) (Fire d (Ans 1) ∷ Out (ResultEnd 0) 0 ∷ []) zs
-        (ended_tails q d w f p lone.base lone.outcome regular lone.run s (prefix.s0 q d l w k f p lone s u tidy idle does)
+        (ended_tails q d w f p lone.base lone.ground lone.outcome regular lone.run s (prefix.s0 q d l w k f p lone s u tidy idle does)
         (prefix.idle_first q d l w k f p lone s u tidy idle does) (program_of q (terms.Assign m (terms.Lit k w))) v) all t
         (subst (λ (x : List Element). Runs p x u t) is runs) (subst (λ (x : List Element). InputsKeepTurns p (passed p [] (In (ResultEnd 1) k ∷ [])) x) is later))

@@ -2,10 +2,12 @@
 use Rattle.std.specs.Prelude.{None, slice_get, Contains}
 use Rattle.std.proofs.Common.{◌≡◌, ℕ, Bool, true, false, List, [], ◌∷◌, ◌⊎◌, Option, Some, inl, inr, refl, sym, ◌∙◌, ap, subst, if◌then◌else◌}
 use Rattle.std.proofs.lemmas.Option.{same_Some}
+use Rattle.gos_types.specs.declared.shakes.Role.TheVariants.{Ask}
 use Rattle.gos_netlist.specs.Events.{Direction, Request, Answer}
+use Rattle.gos_model.specs.Typing.{Imported}
 use Rattle.gos_plan.specs.Kinds.{Part, Contact}
 use Rattle.gos_plan.specs.Firing.{Slot, Ans, Token, Row}
-use Rattle.gos_plan.specs.Plans.{End, PartEnd, ImportEnd, ResultEnd, Plan, contacts_of_part, contact_at, same_end}
+use Rattle.gos_plan.specs.Plans.{End, PartEnd, ImportEnd, ResultEnd, Plan, contacts_of_part, contacts_of_import, contact_at, same_end}
 use Rattle.gos_plan.specs.Tokens.{Tokens, Element, Fire, Out, In, IsPortEnd, places_of, token_at, with_token, with_state, end_of, way_of, shake_of, way_taken, way_put, firing_of, Does}
 use Rattle.gos_plan.specs.Orderly.{named_by, handshake_at, Open, with_open, after_taken, after_put, after_puts, ComesWell, AllComeWell, ComesInOrder, AllWelcome}
 use Rattle.gos_plan.proofs.JointLemmas.{same_is}
@@ -23,8 +25,9 @@ use Rattle.gos_windows.proofs.InlayLemmas.{inlay, Agree, place_agrees, agree_tok
 use Rattle.gos_windows.proofs.PortLemmas.{stands_place}
 use Rattle.gos_writes.proofs.OwnLemmas.{takes_answer}
 use Rattle.gos_windows.proofs.NodeLemmas.{answer_slot}
-use Rattle.gos_writes.specs.OneSession.{Stays}
-use Rattle.gos_writes.proofs.OneSessionLemmas.{out_stands, in_stands}
+use Rattle.gos_windows.proofs.WindowLemmas.{Standing}
+use Rattle.gos_windows.proofs.MeetLemmas.{IsUnjoined}
+use Rattle.gos_windows.proofs.MatchLemmas.{IsLoose}
 use Rattle.gos_writes.proofs.StageLemmas.{stage, cut, InStage, OnStage, Ran, lies, end_is, seen_state, fires_agree, own_contact}
 
 module _
@@ -78,7 +81,8 @@ module _
     pub result : o (ResultEnd 0) ≡ true
     pub same : (e : End) → Owns g.plan e → o (lies_at g.cut e) ≡ own e
     pub only :
-        (x : End) → o x ≡ true → (x ≡ ResultEnd 0) ⊎ ((x ≡ PartEnd d g.asked_at) ⊎ ((e : End) × Owns g.plan e × (lies_at g.cut e ≡ x)))
+        (x : End) → o x ≡ true
+        → (x ≡ ResultEnd 0) ⊎ ((x ≡ PartEnd d g.asked_at) ⊎ (((e : End) × Owns g.plan e × (lies_at g.cut e ≡ x)) ⊎ IsLoose r x))
 
   opens_with : (own o : Open) → Opens own o → (a : End) → Owns g.plan a → (b : Bool) → Opens (with_open a b own) (with_open (lies_at g.cut a) b o)
   opens_with own o opens a owned b =
@@ -94,8 +98,8 @@ module _
       by_result false t = opens.result
 
       by_end : (x : End) (t : Bool) → same_end x (lies_at g.cut a) ≡ t → (if t then b else o x) ≡ true
-          → (x ≡ ResultEnd 0) ⊎ ((x ≡ PartEnd d g.asked_at) ⊎ ((e : End) × Owns g.plan e × (lies_at g.cut e ≡ x)))
-      by_end x true t up = inr (inr (a, owned, sym (same_is x (lies_at g.cut a) t)))
+          → (x ≡ ResultEnd 0) ⊎ ((x ≡ PartEnd d g.asked_at) ⊎ (((e : End) × Owns g.plan e × (lies_at g.cut e ≡ x)) ⊎ IsLoose r x))
+      by_end x true t up = inr (inr (inl (a, owned, sym (same_is x (lies_at g.cut a) t))))
       by_end x false t up = opens.only x up
 
   put_opens : (own o : Open) → Opens own o → (e : End) → Owns g.plan e → Agrees (lies_at g.cut e) → (way : Direction)
@@ -241,13 +245,90 @@ module _
           (put_opens own o opens e (port_own g.plan e port stands) (stands_agree e port stands) (way_put c.role)),
     )
 
-    pub stage_order : (y : Element) → Stays g.plan y → Does g.plan y (seen g s) (seen g t) → Does r (whole_element g.cut y) s t
+    -- an input where there is no joint
+    loose_order : (i n v : ℕ) → (none : IsUnjoined r g.cut g.plan i n) → ComesInOrder g.plan (In (ImportEnd i n) v) (seen g s) own mown → o (ImportEnd none.import n) ≡ false
+        → (m : Open) × ComesInOrder r (In (g.cut.outer (ImportEnd i n)) v) s o m × Opens mown m
+    loose_order i n v none comes shut =
+        subst (λ (b : End). (m : Open) × ComesInOrder r (In b v) s o m × Opens mown m) (sym none.outer)
+        (after_put r (ImportEnd none.import n) Request o, in_order, subst (λ (z : Open). Opens z (after_put r (ImportEnd none.import n) Request o)) (sym own_now) opened)
+      where
+        named : handshake_at r (ImportEnd none.import n) ≡ ImportEnd none.import n
+        named = ap (λ (x : Option End). named_by x (ImportEnd none.import n)) none.none
+
+        own_named : handshake_at g.plan (ImportEnd i n) ≡ ImportEnd i n
+        own_named = ap (λ (x : Option End). named_by x (ImportEnd i n)) none.own_none
+
+        at_whole : contact_at r (ImportEnd none.import n) ≡ Some none.contact
+        at_whole = ap (λ (x : Option Imported). slice_get (contacts_of_import x) n) none.same ∙ none.own
+
+        in_order : ComesInOrder r (In (ImportEnd none.import n) v) s o (after_put r (ImportEnd none.import n) Request o)
+        in_order c at_c =
+            let same : none.contact ≡ c = same_Some none.contact c (sym at_whole ∙ at_c) in
+            let asks : Ask ≡ c.role = sym none.asks ∙ ap (λ (x : Contact). x.role) same in
+            subst (λ (way : Direction). ComesWell r (ImportEnd none.import n) way o s
+            × (after_put r (ImportEnd none.import n) Request o ≡ after_put r (ImportEnd none.import n) way o)) (ap way_put asks)
+            (ap o named ∙ shut, refl)
+
+        own_now : mown ≡ with_open (ImportEnd i n) true own
+        own_now =
+            (comes none.contact none.own).1
+            ∙ (ap (λ (way : Direction). after_put g.plan (ImportEnd i n) way own) (ap way_put none.asks) ∙ ap (λ (x : End). with_open x true own) own_named)
+
+        apart : (e : End) → Owns g.plan e → (b : Bool) → same_end (lies_at g.cut e) (ImportEnd none.import n) ≡ b → b ≡ false
+        apart e owned false t = refl
+        apart (PartEnd j h) owned true t = sym t
+        apart (ImportEnd j h) stands true t =
+            let (a, named_so) = stands_place g.plan there.region.right (ImportEnd j h) stands in
+            let laid = sym (stands_agree (ImportEnd j h) tt stands) ∙ place_there g.cut whole g.plan (cut r d wide gs node.base g has) (ImportEnd j h) a named_so in
+            let clash : None ≡ Some (lies_at g.cut a) = sym none.none ∙ (ap (places_of r) (sym (same_is (g.cut.outer (ImportEnd j h)) (ImportEnd none.import n) t)) ∙ laid) in
+            absurd (cc clash)
+        apart (ResultEnd h) stands true t =
+            let zero_is = there.only h stands in
+            let here = subst (λ (k : ℕ). StandsIn g.plan (ResultEnd k)) zero_is stands in
+            let at = ap (λ (k : ℕ). g.cut.outer (ResultEnd k)) zero_is ∙ there.run_by here in
+            let clash : PartEnd d g.asked_at ≡ ImportEnd none.import n = sym at ∙ same_is (g.cut.outer (ResultEnd h)) (ImportEnd none.import n) t in absurd (cc clash)
+
+        own_apart : (e : End) → Owns g.plan e → (b : Bool) → same_end e (ImportEnd i n) ≡ b → b ≡ false
+        own_apart e owned false t = refl
+        own_apart (PartEnd j h) owned true t = sym t
+        own_apart (ResultEnd h) stands true t = sym t
+        own_apart (ImportEnd j h) stands true t =
+            let (a, named_so) = stands_place g.plan there.region.right (ImportEnd j h) stands in
+            let clash : None ≡ Some a = sym none.own_none ∙ (ap (places_of g.plan) (sym (same_is (ImportEnd j h) (ImportEnd i n) t)) ∙ named_so) in
+            absurd (cc clash)
+
+        at_end : (x : End) (b : Bool) → same_end x (ImportEnd none.import n) ≡ b → (if b then true else o x) ≡ true
+            → (x ≡ ResultEnd 0) ⊎ ((x ≡ PartEnd d g.asked_at) ⊎ (((e : End) × Owns g.plan e × (lies_at g.cut e ≡ x)) ⊎ IsLoose r x))
+        at_end x true t up =
+            let is = same_is x (ImportEnd none.import n) t in
+            inr (inr (inr (subst (λ (e : End). IsPortEnd e) (sym is) tt, ap (places_of r) is ∙ none.none)))
+        at_end x false t up = opens.only x up
+
+        opened : Opens (with_open (ImportEnd i n) true own) (after_put r (ImportEnd none.import n) Request o)
+        opened =
+            subst (λ (x : End). Opens (with_open (ImportEnd i n) true own) (with_open x true o)) (sym named)
+            (record {
+              result = opens.result;
+              same = λ e owned.
+                  ap (λ (b : Bool). if b then true else o (lies_at g.cut e)) (apart e owned (same_end (lies_at g.cut e) (ImportEnd none.import n)) refl)
+                  ∙ (opens.same e owned ∙ sym (ap (λ (b : Bool). if b then true else own e) (own_apart e owned (same_end e (ImportEnd i n)) refl)));
+              only = λ x up. at_end x (same_end x (ImportEnd none.import n)) refl up;
+            })
+
+    pub stage_order : (y : Element) → Standing r g y
+        → ((k n v : ℕ) → whole_element g.cut y ≡ In (ImportEnd k n) v → places_of r (ImportEnd k n) ≡ None → o (ImportEnd k n) ≡ false)
+        → Does g.plan y (seen g s) (seen g t) → Does r (whole_element g.cut y) s t
         → ComesInOrder g.plan y (seen g s) own mown → (m : Open) × ComesInOrder r (whole_element g.cut y) s o m × Opens mown m
-    stage_order (Fire j slot) stands own_does does comes = fire_order j slot own_does does comes
-    stage_order (Out e v) stands own_does does comes =
-        let (c, at_e) = out_there g.plan e v (seen g s) (seen g t) own_does in out_order e v c own_does.0 (out_stands g.plan e v stands) at_e comes
-    stage_order (In e v) stands own_does does comes =
-        let (c, at_e) = in_there g.plan e v (seen g s) (seen g t) own_does in in_order_at e v c own_does.0 (in_stands g.plan e v stands) at_e comes
+    stage_order (Fire j slot) stands shut own_does does comes = fire_order j slot own_does does comes
+    stage_order (Out e v) stands shut own_does does comes =
+        let (c, at_e) = out_there g.plan e v (seen g s) (seen g t) own_does in out_order e v c own_does.0 stands at_e comes
+    stage_order (In e v) (i, n, is, inl joined) shut own_does does comes =
+        let (c, at_e) = in_there g.plan e v (seen g s) (seen g t) own_does in
+        in_order_at e v c own_does.0 (subst (λ (x : End). StandsIn g.plan x) (sym is) joined.stands) at_e comes
+    stage_order (In e v) (i, n, is, inr none) shut own_does does comes =
+        subst (λ (x : End). (m : Open) × ComesInOrder r (In (lies_at g.cut x) v) s o m × Opens mown m) (sym is)
+        (loose_order i n v none (subst (λ (x : End). ComesInOrder g.plan (In x v) (seen g s) own mown) is comes)
+        (shut none.import n v (ap (λ (x : End). In x v) (ap (lies_at g.cut) is ∙ none.outer)) none.none))
 
   -- what lies is welcome
   pub stage_welcome : (t : Tokens) → StirsOnly d g t → AllWelcome g.plan (seen g t) → AllWelcome r t

@@ -37,6 +37,7 @@ use Rattle.gos_writes.proofs.QuietLemmas.{quiet_is_within, assign_can}
 use Rattle.gos_writes.proofs.WindowLemmas.{writes_are_staged}
 use Rattle.gos_writes.proofs.OrderLemmas.{write_is_regular}
 use Rattle.gos_writes.proofs.SessionLemmas.{number_session, write_session, IsSession, frame_is, child, Inner, agrees_here, stage_among, done_session, Opened, opens, goes_within, Ended, ends}
+use Rattle.gos_realises.specs.Realises.{AllGround}
 
 -- an idle program can only wait
 run_is_no_output : (o : _) → IsTrue (is_output o) → Showing o ≡ Showing (given 0 0) → ⊥
@@ -73,7 +74,8 @@ pub both_silent : (xs ys : List Act) → labels xs ≡ [] → labels ys ≡ [] �
 both_silent xs ys e h = labels_then xs ys ∙ (ap (λ ls. ls ++ labels ys) e ∙ h)
 
 module _
-    (r : Plan) (d : ℕ) (wide : ℕ) (gs : List Stage) (node : IsWrite r d wide gs) (m n : Term) (real : AreWritten wide m n gs) where
+    (r : Plan) (d : ℕ) (wide : ℕ) (gs : List Stage) (node : IsWrite r d wide gs) (ground : AllGround r.imports) (m n : Term)
+    (real : AreWritten wide m n gs) where
   abbrev whole : Program
   whole = program_of r (Assign m n)
 
@@ -98,7 +100,7 @@ module _
       → Contains gs g → StirsOnly d g s → Inner wide m n g ys s e b st → Agrees r whole s (Running (e.frame b) st)
   within_agrees g ys s e b st has only inner = (
     λ q.
-        framed_waits (child g e) whole e.frame b st (frame_is wide m n e inner.at) (stage_among r d wide g node.names (node.base.stages g has))
+        framed_waits (child g e) whole e.frame b st (frame_is wide m n e inner.at) (stage_among r d wide g node.base.names (node.base.stages g has))
         (runs_known (child g e) inner.acts b st (sources_known g.plan.imports [] e.term e.ty inner.typed) inner.ran)
         ((agrees_here g.plan (child g e) ys (seen g s) (Running b st) inner.matched).0 (quiet_is_within r d wide gs g s node has only q)),
     λ x. absurd (running_is_not_idle (e.frame b) st x),
@@ -124,7 +126,7 @@ module _
         o = opened;
         moves =
             framed (child g e) whole e.frame opened.acts e.term opened.term [] opened.store (frame_is wide m n e at)
-            (stage_among r d wide g node.names (node.base.stages g has)) (silent_inner opened.acts opened.silent) opened.moves;
+            (stage_among r d wide g node.base.names (node.base.stages g has)) (silent_inner opened.acts opened.silent) opened.moves;
       }
 
   -- N is asked
@@ -134,7 +136,7 @@ module _
       let there : IsWriteStage r d wide g = node.base.stages g has in
       let outcome = there.outcome ∙ ap (λ (h : ℕ). asked_type h wide) (sym at) in
       let realised : SessionIsRealised g.plan 0 0 n =
-      done_session g.plan n (ground_within g.plan.imports r.imports node.base.ground there.imports) there.names (subst IsDone (sym outcome) tt) realises in
+      done_session g.plan n (ground_within g.plan.imports r.imports ground there.imports) there.names (subst IsDone (sym outcome) tt) realises in
       enters g k ys s (number_session wide m n) has (inl refl) at typed
       (subst (λ (h : ℕ). SessionIsRealised g.plan h k n) at (subst (λ (x : ℕ). SessionIsRealised g.plan 0 x n) none realised)) start
 
@@ -233,7 +235,7 @@ module _
       → Does r (Fire d (Ans g.asked_at)) s t → LeadsTo r d gs row v t w → Matches w xs t
       → Matches (Within g (Out (ResultEnd g.asked_at) v ∷ [])) (Fire d (Ans g.asked_at) ∷ xs) s
   gone_on s t xs g v u row w has only answer fits held fires does to rest e b st inner =
-      let over : Ended whole e b st v = ends r d wide m n whole g s u e b st v node.names refl (node.base.stages g has) answer inner in
+      let over : Ended whole e b st v = ends r d wide m n whole g s u e b st v node.base.names refl (node.base.stages g has) answer inner in
       let led = leads g v row s t w xs e over.count over.term only fits fires inner.at inner.asked over.unfolds to rest in
       step (Fire d (Ans g.asked_at)) xs s t (Running (e.frame b) st)
       (within_agrees g (Out (ResultEnd g.asked_at) v ∷ []) s e b st has only inner) does (
@@ -250,7 +252,7 @@ module _
       → Contains gs g → StirsOnly d g s → Does g.plan y (seen g s) (seen g t) → Stays g.plan y → Does r (whole_element g.cut y) s t
       → Matches (Within g ys) xs t → Matches (Within g (y ∷ ys)) (whole_element g.cut y ∷ xs) s
   stirred_on s t xs ys g y has only does_there stands does rest e b st inner =
-      let went = goes_within r d wide m n whole g y ys s t e b st node.names refl (node.base.stages g has) does_there stands does inner in
+      let went = goes_within r d wide m n whole g y ys s t e b st node.base.names ground refl (node.base.stages g has) does_there stands does inner in
       step (whole_element g.cut y) xs s t (Running (e.frame b) st) (within_agrees g (y ∷ ys) s e b st has only inner) does
       (went.acts, Running (e.frame went.term) went.store, went.moves, went.shown, went.goes, rest e went.term went.store went.inner)
 
@@ -303,25 +305,25 @@ module _
       replied s1 t ys v fits here does (matches Resting ys t rest (next_fits (Out (ResultEnd 0) v) s1 t fits does))
 
 pub write_realises : WriteRealises
-write_realises r d wide gs m n node restful real =
+write_realises r d wide gs m n node ground restful real =
     let is_regular = (write_is_regular r d wide gs node restful).0 in
     let done_so = subst IsDone (sym node.outcome) tt in
-    matching_suffices r (Assign m n) is_regular node.base.ground node.names done_so (λ s t xs idle runs keeps.
-    let turns = protocol_keeps_turns r xs s t is_regular node.base.ground node.names done_so idle runs keeps in
-    matches r d wide gs node m n real Resting xs s (writes_are_staged r d wide gs s t xs node restful idle runs turns) (idle_fits r s idle))
+    matching_suffices r (Assign m n) is_regular ground node.base.names done_so (λ s t xs idle runs keeps.
+    let turns = protocol_keeps_turns r xs s t is_regular ground node.base.names done_so idle runs keeps in
+    matches r d wide gs node ground m n real Resting xs s (writes_are_staged r d wide gs s t xs node restful idle runs turns) (idle_fits r s idle))
 
 pub write_realises_by_type : WriteRealisesByType
-write_realises_by_type r d wide gs m n node restful real typed =
+write_realises_by_type r d wide gs m n node ground restful real typed =
     record {
       suits =
           record {
             right = node.base.right;
             literals = node.base.literals;
             outcome = node.outcome;
-            all_ground = node.base.ground;
-            names = node.names;
+            all_ground = ground;
+            names = node.base.names;
             typed = typed;
             regular = (write_is_regular r d wide gs node restful).0;
           };
-      means = write_realises r d wide gs m n node restful real;
+      means = write_realises r d wide gs m n node ground restful real;
     }

@@ -1,10 +1,10 @@
 -- Lists of one session, element by element.
-use Rattle.std.specs.Prelude.{ℕ, List, [], ◌∷◌, ◌++◌}
+use Rattle.std.specs.Prelude.{ℕ, List, [], ◌∷◌, ◌++◌, ◌⊎◌}
 use Rattle.std.proofs.Common.{inl, inr, refl, ap}
 use Rattle.gos_plan.specs.Plans.{End, PartEnd, ImportEnd, ResultEnd, Plan}
 use Rattle.gos_plan.specs.Tokens.{Element, Fire, Out, In}
 use Rattle.gos_webs.specs.Cutting.{StandsIn}
-use Rattle.gos_writes.specs.OneSession.{Stays, AllStay, EndsWell, IsOpenSession, IsOneSession}
+use Rattle.gos_writes.specs.OneSession.{IsAsked, Stays, AllStay, EndsWell, IsOpenSession, IsOneSession}
 
 stay_then : (p : Plan) (xs : List Element) (y : Element) → AllStay p xs → Stays p y → AllStay p (xs ++ y ∷ [])
 stay_then p [] y all one = (one, tt)
@@ -41,7 +41,7 @@ out_stands p (PartEnd i h) v stays = absurd stays
 out_stands p (ImportEnd i h) v stays = stays
 out_stands p (ResultEnd h) v stays = absurd stays
 
-pub in_stands : (p : Plan) (e : End) (v : ℕ) → Stays p (In e v) → StandsIn p e
+pub in_stands : (p : Plan) (e : End) (v : ℕ) → Stays p (In e v) → StandsIn p e ⊎ IsAsked p e
 in_stands p (PartEnd i h) v stays = absurd stays
 in_stands p (ImportEnd i h) v stays = stays
 in_stands p (ResultEnd h) v stays = absurd stays

@@ -2,10 +2,10 @@
 use Rattle.std.specs.Prelude.{None, slice_get, Contains}
 use Rattle.std.proofs.Common.{◌≡◌, ℕ, Bool, true, false, List, [], ◌∷◌, ◌++◌, ◌⊎◌, Option, Some, inl, inr, refl, sym, ◌∙◌, ap, subst, arith, if◌then◌else◌}
 use Rattle.gos_netlist.specs.Events.{Direction, Request, Answer}
-use Rattle.gos_plan.specs.Kinds.{Part, asks, Assign}
+use Rattle.gos_plan.specs.Kinds.{Part, Contact, asks, Assign}
 use Rattle.gos_plan.specs.Firing.{Phase, Slot, Req, Ans, Token, Row, at, put, firing}
 use Rattle.gos_plan.specs.Plans.{End, PartEnd, ImportEnd, ResultEnd, Plan, contact_at, same_end}
-use Rattle.gos_plan.specs.Tokens.{Tokens, Element, Fire, Out, In, places_of, held_at, token_at, with_token, with_state, end_of, way_of, way_taken, way_put, firing_of, Does, Runs, IsIdle}
+use Rattle.gos_plan.specs.Tokens.{Tokens, Element, Fire, Out, In, IsPortEnd, places_of, held_at, token_at, with_token, with_state, end_of, way_of, way_taken, way_put, firing_of, Does, Runs, IsIdle}
 use Rattle.gos_plan.specs.TokenBits.{AllFit}
 use Rattle.gos_plan.specs.Turns.{IsEmptyAt}
 use Rattle.gos_plan.specs.Orderly.{named_by, handshake_at, Open, none_open, with_open, after_taken, after_put, after_puts, ComesWell, AllComeWell, ComesInOrder, AllWelcome, OrderlyFrom, IsOrderly}
@@ -13,34 +13,34 @@ use Rattle.gos_plan.proofs.DecidedLemmas.{one_state, one_open}
 use Rattle.gos_plan.proofs.JointLemmas.{IsIn, same_is, same_itself, fits, serving_role, contained}
 use Rattle.gos_plan.proofs.TokenBitsLemmas.{idle_fits}
 use Rattle.gos_plan.proofs.HeldLemmas.{takes_of}
-use Rattle.gos_realises.specs.Regular.{Pass, InputsKeepTurns}
-use Rattle.gos_realises.proofs.InputLemmas.{inputs_then, runs_then, in_there, out_there, result_asks}
+use Rattle.gos_realises.specs.Regular.{Pass, pass, way_in, is_open, ComesInTurn, InputsKeepTurns}
+use Rattle.gos_realises.proofs.InputLemmas.{passed, passed_then, inputs_then, runs_then, in_there, out_there, result_asks}
 use Rattle.gos_realises.proofs.RingLemmas.{after}
 use Rattle.gos_pace.proofs.HoldLemmas.{orderly_append}
 use Rattle.gos_webs.specs.Webs.{joint}
 use Rattle.gos_webs.specs.Cutting.{lies_at, StandsIn}
 use Rattle.gos_webs.proofs.CutLemmas.{Owns}
-use Rattle.gos_types.specs.Types.{IsGround}
 use Rattle.gos_windows.specs.Regions.{whole_element}
 use Rattle.gos_windows.specs.Nodes.{Stage}
 use Rattle.gos_writes.specs.Writes.{request_bits, answer_bits, IsWriteStage, IsWrite, AreRestful, WriteIsRegular}
-use Rattle.gos_writes.proofs.AskedLemmas.{asked_contact, asked_ground, asked_role}
+use Rattle.gos_writes.proofs.AskedLemmas.{asked_contact, asked_ground, asked_role, asked_out, ground_port, answered_shut}
 use Rattle.gos_windows.specs.Windows.{seen, HoldsOnly}
-use Rattle.gos_windows.proofs.PortLemmas.{stands_contact}
+use Rattle.gos_windows.proofs.PortLemmas.{port_end, stands_contact}
 use Rattle.gos_writes.proofs.OwnLemmas.{takes_request}
-use Rattle.gos_writes.proofs.StageLemmas.{Emptied, stage, ground_stage, own_stands}
+use Rattle.gos_writes.proofs.StageLemmas.{Emptied, stage, own_stands}
 use Rattle.gos_windows.proofs.TurnLemmas.{OnlyResult, NoneOpen}
 use Rattle.gos_writes.proofs.WholeLemmas as whole
 use Rattle.gos_windows.proofs.WholeLemmas.{only_there, idle_token, other_state}
 use Rattle.gos_writes.proofs.WholeLemmas.{done, result_place, own_place, at_own_joint, run_stands, Going, Led}
 use Rattle.gos_windows.proofs.NodeLemmas.{InTurn, first_turn, turns_after, request_slot}
-use Rattle.gos_writes.specs.OneSession.{Stays}
 use Rattle.gos_writes.proofs.OneSessionLemmas.{open_is_one, ended_is_one}
 use Rattle.gos_writes.proofs.PlaceLemmas.{Place, AtRest, AtAsked, AtStage, AtAnswer, Holds, rest_step, asked_step, answer_step, own_slot}
 use Rattle.gos_writes.proofs.WindowLemmas.{StageStep, OwnStep, stage_step, fit_after}
 use Rattle.gos_writes.proofs.OutputLemmas.{outputs_in_turn, is_restful}
 use Rattle.gos_writes.proofs.MatchLemmas.{Opens, stage_order, stage_welcome, taken_opens, stands_agree, not_result}
-use Rattle.gos_writes.proofs.ClosedLemmas.{AsksOnly, asks_then, ground_closed, asks_itself}
+use Rattle.gos_windows.proofs.ClosingLemmas.{Ports, open_idle_is_closed, asks_itself, ports_after, ports_along}
+use Rattle.gos_windows.proofs.MatchLemmas.{IsLoose}
+use Rattle.gos_writes.proofs.FollowLemmas.{imports_shut}
 
 -- the last element of an orderly list
 pub last_order : (p : Plan) (hs : List Element) (y : Element) (o u q : Open) (s t w z : Tokens) → OrderlyFrom p (hs ++ y ∷ []) o s u t → OrderlyFrom p hs o s q w → Does p y w z
@@ -54,9 +54,6 @@ last_order p (x ∷ hs) y o u q s t w z (m, v, does, comes, welcome, rest) (n, a
     let tokens = one_state p x s v a does doing in
     let open_so = one_open p x o m n s v does comes coming in
     last_order p hs y n u q a t w z (subst (λ (b : Open). OrderlyFrom p (hs ++ y ∷ []) b a u t) open_so (subst (λ (b : Tokens). OrderlyFrom p (hs ++ y ∷ []) m b u t) tokens rest)) more also
-
-end_number : (k h : ℕ) → ResultEnd h ≡ ResultEnd k → k ≡ h
-end_number k h is = cc is
 
 not_both : (b : Bool) → b ≡ true → b ≡ false → ⊥
 not_both b up down = let both : true ≡ false = sym up ∙ down in cc both
@@ -72,6 +69,10 @@ shut_at o only x apart = by_test (o x) refl
     by_test false t = refl
     by_test true up = absurd (apart (only.1 x up))
 
+shut_more : (b held : Bool) → (if b then false else held) ≡ true → held ≡ true
+shut_more true held h = absurd (cc h)
+shut_more false held h = h
+
 module _ (r : Plan) (d : ℕ) (wide : ℕ) (gs : List Stage) (node : IsWrite r d wide gs) (restful : AreRestful gs) where
   abbrev run : ℕ
   run = 2
@@ -81,16 +82,12 @@ module _ (r : Plan) (d : ℕ) (wide : ℕ) (gs : List Stage) (node : IsWrite r d
     own : Open
     orderly : OrderlyFrom g.plan hs none_open before own (seen g s)
     opens : Opens r d wide gs node g has own o
-    asks_only : AsksOnly g.asked_at hs
 
   abbrev OrderHolds : Place gs → Open → Tokens → Type 0
   OrderHolds AtRest o s = (x : End) → o x ≡ false
   OrderHolds AtAsked o s = OnlyOpen o
   OrderHolds (AtStage g has hs before) o s = Orders g has hs before s o
   OrderHolds (AtAnswer v) o s = OnlyOpen o
-
-  whole_ground : IsGround r.outcome
-  whole_ground = subst IsGround (sym node.outcome) tt
 
   -- names of the own part's handshakes
   result_named : handshake_at r (ResultEnd 0) ≡ ResultEnd 0
@@ -105,8 +102,8 @@ module _ (r : Plan) (d : ℕ) (wide : ℕ) (gs : List Stage) (node : IsWrite r d
 
     stage_named : handshake_at g.plan (ResultEnd g.asked_at) ≡ ResultEnd g.asked_at
     stage_named =
-        asks_itself g.plan there.region.right (ground_stage r d wide gs node.base g has) (asked_ground g.plan g.asked_at wide there.low there.outcome) g.asked_at (ResultEnd g.asked_at)
-        (asks (request_bits g.asked_at wide) (answer_bits g.asked_at wide)) (asked_contact g.plan g.asked_at wide there.low there.outcome) refl
+        asks_itself g.plan there.region.right (ResultEnd g.asked_at) (asks (request_bits g.asked_at wide) (answer_bits g.asked_at wide))
+        (asked_contact g.plan g.asked_at wide there.low there.outcome) refl
 
     asked_named : ((x : End) → places_of r (PartEnd d g.asked_at) ≡ Some x → StandsIn g.plan (ResultEnd g.asked_at)) → handshake_at r (PartEnd d g.asked_at) ≡ PartEnd d g.asked_at
     asked_named joined = by_place (places_of r (PartEnd d g.asked_at)) refl
@@ -116,7 +113,7 @@ module _ (r : Plan) (d : ℕ) (wide : ℕ) (gs : List Stage) (node : IsWrite r d
             let (c, at_end) = stands_contact g.plan there.region.right (ResultEnd g.asked_at) stands in
             let role = sym (asked_role g.plan g.asked_at wide there.low there.outcome c at_end) in
             let in_whole = ap (contact_at r) (sym (there.run_by stands)) ∙ (there.region.contacts (ResultEnd g.asked_at) tt stands ∙ at_end) in
-            asks_itself r node.base.right node.base.ground whole_ground 0 (PartEnd d g.asked_at) c in_whole role
+            asks_itself r node.base.right (PartEnd d g.asked_at) c in_whole role
 
         by_place : (o : Option End) → places_of r (PartEnd d g.asked_at) ≡ o → handshake_at r (PartEnd d g.asked_at) ≡ PartEnd d g.asked_at
         by_place None none = ap (λ (x : Option End). named_by x (PartEnd d g.asked_at)) none
@@ -164,7 +161,7 @@ module _ (r : Plan) (d : ℕ) (wide : ℕ) (gs : List Stage) (node : IsWrite r d
         by_end e owned false t = shut e owned ∙ by_own e owned (same_end e (ResultEnd g.asked_at)) refl t
 
         by_test : (x : End) (b : Bool) → same_end x (PartEnd d g.asked_at) ≡ b → (if b then true else o x) ≡ true
-            → (x ≡ ResultEnd 0) ⊎ ((x ≡ PartEnd d g.asked_at) ⊎ ((e : End) × Owns g.plan e × (lies_at g.cut e ≡ x)))
+            → (x ≡ ResultEnd 0) ⊎ ((x ≡ PartEnd d g.asked_at) ⊎ (((e : End) × Owns g.plan e × (lies_at g.cut e ≡ x)) ⊎ IsLoose r x))
         by_test x true t up = inr (inl (same_is x (PartEnd d g.asked_at) t))
         by_test x false t up = inl (only.1 x up)
 
@@ -196,11 +193,6 @@ module _ (r : Plan) (d : ℕ) (wide : ℕ) (gs : List Stage) (node : IsWrite r d
       by_place : (o : Option End) → held_at u way o ≡ None
       by_place None = refl
       by_place (Some x) = empty.places way x
-
-  standing_asks : (g : Stage) (has : Contains gs g) (y : Element) → Stays g.plan y → AsksOnly g.asked_at (y ∷ [])
-  standing_asks g has (Fire i t) stands = tt
-  standing_asks g has (Out e v) stands = tt
-  standing_asks g has (In e v) stands = ((λ k is. absurd (subst (λ (x : End). Stays g.plan (In x v)) is stands)), tt)
 
   -- where the whole is, what is open there, and that what lies is welcome
   record OrderNext (x : Element) (s t : Tokens) (past : List Pass) (o : Open) : Type 0 where
@@ -249,7 +241,6 @@ module _ (r : Plan) (d : ℕ) (wide : ℕ) (gs : List Stage) (node : IsWrite r d
               opens =
                   subst (λ (y : End). Opens r d wide gs node g has (with_open (ResultEnd g.asked_at) true none_open) (with_open y true (after_taken r (end_of d slot) (way_of slot) o))) (sym named)
                   (first_opens g has (after_taken r (end_of d slot) (way_of slot) o) only joined);
-              asks_only = ((λ k is. end_number k g.asked_at is), tt);
             };
       }
     where
@@ -369,7 +360,22 @@ module _ (r : Plan) (d : ℕ) (wide : ℕ) (gs : List Stage) (node : IsWrite r d
   -- within a stage
   module _
       (g : Stage) (has : Contains gs g) (hs : List Element) (before s t : Tokens) (past : List Pass) (o : Open) (x : Element)
-      (going : Going r d wide gs node g has hs before s past) (order : Orders g has hs before s o) (does : Does r x s t) where
+      (going : Going r d wide gs node g has hs before s past) (order : Orders g has hs before s o) (ports : Ports r node.base.right o past)
+      (does : Does r x s t) (turn : InTurn r past x) where
+    -- a port where an input comes was closed
+    shut : (k n v : ℕ) → x ≡ In (ImportEnd k n) v → o (ImportEnd k n) ≡ false
+    shut k n v is = by_test (o (ImportEnd k n)) refl
+      where
+        comes : ComesInTurn past (ImportEnd k n) (way_in (contact_at r (ImportEnd k n)))
+        comes = (subst (InTurn r past) is turn).0
+
+        by_test : (b : Bool) → o (ImportEnd k n) ≡ b → b ≡ false
+        by_test false t' = refl
+        by_test true up =
+            let ((c, at_end, role), held) = ports (ImportEnd k n) tt up in
+            let way : way_in (contact_at r (ImportEnd k n)) ≡ Request = ap way_in at_end ∙ ap way_put role in
+            sym held ∙ subst (ComesInTurn past (ImportEnd k n)) way comes
+
     stage_next : StageStep r d wide gs node restful g has hs before s t (after r x past) x → OrderNext x s t (after r x past) o
     stage_next step =
         record {
@@ -385,7 +391,6 @@ module _ (r : Plan) (d : ℕ) (wide : ℕ) (gs : List Stage) (node : IsWrite r d
                     orderly_append g.plan hs (step.y ∷ []) none_open order.own last.0 before (seen g s) (seen g t) order.orderly
                     (last.0, seen g t, step.does, last.1, last.2, (refl, refl));
                 opens = matched.2;
-                asks_only = asks_then g.asked_at hs (step.y ∷ []) order.asks_only (standing_asks g has step.y step.standing);
               };
         }
       where
@@ -397,7 +402,8 @@ module _ (r : Plan) (d : ℕ) (wide : ℕ) (gs : List Stage) (node : IsWrite r d
 
         matched : (m : Open) × ComesInOrder r (whole_element g.cut step.y) s o m × Opens r d wide gs node g has last.0 m
         matched =
-            stage_order r d wide gs node g has before s t hs going.ran going.stirs.places order.own last.0 o order.opens step.y step.standing step.does
+            stage_order r d wide gs node g has before s t hs going.ran going.stirs.places order.own last.0 o order.opens step.y step.standing
+            (λ k n v is none. shut k n v (sym step.is ∙ is)) step.does
             (subst (λ (z : Element). Does r z s t) (sym step.is) does) last.1
 
     own_next : OwnStep r d wide gs node restful g has hs before s t (after r x past) x → OrderNext x s t (after r x past) o
@@ -425,18 +431,46 @@ module _ (r : Plan) (d : ℕ) (wide : ℕ) (gs : List Stage) (node : IsWrite r d
             ∙ (ap (λ (way : Direction). after_taken g.plan (ResultEnd g.asked_at) way order.own) (ap way_taken (sym asking))
             ∙ ap (λ (n : End). with_open n false order.own) (stage_named g has))
 
-        closing_shut : last.0 (ResultEnd g.asked_at) ≡ false
-        closing_shut =
-            ap (λ (z : Open). z (ResultEnd g.asked_at)) closing
-            ∙ ap (λ (b : Bool). if b then false else order.own (ResultEnd g.asked_at)) (same_itself (ResultEnd g.asked_at))
+        whole_list : OrderlyFrom g.plan (hs ++ Out (ResultEnd g.asked_at) step.v ∷ []) none_open before last.0 step.end
+        whole_list =
+            orderly_append g.plan hs (Out (ResultEnd g.asked_at) step.v ∷ []) none_open order.own last.0 before (seen g s) step.end order.orderly
+            (last.0, step.end, step.does, last.1, last.2, (refl, refl))
+
+        only_result : OnlyResult past
+        only_result = subst (λ (y : Element). OnlyResult (after r y past)) step.is step.only
+
+        import_shut : (i h : ℕ) → is_open (passed g.plan [] hs) (ImportEnd i h) ≡ false
+        import_shut = imports_shut r d wide gs node.base g has (passed g.plan [] hs) past going.follows only_result.1
+
+        -- with the answer all its ports are closed
+        last_passed : is_open (passed g.plan [] (hs ++ Out (ResultEnd g.asked_at) step.v ∷ [])) ≡ is_open (pass (ResultEnd g.asked_at) Answer ∷ passed g.plan [] hs)
+        last_passed =
+            ap is_open (passed_then g.plan [] hs (Out (ResultEnd g.asked_at) step.v))
+            ∙ ap (λ (way : Direction). is_open (pass (ResultEnd g.asked_at) way ∷ passed g.plan [] hs)) (asked_out g.plan g.asked_at wide (there g has).low (there g has).outcome)
+
+        port_shut : (e : End) (c : Contact) → IsPortEnd e → contact_at g.plan e ≡ Some c → is_open (pass (ResultEnd g.asked_at) Answer ∷ passed g.plan [] hs) e ≡ false
+        port_shut e c port at_end =
+            elim (ground_port g.plan (asked_ground g.plan g.asked_at wide (there g has).low (there g has).outcome) e c port at_end) [
+              | inl result ↦
+                  ap (is_open (pass (ResultEnd g.asked_at) Answer ∷ passed g.plan [] hs)) result.1
+                  ∙ answered_shut g.asked_at (passed g.plan [] hs) going.follows.alone result.0
+              | inr import ↦ ap (is_open (pass (ResultEnd g.asked_at) Answer ∷ passed g.plan [] hs)) import.2 ∙ import_shut import.0 import.1
+            ]
+
+        own_shut : (e : End) → IsPortEnd e → last.0 e ≡ false
+        own_shut e port = by_test (last.0 e) refl
+          where
+            by_test : (b : Bool) → last.0 e ≡ b → b ≡ false
+            by_test false t' = refl
+            by_test true up =
+                let ((c, at_end, role), held) =
+                ports_along g.plan (there g has).region.right (hs ++ Out (ResultEnd g.asked_at) step.v ∷ []) none_open last.0 before step.end [] whole_list
+                (λ d at up. absurd (cc up)) e port up in
+                sym held ∙ (ap (λ (o : Open). o e) last_passed ∙ port_shut e c port at_end)
 
         closed : (e : End) → last.0 e ≡ false
         closed =
-            ground_closed g.plan g.asked_at (hs ++ Out (ResultEnd g.asked_at) step.v ∷ []) last.0 before step.end (there g has).region.right
-            (ground_stage r d wide gs node.base g has) (asked_ground g.plan g.asked_at wide (there g has).low (there g has).outcome)
-            (asks_then g.asked_at hs (Out (ResultEnd g.asked_at) step.v ∷ []) order.asks_only tt) going.ran.idle
-            (orderly_append g.plan hs (Out (ResultEnd g.asked_at) step.v ∷ []) none_open order.own last.0 before (seen g s) step.end order.orderly
-            (last.0, step.end, step.does, last.1, last.2, (refl, refl))) step.idle closing_shut
+            open_idle_is_closed g.plan (hs ++ Out (ResultEnd g.asked_at) step.v ∷ []) last.0 before step.end (there g has).region.right going.ran.idle whole_list step.idle own_shut
 
         stands : StandsIn g.plan (ResultEnd g.asked_at)
         stands = own_stands r d wide gs node.base g has s going.stirs.places Answer step.v step.held
@@ -448,41 +482,53 @@ module _ (r : Plan) (d : ℕ) (wide : ℕ) (gs : List Stage) (node : IsWrite r d
             (sym (closing ∙ sym (ap (λ (n : End). with_open n false order.own) (stage_named g has))))
             (taken_opens r d wide gs node g has order.own o order.opens (ResultEnd g.asked_at) stands (stands_agree r d wide gs node g has (ResultEnd g.asked_at) tt stands) Answer))
 
+        -- a port of the whole that is open now is its result
+        port_now : (y : End) → IsPortEnd y → after_taken r (PartEnd d g.asked_at) Answer o y ≡ true → y ≡ ResultEnd 0
+        port_now y port up =
+            let ((c, at_end, role), held) = ports y port (shut_more (same_end y (handshake_at r (PartEnd d g.asked_at))) (o y) up) in
+            elim (port_end r (done r d wide gs node) y c port at_end) [
+              | inl result ↦ result.0
+              | inr import ↦
+                  absurd (not_both (is_open past (ImportEnd import.0 import.1)) (ap (is_open past) (sym import.2) ∙ held) (only_result.1 import.0 import.1))
+            ]
+
         only : OnlyOpen (after_taken r (PartEnd d g.asked_at) Answer o)
         only = (opens.result, λ y up. by_end y up (opens.only y up))
           where
             by_end : (y : End) → after_taken r (PartEnd d g.asked_at) Answer o y ≡ true
-                → (y ≡ ResultEnd 0) ⊎ ((y ≡ PartEnd d g.asked_at) ⊎ ((e : End) × Owns g.plan e × (lies_at g.cut e ≡ y))) → y ≡ ResultEnd 0
+                → (y ≡ ResultEnd 0) ⊎ ((y ≡ PartEnd d g.asked_at) ⊎ (((e : End) × Owns g.plan e × (lies_at g.cut e ≡ y)) ⊎ IsLoose r y)) → y ≡ ResultEnd 0
             by_end y up (inl is) = is
             by_end y up (inr (inl is)) =
                 let at_own = ap (after_taken r (PartEnd d g.asked_at) Answer o) ((there g has).run_by stands ∙ sym is) ∙ up in
                 absurd (not_both (last.0 (ResultEnd g.asked_at)) (sym (opens.same (ResultEnd g.asked_at) stands) ∙ at_own) (closed (ResultEnd g.asked_at)))
-            by_end y up (inr (inr (e, owned, is))) =
+            by_end y up (inr (inr (inl (e, owned, is)))) =
                 absurd (not_both (last.0 e) (sym (opens.same e owned) ∙ (ap (after_taken r (PartEnd d g.asked_at) Answer o) is ∙ up)) (closed e))
+            by_end y up (inr (inr (inr loose))) = port_now y loose.0 up
 
-  order_next : (pl : Place gs) (x : Element) (s t : Tokens) (past : List Pass) (o : Open) → AllFit r s → Holds r d wide gs node pl s past → OrderHolds pl o s → Does r x s t
-      → InTurn r past x → OrderNext x s t (after r x past) o
-  order_next AtRest x s t past o fit holding order does turn = rest_next x s t past o holding order does turn
-  order_next AtAsked x s t past o fit holding order does turn = asked_next x s t past o holding order does turn
-  order_next (AtAnswer k) x s t past o fit holding order does turn = answer_next k x s t past o holding order does turn
-  order_next (AtStage g has hs before) x s t past o fit going order does turn =
+  order_next : (pl : Place gs) (x : Element) (s t : Tokens) (past : List Pass) (o : Open) → AllFit r s → Holds r d wide gs node pl s past → OrderHolds pl o s
+      → Ports r node.base.right o past → Does r x s t → InTurn r past x → OrderNext x s t (after r x past) o
+  order_next AtRest x s t past o fit holding order ports does turn = rest_next x s t past o holding order does turn
+  order_next AtAsked x s t past o fit holding order ports does turn = asked_next x s t past o holding order does turn
+  order_next (AtAnswer k) x s t past o fit holding order ports does turn = answer_next k x s t past o holding order does turn
+  order_next (AtStage g has hs before) x s t past o fit going order ports does turn =
       elim (stage_step r d wide gs node restful g has hs before s t past going fit x does turn) [
-        | inl step ↦ stage_next g has hs before s t past o x going order does step
-        | inr step ↦ own_next g has hs before s t past o x going order does step
+        | inl step ↦ stage_next g has hs before s t past o x going order ports does turn step
+        | inr step ↦ own_next g has hs before s t past o x going order ports does turn step
       ]
 
-  ordered : (xs : List Element) (pl : Place gs) (s t : Tokens) (past : List Pass) (o : Open) → AllFit r s → Holds r d wide gs node pl s past → OrderHolds pl o s → Runs r xs s t
-      → InputsKeepTurns r past xs → (u : Open) × (w : Tokens) × OrderlyFrom r xs o s u w
-  ordered [] pl s t past o fit holding order runs turns = (o, s, (refl, refl))
-  ordered (x ∷ xs) pl s t past o fit holding order (w, does, runs) turns =
-      let next = order_next pl x s w past o fit holding order does (first_turn r past x xs turns) in
+  ordered : (xs : List Element) (pl : Place gs) (s t : Tokens) (past : List Pass) (o : Open) → AllFit r s → Holds r d wide gs node pl s past → OrderHolds pl o s
+      → Ports r node.base.right o past → Runs r xs s t → InputsKeepTurns r past xs → (u : Open) × (w : Tokens) × OrderlyFrom r xs o s u w
+  ordered [] pl s t past o fit holding order ports runs turns = (o, s, (refl, refl))
+  ordered (x ∷ xs) pl s t past o fit holding order ports (w, does, runs) turns =
+      let next = order_next pl x s w past o fit holding order ports does (first_turn r past x xs turns) in
       let (u, z, rest) =
-      ordered xs next.place w t (after r x past) next.now (fit_after r d wide gs node restful x s w fit does) next.holds next.order runs (turns_after r past x xs turns) in
+      ordered xs next.place w t (after r x past) next.now (fit_after r d wide gs node restful x s w fit does) next.holds next.order
+      (ports_after r node.base.right x o next.now s w past does next.comes ports) runs (turns_after r past x xs turns) in
       (u, z, (next.now, w, does, next.comes, next.welcome, rest))
 
   pub node_orderly : (s t : Tokens) (xs : List Element) → IsIdle r s → Runs r xs s t → InputsKeepTurns r [] xs → IsOrderly r xs s
   node_orderly s t xs idle runs turns =
-      ordered xs AtRest s t [] none_open (idle_fits r s idle) (idle, (refl, λ k h. refl)) (λ x. refl) runs turns
+      ordered xs AtRest s t [] none_open (idle_fits r s idle) (idle, (refl, λ k h. refl)) (λ x. refl) (λ e port up. absurd (cc up)) runs turns
 
 pub write_is_regular : WriteIsRegular
 write_is_regular r d wide gs node restful =

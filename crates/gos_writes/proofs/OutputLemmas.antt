@@ -1,30 +1,25 @@
 -- The outputs of a write keep turns, and it rests after its answer. As in gos_windows.
-use Rattle.std.specs.Prelude.{slice_get, Contains}
-use Rattle.std.proofs.Common.{◌≡◌, ℕ, true, false, List, [], ◌∷◌, ◌++◌, ◌⊎◌, Some, inl, inr, refl, sym, ◌∙◌, ap, subst}
-use Rattle.gos_netlist.specs.Events.{Direction, Request, Answer}
-use Rattle.gos_model.specs.Typing.{Imported}
-use Rattle.gos_plan.specs.Kinds.{Contact}
+use Rattle.std.specs.Prelude.{Contains}
+use Rattle.std.proofs.Common.{◌≡◌, ℕ, List, [], ◌∷◌, ◌++◌, ◌⊎◌, inl, inr, refl, sym, ◌∙◌, ap, subst}
+use Rattle.gos_netlist.specs.Events.{Direction, Answer}
 use Rattle.gos_plan.specs.Firing.{Row, Req, Ans}
 use Rattle.gos_plan.specs.Plans.{End, ImportEnd, ResultEnd, Plan, contact_at}
-use Rattle.gos_plan.specs.Tokens.{Tokens, Element, Fire, Out, In, way_taken, Does, Runs, IsIdle}
+use Rattle.gos_plan.specs.Tokens.{Tokens, Element, Fire, Out, In, Does, Runs, IsIdle}
 use Rattle.gos_plan.specs.TokenBits.{AllFit}
 use Rattle.gos_plan.proofs.TokenBitsLemmas.{idle_fits}
-use Rattle.gos_realises.specs.Regular.{Pass, pass, way_out, is_open, KeepsTurns, InputsKeepTurns, OutputsKeepTurns}
+use Rattle.gos_realises.specs.Regular.{Pass, pass, way_out, ComesInTurn, KeepsTurns, InputsKeepTurns, OutputsKeepTurns}
 use Rattle.gos_realises.proofs.InputLemmas.{passed}
 use Rattle.gos_realises.proofs.RingLemmas.{after}
-use Rattle.gos_realises.proofs.ToldLemmas.{there_is}
 use Rattle.gos_webs.specs.Cutting.{StandsIn}
 use Rattle.gos_windows.specs.Nodes.{Stage, IsRestful, OutputsInTurn}
 use Rattle.gos_windows.specs.Windows.{seen}
-use Rattle.gos_windows.proofs.PortLemmas.{stands_contact, one_place}
-use Rattle.gos_windows.proofs.TurnLemmas.{Turned, way_out_of, result_out, OnlyResult, closed_turned}
-use Rattle.gos_windows.proofs.GroundLemmas.{turned_shut, Shut, shut_turned}
+use Rattle.gos_windows.proofs.TurnLemmas.{result_out, OnlyResult, closed_turned}
 use Rattle.gos_windows.proofs.NodeLemmas.{InTurn, first_turn, turns_after}
-use Rattle.gos_writes.specs.Writes.{IsWriteStage, IsWrite, AreRestful}
+use Rattle.gos_writes.specs.Writes.{IsWrite, AreRestful}
 use Rattle.gos_writes.proofs.OneSessionLemmas.{then_one}
-use Rattle.gos_writes.proofs.AskedLemmas.{ground_role, asked_ground}
-use Rattle.gos_writes.proofs.StageLemmas.{stage, ground_stage, InStage, out_in}
-use Rattle.gos_writes.proofs.FollowLemmas.{Follows}
+use Rattle.gos_writes.proofs.StageLemmas.{stage, InStage, out_in}
+use Rattle.gos_writes.proofs.FollowLemmas.{has_ports, standing, whole_turned, goes_as}
+use Rattle.gos_windows.proofs.MeetLemmas.{met_contacts}
 use Rattle.gos_writes.proofs.WholeLemmas as whole
 use Rattle.gos_writes.proofs.WholeLemmas.{done, Going, Led, asks}
 use Rattle.gos_writes.proofs.PlaceLemmas.{Place, AtRest, AtAsked, AtStage, AtAnswer, Holds, rest_step, asked_step, answer_step}
@@ -96,77 +91,25 @@ module _ (r : Plan) (d : ℕ) (wide : ℕ) (gs : List Stage) (node : IsWrite r d
       rests_after v now w t gone fit holding does
 
   -- an output of a stage
-  module _ (g : Stage) (has : Contains gs g) (own past : List Pass) (follows : Follows g own past) (turned : Turned g.plan own) where
-    of_ends : (i j : ℕ) (n : ℕ) (c : Contact) → contact_at g.plan (ImportEnd i 1) ≡ Some c → i ≡ j → is_open own (ImportEnd j 0) ≡ true → is_open own (ImportEnd i 1) ≡ true → ⊥
-    of_ends i j n c there same one two =
-        turned_shut g.plan (ground_stage r d wide gs node.base g has) own turned i c there (ap (λ (m : ℕ). is_open own (ImportEnd m 0)) same ∙ one) two
-
-    pub stage_shut : (n : ℕ) → Shut past n
-    stage_shut n one two =
-        of_ends second.0 first.0 n contact.0 contact.1 same (follows.same first.0 0 first.1 ∙ (ap (is_open past) first.2 ∙ one))
-        (follows.same second.0 1 second.1 ∙ (ap (is_open past) second.2 ∙ two))
-      where
-        first : (i : ℕ) × StandsIn g.plan (ImportEnd i 0) × (g.cut.outer (ImportEnd i 0) ≡ ImportEnd n 0)
-        first = follows.only n 0 one
-
-        second : (i : ℕ) × StandsIn g.plan (ImportEnd i 1) × (g.cut.outer (ImportEnd i 1) ≡ ImportEnd n 1)
-        second = follows.only n 1 two
-
-        contact : (c : Contact) × (contact_at g.plan (ImportEnd second.0 1) ≡ Some c)
-        contact = stands_contact g.plan (stage r d wide gs node.base g has).region.right (ImportEnd second.0 1) second.1
-
-        import_at : (h i : ℕ) → StandsIn g.plan (ImportEnd i h) → g.cut.outer (ImportEnd i h) ≡ ImportEnd n h → slice_get g.plan.imports i ≡ slice_get r.imports n
-        import_at h i stands at =
-            let (k, there, is) = (stage r d wide gs node.base g has).ports i h stands in
-            let both : ImportEnd k h ≡ ImportEnd n h = sym there ∙ at in
-            let same_import : k ≡ n = cc both in
-            sym is ∙ ap (slice_get r.imports) same_import
-
-        import : (x : Imported) × (slice_get g.plan.imports second.0 ≡ Some x)
-        import = there_is g.plan.imports second.0 1 contact.0 contact.1
-
-        same : second.0 ≡ first.0
-        same =
-            one_place g.plan.imports (stage r d wide gs node.base g has).names second.0 first.0 import.0 import.1
-            (import_at 0 first.0 first.1 first.2 ∙ (sym (import_at 1 second.0 second.1 second.2) ∙ import.1))
-
   stage_out : (g : Stage) (has : Contains gs g) (hs : List Element) (before s t : Tokens) (past : List Pass) (b : End) (v : ℕ) → AllFit r s
       → Going r d wide gs node g has hs before s past → StageStep r d wide gs node restful g has hs before s t (after r (Out b v) past) (Out b v) → Does r (Out b v) s t
       → KeepsTurns r past (pass b (way_out (contact_at r b)))
-  stage_out g has hs before s t past b v fit going step does =
-      subst (λ (way : Direction). KeepsTurns r past (pass b way)) (sym asked) (
-        closed,
-        shut_turned r node.base.ground (done r d wide gs node) (pass b Request ∷ past)
-            (λ n. subst (λ (way : Direction). Shut (pass b way ∷ past) n) asked
-            (stage_shut g has (passed g.plan [] (hs ++ step.y ∷ [])) (after r (Out b v) past) step.going.follows step.going.turned n))
-            (subst (λ (way : Direction). is_open (pass b way ∷ past) (ResultEnd 0) ≡ true) asked step.going.follows.result),
-      )
+  stage_out g has hs before s t past b v fit going step does = (
+    subst (ComesInTurn past b) (sym ways)
+        (goes_as r d wide gs node.base g has (passed g.plan [] hs) past going.follows port.0 port.1 b (standing r d wide gs node.base g has port.0 port.1 port.2) port.3 (way_out (contact_at g.plan (ImportEnd port.0 port.1))) turn.0),
+    whole_turned r d wide gs node.base g has (passed g.plan [] (hs ++ step.y ∷ [])) (after r (Out b v) past) step.going.follows (done r d wide gs node) step.going.turned,
+  )
     where
       port : (i h : ℕ) × StandsIn g.plan (ImportEnd i h) × (g.cut.outer (ImportEnd i h) ≡ b) × Does g.plan (Out (ImportEnd i h) v) (seen g s) (seen g t) × InStage r d wide gs node.base g has t
       port = out_in r d wide gs node.base g has b v s t fit going.stirs.places does
 
-      c : (c : Contact) × (contact_at g.plan (ImportEnd port.0 port.1) ≡ Some c)
-      c = stands_contact g.plan (stage r d wide gs node.base g has).region.right (ImportEnd port.0 port.1) port.2
+      turn : KeepsTurns g.plan (passed g.plan [] hs) (pass (ImportEnd port.0 port.1) (way_out (contact_at g.plan (ImportEnd port.0 port.1))))
+      turn =
+          stage_out_turned r d wide gs node restful g has hs before s t past going (ImportEnd port.0 port.1) v
+          (then_one g.asked_at g.plan hs (Out (ImportEnd port.0 port.1) v) going.ran.session port.2) port.4
 
-      own_asked : way_out (contact_at g.plan (ImportEnd port.0 port.1)) ≡ Request
-      own_asked =
-          let here : IsWriteStage r d wide g = stage r d wide gs node.base g has in
-          elim (ground_role g.plan (ground_stage r d wide gs node.base g has) (asked_ground g.plan g.asked_at wide here.low here.outcome) (ImportEnd port.0 port.1) c.0 tt c.1) [
-            | inl result ↦ (let clash : ImportEnd port.0 port.1 ≡ ResultEnd result.0 = result.1 in absurd (cc clash))
-            | inr import ↦ way_out_of g.plan (ImportEnd port.0 port.1) c.0 c.1 ∙ ap way_taken import.3
-          ]
-
-      asked : way_out (contact_at r b) ≡ Request
-      asked =
-          ap way_out (ap (contact_at r) (sym port.3) ∙ (stage r d wide gs node.base g has).region.contacts (ImportEnd port.0 port.1) tt port.2) ∙ own_asked
-
-      closed : is_open past b ≡ false
-      closed =
-          let turn = stage_out_turned r d wide gs node restful g has hs before s t past going (ImportEnd port.0 port.1) v
-          (then_one g.asked_at g.plan hs (Out (ImportEnd port.0 port.1) v) going.ran.session port.2) port.4 in
-          let shut : is_open (passed g.plan [] hs) (ImportEnd port.0 port.1) ≡ false =
-          (subst (λ (way : Direction). KeepsTurns g.plan (passed g.plan [] hs) (pass (ImportEnd port.0 port.1) way)) own_asked turn).0 in
-          ap (is_open past) (sym port.3) ∙ (sym (going.follows.same port.0 port.1 port.2) ∙ shut)
+      ways : way_out (contact_at r b) ≡ way_out (contact_at g.plan (ImportEnd port.0 port.1))
+      ways = ap way_out (met_contacts r g.cut g.plan (has_ports r d wide gs node.base g has) port.0 port.1 b (standing r d wide gs node.base g has port.0 port.1 port.2) port.3)
 
   answer_out : (k : ℕ) (past : List Pass) → OnlyResult past → KeepsTurns r past (pass (ResultEnd 0) (way_out (contact_at r (ResultEnd 0))))
   answer_out k past only =

@@ -8,12 +8,12 @@ use Rattle.gos_plan.specs.Plans.{End, PartEnd, ImportEnd, ResultEnd, Plan, conta
 use Rattle.gos_plan.specs.Tokens.{Tokens, Element, Fire, Out, In, IsPortEnd, places_of, with_token, with_state, with_puts, token_at, end_of, way_of, shake_of, way_taken, fired, firing_of, Passes, Does, Runs, IsIdle}
 use Rattle.gos_plan.proofs.HeldLemmas.{takes_of}
 use Rattle.gos_plan.proofs.TurnLemmas.{token_state, fired_state}
-use Rattle.gos_realises.specs.Regular.{Pass, pass, way_in, way_out, is_request, is_open, ComesInTurn, InputsKeepTurns}
+use Rattle.gos_realises.specs.Regular.{Pass, pass, way_in, way_out, is_request, is_open, KeepsTurns, InputsKeepTurns}
 use Rattle.gos_realises.proofs.InputLemmas.{passed, out_there}
 use Rattle.gos_realises.proofs.RingLemmas.{after}
 use Rattle.gos_windows.specs.Nodes.{Stage}
 use Rattle.gos_windows.specs.Windows.{seen, HoldsOnly}
-use Rattle.gos_windows.proofs.PortLemmas.{port_role}
+use Rattle.gos_windows.proofs.PortLemmas.{port_end}
 use Rattle.gos_windows.proofs.TurnLemmas.{result_in, result_out, OnlyResult, NoneOpen}
 use Rattle.gos_windows.proofs.WholeLemmas.{put_only, taken_empty, only_there, held_beside, idle_token, nat_eq_same}
 use Rattle.gos_windows.proofs.NodeLemmas.{InTurn, request_slot, answer_slot}
@@ -59,7 +59,7 @@ module _ (r : Plan) (d : ℕ) (wide : ℕ) (gs : List Stage) (node : IsWrite r d
       let passes = subst (λ (o : Option Contact). Passes r (Out b v) o s t) there does.1 in
       absurd (idle_token r s idle b (way_taken c.role) v passes.0)
   rest_step (In b v) s t past idle closed does turn =
-      elim (in_turn_at r d wide gs node b v s t past does turn.0) [
+      elim (in_turn_at r d wide gs node b v s t past does turn) [
         | inl (is, zero_is, shut, leads) ↦ (
           (λ l. In (is l) (zero_is l)),
           subst (λ (x : Tokens). HoldsOnly r (PartEnd d 2) Request 0 x) (sym leads)
@@ -69,15 +69,15 @@ module _ (r : Plan) (d : ℕ) (wide : ℕ) (gs : List Stage) (node : IsWrite r d
           subst (λ (e : End). OnlyResult (pass e (way_in (contact_at r e)) ∷ past)) (sym is)
               (ap is_request (result_in r (done r d wide gs node)), closed.1),
         )
-        | inr (k, h, is, up) ↦ absurd (true_is_not_false (is_open past (ImportEnd k h)) up (closed.1 k h))
+        | inr (k, h, n, is, up, which) ↦ absurd (true_is_not_false (is_open past (ImportEnd k n)) up (closed.1 k n))
       ]
 
   -- an input while the result alone is open
-  no_input : (b : End) (v : ℕ) (s t : Tokens) (past : List Pass) → OnlyResult past → Does r (In b v) s t → ComesInTurn past b (way_in (contact_at r b)) → ⊥
+  no_input : (b : End) (v : ℕ) (s t : Tokens) (past : List Pass) → OnlyResult past → Does r (In b v) s t → KeepsTurns r past (pass b (way_in (contact_at r b))) → ⊥
   no_input b v s t past only does turn =
       elim (in_turn_at r d wide gs node b v s t past does turn) [
         | inl (is, zero_is, shut, leads) ↦ true_is_not_false (is_open past (ResultEnd 0)) only.0 shut
-        | inr (k, h, is, up) ↦ true_is_not_false (is_open past (ImportEnd k h)) up (only.1 k h)
+        | inr (k, h, n, is, up, which) ↦ true_is_not_false (is_open past (ImportEnd k n)) up (only.1 k n)
       ]
 
   -- what fires while a token lies on the result's joint alone
@@ -114,7 +114,7 @@ module _ (r : Plan) (d : ℕ) (wide : ℕ) (gs : List Stage) (node : IsWrite r d
 
       taken_so : Answer ≡ way_taken c.0.role
       taken_so =
-          elim (port_role r node.base.ground (done r d wide gs node) b c.0 does.0 c.1) [
+          elim (port_end r (done r d wide gs node) b c.0 does.0 c.1) [
             | inl result ↦ ap way_taken (sym result.1)
             | inr import ↦ (let clash : ResultEnd 0 ≡ ImportEnd import.0 import.1 = sym at_result ∙ import.2 in absurd (cc clash))
           ]
@@ -151,7 +151,7 @@ module _ (r : Plan) (d : ℕ) (wide : ℕ) (gs : List Stage) (node : IsWrite r d
 
   pub asked_step : (x : Element) (s t : Tokens) (past : List Pass) → HoldsOnly r (PartEnd d 2) Request 0 s → OnlyResult past → Does r x s t → InTurn r past x
       → AskedStep x s t (after r x past)
-  asked_step (In b v) s t past holding only does turn = absurd (no_input b v s t past only does turn.0)
+  asked_step (In b v) s t past holding only does turn = absurd (no_input b v s t past only does turn)
   asked_step (Out b v) s t past holding only does turn =
       let out = out_answer b v Request 0 s t (PartEnd d 2) (own_place r d wide gs node) holding does in
       let clash : Answer ≡ Request = out.1 in absurd (cc clash)
@@ -208,7 +208,7 @@ module _ (r : Plan) (d : ℕ) (wide : ℕ) (gs : List Stage) (node : IsWrite r d
   -- answered: the answer alone can go out
   pub answer_step : (k : ℕ) (x : Element) (s t : Tokens) (past : List Pass) → HoldsOnly r (ResultEnd 0) Answer k s → OnlyResult past → Does r x s t → InTurn r past x
       → (x ≡ Out (ResultEnd 0) k) × IsIdle r t × NoneOpen (after r x past)
-  answer_step k (In b v) s t past holding only does turn = absurd (no_input b v s t past only does turn.0)
+  answer_step k (In b v) s t past holding only does turn = absurd (no_input b v s t past only does turn)
   answer_step k (Fire i slot) s t past holding only (v, row, held, by, leads) turn =
       elim (table.no_other wide (s.state d) (Ans 2) row by_own) [
         | inl (resting, is) ↦ (let clash : Ans 2 ≡ Req 2 = is in absurd (cc clash))

@@ -12,12 +12,12 @@ use Rattle.gos_webs.specs.Cutting.{StandsIn}
 use Rattle.gos_webs.proofs.CutLemmas.{part_there}
 use Rattle.gos_windows.specs.Nodes.{Stage}
 use Rattle.gos_windows.specs.Windows.{seen, HoldsOnly}
-use Rattle.gos_windows.proofs.PortLemmas.{port_role, result_there}
+use Rattle.gos_windows.proofs.PortLemmas.{port_end, result_there}
 use Rattle.gos_writes.specs.Writes.{IsWriteStage, IsWrite}
 use Rattle.gos_writes.specs.Windows.{StirsOnly, QuietIsWithin, AssignCan}
-use Rattle.gos_writes.proofs.AskedLemmas.{ground_role, asked_ground}
+use Rattle.gos_writes.proofs.AskedLemmas.{ground_port, asked_ground}
 use Rattle.gos_writes.proofs.OwnLemmas.{takes_answer, takes_request}
-use Rattle.gos_writes.proofs.StageLemmas.{stage, ground_stage}
+use Rattle.gos_writes.proofs.StageLemmas.{stage}
 use Rattle.gos_writes.proofs.LiftLemmas.{held_whole, stage_stands, fires_whole}
 
 module _
@@ -44,7 +44,7 @@ module _
 
   outs_not : (e : End) (v : ℕ) (w : Tokens) → Does g.plan (Out e v) (seen g s) w → ⊥
   outs_not e v w does =
-      elim (ground_role g.plan (ground_stage r d wide gs node.base g has) (asked_ground g.plan g.asked_at wide here.low here.outcome) e there.0 does.0 there.1) [
+      elim (ground_port g.plan (asked_ground g.plan g.asked_at wide here.low here.outcome) e there.0 does.0 there.1) [
         | inl result ↦
             (let at_end : token_at g.plan (seen g s) (ResultEnd result.0) Answer ≡ Some v =
             ap (λ (x : End). token_at g.plan (seen g s) x Answer) (sym result.1)
@@ -106,7 +106,7 @@ assign_can r d wide gs s node = (own_fires, goes_out)
         by_contact : (o : Option Contact) → contact_at r (ResultEnd 0) ≡ o → ⊥
         by_contact None none = result_there r.outcome done none
         by_contact (Some c) there =
-            elim (port_role r node.base.ground done (ResultEnd 0) c tt there) [
+            elim (port_end r done (ResultEnd 0) c tt there) [
               | inl result ↦
                   quiet.1 (ResultEnd 0) v (with_token r (ResultEnd 0) (way_taken c.role) None s) (
                     tt,

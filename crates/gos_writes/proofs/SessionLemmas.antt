@@ -35,6 +35,9 @@ use Rattle.gos_writes.specs.OneSession.{Stays}
 use Rattle.gos_writes.specs.Windows.{Begins}
 use Rattle.gos_writes.specs.Realised.{session_shows, IsSessionMatched, SessionIsRealised}
 use Rattle.gos_writes.proofs.RegionLemmas.{fires_goes_on, out_shown, in_shown}
+use Rattle.gos_webs.specs.Cutting.{StandsIn}
+use Rattle.gos_writes.proofs.AskedLemmas.{asked_ground, ground_in}
+use Rattle.gos_windows.proofs.PortLemmas.{ground_within}
 
 -- the two sessions of an assignment: N in its frame, and the write of the number k
 abbrev pub number_session : ℕ → Term → Term → Session
@@ -141,19 +144,25 @@ opens w m n g k ys s e at asked typed realised begins =
           };
     }
 
+-- with ground imports an input is at a joint
+pub in_stage_stands : (r : Plan) (d wide : ℕ) (g : Stage) → AllGround r.imports → IsWriteStage r d wide g → (i h v : ℕ) → Stays g.plan (In (ImportEnd i h) v)
+    → StandsIn g.plan (ImportEnd i h)
+in_stage_stands r d wide g ground is i h v stays =
+    ground_in g.plan (ground_within g.plan.imports r.imports ground is.imports) (asked_ground g.plan g.asked_at wide is.low is.outcome) i h v stays
+
 -- of the acts that match an element of a stage: what they are in the whole
 pub record Stirred (r : Plan) (g : Stage) (y : Element) (s : Tokens) (acts : List Act) : Type 0 where
   pub inner : AreInner acts
   pub shown : labels acts ≡ shows r (whole_element g.cut y)
   pub goes : GoesOn r s (whole_element g.cut y) acts
 
-pub stirred : (r : Plan) (d wide : ℕ) (g : Stage) → IsWriteStage r d wide g → (y : Element) (s u t : Tokens) (acts : List Act)
+pub stirred : (r : Plan) (d wide : ℕ) (g : Stage) → AllGround r.imports → IsWriteStage r d wide g → (y : Element) (s u t : Tokens) (acts : List Act)
     → Does g.plan y (seen g s) u → Stays g.plan y → Does r (whole_element g.cut y) s t → labels acts ≡ session_shows g.plan y
     → GoesOn g.plan (seen g s) y acts → Stirred r g y s acts
-stirred r d wide g is (Fire i slot) s u t acts does stands whole shown goes =
+stirred r d wide g ground is (Fire i slot) s u t acts does stands whole shown goes =
     record { inner = silent_inner acts shown; shown = shown; goes = fires_goes_on r d wide g is i slot s u t acts does goes }
-stirred r d wide g is (Out (PartEnd i h) v) s u t acts does stands whole shown goes = absurd does.0
-stirred r d wide g is (Out (ImportEnd i h) v) s u t acts does stands whole shown goes =
+stirred r d wide g ground is (Out (PartEnd i h) v) s u t acts does stands whole shown goes = absurd does.0
+stirred r d wide g ground is (Out (ImportEnd i h) v) s u t acts does stands whole shown goes =
     let (k, at, held) = out_held g.plan (ImportEnd i h) v (seen g s) u does in
     let way = way_out (contact_at g.plan (ImportEnd i h)) in
     record {
@@ -161,17 +170,17 @@ stirred r d wide g is (Out (ImportEnd i h) v) s u t acts does stands whole shown
       shown = shown ∙ sym (out_shown r d wide g is i h v stands);
       goes = tt;
     }
-stirred r d wide g is (Out (ResultEnd h) v) s u t acts does stands whole shown goes = absurd stands
-stirred r d wide g is (In (PartEnd i h) v) s u t acts does stands whole shown goes = absurd does.0
-stirred r d wide g is (In (ImportEnd i h) v) s u t acts does stands whole shown goes =
+stirred r d wide g ground is (Out (ResultEnd h) v) s u t acts does stands whole shown goes = absurd stands
+stirred r d wide g ground is (In (PartEnd i h) v) s u t acts does stands whole shown goes = absurd does.0
+stirred r d wide g ground is (In (ImportEnd i h) v) s u t acts does stands whole shown goes =
     let (k, at) = in_there g.plan (ImportEnd i h) v (seen g s) u does in
     let way = way_in (contact_at g.plan (ImportEnd i h)) in
     record {
       inner = one_inner acts (label_at g.plan (ImportEnd i h) way v) shown (import_port g.plan i h v way k at);
-      shown = shown ∙ sym (in_shown r d wide g is i h v stands);
+      shown = shown ∙ sym (in_shown r d wide g is i h v (in_stage_stands r d wide g ground is i h v stands));
       goes = tt;
     }
-stirred r d wide g is (In (ResultEnd h) v) s u t acts does stands whole shown goes = absurd stands
+stirred r d wide g ground is (In (ResultEnd h) v) s u t acts does stands whole shown goes = absurd stands
 
 -- what an element of a stage is in the whole
 pub record Went (r : Plan) (w : ℕ) (m n : Term) (q : Program) (g : Stage) (y : Element) (ys : List Element) (s t : Tokens) (e : Session) (b : Term) (st : Store) : Type 0 where
@@ -184,12 +193,12 @@ pub record Went (r : Plan) (w : ℕ) (m n : Term) (q : Program) (g : Stage) (y :
   pub inner : Inner w m n g ys t e term store
 
 pub goes_within : (r : Plan) (d w : ℕ) (m n : Term) (q : Program) (g : Stage) (y : Element) (ys : List Element) (s t : Tokens) (e : Session) (b : Term) (st : Store)
-    → NamesDiffer r.imports → q.imports ≡ r.imports → IsWriteStage r d w g → Does g.plan y (seen g s) (seen g t) → Stays g.plan y
+    → NamesDiffer r.imports → AllGround r.imports → q.imports ≡ r.imports → IsWriteStage r d w g → Does g.plan y (seen g s) (seen g t) → Stays g.plan y
     → Does r (whole_element g.cut y) s t → Inner w m n g (y ∷ ys) s e b st → Went r w m n q g y ys s t e b st
-goes_within r d w m n q g y ys s t e b st differ same is does stands whole inner =
+goes_within r d w m n q g y ys s t e b st differ ground same is does stands whole inner =
     let p = child g e in
     let next = inner.matched.1 (seen g t) does in
-    let stir = stirred r d w g is y s (seen g t) t next.0 does stands whole next.3 next.4 in
+    let stir = stirred r d w g ground is y s (seen g t) t next.0 does stands whole next.3 next.4 in
     let stays = inner_stays p next.0 b st next.1 stir.inner next.2 in
     let moves : Moves p next.0 (Running b st) (Running stays.0 stays.1) =
     moves_at p next.0 (Running b st) next.1 (Running stays.0 stays.1) stays.2 next.2 in

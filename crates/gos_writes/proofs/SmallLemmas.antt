@@ -2,7 +2,7 @@
 use Rattle.std.specs.Prelude.{length, ◌<◌, slice_get, slice_index_or, Contains}
 use Rattle.std.proofs.Common.{◌≡◌, ℕ, zero, suc, [], ◌∷◌, ◌⊎◌, Some, inl, inr, refl, sym, ◌∙◌, ap, subst, arith}
 use Rattle.std.proofs.lemmas.Option.{none-some, same_Some}
-use Rattle.gos_plan.specs.Kinds.{Part, Assign, Lit}
+use Rattle.gos_plan.specs.Kinds.{Part, Assign, Lit, Contact}
 use Rattle.gos_plan.specs.Plans.{End, PartEnd, ImportEnd, ResultEnd, Joint, Plan, contact_at, IsRight}
 use Rattle.gos_plan.specs.Tokens.{IsPortEnd, Out, In}
 use Rattle.gos_plan.specs.TokenBits.{LiteralFits}
@@ -18,7 +18,9 @@ use Rattle.gos_windows.specs.Nodes.{Stage, IsOfStage}
 use Rattle.gos_writes.specs.OneSession.{IsRegularAt}
 use Rattle.gos_writes.specs.Writes.{IsWriteStage}
 use Rattle.gos_writes.specs.Assignments.{IsLaid}
-use Rattle.gos_writes.specs.SmallWrites.{x_plan, OneIsAssigned, ReadStageIsNone, x_written, x_inner, x_out, number_stage, variable_stage, OneIsWritten, SevenBitsAreNone, LitIsNone, StageIsMissing, ReadIsDropped, WriteIsSession, ReadIsNoSession}
+use Rattle.gos_writes.specs.SmallWrites.{x_plan, OneIsAssigned, ReadStageIsNone, x_written, x_inner, x_out, number_stage, variable_stage, OneIsWritten, SevenBitsAreNone, LitIsNone, StageIsMissing, ReadIsDropped, WriteIsSession, ReadIsNoSession, ArgumentIsAsked, OutcomeIsNotAsked}
+use Rattle.gos_writes.proofs.AskedLemmas.{ground_heard}
+use Rattle.gos_types.specs.declared.shakes.Role.TheVariants.{Serve, Ask}
 
 no_member : {A : Type 0} (x : A) → Contains [] x → ⊥
 no_member x (i, less, is) = omega (arith, less)
@@ -61,6 +63,7 @@ number_is_stage regular =
       imports = λ i has. absurd (no_member i has);
       names = tt;
       ports = λ i h stands. absurd (no_import i h (one_port (ImportEnd i h) tt stands));
+      heard = ground_heard number_stage.cut write_plan one_plan tt tt;
     }
 
 -- the stage of x
@@ -156,6 +159,7 @@ variable_is_stage regular =
       ports = λ i h stands.
           (let at = x_import i h (x_port (ImportEnd i h) stands) in
           (0, ap (ImportEnd 0) (sym at.1), ap (λ (n : ℕ). slice_get x_written.imports n) (sym at.0)));
+      heard = ground_heard variable_stage.cut write_plan x_written (tt, tt) tt;
     }
 
 -- both
@@ -205,11 +209,10 @@ one_is_a_write number variable =
             right = one_is_written.cut.whole_right;
             own = refl;
             literals = fit;
-            ground = (tt, tt);
+            names = one_name;
             stages = of_two (λ (x : Stage). IsWriteStage write_plan 0 8 x) (number_is_stage number) (variable_is_stage variable);
           };
       outcome = refl;
-      names = one_name;
       one = one_each;
       staged = staged;
       result = (0, omega arith, refl);
@@ -237,7 +240,7 @@ x_stands : StandsIn x_written (ImportEnd 0 1)
 x_stands = (joint (ResultEnd 1) (ImportEnd 0 1), (0, omega arith, refl), refl)
 
 pub write_is_session : WriteIsSession
-write_is_session = (refl, inr (Out (ImportEnd 0 1) 5 ∷ In (ImportEnd 0 1) 0 ∷ [], 0, (x_stands, (x_stands, tt)), refl))
+write_is_session = (refl, inr (Out (ImportEnd 0 1) 5 ∷ In (ImportEnd 0 1) 0 ∷ [], 0, (x_stands, (inl x_stands, tt)), refl))
 
 pub read_is_no_session : ReadIsNoSession
 read_is_no_session (is, rest) = let shake : ◌≡◌ {A = ℕ} 0 1 = cc is in omega (arith, shake)
@@ -288,3 +291,13 @@ one_is_assigned =
 
 pub read_stage_is_none : ReadStageIsNone
 read_stage_is_none is = let joints_so : ◌≡◌ {A = ℕ} 2 1 = ap (λ (x : Plan). length x.joints) is.plan in omega (arith, joints_so)
+
+-- who asks at a function's name
+pub argument_is_asked : ArgumentIsAsked
+argument_is_asked = (_, refl, refl)
+
+serve_ask : Serve ≡ Ask → ⊥
+serve_ask e = cc e
+
+pub outcome_is_not_asked : OutcomeIsNotAsked
+outcome_is_not_asked (c, there, asks) = serve_ask (ap (λ (x : Contact). x.role) (same_Some _ c there) ∙ asks)

@@ -62,8 +62,8 @@ module _
   pub stage : IsWriteStage r d wide g
   stage = node.stages g has
 
-  pub ground_stage : AllGround g.plan.imports
-  ground_stage = ground_within g.plan.imports r.imports node.ground stage.imports
+  pub ground_stage : AllGround r.imports → AllGround g.plan.imports
+  ground_stage ground = ground_within g.plan.imports r.imports ground stage.imports
 
   pub cut : IsCut g.cut (inlay g.cut r g.plan) g.plan
   cut = inlay_cut g.cut g.sides r g.plan stage.region
@@ -342,6 +342,24 @@ module _
       still =
           subst (λ (x : Tokens). InStage x) (agree_put g.cut g.sides r g.plan stage.region b agrees (way_put there.0.role) (Some v) s ∙ sym passes.1)
           (in_stage_put s within b (way_put there.0.role) (Some v))
+
+  -- where no joint is nothing comes in
+  pub in_none : (b : End) (v : ℕ) (s t : Tokens) (i h : ℕ) (c : Contact) → InStage s → contact_at r b ≡ Some c → contact_at g.plan (ImportEnd i h) ≡ Some c
+      → places_of r b ≡ None → places_of g.plan (ImportEnd i h) ≡ None → Does r (In b v) s t
+      → Does g.plan (In (ImportEnd i h) v) (seen g s) (seen g t) × InStage t
+  in_none b v s t i h c within at own_at none own_none does = (
+    (tt, subst (λ (o : Option Contact). Passes g.plan (In (ImportEnd i h) v) o (seen g s) (seen g t)) (sym own_at) (passes.0, lost)),
+    subst (λ (x : Tokens). InStage x) (sym stays) within,
+  )
+    where
+      passes : (v < 2 ^ bits_of c (way_put c.role)) × (t ≡ with_token r b (way_put c.role) (Some v) s)
+      passes = subst (λ (o : Option Contact). Passes r (In b v) o s t) at does.1
+
+      stays : t ≡ s
+      stays = passes.1 ∙ ap (λ (o : Option End). with_held (way_put c.role) o (Some v) s) none
+
+      lost : seen g t ≡ with_token g.plan (ImportEnd i h) (way_put c.role) (Some v) (seen g s)
+      lost = ap (seen g) stays ∙ sym (ap (λ (o : Option End). with_held (way_put c.role) o (Some v) (seen g s)) own_none)
 
   -- the own part takes its answer
   pub own_contact : StandsIn g.plan (ResultEnd g.asked_at) → contact_at r (PartEnd d g.asked_at) ≡ contact_at g.plan (ResultEnd g.asked_at)

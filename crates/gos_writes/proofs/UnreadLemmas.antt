@@ -3,9 +3,12 @@
 -- At that joint nothing lies, since its handshake isn't open: nobody asks there, and an answer comes where it is open alone.
 use Rattle.std.specs.Prelude.{◌^◌, ◌<◌, None, slice_get}
 use Rattle.std.proofs.Common.{◌≡◌, ℕ, Bool, true, false, List, [], ◌∷◌, ◌++◌, ◌⊎◌, Option, Some, inl, inr, refl, sym, ◌∙◌, ap, subst, arith, if◌then◌else◌}
+use Rattle.gos_types.specs.declared.shakes.Role.{Role}
 use Rattle.gos_types.specs.declared.shakes.Role.TheVariants.{Serve, Ask}
+use Rattle.std.proofs.lemmas.Option.{same_Some}
 use Rattle.gos_types.specs.Types.{Type', Var, IsGround}
 use Rattle.gos_netlist.specs.Events.{Direction, Request, Answer}
+use Rattle.gos_plan.specs.Kinds as kinds
 use Rattle.gos_plan.specs.Kinds.{Part, Contact, asks, serves}
 use Rattle.gos_plan.specs.Firing.{Slot, Req, Ans, Token, Row}
 use Rattle.gos_plan.specs.Plans.{End, PartEnd, ImportEnd, ResultEnd, Joint, Plan, contact_at, same_end, stands_in, IsRight}
@@ -16,7 +19,6 @@ use Rattle.gos_plan.proofs.HeldLemmas.{nothing_there, takes_of}
 use Rattle.gos_plan.proofs.JointLemmas.{found, fits, stands_there, same_is}
 use Rattle.gos_plan.proofs.ProjectionLemmas.{named}
 use Rattle.gos_realises.specs.Regular.{Pass, InputsKeepTurns, IsRegular}
-use Rattle.gos_realises.specs.Realises.{AllGround}
 use Rattle.gos_realises.proofs.InputLemmas.{passed, passed_then, inputs_then, runs_then, in_there, out_there}
 use Rattle.gos_realises.proofs.RingLemmas.{after}
 use Rattle.gos_pace.proofs.HoldLemmas.{orderly_append}
@@ -24,11 +26,11 @@ use Rattle.gos_webs.specs.Cutting.{StandsIn}
 use Rattle.gos_webs.proofs.CutLemmas.{which_end, part_there}
 use Rattle.gos_windows.specs.Regions.{IsLoyal}
 use Rattle.gos_windows.proofs.PortLemmas.{stands_place}
-use Rattle.gos_writes.specs.OneSession.{AllStay, EndsWell, IsOneSession, IsRegularAt, IsLoyalAt}
+use Rattle.gos_writes.specs.OneSession.{IsAsked, AllStay, EndsWell, IsOneSession, IsRegularAt, IsLoyalAt}
 use Rattle.gos_writes.specs.Written.{unread_joints, unread}
 use Rattle.gos_writes.proofs.OneSessionLemmas.{open_is_one}
-use Rattle.gos_writes.proofs.AskedLemmas.{ground_asks, ground_role}
-use Rattle.gos_writes.proofs.ClosedLemmas.{asks_itself}
+use Rattle.gos_writes.proofs.AskedLemmas.{ground_asks}
+use Rattle.gos_windows.proofs.ClosingLemmas.{asks_itself}
 use Rattle.gos_writes.proofs.JoinedLemmas.{was_in, unread_right}
 use Rattle.gos_writes.proofs.OrderLemmas.{last_order}
 
@@ -52,12 +54,15 @@ asking_same (j ∷ js) e apart = by_test (same_end j.asking (ResultEnd 0)) refl 
         let here : (if stands_in e j then Some j.asking else asking_in js e) ≡ asking_in js e = ap (λ (x : Bool). if x then Some j.asking else asking_in js e) stands in
         ap (λ (x : Bool). if x then Some j.asking else asking_in (unread_joints js) e) stands ∙ (further (λ is. apart (here ∙ is)) ∙ sym here)
 
--- what comes in is at handshake 1, or at an import's end that stands in a joint
+-- where an input comes: at handshake 1, or at an import's end that stands in a joint or asks
+abbrev Comes : Plan → End → Type 0
+Comes c e = (e ≡ ResultEnd 1) ⊎ ((i h : ℕ) × (e ≡ ImportEnd i h) × (StandsIn c e ⊎ IsAsked c e))
+
 abbrev pub AllCome : Plan → List Element → Type 0
 AllCome c [] = Unit {0}
 AllCome c (Fire i t ∷ xs) = AllCome c xs
 AllCome c (Out e v ∷ xs) = AllCome c xs
-AllCome c (In e v ∷ xs) = ((e ≡ ResultEnd 1) ⊎ ((i h : ℕ) × (e ≡ ImportEnd i h) × StandsIn c e)) × AllCome c xs
+AllCome c (In e v ∷ xs) = Comes c e × AllCome c xs
 
 stay_come : (c : Plan) (xs ys : List Element) → AllStay c xs → AllCome c ys → AllCome c (xs ++ ys)
 stay_come c [] ys all last = last
@@ -84,7 +89,7 @@ session_come c (In e v ∷ xs) one = (inl one.0, well_come c xs one.1)
 not_both : (b : Bool) → b ≡ true → b ≡ false → ⊥
 not_both b up down = let both : true ≡ false = sym up ∙ down in cc both
 
-module _ (p : Plan) (w : ℕ) (right : IsRight p) (outcome : p.outcome ≡ Var w) (ground : AllGround p.imports) (regular : IsRegular p) where
+module _ (p : Plan) (w : ℕ) (right : IsRight p) (outcome : p.outcome ≡ Var w) (regular : IsRegular p) where
   abbrev c : Plan
   c = unread p
 
@@ -128,6 +133,20 @@ module _ (p : Plan) (w : ℕ) (right : IsRight p) (outcome : p.outcome ≡ Var w
       by_end j asking fit (inl is) = let clash : ResultEnd 1 ≡ ResultEnd 0 = is ∙ asking in let shake : ◌≡◌ {A = ℕ} 1 0 = cc clash in omega (arith, shake)
       by_end j asking fit (inr is) =
           let role : Ask ≡ Serve = ground_asks p.outcome grounded 1 (serves fit.0 fit.1) (ap (contact_at p) is ∙ fit.3) in cc role
+
+  -- nor is an end at which the surroundings ask
+  asks_apart : (i h : ℕ) → IsAsked p (ImportEnd i h) → places_of p (ImportEnd i h) ≡ Some (ResultEnd 0) → ⊥
+  asks_apart i h (k, at_end, asks) named_so =
+      let at = found p.joints (ImportEnd i h) (ResultEnd 0) named_so in
+      let fit = fits p [] p.joints at.joint right at.is_in in
+      by_end at.joint at.named fit (which_end (ImportEnd i h) at.joint at.stands)
+    where
+      by_end : (j : Joint) → j.asking ≡ ResultEnd 0 → (x y : ℕ) × (contact_at p j.asking ≡ Some (kinds.asks x y)) × (contact_at p j.serving ≡ Some (serves x y))
+          → (ImportEnd i h ≡ j.asking) ⊎ (ImportEnd i h ≡ j.serving) → ⊥
+      by_end j asking fit (inl is) = let clash : ImportEnd i h ≡ ResultEnd 0 = is ∙ asking in cc clash
+      by_end j asking fit (inr is) =
+          let same : k ≡ serves fit.0 fit.1 = same_Some k (serves fit.0 fit.1) (sym at_end ∙ (ap (contact_at p) is ∙ fit.3)) in
+          let clash : Ask ≡ Serve = sym asks ∙ ap (λ (x : Contact). x.role) same in cc clash
 
   -- tokens and names at such an end
   put_same : (e : End) → Same e → (way : Direction) (held : Option ℕ) (s : Tokens) → with_token c e way held s ≡ with_token p e way held s
@@ -336,7 +355,7 @@ module _ (p : Plan) (w : ℕ) (right : IsRight p) (outcome : p.outcome ≡ Var w
       )
 
   in_next : (first : Tokens) (hs : List Element) (e : End) (v : ℕ) (s t : Tokens) (o : Open) → At first hs s o → InputsKeepTurns p (passed p [] hs) (In e v ∷ [])
-      → (e ≡ ResultEnd 1) ⊎ ((i h : ℕ) × (e ≡ ImportEnd i h) × StandsIn c e) → Does c (In e v) s t → Next first hs (In e v) s t o
+      → Comes c e → Does c (In e v) s t → Next first hs (In e v) s t o
   in_next first hs e v s t o so turn which own =
       let order = ordered first hs (In e v) s t o so turn does in
       make first hs (In e v) s t o so turn does order.0 order.1 order.2
@@ -353,24 +372,28 @@ module _ (p : Plan) (w : ℕ) (right : IsRight p) (outcome : p.outcome ≡ Var w
       same =
           elim which [
             | inl is ↦ subst Same (sym is) (apart_same (ResultEnd 1) not_read)
-            | inr import ↦ stands_same e import.3
+            | inr (i, h, is, inl stands) ↦ stands_same e stands
+            | inr (i, h, is, inr asked) ↦ subst Same (sym is) (apart_same (ImportEnd i h) (asks_apart i h (subst (IsAsked c) is asked)))
           ]
 
       does : Does p (In e v) s t
       does =
           (own.0, subst (λ (x : Option Contact). Passes p (In e v) x s t) (sym there.1) (passes.0, passes.1 ∙ put_same e same (way_put there.0.role) (Some v) s))
 
-      stays_shut : (e ≡ ResultEnd 1) ⊎ ((i h : ℕ) × (e ≡ ImportEnd i h) × StandsIn c e) → Shut (after_put p e (way_put there.0.role) o)
+      put_shut : there.0.role ≡ Ask → same_end (ResultEnd 0) e ≡ false → Shut (after_put p e Request o)
+      put_shut role apart =
+          ap (λ (x : End). with_open x true o (ResultEnd 0)) (asks_itself p right e there.0 there.1 role)
+          ∙ (ap (λ (b : Bool). if b then true else o (ResultEnd 0)) apart ∙ so.shut)
+
+      stays_shut : Comes c e → Shut (after_put p e (way_put there.0.role) o)
       stays_shut (inl is) =
           let role : Ask ≡ there.0.role = ground_asks p.outcome grounded 1 there.0 (ap (contact_at p) (sym is) ∙ there.1) in
-          let name = asks_itself p right ground grounded 0 e there.0 there.1 (sym role) in
-          subst (λ (way : Direction). Shut (after_put p e way o)) (ap way_put role)
-          (ap (λ (x : End). with_open x true o (ResultEnd 0)) (name ∙ is) ∙ so.shut)
-      stays_shut (inr (i, h, is, stands)) =
-          elim (ground_role p ground grounded e there.0 own.0 there.1) [
-            | inl result ↦ (let clash : ImportEnd i h ≡ ResultEnd result.0 = sym is ∙ result.1 in absurd (cc clash))
-            | inr import ↦ subst (λ (way : Direction). Shut (after_put p e way o)) (sym (ap way_put import.3)) so.shut
-          ]
+          subst (λ (way : Direction). Shut (after_put p e way o)) (ap way_put role) (put_shut (sym role) (ap (same_end (ResultEnd 0)) is))
+      stays_shut (inr (i, h, is, which)) = by_role there.0.role refl
+        where
+          by_role : (role : Role) → there.0.role ≡ role → Shut (after_put p e (way_put role) o)
+          by_role Serve serves = so.shut
+          by_role Ask role = put_shut role (ap (same_end (ResultEnd 0)) is)
 
   -- turns, element by element
   first_turns : (past : List Pass) (y : Element) (ys : List Element) → InputsKeepTurns p past (y ∷ ys) → InputsKeepTurns p past (y ∷ [])
@@ -413,6 +436,10 @@ module _ (p : Plan) (w : ℕ) (right : IsRight p) (outcome : p.outcome ≡ Var w
   unread_regular s t xs tidy idle one runs turns =
       let here = along xs [] s s t none_open (first_at s idle) turns (session_come c xs one) runs in
       (here.1, (regular s t xs idle here.0 turns).1)
+
+  -- it is one of the plan's
+  pub unread_runs : (s t : Tokens) (xs : List Element) → IsIdle c s → IsOneSession 1 c xs → Runs c xs s t → InputsKeepTurns p [] xs → Runs p xs s t
+  unread_runs s t xs idle one runs turns = (along xs [] s s t none_open (first_at s idle) turns (session_come c xs one) runs).0
 
   -- where the list so far leads to
   reach : (xs hs : List Element) (first s t : Tokens) (o : Open) → At first hs s o → InputsKeepTurns p (passed p [] hs) xs → AllCome c xs → Runs c xs s t

@@ -1,6 +1,7 @@
 -- The whole where one token lies, or none; and what a firing of the Assign leads to. As in gos_windows.
 use Rattle.std.specs.Prelude.{◌^◌, ◌<◌, None, nat_eq, Contains}
 use Rattle.std.proofs.Common.{◌≡◌, ℕ, Bool, true, false, List, [], ◌∷◌, ◌⊎◌, Option, Some, inl, inr, refl, sym, ◌∙◌, ap, subst, arith, if◌then◌else◌}
+use Rattle.gos_types.specs.declared.shakes.Role.{Role}
 use Rattle.gos_types.specs.declared.shakes.Role.TheVariants.{Serve, Ask}
 use Rattle.gos_types.specs.Types.{IsDone}
 use Rattle.gos_netlist.specs.Events.{Direction, Request, Answer}
@@ -18,15 +19,15 @@ use Rattle.gos_webs.proofs.MovedLemmas.{listed}
 use Rattle.gos_webs.proofs.CutLemmas.{which_end, stands_by, first_stands, last_stands, stands_own}
 use Rattle.gos_windows.specs.Nodes.{Stage}
 use Rattle.gos_windows.specs.Windows.{seen, HoldsOnly}
-use Rattle.gos_windows.proofs.PortLemmas.{port_role}
-use Rattle.gos_windows.proofs.TurnLemmas.{Turned, way_in_of, OnlyResult}
+use Rattle.gos_windows.proofs.PortLemmas.{port_end}
+use Rattle.gos_windows.proofs.TurnLemmas.{Turned, asked_within, way_in_of, OnlyResult}
 use Rattle.gos_windows.proofs.WholeLemmas.{no_bits, zero_only, other_state, put_only, held_beside}
 use Rattle.gos_writes.specs.Writes.{request_bits, waits_at, IsWriteStage, IsWrite}
 use Rattle.gos_writes.specs.OneSession.{IsTidy}
 use Rattle.gos_writes.specs.Windows.{StirsOnly}
 use Rattle.gos_writes.proofs.AskedLemmas.{asked_first, asked_in}
 use Rattle.gos_writes.proofs.OwnLemmas.{LeadsOn}
-use Rattle.gos_writes.proofs.StageLemmas.{Emptied, stage, ground_stage, InStage, Ran, end_is, idle_seen, asked}
+use Rattle.gos_writes.proofs.StageLemmas.{Emptied, stage, InStage, Ran, end_is, idle_seen, asked}
 use Rattle.gos_writes.proofs.FollowLemmas.{Follows, follows_first}
 
 module _ (r : Plan) (d : ℕ) (wide : ℕ) (gs : List Stage) (node : IsWrite r d wide gs) where
@@ -55,14 +56,16 @@ module _ (r : Plan) (d : ℕ) (wide : ℕ) (gs : List Stage) (node : IsWrite r d
       (stands_by (ResultEnd 0) at.joint (inl (sym at.named))) (first_stands (joint (ResultEnd 0) own_end)) in
       which_end b (joint (ResultEnd 0) own_end) (subst (λ (x : Joint). stands_in b x ≡ true) same at.stands)
 
-  -- which inputs may come
-  pub in_turn_at : (b : End) (v : ℕ) (s t : Tokens) (past : List Pass) → Does r (In b v) s t → ComesInTurn past b (way_in (contact_at r b))
+  -- which inputs may come: the request, an answer to an import, or a request at an import of which another handshake is open
+  pub in_turn_at : (b : End) (v : ℕ) (s t : Tokens) (past : List Pass) → Does r (In b v) s t → KeepsTurns r past (pass b (way_in (contact_at r b)))
       → ((b ≡ ResultEnd 0) × (v ≡ 0) × (is_open past (ResultEnd 0) ≡ false) × (t ≡ with_token r (ResultEnd 0) Request (Some 0) s))
-      ⊎ ((k h : ℕ) × (b ≡ ImportEnd k h) × (is_open past (ImportEnd k h) ≡ true))
+      ⊎ ((k h n : ℕ) × (b ≡ ImportEnd k h) × (is_open past (ImportEnd k n) ≡ true)
+      × ((n ≡ h) ⊎ ((c : Contact) × (contact_at r (ImportEnd k h) ≡ Some c) × (c.role ≡ Ask))))
   in_turn_at b v s t past does turn =
-      elim (port_role r node.base.ground done b c does.0 at_b) [
+      elim (port_end r done b c does.0 at_b) [
         | inl result ↦ inl (at_result result.0 result.1)
-        | inr import ↦ inr (import.0, import.1, import.2, at_import import.0 import.1 import.2 import.3)
+        | inr import ↦
+            (let (n, is, up, which) = at_import import.0 import.1 import.2 c.role refl in inr (import.0, import.1, n, is, up, which))
       ]
     where
       there : (c : Contact) × (contact_at r b ≡ Some c)
@@ -77,8 +80,8 @@ module _ (r : Plan) (d : ℕ) (wide : ℕ) (gs : List Stage) (node : IsWrite r d
       passes : (v < 2 ^ bits_of c (way_put c.role)) × (t ≡ with_token r b (way_put c.role) (Some v) s)
       passes = subst (λ (o : Option Contact). Passes r (In b v) o s t) at_b does.1
 
-      comes : ComesInTurn past b (way_put c.role)
-      comes = subst (ComesInTurn past b) (way_in_of r b c at_b) turn
+      keeps : KeepsTurns r past (pass b (way_put c.role))
+      keeps = subst (λ (way : Direction). KeepsTurns r past (pass b way)) (way_in_of r b c at_b) turn
 
       at_result : b ≡ ResultEnd 0 → c.role ≡ Ask
           → (b ≡ ResultEnd 0) × (v ≡ 0) × (is_open past (ResultEnd 0) ≡ false) × (t ≡ with_token r (ResultEnd 0) Request (Some 0) s)
@@ -87,12 +90,19 @@ module _ (r : Plan) (d : ℕ) (wide : ℕ) (gs : List Stage) (node : IsWrite r d
           let small : v < 2 ^ bits_of c Request = subst (λ (w : Direction). v < 2 ^ bits_of c w) way passes.0 in
           let none = no_bits r.outcome done c (ap (contact_at r) (sym is) ∙ at_b) in
           let zero_is : v ≡ 0 = zero_only v (subst (λ (n : ℕ). v < 2 ^ n) none small) in
-          let closed : is_open past b ≡ false = subst (ComesInTurn past b) way comes in
+          let closed : is_open past b ≡ false = subst (ComesInTurn past b) way keeps.0 in
           (is, zero_is, ap (is_open past) (sym is) ∙ closed, passes.1 ∙ (λ l. with_token r (is l) (way l) (Some (zero_is l)) s))
 
-      at_import : (k h : ℕ) → b ≡ ImportEnd k h → c.role ≡ Serve → is_open past (ImportEnd k h) ≡ true
-      at_import k h is serves =
-          let open_there : is_open past b ≡ true = subst (ComesInTurn past b) (ap way_put serves) comes in ap (is_open past) (sym is) ∙ open_there
+      at_import : (k h : ℕ) → b ≡ ImportEnd k h → (role : Role) → c.role ≡ role
+          → (n : ℕ) × (b ≡ ImportEnd k h) × (is_open past (ImportEnd k n) ≡ true) × ((n ≡ h) ⊎ ((c : Contact) × (contact_at r (ImportEnd k h) ≡ Some c) × (c.role ≡ Ask)))
+      at_import k h is Serve serves =
+          let open_there : is_open past b ≡ true = subst (ComesInTurn past b) (ap way_put serves) keeps.0 in
+          (h, is, ap (is_open past) (sym is) ∙ open_there, inl refl)
+      at_import k h is Ask asks =
+          let turned : Turned r (pass (ImportEnd k h) Request ∷ past) =
+          subst (λ (x : Pass). Turned r (x ∷ past)) (λ l. pass (is l) (ap way_put asks l)) keeps.1 in
+          let at_k = ap (contact_at r) (sym is) ∙ at_b in
+          let (n, up) = asked_within r past k h c turned at_k asks in (n, is, up, inr (c, at_k, asks))
 
   -- a stage that the own part asks has its joint
   module _ (g : Stage) (has : Contains gs g) (apart : g.asked_at ≡ 2 → ⊥) where
@@ -133,7 +143,7 @@ module _ (r : Plan) (d : ℕ) (wide : ℕ) (gs : List Stage) (node : IsWrite r d
     pub ran : Ran r d wide gs node.base g has before hs s
     pub turned : Turned g.plan (passed g.plan [] hs)
     pub stirs : StirsOnly d g s
-    pub follows : Follows g (passed g.plan [] hs) past
+    pub follows : Follows r g (passed g.plan [] hs) past
 
   -- what the own part's firing leads to
   pub data Led (row : Row) (v : ℕ) (t : Tokens) (past : List Pass) : Type 0 where
@@ -199,7 +209,7 @@ module _ (r : Plan) (d : ℕ) (wide : ℕ) (gs : List Stage) (node : IsWrite r d
             }
 
         first : Turned g.plan (pass (ResultEnd g.asked_at) Request ∷ [])
-        first = asked_first g.plan g.asked_at wide there.low there.outcome (ground_stage r d wide gs node.base g has)
+        first = asked_first g.plan g.asked_at wide there.low there.outcome
 
         comes : way_in (contact_at g.plan (ResultEnd g.asked_at)) ≡ Request
         comes = asked_in g.plan g.asked_at wide there.low there.outcome
@@ -216,7 +226,7 @@ module _ (r : Plan) (d : ℕ) (wide : ℕ) (gs : List Stage) (node : IsWrite r d
               ran = record { idle = idle_seen r d wide gs node.base g has between empty_between; ran = (seen g t, does, refl); turns = (turn, tt); tidy = tidy; session = (refl, tt) };
               turned = turn.1;
               stirs = stirring;
-              follows = subst (λ (way : Direction). Follows g (pass (ResultEnd g.asked_at) way ∷ []) past) (sym comes) (follows_first r d wide gs node.base g has past only);
+              follows = subst (λ (way : Direction). Follows r g (pass (ResultEnd g.asked_at) way ∷ []) past) (sym comes) (follows_first r d wide gs node.base g has past only);
             }
 
     to_reply : (k : ℕ) → (row.next v).phase ≡ Rest → row.puts v ≡ put (Ans 2) k ∷ [] → Led row v t past

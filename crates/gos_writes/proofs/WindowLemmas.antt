@@ -1,12 +1,12 @@
 -- Within a stage, and whole lists. As in gos_windows.
-use Rattle.std.specs.Prelude.{◌≢◌, ◌^◌, ◌<◌, None, nat_eq, slice_get, Contains}
-use Rattle.std.proofs.Common.{◌≡◌, ℕ, Bool, true, false, List, [], ◌∷◌, ◌++◌, ◌⊎◌, Option, Some, inl, inr, refl, sym, ◌∙◌, ap, subst, arith, if◌then◌else◌}
+use Rattle.std.specs.Prelude.{◌≢◌, ◌^◌, ◌<◌, None, slice_get, Contains}
+use Rattle.std.proofs.Common.{◌≡◌, ℕ, Bool, true, false, List, [], ◌∷◌, ◌++◌, ◌⊎◌, Option, Some, inl, inr, refl, sym, ◌∙◌, ap, subst, if◌then◌else◌}
 use Rattle.std.proofs.lemmas.Option.{same_Some}
 use Rattle.gos_netlist.specs.Events.{Direction, Request, Answer}
 use Rattle.gos_plan.specs.Kinds.{Contact, Assign}
 use Rattle.gos_plan.specs.Firing.{State, Slot, Ans, Row, at, firing}
 use Rattle.gos_plan.specs.Plans.{End, PartEnd, ImportEnd, ResultEnd, Plan, contact_at}
-use Rattle.gos_plan.specs.Tokens.{Tokens, Element, Fire, Out, In, with_token, with_state, with_puts, token_at, end_of, way_of, shake_of, way_taken, way_put, fired, firing_of, Passes, Does, Runs, IsIdle}
+use Rattle.gos_plan.specs.Tokens.{Tokens, Element, Fire, Out, In, places_of, with_token, with_state, with_puts, token_at, end_of, way_of, shake_of, way_taken, way_put, fired, firing_of, Passes, Does, Runs, IsIdle}
 use Rattle.gos_plan.specs.TokenBits.{AllFit}
 use Rattle.gos_plan.proofs.TurnLemmas.{token_state, fired_state}
 use Rattle.gos_plan.proofs.TokenBitsLemmas.{all_stay_fit, idle_fits}
@@ -17,22 +17,27 @@ use Rattle.gos_webs.specs.Cutting.{StandsIn}
 use Rattle.gos_windows.specs.Regions.{whole_element}
 use Rattle.gos_windows.specs.Nodes.{Stage}
 use Rattle.gos_windows.specs.Windows.{seen, HoldsOnly}
-use Rattle.gos_windows.proofs.PortLemmas.{stands_contact}
-use Rattle.gos_windows.proofs.TurnLemmas.{Turned, turns_before, way_in_of, OnlyResult, NoneOpen}
+use Rattle.gos_windows.proofs.MeetLemmas.{Meets, met_contact, met_contacts}
+use Rattle.gos_windows.proofs.TurnLemmas.{Turned, turns_before, OnlyResult, NoneOpen}
 use Rattle.gos_windows.proofs.WholeLemmas.{other_state}
 use Rattle.gos_windows.proofs.NodeLemmas.{InTurn, first_turn, turns_after}
-use Rattle.gos_writes.specs.OneSession.{Stays, IsOneSession}
+use Rattle.gos_windows.proofs.WindowLemmas.{Standing}
+use Rattle.gos_writes.specs.OneSession.{IsAsked, Stays, IsOneSession}
 use Rattle.gos_writes.proofs.OneSessionLemmas.{open_then, then_one, ended_is_one, well_before}
-use Rattle.gos_writes.specs.Writes.{answer_bits, waits_at, IsWriteStage, IsWrite, AreRestful}
+use Rattle.gos_writes.specs.Writes.{answer_bits, waits_at, IsWrite, AreRestful}
 use Rattle.gos_writes.specs.Windows as windows
 use Rattle.gos_writes.specs.Windows.{StirsOnly, Where, Resting, Asked, Within, Answered, to_session, to_answer, Staged, rests, waits, stays, holds, is_asked, begins, stirs, goes_on, WritesAreStaged}
-use Rattle.gos_writes.proofs.AskedLemmas.{ground_role, asked_ground, asked_answer, asked_out, asked_shut}
+use Rattle.gos_writes.proofs.AskedLemmas.{asked_out, asked_shut, answered_shut}
 use Rattle.gos_writes.proofs.OwnLemmas as table
-use Rattle.gos_writes.proofs.StageLemmas.{Emptied, stage, ground_stage, InStage, OnStage, lies, end_is, fires_in, out_in, in_in, answers, answer_fits, emptied}
-use Rattle.gos_writes.proofs.FollowLemmas.{Follows, follows_step}
+use Rattle.gos_writes.proofs.StageLemmas.{Emptied, stage, InStage, OnStage, lies, end_is, fires_in, out_in, in_in, in_none, answers, answer_fits, emptied}
+use Rattle.gos_writes.proofs.FollowLemmas.{Follows, has_ports, standing, follows_step, asked_meets, stage_turned, comes_as}
 use Rattle.gos_writes.proofs.WholeLemmas as whole
 use Rattle.gos_writes.proofs.WholeLemmas.{in_turn_at, Going, Led, asks, own_leads}
 use Rattle.gos_writes.proofs.PlaceLemmas.{Place, AtRest, AtAsked, AtStage, AtAnswer, Holds, Result, rest_step, asked_step, answer_step, own_fired, own_firing}
+
+met_stays : (r : Plan) (g : Stage) (i h : ℕ) → Meets r g.cut g.plan i h → StandsIn g.plan (ImportEnd i h) ⊎ IsAsked g.plan (ImportEnd i h)
+met_stays r g i h (inl joined) = inl joined.stands
+met_stays r g i h (inr none) = inr (none.contact, none.own, none.asks)
 
 abbrev OneTurn : Plan → List Pass → Element → Type 0
 OneTurn p past y = InputsKeepTurns p past (y ∷ [])
@@ -44,7 +49,8 @@ module _ (r : Plan) (d : ℕ) (wide : ℕ) (gs : List Stage) (node : IsWrite r d
     pub is : whole_element g.cut y ≡ x
     pub does : Does g.plan y (seen g s) (seen g t)
     pub turn : OneTurn g.plan (passed g.plan [] hs) y
-    pub standing : Stays g.plan y
+    pub stays : Stays g.plan y
+    pub standing : Standing r g y
     pub going : Going r d wide gs node g has (hs ++ y ∷ []) before t past
 
   -- the own part takes the stage's answer
@@ -62,6 +68,7 @@ module _ (r : Plan) (d : ℕ) (wide : ℕ) (gs : List Stage) (node : IsWrite r d
     pub leads : t ≡ fired r d row v s
     pub fires : firing (Assign wide) (s.state d) (Ans g.asked_at) ≡ Some row
     pub state : t.state d ≡ row.next v
+    pub only : OnlyResult past
     pub led : Led r d wide gs node row v t past
 
   pub stage_out_turned : (g : Stage) (has : Contains gs g) (hs : List Element) (before s t : Tokens) (past : List Pass) → Going r d wide gs node g has hs before s past
@@ -82,15 +89,16 @@ module _ (r : Plan) (d : ℕ) (wide : ℕ) (gs : List Stage) (node : IsWrite r d
     within = going.stirs.places
 
     -- the stage goes on
-    on_by : (x y : Element) (later : List Pass) → whole_element g.cut y ≡ x → Does g.plan y (seen g s) (seen g t) → OneTurn g.plan own y → Stays g.plan y → Turned g.plan (after g.plan y own)
+    on_by : (x y : Element) (later : List Pass) → whole_element g.cut y ≡ x → Does g.plan y (seen g s) (seen g t) → OneTurn g.plan own y → Stays g.plan y → Standing r g y → Turned g.plan (after g.plan y own)
         → InStage r d wide gs node.base g has t → t.state d ≡ s.state d → ((i : ℕ) → g.cut.number i ≡ None → t.state i ≡ s.state i)
-        → Follows g (after g.plan y own) later → StageStep g has hs before s t later x
-    on_by x y later is does turn standing turned in_stage own_state others follows =
+        → Follows r g (after g.plan y own) later → StageStep g has hs before s t later x
+    on_by x y later is does turn remains standing turned in_stage own_state others follows =
         record {
           y = y;
           is = is;
           does = does;
           turn = turn;
+          stays = remains;
           standing = standing;
           going =
               record {
@@ -100,7 +108,7 @@ module _ (r : Plan) (d : ℕ) (wide : ℕ) (gs : List Stage) (node : IsWrite r d
                       ran = runs_then g.plan hs y before (seen g s) (seen g t) going.ran.ran does;
                       turns = inputs_then g.plan [] hs (y ∷ []) going.ran.turns turn;
                       tidy = going.ran.tidy;
-                      session = open_then g.asked_at g.plan hs y going.ran.session standing;
+                      session = open_then g.asked_at g.plan hs y going.ran.session remains;
                     };
                 turned = subst (Turned g.plan) (sym (passed_then g.plan [] hs y)) turned;
                 stirs =
@@ -109,7 +117,7 @@ module _ (r : Plan) (d : ℕ) (wide : ℕ) (gs : List Stage) (node : IsWrite r d
                       states = λ i apart out. ap (λ (q : State). q.phase) (others i out) ∙ going.stirs.states i apart out;
                       places = in_stage;
                     };
-                follows = subst (λ (l : List Pass). Follows g l later) (sym (passed_then g.plan [] hs y)) follows;
+                follows = subst (λ (l : List Pass). Follows r g l later) (sym (passed_then g.plan [] hs y)) follows;
               };
         }
 
@@ -125,7 +133,7 @@ module _ (r : Plan) (d : ℕ) (wide : ℕ) (gs : List Stage) (node : IsWrite r d
     fire_step i j slot number does =
         let at_j = (stage r d wide gs node.base g has).region.numbers i j number in
         let (own_does, in_stage) = fires_in r d wide gs node.base g has before s t hs going.ran within i j number slot does in
-        on_by (Fire i slot) (Fire j slot) past (ap (λ (n : ℕ). Fire n slot) at_j.0) own_does tt tt going.turned in_stage
+        on_by (Fire i slot) (Fire j slot) past (ap (λ (n : ℕ). Fire n slot) at_j.0) own_does tt tt tt going.turned in_stage
         (own_kept i j slot number does d (stage r d wide gs node.base g has).outside) (own_kept i j slot number does) going.follows
 
     -- an output at a port
@@ -139,47 +147,63 @@ module _ (r : Plan) (d : ℕ) (wide : ℕ) (gs : List Stage) (node : IsWrite r d
         let passes = subst (λ (o : Option Contact). Passes r (Out b v) o s t) there does.1 in
         let state = λ (n : ℕ). ap (λ (x : Tokens). x.state n) passes.1 ∙ token_state r b (way_taken c.role) None s n in
         let ways = ap way_out (port_contact i h b stands at) in
-        on_by (Out b v) (Out (ImportEnd i h) v) (after r (Out b v) past) (ap (λ (e : End). Out e v) at) own_does tt stands
+        on_by (Out b v) (Out (ImportEnd i h) v) (after r (Out b v) past) (ap (λ (e : End). Out e v) at) own_does tt stands stands
         (stage_out_turned g has hs before s t past going (ImportEnd i h) v (then_one g.asked_at g.plan hs (Out (ImportEnd i h) v) going.ran.session stands) own_does).1 in_stage (state d) (λ n out. state n)
-        (subst (λ (way : Direction). Follows g (after g.plan (Out (ImportEnd i h) v) own) (pass b way ∷ past)) (sym ways)
-        (follows_step r d wide gs node.base g has own past going.follows i h b stands at (way_out (contact_at g.plan (ImportEnd i h)))))
+        (subst (λ (way : Direction). Follows r g (after g.plan (Out (ImportEnd i h) v) own) (pass b way ∷ past)) (sym ways)
+        (follows_step r d wide gs node.base g has own past going.follows i h b (standing r d wide gs node.base g has i h stands) at (way_out (contact_at g.plan (ImportEnd i h)))))
 
-    -- an input at a port
-    in_at : (b : End) (v k h : ℕ) → Does r (In b v) s t → b ≡ ImportEnd k h → is_open past (ImportEnd k h) ≡ true
+    -- an input at an import
+    in_at : (b : End) (v i h : ℕ) → Does r (In b v) s t → KeepsTurns r past (pass b (way_in (contact_at r b))) → Meets r g.cut g.plan i h → g.cut.outer (ImportEnd i h) ≡ b
         → StageStep g has hs before s t (after r (In b v) past) (In b v)
-    in_at b v k h does is up =
-        let (i, stands, at) = going.follows.only k h up in
-        let at_b : g.cut.outer (ImportEnd i h) ≡ b = at ∙ sym is in
-        let (own_does, in_stage) = in_in r d wide gs node.base g has b v s t i h fit within stands at_b does in
-        let (c, there) = in_there r b v s t does in
-        let passes = subst (λ (o : Option Contact). Passes r (In b v) o s t) there does.1 in
-        let state = λ (n : ℕ). ap (λ (x : Tokens). x.state n) passes.1 ∙ token_state r b (way_put c.role) (Some v) s n in
-        let ways = ap way_in (port_contact i h b stands at_b) in
-        let open_there : is_open own (ImportEnd i h) ≡ true = going.follows.same i h stands ∙ (ap (is_open past) at ∙ up) in
-        let turn = in_turn i h stands open_there in
-        on_by (In b v) (In (ImportEnd i h) v) (after r (In b v) past) (ap (λ (e : End). In e v) at_b) own_does (turn, tt) stands turn.1 in_stage (state d) (λ n out. state n)
-        (subst (λ (way : Direction). Follows g (after g.plan (In (ImportEnd i h) v) own) (pass b way ∷ past)) (sym ways)
-        (follows_step r d wide gs node.base g has own past going.follows i h b stands at_b (way_in (contact_at g.plan (ImportEnd i h)))))
+    in_at b v i h does turn meets at =
+        on_by (In b v) (In (ImportEnd i h) v) (after r (In b v) past) (ap (λ (e : End). In e v) at) own_does.0 (own_turn, tt) (met_stays r g i h meets) (i, h, refl, meets) own_turn.1
+        own_does.1 (state d) (λ n out. state n) follows
       where
-        in_turn : (i h : ℕ) → StandsIn g.plan (ImportEnd i h) → is_open own (ImportEnd i h) ≡ true
-            → KeepsTurns g.plan own (pass (ImportEnd i h) (way_in (contact_at g.plan (ImportEnd i h))))
-        in_turn i h stands up =
-            let (c, there) = stands_contact g.plan (stage r d wide gs node.base g has).region.right (ImportEnd i h) stands in
-            let here : IsWriteStage r d wide g = stage r d wide gs node.base g has in
-            elim (ground_role g.plan (ground_stage r d wide gs node.base g has) (asked_ground g.plan g.asked_at wide here.low here.outcome) (ImportEnd i h) c tt there) [
-              | inl result ↦ (let clash : ImportEnd i h ≡ ResultEnd result.0 = result.1 in absurd (cc clash))
-              | inr import ↦
-                  (let way : way_in (contact_at g.plan (ImportEnd i h)) ≡ Answer = way_in_of g.plan (ImportEnd i h) c there ∙ ap way_put import.3 in
-                  subst (λ (w : Direction). KeepsTurns g.plan own (pass (ImportEnd i h) w)) (sym way)
-                  (up, asked_answer g.plan g.asked_at wide here.low here.outcome (ground_stage r d wide gs node.base g has) i h own going.follows.of_stage going.turned))
+        there : (c : Contact) × (contact_at r b ≡ Some c)
+        there = in_there r b v s t does
+
+        contacts : contact_at r b ≡ contact_at g.plan (ImportEnd i h)
+        contacts = met_contacts r g.cut g.plan (has_ports r d wide gs node.base g has) i h b meets at
+
+        passes : Passes r (In b v) (Some there.0) s t
+        passes = subst (λ (o : Option Contact). Passes r (In b v) o s t) there.1 does.1
+
+        state : (n : ℕ) → t.state n ≡ s.state n
+        state n = ap (λ (x : Tokens). x.state n) passes.1 ∙ token_state r b (way_put there.0.role) (Some v) s n
+
+        own_does : Does g.plan (In (ImportEnd i h) v) (seen g s) (seen g t) × InStage r d wide gs node.base g has t
+        own_does =
+            elim meets [
+              | inl joined ↦ in_in r d wide gs node.base g has b v s t i h fit within joined.stands at does
+              | inr none ↦
+                  (let none_there : places_of r b ≡ None = ap (places_of r) (sym at ∙ none.outer) ∙ none.none in
+                  in_none r d wide gs node.base g has b v s t i h there.0 within there.1 (sym contacts ∙ there.1) none_there none.own_none does)
             ]
 
-    in_step : (b : End) (v : ℕ) → Does r (In b v) s t → ComesInTurn past b (way_in (contact_at r b)) → StageStep g has hs before s t (after r (In b v) past) (In b v)
+        follows : Follows r g (after g.plan (In (ImportEnd i h) v) own) (after r (In b v) past)
+        follows =
+            subst (λ (way : Direction). Follows r g (after g.plan (In (ImportEnd i h) v) own) (pass b way ∷ past)) (sym (ap way_in contacts))
+            (follows_step r d wide gs node.base g has own past going.follows i h b meets at (way_in (contact_at g.plan (ImportEnd i h))))
+
+        own_turn : KeepsTurns g.plan own (pass (ImportEnd i h) (way_in (contact_at g.plan (ImportEnd i h))))
+        own_turn = (
+          subst (ComesInTurn own (ImportEnd i h)) (ap way_in contacts)
+              (comes_as r d wide gs node.base g has own past going.follows i h b meets at (way_in (contact_at r b)) turn.0),
+          stage_turned r d wide gs node.base g has (after g.plan (In (ImportEnd i h) v) own) (after r (In b v) past) follows turn.1,
+        )
+
+    in_step : (b : End) (v : ℕ) → Does r (In b v) s t → KeepsTurns r past (pass b (way_in (contact_at r b)))
+        → StageStep g has hs before s t (after r (In b v) past) (In b v)
     in_step b v does turn =
         elim (in_turn_at r d wide gs node b v s t past does turn) [
           | inl (is, none, shut, leads) ↦
               (let clash : true ≡ false = sym going.follows.result ∙ shut in absurd (cc clash))
-          | inr (k, h, is, up) ↦ in_at b v k h does is up
+          | inr (k, h, n, is, up, inl same) ↦
+              (let (i, meets, at) = going.follows.only k h (ap (λ (m : ℕ). is_open past (ImportEnd k m)) (sym same) ∙ up) in
+              in_at b v i h does turn meets (at ∙ sym is))
+          | inr (k, h, n, is, up, inr (c, at_k, role)) ↦
+              (let (i, meets, at) = asked_meets r d wide gs node.base g has own past going.follows k h n c up at_k role in
+              in_at b v i h does turn meets (at ∙ sym is))
         ]
 
     -- the own part
@@ -199,6 +223,7 @@ module _ (r : Plan) (d : ℕ) (wide : ℕ) (gs : List Stage) (node : IsWrite r d
           leads = leads ∙ ap (λ (n : ℕ). fired r n row v s) which.0;
           fires = fires.1;
           state = fires.2;
+          only = only;
           led = led;
         }
       where
@@ -253,17 +278,7 @@ module _ (r : Plan) (d : ℕ) (wide : ℕ) (gs : List Stage) (node : IsWrite r d
             (stage_out_turned g has hs before s (with_token r (PartEnd d g.asked_at) Answer None s) past going (ResultEnd g.asked_at) v (ended_is_one g.asked_at g.plan hs v going.ran.session) own_does.0).1
 
         none_open : (k : ℕ) → is_open (pass (ResultEnd g.asked_at) Answer ∷ own) (ResultEnd k) ≡ false
-        none_open k = by_test (nat_eq g.asked_at k) refl
-          where
-            by_open : (b : Bool) → is_open own (ResultEnd k) ≡ b → nat_eq g.asked_at k ≡ false → b ≡ false
-            by_open false shut t = refl
-            by_open true up t =
-                let same : k ≡ g.asked_at = going.follows.of_stage k up in
-                let clash : nat_eq g.asked_at k ≡ true = grind (arith, same) in absurd (cc (sym t ∙ clash))
-
-            by_test : (b : Bool) → nat_eq g.asked_at k ≡ b → (if b then false else is_open own (ResultEnd k)) ≡ false
-            by_test true t = refl
-            by_test false t = by_open (is_open own (ResultEnd k)) refl t
+        none_open = answered_shut g.asked_at own going.follows.alone
 
         -- with the answer the stage closes what it opened
         only : OnlyResult past
@@ -272,9 +287,9 @@ module _ (r : Plan) (d : ℕ) (wide : ℕ) (gs : List Stage) (node : IsWrite r d
             closed : (k h : ℕ) (b : Bool) → is_open past (ImportEnd k h) ≡ b → b ≡ false
             closed k h false shut = refl
             closed k h true up =
-                let (i, stands, at) = going.follows.only k h up in
-                let (c, there) = stands_contact g.plan (stage r d wide gs node.base g has).region.right (ImportEnd i h) stands in
-                let own_up : is_open own (ImportEnd i h) ≡ true = going.follows.same i h stands ∙ (ap (is_open past) at ∙ up) in
+                let (i, meets, at) = going.follows.only k h up in
+                let (c, there) = met_contact r g.cut g.plan (has_ports r d wide gs node.base g has) i h meets in
+                let own_up : is_open own (ImportEnd i h) ≡ true = going.follows.imports.same i h k meets at ∙ up in
                 sym own_up
                 ∙ asked_shut g.plan g.asked_at wide (stage r d wide gs node.base g has).low (stage r d wide gs node.base g has).outcome (pass (ResultEnd g.asked_at) Answer ∷ own) answered none_open
                 i h c there
@@ -344,7 +359,7 @@ module _ (r : Plan) (d : ℕ) (wide : ℕ) (gs : List Stage) (node : IsWrite r d
     pub stage_step : (x : Element) → Does r x s w → InTurn r past x
         → StageStep g has hs before s w (after r x past) x ⊎ OwnStep g has hs before s w (after r x past) x
     stage_step (Out b v) does turn = inl (out_step g has hs before s w past going fit b v does)
-    stage_step (In b v) does turn = inl (in_step g has hs before s w past going fit b v does turn.0)
+    stage_step (In b v) does turn = inl (in_step g has hs before s w past going fit b v does turn)
     stage_step (Fire i slot) does turn = by_number (g.cut.number i) refl
       where
         by_number : (o : Option ℕ) → g.cut.number i ≡ o
@@ -364,10 +379,10 @@ module _ (r : Plan) (d : ℕ) (wide : ℕ) (gs : List Stage) (node : IsWrite r d
               step.y ∷ ys,
               end,
               subst (λ (z : Element). Staged r d wide gs (Within g (step.y ∷ ys)) (z ∷ xs) s) step.is
-                  (stirs s w xs ys g step.y has going.stirs step.does step.standing (subst (λ (z : Element). Does r z s w) (sym step.is) does) staged),
+                  (stirs s w xs ys g step.y has going.stirs step.does step.stays (subst (λ (z : Element). Does r z s w) (sym step.is) does) staged),
               (seen g w, step.does, ran),
               turns_before g.plan (passed g.plan [] hs) step.y ys step.turn (subst (λ (l : List Pass). InputsKeepTurns g.plan l ys) (passed_then g.plan [] hs step.y) kept),
-              well_before g.asked_at g.plan step.y ys step.standing well,
+              well_before g.asked_at g.plan step.y ys step.stays well,
             )
         by_step (inr step) =
             let (there, leads, staged) = led_on xs rest step.row step.v w t (after r x past) (fit_after x s w fit does) step.led runs (turns_after r past x xs turns) in (

@@ -23,12 +23,11 @@ use Rattle.gos_nodes.proofs.RestLemmas.{realisers_rest}
 use Rattle.gos_writes.proofs.SessionsRestLemmas.{sessions_rest}
 
 pub unread_is_regular : UnreadIsRegular
-unread_is_regular w p right outcome ground regular =
-    (unread_regular p w right outcome ground regular, unread_loyal p w right outcome ground regular)
+unread_is_regular w p right outcome regular = (unread_regular p w right outcome regular, unread_loyal p w right outcome regular)
 
 module _ (w : ℕ) (p : Plan) (m : Term) (realises : Realises (Var w) p m) where
   regular_so : IsRegularAt 1 (unread p)
-  regular_so = unread_regular p w realises.suits.right realises.suits.outcome realises.suits.all_ground realises.suits.regular
+  regular_so = unread_regular p w realises.suits.right realises.suits.outcome realises.suits.regular
 
   pub lone : (k : ℕ) (q : Plan) → All LiteralFits p.parts → k < 2 ^ w → IsJoined (writing w k p) q
       → IsLoneWrite q (length p.parts) (suc (length p.parts)) w k (written_cut (unread p)) (unread p)

@@ -3,10 +3,12 @@
 --
 -- Read first: Regular of gos_realises; Regions and Nodes of gos_windows. That a plan is regular, restful and loyal is asked here of
 -- such lists alone.
-use Rattle.std.specs.Prelude.{◌≡◌, ℕ, ◌<◌, false, List, [], ◌∷◌, ◌++◌, ◌⊎◌, length, nat_lt}
+use Rattle.std.specs.Prelude.{◌≡◌, ℕ, ◌<◌, false, List, [], ◌∷◌, ◌++◌, ◌⊎◌, Some, length, nat_lt}
+use Rattle.gos_types.specs.declared.shakes.Role.TheVariants.{Ask}
 use Rattle.gos_types.specs.Types.{Type'}
+use Rattle.gos_plan.specs.Kinds.{Contact}
 use Rattle.gos_plan.specs.Firing.{Rest, Slot, at}
-use Rattle.gos_plan.specs.Plans.{ImportEnd, ResultEnd, Plan}
+use Rattle.gos_plan.specs.Plans.{End, ImportEnd, ResultEnd, Plan, contact_at}
 use Rattle.gos_plan.specs.Tokens.{Tokens, Element, Fire, Out, In, shake_of, Does, Runs, IsIdle}
 use Rattle.gos_plan.specs.Orderly.{IsOrderly}
 use Rattle.gos_realises.specs.Regular.{count, InputsKeepTurns, OutputsKeepTurns}
@@ -16,11 +18,15 @@ use Rattle.gos_webs.specs.Cutting.{StandsIn}
 abbrev pub IsTidy : Plan → Tokens → Type 0
 IsTidy p s = (i : ℕ) → nat_lt i (length p.parts) ≡ false → s.state i ≡ at Rest 0
 
--- a firing, or what passes an import's end that stands in a joint
+-- an end at which the surroundings ask
+abbrev pub IsAsked : Plan → End → Type 0
+IsAsked p e = (c : Contact) × (contact_at p e ≡ Some c) × (c.role ≡ Ask)
+
+-- A firing, or what passes an import's end that stands in a joint. The surroundings may ask where no joint is.
 abbrev pub Stays : Plan → Element → Type 0
 Stays p (Fire i t) = Unit {0}
 Stays p (Out (ImportEnd i h) v) = StandsIn p (ImportEnd i h)
-Stays p (In (ImportEnd i h) v) = StandsIn p (ImportEnd i h)
+Stays p (In (ImportEnd i h) v) = StandsIn p (ImportEnd i h) ⊎ IsAsked p (ImportEnd i h)
 Stays p x = ⊥
 
 abbrev pub AllStay : Plan → List Element → Type 0

@@ -11,7 +11,7 @@ use Rattle.gos_plan.specs.Plans.{ResultEnd, Plan}
 use Rattle.gos_plan.specs.Tokens.{Tokens, Element, Out, In, Does, Runs, IsIdle}
 use Rattle.gos_realises.specs.Regular.{InputsKeepTurns}
 use Rattle.gos_realises.specs.Matched.{shows, GoesOn, Agrees, program_of, RealisesDone}
-use Rattle.gos_realises.specs.Realises.{Realises}
+use Rattle.gos_realises.specs.Realises.{AllGround, Realises}
 use Rattle.gos_windows.specs.Nodes.{Stage}
 use Rattle.gos_writes.specs.OneSession.{IsTidy, EndsWell}
 use Rattle.gos_writes.specs.Writes.{IsWrite, AreRestful}
@@ -45,12 +45,13 @@ pub record AreWritten (w : ℕ) (m n : Term) (gs : List Stage) : Type 0 where
       (g : Stage) → Contains gs g → g.asked_at ≡ 1
       → (k : ℕ) → k < 2 ^ w → Typed g.plan.imports [] (Assign m (Lit k w)) Com × SessionIsRealised g.plan 1 k (Assign m (Lit k w))
 
--- Then the plan realises `M := N`.
+-- Then the plan realises `M := N`, with ground imports.
 abbrev pub WriteRealises : Type 0
 WriteRealises =
-    (r : Plan) (d w : ℕ) (gs : List Stage) (m n : Term) → IsWrite r d w gs → AreRestful gs → AreWritten w m n gs → RealisesDone r (Assign m n)
+    (r : Plan) (d w : ℕ) (gs : List Stage) (m n : Term)
+    → IsWrite r d w gs → AllGround r.imports → AreRestful gs → AreWritten w m n gs → RealisesDone r (Assign m n)
 
 abbrev pub WriteRealisesByType : Type 0
 WriteRealisesByType =
     (r : Plan) (d w : ℕ) (gs : List Stage) (m n : Term)
-    → IsWrite r d w gs → AreRestful gs → AreWritten w m n gs → Typed r.imports [] (Assign m n) Com → Realises Com r (Assign m n)
+    → IsWrite r d w gs → AllGround r.imports → AreRestful gs → AreWritten w m n gs → Typed r.imports [] (Assign m n) Com → Realises Com r (Assign m n)

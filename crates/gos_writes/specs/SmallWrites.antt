@@ -2,14 +2,14 @@
 --
 -- Read first: Writes, Written, Assignments; SmallWrites of gos_assigned.
 use Rattle.std.specs.Prelude.{◌≡◌, zero, suc, [], ◌∷◌, Option, Some, None}
-use Rattle.gos_types.specs.Types.{Var}
+use Rattle.gos_types.specs.Types.{Com, Var, Fun}
 use Rattle.gos_plan.specs.Plans.{End, PartEnd, ImportEnd, ResultEnd, Plan}
 use Rattle.gos_plan.specs.Tokens.{Out, In}
 use Rattle.gos_webs.specs.Webs.{joint}
 use Rattle.gos_webs.specs.Cutting.{Cut}
 use Rattle.gos_assigned.specs.SmallWrites.{x_name, write_plan, one_plan, one_out}
 use Rattle.gos_windows.specs.Nodes.{Stage}
-use Rattle.gos_writes.specs.OneSession.{IsRegularAt, IsOneSession}
+use Rattle.gos_writes.specs.OneSession.{IsAsked, IsRegularAt, IsOneSession}
 use Rattle.gos_writes.specs.Writes.{IsWrite}
 use Rattle.gos_writes.specs.Written.{unread}
 use Rattle.gos_writes.specs.Assignments.{IsAssignment}
@@ -85,3 +85,13 @@ OneIsAssigned = IsAssignment write_plan 0 8 number_stage variable_stage x_plan
 
 abbrev pub ReadStageIsNone : Type 0
 ReadStageIsNone = IsAssignment write_plan 0 8 number_stage (record variable_stage { plan = x_plan }) x_plan → ⊥
+
+-- the plan of a function's name: its argument is asked, and its outcome isn't
+abbrev pub call_plan : Plan
+call_plan = record x_plan { imports = record { name = x_name; ty = Fun Com Com } ∷ []; outcome = Fun Com Com; joints = [] }
+
+abbrev pub ArgumentIsAsked : Type 0
+ArgumentIsAsked = IsAsked call_plan (ImportEnd 0 0)
+
+abbrev pub OutcomeIsNotAsked : Type 0
+OutcomeIsNotAsked = IsAsked call_plan (ImportEnd 0 1) → ⊥

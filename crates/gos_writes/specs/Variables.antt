@@ -10,7 +10,7 @@ use Rattle.gos_plan.specs.Kinds.{Lit}
 use Rattle.gos_plan.specs.Plans.{PartEnd, ResultEnd, Plan}
 use Rattle.gos_realises.specs.Regular.{IsRegular}
 use Rattle.gos_realises.specs.Matched.{RealisesDone}
-use Rattle.gos_realises.specs.Realises.{NamesDiffer}
+use Rattle.gos_realises.specs.Realises.{AllGround}
 use Rattle.gos_webs.specs.Webs.{joint}
 use Rattle.gos_webs.specs.Cutting.{Cut, StandsIn}
 use Rattle.gos_windows.specs.Nodes.{Stage}
@@ -26,7 +26,7 @@ lone_stage f p = record { cut = f; sides = []; plan = p; asked_at = 1 }
 pub record IsLoneWrite (q : Plan) (d l w k : ℕ) (f : Cut) (p : Plan) : Type 0 where
   pub base : HasStages q d w (lone_stage f p ∷ [])
   pub outcome : q.outcome ≡ Com
-  pub names : NamesDiffer q.imports
+  pub ground : AllGround q.imports
   pub imports : q.imports ≡ p.imports
   pub lit : slice_get q.parts l ≡ Some (Lit w k)
   pub beside : f.number l ≡ None

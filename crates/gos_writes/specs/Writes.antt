@@ -1,7 +1,8 @@
 -- The plan of `M := N`: a part Assign, and the regions of N and of M, which run one after the other and may share supplies.
 --
--- Read first: Regions and Nodes of gos_windows; Tables of gos_assigned. N is asked for a number by handshake 0 of the Assign,
--- and M is written by handshake 1: it is the plan of a variable, of which the write alone is joined.
+-- Read first: Regions, Nodes and OpenNodes of gos_windows; Tables of gos_assigned. N is asked for a number by handshake 0 of the Assign,
+-- and M is written by handshake 1: it is the plan of a variable, of which the write alone is joined. Imports may have any types:
+-- a stage that has a part of an import is asked where this asks.
 use Rattle.std.specs.Prelude.{◌≡◌, ℕ, zero, suc, ◌<◌, List, ◌⊎◌, Option, Some, None, All, slice_get, Contains}
 use Rattle.gos_types.specs.Types.{Type', Com, Exp, Var}
 use Rattle.gos_model.specs.Typing.{Imported}
@@ -10,11 +11,12 @@ use Rattle.gos_plan.specs.Firing.{Phase, Value, Writing}
 use Rattle.gos_plan.specs.Plans.{End, PartEnd, ImportEnd, ResultEnd, Plan, IsRight}
 use Rattle.gos_plan.specs.TokenBits.{LiteralFits}
 use Rattle.gos_realises.specs.Regular.{IsRegular}
-use Rattle.gos_realises.specs.Realises.{AllGround, NamesDiffer}
+use Rattle.gos_realises.specs.Realises.{NamesDiffer}
 use Rattle.gos_webs.specs.Webs.{joint}
 use Rattle.gos_webs.specs.Cutting.{StandsIn}
 use Rattle.gos_windows.specs.Regions.{Serving, IsRegion}
 use Rattle.gos_windows.specs.Nodes.{Stage, IsRestful, IsOfStage}
+use Rattle.gos_windows.specs.OpenNodes.{IsHeard}
 use Rattle.gos_writes.specs.OneSession.{IsRegularAt, IsRestfulAt, IsLoyalAt}
 
 -- The result of which an Assign of w bits asks handshake h: of an expression its one handshake, of a variable the write.
@@ -53,13 +55,14 @@ pub record IsWriteStage (r : Plan) (d w : ℕ) (g : Stage) : Type 0 where
   pub ports :
       (i h : ℕ) → StandsIn g.plan (ImportEnd i h)
       → (k : ℕ) × (g.cut.outer (ImportEnd i h) ≡ ImportEnd k h) × (slice_get r.imports k ≡ slice_get g.plan.imports i)
+  pub heard : IsHeard g.cut r g.plan
 
 -- The whole has an Assign of w bits, its part d, and these are stages of it.
 pub record HasStages (r : Plan) (d w : ℕ) (gs : List Stage) : Type 0 where
   pub right : IsRight r
   pub own : slice_get r.parts d ≡ Some (Assign w)
   pub literals : All LiteralFits r.parts
-  pub ground : AllGround r.imports
+  pub names : NamesDiffer r.imports
   pub stages : (g : Stage) → Contains gs g → IsWriteStage r d w g
 
 -- The whole is the Assign and its stages: that of N, which it asks at handshake 0, and that of M, which it writes at handshake 1.
@@ -67,7 +70,6 @@ pub record HasStages (r : Plan) (d w : ℕ) (gs : List Stage) : Type 0 where
 pub record IsWrite (r : Plan) (d w : ℕ) (gs : List Stage) : Type 0 where
   pub base : HasStages r d w gs
   pub outcome : r.outcome ≡ Com
-  pub names : NamesDiffer r.imports
   pub one : (g e : Stage) → Contains gs g → Contains gs e → g.asked_at ≡ e.asked_at → g ≡ e
   pub staged : (h : ℕ) → h < 2 → (g : Stage) × Contains gs g × (g.asked_at ≡ h)
   pub result : Contains r.joints (joint (ResultEnd 0) (PartEnd d 2))

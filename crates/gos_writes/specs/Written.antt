@@ -11,7 +11,7 @@ use Rattle.gos_plan.specs.TokenBits.{LiteralFits}
 use Rattle.gos_realises.specs.Wirings.{writing}
 use Rattle.gos_realises.specs.Links.{IsJoined}
 use Rattle.gos_realises.specs.Regular.{IsRegular}
-use Rattle.gos_realises.specs.Realises.{AllGround, Realises}
+use Rattle.gos_realises.specs.Realises.{Realises}
 use Rattle.gos_webs.specs.Cutting.{Cut}
 use Rattle.gos_windows.specs.Regions.{IsLoyal}
 use Rattle.gos_writes.specs.OneSession.{IsRegularAt, IsRestfulAt, IsLoyalAt}
@@ -56,7 +56,7 @@ written_cut p =
 abbrev pub UnreadIsRegular : Type 0
 UnreadIsRegular =
     (w : ℕ) (p : Plan)
-    → IsRight p → p.outcome ≡ Var w → AllGround p.imports → IsRegular p
+    → IsRight p → p.outcome ≡ Var w → IsRegular p
     → IsRegularAt 1 (unread p) × ((i : ℕ) (t : Type') (side : ℕ) → IsLoyal i t side p → IsLoyalAt 1 i t side (unread p))
 
 -- The joining is a lone write of the plan without that joint.

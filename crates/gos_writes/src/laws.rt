@@ -1,7 +1,7 @@
 // What the definitions give. Each theorem is the contract of a function that does nothing.
 ghost use Rattle.gos_writes.specs.Assignments.{AssignmentIsRealised};
 ghost use Rattle.gos_writes.specs.Realised.{WriteRealises, WriteRealisesByType};
-ghost use Rattle.gos_writes.specs.SmallWrites.{LitIsNone, OneIsAssigned, OneIsWritten, ReadIsDropped, ReadIsNoSession, ReadStageIsNone, SevenBitsAreNone, StageIsMissing, WriteIsSession};
+ghost use Rattle.gos_writes.specs.SmallWrites.{ArgumentIsAsked, LitIsNone, OneIsAssigned, OneIsWritten, OutcomeIsNotAsked, ReadIsDropped, ReadIsNoSession, ReadStageIsNone, SevenBitsAreNone, StageIsMissing, WriteIsSession};
 ghost use Rattle.gos_writes.specs.Variables.{LoneWriteIsSession};
 ghost use Rattle.gos_writes.specs.Written.{JoinedIsLoneWrite, NumberIsAsked, UnreadIsRegular, VariableIsWritten};
 ghost use Rattle.gos_writes.specs.Windows.{AssignCan, QuietIsWithin, WritesAreStaged};
@@ -47,7 +47,8 @@ pub fn assignments()
 
 /// The plan of `x := 8:1` is a write of two stages, if these are regular. It is none of seven bits, none by the Lit, and none
 /// without the stage of x. Of the plan of x one joint is left where it isn't read; and what a session of it is, and is not. It is
-/// an assignment to x, but not with the joint by which x is read.
+/// an assignment to x, but not with the joint by which x is read. The surroundings ask at the argument of a function that is imported,
+/// and not at its outcome.
 pub fn small_writes()
     ensures met { OneIsWritten }
     ensures bits { SevenBitsAreNone }
@@ -58,4 +59,6 @@ pub fn small_writes()
     ensures no_session { ReadIsNoSession }
     ensures assigned { OneIsAssigned }
     ensures read { ReadStageIsNone }
+    ensures argument { ArgumentIsAsked }
+    ensures outcome { OutcomeIsNotAsked }
 {}

@@ -2,7 +2,7 @@
 --
 -- Read first: Arrivals, Acceptance. Between the functions of this crate.
 use Rattle.std.specs.Prelude.{◌≡◌, ℕ, zero, suc, ◌+◌, ◌≤◌, List, [], ◌∷◌, map}
-use Rattle.gos_plan.specs.Seen.{SeenPlan, plan_of, end_of}
+use Rattle.gos_plan.specs.Seen.{end_of}
 use Rattle.gos_plan.specs.Size.{plan_size}
 use Rattle.gos_plan.specs.Plans.{End, PartEnd, ImportEnd, ResultEnd, Plan}
 use Rattle.gos_expand.specs.declared.places.Place.{Place}
@@ -11,13 +11,6 @@ use Rattle.gos_expand.specs.declared.numbering.Numbering.{Numbering}
 use Rattle.gos_expand.specs.Gates.{part_size}
 use Rattle.gos_expand.specs.Starts.{keep_all, port_size, ports_of, loose_ends, parts_start, laid_size}
 use Rattle.gos_expand.specs.inner.Arrivals.{AreAt, start_at}
-use Rattle.gos_expand.specs.Acceptance.{HasGroundPorts}
-
--- The program's plan is right and in range by its type. What is asked of it besides: its ports are ground, and it is
--- small enough.
-pub record IsExpandable (p : SeenPlan) : Type 0 where
-  pub ports : HasGroundPorts p
-  pub size : plan_size (plan_of p) ≤ 5000000
 
 -- where each of these blocks begins, of which the first begins at net n
 abbrev pub starts : {A : Type 0} → (ℕ → A → ℕ) → ℕ → ℕ → List A → List ℕ

@@ -1,11 +1,18 @@
 use Rattle.gos_tool.specs.inner.CommandSeen.{meant}
-use Rattle.gos_tool.proofs.EndLemmas.{ends_done, if_rejected, unsaid, untold}
+use Rattle.gos_tool.proofs.EndLemmas.{ends_done, headline, if_rejected, kept, unsaid, untold}
 use Rattle.gos_tool.proofs.run.Goals as goal
 
 pub returns-in-Some-clause-done : goal.returns-in-Some-clause-done
 returns-in-Some-clause-done g c = λ done.
     ends_done _ (g.S.Store.contents c.args.store.now) (g.S.Store.contents c.run_command-ended.new.store) (g.O.Sink.written c.args.out.now) (g.O.Sink.written c.finish.new.out)
     (meant c.in-Some.command) c.run_command-ended.result c.finish.result c.in-Some.ensures c.run_command-ended.ensures.done c.finish.ensures.finishes done
+
+pub returns-in-Some-clause-headline : goal.returns-in-Some-clause-headline
+returns-in-Some-clause-headline g c = λ done own means.
+    headline c.headlines.ensures _ (g.S.Store.contents c.args.store.now) (g.S.Store.contents c.run_command-ended.new.store) (g.O.Sink.written c.args.out.now) (g.O.Sink.written c.finish.new.out)
+    own means
+    (ends_done _ (g.S.Store.contents c.args.store.now) (g.S.Store.contents c.run_command-ended.new.store) (g.O.Sink.written c.args.out.now) (g.O.Sink.written c.finish.new.out)
+    (meant c.in-Some.command) c.run_command-ended.result c.finish.result c.in-Some.ensures c.run_command-ended.ensures.done c.finish.ensures.finishes done)
 
 pub returns-in-Some-clause-sink_line : goal.returns-in-Some-clause-sink_line
 returns-in-Some-clause-sink_line g c = λ failed d means.
@@ -21,3 +28,8 @@ pub returns-in-Some-clause-memory_files : goal.returns-in-Some-clause-memory_fil
 returns-in-Some-clause-memory_files g c = λ failed d means.
     untold _ (g.S.Store.contents c.args.store.now) (g.S.Store.contents c.run_command-ended.new.store) (g.O.Sink.written c.args.out.now) (g.O.Sink.written c.finish.new.out)
     (meant c.in-Some.command) d c.run_command-ended.result c.finish.result c.in-Some.ensures means c.run_command-ended.ensures.done c.run_command-ended.ensures.rejected c.run_command-ended.ensures.memory_files c.finish.ensures.finishes failed
+
+pub returns-in-Some-clause-others : goal.returns-in-Some-clause-others
+returns-in-Some-clause-others g c = λ d means.
+    kept _ (g.S.Store.contents c.args.store.now) (g.S.Store.contents c.run_command-ended.new.store) (meant c.in-Some.command) d c.in-Some.ensures means
+    c.run_command-ended.ensures.others

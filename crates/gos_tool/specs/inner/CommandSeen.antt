@@ -1,6 +1,7 @@
 -- A command as its words mean it.
 use Rattle.gos_outside.specs.FileName.{IsFileName}
-use Rattle.gos_tool.specs.Command.{Command, Check, Compile, Link, Sim, Build}
+use Rattle.gos_demo.specs.DemoFiles.{IsLevelCount}
+use Rattle.gos_tool.specs.Command.{Command, Check, Compile, Link, Sim, Build, Demo}
 use Rattle.gos_tool.specs.declared.command.Command as declared
 use Rattle.gos_tool.specs.declared.command.Command.TheVariants as words
 
@@ -10,11 +11,13 @@ meant (words.Compile source object) = Compile source.now object.now
 meant (words.Link own) = Link own.now
 meant (words.Sim net pulses trace) = Sim net.now pulses.now trace.now
 meant (words.Build own) = Build own.now
+meant (words.Demo levels) = Demo levels
 
--- the files of a command have file names
+-- the files of a command have file names, and the number of levels is in its range
 abbrev pub HasFileNames : Command → Type 0
 HasFileNames (Check source) = IsFileName source
 HasFileNames (Compile source object) = IsFileName source × IsFileName object
 HasFileNames (Link own) = IsFileName own
 HasFileNames (Sim net pulses trace) = IsFileName net × IsFileName pulses × IsFileName trace
 HasFileNames (Build own) = IsFileName own
+HasFileNames (Demo levels) = IsLevelCount levels

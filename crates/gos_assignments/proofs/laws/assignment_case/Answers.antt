@@ -6,4 +6,4 @@ pub returns-clause-kept : goal.returns-clause-kept
 returns-clause-kept c = number_is_kept
 
 pub returns-clause-realised : goal.returns-clause-realised
-returns-clause-realised c = assign_case c.types_of_terms.ensures.one
+returns-clause-realised c = assign_case c.supplies_inside.ensures.realised c.ground.ensures.joined c.types_of_terms.ensures.one

@@ -132,7 +132,7 @@ request_start-request-requires-clause-ground c =
     let some : IsSome (contact_at p (ImportEnd i h)) = subst (λ (e : declared.End). IsSome (contact_at p (end_of e))) c.in-Import.is c.requires.there in
     let x : PlanImport = c.index-imports-import.result in
     let here = import_here c.args.plan.now.imports c.imports.result.now i h x c.imports.ensures some c.index-imports-import.is in
-    subst (λ (y : PlanImport). IsGround (type_of y.ty)) c.index-imports-import.is (all_there (λ y. IsGround (type_of y.ty)) c.args.plan.now.imports i x c.requires.small.ports.ground here.0)
+    subst (λ (y : PlanImport). IsGround (type_of y.ty)) c.index-imports-import.is (all_there (λ y. IsGround (type_of y.ty)) c.args.plan.now.imports i x c.requires.ports.ground here.0)
 
 pub request_start-request-requires-clause-there : goal.request_start-request-requires-clause-there
 request_start-request-requires-clause-there c =

@@ -20,6 +20,6 @@ returns-clause-few c =
     let all : map end_of c.deref.result.now ≡ port_ends (ports_of p) ++ part_ends 0 p.parts = rw (c.deref.ensures.value) c.in_ok-ends.ensures in
     let counts = length-map c.deref.result.now end_of in
     let same : length (map end_of c.deref.result.now) ≡ length (port_ends (ports_of p) ++ part_ends 0 p.parts) = ap length all in
-    let few = few_ends c.args.plan.now c.requires.small.ports.result c.requires.small.ports.ground in
+    let few = few_ends c.args.plan.now c.requires.ports.result c.requires.ports.ground in
     let less = c.in_ok-loose.ensures.few in
     omega (arith, counts, same, few, less)

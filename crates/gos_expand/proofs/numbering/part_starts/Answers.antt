@@ -37,6 +37,6 @@ overflow_add-next c =
     let few = c.part_cells-next.ensures.few in
     let more = shakes_more i ks (part_of c.kind-item.result) there in
     let all = shakes_within (i + 1) ks in
-    let size = c.requires.small.size in
+    let size = c.requires.size in
     let room = c.requires.room in
     omega (arith, within, count, counts, low, few, more, all, size, room)

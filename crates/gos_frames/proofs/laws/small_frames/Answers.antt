@@ -1,4 +1,4 @@
-use Rattle.gos_frames.proofs.SmallFrameLemmas.{uses_are_parted, shared_is_not_parted, use_is_bound, other_is_not_bound, use_speaks_of_it, not_of_parts}
+use Rattle.gos_frames.proofs.SmallFrameLemmas.{uses_are_parted, shared_is_not_parted, use_is_bound, other_is_not_bound, use_speaks_of_it, not_of_parts, whole_is_kept, torn_is_not_kept}
 use Rattle.gos_frames.proofs.laws.small_frames.Goals as goal
 
 pub returns-clause-parted : goal.returns-clause-parted
@@ -18,3 +18,9 @@ returns-clause-spoken c = use_speaks_of_it
 
 pub returns-clause-unspoken : goal.returns-clause-unspoken
 returns-clause-unspoken c = not_of_parts
+
+pub returns-clause-whole : goal.returns-clause-whole
+returns-clause-whole c = whole_is_kept
+
+pub returns-clause-torn : goal.returns-clause-torn
+returns-clause-torn c = torn_is_not_kept

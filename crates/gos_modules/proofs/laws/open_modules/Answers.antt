@@ -5,13 +5,11 @@ pub returns : goal.returns
 returns c =
     checked_is_open
     (record {
-      ground = c.ground_terms.ensures;
       kept = c.checked_is_kept.ensures;
-      unsplit = c.parallels_are_unsplit.ensures.checked;
       fits = c.checked_modules.ensures.checked;
       wired = c.checked_modules.ensures.wired;
       starts = c.starts.ensures.checked;
       means = c.meanings.ensures.module;
       typed = c.supplies.ensures.plans;
-      joined = c.ground.ensures.joined;
     })
+    c.ground_terms.ensures c.parallels_are_unsplit.ensures.checked

@@ -9,3 +9,9 @@ returns-clause-met c = (tt, tt, tt)
 
 pub returns-clause-missed : goal.returns-clause-missed
 returns-clause-missed c h = cc h.0
+
+pub returns-clause-applied_met : goal.returns-clause-applied_met
+returns-clause-applied_met c = (tt, tt, tt)
+
+pub returns-clause-applied_missed : goal.returns-clause-applied_missed
+returns-clause-applied_missed c h = cc h.0

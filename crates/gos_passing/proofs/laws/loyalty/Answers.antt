@@ -1,4 +1,4 @@
-use Rattle.gos_passing.proofs.SourceLemmas.{sources_are_loyal, behind_is_loyal}
+use Rattle.gos_passing.proofs.SourceLemmas.{ground_sources_are_loyal, sources_are_loyal, behind_is_loyal}
 use Rattle.gos_passing.proofs.laws.loyalty.Goals as goal
 
 pub returns-clause-sources : goal.returns-clause-sources
@@ -6,3 +6,6 @@ returns-clause-sources c = sources_are_loyal
 
 pub returns-clause-behind : goal.returns-clause-behind
 returns-clause-behind c = behind_is_loyal
+
+pub returns-clause-ground : goal.returns-clause-ground
+returns-clause-ground c = ground_sources_are_loyal

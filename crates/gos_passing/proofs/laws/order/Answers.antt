@@ -1,4 +1,5 @@
 use Rattle.gos_passing.proofs.PassingLemmas.{lies_behind_share}
+use Rattle.gos_passing.proofs.RestLemmas.{behind_rests}
 use Rattle.gos_passing.proofs.RegularLemmas.{behind_is_regular}
 use Rattle.gos_passing.proofs.laws.order.Goals as goal
 
@@ -7,3 +8,6 @@ returns-clause-lies c = lies_behind_share
 
 pub returns-clause-regular : goal.returns-clause-regular
 returns-clause-regular c = behind_is_regular
+
+pub returns-clause-rests : goal.returns-clause-rests
+returns-clause-rests c = behind_rests

@@ -8,4 +8,4 @@ pub returns-clause-unbound : goal.returns-clause-unbound
 returns-clause-unbound c = unbound_is_not_split
 
 pub returns-clause-empty : goal.returns-clause-empty
-returns-clause-empty c = empty_is_none
+returns-clause-empty c = empty_is_none c.ground.ensures.joined

@@ -27,3 +27,9 @@ returns-clause-assigned c = small.one_is_assigned
 
 pub returns-clause-read : goal.returns-clause-read
 returns-clause-read c = small.read_stage_is_none
+
+pub returns-clause-argument : goal.returns-clause-argument
+returns-clause-argument c = small.argument_is_asked
+
+pub returns-clause-outcome : goal.returns-clause-outcome
+returns-clause-outcome c = small.outcome_is_not_asked

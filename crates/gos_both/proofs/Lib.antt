@@ -1,0 +1,12 @@
+mod PlaceLemmas
+mod StirLemmas
+mod TurnLemmas
+mod OrderLemmas
+mod GoingLemmas
+mod PartLemmas
+mod BothLemmas
+mod SideLemmas
+mod CoreLemmas
+mod RealisedLemmas
+mod SmallBothLemmas
+mod SmallCoreLemmas

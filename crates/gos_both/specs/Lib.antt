@@ -1,0 +1,5 @@
+pub mod Both
+pub mod Cores
+pub mod Realised
+pub mod SmallBoth
+pub mod SmallCores

@@ -1,0 +1,8 @@
+-- In reading order: a file uses only files above it.
+mod SizeLemmas
+mod OneLemmas
+mod SlidLemmas
+mod ClosedLemmas
+mod RegularLemmas
+mod NamedModuleLemmas
+mod SmallOpenedLemmas

@@ -1,0 +1,4 @@
+mod SideLemmas
+mod PairLemmas
+mod CaseLemmas
+mod SmallPairLemmas

@@ -1,0 +1,2 @@
+-- In reading order: a file uses only files above it.
+pub mod Restful

@@ -1,0 +1,9 @@
+pub mod ShakeLemmas
+pub mod HalfLemmas
+pub mod SideLemmas
+pub mod CoreLemmas
+pub mod TargetLemmas
+pub mod SourceLemmas
+pub mod StillLemmas
+pub mod CoredLemmas
+pub mod PassingLemmas

@@ -1,0 +1,293 @@
+-- The five forms: their branches, and that each session of theirs runs one.
+use Rattle.std.specs.Prelude.{◌≡◌, ◌≢◌, ℕ, zero, suc, Bool, true, false, List, [], ◌∷◌, ◌++◌, Option, Some, None, Contains, length, nat_eq, if◌then◌else◌}
+use Rattle.std.proofs.Common.{refl, sym, ◌∙◌, ap, subst, arith}
+use Rattle.gos_types.specs.Types.{Type', Com, Exp, Var, Pair, Fun}
+use Rattle.gos_model.specs.Terms as terms
+use Rattle.gos_model.specs.Terms.{Op, Term, result_width}
+use Rattle.gos_check.specs.declared.linear.Split.{Split}
+use Rattle.gos_check.specs.Nodes.{Numbered, One, Two, If, OfNot, TwoForm, OfSeq, OfWhile, OfBin, type_of_node}
+use Rattle.gos_check.specs.Linearity.{sides, used, made}
+use Rattle.gos_check.proofs.TimesLemmas.{times-append}
+use Rattle.gos_plan.specs.Firing.{First, Second, Test, Branch as Branched, Body, Left, Right, Waiting}
+use Rattle.gos_plan.specs.Kinds as kinds
+use Rattle.gos_sessions.specs.Sessions.{Sequence, Choice, Loop, Binary, Complement, Session, session, bits}
+use Rattle.gos_compile.specs.Wiring.{Types, answer_bits}
+use Rattle.gos_wired.specs.Regular.{RegularWired}
+use Rattle.gos_numbers.specs.Kept.{IsKept}
+use Rattle.gos_numbers.specs.Inherited.{own_numbers, first_numbers, IsPart, PartIsKept, BothAreKept, ThreeAreKept}
+use Rattle.gos_numbers.proofs.ListLemmas.{times_inside}
+use Rattle.gos_forks.specs.Forks.{Branch, IsFork, AreBranches}
+use Rattle.gos_forks.specs.Forms.{branch, SequenceIsFork, ChoiceIsFork, LoopIsFork, OperatorIsFork, ComplementIsFork}
+use Rattle.gos_steady.specs.Forks.{AreRun, ForkIsSteady, SequenceIsSteady, ChoiceIsSteady, LoopIsSteady, OperatorIsSteady, ComplementIsSteady}
+
+-- the bits of an answer, as the wiring and the sessions have them
+same_bits : (t : Type') → answer_bits t ≡ bits t
+same_bits Com = refl
+same_bits (Exp w) = refl
+same_bits (Var w) = refl
+same_bits (Pair a b) = refl
+same_bits (Fun a b) = refl
+
+no_empty : (b : Branch) (bs : List Branch) → b ∷ bs ≢ []
+no_empty b bs e = cc e
+
+-- what holds of each of some branches
+of_one : (P : Branch → Type 0) (a : Branch) → P a → (x : Branch) → Contains (a ∷ []) x → P x
+of_one P a pa x (zero, small, at) = subst P at pa
+of_one P a pa x (suc k, small, at) = absurd (omega (arith, small))
+
+pub of_two : (P : Branch → Type 0) (a b : Branch) → P a → P b → (x : Branch) → Contains (a ∷ b ∷ []) x → P x
+of_two P a b pa pb x (zero, small, at) = subst P at pa
+of_two P a b pa pb x (suc zero, small, at) = subst P at pb
+of_two P a b pa pb x (suc (suc k), small, at) = absurd (omega (arith, small))
+
+of_three : (P : Branch → Type 0) (a b c : Branch) → P a → P b → P c → (x : Branch) → Contains (a ∷ b ∷ c ∷ []) x → P x
+of_three P a b c pa pb pc x (zero, small, at) = subst P at pa
+of_three P a b c pa pb pc x (suc zero, small, at) = subst P at pb
+of_three P a b c pa pb pc x (suc (suc zero), small, at) = subst P at pc
+of_three P a b c pa pb pc x (suc (suc (suc k)), small, at) = absurd (omega (arith, small))
+
+-- the branches of a node of one, two and three parts
+one_branch : (types : Types) (ns : List ℕ) (t : Type') (m : Numbered) → IsPart types [] ns ns m → IsKept types ns (One t [] OfNot m)
+    → AreBranches types [] ns (branch m ns ∷ [])
+one_branch types ns t m part is =
+    record {
+      parts = of_one (λ b. IsPart types [] ns b.uses b.term) (branch m ns) part;
+      covers = λ k none. (let sum = times-append k ns [] in omega (arith, sum));
+      once = λ k. (let sum = times-append k (made m) [] in let one = is.once k in omega (arith, sum, one));
+    }
+
+module _ (types : Types) (ns : List ℕ) (t : Type') (ss : List Split) where
+  two_branches : BothAreKept → (f : TwoForm) (m n : Numbered) → IsKept types ns (Two t ss f m n)
+      → AreBranches types ss ns (branch m (first_numbers ss ns (used n)) ∷ branch n (own_numbers ss ns n) ∷ [])
+  two_branches kept f m n is =
+      let (first, second, all) = kept types ns t ss f m n is in
+      record {
+        parts = of_two (λ b. IsPart types ss ns b.uses b.term) (branch m ms) (branch n ks) first second;
+        covers =
+            λ k none.
+            (let sum = all k none in let one = times-append k ms (ks ++ []) in let two = times-append k ks [] in omega (arith, sum, one, two));
+        once =
+            λ k.
+            (let one = is.once k in let inner = times_inside k ss ns in
+            let two = times-append k (sides ss) (made m ++ made n) in let three = times-append k (made m) (made n) in
+            let four = times-append k (made m) (made n ++ []) in let five = times-append k (made n) [] in
+            omega (arith, one, inner, two, three, four, five));
+      }
+    where
+      ms : List ℕ
+      ms = first_numbers ss ns (used n)
+
+      ks : List ℕ
+      ks = own_numbers ss ns n
+
+  three_branches : ThreeAreKept → (m n p : Numbered) → IsKept types ns (If t ss m n p)
+      → AreBranches types ss ns
+      (branch m (first_numbers ss ns (used n ++ used p)) ∷ branch n (own_numbers ss ns n) ∷ branch p (own_numbers ss ns p) ∷ [])
+  three_branches kept m n p is =
+      let (first, second, third, all) = kept types ns t ss m n p is in
+      record {
+        parts = of_three (λ b. IsPart types ss ns b.uses b.term) (branch m ms) (branch n ks) (branch p ls) first second third;
+        covers =
+            λ k none.
+            (let sum = all k none in let one = times-append k ms (ks ++ (ls ++ [])) in let two = times-append k ks (ls ++ []) in
+            let three = times-append k ls [] in omega (arith, sum, one, two, three));
+        once =
+            λ k.
+            (let one = is.once k in let inner = times_inside k ss ns in
+            let two = times-append k (sides ss) (made m ++ (made n ++ made p)) in let three = times-append k (made m) (made n ++ made p) in
+            let four = times-append k (made n) (made p) in let five = times-append k (made m) (made n ++ (made p ++ [])) in
+            let six = times-append k (made n) (made p ++ []) in let seven = times-append k (made p) [] in
+            omega (arith, one, inner, two, three, four, five, six, seven));
+      }
+    where
+      ms : List ℕ
+      ms = first_numbers ss ns (used n ++ used p)
+
+      ks : List ℕ
+      ks = own_numbers ss ns n
+
+      ls : List ℕ
+      ls = own_numbers ss ns p
+
+none_given : (s : Session) → None ≡ Some s → ⊥
+none_given s e = cc e
+
+abbrev session_or : Session → Option Session → Session
+session_or d None = d
+session_or d (Some s) = s
+
+given : (d s : Session) → Some d ≡ Some s → d ≡ s
+given d s e = ap (session_or d) e
+
+-- the session runs the branch that stands behind so many
+abbrev RunsOne : List Branch → Session → Type 0
+RunsOne bs s =
+    (before : List Branch) × (after : List Branch) × (b : Branch) × (bs ≡ before ++ b ∷ after) × (s.asked_at ≡ length before)
+    × (s.ty ≡ type_of_node b.term)
+
+runs_one : (before after : List Branch) (b : Branch) (s : Session) (t : Type') (frame : Term → Term)
+    → t ≡ type_of_node b.term → session (length before) terms.Skip t frame ≡ s → RunsOne (before ++ b ∷ after) s
+runs_one before after b s t frame ty same = (
+  before,
+  after,
+  b,
+  refl,
+  sym (ap (λ (x : Session). x.asked_at) same),
+  sym (ap (λ (x : Session). x.ty) same) ∙ ty,
+)
+
+module _ (m n p : Numbered) (ms ks ls : List ℕ) where
+  abbrev two : List Branch
+  two = branch m ms ∷ branch n ks ∷ []
+
+  abbrev three : List Branch
+  three = branch m ms ∷ branch n ks ∷ branch p ls ∷ []
+
+  pub of_sequence : (t : Type') → type_of_node m ≡ Com → type_of_node n ≡ t → AreRun (Sequence t terms.Skip terms.Skip) two
+  of_sequence t em en First k s h =
+      let frame : Term → Term = (λ x. terms.Seq x terms.Skip) in
+      runs_one [] (branch n ks ∷ []) (branch m ms) s Com frame (sym em) (given (session 0 terms.Skip Com frame) s h)
+  of_sequence t em en Second k s h =
+      runs_one (branch m ms ∷ []) [] (branch n ks) s t (λ x. x) (sym en) (given (session 1 terms.Skip t (λ x. x)) s h)
+  of_sequence t em en q k s h = absurd (none_given s h)
+
+  of_choice : (t : Type') → type_of_node m ≡ Exp 1 → type_of_node n ≡ t → type_of_node p ≡ t → AreRun (Choice t terms.Skip terms.Skip terms.Skip) three
+  of_choice t em en ep Test k s h =
+      let frame : Term → Term = (λ x. terms.If x terms.Skip terms.Skip) in
+      runs_one [] (branch n ks ∷ branch p ls ∷ []) (branch m ms) s (Exp 1) frame (sym em) (given (session 0 terms.Skip (Exp 1) frame) s h)
+  of_choice t em en ep Branched k s h = by_test (nat_eq k 1) h
+    where
+      by_test : (b : Bool) → Some (session (if b then 1 else 2) (if b then terms.Skip else terms.Skip) t (λ x. x)) ≡ Some s → RunsOne three s
+      by_test true h =
+          runs_one (branch m ms ∷ []) (branch p ls ∷ []) (branch n ks) s t (λ x. x) (sym en) (given (session 1 terms.Skip t (λ x. x)) s h)
+      by_test false h =
+          runs_one (branch m ms ∷ branch n ks ∷ []) [] (branch p ls) s t (λ x. x) (sym ep) (given (session 2 terms.Skip t (λ x. x)) s h)
+  of_choice t em en ep q k s h = absurd (none_given s h)
+
+  of_loop : type_of_node m ≡ Exp 1 → type_of_node n ≡ Com → AreRun (Loop terms.Skip terms.Skip) two
+  of_loop em en Test k s h =
+      let frame : Term → Term = (λ x. terms.If x (terms.Seq terms.Skip (terms.While terms.Skip terms.Skip)) terms.Skip) in
+      runs_one [] (branch n ks ∷ []) (branch m ms) s (Exp 1) frame (sym em) (given (session 0 terms.Skip (Exp 1) frame) s h)
+  of_loop em en Body k s h =
+      let frame : Term → Term = (λ x. terms.Seq x (terms.While terms.Skip terms.Skip)) in
+      runs_one (branch m ms ∷ []) [] (branch n ks) s Com frame (sym en) (given (session 1 terms.Skip Com frame) s h)
+  of_loop em en q k s h = absurd (none_given s h)
+
+  of_operator : (op : Op) (w : ℕ) → type_of_node m ≡ Exp w → type_of_node n ≡ Exp w → AreRun (Binary op w terms.Skip terms.Skip) two
+  of_operator op w em en Left k s h =
+      let frame : Term → Term = (λ x. terms.Bin op x terms.Skip) in
+      runs_one [] (branch n ks ∷ []) (branch m ms) s (Exp w) frame (sym em) (given (session 0 terms.Skip (Exp w) frame) s h)
+  of_operator op w em en Right k s h =
+      let frame : Term → Term = (λ x. terms.Held k op x) in
+      runs_one (branch m ms ∷ []) [] (branch n ks) s (Exp w) frame (sym en) (given (session 1 terms.Skip (Exp w) frame) s h)
+  of_operator op w em en q k s h = absurd (none_given s h)
+
+of_complement : (m : Numbered) (ms : List ℕ) (w : ℕ) → type_of_node m ≡ Exp w → AreRun (Complement w terms.Skip) (branch m ms ∷ [])
+of_complement m ms w em Waiting k s h =
+    let frame : Term → Term = (λ x. terms.Not x) in
+    runs_one [] [] (branch m ms) s (Exp w) frame (sym em) (given (session 0 terms.Skip (Exp w) frame) s h)
+of_complement m ms w em q k s h = absurd (none_given s h)
+
+abbrev Steady : Types → Branch → Type 0
+Steady types b = RegularWired types b.uses b.term
+
+-- the numbers of the parts
+abbrev first_branch : List Split → List ℕ → List ℕ → Numbered → Branch
+first_branch ss ns others m = branch m (first_numbers ss ns others)
+
+abbrev own_branch : List Split → List ℕ → Numbered → Branch
+own_branch ss ns m = branch m (own_numbers ss ns m)
+
+pub sequence_is_steady : SequenceIsFork → BothAreKept → ForkIsSteady → SequenceIsSteady
+sequence_is_steady fork kept law types ns t ss m n is done rm rn =
+    law (Sequence t terms.Skip terms.Skip) types (Two t ss OfSeq m n) ss (a ∷ b ∷ []) ns
+    (subst (λ (v : ℕ). IsFork types (Two t ss OfSeq m n) ss (kinds.Seq v) (a ∷ b ∷ [])) (same_bits t) (fork types t ss m n a.uses b.uses done is.typed.1.1 is.typed.1.2))
+    (two_branches types ns t ss kept OfSeq m n is) (no_empty a (b ∷ [])) refl (of_sequence m n n a.uses b.uses b.uses t is.typed.1.1 is.typed.1.2)
+    (of_two (Steady types) a b rm rn)
+  where
+    a : Branch
+    a = first_branch ss ns (used n) m
+
+    b : Branch
+    b = own_branch ss ns n
+
+pub choice_is_steady : ChoiceIsFork → ThreeAreKept → ForkIsSteady → ChoiceIsSteady
+choice_is_steady fork kept law types ns t ss m n p is done rm rn rp =
+    law (Choice t terms.Skip terms.Skip terms.Skip) types (If t ss m n p) ss (a ∷ b ∷ c ∷ []) ns
+    (subst (λ (v : ℕ). IsFork types (If t ss m n p) ss (kinds.If v) (a ∷ b ∷ c ∷ [])) (same_bits t)
+    (fork types t ss m n p a.uses b.uses c.uses done is.typed.1.1 is.typed.1.2 is.typed.1.3))
+    (three_branches types ns t ss kept m n p is) (no_empty a (b ∷ c ∷ [])) refl
+    (of_choice m n p a.uses b.uses c.uses t is.typed.1.1 is.typed.1.2 is.typed.1.3) (of_three (Steady types) a b c rm rn rp)
+  where
+    a : Branch
+    a = first_branch ss ns (used n ++ used p) m
+
+    b : Branch
+    b = own_branch ss ns n
+
+    c : Branch
+    c = own_branch ss ns p
+
+module _ (fork : LoopIsFork) (kept : BothAreKept) (law : ForkIsSteady) (types : Types) (ns : List ℕ) (ss : List Split) (m n : Numbered) where
+  plain_loop : IsKept types ns (Two Com ss OfWhile m n) → RegularWired types (first_numbers ss ns (used n)) m
+      → RegularWired types (own_numbers ss ns n) n → RegularWired types ns (Two Com ss OfWhile m n)
+  plain_loop is rm rn =
+      law (Loop terms.Skip terms.Skip) types (Two Com ss OfWhile m n) ss (a ∷ b ∷ []) ns (fork types ss m n a.uses b.uses is.typed.1.1 is.typed.1.2)
+      (two_branches types ns Com ss kept OfWhile m n is) (no_empty a (b ∷ [])) refl (of_loop m n n a.uses b.uses b.uses is.typed.1.1 is.typed.1.2)
+      (of_two (Steady types) a b rm rn)
+    where
+      a : Branch
+      a = first_branch ss ns (used n) m
+
+      b : Branch
+      b = own_branch ss ns n
+
+pub loop_is_steady : LoopIsFork → BothAreKept → ForkIsSteady → LoopIsSteady
+loop_is_steady fork kept law types ns t ss m n is rm rn =
+    let e : t ≡ Com = is.typed.1.0 in
+    subst (λ (u : Type'). RegularWired types ns (Two u ss OfWhile m n)) (sym e)
+    (plain_loop fork kept law types ns ss m n (subst (λ (u : Type'). IsKept types ns (Two u ss OfWhile m n)) e is) rm rn)
+
+module _ (fork : OperatorIsFork) (kept : BothAreKept) (law : ForkIsSteady) (types : Types) (ns : List ℕ) (ss : List Split) (op : Op) (w : ℕ) (m n : Numbered) where
+  abbrev operation : Numbered
+  operation = Two (Exp (result_width op w)) ss (OfBin op) m n
+
+  plain_operator : type_of_node m ≡ Exp w → type_of_node n ≡ Exp w → IsKept types ns operation → RegularWired types (first_numbers ss ns (used n)) m
+      → RegularWired types (own_numbers ss ns n) n → RegularWired types ns operation
+  plain_operator em en is rm rn =
+      law (Binary op w terms.Skip terms.Skip) types operation ss (a ∷ b ∷ []) ns (fork types op w ss m n a.uses b.uses em en)
+      (two_branches types ns (Exp (result_width op w)) ss kept (OfBin op) m n is) (no_empty a (b ∷ [])) refl (of_operator m n n a.uses b.uses b.uses op w em en)
+      (of_two (Steady types) a b rm rn)
+    where
+      a : Branch
+      a = first_branch ss ns (used n) m
+
+      b : Branch
+      b = own_branch ss ns n
+
+pub operator_is_steady : OperatorIsFork → BothAreKept → ForkIsSteady → OperatorIsSteady
+operator_is_steady fork kept law types ns t ss op m n is rm rn =
+    let (w, e, em, en) = is.typed.1 in
+    subst (λ (u : Type'). RegularWired types ns (Two u ss (OfBin op) m n)) (sym e)
+    (plain_operator fork kept law types ns ss op w m n em en (subst (λ (u : Type'). IsKept types ns (Two u ss (OfBin op) m n)) e is) rm rn)
+
+module _ (fork : ComplementIsFork) (kept : PartIsKept) (law : ForkIsSteady) (types : Types) (ns : List ℕ) (m : Numbered) where
+  plain_complement : (w : ℕ) → type_of_node m ≡ Exp w → IsKept types ns (One (Exp w) [] OfNot m) → RegularWired types ns m
+      → RegularWired types ns (One (Exp w) [] OfNot m)
+  plain_complement w em is steady =
+      law (Complement w terms.Skip) types (One (Exp w) [] OfNot m) [] (branch m ns ∷ []) ns (fork types w [] m ns em)
+      (one_branch types ns (Exp w) m (kept types ns (Exp w) [] OfNot m is).1 is) (no_empty (branch m ns) []) refl (of_complement m ns w em)
+      (of_one (Steady types) (branch m ns) steady)
+
+  unsplit_complement : (t : Type') → IsKept types ns (One t [] OfNot m) → RegularWired types ns m → RegularWired types ns (One t [] OfNot m)
+  unsplit_complement t is steady =
+      let (w, e, em) = is.typed.1 in
+      subst (λ (u : Type'). RegularWired types ns (One u [] OfNot m)) (sym e)
+      (plain_complement w em (subst (λ (u : Type'). IsKept types ns (One u [] OfNot m)) e is) steady)
+
+pub complement_is_steady : ComplementIsFork → PartIsKept → ForkIsSteady → ComplementIsSteady
+complement_is_steady fork kept law types ns t ss m is steady =
+    let none : ss ≡ [] = (kept types ns t ss OfNot m is).0 in
+    subst (λ (us : List Split). RegularWired types ns (One t us OfNot m)) (sym none)
+    (unsplit_complement fork kept law types ns m t (subst (λ (us : List Split). IsKept types ns (One t us OfNot m)) none is) steady)

@@ -1,0 +1,12 @@
+pub mod RestLemmas
+pub mod SideLemmas
+pub mod AssignmentLemmas
+pub mod WiredLemmas
+pub mod HeardLemmas
+pub mod ParallelLemmas
+pub mod BlockLemmas
+pub mod ChildLemmas
+pub mod ForkLemmas
+pub mod FormLemmas
+pub mod SmallForkLemmas
+pub mod SmallAssignmentLemmas

@@ -1,0 +1,100 @@
+-- Both sides of `||`.
+use Rattle.std.specs.Prelude.{suc, ◌+◌, length, Contains}
+use Rattle.std.proofs.Common.{◌≡◌, ℕ, List, [], ◌⊎◌, inl, inr, sym, subst, arith}
+use Rattle.gos_types.specs.Types.{Com, IsDone}
+use Rattle.gos_check.specs.Nodes.{Numbered, Two, OfPar}
+use Rattle.gos_check.proofs.TimesLemmas.{some_times, listed_times}
+use Rattle.gos_plan.specs.Plans.{End, PartEnd, ResultEnd, Plan}
+use Rattle.gos_realises.specs.Regular.{IsRegular}
+use Rattle.gos_realises.specs.Realises.{NamesDiffer, HaveOtherNames}
+use Rattle.gos_windows.specs.Nodes.{IsRestful}
+use Rattle.gos_windows.specs.OpenNodes.{IsHeard}
+use Rattle.gos_turns.specs.Rests.{Rests}
+use Rattle.gos_parallel.specs.Parallel.{IsJointOf, IsParallel}
+use Rattle.gos_parallel.proofs.RegularLemmas.{open_parallel_is_regular, open_parallel_is_restful}
+use Rattle.gos_compile.specs.Wiring.{Types, parts_of, nodes}
+use Rattle.gos_frames.specs.Frames.{AreParted, AreSides}
+use Rattle.gos_frames.proofs.ParallelLemmas.{parallel_is_wired}
+use Rattle.gos_steady.specs.Cases.{ParallelIsSteady}
+use Rattle.gos_steady.proofs.RestLemmas.{rests_after_answers, rests_where_restful}
+use Rattle.gos_steady.proofs.HeardLemmas.{side_heard}
+use Rattle.gos_steady.proofs.WiredLemmas.{fewer, names_differ, literals_within}
+
+other_way : (p q : Plan) → HaveOtherNames p.imports q.imports → HaveOtherNames q.imports p.imports
+other_way p q apart i j has also same = apart j i also has (sym same)
+
+module _ (types : Types) (ns ms ks : List ℕ) (m n : Numbered) (parted : AreParted m n ns ms ks) where
+  left_among : (k : ℕ) → Contains ms k → Contains ns k
+  left_among k has =
+      let there = some_times k ms has in
+      let sum = parted.split k in
+      listed_times k ns (omega (arith, there, sum))
+
+  right_among : (k : ℕ) → Contains ks k → Contains ns k
+  right_among k has =
+      let there = some_times k ks has in
+      let sum = parted.split k in
+      listed_times k ns (omega (arith, there, sum))
+
+pub parallel_is_steady : ParallelIsSteady
+parallel_is_steady types ns ms ks m n parted em en rm rn i j env pl r w supplies differ fit = (regular, rests_where_restful r done regular restful)
+  where
+    sides : AreSides types i j m n ms ks env (pl.own 0) r
+    sides = parallel_is_wired types i j m n ns ms ks env pl r w em en parted differ
+
+    of : IsParallel (pl.own 0) sides.left_cut sides.right_cut r sides.left sides.right
+    of = sides.parallel
+
+    left_names : NamesDiffer sides.left.imports
+    left_names =
+        names_differ types i j (Two Com [] OfPar m n) ns env pl r w (i + 1) (suc j) m ms sides.left_placing sides.left sides.left_wired
+        (left_among types ns ms ks m n parted) differ
+
+    right_names : NamesDiffer sides.right.imports
+    right_names =
+        names_differ types i j (Two Com [] OfPar m n) ns env pl r w (i + 1 + length (parts_of types m)) (suc j + nodes m) n ks sides.right_placing sides.right
+        sides.right_wired (right_among types ns ms ks m n parted) differ
+
+    left : IsRegular sides.left × Rests sides.left
+    left =
+        rm (i + 1) (suc j) env sides.left_placing sides.left sides.left_wired (fewer types env ns ms (left_among types ns ms ks m n parted) supplies) left_names
+        (literals_within sides.left_cut r sides.left of.left.cut fit)
+
+    right : IsRegular sides.right × Rests sides.right
+    right =
+        rn (i + 1 + length (parts_of types m)) (suc j + nodes m) env sides.right_placing sides.right sides.right_wired
+        (fewer types env ns ks (right_among types ns ms ks m n parted) supplies) right_names (literals_within sides.right_cut r sides.right of.right.cut fit)
+
+    left_restful : IsRestful sides.left
+    left_restful = rests_after_answers sides.left (subst IsDone (sym of.left.outcome) tt) left.0 left.1
+
+    right_restful : IsRestful sides.right
+    right_restful = rests_after_answers sides.right (subst IsDone (sym of.right.outcome) tt) right.0 right.1
+
+    left_heard : IsHeard sides.left_cut r sides.left
+    left_heard =
+        side_heard (pl.own 0) 0 1 sides.left_cut sides.right_cut r sides.left sides.right of.left of.right left_names of.names sides.left_imports of.joints
+
+    right_heard : IsHeard sides.right_cut r sides.right
+    right_heard =
+        side_heard (pl.own 0) 1 0 sides.right_cut sides.left_cut r sides.right sides.left of.right of.left right_names (other_way sides.left sides.right of.names)
+        sides.right_imports (λ a b has. turned a b (of.joints a b has))
+      where
+        turned : (a b : End)
+            → (IsJointOf sides.left_cut sides.left a b ⊎ IsJointOf sides.right_cut sides.right a b) ⊎ ((a ≡ ResultEnd 0) × (b ≡ PartEnd (pl.own 0) 2))
+            → (IsJointOf sides.right_cut sides.right a b ⊎ IsJointOf sides.left_cut sides.left a b) ⊎ ((a ≡ ResultEnd 0) × (b ≡ PartEnd (pl.own 0) 2))
+        turned a b (inl (inl one)) = inl (inr one)
+        turned a b (inl (inr one)) = inl (inl one)
+        turned a b (inr run) = inr run
+
+    done : IsDone r.outcome
+    done = subst IsDone (sym of.outcome) tt
+
+    regular : IsRegular r
+    regular =
+        open_parallel_is_regular (pl.own 0) sides.left_cut sides.right_cut r sides.left sides.right of left_heard right_heard fit differ left_names left.0 right_names right.0
+
+    restful : IsRestful r
+    restful =
+        open_parallel_is_restful (pl.own 0) sides.left_cut sides.right_cut r sides.left sides.right of left_heard right_heard fit differ left_names left.0 left_restful
+        right_names right.0 right_restful

@@ -1,0 +1,20 @@
+-- Small examples of branches that are run.
+use Rattle.std.specs.Prelude.{[], ◌∷◌, ◌++◌, length}
+use Rattle.std.proofs.Common.{◌≡◌, List, refl, arith}
+use Rattle.gos_plan.specs.Firing.{Second}
+use Rattle.gos_types.specs.Types.{Com}
+use Rattle.gos_forks.specs.Forks.{Branch}
+use Rattle.gos_forks.specs.Forms.{branch}
+use Rattle.gos_steady.specs.SmallForks.{skip_node, BothAreRun, SecondIsNotRun}
+use Rattle.gos_steady.proofs.FormLemmas.{of_sequence}
+
+pub both_are_run : BothAreRun
+both_are_run = of_sequence skip_node skip_node skip_node [] [] [] Com refl refl
+
+short : (before after : List Branch) (b : Branch) → branch skip_node [] ∷ [] ≡ before ++ b ∷ after → 1 ≡ length before → ⊥
+short [] after b same one = omega (arith, one)
+short (a ∷ []) after b same one = let more : [] ≡ b ∷ after = cc same in cc more
+short (a ∷ (c ∷ before)) after b same one = omega (arith, one)
+
+pub second_is_not_run : SecondIsNotRun
+second_is_not_run runs = let (before, after, b, same, asked, ty) = runs Second 0 _ refl in short before after b same asked

@@ -1,0 +1,3 @@
+mod RegularLemmas
+mod RealisedLemmas
+mod ModuleLemmas
