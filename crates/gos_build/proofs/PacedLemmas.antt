@@ -1,4 +1,4 @@
--- The circuits of ground modules keep pace with their programs, since their plans realise these, and linked plans the substituted one.
+-- The circuits of modules keep pace with their programs, since their plans realise these, and linked plans the substituted one.
 -- They are small, since the plans are slim.
 use Rattle.std.specs.Prelude.{◌≡◌, ℕ, ◌+◌, ◌*◌, ◌≤◌, zero, suc, List, [], ◌∷◌, map, length, slice_get}
 use Rattle.std.proofs.Common.{refl, sym, ◌∙◌, ap, subst, arith}
@@ -13,6 +13,7 @@ use Rattle.gos_model.specs.Sources.{program_of}
 use Rattle.gos_model.specs.Linking.{Bind, substituted}
 use Rattle.gos_plan.specs.Plans.{Plan}
 use Rattle.gos_plan.specs.Seen.{SeenPlan}
+use Rattle.gos_realises.specs.Realises.{AllGround}
 use Rattle.gos_link.specs.declared.build.Build.{Build}
 use Rattle.gos_link.specs.declared.build.Instance.{Instance}
 use Rattle.gos_link.specs.declared.services.Service.{Service}
@@ -28,8 +29,8 @@ use Rattle.gos_build.specs.Paced.{ModuleKeepsPace, BuildKeepsPace, BuildHasImpor
 pub module_keeps_pace : ModuleCircuitsKeepPace → ModuleKeepsPace
 module_keeps_pace law m plan root net is ground done circuit =
     let body : Term = (program_of m).body in
-    let (all, wide) = is.ports ground in
-    let paced = law root plan body net is.realises all wide (subst IsDone (sym is.made.outcome) done) circuit in
+    let all = subst AllGround (sym is.made.imports) ground in
+    let paced = law root plan body net is.realises all is.widths (subst IsDone (sym is.made.outcome) done) circuit in
     subst (λ (w : ℕ). KeepsPaceAlways w (program_of m) net) is.made.weight
     (subst (λ (i : Imports). KeepsPaceAlways plan.weight (record { imports = i; body = body }) net) is.made.imports paced)
 
@@ -47,7 +48,7 @@ are_modules files is [] (p ∷ ps) say have = absurd have
 are_modules files is (m ∷ ms) [] say have = absurd have
 are_modules files [] (m ∷ ms) (p ∷ ps) say have = absurd say
 are_modules files (i ∷ is) (m ∷ ms) (p ∷ ps) say have = (
-  record { imports = have.0.made.imports; realises = have.0.realises; widths = (have.0.ports say.0.ground).1 },
+  record { imports = have.0.made.imports; realises = have.0.realises; widths = have.0.widths },
   are_modules files is ms ps say.1 have.1,
 )
 

@@ -35,7 +35,7 @@ pub record IsPlansBuilt (old new : Option Files) (b : Build) (plans : List SeenP
   pub traced : LeavesTrace between new net b.pulses b.trace counts
   pub tells : report ≡ record { weight = Some weight; run = Some counts }
 
--- The build file says a build; the source of each instance says a ground module, and the object file of the instance was
+-- The build file says a build; the source of each instance says a module that is accepted, and the object file of the instance was
 -- written with the text of its plan; and all this is so for these plans. The circuit has the imports of the program of the
 -- linked modules as its ports, besides the root's, and keeps pace with this program. Its weight is that of the modules, and it
 -- has few cells for it.
