@@ -131,5 +131,10 @@ headline_holds files held own report is =
       netlist = holds.at_one;
       verilog = subst (λ (text : Word). IsVerilogOf is.built.net text) (sym holds.at_two) written.text;
       accepted = written.circuit.accepted;
+      ports = record {
+        ty = done.whole.outcome;
+        typed = is.typed;
+        are = written.circuit.ports ∙ ap (λ (is : Imports). record { name = b.root; side = Give; ty = done.whole.outcome } ∷ map taken_face is) is.imports;
+      };
       pace = subst (λ (w : ℕ). KeepsPaceAlways w (program_along ms done.linked.services done.linked.root) is.built.net) is.weighs is.pace;
     }

@@ -5,11 +5,13 @@
 use Rattle.std.specs.Prelude.{◌≡◌, ℕ, List, [], ◌∷◌, map, Some}
 use Rattle.gos_outside.specs.Files.{Files, bytes_at}
 use Rattle.gos_lines.specs.Lines.{Word}
-use Rattle.gos_netlist.specs.Nets.{Netlist}
+use Rattle.gos_types.specs.Types.{Type'}
+use Rattle.gos_netlist.specs.Nets.{Give, Netlist}
 use Rattle.gos_netlist.specs.NetText.{text_of}
 use Rattle.gos_verilog.specs.VerilogText.{IsVerilogOf}
 use Rattle.gos_netcheck.specs.Accepted.{IsAccepted}
 use Rattle.gos_syntax.specs.Modules.{SeenModule}
+use Rattle.gos_model.specs.Moves.{Program}
 use Rattle.gos_model.specs.Sources.{program_of}
 use Rattle.gos_model.specs.Linking.{Bind, substituted, link_weight}
 use Rattle.gos_model.specs.Pace.{KeepsPaceAlways}
@@ -18,7 +20,9 @@ use Rattle.gos_link.specs.declared.build.Bind as lines
 use Rattle.gos_link.specs.declared.build.Build.{Build}
 use Rattle.gos_link.specs.Services.{instance_named}
 use Rattle.gos_objects.specs.Checked.{SaysModule}
+use Rattle.gos_circuits.specs.Circuit.{face_of, taken_face}
 use Rattle.gos_circuits.specs.Linked.{SaysBuild}
+use Rattle.gos_build.specs.Programs.{IsTyped}
 
 -- the source of each instance says the module of its place
 abbrev pub SayModules : Files → List Instance → List SeenModule → Type 0
@@ -33,9 +37,15 @@ SayBinds is (l ∷ ls) (b ∷ bs) =
     (instance_named is l.user ≡ Some b.user) × (l.import ≡ b.import) × (instance_named is l.giver ≡ Some b.giver) × SayBinds is ls bs
 SayBinds is ls bs = ⊥
 
+-- the netlist's ports: that of the root gives what the program is, and each import is taken
+pub record HasPorts (root : Word) (p : Program) (net : Netlist) : Type 0 where
+  pub ty : Type'
+  pub typed : IsTyped p ty
+  pub are : map face_of net.ports ≡ record { name = root; side = Give; ty = ty } ∷ map taken_face p.imports
+
 -- The files `old` were there when the command began, and `new` are there when it has ended. The build file says these instances,
 -- binds and root; their sources say the modules. The netlist that was written has no combinational cycle, the Verilog that was
--- written is its text, and for all inputs that keep the protocol it keeps pace with the substituted program.
+-- written is its text. Its ports are those of the substituted program, with which it keeps pace for all inputs that keep the protocol.
 pub record Headline (old new : Files) (own : Word) : Type 0 where
   pub build : Build
   pub modules : List SeenModule
@@ -49,4 +59,5 @@ pub record Headline (old new : Files) (own : Word) : Type 0 where
   pub netlist : bytes_at new build.net ≡ text_of net
   pub verilog : IsVerilogOf net (bytes_at new build.verilog)
   pub accepted : IsAccepted net
+  pub ports : HasPorts build.root (substituted (map program_of modules) binds root) net
   pub pace : KeepsPaceAlways (link_weight (map program_of modules)) (substituted (map program_of modules) binds root) net

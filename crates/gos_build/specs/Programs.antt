@@ -4,7 +4,8 @@
 -- service speaks of an import by its number, and the program by its name.
 use Rattle.std.specs.Prelude.{ℕ, List, [], map, Option, Some, None, slice_get}
 use Rattle.gos_syntax.specs.Modules.{SeenModule}
-use Rattle.gos_model.specs.Typing.{Imports}
+use Rattle.gos_types.specs.Types.{Type'}
+use Rattle.gos_model.specs.Typing.{Imports, Typed}
 use Rattle.gos_model.specs.Moves.{Program}
 use Rattle.gos_model.specs.Sources.{program_of}
 use Rattle.gos_model.specs.Linking.{Instances, Bind, substituted}
@@ -23,3 +24,7 @@ bind_in ps s = record { user = s.user; import = name_if (slice_get (imports_if (
 -- the root's program, in which each import that is served is the program of its giver
 abbrev pub program_along : List SeenModule → List Service → ℕ → Program
 program_along ms ss root = substituted (map program_of ms) (map (bind_in (map program_of ms)) ss) root
+
+-- the program has this type, under its imports
+abbrev pub IsTyped : Program → Type' → Type 0
+IsTyped p t = Typed p.imports [] p.body t

@@ -1,6 +1,6 @@
 // What the circuits of modules do. Each theorem is the contract of a function that does nothing.
 
-ghost use Rattle.gos_build.specs.Paced.{BuildHasImports, BuildHasWeight, BuildIsSmall, BuildKeepsPace, HeadlineHolds, ModuleKeepsPace};
+ghost use Rattle.gos_build.specs.Paced.{BuildHasImports, BuildHasWeight, BuildIsSmall, BuildIsTyped, BuildKeepsPace, HeadlineHolds, ModuleKeepsPace};
 ghost use Rattle.gos_build.specs.SmallPrograms.{FirstIsNot, SecondIsBound};
 
 use gos_circuits::paced_circuits;
@@ -13,6 +13,7 @@ pub fn paced_modules()
     ensures one { ModuleKeepsPace }
     ensures linked { BuildKeepsPace }
     ensures imports { BuildHasImports }
+    ensures typed { BuildIsTyped }
     ensures weight { BuildHasWeight }
     ensures small { BuildIsSmall }
 {
