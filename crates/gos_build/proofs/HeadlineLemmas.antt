@@ -28,14 +28,16 @@ use Rattle.std.specs.Prelude.{option_map, ◌++◌}
 use Rattle.std.proofs.lemmas.Option.{slice_get-map, get_or_from_slice_get}
 use Rattle.std.specs.Prelude.{get_or}
 use Rattle.std.proofs.lemmas.Cmp.{eq_by_cmp_equiv}
-use Rattle.gos_model.specs.Typing.{Imported}
+use Rattle.gos_model.specs.Typing.{Imported, Imports}
 use Rattle.gos_plan.specs.Plans.{Plan}
 use Rattle.gos_plan.specs.declared.plan.PlanImport.{PlanImport}
 use Rattle.gos_link.specs.Linked.{imports_of, plans_of}
 use Rattle.gos_link.specs.Services.{instance_named, import_named, Means}
 use Rattle.gos_linked.specs.Linked.{name_if}
 use Rattle.gos_model.specs.Pace.{KeepsPaceAlways}
+use Rattle.gos_netlist.specs.Nets.{Give}
 use Rattle.gos_netlist.specs.NetText.{text_of}
+use Rattle.gos_circuits.specs.Circuit.{taken_face}
 use Rattle.gos_pulse.specs.TraceText.{trace_text}
 use Rattle.gos_verilog.specs.VerilogText.{IsVerilogOf}
 use Rattle.gos_build.specs.Programs.{program_along}

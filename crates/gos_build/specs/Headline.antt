@@ -1,17 +1,16 @@
 -- The headline: what the circuit is that `build BUILD` has written, where it ends with status 0.
 --
 -- The words are defined in SaysBuild and SaysModule (what files say), Linking (the program of linked modules), NetText and
--- VerilogText (texts of a netlist), Accepted (no combinational cycle), and Pace (which circuits keep pace with a program).
+-- VerilogText (texts of a netlist), Accepted (no combinational cycle), Programs (its ports), and Pace (which circuits keep pace with a
+-- program).
 use Rattle.std.specs.Prelude.{◌≡◌, ℕ, List, [], ◌∷◌, map, Some}
 use Rattle.gos_outside.specs.Files.{Files, bytes_at}
 use Rattle.gos_lines.specs.Lines.{Word}
-use Rattle.gos_types.specs.Types.{Type'}
-use Rattle.gos_netlist.specs.Nets.{Give, Netlist}
+use Rattle.gos_netlist.specs.Nets.{Netlist}
 use Rattle.gos_netlist.specs.NetText.{text_of}
 use Rattle.gos_verilog.specs.VerilogText.{IsVerilogOf}
 use Rattle.gos_netcheck.specs.Accepted.{IsAccepted}
 use Rattle.gos_syntax.specs.Modules.{SeenModule}
-use Rattle.gos_model.specs.Moves.{Program}
 use Rattle.gos_model.specs.Sources.{program_of}
 use Rattle.gos_model.specs.Linking.{Bind, substituted, link_weight}
 use Rattle.gos_model.specs.Pace.{KeepsPaceAlways}
@@ -20,9 +19,8 @@ use Rattle.gos_link.specs.declared.build.Bind as lines
 use Rattle.gos_link.specs.declared.build.Build.{Build}
 use Rattle.gos_link.specs.Services.{instance_named}
 use Rattle.gos_objects.specs.Checked.{SaysModule}
-use Rattle.gos_circuits.specs.Circuit.{face_of, taken_face}
 use Rattle.gos_circuits.specs.Linked.{SaysBuild}
-use Rattle.gos_build.specs.Programs.{IsTyped}
+use Rattle.gos_build.specs.Programs.{HasPorts}
 
 -- the source of each instance says the module of its place
 abbrev pub SayModules : Files → List Instance → List SeenModule → Type 0
@@ -36,12 +34,6 @@ SayBinds is [] [] = Unit {0}
 SayBinds is (l ∷ ls) (b ∷ bs) =
     (instance_named is l.user ≡ Some b.user) × (l.import ≡ b.import) × (instance_named is l.giver ≡ Some b.giver) × SayBinds is ls bs
 SayBinds is ls bs = ⊥
-
--- the netlist's ports: that of the root gives what the program is, and each import is taken
-pub record HasPorts (root : Word) (p : Program) (net : Netlist) : Type 0 where
-  pub ty : Type'
-  pub typed : IsTyped p ty
-  pub are : map face_of net.ports ≡ record { name = root; side = Give; ty = ty } ∷ map taken_face p.imports
 
 -- The files `old` were there when the command began, and `new` are there when it has ended. The build file says these instances,
 -- binds and root; their sources say the modules. The netlist that was written has no combinational cycle, the Verilog that was
