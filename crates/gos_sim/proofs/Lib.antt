@@ -6,5 +6,6 @@ pub mod SourceLemmas
 pub mod ProgramLemmas
 pub mod RegisterLemmas
 pub mod CycleLemmas
+pub mod StillLemmas
 pub mod RunLemmas
 pub mod AcceptedLemmas
