@@ -22,6 +22,7 @@ use Rattle.gos_sim.specs.inner.Ready.{AreApart, IsInputNet, IsRegisterNet}
 use Rattle.gos_sim.specs.inner.Machine.{HoldNothingElse, IsBuilt, IsMachine, IsRunnable, IsStill, RunsThrough}
 use Rattle.gos_sim.proofs.PlaceLemmas.{all_at, same_element, place_of}
 use Rattle.gos_sim.proofs.SourceLemmas.{input_or_register, shown_inside, register_or_not}
+use Rattle.gos_sim.proofs.ProgramLemmas.{one_cell}
 use Rattle.gos_sim.proofs.GiveLemmas.{kept_given}
 
 -- the net of a source is no step's
@@ -212,6 +213,7 @@ runnable net m machine =
       outputs = within (IsRegisterNet net.cells) (λ a (c, is, register). slice_get_within net.cells a c is) m.outputs.items (output_events net) machine.outputs machine.ready.outputs;
       apart = subst AreApart (sym machine.inputs) machine.ready.apart;
       ordered = machine.program.ordered;
+      one_cell = one_cell net.cells m.steps.items machine.program.sound;
       steps = machine.steps_within;
       latches = machine.latches_within;
       one_pin = one_pin net.cells m.latches.items machine.latched;

@@ -1,7 +1,7 @@
 -- Values that stand still: a cycle that gives the same pulses changes nothing.
 use Rattle.std.specs.Prelude.{◌≡◌, ℕ, List, map}
 use Rattle.std.proofs.Common.{refl, sym, subst, ◌∙◌}
-use Rattle.gos_netlist.specs.Settling.{Numbers, at}
+use Rattle.gos_netlist.specs.Settling.{Numbers}
 use Rattle.gos_sim.specs.declared.machine.Machine.{Machine}
 use Rattle.gos_sim.specs.declared.pulse.Pulse.{Pulse}
 use Rattle.gos_sim.specs.Cycle.{GivesAll, pulse_shown}

@@ -9,7 +9,9 @@
 
 mod event_nets;
 mod laws;
+mod levels;
 mod machine;
+mod order;
 mod program;
 mod pulse;
 mod running;

@@ -3,7 +3,7 @@ ghost use Rattle.std.specs.Prelude.{◌≡◌, ◌<◌, All, IsTrue, length, map
 ghost use Rattle.gos_netlist.specs.Seen.{function_of};
 ghost use Rattle.gos_netlist.specs.Settling.{at, shown};
 ghost use Rattle.gos_sim.specs.Cycle.{Gives, GivesAll, IsWord, pulse_shown};
-ghost use Rattle.gos_sim.specs.inner.Program.{IsLatchWithin, IsStepWithin, SparesEarlier};
+ghost use Rattle.gos_sim.specs.inner.Program.{HaveOneCell, IsLatchWithin, IsStepWithin, SparesEarlier};
 ghost use Rattle.gos_sim.specs.inner.Running.{AreLoaded, AreShown, AreTaken, HaveOnePin, KeepsOtherNets, KeepsOtherSteps, KeepsOthers};
 ghost use Rattle.gos_sim.specs.EventNets.{OnNets};
 ghost use Rattle.gos_sim.specs.inner.Ready.{AreApart, AreTwo};
@@ -89,6 +89,7 @@ pub fn load(latches: &[Latch], registers: &[u64], values: &mut [u64])
 pub fn evaluate(steps: &[Step], values: &mut [u64])
     requires steps { All (IsStepWithin (length values.old)) steps.now }
     requires order { SparesEarlier steps.now }
+    requires one { HaveOneCell steps.now }
     requires words { All IsWord values.old }
     ensures shown { AreShown steps.now values.new }
     ensures others { KeepsOtherSteps steps.now values.old values.new }

@@ -10,7 +10,7 @@ use Rattle.gos_sim.specs.declared.program.Latch.{Latch}
 use Rattle.gos_sim.specs.declared.pulse.Pulse.{Pulse}
 use Rattle.gos_sim.specs.EventNets.{OnNets, input_events, output_events}
 use Rattle.gos_sim.specs.Cycle.{GivesAll, IsWord, pulse_shown}
-use Rattle.gos_sim.specs.inner.Program.{AreLatches, IsLatchWithin, IsProgram, IsStepWithin, SparesEarlier}
+use Rattle.gos_sim.specs.inner.Program.{AreLatches, HaveOneCell, IsLatchWithin, IsProgram, IsStepWithin, SparesEarlier}
 use Rattle.gos_sim.specs.inner.Running.{AreLoaded, AreShown, AreTaken, HaveOnePin, KeepsOtherSteps, KeepsOthers}
 use Rattle.gos_sim.specs.inner.Ready.{AreApart, IsReady}
 
@@ -30,6 +30,7 @@ pub record IsRunnable (count : ℕ) (m : Machine) : Type 0 where
   pub outputs : All (OnNets (λ a. a < count)) m.outputs.items
   pub apart : AreApart m.inputs.items
   pub ordered : SparesEarlier m.steps.items
+  pub one_cell : HaveOneCell m.steps.items
   pub steps : All (IsStepWithin count) m.steps.items
   pub latches : All (IsLatchWithin count) m.latches.items
   pub one_pin : HaveOnePin m.latches.items
