@@ -2,5 +2,4 @@
 pub mod EventNets
 pub mod Cycle
 pub mod Runs
-pub mod Levels
 pub mod inner
