@@ -5,6 +5,7 @@ use Rattle.std.specs.Prelude.{IfSome, IfOk}
 use Rattle.gos_outside.specs.Files.{Files, bytes_at, with_file}
 use Rattle.gos_lines.specs.Lines.{Word}
 use Rattle.gos_types.specs.Types.{Type', type_of}
+use Rattle.gos_syntax.specs.Modules.{SeenModule}
 use Rattle.gos_model.specs.Moves.{Program}
 use Rattle.gos_model.specs.Sources.{import_of, program_of}
 use Rattle.gos_model.specs.Weight.{weight}

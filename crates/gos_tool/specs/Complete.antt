@@ -1,0 +1,29 @@
+-- Which files are right for a command. It is done then, where no call fails and memory suffices.
+--
+-- Read first: Command, Run; Complete of gos_circuits, of gos_simulate and of gos_build.
+use Rattle.std.specs.Prelude.{ℕ, List, Option, Some}
+use Rattle.gos_outside.specs.Files.{Files, bytes_at}
+use Rattle.gos_syntax.specs.Modules.{SeenModule}
+use Rattle.gos_command.specs.declared.status.Fault.{Fault}
+use Rattle.gos_objects.specs.Checked.{SaysModule}
+use Rattle.gos_circuits.specs.Complete.{AreRightToLink}
+use Rattle.gos_simulate.specs.Complete.{AreRightToRun}
+use Rattle.gos_build.specs.Complete.{AreRightToBuild}
+use Rattle.gos_demo.specs.DemoFiles.{build_file}
+use Rattle.gos_demo.specs.Demo.{with_demo}
+use Rattle.gos_tool.specs.Command.{Command, Check, Compile, Link, Sim, Build, Demo}
+use Rattle.gos_tool.specs.Run.{IsRejected}
+
+-- The files, as they are when the command begins, are right for it. A demo's are those of the demo.
+abbrev pub AreRight : Command → Files → Type 0
+AreRight (Check source) files = (m : SeenModule) × SaysModule (bytes_at files source) m
+AreRight (Compile source object) files = (m : SeenModule) × SaysModule (bytes_at files source) m
+AreRight (Link own) files = AreRightToLink files own
+AreRight (Sim net pulses trace) files = AreRightToRun files net pulses
+AreRight (Build own) files = AreRightToBuild files own
+AreRight (Demo levels) files = AreRightToBuild (with_demo levels files) (build_file levels).name
+
+-- a command rejects no file where they are right
+abbrev pub RightIsNotRejected : Type 0
+RightIsNotRejected =
+    (c : Command) (files : Files) (new : Option Files) (fault : Fault) (line : List ℕ) → AreRight c files → IsRejected c (Some files) new fault line → ⊥
