@@ -19,7 +19,7 @@ use Rattle.gos_link.specs.declared.build.Build.{Build}
 use Rattle.gos_objects.specs.Compiled.{IsPlanOfModule}
 use Rattle.gos_circuits.specs.Circuit.{IsCircuitOf}
 use Rattle.gos_circuits.specs.Plans.{IsPlansDone}
-use Rattle.gos_build.specs.Programs.{program_along}
+use Rattle.gos_build.specs.Programs.{program_along, IsTyped}
 use Rattle.gos_command.specs.declared.report.Report.{Report}
 use Rattle.gos_build.specs.Objects.{AllWritten}
 use Rattle.gos_build.specs.Headline.{Headline}
@@ -46,6 +46,13 @@ BuildHasImports =
     (files : Files) (objects old new : Option Files) (b : Build) (plans : List SeenPlan) (weight : ℕ) (net : Netlist)
     (compiled : AllWritten files objects b.instances.items plans) (done : IsPlansDone old new b plans weight net)
     → done.whole.imports ≡ (program_along compiled.modules done.linked.services done.linked.root).imports
+
+-- The program's type is the linked plan's.
+abbrev pub BuildIsTyped : Type 0
+BuildIsTyped =
+    (files : Files) (objects old new : Option Files) (b : Build) (plans : List SeenPlan) (weight : ℕ) (net : Netlist)
+    (compiled : AllWritten files objects b.instances.items plans) (done : IsPlansDone old new b plans weight net)
+    → IsTyped (program_along compiled.modules done.linked.services done.linked.root) done.whole.outcome
 
 abbrev pub BuildHasWeight : Type 0
 BuildHasWeight =

@@ -1,7 +1,7 @@
 // What the circuits of modules do. Each theorem is the contract of a function that does nothing.
 
 ghost use Rattle.gos_build.specs.Complete.{BuildIsNotRejected, EmptyIsNotRight};
-ghost use Rattle.gos_build.specs.Paced.{BuildHasImports, BuildHasWeight, BuildIsSmall, BuildKeepsPace, HeadlineHolds, ModuleKeepsPace};
+ghost use Rattle.gos_build.specs.Paced.{BuildHasImports, BuildHasWeight, BuildIsSmall, BuildIsTyped, BuildKeepsPace, HeadlineHolds, ModuleKeepsPace};
 ghost use Rattle.gos_build.specs.SmallPrograms.{FirstIsNot, SecondIsBound};
 
 use gos_circuits::{paced_circuits, right_links};
@@ -17,6 +17,7 @@ pub fn paced_modules()
     ensures one { ModuleKeepsPace }
     ensures linked { BuildKeepsPace }
     ensures imports { BuildHasImports }
+    ensures typed { BuildIsTyped }
     ensures weight { BuildHasWeight }
     ensures small { BuildIsSmall }
 {
