@@ -74,10 +74,10 @@ module _ (one_program : SaysOneProgram) (files : Files) (own : Word) (right : Ar
         linked = linked_too b right.build same plans done.whole done.linked;
         circuit = subst (λ (root : Word). IsCircuitOf root done.whole wrong.net) (root_same b right.build same) done.written.circuit;
       } in
-      let text : bytes_at files right.build.pulses ≡ bytes_at stands.all b.pulses = ap (bytes_at files) (sym (pulses_same b right.build same)) ∙ sym stands.text in
+      let text : bytes_at files right.build.pulses ≡ bytes_at stands.all b.pulses = ap (bytes_at files) (sym (pulses_same b right.build same)) ∙ sym stands.held in
       not_rejected stands.all wrong.net b.pulses fault line done.written.circuit.accepted
       (subst (MayRunUnder wrong.net) text (right.runs wrong.net net))
-      (subst (λ (told : Option Files). IfSome told (λ all. IsPulseFault all wrong.net b.pulses fault line)) stands.told wrong.why)
+      (subst (λ (told : Option Files). IfSome told (λ all. IsPulseFault all wrong.net b.pulses fault line)) stands.is wrong.why)
 
 pub build_is_not_rejected : IsOneBuild → BuildHasNoWrongLine → AcceptedIsNotRejected → SaysOneProgram → PulsesAreNotRejected → BuildIsNotRejected
 build_is_not_rejected one_build not_wrong accepted one_program not_rejected files new own fault line right (inl (wrong, kept)) =

@@ -50,7 +50,7 @@ pub say_modules : (files : Files) (is : List Instance) (ms : List SeenModule) �
 say_modules files [] [] begin all = tt
 say_modules files (i ∷ is) [] begin all = absurd (omega (arith, all))
 say_modules files [] (m ∷ ms) begin all = absurd begin
-say_modules files (i ∷ is) (m ∷ ms) begin all = (begin.0.says, say_modules files is ms begin.1 (omega (arith, all)))
+say_modules files (i ∷ is) (m ∷ ms) begin all = (begin.0, say_modules files is ms begin.1 (omega (arith, all)))
 
 -- an import's name is that under which it is found
 named_so : (is : List PlanImport) (name : Word) (k : ℕ) (x : PlanImport) → import_named is name ≡ Some k → slice_get is k ≡ Some x → x.name ≡ name

@@ -2,8 +2,9 @@
 --
 -- A file of a role is no object of a line before it, and an object is no file of a line before it (`is_new` of gos_link). So what stood
 -- in the pulse file when the command began stands there when it is read.
-use Rattle.std.proofs.Common.{◌≡◌, ◌≢◌, ◌∙◌, true≢false, inl, inr, ℕ, List, [], ◌∷◌, ◌++◌, None, Option, Some, IsTrue, refl, ap, sym, subst}
+use Rattle.std.proofs.Common.{◌≡◌, ◌≢◌, ◌∙◌, false, true≢false, ◌&&◌, not, inl, inr, ℕ, List, [], ◌∷◌, ◌++◌, None, Option, Some, IsTrue, refl, ap, sym, subst}
 use Rattle.std.specs.FinMap.{insert}
+use Rattle.std.specs.Str.{bytes_eq}
 use Rattle.std.proofs.lemmas.List.{append-nil, append_assoc, map-append}
 use Rattle.gos_outside.specs.Files.{Files, bytes_at, with_file}
 use Rattle.gos_outside.specs.OtherFiles.{IsApart}
@@ -11,7 +12,7 @@ use Rattle.gos_lines.specs.Lines.{Word, Statement, statements_of}
 use Rattle.gos_plan.specs.ObjectText.{text_of}
 use Rattle.gos_plan.specs.Seen.{SeenPlan, plan_of}
 use Rattle.gos_link.specs.BuildFile as said
-use Rattle.gos_link.specs.BuildFile.{Sum, nothing, sum_of, with_said, has_no_source, is_new, ReadsOn, IsBuildFile}
+use Rattle.gos_link.specs.BuildFile.{Sum, nothing, sum_of, with_said, has_instance, has_source, has_no_source, is_new, is_new_file, is_new_source, ReadsOn, IsBuildFile}
 use Rattle.gos_link.specs.declared.build.Build.{Build}
 use Rattle.gos_link.specs.declared.build.Instance.{Instance}
 use Rattle.gos_link.specs.declared.said.Role.{Role}
@@ -36,13 +37,27 @@ same_instances roles.Verilog name sum = refl
 same_instances roles.Pulses name sum = refl
 same_instances roles.Trace name sum = refl
 
+-- a new file is named by no line before
+unnamed : (own : Word) (before : List Item) (file : Word) → IsTrue (is_new_file own before file) → has_no_source before file ≡ false
+unnamed own before file new =
+    is_false (has_no_source before file)
+    (back_true (not (has_source before file)) (not (has_no_source before file))
+    (back_true (not (bytes_eq file own)) (not (has_source before file) && not (has_no_source before file)) new))
+
+new_object : (own : Word) (before : List Item) (name source object : Word) → IsTrue (is_new own before (says.Inst name source object))
+    → has_no_source before object ≡ false
+new_object own before name source object new =
+    unnamed own before object
+    (front_true (is_new_file own before object) (not (bytes_eq object source))
+    (back_true (is_new_source own before source) (is_new_file own before object && not (bytes_eq object source))
+    (back_true (not (has_instance before name)) (is_new_source own before source && (is_new_file own before object && not (bytes_eq object source))) new)))
+
 module _ (own : Word) (before : List Item) (sum : Sum) (so_far : AreElse before sum) where
   -- an object that a line names
   of_object : (line : ℕ) (name source object : Word) → IsTrue (is_new own before (says.Inst name source object)) → (r : Role) (file : Word)
       → file_of r sum ≡ Some file → IsApart file (objects_of (sum.instances ++ record { line = line; name = name; source = source; object = object } ∷ []))
   of_object line name source object new r file e =
-      let object_new = front_true _ _ (back_true _ _ (back_true _ _ new)) in
-      let none = is_false _ (back_true _ _ (back_true _ _ object_new)) in
+      let none = new_object own before name source object new in
       subst (IsApart file) (sym (map-append (λ (i : Instance). i.object) sum.instances (record { line = line; name = name; source = source; object = object } ∷ [])))
       (apart_more file object (objects_of sum.instances) (so_far.else r file e)
       (λ same. true≢false (sym (so_far.new.named r file e) ∙ (ap (has_no_source before) same ∙ none))))
@@ -54,9 +69,7 @@ module _ (own : Word) (before : List Item) (sum : Sum) (so_far : AreElse before 
       subst (λ (is : List Instance). IsApart file (objects_of is)) (sym (same_instances role name sum)) (by (of_role r role name sum))
     where
       here : IsApart name (objects_of sum.instances)
-      here =
-          subst (λ (is : List Instance). IsApart name (objects_of is)) (sym so_far.held)
-          (no_object name before (is_false _ (back_true _ _ (back_true _ _ new))))
+      here = subst (λ (is : List Instance). IsApart name (objects_of is)) (sym so_far.held) (no_object name before (unnamed own before name new))
 
       by : OfRole r role name sum → IsApart file (objects_of sum.instances)
       by (inl (is, found)) =
@@ -116,15 +129,15 @@ pulses_else text own b is =
 -- the store tells its files, and this one has this text
 pub record Stands (told : Option Files) (name text : Word) : Type 0 where
   pub all : Files
-  pub told : told ≡ Some all
-  pub text : bytes_at all name ≡ text
+  pub is : told ≡ Some all
+  pub held : bytes_at all name ≡ text
 
 over_file : (told : Option Files) (name text other bytes : Word) → name ≢ other → Stands told name text → Stands (with_file other bytes told) name text
 over_file told name text other bytes apart s =
     record {
       all = insert s.all other bytes;
-      told = ap (with_file other bytes) s.told;
-      text = found_before s.all other bytes name apart ∙ s.text;
+      is = ap (with_file other bytes) s.is;
+      held = found_before s.all other bytes name apart ∙ s.held;
     }
 
 over_objects : (told : Option Files) (name text : Word) (is : List Instance) (ps : List SeenPlan) → IsApart name (objects_of is) → Stands told name text
@@ -141,7 +154,7 @@ pub pulses_stand : (files : Files) (b : Build) (plans : List SeenPlan) (objects 
     → Stands new b.pulses (bytes_at files b.pulses)
 pulses_stand files b plans objects new net verilog apart made wrote =
     let text = bytes_at files b.pulses in
-    let before = over_objects (Some files) b.pulses text b.instances.items plans apart.objects (record { all = files; told = refl; text = refl }) in
+    let before = over_objects (Some files) b.pulses text b.instances.items plans apart.objects (record { all = files; is = refl; held = refl }) in
     let here = subst (λ (told : Option Files). Stands told b.pulses text) (sym made) before in
     subst (λ (told : Option Files). Stands told b.pulses text) (sym wrote)
     (over_file (with_file b.net net objects) b.pulses text b.verilog verilog apart.verilog (over_file objects b.pulses text b.net net apart.net here))
