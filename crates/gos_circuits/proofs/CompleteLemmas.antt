@@ -1,5 +1,5 @@
 -- Files that are right for `link` have no fault: a build file has one answer, and so has an object file.
-use Rattle.std.proofs.Common.{◌≡◌, ◌≢◌, inl, inr, ℕ, List, [], ◌∷◌, None, ap, subst}
+use Rattle.std.proofs.Common.{◌≡◌, inl, inr, ℕ, List, [], ◌∷◌, None, ap, subst}
 use Rattle.gos_outside.specs.Files.{Files, bytes_at}
 use Rattle.gos_lines.specs.Lines.{Word, statements_of}
 use Rattle.gos_plan.specs.Seen.{SeenPlan, plan_of}
@@ -18,7 +18,7 @@ use Rattle.gos_command.specs.declared.status.Fault.{Fault}
 use Rattle.gos_circuits.specs.Objects.{HoldPlans, HoldsPlan, IsObjectCause, RejectsObject}
 use Rattle.gos_circuits.specs.Plans.{IsPlansCause}
 use Rattle.gos_circuits.specs.Linked.{IsFormCause, IsLinkCause, RejectsWhole}
-use Rattle.gos_circuits.specs.Complete.{AreRightToLink, EmptyIsNoBuild, LinkIsNotRejected}
+use Rattle.gos_circuits.specs.Complete.{EmptyIsNoBuild, LinkIsNotRejected}
 use Rattle.gos_circuits.proofs.SameBuildLemmas.{instances_same, unlinked_too}
 
 -- a build file has no wrong line

@@ -2,8 +2,7 @@
 --
 -- It has one list of tokens, and these are one module but for its boxes (`module_tree`). What is accepted doesn't depend on these.
 use Rattle.std.proofs.Common.{◌≡◌, ◌≢◌, ◌∙◌, ◌≤◌, ℕ, List, [], ◌∷◌, None, Ok, map, take, refl, ap, sym, subst}
-use Rattle.gos_outside.specs.Files.{Files, bytes_at}
-use Rattle.gos_lines.specs.Lines.{Word}
+use Rattle.gos_outside.specs.Files.{bytes_at}
 use Rattle.gos_lex.specs.declared.token.Token.{Token}
 use Rattle.gos_lex.specs.OneReading.{ReadsInOneWay, FaultsExcludeTokens}
 use Rattle.gos_types.specs.Types.{Type', type_of}
