@@ -18,17 +18,18 @@ use Rattle.gos_objects.proofs.CompiledLemmas.{plan_too}
 use Rattle.gos_circuits.specs.Circuit.{IsCircuitOf}
 use Rattle.gos_circuits.specs.Linked.{SaysBuild}
 use Rattle.gos_circuits.specs.Complete.{EmptyIsNoBuild}
-use Rattle.gos_circuits.proofs.SameBuildLemmas.{instances_same, root_same, pulses_same, linked_too, unlinked_too}
+use Rattle.gos_circuits.proofs.SameBuildLemmas.{instances_same, net_same, root_same, pulses_same, linked_too, unlinked_too}
 use Rattle.gos_circuits.proofs.CompleteLemmas.{no_form_cause, no_plans_cause}
 use Rattle.gos_simulate.specs.Simulation.{IsPulseFault}
 use Rattle.gos_simulate.specs.Complete.{MayRunUnder, PulsesAreNotRejected}
 use Rattle.gos_build.specs.Objects.{AllWritten, HavePlans}
 use Rattle.gos_build.specs.Headline.{SayModules}
 use Rattle.gos_build.specs.Built.{RejectsInstances, RejectsPulses}
-use Rattle.gos_build.specs.Complete.{AreRightToBuild, BuildIsNotRejected, EmptyIsNotRight, IsNetFor}
+use Rattle.gos_build.specs.Complete.{AreRightToBuild, BuildIsNotRejected, EmptyIsNotRight, HoldsNet, IsNetFor}
 use Rattle.gos_build.proofs.HeadlineLemmas.{say_modules}
 use Rattle.gos_build.proofs.ObjectLemmas.{none_at, first_at}
-use Rattle.gos_build.proofs.PulseLemmas.{pulses_else, pulses_stand}
+use Rattle.gos_build.proofs.PulseLemmas.{pulses_else, stand_both}
+use Rattle.gos_build.proofs.RoleLemmas.{roles_differ}
 
 -- the source of an instance says a module where those of all do
 says_at : (files : Files) (is : List Instance) (ms : List SeenModule) (k : ℕ) (i : Instance) → SayModules files is ms → slice_get is k ≡ Some i
@@ -52,7 +53,7 @@ plans_too one files (i ∷ is) (m ∷ ms) (o ∷ os) (p ∷ ps) say also have =
     let same = one (bytes_at files i.source) o m also.0 say.0 in
     (plan_too o m (plan_of p) same.0 same.1 have.0, plans_too one files is ms os ps say.1 also.1 have.1)
 
-module _ (one_program : SaysOneProgram) (files : Files) (own : Word) (right : AreRightToBuild files own) (b : Build) (says : SaysBuild files own b)
+module _ (one_program : SaysOneProgram) (files : Files) (new : Option Files) (own : Word) (right : AreRightToBuild files new own) (b : Build) (says : SaysBuild files own b)
     (same : whole b ≡ whole right.build) (plans : List SeenPlan) (objects : Option Files) (written : AllWritten files objects b.instances.items plans) where
   plans_made : HavePlans right.modules plans
   plans_made =
@@ -61,11 +62,12 @@ module _ (one_program : SaysOneProgram) (files : Files) (own : Word) (right : Ar
       (say_modules files b.instances.items written.modules written.written.say written.all))
       written.written.plans
 
-  pulses_right : PulsesAreNotRejected → (new : Option Files) (fault : Fault) (line : List ℕ) → RejectsPulses objects new b plans fault line → ⊥
-  pulses_right not_rejected new fault line wrong =
+  pulses_right : PulsesAreNotRejected → (fault : Fault) (line : List ℕ) → RejectsPulses objects new b plans fault line → ⊥
+  pulses_right not_rejected fault line wrong =
       let done = wrong.written in
-      let stands = pulses_stand files b plans objects new (text_of wrong.net) done.written.verilog (pulses_else (bytes_at files own) own b says)
-      written.written.wrote done.written.wrote in
+      let both = stand_both files b plans objects new (text_of wrong.net) done.written.verilog (pulses_else (bytes_at files own) own b says)
+      (roles_differ (bytes_at files own) own b says).net_verilog written.written.wrote done.written.wrote in
+      let stands = both.pulses in
       let net : IsNetFor right.build right.modules wrong.net =
       record {
         plans = plans;
@@ -74,9 +76,12 @@ module _ (one_program : SaysOneProgram) (files : Files) (own : Word) (right : Ar
         linked = linked_too b right.build same plans done.whole done.linked;
         circuit = subst (λ (root : Word). IsCircuitOf root done.whole wrong.net) (root_same b right.build same) done.written.circuit;
       } in
+      let held : HoldsNet new right.build wrong.net =
+      subst (λ (file : Word). IfSome new (λ all. bytes_at all file ≡ text_of wrong.net)) (net_same b right.build same)
+      (subst (λ (told : Option Files). IfSome told (λ all. bytes_at all b.net ≡ text_of wrong.net)) (sym both.netlist.is) both.netlist.held) in
       let text : bytes_at files right.build.pulses ≡ bytes_at stands.all b.pulses = ap (bytes_at files) (sym (pulses_same b right.build same)) ∙ sym stands.held in
       not_rejected stands.all wrong.net b.pulses fault line done.written.circuit.accepted
-      (subst (MayRunUnder wrong.net) text (right.runs wrong.net net))
+      (subst (MayRunUnder wrong.net) text (right.runs wrong.net net held))
       (subst (λ (told : Option Files). IfSome told (λ all. IsPulseFault all wrong.net b.pulses fault line)) stands.is wrong.why)
 
 pub build_is_not_rejected : IsOneBuild → BuildHasNoWrongLine → AcceptedIsNotRejected → SaysOneProgram → PulsesAreNotRejected → BuildIsNotRejected
@@ -92,11 +97,11 @@ build_is_not_rejected one_build not_wrong accepted one_program not_rejected file
         accepted files source.instance.source there.0 fault line there.1 source.why
     by same (inr (plans, objects, written, inl (unlinked, kept))) =
         no_plans_cause b plans
-        (λ why here. right.links plans why (plans_made one_program files own right b says same plans objects written)
+        (λ why here. right.links plans why (plans_made one_program files new own right b says same plans objects written)
         (unlinked_too b right.build same plans why here))
         fault.cause unlinked.cause
     by same (inr (plans, objects, written, inr pulses)) =
-        pulses_right one_program files own right b says same plans objects written not_rejected new fault line pulses
+        pulses_right one_program files new own right b says same plans objects written not_rejected fault line pulses
 
 pub empty_is_not_right : EmptyIsNoBuild → EmptyIsNotRight
-empty_is_not_right no_build files own e right = no_build files own right.build e right.says
+empty_is_not_right no_build files new own e right = no_build files own right.build e right.says

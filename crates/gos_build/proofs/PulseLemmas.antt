@@ -23,7 +23,7 @@ use Rattle.gos_link.specs.declared.said.Item.{Item}
 use Rattle.gos_build.specs.Objects.{objects_of, with_objects}
 use Rattle.gos_build.proofs.ApartLemmas.{instance_in, instances_in, instances-append, no_object, apart_more, sum_with, front_true}
 use Rattle.gos_build.proofs.RoleLemmas.{file_of, AreNew, is_false, back_true, OfRole, of_role, one_name, untouched, one_more, nothing_new}
-use Rattle.gos_build.proofs.HeadlineLemmas.{found_before}
+use Rattle.gos_build.proofs.HeadlineLemmas.{found_last, found_before}
 
 -- what lines say together, where the file of a role is no object
 record AreElse (before : List Item) (sum : Sum) : Type 0 where
@@ -148,13 +148,23 @@ over_objects told name text (i ∷ is) (p ∷ ps) apart s =
     over_objects (with_file i.object (text_of (plan_of p)) told) name text is ps apart.1
     (over_file told name text i.object (text_of (plan_of p)) apart.0 s)
 
--- it stands as it was once objects, netlist and Verilog text are written
-pub pulses_stand : (files : Files) (b : Build) (plans : List SeenPlan) (objects new : Option Files) (net verilog : Word) → PulsesElse b
+-- once objects, netlist and Verilog text are written, the pulse file stands as it was, and the netlist in its file
+pub record StandBoth (files : Files) (b : Build) (new : Option Files) (net : Word) : Type 0 where
+  pub pulses : Stands new b.pulses (bytes_at files b.pulses)
+  pub netlist : Stands new b.net net
+
+pub stand_both : (files : Files) (b : Build) (plans : List SeenPlan) (objects new : Option Files) (net verilog : Word) → PulsesElse b → b.net ≢ b.verilog
     → objects ≡ with_objects (Some files) b.instances.items plans → new ≡ with_file b.verilog verilog (with_file b.net net objects)
-    → Stands new b.pulses (bytes_at files b.pulses)
-pulses_stand files b plans objects new net verilog apart made wrote =
+    → StandBoth files b new net
+stand_both files b plans objects new net verilog apart differ made wrote =
     let text = bytes_at files b.pulses in
     let before = over_objects (Some files) b.pulses text b.instances.items plans apart.objects (record { all = files; is = refl; held = refl }) in
-    let here = subst (λ (told : Option Files). Stands told b.pulses text) (sym made) before in
-    subst (λ (told : Option Files). Stands told b.pulses text) (sym wrote)
-    (over_file (with_file b.net net objects) b.pulses text b.verilog verilog apart.verilog (over_file objects b.pulses text b.net net apart.net here))
+    let here : Stands objects b.pulses text = subst (λ (told : Option Files). Stands told b.pulses text) (sym made) before in
+    let written : Stands (with_file b.net net objects) b.net net =
+    record { all = insert here.all b.net net; is = ap (with_file b.net net) here.is; held = found_last here.all b.net net } in
+    record {
+      pulses = subst (λ (told : Option Files). Stands told b.pulses text) (sym wrote)
+          (over_file (with_file b.net net objects) b.pulses text b.verilog verilog apart.verilog (over_file objects b.pulses text b.net net apart.net here));
+      netlist = subst (λ (told : Option Files). Stands told b.net net) (sym wrote)
+          (over_file (with_file b.net net objects) b.net net b.verilog verilog differ written);
+    }

@@ -39,6 +39,9 @@ module _ (b c : Build) (same : whole b ≡ whole c) where
   pub root_same : b.root ≡ c.root
   root_same = ap (λ (s : Sum). name_in s.root) same
 
+  pub net_same : b.net ≡ c.net
+  net_same = ap (λ (s : Sum). file_in s.net) same
+
   pub pulses_same : b.pulses ≡ c.pulses
   pulses_same = ap (λ (s : Sum). file_in s.pulses) same
 

@@ -35,7 +35,7 @@ abbrev IsDoneOrShort : Status → Type 0
 IsDoneOrShort status = (status ≡ statuses.Done) ⊎ (status ≡ statuses.NoMemory)
 
 complete_as : RightIsNotRejected → (files : Files) (new : Option Files) (written printed : Option (List ℕ)) (c : Command) (ended : Result Report Stop) (status : Status)
-    → AreRight c files → IfErr ended (λ stop. IfStopped stop (IsRejected c (Some files) new)) → (ended ≡ Err stops.StoreFailed → ⊥)
+    → AreRight c files new → IfErr ended (λ stop. IfStopped stop (IsRejected c (Some files) new)) → (ended ≡ Err stops.StoreFailed → ⊥)
     → Finishes ended status written printed → (status ≡ statuses.SinkFailed → ⊥) → IsDoneOrShort status
 complete_as law files new written printed c (Ok report) status right rejected no_call says no_line = by says.only
   where
@@ -49,8 +49,8 @@ complete_as law files new written printed c (Err stops.StoreFailed) status right
 complete_as law files new written printed c (Err stops.NoMemory) status right rejected no_call says no_line = inr says.0
 
 pub complete : RightIsNotRejected → (words : List Word) (old new : Option Files) (written printed : Option (List ℕ)) (c d : Command) (ended : Result Report Stop) (status : Status)
-    (files : Files) → old ≡ Some files → Means words c → Means words d → AreRight d files → IfErr ended (λ stop. IfStopped stop (IsRejected c old new))
+    (files : Files) → old ≡ Some files → Means words c → Means words d → AreRight d files new → IfErr ended (λ stop. IfStopped stop (IsRejected c old new))
     → (ended ≡ Err stops.StoreFailed → ⊥) → Finishes ended status written printed → (status ≡ statuses.SinkFailed → ⊥) → IsDoneOrShort status
 complete law words old new written printed c d ended status files told m n right rejected no_call says no_line =
-    complete_as law files new written printed c ended status (subst (λ (e : Command). AreRight e files) (same_meaning words d c n m) right)
+    complete_as law files new written printed c ended status (subst (λ (e : Command). AreRight e files new) (same_meaning words d c n m) right)
     (subst (λ (o : Option Files). IfErr ended (λ stop. IfStopped stop (IsRejected c o new))) told rejected) no_call says no_line

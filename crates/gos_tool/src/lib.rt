@@ -60,7 +60,8 @@ pub fn run<S: Store, O: Sink>(alloc: Global, words: &[String], store: &mut S, ou
 
     // Where no call fails, a command whose files are right is done, unless memory runs out: the build file is one, each source is
     // the text of a module that is accepted, no fault of linking holds, and the pulse file is one that the netlist may run under.
-    ensures complete { (c : Meaning) → Means (texts words.now) c → (files : Files) → S.contents store.old ≡ Some files → AreRight c files
+    ensures complete { (c : Meaning) → Means (texts words.now) c → (files : Files) → S.contents store.old ≡ Some files
+        → AreRight c files (S.contents store.new)
         → (¬ (Rose (S.faults store.old) (S.faults store.new))) → (¬ (Rose (O.faults out.old) (O.faults out.new)))
         → (result ≡ Status.Done) ⊎ (result ≡ Status.NoMemory) }
 
