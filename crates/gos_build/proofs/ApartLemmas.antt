@@ -19,18 +19,18 @@ use Rattle.gos_build.specs.Objects.{objects_of}
 use Rattle.gos_build.specs.inner.Compiling.{EachApart, AreApart}
 
 -- the instances of lines
-abbrev instance_in : ℕ → Said → List Instance
+abbrev pub instance_in : ℕ → Said → List Instance
 instance_in line says.Version = []
 instance_in line (says.Inst name source object) = record { line = line; name = name; source = source; object = object } ∷ []
 instance_in line (says.Bind user import giver) = []
 instance_in line (says.Root name) = []
 instance_in line (says.File role name) = []
 
-abbrev instances_in : List Item → List Instance
+abbrev pub instances_in : List Item → List Instance
 instances_in [] = []
 instances_in (item ∷ items) = instance_in item.line item.said ++ instances_in items
 
-instances-append : (items more : List Item) → instances_in (items ++ more) ≡ instances_in items ++ instances_in more
+pub instances-append : (items more : List Item) → instances_in (items ++ more) ≡ instances_in items ++ instances_in more
 instances-append [] more = refl
 instances-append (item ∷ items) more =
     ap (λ (is : List Instance). instance_in item.line item.said ++ is) (instances-append items more)
@@ -57,7 +57,7 @@ is_false : (a : Bool) → not a ≡ true → a ≡ false
 is_false false e = refl
 is_false true e = sym e
 
-front_true : (a b : Bool) → (a && b) ≡ true → a ≡ true
+pub front_true : (a b : Bool) → (a && b) ≡ true → a ≡ true
 front_true true b e = refl
 front_true false b e = e
 
@@ -78,7 +78,7 @@ no_source file (item ∷ before) e =
     by line (says.Root name) one rest = rest
     by line (says.File role name) one rest = rest
 
-no_object : (file : Word) (before : List Item) → has_no_source before file ≡ false → IsApart file (objects_of (instances_in before))
+pub no_object : (file : Word) (before : List Item) → has_no_source before file ≡ false → IsApart file (objects_of (instances_in before))
 no_object file [] e = tt
 no_object file (item ∷ before) e =
     by item.line item.said (left_false (is_no_source file item.said) (has_no_source before file) e)
@@ -93,7 +93,7 @@ no_object file (item ∷ before) e =
     by line (says.File role name) one rest = rest
 
 -- one file more, and one instance more
-apart_more : (file object : Word) (names : List Word) → IsApart file names → file ≢ object → IsApart file (names ++ object ∷ [])
+pub apart_more : (file object : Word) (names : List Word) → IsApart file names → file ≢ object → IsApart file (names ++ object ∷ [])
 apart_more file object [] apart other = (other, tt)
 apart_more file object (name ∷ names) apart other = (apart.0, apart_more file object names apart.1 other)
 
@@ -145,7 +145,7 @@ apart_on own before (s ∷ statements) (item ∷ items) reads apart =
     (apart_on own (before ++ item ∷ []) statements items reads.2 (apart_item own before item apart reads.1.2))
 
 -- the instances of a sum are those of its lines
-sum_with : (line : ℕ) (said : Said) (sum : Sum) → (with_said line said sum).instances ≡ sum.instances ++ instance_in line said
+pub sum_with : (line : ℕ) (said : Said) (sum : Sum) → (with_said line said sum).instances ≡ sum.instances ++ instance_in line said
 sum_with line says.Version sum = sym (append-nil sum.instances)
 sum_with line (says.Inst name source object) sum = refl
 sum_with line (says.Bind user import giver) sum = sym (append-nil sum.instances)

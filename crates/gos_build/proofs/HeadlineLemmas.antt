@@ -79,7 +79,7 @@ module _ (is : List Instance) (ms : List SeenModule) (ps : List SeenPlan) (have 
       (names.both.finds_user, bound_name l s on.0.means, names.both.finds_giver, say_binds (before ++ s ∷ []) ls ss on.1)
 
 -- what was written last stands in the file, and what was written before in another
-found_last : (files : Files) (name bytes : Word) → bytes_at (insert files name bytes) name ≡ bytes
+pub found_last : (files : Files) (name bytes : Word) → bytes_at (insert files name bytes) name ≡ bytes
 found_last files name bytes =
     ap (λ (o : Option Word). unwrap_or o [])
     (get-insert nat_list_cmp_total files name bytes name ∙ ap (λ (b : Bool). cond b (Some bytes) (get files name)) ((eq_by_cmp_equiv nat_list_cmp_total).refl name))

@@ -4,4 +4,6 @@ mod PlansLemmas
 mod PacedLemmas
 mod RoleLemmas
 mod HeadlineLemmas
+mod PulseLemmas
+mod CompleteLemmas
 mod BuildLemmas

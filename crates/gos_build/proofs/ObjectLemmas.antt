@@ -30,11 +30,11 @@ instance_at [] k i less e = absurd (omega (arith, less))
 instance_at (j ∷ is) zero i less e = ap (λ (x : Instance). Some x) (sym e)
 instance_at (j ∷ is) (suc k) i less e = instance_at is k i (omega (arith, less)) e
 
-none_at : (k : ℕ) (i : Instance) → slice_get [] k ≡ Some i → ⊥
+pub none_at : (k : ℕ) (i : Instance) → slice_get [] k ≡ Some i → ⊥
 none_at zero i e = cc e
 none_at (suc k) i e = cc e
 
-first_at : (j : Instance) (is : List Instance) (i : Instance) → slice_get (j ∷ is) 0 ≡ Some i → j ≡ i
+pub first_at : (j : Instance) (is : List Instance) (i : Instance) → slice_get (j ∷ is) 0 ≡ Some i → j ≡ i
 first_at j is i e = cc e
 
 apart_at : (is : List Instance) (names : List Word) (k : ℕ) (i : Instance) → slice_get is k ≡ Some i → EachApart is names → IsApart i.source names

@@ -15,22 +15,22 @@ use Rattle.gos_link.specs.declared.said.Said.TheVariants as says
 use Rattle.gos_link.specs.declared.said.Item.{Item}
 
 -- the file of a role, of what lines say together
-abbrev file_of : Role → Sum → Option Word
+abbrev pub file_of : Role → Sum → Option Word
 file_of roles.Net sum = sum.net
 file_of roles.Verilog sum = sum.verilog
 file_of roles.Pulses sum = sum.pulses
 file_of roles.Trace sum = sum.trace
 
 -- each file is that of a line, and files of two roles differ
-record AreNew (before : List Item) (sum : Sum) : Type 0 where
-  named : (r : Role) (file : Word) → file_of r sum ≡ Some file → has_no_source before file ≡ true
-  differ : (r q : Role) (file other : Word) → (r ≡ q → ⊥) → file_of r sum ≡ Some file → file_of q sum ≡ Some other → file ≢ other
+pub record AreNew (before : List Item) (sum : Sum) : Type 0 where
+  pub named : (r : Role) (file : Word) → file_of r sum ≡ Some file → has_no_source before file ≡ true
+  pub differ : (r q : Role) (file other : Word) → (r ≡ q → ⊥) → file_of r sum ≡ Some file → file_of q sum ≡ Some other → file ≢ other
 
-is_false : (a : Bool) → not a ≡ true → a ≡ false
+pub is_false : (a : Bool) → not a ≡ true → a ≡ false
 is_false false e = refl
 is_false true e = sym e
 
-back_true : (a b : Bool) → (a && b) ≡ true → b ≡ true
+pub back_true : (a b : Bool) → (a && b) ≡ true → b ≡ true
 back_true true b e = e
 back_true false b e = absurd (true≢false (sym e))
 
@@ -46,7 +46,7 @@ more true b c on e = refl
 more false b c on e = on e
 
 -- what names no file of a role
-abbrev IsNoFile : Said → Type 0
+abbrev pub IsNoFile : Said → Type 0
 IsNoFile (says.File role name) = ⊥
 IsNoFile said = Unit {0}
 
@@ -61,12 +61,12 @@ last [] item file e = ap (λ (b : Bool). b || false) e
 last (x ∷ before) item file e = or_right (is_no_source file x.said) (has_no_source (before ++ item ∷ []) file) (last before item file e)
 
 -- the file of a role, where a line names one
-abbrev OfRole : Role → Role → Word → Sum → Type 0
+abbrev pub OfRole : Role → Role → Word → Sum → Type 0
 OfRole r role name sum =
     ((r ≡ role) × (file_of r (with_file role name sum) ≡ Some name))
     ⊎ ((r ≡ role → ⊥) × (file_of r (with_file role name sum) ≡ file_of r sum))
 
-of_role : (r role : Role) (name : Word) (sum : Sum) → OfRole r role name sum
+pub of_role : (r role : Role) (name : Word) (sum : Sum) → OfRole r role name sum
 of_role roles.Net roles.Net name sum = inl (refl, refl)
 of_role roles.Net roles.Verilog name sum = inr (λ e. cc e, refl)
 of_role roles.Net roles.Pulses name sum = inr (λ e. cc e, refl)
@@ -84,7 +84,7 @@ of_role roles.Trace roles.Verilog name sum = inr (λ e. cc e, refl)
 of_role roles.Trace roles.Pulses name sum = inr (λ e. cc e, refl)
 of_role roles.Trace roles.Trace name sum = inl (refl, refl)
 
-one_name : (a b : Word) (o : Option Word) → o ≡ Some a → o ≡ Some b → a ≡ b
+pub one_name : (a b : Word) (o : Option Word) → o ≡ Some a → o ≡ Some b → a ≡ b
 one_name a b o e d = let same : Some a ≡ Some b = sym e ∙ d in cc same
 
 module _ (before : List Item) (item : Item) (sum : Sum) (new : AreNew before sum) where
@@ -127,7 +127,24 @@ module _ (before : List Item) (item : Item) (sum : Sum) (new : AreNew before sum
     names_more : AreNew (before ++ item ∷ []) then
     names_more = record { named = names; differ = differs }
 
-one_more : (own : Word) (before : List Item) (item : Item) (sum : Sum) → AreNew before sum → IsTrue (is_new own before item.said)
+-- what names no file of a role leaves these as they were
+pub untouched : (sum : Sum) (line : ℕ) (said : Said) (r : Role) → IsNoFile said → file_of r (with_said line said sum) ≡ file_of r sum
+untouched sum line says.Version r none = refl
+untouched sum line (says.Inst name source object) roles.Net none = refl
+untouched sum line (says.Inst name source object) roles.Verilog none = refl
+untouched sum line (says.Inst name source object) roles.Pulses none = refl
+untouched sum line (says.Inst name source object) roles.Trace none = refl
+untouched sum line (says.Bind user import giver) roles.Net none = refl
+untouched sum line (says.Bind user import giver) roles.Verilog none = refl
+untouched sum line (says.Bind user import giver) roles.Pulses none = refl
+untouched sum line (says.Bind user import giver) roles.Trace none = refl
+untouched sum line (says.Root name) roles.Net none = refl
+untouched sum line (says.Root name) roles.Verilog none = refl
+untouched sum line (says.Root name) roles.Pulses none = refl
+untouched sum line (says.Root name) roles.Trace none = refl
+untouched sum line (says.File role name) r none = absurd none
+
+pub one_more : (own : Word) (before : List Item) (item : Item) (sum : Sum) → AreNew before sum → IsTrue (is_new own before item.said)
     → AreNew (before ++ item ∷ []) (with_said item.line item.said sum)
 one_more own before item sum new is = by item.said refl is
   where
@@ -135,27 +152,11 @@ one_more own before item sum new is = by item.said refl is
         → AreNew (before ++ item ∷ []) (with_said item.line item.said sum)
     keep said e keeps = same before item sum new (λ r. ap (λ (x : Said). file_of r (with_said item.line x sum)) e ∙ keeps r)
 
-    untouched : (line : ℕ) (said : Said) (r : Role) → IsNoFile said → file_of r (with_said line said sum) ≡ file_of r sum
-    untouched line says.Version r none = refl
-    untouched line (says.Inst name source object) roles.Net none = refl
-    untouched line (says.Inst name source object) roles.Verilog none = refl
-    untouched line (says.Inst name source object) roles.Pulses none = refl
-    untouched line (says.Inst name source object) roles.Trace none = refl
-    untouched line (says.Bind user import giver) roles.Net none = refl
-    untouched line (says.Bind user import giver) roles.Verilog none = refl
-    untouched line (says.Bind user import giver) roles.Pulses none = refl
-    untouched line (says.Bind user import giver) roles.Trace none = refl
-    untouched line (says.Root name) roles.Net none = refl
-    untouched line (says.Root name) roles.Verilog none = refl
-    untouched line (says.Root name) roles.Pulses none = refl
-    untouched line (says.Root name) roles.Trace none = refl
-    untouched line (says.File role name) r none = absurd none
-
     by : (said : Said) → item.said ≡ said → IsTrue (is_new own before said) → AreNew (before ++ item ∷ []) (with_said item.line item.said sum)
-    by says.Version e new_line = keep says.Version e (λ r. untouched item.line says.Version r tt)
-    by (says.Inst name source object) e new_line = keep (says.Inst name source object) e (λ r. untouched item.line (says.Inst name source object) r tt)
-    by (says.Bind user import giver) e new_line = keep (says.Bind user import giver) e (λ r. untouched item.line (says.Bind user import giver) r tt)
-    by (says.Root name) e new_line = keep (says.Root name) e (λ r. untouched item.line (says.Root name) r tt)
+    by says.Version e new_line = keep says.Version e (λ r. untouched sum item.line says.Version r tt)
+    by (says.Inst name source object) e new_line = keep (says.Inst name source object) e (λ r. untouched sum item.line (says.Inst name source object) r tt)
+    by (says.Bind user import giver) e new_line = keep (says.Bind user import giver) e (λ r. untouched sum item.line (says.Bind user import giver) r tt)
+    by (says.Root name) e new_line = keep (says.Root name) e (λ r. untouched sum item.line (says.Root name) r tt)
     by (says.File role name) e new_line =
         subst (λ (said : Said). AreNew (before ++ item ∷ []) (with_said item.line said sum)) (sym e)
         (names_more before item sum new role name e (is_false _ (back_true _ _ (back_true _ _ new_line))))
@@ -170,7 +171,7 @@ all_new own before (s ∷ statements) (item ∷ items) sum reads new =
     subst (λ (all : List Item). AreNew all (sum_of sum (item ∷ items))) (append_assoc before (item ∷ []) items)
     (all_new own (before ++ item ∷ []) statements items (with_said item.line item.said sum) reads.2 (one_more own before item sum new reads.1.2))
 
-nothing_new : AreNew [] nothing
+pub nothing_new : AreNew [] nothing
 nothing_new = record { named = λ r file e. none_yet r file e; differ = λ r q file other apart e d. absurd (no_file r file e) }
   where
     no_file : (r : Role) (file : Word) → file_of r nothing ≡ Some file → ⊥

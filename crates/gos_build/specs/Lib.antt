@@ -4,5 +4,6 @@ pub mod Programs
 pub mod SmallPrograms
 pub mod Headline
 pub mod Built
+pub mod Complete
 pub mod Paced
 pub mod inner

@@ -1,11 +1,15 @@
 // What the circuits of modules do. Each theorem is the contract of a function that does nothing.
 
+ghost use Rattle.gos_build.specs.Complete.{BuildIsNotRejected, EmptyIsNotRight};
 ghost use Rattle.gos_build.specs.Paced.{BuildHasImports, BuildHasWeight, BuildIsSmall, BuildIsTyped, BuildKeepsPace, HeadlineHolds, ModuleKeepsPace};
 ghost use Rattle.gos_build.specs.SmallPrograms.{FirstIsNot, SecondIsBound};
 
-use gos_circuits::paced_circuits;
+use gos_circuits::{paced_circuits, right_links};
 use gos_fits::slim_plans_fit;
+use gos_link::one_build;
 use gos_linked::linked_modules;
+use gos_objects::accepted_sources;
+use gos_simulate::right_pulses;
 
 /// The circuit of a module with ground imports keeps pace with the module's program, and that of a build's linked plan with the
 /// program of its linked modules. It has at most 128 (W + 1) cells, for their weight W.
@@ -32,3 +36,14 @@ pub fn small_programs()
 pub fn headlines()
     ensures { HeadlineHolds }
 {}
+
+/// Files that are right for `build` are not rejected. An empty build file is not right.
+pub fn right_builds()
+    ensures rejected { BuildIsNotRejected }
+    ensures empty { EmptyIsNotRight }
+{
+    one_build();
+    accepted_sources();
+    right_links();
+    right_pulses();
+}

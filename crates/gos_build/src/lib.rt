@@ -7,7 +7,7 @@
 #![tactic(auto)]
 
 pub use building::build;
-pub use laws::{headlines, paced_modules, small_programs};
+pub use laws::{headlines, paced_modules, right_builds, small_programs};
 
 mod building;
 mod compiling;

@@ -4,3 +4,5 @@ mod ObjectLemmas
 mod WholeLemmas
 pub mod LinkLemmas
 mod PacedLemmas
+pub mod SameBuildLemmas
+pub mod CompleteLemmas

@@ -5,4 +5,5 @@ pub mod SmallPaced
 pub mod Objects
 pub mod Plans
 pub mod Linked
+pub mod Complete
 pub mod inner

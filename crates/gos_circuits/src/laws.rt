@@ -1,8 +1,10 @@
 // What the circuits of plans that realise programs do. Each theorem is the contract of a function that does nothing.
 
+ghost use Rattle.gos_circuits.specs.Complete.{LinkIsNotRejected, EmptyIsNoBuild};
 ghost use Rattle.gos_circuits.specs.Paced.{LinkedCircuitsKeepPace, ModuleCircuitsKeepPace, OpenCircuitsKeepPace};
 ghost use Rattle.gos_circuits.specs.SmallPaced.{CallHasPorts, FunctionHasNone};
 
+use gos_link::one_build;
 use gos_linked::linked_modules;
 use gos_ports::ports;
 
@@ -23,3 +25,12 @@ pub fn small_circuits()
     ensures call { CallHasPorts }
     ensures function { FunctionHasNone }
 {}
+
+/// Files that are right for `link` are not rejected. An empty build file is not right.
+pub fn right_links()
+    ensures rejected { LinkIsNotRejected }
+    ensures empty { EmptyIsNoBuild }
+{
+    one_build();
+    gos_plan::one_answer();
+}

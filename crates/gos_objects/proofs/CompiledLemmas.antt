@@ -5,8 +5,12 @@ use Rattle.std.specs.Prelude.{IfSome, IfOk}
 use Rattle.gos_outside.specs.Files.{Files, bytes_at, with_file}
 use Rattle.gos_lines.specs.Lines.{Word}
 use Rattle.gos_types.specs.Types.{Type', type_of}
+use Rattle.gos_syntax.specs.Modules.{SeenModule}
 use Rattle.gos_model.specs.Moves.{Program}
 use Rattle.gos_model.specs.Sources.{import_of, program_of}
+use Rattle.gos_model.specs.Weight.{weight}
+use Rattle.gos_check.specs.Accepted.{weighed}
+use Rattle.gos_check.specs.Linearity.{StandsFor}
 use Rattle.gos_check.specs.Checked.{SeenLinear, IsChecked, program_in}
 use Rattle.gos_check.specs.Nodes.{node_seen}
 use Rattle.gos_plan.specs.Plans.{Plan}
@@ -62,6 +66,21 @@ plan_is source linear typed plan is =
       slim = is.slim;
       read = is.read_back (few source linear typed);
       realises = subst (λ (p : Program). RealisesModule plan p.body) typed.program is.realises;
+      widths = is.widths;
+    }
+
+-- a plan of a module is one of each module with the same program and result
+pub plan_too : (m other : SeenModule) (plan : Plan) → program_of m ≡ program_of other → type_of m.result ≡ type_of other.result → IsPlanOfModule m plan
+    → IsPlanOfModule other plan
+plan_too m other plan program result is =
+    record {
+      term = is.term;
+      stands = subst (λ (p : Program). StandsFor p is.term) program is.stands;
+      made = subst (λ (t : Type'). IsPlanOf (program_of other).imports t (weighed other) is.term plan) result
+          (subst (λ (p : Program). IsPlanOf p.imports (type_of m.result) (weight p.imports p.body) is.term plan) program is.made);
+      slim = is.slim;
+      read = is.read;
+      realises = subst (λ (p : Program). RealisesModule plan p.body) program is.realises;
       widths = is.widths;
     }
 

@@ -1,3 +1,4 @@
 mod ImportLemmas
 mod CheckedLemmas
 pub mod CompiledLemmas
+mod CompleteLemmas

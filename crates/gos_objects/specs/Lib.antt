@@ -1,4 +1,5 @@
 -- In reading order: a file uses only files above it.
 pub mod Checked
+pub mod Complete
 pub mod Typed
 pub mod Compiled

@@ -8,6 +8,8 @@
 
 pub use checking::{check_source, module_in};
 pub use compiling::{compile_source, write_plan};
+pub use laws::accepted_sources;
 
 mod checking;
 mod compiling;
+mod laws;

@@ -1,2 +1,3 @@
 pub mod SimulationLemmas
 pub mod SimLemmas
+mod CompleteLemmas

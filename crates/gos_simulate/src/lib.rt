@@ -4,8 +4,10 @@
 // What they leave, when they reject a file and which calls they make is said in specs/Simulation and specs/Sim.
 #![tactic(auto)]
 
+pub use laws::{right_pulses, right_runs};
 pub use sim_command::sim;
 pub use simulation::simulate;
 
+mod laws;
 mod sim_command;
 mod simulation;

@@ -57,7 +57,7 @@ is_read_back words (Build own) means = ap read_back means.0
 is_read_back words (Demo levels) means = ap read_back means.0 ∙ ap (λ (n : ℕ). Some (Demo n)) (levels_back levels means.1.1)
 
 -- words are one command at most
-same_meaning : (words : List Word) (c d : Command) → Means words c → Means words d → c ≡ d
+pub same_meaning : (words : List Word) (c d : Command) → Means words c → Means words d → c ≡ d
 same_meaning words c d m n = let same : Some c ≡ Some d = sym (is_read_back words c m) ∙ is_read_back words d n in cc
 
 -- what holds of the files where a build is done

@@ -1,4 +1,5 @@
 -- In reading order: a file uses only files above it.
 pub mod Command
 pub mod Run
+pub mod Complete
 pub mod inner

@@ -5,16 +5,19 @@
 // gos_objects, `link` gos_circuits, `sim` gos_simulate, `build` gos_build, `demo` gos_demo.
 #![tactic(auto)]
 
-ghost use Rattle.std.specs.Prelude.{◌≡◌, ◌≢◌, IfSome};
+ghost use Rattle.std.specs.Prelude.{◌≡◌, ◌≢◌, ◌⊎◌, Some, IfSome};
+ghost use Rattle.gos_outside.specs.Files.{Files};
 ghost use Rattle.gos_outside.specs.Faults.{Rose};
 ghost use Rattle.gos_outside.specs.Written.{appended, AppendsPrefix};
 ghost use Rattle.gos_command.specs.Ends.{IfRejected, IsSaid};
 ghost use Rattle.gos_lines.specs.Lines.{Word};
 ghost use Rattle.gos_build.specs.Headline.{Headline};
 ghost use Rattle.gos_tool.specs.Command.{Command as Meaning, Build, texts, Means, MeanNothing, usage_line};
+ghost use Rattle.gos_tool.specs.Complete.{AreRight};
 ghost use Rattle.gos_tool.specs.Run.{IsCall, KeepsOthers, EndsDone, EndsRejected, IsUnsaid, IsUntold};
 
 mod command;
+mod laws;
 
 use command::{command_of, run_command};
 use gos_build::headlines;
@@ -22,6 +25,7 @@ pub use gos_command::{Cause, Fault, Status};
 use gos_command::{finish, say};
 pub use gos_link::FileName;
 use gos_outside::{Sink, Store};
+use laws::right_commands;
 use std::alloc::Global;
 
 /// Does what the words of a command say, with the files of a store, and prints one line to a sink.
@@ -54,6 +58,13 @@ pub fn run<S: Store, O: Sink>(alloc: Global, words: &[String], store: &mut S, ou
     ensures rejected { IfRejected result (EndsRejected (texts words.now) (S.contents store.old) (S.contents store.new)
         (O.written out.old) (O.written out.new)) }
 
+    // Where no call fails, a command whose files are right is done, unless memory runs out: the build file is one, each source is
+    // the text of a module that is accepted, no fault of linking holds, and the pulse file is one that the netlist may run under.
+    ensures complete { (c : Meaning) → Means (texts words.now) c → (files : Files) → S.contents store.old ≡ Some files
+        → AreRight c files (S.contents store.new)
+        → (¬ (Rose (S.faults store.old) (S.faults store.new))) → (¬ (Rose (O.faults out.old) (O.faults out.new)))
+        → (result ≡ Status.Done) ⊎ (result ≡ Status.NoMemory) }
+
     // The store is blamed where a call of it failed, and only there: the last call, which the command makes then. What the
     // command writes before that call was written.
     ensures store_failed { result ≡ Status.StoreFailed → Rose (S.faults store.old) (S.faults store.new) }
@@ -81,6 +92,7 @@ pub fn run<S: Store, O: Sink>(alloc: Global, words: &[String], store: &mut S, ou
     match command_of(words) {
         Some(command) => {
             headlines();
+            right_commands();
             let ended = run_command(alloc, command, store);
             finish(alloc, ended, out)
         }

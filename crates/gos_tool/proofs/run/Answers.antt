@@ -1,4 +1,5 @@
 use Rattle.gos_tool.specs.inner.CommandSeen.{meant}
+use Rattle.gos_tool.proofs.CompleteLemmas.{complete}
 use Rattle.gos_tool.proofs.EndLemmas.{ends_done, headline, if_rejected, kept, unsaid, untold}
 use Rattle.gos_tool.proofs.run.Goals as goal
 
@@ -33,3 +34,9 @@ pub returns-in-Some-clause-others : goal.returns-in-Some-clause-others
 returns-in-Some-clause-others g c = λ d means.
     kept _ (g.S.Store.contents c.args.store.now) (g.S.Store.contents c.run_command-ended.new.store) (meant c.in-Some.command) d c.in-Some.ensures means
     c.run_command-ended.ensures.others
+
+pub returns-in-Some-clause-complete : goal.returns-in-Some-clause-complete
+returns-in-Some-clause-complete g c = λ d means files told right no_call no_line.
+    complete c.right_commands.ensures _ (g.S.Store.contents c.args.store.now) (g.S.Store.contents c.run_command-ended.new.store) (g.O.Sink.written c.args.out.now) (g.O.Sink.written c.finish.new.out)
+    (meant c.in-Some.command) d c.run_command-ended.result c.finish.result files told c.in-Some.ensures means right c.run_command-ended.ensures.rejected
+    (λ failed. no_call (c.run_command-ended.ensures.failed_only failed)) c.finish.ensures.finishes (λ failed. no_line (c.finish.ensures.failed failed))

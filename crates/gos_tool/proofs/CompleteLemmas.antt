@@ -1,0 +1,56 @@
+-- A command whose files are right is done, or memory runs out, where no call fails.
+use Rattle.std.proofs.Common.{◌≡◌, ◌⊎◌, inl, inr, refl, List, ℕ, Option, Some, Result, Ok, Err, subst}
+use Rattle.std.specs.Prelude.{IfErr}
+use Rattle.gos_outside.specs.Files.{Files}
+use Rattle.gos_lines.specs.Lines.{Word}
+use Rattle.gos_command.specs.Ends.{IfStopped}
+use Rattle.gos_command.specs.Finish.{Finishes}
+use Rattle.gos_command.specs.declared.report.Report.{Report}
+use Rattle.gos_command.specs.declared.status.Status.{Status}
+use Rattle.gos_command.specs.declared.status.Status.TheVariants as statuses
+use Rattle.gos_command.specs.declared.stop.Stop.{Stop}
+use Rattle.gos_command.specs.declared.stop.Stop.TheVariants as stops
+use Rattle.gos_objects.specs.Complete.{AcceptedIsNotRejected}
+use Rattle.gos_circuits.specs.Complete.{LinkIsNotRejected}
+use Rattle.gos_simulate.specs.Complete.{SimIsNotRejected}
+use Rattle.gos_build.specs.Complete.{BuildIsNotRejected}
+use Rattle.gos_demo.specs.DemoFiles.{build_file}
+use Rattle.gos_demo.specs.Demo.{with_demo}
+use Rattle.gos_tool.specs.Command.{Command, Check, Compile, Link, Sim, Build, Demo, Means}
+use Rattle.gos_tool.specs.Run.{IsRejected}
+use Rattle.gos_tool.specs.Complete.{AreRight, RightIsNotRejected}
+use Rattle.gos_tool.proofs.EndLemmas.{same_meaning}
+
+pub right_is_not_rejected : AcceptedIsNotRejected → LinkIsNotRejected → SimIsNotRejected → BuildIsNotRejected → RightIsNotRejected
+right_is_not_rejected source link sim build (Check name) files new fault line right wrong = source files name right.0 fault line right.1 wrong.2
+right_is_not_rejected source link sim build (Compile name object) files new fault line right wrong = source files name right.0 fault line right.1 wrong.2
+right_is_not_rejected source link sim build (Link own) files new fault line right wrong = link files own fault line right wrong.1
+right_is_not_rejected source link sim build (Sim net pulses trace) files new fault line right wrong = sim files net pulses fault line right wrong.2
+right_is_not_rejected source link sim build (Build own) files new fault line right wrong = build files new own fault line right wrong
+right_is_not_rejected source link sim build (Demo levels) files new fault line right wrong =
+    build (with_demo levels files) new (build_file levels).name fault line right (inr (wrong.build, wrong.says, wrong.rejects))
+
+-- one status of two
+abbrev IsDoneOrShort : Status → Type 0
+IsDoneOrShort status = (status ≡ statuses.Done) ⊎ (status ≡ statuses.NoMemory)
+
+complete_as : RightIsNotRejected → (files : Files) (new : Option Files) (written printed : Option (List ℕ)) (c : Command) (ended : Result Report Stop) (status : Status)
+    → AreRight c files new → IfErr ended (λ stop. IfStopped stop (IsRejected c (Some files) new)) → (ended ≡ Err stops.StoreFailed → ⊥)
+    → Finishes ended status written printed → (status ≡ statuses.SinkFailed → ⊥) → IsDoneOrShort status
+complete_as law files new written printed c (Ok report) status right rejected no_call says no_line = by says.only
+  where
+    by : (status ≡ statuses.Done) ⊎ ((status ≡ statuses.SinkFailed) ⊎ (status ≡ statuses.NoMemory)) → IsDoneOrShort status
+    by (inl done) = inl done
+    by (inr (inl failed)) = absurd (no_line failed)
+    by (inr (inr short)) = inr short
+complete_as law files new written printed c (Err (stops.Rejected rejection)) status right rejected no_call says no_line =
+    absurd (law c files new rejection.fault rejection.line.items right rejected)
+complete_as law files new written printed c (Err stops.StoreFailed) status right rejected no_call says no_line = absurd (no_call refl)
+complete_as law files new written printed c (Err stops.NoMemory) status right rejected no_call says no_line = inr says.0
+
+pub complete : RightIsNotRejected → (words : List Word) (old new : Option Files) (written printed : Option (List ℕ)) (c d : Command) (ended : Result Report Stop) (status : Status)
+    (files : Files) → old ≡ Some files → Means words c → Means words d → AreRight d files new → IfErr ended (λ stop. IfStopped stop (IsRejected c old new))
+    → (ended ≡ Err stops.StoreFailed → ⊥) → Finishes ended status written printed → (status ≡ statuses.SinkFailed → ⊥) → IsDoneOrShort status
+complete law words old new written printed c d ended status files told m n right rejected no_call says no_line =
+    complete_as law files new written printed c ended status (subst (λ (e : Command). AreRight e files new) (same_meaning words d c n m) right)
+    (subst (λ (o : Option Files). IfErr ended (λ stop. IfStopped stop (IsRejected c o new))) told rejected) no_call says no_line
