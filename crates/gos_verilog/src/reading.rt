@@ -19,6 +19,7 @@ use crate::driven::drivers;
 use crate::fault::VFault;
 use crate::head::{head, word};
 use crate::inputs::Inputs;
+use crate::judged::judge;
 use crate::outputs::outputs;
 use crate::port_net::{PortNet, port_nets};
 use crate::ports_of::ports_of;
@@ -96,6 +97,7 @@ fn front(alloc: Global, text: &[u8]) -> Result<(Vec<PortNet>, usize), VFault>
     ensures begun { IfOk result (λ _. HasStart (record { text = text.now; at = 0 })) }
     ensures starts { IfErr result (λ fault. (HasStart (record { text = text.now; at = 0 }) → ⊥) → BreaksAt IsStart (record { text = text.now; at = 0 }) fault) }
 {
+    judge(alloc, text)?;
     let mut cursor = Cursor::new(text);
     let names = head(alloc, text, &mut cursor)?;
     word(&mut cursor, b"  input clk;\n  input rst;\n")?;

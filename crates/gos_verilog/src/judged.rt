@@ -1,0 +1,85 @@
+// The head of a module, judged: whether it names the nets of ports, and where it breaks off.
+ghost use Rattle.std.specs.Prelude.{◌≡◌, ◌≤◌, ◌++◌, ◌∷◌, [], List, IfOk, IfErr, drop, length};
+ghost use Rattle.std.specs.List.{flat_map};
+ghost use Rattle.gos_verilog.specs.Place.{HasHead, IsFormedText};
+ghost use Rattle.gos_verilog.specs.inner.Stages.{IsWant};
+ghost use Rattle.gos_verilog.specs.inner.Breaks.{FaultFrom, PassedIn};
+ghost use Rattle.gos_verilog.specs.inner.Faces.{Face', AreNewFaces, HasPorts, LeftFirst, NoFace, port_text};
+
+use crate::declared::further;
+use crate::faces::{Face, first_port, free_port};
+use crate::fault::VFault;
+use crate::head::{name_at, start};
+use crate::inputs::Places;
+use crate::slots::pass;
+use gos_lex::Cursor;
+use std::alloc::Global;
+
+/// Whether the text begins with a head, which names the nets of ports, and the declarations of the clock and the reset.
+/// `Err` is the place where it breaks off, or want of memory.
+pub fn judge(alloc: Global, text: &[u8]) -> Result<(), VFault>
+    ensures head { IfOk result (λ _. HasHead text.now) }
+    ensures wrong { IfErr result (FaultFrom IsFormedText (record { text = text.now; at = 0 })) }
+{
+    let mut cursor = Cursor::new(text);
+    start(&mut cursor)?;
+    // The module's name stands behind `module gos_`.
+    let name = name_at(text, 11);
+    ports(alloc, text, cursor.at(), name)
+}
+
+// Judges the names of the nets of ports from `at` on, of which the first has this name, and the two declarations.
+fn ports(alloc: Global, text: &[u8], at: usize, name: &[u8]) -> Result<(), VFault>
+    requires { at ≤ length text.now }
+    ensures ports { IfOk result (λ _. HasPorts name.now (drop at text.now)) }
+    ensures wrong { IfErr result (FaultFrom (LeftFirst name.now) (record { text = text.now; at = at })) }
+{
+    let (first, len) = match first_port(alloc, &text[at..], name) {
+        Ok(both) => both,
+        Err(VFault::Form { at: place }) => return Err(VFault::Form { at: at + place }),
+        Err(VFault::NoMemory) => return Err(VFault::NoMemory),
+    };
+    let (_, end, stopped) = further_ports(alloc, text, at + len, first)?;
+    let mut cursor = Cursor::new(&text[end..]);
+    match pass(&mut cursor, b");\n  input clk;\n  input rst;\n") {
+        Ok(()) => Ok(()),
+        Err(place) => Err(VFault::Form {
+            at: further(stopped, end + place),
+        }),
+    }
+}
+
+// Passes the names of the nets of ports behind the first, from `at` on. It gives the ports, the place behind them, and the
+// place where no further one goes on.
+fn further_ports<'a>(
+    alloc: Global,
+    text: &'a [u8],
+    at: usize,
+    first: Face<'a>,
+) -> Result<(Vec<Face<'a>>, usize, usize), VFault>
+    requires { at ≤ length text.now }
+    ensures within { IfOk result (λ found. found.1 ≤ length text.now) }
+    ensures passed { IfOk result (λ found. (more : List Face') × (found.0.items ≡ first ∷ more) × AreNewFaces (first ∷ []) more
+        × PassedIn text.now at found.1 (flat_map port_text more)) }
+    ensures few { IfOk result (λ found. length found.0.items ≤ 4294967295) }
+    ensures ends { IfOk result (λ found. NoFace found.0.items text.now found.1 found.2) }
+    ensures only { IfErr result IsWant }
+{
+    let mut places = Places::new(alloc);
+    places.add(first.name.to_vec(alloc)?, 0)?;
+    let mut faces = Vec::new(alloc);
+    faces.push(first)?;
+    let mut at = at;
+    for _ in 1..u32::MAX {
+        match free_port(alloc, &text[at..], &faces, &places) {
+            Ok((face, len)) => {
+                places.add(face.name.to_vec(alloc)?, 0)?;
+                faces.push(face)?;
+                at += len;
+            }
+            Err(VFault::Form { at: place }) => return Ok((faces, at, at + place)),
+            Err(VFault::NoMemory) => return Err(VFault::NoMemory),
+        }
+    }
+    Ok((faces, at, at))
+}
