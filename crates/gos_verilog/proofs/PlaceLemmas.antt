@@ -88,7 +88,7 @@ unfolding simple simple_port
 simple_first name = refl
 
 -- the start, and what stands behind it
-start_is : (name rest : List ℕ) → codes "module gos_" ++ (name ++ (codes "(clk, rst" ++ rest)) ≡ start_text name ++ rest
+pub start_is : (name rest : List ℕ) → codes "module gos_" ++ (name ++ (codes "(clk, rst" ++ rest)) ≡ start_text name ++ rest
 start_is name rest =
     ap (λ more. codes "module gos_" ++ more) (sym (append_assoc name (40 ∷ []) (codes "clk, rst" ++ rest)) ∙ sym (append_assoc (ended 40 name) (codes "clk, rst") rest))
 
@@ -115,10 +115,10 @@ starts_so : (text : List ℕ) → IsFormedText text → (name rest : List ℕ) �
 starts_so text (net, formed, (drivers, are, is)) = (first_name net.ports, behind_start net drivers, first_named net.ports formed.some formed.writable.ports, is ∙ net_start net drivers)
 
 -- where the start breaks off, the text does
-pub start_place : (text : List ℕ) (at : ℕ) → Misses IsStart text 0 at → IsPlace text at
-start_place text at misses =
-    (misses_as Parts IsFormedText text 0 at joined cut
-    (then_first (List ℕ) IsNameOrWord start_text (λ name rest. IsFormedText (start_text name ++ rest)) text 0 at some_text misses)).stops
+pub start_misses : (text : List ℕ) (at : ℕ) → Misses IsStart text 0 at → Misses IsFormedText text 0 at
+start_misses text at misses =
+    misses_as Parts IsFormedText text 0 at joined cut
+    (then_first (List ℕ) IsNameOrWord start_text (λ name rest. IsFormedText (start_text name ++ rest)) text 0 at some_text misses)
   where
     Parts : List ℕ → Type 0
     Parts = Then (List ℕ) IsNameOrWord start_text (λ name rest. IsFormedText (start_text name ++ rest))
@@ -128,6 +128,9 @@ start_place text at misses =
 
     cut : (bytes : List ℕ) → IsFormedText bytes → Parts bytes
     cut bytes formed = let known = starts_so bytes formed in (known.0, known.1, known.2, subst IsFormedText known.3 formed, known.3)
+
+pub start_place : (text : List ℕ) (at : ℕ) → Misses IsStart text 0 at → IsPlace text at
+start_place text at misses = (start_misses text at misses).stops
 
 -- so a fault there is at its place
 pub fault_place : (text : List ℕ) (fault : VFault) → BreaksAt IsStart (record { text = text; at = 0 }) fault → HasPlace text fault

@@ -1,18 +1,19 @@
 // Ports by the names of their nets in the head of a module. Places count from the start of what is read.
-ghost use Rattle.std.specs.Prelude.{◌≡◌, ◌≤◌, ◌↔◌, ◌++◌, ◌∷◌, [], ℕ, List, IfOk, IfErr, IsTrue, MatchOption, drop, length};
-ghost use Rattle.gos_lex.specs.Items.{Begins, IsJust, StopsAt};
+ghost use Rattle.std.specs.Prelude.{◌≡◌, ◌≤◌, ◌<◌, ◌↔◌, ◌++◌, ◌∷◌, [], ℕ, List, false, IfOk, IfErr, IsTrue, MatchOption, drop, length};
+ghost use Rattle.gos_lex.specs.Items.{Begins, IsJust, Misses, StopsAt};
 ghost use Rattle.gos_netlist.specs.NetItems.{ended};
+ghost use Rattle.gos_verilog.specs.declared.port_net.Role.TheVariants.{Run, Ask, Read};
 ghost use Rattle.gos_verilog.specs.PortNets.{suffix as suffix_of};
 ghost use Rattle.gos_verilog.specs.inner.Stages.{BreaksAt};
 ghost use Rattle.gos_verilog.specs.inner.Breaks.{PassedIn};
 ghost use Rattle.gos_verilog.specs.inner.Left as lefts;
 ghost use Rattle.gos_verilog.specs.inner.Faces as texts;
-ghost use Rattle.gos_verilog.specs.inner.Faces.{Face', AreKnown, IsFaceOf, IsFirstName, IsFirstNet, IsFree, IsFreeFace, IsFreePort, IsPortOf, roles_from};
-ghost use Rattle.gos_verilog.specs.inner.Faces.{behind_text, first_text};
+ghost use Rattle.gos_verilog.specs.inner.Faces.{Face', AreKnown, IsFaceOf, IsFirstName, IsFirstNet, IsNoEnd, IsFree, IsFreeFace, IsFreePort, IsPortOf, Grows, roles_from};
+ghost use Rattle.gos_verilog.specs.inner.Faces.{behind_text, first_text, IsNoName, IsNameBefore};
 
 use crate::declared::further;
 use crate::fault::VFault;
-use crate::head::{is_at, name_length, word};
+use crate::head::{is_at, name_length};
 use crate::inputs::Places;
 use crate::port_net::{Role, roles};
 use crate::ports_of::ends_with;
@@ -55,9 +56,8 @@ pub fn first_port<'a>(
     let mut furthest = 0;
     for kind in &kinds {
         let text = port_text(alloc, name, *kind)?;
-        let mut cursor = Cursor::new(rest);
-        match pass(&mut cursor, &text) {
-            Ok(()) => return Ok((Face { first: *kind, name }, cursor.at())),
+        match pass_at(rest, 0, &text) {
+            Ok(end) => return Ok((Face { first: *kind, name }, end)),
             Err(at) => furthest = further(furthest, at),
         }
     }
@@ -71,26 +71,40 @@ pub fn free_port<'a>(
     faces: &[Face],
     places: &Places,
 ) -> Result<(Face<'a>, usize), VFault>
-    requires { AreKnown faces.now places.now }
+    requires known { AreKnown faces.now places.now }
+    requires few { length faces.now < 4294967296 }
     ensures face { IfOk result (λ both. IsFreeFace places.now both.0) }
     ensures within { IfOk result (λ both. both.1 ≤ length rest.now) }
     ensures passed { IfOk result (λ both. PassedIn rest.now 0 both.1 (texts.port_text both.0)) }
     ensures wrong { IfErr result (BreaksAt (IsFreePort places.now) (record { text = rest.now; at = 0 })) }
 {
-    let mut cursor = Cursor::new(rest);
-    word(&mut cursor, b", ")?;
-    let at = cursor.at();
-    let (face, len) = match first_net(alloc, &rest[at..], faces, places) {
+    let mid = match pass_at(rest, 0, b", ") {
+        Ok(end) => end,
+        Err(at) => return Err(VFault::Form { at }),
+    };
+    let (face, len) = match first_net(alloc, &rest[mid..], faces, places) {
         Ok(both) => both,
-        Err(VFault::Form { at: place }) => return Err(VFault::Form { at: at + place }),
+        Err(VFault::Form { at: place }) => return Err(VFault::Form { at: mid + place }),
         Err(VFault::NoMemory) => return Err(VFault::NoMemory),
     };
-    let mid = at + len;
     let behind = behind_first(alloc, &face)?;
-    let mut cursor = Cursor::new(&rest[mid..]);
-    match pass(&mut cursor, &behind) {
-        Ok(()) => Ok((face, mid + cursor.at())),
-        Err(place) => Err(VFault::Form { at: mid + place }),
+    match pass_at(rest, mid + len, &behind) {
+        Ok(end) => Ok((face, end)),
+        Err(at) => Err(VFault::Form { at }),
+    }
+}
+
+/// Passes exactly these bytes from `at` on, and gives the place behind them.
+pub fn pass_at(text: &[u8], at: usize, bytes: &[u8]) -> Result<usize, usize>
+    requires { at ≤ length text.now }
+    ensures within { IfOk result (λ end. end ≤ length text.now) }
+    ensures passed { IfOk result (λ end. PassedIn text.now at end bytes.now) }
+    ensures wrong { IfErr result (Misses (IsJust bytes.now) text.now at) }
+{
+    let mut cursor = Cursor::new(&text[at..]);
+    match pass(&mut cursor, bytes) {
+        Ok(()) => Ok(at + cursor.at()),
+        Err(place) => Err(at + place),
     }
 }
 
@@ -101,21 +115,32 @@ fn first_net<'a>(
     faces: &[Face],
     places: &Places,
 ) -> Result<(Face<'a>, usize), VFault>
-    requires { AreKnown faces.now places.now }
+    requires known { AreKnown faces.now places.now }
+    requires few { length faces.now < 4294967296 }
     ensures face { IfOk result (λ both. IsFreeFace places.now both.0) }
     ensures within { IfOk result (λ both. both.1 ≤ length rest.now) }
     ensures passed { IfOk result (λ both. PassedIn rest.now 0 both.1 (ended 44 (first_text both.0))) }
     ensures wrong { IfErr result (BreaksAt (IsFirstNet places.now) (record { text = rest.now; at = 0 })) }
 {
     let len = name_length(rest);
-    if is_at(rest, len, b',') {
-        if let Some(face) = face_of(&rest[..len], places) {
-            return Ok((face, len + 1));
-        }
+    match whole_name(rest, len, places) {
+        Some(face) => Ok((face, len + 1)),
+        None => Err(VFault::Form {
+            at: reach(alloc, rest, faces, places)?,
+        }),
     }
-    Err(VFault::Form {
-        at: reach(alloc, rest, faces, places)?,
-    })
+}
+
+// The port whose first net has the first `len` bytes as its name, if its own name is free and a comma stands behind them.
+fn whole_name<'a>(rest: &'a [u8], len: usize, places: &Places) -> Option<Face<'a>>
+    requires { len ≤ length rest.now }
+    ensures { MatchOption result (IsNoName places.now rest.now len) (IsNameBefore places.now rest.now len) }
+{
+    if is_at(rest, len, b',') {
+        face_of(&rest[..len], places)
+    } else {
+        None
+    }
 }
 
 // The port whose first net has this name, if its own name is free.
@@ -166,11 +191,11 @@ fn reach(
     faces: &[Face],
     places: &Places,
 ) -> Result<usize, NoMemory>
-    requires { AreKnown faces.now places.now }
+    requires known { AreKnown faces.now places.now }
+    requires few { length faces.now < 4294967296 }
     ensures { IfOk result (StopsAt (IsFirstName places.now) rest.now 0) }
 {
-    // A port's name has 255 bytes at most, and a first net's role 6.
-    let mut n = rest.len().min(262);
+    let mut n = most(rest);
     while n > 0 {
         if may_begin(alloc, &rest[..n], faces, places)? {
             return Ok(n);
@@ -178,6 +203,14 @@ fn reach(
         n -= 1;
     }
     Ok(0)
+}
+
+// The count of these bytes, or 262: a port's name has 255 bytes at most, and a first net's suffix 6.
+fn most(rest: &[u8]) -> usize
+    ensures within { result ≤ length rest.now }
+    ensures all { result < length rest.now → result ≡ 262 }
+{
+    if rest.len() < 262 { rest.len() } else { 262 }
 }
 
 // Whether the name of the first net of a port whose name is free may begin with these bytes.
@@ -190,13 +223,24 @@ fn may_begin(
     requires { AreKnown faces.now places.now }
     ensures { IfOk result (λ is. IsTrue is ↔ Begins (IsFirstName places.now) bytes.now) }
 {
-    if ends_as(bytes, Role::Run, places)
-        || ends_as(bytes, Role::Ask, places)
-        || ends_as(bytes, Role::Read, places)
-    {
+    if ends_in_role(bytes, places) {
         return Ok(true);
     }
     may_grow(alloc, bytes, faces, places)
+}
+
+// Whether the bytes are a free name and a front of the suffix of a first net.
+fn ends_in_role(bytes: &[u8], places: &Places) -> bool
+    ensures is { IsTrue result → Begins (IsFirstName places.now) bytes.now }
+    ensures none { result ≡ false → IsNoEnd places.now bytes.now Run × IsNoEnd places.now bytes.now Ask × IsNoEnd places.now bytes.now Read }
+{
+    if ends_as(bytes, Role::Run, places) {
+        true
+    } else if ends_as(bytes, Role::Ask, places) {
+        true
+    } else {
+        ends_as(bytes, Role::Read, places)
+    }
 }
 
 // Whether the bytes are a free name and a front of the role's suffix.
@@ -223,20 +267,40 @@ fn may_grow(
     requires { AreKnown faces.now places.now }
     ensures { IfOk result (λ is. IsTrue is ↔ Begins (IsFree places.now) bytes.now) }
 {
-    if is_free(bytes, places) || grows(alloc, bytes, places)? {
+    if is_free(bytes, places) {
+        return Ok(true);
+    }
+    if grows(alloc, bytes, places)? {
         return Ok(true);
     }
     for face in faces {
-        if face.name.starts_with(bytes) && grows(alloc, face.name, places)? {
+        if grows_behind(alloc, bytes, face.name, places)? {
             return Ok(true);
         }
     }
     Ok(false)
 }
 
+// Whether the name begins with the bytes, and is a free one with one more byte.
+fn grows_behind(
+    alloc: Global,
+    bytes: &[u8],
+    name: &[u8],
+    places: &Places,
+) -> Result<bool, NoMemory>
+    ensures is { IfOk result (λ is. IsTrue is → (more : List ℕ) × (name.now ≡ bytes.now ++ more) × Grows places.now name.now) }
+    ensures none { IfOk result (λ is. is ≡ false → (more : List ℕ) → name.now ≡ bytes.now ++ more → Grows places.now name.now → ⊥) }
+{
+    if name.starts_with(bytes) {
+        grows(alloc, name, places)
+    } else {
+        Ok(false)
+    }
+}
+
 // Whether these bytes and one more are a free name.
 fn grows(alloc: Global, bytes: &[u8], places: &Places) -> Result<bool, NoMemory>
-    ensures { IfOk result (λ is. IsTrue is ↔ (b : ℕ) × IsFree places.now (bytes.now ++ b ∷ [])) }
+    ensures { IfOk result (λ is. IsTrue is ↔ Grows places.now bytes.now) }
 {
     for b in 0..128 {
         let longer = one_more(alloc, bytes, b)?;

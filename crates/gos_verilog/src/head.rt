@@ -20,8 +20,6 @@ pub fn head<'a>(alloc: Global, text: &'a [u8], cursor: &mut Cursor) -> Result<Ve
     ensures stands { (first : List ℕ) (nets : List PortNet) (x : List ℕ) → IsNameOrWord first → HaveNames nets
         → Rest cursor.old (codes "module gos_" ++ (first ++ (codes "(clk, rst" ++ (listed nets ++ (codes ");\n" ++ x)))))
         → MatchResult result (λ names. AreNamesOf nets names.items × Rest cursor.new x) IsWant }
-    ensures begun { IfOk result (λ _. HasStart cursor.old) }
-    ensures starts { IfErr result (λ fault. (HasStart cursor.old → ⊥) → BreaksAt IsStart cursor.old fault) }
 {
     start(cursor)?;
     let names = names(alloc, text, cursor)?;

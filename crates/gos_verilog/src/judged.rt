@@ -7,11 +7,10 @@ ghost use Rattle.gos_verilog.specs.inner.Breaks.{FaultFrom, PassedIn};
 ghost use Rattle.gos_verilog.specs.inner.Faces.{Face', AreNewFaces, HasPorts, LeftFirst, NoFace, port_text};
 
 use crate::declared::further;
-use crate::faces::{Face, first_port, free_port};
+use crate::faces::{Face, first_port, free_port, pass_at};
 use crate::fault::VFault;
 use crate::head::{name_at, start};
 use crate::inputs::Places;
-use crate::slots::pass;
 use gos_lex::Cursor;
 use std::alloc::Global;
 
@@ -40,11 +39,10 @@ fn ports(alloc: Global, text: &[u8], at: usize, name: &[u8]) -> Result<(), VFaul
         Err(VFault::NoMemory) => return Err(VFault::NoMemory),
     };
     let (_, end, stopped) = further_ports(alloc, text, at + len, first)?;
-    let mut cursor = Cursor::new(&text[end..]);
-    match pass(&mut cursor, b");\n  input clk;\n  input rst;\n") {
-        Ok(()) => Ok(()),
+    match pass_at(text, end, b");\n  input clk;\n  input rst;\n") {
+        Ok(_) => Ok(()),
         Err(place) => Err(VFault::Form {
-            at: further(stopped, end + place),
+            at: further(stopped, place),
         }),
     }
 }

@@ -1,7 +1,7 @@
 -- Ports as the head of a module names them, and what may be left of it behind some of them.
 --
 -- Read first: Left, Noted. A port's face is the role of its first net and its name: the other roles follow from the first.
-use Rattle.std.specs.Prelude.{◌≡◌, ◌≢◌, ◌⊎◌, ℕ, ◌<◌, ◌↔◌, true, List, [], ◌∷◌, ◌++◌, None, drop, length, map, codes}
+use Rattle.std.specs.Prelude.{◌≡◌, ◌≢◌, ◌⊎◌, ℕ, ◌<◌, ◌↔◌, true, List, [], ◌∷◌, ◌++◌, None, Some, take, drop, length, map, slice_get, codes}
 use Rattle.std.specs.List.{AllByRecursion, flat_map}
 use Rattle.gos_lex.specs.Items.{Misses}
 use Rattle.gos_lex.specs.Names.{IsNameOrWord}
@@ -56,6 +56,21 @@ IsFirstNet places = IsTextOf Face' (IsFreeFace places) (λ v. ended 44 (first_te
 
 abbrev pub IsFreePort : Places → List ℕ → Type 0
 IsFreePort places = IsTextOf Face' (IsFreeFace places) port_text
+
+-- the first bytes are the name of the first net of such a port, and a comma stands behind them
+abbrev pub IsNameBefore : Places → List ℕ → ℕ → Face' → Type 0
+IsNameBefore places text len v = IsFreeFace places v × (take len text ≡ first_text v) × (slice_get text len ≡ Some 44)
+
+abbrev pub IsNoName : Places → List ℕ → ℕ → Type 0
+IsNoName places text len = (v : Face') → IsNameBefore places text len v → ⊥
+
+-- one more byte makes a free name
+abbrev pub Grows : Places → List ℕ → Type 0
+Grows places bytes = (b : ℕ) × IsFree places (bytes ++ b ∷ [])
+
+-- the bytes are no free name and a front of the role's suffix
+abbrev pub IsNoEnd : Places → List ℕ → Role → Type 0
+IsNoEnd places bytes role = (front end more : List ℕ) → IsFree places front → bytes ≡ front ++ end → suffix role ≡ end ++ more → ⊥
 
 -- the names that are not free are those of these ports
 abbrev pub IsOther : List ℕ → List Face' → Type 0
