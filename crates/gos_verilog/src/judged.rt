@@ -1,10 +1,11 @@
 // The head of a module, judged: whether it names the nets of ports, and where it breaks off.
-ghost use Rattle.std.specs.Prelude.{◌≡◌, ◌≤◌, ◌++◌, ◌∷◌, [], List, IfOk, IfErr, drop, length};
+ghost use Rattle.std.specs.Prelude.{◌≡◌, ◌≤◌, ◌++◌, ◌∷◌, [], List, IfOk, IfErr, OnOk, drop, length};
 ghost use Rattle.std.specs.List.{flat_map};
+ghost use Rattle.gos_lex.specs.Names.{IsNameOrWord};
 ghost use Rattle.gos_verilog.specs.Place.{HasHead, IsFormedText};
 ghost use Rattle.gos_verilog.specs.inner.Stages.{IsWant};
 ghost use Rattle.gos_verilog.specs.inner.Breaks.{FaultFrom, PassedIn};
-ghost use Rattle.gos_verilog.specs.inner.Faces.{Face', AreNewFaces, HasPorts, LeftFirst, NoFace, port_text};
+ghost use Rattle.gos_verilog.specs.inner.Faces.{Face', AreKnown, AreNewFaces, HasPorts, LeftFirst, NoFace, port_text};
 
 use crate::declared::further;
 use crate::faces::{Face, first_port, free_port, pass_at};
@@ -12,6 +13,7 @@ use crate::fault::VFault;
 use crate::head::{name_at, start};
 use crate::inputs::Places;
 use gos_lex::Cursor;
+use gos_types::NoMemory;
 use std::alloc::Global;
 
 /// Whether the text begins with a head, which names the nets of ports, and the declarations of the clock and the reset.
@@ -31,7 +33,7 @@ pub fn judge(alloc: Global, text: &[u8]) -> Result<(), VFault>
 fn ports(alloc: Global, text: &[u8], at: usize, name: &[u8]) -> Result<(), VFault>
     requires { at ≤ length text.now }
     ensures ports { IfOk result (λ _. HasPorts name.now (drop at text.now)) }
-    ensures wrong { IfErr result (FaultFrom (LeftFirst name.now) (record { text = text.now; at = at })) }
+    ensures wrong { IsNameOrWord name.now → IfErr result (FaultFrom (LeftFirst name.now) (record { text = text.now; at = at })) }
 {
     let (first, len) = match first_port(alloc, &text[at..], name) {
         Ok(both) => both,
@@ -64,15 +66,13 @@ fn further_ports<'a>(
     ensures only { IfErr result IsWant }
 {
     let mut places = Places::new(alloc);
-    places.add(first.name.to_vec(alloc)?, 0)?;
     let mut faces = Vec::new(alloc);
-    faces.push(first)?;
+    add(alloc, &mut faces, &mut places, first)?;
     let mut at = at;
-    for _ in 1..u32::MAX {
+    for _ in 0..u32::MAX - 1 {
         match free_port(alloc, &text[at..], &faces, &places) {
             Ok((face, len)) => {
-                places.add(face.name.to_vec(alloc)?, 0)?;
-                faces.push(face)?;
+                add(alloc, &mut faces, &mut places, face)?;
                 at += len;
             }
             Err(VFault::Form { at: place }) => return Ok((faces, at, at + place)),
@@ -80,4 +80,19 @@ fn further_ports<'a>(
         }
     }
     Ok((faces, at, at))
+}
+
+// Adds a port, and its name to those that are known.
+fn add<'a>(
+    alloc: Global,
+    faces: &mut Vec<Face<'a>>,
+    places: &mut Places,
+    face: Face<'a>,
+) -> Result<(), NoMemory>
+    ensures faces { OnOk result (faces.new.items ≡ faces.old.items ++ face ∷ []) }
+    ensures known { AreKnown faces.old.items places.old → OnOk result (AreKnown faces.new.items places.new) }
+{
+    places.add(face.name.to_vec(alloc)?, 0)?;
+    faces.push(face)?;
+    Ok(())
 }
