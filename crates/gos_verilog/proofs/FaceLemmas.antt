@@ -253,6 +253,17 @@ prefix_is (b ∷ bytes) end x are ends =
     let e : 1 + length bytes ≡ suc (length bytes) = omega arith in
     ap (λ (t : Bool). cond t (1 + prefix_len continues_name (bytes ++ end ∷ x)) 0) parts.0 ∙ (ap (λ (n : ℕ). 1 + n) (prefix_is bytes end x parts.1 ends) ∙ e)
 
+prefix_within : (text : List ℕ) → prefix_len continues_name text ≤ length text
+prefix_within [] = omega arith
+prefix_within (c ∷ text) = by (continues_name c) (prefix_within text)
+  where
+    by : (t : Bool) → prefix_len continues_name text ≤ length text → cond t (1 + prefix_len continues_name text) 0 ≤ suc (length text)
+    by true inside = omega (arith, inside)
+    by false inside = omega arith
+
+pub within_prefix : (text : List ℕ) (len : ℕ) → len ≡ prefix_len continues_name text → len ≤ length text
+within_prefix text len is = omega (arith, is, prefix_within text)
+
 -- where no name stands before a comma, it breaks off where its bytes do
 pub no_first_name : (places : Places) (rest : List ℕ) (len place : ℕ) → len ≡ prefix_len continues_name rest → IsNoName places rest len → StopsAt (IsFirstName places) rest 0 place → Misses (IsFirstNet places) rest 0 place
 no_first_name places rest len place is none stops =

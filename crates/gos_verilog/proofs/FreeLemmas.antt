@@ -22,7 +22,7 @@ use Rattle.gos_verilog.specs.inner.Faces.{Face', first_text, IsFree, IsFreeFace,
 use Rattle.gos_verilog.proofs.StartLemmas.{front_spelled}
 
 pub contrary : {t : Bool} → t ≡ true → t ≡ false → ⊥
-contrary yes no = let both : true ≡ false = sym yes ∙ no in cc both
+contrary is not = let both : true ≡ false = sym is ∙ not in cc both
 
 -- what stands before an end
 pub front_cut : (bytes end front : List ℕ) (cut : ℕ) → cut ≡ length bytes - length end → bytes ≡ front ++ end → take cut bytes ≡ front
@@ -230,21 +230,28 @@ skip_small (suc i) (suc j) (suc n) small = omega (arith, skip_small i j n (omega
 pigeon : (used : List Face') (n : ℕ) (f : ℕ → List ℕ) → length used < n → ((i j : ℕ) → i < n → j < n → f i ≡ f j → i ≡ j) → (i : ℕ) × (i < n) × IsOther (f i) used
 pigeon [] n f room apart = (0, omega (arith, room), tt)
 pigeon (u ∷ used) zero f room apart = absurd (omega (arith, room))
-pigeon (u ∷ used) (suc n) f room apart = by first (bytes_eq u.1 (f first.0)) refl
+pigeon (u ∷ used) (suc n) f room apart =
+    by (pigeon used (suc n) f (omega (arith, room)) apart) (λ g. pigeon used n g (omega (arith, room)))
   where
-    first : (i : ℕ) × (i < suc n) × IsOther (f i) used
-    first = pigeon used (suc n) f (omega (arith, room)) apart
+    Found : List Face' → ℕ → (ℕ → List ℕ) → Type 0
+    Found faces m g = (i : ℕ) × (i < m) × IsOther (g i) faces
 
-    by : (one : (i : ℕ) × (i < suc n) × IsOther (f i) used) (t : Bool) → bytes_eq u.1 (f one.0) ≡ t → (i : ℕ) × (i < suc n) × IsOther (f i) (u ∷ used)
-    by (i, inside, other) false is = (i, inside, ((λ same. let both : true ≡ false = sym ((bytes_eq-Decides u.1 (f i)).1 same) ∙ is in cc both), other))
-    by (i, inside, other) true is =
-        let rest = pigeon used n (λ j. f (skip i j)) (omega (arith, room))
-        (λ j k small_j small_k same. skip_code i j k (apart (skip i j) (skip i k) (skip_small i j n small_j) (skip_small i k n small_k) same)) in
-        let here : u.1 ≡ f i = (bytes_eq-Decides u.1 (f i)).0 is in (
-          skip i rest.0,
-          skip_small i rest.0 n rest.1,
-          ((λ same. skip_other i rest.0 (apart (skip i rest.0) i (skip_small i rest.0 n rest.1) inside (sym same ∙ here))), rest.2),
-        )
+    Apart : ℕ → (ℕ → List ℕ) → Type 0
+    Apart m g = (i j : ℕ) → i < m → j < m → g i ≡ g j → i ≡ j
+
+    by : Found used (suc n) f → ((g : ℕ → List ℕ) → Apart n g → Found used n g) → Found (u ∷ used) (suc n) f
+    by (i, inside, other) others = at (bytes_eq u.1 (f i)) refl
+      where
+        at : (t : Bool) → bytes_eq u.1 (f i) ≡ t → Found (u ∷ used) (suc n) f
+        at false is = (i, inside, ((λ same. contrary ((bytes_eq-Decides u.1 (f i)).1 same) is), other))
+        at true is =
+            let rest = others (λ j. f (skip i j))
+            (λ j k small_j small_k same. skip_code i j k (apart (skip i j) (skip i k) (skip_small i j n small_j) (skip_small i k n small_k) same)) in
+            let here : u.1 ≡ f i = (bytes_eq-Decides u.1 (f i)).0 is in (
+              skip i rest.0,
+              skip_small i rest.0 n rest.1,
+              ((λ same. skip_other i rest.0 (apart (skip i rest.0) i (skip_small i rest.0 n rest.1) inside (sym same ∙ here))), rest.2),
+            )
 
 -- so some name is free
 pub nothing_begins : (places : Places) (faces : List Face') → AreKnown faces places → length faces < 4294967296 → Begins (IsFirstName places) []

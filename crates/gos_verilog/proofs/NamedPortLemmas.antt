@@ -267,11 +267,11 @@ start_back name x named (net, formed, (drivers, lines, is)) =
     let inner = append_cancel_left (codes "module gos_") (name ++ (codes "(clk, rst" ++ x)) (first_name qs ++ (codes "(clk, rst" ++ (listed (port_nets qs) ++ last))) whole in
     let one = name_code name (first_name qs) 40 40 (codes "clk, rst" ++ x) (codes "clk, rst" ++ (listed (port_nets qs) ++ last)) (name_bytes name named) (first_bytes qs are.writable) refl refl inner in
     let rest : x ≡ listed (port_nets qs) ++ last = append_cancel_left (codes "(clk, rst") x (listed (port_nets qs) ++ last) one.1 in
-    by qs are one.0 (rest ∙ ap (λ (b : List ℕ). b ++ last) (listed_faces qs are.writable)) (subst (λ (list : List (Role × List ℕ)). LeftNets [] Give 0 list y) (named_same qs are.writable) left)
+    by y qs are one.0 (rest ∙ ap (λ (b : List ℕ). b ++ last) (listed_faces qs are.writable)) (subst (λ (list : List (Role × List ℕ)). LeftNets [] Give 0 list y) (named_same qs are.writable) left)
   where
-    by : {y : List ℕ} (qs : List NetPort) → ArePorts qs → name ≡ first_name qs → x ≡ flat_map port_text (faces_of qs) ++ (codes ");\n" ++ (clock_declarations ++ y)) → LeftNets [] Give 0 (named_faces (faces_of qs)) y → LeftFirst name x
-    by [] are same is left = absurd (omega (arith, are.some))
-    by {y} (p ∷ ps) are same is left = (
+    by : (y : List ℕ) (qs : List NetPort) → ArePorts qs → name ≡ first_name qs → x ≡ flat_map port_text (faces_of qs) ++ (codes ");\n" ++ (clock_declarations ++ y)) → LeftNets [] Give 0 (named_faces (faces_of qs)) y → LeftFirst name x
+    by y [] are same is left = absurd (omega (arith, are.some))
+    by y (p ∷ ps) are same is left = (
       face_of p,
       flat_map port_text (faces_of ps) ++ (head_end ++ y),
       (kind_first p.ty are.writable.0.ty, sym same),

@@ -1,11 +1,10 @@
 // The head of a module, judged: whether it names the nets of ports, and where it breaks off.
 ghost use Rattle.std.specs.Prelude.{◌≡◌, ◌≤◌, ◌++◌, ◌∷◌, [], List, IfOk, IfErr, OnOk, drop, length};
-ghost use Rattle.std.specs.List.{flat_map};
 ghost use Rattle.gos_lex.specs.Names.{IsNameOrWord};
 ghost use Rattle.gos_verilog.specs.Place.{HasHead, IsFormedText};
 ghost use Rattle.gos_verilog.specs.inner.Stages.{IsWant};
-ghost use Rattle.gos_verilog.specs.inner.Breaks.{FaultFrom, PassedIn};
-ghost use Rattle.gos_verilog.specs.inner.Faces.{Face', AreKnown, AreNewFaces, HasPorts, LeftFirst, NoFace, port_text};
+ghost use Rattle.gos_verilog.specs.inner.Breaks.{FaultFrom};
+ghost use Rattle.gos_verilog.specs.inner.Faces.{AreKnown, HasMore, HasPorts, LeftFirst};
 
 use crate::declared::further;
 use crate::faces::{Face, first_port, free_port, pass_at};
@@ -40,7 +39,7 @@ fn ports(alloc: Global, text: &[u8], at: usize, name: &[u8]) -> Result<(), VFaul
         Err(VFault::Form { at: place }) => return Err(VFault::Form { at: at + place }),
         Err(VFault::NoMemory) => return Err(VFault::NoMemory),
     };
-    let (_, end, stopped) = further_ports(alloc, text, at + len, first)?;
+    let (end, stopped) = further_ports(alloc, text, at + len, first)?;
     match pass_at(text, end, b");\n  input clk;\n  input rst;\n") {
         Ok(_) => Ok(()),
         Err(place) => Err(VFault::Form {
@@ -49,20 +48,16 @@ fn ports(alloc: Global, text: &[u8], at: usize, name: &[u8]) -> Result<(), VFaul
     }
 }
 
-// Passes the names of the nets of ports behind the first, from `at` on. It gives the ports, the place behind them, and the
-// place where no further one goes on.
+// Passes the names of the nets of ports behind the first, from `at` on. It gives the place behind them, and the place where
+// no further one goes on.
 fn further_ports<'a>(
     alloc: Global,
     text: &'a [u8],
     at: usize,
     first: Face<'a>,
-) -> Result<(Vec<Face<'a>>, usize, usize), VFault>
+) -> Result<(usize, usize), VFault>
     requires { at ≤ length text.now }
-    ensures within { IfOk result (λ found. found.1 ≤ length text.now) }
-    ensures passed { IfOk result (λ found. (more : List Face') × (found.0.items ≡ first ∷ more) × AreNewFaces (first ∷ []) more
-        × PassedIn text.now at found.1 (flat_map port_text more)) }
-    ensures few { IfOk result (λ found. length found.0.items ≤ 4294967295) }
-    ensures ends { IfOk result (λ found. NoFace found.0.items text.now found.1 found.2) }
+    ensures more { IfOk result (λ found. HasMore first.entry text.now at found.0 found.1) }
     ensures only { IfErr result IsWant }
 {
     let mut places = Places::new(alloc);
@@ -75,11 +70,11 @@ fn further_ports<'a>(
                 add(alloc, &mut faces, &mut places, face)?;
                 at += len;
             }
-            Err(VFault::Form { at: place }) => return Ok((faces, at, at + place)),
+            Err(VFault::Form { at: place }) => return Ok((at, at + place)),
             Err(VFault::NoMemory) => return Err(VFault::NoMemory),
         }
     }
-    Ok((faces, at, at))
+    Ok((at, at))
 }
 
 // Adds a port, and its name to those that are known.
@@ -89,7 +84,7 @@ fn add<'a>(
     places: &mut Places,
     face: Face<'a>,
 ) -> Result<(), NoMemory>
-    ensures faces { OnOk result (faces.new.items ≡ faces.old.items ++ face ∷ []) }
+    ensures faces { OnOk result (faces.new.items ≡ faces.old.items ++ face.entry ∷ []) }
     ensures known { AreKnown faces.old.items places.old → OnOk result (AreKnown faces.new.items places.new) }
 {
     places.add(face.name.to_vec(alloc)?, 0)?;

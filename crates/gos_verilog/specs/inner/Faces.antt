@@ -1,7 +1,7 @@
 -- Ports as the head of a module names them, and what may be left of it behind some of them.
 --
 -- Read first: Left, Noted. A port's face is the role of its first net and its name: the other roles follow from the first.
-use Rattle.std.specs.Prelude.{◌≡◌, ◌≢◌, ◌⊎◌, ℕ, ◌<◌, ◌↔◌, true, List, [], ◌∷◌, ◌++◌, None, Some, take, drop, length, map, slice_get, codes}
+use Rattle.std.specs.Prelude.{◌≡◌, ◌≢◌, ◌⊎◌, ℕ, ◌<◌, ◌≤◌, ◌↔◌, true, List, [], ◌∷◌, ◌++◌, None, Some, take, drop, length, map, slice_get, codes}
 use Rattle.std.specs.List.{AllByRecursion, flat_map}
 use Rattle.gos_lex.specs.Items.{Misses}
 use Rattle.gos_lex.specs.Names.{IsNameOrWord}
@@ -13,7 +13,7 @@ use Rattle.gos_verilog.specs.declared.port_net.Role.{Role}
 use Rattle.gos_verilog.specs.declared.port_net.Role.TheVariants.{Run, Done, Ask, Ans, AnsValue, Read, Write, WriteValue}
 use Rattle.gos_verilog.specs.PortNets.{suffix}
 use Rattle.gos_verilog.specs.inner.Noted.{place_at}
-use Rattle.gos_verilog.specs.inner.Breaks.{Left, Item}
+use Rattle.gos_verilog.specs.inner.Breaks.{Left, Item, PassedIn}
 use Rattle.gos_verilog.specs.inner.Left.{is_first, LeftNets}
 
 abbrev pub Face' : Type 0
@@ -125,6 +125,15 @@ LeftFirst name = Item Face' (IsFaceOf name) port_text (λ v. LeftFaces (v ∷ []
 -- there are as many ports as there may be, or none is named here
 abbrev pub NoFace : List Face' → List ℕ → ℕ → ℕ → Type 0
 NoFace before text at place = ((length before ≡ 4294967295) × (place ≡ at)) ⊎ ((length before < 4294967295) × Misses (IsNewPort before) text at place)
+
+-- the names of ports behind the first that stand between these places, and where no further one goes on
+pub record HasMore (first : Face') (text : List ℕ) (at end stopped : ℕ) : Type 0 where
+  pub more : List Face'
+  pub new : AreNewFaces (first ∷ []) more
+  pub few : IsNumber (length (first ∷ more))
+  pub within : end ≤ length text
+  pub passed : PassedIn text at end (flat_map port_text more)
+  pub none : NoFace (first ∷ more) text end stopped
 
 -- the names of ports behind a place, the first of which has this name, and what stands behind them
 pub record HasPorts (name bytes : List ℕ) : Type 0 where

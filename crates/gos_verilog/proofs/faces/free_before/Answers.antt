@@ -1,6 +1,6 @@
 use Rattle.std.proofs.Common.{sym, subst}
 use Rattle.gos_verilog.specs.inner.Faces.{IsFree}
-use Rattle.gos_verilog.proofs.FreeLemmas.{contrary, front_cut}
+use Rattle.gos_verilog.proofs.FreeLemmas.{front_cut}
 use Rattle.gos_verilog.proofs.faces.free_before.Goals as goal
 
 pub returns-then-ends_with-clause-is : goal.returns-then-ends_with-clause-is
@@ -15,4 +15,4 @@ returns-then-ends_with-clause-only c = λ front free is.
     c.is_free.ensures.1 (subst (IsFree c.args.places.now) (sym cut) free)
 
 pub returns-else-ends_with-clause-only : goal.returns-else-ends_with-clause-only
-returns-else-ends_with-clause-only c = λ front free is. contrary (c.ends_with.ensures.is front is) c.if-ends_with.false
+returns-else-ends_with-clause-only c = λ front free is. c.ends_with.ensures.is front is

@@ -6,7 +6,7 @@ use Rattle.gos_lex.proofs.PlaceLemmas.{rest_whole}
 use Rattle.gos_verilog.specs.declared.fault.VFault.{VFault}
 use Rattle.gos_verilog.specs.declared.inputs.Places.{Places}
 use Rattle.gos_verilog.specs.inner.Stages.{BreaksAt}
-use Rattle.gos_verilog.specs.inner.Faces.{Face', IsFreeFace, IsFirstNet, first_text, behind_text}
+use Rattle.gos_verilog.specs.inner.Faces.{Face', IsFreeFace, IsFreePort, IsFirstNet, first_text, behind_text}
 use Rattle.gos_verilog.proofs.WordLemmas.{shift_passed, shift_misses}
 use Rattle.gos_verilog.proofs.FreeLemmas.{nothing_begins}
 use Rattle.gos_verilog.proofs.FaceLemmas.{no_comma, no_first_net, no_behind, port_passed}
@@ -26,8 +26,9 @@ returns-in-Err-Form-clause-wrong c =
     let places = c.args.places.now in
     let rest : List ℕ = take (length text - mid) (drop mid text) in
     let wrong = subst (λ (f : VFault). BreaksAt (IsFirstNet places) (record { text = rest; at = 0 }) f) c.in-Err-Form.field-0-is c.in-Err-Form.ensures.wrong in
-    no_first_net places text 0 mid (mid + c.in-Err-Form.place) c.in-Ok.ensures.passed
-    (shift_misses (IsFirstNet places) text rest mid c.in-Err-Form.place (rest_whole text mid) (rest_size text mid c.in-Ok.ensures.within) wrong)
+    subst (λ (n : ℕ). Misses (IsFreePort places) text 0 (mid + n)) (sym c.in-Err-Form.place-is)
+    (no_first_net places text 0 mid (mid + c.in-Err-Form.place) c.in-Ok.ensures.passed
+    (shift_misses (IsFirstNet places) text rest mid c.in-Err-Form.place (rest_whole text mid) (rest_size text mid c.in-Ok.ensures.within) wrong))
 
 -- the two parts of a port's names, and the rest
 record First (text : List ℕ) (mid len : ℕ) (places : Places) (v : Face') : Type 0 where
@@ -40,12 +41,12 @@ first_of : (text : List ℕ) (mid len : ℕ) (places : Places) (v : Face') → m
 first_of text mid len places v within free comma net =
     record { free = free; comma = comma; net = shift_passed text (take (length text - mid) (drop mid text)) mid len (ended 44 (first_text v)) (rest_whole text mid) (rest_size text mid within) net }
 
-pub returns-in-Err-pass_at-clause-wrong : goal.returns-in-Err-pass_at-clause-wrong
-returns-in-Err-pass_at-clause-wrong c =
+pub returns-clause-wrong : goal.returns-clause-wrong
+returns-clause-wrong c =
     let text = c.args.rest.now in
     let mid = c.in-Ok.end in
-    let v = c.in-Ok-first_net.face in
-    let len = c.in-Ok-first_net.len in
+    let v = c.in-Ok-first_net.both.0 in
+    let len = c.in-Ok-first_net.both.1 in
     let places = c.args.places.now in
     let known = first_of text mid len places v c.in-Ok.ensures.within c.in-Ok-first_net.ensures.face c.in-Ok.ensures.passed c.in-Ok-first_net.ensures.passed in
     let behind : c.deref.result.now ≡ behind_text v = c.deref.ensures.value ∙ c.in_ok-behind.ensures in
@@ -55,8 +56,8 @@ pub returns-in-Ok-pass_at-clause-passed : goal.returns-in-Ok-pass_at-clause-pass
 returns-in-Ok-pass_at-clause-passed c =
     let text = c.args.rest.now in
     let mid = c.in-Ok.end in
-    let v = c.in-Ok-first_net.face in
-    let len = c.in-Ok-first_net.len in
+    let v = c.in-Ok-first_net.both.0 in
+    let len = c.in-Ok-first_net.both.1 in
     let places = c.args.places.now in
     let known = first_of text mid len places v c.in-Ok.ensures.within c.in-Ok-first_net.ensures.face c.in-Ok.ensures.passed c.in-Ok-first_net.ensures.passed in
     let behind : c.deref.result.now ≡ behind_text v = c.deref.ensures.value ∙ c.in_ok-behind.ensures in

@@ -15,7 +15,7 @@ pub returns-then-branch-2 : goal.returns-then-branch-2
 returns-then-branch-2 c = (
   (λ _.
       let found = c.in_ok-grows_behind.ensures.is c.if-branch-2.true in
-      other_begins c.args.places.now c.args.bytes.now c.face.inside.1 found.0 found.1 found.2),
+      other_begins c.args.places.now c.args.bytes.now c.face.inside.name.now found.0 found.1 found.2),
   (λ _. refl),
 )
 
@@ -25,7 +25,7 @@ loop-face-preserved c =
     let k = c.loop-face.face-index in
     let v = c.face-item.result in
     let at = slice_get_read faces (length faces) k v refl c.loop-face-test.true c.face-item.is in
-    let same : c.face.inside ≡ v = c.face.view_is in
+    let same : (c.face.inside.first, c.face.inside.name.now) ≡ v = c.face.view_is in
     kept_more (IsShorter c.args.places.now c.args.bytes.now) faces k v at c.loop-face.invariant
     (subst (λ (u : Face'). IsShorter c.args.places.now c.args.bytes.now k u) same (c.in_ok-grows_behind.ensures.none c.if-branch-2.false))
 

@@ -1,4 +1,4 @@
-use Rattle.std.proofs.Common.{◌≡◌, ◌+◌, ◌-◌, ℕ, List, length, take, drop, length-drop, ap, ◌∙◌, subst, sym, arith}
+use Rattle.std.proofs.Common.{◌≡◌, ◌≤◌, ◌+◌, ◌-◌, ℕ, List, length, take, drop, length-drop, ap, ◌∙◌, subst, sym, arith}
 use Rattle.gos_lex.specs.Items.{TextAt, IsJust, Misses}
 use Rattle.gos_netlist.specs.NetItems.{Passed}
 use Rattle.gos_lex.proofs.PlaceLemmas.{rest_whole}

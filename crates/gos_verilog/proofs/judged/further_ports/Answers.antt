@@ -7,7 +7,7 @@ use Rattle.gos_netlist.proofs.PassedLemmas.{passed_as, passed_both}
 use Rattle.gos_verilog.specs.declared.inputs.Places.{Places}
 use Rattle.gos_verilog.specs.declared.fault.VFault.{VFault}
 use Rattle.gos_verilog.specs.inner.Stages.{BreaksAt}
-use Rattle.gos_verilog.specs.inner.Faces.{Face', AreKnown, AreNewFaces, IsFreeFace, IsFreePort, IsNewFace, IsNewPort, NoFace, port_text}
+use Rattle.gos_verilog.specs.inner.Faces.{Face', AreKnown, AreNewFaces, IsFreeFace, IsFreePort, IsNewFace, IsNewPort, HasMore, NoFace, port_text}
 use Rattle.gos_verilog.proofs.WordLemmas.{shift_passed, shift_misses}
 use Rattle.gos_verilog.proofs.FaceLemmas.{known_none, new_face, new_more, new_port_misses, ports_snoc}
 use Rattle.gos_verilog.proofs.judged.further_ports.Goals as goal
@@ -57,10 +57,32 @@ loop-preserved c =
       more = one_more c.args.first v faces c.add-in-Ok.new.faces.items c.loop.places text c.args.at at c.in-Ok.len c.loop.invariant.within longer c.loop.invariant.known c.in-Ok.ensures.face c.in-Ok.ensures.passed c.loop.invariant.more;
     }
 
-pub returns-in-Err-Form-clause-ends : goal.returns-in-Err-Form-clause-ends
-returns-in-Err-Form-clause-ends c =
+has_more : (first : Face') (faces : List Face') (text : List ℕ) (from at stopped : ℕ) → at ≤ length text → length faces ≤ 4294967295 → SoFar first faces text from at → NoFace faces text at stopped → HasMore first text from at stopped
+has_more first faces text from at stopped within few (more, same, new, far) none =
+    record {
+      more = more;
+      new = new;
+      few = subst (λ (list : List Face'). length list ≤ 4294967295) same few;
+      within = within;
+      passed = far;
+      none = subst (λ (list : List Face'). NoFace list text at stopped) same none;
+    }
+
+pub returns-in-Err-Form-clause-more : goal.returns-in-Err-Form-clause-more
+returns-in-Err-Form-clause-more c =
     let text = c.args.text.now in
     let at = c.loop.at in
+    let faces = c.loop.faces.items in
     let rest : List ℕ = take (length text - at) (drop at text) in
     let wrong = subst (λ (f : VFault). BreaksAt (IsFreePort c.loop.places) (record { text = rest; at = 0 }) f) c.in-Err-Form.field-0-is c.in-Err-Form.ensures.wrong in
-    none_here c.loop.faces.items c.loop.places text at c.in-Err-Form.place c.loop.invariant.within c.loop.invariant.known (omega (arith, c.loop.invariant.count, c.loop-test.true)) wrong
+    let room : length faces < 4294967295 = omega (arith, c.loop.invariant.count, c.loop-test.true) in
+    subst (λ (n : ℕ). HasMore c.args.first text c.args.at at (at + n)) (sym c.in-Err-Form.place-is)
+    (has_more c.args.first faces text c.args.at at (at + c.in-Err-Form.place) c.loop.invariant.within (omega (arith, room)) c.loop.invariant.more
+    (none_here faces c.loop.places text at c.in-Err-Form.place c.loop.invariant.within c.loop.invariant.known room wrong))
+
+pub returns-clause-more : goal.returns-clause-more
+returns-clause-more c =
+    let text = c.args.text.now in
+    let at = c.loop.at in
+    let full : length c.loop.faces.items ≡ 4294967295 = omega (arith, c.loop.invariant.count, c.loop-test.false, c.loop.auto.counter-end) in
+    has_more c.args.first c.loop.faces.items text c.args.at at at c.loop.invariant.within (omega (arith, full)) c.loop.invariant.more (inl (full, refl))

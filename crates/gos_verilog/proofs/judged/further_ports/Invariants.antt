@@ -11,6 +11,6 @@ invariant-loop l =
       within : l.at ≤ length l.text;
       count : length l.faces.items ≡ l.counter + 1;
       known : AreKnown l.faces.items l.places;
-      more : (more : List Face') × (l.faces.items ≡ l.first ∷ more) × AreNewFaces (l.first ∷ []) more
+      more : (more : List Face') × (l.faces.items ≡ l.fn.first ∷ more) × AreNewFaces (l.fn.first ∷ []) more
           × Passed (record { text = l.text; at = l.initial.at }) (record { text = l.text; at = l.at }) (flat_map port_text more);
     }
