@@ -17,13 +17,13 @@ use Rattle.gos_netlist.proofs.PassedLemmas.{passed_as, passed_both}
 use Rattle.gos_netlist.proofs.SequenceLemmas.{Then, Lacks, IsCode, ended_code, ended_misses, misses_as, then_first, then_rest}
 use Rattle.gos_verilog.specs.declared.inputs.Places.{Places}
 use Rattle.gos_verilog.specs.declared.port_net.Role.{Role}
-use Rattle.gos_verilog.specs.declared.port_net.Role.TheVariants.{Run, Done, Ask, Ans, AnsValue, Read, Write, WriteValue}
+use Rattle.gos_verilog.specs.declared.port_net.Role.TheVariants.{Run, Ask, Read}
 use Rattle.gos_verilog.specs.PortNets.{suffix}
 use Rattle.gos_verilog.specs.inner.Noted.{place_at, added}
 use Rattle.gos_verilog.specs.inner.Stages.{AreNameBytes}
 use Rattle.gos_verilog.specs.inner.Breaks.{Left, Either, Among, AllMiss, Leads, LeadsOn, BreaksFrom}
 use Rattle.gos_verilog.specs.inner.Left.{is_first, LeftNets}
-use Rattle.gos_verilog.specs.inner.Faces.{Face', roles_from, names_in, port_text, first_text, behind_text, IsFree, IsFreeFace, IsFirstName, IsFirstNet, IsFreePort, IsOther, AreKnown, IsNewFace, AreNewFaces, IsNewPort, IsFaceOf, IsPortOf, IsNoName, LeftFirst}
+use Rattle.gos_verilog.specs.inner.Faces.{Face', port_text, first_text, behind_text, IsFreeFace, IsFirstName, IsFirstNet, IsFreePort, IsOther, AreKnown, IsNewFace, AreNewFaces, IsNewPort, IsFaceOf, IsPortOf, IsNoName, LeftFirst}
 use Rattle.gos_verilog.specs.inner.Faces.{named_faces, head_end, LeftFaces, LeftFace, LeftEnd, NoFace}
 use Rattle.gos_verilog.proofs.CodeLemmas as codes_of
 use Rattle.gos_verilog.proofs.SuffixLemmas.{suffix_code}
@@ -33,7 +33,7 @@ use Rattle.gos_verilog.proofs.BreakLemmas.{from_as, first_breaks, either_further
 use Rattle.gos_verilog.proofs.AmongLemmas.{among_as}
 use Rattle.gos_verilog.proofs.WordLemmas.{shift_breaks}
 use Rattle.gos_verilog.proofs.LeftNetLemmas.{some_nets}
-use Rattle.gos_verilog.proofs.FreeLemmas.{first_role, nothing_begins, take_size}
+use Rattle.gos_verilog.proofs.FreeLemmas.{first_role, take_size}
 
 -- the name of the first net with its comma, and the rest
 port_rest : (v : Face') → is_first v.0 ≡ true → port_text v ≡ codes ", " ++ (ended 44 (first_text v) ++ behind_text v)

@@ -1,9 +1,9 @@
 -- Names that no port has so far: which bytes begin one, and which the name of the first net of a port of one.
-use Rattle.std.proofs.Common.{◌≡◌, ◌≢◌, ◌⊎◌, inl, inr, ℕ, zero, suc, ◌+◌, ◌-◌, ◌*◌, ◌<◌, ◌≤◌, Bool, true, false, List, [], ◌∷◌, ◌++◌, length, take, Option, None, Some, refl, sym, ◌∙◌, ap, subst, arith, slice_get, append_assoc, append-nil, length-append, codes}
+use Rattle.std.proofs.Common.{◌≡◌, ◌⊎◌, inl, inr, ℕ, zero, suc, ◌+◌, ◌-◌, ◌*◌, ◌<◌, ◌≤◌, Bool, true, false, List, [], ◌∷◌, ◌++◌, length, take, Option, None, Some, refl, sym, ◌∙◌, ap, subst, arith, slice_get, append_assoc, append-nil, length-append}
 use Rattle.std.specs.Prelude.{IsTrue, MatchOption, ◌↔◌, ◌&&◌, ◌/◌, ◌%◌}
 use Rattle.std.specs.List.{list_all, slice_range}
 use Rattle.std.specs.Str.{bytes_eq}
-use Rattle.std.proofs.lemmas.Bool.{and_parts, cases_lt}
+use Rattle.std.proofs.lemmas.Bool.{and_parts}
 use Rattle.std.proofs.lemmas.Slice.Eq.{bytes_eq-Decides}
 use Rattle.std.proofs.lemmas.List.Folds.{list_all-append}
 use Rattle.gos_lex.specs.Bytes.{begins_name, continues_name}
@@ -16,7 +16,6 @@ use Rattle.gos_verilog.specs.declared.inputs.Places.{Places}
 use Rattle.gos_verilog.specs.declared.port_net.Role.{Role}
 use Rattle.gos_verilog.specs.declared.port_net.Role.TheVariants.{Run, Done, Ask, Ans, AnsValue, Read, Write, WriteValue}
 use Rattle.gos_verilog.specs.PortNets.{suffix}
-use Rattle.gos_verilog.specs.inner.Noted.{place_at}
 use Rattle.gos_verilog.specs.inner.Left.{is_first}
 use Rattle.gos_verilog.specs.inner.Faces.{Face', first_text, IsFree, IsFreeFace, IsFirstName, IsOther, AreKnown, Grows, IsNoEnd, IsNoName, IsNameBefore}
 use Rattle.gos_verilog.proofs.StartLemmas.{front_spelled}

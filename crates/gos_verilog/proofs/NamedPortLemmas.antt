@@ -1,7 +1,7 @@
 -- The head of a module names ports: what may be left behind its start is what makes the text one of the form.
 use Rattle.std.proofs.Common.{◌≡◌, ◌≢◌, ◌⊎◌, inl, inr, ℕ, zero, suc, ◌+◌, ◌-◌, ◌<◌, ◌≤◌, true, List, [], ◌∷◌, ◌++◌, length, length-drop, drop, map, Some, refl, sym, ◌∙◌, ap, subst, arith, slice_get, append_assoc, append-nil, length-append, codes}
 use Rattle.std.specs.List.{AllByRecursion, flat_map}
-use Rattle.std.proofs.lemmas.List.{append_cancel_left, length-map}
+use Rattle.std.proofs.lemmas.List.{append_cancel_left}
 use Rattle.std.proofs.lemmas.Option.{slice_get_within}
 use Rattle.gos_lex.specs.Names.{IsNameOrWord}
 use Rattle.gos_types.specs.Types.{Type', Com, Exp, Var, Pair, Fun}
@@ -9,8 +9,8 @@ use Rattle.gos_netlist.specs.Nets.{Side, Give, Take, NetPort}
 use Rattle.gos_netlist.specs.Writable.{IsNumber, IsPortType, IsWritablePort}
 use Rattle.gos_netcheck.specs.Rules.{Kept}
 use Rattle.gos_verilog.specs.declared.port_net.Role.{Role}
-use Rattle.gos_verilog.specs.declared.port_net.Role.TheVariants.{Run, Done, Ask, Ans, AnsValue, Read, Write, WriteValue}
-use Rattle.gos_verilog.specs.PortNets.{PortNet, suffix, roles, number_bits, nets_in_roles, nets_of_port, port_nets}
+use Rattle.gos_verilog.specs.declared.port_net.Role.TheVariants.{Run, Ask, Read}
+use Rattle.gos_verilog.specs.PortNets.{PortNet, suffix, roles, number_bits, nets_in_roles, port_nets}
 use Rattle.gos_verilog.specs.Lines.{clock_declarations, port_declaration, cell_declarations}
 use Rattle.gos_verilog.specs.VerilogText.{first_name, declarations, outputs}
 use Rattle.gos_verilog.specs.Readable.{HasOwnName}
@@ -20,8 +20,8 @@ use Rattle.gos_verilog.specs.declared.fault.VFault.{VFault}
 use Rattle.gos_verilog.specs.declared.fault.VFault.TheVariants as faults
 use Rattle.gos_verilog.specs.inner.Stages.{BreaksAt, IsStart, start_text}
 use Rattle.gos_verilog.specs.inner.Breaks.{FaultFrom, Leads, LeadsOn}
-use Rattle.gos_verilog.specs.inner.Left.{is_first, LeftNets, named_in_roles, named_nets}
-use Rattle.gos_verilog.specs.inner.Faces.{Face', roles_from, names_in, port_text, IsOther, IsNewFace, AreNewFaces, IsFaceOf, named_faces, head_end, LeftFaces, LeftFirst, HasPorts}
+use Rattle.gos_verilog.specs.inner.Left.{is_first, LeftNets, named_nets}
+use Rattle.gos_verilog.specs.inner.Faces.{Face', roles_from, names_in, port_text, IsOther, AreNewFaces, IsFaceOf, named_faces, head_end, LeftFirst, HasPorts}
 use Rattle.gos_verilog.proofs.CodeLemmas.{name_code}
 use Rattle.gos_verilog.proofs.DeclarationLemmas.{listed}
 use Rattle.gos_verilog.proofs.PortLemmas.{name_bytes}

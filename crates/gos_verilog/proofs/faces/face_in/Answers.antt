@@ -1,4 +1,4 @@
-use Rattle.std.proofs.Common.{◌≡◌, ◌-◌, length, ap, ◌∙◌}
+use Rattle.std.proofs.Common.{◌-◌, length, ap, ◌∙◌}
 use Rattle.gos_verilog.specs.PortNets.{suffix}
 use Rattle.gos_verilog.proofs.FreeLemmas.{front_cut}
 use Rattle.gos_verilog.proofs.faces.face_in.Goals as goal

@@ -1,4 +1,3 @@
-use Rattle.std.proofs.Common.{refl}
 use Rattle.gos_verilog.specs.inner.Faces.{first_text}
 use Rattle.gos_verilog.proofs.FaceLemmas.{name_passed, no_first_name, within_prefix}
 use Rattle.gos_verilog.proofs.faces.first_net.Goals as goal

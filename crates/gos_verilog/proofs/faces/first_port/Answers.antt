@@ -1,4 +1,4 @@
-use Rattle.std.proofs.Common.{◌≡◌, ◌∙◌, ℕ, List, get_or, refl, sym, subst, arith}
+use Rattle.std.proofs.Common.{◌≡◌, ◌∙◌, ℕ, List, get_or, refl, subst, arith}
 use Rattle.gos_lex.specs.Items.{IsJust, Misses}
 use Rattle.gos_verilog.specs.declared.port_net.Role.TheVariants.{Run}
 use Rattle.gos_verilog.specs.inner.Breaks.{AllMiss, PassedIn}

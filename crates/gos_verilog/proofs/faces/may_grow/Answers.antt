@@ -1,7 +1,7 @@
-use Rattle.std.proofs.Common.{◌≡◌, ◌++◌, ℕ, List, length, refl, sym, ◌∙◌, ap, subst}
+use Rattle.std.proofs.Common.{◌≡◌, length, refl, subst}
 use Rattle.std.proofs.lemmas.Option.{slice_get_read}
 use Rattle.gos_netcheck.proofs.RuleLemmas.{kept_more, kept_all}
-use Rattle.gos_verilog.specs.inner.Faces.{Face', Grows}
+use Rattle.gos_verilog.specs.inner.Faces.{Face'}
 use Rattle.gos_verilog.proofs.FreeLemmas.{contrary, IsShorter, none_begins, one_begins, other_begins, no_free}
 use Rattle.gos_verilog.proofs.faces.may_grow.Goals as goal
 

@@ -1,4 +1,4 @@
-use Rattle.std.proofs.Common.{◌≡◌, ◌<◌, ◌≤◌, ◌+◌, ◌-◌, ℕ, List, length, take, ap, sym, ◌∙◌, subst, arith}
+use Rattle.std.proofs.Common.{◌≡◌, ◌+◌, ◌-◌, ℕ, take, sym, subst, arith}
 use Rattle.gos_lex.specs.Items.{Begins, StopsAt}
 use Rattle.gos_verilog.specs.inner.Faces.{IsFirstName}
 use Rattle.gos_verilog.proofs.FreeLemmas.{begins_size, contrary, nothing_begins, reached, take_size}

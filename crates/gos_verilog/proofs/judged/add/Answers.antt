@@ -1,4 +1,4 @@
-use Rattle.std.proofs.Common.{◌≡◌, ◌∙◌, ◌∷◌, ◌++◌, [], None, ℕ, List, ap, subst}
+use Rattle.std.proofs.Common.{◌≡◌, ◌∙◌, ℕ, List, ap}
 use Rattle.gos_verilog.specs.inner.Noted.{place_at, added}
 use Rattle.gos_verilog.specs.inner.Faces.{Face'}
 use Rattle.gos_verilog.proofs.FaceLemmas.{known_more}

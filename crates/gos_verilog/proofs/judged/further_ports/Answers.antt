@@ -1,4 +1,4 @@
-use Rattle.std.proofs.Common.{◌≡◌, ◌≤◌, ◌<◌, ◌+◌, ◌-◌, ◌∷◌, ◌++◌, [], ℕ, List, inl, inr, length, take, drop, length-drop, length-append, refl, sym, ◌∙◌, ap, subst, arith, append-nil}
+use Rattle.std.proofs.Common.{◌≡◌, ◌≤◌, ◌<◌, ◌+◌, ◌-◌, ◌∷◌, ◌++◌, [], ℕ, List, inl, inr, length, take, drop, length-drop, length-append, refl, sym, ◌∙◌, ap, subst, arith}
 use Rattle.std.specs.List.{flat_map}
 use Rattle.gos_lex.specs.Items.{TextAt, Misses}
 use Rattle.gos_lex.proofs.PlaceLemmas.{rest_whole}
@@ -7,9 +7,9 @@ use Rattle.gos_netlist.proofs.PassedLemmas.{passed_as, passed_both}
 use Rattle.gos_verilog.specs.declared.inputs.Places.{Places}
 use Rattle.gos_verilog.specs.declared.fault.VFault.{VFault}
 use Rattle.gos_verilog.specs.inner.Stages.{BreaksAt}
-use Rattle.gos_verilog.specs.inner.Faces.{Face', AreKnown, AreNewFaces, IsFreeFace, IsFreePort, IsNewFace, IsNewPort, HasMore, NoFace, port_text}
+use Rattle.gos_verilog.specs.inner.Faces.{Face', AreKnown, AreNewFaces, IsFreeFace, IsFreePort, IsNewFace, HasMore, NoFace, port_text}
 use Rattle.gos_verilog.proofs.WordLemmas.{shift_passed, shift_misses}
-use Rattle.gos_verilog.proofs.FaceLemmas.{known_none, new_face, new_more, new_port_misses, ports_snoc}
+use Rattle.gos_verilog.proofs.FaceLemmas.{new_face, new_more, new_port_misses, ports_snoc}
 use Rattle.gos_verilog.proofs.judged.further_ports.Goals as goal
 
 -- the ports so far

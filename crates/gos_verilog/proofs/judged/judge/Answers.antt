@@ -1,4 +1,4 @@
-use Rattle.std.proofs.Common.{◌≡◌, ◌≤◌, ◌∷◌, ◌++◌, ◌+◌, ◌-◌, [], ℕ, List, length, drop, refl, sym, ◌∙◌, ap, subst, arith, append_assoc}
+use Rattle.std.proofs.Common.{◌≡◌, ◌≤◌, ◌++◌, ℕ, List, length, drop, refl, sym, ◌∙◌, ap, subst, arith, append_assoc}
 use Rattle.std.specs.Prelude.{codes}
 use Rattle.std.proofs.lemmas.Result.{err_from_is_err_and, IfErr-weaker}
 use Rattle.gos_lex.specs.Items.{TextAt}
@@ -10,7 +10,7 @@ use Rattle.gos_verilog.specs.inner.Faces.{HasPorts, LeftFirst}
 use Rattle.gos_verilog.proofs.BreakLemmas.{fault_on}
 use Rattle.gos_verilog.proofs.PortLemmas.{name_bytes}
 use Rattle.gos_verilog.proofs.LeftNetLemmas.{if_ok}
-use Rattle.gos_verilog.proofs.PlaceLemmas.{start_at, start_is}
+use Rattle.gos_verilog.proofs.PlaceLemmas.{start_at}
 use Rattle.gos_verilog.proofs.NamedPortLemmas.{ports_head, start_fault, start_on_text, name_behind}
 use Rattle.gos_verilog.proofs.judged.judge.Goals as goal
 use Rattle.gos_netlist.specs.NetItems.{ended}

@@ -1,15 +1,14 @@
-use Rattle.std.proofs.Common.{◌≡◌, ◌⊎◌, ◌≤◌, ◌+◌, ◌-◌, ◌∷◌, ◌++◌, [], ℕ, List, length, take, drop, length-drop, refl, ap, ◌∙◌, subst, sym, arith, append_assoc}
+use Rattle.std.proofs.Common.{◌≡◌, ◌⊎◌, ◌≤◌, ◌+◌, ◌-◌, ◌∷◌, ◌++◌, [], ℕ, List, length, take, drop, length-drop, ap, ◌∙◌, subst, sym, arith, append_assoc}
 use Rattle.std.specs.List.{flat_map}
 use Rattle.std.proofs.lemmas.Result.{err_from_is_err_and}
 use Rattle.gos_lex.specs.Names.{IsNameOrWord}
 use Rattle.gos_lex.specs.Items.{TextAt, IsJust, Misses}
 use Rattle.gos_netlist.specs.NetItems.{Passed}
-use Rattle.gos_netlist.specs.Writable.{IsNumber}
 use Rattle.gos_lex.proofs.PlaceLemmas.{rest_whole}
 use Rattle.gos_verilog.specs.declared.fault.VFault.{VFault}
 use Rattle.gos_verilog.specs.inner.Stages.{BreaksAt}
 use Rattle.gos_verilog.specs.inner.Breaks.{BreaksFrom}
-use Rattle.gos_verilog.specs.inner.Faces.{Face', AreNewFaces, IsFaceOf, HasMore, IsPortOf, LeftFirst, LeftFaces, HasPorts, head_end, port_text}
+use Rattle.gos_verilog.specs.inner.Faces.{Face', IsFaceOf, HasMore, IsPortOf, LeftFirst, LeftFaces, HasPorts, head_end, port_text}
 use Rattle.gos_verilog.proofs.RestLemmas.{passed_rest}
 use Rattle.gos_verilog.proofs.WordLemmas.{shift_passed}
 use Rattle.gos_verilog.proofs.BreakLemmas.{on_breaks}

@@ -18,7 +18,6 @@ use Rattle.gos_verilog.proofs.NamedLemmas.{all_named, names_are}
 use Rattle.gos_verilog.proofs.FormedLemmas.{head_parts}
 use Rattle.gos_verilog.proofs.FrontLemmas.{want_fault, head_leads_on, head_fault, nets_same}
 use Rattle.gos_verilog.proofs.LeftNetLemmas.{both_ok, three_ok}
-use Rattle.gos_verilog.proofs.PlaceLemmas.{start_at}
 use Rattle.gos_verilog.proofs.reading.front.Goals as goal
 
 begins : (cursor : TextAt) (text : List ℕ) (ports : List NetPort) (more : List ℕ) → cursor.text ≡ text → cursor.at ≡ 0 → text ≡ head_of ports ++ more
