@@ -353,7 +353,7 @@ known_more old new faces longer v is known more name = subst (λ (list : List Fa
         let kept : place_at new name ≡ place_at old name = more name ∙ ap (λ (b : Bool). if b then Some 0 else place_at old name) other in (
           (λ none.
               other_snoc name faces v (λ same. let both : true ≡ false = sym ((bytes_eq-Decides name v.1).1 (sym same)) ∙ other in cc both)
-                  ((known name).0 (sym kept ∙ none))),
+              ((known name).0 (sym kept ∙ none))),
           (λ all. kept ∙ (known name).1 (other_front name faces v all).0),
         )
 

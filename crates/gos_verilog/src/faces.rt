@@ -185,12 +185,7 @@ fn is_free(name: &[u8], places: &Places) -> bool
 }
 
 // How many bytes can go on as the name of the first net of a port whose name is free.
-fn reach(
-    alloc: Global,
-    rest: &[u8],
-    faces: &[Face],
-    places: &Places,
-) -> Result<usize, NoMemory>
+fn reach(alloc: Global, rest: &[u8], faces: &[Face], places: &Places) -> Result<usize, NoMemory>
     requires known { AreKnown faces.now places.now }
     requires few { length faces.now < 4294967296 }
     ensures { IfOk result (StopsAt (IsFirstName places.now) rest.now 0) }
@@ -214,12 +209,7 @@ fn most(rest: &[u8]) -> usize
 }
 
 // Whether the name of the first net of a port whose name is free may begin with these bytes.
-fn may_begin(
-    alloc: Global,
-    bytes: &[u8],
-    faces: &[Face],
-    places: &Places,
-) -> Result<bool, NoMemory>
+fn may_begin(alloc: Global, bytes: &[u8], faces: &[Face], places: &Places) -> Result<bool, NoMemory>
     requires { AreKnown faces.now places.now }
     ensures { IfOk result (λ is. IsTrue is ↔ Begins (IsFirstName places.now) bytes.now) }
 {
@@ -258,12 +248,7 @@ fn ends_as(bytes: &[u8], role: Role, places: &Places) -> bool
 }
 
 // Whether a free name begins with these bytes.
-fn may_grow(
-    alloc: Global,
-    bytes: &[u8],
-    faces: &[Face],
-    places: &Places,
-) -> Result<bool, NoMemory>
+fn may_grow(alloc: Global, bytes: &[u8], faces: &[Face], places: &Places) -> Result<bool, NoMemory>
     requires { AreKnown faces.now places.now }
     ensures { IfOk result (λ is. IsTrue is ↔ Begins (IsFree places.now) bytes.now) }
 {
@@ -282,12 +267,7 @@ fn may_grow(
 }
 
 // Whether the name begins with the bytes, and is a free one with one more byte.
-fn grows_behind(
-    alloc: Global,
-    bytes: &[u8],
-    name: &[u8],
-    places: &Places,
-) -> Result<bool, NoMemory>
+fn grows_behind(alloc: Global, bytes: &[u8], name: &[u8], places: &Places) -> Result<bool, NoMemory>
     ensures is { IfOk result (λ is. IsTrue is → (more : List ℕ) × (name.now ≡ bytes.now ++ more) × Grows places.now name.now) }
     ensures none { IfOk result (λ is. is ≡ false → (more : List ℕ) → name.now ≡ bytes.now ++ more → Grows places.now name.now → ⊥) }
 {

@@ -284,8 +284,14 @@ fn tells_where_a_head_breaks_off(rt: HostRuntime) -> Result<(), Fail> {
     assert_eq!(rt; head_breaks(alloc, b", main__done")?, Some(8));
     assert_eq!(rt; head_breaks(alloc, b", main__run);\n")?, Some(11));
     assert_eq!(rt; head_breaks(alloc, b", main__run, main__ans")?, Some(19));
-    assert_eq!(rt; head_breaks(alloc, b", main__read, main__ans, main__done")?, Some(31));
-    assert_eq!(rt; head_breaks(alloc, b", main__ask, main__ans, main__ansvalue, a__x")?, Some(44));
+    assert_eq!(rt;
+        head_breaks(alloc, b", main__read, main__ans, main__done")?,
+        Some(31)
+    );
+    assert_eq!(rt;
+        head_breaks(alloc, b", main__ask, main__ans, main__ansvalue, a__x")?,
+        Some(44)
+    );
     Ok(())
 }
 
