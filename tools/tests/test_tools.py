@@ -3,6 +3,8 @@
 
 usage: tools/tests/test_tools.py
 """
+import importlib.machinery
+import importlib.util
 import json
 import os
 import re
@@ -52,10 +54,10 @@ class Where(unittest.TestCase):
         self.assertEqual(self.where("", "ok weight 5").returncode, 1)
 
     def test_each_example_has_a_sentence(self):
-        rows = re.findall(r"^\| `([^`]+)` \| `\w+::\w+` \| (.+) \|$", (TOP / "docs" / "FORMATS.md").read_text(), re.M)
-        self.assertGreater(len(rows), 40)
-        for shape, example in rows:
-            line = re.findall(r"`([^`]+)`", example)[-1] if shape != "not built" else shape
+        examples = re.findall(r"^\| `[^`]+` \| `\w+::\w+` \| (.+) \|$", (TOP / "docs" / "FORMATS.md").read_text(), re.M)
+        self.assertGreater(len(examples), 40)
+        for example in examples:
+            line = re.findall(r"`([^`]+)`", example)[-1]
             ran = self.where("", line)
             self.assertEqual((ran.returncode, ran.stderr), (0, ""), line)
             said = ran.stdout.removeprefix("m.gos: ")
@@ -214,10 +216,27 @@ fi
             ran = self.gos("check", "m.gos", GOS_STATUS=str(status))
             self.assertEqual((ran.returncode, ran.stderr), (status, said))
 
+    def test_another_rt_is_run_as_it_is(self):
+        ran = run(TOOLS / "rt", "all", "x y", cwd=self.top, PATH=f"{self.bin}:{os.environ['PATH']}", FAILS="yes")
+        self.assertEqual((ran.stdout.split("\n")[0], ran.returncode), (f"said of {self.top}: all x y", 1))
+
     def test_two_names_of_one_file(self):
         self.assertEqual(self.gos("compile", "a.gos", "./a.gos").stderr, "gos: a.gos and ./a.gos are one file\n")
         (Path(self.room.name) / "b.txt").write_text("gosbuild 1\ninst m m.gos .//b.txt\nroot m\n")
         self.assertEqual(self.gos("link", "b.txt").stderr, "gos: b.txt and .//b.txt are one file\n")
+
+
+class Kept(unittest.TestCase):
+    """The lists of tools/rt."""
+
+    def test_each_list_is_made_once(self):
+        loader = importlib.machinery.SourceFileLoader("kept_rt", str(TOOLS / "rt"))
+        module = importlib.util.module_from_spec(importlib.util.spec_from_loader("kept_rt", loader))
+        loader.exec_module(module)
+        made = []
+        kept = module.keeping(lambda crate: made.append(crate) or [crate + "a", crate + "b"])
+        kept("x").clear()
+        self.assertEqual((kept("x"), kept("y"), made), (["xa", "xb"], ["ya", "yb"], ["x", "y"]))
 
 
 if __name__ == "__main__":

@@ -22,7 +22,7 @@ use Rattle.gos_circuits.specs.Linked.{SaysBuild}
 use Rattle.gos_circuits.proofs.LinkLemmas.{form_fault}
 use Rattle.gos_build.specs.Objects.{objects_of, AllWritten}
 use Rattle.gos_build.specs.Built.{IsPlansBuilt, IsBuilt, RejectsPlans, RejectsInstances, RejectsBuild, IsPlansBuildCall, IsInstancesCall, IsBuildCall, IsPlansBuildCutShort, IsInstancesCutShort, IsBuildCutShort, written_by}
-use Rattle.gos_build.specs.Paced.{BuildKeepsPace, BuildHasImports, BuildHasWeight, BuildIsSmall}
+use Rattle.gos_build.specs.Paced.{BuildKeepsPace, BuildHasImports, BuildIsTyped, BuildHasWeight, BuildIsSmall}
 use Rattle.gos_build.specs.inner.Instances.{AreInstancesBuilt}
 
 -- once the plans of all instances are there
@@ -63,10 +63,10 @@ then_the_rest b old mid new first second =
     (λ other apart. apart_back other (objects_of b.instances.items) (b.net ∷ b.verilog ∷ b.trace ∷ []) apart) second)
 
 -- once the build file is read
-pub built : BuildKeepsPace → BuildHasImports → BuildHasWeight → BuildIsSmall → (old mid new : Option Files) (own : Word) (b : Build) (report : Report) → mid ≡ old
+pub built : BuildKeepsPace → BuildHasImports → BuildIsTyped → BuildHasWeight → BuildIsSmall → (old mid new : Option Files) (own : Word) (b : Build) (report : Report) → mid ≡ old
     → IfSome old (λ files. SaysBuild files own b)
     → IfSome mid (λ files. AreInstancesBuilt files new b report) → IfSome old (λ files. IsBuilt files new own report)
-built has_pace has_imports has_weight small old mid new own b report same says done =
+built has_pace has_imports is_typed has_weight small old mid new own b report same says done =
     of_some_both (λ files. SaysBuild files own b) (λ files. AreInstancesBuilt files new b report) (λ files. IsBuilt files new own report) old
     (λ files said h. record {
       build = b;
@@ -77,6 +77,7 @@ built has_pace has_imports has_weight small old mid new own b report same says d
       built = h.built;
       pace = has_pace files h.objects h.objects h.built.between b h.plans h.built.weight h.built.net h.compiled h.built.written;
       imports = has_imports files h.objects h.objects h.built.between b h.plans h.built.weight h.built.net h.compiled h.built.written;
+      typed = is_typed files h.objects h.objects h.built.between b h.plans h.built.weight h.built.net h.compiled h.built.written;
       weighs = has_weight files h.objects h.objects h.built.between b h.plans h.built.weight h.built.net h.compiled h.built.written;
       few = small files h.objects h.objects h.built.between b h.plans h.built.weight h.built.net h.compiled h.built.written;
     })

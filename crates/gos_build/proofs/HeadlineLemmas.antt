@@ -28,14 +28,16 @@ use Rattle.std.specs.Prelude.{option_map, ◌++◌}
 use Rattle.std.proofs.lemmas.Option.{slice_get-map, get_or_from_slice_get}
 use Rattle.std.specs.Prelude.{get_or}
 use Rattle.std.proofs.lemmas.Cmp.{eq_by_cmp_equiv}
-use Rattle.gos_model.specs.Typing.{Imported}
+use Rattle.gos_model.specs.Typing.{Imported, Imports}
 use Rattle.gos_plan.specs.Plans.{Plan}
 use Rattle.gos_plan.specs.declared.plan.PlanImport.{PlanImport}
 use Rattle.gos_link.specs.Linked.{imports_of, plans_of}
 use Rattle.gos_link.specs.Services.{instance_named, import_named, Means}
 use Rattle.gos_linked.specs.Linked.{name_if}
 use Rattle.gos_model.specs.Pace.{KeepsPaceAlways}
+use Rattle.gos_netlist.specs.Nets.{Give}
 use Rattle.gos_netlist.specs.NetText.{text_of}
+use Rattle.gos_circuits.specs.Circuit.{taken_face}
 use Rattle.gos_pulse.specs.TraceText.{trace_text}
 use Rattle.gos_verilog.specs.VerilogText.{IsVerilogOf}
 use Rattle.gos_build.specs.Programs.{program_along}
@@ -131,5 +133,10 @@ headline_holds files held own report is =
       netlist = holds.at_one;
       verilog = subst (λ (text : Word). IsVerilogOf is.built.net text) (sym holds.at_two) written.text;
       accepted = written.circuit.accepted;
+      ports = record {
+        ty = done.whole.outcome;
+        typed = is.typed;
+        are = written.circuit.ports ∙ ap (λ (is : Imports). record { name = b.root; side = Give; ty = done.whole.outcome } ∷ map taken_face is) is.imports;
+      };
       pace = subst (λ (w : ℕ). KeepsPaceAlways w (program_along ms done.linked.services done.linked.root) is.built.net) is.weighs is.pace;
     }

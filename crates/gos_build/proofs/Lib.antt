@@ -1,5 +1,4 @@
 mod ApartLemmas
-mod GroundLemmas
 mod ObjectLemmas
 mod PlansLemmas
 mod PacedLemmas

@@ -17,12 +17,12 @@ use Rattle.gos_plan.specs.Seen.{SeenPlan, plan_of}
 use Rattle.gos_link.specs.declared.build.Instance.{Instance}
 use Rattle.gos_command.specs.declared.status.Fault.{Fault}
 use Rattle.gos_command.proofs.EndLemmas.{of_some, of_some_both}
-use Rattle.gos_objects.specs.Checked.{SaysModule, IsSourceCause}
-use Rattle.gos_objects.specs.Typed.{IsPlanFor}
+use Rattle.gos_objects.specs.Checked.{SaysModule, IsSourceFault, IsSourceCause}
+use Rattle.gos_objects.specs.Typed.{IsTypedAs, IsPlanFor}
 use Rattle.gos_objects.specs.Compiled.{IsPlanOfModule}
 use Rattle.gos_objects.proofs.CompiledLemmas.{plan_is}
-use Rattle.gos_build.specs.Objects.{SaysGround, BeginWith, HavePlans, objects_of, with_objects, AllWritten, SomeWritten, IsModuleFault, RejectsModule, IsInstanceCall, IsModuleCall}
-use Rattle.gos_build.specs.inner.Compiling.{EachApart, AreApart, IsGroundAs, IsCompiledAs, AreSoFar}
+use Rattle.gos_build.specs.Objects.{BeginWith, HavePlans, objects_of, with_objects, AllWritten, SomeWritten, RejectsModule, IsInstanceCall, IsModuleCall}
+use Rattle.gos_build.specs.inner.Compiling.{EachApart, AreApart, IsCompiledAs, AreSoFar}
 
 -- an instance at its place
 pub instance_at : (is : List Instance) (k : ℕ) (i : Instance) → k < length is → i ≡ slice_index_or is k i → slice_get is k ≡ Some i
@@ -62,11 +62,9 @@ moved P source names (Some files) (Some now) step apart same h =
     step now files (ap (λ (found : Option (List ℕ)). unwrap_or found []) (same source apart)) h
 
 fault_moved : (source : Word) (fault : Fault) (line : List ℕ) (now files : Files) → bytes_at now source ≡ bytes_at files source
-    → IsModuleFault now source fault line → IsModuleFault files source fault line
-fault_moved source fault line now files e (inl w) =
-    inl (record { file = w.file; real = w.real; cause = subst (λ (t : List ℕ). IsSourceCause (take 65537 t) fault.cause) e w.cause; says = w.says })
-fault_moved source fault line now files e (inr w) =
-    inr (record { made = w.made; says = subst (λ (t : List ℕ). SaysModule t w.made) e w.says; higher = w.higher; is = w.is; tells = w.tells })
+    → IsSourceFault now source fault line → IsSourceFault files source fault line
+fault_moved source fault line now files e w =
+    record { file = w.file; real = w.real; cause = subst (λ (t : List ℕ). IsSourceCause (take 65537 t) fault.cause) e w.cause; says = w.says }
 
 -- modules, plans and files with one instance more
 same_length : (ms : List SeenModule) (ps : List SeenPlan) → HavePlans ms ps → length ms ≡ length ps
@@ -76,10 +74,10 @@ same_length (m ∷ ms) [] have = absurd have
 same_length (m ∷ ms) (p ∷ ps) have = ap suc (same_length ms ps have.1)
 
 begin_more : (files : Files) (is : List Instance) (ms : List SeenModule) (i : Instance) (m : SeenModule) → slice_get is (length ms) ≡ Some i
-    → BeginWith files is ms → SaysGround (bytes_at files i.source) m → BeginWith files is (ms ++ m ∷ [])
+    → BeginWith files is ms → SaysModule (bytes_at files i.source) m → BeginWith files is (ms ++ m ∷ [])
 begin_more files [] [] i m at begin says = absurd (none_at 0 i at)
 begin_more files [] (n ∷ ms) i m at begin says = absurd begin
-begin_more files (j ∷ is) [] i m at begin says = (subst (λ (x : Instance). SaysGround (bytes_at files x.source) m) (sym (first_at j is i at)) says, tt)
+begin_more files (j ∷ is) [] i m at begin says = (subst (λ (x : Instance). SaysModule (bytes_at files x.source) m) (sym (first_at j is i at)) says, tt)
 begin_more files (j ∷ is) (n ∷ ms) i m at begin says = (begin.0, begin_more files is ms i m at begin.1 says)
 
 plans_more : (ms : List SeenModule) (ps : List SeenPlan) (m : SeenModule) (p : SeenPlan) → HavePlans ms ps → IsPlanOfModule m (plan_of p)
@@ -141,38 +139,38 @@ some_written old mid new is plans kept before =
 
 -- the source of an instance is compiled, and the write of its object fails
 pub compiled_as : (told : Option Files) (name source : Word) → name ≡ source → (linear : SeenLinear) (plan : Plan)
-    → IfSome told (λ files. IsGroundAs (bytes_at files name) linear) → IsPlanFor linear plan → IfSome told (λ files. IsCompiledAs (bytes_at files source) plan)
-compiled_as told name source same linear plan ground is =
+    → IfSome told (λ files. IsTypedAs (bytes_at files name) linear) → IsPlanFor linear plan → IfSome told (λ files. IsCompiledAs (bytes_at files source) plan)
+compiled_as told name source same linear plan typed is =
     subst (λ (n : Word). IfSome told (λ files. IsCompiledAs (bytes_at files n) plan)) same
-    (of_some (λ files. IsGroundAs (bytes_at files name) linear) (λ files. IsCompiledAs (bytes_at files name) plan) told
+    (of_some (λ files. IsTypedAs (bytes_at files name) linear) (λ files. IsCompiledAs (bytes_at files name) plan) told
     (λ files h. record {
-      made = h.typed.made;
-      says = record { says = h.typed.says; ground = h.ground };
-      compiled = plan_is (bytes_at files name) linear h.typed plan is;
+      made = h.made;
+      says = h.says;
+      compiled = plan_is (bytes_at files name) linear h plan is;
     })
-    ground)
+    typed)
 
 pub instance_call : (old mid new : Option Files) (i : Instance) (name object : Word) (linear : SeenLinear) (fault : LastFault)
-    → name ≡ i.source → object ≡ i.object → mid ≡ old → IfSome old (λ files. IsGroundAs (bytes_at files name) linear)
+    → name ≡ i.source → object ≡ i.object → mid ≡ old → IfSome old (λ files. IsTypedAs (bytes_at files name) linear)
     → fault ≡ WriteFault object → SameBut object mid new
-    → IsInstanceCall old new i (IfSome old (λ files. (m : SeenModule) × SaysGround (bytes_at files i.source) m)) fault
-instance_call old mid new i name object linear fault same_source same_object kept ground is others =
+    → IsInstanceCall old new i (IfSome old (λ files. (m : SeenModule) × SaysModule (bytes_at files i.source) m)) fault
+instance_call old mid new i name object linear fault same_source same_object kept typed is others =
     inr (
       subst (λ (n : Word). fault ≡ WriteFault n) same_object is,
       subst (λ (n : Word). SameBut n old new) same_object (subst (λ (told : Option Files). SameBut object told new) kept others),
-      subst (λ (n : Word). IfSome old (λ files. (m : SeenModule) × SaysGround (bytes_at files n) m)) same_source
-          (of_some (λ files. IsGroundAs (bytes_at files name) linear) (λ files. (m : SeenModule) × SaysGround (bytes_at files name) m) old
-          (λ files h. (h.typed.made, record { says = h.typed.says; ground = h.ground })) ground),
+      subst (λ (n : Word). IfSome old (λ files. (m : SeenModule) × SaysModule (bytes_at files n) m)) same_source
+          (of_some (λ files. IsTypedAs (bytes_at files name) linear) (λ files. (m : SeenModule) × SaysModule (bytes_at files name) m) old
+          (λ files h. (h.made, h.says)) typed),
     )
 
 -- the next is rejected
 pub rejects : (old mid new : Option Files) (is : List Instance) (plans : List SeenPlan) (i : Instance) (fault : Fault) (line : List ℕ)
     → AreApart is → OthersSame (objects_of is) old mid → slice_get is (length plans) ≡ Some i → IfSome old (λ files. AreSoFar files mid is plans)
-    → new ≡ mid → IfSome mid (λ files. IsModuleFault files i.source fault line) → IfSome old (λ files. RejectsModule files new is fault line)
+    → new ≡ mid → IfSome mid (λ files. IsSourceFault files i.source fault line) → IfSome old (λ files. RejectsModule files new is fault line)
 rejects old mid new is plans i fault line apart same at before kept wrong =
-    let here = moved (λ files. IsModuleFault files i.source fault line) i.source (objects_of is) old mid
+    let here = moved (λ files. IsSourceFault files i.source fault line) i.source (objects_of is) old mid
     (fault_moved i.source fault line) (apart_at is (objects_of is) (length plans) i at apart) same wrong in
-    of_some_both (λ files. AreSoFar files mid is plans) (λ files. IsModuleFault files i.source fault line) (λ files. RejectsModule files new is fault line) old
+    of_some_both (λ files. AreSoFar files mid is plans) (λ files. IsSourceFault files i.source fault line) (λ files. RejectsModule files new is fault line) old
     (λ files far why. record {
       before = record {
         modules = far.modules;
@@ -188,11 +186,11 @@ rejects old mid new is plans i fault line apart same at before kept wrong =
 -- a call for the next fails
 pub calls : (old mid new : Option Files) (is : List Instance) (plans : List SeenPlan) (i : Instance) (fault : LastFault)
     → AreApart is → OthersSame (objects_of is) old mid → slice_get is (length plans) ≡ Some i → IfSome old (λ files. AreSoFar files mid is plans)
-    → IsInstanceCall mid new i (IfSome mid (λ files. (m : SeenModule) × SaysGround (bytes_at files i.source) m)) fault
+    → IsInstanceCall mid new i (IfSome mid (λ files. (m : SeenModule) × SaysModule (bytes_at files i.source) m)) fault
     → IfSome old (λ files. IsModuleCall files new is fault)
 calls old mid new is plans i fault apart same at before call =
     of_some_both (λ files. AreSoFar files mid is plans)
-    (λ files. IsInstanceCall mid new i ((m : SeenModule) × SaysGround (bytes_at files i.source) m) fault)
+    (λ files. IsInstanceCall mid new i ((m : SeenModule) × SaysModule (bytes_at files i.source) m) fault)
     (λ files. IsModuleCall files new is fault) old
     (λ files far here. record {
       between = mid;
@@ -203,21 +201,21 @@ calls old mid new is plans i fault apart same at before call =
     })
     before (here old same call)
   where
-    ground : (files : Files) → IfSome mid (λ files. (m : SeenModule) × SaysGround (bytes_at files i.source) m) → OthersSame (objects_of is) (Some files) mid
-        → (m : SeenModule) × SaysGround (bytes_at files i.source) m
-    ground files h others =
-        moved (λ files. (m : SeenModule) × SaysGround (bytes_at files i.source) m) i.source (objects_of is) (Some files) mid
-        (λ now files e h. (h.0, subst (λ (t : List ℕ). SaysGround t h.0) e h.1)) (apart_at is (objects_of is) (length plans) i at apart) others h
+    accepted : (files : Files) → IfSome mid (λ files. (m : SeenModule) × SaysModule (bytes_at files i.source) m) → OthersSame (objects_of is) (Some files) mid
+        → (m : SeenModule) × SaysModule (bytes_at files i.source) m
+    accepted files h others =
+        moved (λ files. (m : SeenModule) × SaysModule (bytes_at files i.source) m) i.source (objects_of is) (Some files) mid
+        (λ now files e h. (h.0, subst (λ (t : List ℕ). SaysModule t h.0) e h.1)) (apart_at is (objects_of is) (length plans) i at apart) others h
 
     there : (files : Files) → OthersSame (objects_of is) (Some files) mid
-        → IsInstanceCall mid new i (IfSome mid (λ files. (m : SeenModule) × SaysGround (bytes_at files i.source) m)) fault
-        → IsInstanceCall mid new i ((m : SeenModule) × SaysGround (bytes_at files i.source) m) fault
+        → IsInstanceCall mid new i (IfSome mid (λ files. (m : SeenModule) × SaysModule (bytes_at files i.source) m)) fault
+        → IsInstanceCall mid new i ((m : SeenModule) × SaysModule (bytes_at files i.source) m) fault
     there files others (inl read) = inl read
-    there files others (inr (failed, kept, h)) = inr (failed, kept, ground files h others)
+    there files others (inr (failed, kept, h)) = inr (failed, kept, accepted files h others)
 
     here : (told : Option Files) → OthersSame (objects_of is) told mid
-        → IsInstanceCall mid new i (IfSome mid (λ files. (m : SeenModule) × SaysGround (bytes_at files i.source) m)) fault
-        → IfSome told (λ files. IsInstanceCall mid new i ((m : SeenModule) × SaysGround (bytes_at files i.source) m) fault)
+        → IsInstanceCall mid new i (IfSome mid (λ files. (m : SeenModule) × SaysModule (bytes_at files i.source) m)) fault
+        → IfSome told (λ files. IsInstanceCall mid new i ((m : SeenModule) × SaysModule (bytes_at files i.source) m) fault)
     here None others h = tt
     here (Some files) others h = there files others h
 

@@ -1,4 +1,4 @@
--- The circuits of ground modules keep pace with their programs, since their plans realise these, and linked plans the substituted one.
+-- The circuits of modules keep pace with their programs, since their plans realise these, and linked plans the substituted one.
 -- They are small, since the plans are slim.
 use Rattle.std.specs.Prelude.{◌≡◌, ℕ, ◌+◌, ◌*◌, ◌≤◌, zero, suc, List, [], ◌∷◌, map, length, slice_get}
 use Rattle.std.proofs.Common.{refl, sym, ◌∙◌, ap, subst, arith}
@@ -6,13 +6,14 @@ use Rattle.gos_outside.specs.Files.{Files}
 use Rattle.gos_types.specs.Types.{IsDone}
 use Rattle.gos_syntax.specs.Modules.{SeenModule}
 use Rattle.gos_model.specs.Terms.{Term}
-use Rattle.gos_model.specs.Typing.{Imports}
+use Rattle.gos_model.specs.Typing.{Imports, Typed}
 use Rattle.gos_model.specs.Moves.{Program}
 use Rattle.gos_model.specs.Pace.{KeepsPaceAlways}
 use Rattle.gos_model.specs.Sources.{program_of}
 use Rattle.gos_model.specs.Linking.{Bind, substituted}
 use Rattle.gos_plan.specs.Plans.{Plan}
 use Rattle.gos_plan.specs.Seen.{SeenPlan}
+use Rattle.gos_realises.specs.Realises.{AllGround}
 use Rattle.gos_link.specs.declared.build.Build.{Build}
 use Rattle.gos_link.specs.declared.build.Instance.{Instance}
 use Rattle.gos_link.specs.declared.services.Service.{Service}
@@ -22,14 +23,14 @@ use Rattle.gos_fits.specs.Fits.{SlimIsSmall}
 use Rattle.gos_linked.specs.Modules.{AreModules, AreWeighed, LinkedIsModule, LinkedHasWeight}
 use Rattle.gos_circuits.specs.Paced.{ModuleCircuitsKeepPace, LinkedCircuitsKeepPace}
 use Rattle.gos_build.specs.Objects.{BeginWith, HavePlans}
-use Rattle.gos_build.specs.Programs.{imports_if, bind_in, program_along}
-use Rattle.gos_build.specs.Paced.{ModuleKeepsPace, BuildKeepsPace, BuildHasImports, BuildHasWeight, BuildIsSmall}
+use Rattle.gos_build.specs.Programs.{imports_if, bind_in, program_along, IsTyped}
+use Rattle.gos_build.specs.Paced.{ModuleKeepsPace, BuildKeepsPace, BuildHasImports, BuildIsTyped, BuildHasWeight, BuildIsSmall}
 
 pub module_keeps_pace : ModuleCircuitsKeepPace → ModuleKeepsPace
 module_keeps_pace law m plan root net is ground done circuit =
     let body : Term = (program_of m).body in
-    let (all, wide) = is.ports ground in
-    let paced = law root plan body net is.realises all wide (subst IsDone (sym is.made.outcome) done) circuit in
+    let all = subst AllGround (sym is.made.imports) ground in
+    let paced = law root plan body net is.realises all is.widths (subst IsDone (sym is.made.outcome) done) circuit in
     subst (λ (w : ℕ). KeepsPaceAlways w (program_of m) net) is.made.weight
     (subst (λ (i : Imports). KeepsPaceAlways plan.weight (record { imports = i; body = body }) net) is.made.imports paced)
 
@@ -47,7 +48,7 @@ are_modules files is [] (p ∷ ps) say have = absurd have
 are_modules files is (m ∷ ms) [] say have = absurd have
 are_modules files [] (m ∷ ms) (p ∷ ps) say have = absurd say
 are_modules files (i ∷ is) (m ∷ ms) (p ∷ ps) say have = (
-  record { imports = have.0.made.imports; realises = have.0.realises; widths = (have.0.ports say.0.ground).1 },
+  record { imports = have.0.made.imports; realises = have.0.realises; widths = have.0.widths },
   are_modules files is ms ps say.1 have.1,
 )
 
@@ -93,6 +94,18 @@ build_has_imports is_module files objects old new b plans weight net compiled do
     let all = are_modules files b.instances.items ms plans compiled.written.say have in
     let each : length plans ≡ length b.instances.items = as_many ms plans have ∙ compiled.all in
     (is_module b plans done.whole (map program_of ms) l each all).imports ∙ ap (λ (p : Program). p.imports) (same_program b ms plans done.whole l have)
+
+pub build_is_typed : LinkedIsModule → BuildIsTyped
+build_is_typed is_module files objects old new b plans weight net compiled done =
+    let ms : List SeenModule = compiled.modules in
+    let have = compiled.written.plans in
+    let l = done.linked in
+    let all = are_modules files b.instances.items ms plans compiled.written.say have in
+    let each : length plans ≡ length b.instances.items = as_many ms plans have ∙ compiled.all in
+    let is = is_module b plans done.whole (map program_of ms) l each all in
+    let linked : Program = linked_program b plans done.whole l (map program_of ms) in
+    let typed : IsTyped linked done.whole.outcome = subst (λ (i : Imports). Typed i [] linked.body done.whole.outcome) is.imports is.realises.typed in
+    subst (λ (p : Program). IsTyped p done.whole.outcome) (same_program b ms plans done.whole l have) typed
 
 -- each plan has its module's weight
 are_weighed : (ms : List SeenModule) (ps : List SeenPlan) → HavePlans ms ps → AreWeighed (plans_of ps) (map program_of ms)

@@ -21,7 +21,7 @@ use Rattle.gos_command.specs.declared.status.Fault.{Fault}
 use Rattle.gos_circuits.specs.Plans.{IsPlansDone, IsPlansCause, IsBuildFault, IsPlansCall, IsPlansCutShort}
 use Rattle.gos_circuits.specs.Linked.{SaysBuild, IsFormCause}
 use Rattle.gos_simulate.specs.Simulation.{LeavesTrace, IsPulseFault, IsSimulationCall}
-use Rattle.gos_build.specs.Programs.{program_along}
+use Rattle.gos_build.specs.Programs.{program_along, IsTyped}
 use Rattle.gos_build.specs.Objects.{objects_of, AllWritten, SomeWritten, RejectsModule, IsModuleCall}
 
 -- The plans are linked and a circuit of the whole was written, and then the trace of this very circuit. The report has the
@@ -35,9 +35,9 @@ pub record IsPlansBuilt (old new : Option Files) (b : Build) (plans : List SeenP
   pub traced : LeavesTrace between new net b.pulses b.trace counts
   pub tells : report ≡ record { weight = Some weight; run = Some counts }
 
--- The build file says a build; the source of each instance says a ground module, and the object file of the instance was
+-- The build file says a build; the source of each instance says a module that is accepted, and the object file of the instance was
 -- written with the text of its plan; and all this is so for these plans. The circuit has the imports of the program of the
--- linked modules as its ports, besides the root's, and keeps pace with this program. Its weight is that of the modules, and it
+-- linked modules as its ports, besides the root's, which has this program's type, and keeps pace with the program. Its weight is that of the modules, and it
 -- has few cells for it.
 pub record IsBuilt (files : Files) (new : Option Files) (own : Word) (report : Report) : Type 0 where
   pub build : Build
@@ -48,6 +48,7 @@ pub record IsBuilt (files : Files) (new : Option Files) (own : Word) (report : R
   pub built : IsPlansBuilt objects new build plans report
   pub pace : KeepsPaceAlways built.weight (program_along compiled.modules built.written.linked.services built.written.linked.root) built.net
   pub imports : built.written.whole.imports ≡ (program_along compiled.modules built.written.linked.services built.written.linked.root).imports
+  pub typed : IsTyped (program_along compiled.modules built.written.linked.services built.written.linked.root) built.written.whole.outcome
   pub weighs : built.weight ≡ link_weight (map program_of compiled.modules)
   pub few : length built.net.cells ≤ 128 * (built.weight + 1)
 

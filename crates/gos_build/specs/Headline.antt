@@ -1,7 +1,8 @@
 -- The headline: what the circuit is that `build BUILD` has written, where it ends with status 0.
 --
 -- The words are defined in SaysBuild and SaysModule (what files say), Linking (the program of linked modules), NetText and
--- VerilogText (texts of a netlist), Accepted (no combinational cycle), and Pace (which circuits keep pace with a program).
+-- VerilogText (texts of a netlist), Accepted (no combinational cycle), Programs (its ports), and Pace (which circuits keep pace with a
+-- program).
 use Rattle.std.specs.Prelude.{◌≡◌, ℕ, List, [], ◌∷◌, map, Some}
 use Rattle.gos_outside.specs.Files.{Files, bytes_at}
 use Rattle.gos_lines.specs.Lines.{Word}
@@ -19,6 +20,7 @@ use Rattle.gos_link.specs.declared.build.Build.{Build}
 use Rattle.gos_link.specs.Services.{instance_named}
 use Rattle.gos_objects.specs.Checked.{SaysModule}
 use Rattle.gos_circuits.specs.Linked.{SaysBuild}
+use Rattle.gos_build.specs.Programs.{HasPorts}
 
 -- the source of each instance says the module of its place
 abbrev pub SayModules : Files → List Instance → List SeenModule → Type 0
@@ -35,7 +37,7 @@ SayBinds is ls bs = ⊥
 
 -- The files `old` were there when the command began, and `new` are there when it has ended. The build file says these instances,
 -- binds and root; their sources say the modules. The netlist that was written has no combinational cycle, the Verilog that was
--- written is its text, and for all inputs that keep the protocol it keeps pace with the substituted program.
+-- written is its text. Its ports are those of the substituted program, with which it keeps pace for all inputs that keep the protocol.
 pub record Headline (old new : Files) (own : Word) : Type 0 where
   pub build : Build
   pub modules : List SeenModule
@@ -49,4 +51,5 @@ pub record Headline (old new : Files) (own : Word) : Type 0 where
   pub netlist : bytes_at new build.net ≡ text_of net
   pub verilog : IsVerilogOf net (bytes_at new build.verilog)
   pub accepted : IsAccepted net
+  pub ports : HasPorts build.root (substituted (map program_of modules) binds root) net
   pub pace : KeepsPaceAlways (link_weight (map program_of modules)) (substituted (map program_of modules) binds root) net

@@ -1,8 +1,8 @@
 -- The sources of a build's instances, and the objects that are written of them.
 --
--- Read first: BuildFile of gos_link (instances); Checked and Compiled of gos_objects; Ground of gos_modules. `files` are those that the store
--- held when the command began; the sources are as in these, since no source is written. `new` are those that it leaves.
-use Rattle.std.specs.Prelude.{◌≡◌, ◌⊎◌, ℕ, List, [], ◌∷◌, map, length, slice_get, Option, Some, None}
+-- Read first: BuildFile of gos_link (instances); Checked and Compiled of gos_objects. `files` are those that the store held when the
+-- command began; the sources are as in these, since no source is written. `new` are those that it leaves.
+use Rattle.std.specs.Prelude.{◌≡◌, ◌⊎◌, ℕ, List, [], ◌∷◌, map, length, slice_get, Option, Some}
 use Rattle.gos_outside.specs.Files.{Files, bytes_at, with_file, SameBut}
 use Rattle.gos_outside.specs.Faults.{LastFault, ReadFault, WriteFault}
 use Rattle.gos_lines.specs.Lines.{Word}
@@ -10,23 +10,15 @@ use Rattle.gos_syntax.specs.Modules.{SeenModule}
 use Rattle.gos_plan.specs.ObjectText.{text_of}
 use Rattle.gos_plan.specs.Seen.{SeenPlan, plan_of}
 use Rattle.gos_link.specs.declared.build.Instance.{Instance}
-use Rattle.gos_command.specs.Lines.{fault_line}
-use Rattle.gos_command.specs.declared.status.Cause.TheVariants.{NotBuilt}
 use Rattle.gos_command.specs.declared.status.Fault.{Fault}
 use Rattle.gos_objects.specs.Checked.{SaysModule, IsSourceFault}
 use Rattle.gos_objects.specs.Compiled.{IsPlanOfModule}
-use Rattle.gos_modules.specs.Ground.{IsGroundModule}
-
--- the text is that of this module, which is accepted and ground
-pub record SaysGround (text : List ℕ) (m : SeenModule) : Type 0 where
-  pub says : SaysModule text m
-  pub ground : IsGroundModule m
 
 -- the sources of the first instances say these modules, one each
 abbrev pub BeginWith : Files → List Instance → List SeenModule → Type 0
 BeginWith files is [] = Unit {0}
 BeginWith files [] (m ∷ ms) = ⊥
-BeginWith files (i ∷ is) (m ∷ ms) = SaysGround (bytes_at files i.source) m × BeginWith files is ms
+BeginWith files (i ∷ is) (m ∷ ms) = SaysModule (bytes_at files i.source) m × BeginWith files is ms
 
 -- the plans of modules, one each
 abbrev pub HavePlans : List SeenModule → List SeenPlan → Type 0
@@ -63,30 +55,18 @@ pub record SomeWritten (files : Files) (new : Option Files) (is : List Instance)
   pub plans : List SeenPlan
   pub written : AreWritten files new is modules plans
 
--- a source is rejected because its module is accepted but not ground, with this line
-pub record IsNotGround (files : Files) (source : Word) (fault : Fault) (line : List ℕ) : Type 0 where
-  pub made : SeenModule
-  pub says : SaysModule (bytes_at files source) made
-  pub higher : IsGroundModule made → ⊥
-  pub is : fault ≡ record { file = source; cause = NotBuilt }
-  pub tells : line ≡ fault_line None fault
-
--- a source is rejected: with its first fault, or because its module is not ground
-abbrev pub IsModuleFault : Files → Word → Fault → List ℕ → Type 0
-IsModuleFault files source fault line = IsSourceFault files source fault line ⊎ IsNotGround files source fault line
-
 -- the first source that is rejected: the objects of the instances before it, and no others, were written
 pub record RejectsModule (files : Files) (new : Option Files) (is : List Instance) (fault : Fault) (line : List ℕ) : Type 0 where
   pub before : SomeWritten files new is
   pub instance : Instance
   pub at : slice_get is (length before.plans) ≡ Some instance
-  pub why : IsModuleFault files instance.source fault line
+  pub why : IsSourceFault files instance.source fault line
 
--- A call for an instance: its source is read, and its object is written where its module is ground. A file whose write fails
--- may hold anything.
+-- A call for an instance: its source is read, and its object is written where this says a module that is accepted. A file whose
+-- write fails may hold anything.
 abbrev pub IsInstanceCall : Option Files → Option Files → Instance → Type 0 → LastFault → Type 0
-IsInstanceCall old new i Ground fault =
-    ((fault ≡ ReadFault i.source) × (new ≡ old)) ⊎ ((fault ≡ WriteFault i.object) × SameBut i.object old new × Ground)
+IsInstanceCall old new i Accepted fault =
+    ((fault ≡ ReadFault i.source) × (new ≡ old)) ⊎ ((fault ≡ WriteFault i.object) × SameBut i.object old new × Accepted)
 
 -- the calls for the instances, each with the objects written of those before it
 pub record IsModuleCall (files : Files) (new : Option Files) (is : List Instance) (fault : LastFault) : Type 0 where
@@ -94,4 +74,4 @@ pub record IsModuleCall (files : Files) (new : Option Files) (is : List Instance
   pub before : SomeWritten files between is
   pub instance : Instance
   pub at : slice_get is (length before.plans) ≡ Some instance
-  pub call : IsInstanceCall between new instance ((m : SeenModule) × SaysGround (bytes_at files instance.source) m) fault
+  pub call : IsInstanceCall between new instance ((m : SeenModule) × SaysModule (bytes_at files instance.source) m) fault

@@ -1,7 +1,7 @@
--- The circuits of ground modules keep pace with their programs: that of a module alone, and that of a build. The latter is small.
+-- The circuits of modules keep pace with their programs: that of a module alone, and that of a build. The latter is small.
 --
--- Read first: Ground of gos_modules; Compiled of gos_objects (the plan of a module); Circuit and Plans of gos_circuits; Pace of
--- gos_model; Programs, Objects.
+-- Read first: Compiled of gos_objects (the plan of a module); Circuit and Plans of gos_circuits; Pace of gos_model; Programs,
+-- Objects.
 use Rattle.std.specs.Prelude.{◌≡◌, ℕ, ◌+◌, ◌*◌, ◌≤◌, List, length, map, Option, Some}
 use Rattle.gos_outside.specs.Files.{Files}
 use Rattle.gos_lines.specs.Lines.{Word}
@@ -14,22 +14,23 @@ use Rattle.gos_model.specs.Sources.{program_of}
 use Rattle.gos_check.specs.Accepted.{weighed}
 use Rattle.gos_plan.specs.Plans.{Plan}
 use Rattle.gos_plan.specs.Seen.{SeenPlan}
+use Rattle.gos_realises.specs.Realises.{AllGround}
 use Rattle.gos_link.specs.declared.build.Build.{Build}
-use Rattle.gos_modules.specs.Ground.{IsGroundModule}
 use Rattle.gos_objects.specs.Compiled.{IsPlanOfModule}
 use Rattle.gos_circuits.specs.Circuit.{IsCircuitOf}
 use Rattle.gos_circuits.specs.Plans.{IsPlansDone}
-use Rattle.gos_build.specs.Programs.{program_along}
+use Rattle.gos_build.specs.Programs.{program_along, IsTyped}
 use Rattle.gos_command.specs.declared.report.Report.{Report}
 use Rattle.gos_build.specs.Objects.{AllWritten}
 use Rattle.gos_build.specs.Headline.{Headline}
 use Rattle.gos_build.specs.Built.{IsBuilt}
 
--- The circuit of the plan of a ground module, whose result is a command or an expression, keeps pace with the module's program.
+-- The circuit of the plan of a module, whose imports are ground and whose result is a command or an expression, keeps pace with
+-- the module's program.
 abbrev pub ModuleKeepsPace : Type 0
 ModuleKeepsPace =
     (m : SeenModule) (plan : Plan) (root : Word) (net : Netlist)
-    → IsPlanOfModule m plan → IsGroundModule m → IsDone (type_of m.result) → IsCircuitOf root plan net
+    → IsPlanOfModule m plan → AllGround (program_of m).imports → IsDone (type_of m.result) → IsCircuitOf root plan net
     → KeepsPaceAlways (weighed m) (program_of m) net
 
 -- The circuit of a build's linked plan keeps pace with the program of its linked modules.
@@ -45,6 +46,13 @@ BuildHasImports =
     (files : Files) (objects old new : Option Files) (b : Build) (plans : List SeenPlan) (weight : ℕ) (net : Netlist)
     (compiled : AllWritten files objects b.instances.items plans) (done : IsPlansDone old new b plans weight net)
     → done.whole.imports ≡ (program_along compiled.modules done.linked.services done.linked.root).imports
+
+-- The program's type is the linked plan's.
+abbrev pub BuildIsTyped : Type 0
+BuildIsTyped =
+    (files : Files) (objects old new : Option Files) (b : Build) (plans : List SeenPlan) (weight : ℕ) (net : Netlist)
+    (compiled : AllWritten files objects b.instances.items plans) (done : IsPlansDone old new b plans weight net)
+    → IsTyped (program_along compiled.modules done.linked.services done.linked.root) done.whole.outcome
 
 abbrev pub BuildHasWeight : Type 0
 BuildHasWeight =

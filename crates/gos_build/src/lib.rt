@@ -2,9 +2,8 @@
 //
 // `build` reads the build file; it compiles the source of each instance and writes its object; it links the plans, writes the
 // netlist of a circuit of the whole and its Verilog text, and runs the circuit under the pulse file. What it leaves, rejects
-// and calls is said in specs/Built; read Ground of gos_modules (which modules it takes) and specs/Objects (the sources, and the
-// objects written so far) first. With which program the
-// circuit keeps pace is said in specs/Programs, and of a module alone in specs/Paced.
+// and calls is said in specs/Built; read specs/Objects (the sources, and the objects written so far) first. With which program
+// the circuit keeps pace is said in specs/Programs, and of a module alone in specs/Paced.
 #![tactic(auto)]
 
 pub use building::build;
@@ -12,5 +11,4 @@ pub use laws::{headlines, paced_modules, small_programs};
 
 mod building;
 mod compiling;
-mod ground;
 mod laws;

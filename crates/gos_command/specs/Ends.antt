@@ -30,7 +30,6 @@ code_of statuses.NoMemory = 5
 
 -- the cause is another than want of memory
 abbrev pub IsRealCause : Cause → Type 0
-IsRealCause causes.NotBuilt = Unit {0}
 IsRealCause (causes.Lex fault) = fault ≢ lex.NoMemory
 IsRealCause (causes.Syntax fault) = fault ≢ syntax.NoMemory
 IsRealCause (causes.Check fault) = fault ≢ check.NoMemory

@@ -143,7 +143,6 @@ pulse_text of (pulse.Broken cycle event) = codes "P5 " ++ event_name of event ++
 pulse_text of pulse.NoMemory = []
 
 abbrev pub cause_text : Option Netlist → Cause → List ℕ
-cause_text of causes.NotBuilt = codes "not built"
 cause_text of (causes.Lex fault) = lex_text fault
 cause_text of (causes.Syntax fault) = syntax_text fault
 cause_text of (causes.Check fault) = check_text fault

@@ -49,7 +49,6 @@ fn cause_text(alloc: Global, cause: &Cause, net: Option<&Netlist>) -> Result<Vec
     ensures text { IfOk result (λ text. text.items ≡ cause_text (option_copied net.entry) cause.now) }
 {
     match cause {
-        Cause::NotBuilt => Ok(b"not built".to_vec(alloc)?),
         Cause::Lex(fault) => lex_text(alloc, fault),
         Cause::Syntax(fault) => syntax_text(alloc, fault),
         Cause::Check(fault) => check_text(alloc, fault),

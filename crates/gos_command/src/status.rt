@@ -15,8 +15,6 @@ use gos_syntax::SyntaxFault;
 /// Why a file was rejected. In a `Status` it is never want of memory.
 #[derive(Debug, Drop)]
 pub enum Cause {
-    /// The file is not of a form that is built yet.
-    NotBuilt,
     /// The source has no tokens.
     Lex(LexFault),
     /// The source is no module.

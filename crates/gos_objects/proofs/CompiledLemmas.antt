@@ -13,14 +13,10 @@ use Rattle.gos_plan.specs.Plans.{Plan}
 use Rattle.gos_plan.specs.Seen.{SeenPlan, plan_of}
 use Rattle.gos_plan.specs.ObjectText.{text_of}
 use Rattle.gos_plan.specs.ObjectFaults.{IsRead}
-use Rattle.gos_realises.specs.Realises.{AllGround}
 use Rattle.gos_realises.specs.Modules.{RealisesModule}
 use Rattle.gos_realises.specs.Slim.{IsSlim}
 use Rattle.gos_compile.specs.Wiring.{IsPlanOf}
-use Rattle.gos_ports.specs.Ports.{HaveWidths}
-use Rattle.gos_modules.specs.Ground.{IsGroundProgram}
-use Rattle.gos_modules.specs.Sources.{ProgramHasPorts}
-use Rattle.gos_terms.specs.Modules.{ModuleIsRealised}
+use Rattle.gos_terms.specs.Modules.{ModuleIsRealised, ModuleHasWidths}
 use Rattle.gos_command.specs.declared.report.Report.{Report}
 use Rattle.gos_objects.specs.Compiled.{IsPlanOfModule, IsCompiled}
 use Rattle.gos_objects.specs.Typed.{IsTypedAs, IsPlanFor}
@@ -38,23 +34,19 @@ few text linear typed =
     omega (arith, limit, same, one, other)
 
 -- what compiling makes is the plan of its module
-pub plan_is_for : {E : Type 0} → ModuleIsRealised → ProgramHasPorts → (linear : SeenLinear) → IsChecked linear → (r : Result SeenPlan E)
+pub plan_is_for : {E : Type 0} → ModuleIsRealised → ModuleHasWidths → (linear : SeenLinear) → IsChecked linear → (r : Result SeenPlan E)
     → IfOk r (λ p. IsPlanOf (program_in linear).imports (type_of linear.result) linear.weight (node_seen linear.term) (plan_of p))
     → IfOk r (λ p. IsSlim (plan_of p)) → IfOk r (λ p. length linear.imports ≤ 64 → IsRead (text_of (plan_of p)) (plan_of p))
     → IfOk r (λ p. IsPlanFor linear (plan_of p))
-plan_is_for realised ports linear checked (Ok p) made slim read =
+plan_is_for realised had linear checked (Ok p) made slim read =
     record {
       made = made;
       slim = slim;
       read_back = read;
       realises = realised linear linear.weight (plan_of p) checked made slim;
-      ports = λ ground. let (all, wide, outcome) = ports linear linear.weight (plan_of p) checked ground made in (all, wide);
+      widths = had linear linear.weight (plan_of p) checked made;
     }
-plan_is_for realised ports linear checked (Err e) made slim read = tt
-
--- what the plan is for a program
-abbrev ForProgram : Plan → Program → Type 0
-ForProgram plan p = RealisesModule plan p.body × (IsGroundProgram p → AllGround plan.imports × HaveWidths plan.imports)
+plan_is_for realised had linear checked (Err e) made slim read = tt
 
 -- the plan of a checked module is that of the source's module
 pub plan_is : (source : List ℕ) (linear : SeenLinear) (typed : IsTypedAs source linear) (plan : Plan) → IsPlanFor linear plan → IsPlanOfModule typed.made plan
@@ -62,7 +54,6 @@ plan_is source linear typed plan is =
     let m = typed.made in
     let term = node_seen linear.term in
     let of_program = subst (λ (p : Program). IsPlanOf p.imports (type_of linear.result) linear.weight term plan) typed.program is.made in
-    let for_program = subst (ForProgram plan) typed.program (is.realises, is.ports) in
     let of_type = subst (λ (t : Type'). IsPlanOf (program_of m).imports t linear.weight term plan) typed.outcome of_program in
     record {
       term = term;
@@ -70,8 +61,8 @@ plan_is source linear typed plan is =
       made = subst (λ (w : ℕ). IsPlanOf (program_of m).imports (type_of m.result) w term plan) typed.weight of_type;
       slim = is.slim;
       read = is.read_back (few source linear typed);
-      realises = for_program.0;
-      ports = λ ground. for_program.1 ground.program;
+      realises = subst (λ (p : Program). RealisesModule plan p.body) typed.program is.realises;
+      widths = is.widths;
     }
 
 -- the object was written

@@ -1,7 +1,7 @@
 -- The command `compile SRC OBJ`.
 --
 -- Read first: Checked; Wiring of gos_compile (the plan of a module); Modules and Slim of gos_realises (what it is to realise a
--- module); Ground of gos_modules (ground modules); ObjectText and ObjectFaults of gos_plan (its text, and which texts are read).
+-- module); ObjectText and ObjectFaults of gos_plan (its text, and which texts are read).
 use Rattle.std.specs.Prelude.{◌≡◌, ◌⊎◌, ℕ, List, Option, Some, None, IfSome}
 use Rattle.gos_outside.specs.Files.{Files, bytes_at, with_file, SameBut}
 use Rattle.gos_outside.specs.Faults.{LastFault, ReadFault, WriteFault}
@@ -15,17 +15,15 @@ use Rattle.gos_check.specs.Linearity.{StandsFor}
 use Rattle.gos_plan.specs.Plans.{Plan}
 use Rattle.gos_plan.specs.ObjectText.{text_of}
 use Rattle.gos_plan.specs.ObjectFaults.{IsRead}
-use Rattle.gos_realises.specs.Realises.{AllGround}
 use Rattle.gos_realises.specs.Modules.{RealisesModule}
 use Rattle.gos_realises.specs.Slim.{IsSlim}
 use Rattle.gos_compile.specs.Wiring.{IsPlanOf}
 use Rattle.gos_ports.specs.Ports.{HaveWidths}
-use Rattle.gos_modules.specs.Ground.{IsGroundModule}
 use Rattle.gos_command.specs.declared.report.Report.{Report}
 use Rattle.gos_objects.specs.Checked.{SaysModule}
 
 -- The plan of a module: its parts and joints are those of a typed term that stands for the module. The plan is slim and realises
--- the module's program, and its text is read as it. Where the module is ground, its imports are such as ports may be.
+-- the module's program, its text is read as it, and the numbers of its imported variables fit widths.
 pub record IsPlanOfModule (m : SeenModule) (plan : Plan) : Type 0 where
   pub term : Numbered
   pub stands : StandsFor (program_of m) term
@@ -33,7 +31,7 @@ pub record IsPlanOfModule (m : SeenModule) (plan : Plan) : Type 0 where
   pub slim : IsSlim plan
   pub read : IsRead (text_of plan) plan
   pub realises : RealisesModule plan (program_of m).body
-  pub ports : IsGroundModule m → AllGround plan.imports × HaveWidths plan.imports
+  pub widths : HaveWidths plan.imports
 
 -- the text is that of the plan of a module
 pub record IsObjectOf (text : List ℕ) (m : SeenModule) : Type 0 where

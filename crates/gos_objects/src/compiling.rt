@@ -15,7 +15,6 @@ use crate::checking::module_in;
 use gos_check::Linear;
 use gos_command::{Report, Stop, write_file};
 use gos_compile::compile;
-use gos_modules::ground_programs;
 use gos_outside::Store;
 use gos_plan::{Plan, print_object};
 use gos_terms::modules;
@@ -86,7 +85,6 @@ pub fn write_plan<S: Store>(
 fn plan_for(alloc: Global, linear: &Linear) -> Result<Plan, NoMemory>
     ensures { IfOk result (λ plan. IsPlanFor linear.now (plan_of plan)) }
 {
-    ground_programs();
     modules();
     // A module is known to be checked where its term is seen.
     let _term = linear.term();

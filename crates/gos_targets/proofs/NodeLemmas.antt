@@ -6,12 +6,13 @@ use Rattle.gos_model.specs.Typing.{Imported}
 use Rattle.gos_check.specs.declared.linear.Split.{Split}
 use Rattle.gos_check.specs.Nodes.{Numbered, Two, OfAssign, type_of_node}
 use Rattle.gos_check.specs.Linearity.{used}
-use Rattle.gos_plan.specs.Kinds.{Part, Share, Assign, contacts_of}
-use Rattle.gos_plan.specs.Plans.{End, PartEnd, ImportEnd, ResultEnd, Joint, Plan, contacts_of_part, stands_in, turned_if}
+use Rattle.gos_plan.specs.Kinds.{Contact, Part, Share, Assign, contacts_of, asks, serves}
+use Rattle.gos_plan.specs.Plans.{End, PartEnd, ImportEnd, ResultEnd, Joint, Plan, contacts_of_part, contact_at, stands_in, turned_if, IsRight}
 use Rattle.gos_plan.proofs.JointLemmas.{fits, one_joint, contained}
 use Rattle.gos_realises.proofs.PlaceLemmas.{contains_at, place_of}
 use Rattle.gos_webs.specs.Webs.{Dot, Of, Within, Tie, Web, Way, IsOfWeb, joint}
 use Rattle.gos_webs.specs.Cutting.{lies_at, StandsIn}
+use Rattle.gos_webs.proofs.CutLemmas.{which_end}
 use Rattle.gos_webs.proofs.WebLemmas.{asks_there}
 use Rattle.gos_windows.specs.Regions.{Serving, IsLoyal, IsRegion}
 use Rattle.gos_windows.specs.Nodes.{Stage, IsOfStage}
@@ -40,7 +41,6 @@ use Rattle.gos_numbers.specs.Kept.{IsKept}
 use Rattle.gos_numbers.specs.Inherited.{first_numbers, own_numbers, IsPart}
 use Rattle.gos_writes.specs.Written.{unread}
 use Rattle.gos_writes.specs.Assignments as assignments
-use Rattle.gos_assignments.proofs.LaidLemmas.{contact_of}
 use Rattle.gos_targets.specs.inner.Targets.{target_cut, target_stage}
 use Rattle.gos_targets.proofs.UnreadLemmas.{unread_web}
 use Rattle.gos_targets.proofs.FoldLemmas.{HasTarget, reading, fold, outside, has_child, laid_reading, target_is_fold, target_web, target_is_region}
@@ -49,6 +49,14 @@ use Rattle.gos_targets.proofs.OtherLemmas.{variable_part, number_part}
 use Rattle.gos_targets.proofs.SideLemmas.{variable_is_child, number_is_child, has_target, has_parts, assign_at}
 use Rattle.gos_targets.proofs.CoverLemmas.{covered_so}
 use Rattle.gos_targets.proofs.PlanLemmas.{wired_plan}
+
+-- an end of a right plan has a contact
+contact_of : (c : Plan) → IsRight c → (e : End) → StandsIn c e → (k : Contact) × (contact_at c e ≡ Some k)
+contact_of c right e (j, listed, stands) = by_end (which_end e j stands)
+  where
+    by_end : (e ≡ j.asking) ⊎ (e ≡ j.serving) → (k : Contact) × (contact_at c e ≡ Some k)
+    by_end (inl is) = let it = fits c [] c.joints j right (contained c.joints j listed) in (asks it.0 it.1, ap (contact_at c) is ∙ it.2)
+    by_end (inr is) = let it = fits c [] c.joints j right (contained c.joints j listed) in (serves it.0 it.1, ap (contact_at c) is ∙ it.3)
 
 module _ (types : Types) (ns : List ℕ) (ss : List Split) (w : ℕ) (m n : Numbered) (kept : IsKept types ns (Two Com ss OfAssign m n))
     (var : type_of_node m ≡ Var w) (num : type_of_node n ≡ Exp w)

@@ -6,8 +6,8 @@ use Rattle.gos_types.specs.declared.shakes.Role.TheVariants.{Serve, Ask}
 use Rattle.gos_types.specs.Types.{IsGround}
 use Rattle.gos_check.specs.Nodes.{Numbered, type_of_node}
 use Rattle.gos_plan.specs.Kinds.{Contact, serves, turned_contact}
-use Rattle.gos_plan.specs.Plans.{End, PartEnd, ImportEnd, ResultEnd, Joint, Plan, contact_at, same_end}
-use Rattle.gos_plan.proofs.JointLemmas.{IsIn, same_is, contained}
+use Rattle.gos_plan.specs.Plans.{End, PartEnd, ImportEnd, ResultEnd, Joint, Plan, contact_at, same_end, IsRight}
+use Rattle.gos_plan.proofs.JointLemmas.{IsIn, same_is, fits, contained}
 use Rattle.gos_realises.specs.Regular.{count}
 use Rattle.gos_ties.specs.declared.points.Place.TheVariants as places
 use Rattle.gos_webs.specs.Webs.{Dot, Of, Number, Within, Tie, tie, Way, here, along, Web, Connects, IsOfWeb, joint}
@@ -21,7 +21,6 @@ use Rattle.gos_stages.proofs.ChildTieLemmas.{put_in, of_supplies, of_supply}
 use Rattle.gos_writes.specs.Written.{unread_joints, unread}
 use Rattle.gos_writes.proofs.JoinedLemmas.{was_in, unread_right}
 use Rattle.gos_writes.proofs.AskedLemmas.{ground_asks}
-use Rattle.gos_assignments.proofs.ReadLemmas.{no_result}
 
 -- joints without those of handshake 0
 kept_in : (x : Joint) (js : List Joint) → same_end x.asking (ResultEnd 0) ≡ false → IsIn x js → IsIn x (unread_joints js)
@@ -34,6 +33,12 @@ kept_in x (j ∷ js) apart (inr later) = by_test (same_end j.asking (ResultEnd 0
     by_test : (b : Bool) → IsIn x (unread_joints js) → IsIn x (if b then unread_joints js else j ∷ unread_joints js)
     by_test true there = there
     by_test false there = inr there
+
+-- no result serves
+no_result : (p : Plan) → IsRight p → IsGround p.outcome → (h : ℕ) (x : Joint) → IsIn x p.joints → x.serving ≡ ResultEnd h → ⊥
+no_result p right ground h x there is =
+    let fit = fits p [] p.joints x right there in
+    let role : Ask ≡ Serve = ground_asks p.outcome ground h (serves fit.0 fit.1) (ap (contact_at p) (sym is) ∙ fit.3) in cc role
 
 -- where an end stands: what reads at a point of its own
 abbrev pub unread_at : (End → Dot) → End → Dot

@@ -1,7 +1,7 @@
 // Assignments whose left part is any node of a variable, wired to supplies: their two sides, that they realise their terms, and
 // that they are regular and rest.
 //
-// Definitions and laws alone. Read `specs/Targets`, `specs/Cases`, and then laws.rt.
+// Definitions and laws alone. Read `specs/inner/Targets`, `specs/Cases`, and then laws.rt.
 #![tactic(auto)]
 
 mod laws;

@@ -1,3 +1,7 @@
 mod RegularLemmas
+mod LeafLemmas
 mod RealisedLemmas
+mod ImportLemmas
+mod LiteralLemmas
+mod SuppliedLemmas
 mod ModuleLemmas

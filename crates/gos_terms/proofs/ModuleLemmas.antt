@@ -6,16 +6,17 @@ use Rattle.gos_model.specs.Typing.{Typed}
 use Rattle.gos_check.specs.Nodes.{node_seen}
 use Rattle.gos_check.specs.Checked.{SeenLinear, program_in}
 use Rattle.gos_compile.specs.Wiring.{Types, all_types}
+use Rattle.gos_ports.specs.Ports.{HaveWidths, WidthsAreHad}
 use Rattle.gos_wired.specs.Modules.{numbers_from}
 use Rattle.gos_wired.specs.Regular.{RegularWired}
 use Rattle.gos_wired.specs.Fitting.{CheckedFits}
 use Rattle.gos_numbers.specs.Kept.{CheckedIsKept}
 use Rattle.gos_numbers.specs.Unsplit.{CheckedIsUnsplit}
-use Rattle.gos_modules.proofs.ModuleLemmas.{ModuleLaws, whole_realises, differ_there, typed_there, own_literals}
-use Rattle.gos_modules.proofs.ImportLemmas.{names_differ}
+use Rattle.gos_terms.proofs.SuppliedLemmas.{ModuleLaws, whole_realises, differ_there, typed_there, own_literals}
+use Rattle.gos_terms.proofs.ImportLemmas.{names_differ, widths_are_had}
 use Rattle.gos_opened.specs.Opened.{ModuleIsRegular}
 use Rattle.gos_terms.specs.Terms.{TermIsRegular, TermIsRealised}
-use Rattle.gos_terms.specs.Modules.{ModuleIsOpen, ModuleIsRealised}
+use Rattle.gos_terms.specs.Modules.{ModuleIsOpen, ModuleIsRealised, ModuleHasWidths}
 
 abbrev types_of : SeenLinear → Types
 types_of l = all_types (program_in l).imports (node_seen l.term)
@@ -44,3 +45,7 @@ module_is_realised opened term modules kept unsplit fits l w p c of slim =
       slim = slim;
       open_imports = opened l w p c of;
     }
+
+-- the imports' types are written, so their widths are such
+pub module_has_widths : WidthsAreHad → ModuleHasWidths
+module_has_widths had l w p c of = subst HaveWidths (sym of.imports) (had (program_in l).imports (widths_are_had l.imports c.imports))

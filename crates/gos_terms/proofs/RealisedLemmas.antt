@@ -18,7 +18,7 @@ use Rattle.gos_calls.specs.Functions.{FunctionCase}
 use Rattle.gos_paired.specs.Cases.{BothCase}
 use Rattle.gos_targets.specs.Cases.{AnyAssignCase}
 use Rattle.gos_opened.specs.Opened.{RealisedIsRegular, SteadyIsRealised}
-use Rattle.gos_modules.proofs.NodeLemmas.{has_leaves}
+use Rattle.gos_terms.proofs.LeafLemmas.{has_leaves}
 use Rattle.gos_terms.specs.Terms.{TermIsRegular, TermIsRealised}
 
 -- the laws of the forms, and of what their parts inherit

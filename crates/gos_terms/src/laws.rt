@@ -1,6 +1,6 @@
 // The plan of a checked module realises it. Each theorem is the contract of a function that does nothing.
 ghost use Rattle.gos_terms.specs.Terms.{TermIsRegular, TermIsRealised};
-ghost use Rattle.gos_terms.specs.Modules.{ModuleIsOpen, ModuleIsRealised};
+ghost use Rattle.gos_terms.specs.Modules.{ModuleIsOpen, ModuleIsRealised, ModuleHasWidths};
 
 /// A node of a typed term, wired to supplies, is regular and rests where these are and do, and realises its term where these
 /// realise theirs.
@@ -29,9 +29,11 @@ pub fn wired_terms()
 }
 
 /// The plan of a checked module realises its program with any supplies; and so it realises the module, if it is slim.
+/// The numbers of its imported variables fit widths.
 pub fn modules()
     ensures any { ModuleIsOpen }
     ensures realised { ModuleIsRealised }
+    ensures widths { ModuleHasWidths }
 {
     wired_terms();
     gos_numbers::checked_is_kept();
@@ -41,4 +43,5 @@ pub fn modules()
     gos_meanings::meanings();
     gos_typing::supplies();
     gos_opened::modules();
+    gos_ports::ports();
 }

@@ -30,9 +30,9 @@ use std::alloc::Global;
 /// writes the plan of its module. `link BUILD` reads the build file and the object files of its instances, links their
 /// plans, and writes the netlist of a circuit of the whole and its Verilog text. `sim NET PULSES TRACE` reads a netlist and a
 /// pulse file, runs the netlist and writes the trace. `build BUILD` reads the build file, compiles the source of each instance
-/// as `compile` does, links their plans and writes the circuit as `link` does, and runs it as `sim` does; it takes modules of
-/// ground types. `demo N` writes the files of a demo of N levels, and then does what `build demo.txt` does. Each status but
-/// `NoMemory` has its cause; want of memory may end a command anywhere.
+/// as `compile` does, links their plans and writes the circuit as `link` does, and runs it as `sim` does. `demo N` writes the
+/// files of a demo of N levels, and then does what `build demo.txt` does. Each status but `NoMemory` has its cause; want of
+/// memory may end a command anywhere.
 pub fn run<S: Store, O: Sink>(alloc: Global, words: &[String], store: &mut S, out: &mut O) -> Status
     // Other words are answered with the usage line, and no file is touched.
     ensures usage { result ≡ Status.Usage → MeanNothing (texts words.now) }

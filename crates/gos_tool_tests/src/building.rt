@@ -12,6 +12,14 @@ const ONE: &[u8] =
 const TWO: &[u8] =
     b"gosbuild 1\ninst main main.gos main.obj\ninst k k.gos k.obj\nbind main e k\nroot main\nnet out.net\nverilog out.v\npulses in.pls\ntrace out.trc\n";
 
+/// A build of two instances, of which the second serves the import `f` of the first.
+const CALLED: &[u8] =
+    b"gosbuild 1\ninst main main.gos main.obj\ninst k k.gos k.obj\nbind main f k\nroot main\nnet out.net\nverilog out.v\npulses in.pls\ntrace out.trc\n";
+
+/// The pulses of that build's run, in their order.
+const CALLS: &[u8] =
+    b"main.run\nv.write 1\nv.done\nv.write 1\nv.done\nv.write 2\nv.done\nv.write 2\nv.done\nmain.done\ncycles 300000\n";
+
 /// A build of two instances with one source.
 const TWICE: &[u8] =
     b"gosbuild 1\ninst main main.gos main.obj\ninst p k.gos p.obj\ninst q k.gos q.obj\nbind main a p\nbind main b q\nroot main\nnet out.net\nverilog out.v\npulses in.pls\ntrace out.trc\n";
@@ -191,20 +199,50 @@ fn instances_are_compiled_and_linked(rt: HostRuntime) -> Result<(), Fail> {
     Ok(())
 }
 
+// A procedure is called with the write of a variable, twice, and runs it twice each time.
 #[test]
-fn higher_modules_are_not_built(rt: HostRuntime) -> Result<(), Fail> {
+fn functions_are_built(rt: HostRuntime) -> Result<(), Fail> {
+    let alloc = rt.alloc();
+    let sources = [
+        (
+            b"main.gos".as_slice(),
+            b"import f : com -> com import v : var 8 export f (v := 1:8) ; f (v := 2:8) : com".as_slice(),
+        ),
+        (b"k.gos".as_slice(), b"export fun a : com . a ; a : com -> com".as_slice()),
+    ];
+    let pulses =
+        b"cycles 300000\nnext 0 main.run\nnext 0 v.done\nnext 0 v.done\nnext 0 v.done\nnext 0 v.done\n";
+    let left = built(alloc, files(alloc, CALLED, &sources, pulses)?)?;
+    assert_eq!(rt; left.code, 0);
+    assert!(rt; left.out.bytes() == b"ok weight 84 cycles 300000 pulses 10 unused 0\n".as_slice());
+    let trace = left.store.get(b"out.trc").unwrap_or(b"");
+    assert!(rt; events(alloc, trace)?.as_slice() == CALLS);
+    Ok(())
+}
+
+// An argument is called by name: asked twice, it is summed twice. Of a pair of handlers one is used.
+#[test]
+fn arguments_and_pairs_are_built(rt: HostRuntime) -> Result<(), Fail> {
     let alloc = rt.alloc();
     let rows = [
-        "import f : com -> com import v : var 8 export f (v := 1:8) ; f (v := 2:8) : com",
-        "import e : exp 8 export (fun x : exp 8 . x + x) e : exp 8",
-        "import c : com import d : com export (fun p : com * com . fst p) (c, d) : com",
-        "import f : com * com export skip : com",
+        (
+            "import e : exp 8 export (fun x : exp 8 . x + x) e : exp 8",
+            "cycles 20000\nnext 0 main.ask\nnext 0 e.ans 3\nnext 0 e.ans 4\n",
+            "ok weight 32 cycles 20000 pulses 6 unused 0\n",
+            "main.ask\ne.ask\ne.ans 3\ne.ask\ne.ans 4\nmain.ans 7\ncycles 20000\n",
+        ),
+        (
+            "import c : com import d : com export (fun p : com * com . fst p) (c, d) : com",
+            "cycles 20000\nnext 0 main.run\nnext 0 c.done\n",
+            "ok weight 41 cycles 20000 pulses 4 unused 0\n",
+            "main.run\nc.run\nc.done\nmain.done\ncycles 20000\n",
+        ),
     ];
-    for source in rows {
-        let left = built_alone(alloc, source.as_bytes(), RUN)?;
-        assert_eq!(rt; left.code, 2);
-        assert!(rt; left.out.bytes() == b"main.gos: not built\n".as_slice());
-        assert!(rt; left.store.get(b"main.obj").is_none());
+    for (source, pulses, line, trace) in rows {
+        let left = built_alone(alloc, source.as_bytes(), pulses.as_bytes())?;
+        assert_eq!(rt; left.code, 0);
+        assert!(rt; left.out.bytes() == line.as_bytes());
+        assert!(rt; events(alloc, left.store.get(b"out.trc").unwrap_or(b""))?.as_slice() == trace.as_bytes());
     }
     Ok(())
 }
@@ -223,8 +261,8 @@ fn later_files_are_rejected(rt: HostRuntime) -> Result<(), Fail> {
         (
             "import e : com export e : com",
             "export fun a : com . a : com -> com",
-            "k.gos: not built\n",
-            false,
+            "b.txt: B4 line 4 want com got fun com com\n",
+            true,
         ),
         (
             "import e : exp 4 export e : exp 4",

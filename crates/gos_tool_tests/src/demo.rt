@@ -29,20 +29,34 @@ fn demo(alloc: Global, number: &str) -> Result<Left, AllocError> {
     Ok(Left { code, out, store })
 }
 
-// Its modules are not ground, so its first source is refused, once all its files are there.
 #[test]
 fn files_of_three_levels_are_written(rt: HostRuntime) -> Result<(), Fail> {
     let alloc = rt.alloc();
     let left = demo(alloc, "3")?;
-    assert_eq!(rt; left.code, 2);
-    assert!(rt; left.out.bytes() == b"demo_main.gos: not built\n".as_slice());
+    assert_eq!(rt; left.code, 0);
     assert!(rt; left.store.get(b"demo.txt").unwrap_or(b"") == THREE);
     assert!(rt; left.store.get(b"demo.pls").unwrap_or(b"") == PULSES);
     assert!(rt;
         left.store.get(b"demo_pair.gos").unwrap_or(b"")
             == b"import f : com -> com export fun a : com . f (fst (a, skip)) : com -> com\n".as_slice()
     );
-    assert!(rt; left.store.get(b"demo.net").is_none());
+    Ok(())
+}
+
+// The command is run twice, since the first level calls the second twice.
+#[test]
+fn each_number_of_levels_is_run(rt: HostRuntime) -> Result<(), Fail> {
+    let alloc = rt.alloc();
+    let rows = [
+        ("1", "ok weight 75 cycles 19200 pulses 6 unused 0\n"),
+        ("4", "ok weight 179 cycles 40800 pulses 6 unused 0\n"),
+        ("12", "ok weight 435 cycles 98400 pulses 6 unused 0\n"),
+    ];
+    for (number, line) in rows {
+        let left = demo(alloc, number)?;
+        assert_eq!(rt; left.code, 0);
+        assert!(rt; left.out.bytes() == line.as_bytes());
+    }
     Ok(())
 }
 

@@ -4,14 +4,12 @@ use Rattle.gos_outside.specs.Files.{Files}
 use Rattle.gos_outside.specs.OtherFiles.{IsApart}
 use Rattle.gos_lines.specs.Lines.{Word}
 use Rattle.gos_syntax.specs.Modules.{SeenModule}
-use Rattle.gos_check.specs.Checked.{SeenLinear}
 use Rattle.gos_plan.specs.Plans.{Plan}
 use Rattle.gos_plan.specs.Seen.{SeenPlan}
 use Rattle.gos_link.specs.declared.build.Instance.{Instance}
-use Rattle.gos_objects.specs.Typed.{IsTypedAs}
+use Rattle.gos_objects.specs.Checked.{SaysModule}
 use Rattle.gos_objects.specs.Compiled.{IsPlanOfModule}
-use Rattle.gos_modules.specs.Ground.{IsGroundModule}
-use Rattle.gos_build.specs.Objects.{SaysGround, objects_of, AreWritten}
+use Rattle.gos_build.specs.Objects.{objects_of, AreWritten}
 
 -- the source of each of these instances is none of these files
 abbrev pub EachApart : List Instance → List Word → Type 0
@@ -22,15 +20,10 @@ EachApart (i ∷ is) names = IsApart i.source names × EachApart is names
 abbrev pub AreApart : List Instance → Type 0
 AreApart is = EachApart is (objects_of is)
 
--- the text is that of a module that is accepted and ground, and for which this checked module stands
-pub record IsGroundAs (text : List ℕ) (linear : SeenLinear) : Type 0 where
-  pub typed : IsTypedAs text linear
-  pub ground : IsGroundModule typed.made
-
--- the text is that of a ground module with this plan
+-- the text is that of a module with this plan
 pub record IsCompiledAs (text : List ℕ) (plan : Plan) : Type 0 where
   pub made : SeenModule
-  pub says : SaysGround text made
+  pub says : SaysModule text made
   pub compiled : IsPlanOfModule made plan
 
 -- the objects of the first instances were written with these plans

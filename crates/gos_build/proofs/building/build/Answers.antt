@@ -33,7 +33,7 @@ returns-in-Ok-clause-done g c =
     let b = c.in-Ok.build in
     of_result (λ (report : Report). IfSome mid (λ files. AreInstancesBuilt files new b report)) (λ (report : Report). IfSome old (λ files. IsBuilt files new own report))
     c.build_instances.result
-    (λ report h. built c.paced_modules.ensures.linked c.paced_modules.ensures.imports c.paced_modules.ensures.weight c.paced_modules.ensures.small
+    (λ report h. built c.paced_modules.ensures.linked c.paced_modules.ensures.imports c.paced_modules.ensures.typed c.paced_modules.ensures.weight c.paced_modules.ensures.small
     old mid new own b report c.in_ok-text.ensures.same_files (said_by g c) h) c.build_instances.ensures.done
 
 pub returns-in-Ok-clause-rejected : goal.returns-in-Ok-clause-rejected

@@ -18,7 +18,7 @@ returns-clause-made g c =
 
 pub returns-clause-failed_call : goal.returns-clause-failed_call
 returns-clause-failed_call g c = λ failed.
-    instance_call (g.S.Store.contents c.args.store.now) (g.S.Store.contents c.ground_module_in.new.store) (g.S.Store.contents c.write_plan.new.store) c.args.instance.now
+    instance_call (g.S.Store.contents c.args.store.now) (g.S.Store.contents c.module_in.new.store) (g.S.Store.contents c.write_plan.new.store) c.args.instance.now
     c.bytes.result.now c.bytes-2.result.now c.in_ok-linear.linear (g.S.Store.last_fault c.write_plan.new.store)
     c.bytes.ensures.bytes c.bytes-2.ensures.bytes c.in_ok-linear.ensures.same_files c.in_ok-linear.ensures.typed (c.write_plan.ensures.failed_call failed)
     c.write_plan.ensures.others

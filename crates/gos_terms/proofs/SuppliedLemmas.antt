@@ -1,9 +1,9 @@
--- The plan of a checked module of ground types, joined to supplies, is its term's node wired to them, and realises what it means with these.
+-- The plan of a checked module, joined to supplies, is its term's node wired to them, and realises what it means with these.
 use Rattle.std.specs.Prelude.{◌≡◌, ℕ, true, List, [], Option, Some, All, length, slice_get}
 use Rattle.std.specs.Str.{bytes_eq}
 use Rattle.std.proofs.Common.{sym, ◌∙◌, ap, subst, arith}
 use Rattle.std.proofs.lemmas.Slice.Eq.{bytes_eq-Decides}
-use Rattle.gos_types.specs.Types.{Type', IsGround, type_of}
+use Rattle.gos_types.specs.Types.{Type', type_of}
 use Rattle.gos_model.specs.Terms as terms
 use Rattle.gos_model.specs.Terms.{Term, Name}
 use Rattle.gos_model.specs.Typing.{Imports, import_type, Typed}
@@ -15,26 +15,23 @@ use Rattle.gos_plan.specs.Kinds.{Part}
 use Rattle.gos_plan.specs.Plans.{Plan}
 use Rattle.gos_plan.specs.TokenBits.{LiteralFits}
 use Rattle.gos_realises.specs.Links.{IsJoined}
-use Rattle.gos_realises.specs.Realises.{AllGround, NamesDiffer, Realises}
-use Rattle.gos_realises.specs.Modules.{Supply, AreSupplied, term_for, supplying, RealisesOpen}
+use Rattle.gos_realises.specs.Realises.{NamesDiffer, Realises}
+use Rattle.gos_realises.specs.Modules.{Supply, AreSupplied, term_for, supplying}
 use Rattle.gos_realises.proofs.PlaceLemmas.{contains_at}
 use Rattle.gos_renumbered.proofs.ImportLemmas.{type_has}
 use Rattle.gos_compile.specs.Wiring.{Types, IsPlanOf, all_types}
 use Rattle.gos_renumbered.proofs.SupplyLemmas.{supply_of, import_for, at_term}
 use Rattle.gos_typing.specs.Supplied.{SuppliedIsTyped}
-use Rattle.gos_ports.specs.Ports.{HaveWidths, WidthsAreHad, OpenIsRealised}
 use Rattle.gos_meanings.specs.Meanings.{ModuleIsSupplied}
 use Rattle.gos_wired.specs.Wired.{Supplies, AreRealised, terms_of}
 use Rattle.gos_wired.specs.Modules.{supply_at, numbers_from}
 use Rattle.gos_wired.specs.Fitting.{CheckedFits, CheckedIsWired}
 use Rattle.gos_wired.specs.NodeFitting.{CheckedStarts}
 use Rattle.gos_numbers.specs.Kept.{CheckedIsKept}
-use Rattle.gos_numbers.specs.Unsplit.{CheckedIsUnsplit}
 use Rattle.gos_grounds.specs.Cases.{RealisesWired}
-use Rattle.gos_modules.specs.Modules.{GroundIsRealised, IsGroundLinear, CheckedIsOpen, CheckedIsRealised, PortsAreGround}
-use Rattle.gos_modules.proofs.NodeLemmas.{has_leaves, node_ground}
-use Rattle.gos_modules.proofs.LiteralLemmas.{literals_fit, joined_fit}
-use Rattle.gos_modules.proofs.ImportLemmas.{names_differ, widths_are_had, import_there, term_there}
+use Rattle.gos_terms.proofs.LeafLemmas.{has_leaves}
+use Rattle.gos_terms.proofs.LiteralLemmas.{literals_fit, joined_fit}
+use Rattle.gos_terms.proofs.ImportLemmas.{names_differ, import_there, term_there}
 
 -- the laws of nodes, and of modules
 pub record ModuleLaws : Type 0 where
@@ -127,29 +124,3 @@ module _ (l : SeenLinear) (w : ℕ) (p : Plan) (c : IsChecked l) (of : IsPlanOf 
           (joined_fit p.imports p r ss are join own_literals) whole_typed in
           subst (λ (t : Type'). Realises t r (supplied (term_for p.imports ss) (program_in l).body)) (sym (of.outcome ∙ same_type))
           (subst (λ (m : Term). Realises (type_of_node node) r m) (sym means) node_realised)
-
-pub checked_is_open : ModuleLaws → GroundIsRealised → CheckedIsUnsplit → CheckedIsOpen
-checked_is_open laws law unsplit l w p c ground of ss r are join differ =
-    let types : Types = all_types (program_in l).imports (node_seen l.term) in
-    let realised = law types (numbers_from 0 (length (program_in l).imports)) (node_seen l.term) (laws.kept l c) ground.nodes (unsplit l c).0 in
-    whole_realises l w p c of laws realised ss r are join differ
-
-pub ports_are_ground : CheckedFits → WidthsAreHad → PortsAreGround
-ports_are_ground fits had l w p c ground of = (
-  subst AllGround (sym of.imports) ground.imports,
-  subst HaveWidths (sym of.imports) (had (program_in l).imports (widths_are_had l.imports c.imports)),
-  subst IsGround (sym (of.outcome ∙ (fits l w p c of).0)) (node_ground (node_seen l.term) ground.nodes),
-)
-
-pub checked_is_realised : CheckedIsOpen → OpenIsRealised → PortsAreGround → CheckedIsRealised
-checked_is_realised law as_ports are l w p c ground of slim =
-    let any : RealisesOpen p (program_in l).body = law l w p c ground of in
-    let (all_ground, wide, outcome) = are l w p c ground of in
-    record {
-      right = of.right;
-      names = differ_there l w p c of;
-      typed = subst (λ (t : Type'). Typed p.imports [] (program_in l).body t) (sym of.outcome) (typed_there l w p c of);
-      regular = (as_ports p (program_in l).body of.right all_ground wide (differ_there l w p c of) any).suits.regular;
-      slim = slim;
-      open_imports = any;
-    }

@@ -1,7 +1,6 @@
 -- The imports of a checked module have different names, widths, and supplies with their terms.
 use Rattle.std.specs.Prelude.{◌≡◌, ◌≢◌, ℕ, zero, suc, List, [], ◌∷◌, map, Some, Contains, slice_get}
 use Rattle.std.proofs.Common.{refl, sym, ◌∙◌, ap, subst, arith}
-use Rattle.gos_types.specs.Types.{IsGround}
 use Rattle.gos_types.specs.Widths.{HasWidths}
 use Rattle.gos_syntax.specs.Modules.{SeenImport}
 use Rattle.gos_model.specs.Terms as terms
@@ -11,7 +10,7 @@ use Rattle.gos_model.specs.Sources.{import_of}
 use Rattle.gos_check.specs.Accepted as accepted
 use Rattle.gos_check.specs.Accepted.{IsNew, AreWritten}
 use Rattle.gos_check.specs.Linearity.{import_at}
-use Rattle.gos_realises.specs.Realises.{AllGround, NamesDiffer}
+use Rattle.gos_realises.specs.Realises.{NamesDiffer}
 use Rattle.gos_realises.specs.Modules.{Supply}
 use Rattle.gos_meanings.specs.Meanings.{term_or}
 use Rattle.gos_wired.specs.Modules.{supply_at}
@@ -31,11 +30,6 @@ widths_are_had [] written j (k, small, at) = absurd (omega (arith, small))
 widths_are_had (i ∷ is) written j (zero, small, at) =
     let there : import_of i ≡ j = at in subst (λ (y : Imported). HasWidths y.ty) there written.0.0
 widths_are_had (i ∷ is) written j (suc k, small, at) = widths_are_had is written.1 j (k, omega (arith, small), at)
-
-pub ground_at : (is : Imports) (n : ℕ) (x : Imported) → AllGround is → slice_get is n ≡ Some x → IsGround x.ty
-ground_at [] n x ground at = absurd (cc at)
-ground_at (i ∷ is) zero x ground at = let same : i ≡ x = cc at in subst (λ (y : Imported). IsGround y.ty) same ground.0
-ground_at (i ∷ is) (suc n) x ground at = ground_at is n x ground.1 at
 
 -- the number of an import's name is its place
 pub import_there : (is : Imports) (n : ℕ) (x : Name) → import_at is n ≡ terms.Import x → (i : Imported) × (slice_get is n ≡ Some i)
