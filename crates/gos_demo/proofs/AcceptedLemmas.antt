@@ -1,5 +1,5 @@
 -- A text that is written as an accepted module has no fault, and says no other module.
-use Rattle.std.proofs.Common.{◌≡◌, ◌≢◌, ℕ, ◌≤◌, List, length, map, Option, Some, None, Ok, Err, refl, sym, ◌∙◌, ap, subst, arith}
+use Rattle.std.proofs.Common.{◌≡◌, ◌≢◌, ℕ, ◌≤◌, List, length, Option, Some, None, Ok, Err, refl, sym, ◌∙◌, ap, arith}
 use Rattle.std.specs.Prelude.{MatchOption}
 use Rattle.std.proofs.lemmas.List.{length-map}
 use Rattle.gos_lex.specs.declared.token.Token.{Token}
@@ -8,7 +8,7 @@ use Rattle.gos_lex.specs.declared.fault.LexFault.TheVariants as lex
 use Rattle.gos_lex.specs.Tokens as lexing
 use Rattle.gos_lex.specs.Tokens.{Reading, Reads, readings_of}
 use Rattle.gos_lex.proofs.OneReadingLemmas.{reads_in_one_way, faults_exclude_tokens}
-use Rattle.gos_types.specs.Types.{Type', type_of}
+use Rattle.gos_types.specs.Types.{type_of}
 use Rattle.gos_syntax.specs.declared.fault.SyntaxFault.{SyntaxFault}
 use Rattle.gos_syntax.specs.declared.fault.SyntaxFault.TheVariants as syntax
 use Rattle.gos_syntax.specs.Items.{Item, items_of}
@@ -17,13 +17,11 @@ use Rattle.gos_syntax.specs.ModuleTrees.{ModuleTree, module_tree}
 use Rattle.gos_syntax.specs.ParsedModules as parsing
 use Rattle.gos_syntax.specs.ParsedModules.{IsModule, IsParsed}
 use Rattle.gos_syntax.proofs.OneTreeLemmas.{has_one_tree}
-use Rattle.gos_syntax.proofs.WrittenLemmas.{Written, Read, written_reads}
-use Rattle.gos_model.specs.Moves.{Program}
+use Rattle.gos_syntax.proofs.WrittenLemmas.{Written, written_reads}
 use Rattle.gos_model.specs.Weight.{weight}
 use Rattle.gos_model.specs.Sources.{program_of}
 use Rattle.gos_check.specs.declared.fault.CheckFault.{CheckFault}
 use Rattle.gos_check.specs.declared.fault.CheckFault.TheVariants as check
-use Rattle.gos_check.specs.Accepted.{weighed}
 use Rattle.gos_check.specs.Faults.{Fault, Found, Refuses, fault_of}
 use Rattle.gos_check.specs.Judgements.{module_judged}
 use Rattle.gos_demo.proofs.ScanLemmas.{AreRead, are_read}
@@ -39,9 +37,6 @@ pub record IsAccepted (text : List ℕ) (rs : List Reading) (tree : List Item �
   pub judged : (items : List Item) → tree_judged (tree items) ≡ Ok w
 
 -- its tokens
-abbrev read_as : {text : List ℕ} {rs : List Reading} {tree : List Item → ModuleTree} {w : ℕ} → IsAccepted text rs tree w → Read text 0 rs
-read_as {text} {rs} is = written_reads text rs is.written
-
 pub same_tokens : {text : List ℕ} {rs : List Reading} {tree : List Item → ModuleTree} {w : ℕ} (is : IsAccepted text rs tree w) (tokens : List Token) → Reads text 0 tokens None
     → readings_of text tokens ≡ rs
 same_tokens {text} {rs} is tokens reads =

@@ -1,38 +1,24 @@
 -- Bind lines that pass a test are right, and mean nothing else.
 --
 -- The test compares names and types, and sees that each giver has a greater number than its user, so that there is no ring.
-use Rattle.std.proofs.Common.{◌≡◌, ◌≢◌, ◌⊎◌, inl, inr, ℕ, ◌<◌, zero, suc, Bool, true, false, true≢false, ◌&&◌, nat_eq, nat_lt, List, [], ◌∷◌, ◌++◌, map, Option, Some, None, slice_get, refl, sym, ◌∙◌, ap, subst, arith}
-use Rattle.std.proofs.lemmas.Bool.Decides.{nat_tests}
+use Rattle.std.proofs.Common.{◌≡◌, ◌≢◌, inl, inr, ℕ, ◌<◌, Bool, true, false, true≢false, ◌&&◌, nat_eq, nat_lt, List, [], ◌∷◌, ◌++◌, Option, Some, None, slice_get, refl, sym, ◌∙◌, ap, subst, arith}
 use Rattle.gos_types.specs.Types.{Type', type_of}
 use Rattle.gos_check.specs.Demands.{same_type}
 use Rattle.gos_check.proofs.TypeLemmas.{one_of_same}
 use Rattle.gos_lines.specs.Lines.{Word}
 use Rattle.gos_model.specs.Typing.{Imported}
 use Rattle.gos_plan.specs.declared.plan.PlanImport.{PlanImport}
-use Rattle.gos_plan.specs.Seen.{SeenPlan, plan_of, import_of}
+use Rattle.gos_plan.specs.Seen.{SeenPlan}
 use Rattle.gos_link.specs.declared.build.Instance.{Instance}
 use Rattle.gos_link.specs.declared.build.Bind.{Bind}
 use Rattle.gos_link.specs.declared.services.Service.{Service}
 use Rattle.gos_link.specs.declared.fault.LinkFault.{LinkFault}
 use Rattle.gos_link.specs.declared.fault.LinkFault.TheVariants as faults
 use Rattle.gos_link.specs.Services.{instance_named, import_named, NamesBoth, NamesAll, Means, first_bound, first_used, HasService, Gives, once, on, HasRing, IsRightBind, IsWrongBind, BindsOn}
-use Rattle.gos_demo.proofs.SortLemmas.{Sort, IsOf, AreOf, plan_at, named_in, same_named, import_at}
+use Rattle.gos_demo.proofs.TestLemmas.{front_true, back_true, equal_by, less_by, some_none}
+use Rattle.gos_demo.proofs.SortLemmas.{Sort, AreOf, plan_at, named_in, same_named, import_at}
 
 -- tests
-front_true : (a b : Bool) → (a && b) ≡ true → a ≡ true
-front_true true b e = refl
-front_true false b e = e
-
-back_true : (a b : Bool) → (a && b) ≡ true → b ≡ true
-back_true true b e = e
-back_true false b e = absurd (true≢false (sym e))
-
-equal_by : (a b : ℕ) → nat_eq a b ≡ true → a ≡ b
-equal_by a b e = grind (arith, nat_tests)
-
-less_by : (a b : ℕ) → nat_lt a b ≡ true → a < b
-less_by a b e = grind (arith, nat_tests)
-
 abbrev is_number : Option ℕ → ℕ → Bool
 is_number None k = false
 is_number (Some n) k = nat_eq n k
@@ -95,14 +81,18 @@ means_by is ps ss b s are e =
     let giver = plan_at ps ss s.giver found.giver are found.is_giver in
     let import = import_at user.0.imports found.user.imports s.import found.import user.2.imports found.at in
     let type : type_of import.0.ty ≡ found.import.ty = ap (λ (i : Imported). i.ty) import.2 in
-    let result : found.giver.outcome ≡ type_of giver.0.outcome = sym giver.2.outcome in
-    (user.0, giver.0, import.0, equal_by s.line b.line (front_true _ _ more),
-     record {
-       both = record { finds_user = number_by _ s.user (front_true _ _ e); finds_giver = number_by _ s.giver (front_true _ _ rest); of_user = user.1; of_giver = giver.1 };
-       named = same_named user.0.imports b.import ∙ (ap (λ (is : List Imported). named_in is b.import) user.2.imports ∙ found.named);
-       import = import.1;
-     },
-     type ∙ (found.fits ∙ result))
+    let result : found.giver.outcome ≡ type_of giver.0.outcome = sym giver.2.outcome in (
+      user.0,
+      giver.0,
+      import.0,
+      equal_by s.line b.line (front_true _ _ more),
+      record {
+        both = record { finds_user = number_by _ s.user (front_true _ _ e); finds_giver = number_by _ s.giver (front_true _ _ rest); of_user = user.1; of_giver = giver.1 };
+        named = same_named user.0.imports b.import ∙ (ap (λ (is : List Imported). named_in is b.import) user.2.imports ∙ found.named);
+        import = import.1;
+      },
+      type ∙ (found.fits ∙ result),
+    )
 
 -- no ring
 abbrev pub AllRise : List Service → Type 0
@@ -145,21 +135,19 @@ binds_by is ps ss before (b ∷ bs) (s ∷ services) are rise e =
     let unbound = back_true _ _ e in
     let unused = back_true _ _ unbound in
     let rising = back_true _ _ unused in
-    let one : s.user < s.giver = less_by s.user s.giver (front_true _ _ rising) in
-    (record {
-       means = means_by is ps ss b s are (front_true _ _ e);
-       unbound = nothing_by _ (front_true _ _ unbound);
-       unused = nothing_by _ (front_true _ _ unused);
-       ringless = no_ring (s ∷ before) (one, rise);
-     },
-     binds_by is ps ss (before ++ s ∷ []) bs services are (more_rise before s rise one) (back_true _ _ rising))
+    let one : s.user < s.giver = less_by s.user s.giver (front_true _ _ rising) in (
+      record {
+        means = means_by is ps ss b s are (front_true _ _ e);
+        unbound = nothing_by _ (front_true _ _ unbound);
+        unused = nothing_by _ (front_true _ _ unused);
+        ringless = no_ring (s ∷ before) (one, rise);
+      },
+      binds_by is ps ss (before ++ s ∷ []) bs services are (more_rise before s rise one) (back_true _ _ rising),
+    )
 
 -- A line means one thing.
 same_some : {X : Type 0} (o : Option X) (x y : X) → o ≡ Some x → o ≡ Some y → x ≡ y
 same_some o x y e f = let h : Some x ≡ Some y = sym e ∙ f in cc h
-
-some_none : {X : Type 0} (o : Option X) (x : X) → o ≡ Some x → o ≡ None → ⊥
-some_none o x e f = let h : Some x ≡ None = sym e ∙ f in absurd (cc h)
 
 same_get : {X : Type 0} (xs : List X) (i j : ℕ) (x y : X) → i ≡ j → slice_get xs i ≡ Some x → slice_get xs j ≡ Some y → x ≡ y
 same_get xs i j x y e one other = same_some (slice_get xs i) x y one (ap (λ (k : ℕ). slice_get xs k) e ∙ other)

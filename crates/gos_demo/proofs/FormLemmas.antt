@@ -8,7 +8,6 @@ use Rattle.std.specs.List.{list_all}
 use Rattle.std.specs.Global.{Vec}
 use Rattle.std.proofs.lemmas.Slice.Eq.{bytes_eq-Decides}
 use Rattle.std.proofs.lemmas.List.Elements.{All-nil, All-cons}
-use Rattle.std.proofs.lemmas.Bool.Decides.{nat_tests}
 use denote.RawPtr.{null_ptr}
 use Rattle.gos_outside.specs.FileName.{IsFileByte, IsFileName}
 use Rattle.gos_lex.specs.Names.{spells_name, IsName}
@@ -20,21 +19,11 @@ use Rattle.gos_link.specs.declared.said.Role.TheVariants as roles
 use Rattle.gos_link.specs.declared.said.Said.{Said}
 use Rattle.gos_link.specs.declared.said.Said.TheVariants as says
 use Rattle.gos_link.specs.declared.said.Item.{Item}
-use Rattle.gos_demo.specs.DemoFiles.{IsLevelCount, source_of, build_file}
+use Rattle.gos_demo.specs.DemoFiles.{source_of, build_file}
+use Rattle.gos_demo.proofs.TestLemmas.{front_true, back_true, equal_by, less_by}
 use Rattle.gos_demo.proofs.PlainLemmas.{digits_of, plain_text, text_plain}
 
 -- tests of numbers and of words
-less_by : (a b : ℕ) → nat_lt a b ≡ true → a < b
-less_by a b e = grind (arith, nat_tests)
-
-front_true : (a b : Bool) → (a && b) ≡ true → a ≡ true
-front_true true b e = refl
-front_true false b e = e
-
-back_true : (a b : Bool) → (a && b) ≡ true → b ≡ true
-back_true true b e = e
-back_true false b e = absurd (true≢false (sym e))
-
 one_true : (a b : Bool) → (a || b) ≡ true → (a ≡ true) ⊎ (b ≡ true)
 one_true true b e = inl refl
 one_true false b e = inr e
@@ -64,9 +53,6 @@ range_by low high b e =
     let below : nat_lt b (high + 1) ≡ true = back_true _ _ e in
     let least = less_by low (b + 1) above in
     let most = less_by b (high + 1) below in (omega (arith, least), omega (arith, most))
-
-equal_by : (a b : ℕ) → nat_eq a b ≡ true → a ≡ b
-equal_by a b e = grind (arith, nat_tests)
 
 byte_by : (b : ℕ) → is_file_byte b ≡ true → IsFileByte b
 byte_by b e = letter (one_true _ _ e)

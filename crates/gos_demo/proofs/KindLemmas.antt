@@ -1,10 +1,10 @@
 -- What the demo's sources are: texts of accepted modules, whose plans are known but for their parts and joints.
-use Rattle.std.proofs.Common.{◌≡◌, ◌≢◌, ℕ, ◌≤◌, zero, suc, List, [], ◌∷◌, length, map, take, Option, Some, None, slice_get, refl, sym, ◌∙◌, ap, subst, arith}
+use Rattle.std.proofs.Common.{◌≡◌, ℕ, zero, suc, List, [], ◌∷◌, length, map, take, Some, slice_get, refl, sym, ◌∙◌, ap, subst, arith}
 use Rattle.std.specs.Prelude.{codes}
 use Rattle.std.proofs.lemmas.List.{take_all}
 use Rattle.gos_outside.specs.Files.{Files, bytes_at}
 use Rattle.gos_lex.specs.Tokens.{Reading}
-use Rattle.gos_types.specs.Types.{Type', Com, Fun, type_of}
+use Rattle.gos_types.specs.Types.{Type', Com, Fun}
 use Rattle.gos_syntax.specs.Items.{Item, items_of}
 use Rattle.gos_syntax.specs.Modules.{SeenModule}
 use Rattle.gos_syntax.specs.ModuleTrees.{ModuleTree}

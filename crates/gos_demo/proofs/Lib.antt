@@ -1,4 +1,5 @@
 pub mod PlainLemmas
+mod TestLemmas
 mod BuildFileLemmas
 mod TextLemmas
 mod WritingLemmas

@@ -1,12 +1,12 @@
 -- A short text passes no limit of nesting or of imports.
-use Rattle.std.proofs.Common.{◌≡◌, ℕ, ◌+◌, ◌*◌, ◌<◌, ◌≤◌, zero, suc, Bool, true, false, List, [], ◌∷◌, length, max, if◌then◌else◌, refl, arith}
+use Rattle.std.proofs.Common.{ℕ, ◌+◌, ◌*◌, ◌≤◌, zero, suc, Bool, true, false, List, [], ◌∷◌, length, max, if◌then◌else◌, arith}
 use Rattle.gos_lex.specs.declared.word.Word.TheVariants as words
 use Rattle.gos_lex.specs.declared.sign.Sign.TheVariants as signs
 use Rattle.gos_lex.specs.declared.token.Token.{Token}
 use Rattle.gos_lex.specs.Tokens.{Reading, AName, ANumber, AWord, ASign}
 use Rattle.std.proofs.Math.Nat.{le-max_left, le-max_right, max-le}
 use Rattle.gos_syntax.specs.Items.{Item, items_of}
-use Rattle.gos_syntax.specs.OpenTokens.{Levels, with_item, with_open, with_close, past, levels_before, items_in, deepest_in, at_first, open_before, is_import, imports_before, IsTooDeep, IsExtraImport}
+use Rattle.gos_syntax.specs.OpenTokens.{Levels, with_item, with_open, with_close, past, levels_before, items_in, deepest_in, at_first, is_import, imports_before}
 use Rattle.gos_syntax.specs.Firsts.{NoneIsDeep, NoneIsExtra}
 
 -- how many tokens are open

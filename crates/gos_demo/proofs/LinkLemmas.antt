@@ -1,16 +1,14 @@
 -- A build whose lines pass a test has no fault of linking, whatever its plans are but for their imports, results and weights.
 --
 -- The root is the first instance and gives a command, and one import is left: a command of the root's, of another name.
-use Rattle.std.proofs.Common.{◌≡◌, ◌≢◌, ◌⊎◌, inl, inr, ℕ, ◌+◌, ◌*◌, ◌<◌, ◌≤◌, zero, suc, Bool, true, false, true≢false, nat_lt, List, [], ◌∷◌, length, map, Option, Some, None, slice_get, refl, sym, ◌∙◌, ap, subst, arith}
+use Rattle.std.proofs.Common.{◌≡◌, ◌≢◌, inl, inr, ℕ, ◌<◌, ◌≤◌, zero, suc, true, false, true≢false, nat_lt, List, [], ◌∷◌, length, map, Some, None, slice_get, sym, ◌∙◌, ap, subst, arith}
 use Rattle.std.specs.Prelude.{codes}
 use Rattle.std.specs.Str.{bytes_eq}
 use Rattle.std.proofs.lemmas.Slice.Eq.{bytes_eq-Decides}
 use Rattle.std.proofs.lemmas.List.{length-map}
-use Rattle.std.proofs.lemmas.Bool.Decides.{nat_tests}
 use Rattle.gos_types.specs.Types.{Type', Com, IsGround}
 use Rattle.gos_lines.specs.Lines.{Word}
 use Rattle.gos_model.specs.Typing.{Imported}
-use Rattle.gos_plan.specs.Kinds.{Part}
 use Rattle.gos_plan.specs.Plans.{Plan}
 use Rattle.gos_plan.specs.Seen.{SeenPlan}
 use Rattle.gos_plan.specs.Size.{shakes_of, plan_size}
@@ -22,8 +20,9 @@ use Rattle.gos_link.specs.declared.services.Service.{Service}
 use Rattle.gos_link.specs.declared.fault.LinkFault.{LinkFault}
 use Rattle.gos_link.specs.declared.fault.LinkFault.TheVariants as faults
 use Rattle.gos_link.specs.Services.{instance_named, BindsOn}
-use Rattle.gos_link.specs.Linked.{links_of, plans_of, whole_of, outcome_of, Port, port_of, ports_of, IsSecond, IsDone, IsFirstHigher, first_unplaced, IsPlaced, count_ports, IsLinked, IsWrongWhole, IsUnlinked}
-use Rattle.gos_link.specs.Answers.{JointsAreFew, all_joints}
+use Rattle.gos_link.specs.Linked.{links_of, plans_of, whole_of, outcome_of, Port, port_of, IsSecond, IsDone, IsFirstHigher, first_unplaced, IsPlaced, count_ports, IsLinked, IsWrongWhole, IsUnlinked}
+use Rattle.gos_link.specs.Answers.{JointsAreFew}
+use Rattle.gos_demo.proofs.TestLemmas.{less_by, some_none}
 use Rattle.gos_demo.proofs.SortLemmas.{Sort, AreOf, bare_plans, same_links, same_left, same_outcome, same_weight, each_right, few_parts, few_joints}
 use Rattle.gos_demo.proofs.BindLemmas.{binds, binds_by, binds_once}
 
@@ -43,12 +42,6 @@ pub record IsLinkable (is : List Instance) (bs : List Bind) (root : Word) (ss : 
   pub left : left_among (links_of (bare_plans ss) services) 0 (bare_plans ss) ≡ left_c ∷ []
   pub done : outcome_of (slice_get (bare_plans ss) 0) ≡ Com
   pub light : nat_lt (all_weight (bare_plans ss)) 32769 ≡ true
-
-some_none : {X : Type 0} (o : Option X) (x : X) → o ≡ Some x → o ≡ None → ⊥
-some_none o x e f = let h : Some x ≡ None = sym e ∙ f in absurd (cc h)
-
-less_by : (a b : ℕ) → nat_lt a b ≡ true → a < b
-less_by a b e = grind (arith, nat_tests)
 
 names_differ : (a b : Word) → bytes_eq a b ≡ false → a ≢ b
 names_differ a b e same = true≢false (sym ((bytes_eq-Decides a b).1 same) ∙ e)

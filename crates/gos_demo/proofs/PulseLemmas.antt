@@ -1,12 +1,9 @@
 -- The demo's pulse file is never rejected.
-use Rattle.std.proofs.Common.{◌≡◌, ◌⊎◌, inl, inr, ℕ, suc, List, [], ◌∷◌, ◌++◌, reverse, map, refl, ap, sym, ◌∙◌, subst}
-use Rattle.std.specs.Prelude.{codes}
-use Rattle.gos_lines.specs.Lines.{Word}
-use Rattle.gos_types.specs.Types.{Com}
-use Rattle.gos_netlist.specs.Nets.{Side, Give, Take, NetPort, Netlist}
+use Rattle.std.proofs.Common.{◌≡◌, ℕ, suc, List, [], ◌∷◌, subst}
+use Rattle.gos_netlist.specs.Nets.{Netlist}
 use Rattle.gos_netlist.specs.Settling.{Numbers}
 use Rattle.gos_model.specs.Labels.{Label}
-use Rattle.gos_pulse.specs.Driving.{at_entries, BreaksFrom, IsBroken, BreaksAs}
+use Rattle.gos_pulse.specs.Driving.{BreaksFrom, BreaksAs}
 use Rattle.gos_pulse.specs.PulseFile.{IsPulseFile, IsRefused}
 use Rattle.gos_pulse.specs.OneAnswer.{IsOneFile, FilesAreNotRefused}
 use Rattle.gos_pulse.specs.declared.entries.Entry.{Entry}

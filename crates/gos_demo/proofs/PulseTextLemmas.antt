@@ -1,18 +1,17 @@
 -- What the demo's pulse file says, for every circuit with the demo's ports.
-use Rattle.std.proofs.Common.{◌≡◌, ◌≤◌, ◌<◌, ◌∙◌, ◌+◌, ◌*◌, ◌/◌, ◌%◌, ◌^◌, ℕ, zero, suc, true, false, List, [], ◌∷◌, ◌++◌, length, map, None, Some, slice_get, refl, ap, sym, subst, arith}
+use Rattle.std.proofs.Common.{◌≡◌, ◌≤◌, ◌<◌, ◌∙◌, ◌+◌, ◌/◌, ◌%◌, ℕ, zero, suc, true, false, List, [], ◌∷◌, ◌++◌, length, None, slice_get, refl, ap, sym, subst, arith}
 use Rattle.std.specs.Prelude.{codes, IsTrue}
 use Rattle.std.specs.Fmt.{decimal}
 use Rattle.std.proofs.lemmas.Fmt.{decimal_digit, decimal_step}
 use Rattle.gos_lex.specs.Names.{spells_name, IsNameOrWord}
 use Rattle.gos_lex.specs.Numerals.{is_numeral, value_of}
-use Rattle.gos_types.specs.Types.{Type', Com}
+use Rattle.gos_types.specs.Types.{Com}
 use Rattle.gos_lines.specs.Lines.{Word, Words, Statement, statements_of}
-use Rattle.gos_lines.specs.Numbers.{IsNumber}
 use Rattle.gos_netlist.specs.declared.event.Event.{Event}
 use Rattle.gos_netlist.specs.Nets.{Side, Give, Take, NetPort, Netlist}
 use Rattle.gos_netlist.specs.Events.{events, port_events, events_from, events_of}
 use Rattle.gos_pulse.specs.EventNames.{event_word, dotted, name_of, IsInput}
-use Rattle.gos_pulse.specs.Entries.{IsRunLength, IsEntry, IsValue}
+use Rattle.gos_pulse.specs.Entries.{IsEntry, IsValue}
 use Rattle.gos_pulse.specs.PulseFile.{ReadsEntries, SaysPulses, IsPulseFile}
 use Rattle.gos_pulse.specs.declared.entries.Entry.{Entry}
 use Rattle.gos_demo.specs.DemoFiles.{IsLevelCount, line, cycles_of, pulse_file}
@@ -167,9 +166,13 @@ entries_read net cycles has =
     let c_named = name_is (codes "c") refl (omega arith) in
     let done_named = name_is (codes "done") refl (omega arith) in (
       is_next net cycles 0 0 run_main (codes "main") (codes "run") (omega arith) refl (name_is (codes "main") refl (omega arith)) (name_is (codes "run") refl (omega arith)) (main_input net has),
-      (is_next net cycles 1 3 done_c (codes "c") (codes "done") (omega arith) refl c_named done_named (c_input net has),
-      (is_next net cycles 2 3 done_c (codes "c") (codes "done") (omega arith) refl c_named done_named (c_input net has),
-      refl)),
+      (
+        is_next net cycles 1 3 done_c (codes "c") (codes "done") (omega arith) refl c_named done_named (c_input net has),
+        (
+          is_next net cycles 2 3 done_c (codes "c") (codes "done") (omega arith) refl c_named done_named (c_input net has),
+          refl,
+        ),
+      ),
     )
 
 plain_file : (k : ℕ) (net : Netlist) → k ≤ 11 → HasPorts net → Tested (suc k) → IsPulseFile net (plain_pulses (suc k)) (cycles_of (suc k)) entries

@@ -1,13 +1,11 @@
 -- The build of the demo's files is never rejected.
-use Rattle.std.proofs.Common.{◌≡◌, ◌⊎◌, inl, inr, ℕ, zero, suc, ◌≤◌, List, [], ◌∷◌, length, map, Option, Some, None, unwrap_or, refl, ap, sym, ◌∙◌, subst, arith}
+use Rattle.std.proofs.Common.{◌≡◌, inl, inr, ℕ, zero, suc, ◌≤◌, List, [], ◌∷◌, length, map, Option, Some, unwrap_or, refl, ap, ◌∙◌, subst, arith}
 use Rattle.std.specs.Prelude.{codes, IfSome}
 use Rattle.std.specs.FinMap.{get}
-use Rattle.std.proofs.lemmas.List.{length-map}
 use Rattle.gos_outside.specs.Files.{Files, bytes_at}
 use Rattle.gos_lines.specs.Lines.{Word}
-use Rattle.gos_types.specs.Types.{Type', Com}
-use Rattle.gos_model.specs.Typing.{Imported}
-use Rattle.gos_netlist.specs.Nets.{Side, Give, Take, NetPort, Netlist}
+use Rattle.gos_types.specs.Types.{Com}
+use Rattle.gos_netlist.specs.Nets.{Give, NetPort, Netlist}
 use Rattle.gos_netcheck.specs.Accepted.{IsAccepted}
 use Rattle.gos_pulse.specs.OneAnswer.{IsOneFile, FilesAreNotRefused}
 use Rattle.gos_plan.specs.Plans.{Plan}
@@ -15,7 +13,7 @@ use Rattle.gos_plan.specs.Seen.{SeenPlan}
 use Rattle.gos_link.specs.declared.build.Build.{Build}
 use Rattle.gos_link.specs.declared.fault.LinkFault.TheVariants as faults
 use Rattle.gos_link.specs.BuildFile.{IsBuildFile}
-use Rattle.gos_link.specs.Linked.{IsLinked, IsUnlinked}
+use Rattle.gos_link.specs.Linked.{IsUnlinked}
 use Rattle.gos_link.specs.declared.fault.LinkFault.{LinkFault}
 use Rattle.gos_syntax.specs.Modules.{SeenModule}
 use Rattle.gos_link.specs.Answers.{IsOneBuild, BuildHasNoWrongLine, JointsAreFew}
@@ -24,16 +22,15 @@ use Rattle.gos_command.specs.declared.status.Cause.TheVariants as causes
 use Rattle.gos_command.specs.declared.status.Fault.{Fault}
 use Rattle.gos_circuits.specs.Circuit.{Face, face_of, taken_face, plan_faces}
 use Rattle.gos_circuits.specs.Plans.{IsPlansCause, IsBuildFault}
-use Rattle.gos_circuits.specs.Linked.{SaysBuild, IsFormCause}
+use Rattle.gos_circuits.specs.Linked.{IsFormCause}
 use Rattle.gos_simulate.specs.Simulation.{IsPulseCause, IsPulseFault}
 use Rattle.gos_build.specs.Objects.{HavePlans, AllWritten, RejectsModule}
-use Rattle.gos_build.specs.Built.{RejectsPulses, RejectsPlans, RejectsInstances, RejectsBuild}
+use Rattle.gos_build.specs.Built.{RejectsPulses, RejectsInstances, RejectsBuild}
 use Rattle.gos_demo.specs.DemoFiles.{IsLevelCount, pulse_file, build_file, demo_files}
-use Rattle.gos_demo.specs.Demo.{with_demo, Holds, HoldsEach}
+use Rattle.gos_demo.specs.Demo.{Holds, HoldsEach}
 use Rattle.gos_demo.proofs.FormLemmas.{demo_build}
-use Rattle.gos_demo.proofs.HoldLemmas.{demo_held}
-use Rattle.gos_demo.proofs.KindLemmas.{Kind, AMain, ATwice, APass, APair, AnId, source_of, HoldSources, no_fault, plans_are, kind_at}
-use Rattle.gos_demo.proofs.SortLemmas.{AreOf, as_many}
+use Rattle.gos_demo.proofs.KindLemmas.{AMain, ATwice, APass, APair, AnId, HoldSources, no_fault, plans_are, kind_at}
+use Rattle.gos_demo.proofs.SortLemmas.{AreOf}
 use Rattle.gos_demo.proofs.LinkLemmas.{command_c, not_unlinked, linked_ports}
 use Rattle.gos_demo.proofs.DemoLinkLemmas.{kinds, sorts, services, IsDemoBuild, is_demo_build}
 use Rattle.gos_demo.proofs.PulseTextLemmas.{HasPorts}

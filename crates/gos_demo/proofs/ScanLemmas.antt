@@ -1,5 +1,5 @@
 -- Texts that are written token by token, with a space behind most tokens.
-use Rattle.std.proofs.Common.{◌≡◌, ℕ, ◌+◌, ◌<◌, ◌≤◌, zero, suc, List, [], ◌∷◌, ◌++◌, length, map, Option, Some, None, refl, sym, ◌∙◌, ap, arith, IsTrue, true, false}
+use Rattle.std.proofs.Common.{◌≡◌, ℕ, zero, suc, List, [], ◌∷◌, ◌++◌, Option, Some, None, refl, ◌∙◌, ap, arith, true, false}
 use Rattle.gos_lex.specs.declared.word.Word.{Word}
 use Rattle.gos_lex.specs.declared.sign.Sign.{Sign}
 use Rattle.gos_lex.specs.declared.sign.Sign.TheVariants as signs

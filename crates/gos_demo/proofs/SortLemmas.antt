@@ -1,22 +1,22 @@
 -- What is known of the plans of a build: of each its imports, its result and its weight.
-use Rattle.std.proofs.Common.{◌≡◌, ℕ, ◌+◌, ◌*◌, ◌<◌, ◌≤◌, zero, suc, Bool, cond, not, nat_lt, List, [], ◌∷◌, ◌++◌, length, map, Option, Some, None, slice_get, refl, sym, ◌∙◌, ap, subst, arith, length-append}
-use Rattle.std.specs.List.{position, position_or_len, prefix_len}
+use Rattle.std.proofs.Common.{◌≡◌, ℕ, ◌+◌, ◌*◌, ◌≤◌, zero, suc, cond, not, nat_lt, List, [], ◌∷◌, ◌++◌, length, map, Option, Some, None, slice_get, refl, sym, ◌∙◌, subst, arith, length-append}
+use Rattle.std.specs.List.{position, prefix_len}
 use Rattle.std.specs.Str.{bytes_eq}
 use Rattle.std.proofs.lemmas.List.{length-map}
-use Rattle.gos_types.specs.Types.{Type', Com, type_of}
+use Rattle.gos_types.specs.Types.{Type'}
 use Rattle.gos_lines.specs.Lines.{Word}
 use Rattle.gos_model.specs.Typing.{Imported}
 use Rattle.gos_plan.specs.declared.plan.PlanImport.{PlanImport}
 use Rattle.gos_plan.specs.Kinds.{Part, part_contacts}
 use Rattle.gos_plan.specs.Plans.{Plan, IsRight, contacts_of_import}
 use Rattle.gos_plan.specs.Seen.{SeenPlan, import_of, plan_of}
-use Rattle.gos_plan.specs.Joining.{Link, LeftImport, left_in, left_among, all_parts, all_weight}
+use Rattle.gos_plan.specs.Joining.{Link, left_in, left_among, all_parts, all_weight}
 use Rattle.gos_plan.specs.Size.{shakes_of}
 use Rattle.gos_realises.specs.Slim.{IsSlim, all_shakes}
 use Rattle.gos_link.specs.Answers.{EachRight, all_joints}
 use Rattle.gos_link.specs.declared.services.Service.{Service}
 use Rattle.gos_link.specs.Services.{import_named}
-use Rattle.gos_link.specs.Linked.{imports_of, outcome_of, shakes_at, links_from, links_of, plans_of}
+use Rattle.gos_link.specs.Linked.{imports_of, outcome_of, links_from, links_of, plans_of}
 
 -- the imports, the result and the weight of a plan
 pub record Sort : Type 0 where
@@ -110,12 +110,6 @@ same_weight [] (s ∷ ss) are = absurd are
 same_weight (p ∷ ps) [] are = absurd are
 same_weight (p ∷ ps) (s ∷ ss) are =
     let one : p.weight ≡ s.weight = are.0.weight in λ i. one i + same_weight ps ss are.1 i
-
-pub as_many : (ps : List SeenPlan) (ss : List Sort) → AreOf ps ss → length ps ≡ length ss
-as_many [] [] are = refl
-as_many [] (s ∷ ss) are = absurd are
-as_many (p ∷ ps) [] are = absurd are
-as_many (p ∷ ps) (s ∷ ss) are = ap suc (as_many ps ss are.1)
 
 pub each_right : (ps : List SeenPlan) (ss : List Sort) → AreOf ps ss → EachRight (plans_of ps)
 each_right [] [] are = tt

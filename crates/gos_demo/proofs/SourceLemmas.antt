@@ -1,5 +1,5 @@
 -- The demo's sources are texts of accepted modules.
-use Rattle.std.proofs.Common.{◌≡◌, ℕ, ◌≤◌, List, [], ◌∷◌, length, Ok, refl, arith}
+use Rattle.std.proofs.Common.{refl, arith}
 use Rattle.gos_demo.specs.DemoFiles.{main_source, twice_source, pass_source, pair_source, id_source}
 use Rattle.gos_demo.proofs.SourceTexts.{main_read, twice_read, pass_read, pair_read, id_read, main_written, twice_written, pass_written, pair_written, id_written}
 use Rattle.gos_demo.proofs.SourceTrees.{main_tree, twice_tree, pass_tree, pair_tree, id_tree, main_derived, twice_derived, pass_derived, pair_derived, id_derived}

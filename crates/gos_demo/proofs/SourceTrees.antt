@@ -1,5 +1,5 @@
 -- The modules that the demo's sources are.
-use Rattle.std.proofs.Common.{◌≡◌, ◌+◌, ℕ, List, [], ◌∷◌, ◌++◌, refl}
+use Rattle.std.proofs.Common.{◌+◌, ℕ, List, [], ◌∷◌, ◌++◌, refl}
 use Rattle.gos_lex.specs.Tokens.{Reading}
 use Rattle.gos_types.specs.Types as types
 use Rattle.gos_syntax.specs.Items.{Item, span_of}
@@ -82,9 +82,11 @@ main_derived items is =
       whole =
           record {
             exported = 10;
-            imports =
-                (6, f_imported items main_rest is,
-                 (10, record { word = is 6; name = is 7; name_span = refl; colon = is 8; ty = command items 9 10 refl (is 9); ty_span = refl }, refl));
+            imports = (
+              6,
+              f_imported items main_rest is,
+              (10, record { word = is 6; name = is 7; name_span = refl; colon = is 8; ty = command items 9 10 refl (is 9); ty_span = refl }, refl),
+            );
             word = is 10;
             colon = 13;
             body = term items 11 13 (call items 11 12 13 f c) (called items 11 12 13 f c refl refl (is 11) (is 12));
@@ -102,9 +104,11 @@ twice_derived items is =
       whole =
           record {
             exported = 6;
-            imports =
-                (6, f_imported items twice_rest is,
-                 refl);
+            imports = (
+              6,
+              f_imported items twice_rest is,
+              refl,
+            );
             word = is 6;
             colon = 17;
             body =
@@ -127,9 +131,11 @@ pass_derived items is =
       whole =
           record {
             exported = 6;
-            imports =
-                (6, f_imported items pass_rest is,
-                 refl);
+            imports = (
+              6,
+              f_imported items pass_rest is,
+              refl,
+            );
             word = is 6;
             colon = 14;
             body =
@@ -170,9 +176,11 @@ pair_derived items is =
       whole =
           record {
             exported = 6;
-            imports =
-                (6, f_imported items pair_rest is,
-                 refl);
+            imports = (
+              6,
+              f_imported items pair_rest is,
+              refl,
+            );
             word = is 6;
             colon = 21;
             body =

@@ -7,7 +7,7 @@ use Rattle.gos_types.specs.Types.{type_of}
 use Rattle.gos_syntax.specs.Trees.{tree_of}
 use Rattle.gos_syntax.specs.Modules.{SeenImport, SeenModule}
 use Rattle.gos_syntax.specs.ModuleTrees.{ImportTree, ModuleTree, import_tree, module_tree}
-use Rattle.gos_model.specs.Typing.{Imported, Imports}
+use Rattle.gos_model.specs.Typing.{Imported}
 use Rattle.gos_model.specs.Moves.{Program}
 use Rattle.gos_model.specs.Weight.{weight}
 use Rattle.gos_model.specs.Sources.{import_of, term_of, program_of}
