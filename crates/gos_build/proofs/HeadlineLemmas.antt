@@ -46,11 +46,11 @@ use Rattle.gos_build.proofs.PacedLemmas.{same_imports}
 use Rattle.gos_build.proofs.RoleLemmas.{roles_differ}
 
 -- the modules of instances that begin with them, and are as many
-say_modules : (files : Files) (is : List Instance) (ms : List SeenModule) → BeginWith files is ms → length ms ≡ length is → SayModules files is ms
+pub say_modules : (files : Files) (is : List Instance) (ms : List SeenModule) → BeginWith files is ms → length ms ≡ length is → SayModules files is ms
 say_modules files [] [] begin all = tt
 say_modules files (i ∷ is) [] begin all = absurd (omega (arith, all))
 say_modules files [] (m ∷ ms) begin all = absurd begin
-say_modules files (i ∷ is) (m ∷ ms) begin all = (begin.0.says, say_modules files is ms begin.1 (omega (arith, all)))
+say_modules files (i ∷ is) (m ∷ ms) begin all = (begin.0, say_modules files is ms begin.1 (omega (arith, all)))
 
 -- an import's name is that under which it is found
 named_so : (is : List PlanImport) (name : Word) (k : ℕ) (x : PlanImport) → import_named is name ≡ Some k → slice_get is k ≡ Some x → x.name ≡ name
@@ -84,7 +84,7 @@ found_last files name bytes =
     ap (λ (o : Option Word). unwrap_or o [])
     (get-insert nat_list_cmp_total files name bytes name ∙ ap (λ (b : Bool). cond b (Some bytes) (get files name)) ((eq_by_cmp_equiv nat_list_cmp_total).refl name))
 
-found_before : (files : Files) (name bytes other : Word) → other ≢ name → bytes_at (insert files name bytes) other ≡ bytes_at files other
+pub found_before : (files : Files) (name bytes other : Word) → other ≢ name → bytes_at (insert files name bytes) other ≡ bytes_at files other
 found_before files name bytes other apart = ap (λ (o : Option Word). unwrap_or o []) (others_keep files name bytes other apart)
 
 -- three files that are written one after another, with three names
