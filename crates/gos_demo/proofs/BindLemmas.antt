@@ -1,7 +1,7 @@
 -- Bind lines that pass a test are right, and mean nothing else.
 --
 -- The test compares names and types, and sees that each giver has a greater number than its user, so that there is no ring.
-use Rattle.std.proofs.Common.{◌≡◌, ◌≢◌, inl, inr, ℕ, ◌<◌, Bool, true, false, true≢false, ◌&&◌, nat_eq, nat_lt, List, [], ◌∷◌, ◌++◌, Option, Some, None, slice_get, refl, sym, ◌∙◌, ap, subst, arith}
+use Rattle.std.proofs.Common.{◌≡◌, inl, inr, ℕ, ◌<◌, Bool, true, false, true≢false, ◌&&◌, nat_eq, nat_lt, List, [], ◌∷◌, ◌++◌, Option, Some, None, slice_get, refl, sym, ◌∙◌, ap, subst, arith}
 use Rattle.gos_types.specs.Types.{Type', type_of}
 use Rattle.gos_check.specs.Demands.{same_type}
 use Rattle.gos_check.proofs.TypeLemmas.{one_of_same}
