@@ -1,29 +1,26 @@
 -- How `demo` ends, from how the build of its files ends.
-use Rattle.std.proofs.Common.{◌≡◌, inl, inr, ℕ, List, [], Option, Some, None, Result, unwrap_or, ap, sym, subst}
+use Rattle.std.proofs.Common.{◌≡◌, inl, inr, refl, ℕ, List, [], Option, Some, None, Result, unwrap_or, ap, sym, subst}
 use Rattle.std.specs.Prelude.{IfSome, IfOk, IfErr}
 use Rattle.gos_outside.specs.Files.{Files, bytes_at}
 use Rattle.gos_outside.specs.OtherFiles.{OthersSame}
 use Rattle.gos_outside.specs.Faults.{LastFault}
 use Rattle.gos_outside.proofs.OtherFilesLemmas.{none_yet, then_later, more_names, apart_front, apart_back}
 use Rattle.gos_lines.specs.Lines.{Word}
-use Rattle.gos_link.specs.Answers.{BuildHasNoWrongLine}
+use Rattle.gos_link.specs.Answers.{IsOneBuild, BuildHasNoWrongLine, JointsAreFew}
 use Rattle.gos_link.specs.BuildFile.{IsBuildFile}
 use Rattle.gos_link.specs.declared.build.Build.{Build}
-use Rattle.gos_link.specs.declared.fault.LinkFault.TheVariants as faults
 use Rattle.gos_command.specs.Ends.{IfStopped}
 use Rattle.gos_command.specs.declared.report.Report.{Report}
-use Rattle.gos_command.specs.declared.status.Cause.{Cause}
-use Rattle.gos_command.specs.declared.status.Cause.TheVariants as causes
 use Rattle.gos_command.specs.declared.status.Fault.{Fault}
 use Rattle.gos_command.specs.declared.stop.Stop.{Stop}
 use Rattle.gos_command.proofs.EndLemmas.{of_result, of_stop}
-use Rattle.gos_circuits.specs.Linked.{SaysBuild, IsFormCause}
+use Rattle.gos_circuits.specs.Linked.{SaysBuild}
 use Rattle.gos_build.specs.Built as building
 use Rattle.gos_build.specs.Built.{IsBuilt, RejectsBuild, IsBuildCall, IsBuildCutShort, KeepsUnnamed}
 use Rattle.gos_demo.specs.DemoFiles.{IsLevelCount, build_file, demo_files}
-use Rattle.gos_demo.specs.Demo.{with_files, with_demo, IsFront, IsWriting, HoldsEach, IsDemoDone, IsDemoRejected, IsDemoCall, IsDemoCutShort, names_of, built_by, written_by}
+use Rattle.gos_demo.specs.Demo.{with_files, with_demo, IsFront, IsWriting, HoldsEach, IsDemoDone, IsDemoCall, IsDemoCutShort, names_of, built_by, written_by}
 use Rattle.gos_demo.proofs.BuildFileLemmas.{demo_written}
-use Rattle.gos_demo.proofs.FormLemmas.{is_build}
+use Rattle.gos_demo.proofs.RejectLemmas.{IsOnePulseFile, PulseFilesAreNotRefused, not_rejected}
 use Rattle.gos_demo.proofs.HoldLemmas.{put, demo_held, demo_hold}
 
 -- the files of the demo are written
@@ -77,33 +74,21 @@ demo_done levels old mid new ended count between keeps =
     by None hold report built = tt
     by (Some files) hold report built = record { hold = hold; built = built }
 
--- a build file that is one is not rejected for its form
-for_form : (text name : List ℕ) (b : Build) (cause : Cause) → BuildHasNoWrongLine → IsBuildFile text name b → IsFormCause text name cause → ⊥
-for_form text name b (causes.Link (faults.Form line)) either is wrong = either text name b line is wrong
-for_form text name b (causes.Link fault) either is wrong = wrong
-for_form text name b cause either is wrong = wrong
-
-by_instances : (levels : ℕ) (files : Files) (new : Option Files) (fault : Fault) (line : List ℕ) → IsLevelCount levels → BuildHasNoWrongLine → HoldsEach new (demo_files levels)
-    → RejectsBuild (with_demo levels files) new (build_file levels).name fault line → IsDemoRejected files new levels fault line
-by_instances levels files new fault line count either hold (inl (form, same)) =
-    let is = is_build levels count in
-    absurd (for_form (build_file levels).text (build_file levels).name is.0 fault.cause either is.1
-    (subst (λ (text : List ℕ). IsFormCause text (build_file levels).name fault.cause) (own_text levels files) form.cause))
-by_instances levels files new fault line count either hold (inr (b, says, rejects)) = record { hold = hold; build = b; says = says; rejects = rejects }
-
-pub demo_rejected : (levels : ℕ) (old mid new : Option Files) (ended : Result Report Stop) → IsLevelCount levels → BuildHasNoWrongLine → IsBetween levels old mid
-    → KeepsUnnamed (build_file levels).name mid new
+-- no file is rejected
+pub demo_never_rejected : (levels : ℕ) (old mid new : Option Files) (ended : Result Report Stop) → IsLevelCount levels → IsOneBuild → BuildHasNoWrongLine → JointsAreFew
+    → IsOnePulseFile → PulseFilesAreNotRefused → IsBetween levels old mid → KeepsUnnamed (build_file levels).name mid new
     → IfErr ended (λ stop. IfStopped stop (λ fault line. IfSome mid (λ files. RejectsBuild files new (build_file levels).name fault line)))
-    → IfErr ended (λ stop. IfStopped stop (λ fault line. IfSome old (λ files. IsDemoRejected files new levels fault line)))
-demo_rejected levels old mid new ended count either between keeps =
-    of_stop (λ fault line. IfSome mid (λ files. RejectsBuild files new (build_file levels).name fault line)) (λ fault line. IfSome old (λ files. IsDemoRejected files new levels fault line)) ended
+    → IfErr ended (λ stop. IfStopped stop (λ fault line. old ≡ None))
+demo_never_rejected levels old mid new ended count one either few one_file read between keeps =
+    of_stop (λ fault line. IfSome mid (λ files. RejectsBuild files new (build_file levels).name fault line)) (λ fault line. old ≡ None) ended
     (λ fault line rejects. by old (kept_by levels old mid new count between keeps) fault line
     (lifted (λ files. RejectsBuild files new (build_file levels).name fault line) (λ files. RejectsBuild (with_demo levels files) new (build_file levels).name fault line) levels old mid between (λ files b. b) rejects))
   where
     by : (o : Option Files) → IfSome o (λ files. HoldsEach new (demo_files levels)) → (fault : Fault) (line : List ℕ)
-        → IfSome o (λ files. RejectsBuild (with_demo levels files) new (build_file levels).name fault line) → IfSome o (λ files. IsDemoRejected files new levels fault line)
-    by None hold fault line rejects = tt
-    by (Some files) hold fault line rejects = by_instances levels files new fault line count either hold rejects
+        → IfSome o (λ files. RejectsBuild (with_demo levels files) new (build_file levels).name fault line) → o ≡ None
+    by None held fault line rejects = refl
+    by (Some files) held fault line rejects =
+        absurd (not_rejected one either few one_file read levels (with_demo levels files) new fault line count (demo_held levels files) held (own_text levels files) rejects)
 
 pub demo_call : (levels : ℕ) (old mid new : Option Files) (fault : LastFault) → IsBetween levels old mid
     → IfSome mid (λ files. IsBuildCall files new (build_file levels).name fault) → IfSome old (λ files. IsDemoCall files new levels fault)

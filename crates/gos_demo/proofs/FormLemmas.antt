@@ -8,33 +8,22 @@ use Rattle.std.specs.List.{list_all}
 use Rattle.std.specs.Global.{Vec}
 use Rattle.std.proofs.lemmas.Slice.Eq.{bytes_eq-Decides}
 use Rattle.std.proofs.lemmas.List.Elements.{All-nil, All-cons}
-use Rattle.std.proofs.lemmas.Bool.Decides.{nat_tests}
 use denote.RawPtr.{null_ptr}
 use Rattle.gos_outside.specs.FileName.{IsFileByte, IsFileName}
 use Rattle.gos_lex.specs.Names.{spells_name, IsName}
 use Rattle.gos_lex.specs.Words.{is_word}
 use Rattle.gos_lines.specs.Lines.{Word, Words, Statement, statements_of}
-use Rattle.gos_link.specs.BuildFile.{nothing, sum_of, words_said, sort_of, IsNamed, may_follow, last_sort, is_new, IsRightAfter, ReadsOn, IsBuildFile}
+use Rattle.gos_link.specs.BuildFile.{nothing, sum_of, whole, words_said, sort_of, IsNamed, may_follow, last_sort, is_new, IsRightAfter, ReadsOn, IsBuildFile}
 use Rattle.gos_link.specs.declared.build.Build.{Build}
 use Rattle.gos_link.specs.declared.said.Role.TheVariants as roles
 use Rattle.gos_link.specs.declared.said.Said.{Said}
 use Rattle.gos_link.specs.declared.said.Said.TheVariants as says
 use Rattle.gos_link.specs.declared.said.Item.{Item}
-use Rattle.gos_demo.specs.DemoFiles.{IsLevelCount, source_of, build_file}
+use Rattle.gos_demo.specs.DemoFiles.{source_of, build_file}
+use Rattle.gos_demo.proofs.TestLemmas.{front_true, back_true, equal_by, less_by}
 use Rattle.gos_demo.proofs.PlainLemmas.{digits_of, plain_text, text_plain}
 
 -- tests of numbers and of words
-less_by : (a b : ℕ) → nat_lt a b ≡ true → a < b
-less_by a b e = grind (arith, nat_tests)
-
-front_true : (a b : Bool) → (a && b) ≡ true → a ≡ true
-front_true true b e = refl
-front_true false b e = e
-
-back_true : (a b : Bool) → (a && b) ≡ true → b ≡ true
-back_true true b e = e
-back_true false b e = absurd (true≢false (sym e))
-
 one_true : (a b : Bool) → (a || b) ≡ true → (a ≡ true) ⊎ (b ≡ true)
 one_true true b e = inl refl
 one_true false b e = inr e
@@ -64,9 +53,6 @@ range_by low high b e =
     let below : nat_lt b (high + 1) ≡ true = back_true _ _ e in
     let least = less_by low (b + 1) above in
     let most = less_by b (high + 1) below in (omega (arith, least), omega (arith, most))
-
-equal_by : (a b : ℕ) → nat_eq a b ≡ true → a ≡ b
-equal_by a b e = grind (arith, nat_tests)
 
 byte_by : (b : ℕ) → is_file_byte b ≡ true → IsFileByte b
 byte_by b e = letter (one_true _ _ e)
@@ -182,7 +168,7 @@ next_items line zero = []
 next_items line (suc n) = next_items line n ++ (record { line = line + n; said = says.Bind (level_name (suc n)) (codes "f") (level_name (n + 2)) } ∷ [])
 
 -- of k + 1 levels
-abbrev demo_items : ℕ → List Item
+abbrev pub demo_items : ℕ → List Item
 demo_items k =
     record { line = 1; said = says.Version } ∷ record { line = 2; said = says.Inst (codes "main") (codes "demo_main.gos") (codes "demo_main.obj") }
     ∷ (level_items (suc k)
@@ -224,25 +210,29 @@ tested (suc (suc (suc (suc (suc (suc (suc (suc (suc (suc zero)))))))))) few = re
 tested (suc (suc (suc (suc (suc (suc (suc (suc (suc (suc (suc zero))))))))))) few = record { short = refl; reads = refl; instances = refl; binds = refl; root = refl; net = refl; verilog = refl; pulses = refl; trace = refl }
 tested (suc (suc (suc (suc (suc (suc (suc (suc (suc (suc (suc (suc k)))))))))))) few = absurd (omega (arith, few))
 
-is_plain_build : (k : ℕ) → Tested k → (b : Build) × IsBuildFile (plain_text (suc k)) (codes "demo.txt") b
+-- the text says a build, and what its lines say together
+abbrev Says : ℕ → List ℕ → Type 0
+Says k text = (b : Build) × IsBuildFile text (codes "demo.txt") b × (sum_of nothing (demo_items k) ≡ whole b)
+
+is_plain_build : (k : ℕ) → Tested k → Says k (plain_text (suc k))
 is_plain_build k t =
     let instances : length (sum_of nothing (demo_items k)).instances < 100 = less_by _ _ t.instances in
     let binds : length (sum_of nothing (demo_items k)).binds < 100 = less_by _ _ t.binds in
     let short : length (plain_text (suc k)) < 65537 = less_by _ _ t.short in
-    let sum = sum_of nothing (demo_items k) in (
-      build_of (demo_items k) (2 * k + 7) (omega (arith, instances)) (omega (arith, binds)),
+    let sum = sum_of nothing (demo_items k) in
+    let made : Build = build_of (demo_items k) (2 * k + 7) (omega (arith, instances)) (omega (arith, binds)) in
+    let says : sum ≡ whole made =
+    λ i. record { instances = sum.instances; binds = sum.binds; root = t.root i; net = t.net i; verilog = t.verilog i; pulses = t.pulses i; trace = t.trace i } in (
+      made,
       record {
         short = omega (arith, short);
         items = demo_items k;
         reads = reads_by (codes "demo.txt") [] (statements_of (plain_text (suc k))) (demo_items k) t.reads;
-        says =
-            λ i. record { instances = sum.instances; binds = sum.binds; root = t.root i; net = t.net i; verilog = t.verilog i; pulses = t.pulses i; trace = t.trace i };
+        says = says;
       },
+      says,
     )
 
-pub is_build : (levels : ℕ) → IsLevelCount levels → (b : Build) × IsBuildFile (build_file levels).text (build_file levels).name b
-is_build zero count = let some = count.0 in absurd (omega (arith, some))
-is_build (suc k) count =
-    let few = count.1 in
-    let made = is_plain_build k (tested k (omega (arith, few))) in
-    (made.0, subst (λ (text : List ℕ). IsBuildFile text (codes "demo.txt") made.0) (sym (text_plain (suc k) count)) made.1)
+-- of k + 1 levels
+pub demo_build : (k : ℕ) → k ≤ 11 → (b : Build) × IsBuildFile (build_file (suc k)).text (build_file (suc k)).name b × (sum_of nothing (demo_items k) ≡ whole b)
+demo_build k few = subst (λ (text : List ℕ). Says k text) (sym (text_plain (suc k) (omega arith, omega (arith, few)))) (is_plain_build k (tested k few))

@@ -15,6 +15,7 @@ use Rattle.gos_outside.proofs.FilesLemmas.{others_keep}
 use Rattle.gos_lines.specs.Lines.{Word}
 use Rattle.gos_demo.specs.DemoFiles.{NamedText, main_source, twice_source, pass_source, pair_source, id_source, pulse_file, build_file, demo_files}
 use Rattle.gos_demo.specs.Demo.{holding, Holds, HoldsEach, with_demo, names_of, object_of, objects_of, built_by}
+use Rattle.gos_demo.proofs.TestLemmas.{front_true, back_true}
 
 -- a file that is not written
 kept : (fs : List NamedText) (files : Files) (name : Word) → IsApart name (names_of fs) → get (holding fs files) name ≡ get files name
@@ -47,14 +48,6 @@ is_apart name (other ∷ names) = not (bytes_eq name other) && is_apart name nam
 abbrev are_distinct : List Word → Bool
 are_distinct [] = true
 are_distinct (name ∷ names) = is_apart name names && are_distinct names
-
-front_true : (a b : Bool) → (a && b) ≡ true → a ≡ true
-front_true true b e = refl
-front_true false b e = e
-
-back_true : (a b : Bool) → (a && b) ≡ true → b ≡ true
-back_true true b e = e
-back_true false b e = absurd (true≢false (sym e))
 
 differ : (a b : Word) → not (bytes_eq a b) ≡ true → a ≢ b
 differ a b e same = true≢false (sym e ∙ ap not ((bytes_eq-Decides a b).1 same))

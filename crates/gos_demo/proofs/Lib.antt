@@ -1,7 +1,24 @@
 pub mod PlainLemmas
+mod TestLemmas
 mod BuildFileLemmas
 mod TextLemmas
 mod WritingLemmas
 mod HoldLemmas
 mod FormLemmas
+mod ScanLemmas
+mod LimitLemmas
+mod SourceTexts
+mod RuleLemmas
+mod SourceTrees
+mod TreeLemmas
+mod AcceptedLemmas
+mod SourceLemmas
+mod SortLemmas
+mod BindLemmas
+mod LinkLemmas
+mod KindLemmas
+mod DemoLinkLemmas
+mod PulseTextLemmas
+mod PulseLemmas
+mod RejectLemmas
 mod EndLemmas

@@ -1,4 +1,4 @@
--- The command `demo N`: what it leaves, why it rejects a file, and which calls it makes.
+-- The command `demo N`: what it leaves, that it rejects no file, and which calls it makes.
 --
 -- Read first: DemoFiles; Built of gos_build. The files of the demo are written first, and then all is as `build demo.txt` has it over
 -- these. `old` and `new` are the files of the store before and after, `files` those before where it tells them.
@@ -9,10 +9,7 @@ use Rattle.gos_outside.specs.Faults.{LastFault, WriteFault}
 use Rattle.gos_lines.specs.Lines.{Word}
 use Rattle.gos_command.specs.Lines.{counted}
 use Rattle.gos_command.specs.declared.report.Report.{Report}
-use Rattle.gos_command.specs.declared.status.Fault.{Fault}
-use Rattle.gos_link.specs.declared.build.Build.{Build}
-use Rattle.gos_circuits.specs.Linked.{SaysBuild}
-use Rattle.gos_build.specs.Built.{IsBuilt, RejectsInstances, IsBuildCall, IsBuildCutShort}
+use Rattle.gos_build.specs.Built.{IsBuilt, IsBuildCall, IsBuildCutShort}
 use Rattle.gos_demo.specs.DemoFiles.{NamedText, build_file, demo_files}
 
 -- the files with these written, one after another; and where the store tells its files
@@ -54,13 +51,6 @@ with_demo levels files = holding (demo_files levels) files
 pub record IsDemoDone (files : Files) (new : Option Files) (levels : ℕ) (report : Report) : Type 0 where
   pub hold : HoldsEach new (demo_files levels)
   pub built : IsBuilt (with_demo levels files) new (build_file levels).name report
-
--- A file is rejected as `build demo.txt` rejects it, and not for the form of the build file: this is one.
-pub record IsDemoRejected (files : Files) (new : Option Files) (levels : ℕ) (fault : Fault) (line : List ℕ) : Type 0 where
-  pub hold : HoldsEach new (demo_files levels)
-  pub build : Build
-  pub says : SaysBuild (with_demo levels files) (build_file levels).name build
-  pub rejects : RejectsInstances (with_demo levels files) new (build_file levels).name build fault line
 
 -- the calls: the files of the demo are written, and then come those of `build demo.txt`
 abbrev pub IsDemoCall : Files → Option Files → ℕ → LastFault → Type 0

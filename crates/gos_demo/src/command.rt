@@ -1,25 +1,27 @@
 // The command `demo N`: the files of the demo are written, and then built.
 
-ghost use Rattle.std.specs.Prelude.{◌≡◌, ◌≤◌, IfOk, IfErr, IfSome, IsErrOf};
+ghost use Rattle.std.specs.Prelude.{◌≡◌, ◌≤◌, None, IfOk, IfErr, IfSome, IsErrOf};
 ghost use Rattle.gos_outside.specs.OtherFiles.{OthersSame};
 ghost use Rattle.gos_outside.specs.Faults.{Rose};
 ghost use Rattle.gos_command.specs.Ends.{IfStopped, IsTold};
 ghost use Rattle.gos_demo.specs.DemoFiles.{IsLevelCount};
-ghost use Rattle.gos_demo.specs.Demo.{IsDemoDone, IsDemoRejected, IsDemoCall, IsDemoCutShort, written_by};
+ghost use Rattle.gos_demo.specs.Demo.{IsDemoDone, IsDemoCall, IsDemoCutShort, written_by};
 
 use crate::files::{demo_files, write_files};
 use gos_build::build;
 use gos_command::{Report, Stop};
-use gos_link::one_build;
+use gos_link::{few_joints, one_build};
 use gos_outside::Store;
+use gos_pulse::one_answer;
 use std::alloc::Global;
 
 /// Writes the files of the demo of so many levels, and then does what `build demo.txt` does.
 pub fn demo<S: Store>(alloc: Global, levels: u64, store: &mut S) -> Result<Report, Stop>
     requires { IsLevelCount levels }
     ensures done { IfOk result (λ report. IfSome (S.contents store.old) (λ files. IsDemoDone files (S.contents store.new) levels report)) }
-    ensures rejected { IfErr result (λ stop. IfStopped stop (λ fault line.
-        IfSome (S.contents store.old) (λ files. IsDemoRejected files (S.contents store.new) levels fault line))) }
+
+    // No file is rejected where the store tells its contents; where it doesn't, a file that is rejected has a cause.
+    ensures never_rejected { IfErr result (λ stop. IfStopped stop (λ _ _. S.contents store.old ≡ None)) }
     ensures told { IfErr result (λ stop. IfStopped stop IsTold) }
 
     // The store is blamed only for a call that failed, and that the command makes then.
@@ -33,6 +35,8 @@ pub fn demo<S: Store>(alloc: Global, levels: u64, store: &mut S) -> Result<Repor
     ensures others { OthersSame (written_by levels) (S.contents store.old) (S.contents store.new) }
 {
     one_build();
+    few_joints();
+    one_answer();
     let files = demo_files(alloc, levels)?;
     write_files(alloc, files.as_slice(), store)?;
     build(alloc, b"demo.txt", store)

@@ -19,9 +19,10 @@ use Rattle.gos_sim.specs.Cycle.{GivesAll, IsCycle, IsNextOutput, IsWord, number_
 use Rattle.gos_sim.specs.inner.Program.{IsStepOf, IsProgram, IsLatchOf, AreLatches, cell_of_step, is_source, latches_at}
 use Rattle.gos_sim.specs.inner.Running.{AreShown, AreLoaded, AreTaken, HaveOnePin, KeepsOtherSteps, KeepsOthers}
 use Rattle.gos_sim.specs.inner.Ready.{AreApart, IsInputNet, IsRegisterNet}
-use Rattle.gos_sim.specs.inner.Machine.{HoldNothingElse, IsBuilt, IsMachine, IsRunnable, RunsThrough}
+use Rattle.gos_sim.specs.inner.Machine.{HoldNothingElse, IsBuilt, IsMachine, IsRunnable, IsStill, RunsThrough}
 use Rattle.gos_sim.proofs.PlaceLemmas.{all_at, same_element, place_of}
 use Rattle.gos_sim.proofs.SourceLemmas.{input_or_register, shown_inside, register_or_not}
+use Rattle.gos_sim.proofs.ProgramLemmas.{one_cell}
 use Rattle.gos_sim.proofs.GiveLemmas.{kept_given}
 
 -- the net of a source is no step's
@@ -153,29 +154,31 @@ registers_shown cells registers ins v (e ∷ es) settles all =
     one e on = λ i. record { on = nat_eq (shows e.pulse on.0 i) 1; value = number e.number on.1 i }
 
 -- a machine runs through a cycle
-pub cycle_of : (net : Netlist) (m : Machine) (held before values after : Numbers) (inputs outputs : List Pulse)
-    → IsBuilt net m held before → RunsThrough m inputs held values outputs after
+pub cycle_of : (net : Netlist) (m : Machine) (held before values after : Numbers) (still : Bool) (inputs outputs : List Pulse)
+    → IsBuilt net m held before still → RunsThrough m inputs held values outputs after
     → length values ≡ length net.cells → length after ≡ length net.cells
     → IsCycle (record { net = net; registers = held }) inputs outputs (record { net = net; registers = after })
-cycle_of net m held before values after inputs outputs built run values_each after_each =
+cycle_of net m held before values after still inputs outputs built run values_each after_each =
     let machine = built.machine in
+    let settles = run.settles in
     let all_inputs : All (OnNets (IsInputNet net.cells)) m.inputs.items = subst (λ (es : List EventNets). All (OnNets (IsInputNet net.cells)) es) (sym machine.inputs) machine.ready.inputs in
-    let now_given : GivesAll m.inputs.items inputs run.loaded = given_loaded net.cells m.latches.items m.inputs.items inputs run.first run.loaded machine.latched all_inputs run.others run.pulses in
+    let now_given : GivesAll m.inputs.items inputs settles.loaded = given_loaded net.cells m.latches.items m.inputs.items inputs settles.first settles.loaded machine.latched all_inputs settles.others settles.pulses in
     let next : after ≡ next_registers net.cells values = next_taken net.cells m.latches.items values held after machine.latched built.state.others run.taken run.rest after_each in
     record {
-      ins = run.loaded;
+      ins = settles.loaded;
       values = values;
-      inputs = subst (λ (es : List EventNets). GivesAll es inputs run.loaded) machine.inputs now_given;
-      settled = settled net.cells m.steps.items m.latches.items held run.loaded values machine.program machine.latched run.registers run.evaluated run.sources values_each;
+      inputs = subst (λ (es : List EventNets). GivesAll es inputs settles.loaded) machine.inputs now_given;
+      settled = settled net.cells m.steps.items m.latches.items held settles.loaded values machine.program machine.latched settles.registers settles.evaluated settles.sources values_each;
       outputs = run.shows ∙ ap (map (pulse_shown values)) machine.outputs;
       registers = ap (λ (regs : Numbers). record { net = net; registers = regs }) next;
     }
 
 -- and the simulator is as it must be after it
-pub built_after : (net : Netlist) (m : Machine) (held before values after : Numbers) (inputs outputs : List Pulse)
-    → IsBuilt net m held before → RunsThrough m inputs held values outputs after
-    → length values ≡ length net.cells → length after ≡ length net.cells → All IsWord values → All IsWord after → IsBuilt net m after values
-built_after net m held before values after inputs outputs built run values_each after_each words held_words =
+pub built_after : (net : Netlist) (m : Machine) (held before values after : Numbers) (still next_still : Bool) (inputs outputs : List Pulse)
+    → IsBuilt net m held before still → RunsThrough m inputs held values outputs after
+    → length values ≡ length net.cells → length after ≡ length net.cells → All IsWord values → All IsWord after
+    → (IsTrue next_still → IsStill m after values) → IsBuilt net m after values next_still
+built_after net m held before values after still next_still inputs outputs built run values_each after_each words held_words stands =
     record {
       machine = built.machine;
       state = record {
@@ -185,12 +188,13 @@ built_after net m held before values after inputs outputs built run values_each 
         words = words;
         others = nothing_else net.cells m.latches.items held after built.machine.latched built.state.others run.rest;
       };
+      stands = stands;
     }
 
 -- what the registers show is what every settling shows
-pub next_output : (net : Netlist) (m : Machine) (held before : Numbers) (outputs : List Pulse)
-    → IsBuilt net m held before → outputs ≡ map (pulse_shown held) m.outputs.items → IsNextOutput (record { net = net; registers = held }) outputs
-next_output net m held before outputs built shows = λ given v settles.
+pub next_output : (net : Netlist) (m : Machine) (held before : Numbers) (still : Bool) (outputs : List Pulse)
+    → IsBuilt net m held before still → outputs ≡ map (pulse_shown held) m.outputs.items → IsNextOutput (record { net = net; registers = held }) outputs
+next_output net m held before still outputs built shows = λ given v settles.
     shows ∙ (ap (map (pulse_shown held)) built.machine.outputs ∙ registers_shown net.cells held given v (output_events net) settles built.machine.ready.outputs)
 
 -- a fact of an event's nets that gives another one
@@ -209,24 +213,29 @@ runnable net m machine =
       outputs = within (IsRegisterNet net.cells) (λ a (c, is, register). slice_get_within net.cells a c is) m.outputs.items (output_events net) machine.outputs machine.ready.outputs;
       apart = subst AreApart (sym machine.inputs) machine.ready.apart;
       ordered = machine.program.ordered;
+      one_cell = one_cell net.cells m.steps.items machine.program.sound;
       steps = machine.steps_within;
       latches = machine.latches_within;
       one_pin = one_pin net.cells m.latches.items machine.latched;
+      apart_from_steps = λ j l at_j. at_latch l (all_at (IsLatchOf net.cells) m.latches.items j l machine.latched.sound at_j);
     }
   where
+    at_latch : (l : Latch) → IsLatchOf net.cells l → All (λ s. s.net ≢ l.net) m.steps.items
+    at_latch l (w, is) = no_step net.cells m.steps.items l.net (record { width = w; gate = Reg l.pin }) machine.program is refl
+
     within : (P : ℕ → Type 0) → ((a : ℕ) → P a → a < length net.cells) → (es fs : List EventNets) → es ≡ fs → All (OnNets P) fs → All (OnNets (λ a. a < length net.cells)) es
     within P below es fs same all =
         All-weaker (OnNets P) (OnNets (λ a. a < length net.cells)) (on_nets P (λ a. a < length net.cells) below) es (subst (λ (es : List EventNets). All (OnNets P) es) (sym same) all)
 
 -- a new simulator is as it must be
 pub built_new : (net : Netlist) (m : Machine) (registers values : Numbers) → IsMachine net m
-    → registers ≡ replicate (length net.cells) 0 → values ≡ replicate (length net.cells) 0 → IsBuilt net m registers values
-built_new net m registers values machine r v = subst (λ (rs : Numbers). IsBuilt net m rs values) (sym r) (subst (λ (vs : Numbers). IsBuilt net m (replicate (length net.cells) 0) vs) (sym v) fresh)
+    → registers ≡ replicate (length net.cells) 0 → values ≡ replicate (length net.cells) 0 → IsBuilt net m registers values false
+built_new net m registers values machine r v = subst (λ (rs : Numbers). IsBuilt net m rs values false) (sym r) (subst (λ (vs : Numbers). IsBuilt net m (replicate (length net.cells) 0) vs false) (sym v) fresh)
   where
     zeros : All IsWord (replicate (length net.cells) 0)
     zeros = All-replicate IsWord (length net.cells) 0 (omega arith)
 
-    fresh : IsBuilt net m (replicate (length net.cells) 0) (replicate (length net.cells) 0)
+    fresh : IsBuilt net m (replicate (length net.cells) 0) (replicate (length net.cells) 0) false
     fresh = record {
       machine = machine;
       state = record {
@@ -236,4 +245,5 @@ built_new net m registers values machine r v = subst (λ (rs : Numbers). IsBuilt
         words = zeros;
         others = nothing_at_reset net.cells;
       };
+      stands = λ no. absurd (cc);
     }

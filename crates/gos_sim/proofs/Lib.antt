@@ -4,7 +4,10 @@ pub mod LatchLemmas
 pub mod GiveLemmas
 pub mod SourceLemmas
 pub mod ProgramLemmas
+pub mod LevelLemmas
+pub mod OrderLemmas
 pub mod RegisterLemmas
 pub mod CycleLemmas
+pub mod StillLemmas
 pub mod RunLemmas
 pub mod AcceptedLemmas

@@ -13,7 +13,7 @@ use Rattle.gos_netlist.specs.Nets.{Cell, pins}
 use Rattle.gos_netlist.specs.Seen.{cell_of, function_of, number_of}
 use Rattle.gos_sim.specs.declared.program.Step.{Step}
 use Rattle.gos_netcheck.specs.Schedule.{IsDue, IsSchedule}
-use Rattle.gos_sim.specs.inner.Program.{IsProgram, IsStepOf, IsStepWithin, HasStep, Spares, SparesEarlier, cell_of_step, is_source, reads, steps_at}
+use Rattle.gos_sim.specs.inner.Program.{IsProgram, IsStepOf, IsStepWithin, HasStep, HaveOneCell, Spares, SparesEarlier, cell_of_step, is_source, reads, steps_at}
 use Rattle.gos_sim.specs.inner.Ready.{AreCellsReady, IsCellWithin}
 use Rattle.gos_sim.proofs.PlaceLemmas.{all_at, same_element}
 use Rattle.gos_sim.proofs.SourceLemmas.{register_is_source}
@@ -111,17 +111,13 @@ placed_step cells before steps s step new known placed =
     at_places : (j k : ℕ) (t u : Step) → j ≤ k
         → (slice_get steps j ≡ Some t) × (j < length steps) ⊎ (j ≡ length steps) × (s ≡ t)
         → (slice_get steps k ≡ Some u) × (k < length steps) ⊎ (k ≡ length steps) × (s ≡ u)
-        → Spares u (reads t) × (j < k → t.net ≢ u.net)
+        → Spares u (reads t)
     at_places j k t u le (inl old) (inl other) = placed.ordered j k t u old.0 other.0 le
     at_places j k t u le (inl old) (inr last) =
-        subst (λ (u : Step). Spares u (reads t) × (j < k → t.net ≢ u.net)) last.1 (
-          spares t (all_at (λ (t : Step). All (IsKnown cells before) (reads t)) steps j t placed.known old.0),
-          λ below same. new (subst (λ (n : ℕ). Contains before n) same (all_at (λ (t : Step). Contains before t.net) steps j t placed.came old.0)),
-        )
+        subst (λ (u : Step). Spares u (reads t)) last.1 (spares t (all_at (λ (t : Step). All (IsKnown cells before) (reads t)) steps j t placed.known old.0))
     at_places j k t u le (inr last) (inl old) = absurd (omega (arith, last.0, old.1))
     at_places j k t u le (inr last) (inr also) =
-        subst (λ (u : Step). Spares u (reads t) × (j < k → t.net ≢ u.net)) also.1
-        (subst (λ (t : Step). Spares s (reads t) × (j < k → t.net ≢ s.net)) last.1 (spares s known, λ below. absurd (omega (arith, last.0, also.0))))
+        subst (λ (u : Step). Spares u (reads t)) also.1 (subst (λ (t : Step). Spares s (reads t)) last.1 (spares s known))
 
 -- the pins of a due cell that is no source are known
 due_known : (cells : List Cell) (before : List ℕ) (n : ℕ) (c : Cell) → AreCellsReady cells → IsDue cells before n → slice_get cells n ≡ Some c
@@ -206,3 +202,10 @@ order_at order i d below = slice_get-map number_of order i ∙ ap (option_map nu
 -- it is a cell
 pub below_cells : (cells : List declared.Cell) (order : List ℕ) (i n : ℕ) → IsSchedule (map cell_of cells) order → slice_get order i ≡ Some n → n < length cells
 below_cells cells order i n schedule at_i = subst (λ (m : ℕ). n < m) (length-map cells cell_of) (schedule.due i n at_i).0
+
+-- steps of one net are of one cell
+pub one_cell : (cells : List Cell) (steps : List Step) → All (IsStepOf cells) steps → HaveOneCell steps
+one_cell cells steps sound = λ j k s t at_j at_k same.
+    let first : IsStepOf cells s = all_at (IsStepOf cells) steps j s sound at_j in
+    let other : IsStepOf cells t = all_at (IsStepOf cells) steps k t sound at_k in
+    same_element cells t.net (cell_of_step s) (cell_of_step t) (subst (λ (n : ℕ). slice_get cells n ≡ Some (cell_of_step s)) same first.0) other.0

@@ -4,12 +4,15 @@
 // are those of the settling. `laws.rt` says what cycles are together: a run from reset.
 //
 // Inside, `machine.rt` has the netlist as it runs, in flat lists: its events (`event_nets.rt`), and its steps and latches
-// (`program.rt`), which `running.rt` goes through. Taking a cycle needs no memory and can't be refused.
+// (`program.rt`), which `running.rt` goes through. The steps stand by their levels (`levels.rt`, `order.rt`). Taking a
+// cycle needs no memory and can't be refused.
 #![tactic(auto)]
 
 mod event_nets;
 mod laws;
+mod levels;
 mod machine;
+mod order;
 mod program;
 mod pulse;
 mod running;

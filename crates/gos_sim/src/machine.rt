@@ -1,15 +1,15 @@
 // A netlist as it runs: its events, its steps and its latches.
-ghost use Rattle.std.specs.Prelude.{◌≡◌, All, IfOk, length, map};
+ghost use Rattle.std.specs.Prelude.{◌≡◌, All, IfOk, IsTrue, length, map};
 ghost use Rattle.gos_netlist.specs.Seen.{number_of};
 ghost use Rattle.gos_sim.specs.Cycle.{IsWord};
-ghost use Rattle.gos_sim.specs.inner.Machine.{IsMachine, IsRunnable, RunsThrough};
+ghost use Rattle.gos_sim.specs.inner.Machine.{IsMachine, IsRunnable, IsStill, RunsThrough, Settles};
 ghost use Rattle.gos_netcheck.specs.Schedule.{IsSchedule};
 ghost use Rattle.gos_sim.specs.inner.Ready.{IsReady};
 
 use crate::event_nets::{EventNets, events_of};
 use crate::program::{Latch, Step, latches, steps};
 use crate::pulse::Pulse;
-use crate::running::{evaluate, give, latch, load, show};
+use crate::running::{evaluate, give, is_given, latch, load, show};
 use gos_netlist::{NetId, Netlist};
 use gos_types::NoMemory;
 use std::alloc::Global;
@@ -42,14 +42,17 @@ pub fn machine_of(alloc: Global, net: &Netlist, order: &[NetId]) -> Result<Machi
 }
 
 impl Machine {
-    // Runs a cycle: from the registers and the inputs to the values of the nets, the outputs and the next registers.
+    // Runs a cycle: from the registers and the inputs to the values of the nets, the outputs and the next registers. `still`
+    // says whether the values stand still as they are, and the answer whether they stand still after it: then another cycle
+    // with the same inputs has nothing to evaluate.
     pub fn run(
         &self,
         inputs: &[Pulse],
         outputs: &mut [Pulse],
         registers: &mut [u64],
         values: &mut [u64],
-    )
+        still: bool,
+    ) -> bool
         requires ready { IsRunnable (length values.old) self.now }
         requires same { length registers.old ≡ length values.old }
         requires inputs { length inputs.now ≡ length self.now.inputs.items }
@@ -57,14 +60,34 @@ impl Machine {
         requires numbers { All (λ p. IsWord p.value) inputs.now }
         requires held { All IsWord registers.old }
         requires words { All IsWord values.old }
+        requires still { IsTrue still → IsStill self.now registers.old values.old }
         ensures run { RunsThrough self.now inputs.now registers.old values.new outputs.new registers.new }
         ensures held { All IsWord registers.new }
+        ensures words { All IsWord values.new }
+        ensures still { IsTrue result → IsStill self.now registers.new values.new }
+    {
+        if still && is_given(&self.inputs, inputs, values) {
+            show(&self.outputs, values, outputs);
+            return true;
+        }
+        self.settle(inputs, registers, values);
+        show(&self.outputs, values, outputs);
+        latch(&self.latches, values, registers)
+    }
+
+    // Settles the values of the nets for the registers and the inputs.
+    fn settle(&self, inputs: &[Pulse], registers: &[u64], values: &mut [u64])
+        requires ready { IsRunnable (length values.old) self.now }
+        requires same { length registers.now ≡ length values.old }
+        requires inputs { length inputs.now ≡ length self.now.inputs.items }
+        requires numbers { All (λ p. IsWord p.value) inputs.now }
+        requires held { All IsWord registers.now }
+        requires words { All IsWord values.old }
+        ensures settles { Settles self.now inputs.now registers.now values.new }
         ensures words { All IsWord values.new }
     {
         give(&self.inputs, inputs, values);
         load(&self.latches, registers, values);
         evaluate(&self.steps, values);
-        show(&self.outputs, values, outputs);
-        latch(&self.latches, values, registers);
     }
 }

@@ -5,6 +5,8 @@ ghost use Rattle.gos_sim.specs.inner.Program.{AreLatches, IsLatchWithin, IsProgr
 ghost use Rattle.gos_sim.specs.inner.Ready.{AreCellsReady};
 ghost use Rattle.gos_netcheck.specs.Schedule.{IsSchedule};
 
+use crate::levels::levels_of;
+use crate::order::by_level;
 use gos_netlist::{Cell, Gate, NetId};
 use gos_types::NoMemory;
 use std::alloc::Global;
@@ -29,8 +31,20 @@ pub struct Latch {
     pub pin: u32,
 }
 
-// The cells to evaluate, in an order of all cells.
+// The cells to evaluate, by their levels.
 pub fn steps(alloc: Global, cells: &[Cell], order: &[NetId]) -> Result<Vec<Step>, NoMemory>
+    requires cells { AreCellsReady (map cell_of cells.now) }
+    requires order { IsSchedule (map cell_of cells.now) (map number_of order.now) }
+    ensures program { IfOk result (λ steps. IsProgram (map cell_of cells.now) steps.items) }
+    ensures within { IfOk result (λ steps. All (IsStepWithin (length cells.now)) steps.items) }
+{
+    let steps = steps_of(alloc, cells, order)?;
+    let levels = levels_of(alloc, &steps, cells.len())?;
+    by_level(alloc, &steps, &levels)
+}
+
+// The cells to evaluate, in an order of all cells.
+fn steps_of(alloc: Global, cells: &[Cell], order: &[NetId]) -> Result<Vec<Step>, NoMemory>
     requires cells { AreCellsReady (map cell_of cells.now) }
     requires order { IsSchedule (map cell_of cells.now) (map number_of order.now) }
     ensures program { IfOk result (λ steps. IsProgram (map cell_of cells.now) steps.items) }

@@ -1,9 +1,9 @@
 // The parts of a cycle: what the values of the nets are, and what the registers are after it.
-ghost use Rattle.std.specs.Prelude.{◌≡◌, ◌<◌, All, length, map, nat_eq, if◌then◌else◌};
+ghost use Rattle.std.specs.Prelude.{◌≡◌, ◌<◌, All, IsTrue, length, map, nat_eq, set, if◌then◌else◌};
 ghost use Rattle.gos_netlist.specs.Seen.{function_of};
 ghost use Rattle.gos_netlist.specs.Settling.{at, shown};
 ghost use Rattle.gos_sim.specs.Cycle.{Gives, GivesAll, IsWord, pulse_shown};
-ghost use Rattle.gos_sim.specs.inner.Program.{IsLatchWithin, IsStepWithin, SparesEarlier};
+ghost use Rattle.gos_sim.specs.inner.Program.{HaveOneCell, IsLatchWithin, IsStepWithin, SparesEarlier};
 ghost use Rattle.gos_sim.specs.inner.Running.{AreLoaded, AreShown, AreTaken, HaveOnePin, KeepsOtherNets, KeepsOtherSteps, KeepsOthers};
 ghost use Rattle.gos_sim.specs.EventNets.{OnNets};
 ghost use Rattle.gos_sim.specs.inner.Ready.{AreApart, AreTwo};
@@ -44,6 +44,32 @@ fn give_pulse(event: &EventNets, pulse: Pulse, values: &mut [u64])
     }
 }
 
+// Whether the nets of the input events have what the pulses say.
+pub fn is_given(events: &[EventNets], pulses: &[Pulse], values: &[u64]) -> bool
+    requires each { length pulses.now ≡ length events.now }
+    requires nets { All (OnNets (λ a. a < length values.now)) events.now }
+    ensures { IsTrue result → GivesAll events.now pulses.now values.now }
+{
+    for (place, event) in events.iter().enumerate() {
+        if !has_pulse(event, pulses[place], values) {
+            return false;
+        }
+    }
+    true
+}
+
+// Whether the nets of an event have what its pulse says.
+fn has_pulse(event: &EventNets, pulse: Pulse, values: &[u64]) -> bool
+    requires { OnNets (λ a. a < length values.now) event.now }
+    ensures { IsTrue result → Gives values.now event.now pulse }
+{
+    let same = values[event.pulse as usize] == u64::from(pulse.on);
+    match event.number {
+        Some(number) => same && values[number as usize] == pulse.value,
+        None => same,
+    }
+}
+
 // Gives the nets of the registers what the registers hold.
 pub fn load(latches: &[Latch], registers: &[u64], values: &mut [u64])
     requires registers { All (IsLatchWithin (length registers.now)) latches.now }
@@ -63,6 +89,7 @@ pub fn load(latches: &[Latch], registers: &[u64], values: &mut [u64])
 pub fn evaluate(steps: &[Step], values: &mut [u64])
     requires steps { All (IsStepWithin (length values.old)) steps.now }
     requires order { SparesEarlier steps.now }
+    requires one { HaveOneCell steps.now }
     requires words { All IsWord values.old }
     ensures shown { AreShown steps.now values.new }
     ensures others { KeepsOtherSteps steps.now values.old values.new }
@@ -144,8 +171,8 @@ fn pulse_of(event: &EventNets, values: &[u64]) -> Pulse
     Pulse { on, value }
 }
 
-// Takes the values of the pins over into the registers.
-pub fn latch(latches: &[Latch], values: &[u64], registers: &mut [u64])
+// Takes the values of the pins over into the registers. Answers whether all of them had these values before.
+pub fn latch(latches: &[Latch], values: &[u64], registers: &mut [u64]) -> bool
     requires pins { All (IsLatchWithin (length values.now)) latches.now }
     requires nets { All (IsLatchWithin (length registers.old)) latches.now }
     requires one { HaveOnePin latches.now }
@@ -154,8 +181,25 @@ pub fn latch(latches: &[Latch], values: &[u64], registers: &mut [u64])
     ensures taken { AreTaken latches.now values.now registers.new }
     ensures others { KeepsOthers latches.now registers.old registers.new }
     ensures held { All IsWord registers.new }
+    ensures same { IsTrue result → registers.new ≡ registers.old }
 {
+    let mut same = true;
     for latch in latches {
-        registers[latch.net as usize] = values[latch.pin as usize];
+        let kept = take_over(latch, values, registers);
+        same = same & kept;
     }
+    same
+}
+
+// Takes the value of a register's pin over. Answers whether it had that value before.
+fn take_over(latch: &Latch, values: &[u64], registers: &mut [u64]) -> bool
+    requires pin { latch.now.pin < length values.now }
+    requires net { latch.now.net < length registers.old }
+    ensures taken { registers.new ≡ set registers.old latch.now.net (at values.now latch.now.pin) }
+    ensures same { IsTrue result → registers.new ≡ registers.old }
+{
+    let value = values[latch.pin as usize];
+    let same = registers[latch.net as usize] == value;
+    registers[latch.net as usize] = value;
+    same
 }

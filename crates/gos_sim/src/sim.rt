@@ -21,6 +21,7 @@ pub struct Sim {
     machine: Machine,
     registers: Vec<u64>,
     values: Vec<u64>,
+    still: bool,
 }
 
 impl Model for Sim {
@@ -36,7 +37,7 @@ impl Model for Sim {
 
     ghost use Rattle.gos_sim.specs.inner.Machine.{IsBuilt};
 
-    ghost invariant = { λ s. IsBuilt s.net s.machine s.registers.items s.values.items };
+    ghost invariant = { λ s. IsBuilt s.net s.machine s.registers.items s.values.items s.still };
 }
 
 impl Sim {
@@ -51,6 +52,7 @@ impl Sim {
                 machine,
                 registers,
                 values,
+                still: false,
             }),
             Err(NoMemory) => Err(net),
         }
@@ -95,8 +97,15 @@ impl Sim {
         ensures cycle { IsCycle self.old inputs.now outputs.new self.new }
         ensures net { self.new.net ≡ self.old.net }
     {
-        self.machine
-            .run(inputs, outputs, &mut self.registers, &mut self.values);
+        let still = self.still;
+        let stands = self.machine.run(
+            inputs,
+            outputs,
+            &mut self.registers,
+            &mut self.values,
+            still,
+        );
+        self.still = stands;
     }
 
     /// Sets all registers to 0.
@@ -104,6 +113,7 @@ impl Sim {
         ensures { self.new ≡ at_reset self.old.net }
     {
         self.registers.fill(0);
+        self.still = false;
     }
 }
 

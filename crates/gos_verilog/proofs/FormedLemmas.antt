@@ -359,7 +359,7 @@ head_same qs ps named same =
     listed_names (port_nets qs) ∙ (ap (flat_map (λ (b : List ℕ). codes ", " ++ b)) names_eq ∙ sym (listed_names (port_nets ps))) in
     (λ j. codes "module gos_" ++ first j ++ codes "(clk, rst" ++ nets j ++ codes ");\n" ++ clock_declarations)
 
-head_on : (ports : List NetPort) (x : List ℕ) → ArePorts ports → LeftNets [] Give 0 (named_nets ports) x → IsFormedText (head_of ports ++ x)
+pub head_on : (ports : List NetPort) (x : List ℕ) → ArePorts ports → LeftNets [] Give 0 (named_nets ports) x → IsFormedText (head_of ports ++ x)
 head_on ports x are left =
     let faces = faces_of.nets_found ports [] Give 0 x are.writable left in
     let qs : List NetPort = faces.found in
@@ -375,7 +375,7 @@ head_on ports x are left =
     ∙ ((λ j. head_same qs ports faces.named faces.same j ++ (flat_map port_declaration (port_nets qs) ++ faces.rest)) ∙ ap (λ (b : List ℕ). head_of ports ++ b) (sym faces.is)) in
     subst IsFormedText text (formed_on qs faces.rest known faces.left)
 
-head_back : (ports : List NetPort) (x : List ℕ) → ArePorts ports → IsFormedText (head_of ports ++ x) → LeftNets [] Give 0 (named_nets ports) x
+pub head_back : (ports : List NetPort) (x : List ℕ) → ArePorts ports → IsFormedText (head_of ports ++ x) → LeftNets [] Give 0 (named_nets ports) x
 head_back ports x are (net, formed, (drivers, lines, is)) =
     let qs : List NetPort = net.ports in
     let behind : List ℕ = cell_declarations 0 net.cells ++ (drivers ++ outputs net) in

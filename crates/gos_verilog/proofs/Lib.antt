@@ -40,3 +40,6 @@ pub mod FormedLemmas
 pub mod FrontLemmas
 pub mod LeftNetLemmas
 pub mod NamedLemmas
+pub mod FreeLemmas
+pub mod FaceLemmas
+pub mod NamedPortLemmas

@@ -137,13 +137,13 @@ nets_left (p ∷ ports) before side last y writable left =
     (λ l. nets_left ports (before ++ map declared_net ns) p.side l y writable.1 (subst (λ (nets : List PortNet). LeftCells nets [] y) (sym all) left)))
 
 -- the names and roles by the roles alone
-abbrev in_role : List ℕ → Role → Role × List ℕ
+abbrev pub in_role : List ℕ → Role → Role × List ℕ
 in_role name r = (r, name ++ suffix r)
 
 abbrev zeros : List Role → List ℕ
 zeros = map (λ (r : Role). 0)
 
-by_roles : (name : List ℕ) (cells : List ℕ) (rs : List Role) → length cells ≡ length rs → named_in_roles name cells rs ≡ map (in_role name) rs
+pub by_roles : (name : List ℕ) (cells : List ℕ) (rs : List Role) → length cells ≡ length rs → named_in_roles name cells rs ≡ map (in_role name) rs
 by_roles name [] [] many = refl
 by_roles name [] (r ∷ rs) many = absurd (omega (arith, many))
 by_roles name (c ∷ cells) [] many = absurd (omega (arith, many))
@@ -250,7 +250,7 @@ pub record FoundFaces (ports : List NetPort) (before : List PortNet) (bytes : Li
   pub left : LeftCells (before ++ map declared_net (port_nets found)) [] rest
   pub is : bytes ≡ flat_map port_declaration (port_nets found) ++ rest
 
-role_count : (t : Type') → IsPortType t → net_count t ≡ length (roles t)
+pub role_count : (t : Type') → IsPortType t → net_count t ≡ length (roles t)
 role_count Com is = refl
 role_count (Exp w) is = refl
 role_count (Var w) is = refl

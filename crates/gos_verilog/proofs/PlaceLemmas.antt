@@ -1,6 +1,5 @@
 -- Texts of the form of a netlist's, and where what begins like one breaks off.
-use Rattle.std.proofs.Common.{◌≡◌, ℕ, suc, ◌+◌, ◌<◌, List, [], ◌∷◌, ◌++◌, length, Some, Ok, Err, Result, refl, sym, ◌∙◌, ap, subst, arith, append_assoc, slice_get, codes}
-use Rattle.std.specs.Prelude.{IfErr}
+use Rattle.std.proofs.Common.{◌≡◌, ℕ, suc, ◌+◌, ◌<◌, List, [], ◌∷◌, ◌++◌, length, Some, refl, sym, ◌∙◌, ap, subst, arith, append_assoc, slice_get, codes}
 use Rattle.std.specs.List.{AllByRecursion}
 use Rattle.std.proofs.lemmas.Option.{slice_get_within}
 use Rattle.gos_lex.specs.Names.{IsNameOrWord}
@@ -12,13 +11,11 @@ use Rattle.gos_netlist.specs.Writable.{IsWritablePort}
 use Rattle.gos_netlist.specs.NetItems.{ended}
 use Rattle.gos_netlist.proofs.SequenceLemmas.{Then, misses_as, then_first}
 use Rattle.gos_netcheck.specs.Rules.{Kept}
-use Rattle.gos_verilog.specs.declared.fault.VFault.{VFault}
-use Rattle.gos_verilog.specs.declared.fault.VFault.TheVariants as faults
 use Rattle.gos_verilog.specs.PortNets.{PortNet, port_nets}
 use Rattle.gos_verilog.specs.VerilogText.{first_name, declarations, outputs, AreDrivers, IsItsNet}
 use Rattle.gos_verilog.specs.Readable.{IsInputCell}
-use Rattle.gos_verilog.specs.Place.{IsOfItsBits, IsFormed, IsFormedText, IsPlace, ReadIsFormed, HasOnePlace, HasOtherStart, HasPlace}
-use Rattle.gos_verilog.specs.inner.Stages.{BreaksAt, HasStart, IsStart, start_text}
+use Rattle.gos_verilog.specs.Place.{IsOfItsBits, IsFormed, IsFormedText, IsPlace, ReadIsFormed, HasOnePlace}
+use Rattle.gos_verilog.specs.inner.Stages.{IsStart, start_text}
 use Rattle.gos_verilog.proofs.DeclarationLemmas.{listed}
 use Rattle.gos_verilog.proofs.OneTextLemmas.{behind_head, text_parts}
 use Rattle.gos_verilog.proofs.StartLemmas.{no_first_word}
@@ -88,7 +85,7 @@ unfolding simple simple_port
 simple_first name = refl
 
 -- the start, and what stands behind it
-start_is : (name rest : List ℕ) → codes "module gos_" ++ (name ++ (codes "(clk, rst" ++ rest)) ≡ start_text name ++ rest
+pub start_is : (name rest : List ℕ) → codes "module gos_" ++ (name ++ (codes "(clk, rst" ++ rest)) ≡ start_text name ++ rest
 start_is name rest =
     ap (λ more. codes "module gos_" ++ more) (sym (append_assoc name (40 ∷ []) (codes "clk, rst" ++ rest)) ∙ sym (append_assoc (ended 40 name) (codes "clk, rst") rest))
 
@@ -115,10 +112,10 @@ starts_so : (text : List ℕ) → IsFormedText text → (name rest : List ℕ) �
 starts_so text (net, formed, (drivers, are, is)) = (first_name net.ports, behind_start net drivers, first_named net.ports formed.some formed.writable.ports, is ∙ net_start net drivers)
 
 -- where the start breaks off, the text does
-pub start_place : (text : List ℕ) (at : ℕ) → Misses IsStart text 0 at → IsPlace text at
-start_place text at misses =
-    (misses_as Parts IsFormedText text 0 at joined cut
-    (then_first (List ℕ) IsNameOrWord start_text (λ name rest. IsFormedText (start_text name ++ rest)) text 0 at some_text misses)).stops
+pub start_misses : (text : List ℕ) (at : ℕ) → Misses IsStart text 0 at → Misses IsFormedText text 0 at
+start_misses text at misses =
+    misses_as Parts IsFormedText text 0 at joined cut
+    (then_first (List ℕ) IsNameOrWord start_text (λ name rest. IsFormedText (start_text name ++ rest)) text 0 at some_text misses)
   where
     Parts : List ℕ → Type 0
     Parts = Then (List ℕ) IsNameOrWord start_text (λ name rest. IsFormedText (start_text name ++ rest))
@@ -129,21 +126,12 @@ start_place text at misses =
     cut : (bytes : List ℕ) → IsFormedText bytes → Parts bytes
     cut bytes formed = let known = starts_so bytes formed in (known.0, known.1, known.2, subst IsFormedText known.3 formed, known.3)
 
--- so a fault there is at its place
-pub fault_place : (text : List ℕ) (fault : VFault) → BreaksAt IsStart (record { text = text; at = 0 }) fault → HasPlace text fault
-fault_place text (faults.Form at) breaks = start_place text at breaks
-fault_place text faults.NoMemory breaks = tt
+pub start_place : (text : List ℕ) (at : ℕ) → Misses IsStart text 0 at → IsPlace text at
+start_place text at misses = (start_misses text at misses).stops
 
--- behind the start nothing is said of the place
-pub after_start : {T : Type 0} (r : Result T VFault) (cursor : TextAt) → HasStart cursor → IfErr r (λ fault. (HasStart cursor → ⊥) → BreaksAt IsStart cursor fault)
-after_start (Ok x) cursor start = tt
-after_start (Err fault) cursor start = λ none. absurd (none start)
-
+-- a cursor at the start
 pub start_at : (cursor : TextAt) (text : List ℕ) → cursor.text ≡ text → cursor.at ≡ 0 → cursor ≡ record { text = text; at = 0 }
 start_at cursor text same at = λ i. record { text = same i; at = at i }
-
-pub other_start : (text : List ℕ) → HasOtherStart text → HasStart (record { text = text; at = 0 }) → ⊥
-other_start text other start = other start.0 start.1 start.2 (start.3 ∙ sym (start_is start.0 start.1))
 
 -- "modul x" breaks off at its blank
 pub blank_is_place : IsPlace (codes "modul x") 5

@@ -40,7 +40,7 @@ name_bytes (b ∷ name) is =
     let parts = and_parts (begins_name b) (list_all continues_name name) is.spelled in
     rw (begins_continues b parts.0, parts.1) refl
 
-net_name : (name : List ℕ) (r : Role) → IsNameOrWord name → IsNetName (name ++ suffix r)
+pub net_name : (name : List ℕ) (r : Role) → IsNameOrWord name → IsNetName (name ++ suffix r)
 net_name [] r is = absurd (cc (is.spelled))
 net_name (b ∷ name) r is =
     let parts = and_parts (begins_name b) (list_all continues_name name) is.spelled in

@@ -25,7 +25,7 @@ pub name_code : IsCode (List ℕ) IsNameOrWord (ended 40)
 name_code = ended_code (List ℕ) IsNameOrWord (λ name. name) 40 name_lacks (λ v w is_v is_w same. same)
 
 -- a front of a spelled name is spelled, if it has a byte
-front_spelled : (bytes more : List ℕ) → 0 < length bytes → IsSpelled (bytes ++ more) → IsSpelled bytes
+pub front_spelled : (bytes more : List ℕ) → 0 < length bytes → IsSpelled (bytes ++ more) → IsSpelled bytes
 front_spelled [] more some spelled = absurd (omega (arith, some))
 front_spelled (b ∷ front) more some spelled =
     let parts = and_parts (begins_name b) (list_all continues_name (front ++ more)) spelled in

@@ -2,9 +2,8 @@
 --
 -- Read first: Readable; Items of gos_lex. Which cell each input is, is judged last. Until then the line of an Input cell
 -- may name any input of its bits, so texts in which it does are counted here too.
-use Rattle.std.specs.Prelude.{◌≡◌, ℕ, ◌<◌, List, ◌++◌, length, codes}
+use Rattle.std.specs.Prelude.{◌≡◌, ℕ, ◌<◌, List, ◌++◌, length}
 use Rattle.std.specs.List.{AllByRecursion, flat_map}
-use Rattle.gos_lex.specs.Names.{IsNameOrWord}
 use Rattle.gos_lex.specs.Items.{Begins, StopsAt}
 use Rattle.gos_netlist.specs.Nets.{NetPort, Netlist}
 use Rattle.gos_netlist.specs.Writable.{IsNumber, IsWritablePort, IsWritable}
@@ -45,10 +44,6 @@ ReadIsFormed = (text : List ℕ) (net : Netlist) → IsRead text net → IsForme
 -- a text has one place at most
 abbrev pub HasOnePlace : Type 0
 HasOnePlace = (text : List ℕ) (at other : ℕ) → IsPlace text at → IsPlace text other → at ≡ other
-
--- the text doesn't begin as each text does: with the name of its module, the clock and the reset
-abbrev pub HasOtherStart : List ℕ → Type 0
-HasOtherStart text = (name more : List ℕ) → IsNameOrWord name → text ≡ codes "module gos_" ++ (name ++ (codes "(clk, rst" ++ more)) → ⊥
 
 -- the text up to the declarations of the nets of these ports, and up to those of cells' nets
 abbrev pub head_of : List NetPort → List ℕ

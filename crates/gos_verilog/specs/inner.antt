@@ -9,3 +9,4 @@ pub mod Noted
 pub mod Parts
 pub mod Breaks
 pub mod Left
+pub mod Faces

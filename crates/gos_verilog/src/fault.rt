@@ -6,7 +6,7 @@ use thiserror::Error;
 /// Why a text is refused as the Verilog text of a netlist. Places count bytes from 0.
 #[derive(Debug, Drop, Error)]
 pub enum VFault {
-    /// The text is that of no netlist. At `at` stands the byte at which it was found out, or the text ends there.
+    /// The text is that of no netlist. At `at` stands the first byte that can't go on as one, or the text ends there.
     #[error("the Verilog is not of its form at {at}")]
     Form { at: usize },
     /// There was no memory left.

@@ -20,8 +20,6 @@ pub fn head<'a>(alloc: Global, text: &'a [u8], cursor: &mut Cursor) -> Result<Ve
     ensures stands { (first : List ℕ) (nets : List PortNet) (x : List ℕ) → IsNameOrWord first → HaveNames nets
         → Rest cursor.old (codes "module gos_" ++ (first ++ (codes "(clk, rst" ++ (listed nets ++ (codes ");\n" ++ x)))))
         → MatchResult result (λ names. AreNamesOf nets names.items × Rest cursor.new x) IsWant }
-    ensures begun { IfOk result (λ _. HasStart cursor.old) }
-    ensures starts { IfErr result (λ fault. (HasStart cursor.old → ⊥) → BreaksAt IsStart cursor.old fault) }
 {
     start(cursor)?;
     let names = names(alloc, text, cursor)?;
@@ -29,8 +27,8 @@ pub fn head<'a>(alloc: Global, text: &'a [u8], cursor: &mut Cursor) -> Result<Ve
     Ok(names)
 }
 
-// Passes the name of a module, the clock and the reset.
-fn start(cursor: &mut Cursor) -> Result<(), VFault>
+/// Passes the name of a module, the clock and the reset.
+pub fn start(cursor: &mut Cursor) -> Result<(), VFault>
     ensures text { cursor.new.text ≡ cursor.old.text }
     ensures stands { (name x : List ℕ) → IsNameOrWord name → Rest cursor.old (codes "module gos_" ++ (ended 40 name ++ (codes "clk, rst" ++ x)))
         → MatchResult result (λ _. Rest cursor.new x) (λ _. ⊥) }
@@ -74,8 +72,8 @@ fn names<'a>(alloc: Global, text: &'a [u8], cursor: &mut Cursor) -> Result<Vec<&
     Ok(names)
 }
 
-// Whether the byte stands at this place.
-fn is_at(text: &[u8], at: usize, byte: u8) -> bool
+/// Whether the byte stands at this place.
+pub fn is_at(text: &[u8], at: usize, byte: u8) -> bool
     ensures { IsTrue result ↔ (slice_get text.now at ≡ Some byte) }
 {
     match text.get(at) {
@@ -107,8 +105,8 @@ pub fn name_at(text: &[u8], at: usize) -> &[u8]
     &rest[..name_length(rest)]
 }
 
-// How many bytes at the front of the text a name may go on with.
-fn name_length(text: &[u8]) -> usize
+/// How many bytes at the front of the text a name may go on with.
+pub fn name_length(text: &[u8]) -> usize
     ensures { result ≡ prefix_len continues_name text.now }
 {
     text.iter().take_while(|b| continues_name(**b)).count()

@@ -1,5 +1,5 @@
 // The inputs of a module, by name, and the cells that read them.
-ghost use Rattle.std.specs.Prelude.{◌≡◌, ◌<◌, ℕ, List, Some, true, IsTrue, IfOk, OnOk, get_or, length, set, slice_get};
+ghost use Rattle.std.specs.Prelude.{◌≡◌, ◌<◌, ℕ, List, Some, None, true, IsTrue, IfOk, OnOk, get_or, length, set, slice_get};
 ghost use Rattle.std.specs.List.{AllByRecursion};
 ghost use Rattle.gos_verilog.specs.PortNets.{PortNet as Net};
 ghost use Rattle.gos_verilog.specs.inner.Stages.{HaveOwnNames};
@@ -12,7 +12,7 @@ use gos_types::NoMemory;
 use indexmap::IndexMap;
 use std::alloc::Global;
 
-/// The places of inputs among the nets of ports, by name.
+/// Places by name: those of inputs among the nets of ports, say.
 #[derive(Drop)]
 pub struct Places {
     by_name: IndexMap<Vec<u8>, usize>,
@@ -26,15 +26,24 @@ pub struct Inputs {
 }
 
 impl Places {
-    // The place of the input of this name.
-    fn get(&self, name: &[u8]) -> Option<usize>
+    /// None, for no name.
+    pub fn new(alloc: Global) -> Places
+        ensures { (other : List ℕ) → place_at result other ≡ None }
+    {
+        Places {
+            by_name: IndexMap::new(alloc),
+        }
+    }
+
+    /// The place of this name.
+    pub fn get(&self, name: &[u8]) -> Option<usize>
         ensures { result ≡ place_at self.now name.now }
     {
         self.by_name.get(name).copied()
     }
 
-    // Adds an input with its place.
-    fn add(&mut self, name: Vec<u8>, place: usize) -> Result<(), NoMemory>
+    /// Adds a name with its place.
+    pub fn add(&mut self, name: Vec<u8>, place: usize) -> Result<(), NoMemory>
         ensures { OnOk result ((other : List ℕ) → place_at self.new other ≡ added name.items place (place_at self.old other) other) }
     {
         self.by_name.insert(name, place)?;

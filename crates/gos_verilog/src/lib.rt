@@ -10,9 +10,11 @@
 mod cell_line;
 mod declared;
 mod driven;
+mod faces;
 mod fault;
 mod head;
 mod inputs;
+mod judged;
 mod laws;
 mod outputs;
 mod port_net;

@@ -6,10 +6,10 @@ ghost use Rattle.gos_netlist.specs.Writable.{IsWritableCell, IsWritablePort};
 ghost use Rattle.gos_types.specs.Widths.{IsWidth};
 ghost use Rattle.gos_netlist.specs.Nets.{NetPort, Netlist as Net};
 ghost use Rattle.gos_verilog.specs.Readable.{IsRead, IsReadable, IsRefused};
-ghost use Rattle.gos_verilog.specs.Place.{ArePorts, HasHead, HasOtherStart, HasPlace, IsFormedText, front_of, head_of};
+ghost use Rattle.gos_verilog.specs.Place.{ArePorts, HasPlace, IsFormedText, front_of};
 ghost use Rattle.gos_verilog.specs.VerilogText.{IsVerilogOf};
 ghost use Rattle.gos_verilog.specs.PortNets.{port_nets as nets_of};
-ghost use Rattle.gos_verilog.specs.inner.Stages.{BreaksAt, HasStart, IsStart, IsWant, declared_net, shape_of};
+ghost use Rattle.gos_verilog.specs.inner.Stages.{IsWant, declared_net, shape_of};
 ghost use Rattle.gos_verilog.specs.inner.Breaks.{FaultFrom};
 ghost use Rattle.gos_verilog.specs.inner.Left.{HaveNetNames, LeadsOnOf, LeftDrivers};
 ghost use Rattle.gos_verilog.specs.inner.Parts.{Parts};
@@ -19,6 +19,7 @@ use crate::driven::drivers;
 use crate::fault::VFault;
 use crate::head::{head, word};
 use crate::inputs::Inputs;
+use crate::judged::judge;
 use crate::outputs::outputs;
 use crate::port_net::{PortNet, port_nets};
 use crate::ports_of::ports_of;
@@ -34,8 +35,7 @@ use std::alloc::Global;
 pub fn read_verilog(alloc: Global, text: &[u8]) -> Result<Netlist, VFault>
     ensures read { IfOk result (IsRead text.now) }
     ensures refused { IfErr result (IsRefused text.now) }
-    ensures start { IfErr result (λ fault. HasOtherStart text.now → HasPlace text.now fault) }
-    ensures lines { IfErr result (λ fault. HasHead text.now → HasPlace text.now fault) }
+    ensures place { IfErr result (HasPlace text.now) }
 {
     let net = parsed(alloc, text)?;
     if is_text_of(alloc, text, &net.cells, &net.ports)? {
@@ -66,10 +66,8 @@ fn parsed(alloc: Global, text: &[u8]) -> Result<Netlist, VFault>
     ensures cells { IfOk result (λ net. AllByRecursion IsWritableCell net.cells) }
     ensures ports { IfOk result (λ net. AllByRecursion IsWritablePort net.ports) }
     ensures stands { (net : Net) → IsRead text.now net → MatchResult result (λ found. found ≡ net) IsWant }
-    ensures formed { IfOk result (λ _. HasHead text.now → IsFormedText text.now) }
-    ensures lines { IfErr result (λ fault. HasHead text.now → HasPlace text.now fault) }
-    ensures begun { IfOk result (λ _. HasStart (record { text = text.now; at = 0 })) }
-    ensures starts { IfErr result (λ fault. (HasStart (record { text = text.now; at = 0 }) → ⊥) → BreaksAt IsStart (record { text = text.now; at = 0 }) fault) }
+    ensures formed { IfOk result (λ _. IsFormedText text.now) }
+    ensures place { IfErr result (HasPlace text.now) }
 {
     let (declared, at) = front(alloc, text)?;
     let (shapes, end, stopped) = cell_declarations(alloc, text, at)?;
@@ -86,16 +84,14 @@ fn parsed(alloc: Global, text: &[u8]) -> Result<Netlist, VFault>
     }
 }
 
-// Reads the head of a module and the declarations of its ports' nets, and gives these nets and the place behind.
+// Judges the head of a module, reads it and the declarations of its ports' nets, and gives these nets and the place behind.
 fn front(alloc: Global, text: &[u8]) -> Result<(Vec<PortNet>, usize), VFault>
     ensures within { IfOk result (λ both. both.1 ≤ length text.now) }
-    ensures head { (ports : List NetPort) (more : List ℕ) → ArePorts ports → text.now ≡ head_of ports ++ more
-        → MatchResult result (λ both. LeadsOnOf text.now both.1 both.0.items) (FaultFrom IsFormedText (record { text = text.now; at = 0 })) }
+    ensures head { MatchResult result (λ both. LeadsOnOf text.now both.1 both.0.items) (FaultFrom IsFormedText (record { text = text.now; at = 0 })) }
     ensures found { (ports : List NetPort) (more : List ℕ) → ArePorts ports → text.now ≡ front_of ports ++ more
         → IfOk result (λ both. (both.0.items ≡ map declared_net (nets_of ports)) × (drop both.1 text.now ≡ more)) }
-    ensures begun { IfOk result (λ _. HasStart (record { text = text.now; at = 0 })) }
-    ensures starts { IfErr result (λ fault. (HasStart (record { text = text.now; at = 0 }) → ⊥) → BreaksAt IsStart (record { text = text.now; at = 0 }) fault) }
 {
+    judge(alloc, text)?;
     let mut cursor = Cursor::new(text);
     let names = head(alloc, text, &mut cursor)?;
     word(&mut cursor, b"  input clk;\n  input rst;\n")?;

@@ -265,6 +265,124 @@ fn tells_a_wrong_start(rt: HostRuntime) -> Result<(), Fail> {
     Ok(())
 }
 
+// Where a head breaks off: behind the module's name, the clock and the reset these stand.
+fn head_breaks(alloc: Global, behind: &[u8]) -> Result<Option<usize>, Fail> {
+    let mut text = b"module gos_main(clk, rst".as_slice().to_vec(alloc)?;
+    let start = text.len();
+    text.extend_from_slice(behind)?;
+    Ok(refused_at(alloc, &text).and_then(|at| at.checked_sub(start)))
+}
+
+#[test]
+fn tells_where_a_head_breaks_off(rt: HostRuntime) -> Result<(), Fail> {
+    let alloc = rt.alloc();
+    // There is a port, and it is named as the module.
+    assert_eq!(rt; head_breaks(alloc, b");\n")?, Some(0));
+    assert_eq!(rt; head_breaks(alloc, b", mane__run")?, Some(4));
+    assert_eq!(rt; head_breaks(alloc, b", main_run")?, Some(7));
+    // The first net is none that comes later, and all nets of a port stand in order.
+    assert_eq!(rt; head_breaks(alloc, b", main__done")?, Some(8));
+    assert_eq!(rt; head_breaks(alloc, b", main__run);\n")?, Some(11));
+    assert_eq!(rt; head_breaks(alloc, b", main__run, main__ans")?, Some(19));
+    assert_eq!(rt;
+        head_breaks(alloc, b", main__read, main__ans, main__done")?,
+        Some(31)
+    );
+    assert_eq!(rt;
+        head_breaks(alloc, b", main__ask, main__ans, main__ansvalue, a__x")?,
+        Some(44)
+    );
+    Ok(())
+}
+
+#[test]
+fn tells_a_wrong_name_of_a_port(rt: HostRuntime) -> Result<(), Fail> {
+    let alloc = rt.alloc();
+    let mut text = b", main__run, main__done".as_slice().to_vec(alloc)?;
+    let start = text.len();
+    // A name without a role, with one of a later net, or without a name breaks off at its end.
+    text.extend_from_slice(b", v, v__ans")?;
+    assert_eq!(rt; head_breaks(alloc, &text)?, Some(start + 3));
+    text.truncate(start);
+    text.extend_from_slice(b", v__done, v__run")?;
+    assert_eq!(rt; head_breaks(alloc, &text)?, Some(start + 9));
+    text.truncate(start);
+    text.extend_from_slice(b", __run, __done")?;
+    assert_eq!(rt; head_breaks(alloc, &text)?, Some(start + 7));
+    // So does one that a port has before, since it may go on.
+    text.truncate(start);
+    text.extend_from_slice(b", main__run, main__done")?;
+    assert_eq!(rt; head_breaks(alloc, &text)?, Some(start + 11));
+    text.truncate(start);
+    text.extend_from_slice(b", main__run__run, main__run__done);\n  output")?;
+    assert_eq!(rt; head_breaks(alloc, &text)?, Some(start + 38));
+    Ok(())
+}
+
+// Adds the two nets of a command of this name.
+fn add_command(text: &mut Vec<u8>, name: &[u8]) -> Result<(), Fail> {
+    text.extend_from_slice(b", ")?;
+    text.extend_from_slice(name)?;
+    text.extend_from_slice(b"__run, ")?;
+    text.extend_from_slice(name)?;
+    text.extend_from_slice(b"__done")?;
+    Ok(())
+}
+
+// So many bytes.
+fn so_many(alloc: Global, count: usize) -> Result<Vec<u8>, Fail> {
+    let mut name = Vec::new(alloc);
+    for _ in 0..count {
+        name.push(b'a')?;
+    }
+    Ok(name)
+}
+
+#[test]
+fn tells_where_a_long_name_breaks_off(rt: HostRuntime) -> Result<(), Fail> {
+    let alloc = rt.alloc();
+    let mut text = b", main__run, main__done".as_slice().to_vec(alloc)?;
+    let start = text.len();
+    // The 256th byte has to be the suffix's.
+    text.extend_from_slice(b", ")?;
+    text.extend_from_slice(&so_many(alloc, 300)?)?;
+    assert_eq!(rt; head_breaks(alloc, &text)?, Some(start + 257));
+    // The longest name, a second time.
+    text.truncate(start);
+    let name = so_many(alloc, 255)?;
+    add_command(&mut text, &name)?;
+    let second = text.len();
+    add_command(&mut text, &name)?;
+    assert_eq!(rt; head_breaks(alloc, &text)?, Some(second + 256));
+    Ok(())
+}
+
+#[test]
+fn tells_where_no_name_is_free(rt: HostRuntime) -> Result<(), Fail> {
+    let alloc = rt.alloc();
+    let mut text = b", main__run, main__done".as_slice().to_vec(alloc)?;
+    let mut name = so_many(alloc, 254)?;
+    // A name of 254 bytes, and each that is a byte longer.
+    add_command(&mut text, &name)?;
+    for b in 0..128u8 {
+        if b.is_ascii_alphanumeric() || b == b'_' {
+            name.push(b)?;
+            add_command(&mut text, &name)?;
+            name.truncate(254);
+        }
+    }
+    let last = text.len();
+    add_command(&mut text, &name)?;
+    assert_eq!(rt; head_breaks(alloc, &text)?, Some(last + 255));
+    // But a shorter one may go on with its role.
+    text.truncate(last);
+    text.extend_from_slice(b", ")?;
+    text.extend_from_slice(&so_many(alloc, 253)?)?;
+    text.extend_from_slice(b"_a")?;
+    assert_eq!(rt; head_breaks(alloc, &text)?, Some(last + 257));
+    Ok(())
+}
+
 // Where the word first stands in the text, or its end.
 fn place_of(text: &[u8], word: &[u8]) -> usize
     ensures { result ≤ length text.now }

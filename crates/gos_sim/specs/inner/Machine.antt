@@ -1,15 +1,16 @@
 -- The machine of a netlist, and how it runs through a cycle.
 --
 -- Read first: Running, Ready.
-use Rattle.std.specs.Prelude.{◌≡◌, ℕ, ◌<◌, List, All, Some, length, map, slice_get}
+use Rattle.std.specs.Prelude.{◌≡◌, ◌≢◌, ℕ, ◌<◌, Bool, IsTrue, List, All, Some, length, map, slice_get}
 use Rattle.gos_netlist.specs.Nets.{Cell, Netlist}
 use Rattle.gos_netlist.specs.Cycles.{IsRegister}
 use Rattle.gos_netlist.specs.Settling.{Numbers, at}
 use Rattle.gos_sim.specs.declared.machine.Machine.{Machine}
+use Rattle.gos_sim.specs.declared.program.Latch.{Latch}
 use Rattle.gos_sim.specs.declared.pulse.Pulse.{Pulse}
 use Rattle.gos_sim.specs.EventNets.{OnNets, input_events, output_events}
 use Rattle.gos_sim.specs.Cycle.{GivesAll, IsWord, pulse_shown}
-use Rattle.gos_sim.specs.inner.Program.{AreLatches, IsLatchWithin, IsProgram, IsStepWithin, SparesEarlier}
+use Rattle.gos_sim.specs.inner.Program.{AreLatches, HaveOneCell, IsLatchWithin, IsProgram, IsStepWithin, SparesEarlier}
 use Rattle.gos_sim.specs.inner.Running.{AreLoaded, AreShown, AreTaken, HaveOnePin, KeepsOtherSteps, KeepsOthers}
 use Rattle.gos_sim.specs.inner.Ready.{AreApart, IsReady}
 
@@ -29,13 +30,14 @@ pub record IsRunnable (count : ℕ) (m : Machine) : Type 0 where
   pub outputs : All (OnNets (λ a. a < count)) m.outputs.items
   pub apart : AreApart m.inputs.items
   pub ordered : SparesEarlier m.steps.items
+  pub one_cell : HaveOneCell m.steps.items
   pub steps : All (IsStepWithin count) m.steps.items
   pub latches : All (IsLatchWithin count) m.latches.items
   pub one_pin : HaveOnePin m.latches.items
+  pub apart_from_steps : (j : ℕ) (l : Latch) → slice_get m.latches.items j ≡ Some l → All (λ s. s.net ≢ l.net) m.steps.items
 
--- A machine runs through a cycle: the values that the pulses give, those with the registers loaded too, and those after
--- the steps; then what is shown of them, and the registers after it.
-pub record RunsThrough (m : Machine) (given : List Pulse) (held values : Numbers) (seen : List Pulse) (after : Numbers) : Type 0 where
+-- The values settle for what pulses give and registers hold: what the pulses give, then the registers too, then the steps.
+pub record Settles (m : Machine) (given : List Pulse) (held values : Numbers) : Type 0 where
   pub first : Numbers
   pub loaded : Numbers
   pub pulses : GivesAll m.inputs.items given first
@@ -43,9 +45,19 @@ pub record RunsThrough (m : Machine) (given : List Pulse) (held values : Numbers
   pub others : KeepsOthers m.latches.items first loaded
   pub evaluated : AreShown m.steps.items values
   pub sources : KeepsOtherSteps m.steps.items loaded values
+
+-- A machine runs through a cycle: the values settle; then what is shown of them, and the registers after it.
+pub record RunsThrough (m : Machine) (given : List Pulse) (held values : Numbers) (seen : List Pulse) (after : Numbers) : Type 0 where
+  pub settles : Settles m given held values
   pub shows : seen ≡ map (pulse_shown values) m.outputs.items
   pub taken : AreTaken m.latches.items values after
   pub rest : KeepsOthers m.latches.items held after
+
+-- The values stand still: they are those of the registers, and each register holds what its pin has.
+pub record IsStill (m : Machine) (held values : Numbers) : Type 0 where
+  pub registers : AreLoaded m.latches.items held values
+  pub evaluated : AreShown m.steps.items values
+  pub taken : AreTaken m.latches.items values held
 
 -- a cell that is no register holds 0
 abbrev pub HoldNothingElse : List Cell → Numbers → Type 0
@@ -59,7 +71,8 @@ pub record IsState (cells : List Cell) (registers values : Numbers) : Type 0 whe
   pub words : All IsWord values
   pub others : HoldNothingElse cells registers
 
--- what a simulator keeps
-pub record IsBuilt (net : Netlist) (m : Machine) (registers values : Numbers) : Type 0 where
+-- what a simulator keeps; `still` only where the values stand still
+pub record IsBuilt (net : Netlist) (m : Machine) (registers values : Numbers) (still : Bool) : Type 0 where
   pub machine : IsMachine net m
   pub state : IsState net.cells registers values
+  pub stands : IsTrue still → IsStill m registers values

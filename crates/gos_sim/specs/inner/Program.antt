@@ -1,7 +1,7 @@
 -- The program that a simulator runs in each cycle: steps and latches.
 --
 -- Read first: Nets and Cycles of gos_netlist. A step is a cell that is neither an input nor a register, and a latch is a
--- register with its pin. No step writes a net that an earlier one has read or written, nor one that it reads itself.
+-- register with its pin. No step writes a net that it or an earlier one has read.
 use Rattle.std.specs.Prelude.{◌≡◌, ◌≢◌, ℕ, ◌<◌, ◌≤◌, Bool, true, false, IsFalse, if◌then◌else◌, List, [], ◌∷◌, All, Contains, Some, slice_get}
 use Rattle.gos_netlist.specs.declared.nets.Cell as declared
 use Rattle.gos_netlist.specs.Nets.{Function, Input, Const, Reg, Cell, pins}
@@ -36,11 +36,15 @@ IsStepOf cells s = (slice_get cells s.net ≡ Some (cell_of_step s)) × IsFalse 
 abbrev pub HasStep : List Step → ℕ → Type 0
 HasStep steps n = (s : Step) × Contains steps s × (s.net ≡ n)
 
--- a step at place k spares what one at place j read and, where that is another one, its net
+-- a step at place k spares what one at place j, or the same one, read
 abbrev pub SparesEarlier : List Step → Type 0
 SparesEarlier steps =
-    (j k : ℕ) (s t : Step) → slice_get steps j ≡ Some s → slice_get steps k ≡ Some t → j ≤ k
-    → Spares t (reads s) × (j < k → s.net ≢ t.net)
+    (j k : ℕ) (s t : Step) → slice_get steps j ≡ Some s → slice_get steps k ≡ Some t → j ≤ k → Spares t (reads s)
+
+-- steps of one net are of one cell
+abbrev pub HaveOneCell : List Step → Type 0
+HaveOneCell steps =
+    (j k : ℕ) (s t : Step) → slice_get steps j ≡ Some s → slice_get steps k ≡ Some t → s.net ≡ t.net → cell_of_step s ≡ cell_of_step t
 
 -- each step is a cell that is no source, each such cell is a step, and no step comes too early
 pub record IsProgram (cells : List Cell) (steps : List Step) : Type 0 where

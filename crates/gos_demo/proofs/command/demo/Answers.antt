@@ -2,7 +2,7 @@ use Rattle.std.proofs.Common.{◌∙◌, ap, subst, List}
 use Rattle.gos_outside.specs.OtherFiles.{OthersSame}
 use Rattle.gos_demo.specs.DemoFiles.{NamedText}
 use Rattle.gos_demo.specs.Demo.{with_files, names_of}
-use Rattle.gos_demo.proofs.EndLemmas.{demo_done, demo_rejected, demo_call, demo_cut_short, all_others}
+use Rattle.gos_demo.proofs.EndLemmas.{demo_done, demo_never_rejected, demo_call, demo_cut_short, all_others}
 use Rattle.gos_demo.proofs.command.demo.Goals as goal
 
 pub returns-clause-done : goal.returns-clause-done
@@ -11,10 +11,11 @@ returns-clause-done g c =
     demo_done c.args.levels old (g.S.Store.contents c.write_files.new.store) (g.S.Store.contents c.build.new.store) c.build.result c.requires
     (c.in_ok-write_files.ensures.written ∙ ap (λ (fs : List NamedText). with_files fs old) (c.as_slice.ensures.value ∙ c.in_ok-files.ensures)) c.build.ensures.others c.build.ensures.done
 
-pub returns-clause-rejected : goal.returns-clause-rejected
-returns-clause-rejected g c =
+pub returns-clause-never_rejected : goal.returns-clause-never_rejected
+returns-clause-never_rejected g c =
     let old = g.S.Store.contents c.args.store.now in
-    demo_rejected c.args.levels old (g.S.Store.contents c.write_files.new.store) (g.S.Store.contents c.build.new.store) c.build.result c.requires c.one_build.ensures.either
+    demo_never_rejected c.args.levels old (g.S.Store.contents c.write_files.new.store) (g.S.Store.contents c.build.new.store) c.build.result c.requires
+    c.one_build.ensures.build c.one_build.ensures.either c.few_joints.ensures c.one_answer.ensures.file c.one_answer.ensures.read
     (c.in_ok-write_files.ensures.written ∙ ap (λ (fs : List NamedText). with_files fs old) (c.as_slice.ensures.value ∙ c.in_ok-files.ensures)) c.build.ensures.others c.build.ensures.rejected
 
 pub returns-clause-failed_call : goal.returns-clause-failed_call

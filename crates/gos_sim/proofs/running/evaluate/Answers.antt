@@ -10,7 +10,7 @@ loop-step-preserved c =
     let same : length c.args.values.now ≡ length c.loop-step.values = omega arith in
     let is = slice_get-get_or c.args.steps.now c.loop-step.step-index _ c.loop-step-test.true in
     record {
-      shown = shown_more c.args.steps.now c.loop-step.values c.loop-step.step-index c.value_of-value.result _ c.requires.order is
+      shown = shown_more c.args.steps.now c.loop-step.values c.loop-step.step-index c.value_of-value.result _ c.requires.order c.requires.one is
           (subst (λ (n : ℕ). All (IsStepWithin n) c.args.steps.now) same c.requires.steps)
           c.value_of-value.ensures.shown c.loop-step.invariant.shown;
       others = λ n free. kept_by_step c.args.steps.now c.loop-step.values c.loop-step.step-index n c.value_of-value.result _ is free ∙ c.loop-step.invariant.others n free;

@@ -1,4 +1,4 @@
-use Rattle.std.proofs.Common.{All}
+use Rattle.std.proofs.Common.{◌≡◌, All, IsTrue}
 use Rattle.gos_sim.specs.Cycle.{IsWord}
 use Rattle.gos_sim.specs.inner.Running.{KeepsOthers}
 use Rattle.gos_sim.proofs.LatchLemmas.{AreTakenBefore}
@@ -11,4 +11,5 @@ invariant-loop-latch l =
       taken : AreTakenBefore l.latches l.values l.latch-index l.registers;
       others : KeepsOthers l.latches l.initial.registers l.registers;
       held : All IsWord l.registers;
+      same : IsTrue l.same → l.registers ≡ l.initial.registers;
     }

@@ -5,7 +5,6 @@ use Rattle.gos_lex.specs.Items.{TextAt}
 use Rattle.gos_netlist.specs.NetItems.{ended}
 use Rattle.gos_verilog.specs.inner.Stages.{Rest}
 use Rattle.gos_verilog.specs.inner.Stages.{listed}
-use Rattle.gos_verilog.proofs.PlaceLemmas.{after_start}
 use Rattle.gos_verilog.proofs.head.head.Goals as goal
 
 -- the start, by its parts
@@ -37,9 +36,3 @@ returns-clause-stands c first nets x is have left =
     let one = c.in_ok-start.ensures.stands first rest is (parted c.args.cursor.now first rest left) in
     let two = c.in_ok-names.ensures.stands nets (codes ";\n" ++ x) have one in
     (two.0, c.in_ok-word.ensures.stands x two.1)
-
-pub returns-in_err-names-clause-starts : goal.returns-in_err-names-clause-starts
-returns-in_err-names-clause-starts c = after_start c.from_residual-in_err-names.result c.args.cursor.now c.in_ok-start.ensures.begun
-
-pub returns-in_err-word-clause-starts : goal.returns-in_err-word-clause-starts
-returns-in_err-word-clause-starts c = after_start c.from_residual-in_err-word.result c.args.cursor.now c.in_ok-start.ensures.begun

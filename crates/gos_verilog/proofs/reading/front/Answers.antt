@@ -8,7 +8,7 @@ use Rattle.gos_verilog.specs.PortNets.{port_nets}
 use Rattle.gos_verilog.specs.Lines.{clock_declarations, port_declaration}
 use Rattle.gos_verilog.specs.VerilogText.{first_name}
 use Rattle.gos_verilog.specs.Place.{IsFormedText, head_of}
-use Rattle.gos_verilog.specs.inner.Stages.{Rest, AreNamesOf, declared_net, listed, HasStart, IsStart, BreaksAt, HaveWidths}
+use Rattle.gos_verilog.specs.inner.Stages.{Rest, AreNamesOf, declared_net, listed, HaveWidths}
 use Rattle.gos_verilog.specs.inner.Breaks.{FaultFrom, LeadsOn, PassedIn}
 use Rattle.gos_verilog.specs.inner.Left.{LeadsOnOf, LeftCells, LeftNets, AreNamed, named_nets}
 use Rattle.gos_verilog.proofs.PortLemmas.{right_nets}
@@ -18,7 +18,6 @@ use Rattle.gos_verilog.proofs.NamedLemmas.{all_named, names_are}
 use Rattle.gos_verilog.proofs.FormedLemmas.{head_parts}
 use Rattle.gos_verilog.proofs.FrontLemmas.{want_fault, head_leads_on, head_fault, nets_same}
 use Rattle.gos_verilog.proofs.LeftNetLemmas.{both_ok, three_ok}
-use Rattle.gos_verilog.proofs.PlaceLemmas.{after_start, start_at}
 use Rattle.gos_verilog.proofs.reading.front.Goals as goal
 
 begins : (cursor : TextAt) (text : List ℕ) (ports : List NetPort) (more : List ℕ) → cursor.text ≡ text → cursor.at ≡ 0 → text ≡ head_of ports ++ more
@@ -31,22 +30,42 @@ at_place cursor text bytes at same place left = (λ i. drop (place i) (sym same 
 at_within : (cursor : TextAt) (text : List ℕ) (at : ℕ) → cursor.text ≡ text → at ≡ cursor.at → cursor.at ≤ length cursor.text → at ≤ length text
 at_within cursor text at same place within = omega (arith, place, ap length same, within)
 
+pub returns-in_err-judge-clause-head : goal.returns-in_err-judge-clause-head
+returns-in_err-judge-clause-head c =
+    let p = err_from_is_err_and c.from_residual.result c.from_residual.ensures.1 in
+    rw (p.1, p.2) c.in_err-judge.ensures.wrong
+
 pub returns-in_err-names-clause-head : goal.returns-in_err-names-clause-head
-returns-in_err-names-clause-head c ports more are is =
+returns-in_err-names-clause-head c =
+    let given = c.in_ok-judge.ensures.head in
+    let ports = given.0 in
+    let more = given.1 in
+    let are = given.2 in
+    let is = given.3 in
     let text = c.args.text.now in
     let start = begins c.new-cursor.result text ports more c.new-cursor.ensures.text c.new-cursor.ensures.at is in
     let known = c.in_err-names.ensures.stands (first_name ports) (port_nets ports) (clock_declarations ++ more) (first_named ports are.some are.writable) (names_of (port_nets ports) (right_nets ports are.writable)) start in
-    let p = err_from_is_err_and c.from_residual.result c.from_residual.ensures.1 in
+    let p = err_from_is_err_and c.from_residual-in_err-names.result c.from_residual-in_err-names.ensures.1 in
     rw (p.1, p.2) (want_fault IsFormedText (record { text = text; at = 0 }) c.in_err-names.field-0.0 known)
 
 pub returns-in_err-word-clause-head : goal.returns-in_err-word-clause-head
-returns-in_err-word-clause-head c ports more are is =
+returns-in_err-word-clause-head c =
+    let given = c.in_ok-judge.ensures.head in
+    let ports = given.0 in
+    let more = given.1 in
+    let are = given.2 in
+    let is = given.3 in
     let start = begins c.new-cursor.result c.args.text.now ports more c.new-cursor.ensures.text c.new-cursor.ensures.at is in
     let known = c.in_ok-names.ensures.stands (first_name ports) (port_nets ports) (clock_declarations ++ more) (first_named ports are.some are.writable) (names_of (port_nets ports) (right_nets ports are.writable)) start in
     absurd (c.in_err-word.ensures.stands more known.1)
 
 pub returns-clause-head : goal.returns-clause-head
-returns-clause-head c ports more are is =
+returns-clause-head c =
+    let given = c.in_ok-judge.ensures.head in
+    let ports = given.0 in
+    let more = given.1 in
+    let are = given.2 in
+    let is = given.3 in
     let text = c.args.text.now in
     let names = c.deref.result.now in
     let start = begins c.new-cursor.result text ports more c.new-cursor.ensures.text c.new-cursor.ensures.at is in
@@ -84,15 +103,3 @@ returns-clause-found c ports more are is =
     (λ both. (both.0.items ≡ map declared_net (port_nets ports)) × (drop both.1 text ≡ more))
     (λ both names_both facts. nets_same text c.at.result both.1 ports more both.0.items are.writable facts.0 facts.1 (sym names_both ∙ named) facts.2 left) e.names
     (three_ok r (λ both. HaveWidths both.0.items) (λ both. map declared_net both.0.items ≡ both.0.items) (λ both. PassedIn text c.at.result both.1 (flat_map port_declaration both.0.items)) e.wide e.bare e.passed)
-
-pub returns-in_err-names-clause-starts : goal.returns-in_err-names-clause-starts
-returns-in_err-names-clause-starts c =
-    let here = start_at c.new-cursor.result c.args.text.now c.new-cursor.ensures.text c.new-cursor.ensures.at in
-    let known = subst (λ (cursor : TextAt). (HasStart cursor → ⊥) → BreaksAt IsStart cursor c.in_err-names.field-0.0) here c.in_err-names.ensures.starts in
-    let p = err_from_is_err_and c.from_residual.result c.from_residual.ensures.1 in
-    rw (p.1, p.2) known
-
-pub returns-in_err-word-clause-starts : goal.returns-in_err-word-clause-starts
-returns-in_err-word-clause-starts c =
-    let here = start_at c.new-cursor.result c.args.text.now c.new-cursor.ensures.text c.new-cursor.ensures.at in
-    after_start c.from_residual-in_err-word.result (record { text = c.args.text.now; at = 0 }) (subst HasStart here c.in_ok-names.ensures.begun)

@@ -11,7 +11,6 @@ use Rattle.gos_verilog.specs.inner.Parts.{Parts}
 use Rattle.gos_verilog.specs.inner.Breaks.{BreaksFrom, FaultFrom, PassedIn}
 use Rattle.gos_verilog.specs.inner.Left.{HaveNetNames, IsShape, LeftDrivers, NoShape, shapes_text}
 use Rattle.gos_verilog.proofs.WholeLemmas.{parts_of}
-use Rattle.gos_verilog.proofs.FormedLemmas.{head_of_front}
 use Rattle.gos_verilog.proofs.FrontLemmas.{not_want, fault_want, fault_place, end_place, behind_place, behind_formed}
 use Rattle.gos_verilog.proofs.LeftCellLemmas.{cells_found}
 use Rattle.gos_verilog.proofs.PlaceLemmas.{read_is_formed}
@@ -25,11 +24,8 @@ two_of text net parts at end stopped shapes left wide passed ends = cells_found 
 pub returns-in_err-declared-clause-stands : goal.returns-in_err-declared-clause-stands
 returns-in_err-declared-clause-stands c net read =
     let text = c.args.text.now in
-    let known = parts_of net text read in
-    let parts : Parts net = known.0 in
-    let breaks = c.in_err-declared.ensures.head net.ports _ known.1 (known.2 ∙ head_of_front net.ports (cell_declarations 0 parts.cells ++ (parts.drivers ++ parts.back))) in
     let p = err_from_is_err_and c.from_residual.result c.from_residual.ensures.1 in
-    rw (p.1, p.2) (fault_want text c.in_err-declared.field-0.0 (read_is_formed text net read) breaks)
+    rw (p.1, p.2) (fault_want text c.in_err-declared.field-0.0 (read_is_formed text net read) c.in_err-declared.ensures.head)
 
 pub returns-in_err-shapes-clause-stands : goal.returns-in_err-shapes-clause-stands
 returns-in_err-shapes-clause-stands c net read =
@@ -74,19 +70,19 @@ returns-clause-stands c net read =
     let found = c.in_ok-ports.ensures.stands net.ports parts.ports (c.deref-3.ensures.value ∙ (three.1 ∙ parts.nets_are)) in
     absurd (rw c.in-None.is at found)
 
-pub returns-in_err-declared-clause-lines : goal.returns-in_err-declared-clause-lines
-returns-in_err-declared-clause-lines c =
+pub returns-in_err-declared-clause-place : goal.returns-in_err-declared-clause-place
+returns-in_err-declared-clause-place c =
     let p = err_from_is_err_and c.from_residual.result c.from_residual.ensures.1 in
-    rw (p.1, p.2) (λ head. fault_place c.args.text.now c.in_err-declared.field-0.0 (c.in_err-declared.ensures.head head.0 head.1 head.2 head.3))
+    rw (p.1, p.2) (fault_place c.args.text.now c.in_err-declared.field-0.0 c.in_err-declared.ensures.head)
 
-pub returns-in-Err-Form-clause-lines : goal.returns-in-Err-Form-clause-lines
-returns-in-Err-Form-clause-lines c = λ head.
+pub returns-in-Err-Form-clause-place : goal.returns-in-Err-Form-clause-place
+returns-in-Err-Form-clause-place c =
     let text = c.args.text.now in
     let nets = c.in_ok-declared.declared.items in
     let shapes = c.in_ok-shapes.shapes.items in
     let place = c.in-Err-Form.place in
     let end = c.in_ok-shapes.end in
-    let known = c.in_ok-declared.ensures.head head.0 head.1 head.2 head.3 in
+    let known = c.in_ok-declared.ensures.head in
     let declared : c.deref-2.result.now ≡ nets = c.deref-2.ensures.value in
     let named = subst HaveNetNames (sym declared) known.1 in
     let wrong = subst (λ (f : VFault). FaultFrom (LeftDrivers c.deref-2.result.now 0 c.deref.result.now) (record { text = text; at = end }) f) c.in-Err-Form.field-0-is (c.in-Err-Form.ensures.wrong named) in
@@ -98,12 +94,12 @@ returns-in-Err-Form-clause-lines c = λ head.
     c.further.ensures.at_least.0 (rw c.in-Err-Form.field-0-is at c.further.ensures.at_least.1) (rw c.in-Err-Form.field-0-is at c.further.ensures.one)
 
 pub returns-in-Some-clause-formed : goal.returns-in-Some-clause-formed
-returns-in-Some-clause-formed c = λ head.
+returns-in-Some-clause-formed c =
     let text = c.args.text.now in
     let nets = c.in_ok-declared.declared.items in
     let shapes = c.in_ok-shapes.shapes.items in
     let end = c.in_ok-shapes.end in
-    let known = c.in_ok-declared.ensures.head head.0 head.1 head.2 head.3 in
+    let known = c.in_ok-declared.ensures.head in
     let declared : c.deref-2.result.now ≡ nets = c.deref-2.ensures.value in
     let drivers = subst (λ (list : List Shape). LeftDrivers c.deref-2.result.now 0 list (drop end text)) c.deref.ensures.value (c.in-Ok.ensures.left (subst HaveNetNames (sym declared) known.1)) in
     let ensured = c.in_ok-shapes.ensures in
@@ -111,13 +107,13 @@ returns-in-Some-clause-formed c = λ head.
     (record { lead = known.0; wide = ensured.widths; few = ensured.few; passed = ensured.passed; ends = ensured.ends })
     (subst (λ (list : List PortNet). LeftDrivers list 0 shapes (drop end text)) declared drivers)
 
-pub returns-clause-lines : goal.returns-clause-lines
-returns-clause-lines c = λ head.
+pub returns-clause-place : goal.returns-clause-place
+returns-clause-place c =
     let text = c.args.text.now in
     let nets = c.in_ok-declared.declared.items in
     let shapes = c.in_ok-shapes.shapes.items in
     let end = c.in_ok-shapes.end in
-    let known = c.in_ok-declared.ensures.head head.0 head.1 head.2 head.3 in
+    let known = c.in_ok-declared.ensures.head in
     let declared : c.deref-2.result.now ≡ nets = c.deref-2.ensures.value in
     let drivers = subst (λ (list : List Shape). LeftDrivers c.deref-2.result.now 0 list (drop end text)) c.deref.ensures.value (c.in-Ok.ensures.left (subst HaveNetNames (sym declared) known.1)) in
     let ensured = c.in_ok-shapes.ensures in

@@ -1,27 +1,11 @@
 use Rattle.std.proofs.Common.{List, map, subst, ◌∙◌, ap}
 use Rattle.gos_sim.specs.declared.event_nets.EventNets.{EventNets}
-use Rattle.gos_sim.specs.declared.program.Step.{Step}
-use Rattle.gos_sim.specs.declared.program.Latch.{Latch}
 use Rattle.gos_sim.specs.Cycle.{GivesAll, pulse_shown}
-use Rattle.gos_sim.specs.inner.Running.{AreLoaded, AreShown, AreTaken, KeepsOtherSteps, KeepsOthers}
+use Rattle.gos_sim.proofs.StillLemmas.{still_runs}
 use Rattle.gos_sim.proofs.machine.Machine.run.Goals as goal
 
-pub returns-clause-run : goal.returns-clause-run
-returns-clause-run c =
-    let held = c.args.registers.now in
-    let first = c.give.new.values in
-    let loaded = c.load.new.values in
-    let values = c.evaluate.new.values in
-    let after = c.latch.new.registers in
-    record {
-      first = first;
-      loaded = loaded;
-      pulses = subst (λ (es : List EventNets). GivesAll es c.args.inputs.now first) c.deref.ensures.value c.give.ensures.given;
-      registers = subst (λ (ls : List Latch). AreLoaded ls held loaded) c.deref-2.ensures.value c.load.ensures.loaded;
-      others = subst (λ (ls : List Latch). KeepsOthers ls first loaded) c.deref-2.ensures.value c.load.ensures.others;
-      evaluated = subst (λ (ss : List Step). AreShown ss values) c.deref-3.ensures.value c.evaluate.ensures.shown;
-      sources = subst (λ (ss : List Step). KeepsOtherSteps ss loaded values) c.deref-3.ensures.value c.evaluate.ensures.others;
-      shows = c.show.ensures ∙ ap (map (pulse_shown values)) c.deref-4.ensures.value;
-      taken = subst (λ (ls : List Latch). AreTaken ls values after) c.deref-5.ensures.value c.latch.ensures.taken;
-      rest = subst (λ (ls : List Latch). KeepsOthers ls held after) c.deref-5.ensures.value c.latch.ensures.others;
-    }
+pub returns-then-is_given-clause-run : goal.returns-then-is_given-clause-run
+returns-then-is_given-clause-run c =
+    let given = subst (λ (es : List EventNets). GivesAll es c.args.inputs.now c.args.values.now) c.deref.ensures.value (c.is_given.ensures c.if-is_given.true) in
+    still_runs c.args.self.now c.args.inputs.now c.show.new.pulses c.args.registers.now c.args.values.now (c.requires.still c.if-still.true) given
+    (c.show.ensures ∙ ap (map (pulse_shown c.args.values.now)) c.deref-then-is_given.ensures.value)

@@ -7,8 +7,8 @@ use Rattle.gos_sim.specs.inner.Machine.{IsBuilt, IsRunnable, RunsThrough}
 use Rattle.gos_sim.proofs.CycleLemmas.{built_after, cycle_of, runnable}
 use Rattle.gos_sim.proofs.sim.Sim.cycle.Goals as goal
 
-pub run-requires-clause-ready : goal.run-requires-clause-ready
-run-requires-clause-ready c =
+pub run-stands-requires-clause-ready : goal.run-stands-requires-clause-ready
+run-stands-requires-clause-ready c =
     let parts = c.self.inside in
     let each : length parts.net.cells ≡ length c.deref_mut-2.result.now = sym (ap length c.deref_mut-2.ensures.value ∙ c.self.invariant.state.values_each) in
     subst (λ (n : ℕ). IsRunnable n parts.machine) each (runnable parts.net parts.machine c.self.invariant.machine)
@@ -16,15 +16,15 @@ run-requires-clause-ready c =
 pub invariant_of-self : goal.invariant_of-self
 invariant_of-self c =
     let parts = c.self.inside in
-    let registers : length c.run.new.registers ≡ length parts.net.cells = omega (arith, c.self.invariant.state.registers_each) in
-    let values : length c.run.new.values ≡ length parts.net.cells = omega (arith, c.self.invariant.state.values_each) in
-    let after = with_items_is parts.registers c.run.new.registers (omega arith) in
-    let shown = with_items_is parts.values c.run.new.values (omega arith) in
-    let run = subst (λ (held : Numbers). RunsThrough parts.machine c.args.inputs.now held c.run.new.values c.run.new.outputs c.run.new.registers) c.deref_mut.ensures.value c.run.ensures.run in
-    subst (λ (rs : Numbers). IsBuilt parts.net parts.machine rs (with_items parts.values c.run.new.values).items) (sym after)
-    (subst (λ (vs : Numbers). IsBuilt parts.net parts.machine c.run.new.registers vs) (sym shown)
-    (built_after parts.net parts.machine parts.registers.items parts.values.items c.run.new.values c.run.new.registers c.args.inputs.now c.run.new.outputs
-    c.self.invariant run values registers c.run.ensures.words c.run.ensures.held))
+    let registers : length c.run-stands.new.registers ≡ length parts.net.cells = omega (arith, c.self.invariant.state.registers_each) in
+    let values : length c.run-stands.new.values ≡ length parts.net.cells = omega (arith, c.self.invariant.state.values_each) in
+    let after = with_items_is parts.registers c.run-stands.new.registers (omega arith) in
+    let shown = with_items_is parts.values c.run-stands.new.values (omega arith) in
+    let run = subst (λ (held : Numbers). RunsThrough parts.machine c.args.inputs.now held c.run-stands.new.values c.run-stands.new.outputs c.run-stands.new.registers) c.deref_mut.ensures.value c.run-stands.ensures.run in
+    subst (λ (rs : Numbers). IsBuilt parts.net parts.machine rs (with_items parts.values c.run-stands.new.values).items c.run-stands.result) (sym after)
+    (subst (λ (vs : Numbers). IsBuilt parts.net parts.machine c.run-stands.new.registers vs c.run-stands.result) (sym shown)
+    (built_after parts.net parts.machine parts.registers.items parts.values.items c.run-stands.new.values c.run-stands.new.registers parts.still c.run-stands.result c.args.inputs.now c.run-stands.new.outputs
+    c.self.invariant run values registers c.run-stands.ensures.words c.run-stands.ensures.held c.run-stands.ensures.still))
 
 pub returns-clause-net : goal.returns-clause-net
 returns-clause-net c = ap (λ (s : Simulator). s.net) c.self.view_is
@@ -32,12 +32,12 @@ returns-clause-net c = ap (λ (s : Simulator). s.net) c.self.view_is
 pub returns-clause-cycle : goal.returns-clause-cycle
 returns-clause-cycle c =
     let parts = c.self.inside in
-    let registers : length c.run.new.registers ≡ length parts.net.cells = omega (arith, c.self.invariant.state.registers_each) in
-    let values : length c.run.new.values ≡ length parts.net.cells = omega (arith, c.self.invariant.state.values_each) in
-    let after = with_items_is parts.registers c.run.new.registers (omega arith) in
-    let run = subst (λ (held : Numbers). RunsThrough parts.machine c.args.inputs.now held c.run.new.values c.run.new.outputs c.run.new.registers) c.deref_mut.ensures.value c.run.ensures.run in
+    let registers : length c.run-stands.new.registers ≡ length parts.net.cells = omega (arith, c.self.invariant.state.registers_each) in
+    let values : length c.run-stands.new.values ≡ length parts.net.cells = omega (arith, c.self.invariant.state.values_each) in
+    let after = with_items_is parts.registers c.run-stands.new.registers (omega arith) in
+    let run = subst (λ (held : Numbers). RunsThrough parts.machine c.args.inputs.now held c.run-stands.new.values c.run-stands.new.outputs c.run-stands.new.registers) c.deref_mut.ensures.value c.run-stands.ensures.run in
     let new : Numbers → Simulator = λ rs. record { net = parts.net; registers = rs } in
-    subst (λ (rs : Numbers). IsCycle c.args.self.now c.args.inputs.now c.run.new.outputs (new rs)) (sym after)
-    (subst (λ (s : Simulator). IsCycle s c.args.inputs.now c.run.new.outputs (new c.run.new.registers)) c.self.view_is
-    (cycle_of parts.net parts.machine parts.registers.items parts.values.items c.run.new.values c.run.new.registers c.args.inputs.now c.run.new.outputs
+    subst (λ (rs : Numbers). IsCycle c.args.self.now c.args.inputs.now c.run-stands.new.outputs (new rs)) (sym after)
+    (subst (λ (s : Simulator). IsCycle s c.args.inputs.now c.run-stands.new.outputs (new c.run-stands.new.registers)) c.self.view_is
+    (cycle_of parts.net parts.machine parts.registers.items parts.values.items c.run-stands.new.values c.run-stands.new.registers parts.still c.args.inputs.now c.run-stands.new.outputs
     c.self.invariant run values registers))

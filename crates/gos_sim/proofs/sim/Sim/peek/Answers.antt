@@ -7,5 +7,5 @@ pub returns : goal.returns
 returns c =
     let parts = c.self.inside in
     subst (λ (s : Simulator). IsNextOutput s c.show.new.pulses) c.self.view_is
-    (next_output parts.net parts.machine parts.registers.items parts.values.items c.show.new.pulses c.self.invariant
+    (next_output parts.net parts.machine parts.registers.items parts.values.items parts.still c.show.new.pulses c.self.invariant
     (rw (c.deref.ensures.value, c.deref-2.ensures.value) at c.show.ensures))

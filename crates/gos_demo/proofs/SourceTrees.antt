@@ -1,0 +1,214 @@
+-- The modules that the demo's sources are.
+use Rattle.std.proofs.Common.{◌+◌, ℕ, List, [], ◌∷◌, ◌++◌, refl}
+use Rattle.gos_lex.specs.Tokens.{Reading}
+use Rattle.gos_types.specs.Types as types
+use Rattle.gos_syntax.specs.Items.{Item, span_of}
+use Rattle.gos_syntax.specs.Trees as trees
+use Rattle.gos_syntax.specs.Trees.{Tree}
+use Rattle.gos_syntax.specs.ModuleTrees.{ImportTree, ModuleTree}
+use Rattle.gos_syntax.specs.Grammar as grammar
+use Rattle.gos_syntax.specs.Grammar.{IsTerm}
+use Rattle.gos_syntax.specs.ParsedModules.{IsImport, IsModule}
+use Rattle.gos_demo.proofs.ScanLemmas.{AreRead}
+use Rattle.gos_demo.proofs.SourceTexts.{import_f, main_rest, twice_rest, pass_rest, pair_rest, main_read, twice_read, pass_read, pair_read, id_read}
+use Rattle.gos_demo.proofs.RuleLemmas.{command, function, named, app, par, term, call, called}
+
+abbrev a : List ℕ
+a = 97 ∷ []
+
+abbrev c : List ℕ
+c = 99 ∷ []
+
+abbrev f : List ℕ
+f = 102 ∷ []
+
+-- the imports
+abbrev f_import : List Item → ImportTree
+f_import items =
+    record { name = f; name_span = span_of items 1 2; ty = types.Fun types.Com types.Com; ty_span = span_of items 3 6 }
+
+abbrev c_import : List Item → ImportTree
+c_import items = record { name = c; name_span = span_of items 7 8; ty = types.Com; ty_span = span_of items 9 10 }
+
+-- the modules, by the items of the text
+abbrev pub main_tree : List Item → ModuleTree
+main_tree items =
+    record { imports = f_import items ∷ c_import items ∷ []; body = call items 11 12 13 f c; result = types.Com; result_span = span_of items 14 15 }
+
+-- a function of `a`, whose colon has number `colon`
+abbrev fun_tree : List Item → List ImportTree → ℕ → ℕ → Tree → ModuleTree
+fun_tree items imports at colon body =
+    record {
+      imports = imports;
+      body = trees.Lam (span_of items at colon) a types.Com (span_of items (at + 3) (at + 4)) body;
+      result = types.Fun types.Com types.Com;
+      result_span = span_of items (colon + 1) (colon + 4);
+    }
+
+abbrev pub twice_tree : List Item → ModuleTree
+twice_tree items =
+    fun_tree items (f_import items ∷ []) 7 17 (trees.Seq (span_of items 12 17) (call items 12 13 14 f a) (call items 15 16 17 f a))
+
+abbrev pub pass_tree : List Item → ModuleTree
+pass_tree items = fun_tree items (f_import items ∷ []) 7 14 (call items 12 13 14 f a)
+
+abbrev pair_body : List Item → Tree
+pair_body items =
+    trees.App (span_of items 12 21) (trees.Use (span_of items 12 13) f)
+    (trees.Fst (span_of items 14 20) (trees.Both (span_of items 15 20) (trees.Use (span_of items 16 17) a) (trees.Skip (span_of items 18 19))))
+
+abbrev pub pair_tree : List Item → ModuleTree
+pair_tree items = fun_tree items (f_import items ∷ []) 7 21 (pair_body items)
+
+abbrev pub id_tree : List Item → ModuleTree
+id_tree items = fun_tree items [] 1 7 (trees.Use (span_of items 6 7) a)
+
+-- what is derived
+f_imported : (items : List Item) (rest : List Reading) → AreRead items (import_f ++ rest) → IsImport items 0 6 (f_import items)
+f_imported items rest is =
+    record {
+      word = is 0;
+      name = is 1;
+      name_span = refl;
+      colon = is 2;
+      ty = function items 3 4 5 6 refl refl refl (is 3) (is 4) (is 5);
+      ty_span = refl;
+    }
+
+pub main_derived : (items : List Item) → AreRead items main_read → IsModule items (main_tree items)
+main_derived items is =
+    record {
+      end = 15;
+      whole =
+          record {
+            exported = 10;
+            imports = (
+              6,
+              f_imported items main_rest is,
+              (10, record { word = is 6; name = is 7; name_span = refl; colon = is 8; ty = command items 9 10 refl (is 9); ty_span = refl }, refl),
+            );
+            word = is 10;
+            colon = 13;
+            body = term items 11 13 (call items 11 12 13 f c) (called items 11 12 13 f c refl refl (is 11) (is 12));
+            sign = is 13;
+            result = command items 14 15 refl (is 14);
+            result_span = refl;
+          };
+      no_more = is 15;
+    }
+
+pub twice_derived : (items : List Item) → AreRead items twice_read → IsModule items (twice_tree items)
+twice_derived items is =
+    record {
+      end = 21;
+      whole =
+          record {
+            exported = 6;
+            imports = (
+              6,
+              f_imported items twice_rest is,
+              refl,
+            );
+            word = is 6;
+            colon = 17;
+            body =
+                grammar.a_lambda 7 11 17 a types.Com (trees.Seq (span_of items 12 17) (call items 12 13 14 f a) (call items 15 16 17 f a))
+                (is 7) (is 8) (is 9) (command items 10 11 refl (is 10)) (is 11)
+                (grammar.a_sequence 12 14 17 (call items 12 13 14 f a) (call items 15 16 17 f a)
+                (par items 12 14 (call items 12 13 14 f a) (called items 12 13 14 f a refl refl (is 12) (is 13))) (is 14)
+                (term items 15 17 (call items 15 16 17 f a) (called items 15 16 17 f a refl refl (is 15) (is 16))));
+            sign = is 17;
+            result = function items 18 19 20 21 refl refl refl (is 18) (is 19) (is 20);
+            result_span = refl;
+          };
+      no_more = is 21;
+    }
+
+pub pass_derived : (items : List Item) → AreRead items pass_read → IsModule items (pass_tree items)
+pass_derived items is =
+    record {
+      end = 18;
+      whole =
+          record {
+            exported = 6;
+            imports = (
+              6,
+              f_imported items pass_rest is,
+              refl,
+            );
+            word = is 6;
+            colon = 14;
+            body =
+                grammar.a_lambda 7 11 14 a types.Com (call items 12 13 14 f a) (is 7) (is 8) (is 9) (command items 10 11 refl (is 10)) (is 11)
+                (term items 12 14 (call items 12 13 14 f a) (called items 12 13 14 f a refl refl (is 12) (is 13)));
+            sign = is 14;
+            result = function items 15 16 17 18 refl refl refl (is 15) (is 16) (is 17);
+            result_span = refl;
+          };
+      no_more = is 18;
+    }
+
+-- `f (fst (a, skip))`
+abbrev both : List Item → Tree
+both items = trees.Both (span_of items 15 20) (trees.Use (span_of items 16 17) a) (trees.Skip (span_of items 18 19))
+
+first_derived : (items : List Item) → AreRead items pair_read → IsTerm items grammar.App 14 20 (trees.Fst (span_of items 14 20) (both items))
+first_derived items is =
+    let skip : Tree = trees.Skip (span_of items 18 19) in
+    grammar.an_operand 14 20 (trees.Fst (span_of items 14 20) (both items))
+    (grammar.a_first_part 14 20 (both items) (is 14)
+    (grammar.an_atom 15 20 (both items)
+    (grammar.a_pair 15 17 19 (trees.Use (span_of items 16 17) a) skip (is 15)
+    (term items 16 17 (trees.Use (span_of items 16 17) a) (app items 16 17 (trees.Use (span_of items 16 17) a) (named items 16 17 a refl (is 16)))) (is 17)
+    (term items 18 19 skip (app items 18 19 skip (grammar.skipping 18 (is 18)))) (is 19))))
+
+pair_body_derived : (items : List Item) → AreRead items pair_read → IsTerm items grammar.App 12 21 (pair_body items)
+pair_body_derived items is =
+    let first : Tree = trees.Fst (span_of items 14 20) (both items) in
+    grammar.one_more_operand 12 13 21 (trees.Use (span_of items 12 13) f) first
+    (app items 12 13 (trees.Use (span_of items 12 13) f) (named items 12 13 f refl (is 12)))
+    (grammar.an_atom 13 21 first (grammar.in_brackets 13 20 first (is 13) (term items 14 20 first (first_derived items is)) (is 20)))
+
+pub pair_derived : (items : List Item) → AreRead items pair_read → IsModule items (pair_tree items)
+pair_derived items is =
+    record {
+      end = 25;
+      whole =
+          record {
+            exported = 6;
+            imports = (
+              6,
+              f_imported items pair_rest is,
+              refl,
+            );
+            word = is 6;
+            colon = 21;
+            body =
+                grammar.a_lambda 7 11 21 a types.Com (pair_body items) (is 7) (is 8) (is 9) (command items 10 11 refl (is 10)) (is 11)
+                (term items 12 21 (pair_body items) (pair_body_derived items is));
+            sign = is 21;
+            result = function items 22 23 24 25 refl refl refl (is 22) (is 23) (is 24);
+            result_span = refl;
+          };
+      no_more = is 25;
+    }
+
+pub id_derived : (items : List Item) → AreRead items id_read → IsModule items (id_tree items)
+id_derived items is =
+    record {
+      end = 11;
+      whole =
+          record {
+            exported = 0;
+            imports = refl;
+            word = is 0;
+            colon = 7;
+            body =
+                grammar.a_lambda 1 5 7 a types.Com (trees.Use (span_of items 6 7) a) (is 1) (is 2) (is 3) (command items 4 5 refl (is 4)) (is 5)
+                (term items 6 7 (trees.Use (span_of items 6 7) a) (app items 6 7 (trees.Use (span_of items 6 7) a) (named items 6 7 a refl (is 6))));
+            sign = is 7;
+            result = function items 8 9 10 11 refl refl refl (is 8) (is 9) (is 10);
+            result_span = refl;
+          };
+      no_more = is 11;
+    }
