@@ -14,8 +14,6 @@ use Rattle.gos_objects.specs.Complete.{AcceptedIsNotRejected}
 use Rattle.gos_circuits.specs.Complete.{LinkIsNotRejected}
 use Rattle.gos_simulate.specs.Complete.{SimIsNotRejected}
 use Rattle.gos_build.specs.Complete.{BuildIsNotRejected}
-use Rattle.gos_demo.specs.DemoFiles.{build_file}
-use Rattle.gos_demo.specs.Demo.{with_demo}
 use Rattle.gos_tool.specs.Command.{Command, Check, Compile, Link, Sim, Build, Demo, Means}
 use Rattle.gos_tool.specs.Run.{IsRejected}
 use Rattle.gos_tool.specs.Complete.{AreRight, RightIsNotRejected}
@@ -27,8 +25,7 @@ right_is_not_rejected source link sim build (Compile name object) files new faul
 right_is_not_rejected source link sim build (Link own) files new fault line right wrong = link files own fault line right wrong.1
 right_is_not_rejected source link sim build (Sim net pulses trace) files new fault line right wrong = sim files net pulses fault line right wrong.2
 right_is_not_rejected source link sim build (Build own) files new fault line right wrong = build files new own fault line right wrong
-right_is_not_rejected source link sim build (Demo levels) files new fault line right wrong =
-    build (with_demo levels files) new (build_file levels).name fault line right (inr (wrong.build, wrong.says, wrong.rejects))
+right_is_not_rejected source link sim build (Demo levels) files new fault line right wrong = cc wrong
 
 -- one status of two
 abbrev IsDoneOrShort : Status → Type 0

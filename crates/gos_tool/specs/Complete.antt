@@ -9,20 +9,18 @@ use Rattle.gos_objects.specs.Checked.{SaysModule}
 use Rattle.gos_circuits.specs.Complete.{AreRightToLink}
 use Rattle.gos_simulate.specs.Complete.{AreRightToRun}
 use Rattle.gos_build.specs.Complete.{AreRightToBuild}
-use Rattle.gos_demo.specs.DemoFiles.{build_file}
-use Rattle.gos_demo.specs.Demo.{with_demo}
 use Rattle.gos_tool.specs.Command.{Command, Check, Compile, Link, Sim, Build, Demo}
 use Rattle.gos_tool.specs.Run.{IsRejected}
 
--- The files, as they are when the command begins, are right for it. A demo's are those of the demo. Of the files that are left only
--- the netlist counts that `build` has written, under which the pulse file is judged.
+-- The files, as they are when the command begins, are right for it; for a demo all are, as it writes its own. Of the files that are
+-- left only the netlist counts that `build` has written, under which the pulse file is judged.
 abbrev pub AreRight : Command → Files → Option Files → Type 0
 AreRight (Check source) files new = (m : SeenModule) × SaysModule (bytes_at files source) m
 AreRight (Compile source object) files new = (m : SeenModule) × SaysModule (bytes_at files source) m
 AreRight (Link own) files new = AreRightToLink files own
 AreRight (Sim net pulses trace) files new = AreRightToRun files net pulses
 AreRight (Build own) files new = AreRightToBuild files new own
-AreRight (Demo levels) files new = AreRightToBuild (with_demo levels files) new (build_file levels).name
+AreRight (Demo levels) files new = Unit {0}
 
 -- a command rejects no file where they are right
 abbrev pub RightIsNotRejected : Type 0

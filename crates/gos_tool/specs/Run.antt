@@ -2,7 +2,7 @@
 --
 -- Read first: Command; Checked and Compiled of gos_objects; Linked of gos_circuits; Sim of gos_simulate; Built of gos_build; Demo of gos_demo; Lines
 -- of gos_command. `old` and `new` are the files of the store before and after, `written` and `printed` the bytes of the sink.
-use Rattle.std.specs.Prelude.{◌≡◌, ◌⊎◌, ℕ, List, Option, IfSome}
+use Rattle.std.specs.Prelude.{◌≡◌, ◌⊎◌, ℕ, List, Option, None, IfSome}
 use Rattle.gos_outside.specs.Files.{Files, SameBut}
 use Rattle.gos_outside.specs.OtherFiles.{OthersSame}
 use Rattle.gos_outside.specs.Faults.{LastFault, ReadFault}
@@ -20,7 +20,7 @@ use Rattle.gos_simulate.specs.Sim.{IsSimDone, IsSimFault, IsSimCall}
 use Rattle.gos_build.specs.Built as building
 use Rattle.gos_build.specs.Built.{IsBuilt, RejectsBuild, IsBuildCall, IsBuildCutShort}
 use Rattle.gos_demo.specs.Demo as showing
-use Rattle.gos_demo.specs.Demo.{IsDemoDone, IsDemoRejected, IsDemoCall, IsDemoCutShort}
+use Rattle.gos_demo.specs.Demo.{IsDemoDone, IsDemoCall, IsDemoCutShort}
 use Rattle.gos_tool.specs.Command.{Command, Check, Compile, Link, Sim, Build, Demo, Means}
 
 -- all that the command is to do is done, with this report
@@ -32,7 +32,7 @@ IsDone (Sim net pulses trace) old new report = IsSimDone old new net pulses trac
 IsDone (Build own) old new report = IfSome old (λ files. IsBuilt files new own report)
 IsDone (Demo levels) old new report = IfSome old (λ files. IsDemoDone files new levels report)
 
--- The command rejects a file for this fault, with this line: the first that it finds.
+-- The command rejects a file for this fault, with this line: the first that it finds. A demo rejects none, where the store tells its files.
 abbrev pub IsRejected : Command → Option Files → Option Files → Fault → List ℕ → Type 0
 IsRejected (Check source) old new fault line = (new ≡ old) × (fault.file ≡ source) × IfSome old (λ files. IsSourceFault files source fault line)
 IsRejected (Compile source object) old new fault line =
@@ -41,7 +41,7 @@ IsRejected (Link own) old new fault line = (new ≡ old) × IfSome old (λ files
 IsRejected (Sim net pulses trace) old new fault line =
     (new ≡ old) × ((fault.file ≡ net) ⊎ (fault.file ≡ pulses)) × IfSome old (λ files. IsSimFault files net pulses fault line)
 IsRejected (Build own) old new fault line = IfSome old (λ files. RejectsBuild files new own fault line)
-IsRejected (Demo levels) old new fault line = IfSome old (λ files. IsDemoRejected files new levels fault line)
+IsRejected (Demo levels) old new fault line = old ≡ None
 
 -- The command makes this call of the store, after all that is judged before it was right, and this is what it wrote before.
 abbrev pub IsCall : Command → Option Files → Option Files → LastFault → Type 0
