@@ -1,4 +1,4 @@
-// Tests of netlists and of their simulation by public calls alone.
+// Tests of netlists, of their texts and of their simulation by public calls alone.
 //
 // A crate with tests is proved twice, so crates that others wait for have none: theirs stand here, one file a subject.
 #![tactic(auto)]
@@ -17,3 +17,5 @@ mod netlists;
 mod pulse_files;
 #[cfg(test)]
 mod simulating;
+#[cfg(test)]
+mod verilog;

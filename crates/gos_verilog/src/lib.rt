@@ -23,8 +23,6 @@ mod printing;
 mod readable;
 mod reading;
 mod slots;
-#[cfg(test)]
-mod tests;
 mod writing;
 
 pub use fault::VFault;

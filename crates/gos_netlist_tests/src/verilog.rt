@@ -2,12 +2,10 @@
 ghost use Rattle.std.specs.Prelude.{◌≤◌, ◌<◌, ◌^◌, IfOk, length};
 ghost use Rattle.gos_lex.specs.Names.{IsNameOrWord};
 
-use crate::fault::VFault;
-use crate::reading::read_verilog;
-use crate::writing::write_verilog;
 use gos_lex::{LexFault, Name};
 use gos_netcheck::accept;
 use gos_netlist::{Cell, Gate, Ground, NetId, Netlist, Port, Side};
+use gos_verilog::{VFault, read_verilog, write_verilog};
 use std::alloc::Global;
 use std::test::Fail;
 
