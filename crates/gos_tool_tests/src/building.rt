@@ -208,7 +208,10 @@ fn functions_are_built(rt: HostRuntime) -> Result<(), Fail> {
             b"main.gos".as_slice(),
             b"import f : com -> com import v : var 8 export f (v := 1:8) ; f (v := 2:8) : com".as_slice(),
         ),
-        (b"k.gos".as_slice(), b"export fun a : com . a ; a : com -> com".as_slice()),
+        (
+            b"k.gos".as_slice(),
+            b"export fun a : com . a ; a : com -> com".as_slice(),
+        ),
     ];
     let pulses =
         b"cycles 300000\nnext 0 main.run\nnext 0 v.done\nnext 0 v.done\nnext 0 v.done\nnext 0 v.done\n";
@@ -242,7 +245,9 @@ fn arguments_and_pairs_are_built(rt: HostRuntime) -> Result<(), Fail> {
         let left = built_alone(alloc, source.as_bytes(), pulses.as_bytes())?;
         assert_eq!(rt; left.code, 0);
         assert!(rt; left.out.bytes() == line.as_bytes());
-        assert!(rt; events(alloc, left.store.get(b"out.trc").unwrap_or(b""))?.as_slice() == trace.as_bytes());
+        assert!(rt;
+            events(alloc, left.store.get(b"out.trc").unwrap_or(b""))?.as_slice() == trace.as_bytes()
+        );
     }
     Ok(())
 }
