@@ -266,7 +266,7 @@ fn later_files_are_rejected(rt: HostRuntime) -> Result<(), Fail> {
         (
             "import e : com export e : com",
             "export fun a : com . a : com -> com",
-            "b.txt: B4 line 4 want com got fun com com\n",
+            "b.txt: B4 line 4 want com got com -> com\n",
             true,
         ),
         (
