@@ -3,6 +3,10 @@ pub mod CellLemmas
 pub mod TurnLemmas
 pub mod SearchLemmas
 pub mod ScheduleLemmas
+pub mod CountLemmas
+pub mod LevelLemmas
+pub mod LevelNetLemmas
+pub mod LevelLawLemmas
 pub mod PinLemmas
 pub mod StepLemmas
 pub mod PortLemmas

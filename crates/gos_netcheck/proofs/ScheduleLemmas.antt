@@ -8,10 +8,10 @@ use Rattle.gos_netlist.specs.Cycles.{Chain, HasCycle}
 use Rattle.gos_netcheck.specs.Schedule.{IsSchedule}
 
 -- a net before a place of the order
-record IsBefore (order : List ℕ) (i a : ℕ) : Type 0 where
-  at : ℕ
-  before : at < i
-  is : slice_get order at ≡ Some a
+pub record IsBefore (order : List ℕ) (i a : ℕ) : Type 0 where
+  pub at : ℕ
+  pub before : at < i
+  pub is : slice_get order at ≡ Some a
 
 pub place_of : (order : List ℕ) (a : ℕ) (h : Contains order a) → slice_get order h.0 ≡ Some a
 place_of order a (k, l, e) = slice_get_read k l e
@@ -21,7 +21,7 @@ place_of order a (k, l, e) = slice_get_read k l e
         let P : ℕ → Type 0 = λ n. slice_get order k ≡ Some n in
         subst P e (slice_get-get_or order k a l)
 
-among_first : (order : List ℕ) (i a : ℕ) → Contains (take i order) a → IsBefore order i a
+pub among_first : (order : List ℕ) (i a : ℕ) → Contains (take i order) a → IsBefore order i a
 among_first order i a (k, l, e) =
     let count : length (take i order) ≡ _ = length-take i order in
     let low : k < i = omega (arith, l, count) in

@@ -3,5 +3,6 @@ pub mod Rules
 pub mod CellRules
 pub mod PortRules
 pub mod Schedule
+pub mod Levels
 pub mod Accepted
 pub mod inner

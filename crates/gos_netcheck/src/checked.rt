@@ -2,13 +2,16 @@
 ghost use Rattle.std.specs.Prelude.{◌≡◌, ◌<◌, ◌^◌, IfOk, IfErr, map, length};
 ghost use Rattle.gos_netlist.specs.Seen.{number_of};
 ghost use Rattle.gos_netcheck.specs.Schedule.{IsSchedule};
+ghost use Rattle.gos_netcheck.specs.Levels.{AreLevels};
 ghost use Rattle.gos_netcheck.specs.Accepted.{IsAccepted, HasFault};
 
 use crate::cells::{first_of_wrong_width, first_without_net};
 use crate::fault::{NetFault, Refused};
+use crate::levels::levels_of;
 use crate::ports::first_wrong_port;
 use crate::schedule::schedule;
 use gos_netlist::{NetId, Netlist};
+use gos_types::NoMemory;
 use std::alloc::Global;
 use std::marker::Model;
 
@@ -20,7 +23,7 @@ pub struct Checked {
 }
 
 impl Model for Checked {
-    ghost use Rattle.std.specs.Prelude.{map};
+    ghost use Rattle.std.specs.Prelude.{◌<◌, ◌^◌, length, map};
     ghost use Rattle.std.specs.Coded.{codes};
     ghost use Rattle.gos_types.specs.inner.TypeCode.{type_code};
     ghost use Rattle.gos_netlist.specs.Nets.{Netlist as Circuit};
@@ -35,7 +38,7 @@ impl Model for Checked {
 
     ghost view = { λ c. c.net };
 
-    ghost invariant = { λ c. IsAccepted c.net × IsSchedule c.net.cells (map number_of c.order.items) };
+    ghost invariant = { λ c. IsAccepted c.net × IsSchedule c.net.cells (map number_of c.order.items) × (length c.net.cells < 2 ^ 32) };
 }
 
 impl Checked {
@@ -60,6 +63,14 @@ impl Checked {
         ensures { IsSchedule self.now.cells (map number_of result.now) }
     {
         self.order.as_slice()
+    }
+
+    /// The level of each cell: 0 where it is an input, a constant or a register, else one more than the greatest of its
+    /// pins. `Err` is want of memory alone.
+    pub fn levels(&self, alloc: Global) -> Result<Vec<u32>, NoMemory>
+        ensures { IfOk result (λ levels. AreLevels self.now.cells levels.items) }
+    {
+        levels_of(alloc, &self.net.cells, &self.order)
     }
 }
 

@@ -43,6 +43,16 @@ fn a_latch_is_accepted(rt: HostRuntime) -> Result<(), Fail> {
     Ok(())
 }
 
+// The gate stands above its pins, and registers stand with the inputs.
+#[test]
+fn a_latch_has_levels(rt: HostRuntime) -> Result<(), Fail> {
+    let alloc = rt.alloc();
+    let checked = accept(alloc, latch(alloc)?)?;
+    let levels = checked.levels(alloc)?;
+    assert_eq!(rt; levels.as_slice(), [0, 1, 0, 0].as_slice());
+    Ok(())
+}
+
 // With a gate in place of the first register, the nets 1 and 2 feed each other.
 #[test]
 fn a_ring_is_handed_back(rt: HostRuntime) -> Result<(), Fail> {

@@ -1,7 +1,7 @@
-// The latch, cycle by cycle: it shows `done` from the cycle after `run` on.
+// The latch, cycle by cycle: it shows `done` from the cycle after `run` on. And how many levels its cycles visit.
 use crate::circuits::latch;
-use gos_netcheck::accept;
-use gos_sim::{Pulse, Sim, runs};
+use gos_netcheck::{accept, cell_levels};
+use gos_sim::{Pulse, Sim, runs, visits_counted};
 use std::test::Fail;
 
 const OFF: Pulse = Pulse {
@@ -32,8 +32,33 @@ fn shows_done_from_the_cycle_after_run(rt: HostRuntime) -> Result<(), Fail> {
     Ok(())
 }
 
+// Its request comes in the first cycle and goes in the second one: in both the gate reads another value. Then nothing
+// changes, and after a reset it is as new.
+#[test]
+fn visits_the_gate_where_its_request_changes(rt: HostRuntime) -> Result<(), Fail> {
+    let alloc = rt.alloc();
+    let mut sim = Sim::new(alloc, accept(alloc, latch(alloc)?)?)?;
+    let mut inputs = vec![in alloc; ON; sim.inputs()]?;
+    let mut outputs = vec![in alloc; OFF; sim.outputs()]?;
+    assert_eq!(rt; sim.visited(), 0);
+    sim.cycle(&inputs, &mut outputs);
+    assert_eq!(rt; sim.visited(), 1);
+    inputs.fill(OFF);
+    sim.cycle(&inputs, &mut outputs);
+    assert_eq!(rt; sim.visited(), 1);
+    sim.cycle(&inputs, &mut outputs);
+    assert_eq!(rt; sim.visited(), 0);
+    sim.reset();
+    assert_eq!(rt; sim.visited(), 0);
+    sim.cycle(&inputs, &mut outputs);
+    assert_eq!(rt; sim.visited(), 0);
+    Ok(())
+}
+
 #[test]
 fn laws_return(rt: HostRuntime) {
     runs();
+    visits_counted();
+    cell_levels();
     assert!(rt; true);
 }

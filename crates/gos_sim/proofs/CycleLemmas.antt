@@ -1,5 +1,5 @@
 -- The parts of a cycle together: the values settle, and the registers after it are the next ones.
-use Rattle.std.specs.Prelude.{◌≡◌, ◌≢◌, ℕ, ◌<◌, Bool, true, false, IsTrue, ◌⊎◌, List, [], ◌∷◌, Option, Some, None, length, map, get_or, replicate, nat_eq, All, slice_get}
+use Rattle.std.specs.Prelude.{◌≡◌, ◌≢◌, ℕ, ◌<◌, Bool, true, false, IsTrue, IsFalse, ◌⊎◌, List, [], ◌∷◌, Option, Some, None, length, map, get_or, replicate, take, nat_eq, All, slice_get}
 use Rattle.std.specs.Option.{option_map}
 use Rattle.std.proofs.Common.{arith, refl, sym, ◌∙◌, ap, subst, inl, inr}
 use Rattle.std.proofs.lemmas.List.{length-map, length-replicate, get_or-replicate, ext_get_or}
@@ -19,7 +19,11 @@ use Rattle.gos_sim.specs.Cycle.{GivesAll, IsCycle, IsNextOutput, IsWord, number_
 use Rattle.gos_sim.specs.inner.Program.{IsStepOf, IsProgram, IsLatchOf, AreLatches, cell_of_step, is_source, latches_at}
 use Rattle.gos_sim.specs.inner.Running.{AreShown, AreLoaded, AreTaken, HaveOnePin, KeepsOtherSteps, KeepsOthers}
 use Rattle.gos_sim.specs.inner.Ready.{AreApart, IsInputNet, IsRegisterNet}
-use Rattle.gos_sim.specs.inner.Machine.{HoldNothingElse, IsBuilt, IsMachine, IsRunnable, IsStill, RunsThrough}
+use Rattle.gos_sim.specs.inner.Machine.{HoldNothingElse, IsBuilt, IsMachine, IsRunnable, IsStill, RunsThrough, SettlesAtReset}
+use Rattle.gos_sim.specs.inner.Past.{HasCome, IsPast}
+use Rattle.gos_sim.specs.Visits.{IsZeroSettling}
+use Rattle.gos_sim.specs.declared.past.Past.{Past}
+use Rattle.gos_sim.specs.declared.past.Past.TheVariants.{Reset}
 use Rattle.gos_sim.proofs.PlaceLemmas.{all_at, same_element, place_of}
 use Rattle.gos_sim.proofs.SourceLemmas.{input_or_register, shown_inside, register_or_not}
 use Rattle.gos_sim.proofs.ProgramLemmas.{one_cell}
@@ -154,11 +158,11 @@ registers_shown cells registers ins v (e ∷ es) settles all =
     one e on = λ i. record { on = nat_eq (shows e.pulse on.0 i) 1; value = number e.number on.1 i }
 
 -- a machine runs through a cycle
-pub cycle_of : (net : Netlist) (m : Machine) (held before values after : Numbers) (still : Bool) (inputs outputs : List Pulse)
-    → IsBuilt net m held before still → RunsThrough m inputs held values outputs after
+pub cycle_of : (net : Netlist) (m : Machine) (held old before values after : Numbers) (still : Bool) (past : Past) (settlings : List Numbers) (inputs outputs : List Pulse)
+    → IsBuilt net m held old before still past → RunsThrough m inputs held values outputs after
     → length values ≡ length net.cells → length after ≡ length net.cells
-    → IsCycle (record { net = net; registers = held }) inputs outputs (record { net = net; registers = after })
-cycle_of net m held before values after still inputs outputs built run values_each after_each =
+    → IsCycle (record { net = net; registers = held; settlings = settlings }) inputs outputs (record { net = net; registers = after; settlings = values ∷ take 1 settlings })
+cycle_of net m held old before values after still past settlings inputs outputs built run values_each after_each =
     let machine = built.machine in
     let settles = run.settles in
     let all_inputs : All (OnNets (IsInputNet net.cells)) m.inputs.items = subst (λ (es : List EventNets). All (OnNets (IsInputNet net.cells)) es) (sym machine.inputs) machine.ready.inputs in
@@ -170,31 +174,36 @@ cycle_of net m held before values after still inputs outputs built run values_ea
       inputs = subst (λ (es : List EventNets). GivesAll es inputs settles.loaded) machine.inputs now_given;
       settled = settled net.cells m.steps.items m.latches.items held settles.loaded values machine.program machine.latched settles.registers settles.evaluated settles.sources values_each;
       outputs = run.shows ∙ ap (map (pulse_shown values)) machine.outputs;
-      registers = ap (λ (regs : Numbers). record { net = net; registers = regs }) next;
+      registers = ap (λ (regs : Numbers). record { net = net; registers = regs; settlings = values ∷ take 1 settlings }) next;
     }
 
 -- and the simulator is as it must be after it
-pub built_after : (net : Netlist) (m : Machine) (held before values after : Numbers) (still next_still : Bool) (inputs outputs : List Pulse)
-    → IsBuilt net m held before still → RunsThrough m inputs held values outputs after
-    → length values ≡ length net.cells → length after ≡ length net.cells → All IsWord values → All IsWord after
-    → (IsTrue next_still → IsStill m after values) → IsBuilt net m after values next_still
-built_after net m held before values after still next_still inputs outputs built run values_each after_each words held_words stands =
+pub built_after : (net : Netlist) (m : Machine) (held old before values kept after : Numbers) (still next_still : Bool) (past next : Past) (inputs outputs : List Pulse)
+    → IsBuilt net m held old before still past → RunsThrough m inputs held values outputs after
+    → length values ≡ length net.cells → length kept ≡ length net.cells → length after ≡ length net.cells
+    → All IsWord values → All IsWord kept → All IsWord after
+    → (IsTrue next_still → IsStill m after values) → HasCome next → IsPast net.cells next values kept → IsBuilt net m after values kept next_still next
+built_after net m held old before values kept after still next_still past next inputs outputs built run values_each kept_each after_each words kept_words held_words stands come came =
     record {
       machine = built.machine;
       state = record {
         registers_each = after_each;
         values_each = values_each;
+        before_each = kept_each;
         held = held_words;
         words = words;
+        before_words = kept_words;
         others = nothing_else net.cells m.latches.items held after built.machine.latched built.state.others run.rest;
       };
-      stands = stands;
+      stands = λ yes. (stands yes, come);
+      came = came;
     }
 
 -- what the registers show is what every settling shows
-pub next_output : (net : Netlist) (m : Machine) (held before : Numbers) (still : Bool) (outputs : List Pulse)
-    → IsBuilt net m held before still → outputs ≡ map (pulse_shown held) m.outputs.items → IsNextOutput (record { net = net; registers = held }) outputs
-next_output net m held before still outputs built shows = λ given v settles.
+pub next_output : (net : Netlist) (m : Machine) (held values before : Numbers) (still : Bool) (past : Past) (settlings : List Numbers) (outputs : List Pulse)
+    → IsBuilt net m held values before still past → outputs ≡ map (pulse_shown held) m.outputs.items
+    → IsNextOutput (record { net = net; registers = held; settlings = settlings }) outputs
+next_output net m held values before still past settlings outputs built shows = λ given v settles.
     shows ∙ (ap (map (pulse_shown held)) built.machine.outputs ∙ registers_shown net.cells held given v (output_events net) settles built.machine.ready.outputs)
 
 -- a fact of an event's nets that gives another one
@@ -227,23 +236,50 @@ runnable net m machine =
     within P below es fs same all =
         All-weaker (OnNets P) (OnNets (λ a. a < length net.cells)) (on_nets P (λ a. a < length net.cells) below) es (subst (λ (es : List EventNets). All (OnNets P) es) (sym same) all)
 
--- a new simulator is as it must be
-pub built_new : (net : Netlist) (m : Machine) (registers values : Numbers) → IsMachine net m
-    → registers ≡ replicate (length net.cells) 0 → values ≡ replicate (length net.cells) 0 → IsBuilt net m registers values false
-built_new net m registers values machine r v = subst (λ (rs : Numbers). IsBuilt net m rs values false) (sym r) (subst (λ (vs : Numbers). IsBuilt net m (replicate (length net.cells) 0) vs false) (sym v) fresh)
-  where
-    zeros : All IsWord (replicate (length net.cells) 0)
-    zeros = All-replicate IsWord (length net.cells) 0 (omega arith)
+-- the values that settle at reset are a settling
+pub zero_settling : (net : Netlist) (m : Machine) (values : Numbers) → IsMachine net m → SettlesAtReset m values → length values ≡ length net.cells
+    → IsZeroSettling net.cells values
+zero_settling net m values machine settles each =
+    let zeros : Numbers = replicate (length net.cells) 0 in
+    let Sources : ℕ → Type 0 = λ n. KeepsOtherSteps m.steps.items (replicate n 0) values in
+    settled net.cells m.steps.items m.latches.items zeros zeros values machine.program machine.latched (λ j l at_j. refl) settles.evaluated
+    (subst Sources each settles.sources) each
 
-    fresh : IsBuilt net m (replicate (length net.cells) 0) (replicate (length net.cells) 0) false
+zero_words : (n : ℕ) → All IsWord (replicate n 0)
+zero_words n = All-replicate IsWord n 0 (omega arith)
+
+-- a simulator at reset is as it must be
+pub built_at_reset : (net : Netlist) (m : Machine) (registers values before : Numbers) → IsMachine net m → registers ≡ replicate (length net.cells) 0
+    → IsZeroSettling net.cells values → All IsWord values → length before ≡ length net.cells → All IsWord before
+    → IsBuilt net m registers values before false Reset
+built_at_reset net m registers values before machine r settles words before_each before_words =
+    subst (λ (rs : Numbers). IsBuilt net m rs values before false Reset) (sym r) fresh
+  where
+    fresh : IsBuilt net m (replicate (length net.cells) 0) values before false Reset
     fresh = record {
       machine = machine;
       state = record {
         registers_each = length-replicate (length net.cells) 0;
-        values_each = length-replicate (length net.cells) 0;
-        held = zeros;
-        words = zeros;
+        values_each = settles.0;
+        before_each = before_each;
+        held = zero_words (length net.cells);
+        words = words;
+        before_words = before_words;
         others = nothing_at_reset net.cells;
       };
       stands = λ no. absurd (cc);
+      came = settles;
     }
+
+-- a new simulator is as it must be
+pub built_new : (net : Netlist) (m : Machine) (registers values before : Numbers) → IsMachine net m → registers ≡ replicate (length net.cells) 0
+    → IsZeroSettling net.cells values → All IsWord values → before ≡ replicate (length net.cells) 0 → IsBuilt net m registers values before false Reset
+built_new net m registers values before machine r settles words b =
+    let zeros : ℕ = 0 in
+    built_at_reset net m registers values before machine r settles words (ap length b ∙ length-replicate (length net.cells) zeros)
+    (subst (All IsWord) (sym b) (zero_words (length net.cells)))
+
+-- what holds of two lists, of which one takes the other's place or stays
+pub either_way : {A : Type 0} (P : A → Type 0) (stays : Bool) (own other new : A) → (IsTrue stays → new ≡ own) → (IsFalse stays → new ≡ other) → P own → P other → P new
+either_way P true own other new same turned p q = subst P (sym (same refl)) p
+either_way P false own other new same turned p q = subst P (sym (turned refl)) q

@@ -6,8 +6,12 @@ pub mod SourceLemmas
 pub mod ProgramLemmas
 pub mod LevelLemmas
 pub mod OrderLemmas
+pub mod CountingLemmas
 pub mod RegisterLemmas
 pub mod CycleLemmas
+pub mod PastLemmas
+pub mod VisitLemmas
+pub mod VisitLawLemmas
 pub mod StillLemmas
 pub mod RunLemmas
 pub mod AcceptedLemmas

@@ -1,21 +1,23 @@
 -- What a simulator is seen as, and what a cycle does.
 --
 -- Read first: EventNets; Settling of gos_netlist.
-use Rattle.std.specs.Prelude.{◌≡◌, ℕ, ◌<◌, ◌^◌, Bool, List, Option, Some, None, slice_get, length, map, replicate, nat_eq, if◌then◌else◌}
+use Rattle.std.specs.Prelude.{◌≡◌, ℕ, ◌<◌, ◌^◌, Bool, List, [], ◌∷◌, take, Option, Some, None, slice_get, length, map, replicate, nat_eq, if◌then◌else◌}
 use Rattle.gos_netlist.specs.Nets.{Netlist}
 use Rattle.gos_netlist.specs.Settling.{Numbers, at, Settling, next_registers}
 use Rattle.gos_sim.specs.declared.event_nets.EventNets.{EventNets}
 use Rattle.gos_sim.specs.declared.pulse.Pulse.{Pulse}
 use Rattle.gos_sim.specs.EventNets.{input_events, output_events}
 
--- a simulator: its netlist, and a number for each cell: what its register holds, 0 where it is none
+-- A simulator: its netlist; a number for each cell, which is what its register holds, 0 where it is none; and the settlings
+-- of its last two cycles since it was made or reset, the newest one first, or of as many as there were.
 pub record Simulator : Type 0 where
   pub net : Netlist
   pub registers : Numbers
+  pub settlings : List Numbers
 
--- the simulator of a netlist with all registers 0
+-- the simulator of a netlist with all registers 0, before its first cycle
 abbrev pub at_reset : Netlist → Simulator
-at_reset net = record { net = net; registers = replicate (length net.cells) 0 }
+at_reset net = record { net = net; registers = replicate (length net.cells) 0; settlings = [] }
 
 -- a number of at most 32 bits
 abbrev pub IsWord : ℕ → Type 0
@@ -59,7 +61,7 @@ pub record IsCycle (old : Simulator) (given shown : List Pulse) (new : Simulator
   pub inputs : GivesAll (input_events old.net) given ins
   pub settled : Settling old.net.cells old.registers ins values
   pub outputs : shown ≡ outputs_shown old.net values
-  pub registers : new ≡ record { net = old.net; registers = next_registers old.net.cells values }
+  pub registers : new ≡ record { net = old.net; registers = next_registers old.net.cells values; settlings = values ∷ take 1 old.settlings }
 
 -- the outputs of every settling from here on, whatever the inputs are
 abbrev pub IsNextOutput : Simulator → List Pulse → Type 0

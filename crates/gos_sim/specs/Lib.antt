@@ -2,4 +2,5 @@
 pub mod EventNets
 pub mod Cycle
 pub mod Runs
+pub mod Visits
 pub mod inner

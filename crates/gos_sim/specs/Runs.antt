@@ -1,7 +1,7 @@
 -- The cycles of a simulator, one after another, as a run of its netlist from reset.
 --
 -- Read first: Cycle; Settling of gos_netlist.
-use Rattle.std.specs.Prelude.{◌≡◌, List, [], ◌∷◌, ◌++◌, length, replicate}
+use Rattle.std.specs.Prelude.{◌≡◌, List, [], ◌∷◌, ◌++◌, length, replicate, reverse, take}
 use Rattle.gos_netlist.specs.Nets.{Cell, Netlist}
 use Rattle.gos_netlist.specs.Settling.{Numbers, IsRun, next_registers}
 use Rattle.gos_sim.specs.declared.pulse.Pulse.{Pulse}
@@ -17,6 +17,7 @@ registers_after cells regs (v ∷ vs) = registers_after cells (next_registers ce
 pub record HasRun (sim : Simulator) (ins vs : List Numbers) : Type 0 where
   pub run : IsRun sim.net.cells ins vs
   pub registers : sim.registers ≡ registers_after sim.net.cells (replicate (length sim.net.cells) 0) vs
+  pub settlings : sim.settlings ≡ take 2 (reverse vs)
 
 -- at reset it has come through no cycle
 abbrev pub BeginsRun : Type 0

@@ -1,8 +1,17 @@
-// What cycles say together. Each theorem is the contract of a function that does nothing.
+// What cycles say together, and how many levels they visit. Each theorem is the contract of a function that does nothing.
+ghost use Rattle.std.specs.Prelude.{List};
+ghost use Rattle.gos_netlist.specs.Nets.{Cell};
 ghost use Rattle.gos_sim.specs.Runs.{BeginsRun, GoesOnRunning};
+ghost use Rattle.gos_sim.specs.Visits.{HaveOneCount, LatchVisits};
 
 /// The cycles of a simulator since it was made or reset are a run of its netlist from reset.
 pub fn runs()
     ensures begins { BeginsRun }
     ensures goes_on { GoesOnRunning }
+{}
+
+/// There is one count of visited levels where cells can be evaluated in an order; and a latch has its counts.
+pub fn visits_counted()
+    ensures one { (cells : List Cell) → HaveOneCount cells }
+    ensures latch { LatchVisits }
 {}

@@ -4,21 +4,22 @@
 // are those of the settling. `laws.rt` says what cycles are together: a run from reset.
 //
 // Inside, `machine.rt` has the netlist as it runs, in flat lists: its events (`event_nets.rt`), and its steps and latches
-// (`program.rt`), which `running.rt` goes through. The steps stand by their levels (`levels.rt`, `order.rt`). Taking a
-// cycle needs no memory and can't be refused.
+// (`program.rt`), which `running.rt` goes through. The steps stand by their levels (`order.rt`). Taking a
+// cycle needs no memory and can't be refused. `visits.rt` counts the levels in which the last cycle changed something.
 #![tactic(auto)]
 
 mod event_nets;
 mod laws;
-mod levels;
 mod machine;
 mod order;
+mod past;
 mod program;
 mod pulse;
 mod running;
 mod sim;
+mod visits;
 
 pub use event_nets::EventNets;
-pub use laws::runs;
+pub use laws::{runs, visits_counted};
 pub use pulse::Pulse;
 pub use sim::Sim;

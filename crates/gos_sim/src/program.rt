@@ -3,9 +3,10 @@ ghost use Rattle.std.specs.Prelude.{◌≡◌, ◌++◌, All, IfOk, OnOk, length
 ghost use Rattle.gos_netlist.specs.Seen.{cell_of, function_of, number_of};
 ghost use Rattle.gos_sim.specs.inner.Program.{AreLatches, IsLatchWithin, IsProgram, IsStepWithin, latches_at, steps_at};
 ghost use Rattle.gos_sim.specs.inner.Ready.{AreCellsReady};
+ghost use Rattle.gos_sim.specs.inner.Order.{StepsRise};
 ghost use Rattle.gos_netcheck.specs.Schedule.{IsSchedule};
+ghost use Rattle.gos_netcheck.specs.Levels.{AreLevels};
 
-use crate::levels::levels_of;
 use crate::order::by_level;
 use gos_netlist::{Cell, Gate, NetId};
 use gos_types::NoMemory;
@@ -32,15 +33,21 @@ pub struct Latch {
 }
 
 // The cells to evaluate, by their levels.
-pub fn steps(alloc: Global, cells: &[Cell], order: &[NetId]) -> Result<Vec<Step>, NoMemory>
+pub fn steps(
+    alloc: Global,
+    cells: &[Cell],
+    order: &[NetId],
+    levels: &[u32],
+) -> Result<Vec<Step>, NoMemory>
     requires cells { AreCellsReady (map cell_of cells.now) }
     requires order { IsSchedule (map cell_of cells.now) (map number_of order.now) }
+    requires leveled { AreLevels (map cell_of cells.now) levels.now }
     ensures program { IfOk result (λ steps. IsProgram (map cell_of cells.now) steps.items) }
     ensures within { IfOk result (λ steps. All (IsStepWithin (length cells.now)) steps.items) }
+    ensures rising { IfOk result (λ steps. StepsRise levels.now steps.items) }
 {
     let steps = steps_of(alloc, cells, order)?;
-    let levels = levels_of(alloc, &steps, cells.len())?;
-    by_level(alloc, &steps, &levels)
+    by_level(alloc, &steps, levels)
 }
 
 // The cells to evaluate, in an order of all cells.

@@ -3,25 +3,30 @@ ghost use Rattle.std.specs.Prelude.{◌≡◌, All, IfErr, IfOk, length, replica
 ghost use Rattle.gos_netcheck.specs.Accepted.{IsAccepted};
 ghost use Rattle.gos_sim.specs.EventNets.{input_events, output_events};
 ghost use Rattle.gos_sim.specs.Cycle.{IsCycle, IsNextOutput, IsWord, at_reset};
+ghost use Rattle.gos_sim.specs.Visits.{HasVisited, IsZeroSettling};
 ghost use Rattle.gos_sim.specs.inner.Machine.{IsMachine};
 
 use crate::machine::{Machine, machine_of};
+use crate::past::{Past, turn};
 use crate::pulse::Pulse;
 use crate::running::show;
+use crate::visits::levels_visited;
 use gos_netcheck::Checked;
 use gos_netlist::Netlist;
 use gos_types::NoMemory;
 use std::alloc::Global;
 use std::marker::Model;
 
-/// A netlist that runs. Clauses see it as the netlist and what its registers hold.
+/// A netlist that runs. Clauses see it as the netlist, what its registers hold, and its last two settlings.
 #[derive(Drop)]
 pub struct Sim {
     net: Checked,
     machine: Machine,
     registers: Vec<u64>,
     values: Vec<u64>,
+    before: Vec<u64>,
     still: bool,
+    past: Past,
 }
 
 impl Model for Sim {
@@ -33,11 +38,13 @@ impl Model for Sim {
 
     ghost coded = { Prim.hlevel (codes, type_code) };
 
-    ghost view = { λ s. record { net = s.net; registers = s.registers.items } };
+    ghost use Rattle.gos_sim.specs.inner.Past.{settlings_of};
+
+    ghost view = { λ s. record { net = s.net; registers = s.registers.items; settlings = settlings_of s.past s.values.items s.before.items } };
 
     ghost use Rattle.gos_sim.specs.inner.Machine.{IsBuilt};
 
-    ghost invariant = { λ s. IsBuilt s.net s.machine s.registers.items s.values.items s.still };
+    ghost invariant = { λ s. IsBuilt s.net s.machine s.registers.items s.values.items s.before.items s.still s.past };
 }
 
 impl Sim {
@@ -47,12 +54,14 @@ impl Sim {
         ensures refused { IfErr result (λ back. back ≡ net) }
     {
         match parts_of(alloc, &net) {
-            Ok((machine, registers, values)) => Ok(Sim {
+            Ok((machine, registers, values, before)) => Ok(Sim {
                 net,
                 machine,
                 registers,
                 values,
+                before,
                 still: false,
+                past: Past::Reset,
             }),
             Err(NoMemory) => Err(net),
         }
@@ -97,15 +106,31 @@ impl Sim {
         ensures cycle { IsCycle self.old inputs.now outputs.new self.new }
         ensures net { self.new.net ≡ self.old.net }
     {
-        let still = self.still;
+        let rests = self.machine.rests(inputs, &self.values, self.still);
+        turn(&mut self.values, &mut self.before, rests);
         let stands = self.machine.run(
             inputs,
             outputs,
             &mut self.registers,
             &mut self.values,
-            still,
+            rests,
         );
         self.still = stands;
+        self.past = self.past.after(rests);
+    }
+
+    /// The number of levels above 0 in which, in the last cycle, some cell had a pin whose value differed from the settling
+    /// before; 0 before the first cycle. Before the first one all registers and inputs are 0.
+    pub fn visited(&self) -> u64
+        ensures { HasVisited self.now.net.cells self.now.settlings result }
+    {
+        match self.past {
+            Past::Reset | Past::Still => 0,
+            Past::First | Past::Later => {
+                let machine = &self.machine;
+                levels_visited(&machine.steps, &machine.levels, &self.before, &self.values)
+            }
+        }
     }
 
     /// Sets all registers to 0.
@@ -113,21 +138,31 @@ impl Sim {
         ensures { self.new ≡ at_reset self.old.net }
     {
         self.registers.fill(0);
+        self.machine.settle_at_reset(&mut self.values);
         self.still = false;
+        self.past = Past::Reset;
     }
 }
 
-// The machine of a netlist, with a register for each cell and a value for each net, all 0.
+// The machine of a netlist, with a register for each cell, the values of the nets where all registers and inputs are 0, and
+// room for those before them.
 #[tactic(auto, using(crate::proofs::AcceptedLemmas::ready_of_accepted))]
-fn parts_of(alloc: Global, net: &Checked) -> Result<(Machine, Vec<u64>, Vec<u64>), NoMemory>
+fn parts_of(
+    alloc: Global,
+    net: &Checked,
+) -> Result<(Machine, Vec<u64>, Vec<u64>, Vec<u64>), NoMemory>
     ensures machine { IfOk result (λ parts. IsMachine net.now parts.0) }
     ensures registers { IfOk result (λ parts. parts.1.items ≡ replicate (length net.now.cells) 0) }
-    ensures values { IfOk result (λ parts. parts.2.items ≡ replicate (length net.now.cells) 0) }
+    ensures values { IfOk result (λ parts. IsZeroSettling net.now.cells parts.2.items) }
+    ensures words { IfOk result (λ parts. All IsWord parts.2.items) }
+    ensures before { IfOk result (λ parts. parts.3.items ≡ replicate (length net.now.cells) 0) }
 {
+    let levels = net.levels(alloc)?;
     let order = net.schedule();
     let net = net.netlist();
-    let machine = machine_of(alloc, net, order)?;
+    let machine = machine_of(alloc, net, order, levels)?;
     let registers = vec![in alloc; 0; net.cells.len()]?;
-    let values = vec![in alloc; 0; net.cells.len()]?;
-    Ok((machine, registers, values))
+    let before = vec![in alloc; 0; net.cells.len()]?;
+    let values = machine.values_at_reset(alloc, net.cells.len())?;
+    Ok((machine, registers, values, before))
 }

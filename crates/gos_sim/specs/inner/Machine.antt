@@ -1,18 +1,22 @@
 -- The machine of a netlist, and how it runs through a cycle.
 --
--- Read first: Running, Ready.
-use Rattle.std.specs.Prelude.{◌≡◌, ◌≢◌, ℕ, ◌<◌, Bool, IsTrue, List, All, Some, length, map, slice_get}
+-- Read first: Running, Order, Ready, Past; Levels of gos_netcheck.
+use Rattle.std.specs.Prelude.{◌≡◌, ◌≢◌, ℕ, ◌<◌, Bool, IsTrue, List, All, Some, length, map, replicate, slice_get}
 use Rattle.gos_netlist.specs.Nets.{Cell, Netlist}
 use Rattle.gos_netlist.specs.Cycles.{IsRegister}
 use Rattle.gos_netlist.specs.Settling.{Numbers, at}
+use Rattle.gos_netcheck.specs.Levels.{AreLevels}
 use Rattle.gos_sim.specs.declared.machine.Machine.{Machine}
+use Rattle.gos_sim.specs.declared.past.Past.{Past}
 use Rattle.gos_sim.specs.declared.program.Latch.{Latch}
 use Rattle.gos_sim.specs.declared.pulse.Pulse.{Pulse}
 use Rattle.gos_sim.specs.EventNets.{OnNets, input_events, output_events}
 use Rattle.gos_sim.specs.Cycle.{GivesAll, IsWord, pulse_shown}
 use Rattle.gos_sim.specs.inner.Program.{AreLatches, HaveOneCell, IsLatchWithin, IsProgram, IsStepWithin, SparesEarlier}
 use Rattle.gos_sim.specs.inner.Running.{AreLoaded, AreShown, AreTaken, HaveOnePin, KeepsOtherSteps, KeepsOthers}
+use Rattle.gos_sim.specs.inner.Order.{StepsRise}
 use Rattle.gos_sim.specs.inner.Ready.{AreApart, IsReady}
+use Rattle.gos_sim.specs.inner.Past.{HasCome, IsPast}
 
 -- the machine of a netlist
 pub record IsMachine (net : Netlist) (m : Machine) : Type 0 where
@@ -23,6 +27,8 @@ pub record IsMachine (net : Netlist) (m : Machine) : Type 0 where
   pub latched : AreLatches net.cells m.latches.items
   pub steps_within : All (IsStepWithin (length net.cells)) m.steps.items
   pub latches_within : All (IsLatchWithin (length net.cells)) m.latches.items
+  pub leveled : AreLevels net.cells m.levels.items
+  pub rising : StepsRise m.levels.items m.steps.items
 
 -- a machine can run over so many nets
 pub record IsRunnable (count : ℕ) (m : Machine) : Type 0 where
@@ -46,6 +52,11 @@ pub record Settles (m : Machine) (given : List Pulse) (held values : Numbers) : 
   pub evaluated : AreShown m.steps.items values
   pub sources : KeepsOtherSteps m.steps.items loaded values
 
+-- The values settle where all registers and inputs are 0.
+pub record SettlesAtReset (m : Machine) (values : Numbers) : Type 0 where
+  pub evaluated : AreShown m.steps.items values
+  pub sources : KeepsOtherSteps m.steps.items (replicate (length values) 0) values
+
 -- A machine runs through a cycle: the values settle; then what is shown of them, and the registers after it.
 pub record RunsThrough (m : Machine) (given : List Pulse) (held values : Numbers) (seen : List Pulse) (after : Numbers) : Type 0 where
   pub settles : Settles m given held values
@@ -63,16 +74,19 @@ pub record IsStill (m : Machine) (held values : Numbers) : Type 0 where
 abbrev pub HoldNothingElse : List Cell → Numbers → Type 0
 HoldNothingElse cells registers = (n : ℕ) (c : Cell) → slice_get cells n ≡ Some c → (IsRegister c.gate → ⊥) → at registers n ≡ 0
 
--- a register for each cell, and a value for each net
-pub record IsState (cells : List Cell) (registers values : Numbers) : Type 0 where
+-- a register for each cell, and for each net a value and one before it
+pub record IsState (cells : List Cell) (registers values before : Numbers) : Type 0 where
   pub registers_each : length registers ≡ length cells
   pub values_each : length values ≡ length cells
+  pub before_each : length before ≡ length cells
   pub held : All IsWord registers
   pub words : All IsWord values
+  pub before_words : All IsWord before
   pub others : HoldNothingElse cells registers
 
--- what a simulator keeps; `still` only where the values stand still
-pub record IsBuilt (net : Netlist) (m : Machine) (registers values : Numbers) (still : Bool) : Type 0 where
+-- what a simulator keeps; `still` only where a cycle has come and the values stand still
+pub record IsBuilt (net : Netlist) (m : Machine) (registers values before : Numbers) (still : Bool) (past : Past) : Type 0 where
   pub machine : IsMachine net m
-  pub state : IsState net.cells registers values
-  pub stands : IsTrue still → IsStill m registers values
+  pub state : IsState net.cells registers values before
+  pub stands : IsTrue still → IsStill m registers values × HasCome past
+  pub came : IsPast net.cells past values before
