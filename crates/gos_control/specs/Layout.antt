@@ -1,12 +1,13 @@
 -- The gates of each kind: what is placed, and what its registers stand for. What that means is the law, in gos_plan.
 --
 -- Read first: Law of gos_plan; Seq, Par, Choice, Repeat. Of the kinds of other crates nothing is said here.
-use Rattle.std.specs.Prelude.{ℕ, List, []}
+use Rattle.std.specs.Prelude.{ℕ, Bool, List, [], ◌∷◌}
 use Rattle.gos_netlist.specs.Nets.{Cell}
 use Rattle.gos_netlist.specs.Settling.{Numbers}
 use Rattle.gos_plan.specs.Kinds.{Part, Skip, Seq, Par, If, While}
 use Rattle.gos_plan.specs.Firing.{State, Token}
 use Rattle.gos_plan.specs.Gates.{Incoming, Outgoing, nothing_pending}
+use Rattle.gos_plan.specs.Paths.{is_pair}
 use Rattle.gos_plan.specs.SmallGates.{skip_cells, skip_outs, skip_stands}
 use Rattle.gos_control.specs.Seq.{seq_layout, seq_outs, seq_stands}
 use Rattle.gos_control.specs.Par.{par_layout, par_outs, par_stands}
@@ -51,3 +52,12 @@ stands_of Par = par_stands
 stands_of (If v) = ChoiceStands
 stands_of While = RepeatStands
 stands_of k = λ b regs q. ⊥
+
+-- from which handshake to which a path without registers leads
+abbrev pub passing_of : Part → ℕ → ℕ → Bool
+passing_of Skip = is_pair ((0, 0) ∷ [])
+passing_of (Seq v) = is_pair ((0, 1) ∷ (1, 2) ∷ (2, 0) ∷ [])
+passing_of Par = is_pair ((0, 2) ∷ (1, 2) ∷ (2, 0) ∷ (2, 1) ∷ [])
+passing_of (If v) = is_pair ((0, 1) ∷ (0, 2) ∷ (1, 3) ∷ (2, 3) ∷ [])
+passing_of While = is_pair ((0, 1) ∷ (0, 2) ∷ [])
+passing_of k = is_pair []

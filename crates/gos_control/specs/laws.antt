@@ -11,3 +11,4 @@ pub mod ChoiceKept
 pub mod RepeatCounts
 pub mod RepeatKept
 pub mod Kept
+pub mod Paths

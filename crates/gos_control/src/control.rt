@@ -1,8 +1,10 @@
 // The parts of the kinds that this crate lays out.
+ghost use Rattle.std.specs.Prelude.{◌≡◌};
 ghost use Rattle.gos_plan.specs.Seen.{part_of};
-ghost use Rattle.gos_control.specs.Layout.{layout, outs_of, late_of, pending_of, stands_of};
+ghost use Rattle.gos_control.specs.Layout.{layout, outs_of, late_of, pending_of, stands_of, passing_of};
 ghost use Rattle.gos_control.specs.Ranges.{IsControl};
 ghost use Rattle.gos_control.specs.laws.Kept.{control_gates};
+ghost use Rattle.gos_control.specs.laws.Paths.{control_paths};
 
 use crate::{choice, par, repeat, seq, skip};
 use gos_netlist::NetId;
@@ -42,6 +44,8 @@ impl Macro for Control {
     ghost pending = { λ k. pending_of (part_of k) };
 
     ghost stands = { λ k. stands_of (part_of k) };
+
+    ghost passing = { λ k. passing_of (part_of k) };
 
     ghost is_laid_out = { IsControl };
 
@@ -84,5 +88,26 @@ impl Macro for Control {
         }
     }
 
+    fn passes(&self, from: u32, to: u32) -> bool {
+        leads(&self.0, from, to)
+    }
+
     ghost law = { control_gates };
+
+    ghost paths = { control_paths };
+}
+
+// Whether a path without registers leads from one handshake to another, by kind.
+fn leads(kind: &Kind, from: u32, to: u32) -> bool
+    requires { IsControl kind.now }
+    ensures { result ≡ passing_of (part_of kind.now) from to }
+{
+    match kind {
+        Kind::Skip => (from, to) == (0, 0),
+        Kind::Seq | Kind::SeqExp { .. } => matches!((from, to), (0, 1) | (1, 2) | (2, 0)),
+        Kind::Par => matches!((from, to), (0, 2) | (1, 2) | (2, 0) | (2, 1)),
+        Kind::If | Kind::IfExp { .. } => matches!((from, to), (0, 1) | (0, 2) | (1, 3) | (2, 3)),
+        Kind::While => matches!((from, to), (0, 1) | (0, 2)),
+        _ => unreachable!(),
+    }
 }

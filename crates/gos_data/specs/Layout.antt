@@ -1,12 +1,13 @@
 -- The gates of each kind: what is placed, and what its registers stand for. What it means is the law, in gos_plan.
 --
 -- Read first: Law of gos_plan; Lit, Op, Not, Assign, Deref, Local. Of other kinds nothing is said here.
-use Rattle.std.specs.Prelude.{ℕ, List, []}
+use Rattle.std.specs.Prelude.{ℕ, Bool, List, [], ◌∷◌}
 use Rattle.gos_netlist.specs.Nets.{Cell}
 use Rattle.gos_netlist.specs.Settling.{Numbers}
 use Rattle.gos_plan.specs.Kinds.{Part, Lit, Op, Not, Assign, Deref, Local}
 use Rattle.gos_plan.specs.Firing.{State, Token}
 use Rattle.gos_plan.specs.Gates.{Incoming, Outgoing, nothing_pending}
+use Rattle.gos_plan.specs.Paths.{is_pair}
 use Rattle.gos_data.specs.Lit.{lit_cells, lit_outs, lit_stands}
 use Rattle.gos_data.specs.Op.{op_cells, op_outs, op_late, op_pending, op_stands}
 use Rattle.gos_data.specs.Waiting.{waiting_stands}
@@ -56,3 +57,13 @@ stands_of (Assign w) = assign_stands
 stands_of (Deref w) = waiting_stands
 stands_of (Local w v) = LocalStands
 stands_of k = λ b regs q. ⊥
+
+-- from which handshake to which a path without registers leads
+abbrev pub passing_of : Part → ℕ → ℕ → Bool
+passing_of (Lit w k) = is_pair ((0, 0) ∷ [])
+passing_of (Op op w) = is_pair ((1, 2) ∷ (2, 0) ∷ [])
+passing_of (Not w) = is_pair ((0, 1) ∷ (1, 0) ∷ [])
+passing_of (Assign w) = is_pair ((0, 1) ∷ (1, 2) ∷ (2, 0) ∷ [])
+passing_of (Deref w) = is_pair ((0, 1) ∷ (1, 0) ∷ [])
+passing_of (Local w v) = is_pair ((0, 3) ∷ (1, 1) ∷ [])
+passing_of k = is_pair []

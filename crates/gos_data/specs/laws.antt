@@ -10,3 +10,4 @@ pub mod DerefKept
 pub mod LocalKept
 pub mod LocalFit
 pub mod Kept
+pub mod Paths

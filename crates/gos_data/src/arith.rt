@@ -1,8 +1,10 @@
 // The gates of each kind that this crate lays out.
+ghost use Rattle.std.specs.Prelude.{◌≡◌};
 ghost use Rattle.gos_plan.specs.Seen.{part_of};
-ghost use Rattle.gos_data.specs.Layout.{layout, outs_of, late_of, pending_of, stands_of};
+ghost use Rattle.gos_data.specs.Layout.{layout, outs_of, late_of, pending_of, stands_of, passing_of};
 ghost use Rattle.gos_data.specs.Ranges.{IsArith};
 ghost use Rattle.gos_data.specs.laws.Kept.{arith_gates};
+ghost use Rattle.gos_data.specs.laws.Paths.{arith_paths};
 
 use crate::{assign, deref, lit, local, not, op};
 use gos_netlist::NetId;
@@ -42,6 +44,8 @@ impl Macro for Arith {
     ghost pending = { λ m. pending_of (part_of m) };
 
     ghost stands = { λ m. stands_of (part_of m) };
+
+    ghost passing = { λ m. passing_of (part_of m) };
 
     ghost is_laid_out = { IsArith };
 
@@ -85,5 +89,26 @@ impl Macro for Arith {
         }
     }
 
+    fn passes(&self, from: u32, to: u32) -> bool {
+        leads(&self.0, from, to)
+    }
+
     ghost law = { arith_gates };
+
+    ghost paths = { arith_paths };
+}
+
+// Whether a path without registers leads from one handshake to another, by kind.
+fn leads(kind: &Kind, from: u32, to: u32) -> bool
+    requires { IsArith kind.now }
+    ensures { result ≡ passing_of (part_of kind.now) from to }
+{
+    match kind {
+        Kind::Lit { .. } => (from, to) == (0, 0),
+        Kind::Op { .. } => matches!((from, to), (1, 2) | (2, 0)),
+        Kind::Not { .. } | Kind::Deref { .. } => matches!((from, to), (0, 1) | (1, 0)),
+        Kind::Assign { .. } => matches!((from, to), (0, 1) | (1, 2) | (2, 0)),
+        Kind::Local { .. } => matches!((from, to), (0, 3) | (1, 1)),
+        _ => unreachable!(),
+    }
 }

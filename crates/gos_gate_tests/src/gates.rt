@@ -3,7 +3,9 @@ ghost use Rattle.std.specs.Prelude.{[]};
 ghost use Rattle.gos_plan.specs.Kinds.{Skip};
 ghost use Rattle.gos_plan.specs.Gates.{nothing_pending};
 ghost use Rattle.gos_plan.specs.SmallGates.{skip_cells, skip_outs, skip_stands};
+ghost use Rattle.gos_plan.specs.SmallPaths.{skip_passing};
 ghost use Rattle.gos_plan.specs.laws.SkipKept.{skip_gates};
+ghost use Rattle.gos_plan.specs.laws.SkipPaths.{skip_paths};
 
 use gos_netlist::{Cell, Gate, NetId};
 use gos_plan::{Macro, Wire};
@@ -27,6 +29,8 @@ impl Macro for Buffer {
 
     ghost stands = { λ _. skip_stands };
 
+    ghost passing = { λ _. skip_passing };
+
     ghost is_laid_out = { λ _. Unit {0} };
 
     fn size(&self) -> u32 {
@@ -48,7 +52,13 @@ impl Macro for Buffer {
         );
     }
 
+    fn passes(&self, _from: u32, _to: u32) -> bool {
+        true
+    }
+
     ghost law = { λ _ _. skip_gates };
+
+    ghost paths = { λ _ _. skip_paths };
 }
 
 // A part in a pool of its own, with net 7 as the request that comes in.

@@ -22,6 +22,7 @@ mod SeatLemmas
 mod MakeLemmas
 pub mod SideLemmas
 pub mod GatesLemmas
+pub mod PathLemmas
 pub mod TextLemmas
 pub mod ItemLemmas
 pub mod TableLemmas

@@ -18,8 +18,10 @@ pub mod Gates
 pub mod Law
 pub mod Fit
 pub mod Kept
+pub mod Paths
 pub mod Cells
 pub mod SmallGates
+pub mod SmallPaths
 pub mod Wires
 pub mod Projection
 pub mod Accounts

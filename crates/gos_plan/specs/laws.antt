@@ -3,3 +3,4 @@
 pub mod Inversion
 pub mod Passing
 pub mod SkipKept
+pub mod SkipPaths

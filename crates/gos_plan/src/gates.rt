@@ -1,5 +1,5 @@
 // The gates of a part: what a crate that lays kinds of parts out as cells has to give, and the law that its gates keep.
-ghost use Rattle.std.specs.Prelude.{◌≡◌, ◌+◌, ◌-◌, ◌*◌, ◌≤◌, ℕ, List, ◌++◌, Some, length, map};
+ghost use Rattle.std.specs.Prelude.{◌≡◌, ◌+◌, ◌-◌, ◌*◌, ◌<◌, ◌≤◌, ℕ, Bool, List, ◌++◌, Some, length, map};
 ghost use Rattle.gos_netlist.specs.Nets.{Cell};
 ghost use Rattle.gos_netlist.specs.Settling.{Numbers};
 ghost use Rattle.gos_pool.specs.Pools.{KeepsClosed};
@@ -8,6 +8,7 @@ ghost use Rattle.gos_plan.specs.Firing.{State, Token};
 ghost use Rattle.gos_plan.specs.Gates.{Incoming, Outgoing};
 ghost use Rattle.gos_plan.specs.Wires.{nets_in, incoming_of, HoldNets};
 ghost use Rattle.gos_plan.specs.Kept.{KeepLaws};
+ghost use Rattle.gos_plan.specs.Paths.{KeepPaths, TellsIfItPasses};
 
 use gos_netlist::NetId;
 use gos_pool::{NetPool, Region};
@@ -42,6 +43,9 @@ pub trait Macro {
 
     ghost stands: { Self → ℕ → Numbers → State → Type 0 };
 
+    // Whether what comes in at one handshake can go out at another in the same cycle.
+    ghost passing: { Self → ℕ → ℕ → Bool };
+
     // What the laws ask of the part, as that its widths are in range.
     ghost is_laid_out: { Self → Type 0 };
 
@@ -72,7 +76,20 @@ pub trait Macro {
         ensures region { region.new ≡ region.old }
         ensures kept { KeepsClosed pool.old pool.new };
 
+    /// Whether what comes in at one handshake can go out at another in the same cycle: whether a path without registers leads
+    /// from a net that comes in at `from` to one that goes out at `to`, where all nets that come in are different and lie
+    /// outside the part's own region. Both are numbers of handshakes of the part, from 0 on.
+    fn passes(&self, from: u32, to: u32) -> bool
+        requires from { from < length (part_contacts (part self.now)) }
+        requires to { to < length (part_contacts (part self.now)) }
+        ensures path { TellsIfItPasses (part self.now) (cells self.now) (outs_at self.now) from to result }
+        ensures known { result ≡ passing self.now from to };
+
     // In each cycle the gates do what the part does by its rows; registers that are all 0 stand for a part at rest; no
     // number goes out without its pulse; and in a netlist the gates keep what is asked of an accepted one.
     ghost law: { (m : Self) → is_laid_out m → KeepLaws (part m) (cells m) (outs_at m) (late m) (pending m) (stands m) };
+
+    // Paths lead where `passing` says, from pulse to pulse too, and from no handshake at which what comes in is late; and the
+    // gates depend on their place and wires by name alone.
+    ghost paths: { (m : Self) → is_laid_out m → KeepPaths (part m) (cells m) (outs_at m) (late m) (passing m) };
 }

@@ -13,6 +13,7 @@ ghost use Rattle.gos_plan.specs.Joining.{JoiningIsOne};
 ghost use Rattle.gos_plan.specs.AnyOrder.{OneOrderIsEnough};
 ghost use Rattle.gos_plan.specs.SmallPlans.{SkipRunsInOrder, HasteIsNoOrder, SkipIsListed, EagerIsNotListed, SkipIsJoined};
 ghost use Rattle.gos_plan.specs.SmallGates.{SkipGates, SharedGates};
+ghost use Rattle.gos_plan.specs.SmallPaths.{SkipPaths, SkipIsNoDeadEnd, SharedAnswersPass, SharedRequestsWait, SharedAnswersAreNotLate, CountingIsNotNamed};
 ghost use Rattle.gos_plan.specs.SmallCycles.{CallIsListed, CallRunsInOrder, UnaskedIsNoOrder};
 ghost use Rattle.gos_plan.specs.ObjectFaults.{IsOnePlan, ReadHasNoFault, HasOneFault};
 
@@ -112,4 +113,15 @@ pub fn one_answer()
 pub fn small_gates()
     ensures skip { SkipGates }
     ensures share { SharedGates }
+{}
+
+/// The request of Skip goes on as its answer, and one can't say that it doesn't. A Share of a command passes on the answer
+/// of its source within the cycle, and no request, so that this answer isn't late. A cell that shows the number of a net doesn't know it by name alone.
+pub fn small_paths()
+    ensures skip { SkipPaths }
+    ensures no_dead_end { SkipIsNoDeadEnd }
+    ensures answers { SharedAnswersPass }
+    ensures requests { SharedRequestsWait }
+    ensures late { SharedAnswersAreNotLate }
+    ensures counting { CountingIsNotNamed }
 {}

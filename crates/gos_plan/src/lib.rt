@@ -40,8 +40,8 @@ pub use gates::{Macro, Wire};
 pub use kinds::{Kind, Op2};
 pub use laws::{
     any_order, held_tokens, one_answer, one_joining, one_token_each, orderly_holds_one,
-    orderly_is_decided, parts_fire, sides, small_cycles, small_gates, small_plans, tokens_fit,
-    tokens_stay,
+    orderly_is_decided, parts_fire, sides, small_cycles, small_gates, small_paths, small_plans,
+    tokens_fit, tokens_stay,
 };
 pub use plan::{End, Joint, Plan, PlanImport, make};
 pub use printing::print_object;

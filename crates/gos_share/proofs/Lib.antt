@@ -2,3 +2,4 @@ pub mod SharedLemmas
 pub mod CellLemmas
 pub mod SideLemmas
 pub mod SharingLemmas
+pub mod PassingLemmas

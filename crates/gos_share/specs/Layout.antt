@@ -2,13 +2,13 @@
 -- gos_plan.
 --
 -- Read first: Law of gos_plan; Share. Of the kinds of other crates nothing is said here.
-use Rattle.std.specs.Prelude.{ℕ, List, []}
+use Rattle.std.specs.Prelude.{ℕ, Bool, false, List, []}
 use Rattle.gos_netlist.specs.Nets.{Cell}
 use Rattle.gos_netlist.specs.Settling.{Numbers}
 use Rattle.gos_plan.specs.Kinds.{Part, Share, contacts_of}
 use Rattle.gos_plan.specs.Firing.{State, Token}
 use Rattle.gos_plan.specs.Gates.{Incoming, Outgoing, nothing_pending}
-use Rattle.gos_share.specs.Share.{share_cells, share_outs, share_late, share_pending, ShareStands}
+use Rattle.gos_share.specs.Share.{share_cells, share_outs, share_late, share_pending, share_passing, ShareStands}
 
 -- the cells of a part, from the number of the first one and the nets that come in
 abbrev pub layout : Part → ℕ → Incoming → List Cell
@@ -34,3 +34,8 @@ pending_of k = nothing_pending
 abbrev pub stands_of : Part → ℕ → Numbers → State → Type 0
 stands_of (Share t) = ShareStands (contacts_of t)
 stands_of k = λ b regs q. ⊥
+
+-- from which handshake to which a path without registers leads
+abbrev pub passing_of : Part → ℕ → ℕ → Bool
+passing_of (Share t) = share_passing (contacts_of t)
+passing_of k = λ from to. false

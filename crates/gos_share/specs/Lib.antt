@@ -2,5 +2,6 @@
 pub mod Blocks
 pub mod Share
 pub mod Layout
+pub mod SmallPassing
 pub mod inner
 pub mod laws

@@ -3,7 +3,7 @@
 -- Read first: Blocks. Cell 0 is a register that holds the branch, cell 1 its complement and cell 2 a 0. Then come
 -- the blocks, and the last cell is the branch after this cycle: 1 where caller 1 asked, else 0 where caller 0 did,
 -- and else as it was. All requests are late, and all answers are passed at once, by the branch of before.
-use Rattle.std.specs.Prelude.{◌≡◌, ◌≤◌, ℕ, zero, suc, ◌+◌, List, [], ◌∷◌, ◌++◌, length, nat_eq, if◌then◌else◌}
+use Rattle.std.specs.Prelude.{◌≡◌, ◌≤◌, ℕ, Bool, false, ◌&&◌, ◌||◌, zero, suc, ◌+◌, List, [], ◌∷◌, ◌++◌, length, nat_eq, if◌then◌else◌}
 use Rattle.gos_types.specs.declared.shakes.Role.{Role}
 use Rattle.gos_types.specs.declared.shakes.Role.TheVariants.{Serve, Ask}
 use Rattle.gos_netlist.specs.Nets.{Cell, Const, Not, Or, Reg}
@@ -101,3 +101,16 @@ pub record ShareStands (ks : List Contact) (b : ℕ) (regs : Numbers) (q : State
   pub branch : q.number ≡ at regs (b + 0)
   pub one : at regs (b + 0) ≤ 1
   pub held : RowHolds b 3 regs ks
+
+-- Whether what comes in at one handshake goes out at another in the same cycle. An answer of the source at its handshake j
+-- goes on at j of both callers' sides, and an answer of a caller at the source's. Requests wait for the next cycle.
+abbrev pub block_passing : Role → ℕ → ℕ → ℕ → ℕ → Bool
+block_passing Serve h j from to = nat_eq from j && (nat_eq to (h + j) || nat_eq to (h + h + j))
+block_passing Ask h j from to = nat_eq to j && (nat_eq from (h + j) || nat_eq from (h + h + j))
+
+abbrev pub row_passing : ℕ → ℕ → List Contact → ℕ → ℕ → Bool
+row_passing h j [] from to = false
+row_passing h j (k ∷ ks) from to = block_passing k.role h j from to || row_passing h (suc j) ks from to
+
+abbrev pub share_passing : List Contact → ℕ → ℕ → Bool
+share_passing ks = row_passing (length ks) 0 ks

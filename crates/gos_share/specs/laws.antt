@@ -15,3 +15,9 @@ pub mod Own
 pub mod Order
 pub mod Widths
 pub mod Kept
+pub mod Cones
+pub mod Pairs
+pub mod Origins
+pub mod Ways
+pub mod Named
+pub mod Paths

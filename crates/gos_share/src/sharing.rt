@@ -2,11 +2,12 @@
 ghost use Rattle.gos_types.specs.Types.{type_of};
 ghost use Rattle.gos_plan.specs.Kinds.{Share};
 ghost use Rattle.gos_plan.specs.Ranges.{IsSmall};
-ghost use Rattle.gos_share.specs.Layout.{layout, outs_of, late_of, pending_of, stands_of};
+ghost use Rattle.gos_share.specs.Layout.{layout, outs_of, late_of, pending_of, stands_of, passing_of};
 ghost use Rattle.gos_share.specs.laws.Kept.{share_gates};
+ghost use Rattle.gos_share.specs.laws.Paths.{share_paths};
 
 use crate::shared::{Side, blocks};
-use crate::{row, sides};
+use crate::{passing, row, sides};
 use gos_netlist::NetId;
 use gos_plan::{Macro, Wire};
 use gos_pool::{NetPool, Region};
@@ -45,6 +46,8 @@ impl<'a> Macro for Sharing<'a> {
 
     ghost stands = { λ t. stands_of (Share (type_of t)) };
 
+    ghost passing = { λ t. passing_of (Share (type_of t)) };
+
     ghost is_laid_out = { IsSmall };
 
     fn size(&self) -> u32 {
@@ -64,5 +67,11 @@ impl<'a> Macro for Sharing<'a> {
         row::place(self.0, wires.len() / 3, wires, pool, region);
     }
 
+    fn passes(&self, from: u32, to: u32) -> bool {
+        passing::passes(self.0, from, to)
+    }
+
     ghost law = { share_gates };
+
+    ghost paths = { share_paths };
 }

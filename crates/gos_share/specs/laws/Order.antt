@@ -228,7 +228,7 @@ row_order ls i b all j n c d (k ∷ ks) placed known0 known1 known2 known_c know
     here.1 here.2 (stand_right all n size block row long stand))
 
 -- the last cell, which the branch names
-last_cell : (i : Incoming) (h j b n c d : ℕ) (all : List Cell) (ks : List Contact) → StandAt all n (row_cells i h j b n c d ks)
+pub last_cell : (i : Incoming) (h j b n c d : ℕ) (all : List Cell) (ks : List Contact) → StandAt all n (row_cells i h j b n c d ks)
     → (e : Cell) × (slice_get all (place_behind n ks) ≡ Some e)
 last_cell i h j b n c d all [] stand =
     let here : n + 0 ≡ n = omega arith in
