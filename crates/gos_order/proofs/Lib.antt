@@ -1,0 +1,10 @@
+pub mod PlaceLemmas
+pub mod EdgeLemmas
+pub mod ChainLemmas
+pub mod LinkLemmas
+pub mod SearchLemmas
+pub mod RingLemmas
+pub mod LevelLemmas
+pub mod RoomLemmas
+pub mod RaiseLemmas
+pub mod SmallLemmas

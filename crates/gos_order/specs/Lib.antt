@@ -1,0 +1,5 @@
+-- In reading order: a file uses only files above it.
+pub mod Rings
+pub mod SmallRings
+pub mod Added
+pub mod inner
