@@ -8,7 +8,7 @@ use Rattle.gos_plan.specs.declared.plan.PlanImport.{PlanImport}
 use Rattle.gos_plan.specs.Plans.{Plan}
 use Rattle.gos_plan.specs.Seen.{import_of}
 use Rattle.gos_realises.specs.Realises.{AllGround, NamesDiffer}
-use Rattle.gos_expand.specs.Starts.{keep_all}
+use Rattle.gos_expand.specs.Starts.{Keep}
 use Rattle.gos_expand.specs.Laid.{laid, taken}
 use Rattle.gos_expand.specs.Acceptance.{AreDifferent}
 use Rattle.gos_pace.specs.Ports.{AreTaken, HasPorts}
@@ -18,15 +18,15 @@ taken_faces : (p : Plan) (k : ℕ) (is : List Imported) → map face_of (taken p
 taken_faces p k [] = refl
 taken_faces p k (i ∷ is) = ap (λ (faces : List Face). taken_face i ∷ faces) (taken_faces p (suc k) is)
 
-pub has_faces : (p : Plan) (root : Word) → map face_of (laid keep_all p root).ports ≡ plan_faces root p
-has_faces p root = ap (λ (faces : List Face). record { name = root; side = Give; ty = p.outcome } ∷ faces) (taken_faces p 1 p.imports)
+pub has_faces : (keep : Keep) (p : Plan) (root : Word) → map face_of (laid keep p root).ports ≡ plan_faces root p
+has_faces keep p root = ap (λ (faces : List Face). record { name = root; side = Give; ty = p.outcome } ∷ faces) (taken_faces p 1 p.imports)
 
 are_taken : (p : Plan) (k : ℕ) (is : List Imported) → AreTaken is (taken p k is)
 are_taken p k [] = tt
 are_taken p k (i ∷ is) = (refl, refl, refl, are_taken p (suc k) is)
 
-pub has_ports : (p : Plan) (root : Word) → HasPorts p (laid keep_all p root).ports
-has_ports p root = (refl, refl, are_taken p 1 p.imports)
+pub has_ports : (keep : Keep) (p : Plan) (root : Word) → HasPorts p (laid keep p root).ports
+has_ports keep p root = (refl, refl, are_taken p 1 p.imports)
 
 -- the element at a place
 at_index : {X : Type 0} (xs : List X) (k : ℕ) (d : X) → k < length xs → slice_get xs k ≡ Some (slice_index_or xs k d)

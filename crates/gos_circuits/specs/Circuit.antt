@@ -1,6 +1,6 @@
 -- The circuit of a plan.
 --
--- Read first: Accepted of gos_netcheck; Laid of gos_expand (how a plan is laid out); Pace of gos_model; Matched of
+-- Read first: Accepted of gos_netcheck; Laid and Choices of gos_expand (how a plan is laid out); Pace of gos_model; Matched of
 -- gos_realises (what it means that a plan realises a program).
 use Rattle.std.specs.Prelude.{◌≡◌, ℕ, ◌≤◌, List, ◌∷◌, map, length}
 use Rattle.gos_types.specs.Types.{Type'}
@@ -14,8 +14,8 @@ use Rattle.gos_plan.specs.Plans.{Plan}
 use Rattle.gos_plan.specs.Size.{plan_size}
 use Rattle.gos_realises.specs.Matched.{RealisesDone, program_of}
 use Rattle.gos_realises.specs.Slim.{IsSlim}
-use Rattle.gos_expand.specs.Starts.{keep_all}
-use Rattle.gos_expand.specs.Laid.{laid}
+use Rattle.gos_expand.specs.declared.whole.Policy.TheVariants.{Few}
+use Rattle.gos_expand.specs.Choices.{IsLaidBy}
 
 -- a port without its nets
 pub record Face : Type 0 where
@@ -34,11 +34,10 @@ abbrev pub plan_faces : Word → Plan → List Face
 plan_faces root p = record { name = root; side = Give; ty = p.outcome } ∷ map taken_face p.imports
 
 -- The netlist has the plan's ports, is accepted, and has at most as many cells as the plan's size. It is the one that the
--- plan is laid out as, with a register in each direction of each joint. And it keeps pace with every program that the plan
--- realises, where the plan is slim.
+-- plan is laid out as with few registers. And it keeps pace with every program that the plan realises, where the plan is slim.
 pub record IsCircuitOf (root : Word) (p : Plan) (net : Netlist) : Type 0 where
   pub ports : map face_of net.ports ≡ plan_faces root p
   pub accepted : IsAccepted net
   pub few : length net.cells ≤ plan_size p
-  pub is_laid : net ≡ laid keep_all p root
+  pub is_laid : IsLaidBy Few p root net
   pub pace : IsSlim p → (m : Term) → RealisesDone p m → KeepsPaceAlways p.weight (program_of p m) net

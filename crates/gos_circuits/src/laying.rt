@@ -29,7 +29,7 @@ pub fn circuit(alloc: Global, plan: &Plan, root: &Name) -> Result<Checked, NoMem
 {
     cycles_are_lists();
     keeps_pace();
-    let net = expand(alloc, plan, root, Policy::All)?;
+    let net = expand(alloc, plan, root, Policy::Few)?;
     accepted(alloc, net)
 }
 

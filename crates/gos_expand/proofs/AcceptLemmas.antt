@@ -1,8 +1,9 @@
--- The netlist of a plan that can be laid out is accepted.
+-- The netlist of a plan that can be laid out is accepted, if it has no combinational cycle; where all directions keep
+-- registers it has none.
 --
 -- Read first: Acceptance. What is asked of the program's plan gives what the other lemmas want of it (FlowLemmas);
--- they show that cells are right (GoodLemmas), that ports are (RightPortLemmas), and that no ring of gates closes
--- (RingLemmas).
+-- they show that cells are right (GoodLemmas), that ports are (RightPortLemmas), and that no ring of gates closes where
+-- all directions keep registers (RingLemmas).
 use Rattle.std.proofs.Common.{◌≡◌, ℕ, zero, suc, List, [], ◌∷◌, Option, map, slice_get, Some, All, refl, ap, subst}
 use Rattle.std.specs.Prelude.{None}
 use Rattle.std.specs.List.{AllByRecursion}
@@ -18,9 +19,11 @@ use Rattle.gos_plan.specs.Seen.{SeenPlan, part_of, import_of, plan_of}
 use Rattle.gos_plan.specs.Fit.{GatesFit}
 use Rattle.gos_expand.specs.Gates.{layout, outs_of}
 use Rattle.gos_expand.proofs.KeptLemmas.{all_gates}
-use Rattle.gos_expand.specs.Acceptance.{AreDifferent, CanBeLaid, LaidIsAccepted}
+use Rattle.gos_expand.specs.Acceptance.{AreDifferent, CanBeLaid, LaidIsAccepted, AllCutCycles}
 use Rattle.gos_expand.proofs.NarrowLemmas.{IsNarrow, one_narrow, narrow_kind, narrow_type}
-use Rattle.gos_expand.proofs.FlowLemmas.{IsSound, cells_of}
+use Rattle.gos_expand.specs.Starts.{keep_all}
+use Rattle.gos_expand.proofs.NetLemmas.{IsCut, IsAny}
+use Rattle.gos_expand.proofs.FlowLemmas.{IsSound, cells_of, any_arriving, cut_arriving}
 use Rattle.gos_expand.proofs.GoodLemmas.{all_good}
 use Rattle.gos_expand.proofs.RingLemmas.{no_cycle}
 use Rattle.gos_expand.proofs.RightPortLemmas.{ports_fit}
@@ -99,14 +102,19 @@ same_names [] = refl
 same_names (t ∷ ts) = ap (λ (names : List (List ℕ)). t.name ∷ names) (same_names ts)
 
 pub laid_accepted : LaidIsAccepted
-laid_accepted p root can =
+laid_accepted keep p root can acyclic =
     let plan : Plan = plan_of p in
     let fits = sound p root can in
-    let good = all_good plan fits in
+    let good = all_good IsAny keep plan (any_arriving keep) fits in
     let different = subst (λ (names : List (List ℕ)). AreDifferent (root ∷ names)) (same_names p.imports) can.names in
     record {
       nets = λ k c is. (good k c is).exist;
       widths = λ k c is. (good k c is).fit;
-      ports = ports_fit plan fits root different;
-      acyclic = no_cycle (cells_of plan) good;
+      ports = ports_fit keep plan fits root different;
+      acyclic = acyclic;
     }
+
+-- where all directions keep registers, what comes in is cut
+pub all_cut : AllCutCycles
+all_cut p root can =
+    no_cycle (cells_of keep_all (plan_of p)) (all_good IsCut keep_all (plan_of p) cut_arriving (sound p root can))

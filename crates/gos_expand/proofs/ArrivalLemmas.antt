@@ -8,6 +8,7 @@ use Rattle.gos_plan.specs.Kinds.{Contact, contacts_of, other_side, part_contacts
 use Rattle.gos_plan.specs.Contacts.{held_contact, contact_held}
 use Rattle.gos_plan.specs.Plans.{PartEnd, ImportEnd, ResultEnd, contacts_of_part, contacts_of_import, turned_if}
 use Rattle.gos_plan.specs.Seen.{SeenPlan, plan_of, part_of, import_of}
+use Rattle.gos_expand.specs.declared.arrivals.Origin.{Origin}
 use Rattle.gos_expand.specs.declared.arrivals.Arrival.{Arrival}
 use Rattle.gos_expand.specs.declared.arrivals.Arrivals.{Arrivals}
 use Rattle.gos_expand.specs.inner.Arrivals.{new_arrival, arrival_in, arrival_if, AreAt, filled_if}
@@ -54,37 +55,37 @@ new_table p table of_parts of_imports of_result (ResultEnd h) =
     ap (λ (list : List Arrival). slice_get list h) of_result
     ∙ (entry_of_list (other_side (contacts_of (type_of p.outcome))) h ∙ ap (arrival_if None) (turned_there (contacts_of (type_of p.outcome)) h))
 
-pub not_filled : (start : ℕ) (o : Option Arrival) → o ≡ filled_if false start o
-not_filled start None = refl
-not_filled start (Some a) = refl
+pub not_filled : (origin : Origin) (o : Option Arrival) → o ≡ filled_if false origin o
+not_filled origin None = refl
+not_filled origin (Some a) = refl
 
 -- an entry of one of several lists is filled
-pub filled_of : (lists : List (Vec Arrival Global)) (at shake start : ℕ) (old new : Vec Arrival Global) → old ≡ get_or lists at old
-    → ((h : ℕ) → slice_get new.items h ≡ filled_if (nat_eq h shake) start (slice_get old.items h))
+pub filled_of : (lists : List (Vec Arrival Global)) (at shake : ℕ) (origin : Origin) (old new : Vec Arrival Global) → old ≡ get_or lists at old
+    → ((h : ℕ) → slice_get new.items h ≡ filled_if (nat_eq h shake) origin (slice_get old.items h))
     → (i h : ℕ) → arrival_in (slice_get (map (λ s. s.items) (slice_set lists at new)) i) h
-    ≡ filled_if (nat_eq i at && nat_eq h shake) start (arrival_in (slice_get (map (λ s. s.items) lists) i) h)
-filled_of [] at shake start old new e f i h = refl
-filled_of (x ∷ xs) zero shake start old new e f zero h =
-    f h ∙ ap (λ (v : Vec Arrival Global). filled_if (nat_eq h shake) start (slice_get v.items h)) e
-filled_of (x ∷ xs) zero shake start old new e f (suc i) h =
+    ≡ filled_if (nat_eq i at && nat_eq h shake) origin (arrival_in (slice_get (map (λ s. s.items) lists) i) h)
+filled_of [] at shake origin old new e f i h = refl
+filled_of (x ∷ xs) zero shake origin old new e f zero h =
+    f h ∙ ap (λ (v : Vec Arrival Global). filled_if (nat_eq h shake) origin (slice_get v.items h)) e
+filled_of (x ∷ xs) zero shake origin old new e f (suc i) h =
     let other : nat_eq (suc i) 0 ≡ false = grind arith in
-    rw other (not_filled start (arrival_in (slice_get (map (λ s. s.items) xs) i) h))
-filled_of (x ∷ xs) (suc at) shake start old new e f zero h =
+    rw other (not_filled origin (arrival_in (slice_get (map (λ s. s.items) xs) i) h))
+filled_of (x ∷ xs) (suc at) shake origin old new e f zero h =
     let other : nat_eq 0 (suc at) ≡ false = grind arith in
-    rw other (not_filled start (slice_get x.items h))
-filled_of (x ∷ xs) (suc at) shake start old new e f (suc i) h =
+    rw other (not_filled origin (slice_get x.items h))
+filled_of (x ∷ xs) (suc at) shake origin old new e f (suc i) h =
     let same : nat_eq (suc i) (suc at) ≡ nat_eq i at = grind arith in
-    rw same (filled_of xs at shake start old new e f i h)
+    rw same (filled_of xs at shake origin old new e f i h)
 
 -- where there is no such list, none is
-pub none_filled : (lists : List (Vec Arrival Global)) (at shake start : ℕ) → length lists ≤ at
+pub none_filled : (lists : List (Vec Arrival Global)) (at shake : ℕ) (origin : Origin) → length lists ≤ at
     → (i h : ℕ) → arrival_in (slice_get (map (λ s. s.items) lists) i) h
-    ≡ filled_if (nat_eq i at && nat_eq h shake) start (arrival_in (slice_get (map (λ s. s.items) lists) i) h)
-none_filled [] at shake start over i h = refl
-none_filled (x ∷ xs) zero shake start over i h = absurd (grind (arith, over))
-none_filled (x ∷ xs) (suc at) shake start over zero h =
+    ≡ filled_if (nat_eq i at && nat_eq h shake) origin (arrival_in (slice_get (map (λ s. s.items) lists) i) h)
+none_filled [] at shake origin over i h = refl
+none_filled (x ∷ xs) zero shake origin over i h = absurd (grind (arith, over))
+none_filled (x ∷ xs) (suc at) shake origin over zero h =
     let other : nat_eq 0 (suc at) ≡ false = grind arith in
-    rw other (not_filled start (slice_get x.items h))
-none_filled (x ∷ xs) (suc at) shake start over (suc i) h =
+    rw other (not_filled origin (slice_get x.items h))
+none_filled (x ∷ xs) (suc at) shake origin over (suc i) h =
     let same : nat_eq (suc i) (suc at) ≡ nat_eq i at = grind arith in
-    rw same (none_filled xs at shake start (grind (arith, over)) i h)
+    rw same (none_filled xs at shake origin (grind (arith, over)) i h)

@@ -1,16 +1,21 @@
 -- What comes in at an end is what the table of arrivals says.
-use Rattle.std.specs.Prelude.{Option, None, Some, unwrap_or, if◌then◌else◌}
-use Rattle.std.proofs.Common.{◌≡◌, ℕ, zero, suc, nat_eq, ◌+◌, ◌≤◌, Bool, true, false, List, [], ◌∷◌, refl, sym, ap, arith, ◌∙◌, slice_get}
-use Rattle.gos_netlist.specs.Events.{Request, Answer}
+use Rattle.std.specs.Prelude.{Option, None, Some, IsSome, if◌then◌else◌}
+use Rattle.std.proofs.Common.{◌≡◌, ℕ, zero, suc, nat_eq, ◌+◌, ◌≤◌, Bool, true, false, List, [], ◌∷◌, refl, sym, ap, subst, arith, ◌∙◌, slice_get}
+use Rattle.gos_netlist.specs.Events.{Direction, Request, Answer}
 use Rattle.gos_plan.specs.Kinds.{Contact}
 use Rattle.gos_plan.specs.Contacts.{held_contact}
-use Rattle.gos_plan.specs.Plans.{End, PartEnd, ImportEnd, ResultEnd, Joint, Plan, contact_at, same_end}
-use Rattle.gos_expand.specs.Blocks.{nets_from, token_size, total}
-use Rattle.gos_expand.specs.Starts.{keep_all, bits_if, bits_taken, joint_size, loose_size, joints_start, joint_start, loose_start, loose_ends_start, loose_ends, parts_start, laid_size, start_among}
-use Rattle.gos_expand.specs.inner.Arrivals.{arrival_if, or_else, some_if, start_by_joints, start_by_ends, joined_start, start_at, nets_of}
+use Rattle.gos_plan.specs.Plans.{End, PartEnd, ImportEnd, ResultEnd, Joint, Plan, Fits, IsRight, contact_at, same_end}
+use Rattle.gos_plan.specs.Seen.{end_of}
+use Rattle.gos_expand.specs.Blocks.{Nets, nets_from, total}
+use Rattle.gos_expand.specs.Starts.{Keep, bits_taken, way_size, joint_size, loose_size, joints_start, joint_start, loose_ends_start, loose_ends, parts_start, laid_size, start_among}
+use Rattle.gos_expand.specs.inner.Arrivals.{held_end, arrival_if, or_else, some_if, by_way, start_by_joints, start_by_ends, joined_start, start_at, nets_by, nets_of}
+use Rattle.gos_expand.specs.declared.arrivals.Origin.{Origin}
+use Rattle.gos_expand.specs.declared.arrivals.Origin.TheVariants.{Cells, Other}
 use Rattle.gos_expand.specs.declared.arrivals.Arrival.{Arrival}
-use Rattle.gos_expand.specs.Laid.{Seat, seat_among, seat_of, way_start, arrives_by, arrives}
+use Rattle.gos_expand.specs.Laid.{Seat, seat_among, seat_of, way_start, leaves, arrives_by, arrives}
 use Rattle.gos_expand.proofs.BlockLemmas.{total_suc}
+use Rattle.gos_expand.proofs.CountLemmas.{asking_there, serving_there}
+use Rattle.gos_expand.proofs.SeatLemmas.{joint_fits}
 
 even : (i j : ℕ) → nat_eq i j ≡ nat_eq j i
 even zero zero = refl
@@ -29,40 +34,63 @@ same_turned (ResultEnd h) (PartEnd j g) = refl
 same_turned (ResultEnd h) (ImportEnd j g) = refl
 same_turned (ResultEnd h) (ResultEnd g) = even h g
 
--- where what comes in begins, by the seat of the end
-abbrev pub start_of_seat : Plan → End → Option Seat → ℕ
-start_of_seat p e None = loose_start keep_all p e
-start_of_seat p e (Some s) = way_start keep_all p s.joint (slice_get p.joints s.joint) s.way
+-- the origin by joints is that of the seat
+abbrev Tells : Keep → Plan → Option Origin → Option Seat → Type 0
+Tells keep p None None = Unit {0}
+Tells keep p None (Some s) = ⊥
+Tells keep p (Some a) None = ⊥
+Tells keep p (Some a) (Some s) =
+    a ≡ by_way (keep s.joint s.way) (way_start keep p s.joint (slice_get p.joints s.joint) s.way) s.other
 
--- the start by joints, or else one by loose ends, is that of the seat
-abbrev Tells : Plan → End → Option ℕ → Option Seat → Type 0
-Tells p e None None = Unit {0}
-Tells p e None (Some s) = ⊥
-Tells p e (Some m) None = ⊥
-Tells p e (Some m) (Some s) = m ≡ way_start keep_all p s.joint (slice_get p.joints s.joint) s.way
-
-joints_tell : (p : Plan) (x n : ℕ) (js : List Joint) (e : End) → ((i : ℕ) → slice_get p.joints (x + i) ≡ slice_get js i) → n ≡ joint_start keep_all p x
-    → Tells p e (start_by_joints p n js e) (seat_among x js e)
-joints_tell p x n [] e same at = tt
-joints_tell p x n (j ∷ js) e same at =
+joints_tell : (keep : Keep) (p : Plan) (x n : ℕ) (js : List Joint) (e : End) → ((i : ℕ) → slice_get p.joints (x + i) ≡ slice_get js i)
+    → n ≡ joint_start keep p x → Tells keep p (start_by_joints keep p x n js e) (seat_among x js e)
+joints_tell keep p x n [] e same at = tt
+joints_tell keep p x n (j ∷ js) e same at =
     let here : x + 0 ≡ x = omega arith in
     let there : slice_get p.joints x ≡ Some j = ap (slice_get p.joints) (sym here) ∙ same 0 in
-    let size = total_suc (joint_size keep_all p) 0 x p.joints j there in
-    let next : n + joint_size keep_all p 0 j ≡ joint_start keep_all p (suc x) = omega (arith, at, size) in
+    let size = total_suc (joint_size keep p) 0 x p.joints j there in
+    let none : 0 + x ≡ x = omega arith in
+    let same_size : joint_size keep p (0 + x) j ≡ joint_size keep p x j = ap (λ (y : ℕ). joint_size keep p y j) none in
+    let next : n + joint_size keep p x j ≡ joint_start keep p (suc x) = omega (arith, at, size, same_size) in
     by_tests (same_end e j.asking) (same_end e j.serving) _ _ there
-    (joints_tell p (suc x) (n + joint_size keep_all p 0 j) js e (λ i. ap (slice_get p.joints) (let shift : suc x + i ≡ x + suc i = omega arith in shift) ∙ same (suc i)) next)
+    (joints_tell keep p (suc x) (n + joint_size keep p x j) js e
+    (λ i. ap (slice_get p.joints) (let shift : suc x + i ≡ x + suc i = omega arith in shift) ∙ same (suc i)) next)
   where
-    by_tests : (a b : Bool) (rest : Option ℕ) (seat : Option Seat) → slice_get p.joints x ≡ Some j → Tells p e rest seat
-        → Tells p e (or_else (or_else (some_if a (n + token_size (bits_if (contact_at p j.asking) Request))) (some_if b n)) rest)
+    first : Direction → ℕ
+    first Answer = n + way_size keep p x j Request
+    first Request = n
+
+    begins : slice_get p.joints x ≡ Some j → (way : Direction) → first way ≡ way_start keep p x (slice_get p.joints x) way
+    begins there Answer = ap (λ (m : ℕ). m + way_size keep p x j Request) at ∙ ap (λ (o : Option Joint). way_start keep p x o Answer) (sym there)
+    begins there Request = at ∙ ap (λ (o : Option Joint). way_start keep p x o Request) (sym there)
+
+    by_tests : (a b : Bool) (rest : Option Origin) (seat : Option Seat) → slice_get p.joints x ≡ Some j → Tells keep p rest seat
+        → Tells keep p
+        (or_else (or_else (some_if a (by_way (keep x Answer) (n + way_size keep p x j Request) j.serving)) (some_if b (by_way (keep x Request) n j.asking))) rest)
         (if a then Some (record { joint = x; way = Answer; other = j.serving }) else (if b then Some (record { joint = x; way = Request; other = j.asking }) else seat))
-    by_tests true b rest seat there tells = rw (there, at) refl
-    by_tests false true rest seat there tells = rw (there, at) refl
+    by_tests true b rest seat there tells =
+        λ i. by_way (keep x Answer) (begins there Answer i) j.serving
+    by_tests false true rest seat there tells = λ i. by_way (keep x Request) (begins there Request i) j.asking
     by_tests false false rest seat there tells = tells
 
-ends_tell : (p : Plan) (n last : ℕ) (ds : List End) (e : End) → n + total (loose_size p) 0 ds ≡ last → unwrap_or (start_by_ends p n ds e) last ≡ start_among p n ds e
-ends_tell p n last [] e is = omega (arith, is)
-ends_tell p n last (d ∷ ds) e is =
-    by_test (same_end e d) _ (sym (same_turned d e)) (ends_tell p (n + loose_size p 0 d) last ds e (after is))
+-- an end that is held is seen as it was
+pub held_back : (e : End) → end_of (held_end e) ≡ e
+held_back (PartEnd i h) = refl
+held_back (ImportEnd i h) = refl
+held_back (ResultEnd h) = refl
+
+-- the nets by an origin
+
+nets_by_way : (leaving : End → Nets) (rest w : ℕ) (kept : Bool) (n : ℕ) (other : End)
+    → nets_by leaving rest w (Some (by_way kept n other)) ≡ (if kept then nets_from w n else leaving other)
+nets_by_way leaving rest w true n other = refl
+nets_by_way leaving rest w false n other = ap leaving (held_back other)
+
+nets_by_ends : (p : Plan) (leaving : End → Nets) (w n last : ℕ) (ds : List End) (e : End) → n + total (loose_size p) 0 ds ≡ last
+    → nets_by leaving last w (start_by_ends p n ds e) ≡ nets_from w (start_among p n ds e)
+nets_by_ends p leaving w n last [] e is = let same : last ≡ n = omega (arith, is) in ap (nets_from w) same
+nets_by_ends p leaving w n last (d ∷ ds) e is =
+    by_test (same_end e d) _ (sym (same_turned d e)) (nets_by_ends p leaving w (n + loose_size p 0 d) last ds e (after is))
   where
     shifted : (k : ℕ) (es : List End) → total (loose_size p) (suc k) es ≡ total (loose_size p) k es
     shifted k [] = refl
@@ -71,70 +99,88 @@ ends_tell p n last (d ∷ ds) e is =
     after : n + (loose_size p 0 d + total (loose_size p) 1 ds) ≡ last → n + loose_size p 0 d + total (loose_size p) 0 ds ≡ last
     after is = let same = shifted 0 ds in omega (arith, is, same)
 
-    by_test : (a b : Bool) → a ≡ b → unwrap_or (start_by_ends p (n + loose_size p 0 d) ds e) last ≡ start_among p (n + loose_size p 0 d) ds e
-        → unwrap_or (or_else (some_if a n) (start_by_ends p (n + loose_size p 0 d) ds e)) last ≡ (if b then n else start_among p (n + loose_size p 0 d) ds e)
+    by_test : (a b : Bool) → a ≡ b
+        → nets_by leaving last w (start_by_ends p (n + loose_size p 0 d) ds e) ≡ nets_from w (start_among p (n + loose_size p 0 d) ds e)
+        → nets_by leaving last w (or_else (some_if a (Cells n)) (start_by_ends p (n + loose_size p 0 d) ds e))
+        ≡ nets_from w (if b then n else start_among p (n + loose_size p 0 d) ds e)
     by_test true b same rest = rw (sym same) refl
     by_test false b same rest = rw (sym same) rest
 
-start_told : (p : Plan) (e : End) (s : Option ℕ) (seat : Option Seat) → Tells p e s seat
-    → unwrap_or (or_else s (start_by_ends p (loose_ends_start keep_all p) (loose_ends p) e)) (parts_start keep_all p) ≡ start_of_seat p e seat
-start_told p e None None tells = ends_tell p (loose_ends_start keep_all p) (parts_start keep_all p) (loose_ends p) e refl
-start_told p e None (Some seat) tells = absurd tells
-start_told p e (Some m) None tells = absurd tells
-start_told p e (Some m) (Some seat) tells = tells
+nets_told : (keep : Keep) (p : Plan) (e : End) (s : Option Origin) (seat : Option Seat) → Tells keep p s seat
+    → nets_by (leaves keep p) (parts_start keep p) (bits_taken (contact_at p e)) (or_else s (start_by_ends p (loose_ends_start keep p) (loose_ends p) e))
+    ≡ arrives_by keep p e seat
+nets_told keep p e None None tells =
+    nets_by_ends p (leaves keep p) (bits_taken (contact_at p e)) (loose_ends_start keep p) (parts_start keep p) (loose_ends p) e refl
+nets_told keep p e None (Some seat) tells = absurd tells
+nets_told keep p e (Some a) None tells = absurd tells
+nets_told keep p e (Some a) (Some s) tells =
+    let w : ℕ = bits_taken (contact_at p e) in
+    ap (λ (b : Origin). nets_by (leaves keep p) (parts_start keep p) w (Some b)) tells
+    ∙ nets_by_way (leaves keep p) (parts_start keep p) w (keep s.joint s.way) (way_start keep p s.joint (slice_get p.joints s.joint) s.way) s.other
 
-start_seated : (p : Plan) (e : End) → unwrap_or (start_at p e) (parts_start keep_all p) ≡ start_of_seat p e (seat_of p e)
-start_seated p e =
-    start_told p e (joined_start p e) (seat_of p e)
-    (joints_tell p 0 (joints_start p) p.joints e (λ i. ap (slice_get p.joints) (let none : 0 + i ≡ i = omega arith in none)) (let none : joints_start p ≡ joints_start p + 0 = omega arith in none))
-
-by_seat : (p : Plan) (e : End) (seat : Option Seat) → nets_from (bits_taken (contact_at p e)) (start_of_seat p e seat) ≡ arrives_by keep_all p e seat
-by_seat p e None = refl
-by_seat p e (Some s) = refl
+nets_seated : (keep : Keep) (p : Plan) (e : End)
+    → nets_by (leaves keep p) (parts_start keep p) (bits_taken (contact_at p e)) (start_at keep p e) ≡ arrives keep p e
+nets_seated keep p e =
+    nets_told keep p e (joined_start keep p e) (seat_of p e)
+    (joints_tell keep p 0 (joints_start p) p.joints e (λ i. ap (slice_get p.joints) (let none : 0 + i ≡ i = omega arith in none))
+    (let none : joints_start p ≡ joints_start p + 0 = omega arith in none))
 
 -- an entry of the table tells the nets of what comes in
-pub arrives_told : (p : Plan) (e : End) (c : Contact) → contact_at p e ≡ Some c
-    → nets_of (parts_start keep_all p) (record { contact = held_contact c; start = start_at p e }) ≡ arrives keep_all p e
-arrives_told p e c there =
-    ap (λ (o : Option Contact). nets_from (bits_taken o) (unwrap_or (start_at p e) (parts_start keep_all p))) (sym there)
-    ∙ (ap (nets_from (bits_taken (contact_at p e))) (start_seated p e) ∙ by_seat p e (seat_of p e))
+pub arrives_told : (keep : Keep) (p : Plan) (e : End) (c : Contact) → contact_at p e ≡ Some c
+    → nets_of (leaves keep p) (parts_start keep p) (record { contact = held_contact c; origin = start_at keep p e }) ≡ arrives keep p e
+arrives_told keep p e c there =
+    ap (λ (o : Option Contact). nets_by (leaves keep p) (parts_start keep p) (bits_taken o) (start_at keep p e)) (sym there) ∙ nets_seated keep p e
 
-joints_low : (p : Plan) (k n r : ℕ) (js : List Joint) (e : End) → n + total (joint_size keep_all p) k js ≤ r → unwrap_or (start_by_joints p n js e) r ≤ r
-joints_low p k n r [] e low = omega arith
-joints_low p k n r (j ∷ js) e low =
-    by_tests (same_end e j.asking) (same_end e j.serving) _ (joints_low p (suc k) (n + joint_size keep_all p 0 j) r js e (omega (arith, low)))
+-- Where cells begin, they begin no later than at net r; where another end is named, it is there.
+abbrev pub IsFound : Plan → ℕ → Option Origin → Type 0
+IsFound p r None = Unit {0}
+IsFound p r (Some (Cells n)) = n ≤ r
+IsFound p r (Some (Other e)) = IsSome (contact_at p (end_of e))
+
+found_way : (p : Plan) (r : ℕ) (kept : Bool) (n : ℕ) (other : End) → n ≤ r → IsSome (contact_at p other) → IsFound p r (Some (by_way kept n other))
+found_way p r true n other low there = low
+found_way p r false n other low there = subst (λ (e : End). IsSome (contact_at p e)) (sym (held_back other)) there
+
+joints_found : (keep : Keep) (p : Plan) (k n r : ℕ) (js : List Joint) (e : End) → ((x : ℕ) (j : Joint) → slice_get js x ≡ Some j → Fits p j)
+    → n + total (joint_size keep p) k js ≤ r → IsFound p r (start_by_joints keep p k n js e)
+joints_found keep p k n r [] e fits low = tt
+joints_found keep p k n r (j ∷ js) e fits low =
+    by_tests (same_end e j.asking) (same_end e j.serving) _
+    (joints_found keep p (suc k) (n + joint_size keep p k j) r js e (λ x i there. fits (suc x) i there) (omega (arith, low)))
   where
-    by_tests : (a b : Bool) (rest : Option ℕ) → unwrap_or rest r ≤ r
-        → unwrap_or (or_else (or_else (some_if a (n + token_size (bits_if (contact_at p j.asking) Request))) (some_if b n)) rest) r ≤ r
-    by_tests true b rest is = omega (arith, low)
-    by_tests false true rest is = omega (arith, low)
+    by_tests : (a b : Bool) (rest : Option Origin) → IsFound p r rest
+        → IsFound p r
+        (or_else (or_else (some_if a (by_way (keep k Answer) (n + way_size keep p k j Request) j.serving)) (some_if b (by_way (keep k Request) n j.asking))) rest)
+    by_tests true b rest is =
+        found_way p r (keep k Answer) (n + way_size keep p k j Request) j.serving (omega (arith, low)) (serving_there p j (fits 0 j refl))
+    by_tests false true rest is = found_way p r (keep k Request) n j.asking (omega (arith, low)) (asking_there p j (fits 0 j refl))
     by_tests false false rest is = is
 
-ends_low : (p : Plan) (k n r : ℕ) (ds : List End) (e : End) → n + total (loose_size p) k ds ≤ r → unwrap_or (start_by_ends p n ds e) r ≤ r
-ends_low p k n r [] e low = omega arith
-ends_low p k n r (d ∷ ds) e low = by_test (same_end e d) _ (ends_low p (suc k) (n + loose_size p 0 d) r ds e (omega (arith, low)))
+ends_found : (p : Plan) (k n r : ℕ) (ds : List End) (e : End) → n + total (loose_size p) k ds ≤ r → IsFound p r (start_by_ends p n ds e)
+ends_found p k n r [] e low = tt
+ends_found p k n r (d ∷ ds) e low = by_test (same_end e d) _ (ends_found p (suc k) (n + loose_size p 0 d) r ds e (omega (arith, low)))
   where
-    by_test : (a : Bool) (rest : Option ℕ) → unwrap_or rest r ≤ r → unwrap_or (or_else (some_if a n) rest) r ≤ r
+    by_test : (a : Bool) (rest : Option Origin) → IsFound p r rest → IsFound p r (or_else (some_if a (Cells n)) rest)
     by_test true rest is = omega (arith, low)
     by_test false rest is = is
 
-either_low : (r : ℕ) (a b : Option ℕ) → unwrap_or a r ≤ r → unwrap_or b r ≤ r → unwrap_or (or_else a b) r ≤ r
-either_low r None b first second = second
-either_low r (Some m) b first second = first
+either_found : (p : Plan) (r : ℕ) (a b : Option Origin) → IsFound p r a → IsFound p r b → IsFound p r (or_else a b)
+either_found p r None b first second = second
+either_found p r (Some a) b first second = first
 
--- what comes in begins no later than the parts
-pub start_low : (p : Plan) (e : End) → unwrap_or (start_at p e) (parts_start keep_all p) ≤ parts_start keep_all p
-start_low p e =
-    either_low (parts_start keep_all p) (joined_start p e) _
-    (joints_low p 0 (joints_start p) (parts_start keep_all p) p.joints e (omega arith))
-    (ends_low p 0 (loose_ends_start keep_all p) (parts_start keep_all p) (loose_ends p) e (omega arith))
+-- so it is with what comes in at each end
+pub origin_found : (keep : Keep) (p : Plan) (e : End) → IsRight p → IsFound p (parts_start keep p) (start_at keep p e)
+origin_found keep p e right =
+    either_found p (parts_start keep p) (joined_start keep p e) _
+    (joints_found keep p 0 (joints_start p) (parts_start keep p) p.joints e (λ x j there. joint_fits p [] p.joints x j right there) (omega arith))
+    (ends_found p 0 (loose_ends_start keep p) (parts_start keep p) (loose_ends p) e (omega arith))
 
 -- an entry that is there is that of a handshake
-pub entry_told : (s : Option ℕ) (o : Option Contact) (a : Arrival) → Some a ≡ arrival_if s o
-    → (c : Contact) × (o ≡ Some c) × (a ≡ record { contact = held_contact c; start = s })
+pub entry_told : (s : Option Origin) (o : Option Contact) (a : Arrival) → Some a ≡ arrival_if s o
+    → (c : Contact) × (o ≡ Some c) × (a ≡ record { contact = held_contact c; origin = s })
 entry_told s None a is = absurd (cc is)
 entry_told s (Some c) a is = (c, refl, cc is)
 
 -- the parts begin within the cells
-pub parts_within : (p : Plan) → parts_start keep_all p ≤ laid_size keep_all p
-parts_within p = omega arith
+pub parts_within : (keep : Keep) (p : Plan) → parts_start keep p ≤ laid_size keep p
+parts_within keep p = omega arith

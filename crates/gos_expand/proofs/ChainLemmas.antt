@@ -44,12 +44,6 @@ never_whole p xs ys o m s w first never u t list =
     never u t
     (subst (λ (k : Open). OrderlyFrom p ys k w u t) same.0 (subst (λ (k : Tokens). OrderlyFrom p ys parts.open_between k u t) same.1 parts.two))
 
--- and one that begins out of order is so too
-pub never_longer : (p : Plan) (xs ys : List Element) (o : Open) (s : Tokens)
-    → ((u : Open) (t : Tokens) → OrderlyFrom p xs o s u t → ⊥) → (u : Open) (t : Tokens) → OrderlyFrom p (xs ++ ys) o s u t → ⊥
-never_longer p xs ys o s never u t list =
-    let parts = orderly_parts p xs ys o u s t list in never parts.open_between parts.between parts.one
-
 pub runs-append : (p : Plan) (xs ys : List Element) (s w t : Tokens) → Runs p xs s w → Runs p ys w t → Runs p (xs ++ ys) s t
 runs-append p [] ys s w t first rest = subst (λ (k : Tokens). Runs p ys k t) first rest
 runs-append p (x ∷ xs) ys s w t (z, does, list) rest = (z, does, runs-append p xs ys z w t list rest)

@@ -7,11 +7,12 @@ use Rattle.gos_plan.specs.Kinds.{Contact, turned_contact}
 use Rattle.gos_plan.specs.Contacts.{held_contact, contact_held}
 use Rattle.gos_model.specs.Typing.{Imported}
 use Rattle.gos_plan.specs.Plans.{End, Joint, Plan, contact_at, Fits}
+use Rattle.gos_expand.specs.declared.arrivals.Origin.{Origin}
 use Rattle.gos_expand.specs.declared.arrivals.Arrival.{Arrival}
 use Rattle.gos_expand.specs.declared.places.Place.{Place}
 use Rattle.gos_expand.specs.declared.places.Place.TheVariants as places
 use Rattle.gos_expand.specs.Blocks.{Nets, blocks}
-use Rattle.gos_expand.specs.Starts.{Outer, keep_all, bits_if}
+use Rattle.gos_expand.specs.Starts.{Outer, Keep, bits_if}
 use Rattle.gos_expand.specs.inner.Arrivals.{arrival_if, start_at}
 use Rattle.gos_expand.specs.inner.Numbering.{end_at}
 use Rattle.gos_expand.specs.Laid.{arrives, side_cells, shake_cells, port_cells}
@@ -35,34 +36,34 @@ pub serving_there : (p : Plan) (j : Joint) → Fits p j → IsSome (contact_at p
 serving_there p j fits = rw fits.3 refl
 
 -- the cells of a handshake of a port, by its entry in the table
-pub shake_placed : (p : Plan) (place : Place) (h : ℕ) (c : Contact) (entry : Arrival) (side : Side) (nets : Nets) (e : End)
-    → slice_get (outer_at p place).contacts h ≡ Some c → Some entry ≡ arrival_if (start_at p e) (contact_at p e) → e ≡ end_at place h → side ≡ side_at place
-    → nets ≡ arrives keep_all p e → side_cells side (contact_held entry.contact) nets ≡ shake_cells keep_all p (outer_at p place) h c
-shake_placed p places.OfResult h c entry side nets e there told is at same =
+pub shake_placed : (keep : Keep) (p : Plan) (place : Place) (h : ℕ) (c : Contact) (entry : Arrival) (side : Side) (nets : Nets) (e : End)
+    → slice_get (outer_at p place).contacts h ≡ Some c → Some entry ≡ arrival_if (start_at keep p e) (contact_at p e) → e ≡ end_at place h → side ≡ side_at place
+    → nets ≡ arrives keep p e → side_cells side (contact_held entry.contact) nets ≡ shake_cells keep p (outer_at p place) h c
+shake_placed keep p places.OfResult h c entry side nets e there told is at same =
     let seen : contact_at p e ≡ Some (turned_contact c) = rw (is, there) refl in
-    let told_so : Some entry ≡ Some (record { contact = held_contact (turned_contact c); start = start_at p e }) = told ∙ ap (arrival_if (start_at p e)) seen in
-    let entry_is : entry ≡ record { contact = held_contact (turned_contact c); start = start_at p e } = cc told_so in
+    let told_so : Some entry ≡ Some (record { contact = held_contact (turned_contact c); origin = start_at keep p e }) = told ∙ ap (arrival_if (start_at keep p e)) seen in
+    let entry_is : entry ≡ record { contact = held_contact (turned_contact c); origin = start_at keep p e } = cc told_so in
     rw (entry_is, at, same, is) refl
-shake_placed p (places.OfImport i) h c entry side nets e there told is at same =
+shake_placed keep p (places.OfImport i) h c entry side nets e there told is at same =
     let seen : contact_at p e ≡ Some c = rw is there in
-    let told_so : Some entry ≡ Some (record { contact = held_contact c; start = start_at p e }) = told ∙ ap (arrival_if (start_at p e)) seen in
-    let entry_is : entry ≡ record { contact = held_contact c; start = start_at p e } = cc told_so in
+    let told_so : Some entry ≡ Some (record { contact = held_contact c; origin = start_at keep p e }) = told ∙ ap (arrival_if (start_at keep p e)) seen in
+    let entry_is : entry ≡ record { contact = held_contact c; origin = start_at keep p e } = cc told_so in
     rw (entry_is, at, same, is) refl
-shake_placed p (places.OfPart i) h c entry side nets e there told is at same = absurd (cc there)
+shake_placed keep p (places.OfPart i) h c entry side nets e there told is at same = absurd (cc there)
 
 -- the port of an import
 pub outer_import : (p : Plan) (i : ℕ) (x : Imported) → slice_get p.imports i ≡ Some x → outer_at p (places.OfImport i) ≡ taken_port i x
 outer_import p i x there = rw there refl
 
 -- ports are placed alike whatever their number
-pub ports_alike : (p : Plan) (m n : ℕ) (os : List Outer) → blocks (port_cells keep_all p) m os ≡ blocks (port_cells keep_all p) n os
-ports_alike p m n [] = refl
-ports_alike p m n (o ∷ os) = ap (λ (cs : List Cell). port_cells keep_all p 0 o ++ cs) (ports_alike p (suc m) (suc n) os)
+pub ports_alike : (keep : Keep) (p : Plan) (m n : ℕ) (os : List Outer) → blocks (port_cells keep p) m os ≡ blocks (port_cells keep p) n os
+ports_alike keep p m n [] = refl
+ports_alike keep p m n (o ∷ os) = ap (λ (cs : List Cell). port_cells keep p 0 o ++ cs) (ports_alike keep p (suc m) (suc n) os)
 
 -- the bits of a joint's tokens, by the entry of the end that asks
-pub entry_bits : (s : Option ℕ) (o : Option Contact) (a : Arrival) → Some a ≡ arrival_if s o
+pub entry_bits : (s : Option Origin) (o : Option Contact) (a : Arrival) → Some a ≡ arrival_if s o
     → (a.contact.ask_bits ≡ bits_if o Request) × (a.contact.answer_bits ≡ bits_if o Answer)
 entry_bits s None a is = absurd (cc is)
 entry_bits s (Some c) a is =
-    let same : a ≡ record { contact = held_contact c; start = s } = cc is in
+    let same : a ≡ record { contact = held_contact c; origin = s } = cc is in
     (ap (λ (b : Arrival). b.contact.ask_bits) same, ap (λ (b : Arrival). b.contact.answer_bits) same)

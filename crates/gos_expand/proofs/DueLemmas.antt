@@ -1,5 +1,5 @@
--- In a cycle a token that the nets show at an end lies on the joint there, as long as none was taken there: so what
--- the cycle does is possible.
+-- A token that lies on a joint stays there as long as none is taken; and one that an output shows lies on the joint there:
+-- so the outputs of a cycle are possible.
 use Rattle.std.specs.Prelude.{Option, None}
 use Rattle.std.proofs.Common.{◌≡◌, ℕ, zero, suc, ◌+◌, ◌*◌, ◌^◌, ◌<◌, Bool, true, false, List, [], ◌∷◌, Some, slice_get, refl, sym, ◌∙◌, ap, subst, arith, nat_eq, if◌then◌else◌}
 use Rattle.gos_netlist.specs.Nets.{Netlist}
@@ -7,17 +7,18 @@ use Rattle.gos_netlist.specs.Events.{Direction}
 use Rattle.gos_netlist.specs.Settling.{Numbers, at}
 use Rattle.gos_plan.specs.Kinds.{Part, Contact, part_contacts}
 use Rattle.gos_plan.specs.Firing.{Token}
-use Rattle.gos_plan.specs.Plans.{End, PartEnd, ImportEnd, ResultEnd, Joint, Plan, contact_at, same_end, contacts_of_part}
+use Rattle.gos_plan.specs.Plans.{End, PartEnd, ImportEnd, ResultEnd, Joint, Plan, IsRight, contact_at, same_end, contacts_of_part}
 use Rattle.gos_plan.specs.Tokens.{Tokens, Element, Fire, Out, In, IsPortEnd, places_of, way_taken}
+use Rattle.gos_plan.specs.TokenBits.{AllFit}
 use Rattle.gos_plan.specs.Orderly.{Open, OrderlyFrom}
 use Rattle.gos_plan.specs.Gates.{pulse_in}
 use Rattle.gos_plan.specs.Projection.{TakesValues}
-use Rattle.gos_expand.specs.Starts.{bits_taken}
+use Rattle.gos_expand.specs.Starts.{Keep, bits_taken}
 use Rattle.gos_expand.specs.Laid.{known}
 use Rattle.gos_expand.specs.Facts.{Places, number_by, source, target, width, incoming_at}
 use Rattle.gos_plan.specs.Accounts.{count, number, ins_at, ins_sum, outs_at, outs_sum, put_at, sum_put, taken_at, sum_taken}
 use Rattle.gos_expand.proofs.TallyLemmas.{no_value}
-use Rattle.gos_expand.proofs.StandingLemmas.{pending_if, pending_at, pending_numbers, shown_at, shown_numbers, Lies, Now, filled, values, values_if, Taking, taking, small_count, one_token, lies_at, incoming_at_handshake}
+use Rattle.gos_expand.proofs.StandingLemmas.{pending_if, pending_at, pending_numbers, shown_at, shown_numbers, held_pulse, Lies, Led, Now, filled, values, values_if, Taking, taking, small_count, one_token, lies_at, incoming_at_handshake}
 
 pub no_outs : (e : End) (xs : List Element) → outs_at e xs ≡ 0 → outs_sum e xs ≡ 0
 no_outs e [] h = refl
@@ -58,11 +59,11 @@ nothing_pending_there p n regs (ImportEnd i h) none = refl
 nothing_pending_there p n regs (ResultEnd h) none = refl
 
 -- a token that is not taken stays, and no other comes to it
-pub still_there : (p : Plan) (net : Netlist) (n : Places) (v regs after : Numbers) (o u : Open) (s t : Tokens) (xs : List Element) (x : ℕ) (j : Joint) (way : Direction)
-    → Now p net n v regs after o s → OrderlyFrom p xs o s u t → ((i : ℕ) → TakesValues p i (values p n v i) xs s) → slice_get p.joints x ≡ Some j
+pub still_there : (p : Plan) (n : Places) (v : Numbers) (o u : Open) (s t : Tokens) (xs : List Element) (x : ℕ) (j : Joint) (way : Direction)
+    → IsRight p → Led p o s → OrderlyFrom p xs o s u t → ((i : ℕ) → TakesValues p i (values p n v i) xs s) → slice_get p.joints x ≡ Some j
     → taken_at way (target j way) xs ≡ 0 → count (s.in_place way j.asking) ≡ 1 → t.in_place way j.asking ≡ Some (number (s.in_place way j.asking))
-still_there p net n v regs after o u s t xs x j way now list takes there none one =
-    let law = filled p net n v regs after o u s t xs now list takes in
+still_there p n v o u s t xs x j way right led list takes there none one =
+    let law = filled p n v o u s t xs right led list takes in
     let counts = (law.2 x j way there).counts in
     let numbers = (law.2 x j way there).sums in
     let small = small_count (t.in_place way j.asking) in
@@ -93,76 +94,49 @@ pub record Due (p : Plan) (s : Tokens) (e : End) (c : Contact) (x : ℕ) : Type 
   pub is : number (s.in_place (way_taken c.role) at_end.joint.asking) ≡ x
 
 -- without bits it is 0
-bare : (p : Plan) (net : Netlist) (n : Places) (v regs after : Numbers) (o : Open) (s : Tokens) (e : End) (c : Contact) (t : Taking p e c)
-    → Now p net n v regs after o s → contact_at p e ≡ Some c → count (s.in_place (way_taken c.role) t.joint.asking) ≡ 1 → bits_taken (Some c) ≡ 0
-    → number (s.in_place (way_taken c.role) t.joint.asking) ≡ 0
-bare p net n v regs after o s e c t now there one none =
+pub bare : (p : Plan) (s : Tokens) (e : End) (c : Contact) (t : Taking p e c) → AllFit p s → contact_at p e ≡ Some c
+    → count (s.in_place (way_taken c.role) t.joint.asking) ≡ 1 → bits_taken (Some c) ≡ 0 → number (s.in_place (way_taken c.role) t.joint.asking) ≡ 0
+bare p s e c t fit there one none =
     let lies = lies_at p s e c t ∙ one_token (s.in_place (way_taken c.role) t.joint.asking) one in
-    let small = now.standing.fit.0 e c (way_taken c.role) (number (s.in_place (way_taken c.role) t.joint.asking)) there lies in
+    let small = fit.0 e c (way_taken c.role) (number (s.in_place (way_taken c.role) t.joint.asking)) there lies in
     let less : number (s.in_place (way_taken c.role) t.joint.asking) < 2 ^ 0 =
     subst (λ (b : ℕ). number (s.in_place (way_taken c.role) t.joint.asking) < 2 ^ b) none small in
     omega (arith, less)
-
-pub due_at_part : (p : Plan) (net : Netlist) (n : Places) (v regs after : Numbers) (o : Open) (s : Tokens) (i h : ℕ) (k : Part) (c : Contact)
-    → Now p net n v regs after o s → slice_get p.parts i ≡ Some k → contact_at p (PartEnd i h) ≡ Some c → at v (n.arrives (PartEnd i h)).pulse ≡ 1
-    → Due p s (PartEnd i h) c (values p n v i h)
-due_at_part p net n v regs after o s i h k c now is there pulse = by_place (places_of p (PartEnd i h)) refl
-  where
-    by_joint : (t : Taking p (PartEnd i h) c) → Due p s (PartEnd i h) c (values p n v i h)
-    by_joint t =
-        let way : Direction = way_taken c.role in
-        let lies : Lies p n regs s t.joint way = now.standing.joints t.index t.joint way t.there in
-        let delays = now.facts.joints t.index t.joint way t.there in
-        let shows : at regs (n.arrives (target t.joint way)).pulse ≡ 1 = sym delays.pulse ∙ (sym (ap (λ (e : End). at v (n.arrives e).pulse) t.is_target) ∙ pulse) in
-        let counts = lies.counts in
-        let small = small_count (s.in_place way t.joint.asking) in
-        let one : count (s.in_place way t.joint.asking) ≡ 1 = omega (arith, counts, small, shows) in
-        let not_pending : pending_at p n regs (source t.joint way) ≡ 0 = omega (arith, counts, small, shows) in
-        let not_shown : shown_at n regs (target t.joint way) ≡ 0 = omega (arith, counts, small, shows) in
-        let no_pending = nothing_pending_there p n regs (source t.joint way) not_pending in
-        let shape = value_shape p n v i h k c is there in
-        record { at_end = t; one = one; is = by_bits (bits_taken (Some c)) refl t one no_pending not_shown }
-      where
-        by_bits : (w : ℕ) → bits_taken (Some c) ≡ w → (t : Taking p (PartEnd i h) c) → count (s.in_place (way_taken c.role) t.joint.asking) ≡ 1
-            → pending_numbers p n regs (source t.joint (way_taken c.role)) ≡ 0 → shown_at n regs (target t.joint (way_taken c.role)) ≡ 0
-            → number (s.in_place (way_taken c.role) t.joint.asking) ≡ values p n v i h
-        by_bits zero e t one no_pending not_shown =
-            bare p net n v regs after o s (PartEnd i h) c t now there one e ∙ sym (value_shape p n v i h k c is there ∙ rw e refl)
-        by_bits (suc w) e t one no_pending not_shown =
-            let bits : 0 < width p t.joint (way_taken c.role) = subst (λ (b : ℕ). 0 < b) (sym (t.bits ∙ e)) (omega arith) in
-            let lies = now.standing.joints t.index t.joint (way_taken c.role) t.there in
-            let delays = now.facts.joints t.index t.joint (way_taken c.role) t.there in
-            let numbers = lies.numbers bits in
-            let no_shown = lies.silent_out bits not_shown in
-            let held = delays.number bits in
-            let here : at v (n.arrives (target t.joint (way_taken c.role))).number ≡ at v (n.arrives (PartEnd i h)).number =
-            sym (ap (λ (e : End). at v (n.arrives e).number) t.is_target) in
-            let same : number (s.in_place (way_taken c.role) t.joint.asking) ≡ at v (n.arrives (PartEnd i h)).number =
-            omega (arith, numbers, no_shown, no_pending, held, here) in
-            let some : nat_eq (suc w) 0 ≡ false = grind arith in
-            same ∙ sym (value_shape p n v i h k c is there ∙ rw (e, some) refl)
-
-    by_place : (f : Option End) → places_of p (PartEnd i h) ≡ f → Due p s (PartEnd i h) c (values p n v i h)
-    by_place None none = let silent = (now.facts.loose (PartEnd i h) c there none).0 in absurd (omega (arith, silent, pulse))
-    by_place (Some a) place = by_joint (taking p (PartEnd i h) a c now.right there place)
 
 pub shown_port : (n : Places) (regs : Numbers) (e : End) → IsPortEnd e → (shown_at n regs e ≡ at regs (n.shows e).pulse) × (shown_numbers n regs e ≡ at regs (n.shows e).number)
 shown_port n regs (PartEnd i h) port = absurd port
 shown_port n regs (ImportEnd i h) port = (refl, refl)
 shown_port n regs (ResultEnd h) port = (refl, refl)
 
-pub due_at_port : (p : Plan) (net : Netlist) (n : Places) (v regs after : Numbers) (o : Open) (s : Tokens) (e : End) (c : Contact)
-    → Now p net n v regs after o s → IsPortEnd e → contact_at p e ≡ Some c → at v (n.shows e).pulse ≡ 1
+-- at a port nothing is pending, and what is put and taken there are inputs and outputs
+pub nothing_at_port : (p : Plan) (n : Places) (regs : Numbers) (e : End) → IsPortEnd e → (pending_at p n regs e ≡ 0) × (pending_numbers p n regs e ≡ 0)
+nothing_at_port p n regs (PartEnd i h) port = absurd port
+nothing_at_port p n regs (ImportEnd i h) port = (refl, refl)
+nothing_at_port p n regs (ResultEnd h) port = (refl, refl)
+
+pub put_at_port : (puts : ℕ → List Token) (xs : List Element) (e : End) → IsPortEnd e → (put_at puts e xs ≡ ins_at e xs) × (sum_put puts e xs ≡ ins_sum e xs)
+put_at_port puts xs (PartEnd i h) port = absurd port
+put_at_port puts xs (ImportEnd i h) port = (refl, refl)
+put_at_port puts xs (ResultEnd h) port = (refl, refl)
+
+pub sum_taken_port : (x : ℕ → ℕ → ℕ) (xs : List Element) (way : Direction) (e : End) → IsPortEnd e → sum_taken x way e xs ≡ outs_sum e xs
+sum_taken_port x xs way (PartEnd i h) port = absurd port
+sum_taken_port x xs way (ImportEnd i h) port = refl
+sum_taken_port x xs way (ResultEnd h) port = refl
+
+pub due_at_port : (keep : Keep) (p : Plan) (net : Netlist) (n : Places) (v regs after : Numbers) (o : Open) (s : Tokens) (e : End) (c : Contact)
+    → Now keep p net n v regs after o s → IsPortEnd e → contact_at p e ≡ Some c → at v (n.shows e).pulse ≡ 1
     → Due p s e c (number_by v (bits_taken (Some c)) (n.shows e))
-due_at_port p net n v regs after o s e c now port there pulse = by_place (places_of p e) refl
+due_at_port keep p net n v regs after o s e c now port there pulse = by_place (places_of p e) refl
   where
     held : at regs (n.shows e).pulse ≡ 1
     held = sym (now.facts.ports e c port there).pulse ∙ pulse
 
     by_bits : (w : ℕ) → bits_taken (Some c) ≡ w → (t : Taking p e c) → count (s.in_place (way_taken c.role) t.joint.asking) ≡ 1
-        → pending_numbers p n regs (source t.joint (way_taken c.role)) ≡ 0 → at regs (n.arrives (target t.joint (way_taken c.role))).pulse ≡ 0
+        → pending_numbers p n regs (source t.joint (way_taken c.role)) ≡ 0
+        → held_pulse (keep t.index (way_taken c.role)) regs (n.arrives (target t.joint (way_taken c.role))) ≡ 0
         → number (s.in_place (way_taken c.role) t.joint.asking) ≡ number_by v w (n.shows e)
-    by_bits zero is t one no_pending not_here = bare p net n v regs after o s e c t now there one is
+    by_bits zero is t one no_pending not_here = bare p s e c t now.standing.fit there one is
     by_bits (suc w) is t one no_pending not_here =
         let bits : 0 < width p t.joint (way_taken c.role) = subst (λ (b : ℕ). 0 < b) (sym (t.bits ∙ is)) (omega arith) in
         let some : 0 < bits_taken (Some c) = subst (λ (b : ℕ). 0 < b) (sym is) (omega arith) in
@@ -177,13 +151,13 @@ due_at_port p net n v regs after o s e c now port there pulse = by_place (places
     by_joint : (t : Taking p e c) → Due p s e c (number_by v (bits_taken (Some c)) (n.shows e))
     by_joint t =
         let way : Direction = way_taken c.role in
-        let lies : Lies p n regs s t.joint way = now.standing.joints t.index t.joint way t.there in
+        let lies : Lies keep p n regs s t.index t.joint way = now.standing.joints t.index t.joint way t.there in
         let shows : shown_at n regs (target t.joint way) ≡ 1 = sym (ap (shown_at n regs) t.is_target) ∙ ((shown_port n regs e port).0 ∙ held) in
         let counts = lies.counts in
         let small = small_count (s.in_place way t.joint.asking) in
         let one : count (s.in_place way t.joint.asking) ≡ 1 = omega (arith, counts, small, shows) in
         let not_pending : pending_at p n regs (source t.joint way) ≡ 0 = omega (arith, counts, small, shows) in
-        let not_here : at regs (n.arrives (target t.joint way)).pulse ≡ 0 = omega (arith, counts, small, shows) in
+        let not_here : held_pulse (keep t.index way) regs (n.arrives (target t.joint way)) ≡ 0 = omega (arith, counts, small, shows) in
         let no_pending = nothing_pending_there p n regs (source t.joint way) not_pending in
         record { at_end = t; one = one; is = by_bits (bits_taken (Some c)) refl t one no_pending not_here }
 

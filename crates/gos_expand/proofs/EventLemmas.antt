@@ -1,5 +1,5 @@
 -- How many outputs and inputs come at an end of a port in the list of a cycle: as its pulse says.
-use Rattle.std.proofs.Common.{◌≡◌, ℕ, suc, ◌+◌, Bool, true, false, List, [], ◌∷◌, ◌++◌, refl, ap, subst, ◌∙◌, arith, nat_eq, if◌then◌else◌}
+use Rattle.std.proofs.Common.{◌≡◌, ℕ, zero, suc, ◌+◌, ◌≤◌, ◌<◌, Bool, true, false, List, [], ◌∷◌, ◌++◌, refl, sym, ap, subst, ◌∙◌, arith, nat_eq, if◌then◌else◌}
 use Rattle.gos_netlist.specs.Settling.{Numbers, at}
 use Rattle.gos_plan.specs.Plans.{End, Plan, same_end}
 use Rattle.gos_plan.specs.Tokens.{Element, Fire, Out, In}
@@ -164,3 +164,21 @@ ins_listed p n v e fs once =
     let f = second.1 in
     let g = given.1 in
     (omega (arith, a, b, c, shown, fires), omega (arith, d, f, g, shown_sum, fires_sum))
+
+-- a pulse or none is as many tokens
+pub flag_is : (v : Numbers) (nets : Nets) → at v nets.pulse ≤ 1 → flag v nets ≡ at v nets.pulse
+flag_is v nets small = by_pulse (at v nets.pulse) small
+  where
+    by_pulse : (m : ℕ) → m ≤ 1 → (if nat_eq m 1 then 1 else 0) ≡ m
+    by_pulse zero small = refl
+    by_pulse (suc zero) small = refl
+    by_pulse (suc (suc m)) small = absurd (omega (arith, small))
+
+pub number_is : (v : Numbers) (w : ℕ) (nets : Nets) → 0 < w → at v nets.pulse ≤ 1 → (at v nets.pulse ≡ 0 → at v nets.number ≡ 0) → number_if v w nets ≡ at v nets.number
+number_is v zero nets some small silent = absurd (omega (arith, some))
+number_is v (suc w) nets some small silent = by_pulse (at v nets.pulse) small silent
+  where
+    by_pulse : (m : ℕ) → m ≤ 1 → (m ≡ 0 → at v nets.number ≡ 0) → (if nat_eq m 1 then at v nets.number else 0) ≡ at v nets.number
+    by_pulse zero small silent = sym (silent refl)
+    by_pulse (suc zero) small silent = refl
+    by_pulse (suc (suc m)) small silent = absurd (omega (arith, small))

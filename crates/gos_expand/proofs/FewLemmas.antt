@@ -5,6 +5,7 @@
 use Rattle.std.proofs.Common.{◌≡◌, ◌+◌, ◌*◌, ◌≤◌, ℕ, zero, suc, Bool, true, false, List, [], ◌∷◌, ◌++◌, length, slice_get, Some, filter, if◌then◌else◌, refl, ap, length-append, arith}
 use Rattle.std.specs.List.{AllByRecursion}
 use Rattle.gos_types.specs.Types.{Type', Com, Exp, Var, Pair, Fun, IsGround}
+use Rattle.gos_netlist.specs.Events.{Request, Answer}
 use Rattle.gos_plan.specs.Kinds.{Part, Skip, Lit, Seq, Par, If, While, Op, Not, Assign, Deref, Local, Share, Contact, contacts_of, part_contacts}
 use Rattle.gos_model.specs.Typing.{Imported}
 use Rattle.gos_plan.specs.Plans.{End, PartEnd, Joint, Plan, contact_at, is_free}
@@ -13,7 +14,7 @@ use Rattle.gos_plan.specs.Size.{shakes_of, plan_size}
 use Rattle.gos_expand.specs.Blocks.{token_size, total}
 use Rattle.gos_expand.specs.Gates.{part_size}
 use Rattle.gos_expand.specs.Kept.{AreFew}
-use Rattle.gos_expand.specs.Starts.{keep_all, Outer, ports_of, taken_ports, shake_size, port_size, bits_taken, joint_size, loose_size, ends_at, port_ends, part_ends, loose_ends}
+use Rattle.gos_expand.specs.Starts.{Keep, Outer, ports_of, taken_ports, shake_size, port_size, bits_taken, kept_size, way_size, joint_size, loose_size, ends_at, port_ends, part_ends, loose_ends}
 use Rattle.gos_expand.specs.Laid.{laid_cells}
 use Rattle.gos_expand.specs.Acceptance.{LaidIsSmall}
 use Rattle.gos_expand.proofs.GroupLemmas.{layout_length, port_group, joint_group, loose_group, part_group, ports_long, joints_long, loose_long, parts_long}
@@ -55,15 +56,17 @@ token_few : (w : ℕ) → token_size w ≤ 2
 token_few zero = omega arith
 token_few (suc w) = omega arith
 
-joints_few : (p : Plan) (x : ℕ) (js : List Joint) → total (joint_size keep_all p) x js ≤ 4 * length js
-joints_few p x [] = omega arith
-joints_few p x (j ∷ js) =
-    let size : joint_size keep_all p x j ≤ 4 = two _ _ in
-    let rest = joints_few p (suc x) js in
-    omega (arith, size, rest)
-  where
-    two : (v w : ℕ) → token_size v + token_size w ≤ 4
-    two v w = omega (arith, token_few v, token_few w)
+kept_few : (kept : Bool) (w : ℕ) → kept_size kept w ≤ 2
+kept_few true w = token_few w
+kept_few false w = omega arith
+
+joints_few : (keep : Keep) (p : Plan) (x : ℕ) (js : List Joint) → total (joint_size keep p) x js ≤ 4 * length js
+joints_few keep p x [] = omega arith
+joints_few keep p x (j ∷ js) =
+    let request : way_size keep p x j Request ≤ 2 = kept_few (keep x Request) _ in
+    let answer : way_size keep p x j Answer ≤ 2 = kept_few (keep x Answer) _ in
+    let rest = joints_few keep p (suc x) js in
+    omega (arith, request, answer, rest)
 
 shakes_few : (h : ℕ) (cs : List Contact) → total shake_size h cs ≤ 4 * length cs
 shakes_few h [] = omega arith
@@ -154,23 +157,23 @@ loose_ends_few p sound =
 
 -- all cells
 
-laid_long : (p : Plan)
-    → length (laid_cells keep_all p) ≡ length (port_group p) + (length (joint_group p) + (length (loose_group p) + length (part_group p)))
-laid_long p =
-    let first = length-append (port_group p) (joint_group p ++ (loose_group p ++ part_group p)) in
-    let second = length-append (joint_group p) (loose_group p ++ part_group p) in
-    let third = length-append (loose_group p) (part_group p) in
+laid_long : (keep : Keep) (p : Plan)
+    → length (laid_cells keep p) ≡ length (port_group keep p) + (length (joint_group keep p) + (length (loose_group p) + length (part_group keep p)))
+laid_long keep p =
+    let first = length-append (port_group keep p) (joint_group keep p ++ (loose_group p ++ part_group keep p)) in
+    let second = length-append (joint_group keep p) (loose_group p ++ part_group keep p) in
+    let third = length-append (loose_group p) (part_group keep p) in
     omega (arith, first, second, third)
 
-few_cells : (p : Plan) → IsSound p → length (laid_cells keep_all p) ≤ plan_size p
-few_cells p sound =
-    let whole = laid_long p in
-    let ports_are = ports_long p in
-    let joints_are = joints_long p in
+few_cells : (keep : Keep) (p : Plan) → IsSound p → length (laid_cells keep p) ≤ plan_size p
+few_cells keep p sound =
+    let whole = laid_long keep p in
+    let ports_are = ports_long keep p in
+    let joints_are = joints_long keep p in
     let loose_are = loose_long p in
-    let parts_are = parts_long p in
+    let parts_are = parts_long keep p in
     let ports = ports_few 0 (ports_of p) (short_ports p sound) in
-    let joints = joints_few p 0 p.joints in
+    let joints = joints_few keep p 0 p.joints in
     let loose = loose_few p 0 (loose_ends p) in
     let ends = loose_ends_few p sound in
     let parts = parts_few 0 p.parts in
@@ -178,4 +181,4 @@ few_cells p sound =
     omega (arith, whole, ports_are, joints_are, loose_are, parts_are, ports, joints, loose, ends, parts, count)
 
 pub laid_small : LaidIsSmall
-laid_small p root can = few_cells (plan_of p) (sound p root can)
+laid_small keep p root can = few_cells keep (plan_of p) (sound p root can)

@@ -1,14 +1,14 @@
 -- What goes into the circuit at an end, and what comes in there, are nets with the bits of its handshake.
 --
 -- Read first: Laid; NetLemmas, EndLemmas.
-use Rattle.std.proofs.Common.{◌≡◌, ◌+◌, ◌≤◌, ℕ, zero, suc, List, [], ◌∷◌, Option, length, slice_get, Some, inl, inr, refl, sym, ap, subst, ◌∙◌, zero-add, arith}
+use Rattle.std.proofs.Common.{◌≡◌, ◌+◌, ◌≤◌, ◌⊎◌, ℕ, zero, suc, Bool, true, false, if◌then◌else◌, List, [], ◌∷◌, Option, length, slice_get, Some, inl, inr, refl, sym, ap, subst, ◌∙◌, zero-add, arith}
 use Rattle.std.specs.Prelude.{None}
 use Rattle.std.proofs.lemmas.Option.{none-some, same_Some}
 use Rattle.gos_types.specs.declared.shakes.Role.{Role}
 use Rattle.gos_types.specs.declared.shakes.Role.TheVariants.{Serve, Ask}
 use Rattle.gos_types.specs.Types.{Type', Com, Exp, Var, Pair, Fun, IsGround, IsDone}
 use Rattle.gos_netlist.specs.Nets.{Function, Const, Cell, Give, Take}
-use Rattle.gos_netlist.specs.Events.{Request, Answer}
+use Rattle.gos_netlist.specs.Events.{Direction, Request, Answer}
 use Rattle.gos_plan.specs.Kinds.{Part, Contact, contacts_of, part_contacts, turned_contact, asks, serves}
 use Rattle.gos_model.specs.Typing.{Imported}
 use Rattle.gos_plan.specs.Plans.{End, PartEnd, ImportEnd, ResultEnd, Joint, Plan, contacts_of_part, contacts_of_import, turned_if, contact_at, IsRight}
@@ -18,12 +18,13 @@ use Rattle.gos_types.specs.Widths.{HasWidths}
 use Rattle.gos_plan.specs.Fit.{IsOwn, GoesOut, AllGoOut, GatesFit}
 use Rattle.gos_expand.specs.Blocks.{Nets, nets_from, token_size, inputs, registers}
 use Rattle.gos_expand.specs.Gates.{layout, outs_of}
-use Rattle.gos_expand.specs.Starts.{keep_all, Outer, ports_of, taken_ports, shake_size, bits_if, bits_taken, way_size, port_start, joint_start, part_start, loose_start}
+use Rattle.gos_expand.specs.Starts.{Keep, keep_all, Outer, ports_of, taken_ports, shake_size, bits_if, bits_taken, port_start, part_start, loose_start}
 use Rattle.gos_expand.specs.Laid.{Seat, seat_of, request_start, nets_out, outs_if, leaves, way_start, arrives_by, arrives, shake_cells, incoming, laid_cells}
+use Rattle.gos_expand.specs.Facts.{source, target, width}
 use Rattle.gos_expand.proofs.StandLemmas.{StandAt, each_left, each_right, each_block}
-use Rattle.gos_expand.proofs.GroupLemmas.{stands, token_length, shakes_length, port_stands, joint_stands, part_stands}
+use Rattle.gos_expand.proofs.GroupLemmas.{stands, token_length, shakes_length, port_stands, way_stands, part_stands}
 use Rattle.gos_expand.proofs.NetLemmas.{IsNet, IsCut, IsAny, HasNets, token_nets}
-use Rattle.gos_expand.proofs.SeatLemmas.{joint_fits, IsSide, Seated, seat_found, loose_stands}
+use Rattle.gos_expand.proofs.SeatLemmas.{joint_fits, IsSide, seat_found, loose_stands}
 
 -- what is asked of a plan, in its own words
 pub record IsSound (p : Plan) : Type 0 where
@@ -36,8 +37,8 @@ pub record IsSound (p : Plan) : Type 0 where
   pub ground_widths : (i : ℕ) (t : Imported) → slice_get p.imports i ≡ Some t → HasWidths t.ty
 
 -- the cells of a plan
-abbrev pub cells_of : Plan → List Cell
-cells_of p = laid_cells keep_all p
+abbrev pub cells_of : Keep → Plan → List Cell
+cells_of keep p = laid_cells keep p
 
 moved_nets : (all : List Cell) (G : Function → Type 0) (w v m n : ℕ) → w ≡ v → m ≡ n → HasNets all G w (nets_from w m)
     → HasNets all G v (nets_from v n)
@@ -73,17 +74,17 @@ put_bits : (r : Role) (c : Contact) → bits_out r c ≡ bits_of c (way_put r)
 put_bits Serve c = refl
 put_bits Ask c = refl
 
-part_leaves : (p : Plan) → IsSound p → (i h : ℕ) (c : Contact) (o : Option Part) → slice_get p.parts i ≡ o
+part_leaves : (keep : Keep) (p : Plan) → IsSound p → (i h : ℕ) (c : Contact) (o : Option Part) → slice_get p.parts i ≡ o
     → slice_get (contacts_of_part o) h ≡ Some c
-    → HasNets (cells_of p) IsAny (bits_of c (way_put c.role)) (nets_out (slice_get (outs_if o (part_start keep_all p i)) h))
-part_leaves p sound i h c None at is = absurd (none-some c is)
-part_leaves p sound i h c (Some k) at is =
-    let b : ℕ = part_start keep_all p i in
-    let cells : List Cell = layout k b (incoming keep_all p i) in
-    let (o, found, out) = out_at b cells (part_contacts k) (outs_of k b) h c ((sound.gates i k at).outgoing b (incoming keep_all p i)) is in
-    let here = out_nets (cells_of p) b cells c o (part_stands p i k at) out in
-    let bits = subst (λ (w : ℕ). HasNets (cells_of p) IsAny w (nets_out (Some o))) (put_bits c.role c) here in
-    subst (λ (x : Option Outgoing). HasNets (cells_of p) IsAny (bits_of c (way_put c.role)) (nets_out x)) (sym found) bits
+    → HasNets (cells_of keep p) IsAny (bits_of c (way_put c.role)) (nets_out (slice_get (outs_if o (part_start keep p i)) h))
+part_leaves keep p sound i h c None at is = absurd (none-some c is)
+part_leaves keep p sound i h c (Some k) at is =
+    let b : ℕ = part_start keep p i in
+    let cells : List Cell = layout k b (incoming keep p i) in
+    let (o, found, out) = out_at b cells (part_contacts k) (outs_of k b) h c ((sound.gates i k at).outgoing b (incoming keep p i)) is in
+    let here = out_nets (cells_of keep p) b cells c o (part_stands keep p i k at) out in
+    let bits = subst (λ (w : ℕ). HasNets (cells_of keep p) IsAny w (nets_out (Some o))) (put_bits c.role c) here in
+    subst (λ (x : Option Outgoing). HasNets (cells_of keep p) IsAny (bits_of c (way_put c.role)) (nets_out x)) (sym found) bits
 
 -- of a port: a ground type serves at each handshake
 
@@ -106,11 +107,11 @@ done_ground (Pair a b) d = absurd d
 done_ground (Fun a b) d = absurd d
 
 -- the cells of a handshake of a port
-pub shake_stands : (p : Plan) (k : ℕ) (o : Outer) (h : ℕ) (c : Contact) → slice_get (ports_of p) k ≡ Some o
+pub shake_stands : (keep : Keep) (p : Plan) (k : ℕ) (o : Outer) (h : ℕ) (c : Contact) → slice_get (ports_of p) k ≡ Some o
     → slice_get o.contacts h ≡ Some c
-    → StandAt (cells_of p) (request_start (port_start p k) o.contacts h) (shake_cells keep_all p o (0 + h) c)
-shake_stands p k o h c at is =
-    each_block (stands p) (shake_cells keep_all p o) shake_size (shakes_length p o) (port_start p k) 0 o.contacts h c is (port_stands p k o at)
+    → StandAt (cells_of keep p) (request_start (port_start p k) o.contacts h) (shake_cells keep p o (0 + h) c)
+shake_stands keep p k o h c at is =
+    each_block (stands keep p) (shake_cells keep p o) shake_size (shakes_length keep p o) (port_start p k) 0 o.contacts h c is (port_stands keep p k o at)
 
 abbrev pub result_port : Plan → Outer
 result_port p = record { side = Give; contacts = contacts_of p.outcome; end_at = ResultEnd }
@@ -130,124 +131,190 @@ taken_at n (u ∷ ts) (suc i) t is =
 pub import_at : (p : Plan) (i : ℕ) (t : Imported) → slice_get p.imports i ≡ Some t → slice_get (ports_of p) (suc i) ≡ Some (import_port i t)
 import_at p i t is = taken_at 0 p.imports i t is ∙ ap (λ (m : ℕ). Some (import_port m t)) (zero-add i)
 
-result_leaves : (p : Plan) → IsSound p → (h : ℕ) (c : Contact) (o : Option Contact) → slice_get (contacts_of p.outcome) h ≡ o
+result_leaves : (keep : Keep) (p : Plan) → IsSound p → (h : ℕ) (c : Contact) (o : Option Contact) → slice_get (contacts_of p.outcome) h ≡ o
     → turned_if o ≡ Some c
-    → HasNets (cells_of p) IsAny (bits_of c (way_put c.role)) (nets_from (bits_if o Request) (request_start (port_start p 0) (contacts_of p.outcome) h))
-result_leaves p sound h c None at is = absurd (none-some c is)
-result_leaves p sound h c (Some d) at is =
+    → HasNets (cells_of keep p) IsAny (bits_of c (way_put c.role)) (nets_from (bits_if o Request) (request_start (port_start p 0) (contacts_of p.outcome) h))
+result_leaves keep p sound h c None at is = absurd (none-some c is)
+result_leaves keep p sound h c (Some d) at is =
     let n : ℕ = request_start (port_start p 0) (contacts_of p.outcome) h in
     let o : Outer = result_port p in
-    let whole = shake_stands p 0 o h d refl at in
-    let request = each_left (stands p) n (inputs d.ask_bits) (registers d.answer_bits (arrives keep_all p (ResultEnd (0 + h)))) whole in
-    let here = token_nets (cells_of p) IsAny d.ask_bits n _ _ request tt tt in
+    let whole = shake_stands keep p 0 o h d refl at in
+    let request = each_left (stands keep p) n (inputs d.ask_bits) (registers d.answer_bits (arrives keep p (ResultEnd (0 + h)))) whole in
+    let here = token_nets (cells_of keep p) IsAny d.ask_bits n _ _ request tt tt in
     let role = ground_serves p.outcome h d (done_ground p.outcome sound.done) at in
     let same : turned_contact d ≡ c = same_Some (turned_contact d) c is in
     let bits : d.ask_bits ≡ bits_of c (way_put c.role) =
     bits_turned d role ∙ ap (λ (x : Contact). bits_of x (way_put x.role)) same in
-    subst (λ (w : ℕ). HasNets (cells_of p) IsAny w (nets_from d.ask_bits n)) bits here
+    subst (λ (w : ℕ). HasNets (cells_of keep p) IsAny w (nets_from d.ask_bits n)) bits here
   where
     bits_turned : (d : Contact) → d.role ≡ Serve → d.ask_bits ≡ bits_of (turned_contact d) (way_put (turned_contact d).role)
     bits_turned d role = sym (ap (λ (r : Role). bits_of (turned_contact (record d { role = r })) (way_put (turned_contact (record d { role = r })).role)) role)
 
-import_leaves : (p : Plan) → IsSound p → (i h : ℕ) (c : Contact) (o : Option Imported) → slice_get p.imports i ≡ o
+import_leaves : (keep : Keep) (p : Plan) → IsSound p → (i h : ℕ) (c : Contact) (o : Option Imported) → slice_get p.imports i ≡ o
     → slice_get (contacts_of_import o) h ≡ Some c
-    → HasNets (cells_of p) IsAny (bits_of c (way_put c.role))
+    → HasNets (cells_of keep p) IsAny (bits_of c (way_put c.role))
     (nets_from (bits_if (slice_get (contacts_of_import o) h) Answer)
     (request_start (port_start p (suc i)) (contacts_of_import o) h + token_size (bits_if (slice_get (contacts_of_import o) h) Request)))
-import_leaves p sound i h c None at is = absurd (none-some c is)
-import_leaves p sound i h c (Some t) at is =
+import_leaves keep p sound i h c None at is = absurd (none-some c is)
+import_leaves keep p sound i h c (Some t) at is =
     let n : ℕ = request_start (port_start p (suc i)) (contacts_of t.ty) h in
     let o : Outer = import_port i t in
-    let whole = shake_stands p (suc i) o h c (import_at p i t at) is in
-    let request : List Cell = registers c.ask_bits (arrives keep_all p (ImportEnd i (0 + h))) in
-    let answer = each_right (stands p) n request (inputs c.answer_bits) whole in
-    let here = token_nets (cells_of p) IsAny c.answer_bits (n + length request) _ _ answer tt tt in
+    let whole = shake_stands keep p (suc i) o h c (import_at p i t at) is in
+    let request : List Cell = registers c.ask_bits (arrives keep p (ImportEnd i (0 + h))) in
+    let answer = each_right (stands keep p) n request (inputs c.answer_bits) whole in
+    let here = token_nets (cells_of keep p) IsAny c.answer_bits (n + length request) _ _ answer tt tt in
     let role = ground_serves t.ty h c (sound.grounds i t at) is in
     let bits : c.answer_bits ≡ bits_of c (way_put c.role) = sym (ap (λ (r : Role). bits_of c (way_put r)) role) in
     let long : length request ≡ token_size c.ask_bits = token_length c.ask_bits _ _ in
-    let moved = subst (λ (m : ℕ). HasNets (cells_of p) IsAny c.answer_bits (nets_from c.answer_bits (n + m))) long here in
-    let width = subst (λ (w : ℕ). HasNets (cells_of p) IsAny w (nets_from c.answer_bits (n + token_size c.ask_bits))) bits moved in
-    subst (λ (x : Option Contact). HasNets (cells_of p) IsAny (bits_of c (way_put c.role)) (nets_from (bits_if x Answer) (n + token_size (bits_if x Request))))
+    let moved = subst (λ (m : ℕ). HasNets (cells_of keep p) IsAny c.answer_bits (nets_from c.answer_bits (n + m))) long here in
+    let width = subst (λ (w : ℕ). HasNets (cells_of keep p) IsAny w (nets_from c.answer_bits (n + token_size c.ask_bits))) bits moved in
+    subst (λ (x : Option Contact). HasNets (cells_of keep p) IsAny (bits_of c (way_put c.role)) (nets_from (bits_if x Answer) (n + token_size (bits_if x Request))))
     (sym is) width
 
 -- what goes into the circuit at an end
-pub leaves_nets : (p : Plan) → IsSound p → (e : End) (c : Contact) → contact_at p e ≡ Some c
-    → HasNets (cells_of p) IsAny (bits_of c (way_put c.role)) (leaves keep_all p e)
-leaves_nets p sound (PartEnd i h) c is = part_leaves p sound i h c (slice_get p.parts i) refl is
-leaves_nets p sound (ImportEnd i h) c is = import_leaves p sound i h c (slice_get p.imports i) refl is
-leaves_nets p sound (ResultEnd h) c is = result_leaves p sound h c (slice_get (contacts_of p.outcome) h) refl is
+pub leaves_nets : (keep : Keep) (p : Plan) → IsSound p → (e : End) (c : Contact) → contact_at p e ≡ Some c
+    → HasNets (cells_of keep p) IsAny (bits_of c (way_put c.role)) (leaves keep p e)
+leaves_nets keep p sound (PartEnd i h) c is = part_leaves keep p sound i h c (slice_get p.parts i) refl is
+leaves_nets keep p sound (ImportEnd i h) c is = import_leaves keep p sound i h c (slice_get p.imports i) refl is
+leaves_nets keep p sound (ResultEnd h) c is = result_leaves keep p sound h c (slice_get (contacts_of p.outcome) h) refl is
 
 -- what comes in at an end
 
--- the registers of a joint
-abbrev pub request_bits : Plan → Joint → ℕ
-request_bits p j = bits_if (contact_at p j.asking) Request
+-- What is known of the cells of what comes in: of registers and of constants, and of all cells where a direction of a joint
+-- keeps no registers.
+pub record Arriving (keep : Keep) (G : Function → Type 0) : Type 0 where
+  pub cut : (f : Function) → IsCut f → G f
+  pub passed : (x : ℕ) (way : Direction) → keep x way ≡ false → (f : Function) → G f
 
-abbrev pub answer_bits_of : Plan → Joint → ℕ
-answer_bits_of p j = bits_if (contact_at p j.asking) Answer
+-- nothing is known of them, or that they are cut where all directions keep registers
+pub any_arriving : (keep : Keep) → Arriving keep IsAny
+any_arriving keep = record { cut = λ f is. tt; passed = λ x way none f. tt }
 
-request_nets_of : (p : Plan) (x : ℕ) (j : Joint) → slice_get p.joints x ≡ Some j
-    → HasNets (cells_of p) IsCut (request_bits p j) (nets_from (request_bits p j) (joint_start keep_all p x))
-request_nets_of p x j at =
-    let request : List Cell = registers (request_bits p j) (leaves keep_all p j.asking) in
-    let answer : List Cell = registers (answer_bits_of p j) (leaves keep_all p j.serving) in
-    let stand = each_left (stands p) (joint_start keep_all p x) request answer (joint_stands p x j at) in
-    token_nets (cells_of p) IsCut (request_bits p j) (joint_start keep_all p x) _ _ stand (inl (_, refl)) (inl (_, refl))
+pub cut_arriving : Arriving keep_all IsCut
+cut_arriving = record { cut = λ f is. is; passed = λ x way none. absurd (cc none) }
 
-answer_nets_of : (p : Plan) (x : ℕ) (j : Joint) → slice_get p.joints x ≡ Some j
-    → HasNets (cells_of p) IsCut (answer_bits_of p j) (nets_from (answer_bits_of p j) (joint_start keep_all p x + way_size keep_all p x j Request))
-answer_nets_of p x j at =
-    let request : List Cell = registers (request_bits p j) (leaves keep_all p j.asking) in
-    let answer : List Cell = registers (answer_bits_of p j) (leaves keep_all p j.serving) in
-    let stand = each_right (stands p) (joint_start keep_all p x) request answer (joint_stands p x j at) in
-    let here = token_nets (cells_of p) IsCut (answer_bits_of p j) (joint_start keep_all p x + length request) _ _ stand (inl (_, refl)) (inl (_, refl)) in
-    let long : length request ≡ token_size (request_bits p j) = token_length (request_bits p j) _ _ in
-    subst (λ (m : ℕ). HasNets (cells_of p) IsCut (answer_bits_of p j) (nets_from (answer_bits_of p j) (joint_start keep_all p x + m))) long here
+-- a seat tells the joint, the end that takes there, and the bits of what comes in: those of what goes in at the other end
+record AtSeat (p : Plan) (e : End) (s : Seat) : Type 0 where
+  joint : Joint
+  stands_there : slice_get p.joints s.joint ≡ Some joint
+  here : target joint s.way ≡ e
+  other : s.other ≡ source joint s.way
+  width_is : width p joint s.way ≡ bits_taken (contact_at p e)
+  contact : Contact
+  contact_is : contact_at p (source joint s.way) ≡ Some contact
+  bits : bits_of contact (way_put contact.role) ≡ bits_taken (contact_at p e)
 
-joint_arrives : (p : Plan) → IsSound p → (e : End) (s : Seat) → Seated 0 p.joints e s
-    → HasNets (cells_of p) IsCut (bits_taken (contact_at p e))
-    (nets_from (bits_taken (contact_at p e)) (way_start keep_all p s.joint (slice_get p.joints s.joint) s.way))
-joint_arrives p sound e s seated =
-    let j = seated.at_joint in
-    let x : ℕ = s.joint in
-    let number : seated.place ≡ x = sym (seated.number ∙ zero-add seated.place) in
-    let at : slice_get p.joints x ≡ Some j = subst (λ (n : ℕ). slice_get p.joints n ≡ Some j) number seated.found in
-    by_side j at (joint_fits p [] p.joints x j sound.right at).2 (joint_fits p [] p.joints x j sound.right at).3 seated.side
+seat_of_side : (p : Plan) (e : End) (s : Seat) (j : Joint) (q a : ℕ) → slice_get p.joints s.joint ≡ Some j → contact_at p j.asking ≡ Some (asks q a)
+    → contact_at p j.serving ≡ Some (serves q a) → IsSide j e s → AtSeat p e s
+seat_of_side p e s j q a at asking serving (inl (end, way, other)) =
+    let taken : bits_taken (contact_at p e) ≡ a = ap bits_taken (ap (contact_at p) end ∙ asking) in
+    record {
+      joint = j;
+      stands_there = at;
+      here = ap (target j) way ∙ sym end;
+      other = other ∙ sym (ap (source j) way);
+      width_is = ap (width p j) way ∙ (ap (λ (o : Option Contact). bits_if o Answer) asking ∙ sym taken);
+      contact = serves q a;
+      contact_is = ap (λ (w : Direction). contact_at p (source j w)) way ∙ serving;
+      bits = sym taken;
+    }
+seat_of_side p e s j q a at asking serving (inr (end, way, other)) =
+    let taken : bits_taken (contact_at p e) ≡ q = ap bits_taken (ap (contact_at p) end ∙ serving) in
+    record {
+      joint = j;
+      stands_there = at;
+      here = ap (target j) way ∙ sym end;
+      other = other ∙ sym (ap (source j) way);
+      width_is = ap (width p j) way ∙ (ap (λ (o : Option Contact). bits_if o Request) asking ∙ sym taken);
+      contact = asks q a;
+      contact_is = ap (λ (w : Direction). contact_at p (source j w)) way ∙ asking;
+      bits = sym taken;
+    }
+
+seat_tells : (p : Plan) → IsRight p → (e : End) (s : Seat) → seat_of p e ≡ Some s → AtSeat p e s
+seat_tells p right e s seat =
+    let seated = seat_found 0 p.joints e s seat in
+    let number : seated.place ≡ s.joint = sym (seated.number ∙ zero-add seated.place) in
+    let at : slice_get p.joints s.joint ≡ Some seated.at_joint = subst (λ (n : ℕ). slice_get p.joints n ≡ Some seated.at_joint) number seated.found in
+    let fits = joint_fits p [] p.joints s.joint seated.at_joint right at in
+    seat_of_side p e s seated.at_joint fits.0 fits.1 at fits.2 fits.3 seated.side
+
+-- what comes in at an end is what goes in at the other end of its joint
+pub record Straight (keep : Keep) (p : Plan) (e : End) : Type 0 where
+  pub joint : ℕ
+  pub passed : Joint
+  pub way : Direction
+  pub stands_there : slice_get p.joints joint ≡ Some passed
+  pub straight : keep joint way ≡ false
+  pub here : target passed way ≡ e
+  pub nets : arrives keep p e ≡ leaves keep p (source passed way)
+  pub contact : Contact
+  pub contact_is : contact_at p (source passed way) ≡ Some contact
+  pub bits : bits_of contact (way_put contact.role) ≡ bits_taken (contact_at p e)
+
+-- what comes in at an end is cut, or straight
+pub comes_in : (keep : Keep) (p : Plan) → IsRight p → (e : End) (c : Contact) → contact_at p e ≡ Some c
+    → HasNets (cells_of keep p) IsCut (bits_taken (contact_at p e)) (arrives keep p e) ⊎ Straight keep p e
+comes_in keep p right e c is = by_seat (seat_of p e) refl
   where
-    by_side : (j : Joint) → slice_get p.joints s.joint ≡ Some j → {q a : ℕ} → contact_at p j.asking ≡ Some (asks q a)
-        → contact_at p j.serving ≡ Some (serves q a)
-        → IsSide j e s
-        → HasNets (cells_of p) IsCut (bits_taken (contact_at p e))
-        (nets_from (bits_taken (contact_at p e)) (way_start keep_all p s.joint (slice_get p.joints s.joint) s.way))
-    by_side j at {q} {a} asking serving (inl (end, way, other)) =
-        let bits : answer_bits_of p j ≡ bits_taken (contact_at p e) =
-        ap (λ (o : Option Contact). bits_if o Answer) asking ∙ sym (ap bits_taken (ap (contact_at p) end ∙ asking)) in
-        let start : way_start keep_all p s.joint (Some j) Answer ≡ way_start keep_all p s.joint (slice_get p.joints s.joint) s.way =
-        ap (λ (o : Option Joint). way_start keep_all p s.joint o Answer) (sym at)
-        ∙ ap (way_start keep_all p s.joint (slice_get p.joints s.joint)) (sym way) in
-        moved_nets (cells_of p) IsCut _ _ _ _ bits start (answer_nets_of p s.joint j at)
-    by_side j at {q} {a} asking serving (inr (end, way, other)) =
-        let bits : request_bits p j ≡ bits_taken (contact_at p e) =
-        ap (λ (o : Option Contact). bits_if o Request) asking ∙ sym (ap bits_taken (ap (contact_at p) end ∙ serving)) in
-        let start : way_start keep_all p s.joint (Some j) Request ≡ way_start keep_all p s.joint (slice_get p.joints s.joint) s.way =
-        ap (λ (o : Option Joint). way_start keep_all p s.joint o Request) (sym at)
-        ∙ ap (way_start keep_all p s.joint (slice_get p.joints s.joint)) (sym way) in
-        moved_nets (cells_of p) IsCut _ _ _ _ bits start (request_nets_of p s.joint j at)
+    all : List Cell
+    all = cells_of keep p
 
-pub arrives_nets : (p : Plan) → IsSound p → (e : End) (c : Contact) → contact_at p e ≡ Some c
-    → HasNets (cells_of p) IsCut (bits_of c (way_taken c.role)) (arrives keep_all p e)
-arrives_nets p sound e c is = by_seat (seat_of p e) refl
-  where
-    bits : bits_taken (contact_at p e) ≡ bits_of c (way_taken c.role)
-    bits = ap bits_taken is
+    w : ℕ
+    w = bits_taken (contact_at p e)
 
-    by_seat : (o : Option Seat) → seat_of p e ≡ o → HasNets (cells_of p) IsCut (bits_of c (way_taken c.role)) (arrives_by keep_all p e o)
+    registers_at : Seat → ℕ
+    registers_at s = way_start keep p s.joint (slice_get p.joints s.joint) s.way
+
+    by_kept : (s : Seat) → seat_of p e ≡ Some s → (known : AtSeat p e s) (b : Bool) → keep s.joint s.way ≡ b
+        → HasNets all IsCut w (if b then nets_from w (registers_at s) else leaves keep p s.other) ⊎ Straight keep p e
+    by_kept s seat known true kept =
+        let j : Joint = known.joint in
+        let start : way_start keep p s.joint (Some j) s.way ≡ registers_at s =
+        ap (λ (o : Option Joint). way_start keep p s.joint o s.way) (sym known.stands_there) in
+        let nets = token_nets all IsCut (width p j s.way) (way_start keep p s.joint (Some j) s.way) _ _
+        (way_stands keep p s.joint j s.way known.stands_there kept) (inl (_, refl)) (inl (_, refl)) in
+        inl (moved_nets all IsCut _ _ _ _ known.width_is start nets)
+    by_kept s seat known false none =
+        inr
+        (record {
+          joint = s.joint;
+          passed = known.joint;
+          way = s.way;
+          stands_there = known.stands_there;
+          straight = none;
+          here = known.here;
+          nets =
+              ap (arrives_by keep p e) seat
+              ∙ (ap (λ (b : Bool). if b then nets_from w (registers_at s) else leaves keep p s.other) none ∙ ap (leaves keep p) known.other);
+          contact = known.contact;
+          contact_is = known.contact_is;
+          bits = known.bits;
+        })
+
+    by_seat : (o : Option Seat) → seat_of p e ≡ o → HasNets all IsCut w (arrives_by keep p e o) ⊎ Straight keep p e
     by_seat None none =
-        let n : ℕ = loose_start keep_all p e in
-        let w : ℕ = bits_taken (contact_at p e) in
-        let here = token_nets (cells_of p) IsCut w n (Const 0) (Const 0) (loose_stands p e c is none) (inr refl) (inr refl) in
-        subst (λ (v : ℕ). HasNets (cells_of p) IsCut v (nets_from w n)) bits here
-    by_seat (Some s) seat =
-        let here = joint_arrives p sound e s (seat_found 0 p.joints e s seat) in
-        let nets : Nets = nets_from (bits_taken (contact_at p e)) (way_start keep_all p s.joint (slice_get p.joints s.joint) s.way) in
-        subst (λ (v : ℕ). HasNets (cells_of p) IsCut v nets) bits here
+        inl (token_nets all IsCut w (loose_start keep p e) (Const 0) (Const 0) (loose_stands keep p e c is none) (inr refl) (inr refl))
+    by_seat (Some s) seat = by_kept s seat (seat_tells p right e s seat) (keep s.joint s.way) refl
+
+-- so it has the bits of its handshake, and what is known of its cells
+nets_known : (all : List Cell) (F G : Function → Type 0) (w : ℕ) (n : Nets) → ((f : Function) → F f → G f) → HasNets all F w n → HasNets all G w n
+nets_known all F G w n each has =
+    record { of_pulse = known n.pulse 1 has.of_pulse; of_number = λ some. known n.number w (has.of_number some) }
+  where
+    known : (net v : ℕ) → IsNet all F net v → IsNet all G net v
+    known net v (c, at, bits, is) = (c, at, bits, each c.gate is)
+
+pub arrives_nets : (keep : Keep) (p : Plan) (G : Function → Type 0) → Arriving keep G → IsSound p → (e : End) (c : Contact) → contact_at p e ≡ Some c
+    → HasNets (cells_of keep p) G (bits_of c (way_taken c.role)) (arrives keep p e)
+arrives_nets keep p G arriving sound e c is =
+    subst (λ (v : ℕ). HasNets (cells_of keep p) G v (arrives keep p e)) (ap bits_taken is) (of_coming (comes_in keep p sound.right e c is))
+  where
+    of_coming : HasNets (cells_of keep p) IsCut (bits_taken (contact_at p e)) (arrives keep p e) ⊎ Straight keep p e
+        → HasNets (cells_of keep p) G (bits_taken (contact_at p e)) (arrives keep p e)
+    of_coming (inl cut) = nets_known (cells_of keep p) IsCut G (bits_taken (contact_at p e)) (arrives keep p e) arriving.cut cut
+    of_coming (inr s) =
+        nets_known (cells_of keep p) IsAny G (bits_taken (contact_at p e)) (arrives keep p e) (λ f is. arriving.passed s.joint s.way s.straight f)
+        (subst (λ (n : Nets). HasNets (cells_of keep p) IsAny (bits_taken (contact_at p e)) n) (sym s.nets)
+        (subst (λ (v : ℕ). HasNets (cells_of keep p) IsAny v (leaves keep p (source s.passed s.way))) s.bits
+        (leaves_nets keep p sound (source s.passed s.way) s.contact s.contact_is)))

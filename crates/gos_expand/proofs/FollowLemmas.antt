@@ -1,6 +1,6 @@
 -- Cycles one after another, from the first one: each is made as a list of the plan, or is the first broken one.
 use Rattle.std.specs.Prelude.{Option, None}
-use Rattle.std.proofs.Common.{◌≡◌, inl, inr, ◌⊎◌, ℕ, suc, ◌≤◌, List, [], ◌∷◌, ◌++◌, Some, slice_get, length, refl, sym, ◌∙◌, ap, subst, arith, append_assoc}
+use Rattle.std.proofs.Common.{◌≡◌, inl, inr, ◌⊎◌, ℕ, suc, ◌≤◌, Bool, true, false, List, [], ◌∷◌, ◌++◌, Some, slice_get, length, refl, sym, ◌∙◌, ap, subst, arith, append_assoc}
 use Rattle.gos_netlist.specs.Nets.{Netlist}
 use Rattle.gos_netlist.specs.Events.{Direction}
 use Rattle.gos_netlist.specs.Settling.{Numbers, at}
@@ -9,42 +9,45 @@ use Rattle.gos_plan.specs.Kinds.{Part}
 use Rattle.gos_plan.specs.Firing.{Rest}
 use Rattle.gos_plan.specs.Firing as firing
 use Rattle.gos_plan.specs.Plans.{End, PartEnd, ImportEnd, ResultEnd, Joint, Plan, IsRight}
-use Rattle.gos_plan.specs.Tokens.{Tokens, Element, places_of, held_at, end_of, way_of, IsIdle, Runs}
-use Rattle.gos_plan.specs.Orderly.{Open, none_open, OrderlyFrom}
+use Rattle.gos_plan.specs.Tokens.{Tokens, Element, places_of, held_at, end_of, way_of, Runs}
+use Rattle.gos_plan.specs.Orderly.{Open, OrderlyFrom}
 use Rattle.gos_plan.specs.Gates.{due, value_due}
 use Rattle.gos_plan.specs.Cycles.{PartFiring, Made, fires_of, cycle_list, list_of, MakesCycles}
 use Rattle.gos_plan.proofs.DecidedLemmas.{orderly_is_possible}
 use Rattle.gos_plan.proofs.TokenBitsLemmas.{all_stay_fit, idle_fits}
 use Rattle.gos_plan.proofs.OrderLemmas.{one_order_is_enough}
-use Rattle.gos_expand.specs.Facts.{Places, source, target, CycleFacts, PlanFacts, PartFacts, Follow}
-use Rattle.gos_expand.proofs.ChainLemmas.{orderly-append, never_whole, runs-append, welcome_after}
-use Rattle.gos_expand.proofs.StandingLemmas.{pending_if, pending_at, pending_numbers, shown_at, shown_numbers, Standing, Now, filled}
-use Rattle.gos_expand.proofs.PulseLemmas.{made_firings}
-use Rattle.gos_expand.proofs.PossibleLemmas.{listing, Whole, Stopped, cycle_ends}
+use Rattle.gos_expand.specs.Blocks.{Nets}
+use Rattle.gos_expand.specs.Starts.{Keep}
+use Rattle.gos_expand.specs.Facts.{Places, source, target, CycleFacts, PlanFacts, PartFacts, Rises, Follow}
+use Rattle.gos_expand.proofs.ChainLemmas.{never_whole, runs-append, welcome_after}
+use Rattle.gos_expand.proofs.StandingLemmas.{pending_if, pending_at, pending_numbers, shown_at, shown_numbers, held_pulse, held_number, Standing, Led, led_on, Now, filled}
+use Rattle.gos_expand.proofs.ScheduleLemmas.{made_firings}
+use Rattle.gos_expand.proofs.PossibleLemmas.{listing}
+use Rattle.gos_expand.proofs.RankLemmas.{Whole, Stopped, cycle_ends}
 use Rattle.gos_expand.proofs.MadeLemmas.{part_step}
 use Rattle.gos_expand.proofs.StepLemmas.{whole_list, passed}
 
 -- what an orderly cycle leaves
-pub record Left (p : Plan) (n : Places) (v regs after : Numbers) (t : Tokens) : Type 0 where
-  pub standing : Standing p n after t
+pub record Left (keep : Keep) (p : Plan) (n : Places) (v regs after : Numbers) (t : Tokens) : Type 0 where
+  pub standing : Standing keep p n after t
   pub goes :
       (x : ℕ) (j : Joint) (way : Direction) → slice_get p.joints x ≡ Some j
-      → pending_at p n regs (source j way) ≤ at after (n.arrives (target j way)).pulse
+      → pending_at p n regs (source j way) ≤ at v (n.leaves (source j way)).pulse
 
-pub left : (p : Plan) (net : Netlist) (n : Places) (v regs after : Numbers) (o : Open) (s : Tokens) (w : Whole p n v o s)
-    → Now p net n v regs after o s → Left p n v regs after w.state_then
-left p net n v regs after o s w now =
-    let law = filled p net n v regs after o w.open_then s w.state_then (whole_list p n v) now w.list w.takes in
+pub left : (keep : Keep) (p : Plan) (net : Netlist) (n : Places) (rank : End → ℕ) (v regs after : Numbers) (o : Open) (s : Tokens) (w : Whole p n rank v o s)
+    → Now keep p net n v regs after o s → Left keep p n v regs after w.state_then
+left keep p net n rank v regs after o s w now =
+    let law = filled p n v o w.open_then s w.state_then (whole_list p n rank v) now.right now.led w.list w.takes in
     let pass = λ (x : ℕ) (j : Joint) (way : Direction) (there : slice_get p.joints x ≡ Some j).
-    passed p net n v regs after o s w law.0 x j way now law.1 (law.2 x j way there) there in
+    passed keep p net n rank v regs after o s w law.0 x j way now law.1 (law.2 x j way there) there in
     record {
       standing =
           record {
-            welcome = welcome_after p (whole_list p n v) o w.open_then s w.state_then now.standing.welcome w.list;
+            welcome = welcome_after p (whole_list p n rank v) o w.open_then s w.state_then now.standing.welcome w.list;
             fit =
-                all_stay_fit p (whole_list p n v) s w.state_then now.right now.part_facts.literals now.standing.fit
-                (orderly_is_possible p (whole_list p n v) o w.open_then s w.state_then w.list);
-            parts = λ i k is. (part_step p net n v regs after o s w law.0 i k now law.1 is).stands;
+                all_stay_fit p (whole_list p n rank v) s w.state_then now.right now.part_facts.literals now.standing.fit
+                (orderly_is_possible p (whole_list p n rank v) o w.open_then s w.state_then w.list);
+            parts = λ i k is. (part_step keep p net n rank v regs after o s w law.0 i k now law.1 is).stands;
             joints = λ x j way there. (pass x j way there).lies;
             loose = λ e c port there none. (now.facts.ports e c port there).next ∙ (now.facts.loose e c there none).0;
           };
@@ -52,20 +55,21 @@ left p net n v regs after o s w now =
     }
 
 -- a cycle that is made
-pub record OneCycle (p : Plan) (net : Netlist) (n : Places) (v regs after : Numbers) (s : Tokens) (m : Made) : Type 0 where
+pub record OneCycle (keep : Keep) (p : Plan) (net : Netlist) (n : Places) (rank : End → ℕ) (v regs after : Numbers) (s : Tokens) (m : Made) : Type 0 where
   pub opened : Open
-  pub now : Now p net n v regs after opened s
-  pub whole : Whole p n v opened s
-  pub fired : m.firings ≡ made_firings p n v
+  pub now : Now keep p net n v regs after opened s
+  pub whole : Whole p n rank v opened s
+  pub fired : m.firings ≡ made_firings p n rank v
   pub leads : m.after ≡ whole.state_then
   pub goes :
       (x : ℕ) (j : Joint) (way : Direction) → slice_get p.joints x ≡ Some j
-      → pending_at p n regs (source j way) ≤ at after (n.arrives (target j way)).pulse
+      → pending_at p n regs (source j way) ≤ at v (n.leaves (source j way)).pulse
 
-abbrev pub Chain : Plan → Netlist → Places → List Numbers → Numbers → Tokens → List Made → Type 0
-Chain p net n vs regs s [] = Unit {0}
-Chain p net n [] regs s (m ∷ ms) = ⊥
-Chain p net n (v ∷ vs) regs s (m ∷ ms) = (after : Numbers) × OneCycle p net n v regs after s m × Chain p net n vs after m.after ms
+abbrev pub Chain : Keep → Plan → Netlist → Places → (End → ℕ) → List Numbers → Numbers → Tokens → List Made → Type 0
+Chain keep p net n rank vs regs s [] = Unit {0}
+Chain keep p net n rank [] regs s (m ∷ ms) = ⊥
+Chain keep p net n rank (v ∷ vs) regs s (m ∷ ms) =
+    (after : Numbers) × OneCycle keep p net n rank v regs after s m × Chain keep p net n rank vs after m.after ms
 
 -- the next cycle is broken, seen from where o is open
 abbrev pub BrokenFrom : Plan → Netlist → List Numbers → Open → Tokens → List Made → Type 0
@@ -74,32 +78,32 @@ BrokenFrom p net vs o s ms =
     × Runs p (list_of p net vs ms ++ cycle_list p (outputs net v) (inputs net v) fs) s t
     × ((u : Open) (w : Tokens) → OrderlyFrom p (list_of p net vs ms ++ cycle_list p (outputs net v) (inputs net v) fs) o s u w → ⊥)
 
-pub record Listed (p : Plan) (net : Netlist) (n : Places) (regs : Numbers) (vs : List Numbers) (o : Open) (s : Tokens) : Type 0 where
+pub record Listed (keep : Keep) (p : Plan) (net : Netlist) (n : Places) (rank : End → ℕ) (regs : Numbers) (vs : List Numbers) (o : Open) (s : Tokens) : Type 0 where
   pub cycles : List Made
   pub made : MakesCycles p net vs s cycles
-  pub chain : Chain p net n vs regs s cycles
+  pub chain : Chain keep p net n rank vs regs s cycles
   pub ends : (length cycles ≡ length vs) ⊎ BrokenFrom p net vs o s cycles
 
 -- the elements of a cycle are those of its labels
-as_labels : (p : Plan) (net : Netlist) (n : Places) (v regs after : Numbers) (fs : List PartFiring) → CycleFacts p net n v regs after
+as_labels : (keep : Keep) (p : Plan) (net : Netlist) (n : Places) (v regs after : Numbers) (fs : List PartFiring) → CycleFacts keep p net n v regs after
     → listing p n v fs ≡ cycle_list p (outputs net v) (inputs net v) fs
-as_labels p net n v regs after fs facts = λ i. sym facts.outs i ++ (sym facts.ins i ++ fires_of fs)
+as_labels keep p net n v regs after fs facts = λ i. sym facts.outs i ++ (sym facts.ins i ++ fires_of fs)
 
-pub follows : (p : Plan) (net : Netlist) (n : Places) (regs : Numbers) (vs : List Numbers) (o : Open) (s first : Tokens) (past : List Element)
-    → IsRight p → PartFacts p → PlanFacts p n → IsIdle p first → OrderlyFrom p past none_open first o s → Standing p n regs s → Follow p net n regs vs
-    → Listed p net n regs vs o s
-follows p net n regs [] o s first past right parts plan idle list standing follow = record { cycles = []; made = tt; chain = tt; ends = inl refl }
-follows p net n regs (v ∷ vs) o s first past right parts plan idle list standing (after, facts, follow) =
-    by_end (cycle_ends p net n v regs after o s now)
-    (λ u t so_far next. follows p net n after vs u t first (past ++ whole_list p n v) right parts plan idle so_far next follow)
+pub follows : (keep : Keep) (p : Plan) (net : Netlist) (n : Places) (rank : End → ℕ) (regs : Numbers) (vs : List Numbers) (o : Open) (s : Tokens)
+    → Rises keep p rank → IsRight p → PartFacts p → PlanFacts keep p n → Led p o s → Standing keep p n regs s
+    → Follow keep p net n regs vs → Listed keep p net n rank regs vs o s
+follows keep p net n rank regs [] o s rises right parts plan led standing follow = record { cycles = []; made = tt; chain = tt; ends = inl refl }
+follows keep p net n rank regs (v ∷ vs) o s rises right parts plan led standing (after, facts, follow) =
+    by_end (cycle_ends keep p net n rank v regs after o s rises now)
+    (λ u t so_far next. follows keep p net n rank after vs u t rises right parts plan so_far next follow)
   where
-    now : Now p net n v regs after o s
-    now = record { right = right; part_facts = parts; plan_facts = plan; facts = facts; past = past; first = first; idle = idle; list = list; standing = standing }
+    now : Now keep p net n v regs after o s
+    now = record { right = right; part_facts = parts; plan_facts = plan; facts = facts; led = led; standing = standing }
 
     as_cycle : (fs : List PartFiring) → listing p n v fs ≡ cycle_list p (outputs net v) (inputs net v) fs
-    as_cycle fs = as_labels p net n v regs after fs facts
+    as_cycle fs = as_labels keep p net n v regs after fs facts
 
-    longer : (w : Whole p n v o s) → Listed p net n after vs w.open_then w.state_then → Listed p net n regs (v ∷ vs) o s
+    longer : (w : Whole p n rank v o s) → Listed keep p net n rank after vs w.open_then w.state_then → Listed keep p net n rank regs (v ∷ vs) o s
     longer w rest =
         record {
           cycles = m ∷ rest.cycles;
@@ -109,22 +113,22 @@ follows p net n regs (v ∷ vs) o s first past right parts plan idle list standi
         }
       where
         m : Made
-        m = record { firings = made_firings p n v; after = w.state_then }
+        m = record { firings = made_firings p n rank v; after = w.state_then }
 
-        list_here : OrderlyFrom p (cycle_list p (outputs net v) (inputs net v) (made_firings p n v)) o s w.open_then w.state_then
-        list_here = subst (λ (l : List Element). OrderlyFrom p l o s w.open_then w.state_then) (as_cycle (made_firings p n v)) w.list
+        list_here : OrderlyFrom p (cycle_list p (outputs net v) (inputs net v) (made_firings p n rank v)) o s w.open_then w.state_then
+        list_here = subst (λ (l : List Element). OrderlyFrom p l o s w.open_then w.state_then) (as_cycle (made_firings p n rank v)) w.list
 
-        runs : Runs p (cycle_list p (outputs net v) (inputs net v) (made_firings p n v)) s w.state_then
-        runs = orderly_is_possible p (cycle_list p (outputs net v) (inputs net v) (made_firings p n v)) o w.open_then s w.state_then list_here
+        runs : Runs p (cycle_list p (outputs net v) (inputs net v) (made_firings p n rank v)) s w.state_then
+        runs = orderly_is_possible p (cycle_list p (outputs net v) (inputs net v) (made_firings p n rank v)) o w.open_then s w.state_then list_here
 
-        one : OneCycle p net n v regs after s m
-        one = record { opened = o; now = now; whole = w; fired = refl; leads = refl; goes = (left p net n v regs after o s w now).goes }
+        one : OneCycle keep p net n rank v regs after s m
+        one = record { opened = o; now = now; whole = w; fired = refl; leads = refl; goes = (left keep p net n rank v regs after o s w now).goes }
 
         by_rest : (length rest.cycles ≡ length vs) ⊎ BrokenFrom p net vs w.open_then w.state_then rest.cycles
             → (length (m ∷ rest.cycles) ≡ length (v ∷ vs)) ⊎ BrokenFrom p net (v ∷ vs) o s (m ∷ rest.cycles)
         by_rest (inl as_many) = inl (ap suc as_many)
         by_rest (inr (x, fs, t, there, broken, never)) =
-            let here : List Element = cycle_list p (outputs net v) (inputs net v) (made_firings p n v) in
+            let here : List Element = cycle_list p (outputs net v) (inputs net v) (made_firings p n rank v) in
             let further : List Element = list_of p net vs rest.cycles in
             let last : List Element = cycle_list p (outputs net x) (inputs net x) fs in
             inr (
@@ -137,13 +141,13 @@ follows p net n regs (v ∷ vs) o s first past right parts plan idle list standi
                   (never_whole p here (further ++ last) o w.open_then s w.state_then list_here never),
             )
 
-    by_end : Whole p n v o s ⊎ Stopped p n v o s
-        → ((u : Open) (t : Tokens) → OrderlyFrom p (past ++ whole_list p n v) none_open first u t → Standing p n after t → Listed p net n after vs u t)
-        → Listed p net n regs (v ∷ vs) o s
+    by_end : Whole p n rank v o s ⊎ Stopped p n v o s
+        → ((u : Open) (t : Tokens) → Led p u t → Standing keep p n after t → Listed keep p net n rank after vs u t)
+        → Listed keep p net n rank regs (v ∷ vs) o s
     by_end (inl w) go =
         longer w
-        (go w.open_then w.state_then (orderly-append p past (whole_list p n v) none_open o w.open_then first s w.state_then list w.list)
-        (left p net n v regs after o s w now).standing)
+        (go w.open_then w.state_then (led_on p (whole_list p n rank v) o w.open_then s w.state_then led w.list)
+        (left keep p net n rank v regs after o s w now).standing)
     by_end (inr stopped) go =
         record {
           cycles = [];
@@ -168,15 +172,15 @@ nothing_there : (p : Plan) (way : Direction) (f : Option End) (x : ℕ) → held
 nothing_there p way None x e = cc e
 nothing_there p way (Some a) x e = cc e
 
-pub at_reset : (p : Plan) (n : Places) (regs : Numbers) → PartFacts p → ((m : ℕ) → at regs m ≡ 0) → Standing p n regs empty
-at_reset p n regs parts zero_all =
+pub at_reset : (keep : Keep) (p : Plan) (n : Places) (regs : Numbers) → PartFacts p → ((m : ℕ) → at regs m ≡ 0) → Standing keep p n regs empty
+at_reset keep p n regs parts zero_all =
     record {
       welcome = λ i t c x there way lies. absurd (nothing_there p (way_of t) (places_of p (end_of i t)) x lies);
       fit = idle_fits p empty ((λ way e. refl), λ i. refl);
       parts = λ i k is. ((parts.gates i k is).rests (n.start i) regs zero_all).0;
       joints = λ x j way there.
-          let a = zero_all (n.arrives (target j way)).pulse in
-          let b = zero_all (n.arrives (target j way)).number in
+          let a = (nothing_held (keep x way) (n.arrives (target j way))).0 in
+          let b = (nothing_held (keep x way) (n.arrives (target j way))).1 in
           let c = (nothing_pending (source j way)).0 in
           let d = (nothing_pending (source j way)).1 in
           let e = (nothing_shown (target j way)).0 in
@@ -185,6 +189,10 @@ at_reset p n regs parts zero_all =
       loose = λ e c port there none. zero_all (n.shows e).pulse;
     }
   where
+    nothing_held : (b : Bool) (nets : Nets) → (held_pulse b regs nets ≡ 0) × (held_number b regs nets ≡ 0)
+    nothing_held true nets = (zero_all nets.pulse, zero_all nets.number)
+    nothing_held false nets = (refl, refl)
+
     of_part : (i : ℕ) (f : Option Part) → slice_get p.parts i ≡ f → pending_if f (n.start i) regs ≡ []
     of_part i None is = refl
     of_part i (Some k) is = ((parts.gates i k is).rests (n.start i) regs zero_all).1

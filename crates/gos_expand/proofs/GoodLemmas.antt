@@ -1,7 +1,7 @@
 -- Each cell of a plan's netlist names nets that are there, has right widths, and names no later gate.
 --
 -- Read first: Accepted of gos_netcheck; FlowLemmas.
-use Rattle.std.proofs.Common.{◌≡◌, ◌+◌, ◌≤◌, ◌<◌, ◌⊎◌, ℕ, zero, suc, List, [], ◌∷◌, Option, length, slice_get, Some, inl, inr, refl, sym, ap, subst, ◌∙◌, zero-add, pow_pos, arith}
+use Rattle.std.proofs.Common.{◌≡◌, ◌+◌, ◌≤◌, ◌<◌, ◌⊎◌, ℕ, zero, suc, Bool, true, false, List, [], ◌∷◌, Option, length, slice_get, Some, inl, inr, refl, sym, ap, subst, ◌∙◌, zero-add, pow_pos, arith}
 use Rattle.std.specs.Prelude.{None}
 use Rattle.std.specs.List.{AllByRecursion}
 use Rattle.std.proofs.lemmas.Option.{none-some, same_Some, slice_get_within}
@@ -19,29 +19,29 @@ use Rattle.gos_plan.specs.Gates.{Incoming, bits_in, incoming_bits}
 use Rattle.gos_plan.specs.Fit.{IsKnown, reach_of, NameEarlier, BitsComeIn, HaveBits, GatesFit}
 use Rattle.gos_expand.specs.Blocks.{Nets, inputs, registers, nothing}
 use Rattle.gos_expand.specs.Gates.{layout, outs_of}
-use Rattle.gos_expand.specs.Starts.{keep_all, Outer, ports_of, taken_ports, shake_size, bits_if, bits_taken, port_start, joint_start, part_start}
-use Rattle.gos_expand.specs.Laid.{arrives, leaves, side_cells, shake_cells, port_cells, joint_cells, loose_cells, part_cells, known, incoming}
-use Rattle.gos_expand.proofs.StandLemmas.{Each, StandAt, each_both, each_of_blocks}
+use Rattle.gos_expand.specs.Starts.{Keep, Outer, ports_of, taken_ports, shake_size, bits_if, bits_taken, port_start, joint_start, part_start}
+use Rattle.gos_expand.specs.Laid.{arrives, leaves, registers_if, side_cells, shake_cells, port_cells, way_cells, joint_cells, loose_cells, part_cells, known, incoming}
+use Rattle.gos_expand.proofs.StandLemmas.{Each, StandAt, each_none, each_both, each_of_blocks}
 use Rattle.gos_expand.proofs.GroupLemmas.{shakes_length, each_laid, part_stands}
 use Rattle.gos_expand.proofs.NetLemmas.{IsNet, IsCut, IsAny, HasNets, any_nets, net_within, net_width, each_token}
 use Rattle.gos_expand.proofs.SeatLemmas.{joint_fits}
-use Rattle.gos_expand.proofs.FlowLemmas.{IsSound, cells_of, ground_serves, done_ground, result_port, import_port, leaves_nets, arrives_nets}
+use Rattle.gos_expand.proofs.FlowLemmas.{IsSound, Arriving, cells_of, ground_serves, done_ground, result_port, import_port, leaves_nets, arrives_nets}
 
--- the net is one of a register, of what names no net, or an earlier one
-abbrev pub GoesBack : List Cell → ℕ → ℕ → Type 0
-GoesBack all n a = (e : Cell) × (slice_get all a ≡ Some e) × (IsCut e.gate ⊎ (a < n))
+-- the net is one of such a function, or an earlier one
+abbrev pub GoesBack : (Function → Type 0) → List Cell → ℕ → ℕ → Type 0
+GoesBack G all n a = (e : Cell) × (slice_get all a ≡ Some e) × (G e.gate ⊎ (a < n))
 
--- what is asked of the cell of net n
-pub record IsGood (all : List Cell) (n : ℕ) (c : Cell) : Type 0 where
+-- what is asked of the cell of net n; G is what is known of what comes in at ends
+pub record IsGood (G : Function → Type 0) (all : List Cell) (n : ℕ) (c : Cell) : Type 0 where
   pub exist : PinsExist (length all) c
   pub fit : HasRightWidths (widths_of all) c
-  pub order : IsRegister c.gate ⊎ AllByRecursion (GoesBack all n) (pins c.gate)
+  pub order : IsRegister c.gate ⊎ AllByRecursion (GoesBack G all n) (pins c.gate)
 
 -- the cells of tokens
 
-good_registers : (all : List Cell) (w b : ℕ) (n : Nets) → w ≤ 32 → HasNets all IsAny w n → Each (IsGood all) b (registers w n)
-good_registers all w b n small has =
-    each_token (IsGood all) w b (Reg n.pulse) (Reg n.number)
+good_registers : (G : Function → Type 0) (all : List Cell) (w b : ℕ) (n : Nets) → w ≤ 32 → HasNets all IsAny w n → Each (IsGood G all) b (registers w n)
+good_registers G all w b n small has =
+    each_token (IsGood G all) w b (Reg n.pulse) (Reg n.number)
     (record {
       exist = (net_within all IsAny n.pulse 1 has.of_pulse, tt);
       fit = (omega arith, omega arith, net_width all IsAny n.pulse 1 has.of_pulse);
@@ -55,14 +55,14 @@ good_registers all w b n small has =
       order = inl (n.number, refl);
     })
 
-good_inputs : (all : List Cell) (w b : ℕ) → w ≤ 32 → Each (IsGood all) b (inputs w)
-good_inputs all w b small =
-    each_token (IsGood all) w b Input Input (record { exist = tt; fit = (omega arith, omega arith, tt); order = inr tt })
+good_inputs : (G : Function → Type 0) (all : List Cell) (w b : ℕ) → w ≤ 32 → Each (IsGood G all) b (inputs w)
+good_inputs G all w b small =
+    each_token (IsGood G all) w b Input Input (record { exist = tt; fit = (omega arith, omega arith, tt); order = inr tt })
     (λ some. record { exist = tt; fit = (omega (arith, some), small, tt); order = inr tt })
 
-good_nothing : (all : List Cell) (w b : ℕ) → w ≤ 32 → Each (IsGood all) b (nothing w)
-good_nothing all w b small =
-    each_token (IsGood all) w b (Const 0) (Const 0) (record { exist = tt; fit = (omega arith, omega arith, pow_pos 1); order = inr tt })
+good_nothing : (G : Function → Type 0) (all : List Cell) (w b : ℕ) → w ≤ 32 → Each (IsGood G all) b (nothing w)
+good_nothing G all w b small =
+    each_token (IsGood G all) w b (Const 0) (Const 0) (record { exist = tt; fit = (omega arith, omega arith, pow_pos 1); order = inr tt })
     (λ some. record { exist = tt; fit = (omega (arith, some), small, pow_pos w); order = inr tt })
 
 -- ports
@@ -72,42 +72,43 @@ abbrev pub bits_shown : Side → Contact → ℕ
 bits_shown Give c = c.answer_bits
 bits_shown Take c = c.ask_bits
 
-good_side : (all : List Cell) (side : Side) (c : Contact) (n : Nets) (b : ℕ) → (c.ask_bits ≤ 32) × (c.answer_bits ≤ 32)
+good_side : (G : Function → Type 0) (all : List Cell) (side : Side) (c : Contact) (n : Nets) (b : ℕ) → (c.ask_bits ≤ 32) × (c.answer_bits ≤ 32)
     → HasNets all IsAny (bits_shown side c) n
-    → Each (IsGood all) b (side_cells side c n)
-good_side all Give c n b small has =
-    each_both (IsGood all) b (inputs c.ask_bits) (registers c.answer_bits n) (good_inputs all c.ask_bits b small.0)
-    (good_registers all c.answer_bits (b + length (inputs c.ask_bits)) n small.1 has)
-good_side all Take c n b small has =
-    each_both (IsGood all) b (registers c.ask_bits n) (inputs c.answer_bits) (good_registers all c.ask_bits b n small.0 has)
-    (good_inputs all c.answer_bits (b + length (registers c.ask_bits n)) small.1)
+    → Each (IsGood G all) b (side_cells side c n)
+good_side G all Give c n b small has =
+    each_both (IsGood G all) b (inputs c.ask_bits) (registers c.answer_bits n) (good_inputs G all c.ask_bits b small.0)
+    (good_registers G all c.answer_bits (b + length (inputs c.ask_bits)) n small.1 has)
+good_side G all Take c n b small has =
+    each_both (IsGood G all) b (registers c.ask_bits n) (inputs c.answer_bits) (good_registers G all c.ask_bits b n small.0 has)
+    (good_inputs G all c.answer_bits (b + length (registers c.ask_bits n)) small.1)
 
 -- each handshake of a port has what comes in, and few bits
-abbrev pub ShakesFit : Plan → Outer → Type 0
-ShakesFit p o =
+abbrev pub ShakesFit : (Function → Type 0) → Keep → Plan → Outer → Type 0
+ShakesFit G keep p o =
     (h : ℕ) (c : Contact) → slice_get o.contacts h ≡ Some c
-    → ((c.ask_bits ≤ 32) × (c.answer_bits ≤ 32)) × HasNets (cells_of p) IsCut (bits_shown o.side c) (arrives keep_all p (o.end_at h))
+    → ((c.ask_bits ≤ 32) × (c.answer_bits ≤ 32)) × HasNets (cells_of keep p) G (bits_shown o.side c) (arrives keep p (o.end_at h))
 
-result_fits : (p : Plan) → IsSound p → ShakesFit p (result_port p)
-result_fits p sound h c is =
+result_fits : (G : Function → Type 0) (keep : Keep) (p : Plan) → Arriving keep G → IsSound p → ShakesFit G keep p (result_port p)
+result_fits G keep p arriving sound h c is =
     let at : contact_at p (ResultEnd h) ≡ Some (turned_contact c) = ap turned_if is in
     let role = ground_serves p.outcome h c (done_ground p.outcome sound.done) is in (
       sound.narrow (ResultEnd h) (turned_contact c) at,
-      subst (λ (w : ℕ). HasNets (cells_of p) IsCut w (arrives keep_all p (ResultEnd h))) (bits_turned c role)
-          (arrives_nets p sound (ResultEnd h) (turned_contact c) at),
+      subst (λ (w : ℕ). HasNets (cells_of keep p) G w (arrives keep p (ResultEnd h))) (bits_turned c role)
+          (arrives_nets keep p G arriving sound (ResultEnd h) (turned_contact c) at),
     )
   where
     bits_turned : (d : Contact) → d.role ≡ Serve → bits_of (turned_contact d) (way_taken (turned_contact d).role) ≡ d.answer_bits
     bits_turned d role = ap (λ (r : Role). bits_of (turned_contact (record d { role = r })) (way_taken (turned_contact (record d { role = r })).role)) role
 
-import_fits : (p : Plan) → IsSound p → (i : ℕ) (t : Imported) → slice_get p.imports i ≡ Some t → ShakesFit p (import_port i t)
-import_fits p sound i t there h c is =
+import_fits : (G : Function → Type 0) (keep : Keep) (p : Plan) → Arriving keep G → IsSound p → (i : ℕ) (t : Imported)
+    → slice_get p.imports i ≡ Some t → ShakesFit G keep p (import_port i t)
+import_fits G keep p arriving sound i t there h c is =
     let at : contact_at p (ImportEnd i h) ≡ Some c = ap (λ (o : Option Imported). slice_get (contacts_of_import o) h) there ∙ is in
     let role = ground_serves t.ty h c (sound.grounds i t there) is in
     let bits : bits_of c (way_taken c.role) ≡ c.ask_bits = ap (λ (r : Role). bits_of c (way_taken r)) role in (
       sound.narrow (ImportEnd i h) c at,
-      subst (λ (w : ℕ). HasNets (cells_of p) IsCut w (arrives keep_all p (ImportEnd i h))) bits
-          (arrives_nets p sound (ImportEnd i h) c at),
+      subst (λ (w : ℕ). HasNets (cells_of keep p) G w (arrives keep p (ImportEnd i h))) bits
+          (arrives_nets keep p G arriving sound (ImportEnd i h) c at),
     )
 
 taken_found : (n : ℕ) (ts : List Imported) (i : ℕ) (o : Outer) → slice_get (taken_ports n ts) i ≡ Some o
@@ -120,54 +121,59 @@ taken_found n (u ∷ ts) (suc i) o is =
     let (t, found, same) = taken_found (suc n) ts i o is in
     (t, found, same ∙ ap (λ (m : ℕ). import_port m t) e)
 
-port_fits : (p : Plan) → IsSound p → (k : ℕ) (o : Outer) → slice_get (ports_of p) k ≡ Some o → ShakesFit p o
-port_fits p sound zero o is = subst (ShakesFit p) (same_Some (result_port p) o is) (result_fits p sound)
-port_fits p sound (suc i) o is =
+port_fits : (G : Function → Type 0) (keep : Keep) (p : Plan) → Arriving keep G → IsSound p → (k : ℕ) (o : Outer)
+    → slice_get (ports_of p) k ≡ Some o → ShakesFit G keep p o
+port_fits G keep p arriving sound zero o is = subst (ShakesFit G keep p) (same_Some (result_port p) o is) (result_fits G keep p arriving sound)
+port_fits G keep p arriving sound (suc i) o is =
     let (t, found, same) = taken_found 0 p.imports i o is in
     let same' : o ≡ import_port i t = same ∙ ap (λ (m : ℕ). import_port m t) (zero-add i) in
-    subst (ShakesFit p) (sym same') (import_fits p sound i t found)
+    subst (ShakesFit G keep p) (sym same') (import_fits G keep p arriving sound i t found)
 
-good_port : (p : Plan) → IsSound p → (k : ℕ) (o : Outer) → slice_get (ports_of p) k ≡ Some o
-    → Each (IsGood (cells_of p)) (port_start p k) (port_cells keep_all p k o)
-good_port p sound k o is =
-    let fits = port_fits p sound k o is in
-    each_of_blocks (IsGood (cells_of p)) (shake_cells keep_all p o) shake_size (shakes_length p o) (port_start p k) 0 o.contacts
+good_port : (G : Function → Type 0) (keep : Keep) (p : Plan) → Arriving keep G → IsSound p → (k : ℕ) (o : Outer) → slice_get (ports_of p) k ≡ Some o
+    → Each (IsGood G (cells_of keep p)) (port_start p k) (port_cells keep p k o)
+good_port G keep p arriving sound k o is =
+    let fits = port_fits G keep p arriving sound k o is in
+    each_of_blocks (IsGood G (cells_of keep p)) (shake_cells keep p o) shake_size (shakes_length keep p o) (port_start p k) 0 o.contacts
     (λ h c there.
     let at : slice_get o.contacts (0 + h) ≡ Some c = ap (slice_get o.contacts) (zero-add h) ∙ there in
     let (small, has) = fits (0 + h) c at in
-    good_side (cells_of p) o.side c (arrives keep_all p (o.end_at (0 + h))) _ small (any_nets (cells_of p) IsCut _ _ has))
+    good_side G (cells_of keep p) o.side c (arrives keep p (o.end_at (0 + h))) _ small (any_nets (cells_of keep p) G _ _ has))
 
 -- joints
 
-good_joint : (p : Plan) → IsSound p → (x : ℕ) (j : Joint) → slice_get p.joints x ≡ Some j
-    → Each (IsGood (cells_of p)) (joint_start keep_all p x) (joint_cells keep_all p x j)
-good_joint p sound x j is =
+good_way : (G : Function → Type 0) (all : List Cell) (kept : Bool) (w b : ℕ) (n : Nets) → w ≤ 32 → HasNets all IsAny w n
+    → Each (IsGood G all) b (registers_if kept w n)
+good_way G all true w b n small has = good_registers G all w b n small has
+good_way G all false w b n small has = each_none (IsGood G all) b
+
+good_joint : (G : Function → Type 0) (keep : Keep) (p : Plan) → IsSound p → (x : ℕ) (j : Joint) → slice_get p.joints x ≡ Some j
+    → Each (IsGood G (cells_of keep p)) (joint_start keep p x) (joint_cells keep p x j)
+good_joint G keep p sound x j is =
     let fits = joint_fits p [] p.joints x j sound.right is in
-    each_both (IsGood (cells_of p)) (joint_start keep_all p x) (registers (bits_if (contact_at p j.asking) Request) (leaves keep_all p j.asking))
-    (registers (bits_if (contact_at p j.asking) Answer) (leaves keep_all p j.serving))
+    each_both (IsGood G (cells_of keep p)) (joint_start keep p x) (way_cells keep p x j Request j.asking) (way_cells keep p x j Answer j.serving)
     (requests (fits.0) (fits.1) _ fits.2)
     (answers (fits.0) (fits.1) _ fits.2 fits.3)
   where
     requests : (q a b : ℕ) → contact_at p j.asking ≡ Some (asks q a)
-        → Each (IsGood (cells_of p)) b (registers (bits_if (contact_at p j.asking) Request) (leaves keep_all p j.asking))
+        → Each (IsGood G (cells_of keep p)) b (way_cells keep p x j Request j.asking)
     requests q a b asking =
-        let here = good_registers (cells_of p) q b (leaves keep_all p j.asking) (sound.narrow j.asking (asks q a) asking).0
-        (leaves_nets p sound j.asking (asks q a) asking) in
+        let here = good_way G (cells_of keep p) (keep x Request) q b (leaves keep p j.asking) (sound.narrow j.asking (asks q a) asking).0
+        (leaves_nets keep p sound j.asking (asks q a) asking) in
         let same = ap (λ (o : Option Contact). bits_if o Request) asking in
-        subst (λ (w : ℕ). Each (IsGood (cells_of p)) b (registers w (leaves keep_all p j.asking))) (sym same) here
+        subst (λ (w : ℕ). Each (IsGood G (cells_of keep p)) b (registers_if (keep x Request) w (leaves keep p j.asking))) (sym same) here
 
     answers : (q a b : ℕ) → contact_at p j.asking ≡ Some (asks q a) → contact_at p j.serving ≡ Some (serves q a)
-        → Each (IsGood (cells_of p)) b (registers (bits_if (contact_at p j.asking) Answer) (leaves keep_all p j.serving))
+        → Each (IsGood G (cells_of keep p)) b (way_cells keep p x j Answer j.serving)
     answers q a b asking serving =
-        let here = good_registers (cells_of p) a b (leaves keep_all p j.serving) (sound.narrow j.serving (serves q a) serving).1
-        (leaves_nets p sound j.serving (serves q a) serving) in
+        let here = good_way G (cells_of keep p) (keep x Answer) a b (leaves keep p j.serving) (sound.narrow j.serving (serves q a) serving).1
+        (leaves_nets keep p sound j.serving (serves q a) serving) in
         let same = ap (λ (o : Option Contact). bits_if o Answer) asking in
-        subst (λ (w : ℕ). Each (IsGood (cells_of p)) b (registers w (leaves keep_all p j.serving))) (sym same) here
+        subst (λ (w : ℕ). Each (IsGood G (cells_of keep p)) b (registers_if (keep x Answer) w (leaves keep p j.serving))) (sym same) here
 
 -- ends without a joint
 
-good_loose : (p : Plan) → IsSound p → (b n : ℕ) (e : End) → Each (IsGood (cells_of p)) b (loose_cells p n e)
-good_loose p sound b n e = good_nothing (cells_of p) (bits_taken (contact_at p e)) b (small (contact_at p e) refl)
+good_loose : (G : Function → Type 0) (keep : Keep) (p : Plan) → IsSound p → (b n : ℕ) (e : End) → Each (IsGood G (cells_of keep p)) b (loose_cells p n e)
+good_loose G keep p sound b n e = good_nothing G (cells_of keep p) (bits_taken (contact_at p e)) b (small (contact_at p e) refl)
   where
     few : (r : Role) (c : Contact) → (c.ask_bits ≤ 32) × (c.answer_bits ≤ 32) → bits_of c (way_taken r) ≤ 32
     few Serve c h = h.0
@@ -179,17 +185,17 @@ good_loose p sound b n e = good_nothing (cells_of p) (bits_taken (contact_at p e
 
 -- parts
 
--- what comes in at these handshakes is cut
-abbrev pub AllComeIn : List Cell → List Contact → Incoming → Type 0
-AllComeIn all cs i =
-    (h : ℕ) → h < length cs → IsNet all IsCut (i.pulse h) 1 × (0 < incoming_bits cs h → IsNet all IsCut (i.value h) (incoming_bits cs h))
+-- what comes in at these handshakes has such functions
+abbrev pub AllComeIn : (Function → Type 0) → List Cell → List Contact → Incoming → Type 0
+AllComeIn G all cs i =
+    (h : ℕ) → h < length cs → IsNet all G (i.pulse h) 1 × (0 < incoming_bits cs h → IsNet all G (i.value h) (incoming_bits cs h))
 
 pub is_there : {A : Type 0} (xs : List A) (h : ℕ) → h < length xs → (x : A) × (slice_get xs h ≡ Some x)
 is_there [] h l = absurd (omega (arith, l))
 is_there (x ∷ xs) zero l = (x, refl)
 is_there (x ∷ xs) (suc h) l = is_there xs h (omega (arith, l))
 
-in_bits : (cs : List Contact) (h : ℕ) (c : Contact) → slice_get cs h ≡ Some c → incoming_bits cs h ≡ bits_of c (way_taken c.role)
+pub in_bits : (cs : List Contact) (h : ℕ) (c : Contact) → slice_get cs h ≡ Some c → incoming_bits cs h ≡ bits_of c (way_taken c.role)
 in_bits [] h c is = absurd (none-some c is)
 in_bits (d ∷ cs) zero c is = ap (λ (x : Contact). bits_in x.role x) (same_Some d c is) ∙ by_role c.role c
   where
@@ -198,24 +204,24 @@ in_bits (d ∷ cs) zero c is = ap (λ (x : Contact). bits_in x.role x) (same_Som
     by_role Ask c = refl
 in_bits (d ∷ cs) (suc h) c is = in_bits cs h c is
 
-all_come : (p : Plan) → IsSound p → (i : ℕ) (k : Part) → slice_get p.parts i ≡ Some k
-    → AllComeIn (cells_of p) (part_contacts k) (incoming keep_all p i)
-all_come p sound i k there h l =
+all_come : (G : Function → Type 0) (keep : Keep) (p : Plan) → Arriving keep G → IsSound p → (i : ℕ) (k : Part) → slice_get p.parts i ≡ Some k
+    → AllComeIn G (cells_of keep p) (part_contacts k) (incoming keep p i)
+all_come G keep p arriving sound i k there h l =
     let (c, is) = is_there (part_contacts k) h l in
     let e : End = PartEnd i h in
     let at : contact_at p e ≡ Some c = ap (λ (o : Option Part). slice_get (contacts_of_part o) h) there ∙ is in
     let bits : ℕ = bits_of c (way_taken c.role) in
-    let nets : Nets = arrives keep_all p e in
-    let has = arrives_nets p sound e c at in
-    let pulse = subst (λ (o : Option Contact). IsNet (cells_of p) IsCut (known o nets.pulse) 1) (sym at) has.of_pulse in
-    let number : 0 < bits → IsNet (cells_of p) IsCut (known (contact_at p e) nets.number) bits =
-    subst (λ (o : Option Contact). 0 < bits → IsNet (cells_of p) IsCut (known o nets.number) bits) (sym at) has.of_number in
+    let nets : Nets = arrives keep p e in
+    let has = arrives_nets keep p G arriving sound e c at in
+    let pulse = subst (λ (o : Option Contact). IsNet (cells_of keep p) G (known o nets.pulse) 1) (sym at) has.of_pulse in
+    let number : 0 < bits → IsNet (cells_of keep p) G (known (contact_at p e) nets.number) bits =
+    subst (λ (o : Option Contact). 0 < bits → IsNet (cells_of keep p) G (known o nets.number) bits) (sym at) has.of_number in
     let same = in_bits (part_contacts k) h c is in
-    (pulse, subst (λ (w : ℕ). 0 < w → IsNet (cells_of p) IsCut (known (contact_at p e) nets.number) w) (sym same) number)
+    (pulse, subst (λ (w : ℕ). 0 < w → IsNet (cells_of keep p) G (known (contact_at p e) nets.number) w) (sym same) number)
 
-bits_come : (all : List Cell) (cs : List Contact) (i : Incoming) → AllComeIn all cs i → BitsComeIn cs i (widths_of all)
-bits_come all cs i come h l =
-    (net_width all IsCut (i.pulse h) 1 (come h l).0, λ some. net_width all IsCut (i.value h) (incoming_bits cs h) ((come h l).1 some))
+bits_come : (G : Function → Type 0) (all : List Cell) (cs : List Contact) (i : Incoming) → AllComeIn G all cs i → BitsComeIn cs i (widths_of all)
+bits_come G all cs i come h l =
+    (net_width all G (i.pulse h) 1 (come h l).0, λ some. net_width all G (i.value h) (incoming_bits cs h) ((come h l).1 some))
 
 have_bits : (all : List Cell) (b n : ℕ) (cells : List Cell) → StandAt all (b + n) cells → HaveBits (widths_of all) b n cells
 have_bits all b n [] stand = tt
@@ -227,17 +233,18 @@ have_bits all b n (c ∷ cs) stand =
           (λ k d h. let f : b + n + suc k ≡ b + suc n + k = omega arith in subst (λ (m : ℕ). slice_get all m ≡ Some d) f (stand (suc k) d h)),
     )
 
-goes_back : (all : List Cell) (cs : List Contact) (i : Incoming) (b : ℕ) (cells : List Cell) (m a : ℕ) → AllComeIn all cs i
+goes_back : (G : Function → Type 0) → ((f : Function) → IsCut f → G f)
+    → (all : List Cell) (cs : List Contact) (i : Incoming) (b : ℕ) (cells : List Cell) (m a : ℕ) → AllComeIn G all cs i
     → StandAt all b cells
-    → IsKnown cs i b cells m a → GoesBack all (b + m) a
-goes_back all cs i b cells m a come stand (inl (h, l, inl e)) =
+    → IsKnown cs i b cells m a → GoesBack G all (b + m) a
+goes_back G cut all cs i b cells m a come stand (inl (h, l, inl e)) =
     let net = (come h l).0 in (net.0, subst (λ (n : ℕ). slice_get all n ≡ Some net.0) (sym e) net.1, inl net.3)
-goes_back all cs i b cells m a come stand (inl (h, l, inr e)) =
+goes_back G cut all cs i b cells m a come stand (inl (h, l, inr e)) =
     let net = (come h l).1 e.0 in (net.0, subst (λ (n : ℕ). slice_get all n ≡ Some net.0) (sym e.1) net.1, inl net.3)
-goes_back all cs i b cells m a come stand (inr (k, d, e, at, inl low)) =
+goes_back G cut all cs i b cells m a come stand (inr (k, d, e, at, inl low)) =
     (d, subst (λ (n : ℕ). slice_get all n ≡ Some d) (sym e) (stand k d at), inr (omega (arith, e, low)))
-goes_back all cs i b cells m a come stand (inr (k, d, e, at, inr register)) =
-    (d, subst (λ (n : ℕ). slice_get all n ≡ Some d) (sym e) (stand k d at), inl (inl register))
+goes_back G cut all cs i b cells m a come stand (inr (k, d, e, at, inr register)) =
+    (d, subst (λ (n : ℕ). slice_get all n ≡ Some d) (sym e) (stand k d at), inl (cut d.gate (inl register)))
 
 all_then : (P Q : ℕ → Type 0) (xs : List ℕ) → ((x : ℕ) → P x → Q x) → AllByRecursion P xs → AllByRecursion Q xs
 all_then P Q [] f all = tt
@@ -248,7 +255,7 @@ all_at P [] k c all is = absurd (none-some c is)
 all_at P (d ∷ cells) zero c all is = subst P (same_Some d c is) all.0
 all_at P (d ∷ cells) (suc k) c all is = all_at P cells k c all.1 is
 
-pins_known : (cs : List Contact) (i : Incoming) (b : ℕ) (cells : List Cell) (n : ℕ) (rest : List Cell) (k : ℕ) (c : Cell)
+pub pins_known : (cs : List Contact) (i : Incoming) (b : ℕ) (cells : List Cell) (n : ℕ) (rest : List Cell) (k : ℕ) (c : Cell)
     → NameEarlier cs i b cells n rest
     → slice_get rest k ≡ Some c → AllByRecursion (IsKnown cs i b cells (reach_of c.gate (n + k) (length cells))) (pins c.gate)
 pins_known cs i b cells n [] k c order is = absurd (none-some c is)
@@ -262,7 +269,7 @@ pins_known cs i b cells n (d ∷ rest) (suc k) c order is =
     subst (λ (m : ℕ). AllByRecursion (IsKnown cs i b cells (reach_of c.gate m (length cells))) (pins c.gate)) e
     (pins_known cs i b cells (suc n) rest k c order.1 is)
 
-register_or : (f : Function) → IsRegister f ⊎ ((n size : ℕ) → reach_of f n size ≡ n)
+pub register_or : (f : Function) → IsRegister f ⊎ ((n size : ℕ) → reach_of f n size ≡ n)
 register_or (Reg a) = inl (a, refl)
 register_or Input = inr (λ n size. refl)
 register_or (Const k) = inr (λ n size. refl)
@@ -277,9 +284,10 @@ register_or (Eq a b) = inr (λ n size. refl)
 register_or (Less a b) = inr (λ n size. refl)
 register_or (Gate s a) = inr (λ n size. refl)
 
-good_gates : (all : List Cell) (k : Part) (b : ℕ) (i : Incoming) → GatesFit k (layout k) (outs_of k) → AllComeIn all (part_contacts k) i
-    → StandAt all b (layout k b i) → Each (IsGood all) b (layout k b i)
-good_gates all k b i fits come stand n c is =
+good_gates : (G : Function → Type 0) → ((f : Function) → IsCut f → G f)
+    → (all : List Cell) (k : Part) (b : ℕ) (i : Incoming) → GatesFit k (layout k) (outs_of k) → AllComeIn G all (part_contacts k) i
+    → StandAt all b (layout k b i) → Each (IsGood G all) b (layout k b i)
+good_gates G cut all k b i fits come stand n c is =
     let cells : List Cell = layout k b i in
     let cs : List Contact = part_contacts k in
     let e : b ≡ b + 0 = omega arith in
@@ -288,26 +296,28 @@ good_gates all k b i fits come stand n c is =
     record {
       exist =
           all_then (IsKnown cs i b cells (reach_of c.gate (0 + n) (length cells))) (λ a. a < length all) (pins c.gate)
-          (λ a h. let back = goes_back all cs i b cells (reach_of c.gate (0 + n) (length cells)) a come stand h in slice_get_within all a back.0 back.1)
+          (λ a h. let back = goes_back G cut all cs i b cells (reach_of c.gate (0 + n) (length cells)) a come stand h in slice_get_within all a back.0 back.1)
           known_pins;
-      fit = all_at (HasRightWidths (widths_of all)) cells n c (fits.widths b i (widths_of all) (bits_come all cs i come) bits) is;
+      fit = all_at (HasRightWidths (widths_of all)) cells n c (fits.widths b i (widths_of all) (bits_come G all cs i come) bits) is;
       order =
           elim (register_or c.gate) [
             | inl register ↦ inl register
             | inr reach ↦ inr
-                (all_then (IsKnown cs i b cells (reach_of c.gate (0 + n) (length cells))) (GoesBack all (b + n)) (pins c.gate)
+                (all_then (IsKnown cs i b cells (reach_of c.gate (0 + n) (length cells))) (GoesBack G all (b + n)) (pins c.gate)
                 (λ a h.
                 let same : reach_of c.gate (0 + n) (length cells) ≡ n = reach (0 + n) (length cells) ∙ zero-add n in
-                subst (λ (m : ℕ). GoesBack all (b + m) a) same (goes_back all cs i b cells (reach_of c.gate (0 + n) (length cells)) a come stand h))
+                subst (λ (m : ℕ). GoesBack G all (b + m) a) same (goes_back G cut all cs i b cells (reach_of c.gate (0 + n) (length cells)) a come stand h))
                 known_pins)
           ];
     }
 
-good_part : (p : Plan) → IsSound p → (i : ℕ) (k : Part) → slice_get p.parts i ≡ Some k
-    → Each (IsGood (cells_of p)) (part_start keep_all p i) (part_cells keep_all p i k)
-good_part p sound i k is =
-    good_gates (cells_of p) k (part_start keep_all p i) (incoming keep_all p i) (sound.gates i k is) (all_come p sound i k is) (part_stands p i k is)
+good_part : (G : Function → Type 0) (keep : Keep) (p : Plan) → Arriving keep G → IsSound p → (i : ℕ) (k : Part) → slice_get p.parts i ≡ Some k
+    → Each (IsGood G (cells_of keep p)) (part_start keep p i) (part_cells keep p i k)
+good_part G keep p arriving sound i k is =
+    good_gates G arriving.cut (cells_of keep p) k (part_start keep p i) (incoming keep p i)
+    (sound.gates i k is) (all_come G keep p arriving sound i k is) (part_stands keep p i k is)
 
--- all cells
-pub all_good : (p : Plan) → IsSound p → Each (IsGood (cells_of p)) 0 (cells_of p)
-all_good p sound = each_laid (IsGood (cells_of p)) p (good_port p sound) (good_joint p sound) (good_loose p sound) (good_part p sound)
+-- all cells, by what is known of what comes in
+pub all_good : (G : Function → Type 0) (keep : Keep) (p : Plan) → Arriving keep G → IsSound p → Each (IsGood G (cells_of keep p)) 0 (cells_of keep p)
+all_good G keep p arriving sound =
+    each_laid keep (IsGood G (cells_of keep p)) p (good_port G keep p arriving sound) (good_joint G keep p sound) (good_loose G keep p sound) (good_part G keep p arriving sound)

@@ -2,7 +2,7 @@
 use Rattle.std.specs.Prelude.{Option, None, Some, is_none, not, ◌&&◌, ◌||◌}
 use Rattle.std.proofs.Common.{◌≡◌, ℕ, zero, suc, ◌+◌, ◌≤◌, Bool, true, false, List, [], ◌∷◌, ◌++◌, length, refl, sym, ap, arith, ◌∙◌, map, take, slice_get}
 use Rattle.gos_netlist.specs.Nets.{Cell}
-use Rattle.gos_netlist.specs.Events.{Request}
+use Rattle.gos_netlist.specs.Events.{Request, Answer}
 use Rattle.gos_plan.specs.declared.kinds.Kind.{Kind}
 use Rattle.gos_plan.specs.declared.kinds.Kind.TheVariants as kinds
 use Rattle.gos_plan.specs.Kinds.{Part, Contact, part_contacts}
@@ -10,67 +10,76 @@ use Rattle.gos_plan.specs.Size.{shakes_of}
 use Rattle.gos_plan.specs.Plans.{End, Joint, Plan, contact_at, same_end, is_free}
 use Rattle.gos_plan.specs.Seen.{part_of}
 use Rattle.gos_plan.specs.Gates.{Incoming}
+use Rattle.gos_expand.specs.declared.arrivals.Origin.{Origin}
+use Rattle.gos_expand.specs.declared.arrivals.Origin.TheVariants.{Cells}
 use Rattle.gos_expand.specs.declared.arrivals.Arrivals.{Arrivals}
 use Rattle.gos_expand.specs.Gates.{layout, part_size}
 use Rattle.gos_expand.specs.inner.Dispatch.{gates_for, cells_in}
-use Rattle.gos_expand.specs.Blocks.{token_size, total}
-use Rattle.gos_expand.specs.Starts.{keep_all, bits_if, joint_size, loose_size}
+use Rattle.gos_expand.specs.Blocks.{total}
+use Rattle.gos_expand.specs.Starts.{Keep, way_size, joint_size, loose_size}
 use Rattle.gos_expand.proofs.BlockLemmas.{take_one}
-use Rattle.gos_expand.specs.inner.Arrivals.{arrival_if, AreAt, or_else, some_if, filled_if, Fills, start_by, start_by_joints, start_by_ends}
+use Rattle.gos_expand.proofs.PlaceLemmas.{length_first}
+use Rattle.gos_expand.specs.inner.Arrivals.{arrival_if, AreAt, or_else, some_if, filled_if, Fills, by_way, start_by, start_by_joints, start_by_ends}
 
-or_else_assoc : (a b c : Option ℕ) → or_else (or_else a b) c ≡ or_else a (or_else b c)
+pub or_else_assoc : (a b c : Option Origin) → or_else (or_else a b) c ≡ or_else a (or_else b c)
 or_else_assoc None b c = refl
 or_else_assoc (Some n) b c = refl
 
-or_else_none : (a : Option ℕ) → or_else a None ≡ a
+pub or_else_none : (a : Option Origin) → or_else a None ≡ a
 or_else_none None = refl
 or_else_none (Some n) = refl
 
--- a table with these starts is one with the same starts
-pub same_table : (p : Plan) (f g : End → Option ℕ) (table : Arrivals) → ((e : End) → f e ≡ g e) → AreAt p f table → AreAt p g table
-same_table p f g table same are e = are e ∙ ap (λ (s : Option ℕ). arrival_if s (contact_at p e)) (same e)
+-- a table with these origins is one with the same origins
+pub same_table : (p : Plan) (f g : End → Option Origin) (table : Arrivals) → ((e : End) → f e ≡ g e) → AreAt p f table → AreAt p g table
+same_table p f g table same are e = are e ∙ ap (λ (s : Option Origin). arrival_if s (contact_at p e)) (same e)
 
-filled_more : (b : Bool) (n : ℕ) (s : Option ℕ) (c : Option Contact) → filled_if b n (arrival_if s c) ≡ arrival_if (or_else s (some_if b n)) c
+filled_more : (b : Bool) (n : Origin) (s : Option Origin) (c : Option Contact) → filled_if b n (arrival_if s c) ≡ arrival_if (or_else s (some_if b n)) c
 filled_more b n s None = refl
 filled_more true n s (Some c) = refl
-filled_more false n s (Some c) = ap (λ (t : Option ℕ). arrival_if t (Some c)) (sym (or_else_none s))
+filled_more false n s (Some c) = ap (λ (t : Option Origin). arrival_if t (Some c)) (sym (or_else_none s))
 
--- one start more
-pub table_filled : (p : Plan) (f : End → Option ℕ) (e : End) (n : ℕ) (before after : Arrivals) → AreAt p f before → Fills e n before after
+-- one origin more
+pub table_filled : (p : Plan) (f : End → Option Origin) (e : End) (n : Origin) (before after : Arrivals) → AreAt p f before → Fills e n before after
     → AreAt p (λ d. or_else (f d) (some_if (same_end d e) n)) after
 table_filled p f e n before after are fills d =
     fills d ∙ (ap (filled_if (same_end d e) n) (are d) ∙ filled_more (same_end d e) n (f d) (contact_at p d))
 
 -- a joint's
-pub table_joined : (p : Plan) (f : End → Option ℕ) (j : Joint) (n request : ℕ) (first second third : Arrivals) → AreAt p f first
-    → request ≡ token_size (bits_if (contact_at p j.asking) Request)
-    → Fills j.asking (n + request) first second → Fills j.serving n second third
-    → AreAt p (λ e. or_else (f e) (start_by p n j e)) third
-table_joined p f j n request first second third are size asks serves e =
-    table_filled p (λ d. or_else (f d) (some_if (same_end d j.asking) (n + request))) j.serving n second third
-    (table_filled p f j.asking (n + request) first second are asks) serves e
-    ∙ (ap (λ (s : Option ℕ). arrival_if s (contact_at p e)) (or_else_assoc (f e) (some_if (same_end e j.asking) (n + request)) (some_if (same_end e j.serving) n))
-    ∙ ap (λ (m : ℕ). arrival_if (or_else (f e) (or_else (some_if (same_end e j.asking) (n + m)) (some_if (same_end e j.serving) n))) (contact_at p e)) size)
+pub table_joined : (keep : Keep) (p : Plan) (x : ℕ) (f : End → Option Origin) (j : Joint) (n : ℕ) (asks serves : Origin) (first second third : Arrivals)
+    → AreAt p f first → asks ≡ by_way (keep x Answer) (n + way_size keep p x j Request) j.serving → serves ≡ by_way (keep x Request) n j.asking
+    → Fills j.asking asks first second → Fills j.serving serves second third → AreAt p (λ e. or_else (f e) (start_by keep p x n j e)) third
+table_joined keep p x f j n asks serves first second third are asks_is serves_is fills_asks fills_serves e =
+    table_filled p (λ d. or_else (f d) (some_if (same_end d j.asking) asks)) j.serving serves second third
+    (table_filled p f j.asking asks first second are fills_asks) fills_serves e
+    ∙ (ap (λ (s : Option Origin). arrival_if s (contact_at p e)) (or_else_assoc (f e) (some_if (same_end e j.asking) asks) (some_if (same_end e j.serving) serves))
+    ∙ (λ i.
+    arrival_if (or_else (f e) (or_else (some_if (same_end e j.asking) (asks_is i)) (some_if (same_end e j.serving) (serves_is i)))) (contact_at p e)))
 
 -- the joints with one more
-pub joints_more : (p : Plan) (k n : ℕ) (js : List Joint) (j : Joint) (e : End)
-    → start_by_joints p n (js ++ j ∷ []) e ≡ or_else (start_by_joints p n js e) (start_by p (n + total (joint_size keep_all p) k js) j e)
-joints_more p k n [] j e = let here : n + 0 ≡ n = omega arith in rw here (or_else_none (start_by p n j e))
-joints_more p k n (x ∷ xs) j e =
-    let sum : n + joint_size keep_all p 0 x + total (joint_size keep_all p) (suc k) xs ≡ n + (joint_size keep_all p 0 x + total (joint_size keep_all p) (suc k) xs) = omega arith in
-    ap (or_else (start_by p n x e)) (joints_more p (suc k) (n + joint_size keep_all p 0 x) xs j e)
-    ∙ (sym (or_else_assoc (start_by p n x e) (start_by_joints p (n + joint_size keep_all p 0 x) xs e) _)
-    ∙ ap (λ (m : ℕ). or_else (or_else (start_by p n x e) (start_by_joints p (n + joint_size keep_all p 0 x) xs e)) (start_by p m j e)) sum)
+pub joints_more : (keep : Keep) (p : Plan) (k n : ℕ) (js : List Joint) (j : Joint) (e : End)
+    → start_by_joints keep p k n (js ++ j ∷ []) e
+    ≡ or_else (start_by_joints keep p k n js e) (start_by keep p (k + length js) (n + total (joint_size keep p) k js) j e)
+joints_more keep p k n [] j e =
+    let here : n + 0 ≡ n = omega arith in
+    let first : k + 0 ≡ k = omega arith in
+    rw (here, first) (or_else_none (start_by keep p k n j e))
+joints_more keep p k n (x ∷ xs) j e =
+    let sum : n + joint_size keep p k x + total (joint_size keep p) (suc k) xs ≡ n + (joint_size keep p k x + total (joint_size keep p) (suc k) xs) = omega arith in
+    let shift : suc k + length xs ≡ k + suc (length xs) = omega arith in
+    let rest : Option Origin = start_by_joints keep p (suc k) (n + joint_size keep p k x) xs e in
+    ap (or_else (start_by keep p k n x e)) (joints_more keep p (suc k) (n + joint_size keep p k x) xs j e)
+    ∙ (sym (or_else_assoc (start_by keep p k n x e) rest _)
+    ∙ (λ i. or_else (or_else (start_by keep p k n x e) rest) (start_by keep p (shift i) (sum i) j e)))
 
 -- the ends with one more
 pub ends_more : (p : Plan) (k n : ℕ) (ds : List End) (d e : End)
-    → start_by_ends p n (ds ++ d ∷ []) e ≡ or_else (start_by_ends p n ds e) (some_if (same_end e d) (n + total (loose_size p) k ds))
-ends_more p k n [] d e = let here : n + 0 ≡ n = omega arith in rw here (or_else_none (some_if (same_end e d) n))
+    → start_by_ends p n (ds ++ d ∷ []) e ≡ or_else (start_by_ends p n ds e) (some_if (same_end e d) (Cells (n + total (loose_size p) k ds)))
+ends_more p k n [] d e = let here : n + 0 ≡ n = omega arith in rw here (or_else_none (some_if (same_end e d) (Cells n)))
 ends_more p k n (x ∷ xs) d e =
     let sum : n + loose_size p 0 x + total (loose_size p) (suc k) xs ≡ n + (loose_size p 0 x + total (loose_size p) (suc k) xs) = omega arith in
-    ap (or_else (some_if (same_end e x) n)) (ends_more p (suc k) (n + loose_size p 0 x) xs d e)
-    ∙ (sym (or_else_assoc (some_if (same_end e x) n) (start_by_ends p (n + loose_size p 0 x) xs e) _)
-    ∙ ap (λ (m : ℕ). or_else (or_else (some_if (same_end e x) n) (start_by_ends p (n + loose_size p 0 x) xs e)) (some_if (same_end e d) m)) sum)
+    ap (or_else (some_if (same_end e x) (Cells n))) (ends_more p (suc k) (n + loose_size p 0 x) xs d e)
+    ∙ (sym (or_else_assoc (some_if (same_end e x) (Cells n)) (start_by_ends p (n + loose_size p 0 x) xs e) _)
+    ∙ ap (λ (m : ℕ). or_else (or_else (some_if (same_end e x) (Cells n)) (start_by_ends p (n + loose_size p 0 x) xs e)) (some_if (same_end e d) (Cells m))) sum)
 
 -- the cells of a part, whichever crate lays it out
 pub cells_for : (k : Kind) → cells_in (gates_for k) ≡ layout (part_of k)
@@ -82,16 +91,24 @@ size_for k n each =
     let nothing : Incoming = record { pulse = λ h. 0; value = λ h. 0 } in
     sym (each 0 nothing) ∙ ap (λ (f : ℕ → Incoming → List Cell). length (f 0 nothing)) (cells_for k)
 
--- the starts by the first joints, with one more
-pub joints_step : (p : Plan) (n i : ℕ) (js : List Joint) (j : Joint) (table : Arrivals) → slice_get js i ≡ Some j
-    → AreAt p (λ e. or_else (start_by_joints p n (take i js) e) (start_by p (n + total (joint_size keep_all p) 0 (take i js)) j e)) table
-    → AreAt p (start_by_joints p n (take (i + 1) js)) table
-joints_step p n i js j table there =
-    same_table p _ _ table (λ e. sym (ap (λ (ks : List Joint). start_by_joints p n ks e) (take_one i js j there) ∙ joints_more p 0 n (take i js) j e))
+-- the origins by the first joints, with one more
+pub joints_step : (keep : Keep) (p : Plan) (n i : ℕ) (js : List Joint) (j : Joint) (table : Arrivals) → slice_get js i ≡ Some j
+    → AreAt p (λ e. or_else (start_by_joints keep p 0 n (take i js) e) (start_by keep p i (n + total (joint_size keep p) 0 (take i js)) j e)) table
+    → AreAt p (start_by_joints keep p 0 n (take (i + 1) js)) table
+joints_step keep p n i js j table there =
+    let first = length_first i js j there in
+    let count : 0 + length (take i js) ≡ i = omega (arith, first) in
+    same_table p _ _ table
+    (λ e.
+    sym (ap (λ (ks : List Joint). start_by_joints keep p 0 n ks e) (take_one i js j there)
+    ∙ (joints_more keep p 0 n (take i js) j e
+    ∙ ap
+    (λ (m : ℕ). or_else (start_by_joints keep p 0 n (take i js) e) (start_by keep p m (n + total (joint_size keep p) 0 (take i js)) j e))
+    count)))
 
--- the starts by the first ends, with one more
-pub ends_step : (p : Plan) (f : End → Option ℕ) (n i : ℕ) (ds : List End) (d : End) (table : Arrivals) → slice_get ds i ≡ Some d
-    → AreAt p (λ e. or_else (or_else (f e) (start_by_ends p n (take i ds) e)) (some_if (same_end e d) (n + total (loose_size p) 0 (take i ds)))) table
+-- the origins by the first ends, with one more
+pub ends_step : (p : Plan) (f : End → Option Origin) (n i : ℕ) (ds : List End) (d : End) (table : Arrivals) → slice_get ds i ≡ Some d
+    → AreAt p (λ e. or_else (or_else (f e) (start_by_ends p n (take i ds) e)) (some_if (same_end e d) (Cells (n + total (loose_size p) 0 (take i ds))))) table
     → AreAt p (λ e. or_else (f e) (start_by_ends p n (take (i + 1) ds) e)) table
 ends_step p f n i ds d table there =
     same_table p _ _ table
@@ -120,12 +137,12 @@ shakes_within (suc i) [] = omega arith
 shakes_within (suc i) (k ∷ ks) = let rest = shakes_within i ks in omega (arith, rest)
 
 -- nothing begins by joints exactly where an end stands in none
-pub free_of_joints : (p : Plan) (n : ℕ) (js : List Joint) (e : End) → is_none (start_by_joints p n js e) ≡ is_free e js
-free_of_joints p n [] e = refl
-free_of_joints p n (j ∷ js) e =
-    by_tests (same_end e j.asking) (same_end e j.serving) _ n _ _ (free_of_joints p (n + joint_size keep_all p 0 j) js e)
+pub free_of_joints : (keep : Keep) (p : Plan) (x n : ℕ) (js : List Joint) (e : End) → is_none (start_by_joints keep p x n js e) ≡ is_free e js
+free_of_joints keep p x n [] e = refl
+free_of_joints keep p x n (j ∷ js) e =
+    by_tests (same_end e j.asking) (same_end e j.serving) _ _ _ _ (free_of_joints keep p (suc x) (n + joint_size keep p x j) js e)
   where
-    by_tests : (a b : Bool) (m n : ℕ) (rest : Option ℕ) (free : Bool) → is_none rest ≡ free
+    by_tests : (a b : Bool) (m n : Origin) (rest : Option Origin) (free : Bool) → is_none rest ≡ free
         → is_none (or_else (or_else (some_if a m) (some_if b n)) rest) ≡ not (a || b) && free
     by_tests true b m n rest free is = refl
     by_tests false true m n rest free is = refl

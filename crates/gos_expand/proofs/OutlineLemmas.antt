@@ -22,7 +22,7 @@ use Rattle.gos_plan.specs.Cycles.{end_of_label, out_of, in_of, outs_of, ins_of}
 use Rattle.gos_plan.specs.AnyOrder.{NonePasses, EndsDiffer}
 use Rattle.gos_plan.proofs.JointLemmas.{same_is, same_itself}
 use Rattle.gos_expand.specs.Blocks.{Nets, nets_on, total}
-use Rattle.gos_expand.specs.Starts.{keep_all, ports_of, taken_ports, port_start, ends_at, port_ends, bits_taken, shake_size}
+use Rattle.gos_expand.specs.Starts.{Keep, ports_of, taken_ports, port_start, ends_at, port_ends, bits_taken, shake_size}
 use Rattle.gos_expand.specs.Laid.{leaves, request_nets, answer_nets, laid_port, taken, laid}
 use Rattle.gos_expand.specs.Acceptance.{AreDifferent}
 use Rattle.gos_expand.specs.Facts.{bits_put, bits_out_at, bits_in_at, elements, occurs}
@@ -35,31 +35,31 @@ use Rattle.gos_expand.proofs.LabelLemmas.{answers, requests}
 use Rattle.gos_expand.proofs.OnceLemmas.{each_once, all_listed, number_is, import_there}
 
 -- ports one after another
-two_lists : (keep : Label → Bool) (f : Label → Element) (make : End → ℕ → Element) (v : Numbers) (bits : End → ℕ) (nets : End → Nets) (xs ys : List Label) (ds es : List End)
-    → map f (filter keep xs) ≡ elements make v bits nets ds → map f (filter keep ys) ≡ elements make v bits nets es
-    → map f (filter keep (xs ++ ys)) ≡ elements make v bits nets (ds ++ es)
-two_lists keep f make v bits nets xs ys ds es one two =
-    ap (map f) (filter-append keep xs ys)
-    ∙ (map-append f (filter keep xs) (filter keep ys) ∙ ((λ i. one i ++ two i) ∙ sym (elements-append make v bits nets ds es)))
+two_lists : (sort : Label → Bool) (f : Label → Element) (make : End → ℕ → Element) (v : Numbers) (bits : End → ℕ) (nets : End → Nets) (xs ys : List Label) (ds es : List End)
+    → map f (filter sort xs) ≡ elements make v bits nets ds → map f (filter sort ys) ≡ elements make v bits nets es
+    → map f (filter sort (xs ++ ys)) ≡ elements make v bits nets (ds ++ es)
+two_lists sort f make v bits nets xs ys ds es one two =
+    ap (map f) (filter-append sort xs ys)
+    ∙ (map-append f (filter sort xs) (filter sort ys) ∙ ((λ i. one i ++ two i) ∙ sym (elements-append make v bits nets ds es)))
 
-taken_list : (p : Plan) (keep : Label → Bool) (f : Label → Element) (make : End → ℕ → Element) (v : Numbers) (bits : End → ℕ) (nets : End → Nets) (n : ℕ) (is : List Imported)
+taken_list : (p : Plan) (sort : Label → Bool) (f : Label → Element) (make : End → ℕ → Element) (v : Numbers) (bits : End → ℕ) (nets : End → Nets) (n : ℕ) (is : List Imported)
     → ((m j : ℕ) (t : Imported) → j ≡ n + m → slice_get is m ≡ Some t
-    → map f (filter keep (port_pulses v (laid_port p (suc j) t.name Take t.ty))) ≡ elements make v bits nets (ends_at (ImportEnd j) 0 (contacts_of t.ty)))
-    → map f (filter keep (pulses (taken p (suc n) is) v)) ≡ elements make v bits nets (port_ends (taken_ports n is))
-taken_list p keep f make v bits nets n [] each = refl
-taken_list p keep f make v bits nets n (t ∷ is) each =
-    two_lists keep f make v bits nets (port_pulses v (laid_port p (suc n) t.name Take t.ty)) (pulses (taken p (suc (suc n)) is) v)
+    → map f (filter sort (port_pulses v (laid_port p (suc j) t.name Take t.ty))) ≡ elements make v bits nets (ends_at (ImportEnd j) 0 (contacts_of t.ty)))
+    → map f (filter sort (pulses (taken p (suc n) is) v)) ≡ elements make v bits nets (port_ends (taken_ports n is))
+taken_list p sort f make v bits nets n [] each = refl
+taken_list p sort f make v bits nets n (t ∷ is) each =
+    two_lists sort f make v bits nets (port_pulses v (laid_port p (suc n) t.name Take t.ty)) (pulses (taken p (suc (suc n)) is) v)
     (ends_at (ImportEnd n) 0 (contacts_of t.ty)) (port_ends (taken_ports (suc n) is)) (each 0 n t (omega arith) refl)
-    (taken_list p keep f make v bits nets (suc n) is (λ m j x e there. each (suc m) j x (omega (arith, e)) there))
+    (taken_list p sort f make v bits nets (suc n) is (λ m j x e there. each (suc m) j x (omega (arith, e)) there))
 
-all_list : (p : Plan) (root : List ℕ) (keep : Label → Bool) (f : Label → Element) (make : End → ℕ → Element) (v : Numbers) (bits : End → ℕ) (nets : End → Nets)
-    → map f (filter keep (port_pulses v (laid_port p 0 root Give p.outcome))) ≡ elements make v bits nets (ends_at ResultEnd 0 (contacts_of p.outcome))
+all_list : (keep : Keep) (p : Plan) (root : List ℕ) (sort : Label → Bool) (f : Label → Element) (make : End → ℕ → Element) (v : Numbers) (bits : End → ℕ) (nets : End → Nets)
+    → map f (filter sort (port_pulses v (laid_port p 0 root Give p.outcome))) ≡ elements make v bits nets (ends_at ResultEnd 0 (contacts_of p.outcome))
     → ((m j : ℕ) (t : Imported) → j ≡ 0 + m → slice_get p.imports m ≡ Some t
-    → map f (filter keep (port_pulses v (laid_port p (suc j) t.name Take t.ty))) ≡ elements make v bits nets (ends_at (ImportEnd j) 0 (contacts_of t.ty)))
-    → map f (filter keep (pulses (laid keep_all p root).ports v)) ≡ elements make v bits nets (port_ends (ports_of p))
-all_list p root keep f make v bits nets result each =
-    two_lists keep f make v bits nets (port_pulses v (laid_port p 0 root Give p.outcome)) (pulses (taken p 1 p.imports) v)
-    (ends_at ResultEnd 0 (contacts_of p.outcome)) (port_ends (taken_ports 0 p.imports)) result (taken_list p keep f make v bits nets 0 p.imports each)
+    → map f (filter sort (port_pulses v (laid_port p (suc j) t.name Take t.ty))) ≡ elements make v bits nets (ends_at (ImportEnd j) 0 (contacts_of t.ty)))
+    → map f (filter sort (pulses (laid keep p root).ports v)) ≡ elements make v bits nets (port_ends (ports_of p))
+all_list keep p root sort f make v bits nets result each =
+    two_lists sort f make v bits nets (port_pulses v (laid_port p 0 root Give p.outcome)) (pulses (taken p 1 p.imports) v)
+    (ends_at ResultEnd 0 (contacts_of p.outcome)) (port_ends (taken_ports 0 p.imports)) result (taken_list p sort f make v bits nets 0 p.imports each)
 
 not_not : (b : Bool) → not (not b) ≡ b
 not_not true = refl
@@ -84,10 +84,10 @@ import_bits p sound i h t c there is =
 at_place : (p : Plan) (m j : ℕ) (t : Imported) → j ≡ 0 + m → slice_get p.imports m ≡ Some t → slice_get p.imports j ≡ Some t
 at_place p m j t e there = let same : m ≡ j = omega (arith, e) in subst (λ (x : ℕ). slice_get p.imports x ≡ Some t) same there
 
-pub outs_are : (p : Plan) (root : List ℕ) (v : Numbers) → IsSound p → AreDifferent (root ∷ map (λ (x : Imported). x.name) p.imports)
-    → outs_of p (outputs (laid keep_all p root) v) ≡ elements Out v (bits_out_at p) (shows p) (port_ends (ports_of p))
-outs_are p root v sound differ =
-    all_list p root is_output (out_of p) Out v (bits_out_at p) (shows p)
+pub outs_are : (keep : Keep) (p : Plan) (root : List ℕ) (v : Numbers) → IsSound p → AreDifferent (root ∷ map (λ (x : Imported). x.name) p.imports)
+    → outs_of p (outputs (laid keep p root) v) ≡ elements Out v (bits_out_at p) (shows p) (port_ends (ports_of p))
+outs_are keep p root v sound differ =
+    all_list keep p root is_output (out_of p) Out v (bits_out_at p) (shows p)
     (answers is_output (out_of p) Out Given ResultEnd v (bits_out_at p) (shows p) (port_start p 0) p.outcome
     (record { kept = λ m x. refl; made = λ m x. refl }) (done_ground p.outcome sound.done) sound.done_widths (λ h c is. ((result_bits p sound h c is).0, refl)))
     (λ m j t e there.
@@ -97,15 +97,15 @@ outs_are p root v sound differ =
     (sound.grounds j t here) (sound.ground_widths j t here)
     (λ h c is. ((import_bits p sound j h t c here is).0, ap (λ (f : Option Imported). request_nets (port_start p (suc j)) (contacts_of_import f) h) here)))
 
-pub ins_are : (p : Plan) (root : List ℕ) (v : Numbers) → IsSound p → AreDifferent (root ∷ map (λ (x : Imported). x.name) p.imports)
-    → ins_of p (inputs (laid keep_all p root) v) ≡ elements In v (bits_in_at p) (leaves keep_all p) (port_ends (ports_of p))
-ins_are p root v sound differ =
-    all_list p root (λ l. not (is_output l)) (in_of p) In v (bits_in_at p) (leaves keep_all p)
-    (requests (λ l. not (is_output l)) (in_of p) In Given ResultEnd v (bits_in_at p) (leaves keep_all p) (port_start p 0) p.outcome
+pub ins_are : (keep : Keep) (p : Plan) (root : List ℕ) (v : Numbers) → IsSound p → AreDifferent (root ∷ map (λ (x : Imported). x.name) p.imports)
+    → ins_of p (inputs (laid keep p root) v) ≡ elements In v (bits_in_at p) (leaves keep p) (port_ends (ports_of p))
+ins_are keep p root v sound differ =
+    all_list keep p root (λ l. not (is_output l)) (in_of p) In v (bits_in_at p) (leaves keep p)
+    (requests (λ l. not (is_output l)) (in_of p) In Given ResultEnd v (bits_in_at p) (leaves keep p) (port_start p 0) p.outcome
     (record { kept = λ m x. refl; made = λ m x. refl }) (done_ground p.outcome sound.done) sound.done_widths (λ h c is. ((result_bits p sound h c is).1, refl)))
     (λ m j t e there.
     let here = at_place p m j t e there in
-    answers (λ l. not (is_output l)) (in_of p) In (Taken t.name) (ImportEnd j) v (bits_in_at p) (leaves keep_all p) (port_start p (suc j)) t.ty
+    answers (λ l. not (is_output l)) (in_of p) In (Taken t.name) (ImportEnd j) v (bits_in_at p) (leaves keep p) (port_start p (suc j)) t.ty
     (record { kept = λ a x. not_not (is_answer a); made = λ a x. ap (λ (y : ℕ). In (ImportEnd y (shake_of a)) x) (number_is root j p.imports t differ here) })
     (sound.grounds j t here) (sound.ground_widths j t here)
     (λ h c is. ((import_bits p sound j h t c here is).1, ap (λ (f : Option Imported). answer_nets (port_start p (suc j)) (contacts_of_import f) h) here)))
@@ -172,17 +172,17 @@ few_ins : (p : Plan) (v : Numbers) (bits : End → ℕ) (nets : End → Nets) (e
 few_ins p v bits nets e =
     subst (λ (n : ℕ). n ≤ 1) (sym (ins_as_outs e v bits nets (port_ends (ports_of p))).0) (few_outs p v bits nets e)
 
-pub outs_are_apart : (p : Plan) (root : List ℕ) (v : Numbers) → IsSound p → AreDifferent (root ∷ map (λ (x : Imported). x.name) p.imports)
-    → EndsDiffer p (outputs (laid keep_all p root) v)
-outs_are_apart p root v sound differ =
-    outs_differ p (outputs (laid keep_all p root) v)
-    (λ e. subst (λ (l : List Element). outs_at e l ≤ 1) (sym (outs_are p root v sound differ)) (few_outs p v (bits_out_at p) (shows p) e))
+pub outs_are_apart : (keep : Keep) (p : Plan) (root : List ℕ) (v : Numbers) → IsSound p → AreDifferent (root ∷ map (λ (x : Imported). x.name) p.imports)
+    → EndsDiffer p (outputs (laid keep p root) v)
+outs_are_apart keep p root v sound differ =
+    outs_differ p (outputs (laid keep p root) v)
+    (λ e. subst (λ (l : List Element). outs_at e l ≤ 1) (sym (outs_are keep p root v sound differ)) (few_outs p v (bits_out_at p) (shows p) e))
 
-pub ins_are_apart : (p : Plan) (root : List ℕ) (v : Numbers) → IsSound p → AreDifferent (root ∷ map (λ (x : Imported). x.name) p.imports)
-    → EndsDiffer p (inputs (laid keep_all p root) v)
-ins_are_apart p root v sound differ =
-    ins_differ p (inputs (laid keep_all p root) v)
-    (λ e. subst (λ (l : List Element). ins_at e l ≤ 1) (sym (ins_are p root v sound differ)) (few_ins p v (bits_in_at p) (leaves keep_all p) e))
+pub ins_are_apart : (keep : Keep) (p : Plan) (root : List ℕ) (v : Numbers) → IsSound p → AreDifferent (root ∷ map (λ (x : Imported). x.name) p.imports)
+    → EndsDiffer p (inputs (laid keep p root) v)
+ins_are_apart keep p root v sound differ =
+    ins_differ p (inputs (laid keep p root) v)
+    (λ e. subst (λ (l : List Element). ins_at e l ≤ 1) (sym (ins_are keep p root v sound differ)) (few_ins p v (bits_in_at p) (leaves keep p) e))
 
 -- an answer at an import has no number without its pulse
 quiet_answer : (name : List ℕ) (s h : ℕ) (t : Type') (c : Contact) (ins : Numbers) → IsGround t → HasWidths t
@@ -226,22 +226,22 @@ no_number (Var w) h c done is = absurd done
 no_number (Pair a b) h c done is = absurd done
 no_number (Fun a b) h c done is = absurd done
 
-pub quiet_input : (p : Plan) (root : List ℕ) (ins : Numbers) (e : End) (c : Contact) → IsSound p → IsQuiet (laid keep_all p root).ports ins → contact_at p e ≡ Some c
-    → 0 < bits_put (Some c) → at ins (leaves keep_all p e).pulse ≡ 0 → IsPortEnd e → at ins (leaves keep_all p e).number ≡ 0
-quiet_input p root ins (PartEnd i h) c sound quiet there some none port = absurd port
-quiet_input p root ins (ResultEnd h) c sound quiet there some none port =
+pub quiet_input : (keep : Keep) (p : Plan) (root : List ℕ) (ins : Numbers) (e : End) (c : Contact) → IsSound p → IsQuiet (laid keep p root).ports ins → contact_at p e ≡ Some c
+    → 0 < bits_put (Some c) → at ins (leaves keep p e).pulse ≡ 0 → IsPortEnd e → at ins (leaves keep p e).number ≡ 0
+quiet_input keep p root ins (PartEnd i h) c sound quiet there some none port = absurd port
+quiet_input keep p root ins (ResultEnd h) c sound quiet there some none port =
     let back = turned_back (slice_get (contacts_of p.outcome) h) c there in
     let bits = (result_bits p sound h back.0 back.1).1 in
     let zero_bits = no_number p.outcome h back.0 sound.done back.1 in
     let same : bits_in_at p (ResultEnd h) ≡ bits_put (Some c) = ap bits_put there in
     absurd (omega (arith, bits, zero_bits, same, some))
-quiet_input p root ins (ImportEnd i h) c sound quiet there some none port =
+quiet_input keep p root ins (ImportEnd i h) c sound quiet there some none port =
     let of_import = import_there p i h c there in
     let t : Imported = of_import.0 in
     let bits = (import_bits p sound i h t c of_import.1 of_import.2).1 in
     let same : bits_in_at p (ImportEnd i h) ≡ bits_put (Some c) = ap bits_put there in
     let wide : 0 < c.answer_bits = omega (arith, bits, same, some) in
-    let nets : leaves keep_all p (ImportEnd i h) ≡ answer_nets (port_start p (suc i)) (contacts_of t.ty) h =
+    let nets : leaves keep p (ImportEnd i h) ≡ answer_nets (port_start p (suc i)) (contacts_of t.ty) h =
     ap (λ (f : Option Imported). answer_nets (port_start p (suc i)) (contacts_of_import f) h) of_import.1 in
     let here = quiet_taken p 0 p.imports ins i i t quiet.1 (omega arith) of_import.1 in
     subst (λ (y : Nets). at ins y.pulse ≡ 0 → at ins y.number ≡ 0) (sym nets)

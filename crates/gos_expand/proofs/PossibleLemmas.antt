@@ -1,5 +1,5 @@
--- The list of a cycle is possible, and orderly to its end, or it is broken: an initial part of it is possible and out
--- of order.
+-- The outputs of a cycle are possible and orderly, its inputs are possible, and so are firings by tokens that lie there: these
+-- are orderly to their end, or an initial part of them is possible and out of order.
 use Rattle.std.specs.Prelude.{Option, None, ◌&&◌}
 use Rattle.std.proofs.Common.{◌≡◌, inl, inr, ◌⊎◌, ℕ, zero, suc, ◌+◌, ◌^◌, ◌≤◌, ◌<◌, Bool, true, false, List, [], ◌∷◌, ◌++◌, Some, slice_get, length, refl, sym, ◌∙◌, ap, subst, arith, nat_eq, append_assoc, if◌then◌else◌}
 use Rattle.gos_types.specs.declared.shakes.Role.{Role}
@@ -7,26 +7,27 @@ use Rattle.gos_types.specs.declared.shakes.Role.TheVariants.{Serve, Ask}
 use Rattle.gos_netlist.specs.Nets.{Netlist}
 use Rattle.gos_netlist.specs.Events.{Direction}
 use Rattle.gos_netlist.specs.Settling.{Numbers, at}
-use Rattle.gos_plan.specs.Kinds.{Part, Contact, part_contacts}
+use Rattle.gos_plan.specs.Kinds.{Contact}
 use Rattle.gos_plan.specs.Firing.{Slot, Req, Ans, same_slot}
-use Rattle.gos_plan.specs.Plans.{End, PartEnd, ImportEnd, ResultEnd, Plan, contact_at, same_end, contacts_of_part}
+use Rattle.gos_plan.specs.Plans.{End, PartEnd, ImportEnd, ResultEnd, Plan, IsRight, contact_at, same_end}
 use Rattle.gos_plan.specs.Tokens.{Tokens, Element, Fire, Out, In, IsPortEnd, places_of, same_way, with_place, with_held, held_at, token_at, with_token, bits_of, way_taken, way_put, way_of, end_of, shake_of, fired, Does, Passes, Runs}
 use Rattle.gos_plan.specs.Orderly.{Open, after_taken, ComesInOrder, AllWelcome, OrderlyFrom}
-use Rattle.gos_plan.specs.Gates.{slot_in, pulse_in}
+use Rattle.gos_plan.specs.Gates.{slot_in}
 use Rattle.gos_plan.specs.Law.{times}
 use Rattle.gos_plan.specs.Projection.{firings_of, TakesValues}
 use Rattle.gos_plan.specs.Cycles.{PartFiring, fires_of}
 use Rattle.gos_plan.proofs.JointLemmas.{same_itself}
-use Rattle.gos_plan.proofs.DecidedLemmas.{order_is_decided, one_state, lists_are_decided, orderly_is_possible}
+use Rattle.gos_plan.proofs.DecidedLemmas.{order_is_decided, one_state, orderly_is_possible}
 use Rattle.gos_expand.specs.Blocks.{Nets}
-use Rattle.gos_expand.specs.Starts.{ports_of, port_ends, bits_taken}
-use Rattle.gos_expand.specs.Facts.{Places, number_by, target, incoming_at, elements, bits_put, bits_out_at, bits_in_at, shown_elements, given_elements, occurs, PlanFacts}
+use Rattle.gos_expand.specs.Starts.{Keep, ports_of, port_ends, bits_taken}
+use Rattle.gos_expand.specs.Facts.{Places, number_by, target, elements, bits_put, bits_out_at, bits_in_at, shown_elements, given_elements, occurs, PlanFacts}
 use Rattle.gos_plan.specs.Accounts.{number, outs_at, taken_at, slot_at}
 use Rattle.gos_expand.proofs.TallyLemmas.{times-append, firings-append, itself}
 use Rattle.gos_expand.proofs.ChainLemmas.{orderly-append, never_whole, runs-append, welcome_after, takes-append}
-use Rattle.gos_expand.proofs.StandingLemmas.{Now, Taking, taking, values, small_count, lies_at}
-use Rattle.gos_expand.proofs.DueLemmas.{still_there, pulse_shape, Due, due_at_part, due_at_port}
-use Rattle.gos_expand.proofs.PulseLemmas.{made_firings, fires-append, firings_are, AllReady, all_ready, slot_count, elements-append, occurs-append, no_firings_out, no_firings_in, no_values_out, no_values_in}
+use Rattle.gos_expand.proofs.StandingLemmas.{Led, Now, values, lies_at}
+use Rattle.gos_expand.proofs.DueLemmas.{still_there, Due, due_at_port}
+use Rattle.gos_expand.proofs.ScheduleLemmas.{fires-append, firings_joined, EachFiring}
+use Rattle.gos_expand.proofs.PulseLemmas.{elements-append, occurs-append, no_firings_out, no_firings_in, no_values_out}
 
 -- a token less leaves none that waits in vain
 fewer_at : (p : Plan) (t : Tokens) (way : Direction) (f : Option End) → AllWelcome p t → AllWelcome p (with_held way f None t)
@@ -61,15 +62,15 @@ no_out_before e v bits nets (d ∷ ds) h = by_tests (nat_eq (at v (nets d).pulse
     by_tests false false t h go = go h
 
 -- an output that is shown, after the outputs of other ends
-out_step : (p : Plan) (net : Netlist) (n : Places) (v regs after : Numbers) (o u : Open) (s t : Tokens) (xs : List Element) (e : End) (c : Contact)
-    → Now p net n v regs after o s → OrderlyFrom p xs o s u t → ((i : ℕ) → TakesValues p i (values p n v i) xs s) → IsPortEnd e → contact_at p e ≡ Some c
+out_step : (keep : Keep) (p : Plan) (net : Netlist) (n : Places) (v regs after : Numbers) (o u : Open) (s t : Tokens) (xs : List Element) (e : End) (c : Contact)
+    → Now keep p net n v regs after o s → OrderlyFrom p xs o s u t → ((i : ℕ) → TakesValues p i (values p n v i) xs s) → IsPortEnd e → contact_at p e ≡ Some c
     → at v (n.shows e).pulse ≡ 1 → outs_at e xs ≡ 0
     → (m : Open) × (w : Tokens) × OrderlyFrom p (Out e (number_by v (bits_out_at p e) (n.shows e)) ∷ []) u t m w
-out_step p net n v regs after o u s t xs e c now list takes port there pulse none =
-    let due : Due p s e c (number_by v (bits_taken (Some c)) (n.shows e)) = due_at_port p net n v regs after o s e c now port there pulse in
+out_step keep p net n v regs after o u s t xs e c now list takes port there pulse none =
+    let due : Due p s e c (number_by v (bits_taken (Some c)) (n.shows e)) = due_at_port keep p net n v regs after o s e c now port there pulse in
     let way : Direction = way_taken c.role in
     let untaken : taken_at way (target due.at_end.joint way) xs ≡ 0 = ap (λ (d : End). taken_at way d xs) (sym due.at_end.is_target) ∙ (taken_port xs way e port ∙ none) in
-    let lies = still_there p net n v regs after o u s t xs due.at_end.index due.at_end.joint way now list takes due.at_end.there untaken due.one in
+    let lies = still_there p n v o u s t xs due.at_end.index due.at_end.joint way now.right now.led list takes due.at_end.there untaken due.one in
     let x : ℕ = number_by v (bits_out_at p e) (n.shows e) in
     let is_x : number (s.in_place way due.at_end.joint.asking) ≡ x = due.is ∙ ap (λ (f : Option Contact). number_by v (bits_taken f) (n.shows e)) (sym there) in
     let token : token_at p t e way ≡ Some x = lies_at p t e c due.at_end ∙ (lies ∙ ap Some is_x) in
@@ -94,8 +95,8 @@ pub record Listed (p : Plan) (e : End) (before : List End) : Type 0 where
   pub there : contact_at p e ≡ Some contact
   pub new : occurs e before ≡ 0
 
-pub listed_here : (p : Plan) (n : Places) (before es : List End) (e : End) → PlanFacts p n → before ++ (e ∷ es) ≡ port_ends (ports_of p) → Listed p e before
-listed_here p n before es e facts all =
+listed_here : (keep : Keep) (p : Plan) (n : Places) (before es : List End) (e : End) → PlanFacts keep p n → before ++ (e ∷ es) ≡ port_ends (ports_of p) → Listed p e before
+listed_here keep p n before es e facts all =
     let counted : occurs e (port_ends (ports_of p)) ≡ occurs e before + suc (occurs e es) =
     ap (occurs e) (sym all) ∙ (occurs-append e before (e ∷ es) ∙ rw (same_itself e) refl) in
     let is = facts.listed e (omega (arith, counted)) in
@@ -105,16 +106,16 @@ listed_here p n before es e facts all =
 abbrev shown_of : Plan → Places → Numbers → List End → List Element
 shown_of p n v es = elements Out v (bits_out_at p) n.shows es
 
-outs_go : (p : Plan) (net : Netlist) (n : Places) (v regs after : Numbers) (o u : Open) (s t : Tokens) (before es : List End)
-    → Now p net n v regs after o s → before ++ es ≡ port_ends (ports_of p) → OrderlyFrom p (shown_of p n v before) o s u t
+pub outs_go : (keep : Keep) (p : Plan) (net : Netlist) (n : Places) (v regs after : Numbers) (o u : Open) (s t : Tokens) (before es : List End)
+    → Now keep p net n v regs after o s → before ++ es ≡ port_ends (ports_of p) → OrderlyFrom p (shown_of p n v before) o s u t
     → (m : Open) × (w : Tokens) × OrderlyFrom p (shown_of p n v es) u t m w
-outs_go p net n v regs after o u s t before [] now all list = (u, t, (refl, refl))
-outs_go p net n v regs after o u s t before (e ∷ es) now all list =
+outs_go keep p net n v regs after o u s t before [] now all list = (u, t, (refl, refl))
+outs_go keep p net n v regs after o u s t before (e ∷ es) now all list =
     by_test (nat_eq (at v (n.shows e).pulse) 1) refl
-    (λ m w so_far. outs_go p net n v regs after o m s w (before ++ (e ∷ [])) es now (append_assoc before (e ∷ []) es ∙ all) so_far)
+    (λ m w so_far. outs_go keep p net n v regs after o m s w (before ++ (e ∷ [])) es now (append_assoc before (e ∷ []) es ∙ all) so_far)
   where
     is : Listed p e before
-    is = listed_here p n before es e now.plan_facts all
+    is = listed_here keep p n before es e now.plan_facts all
 
     more : (m : Open) (w : Tokens) → OrderlyFrom p (shown_of p n v (e ∷ [])) u t m w → OrderlyFrom p (shown_of p n v (before ++ (e ∷ []))) o s m w
     more m w one =
@@ -128,7 +129,7 @@ outs_go p net n v regs after o u s t before (e ∷ es) now all list =
     by_test true h go =
         let pulse : at v (n.shows e).pulse ≡ 1 = grind (arith, h) in
         let step =
-        out_step p net n v regs after o u s t (shown_of p n v before) e is.contact now list (λ i. no_values_out p i (values p n v i) v (bits_out_at p) n.shows before s)
+        out_step keep p net n v regs after o u s t (shown_of p n v before) e is.contact now list (λ i. no_values_out p i (values p n v i) v (bits_out_at p) n.shows before s)
         is.port is.there pulse (no_out_before e v (bits_out_at p) n.shows before is.new) in
         let rest = go step.0 step.1 (more step.0 step.1 (rw h step.2)) in (
           rest.0,
@@ -142,14 +143,14 @@ number_small : (v : Numbers) (w : ℕ) (nets : Nets) → (0 < w → at v nets.nu
 number_small v zero nets small = omega arith
 number_small v (suc w) nets small = small (omega arith)
 
-ins_go : (p : Plan) (net : Netlist) (n : Places) (v regs after : Numbers) (o : Open) (s t : Tokens) (before es : List End)
-    → Now p net n v regs after o s → before ++ es ≡ port_ends (ports_of p) → (w : Tokens) × Runs p (elements In v (bits_in_at p) n.leaves es) t w
-ins_go p net n v regs after o s t before [] now all = (t, refl)
-ins_go p net n v regs after o s t before (e ∷ es) now all =
-    by_test (nat_eq (at v (n.leaves e).pulse) 1) (λ w. ins_go p net n v regs after o s w (before ++ (e ∷ [])) es now (append_assoc before (e ∷ []) es ∙ all))
+pub ins_go : (keep : Keep) (p : Plan) (net : Netlist) (n : Places) (v regs after : Numbers) (o : Open) (s t : Tokens) (before es : List End)
+    → Now keep p net n v regs after o s → before ++ es ≡ port_ends (ports_of p) → (w : Tokens) × Runs p (elements In v (bits_in_at p) n.leaves es) t w
+ins_go keep p net n v regs after o s t before [] now all = (t, refl)
+ins_go keep p net n v regs after o s t before (e ∷ es) now all =
+    by_test (nat_eq (at v (n.leaves e).pulse) 1) (λ w. ins_go keep p net n v regs after o s w (before ++ (e ∷ [])) es now (append_assoc before (e ∷ []) es ∙ all))
   where
     is : Listed p e before
-    is = listed_here p n before es e now.plan_facts all
+    is = listed_here keep p n before es e now.plan_facts all
 
     x : ℕ
     x = number_by v (bits_in_at p e) (n.leaves e)
@@ -172,46 +173,20 @@ ins_go p net n v regs after o s t before (e ∷ es) now all =
     by_test false go = go t
 
 -- a list of handshakes has one at each place within it
-there_is : (cs : List Contact) (g : ℕ) → g < length cs → (c : Contact) × (slice_get cs g ≡ Some c)
+pub there_is : (cs : List Contact) (g : ℕ) → g < length cs → (c : Contact) × (slice_get cs g ≡ Some c)
 there_is [] g lt = absurd (omega (arith, lt))
 there_is (c ∷ cs) zero lt = (c, refl)
 there_is (c ∷ cs) (suc g) lt = there_is cs g (omega (arith, lt))
-
--- what comes in at an end is a pulse or none
-pub small_arrival : (p : Plan) (net : Netlist) (n : Places) (v regs after : Numbers) (o : Open) (s : Tokens) (e : End) (c : Contact)
-    → Now p net n v regs after o s → contact_at p e ≡ Some c → at v (n.arrives e).pulse ≤ 1
-small_arrival p net n v regs after o s e c now there = by_place (places_of p e) refl
-  where
-    by_joint : (t : Taking p e c) → at v (n.arrives e).pulse ≤ 1
-    by_joint t =
-        let way : Direction = way_taken c.role in
-        let counts = (now.standing.joints t.index t.joint way t.there).counts in
-        let small = small_count (s.in_place way t.joint.asking) in
-        let shows = (now.facts.joints t.index t.joint way t.there).pulse in
-        let here : at v (n.arrives e).pulse ≡ at v (n.arrives (target t.joint way)).pulse = ap (λ (d : End). at v (n.arrives d).pulse) t.is_target in
-        omega (arith, counts, small, shows, here)
-
-    by_place : (f : Option End) → places_of p e ≡ f → at v (n.arrives e).pulse ≤ 1
-    by_place None none = let silent = (now.facts.loose e c there none).0 in omega (arith, silent)
-    by_place (Some a) place = by_joint (taking p e a c now.right there place)
-
-pub pulses_small : (p : Plan) (net : Netlist) (n : Places) (v regs after : Numbers) (o : Open) (s : Tokens) (i : ℕ) (k : Part)
-    → Now p net n v regs after o s → slice_get p.parts i ≡ Some k → (g : ℕ) → g < length (part_contacts k) → pulse_in v (incoming_at p n i) g ≤ 1
-pulses_small p net n v regs after o s i k now is g lt =
-    let c = there_is (part_contacts k) g lt in
-    let contact : contact_at p (PartEnd i g) ≡ Some c.0 = subst (λ (f : Option Part). slice_get (contacts_of_part f) g ≡ Some c.0) (sym is) c.1 in
-    subst (λ (m : ℕ). m ≤ 1) (sym (pulse_shape p n v i g c.0 contact)) (small_arrival p net n v regs after o s (PartEnd i g) c.0 now contact)
 
 -- the list of a cycle with these firings
 abbrev pub listing : Plan → Places → Numbers → List PartFiring → List Element
 listing p n v fs = shown_elements p n v ++ (given_elements p n v ++ fires_of fs)
 
-listing-push : (p : Plan) (n : Places) (v : Numbers) (fs : List PartFiring) (f : PartFiring)
-    → listing p n v (fs ++ (f ∷ [])) ≡ listing p n v fs ++ (Fire f.part f.takes ∷ [])
-listing-push p n v fs f =
-    ap (λ (l : List Element). shown_elements p n v ++ (given_elements p n v ++ l)) (fires-append fs (f ∷ []))
-    ∙ (ap (λ (l : List Element). shown_elements p n v ++ l) (sym (append_assoc (given_elements p n v) (fires_of fs) (Fire f.part f.takes ∷ [])))
-    ∙ sym (append_assoc (shown_elements p n v) (given_elements p n v ++ fires_of fs) (Fire f.part f.takes ∷ [])))
+pub listing-append : (p : Plan) (n : Places) (v : Numbers) (fs gs : List PartFiring) → listing p n v (fs ++ gs) ≡ listing p n v fs ++ fires_of gs
+listing-append p n v fs gs =
+    ap (λ (l : List Element). shown_elements p n v ++ (given_elements p n v ++ l)) (fires-append fs gs)
+    ∙ (ap (λ (l : List Element). shown_elements p n v ++ l) (sym (append_assoc (given_elements p n v) (fires_of fs) (fires_of gs)))
+    ∙ sym (append_assoc (shown_elements p n v) (given_elements p n v ++ fires_of fs) (fires_of gs)))
 
 pub firings_listed : (p : Plan) (n : Places) (v : Numbers) (i : ℕ) (fs : List PartFiring) → firings_of i (listing p n v fs) ≡ firings_of i (fires_of fs)
 firings_listed p n v i fs =
@@ -224,23 +199,22 @@ pub slot_taken : (role : Role) (h : ℕ) → slot_at (way_taken role) h ≡ slot
 slot_taken Serve h = refl
 slot_taken Ask h = refl
 
--- a firing by what comes in, after others
-fire_step : (p : Plan) (net : Netlist) (n : Places) (v regs after : Numbers) (o u : Open) (s t : Tokens) (xs : List Element) (i h : ℕ) (k : Part) (c : Contact)
-    → Now p net n v regs after o s → OrderlyFrom p xs o s u t → ((j : ℕ) → TakesValues p j (values p n v j) xs s) → slice_get p.parts i ≡ Some k
-    → contact_at p (PartEnd i h) ≡ Some c → at v (n.arrives (PartEnd i h)).pulse ≡ 1 → times (slot_in c.role h) (firings_of i xs) ≡ 0
+-- a firing by a token that lies there, after others
+fire_step : (p : Plan) (n : Places) (v : Numbers) (o u : Open) (s t : Tokens) (xs : List Element) (i h : ℕ) (c : Contact)
+    → IsRight p → Led p o s → AllWelcome p s → OrderlyFrom p xs o s u t → ((j : ℕ) → TakesValues p j (values p n v j) xs s)
+    → contact_at p (PartEnd i h) ≡ Some c → Due p s (PartEnd i h) c (values p n v i h) → times (slot_in c.role h) (firings_of i xs) ≡ 0
     → (w : Tokens) × Does p (Fire i (slot_in c.role h)) t w
     × (token_at p t (end_of i (slot_in c.role h)) (way_of (slot_in c.role h)) ≡ Some (values p n v i (shake_of (slot_in c.role h))))
-fire_step p net n v regs after o u s t xs i h k c now list takes is there pulse none =
-    let due : Due p s (PartEnd i h) c (values p n v i h) = due_at_part p net n v regs after o s i h k c now is there pulse in
+fire_step p n v o u s t xs i h c right led welcome_first list takes there due none =
     let way : Direction = way_taken c.role in
     let untaken : taken_at way (target due.at_end.joint way) xs ≡ 0 =
     ap (λ (d : End). taken_at way d xs) (sym due.at_end.is_target) ∙ (ap (λ (x : Slot). times x (firings_of i xs)) (slot_taken c.role h) ∙ none) in
-    let lies = still_there p net n v regs after o u s t xs due.at_end.index due.at_end.joint way now list takes due.at_end.there untaken due.one in
+    let lies = still_there p n v o u s t xs due.at_end.index due.at_end.joint way right led list takes due.at_end.there untaken due.one in
     let token : token_at p t (PartEnd i h) way ≡ Some (values p n v i h) = lies_at p t (PartEnd i h) c due.at_end ∙ (lies ∙ ap Some due.is) in
     by_role c.role refl token
   where
     welcome : AllWelcome p t
-    welcome = welcome_after p xs o u s t now.standing.welcome list
+    welcome = welcome_after p xs o u s t welcome_first list
 
     x : ℕ
     x = values p n v i h
@@ -253,77 +227,79 @@ fire_step p net n v regs after o u s t xs i h k c now list takes is there pulse 
     by_role Ask e token =
         let r = welcome i (Ans h) c x there (ap way_taken e) token in (fired p i r.0 x t, (x, r.0, token, r.1, refl), token)
 
--- how a cycle's list ends: orderly with all its firings, or broken after some of them
-pub record Whole (p : Plan) (n : Places) (v : Numbers) (o : Open) (s : Tokens) : Type 0 where
+-- a firing by a token that lies there, of which there is one in all
+pub record Ready (p : Plan) (n : Places) (v : Numbers) (s : Tokens) (all : List PartFiring) (f : PartFiring) : Type 0 where
+  pub shake : ℕ
+  pub contact : Contact
+  pub there : contact_at p (PartEnd f.part shake) ≡ Some contact
+  pub slot : f.takes ≡ slot_in contact.role shake
+  pub due : Due p s (PartEnd f.part shake) contact (values p n v f.part shake)
+  pub once : times (slot_in contact.role shake) (firings_of f.part (fires_of all)) ≤ 1
+
+-- how firings from a state end: orderly to the last of them, or out of order after some of them
+pub record Went (p : Plan) (n : Places) (v : Numbers) (o : Open) (s : Tokens) (all : List PartFiring) : Type 0 where
   pub open_then : Open
   pub state_then : Tokens
-  pub list : OrderlyFrom p (listing p n v (made_firings p n v)) o s open_then state_then
-  pub takes : (i : ℕ) → TakesValues p i (values p n v i) (listing p n v (made_firings p n v)) s
+  pub list : OrderlyFrom p (fires_of all) o s open_then state_then
+  pub takes : (i : ℕ) → TakesValues p i (values p n v i) (fires_of all) s
 
-pub record Stopped (p : Plan) (n : Places) (v : Numbers) (o : Open) (s : Tokens) : Type 0 where
+pub record Failed (p : Plan) (o : Open) (s : Tokens) : Type 0 where
   pub firings : List PartFiring
   pub state_then : Tokens
-  pub runs : Runs p (listing p n v firings) s state_then
-  pub never : (u : Open) (t : Tokens) → OrderlyFrom p (listing p n v firings) o s u t → ⊥
+  pub runs : Runs p (fires_of firings) s state_then
+  pub never : (u : Open) (t : Tokens) → OrderlyFrom p (fires_of firings) o s u t → ⊥
 
-fires_go : (p : Plan) (net : Netlist) (n : Places) (v regs after : Numbers) (o u : Open) (s t : Tokens) (fs gs : List PartFiring)
-    → Now p net n v regs after o s → fs ++ gs ≡ made_firings p n v → AllReady p n v gs → OrderlyFrom p (listing p n v fs) o s u t
-    → ((i : ℕ) → TakesValues p i (values p n v i) (listing p n v fs) s) → Whole p n v o s ⊎ Stopped p n v o s
-fires_go p net n v regs after o u s t fs [] now all ready list takes =
-    let same : fs ≡ made_firings p n v = sym (nil_right fs) ∙ all in
+fires_go : (p : Plan) (n : Places) (v : Numbers) (o u : Open) (s t : Tokens) (all fs gs : List PartFiring)
+    → IsRight p → Led p o s → AllWelcome p s → fs ++ gs ≡ all → EachFiring (Ready p n v s all) gs → OrderlyFrom p (fires_of fs) o s u t
+    → ((i : ℕ) → TakesValues p i (values p n v i) (fires_of fs) s) → Went p n v o s all ⊎ Failed p o s
+fires_go p n v o u s t all fs [] right led welcome whole ready list takes =
+    let same : fs ≡ all = sym (nil_right fs) ∙ whole in
     inl
     (record {
       open_then = u;
       state_then = t;
-      list = subst (λ (l : List PartFiring). OrderlyFrom p (listing p n v l) o s u t) same list;
-      takes = subst (λ (l : List PartFiring). (i : ℕ) → TakesValues p i (values p n v i) (listing p n v l) s) same takes;
+      list = subst (λ (l : List PartFiring). OrderlyFrom p (fires_of l) o s u t) same list;
+      takes = subst (λ (l : List PartFiring). (i : ℕ) → TakesValues p i (values p n v i) (fires_of l) s) same takes;
     })
   where
     nil_right : (xs : List PartFiring) → xs ++ [] ≡ xs
     nil_right [] = refl
     nil_right (x ∷ xs) = ap (λ (l : List PartFiring). x ∷ l) (nil_right xs)
-fires_go p net n v regs after o u s t fs (f ∷ gs) now all ((k, h, c, is, there, slot, pulse), ready) list takes =
+fires_go p n v o u s t all fs (f ∷ gs) right led welcome whole (ready, further) list takes =
     by_order (order_is_decided p (Fire f.part f.takes) u t step.0 does)
-    (λ m w so_far values_so_far. fires_go p net n v regs after o m s w (fs ++ (f ∷ [])) gs now (append_assoc fs (f ∷ []) gs ∙ all) ready so_far values_so_far)
+    (λ m w so_far values_so_far. fires_go p n v o m s w all (fs ++ (f ∷ [])) gs right led welcome (append_assoc fs (f ∷ []) gs ∙ whole) further so_far values_so_far)
   where
-    own : slice_get (part_contacts k) h ≡ Some c
-    own = subst (λ (g : Option Part). slice_get (contacts_of_part g) h ≡ Some c) is there
-
-    in_all : times (slot_in c.role h) (firings_of f.part (fires_of (fs ++ (f ∷ gs)))) ≡ 1
-    in_all =
-        ap (λ (l : List PartFiring). times (slot_in c.role h) (firings_of f.part (fires_of l))) all
-        ∙ (ap (times (slot_in c.role h)) (firings_are p n v f.part k is)
-        ∙ (slot_count p n v f.part h k c (pulses_small p net n v regs after o s f.part k now is) own ∙ (pulse_shape p n v f.part h c there ∙ pulse)))
+    slot : Slot
+    slot = slot_in ready.contact.role ready.shake
 
     nat_eq_self : (m : ℕ) → nat_eq m m ≡ true
     nat_eq_self m = grind arith
 
-    same_slot_self : same_slot f.takes (slot_in c.role h) ≡ true
-    same_slot_self = ap (λ (y : Slot). same_slot y (slot_in c.role h)) slot ∙ itself c.role h
+    same_slot_self : same_slot f.takes slot ≡ true
+    same_slot_self = ap (λ (y : Slot). same_slot y slot) ready.slot ∙ itself ready.contact.role ready.shake
 
-    here : times (slot_in c.role h) (firings_of f.part (fires_of (f ∷ gs))) ≡ suc (times (slot_in c.role h) (firings_of f.part (fires_of gs)))
+    here : times slot (firings_of f.part (fires_of (f ∷ gs))) ≡ suc (times slot (firings_of f.part (fires_of gs)))
     here = rw (nat_eq_self f.part, same_slot_self) refl
 
-    not_yet : times (slot_in c.role h) (firings_of f.part (fires_of fs)) ≡ 0
+    not_yet : times slot (firings_of f.part (fires_of fs)) ≡ 0
     not_yet =
-        let parts : times (slot_in c.role h) (firings_of f.part (fires_of (fs ++ (f ∷ gs))))
-        ≡ times (slot_in c.role h) (firings_of f.part (fires_of fs)) + times (slot_in c.role h) (firings_of f.part (fires_of (f ∷ gs))) =
-        ap (λ (l : List Element). times (slot_in c.role h) (firings_of f.part l)) (fires-append fs (f ∷ gs))
-        ∙ (ap (times (slot_in c.role h)) (firings-append f.part (fires_of fs) (fires_of (f ∷ gs)))
-        ∙ times-append (slot_in c.role h) (firings_of f.part (fires_of fs)) (firings_of f.part (fires_of (f ∷ gs)))) in
+        let parts : times slot (firings_of f.part (fires_of (fs ++ (f ∷ gs))))
+        ≡ times slot (firings_of f.part (fires_of fs)) + times slot (firings_of f.part (fires_of (f ∷ gs))) =
+        ap (times slot) (firings_joined f.part fs (f ∷ gs)) ∙ times-append slot (firings_of f.part (fires_of fs)) (firings_of f.part (fires_of (f ∷ gs))) in
+        let in_all : times slot (firings_of f.part (fires_of (fs ++ (f ∷ gs)))) ≤ 1 =
+        subst (λ (l : List PartFiring). times slot (firings_of f.part (fires_of l)) ≤ 1) (sym whole) ready.once in
         omega (arith, parts, here, in_all)
 
-    step : (w : Tokens) × Does p (Fire f.part (slot_in c.role h)) t w
-        × (token_at p t (end_of f.part (slot_in c.role h)) (way_of (slot_in c.role h)) ≡ Some (values p n v f.part (shake_of (slot_in c.role h))))
+    step : (w : Tokens) × Does p (Fire f.part slot) t w
+        × (token_at p t (end_of f.part slot) (way_of slot) ≡ Some (values p n v f.part (shake_of slot)))
     step =
-        fire_step p net n v regs after o u s t (listing p n v fs) f.part h k c now list takes is there pulse
-        (ap (times (slot_in c.role h)) (firings_listed p n v f.part fs) ∙ not_yet)
+        fire_step p n v o u s t (fires_of fs) f.part ready.shake ready.contact right led welcome list takes ready.there ready.due not_yet
 
     does : Does p (Fire f.part f.takes) t step.0
-    does = subst (λ (y : Slot). Does p (Fire f.part y) t step.0) (sym slot) step.1
+    does = subst (λ (y : Slot). Does p (Fire f.part y) t step.0) (sym ready.slot) step.1
 
     token : token_at p t (end_of f.part f.takes) (way_of f.takes) ≡ Some (values p n v f.part (shake_of f.takes))
-    token = subst (λ (y : Slot). token_at p t (end_of f.part y) (way_of y) ≡ Some (values p n v f.part (shake_of y))) (sym slot) step.2
+    token = subst (λ (y : Slot). token_at p t (end_of f.part y) (way_of y) ≡ Some (values p n v f.part (shake_of y))) (sym ready.slot) step.2
 
     takes_one : (i : ℕ) → TakesValues p i (values p n v i) (Fire f.part f.takes ∷ []) t
     takes_one i = (
@@ -331,76 +307,42 @@ fires_go p net n v regs after o u s t fs (f ∷ gs) now all ((k, h, c, is, there
       λ w also. tt,
     )
 
-    possible : Runs p (listing p n v fs) s t
-    possible = orderly_is_possible p (listing p n v fs) o u s t list
+    possible : Runs p (fires_of fs) s t
+    possible = orderly_is_possible p (fires_of fs) o u s t list
+
+    pushed : fires_of fs ++ (Fire f.part f.takes ∷ []) ≡ fires_of (fs ++ (f ∷ []))
+    pushed = sym (fires-append fs (f ∷ []))
 
     by_order : ((m : Open) × ComesInOrder p (Fire f.part f.takes) t u m × AllWelcome p step.0)
         ⊎ ((m : Open) → ComesInOrder p (Fire f.part f.takes) t u m → AllWelcome p step.0 → ⊥)
-        → ((m : Open) (w : Tokens) → OrderlyFrom p (listing p n v (fs ++ (f ∷ []))) o s m w
-        → ((i : ℕ) → TakesValues p i (values p n v i) (listing p n v (fs ++ (f ∷ []))) s) → Whole p n v o s ⊎ Stopped p n v o s)
-        → Whole p n v o s ⊎ Stopped p n v o s
-    by_order (inl (m, comes, welcome)) go =
+        → ((m : Open) (w : Tokens) → OrderlyFrom p (fires_of (fs ++ (f ∷ []))) o s m w
+        → ((i : ℕ) → TakesValues p i (values p n v i) (fires_of (fs ++ (f ∷ []))) s) → Went p n v o s all ⊎ Failed p o s)
+        → Went p n v o s all ⊎ Failed p o s
+    by_order (inl (m, comes, welcome_then)) go =
         go m step.0
-        (subst (λ (l : List Element). OrderlyFrom p l o s m step.0) (sym (listing-push p n v fs f))
-        (orderly-append p (listing p n v fs) (Fire f.part f.takes ∷ []) o u m s t step.0 list (m, step.0, does, comes, welcome, (refl, refl))))
-        (λ i. subst (λ (l : List Element). TakesValues p i (values p n v i) l s) (sym (listing-push p n v fs f))
-        (takes-append p i (values p n v i) (listing p n v fs) (Fire f.part f.takes ∷ []) s t (takes i) possible (takes_one i)))
+        (subst (λ (l : List Element). OrderlyFrom p l o s m step.0) pushed
+        (orderly-append p (fires_of fs) (Fire f.part f.takes ∷ []) o u m s t step.0 list (m, step.0, does, comes, welcome_then, (refl, refl))))
+        (λ i. subst (λ (l : List Element). TakesValues p i (values p n v i) l s) pushed
+        (takes-append p i (values p n v i) (fires_of fs) (Fire f.part f.takes ∷ []) s t (takes i) possible (takes_one i)))
     by_order (inr fails) go =
         inr
         (record {
           firings = fs ++ (f ∷ []);
           state_then = step.0;
           runs =
-              subst (λ (l : List Element). Runs p l s step.0) (sym (listing-push p n v fs f))
-              (runs-append p (listing p n v fs) (Fire f.part f.takes ∷ []) s t step.0 possible (step.0, does, refl));
+              subst (λ (l : List Element). Runs p l s step.0) pushed
+              (runs-append p (fires_of fs) (Fire f.part f.takes ∷ []) s t step.0 possible (step.0, does, refl));
           never =
-              subst (λ (l : List Element). (m : Open) (w : Tokens) → OrderlyFrom p l o s m w → ⊥) (sym (listing-push p n v fs f))
-              (never_whole p (listing p n v fs) (Fire f.part f.takes ∷ []) o u s t list no_one);
+              subst (λ (l : List Element). (m : Open) (w : Tokens) → OrderlyFrom p l o s m w → ⊥) pushed
+              (never_whole p (fires_of fs) (Fire f.part f.takes ∷ []) o u s t list no_one);
         })
       where
         no_one : (m : Open) (w : Tokens) → OrderlyFrom p (Fire f.part f.takes ∷ []) u t m w → ⊥
-        no_one m w (a, z, doing, comes, welcome, rest) =
-            fails a comes (subst (λ (y : Tokens). AllWelcome p y) (one_state p (Fire f.part f.takes) t z step.0 doing does) welcome)
+        no_one m w (a, z, doing, comes, welcome_then, rest) =
+            fails a comes (subst (λ (y : Tokens). AllWelcome p y) (one_state p (Fire f.part f.takes) t z step.0 doing does) welcome_then)
 
--- The list of a cycle is orderly to its end, or broken.
-pub cycle_ends : (p : Plan) (net : Netlist) (n : Places) (v regs after : Numbers) (o : Open) (s : Tokens)
-    → Now p net n v regs after o s → Whole p n v o s ⊎ Stopped p n v o s
-cycle_ends p net n v regs after o s now = by_inputs (lists_are_decided p (given_elements p n v) outs.0 outs.1 ins.0 ins.1)
-  where
-    outs : (m : Open) × (w : Tokens) × OrderlyFrom p (shown_elements p n v) o s m w
-    outs = outs_go p net n v regs after o o s s [] (port_ends (ports_of p)) now refl (refl, refl)
-
-    ins : (w : Tokens) × Runs p (given_elements p n v) outs.1 w
-    ins = ins_go p net n v regs after o s outs.1 [] (port_ends (ports_of p)) now refl
-
-    nil_right : (xs : List Element) → xs ++ [] ≡ xs
-    nil_right [] = refl
-    nil_right (x ∷ xs) = ap (λ (l : List Element). x ∷ l) (nil_right xs)
-
-    without : listing p n v [] ≡ shown_elements p n v ++ given_elements p n v
-    without = ap (λ (l : List Element). shown_elements p n v ++ l) (nil_right (given_elements p n v))
-
-    by_inputs : ((u : Open) × OrderlyFrom p (given_elements p n v) outs.0 outs.1 u ins.0)
-        ⊎ ((u : Open) (w : Tokens) → OrderlyFrom p (given_elements p n v) outs.0 outs.1 u w → ⊥)
-        → Whole p n v o s ⊎ Stopped p n v o s
-    by_inputs (inl (u, list)) =
-        fires_go p net n v regs after o u s ins.0 [] (made_firings p n v) now refl (all_ready p n v)
-        (subst (λ (l : List Element). OrderlyFrom p l o s u ins.0) (sym without)
-        (orderly-append p (shown_elements p n v) (given_elements p n v) o outs.0 u s outs.1 ins.0 outs.2 list))
-        (λ i. subst (λ (l : List Element). TakesValues p i (values p n v i) l s) (sym without)
-        (takes-append p i (values p n v i) (shown_elements p n v) (given_elements p n v) s outs.1
-        (no_values_out p i (values p n v i) v (bits_out_at p) n.shows (port_ends (ports_of p)) s)
-        (orderly_is_possible p (shown_elements p n v) o outs.0 s outs.1 outs.2)
-        (no_values_in p i (values p n v i) v (bits_in_at p) n.leaves (port_ends (ports_of p)) outs.1)))
-    by_inputs (inr fails) =
-        inr
-        (record {
-          firings = [];
-          state_then = ins.0;
-          runs =
-              subst (λ (l : List Element). Runs p l s ins.0) (sym without)
-              (runs-append p (shown_elements p n v) (given_elements p n v) s outs.1 ins.0 (orderly_is_possible p (shown_elements p n v) o outs.0 s outs.1 outs.2) ins.1);
-          never =
-              subst (λ (l : List Element). (m : Open) (w : Tokens) → OrderlyFrom p l o s m w → ⊥) (sym without)
-              (never_whole p (shown_elements p n v) (given_elements p n v) o outs.0 s outs.1 outs.2 fails);
-        })
+-- Firings by tokens that lie there, each once, are orderly to their end, or out of order.
+pub firings_end : (p : Plan) (n : Places) (v : Numbers) (o : Open) (s : Tokens) (all : List PartFiring)
+    → IsRight p → Led p o s → AllWelcome p s → EachFiring (Ready p n v s all) all → Went p n v o s all ⊎ Failed p o s
+firings_end p n v o s all right led welcome ready =
+    fires_go p n v o o s s all [] all right led welcome refl ready (refl, refl) (λ i. tt)

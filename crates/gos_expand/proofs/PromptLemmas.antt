@@ -1,8 +1,8 @@
 -- Promptness: what is possible after a cycle is made within three more; and the facts of its cycles make a run lists
 -- of its plan.
 --
--- A token that can be taken lies in one of three registers: of a part's gates, of its joint, or of a port's output.
--- From the first it goes to the second in the next cycle, and from there it is taken, or shown in the cycle after.
+-- A token that can be taken lies in one of three registers: of a part's gates, of its joint, or of a port's output. From the
+-- first it goes to the second, or arrives at once where that is not kept; and what arrives is taken, or shown in the next cycle.
 use Rattle.std.specs.Prelude.{Option, None}
 use Rattle.std.proofs.Common.{◌≡◌, inl, inr, ◌⊎◌, ℕ, zero, suc, ◌+◌, ◌≤◌, ◌<◌, Bool, true, false, List, [], ◌∷◌, Some, slice_get, length, Contains, refl, sym, ◌∙◌, ap, subst, arith, nat_eq, if◌then◌else◌}
 use Rattle.gos_types.specs.declared.shakes.Role.{Role}
@@ -14,37 +14,39 @@ use Rattle.gos_plan.specs.Kinds.{Part, Contact, part_contacts}
 use Rattle.gos_plan.specs.Firing.{Slot, Req, Ans, firing}
 use Rattle.gos_plan.specs.Plans.{End, PartEnd, Joint, Plan, contact_at, contacts_of_part, same_end}
 use Rattle.gos_plan.specs.Tokens.{Tokens, Element, Fire, Out, In, IsPortEnd, IsIdle, places_of, token_at, held_at, shake_of, way_of, way_taken, end_of, firing_of, Passes, Does}
+use Rattle.gos_plan.specs.Orderly.{none_open}
 use Rattle.gos_plan.specs.Gates.{slot_in}
 use Rattle.gos_plan.specs.Law.{times}
 use Rattle.gos_plan.specs.Projection.{firings_of}
-use Rattle.gos_plan.specs.Accounts.{number, taken_at}
+use Rattle.gos_plan.specs.Accounts.{count, number, taken_at}
 use Rattle.gos_plan.specs.Cycles.{PartFiring, Made, fires_of, state_after, IsMadeSoon}
 use Rattle.gos_plan.specs.Cycles as cycles
 use Rattle.gos_plan.proofs.JointLemmas.{same_is, joined}
 use Rattle.gos_plan.proofs.RowLemmas.{HasRole, role_taking}
 use Rattle.gos_plan.proofs.AskingLemmas.{RoleIs, row_roles}
 use Rattle.gos_expand.specs.Blocks.{Nets}
-use Rattle.gos_expand.specs.Starts.{ports_of, port_ends, bits_taken}
+use Rattle.gos_expand.specs.Starts.{Keep, ports_of, port_ends, bits_taken}
 use Rattle.gos_expand.specs.Facts.{Places, number_by, source, target, elements, bits_out_at, occurs, shown_elements, FactsMakeLists}
 use Rattle.gos_expand.proofs.TallyLemmas.{counted}
-use Rattle.gos_expand.proofs.StandingLemmas.{pending_at, shown_at, Taking, taking, small_count, counts_token, lies_at}
+use Rattle.gos_expand.proofs.StandingLemmas.{pending_at, shown_at, held_pulse, Led, Taking, taking, small_count, counts_token, lies_at}
 use Rattle.gos_expand.proofs.DueLemmas.{still_there, pulse_shape, Due, due_at_port, shown_port}
-use Rattle.gos_expand.proofs.PulseLemmas.{made_firings, firings_are, slot_count}
-use Rattle.gos_expand.proofs.PossibleLemmas.{taken_port, pulses_small}
+use Rattle.gos_expand.proofs.ScheduleLemmas.{made_firings, slot_count}
+use Rattle.gos_expand.proofs.PossibleLemmas.{taken_port}
 use Rattle.gos_expand.proofs.EventLemmas.{outs_listed}
+use Rattle.gos_expand.proofs.CauseLemmas.{pulses_small}
 use Rattle.gos_expand.proofs.StepLemmas.{whole_list}
 use Rattle.gos_expand.proofs.FollowLemmas.{OneCycle, Chain, BrokenFrom, Listed, follows, empty, at_reset}
 
 -- a pulse that comes in at a part is a firing of the cycle
-firing_made : (p : Plan) (net : Netlist) (n : Places) (v regs after : Numbers) (s : Tokens) (m : Made) (i h : ℕ) (k : Part) (c : Contact)
-    → OneCycle p net n v regs after s m → slice_get p.parts i ≡ Some k → slice_get (part_contacts k) h ≡ Some c → contact_at p (PartEnd i h) ≡ Some c
+firing_made : (keep : Keep) (p : Plan) (net : Netlist) (n : Places) (rank : End → ℕ) (v regs after : Numbers) (s : Tokens) (m : Made) (i h : ℕ) (k : Part) (c : Contact)
+    → OneCycle keep p net n rank v regs after s m → slice_get p.parts i ≡ Some k → slice_get (part_contacts k) h ≡ Some c → contact_at p (PartEnd i h) ≡ Some c
     → at v (n.arrives (PartEnd i h)).pulse ≡ 1 → Contains m.firings (record { part = i; takes = slot_in c.role h })
-firing_made p net n v regs after s m i h k c one is own there pulse =
-    let often : times (slot_in c.role h) (firings_of i (fires_of (made_firings p n v))) ≡ 1 =
-    ap (times (slot_in c.role h)) (firings_are p n v i k is)
-    ∙ (slot_count p n v i h k c (pulses_small p net n v regs after one.opened s i k one.now is) own ∙ (pulse_shape p n v i h c there ∙ pulse)) in
+firing_made keep p net n rank v regs after s m i h k c one is own there pulse =
+    let often : times (slot_in c.role h) (firings_of i (fires_of (made_firings p n rank v))) ≡ 1 =
+    slot_count p n rank v i h k c is (λ g lt. pulses_small p n v (λ i k h. true) i k one.whole.comes is g lt refl) own
+    ∙ (pulse_shape p n v i h c there ∙ pulse) in
     subst (λ (fs : List PartFiring). Contains fs (record { part = i; takes = slot_in c.role h })) (sym one.fired)
-    (counted i (slot_in c.role h) (made_firings p n v) (omega (arith, often)))
+    (counted i (slot_in c.role h) (made_firings p n rank v) (omega (arith, often)))
 
 -- an output that is shown is one of the cycle
 element_there : (e : End) (v : Numbers) (bits : End → ℕ) (nets : End → Nets) (es : List End) → 0 < occurs e es → at v (nets e).pulse ≡ 1
@@ -68,11 +70,11 @@ element_there e v bits nets (d ∷ ds) some pulse = by_same (same_end d e) refl 
         rw on (0, omega arith, λ i. Out (is i) (number_by v (bits (is i)) (nets (is i))))
     by_same false t more go = behind (nat_eq (at v (nets d).pulse) 1) (go more)
 
-out_made : (p : Plan) (net : Netlist) (n : Places) (v regs after : Numbers) (s : Tokens) (m : Made) (e : End) (c : Contact) (x : ℕ) (t : Taking p e c)
-    → OneCycle p net n v regs after s m → IsPortEnd e → contact_at p e ≡ Some c → s.in_place (way_taken c.role) t.joint.asking ≡ Some x
+out_made : (keep : Keep) (p : Plan) (net : Netlist) (n : Places) (rank : End → ℕ) (v regs after : Numbers) (s : Tokens) (m : Made) (e : End) (c : Contact) (x : ℕ) (t : Taking p e c)
+    → OneCycle keep p net n rank v regs after s m → IsPortEnd e → contact_at p e ≡ Some c → s.in_place (way_taken c.role) t.joint.asking ≡ Some x
     → at v (n.shows e).pulse ≡ 1 → Contains (cycles.outs_of p (outputs net v)) (Out e x)
-out_made p net n v regs after s m e c x t one port there lies pulse =
-    let due : Due p s e c (number_by v (bits_taken (Some c)) (n.shows e)) = due_at_port p net n v regs after one.opened s e c one.now port there pulse in
+out_made keep p net n rank v regs after s m e c x t one port there lies pulse =
+    let due : Due p s e c (number_by v (bits_taken (Some c)) (n.shows e)) = due_at_port keep p net n v regs after one.opened s e c one.now port there pulse in
     let once = one.now.plan_facts.once e c port there in
     let same : s.in_place (way_taken c.role) due.at_end.joint.asking ≡ Some x =
     sym (lies_at p s e c due.at_end) ∙ (lies_at p s e c t ∙ lies) in
@@ -83,97 +85,142 @@ out_made p net n v regs after s m e c x t one port there lies pulse =
     (element_there e v (bits_out_at p) n.shows (port_ends (ports_of p)) (omega (arith, once)) pulse))
 
 -- a token that an output doesn't take yet stays
-out_waits : (p : Plan) (net : Netlist) (n : Places) (v regs after : Numbers) (s : Tokens) (m : Made) (e : End) (c : Contact) (x : ℕ) (t : Taking p e c)
-    → OneCycle p net n v regs after s m → IsPortEnd e → contact_at p e ≡ Some c → s.in_place (way_taken c.role) t.joint.asking ≡ Some x
+out_waits : (keep : Keep) (p : Plan) (net : Netlist) (n : Places) (rank : End → ℕ) (v regs after : Numbers) (s : Tokens) (m : Made) (e : End) (c : Contact) (x : ℕ) (t : Taking p e c)
+    → OneCycle keep p net n rank v regs after s m → IsPortEnd e → contact_at p e ≡ Some c → s.in_place (way_taken c.role) t.joint.asking ≡ Some x
     → at v (n.shows e).pulse ≡ 0 → m.after.in_place (way_taken c.role) t.joint.asking ≡ Some x
-out_waits p net n v regs after s m e c x t one port there lies pulse =
+out_waits keep p net n rank v regs after s m e c x t one port there lies pulse =
     let way : Direction = way_taken c.role in
-    let none : taken_at way (target t.joint way) (whole_list p n v) ≡ 0 =
-    ap (λ (d : End). taken_at way d (whole_list p n v)) (sym t.is_target)
-    ∙ (taken_port (whole_list p n v) way e port
-    ∙ ((outs_listed p n v e (made_firings p n v) (one.now.plan_facts.once e c port there)).0 ∙ ap (λ (y : ℕ). if nat_eq y 1 then 1 else 0) pulse)) in
+    let none : taken_at way (target t.joint way) (whole_list p n rank v) ≡ 0 =
+    ap (λ (d : End). taken_at way d (whole_list p n rank v)) (sym t.is_target)
+    ∙ (taken_port (whole_list p n rank v) way e port
+    ∙ ((outs_listed p n v e (made_firings p n rank v) (one.now.plan_facts.once e c port there)).0 ∙ ap (λ (y : ℕ). if nat_eq y 1 then 1 else 0) pulse)) in
     let stays =
-    still_there p net n v regs after one.opened one.whole.open_then s one.whole.state_then (whole_list p n v) t.index t.joint way one.now one.whole.list one.whole.takes t.there none
+    still_there p n v one.opened one.whole.open_then s one.whole.state_then (whole_list p n rank v) t.index t.joint way one.now.right one.now.led one.whole.list one.whole.takes t.there none
     (counts_token (s.in_place way t.joint.asking) x lies).0 in
     ap (λ (z : Tokens). z.in_place way t.joint.asking) one.leads ∙ (stays ∙ ap Some (counts_token (s.in_place way t.joint.asking) x lies).1)
 
 -- where a token is that lies at an end, in one of the three registers
-pub record Held (p : Plan) (n : Places) (regs : Numbers) (e : End) (j : Joint) (way : Direction) : Type 0 where
-  pub one : at regs (n.arrives e).pulse + (pending_at p n regs (source j way) + shown_at n regs e) ≡ 1
+pub record Held (keep : Keep) (p : Plan) (n : Places) (regs : Numbers) (x : ℕ) (j : Joint) (way : Direction) : Type 0 where
+  pub one :
+      held_pulse (keep x way) regs (n.arrives (target j way)) + (pending_at p n regs (source j way) + shown_at n regs (target j way)) ≡ 1
 
-held_in : (p : Plan) (net : Netlist) (n : Places) (v regs after : Numbers) (s : Tokens) (m : Made) (e : End) (c : Contact) (x : ℕ) (t : Taking p e c)
-    → OneCycle p net n v regs after s m → s.in_place (way_taken c.role) t.joint.asking ≡ Some x → Held p n regs e t.joint (way_taken c.role)
-held_in p net n v regs after s m e c x t one lies =
+held_in : (keep : Keep) (p : Plan) (net : Netlist) (n : Places) (rank : End → ℕ) (v regs after : Numbers) (s : Tokens) (m : Made) (e : End) (c : Contact) (x : ℕ) (t : Taking p e c)
+    → OneCycle keep p net n rank v regs after s m → s.in_place (way_taken c.role) t.joint.asking ≡ Some x
+    → Held keep p n regs t.index t.joint (way_taken c.role)
+held_in keep p net n rank v regs after s m e c x t one lies =
     let way : Direction = way_taken c.role in
-    let counts = (one.now.standing.joints t.index t.joint way t.there).counts in
-    let is_one = (counts_token (s.in_place way t.joint.asking) x lies).0 in
-    let there : at regs (n.arrives (target t.joint way)).pulse + (pending_at p n regs (source t.joint way) + shown_at n regs (target t.joint way)) ≡ 1 =
-    sym counts ∙ is_one in
     record {
-      one =
-          subst (λ (d : End). at regs (n.arrives d).pulse + (pending_at p n regs (source t.joint way) + shown_at n regs d) ≡ 1) (sym t.is_target) there;
+      one = sym (one.now.standing.joints t.index t.joint way t.there).counts ∙ (counts_token (s.in_place way t.joint.asking) x lies).0;
     }
 
-arrives_now : (p : Plan) (net : Netlist) (n : Places) (v regs after : Numbers) (s : Tokens) (m : Made) (e : End) (c : Contact) (t : Taking p e c)
-    → OneCycle p net n v regs after s m → at v (n.arrives e).pulse ≡ at regs (n.arrives e).pulse
-arrives_now p net n v regs after s m e c t one =
-    let way : Direction = way_taken c.role in
-    subst (λ (d : End). at v (n.arrives d).pulse ≡ at regs (n.arrives d).pulse) (sym t.is_target) (one.now.facts.joints t.index t.joint way t.there).pulse
+-- what lies at an end, and is not shown there, arrives there in this cycle or in the next one
+abbrev ArrivesSoon : Places → Numbers → Numbers → End → Type 0
+ArrivesSoon n v0 v1 e = (at v0 (n.arrives e).pulse ≡ 1) ⊎ ((at v0 (n.arrives e).pulse ≡ 0) × (at v1 (n.arrives e).pulse ≡ 1))
 
-arrives_next : (p : Plan) (net : Netlist) (n : Places) (v regs after : Numbers) (s : Tokens) (m : Made) (e : End) (c : Contact) (t : Taking p e c)
-    → OneCycle p net n v regs after s m → pending_at p n regs (source t.joint (way_taken c.role)) ≤ at after (n.arrives e).pulse
-arrives_next p net n v regs after s m e c t one =
-    let way : Direction = way_taken c.role in
-    subst (λ (d : End). pending_at p n regs (source t.joint way) ≤ at after (n.arrives d).pulse) (sym t.is_target) (one.goes t.index t.joint way t.there)
+arrives_soon : (keep : Keep) (p : Plan) (net : Netlist) (n : Places) (rank : End → ℕ) (v0 v1 regs a0 a1 : Numbers) (s : Tokens) (m0 m1 : Made) (e : End) (c : Contact) (x : ℕ) (t : Taking p e c)
+    → OneCycle keep p net n rank v0 regs a0 s m0 → OneCycle keep p net n rank v1 a0 a1 m0.after m1 → s.in_place (way_taken c.role) t.joint.asking ≡ Some x
+    → shown_at n regs e ≡ 0 → at v0 (n.arrives e).pulse ≤ 1 → ArrivesSoon n v0 v1 e
+arrives_soon keep p net n rank v0 v1 regs a0 a1 s m0 m1 e c x t zeroth once lies unshown small = by_keep (keep t.index way) refl
+  where
+    way : Direction
+    way = way_taken c.role
 
-arrives_small : (p : Plan) (net : Netlist) (n : Places) (v regs after : Numbers) (s : Tokens) (m : Made) (e : End) (c : Contact) (t : Taking p e c)
-    → OneCycle p net n v regs after s m → at regs (n.arrives e).pulse ≤ 1
-arrives_small p net n v regs after s m e c t one =
+    to : Nets
+    to = n.arrives (target t.joint way)
+
+    from : Nets
+    from = n.leaves (source t.joint way)
+
+    here0 : at v0 (n.arrives e).pulse ≡ at v0 to.pulse
+    here0 = ap (λ (d : End). at v0 (n.arrives d).pulse) t.is_target
+
+    here1 : at v1 (n.arrives e).pulse ≡ at v1 to.pulse
+    here1 = ap (λ (d : End). at v1 (n.arrives d).pulse) t.is_target
+
+    none_shown : shown_at n regs (target t.joint way) ≡ 0
+    none_shown = ap (shown_at n regs) (sym t.is_target) ∙ unshown
+
+    goes : pending_at p n regs (source t.joint way) ≤ at v0 from.pulse
+    goes = zeroth.goes t.index t.joint way t.there
+
+    held : held_pulse (keep t.index way) regs to + (pending_at p n regs (source t.joint way) + shown_at n regs (target t.joint way)) ≡ 1
+    held = (held_in keep p net n rank v0 regs a0 s m0 e c x t zeroth lies).one
+
+    kept : keep t.index way ≡ true → (m : ℕ) → at v0 (n.arrives e).pulse ≡ m → ArrivesSoon n v0 v1 e
+    kept keeps m is =
+        let now = (zeroth.now.facts.joints t.index t.joint way t.there keeps).pulse in
+        let next = (zeroth.now.facts.joints t.index t.joint way t.there keeps).next in
+        let later = (once.now.facts.joints t.index t.joint way t.there keeps).pulse in
+        let old = ap (λ (b : Bool). held_pulse b regs to) keeps in
+        let new = ap (λ (b : Bool). held_pulse b a0 to) keeps in
+        let counts = (once.now.standing.joints t.index t.joint way t.there).counts in
+        let few = small_count (m0.after.in_place way t.joint.asking) in
+        by_pulse now next later old new counts few m is
+      where
+        by_pulse : at v0 to.pulse ≡ at regs to.pulse → at a0 to.pulse ≡ at v0 from.pulse → at v1 to.pulse ≡ at a0 to.pulse
+            → held_pulse (keep t.index way) regs to ≡ at regs to.pulse → held_pulse (keep t.index way) a0 to ≡ at a0 to.pulse
+            → count (m0.after.in_place way t.joint.asking)
+            ≡ held_pulse (keep t.index way) a0 to + (pending_at p n a0 (source t.joint way) + shown_at n a0 (target t.joint way))
+            → count (m0.after.in_place way t.joint.asking) ≤ 1
+            → (m : ℕ) → at v0 (n.arrives e).pulse ≡ m → ArrivesSoon n v0 v1 e
+        by_pulse now next later old new counts few zero is = inr (is, omega (arith, is, here0, here1, now, next, later, old, new, counts, few, held, none_shown, goes))
+        by_pulse now next later old new counts few (suc m) is = inl (omega (arith, is, small))
+
+    straight : keep t.index way ≡ false → at v0 (n.arrives e).pulse ≡ 1
+    straight passes =
+        let old = ap (λ (b : Bool). held_pulse b regs to) passes in
+        let same : at v0 to.pulse ≡ at v0 from.pulse = ap (λ (y : Nets). at v0 y.pulse) (zeroth.now.plan_facts.straight t.index t.joint way t.there passes) in
+        omega (arith, old, same, here0, held, none_shown, goes, small)
+
+    by_keep : (b : Bool) → keep t.index way ≡ b → ArrivesSoon n v0 v1 e
+    by_keep true keeps = kept keeps (at v0 (n.arrives e).pulse) refl
+    by_keep false passes = inl (straight passes)
+
+-- what arrives at a port is shown there in the next cycle, so it is a pulse or none
+port_small : (keep : Keep) (p : Plan) (net : Netlist) (n : Places) (rank : End → ℕ) (v0 v1 regs a0 a1 : Numbers) (s : Tokens) (m0 m1 : Made) (e : End) (c : Contact) (t : Taking p e c)
+    → OneCycle keep p net n rank v0 regs a0 s m0 → OneCycle keep p net n rank v1 a0 a1 m0.after m1 → IsPortEnd e → contact_at p e ≡ Some c
+    → at v0 (n.arrives e).pulse ≤ 1
+port_small keep p net n rank v0 v1 regs a0 a1 s m0 m1 e c t zeroth once port there =
     let way : Direction = way_taken c.role in
-    let counts = (one.now.standing.joints t.index t.joint way t.there).counts in
-    let small = small_count (s.in_place way t.joint.asking) in
-    subst (λ (d : End). at regs (n.arrives d).pulse ≤ 1) (sym t.is_target) (omega (arith, counts, small))
+    let counts = (once.now.standing.joints t.index t.joint way t.there).counts in
+    let few = small_count (m0.after.in_place way t.joint.asking) in
+    let next = (zeroth.now.facts.ports e c port there).next in
+    let shows = (shown_port n a0 e port).0 in
+    let here : shown_at n a0 e ≡ shown_at n a0 (target t.joint way) = ap (shown_at n a0) t.is_target in
+    omega (arith, counts, few, next, shows, here)
 
 -- what is possible at the beginning of a cycle is made in it, or in one of the next two
-pub record Three (p : Plan) (net : Netlist) (n : Places) (v0 v1 v2 regs a0 a1 a2 : Numbers) (s : Tokens) (m0 m1 m2 : Made) : Type 0 where
-  pub zeroth : OneCycle p net n v0 regs a0 s m0
-  pub once : OneCycle p net n v1 a0 a1 m0.after m1
-  pub twice : OneCycle p net n v2 a1 a2 m1.after m2
+pub record Three (keep : Keep) (p : Plan) (net : Netlist) (n : Places) (rank : End → ℕ) (v0 v1 v2 regs a0 a1 a2 : Numbers) (s : Tokens) (m0 m1 m2 : Made) : Type 0 where
+  pub zeroth : OneCycle keep p net n rank v0 regs a0 s m0
+  pub once : OneCycle keep p net n rank v1 a0 a1 m0.after m1
+  pub twice : OneCycle keep p net n rank v2 a1 a2 m1.after m2
 
-fire_soon : (p : Plan) (net : Netlist) (n : Places) (v0 v1 v2 regs a0 a1 a2 : Numbers) (s after : Tokens) (m0 m1 m2 : Made) (vs : List Numbers) (ms : List Made) (i : ℕ) (t : Slot)
-    → Three p net n v0 v1 v2 regs a0 a1 a2 s m0 m1 m2 → Does p (Fire i t) s after
+fire_soon : (keep : Keep) (p : Plan) (net : Netlist) (n : Places) (rank : End → ℕ) (v0 v1 v2 regs a0 a1 a2 : Numbers) (s after : Tokens) (m0 m1 m2 : Made) (vs : List Numbers) (ms : List Made) (i : ℕ) (t : Slot)
+    → Three keep p net n rank v0 v1 v2 regs a0 a1 a2 s m0 m1 m2 → Does p (Fire i t) s after
     → IsMadeSoon p net (v0 ∷ (v1 ∷ (v2 ∷ vs))) (m0 ∷ (m1 ∷ (m2 ∷ ms))) 0 (Fire i t)
-fire_soon p net n v0 v1 v2 regs a0 a1 a2 s after m0 m1 m2 vs ms i t three (x, r, lies, fires, leads) = by_part (slice_get p.parts i) refl
+fire_soon keep p net n rank v0 v1 v2 regs a0 a1 a2 s after m0 m1 m2 vs ms i t three (x, r, lies, fires, leads) = by_part (slice_get p.parts i) refl
   where
     Soon : Type 0
     Soon = IsMadeSoon p net (v0 ∷ (v1 ∷ (v2 ∷ vs))) (m0 ∷ (m1 ∷ (m2 ∷ ms))) 0 (Fire i t)
 
     by_held : (k : Part) (h : ℕ) (c : Contact) → slice_get p.parts i ≡ Some k → slice_get (part_contacts k) h ≡ Some c → contact_at p (PartEnd i h) ≡ Some c
-        → slot_in c.role h ≡ t → (g : Taking p (PartEnd i h) c) → Held p n regs (PartEnd i h) g.joint (way_taken c.role) → (m : ℕ) → at regs (n.arrives (PartEnd i h)).pulse ≡ m → Soon
-    by_held k h c is own there slot g held (suc m) e =
-        let one = held.one in
-        let pulse : at v0 (n.arrives (PartEnd i h)).pulse ≡ 1 =
-        arrives_now p net n v0 regs a0 s m0 (PartEnd i h) c g three.zeroth ∙ omega (arith, one, e) in (
-          0,
-          m0,
-          omega arith,
-          omega arith,
-          refl,
-          subst (λ (y : Slot). Contains m0.firings (record { part = i; takes = y })) slot (firing_made p net n v0 regs a0 s m0 i h k c three.zeroth is own there pulse),
-        )
-    by_held k h c is own there slot g held zero e =
-        let one = held.one in
-        let next = arrives_next p net n v0 regs a0 s m0 (PartEnd i h) c g three.zeroth in
-        let small = arrives_small p net n v1 a0 a1 m0.after m1 (PartEnd i h) c g three.once in
-        let pulse : at v1 (n.arrives (PartEnd i h)).pulse ≡ 1 =
-        arrives_now p net n v1 a0 a1 m0.after m1 (PartEnd i h) c g three.once ∙ omega (arith, one, e, next, small) in (
-          1,
-          m1,
-          omega arith,
-          omega arith,
-          refl,
-          subst (λ (y : Slot). Contains m1.firings (record { part = i; takes = y })) slot (firing_made p net n v1 a0 a1 m0.after m1 i h k c three.once is own there pulse),
-        )
+        → slot_in c.role h ≡ t → ArrivesSoon n v0 v1 (PartEnd i h) → Soon
+    by_held k h c is own there slot (inl pulse) = (
+      0,
+      m0,
+      omega arith,
+      omega arith,
+      refl,
+      subst (λ (y : Slot). Contains m0.firings (record { part = i; takes = y })) slot (firing_made keep p net n rank v0 regs a0 s m0 i h k c three.zeroth is own there pulse),
+    )
+    by_held k h c is own there slot (inr (none, pulse)) = (
+      1,
+      m1,
+      omega arith,
+      omega arith,
+      refl,
+      subst (λ (y : Slot). Contains m1.firings (record { part = i; takes = y })) slot (firing_made keep p net n rank v1 a0 a1 m0.after m1 i h k c three.once is own there pulse),
+    )
 
     by_place : (k : Part) (h : ℕ) (c : Contact) → slice_get p.parts i ≡ Some k → slice_get (part_contacts k) h ≡ Some c → contact_at p (PartEnd i h) ≡ Some c
         → slot_in c.role h ≡ t → token_at p s (PartEnd i h) (way_taken c.role) ≡ Some x → (f : Option End) → places_of p (PartEnd i h) ≡ f → Soon
@@ -181,7 +228,8 @@ fire_soon p net n v0 v1 v2 regs a0 a1 a2 s after m0 m1 m2 vs ms i t three (x, r,
     by_place k h c is own there slot token (Some a) place =
         let g : Taking p (PartEnd i h) c = taking p (PartEnd i h) a c three.zeroth.now.right there place in
         let here : s.in_place (way_taken c.role) g.joint.asking ≡ Some x = sym (lies_at p s (PartEnd i h) c g) ∙ token in
-        by_held k h c is own there slot g (held_in p net n v0 regs a0 s m0 (PartEnd i h) c x g three.zeroth here) (at regs (n.arrives (PartEnd i h)).pulse) refl
+        by_held k h c is own there slot
+        (arrives_soon keep p net n rank v0 v1 regs a0 a1 s m0 m1 (PartEnd i h) c x g three.zeroth three.once here refl (three.zeroth.whole.comes i h k c is there refl).small)
 
     by_slot : (k : Part) (y : Slot) → y ≡ t → slice_get p.parts i ≡ Some k → HasRole k (shake_of y) (role_taking y) → token_at p s (end_of i y) (way_of y) ≡ Some x → Soon
     by_slot k (Req h) e is (c, own, role) token =
@@ -211,63 +259,62 @@ fire_soon p net n v0 v1 v2 regs a0 a1 a2 s after m0 m1 m2 vs ms i t three (x, r,
         let role : RoleIs k (shake_of t) (role_taking t) = subst (λ (y : Slot). RoleIs k (shake_of y) (role_taking y)) roles.0 roles.1.0 in
         by_slot k t refl is (by_joint k is role (places_of p (end_of i t)) refl) lies
 
-out_soon : (p : Plan) (net : Netlist) (n : Places) (v0 v1 v2 regs a0 a1 a2 : Numbers) (s after : Tokens) (m0 m1 m2 : Made) (vs : List Numbers) (ms : List Made) (e : End) (x : ℕ)
-    → Three p net n v0 v1 v2 regs a0 a1 a2 s m0 m1 m2 → Does p (Out e x) s after
+out_soon : (keep : Keep) (p : Plan) (net : Netlist) (n : Places) (rank : End → ℕ) (v0 v1 v2 regs a0 a1 a2 : Numbers) (s after : Tokens) (m0 m1 m2 : Made) (vs : List Numbers) (ms : List Made) (e : End) (x : ℕ)
+    → Three keep p net n rank v0 v1 v2 regs a0 a1 a2 s m0 m1 m2 → Does p (Out e x) s after
     → IsMadeSoon p net (v0 ∷ (v1 ∷ (v2 ∷ vs))) (m0 ∷ (m1 ∷ (m2 ∷ ms))) 0 (Out e x)
-out_soon p net n v0 v1 v2 regs a0 a1 a2 s after m0 m1 m2 vs ms e x three (port, passes) = by_contact (contact_at p e) refl
+out_soon keep p net n rank v0 v1 v2 regs a0 a1 a2 s after m0 m1 m2 vs ms e x three (port, passes) = by_contact (contact_at p e) refl
   where
     Soon : Type 0
     Soon = IsMadeSoon p net (v0 ∷ (v1 ∷ (v2 ∷ vs))) (m0 ∷ (m1 ∷ (m2 ∷ ms))) 0 (Out e x)
 
     by_held : (c : Contact) → contact_at p e ≡ Some c → (g : Taking p e c) → s.in_place (way_taken c.role) g.joint.asking ≡ Some x
-        → (q m : ℕ) → at regs (n.shows e).pulse ≡ q → at regs (n.arrives e).pulse ≡ m → Soon
-    by_held c there g lies (suc q) m shown arrived =
-        let one = (held_in p net n v0 regs a0 s m0 e c x g three.zeroth lies).one in
-        let is = (shown_port n regs e port).0 in
+        → (q : ℕ) → at regs (n.shows e).pulse ≡ q → Soon
+    by_held c there g lies (suc q) shown =
+        let one = (held_in keep p net n rank v0 regs a0 s m0 e c x g three.zeroth lies).one in
+        let is : shown_at n regs (target g.joint (way_taken c.role)) ≡ at regs (n.shows e).pulse =
+        ap (shown_at n regs) (sym g.is_target) ∙ (shown_port n regs e port).0 in
         let pulse : at v0 (n.shows e).pulse ≡ 1 = (three.zeroth.now.facts.ports e c port there).pulse ∙ omega (arith, one, is, shown) in
-        (0, v0, omega arith, omega arith, refl, out_made p net n v0 regs a0 s m0 e c x g three.zeroth port there lies pulse)
-    by_held c there g lies zero (suc m) shown arrived =
-        let one = (held_in p net n v0 regs a0 s m0 e c x g three.zeroth lies).one in
-        let now : at v0 (n.shows e).pulse ≡ 0 = (three.zeroth.now.facts.ports e c port there).pulse ∙ shown in
-        let next = out_waits p net n v0 regs a0 s m0 e c x g three.zeroth port there lies now in
-        let pulse : at v1 (n.shows e).pulse ≡ 1 =
-        (three.once.now.facts.ports e c port there).pulse
-        ∙ ((three.zeroth.now.facts.ports e c port there).next
-        ∙ (arrives_now p net n v0 regs a0 s m0 e c g three.zeroth ∙ omega (arith, one, arrived))) in
-        (1, v1, omega arith, omega arith, refl, out_made p net n v1 a0 a1 m0.after m1 e c x g three.once port there next pulse)
-    by_held c there g lies zero zero shown arrived =
-        let one = (held_in p net n v0 regs a0 s m0 e c x g three.zeroth lies).one in
-        let is = (shown_port n regs e port).0 in
-        let now : at v0 (n.shows e).pulse ≡ 0 = (three.zeroth.now.facts.ports e c port there).pulse ∙ shown in
-        let next = out_waits p net n v0 regs a0 s m0 e c x g three.zeroth port there lies now in
-        let goes = arrives_next p net n v0 regs a0 s m0 e c g three.zeroth in
-        let later = (held_in p net n v1 a0 a1 m0.after m1 e c x g three.once next).one in
-        let is_later = (shown_port n a0 e port).0 in
-        let here : at a0 (n.arrives e).pulse ≡ 1 = omega (arith, one, is, shown, arrived, goes, later) in
-        let not_yet : at v1 (n.shows e).pulse ≡ 0 = (three.once.now.facts.ports e c port there).pulse ∙ omega (arith, later, is_later, here) in
-        let last = out_waits p net n v1 a0 a1 m0.after m1 e c x g three.once port there next not_yet in
-        let pulse : at v2 (n.shows e).pulse ≡ 1 =
-        (three.twice.now.facts.ports e c port there).pulse
-        ∙ ((three.once.now.facts.ports e c port there).next ∙ (arrives_now p net n v1 a0 a1 m0.after m1 e c g three.once ∙ here)) in
-        (2, v2, omega arith, omega arith, refl, out_made p net n v2 a1 a2 m1.after m2 e c x g three.twice port there last pulse)
+        (0, v0, omega arith, omega arith, refl, out_made keep p net n rank v0 regs a0 s m0 e c x g three.zeroth port there lies pulse)
+    by_held c there g lies zero shown =
+        by_arrival
+        (arrives_soon keep p net n rank v0 v1 regs a0 a1 s m0 m1 e c x g three.zeroth three.once lies ((shown_port n regs e port).0 ∙ shown)
+        (port_small keep p net n rank v0 v1 regs a0 a1 s m0 m1 e c g three.zeroth three.once port there))
+      where
+        now : at v0 (n.shows e).pulse ≡ 0
+        now = (three.zeroth.now.facts.ports e c port there).pulse ∙ shown
+
+        next : m0.after.in_place (way_taken c.role) g.joint.asking ≡ Some x
+        next = out_waits keep p net n rank v0 regs a0 s m0 e c x g three.zeroth port there lies now
+
+        shown_then : at v1 (n.shows e).pulse ≡ at v0 (n.arrives e).pulse
+        shown_then = (three.once.now.facts.ports e c port there).pulse ∙ (three.zeroth.now.facts.ports e c port there).next
+
+        by_arrival : ArrivesSoon n v0 v1 e → Soon
+        by_arrival (inl pulse) =
+            (1, v1, omega arith, omega arith, refl, out_made keep p net n rank v1 a0 a1 m0.after m1 e c x g three.once port there next (shown_then ∙ pulse))
+        by_arrival (inr (none, pulse)) =
+            let last = out_waits keep p net n rank v1 a0 a1 m0.after m1 e c x g three.once port there next (shown_then ∙ none) in
+            let shows : at v2 (n.shows e).pulse ≡ 1 =
+            (three.twice.now.facts.ports e c port there).pulse ∙ ((three.once.now.facts.ports e c port there).next ∙ pulse) in
+            (2, v2, omega arith, omega arith, refl, out_made keep p net n rank v2 a1 a2 m1.after m2 e c x g three.twice port there last shows)
 
     by_place : (c : Contact) → contact_at p e ≡ Some c → token_at p s e (way_taken c.role) ≡ Some x → (f : Option End) → places_of p e ≡ f → Soon
     by_place c there token None none = let no : None ≡ Some x = sym (ap (held_at s (way_taken c.role)) none) ∙ token in absurd (cc no)
     by_place c there token (Some a) place =
         let g : Taking p e c = taking p e a c three.zeroth.now.right there place in
-        by_held c there g (sym (lies_at p s e c g) ∙ token) (at regs (n.shows e).pulse) (at regs (n.arrives e).pulse) refl refl
+        by_held c there g (sym (lies_at p s e c g) ∙ token) (at regs (n.shows e).pulse) refl
 
     by_contact : (f : Option Contact) → contact_at p e ≡ f → Soon
     by_contact None none = absurd (subst (λ (f : Option Contact). Passes p (Out e x) f s after) none passes)
     by_contact (Some c) there =
         by_place c there (subst (λ (f : Option Contact). Passes p (Out e x) f s after) there passes).0 (places_of p e) refl
 
-soon : (p : Plan) (net : Netlist) (n : Places) (v0 v1 v2 regs a0 a1 a2 : Numbers) (s after : Tokens) (m0 m1 m2 : Made) (vs : List Numbers) (ms : List Made) (x : Element)
-    → Three p net n v0 v1 v2 regs a0 a1 a2 s m0 m1 m2 → Does p x s after
+soon : (keep : Keep) (p : Plan) (net : Netlist) (n : Places) (rank : End → ℕ) (v0 v1 v2 regs a0 a1 a2 : Numbers) (s after : Tokens) (m0 m1 m2 : Made) (vs : List Numbers) (ms : List Made) (x : Element)
+    → Three keep p net n rank v0 v1 v2 regs a0 a1 a2 s m0 m1 m2 → Does p x s after
     → IsMadeSoon p net (v0 ∷ (v1 ∷ (v2 ∷ vs))) (m0 ∷ (m1 ∷ (m2 ∷ ms))) 0 x
-soon p net n v0 v1 v2 regs a0 a1 a2 s after m0 m1 m2 vs ms (Fire i t) three does = fire_soon p net n v0 v1 v2 regs a0 a1 a2 s after m0 m1 m2 vs ms i t three does
-soon p net n v0 v1 v2 regs a0 a1 a2 s after m0 m1 m2 vs ms (Out e x) three does = out_soon p net n v0 v1 v2 regs a0 a1 a2 s after m0 m1 m2 vs ms e x three does
-soon p net n v0 v1 v2 regs a0 a1 a2 s after m0 m1 m2 vs ms (In e x) three does = tt
+soon keep p net n rank v0 v1 v2 regs a0 a1 a2 s after m0 m1 m2 vs ms (Fire i t) three does = fire_soon keep p net n rank v0 v1 v2 regs a0 a1 a2 s after m0 m1 m2 vs ms i t three does
+soon keep p net n rank v0 v1 v2 regs a0 a1 a2 s after m0 m1 m2 vs ms (Out e x) three does = out_soon keep p net n rank v0 v1 v2 regs a0 a1 a2 s after m0 m1 m2 vs ms e x three does
+soon keep p net n rank v0 v1 v2 regs a0 a1 a2 s after m0 m1 m2 vs ms (In e x) three does = tt
 
 later : (p : Plan) (net : Netlist) (v : Numbers) (vs : List Numbers) (m : Made) (ms : List Made) (t : ℕ) (x : Element)
     → IsMadeSoon p net vs ms t x → IsMadeSoon p net (v ∷ vs) (m ∷ ms) (suc t) x
@@ -275,33 +322,34 @@ later p net v vs m ms t (Fire i k) (j, made, from, to, there, has) = (suc j, mad
 later p net v vs m ms t (Out e n) (j, made, from, to, there, has) = (suc j, made, omega (arith, from), omega (arith, to), there, has)
 later p net v vs m ms t (In e n) made = tt
 
-pub prompt : (p : Plan) (net : Netlist) (n : Places) (vs : List Numbers) (regs : Numbers) (s : Tokens) (ms : List Made) (t : ℕ) (x : Element) (after : Tokens)
-    → Chain p net n vs regs s ms → t + 3 < length ms → Does p x (state_after s ms t) after → IsMadeSoon p net vs ms t x
-prompt p net n vs regs s [] t x after chain few does = absurd (omega (arith, few))
-prompt p net n [] regs s (m ∷ ms) t x after chain few does = absurd chain
-prompt p net n (v ∷ vs) regs s (m ∷ ms) (suc t) x after chain few does =
-    later p net v vs m ms t x (prompt p net n vs chain.0 m.after ms t x after chain.2 (omega (arith, few)) does)
-prompt p net n (v ∷ vs) regs s (m ∷ []) zero x after chain few does = absurd (omega (arith, few))
-prompt p net n (v ∷ []) regs s (m ∷ (m1 ∷ ms)) zero x after chain few does = absurd chain.2
-prompt p net n (v ∷ (v1 ∷ vs)) regs s (m ∷ (m1 ∷ [])) zero x after chain few does = absurd (omega (arith, few))
-prompt p net n (v ∷ (v1 ∷ [])) regs s (m ∷ (m1 ∷ (m2 ∷ ms))) zero x after chain few does = absurd chain.2.2
-prompt p net n (v ∷ (v1 ∷ (v2 ∷ vs))) regs s (m ∷ (m1 ∷ (m2 ∷ ms))) zero x after chain few does =
-    soon p net n v v1 v2 regs chain.0 chain.2.0 chain.2.2.0 s after m m1 m2 vs ms x (record { zeroth = chain.1; once = chain.2.1; twice = chain.2.2.1 }) does
+pub prompt : (keep : Keep) (p : Plan) (net : Netlist) (n : Places) (rank : End → ℕ) (vs : List Numbers) (regs : Numbers) (s : Tokens) (ms : List Made) (t : ℕ) (x : Element) (after : Tokens)
+    → Chain keep p net n rank vs regs s ms → t + 3 < length ms → Does p x (state_after s ms t) after → IsMadeSoon p net vs ms t x
+prompt keep p net n rank vs regs s [] t x after chain few does = absurd (omega (arith, few))
+prompt keep p net n rank [] regs s (m ∷ ms) t x after chain few does = absurd chain
+prompt keep p net n rank (v ∷ vs) regs s (m ∷ ms) (suc t) x after chain few does =
+    later p net v vs m ms t x (prompt keep p net n rank vs chain.0 m.after ms t x after chain.2 (omega (arith, few)) does)
+prompt keep p net n rank (v ∷ vs) regs s (m ∷ []) zero x after chain few does = absurd (omega (arith, few))
+prompt keep p net n rank (v ∷ []) regs s (m ∷ (m1 ∷ ms)) zero x after chain few does = absurd chain.2
+prompt keep p net n rank (v ∷ (v1 ∷ vs)) regs s (m ∷ (m1 ∷ [])) zero x after chain few does = absurd (omega (arith, few))
+prompt keep p net n rank (v ∷ (v1 ∷ [])) regs s (m ∷ (m1 ∷ (m2 ∷ ms))) zero x after chain few does = absurd chain.2.2
+prompt keep p net n rank (v ∷ (v1 ∷ (v2 ∷ vs))) regs s (m ∷ (m1 ∷ (m2 ∷ ms))) zero x after chain few does =
+    soon keep p net n rank v v1 v2 regs chain.0 chain.2.0 chain.2.2.0 s after m m1 m2 vs ms x (record { zeroth = chain.1; once = chain.2.1; twice = chain.2.2.1 }) does
 
 -- the theorem
 pub facts_make_lists : FactsMakeLists
-facts_make_lists p net n regs vs right parts plan zero_all follow =
+facts_make_lists keep p net n rank regs vs right parts plan rises zero_all follow =
     let idle : IsIdle p empty = ((λ way e. refl), λ i. refl) in
-    let all : Listed p net n regs vs (λ e. false) empty =
-    follows p net n regs vs (λ e. false) empty empty [] right parts plan idle (refl, refl) (at_reset p n regs parts zero_all) follow in (
+    let led : Led p none_open empty = record { past = []; first = empty; idle = idle; list = (refl, refl) } in
+    let all : Listed keep p net n rank regs vs none_open empty =
+    follows keep p net n rank regs vs none_open empty rises right parts plan led (at_reset keep p n regs parts zero_all) follow in (
       empty,
       all.cycles,
       idle,
       all.made,
-      (λ t x after few does. prompt p net n vs regs empty all.cycles t x after all.chain few does),
+      (λ t x after few does. prompt keep p net n rank vs regs empty all.cycles t x after all.chain few does),
       by_end all.cycles all.ends,
     )
   where
-    by_end : (ms : List Made) → (length ms ≡ length vs) ⊎ BrokenFrom p net vs (λ e. false) empty ms → (length ms ≡ length vs) ⊎ cycles.IsBroken p net vs empty ms
+    by_end : (ms : List Made) → (length ms ≡ length vs) ⊎ BrokenFrom p net vs none_open empty ms → (length ms ≡ length vs) ⊎ cycles.IsBroken p net vs empty ms
     by_end ms (inl as_many) = inl as_many
     by_end ms (inr (v, fs, t, there, runs, never)) = inr (v, fs, t, there, runs, λ order. never order.0 order.1 order.2)

@@ -30,7 +30,7 @@ fed_by : (cells : List Cell) (a b : ℕ) → Feeds cells a b → IsFed cells b
 fed_by cells a b (c, e, at, there, gate, pin) = (e, there, λ none. none_in_nil a (pins e.gate) none pin)
 
 -- from a gate that is fed to a gate it goes up
-rises : (cells : List Cell) → Each (IsGood cells) 0 cells → (a b : ℕ) → IsFed cells a → IsGate cells b → Feeds cells a b → a < b
+rises : (cells : List Cell) → Each (IsGood IsCut cells) 0 cells → (a b : ℕ) → IsFed cells a → IsGate cells b → Feeds cells a b → a < b
 rises cells good a b fed gate (c, e, at, there, cut, pin) = of_order (good b e there).order
   where
     same_gate : gate.0 ≡ e
@@ -43,14 +43,14 @@ rises cells good a b fed gate (c, e, at, there, cut, pin) = of_order (good b e t
     of_cut d same (inl register) = cut (subst (λ (x : Cell). IsRegister x.gate) same register)
     of_cut d same (inr none) = fed.2 (subst (λ (x : Cell). pins x.gate ≡ []) (same ∙ sym same_fed) none)
 
-    of_back : GoesBack cells (0 + b) a → a < b
+    of_back : GoesBack IsCut cells (0 + b) a → a < b
     of_back (d, found, inl is) = absurd (of_cut d (same_Some d c (sym found ∙ at)) is)
     of_back (d, found, inr low) = omega (arith, low)
 
-    of_order : IsRegister e.gate ⊎ AllByRecursion (GoesBack cells (0 + b)) (pins e.gate) → a < b
+    of_order : IsRegister e.gate ⊎ AllByRecursion (GoesBack IsCut cells (0 + b)) (pins e.gate) → a < b
     of_order (inl register) = absurd (gate.2 (subst (λ (x : Cell). IsRegister x.gate) (sym same_gate) register))
     of_order (inr all) =
-        of_back (All-contains (GoesBack cells (0 + b)) (pins e.gate) a (All-from_recursion (GoesBack cells (0 + b)) (pins e.gate) all) pin)
+        of_back (All-contains (GoesBack IsCut cells (0 + b)) (pins e.gate) a (All-from_recursion (GoesBack IsCut cells (0 + b)) (pins e.gate) all) pin)
 
 chain_gate : (cells : List Cell) (a : ℕ) (ns : List ℕ) (z : ℕ) → Chain cells (a ∷ ns) z → IsGate cells a
 chain_gate cells a [] z chain = gate_of cells a z chain
@@ -60,7 +60,7 @@ chain_fed : (cells : List Cell) (a : ℕ) (ns : List ℕ) (z : ℕ) → Chain ce
 chain_fed cells a [] z chain = fed_by cells a z chain
 chain_fed cells a (b ∷ ns) z chain = chain_fed cells b ns z chain.1
 
-chain_rises : (cells : List Cell) → Each (IsGood cells) 0 cells → (a : ℕ) (ns : List ℕ) (z : ℕ) → IsFed cells a → IsGate cells z
+chain_rises : (cells : List Cell) → Each (IsGood IsCut cells) 0 cells → (a : ℕ) (ns : List ℕ) (z : ℕ) → IsFed cells a → IsGate cells z
     → Chain cells (a ∷ ns) z → a < z
 chain_rises cells good a [] z fed gate chain = rises cells good a z fed gate chain
 chain_rises cells good a (b ∷ ns) z fed gate chain =
@@ -68,12 +68,12 @@ chain_rises cells good a (b ∷ ns) z fed gate chain =
     let rest = chain_rises cells good b ns z (fed_by cells a b chain.0) gate chain.1 in
     omega (arith, first, rest)
 
-no_ring : (cells : List Cell) → Each (IsGood cells) 0 cells → (nets : List ℕ) → CombinationalCycle cells nets → ⊥
+no_ring : (cells : List Cell) → Each (IsGood IsCut cells) 0 cells → (nets : List ℕ) → CombinationalCycle cells nets → ⊥
 no_ring cells good [] cycle = cycle
 no_ring cells good (a ∷ ns) cycle =
     let up = chain_rises cells good a ns a (chain_fed cells a ns a cycle.1) (chain_gate cells a ns a cycle.1) cycle.1 in
     omega (arith, up)
 
 -- good cells have no combinational cycle
-pub no_cycle : (cells : List Cell) → Each (IsGood cells) 0 cells → HasCycle cells → ⊥
+pub no_cycle : (cells : List Cell) → Each (IsGood IsCut cells) 0 cells → HasCycle cells → ⊥
 no_cycle cells good (nets, cycle) = no_ring cells good nets cycle

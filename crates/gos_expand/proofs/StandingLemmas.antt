@@ -1,10 +1,10 @@
 -- What stands at the beginning of a cycle: the registers hold the tokens that lie on the joints, each in one of three
 -- places.
 --
--- A token that was put at an end is pending in a register of its part's gates, or in the register of its joint, or in
--- the register of the output that takes it.
+-- A token that was put at an end is pending in a register of its part's gates, or in the register of its joint, if that is
+-- kept, or in the register of the output that takes it.
 use Rattle.std.specs.Prelude.{Option, None}
-use Rattle.std.proofs.Common.{◌≡◌, inl, inr, ℕ, zero, suc, ◌+◌, ◌≤◌, ◌<◌, List, [], ◌∷◌, Some, slice_get, Contains, refl, sym, ◌∙◌, ap, subst, arith}
+use Rattle.std.proofs.Common.{◌≡◌, inl, inr, ℕ, zero, suc, ◌+◌, ◌≤◌, ◌<◌, Bool, true, false, List, [], ◌∷◌, ◌++◌, Some, slice_get, Contains, refl, sym, ◌∙◌, ap, subst, arith}
 use Rattle.gos_types.specs.declared.shakes.Role.{Role}
 use Rattle.gos_types.specs.declared.shakes.Role.TheVariants.{Serve, Ask}
 use Rattle.gos_netlist.specs.Nets.{Netlist}
@@ -22,9 +22,11 @@ use Rattle.gos_plan.proofs.AccountLemmas.{parts_fill_places}
 use Rattle.gos_plan.proofs.JointLemmas.{IsIn, found, fits}
 use Rattle.gos_plan.proofs.BalanceLemmas.{IsOf, of_role}
 use Rattle.gos_expand.specs.Gates.{pending_of, stands_of}
-use Rattle.gos_expand.specs.Starts.{bits_taken}
-use Rattle.gos_expand.specs.Facts.{Places, source, target, width, incoming_at, CycleFacts, PlanFacts, PartFacts}
+use Rattle.gos_expand.specs.Blocks.{Nets}
+use Rattle.gos_expand.specs.Starts.{Keep, bits_if, bits_taken}
+use Rattle.gos_expand.specs.Facts.{Places, source, target, width, bits_put, incoming_at, CycleFacts, PlanFacts, PartFacts}
 use Rattle.gos_plan.specs.Accounts.{count, number, AddsUp, PartsPut}
+use Rattle.gos_expand.proofs.ChainLemmas.{orderly-append}
 
 -- the tokens that are pending at an end, and the sum of their numbers
 abbrev pub pending_if : Option Part → ℕ → Numbers → List Token
@@ -48,37 +50,61 @@ abbrev pub shown_numbers : Places → Numbers → End → ℕ
 shown_numbers n regs (PartEnd i h) = 0
 shown_numbers n regs e = at regs (n.shows e).number
 
--- where what lies in a direction of a joint is
-pub record Lies (p : Plan) (n : Places) (regs : Numbers) (s : Tokens) (j : Joint) (way : Direction) : Type 0 where
+-- what the registers of a direction hold, if they are kept
+abbrev pub held_pulse : Bool → Numbers → Nets → ℕ
+held_pulse true regs nets = at regs nets.pulse
+held_pulse false regs nets = 0
+
+abbrev pub held_number : Bool → Numbers → Nets → ℕ
+held_number true regs nets = at regs nets.number
+held_number false regs nets = 0
+
+-- where what lies in a direction of joint x is
+pub record Lies (keep : Keep) (p : Plan) (n : Places) (regs : Numbers) (s : Tokens) (x : ℕ) (j : Joint) (way : Direction) : Type 0 where
   pub counts :
       count (s.in_place way j.asking)
-      ≡ at regs (n.arrives (target j way)).pulse + (pending_at p n regs (source j way) + shown_at n regs (target j way))
+      ≡ held_pulse (keep x way) regs (n.arrives (target j way)) + (pending_at p n regs (source j way) + shown_at n regs (target j way))
   pub numbers :
       0 < width p j way
       → number (s.in_place way j.asking)
-      ≡ at regs (n.arrives (target j way)).number + (pending_numbers p n regs (source j way) + shown_numbers n regs (target j way))
-  pub silent : 0 < width p j way → at regs (n.arrives (target j way)).pulse ≡ 0 → at regs (n.arrives (target j way)).number ≡ 0
+      ≡ held_number (keep x way) regs (n.arrives (target j way)) + (pending_numbers p n regs (source j way) + shown_numbers n regs (target j way))
+  pub silent :
+      0 < width p j way → held_pulse (keep x way) regs (n.arrives (target j way)) ≡ 0
+      → held_number (keep x way) regs (n.arrives (target j way)) ≡ 0
   pub silent_out : 0 < width p j way → shown_at n regs (target j way) ≡ 0 → shown_numbers n regs (target j way) ≡ 0
 
 -- registers and tokens at the beginning of a cycle
-pub record Standing (p : Plan) (n : Places) (regs : Numbers) (s : Tokens) : Type 0 where
+pub record Standing (keep : Keep) (p : Plan) (n : Places) (regs : Numbers) (s : Tokens) : Type 0 where
   pub welcome : AllWelcome p s
   pub fit : AllFit p s
   pub parts : (i : ℕ) (k : Part) → slice_get p.parts i ≡ Some k → stands_of k (n.start i) regs (s.state i)
-  pub joints : (x : ℕ) (j : Joint) (way : Direction) → slice_get p.joints x ≡ Some j → Lies p n regs s j way
+  pub joints : (x : ℕ) (j : Joint) (way : Direction) → slice_get p.joints x ≡ Some j → Lies keep p n regs s x j way
   pub loose : (e : End) (c : Contact) → IsPortEnd e → contact_at p e ≡ Some c → places_of p e ≡ None → at regs (n.shows e).pulse ≡ 0
 
--- all that is known of a cycle at its beginning
-pub record Now (p : Plan) (net : Netlist) (n : Places) (v regs after : Numbers) (o : Open) (s : Tokens) : Type 0 where
-  pub right : IsRight p
-  pub part_facts : PartFacts p
-  pub plan_facts : PlanFacts p n
-  pub facts : CycleFacts p net n v regs after
+-- an orderly list leads from an idle state to this one
+pub record Led (p : Plan) (o : Open) (s : Tokens) : Type 0 where
   pub past : List Element
   pub first : Tokens
   pub idle : IsIdle p first
   pub list : OrderlyFrom p past none_open first o s
-  pub standing : Standing p n regs s
+
+pub led_on : (p : Plan) (xs : List Element) (o u : Open) (s t : Tokens) → Led p o s → OrderlyFrom p xs o s u t → Led p u t
+led_on p xs o u s t led more =
+    record {
+      past = led.past ++ xs;
+      first = led.first;
+      idle = led.idle;
+      list = orderly-append p led.past xs none_open o u led.first s t led.list more;
+    }
+
+-- all that is known of a cycle at its beginning
+pub record Now (keep : Keep) (p : Plan) (net : Netlist) (n : Places) (v regs after : Numbers) (o : Open) (s : Tokens) : Type 0 where
+  pub right : IsRight p
+  pub part_facts : PartFacts p
+  pub plan_facts : PlanFacts keep p n
+  pub facts : CycleFacts keep p net n v regs after
+  pub led : Led p o s
+  pub standing : Standing keep p n regs s
 
 -- the values that come in at a part
 abbrev pub values_if : Option Part → Numbers → Incoming → ℕ → ℕ
@@ -136,19 +162,51 @@ taking p e a c right there place =
         let is_c : c ≡ asks fit.0 fit.1 = cc (there, same) in
         rw (is, fit.2) (ap (λ (d : Contact). d.answer_bits) (sym is_c))
 
+-- the two ends of a direction of a joint
+pub record Ends (p : Plan) (j : Joint) (way : Direction) : Type 0 where
+  pub from : Contact
+  pub from_there : contact_at p (source j way) ≡ Some from
+  pub from_bits : bits_put (Some from) ≡ width p j way
+  pub to : Contact
+  pub to_there : contact_at p (target j way) ≡ Some to
+  pub to_bits : bits_taken (Some to) ≡ width p j way
+  pub to_way : way_taken to.role ≡ way
+
+pub ends_of : (p : Plan) (j : Joint) (way : Direction) → Fits p j → Ends p j way
+ends_of p j Request (q, a, asking, serving) =
+    record {
+      from = asks q a;
+      from_there = asking;
+      from_bits = sym (ap (λ (f : Option Contact). bits_if f Request) asking);
+      to = serves q a;
+      to_there = serving;
+      to_bits = sym (ap (λ (f : Option Contact). bits_if f Request) asking);
+      to_way = refl;
+    }
+ends_of p j Answer (q, a, asking, serving) =
+    record {
+      from = serves q a;
+      from_there = serving;
+      from_bits = sym (ap (λ (f : Option Contact). bits_if f Answer) asking);
+      to = asks q a;
+      to_there = asking;
+      to_bits = sym (ap (λ (f : Option Contact). bits_if f Answer) asking);
+      to_way = refl;
+    }
+
 contains_at : {X : Type 0} (xs : List X) (m : ℕ) (x : X) → slice_get xs m ≡ Some x → Contains xs x
 contains_at [] m x e = absurd (grind (arith, e))
 contains_at (y ∷ xs) zero x e = (0, omega arith, cc e)
 contains_at (y ∷ xs) (suc m) x e = let rest = contains_at xs m x e in let lt = rest.1 in (suc rest.0, omega (arith, lt), rest.2)
 
 -- what the parts put in a list of the cycle, and how the joints add up
-pub filled : (p : Plan) (net : Netlist) (n : Places) (v regs after : Numbers) (o u : Open) (s t : Tokens) (xs : List Element)
-    → Now p net n v regs after o s → OrderlyFrom p xs o s u t → ((i : ℕ) → TakesValues p i (values p n v i) xs s)
+pub filled : (p : Plan) (n : Places) (v : Numbers) (o u : Open) (s t : Tokens) (xs : List Element)
+    → IsRight p → Led p o s → OrderlyFrom p xs o s u t → ((i : ℕ) → TakesValues p i (values p n v i) xs s)
     → (puts : ℕ → List Token) × PartsPut p (values p n v) puts xs o s u t
     × ((x : ℕ) (j : Joint) (way : Direction) → slice_get p.joints x ≡ Some j
     → AddsUp (values p n v) puts xs s t way j.asking (source j way) (target j way))
-filled p net n v regs after o u s t xs now list takes =
-    let law = parts_fill_places p (values p n v) now.past xs o u now.first s t now.right now.idle now.list list takes in
+filled p n v o u s t xs right led list takes =
+    let law = parts_fill_places p (values p n v) led.past xs o u led.first s t right led.idle led.list list takes in
     (law.0, law.1, λ x j way there. by_way way j (law.2 j (contains_at p.joints x j there)))
   where
     by_way : {puts : ℕ → List Token} (way : Direction) (j : Joint)
@@ -165,10 +223,6 @@ small_count (Some v) = omega arith
 pub one_token : (f : Option ℕ) → count f ≡ 1 → f ≡ Some (number f)
 one_token None e = absurd (omega (arith, e))
 one_token (Some v) e = refl
-
-pub no_token : (f : Option ℕ) → count f ≡ 0 → number f ≡ 0
-no_token None e = refl
-no_token (Some v) e = absurd (omega (arith, e))
 
 pub counts_token : (f : Option ℕ) (v : ℕ) → f ≡ Some v → (count f ≡ 1) × (number f ≡ v)
 counts_token f v e = (ap count e, ap number e)

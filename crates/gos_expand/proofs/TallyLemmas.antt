@@ -106,7 +106,7 @@ apart Serve h (Ans j) lt = refl
 apart Ask h (Req j) lt = refl
 apart Ask h (Ans j) lt = grind (arith, lt)
 
-pub same_shake : (role : Role) (h : ℕ) (s : Slot) → same_slot (slot_in role h) s ≡ true → shake_of s ≡ h
+same_shake : (role : Role) (h : ℕ) (s : Slot) → same_slot (slot_in role h) s ≡ true → shake_of s ≡ h
 same_shake Serve h (Req j) e = grind (arith, e)
 same_shake Serve h (Ans j) e = absurd (cc e)
 same_shake Ask h (Req j) e = absurd (cc e)
@@ -124,7 +124,7 @@ keeps_zero p s t ss n h = by_test (nat_eq (p (shake_of t)) 1)
     by_test true = rw n h
     by_test false = h
 
-pub none_later : (p : ℕ → ℕ) (these : ℕ → Bool) (h : ℕ) (cs : List Contact) (s : Slot) → shake_of s < h → times s (pulsed p (slots_of these h cs)) ≡ 0
+none_later : (p : ℕ → ℕ) (these : ℕ → Bool) (h : ℕ) (cs : List Contact) (s : Slot) → shake_of s < h → times s (pulsed p (slots_of these h cs)) ≡ 0
 none_later p these h [] s lt = refl
 none_later p these h (c ∷ cs) s lt = by_test (these h) (none_later p these (suc h) cs s (omega (arith, lt)))
   where
@@ -159,7 +159,7 @@ each_once p these h (c ∷ cs) s small = by_test (these h) (each_once p these (s
     by_test false go = go
 
 -- the pulse of a slot that there is
-pub no_pulse : (p : ℕ → ℕ) (these : ℕ → Bool) (h : ℕ) (cs : List Contact) (s : Slot) → shake_of s < h → pulse_at p s (slots_of these h cs) ≡ 0
+no_pulse : (p : ℕ → ℕ) (these : ℕ → Bool) (h : ℕ) (cs : List Contact) (s : Slot) → shake_of s < h → pulse_at p s (slots_of these h cs) ≡ 0
 no_pulse p these h [] s lt = refl
 no_pulse p these h (c ∷ cs) s lt = by_test (these h) (no_pulse p these (suc h) cs s (omega (arith, lt)))
   where
@@ -197,32 +197,10 @@ pulse_there p these h (suc g) m (x ∷ cs) c e there = by_test (these h) (pulse_
     by_test true go = rw (later_apart x.role c.role h m (omega (arith, e))) go
     by_test false go = go
 
--- those with a pulse are slots of handshakes that have one
+-- what holds of each slot
 abbrev pub Each : (Slot → Type 0) → List Slot → Type 0
 Each Q [] = Unit {0}
 Each Q (s ∷ ss) = Q s × Each Q ss
-
-pub each_pulsed : (Q : Slot → Type 0) (p : ℕ → ℕ) (these : ℕ → Bool) (h : ℕ) (cs : List Contact)
-    → ((g m : ℕ) (c : Contact) → m ≡ h + g → slice_get cs g ≡ Some c → p m ≡ 1 → Q (slot_in c.role m)) → Each Q (pulsed p (slots_of these h cs))
-each_pulsed Q p these h [] all = tt
-each_pulsed Q p these h (c ∷ cs) all = by_test (these h) (each_pulsed Q p these (suc h) cs (λ g m d e there. all (suc g) m d (omega (arith, e)) there))
-  where
-    by_test : (b : Bool) → Each Q (pulsed p (slots_of these (suc h) cs))
-        → Each Q (pulsed p (if b then slot_in c.role h ∷ slots_of these (suc h) cs else slots_of these (suc h) cs))
-    by_test true go = by_pulse (nat_eq (p (shake_of (slot_in c.role h))) 1) refl
-      where
-        by_pulse : (b : Bool) → nat_eq (p (shake_of (slot_in c.role h))) 1 ≡ b
-            → Each Q (if b then slot_in c.role h ∷ pulsed p (slots_of these (suc h) cs) else pulsed p (slots_of these (suc h) cs))
-        by_pulse true e =
-            let is = shake_in c.role h in
-            let one : p (shake_of (slot_in c.role h)) ≡ 1 = grind (arith, e) in
-            (all 0 h c (omega arith) refl (ap p (sym is) ∙ one), go)
-        by_pulse false e = go
-    by_test false go = go
-
-pub each-append : (Q : Slot → Type 0) (xs ys : List Slot) → Each Q xs → Each Q ys → Each Q (xs ++ ys)
-each-append Q [] ys h g = g
-each-append Q (x ∷ xs) ys h g = (h.0, each-append Q xs ys h.1 g)
 
 -- the firings of a part in two lists
 pub firings-append : (i : ℕ) (xs ys : List Element) → firings_of i (xs ++ ys) ≡ firings_of i xs ++ firings_of i ys

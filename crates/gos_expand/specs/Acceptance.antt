@@ -7,8 +7,9 @@ use Rattle.gos_plan.specs.Plans.{IsRight}
 use Rattle.gos_plan.specs.Ranges.{AreInRange}
 use Rattle.gos_plan.specs.Seen.{SeenPlan, plan_of}
 use Rattle.gos_plan.specs.Size.{plan_size}
+use Rattle.gos_netlist.specs.Cycles.{HasCycle}
 use Rattle.gos_netcheck.specs.Accepted.{IsAccepted}
-use Rattle.gos_expand.specs.Starts.{keep_all}
+use Rattle.gos_expand.specs.Starts.{Keep, keep_all}
 use Rattle.gos_expand.specs.Laid.{laid}
 
 -- no name stands twice
@@ -27,10 +28,18 @@ pub record CanBeLaid (p : SeenPlan) (root : List ℕ) : Type 0 where
   pub ports : HasGroundPorts p
   pub names : AreDifferent (root ∷ map (λ i. i.name) p.imports)
 
--- the netlist of such a plan, with a register in each direction of each joint, is accepted
+-- The netlist of such a plan is accepted, whichever directions of joints keep their registers, where it has no combinational
+-- cycle.
 abbrev pub LaidIsAccepted : Type 0
-LaidIsAccepted = (p : SeenPlan) (root : List ℕ) → CanBeLaid p root → IsAccepted (laid keep_all (plan_of p) root)
+LaidIsAccepted =
+    (keep : Keep) (p : SeenPlan) (root : List ℕ)
+    → CanBeLaid p root → (HasCycle (laid keep (plan_of p) root).cells → ⊥) → IsAccepted (laid keep (plan_of p) root)
+
+-- it has none where all keep them
+abbrev pub AllCutCycles : Type 0
+AllCutCycles = (p : SeenPlan) (root : List ℕ) → CanBeLaid p root → HasCycle (laid keep_all (plan_of p) root).cells → ⊥
 
 -- and has no more cells than the plan's size
 abbrev pub LaidIsSmall : Type 0
-LaidIsSmall = (p : SeenPlan) (root : List ℕ) → CanBeLaid p root → length (laid keep_all (plan_of p) root).cells ≤ plan_size (plan_of p)
+LaidIsSmall =
+    (keep : Keep) (p : SeenPlan) (root : List ℕ) → CanBeLaid p root → length (laid keep (plan_of p) root).cells ≤ plan_size (plan_of p)

@@ -1,22 +1,24 @@
 -- What the cycles of a plan's netlist show, in terms of the plan's ends, and that such cycles are lists of the plan.
 --
--- Read first: Starts, Kept; Cycles of gos_plan. Behind these facts no numbers of nets are needed any more.
-use Rattle.std.specs.Prelude.{◌≡◌, ℕ, zero, suc, ◌^◌, ◌<◌, ◌≤◌, List, [], ◌∷◌, Option, Some, None, All, slice_get, nat_eq, if◌then◌else◌}
+-- Read first: Starts, Kept; Cycles and Paths of gos_plan. A direction of a joint that keeps its registers holds what passes
+-- for a cycle; the nets of one that doesn't are one and the same. Behind these facts no numbers of nets are needed any more.
+use Rattle.std.specs.Prelude.{◌≡◌, ℕ, zero, suc, ◌^◌, ◌<◌, ◌≤◌, true, false, List, [], ◌∷◌, length, Option, Some, None, All, slice_get, nat_eq, if◌then◌else◌}
 use Rattle.gos_netlist.specs.Nets.{Netlist}
 use Rattle.gos_netlist.specs.Events.{Direction, Request, Answer}
 use Rattle.gos_netlist.specs.Settling.{Numbers, at}
 use Rattle.gos_model.specs.Flattening.{outputs, inputs}
-use Rattle.gos_plan.specs.Kinds.{Part, Contact}
+use Rattle.gos_plan.specs.Kinds.{Part, Contact, part_contacts}
 use Rattle.gos_plan.specs.Plans.{End, PartEnd, Joint, Plan, IsRight, contact_at, same_end}
 use Rattle.gos_plan.specs.Tokens.{Element, Out, In, IsPortEnd, places_of, bits_of, way_put}
 use Rattle.gos_plan.specs.TokenBits.{LiteralFits}
 use Rattle.gos_plan.specs.Gates.{Incoming, Settled}
 use Rattle.gos_plan.specs.Kept.{KeepLaws}
+use Rattle.gos_plan.specs.Paths.{KeepPaths}
 use Rattle.gos_plan.specs.Cycles as cycles
 use Rattle.gos_plan.specs.AnyOrder.{EndsDiffer}
-use Rattle.gos_expand.specs.Gates.{layout, outs_of, late_of, pending_of, stands_of}
+use Rattle.gos_expand.specs.Gates.{layout, outs_of, late_of, pending_of, stands_of, passing_of}
 use Rattle.gos_expand.specs.Blocks.{Nets}
-use Rattle.gos_expand.specs.Starts.{bits_if, bits_taken, ports_of, port_ends}
+use Rattle.gos_expand.specs.Starts.{Keep, bits_if, bits_taken, ports_of, port_ends}
 use Rattle.gos_expand.specs.Laid.{nets_out, known}
 
 -- By end: the nets of what goes into the circuit, of what comes in there, and of what a port shows of it. By part:
@@ -83,9 +85,10 @@ shown_elements p n v = elements Out v (bits_out_at p) n.shows (port_ends (ports_
 abbrev pub given_elements : Plan → Places → Numbers → List Element
 given_elements p n v = elements In v (bits_in_at p) n.leaves (port_ends (ports_of p))
 
--- What a cycle shows, with these values of nets, registers and next registers. Each direction of a joint delays, and
--- so does each output of a port; an end without a joint gets nothing; and what the outside gives is in range.
-pub record CycleFacts (p : Plan) (net : Netlist) (n : Places) (v regs after : Numbers) : Type 0 where
+-- What a cycle shows, with these values of nets, registers and next registers. Each direction of a joint that keeps its
+-- registers delays, and so does each output of a port; an end without a joint gets nothing; and what the outside gives is in
+-- range.
+pub record CycleFacts (keep : Keep) (p : Plan) (net : Netlist) (n : Places) (v regs after : Numbers) : Type 0 where
   pub outs : cycles.outs_of p (outputs net v) ≡ shown_elements p n v
   pub ins : cycles.ins_of p (inputs net v) ≡ given_elements p n v
   pub outs_apart : EndsDiffer p (outputs net v)
@@ -93,7 +96,7 @@ pub record CycleFacts (p : Plan) (net : Netlist) (n : Places) (v regs after : Nu
   pub parts :
       (i : ℕ) (k : Part) → slice_get p.parts i ≡ Some k → Settled v regs after (n.start i) 0 (layout k (n.start i) (incoming_at p n i))
   pub joints :
-      (x : ℕ) (j : Joint) (way : Direction) → slice_get p.joints x ≡ Some j
+      (x : ℕ) (j : Joint) (way : Direction) → slice_get p.joints x ≡ Some j → keep x way ≡ true
       → Delays (width p j way) v regs after (n.leaves (source j way)) (n.arrives (target j way))
   pub loose :
       (e : End) (c : Contact) → contact_at p e ≡ Some c → places_of p e ≡ None
@@ -107,31 +110,58 @@ pub record CycleFacts (p : Plan) (net : Netlist) (n : Places) (v regs after : Nu
       × (0 < bits_put (Some c) → (at v (n.leaves e).number < 2 ^ bits_put (Some c)) × (at v (n.leaves e).pulse ≡ 0 → at v (n.leaves e).number ≡ 0))
 
 -- cycles one after another, from these registers on
-abbrev pub Follow : Plan → Netlist → Places → Numbers → List Numbers → Type 0
-Follow p net n regs [] = Unit {0}
-Follow p net n regs (v ∷ vs) = (after : Numbers) × CycleFacts p net n v regs after × Follow p net n after vs
+abbrev pub Follow : Keep → Plan → Netlist → Places → Numbers → List Numbers → Type 0
+Follow keep p net n regs [] = Unit {0}
+Follow keep p net n regs (v ∷ vs) = (after : Numbers) × CycleFacts keep p net n v regs after × Follow keep p net n after vs
 
 -- how often an end stands in a list
 abbrev pub occurs : End → List End → ℕ
 occurs e [] = 0
 occurs e (d ∷ ds) = if same_end d e then suc (occurs e ds) else occurs e ds
 
--- what is the same in all cycles: each end of a port is listed once, and the nets that leave a part are those of its
--- gates
-pub record PlanFacts (p : Plan) (n : Places) : Type 0 where
+-- What is the same in all cycles: each end of a port is listed once, the nets that leave a part are those of its gates, and
+-- what comes in by a direction without registers is what goes in at the other end.
+pub record PlanFacts (keep : Keep) (p : Plan) (n : Places) : Type 0 where
   pub once : (e : End) (c : Contact) → IsPortEnd e → contact_at p e ≡ Some c → occurs e (port_ends (ports_of p)) ≡ 1
   pub listed : (e : End) → 0 < occurs e (port_ends (ports_of p)) → IsPortEnd e × ((c : Contact) × (contact_at p e ≡ Some c))
   pub leaving : (i h : ℕ) (k : Part) → slice_get p.parts i ≡ Some k → n.leaves (PartEnd i h) ≡ nets_out (slice_get (outs_of k (n.start i)) h)
+  pub straight :
+      (x : ℕ) (j : Joint) (way : Direction) → slice_get p.joints x ≡ Some j → keep x way ≡ false
+      → n.arrives (target j way) ≡ n.leaves (source j way)
+
+-- From handshake `from` of a part what comes in passes on to handshake `to`, and by a direction of a joint without registers
+-- to this end, all in one cycle.
+pub record PassesOn (keep : Keep) (p : Plan) (i from : ℕ) (to : End) : Type 0 where
+  pub joint : ℕ
+  pub passed : Joint
+  pub way : Direction
+  pub part : Part
+  pub out : ℕ
+  pub stands : slice_get p.joints joint ≡ Some passed
+  pub straight : keep joint way ≡ false
+  pub leaves : source passed way ≡ PartEnd i out
+  pub there : slice_get p.parts i ≡ Some part
+  pub from_there : from < length (part_contacts part)
+  pub out_there : out < length (part_contacts part)
+  pub passes : passing_of part from out ≡ true
+  pub arrives : target passed way ≡ to
+
+-- Ranks go up wherever what comes in at an end passes on in one cycle. So there is no ring without registers.
+abbrev pub Rises : Keep → Plan → (End → ℕ) → Type 0
+Rises keep p rank = (i from : ℕ) (to : End) → PassesOn keep p i from to → rank (PartEnd i from) < rank to
 
 -- the gates of each part keep the laws, and its literal fits
 pub record PartFacts (p : Plan) : Type 0 where
   pub gates :
       (i : ℕ) (k : Part) → slice_get p.parts i ≡ Some k
       → KeepLaws k (layout k) (outs_of k) (late_of k) (pending_of k) (stands_of k)
+  pub paths : (i : ℕ) (k : Part) → slice_get p.parts i ≡ Some k → KeepPaths k (layout k) (outs_of k) (late_of k) (passing_of k)
   pub literals : All LiteralFits p.parts
 
--- Cycles of which this is so, from registers that are all 0, are lists of the plan.
+-- Cycles of which this is so, from registers that are all 0, are lists of the plan, whichever directions keep registers, where
+-- no ring is left without one.
 abbrev pub FactsMakeLists : Type 0
 FactsMakeLists =
-    (p : Plan) (net : Netlist) (n : Places) (regs : Numbers) (vs : List Numbers)
-    → IsRight p → PartFacts p → PlanFacts p n → ((m : ℕ) → at regs m ≡ 0) → Follow p net n regs vs → cycles.CyclesAreLists p net vs
+    (keep : Keep) (p : Plan) (net : Netlist) (n : Places) (rank : End → ℕ) (regs : Numbers) (vs : List Numbers)
+    → IsRight p → PartFacts p → PlanFacts keep p n → Rises keep p rank → ((m : ℕ) → at regs m ≡ 0) → Follow keep p net n regs vs
+    → cycles.CyclesAreLists p net vs

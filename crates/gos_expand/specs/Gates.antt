@@ -1,7 +1,7 @@
 -- The gates of every kind of part, whichever crate lays them out.
 --
 -- Read first: Gates and Law of gos_plan; Layout of gos_control, of gos_data and of gos_share.
-use Rattle.std.specs.Prelude.{ℕ, List, length}
+use Rattle.std.specs.Prelude.{ℕ, Bool, List, length}
 use Rattle.gos_netlist.specs.Nets.{Cell}
 use Rattle.gos_netlist.specs.Settling.{Numbers}
 use Rattle.gos_plan.specs.Kinds.{Part, Skip, Seq, Par, If, While, Share}
@@ -68,6 +68,15 @@ stands_by Shares = sharing.stands_of
 
 abbrev pub stands_of : Part → ℕ → Numbers → State → Type 0
 stands_of k = stands_by (family k) k
+
+-- from which handshake to which a path without registers leads
+abbrev pub passing_by : Family → Part → ℕ → ℕ → Bool
+passing_by Controls = control.passing_of
+passing_by Computes = arith.passing_of
+passing_by Shares = sharing.passing_of
+
+abbrev pub passing_of : Part → ℕ → ℕ → Bool
+passing_of k = passing_by (family k) k
 
 -- how many cells a part has, wherever they stand and whatever comes in
 abbrev pub part_size : Part → ℕ

@@ -8,7 +8,8 @@ use Rattle.gos_plan.specs.Ranges.{IsInRange}
 use Rattle.gos_plan.specs.Kinds.{Part, part_contacts}
 use Rattle.gos_plan.specs.Gates.{Incoming}
 use Rattle.gos_plan.specs.Kept.{KeepLaws}
-use Rattle.gos_expand.specs.Gates.{layout, outs_of, late_of, pending_of, stands_of}
+use Rattle.gos_plan.specs.Paths.{KeepPaths}
+use Rattle.gos_expand.specs.Gates.{layout, outs_of, late_of, pending_of, stands_of, passing_of}
 
 -- what the laws say of a kind
 abbrev pub KindKeeps : Kind → Type 0
@@ -18,6 +19,14 @@ KindKeeps k =
 -- every kind in range keeps them
 abbrev pub AllKeep : Type 0
 AllKeep = (k : Kind) → IsInRange k → KindKeeps k
+
+-- and keeps what is asked of paths
+abbrev pub KindKeepsPaths : Kind → Type 0
+KindKeepsPaths k =
+    KeepPaths (part_of k) (layout (part_of k)) (outs_of (part_of k)) (late_of (part_of k)) (passing_of (part_of k))
+
+abbrev pub AllKeepPaths : Type 0
+AllKeepPaths = (k : Kind) → IsInRange k → KindKeepsPaths k
 
 -- no part has more than 24 cells for each of its handshakes and 24 besides
 abbrev pub AreFew : Type 0

@@ -2,7 +2,7 @@
 --
 -- Read first: Starts. Each part is laid out as its gates, each joint as a register in each direction that is kept,
 -- and each event of a port as inputs or as registers of its own. What comes in at an end without a joint is nothing.
-use Rattle.std.specs.Prelude.{ℕ, suc, ◌+◌, List, [], ◌∷◌, ◌++◌, Option, Some, None, take, slice_get, if◌then◌else◌}
+use Rattle.std.specs.Prelude.{ℕ, suc, ◌+◌, Bool, List, [], ◌∷◌, ◌++◌, Option, Some, None, take, slice_get, if◌then◌else◌}
 use Rattle.gos_types.specs.Types.{Type'}
 use Rattle.gos_netlist.specs.Nets.{Cell, Side, Give, Take, NetPort, Netlist}
 use Rattle.gos_netlist.specs.Events.{Direction, Request, Answer}
@@ -87,9 +87,11 @@ abbrev pub port_cells : Keep → Plan → ℕ → Outer → List Cell
 port_cells keep p k o = blocks (shake_cells keep p o) 0 o.contacts
 
 -- the registers of a joint
+abbrev pub registers_if : Bool → ℕ → Nets → List Cell
+registers_if kept w n = if kept then registers w n else []
+
 abbrev pub way_cells : Keep → Plan → ℕ → Joint → Direction → End → List Cell
-way_cells keep p x j way from =
-    if keep x way then registers (bits_if (contact_at p j.asking) way) (leaves keep p from) else []
+way_cells keep p x j way from = registers_if (keep x way) (bits_if (contact_at p j.asking) way) (leaves keep p from)
 
 abbrev pub joint_cells : Keep → Plan → ℕ → Joint → List Cell
 joint_cells keep p x j = way_cells keep p x j Request j.asking ++ way_cells keep p x j Answer j.serving

@@ -4,8 +4,10 @@ pub mod Kept
 pub mod Blocks
 pub mod Starts
 pub mod Laid
+pub mod Choices
 pub mod Facts
 pub mod Acceptance
+pub mod Rings
 pub mod Runs
 pub mod SmallNets
 pub mod inner

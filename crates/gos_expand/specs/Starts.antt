@@ -2,7 +2,7 @@
 --
 -- Read first: Plans of gos_plan; Blocks, Gates. There is a block for each port, each joint, each end that stands in
 -- no joint, and each part, in this order.
-use Rattle.std.specs.Prelude.{ℕ, suc, ◌+◌, Bool, true, List, [], ◌∷◌, ◌++◌, Option, Some, None, take, filter, if◌then◌else◌}
+use Rattle.std.specs.Prelude.{ℕ, suc, ◌+◌, Bool, true, List, [], ◌∷◌, ◌++◌, Option, Some, None, take, filter, get_or, if◌then◌else◌}
 use Rattle.gos_netlist.specs.Nets.{Side, Give, Take}
 use Rattle.gos_netlist.specs.Events.{Direction, Request, Answer}
 use Rattle.gos_plan.specs.Kinds.{Part, Contact, contacts_of, part_contacts}
@@ -18,6 +18,15 @@ Keep = ℕ → Direction → Bool
 
 abbrev pub keep_all : Keep
 keep_all x way = true
+
+-- the place of a direction among all: of each joint in turn the request and then the answer
+abbrev pub place_of : ℕ → Direction → ℕ
+place_of x Request = x + x
+place_of x Answer = suc (x + x)
+
+-- the choice of these truth values, in this order; what has none is kept
+abbrev pub chosen : List Bool → Keep
+chosen keeps x way = get_or keeps (place_of x way) true
 
 -- a port of the circuit: its handshakes, as the holder of a term of its type sees them, and the plan's ends there
 pub record Outer : Type 0 where

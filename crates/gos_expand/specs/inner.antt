@@ -5,3 +5,5 @@ pub mod Tokens
 pub mod Arrivals
 pub mod Numbering
 pub mod Outers
+pub mod Directions
+pub mod Choosing

@@ -1,24 +1,29 @@
 // Where what comes in at each end of a plan begins.
-ghost use Rattle.std.specs.Prelude.{◌≡◌, ◌<◌, ℕ, ◌&&◌, None, unwrap_or, map, nat_eq, slice_get, IfOk};
+ghost use Rattle.std.specs.Prelude.{◌≡◌, ℕ, ◌&&◌, None, map, nat_eq, slice_get, IfOk};
 ghost use Rattle.gos_types.specs.Types.{type_of};
 ghost use Rattle.gos_plan.specs.Kinds.{contacts_of, other_side, part_contacts};
 ghost use Rattle.gos_plan.specs.Seen.{plan_of, part_of, end_of};
 ghost use Rattle.gos_plan.specs.Contacts.{contact_held};
 ghost use Rattle.gos_plan.specs.Gates.{bits_out};
 ghost use Rattle.gos_plan.specs.Tokens.{bits_of, way_taken};
-ghost use Rattle.gos_expand.specs.inner.Arrivals.{new_arrival, arrival_in, arrival_at, AreAt, filled_if, Fills, nets_of};
-ghost use Rattle.gos_expand.specs.inner.Tokens.{held_nets};
+ghost use Rattle.gos_expand.specs.inner.Arrivals.{new_arrival, arrival_in, arrival_at, AreAt, filled_if, Fills};
 
-use crate::tokens::{Nets, nets_from};
 use gos_plan::{Contact, End, Kind, Plan, PlanImport, part_contacts, type_contacts, user_contacts};
 use gos_types::{NoMemory, Role, Ty};
 use std::alloc::Global;
 
-// What comes in at an end: its handshake, and the net of its pulse where that is known.
+// Where what comes in at an end begins: at a net, or with what goes into the circuit at another end.
+#[derive(Clone, Copy)]
+pub(crate) enum Origin {
+    Cells(u32),
+    Other(End),
+}
+
+// What comes in at an end: its handshake, and where it begins if that is known.
 #[derive(Clone, Copy)]
 pub(crate) struct Arrival {
     pub contact: Contact,
-    pub start: Option<u32>,
+    pub origin: Option<Origin>,
 }
 
 // What comes in at all ends of a plan, by part, by import, and of the result.
@@ -49,14 +54,6 @@ impl Arrival {
             Role::Ask => self.contact.ask_bits,
         }
     }
-
-    // The nets of what comes in; `rest` is where it begins if that is not known.
-    pub(crate) fn nets(&self, rest: u32) -> Nets
-        requires { unwrap_or self.now.start rest < 4294967295 }
-        ensures { held_nets result ≡ nets_of rest self.now }
-    {
-        nets_from(self.bits(), self.start.unwrap_or(rest))
-    }
 }
 
 // The entries of handshakes.
@@ -67,7 +64,7 @@ fn entries(alloc: Global, contacts: &[Contact]) -> Result<Vec<Arrival>, NoMemory
     for contact in contacts {
         entries.push(Arrival {
             contact: *contact,
-            start: None,
+            origin: None,
         })?;
     }
     Ok(entries)
@@ -154,39 +151,39 @@ impl Arrivals {
     }
 
     // From now on what comes in at an end begins here, unless that is known already.
-    pub(crate) fn fill(&mut self, end: End, start: u32)
-        ensures { Fills (end_of end) start self.old self.new }
+    pub(crate) fn fill(&mut self, end: End, origin: Origin)
+        ensures { Fills (end_of end) origin self.old self.new }
     {
         match end {
             End::Part { part, shake } => {
-                fill_of(&mut self.parts, part as usize, shake as usize, start)
+                fill_of(&mut self.parts, part as usize, shake as usize, origin)
             }
             End::Import { import, shake } => fill_of(
                 &mut self.imports,
                 import as usize,
                 shake as usize,
-                start,
+                origin,
             ),
-            End::Result { shake } => fill_entry(&mut self.result, shake as usize, start),
+            End::Result { shake } => fill_entry(&mut self.result, shake as usize, origin),
         }
     }
 }
 
 // Fills an entry of one of several lists, if it is there.
-fn fill_of(lists: &mut Vec<Vec<Arrival>>, at: usize, shake: usize, start: u32)
+fn fill_of(lists: &mut Vec<Vec<Arrival>>, at: usize, shake: usize, origin: Origin)
     ensures { (i h : ℕ) → arrival_in (slice_get (map (λ s. s.items) lists.new.items) i) h
-        ≡ filled_if (nat_eq i at && nat_eq h shake) start (arrival_in (slice_get (map (λ s. s.items) lists.old.items) i) h) }
+        ≡ filled_if (nat_eq i at && nat_eq h shake) origin (arrival_in (slice_get (map (λ s. s.items) lists.old.items) i) h) }
 {
     if at < lists.len() {
-        fill_entry(&mut lists[at], shake, start);
+        fill_entry(&mut lists[at], shake, origin);
     }
 }
 
 // Fills an entry of a list, if it is there.
-fn fill_entry(entries: &mut Vec<Arrival>, shake: usize, start: u32)
-    ensures { (h : ℕ) → slice_get entries.new.items h ≡ filled_if (nat_eq h shake) start (slice_get entries.old.items h) }
+fn fill_entry(entries: &mut Vec<Arrival>, shake: usize, origin: Origin)
+    ensures { (h : ℕ) → slice_get entries.new.items h ≡ filled_if (nat_eq h shake) origin (slice_get entries.old.items h) }
 {
-    if shake < entries.len() && entries[shake].start.is_none() {
-        entries[shake].start = Some(start);
+    if shake < entries.len() && entries[shake].origin.is_none() {
+        entries[shake].origin = Some(origin);
     }
 }

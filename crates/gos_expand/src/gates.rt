@@ -1,7 +1,7 @@
 // The gates of a part, whichever crate lays them out.
 ghost use Rattle.std.specs.Prelude.{◌≡◌};
 ghost use Rattle.gos_plan.specs.Ranges.{IsInRange};
-ghost use Rattle.gos_expand.specs.inner.Dispatch.{gates_for, part_in, cells_in, outs_in, late_in, pending_in, stands_in, IsLaidOut, gates_keep};
+ghost use Rattle.gos_expand.specs.inner.Dispatch.{gates_for, part_in, cells_in, outs_in, late_in, pending_in, stands_in, passing_in, IsLaidOut, gates_keep, gates_pass};
 
 use gos_control::Control;
 use gos_data::Arith;
@@ -31,6 +31,8 @@ impl<'a> Macro for Gates<'a> {
 
     ghost stands = { stands_in };
 
+    ghost passing = { passing_in };
+
     ghost is_laid_out = { IsLaidOut };
 
     fn size(&self) -> u32 {
@@ -57,7 +59,17 @@ impl<'a> Macro for Gates<'a> {
         }
     }
 
+    fn passes(&self, from: u32, to: u32) -> bool {
+        match self {
+            Gates::Controls(control) => control.passes(from, to),
+            Gates::Computes(arith) => arith.passes(from, to),
+            Gates::Shares(sharing) => sharing.passes(from, to),
+        }
+    }
+
     ghost law = { gates_keep };
+
+    ghost paths = { gates_pass };
 }
 
 // The gates of a part. They take no memory.

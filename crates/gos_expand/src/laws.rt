@@ -1,39 +1,53 @@
 // What the definitions give for every plan, and for a small one. Each theorem is the contract of a function that does
 // nothing.
-ghost use Rattle.gos_expand.specs.Acceptance.{LaidIsAccepted, LaidIsSmall};
+ghost use Rattle.gos_expand.specs.Acceptance.{LaidIsAccepted, AllCutCycles, LaidIsSmall};
 ghost use Rattle.gos_expand.specs.Facts.{FactsMakeLists};
-ghost use Rattle.gos_expand.specs.Kept.{AllKeep, AreFew};
+ghost use Rattle.gos_expand.specs.Kept.{AllKeep, AllKeepPaths, AreFew};
+ghost use Rattle.gos_expand.specs.Rings.{RingsAreCycles};
 ghost use Rattle.gos_expand.specs.Runs.{LaidMakesLists};
-ghost use Rattle.gos_expand.specs.SmallNets.{SkipIsLaid, SkipCanBeLaid};
+ghost use Rattle.gos_expand.specs.SmallNets.{SkipIsLaid, SkipIsChosen, RingIsLeft, SkipCanBeLaid};
 
-/// The gates of each kind in range keep the laws. They are few for the handshakes of their part.
+/// The gates of each kind in range keep the laws, and what is asked of paths without registers. They are few for the
+/// handshakes of their part.
 pub fn gates_keep()
     ensures keep { AllKeep }
+    ensures paths { AllKeepPaths }
     ensures few { AreFew }
 {}
 
-/// The plan of `skip` is laid out as five cells: run, done, a register in each direction of its joint, and its gate.
-/// It is a plan of which `laid_is_accepted` speaks.
+/// The plan of `skip` is laid out as five cells: run, done, a register in each direction of its joint, and its gate;
+/// without the registers that are not chosen. It is a plan of which `laid_is_accepted` speaks. A choice may leave a
+/// combinational cycle.
 pub fn small_nets()
     ensures laid { SkipIsLaid }
+    ensures chosen { SkipIsChosen }
+    ensures ring { RingIsLeft }
     ensures can { SkipCanBeLaid }
 {}
 
-/// The netlist of a plan with a register in each direction of each joint is accepted: its nets are there, widths and
-/// ports are right, and no ring of gates closes. It has no more cells than the plan's size.
+/// The netlist of a plan is accepted where it has no combinational cycle, whichever directions of joints keep their
+/// registers: its nets are there, and widths and ports are right. It has no combinational cycle where all keep them. It
+/// has no more cells than the plan's size.
 pub fn laid_is_accepted()
     ensures accepted { LaidIsAccepted }
+    ensures cut { AllCutCycles }
     ensures few { LaidIsSmall }
 {}
 
-/// Cycles that show what a plan's ends and parts make of them, each joint delaying by one cycle, are lists of the
-/// plan.
+/// Cycles that show what a plan's ends and parts make of them are lists of the plan, and prompt: a direction of a joint
+/// that keeps its registers delays by one cycle, and one that doesn't passes on what comes, but along no ring.
 pub fn lists_of_facts()
     ensures { FactsMakeLists }
 {}
 
-/// The cycles of the netlist of a plan that can be laid out, with a register in each direction of each joint, are
-/// lists of the plan, and prompt.
+/// The cycles of the netlist of a plan that can be laid out are lists of the plan, and prompt, whichever directions of
+/// joints keep their registers, where it has no combinational cycle.
 pub fn cycles_are_lists()
     ensures { LaidMakesLists }
+{}
+
+/// The combinational cycles of such a netlist are the rings of handshakes along which what comes in passes on in one
+/// cycle.
+pub fn rings_are_cycles()
+    ensures { RingsAreCycles }
 {}

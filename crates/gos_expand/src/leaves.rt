@@ -3,17 +3,17 @@ ghost use Rattle.std.specs.Prelude.{◌≡◌, ◌≤◌, ◌<◌, ◌+◌, Some
 ghost use Rattle.gos_types.specs.Types.{type_of, IsGround};
 ghost use Rattle.gos_plan.specs.Kinds.{Contact as AContact, contacts_of, part_contacts};
 ghost use Rattle.gos_plan.specs.Gates.{bits_out};
-ghost use Rattle.gos_plan.specs.Plans.{contact_at};
+ghost use Rattle.gos_plan.specs.Plans.{contact_at, IsRight};
 ghost use Rattle.gos_plan.specs.Ranges.{IsInRange};
 ghost use Rattle.gos_plan.specs.Seen.{plan_of, part_of, end_of};
 ghost use Rattle.gos_expand.specs.Gates.{outs_of, part_size};
-ghost use Rattle.gos_expand.specs.Starts.{keep_all};
 ghost use Rattle.gos_expand.specs.Laid.{nets_out, request_start, leaves, arrives};
 ghost use Rattle.gos_expand.specs.inner.Tokens.{held_nets};
 ghost use Rattle.gos_plan.specs.Size.{plan_size};
 ghost use Rattle.gos_expand.specs.Acceptance.{HasGroundPorts};
-ghost use Rattle.gos_expand.specs.inner.Numbering.{IsNumbered};
+ghost use Rattle.gos_expand.specs.inner.Numbering.{IsNumbered, keep_in};
 
+use crate::arrivals::Origin;
 use crate::gates::gates_of;
 use crate::numbering::Numbering;
 use crate::places::shakes;
@@ -23,12 +23,12 @@ use gos_plan::{End, Kind, Macro, Plan, Wire};
 use gos_types::{Role, Ty};
 
 // The nets of what goes into the circuit at an end: of a part's gates, or of the inputs of a port.
-pub(crate) fn leaves(plan: &Plan, numbering: &Numbering, end: End) -> Nets
+pub(crate) fn leaves(plan: &Plan, numbering: &Numbering<'_>, end: End) -> Nets
     requires ports { HasGroundPorts plan.now }
     requires size { plan_size (plan_of plan.now) ≤ 5000000 }
     requires numbered { IsNumbered (plan_of plan.now) numbering.now }
     requires there { IsSome (contact_at (plan_of plan.now) (end_of end)) }
-    ensures { held_nets result ≡ leaves keep_all (plan_of plan.now) (end_of end) }
+    ensures { held_nets result ≡ leaves (keep_in numbering.now) (plan_of plan.now) (end_of end) }
 {
     let Some(entry) = numbering.arrivals.get(end) else {
         unreachable!()
@@ -98,14 +98,23 @@ fn request_start(ty: &Ty, start: u32, shake: u32) -> u32
     }
 }
 
-// The nets of what comes in at an end.
-pub(crate) fn arrives(plan: &Plan, numbering: &Numbering, end: End) -> Nets
+// The nets of what comes in at an end: those of cells of its own, or those that leave at the other end of its joint.
+pub(crate) fn arrives(plan: &Plan, numbering: &Numbering<'_>, end: End) -> Nets
+    requires ports { HasGroundPorts plan.now }
+    requires size { plan_size (plan_of plan.now) ≤ 5000000 }
+    requires right { IsRight (plan_of plan.now) }
     requires numbered { IsNumbered (plan_of plan.now) numbering.now }
     requires there { IsSome (contact_at (plan_of plan.now) (end_of end)) }
-    ensures { held_nets result ≡ arrives keep_all (plan_of plan.now) (end_of end) }
+    ensures { held_nets result ≡ arrives (keep_in numbering.now) (plan_of plan.now) (end_of end) }
 {
     let Some(entry) = numbering.arrivals.get(end) else {
         unreachable!()
     };
-    entry.nets(numbering.parts_start)
+    let Some(origin) = entry.origin else {
+        return nets_from(entry.bits(), numbering.parts_start);
+    };
+    match origin {
+        Origin::Cells(start) => nets_from(entry.bits(), start),
+        Origin::Other(other) => leaves(plan, numbering, other),
+    }
 }

@@ -1,14 +1,17 @@
-// From plans to netlists: each part as its gates, each joint as its registers, and a port for the result and for
-// each import.
+// From plans to netlists: each part as its gates, each joint as those of its registers that are kept, and a port for
+// the result and for each import.
 //
 // Read `specs/Laid` for the netlist that a plan is laid out as (behind `specs/Gates`, `Blocks` and `Starts`), and
-// `whole.rt` for the call. A netlist is made in two steps. `numbering.rt` tells where each block of cells begins, by
-// the table of `arrivals.rt` for what comes in at each end; `places.rt` lists the ends. Then `placing.rt` places the
-// blocks in a pool that has room for all of them; `leaves.rt` names the nets that go into the circuit at an end,
-// `gates.rt` lays parts out, `tokens.rt` has the cells of a pulse and its number, and `outside.rt` makes the ports.
+// `whole.rt` for the call. A netlist is made in two steps. `numbering.rt` tells where each block of cells begins,
+// by the table of `arrivals.rt` for what comes in at each end (at a net, or as it leaves at the other end of a
+// joint without registers); `places.rt` lists the ends. Then `placing.rt` places the blocks in a pool that has
+// room for all of them; `leaves.rt` names the nets that go into the circuit at an end, `gates.rt` lays parts out,
+// `tokens.rt` has the cells of a pulse and its number, and `outside.rt` makes the ports. `choosing.rt` tells which
+// directions of joints keep their registers where few are wanted (`specs/Choices`).
 #![tactic(auto)]
 
 mod arrivals;
+mod choosing;
 mod gates;
 mod laws;
 mod leaves;
@@ -19,5 +22,7 @@ mod placing;
 mod tokens;
 mod whole;
 
-pub use laws::{cycles_are_lists, gates_keep, laid_is_accepted, lists_of_facts, small_nets};
-pub use whole::{Policy, expand};
+pub use laws::{
+    cycles_are_lists, gates_keep, laid_is_accepted, lists_of_facts, rings_are_cycles, small_nets,
+};
+pub use whole::{Policy, expand, expand_with};

@@ -1,16 +1,18 @@
 // Where the blocks of a plan's netlist begin: of ports, of joints, of ends in no joint, and of parts, in this order.
-ghost use Rattle.std.specs.Prelude.{◌≡◌, ◌≤◌, ◌+◌, ◌*◌, ℕ, List, Option, None, is_none, map, filter, length, IfOk, IsSome};
+ghost use Rattle.std.specs.Prelude.{◌≡◌, ◌≤◌, ◌<◌, ◌+◌, ◌*◌, ℕ, List, Option, None, is_none, map, filter, length, IfOk, IsSome};
 ghost use Rattle.gos_types.specs.Types.{type_of, IsGround};
 ghost use Rattle.gos_netlist.specs.Events.{Request, Answer};
 ghost use Rattle.gos_plan.specs.Kinds.{contacts_of, part_contacts};
-ghost use Rattle.gos_plan.specs.Plans.{End as AnEnd, Plan as APlan, contact_at, is_free};
+ghost use Rattle.gos_plan.specs.Plans.{End as AnEnd, Plan as APlan, contact_at, is_free, IsRight};
 ghost use Rattle.gos_plan.specs.Seen.{plan_of, part_of, end_of, joint_of};
 ghost use Rattle.gos_plan.specs.Size.{plan_size, shakes_of};
 ghost use Rattle.gos_plan.specs.Ranges.{IsInRange};
-ghost use Rattle.gos_expand.specs.Blocks.{token_size, total};
+ghost use Rattle.gos_expand.specs.Blocks.{total};
 ghost use Rattle.gos_expand.specs.Gates.{part_size};
 ghost use Rattle.gos_expand.specs.Starts.{
-  keep_all,
+  Keep,
+  chosen,
+  kept_size,
   shake_size,
   port_size,
   ports_of,
@@ -24,11 +26,12 @@ ghost use Rattle.gos_expand.specs.Starts.{
   bits_if,
   bits_taken,
 };
-ghost use Rattle.gos_expand.specs.inner.Arrivals.{AreAt, Exist, or_else, start_by, start_by_joints, start_by_ends, joined_start, start_at};
+ghost use Rattle.gos_expand.specs.declared.arrivals.Origin.{Origin as AnOrigin};
+ghost use Rattle.gos_expand.specs.inner.Arrivals.{AreAt, Exist, or_else, by_way, start_by, start_by_joints, start_by_ends, joined_start, start_at};
 ghost use Rattle.gos_expand.specs.Acceptance.{HasGroundPorts};
 ghost use Rattle.gos_expand.specs.inner.Numbering.{IsNumbered, starts};
 
-use crate::arrivals::Arrivals;
+use crate::arrivals::{Arrivals, Origin};
 use crate::gates::gates_of;
 use crate::places::all_ends;
 use crate::tokens::token_size;
@@ -38,7 +41,9 @@ use std::alloc::Global;
 
 // Where the blocks of a plan's netlist begin.
 #[derive(Drop)]
-pub(crate) struct Numbering {
+pub(crate) struct Numbering<'a> {
+    // Which directions of joints keep their registers: of each joint the request and then the answer.
+    pub keep: &'a [bool],
     // Where what comes in at each end begins.
     pub arrivals: Arrivals,
     // The ends in no joint.
@@ -53,19 +58,26 @@ pub(crate) struct Numbering {
     pub size: u32,
 }
 
-// Numbers the blocks of a plan.
-pub(crate) fn number(alloc: Global, plan: &Plan) -> Result<Numbering, NoMemory>
+// Numbers the blocks of a plan, in which these directions of joints keep their registers.
+pub(crate) fn number<'a>(
+    alloc: Global,
+    plan: &Plan,
+    keep: &'a [bool],
+) -> Result<Numbering<'a>, NoMemory>
     requires ports { HasGroundPorts plan.now }
     requires size { plan_size (plan_of plan.now) ≤ 5000000 }
-    ensures { IfOk result (IsNumbered (plan_of plan.now)) }
+    ensures numbered { IfOk result (IsNumbered (plan_of plan.now)) }
+    ensures keep { IfOk result (λ n. n.keep.now ≡ keep.now) }
+    ensures right { IfOk result (λ _. IsRight (plan_of plan.now)) }
 {
     let mut arrivals = Arrivals::new(alloc, plan)?;
     let (ports, joints_start) = port_starts(alloc, plan)?;
-    let loose_start = number_joints(&mut arrivals, plan, joints_start);
+    let loose_start = number_joints(&mut arrivals, plan, keep, joints_start);
     let loose = loose_ends(alloc, plan, &arrivals)?;
     let parts_start = number_loose(&mut arrivals, &loose, loose_start);
     let (parts, size) = part_starts(alloc, plan, parts_start)?;
     Ok(Numbering {
+        keep,
         arrivals,
         loose,
         ports,
@@ -107,58 +119,93 @@ fn port_starts(alloc: Global, plan: &Plan) -> Result<(Vec<u32>, u32), NoMemory>
     Ok((starts, next))
 }
 
+// Whether the request and the answer of a joint keep their registers.
+pub(crate) fn kept(keep: &[bool], joint: usize) -> (bool, bool)
+    requires { joint < 4294967295 }
+    ensures request { result.0 ≡ chosen keep.now joint Request }
+    ensures answer { result.1 ≡ chosen keep.now joint Answer }
+{
+    let place = joint + joint;
+    let request = keep.get(place).copied().unwrap_or(true);
+    let answer = keep.get(place + 1).copied().unwrap_or(true);
+    (request, answer)
+}
+
 // Numbers the registers of joints. Gives what comes behind them.
-fn number_joints(arrivals: &mut Arrivals, plan: &Plan, from: u32) -> u32
+fn number_joints(arrivals: &mut Arrivals, plan: &Plan, keep: &[bool], from: u32) -> u32
     requires table { AreAt (plan_of plan.now) (λ e. None) arrivals.old }
     requires from { from ≡ joints_start (plan_of plan.now) }
     requires room { from + 4 * length plan.now.joints ≤ 4294967295 }
-    ensures table { AreAt (plan_of plan.now) (joined_start (plan_of plan.now)) arrivals.new }
-    ensures next { result ≡ loose_ends_start keep_all (plan_of plan.now) }
+    ensures table { AreAt (plan_of plan.now) (joined_start (chosen keep.now) (plan_of plan.now)) arrivals.new }
+    ensures next { result ≡ loose_ends_start (chosen keep.now) (plan_of plan.now) }
     ensures few { result ≤ from + 4 * length plan.now.joints }
+    ensures right { IsRight (plan_of plan.now) }
 {
+    let joints = plan.joints();
     let mut next = from;
-    for joint in plan.joints() {
-        next = number_joint(arrivals, *joint, next);
+    for index in 0..joints.len() {
+        next = number_joint(arrivals, joints[index], kept(keep, index), next);
     }
     next
 }
 
-// Numbers the registers of a joint: first those of the request. Gives what comes behind them.
-fn number_joint(arrivals: &mut Arrivals, joint: Joint, from: u32) -> u32
+// Where what comes in by a direction of a joint begins, whose registers would begin at this net.
+fn origin(kept: bool, start: u32, other: End) -> Origin
+    ensures { result ≡ by_way kept start (end_of other) }
+{
+    if kept {
+        Origin::Cells(start)
+    } else {
+        Origin::Other(other)
+    }
+}
+
+// Numbers the registers of a joint that are kept: first those of the request. Gives what comes behind them.
+fn number_joint(arrivals: &mut Arrivals, joint: Joint, kept: (bool, bool), from: u32) -> u32
     requires { from + 4 ≤ 4294967295 }
-    ensures table { (p : APlan) (f : AnEnd → Option ℕ) → AreAt p f arrivals.old
-        → AreAt p (λ e. or_else (f e) (start_by p from (joint_of joint) e)) arrivals.new }
-    ensures next { (p : APlan) (f : AnEnd → Option ℕ) → AreAt p f arrivals.old → result ≡ from + joint_size keep_all p 0 (joint_of joint) }
+    ensures table { (keep : Keep) (p : APlan) (x : ℕ) (f : AnEnd → Option AnOrigin)
+        → keep x Request ≡ kept.0 → keep x Answer ≡ kept.1 → AreAt p f arrivals.old
+        → AreAt p (λ e. or_else (f e) (start_by keep p x from (joint_of joint) e)) arrivals.new }
+    ensures next { (keep : Keep) (p : APlan) (x : ℕ) (f : AnEnd → Option AnOrigin)
+        → keep x Request ≡ kept.0 → keep x Answer ≡ kept.1 → AreAt p f arrivals.old → result ≡ from + joint_size keep p x (joint_of joint) }
     ensures few { result ≤ from + 4 }
 {
-    let (request, answer) = joint_sizes(arrivals, joint);
-    arrivals.fill(joint.asks, from + request);
-    arrivals.fill(joint.serves, from);
+    let (request, answer) = joint_sizes(arrivals, joint, kept);
+    arrivals.fill(joint.asks, origin(kept.1, from + request, joint.serves));
+    arrivals.fill(joint.serves, origin(kept.0, from, joint.asks));
     from + request + answer
 }
 
-// How many cells the request and the answer of a joint have.
-fn joint_sizes(arrivals: &Arrivals, joint: Joint) -> (u32, u32)
-    ensures request { (p : APlan) (f : AnEnd → Option ℕ) → AreAt p f arrivals.now
-        → result.0 ≡ token_size (bits_if (contact_at p (joint_of joint).asking) Request) }
-    ensures answer { (p : APlan) (f : AnEnd → Option ℕ) → AreAt p f arrivals.now
-        → result.1 ≡ token_size (bits_if (contact_at p (joint_of joint).asking) Answer) }
+// How many registers the request and the answer of a joint have.
+fn joint_sizes(arrivals: &Arrivals, joint: Joint, kept: (bool, bool)) -> (u32, u32)
+    ensures request { (p : APlan) (f : AnEnd → Option AnOrigin) → AreAt p f arrivals.now
+        → result.0 ≡ kept_size kept.0 (bits_if (contact_at p (joint_of joint).asking) Request) }
+    ensures answer { (p : APlan) (f : AnEnd → Option AnOrigin) → AreAt p f arrivals.now
+        → result.1 ≡ kept_size kept.1 (bits_if (contact_at p (joint_of joint).asking) Answer) }
     ensures few { (result.0 ≤ 2) × (result.1 ≤ 2) }
 {
     match arrivals.get(joint.asks) {
         Some(entry) => (
-            token_size(entry.contact.ask_bits),
-            token_size(entry.contact.answer_bits),
+            kept_size(kept.0, entry.contact.ask_bits),
+            kept_size(kept.1, entry.contact.answer_bits),
         ),
-        None => (1, 1),
+        None => (kept_size(kept.0, 0), kept_size(kept.1, 0)),
     }
+}
+
+// How many registers a token of so many bits has, if they are kept.
+fn kept_size(kept: bool, bits: u32) -> u32
+    ensures is { result ≡ kept_size kept bits }
+    ensures few { result ≤ 2 }
+{
+    if kept { token_size(bits) } else { 0 }
 }
 
 // The ends at which nothing comes in by a joint.
 fn loose_ends(alloc: Global, plan: &Plan, arrivals: &Arrivals) -> Result<Vec<End>, NoMemory>
     requires ports { HasGroundPorts plan.now }
     requires size { plan_size (plan_of plan.now) ≤ 5000000 }
-    requires table { AreAt (plan_of plan.now) (joined_start (plan_of plan.now)) arrivals.now }
+    requires table { (keep : Keep) × AreAt (plan_of plan.now) (joined_start keep (plan_of plan.now)) arrivals.now }
     ensures ends { IfOk result (λ ends. map end_of ends.items ≡ loose_ends (plan_of plan.now)) }
     ensures few { IfOk result (λ ends. length ends.items ≤ 2 * (length plan.now.imports + 1) + shakes_of (plan_of plan.now).parts) }
 {
@@ -169,7 +216,7 @@ fn loose_ends(alloc: Global, plan: &Plan, arrivals: &Arrivals) -> Result<Vec<End
 
 // Those of these ends at which nothing comes in by a joint.
 fn free_ends(alloc: Global, ends: &[End], arrivals: &Arrivals) -> Result<Vec<End>, NoMemory>
-    ensures free { IfOk result (λ free. (p : APlan) → AreAt p (joined_start p) arrivals.now → Exist p (map end_of ends.now)
+    ensures free { IfOk result (λ free. (keep : Keep) (p : APlan) → AreAt p (joined_start keep p) arrivals.now → Exist p (map end_of ends.now)
         → map end_of free.items ≡ filter (λ e. is_free e p.joints) (map end_of ends.now)) }
     ensures few { IfOk result (λ free. length free.items ≤ length ends.now) }
 {
@@ -184,10 +231,10 @@ fn free_ends(alloc: Global, ends: &[End], arrivals: &Arrivals) -> Result<Vec<End
 
 // Whether nothing comes in at an end so far.
 fn is_loose(arrivals: &Arrivals, end: End) -> bool
-    ensures { (p : APlan) (f : AnEnd → Option ℕ) → AreAt p f arrivals.now → IsSome (contact_at p (end_of end)) → result ≡ is_none (f (end_of end)) }
+    ensures { (p : APlan) (f : AnEnd → Option AnOrigin) → AreAt p f arrivals.now → IsSome (contact_at p (end_of end)) → result ≡ is_none (f (end_of end)) }
 {
     match arrivals.get(end) {
-        Some(entry) => entry.start.is_none(),
+        Some(entry) => entry.origin.is_none(),
         None => false,
     }
 }
@@ -195,15 +242,15 @@ fn is_loose(arrivals: &Arrivals, end: End) -> bool
 // Numbers the constants of ends in no joint. Gives what comes behind them.
 fn number_loose(arrivals: &mut Arrivals, loose: &[End], from: u32) -> u32
     requires { from + 2 * length loose.now ≤ 4294967295 }
-    ensures table { (p : APlan) (f : AnEnd → Option ℕ) → AreAt p f arrivals.old
+    ensures table { (p : APlan) (f : AnEnd → Option AnOrigin) → AreAt p f arrivals.old
         → AreAt p (λ e. or_else (f e) (start_by_ends p from (map end_of loose.now) e)) arrivals.new }
-    ensures next { (p : APlan) (f : AnEnd → Option ℕ) → AreAt p f arrivals.old → result ≡ from + total (loose_size p) 0 (map end_of loose.now) }
+    ensures next { (p : APlan) (f : AnEnd → Option AnOrigin) → AreAt p f arrivals.old → result ≡ from + total (loose_size p) 0 (map end_of loose.now) }
     ensures few { result ≤ from + 2 * length loose.now }
 {
     let mut next = from;
     for end in loose {
         let size = token_size(bits_at(arrivals, *end));
-        arrivals.fill(*end, next);
+        arrivals.fill(*end, Origin::Cells(next));
         next += size;
     }
     next
@@ -211,7 +258,7 @@ fn number_loose(arrivals: &mut Arrivals, loose: &[End], from: u32) -> u32
 
 // How many bits what comes in at an end has.
 pub(crate) fn bits_at(arrivals: &Arrivals, end: End) -> u32
-    ensures { (p : APlan) (f : AnEnd → Option ℕ) → AreAt p f arrivals.now → result ≡ bits_taken (contact_at p (end_of end)) }
+    ensures { (p : APlan) (f : AnEnd → Option AnOrigin) → AreAt p f arrivals.now → result ≡ bits_taken (contact_at p (end_of end)) }
 {
     match arrivals.get(end) {
         Some(entry) => entry.bits(),

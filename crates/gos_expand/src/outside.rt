@@ -24,7 +24,7 @@ pub(crate) fn ports(
     alloc: Global,
     plan: &Plan,
     root: &Name,
-    numbering: &Numbering,
+    numbering: &Numbering<'_>,
 ) -> Result<Vec<Port>, NoMemory>
     requires ports { HasGroundPorts plan.now }
     requires size { plan_size (plan_of plan.now) ≤ 5000000 }

@@ -3,7 +3,6 @@
 -- Read first: Typed of gos_compile; Splits of gos_leaves; Checked of gos_check; Inside of gos_stages. The numbers ns are there outside the
 -- node: those of the imports, of the binders above it and of the splits above it.
 use Rattle.std.specs.Prelude.{ℕ, ◌+◌, ◌≤◌, List, [], ◌∷◌, ◌++◌, length, Contains}
-use Rattle.gos_types.specs.Types.{IsGround}
 use Rattle.gos_check.specs.Nodes.{Numbered, Closed, Use, Under, One, Two, If, node_seen}
 use Rattle.gos_check.specs.Linearity.{times, used, made, SidesApart}
 use Rattle.gos_check.specs.Checked.{SeenLinear, IsChecked, program_in}
@@ -23,15 +22,6 @@ InScope ns (One t ss f m) = AreSplit ss ns × InScope (numbers_inside ss ns) m
 InScope ns (Two t ss f m n) = AreSplit ss ns × InScope (numbers_inside ss ns) m × InScope (numbers_inside ss ns) n
 InScope ns (If t ss m n p) =
     AreSplit ss ns × InScope (numbers_inside ss ns) m × InScope (numbers_inside ss ns) n × InScope (numbers_inside ss ns) p
-
--- each node is a command, an expression or a variable
-abbrev pub NodesGround : Numbered → Type 0
-NodesGround (Closed t ss c) = IsGround t
-NodesGround (Use t ss n) = IsGround t
-NodesGround (Under t ss b n m) = IsGround t × NodesGround m
-NodesGround (One t ss f m) = IsGround t × NodesGround m
-NodesGround (Two t ss f m n) = IsGround t × NodesGround m × NodesGround n
-NodesGround (If t ss m n p) = IsGround t × NodesGround m × NodesGround n × NodesGround p
 
 -- Each number is there once or made once, and used at most once; it is used where it is there. Each side of a split is used in
 -- the split's own node, which has two parts or more, and the two sides in different parts. Each node has the types of its row.

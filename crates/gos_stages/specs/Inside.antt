@@ -1,8 +1,7 @@
 -- What stands for the numbers inside a node: a side of a split has the supply of what is split, behind a Share.
 --
 -- Read first: Wired of gos_wired; Behind of gos_passing; Passing of gos_split; Nodes of gos_check (`inside`). A side may be split in
--- turn, by a later split of the same node, so that a supply may stand behind several Shares. Supplies are of any type; that a side
--- realises what is split is known where no pair stands in its type.
+-- turn, by a later split of the same node, so that a supply may stand behind several Shares. Supplies are of any type.
 use Rattle.std.specs.Prelude.{◌≡◌, ℕ, List, [], ◌∷◌, All, nat_eq, Contains, if◌then◌else◌}
 use Rattle.gos_types.specs.Types.{Type'}
 use Rattle.gos_check.specs.declared.linear.Split.{Split}

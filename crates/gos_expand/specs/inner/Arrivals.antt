@@ -1,20 +1,31 @@
 -- Where what comes in at each end begins, as the program keeps it.
 --
 -- Read first: Starts; Contacts of gos_plan. Between the functions of this crate.
-use Rattle.std.specs.Prelude.{◌≡◌, ℕ, ◌+◌, Bool, true, false, if◌then◌else◌, List, [], ◌∷◌, map, Option, None, Some, slice_get, unwrap_or, IsSome}
-use Rattle.gos_netlist.specs.Events.{Request}
+use Rattle.std.specs.Prelude.{◌≡◌, ℕ, suc, ◌+◌, Bool, true, false, if◌then◌else◌, List, [], ◌∷◌, map, Option, None, Some, slice_get, IsSome}
+use Rattle.gos_netlist.specs.Events.{Request, Answer}
+use Rattle.gos_plan.specs.declared.plan.End as declared
+use Rattle.gos_plan.specs.declared.plan.End.TheVariants as ends
 use Rattle.gos_plan.specs.Kinds.{Contact}
 use Rattle.gos_plan.specs.Contacts.{held_contact, contact_held}
 use Rattle.gos_plan.specs.Plans.{End, PartEnd, ImportEnd, ResultEnd, Joint, Plan, contact_at, same_end}
+use Rattle.gos_plan.specs.Seen.{end_of}
 use Rattle.gos_plan.specs.Tokens.{bits_of, way_taken}
+use Rattle.gos_expand.specs.declared.arrivals.Origin.{Origin}
+use Rattle.gos_expand.specs.declared.arrivals.Origin.TheVariants.{Cells, Other}
 use Rattle.gos_expand.specs.declared.arrivals.Arrival.{Arrival}
 use Rattle.gos_expand.specs.declared.arrivals.Arrivals.{Arrivals}
-use Rattle.gos_expand.specs.Blocks.{Nets, nets_from, token_size}
-use Rattle.gos_expand.specs.Starts.{keep_all, bits_if, joint_size, loose_size, joints_start, loose_ends_start, loose_ends}
+use Rattle.gos_expand.specs.Blocks.{Nets, nets_from}
+use Rattle.gos_expand.specs.Starts.{Keep, way_size, joint_size, loose_size, joints_start, loose_ends_start, loose_ends}
 
--- the entry of a handshake at which what comes in begins nowhere yet
+-- an end, as the program holds it
+abbrev pub held_end : End → declared.End
+held_end (PartEnd i h) = ends.Part i h
+held_end (ImportEnd i h) = ends.Import i h
+held_end (ResultEnd h) = ends.Result h
+
+-- the entry of a handshake of which it isn't known yet where what comes in begins
 abbrev pub new_arrival : Contact → Arrival
-new_arrival c = record { contact = held_contact c; start = None }
+new_arrival c = record { contact = held_contact c; origin = None }
 
 -- the entry at an end
 abbrev pub arrival_in : Option (List Arrival) → ℕ → Option Arrival
@@ -27,60 +38,71 @@ arrival_at table (ImportEnd i h) = arrival_in (slice_get (map (λ s. s.items) ta
 arrival_at table (ResultEnd h) = slice_get table.result.items h
 
 -- the entry of a handshake that there is
-abbrev pub arrival_if : Option ℕ → Option Contact → Option Arrival
-arrival_if start None = None
-arrival_if start (Some c) = Some (record { contact = held_contact c; start = start })
+abbrev pub arrival_if : Option Origin → Option Contact → Option Arrival
+arrival_if origin None = None
+arrival_if origin (Some c) = Some (record { contact = held_contact c; origin = origin })
 
--- There is an entry for each end of the plan, and it has this start.
-abbrev pub AreAt : Plan → (End → Option ℕ) → Arrivals → Type 0
-AreAt p starts table = (e : End) → arrival_at table e ≡ arrival_if (starts e) (contact_at p e)
+-- There is an entry for each end of the plan, and it has this origin.
+abbrev pub AreAt : Plan → (End → Option Origin) → Arrivals → Type 0
+AreAt p origins table = (e : End) → arrival_at table e ≡ arrival_if (origins e) (contact_at p e)
 
 -- the first of two
-abbrev pub or_else : Option ℕ → Option ℕ → Option ℕ
+abbrev pub or_else : Option Origin → Option Origin → Option Origin
 or_else None b = b
 or_else (Some a) b = Some a
 
-abbrev pub some_if : Bool → ℕ → Option ℕ
-some_if true n = Some n
-some_if false n = None
+abbrev pub some_if : Bool → Origin → Option Origin
+some_if true a = Some a
+some_if false a = None
 
--- an entry with a start, unless it has one
-abbrev pub filled : ℕ → Arrival → Arrival
-filled start a = record a { start = or_else a.start (Some start) }
+-- an entry with an origin, unless it has one
+abbrev pub filled : Origin → Arrival → Arrival
+filled origin a = record a { origin = or_else a.origin (Some origin) }
 
-abbrev pub filled_if : Bool → ℕ → Option Arrival → Option Arrival
-filled_if b start None = None
-filled_if b start (Some a) = Some (if b then filled start a else a)
+abbrev pub filled_if : Bool → Origin → Option Arrival → Option Arrival
+filled_if b origin None = None
+filled_if b origin (Some a) = Some (if b then filled origin a else a)
 
--- one end more has a start
-abbrev pub Fills : End → ℕ → Arrivals → Arrivals → Type 0
-Fills e start before after = (d : End) → arrival_at after d ≡ filled_if (same_end d e) start (arrival_at before d)
+-- one end more has an origin
+abbrev pub Fills : End → Origin → Arrivals → Arrivals → Type 0
+Fills e origin before after = (d : End) → arrival_at after d ≡ filled_if (same_end d e) origin (arrival_at before d)
 
--- where what comes in at an end begins by a joint whose first cell is n
-abbrev pub start_by : Plan → ℕ → Joint → End → Option ℕ
-start_by p n j e =
-    or_else (some_if (same_end e j.asking) (n + token_size (bits_if (contact_at p j.asking) Request))) (some_if (same_end e j.serving) n)
+-- where what comes in by a direction of a joint begins: with registers at net n, or else with what goes in at the other end
+abbrev pub by_way : Bool → ℕ → End → Origin
+by_way true n other = Cells n
+by_way false n other = Other (held_end other)
 
--- by these joints
-abbrev pub start_by_joints : Plan → ℕ → List Joint → End → Option ℕ
-start_by_joints p n [] e = None
-start_by_joints p n (j ∷ js) e = or_else (start_by p n j e) (start_by_joints p (n + joint_size keep_all p 0 j) js e)
+-- where what comes in at an end begins by joint x whose first cell is n
+abbrev pub start_by : Keep → Plan → ℕ → ℕ → Joint → End → Option Origin
+start_by keep p x n j e =
+    or_else (some_if (same_end e j.asking) (by_way (keep x Answer) (n + way_size keep p x j Request) j.serving))
+    (some_if (same_end e j.serving) (by_way (keep x Request) n j.asking))
+
+-- by these joints, of which the first is joint x
+abbrev pub start_by_joints : Keep → Plan → ℕ → ℕ → List Joint → End → Option Origin
+start_by_joints keep p x n [] e = None
+start_by_joints keep p x n (j ∷ js) e = or_else (start_by keep p x n j e) (start_by_joints keep p (suc x) (n + joint_size keep p x j) js e)
 
 -- where it begins among these ends, of which the first begins at net n
-abbrev pub start_by_ends : Plan → ℕ → List End → End → Option ℕ
+abbrev pub start_by_ends : Plan → ℕ → List End → End → Option Origin
 start_by_ends p n [] e = None
-start_by_ends p n (d ∷ ds) e = or_else (some_if (same_end e d) n) (start_by_ends p (n + loose_size p 0 d) ds e)
+start_by_ends p n (d ∷ ds) e = or_else (some_if (same_end e d) (Cells n)) (start_by_ends p (n + loose_size p 0 d) ds e)
 
 -- by the plan's joints, and at all ends
-abbrev pub joined_start : Plan → End → Option ℕ
-joined_start p = start_by_joints p (joints_start p) p.joints
+abbrev pub joined_start : Keep → Plan → End → Option Origin
+joined_start keep p = start_by_joints keep p 0 (joints_start p) p.joints
 
-abbrev pub start_at : Plan → End → Option ℕ
-start_at p e = or_else (joined_start p e) (start_by_ends p (loose_ends_start keep_all p) (loose_ends p) e)
+abbrev pub start_at : Keep → Plan → End → Option Origin
+start_at keep p e = or_else (joined_start keep p e) (start_by_ends p (loose_ends_start keep p) (loose_ends p) e)
 
--- the nets of what comes in by an entry; `rest` is where it begins if that isn't known
-abbrev pub nets_of : ℕ → Arrival → Nets
-nets_of rest a = nets_from (bits_of (contact_held a.contact) (way_taken a.contact.role)) (unwrap_or a.start rest)
+-- The nets of what comes in, of so many bits, where these leave at other ends; `rest` is where it begins if that isn't known.
+abbrev pub nets_by : (End → Nets) → ℕ → ℕ → Option Origin → Nets
+nets_by leaving rest w None = nets_from w rest
+nets_by leaving rest w (Some (Cells n)) = nets_from w n
+nets_by leaving rest w (Some (Other e)) = leaving (end_of e)
+
+abbrev pub nets_of : (End → Nets) → ℕ → Arrival → Nets
+nets_of leaving rest a = nets_by leaving rest (bits_of (contact_held a.contact) (way_taken a.contact.role)) a.origin
 
 -- each of these ends is one of the plan
 abbrev pub Exist : Plan → List End → Type 0

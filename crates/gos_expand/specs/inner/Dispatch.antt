@@ -1,7 +1,7 @@
 -- The gates of a part as the program holds them, and the laws that they keep.
 --
 -- Read first: Gates; Kept of gos_plan, of gos_control, of gos_data and of gos_share.
-use Rattle.std.specs.Prelude.{ℕ, List}
+use Rattle.std.specs.Prelude.{ℕ, Bool, List}
 use Rattle.gos_netlist.specs.Nets.{Cell}
 use Rattle.gos_netlist.specs.Settling.{Numbers}
 use Rattle.gos_types.specs.Types.{type_of}
@@ -13,14 +13,18 @@ use Rattle.gos_plan.specs.Firing.{State, Token}
 use Rattle.gos_plan.specs.Gates.{Incoming, Outgoing}
 use Rattle.gos_plan.specs.Ranges.{IsSmall}
 use Rattle.gos_plan.specs.Kept.{KeepLaws}
+use Rattle.gos_plan.specs.Paths.{KeepPaths}
 use Rattle.gos_control.specs.Layout as control
 use Rattle.gos_control.specs.Ranges.{IsControl}
 use Rattle.gos_control.specs.laws.Kept.{control_gates}
+use Rattle.gos_control.specs.laws.Paths.{control_paths}
 use Rattle.gos_data.specs.Layout as arith
 use Rattle.gos_data.specs.Ranges.{IsArith}
 use Rattle.gos_data.specs.laws.Kept.{arith_gates}
+use Rattle.gos_data.specs.laws.Paths.{arith_paths}
 use Rattle.gos_share.specs.Layout as sharing
 use Rattle.gos_share.specs.laws.Kept.{share_gates}
+use Rattle.gos_share.specs.laws.Paths.{share_paths}
 use Rattle.gos_expand.specs.declared.gates.Gates.{Gates}
 use Rattle.gos_expand.specs.declared.gates.Gates.TheVariants as held
 
@@ -68,6 +72,11 @@ stands_in (held.Controls k) = control.stands_of (part_of k)
 stands_in (held.Computes k) = arith.stands_of (part_of k)
 stands_in (held.Shares t) = sharing.stands_of (Share (type_of t))
 
+abbrev pub passing_in : Gates → ℕ → ℕ → Bool
+passing_in (held.Controls k) = control.passing_of (part_of k)
+passing_in (held.Computes k) = arith.passing_of (part_of k)
+passing_in (held.Shares t) = sharing.passing_of (Share (type_of t))
+
 abbrev pub IsLaidOut : Gates → Type 0
 IsLaidOut (held.Controls k) = IsControl k
 IsLaidOut (held.Computes k) = IsArith k
@@ -78,3 +87,9 @@ pub gates_keep : (g : Gates) → IsLaidOut g → KeepLaws (part_in g) (cells_in 
 gates_keep (held.Controls k) is = control_gates k is
 gates_keep (held.Computes k) is = arith_gates k is
 gates_keep (held.Shares t) is = share_gates t is
+
+-- and what is asked of paths
+pub gates_pass : (g : Gates) → IsLaidOut g → KeepPaths (part_in g) (cells_in g) (outs_in g) (late_in g) (passing_in g)
+gates_pass (held.Controls k) is = control_paths k is
+gates_pass (held.Computes k) is = arith_paths k is
+gates_pass (held.Shares t) is = share_paths t is

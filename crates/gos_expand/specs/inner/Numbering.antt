@@ -9,7 +9,7 @@ use Rattle.gos_expand.specs.declared.places.Place.{Place}
 use Rattle.gos_expand.specs.declared.places.Place.TheVariants as places
 use Rattle.gos_expand.specs.declared.numbering.Numbering.{Numbering}
 use Rattle.gos_expand.specs.Gates.{part_size}
-use Rattle.gos_expand.specs.Starts.{keep_all, port_size, ports_of, loose_ends, parts_start, laid_size}
+use Rattle.gos_expand.specs.Starts.{Keep, chosen, port_size, ports_of, loose_ends, parts_start, laid_size}
 use Rattle.gos_expand.specs.inner.Arrivals.{AreAt, start_at}
 
 -- where each of these blocks begins, of which the first begins at net n
@@ -28,13 +28,17 @@ abbrev pub ends_from : (ℕ → End) → ℕ → ℕ → List End
 ends_from end h zero = []
 ends_from end h (suc n) = end h ∷ ends_from end (suc h) n
 
+-- which directions of joints keep their registers
+abbrev pub keep_in : Numbering → Keep
+keep_in n = chosen n.keep.now
+
 -- the program's numbers are those of the plan
 pub record IsNumbered (p : Plan) (n : Numbering) : Type 0 where
-  pub of_arrivals : AreAt p (start_at p) n.arrivals
+  pub of_arrivals : AreAt p (start_at (keep_in n) p) n.arrivals
   pub of_loose : map end_of n.loose.items ≡ loose_ends p
   pub of_ports : n.ports.items ≡ starts port_size 0 0 (ports_of p)
-  pub of_parts : n.parts.items ≡ starts (λ _ k. part_size k) 0 (parts_start keep_all p) p.parts
-  pub first_part : n.parts_start ≡ parts_start keep_all p
-  pub whole : n.size ≡ laid_size keep_all p
+  pub of_parts : n.parts.items ≡ starts (λ _ k. part_size k) 0 (parts_start (keep_in n) p) p.parts
+  pub first_part : n.parts_start ≡ parts_start (keep_in n) p
+  pub whole : n.size ≡ laid_size (keep_in n) p
   pub room : n.size ≤ 4000000000
   pub few : n.size ≤ plan_size p

@@ -12,7 +12,7 @@ pub returns-clause-ends : goal.returns-clause-ends
 returns-clause-ends c =
     let p : Plan = plan_of c.args.plan.now in
     let all : map end_of c.deref.result.now ≡ port_ends (ports_of p) ++ part_ends 0 p.parts = rw (c.deref.ensures.value) c.in_ok-ends.ensures in
-    c.in_ok-loose.ensures.free p c.requires.table (subst (Exist p) (sym all) (all_exist p)) ∙ ap (filter (λ e. is_free e p.joints)) all
+    c.in_ok-loose.ensures.free c.requires.table.0 p c.requires.table.1 (subst (Exist p) (sym all) (all_exist p)) ∙ ap (filter (λ e. is_free e p.joints)) all
 
 pub returns-clause-few : goal.returns-clause-few
 returns-clause-few c =

@@ -5,21 +5,22 @@ use Rattle.gos_plan.specs.Size.{shakes_of}
 use Rattle.std.proofs.lemmas.List.{length-map}
 use Rattle.gos_expand.specs.Blocks.{total}
 use Rattle.gos_expand.specs.Gates.{part_size}
-use Rattle.gos_expand.specs.Starts.{keep_all, loose_size, loose_ends, loose_ends_start, parts_start}
+use Rattle.gos_expand.specs.Starts.{Keep, chosen, loose_size, loose_ends, loose_ends_start, parts_start}
 use Rattle.gos_expand.specs.inner.Arrivals.{AreAt, or_else, start_by_ends, joined_start}
 use Rattle.gos_expand.specs.inner.Numbering.{starts}
 use Rattle.gos_expand.proofs.numbering.number.Goals as goal
 
-pub returns : goal.returns
-returns c =
+pub returns-clause-numbered : goal.returns-clause-numbered
+returns-clause-numbered c =
+    let keep : Keep = chosen c.args.keep.now in
     let p : Plan = plan_of c.args.plan.now in
     let from = c.number_joints-loose_start.ensures.next in
     let ends : map end_of c.deref.result.now ≡ loose_ends p = rw (c.deref.ensures.value) c.in_ok-loose.ensures.ends in
     let joined = c.number_joints-loose_start.ensures.table in
-    let first : c.number_loose-parts_start.result ≡ parts_start keep_all p =
-    c.number_loose-parts_start.ensures.next p (joined_start p) joined
+    let first : c.number_loose-parts_start.result ≡ parts_start keep p =
+    c.number_loose-parts_start.ensures.next p (joined_start keep p) joined
     ∙ (ap (λ (n : ℕ). n + total (loose_size p) 0 (map end_of c.deref.result.now)) from
-    ∙ ap (λ (es : List End). loose_ends_start keep_all p + total (loose_size p) 0 es) ends) in
+    ∙ ap (λ (es : List End). loose_ends_start keep p + total (loose_size p) 0 es) ends) in
     let ports = c.in_ok-ports.ensures.few in
     let joints = c.number_joints-loose_start.ensures.few in
     let loose = c.number_loose-parts_start.ensures.few in
@@ -28,9 +29,9 @@ returns c =
     let size = c.requires.size in
     record {
       of_arrivals =
-          subst (λ (n : ℕ). AreAt p (λ e. or_else (joined_start p e) (start_by_ends p n (loose_ends p) e)) c.number_loose-parts_start.new.arrivals) from
-          (subst (λ (es : List End). AreAt p (λ e. or_else (joined_start p e) (start_by_ends p c.number_joints-loose_start.result es e)) c.number_loose-parts_start.new.arrivals) ends
-          (c.number_loose-parts_start.ensures.table p (joined_start p) joined));
+          subst (λ (n : ℕ). AreAt p (λ e. or_else (joined_start keep p e) (start_by_ends p n (loose_ends p) e)) c.number_loose-parts_start.new.arrivals) from
+          (subst (λ (es : List End). AreAt p (λ e. or_else (joined_start keep p e) (start_by_ends p c.number_joints-loose_start.result es e)) c.number_loose-parts_start.new.arrivals) ends
+          (c.number_loose-parts_start.ensures.table p (joined_start keep p) joined));
       of_loose = c.in_ok-loose.ensures.ends;
       of_ports = c.in_ok-ports.ensures.starts;
       of_parts = c.in_ok-parts.ensures.starts ∙ ap (λ (n : ℕ). starts (λ _ k. part_size k) 0 n p.parts) first;

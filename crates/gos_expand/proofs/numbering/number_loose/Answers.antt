@@ -4,6 +4,7 @@ use Rattle.gos_plan.specs.declared.plan.End as declared
 use Rattle.gos_plan.specs.declared.plan.End.TheVariants as ends
 use Rattle.gos_plan.specs.Plans.{End, same_end}
 use Rattle.gos_plan.specs.Seen.{end_of}
+use Rattle.gos_expand.specs.declared.arrivals.Origin.TheVariants.{Cells}
 use Rattle.gos_expand.specs.Blocks.{total}
 use Rattle.gos_expand.specs.Starts.{loose_size}
 use Rattle.gos_expand.specs.inner.Arrivals.{AreAt, or_else, some_if, start_by_ends}
@@ -21,8 +22,8 @@ loop-end-preserved c =
     let few = c.token_size-size.ensures.few in (
       (λ p f are.
           ends_step p f c.args.from i ds (end_of end) c.fill.new.self there
-          (subst (λ (n : ℕ). AreAt p (λ e. or_else (or_else (f e) (start_by_ends p c.args.from (take i ds) e)) (some_if (same_end e (end_of end)) n)) c.fill.new.self)
-          (c.loop-end.invariant.1 p f are) (table_filled p (λ e. or_else (f e) (start_by_ends p c.args.from (take i ds) e)) (end_of end) c.loop-end.next c.loop-end.arrivals c.fill.new.self (c.loop-end.invariant.0 p f are) c.fill.ensures))),
+          (subst (λ (n : ℕ). AreAt p (λ e. or_else (or_else (f e) (start_by_ends p c.args.from (take i ds) e)) (some_if (same_end e (end_of end)) (Cells n))) c.fill.new.self)
+          (c.loop-end.invariant.1 p f are) (table_filled p (λ e. or_else (f e) (start_by_ends p c.args.from (take i ds) e)) (end_of end) (Cells c.loop-end.next) c.loop-end.arrivals c.fill.new.self (c.loop-end.invariant.0 p f are) c.fill.ensures))),
       (λ p f are.
           let next = c.loop-end.invariant.1 p f are in
           let more = total_more (loose_size p) 0 i ds (end_of end) there in

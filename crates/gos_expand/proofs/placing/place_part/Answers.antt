@@ -10,7 +10,7 @@ use Rattle.gos_plan.specs.Seen.{plan_of, part_of}
 use Rattle.gos_expand.specs.declared.gates.Gates.{Gates}
 use Rattle.gos_expand.specs.Gates.{layout, part_size}
 use Rattle.gos_expand.specs.inner.Dispatch.{gates_for, cells_in}
-use Rattle.gos_expand.specs.Starts.{keep_all}
+use Rattle.gos_expand.specs.Starts.{Keep}
 use Rattle.gos_expand.specs.inner.Tokens.{Places}
 use Rattle.gos_expand.specs.Laid.{incoming, part_cells}
 use Rattle.gos_expand.proofs.BlockLemmas.{item_mapped}
@@ -19,6 +19,7 @@ use Rattle.gos_expand.proofs.EndLemmas.{part_ends_within}
 use Rattle.gos_expand.proofs.NumberLemmas.{cells_for}
 use Rattle.gos_expand.proofs.PlacingLemmas.{region_placed}
 use Rattle.gos_expand.proofs.WireLemmas.{same_nets}
+use Rattle.gos_expand.specs.inner.Numbering.{keep_in}
 use Rattle.gos_expand.proofs.placing.place_part.Goals as goal
 
 -- the cells of these gates, and their number
@@ -30,11 +31,12 @@ sized g k b i is = ap (λ (cs : List Cell). length cs) (laid g k b i is) ∙ lay
 
 pub outs-requires-clause-numbered : goal.outs-requires-clause-numbered
 outs-requires-clause-numbered c =
+    let keep : Keep = keep_in c.args.numbering.now in
     let k : Kind = c.index-parts-index.result in
     let p : Plan = plan_of c.args.plan.now in
     let there = item_mapped part_of c.args.index c.parts.result.now c.args.plan.now.parts k c.parts.ensures.value (rw (c.parts.ensures.value) c.requires.there) c.index-parts-index.is in
     let size = sized c.gates_of-gates.result k c.start.result (incoming_of c.wire_part.new.wires) c.gates_of-gates.ensures.is in
-    let within = part_ends_within p c.args.index (part_of k) there in
+    let within = part_ends_within keep p c.args.index (part_of k) there in
     let first = c.start.ensures in
     let begin = c.begin-region.ensures.start in
     let start = c.requires.start in
@@ -53,11 +55,12 @@ place-requires-clause-spare c =
 
 pub place-requires-clause-numbered : goal.place-requires-clause-numbered
 place-requires-clause-numbered c =
+    let keep : Keep = keep_in c.args.numbering.now in
     let k : Kind = c.index-parts-index.result in
     let p : Plan = plan_of c.args.plan.now in
     let there = item_mapped part_of c.args.index c.parts.result.now c.args.plan.now.parts k c.parts.ensures.value (rw (c.parts.ensures.value) c.requires.there) c.index-parts-index.is in
     let size = sized c.gates_of-gates.result k c.begin-region.result (incoming_of c.outs.new.wires) c.gates_of-gates.ensures.is in
-    let within = part_ends_within p c.args.index (part_of k) there in
+    let within = part_ends_within keep p c.args.index (part_of k) there in
     let begin = c.begin-region.ensures.start in
     let start = c.requires.start in
     let whole = c.requires.numbered.whole in
@@ -76,6 +79,7 @@ finish-requires-clause-spare c =
 
 pub returns : goal.returns
 returns c = λ part at.
+    let keep : Keep = keep_in c.args.numbering.now in
     let k : Kind = c.index-parts-index.result in
     let p : Plan = plan_of c.args.plan.now in
     let there = item_mapped part_of c.args.index c.parts.result.now c.args.plan.now.parts k c.parts.ensures.value (rw (c.parts.ensures.value) c.requires.there) c.index-parts-index.is in
@@ -85,18 +89,18 @@ returns c = λ part at.
     let same = ap (λ (q : Pool). q.spare) c.begin-region.ensures.begun in
     let spare = c.requires.spare (part_of k) there in
     let placed = c.place.ensures.spare in
-    let nets : incoming_of c.outs.new.wires ≡ incoming keep_all p c.args.index = same_nets c.outs.new.wires c.wire_part.new.wires c.outs.ensures.rest ∙ c.wire_part.ensures.nets in
-    let cells : cells_in c.gates_of-gates.result c.begin-region.result (incoming_of c.outs.new.wires) ≡ part_cells keep_all p c.args.index (part_of k) =
+    let nets : incoming_of c.outs.new.wires ≡ incoming keep p c.args.index = same_nets c.outs.new.wires c.wire_part.new.wires c.outs.ensures.rest ∙ c.wire_part.ensures.nets in
+    let cells : cells_in c.gates_of-gates.result c.begin-region.result (incoming_of c.outs.new.wires) ≡ part_cells keep p c.args.index (part_of k) =
     laid c.gates_of-gates.result k c.begin-region.result (incoming_of c.outs.new.wires) c.gates_of-gates.ensures.is
     ∙ (ap (λ (i : Incoming). layout (part_of k) c.begin-region.result i) nets
-    ∙ ap (λ (b : ℕ). layout (part_of k) b (incoming keep_all p c.args.index)) (c.begin-region.ensures.start ∙ c.requires.start)) in
+    ∙ ap (λ (b : ℕ). layout (part_of k) b (incoming keep p c.args.index)) (c.begin-region.ensures.start ∙ c.requires.start)) in
     let counts = ap (λ (cs : List Cell). length cs) cells in
-    let inner : Places c.begin-region.new.self c.place.new.pool (part_cells keep_all p c.args.index (part_of k)) 0 =
+    let inner : Places c.begin-region.new.self c.place.new.pool (part_cells keep p c.args.index (part_of k)) 0 =
     record {
       cells = c.place.ensures.cells ∙ ap (λ (cs : List Cell). c.begin-region.new.self.cells ++ cs) cells;
       spare = omega (arith, placed, counts);
       begun = c.place.ensures.begun;
     } in
-    subst (λ (q : Part). Places c.args.pool.now c.finish.new.self (part_cells keep_all p c.args.index q) 1) is
-    (region_placed c.args.pool.now c.begin-region.new.self c.place.new.pool c.finish.new.self c.begin-region.result _ (part_cells keep_all p c.args.index (part_of k)) c.begin-region.ensures.begun inner
+    subst (λ (q : Part). Places c.args.pool.now c.finish.new.self (part_cells keep p c.args.index q) 1) is
+    (region_placed c.args.pool.now c.begin-region.new.self c.place.new.pool c.finish.new.self c.begin-region.result _ (part_cells keep p c.args.index (part_of k)) c.begin-region.ensures.begun inner
     c.finish.ensures.closed (omega (arith, size, same, spare, placed)) c.requires.begun)

@@ -1,98 +1,36 @@
-use Rattle.std.proofs.Common.{◌≤◌, ◌∙◌, List, length, refl, ap, subst, sym, arith}
-use Rattle.std.proofs.lemmas.List.{length-append}
-use Rattle.gos_pool.specs.Pools.{Pool}
-use Rattle.gos_netlist.specs.Nets.{Cell, Netlist}
+use Rattle.std.proofs.Common.{◌≡◌, ◌∙◌, ◌≤◌, List, Bool, length, ap, subst, sym}
+use Rattle.gos_netlist.specs.Nets.{Netlist}
 use Rattle.gos_netcheck.specs.Accepted.{IsAccepted}
 use Rattle.gos_plan.specs.Plans.{Plan}
 use Rattle.gos_plan.specs.Seen.{plan_of}
 use Rattle.gos_plan.specs.Size.{plan_size}
-use Rattle.gos_plan.specs.declared.kinds.Kind.{Kind}
-use Rattle.gos_expand.specs.Blocks.{blocks}
-use Rattle.gos_expand.specs.Starts.{keep_all, ports_of, loose_ends}
-use Rattle.gos_expand.specs.Laid.{port_cells, joint_cells, loose_cells, part_cells}
-use Rattle.gos_expand.specs.Acceptance.{CanBeLaid}
-use Rattle.gos_expand.proofs.AcceptLemmas.{laid_accepted}
+use Rattle.gos_expand.specs.Starts.{chosen}
+use Rattle.gos_expand.specs.Choices.{IsLaidBy}
+use Rattle.gos_expand.specs.inner.Choosing.{IsChoiceOf}
 use Rattle.gos_expand.proofs.FewLemmas.{laid_small}
-use Rattle.gos_expand.proofs.GroupLemmas.{ports_long, joints_long, loose_long, parts_long}
-use Rattle.gos_expand.proofs.WholeLemmas.{four_groups}
+use Rattle.gos_expand.proofs.WholeLemmas.{both_then}
+use Rattle.gos_expand.proofs.PolicyLemmas.{laid_by, accepted_by}
 use Rattle.gos_expand.proofs.whole.expand.Goals as goal
-
-pub place_ports-requires-clause-spare : goal.place_ports-requires-clause-spare
-place_ports-requires-clause-spare c =
-    let p : Plan = plan_of c.args.plan.now in
-    let spare = c.in_ok-reserve.ensures.spare in
-    let whole = c.in_ok-numbering.ensures.whole in
-    let ports = ports_long p in
-    omega (arith, spare, whole, ports)
-
-pub place_joints-requires-clause-spare : goal.place_joints-requires-clause-spare
-place_joints-requires-clause-spare c =
-    let p : Plan = plan_of c.args.plan.now in
-    let spare = c.in_ok-reserve.ensures.spare in
-    let whole = c.in_ok-numbering.ensures.whole in
-    let ports = ports_long p in
-    let joints = joints_long p in
-    let first = c.place_ports.ensures.spare in
-    omega (arith, spare, whole, ports, joints, first)
-
-pub place_loose-requires-clause-spare : goal.place_loose-requires-clause-spare
-place_loose-requires-clause-spare c =
-    let p : Plan = plan_of c.args.plan.now in
-    let spare = c.in_ok-reserve.ensures.spare in
-    let whole = c.in_ok-numbering.ensures.whole in
-    let ports = ports_long p in
-    let joints = joints_long p in
-    let loose = loose_long p in
-    let first = c.place_ports.ensures.spare in
-    let second = c.place_joints.ensures.placed.spare in
-    omega (arith, spare, whole, ports, joints, loose, first, second)
-
-pub place_parts-requires-clause-start : goal.place_parts-requires-clause-start
-place_parts-requires-clause-start c =
-    let p : Plan = plan_of c.args.plan.now in
-    let ports = ports_long p in
-    let joints = joints_long p in
-    let loose = loose_long p in
-    let none = ap (λ (q : Pool). length q.cells) c.new-pool.ensures in
-    let same = ap (λ (q : Pool). length q.cells) c.in_ok-reserve.ensures.lists in
-    let first = ap (λ (cs : List Cell). length cs) c.place_ports.ensures.cells in
-    let second = ap (λ (cs : List Cell). length cs) c.place_joints.ensures.placed.cells in
-    let third = ap (λ (cs : List Cell). length cs) c.place_loose.ensures.cells in
-    let one = length-append c.reserve.new.self.cells (blocks (port_cells keep_all p) 0 (ports_of p)) in
-    let two = length-append c.place_ports.new.pool.cells (blocks (joint_cells keep_all p) 0 p.joints) in
-    let three = length-append c.place_joints.new.pool.cells (blocks (loose_cells p) 0 (loose_ends p)) in
-    omega (arith, ports, joints, loose, none, same, first, second, third, one, two, three)
-
-pub place_parts-requires-clause-spare : goal.place_parts-requires-clause-spare
-place_parts-requires-clause-spare c =
-    let p : Plan = plan_of c.args.plan.now in
-    let spare = c.in_ok-reserve.ensures.spare in
-    let whole = c.in_ok-numbering.ensures.whole in
-    let count = ap (λ (ks : List Kind). length ks) c.parts.ensures.value in
-    let ports = ports_long p in
-    let joints = joints_long p in
-    let loose = loose_long p in
-    let parts = parts_long p in
-    let first = c.place_ports.ensures.spare in
-    let second = c.place_joints.ensures.placed.spare in
-    let third = c.place_loose.ensures.spare in
-    omega (arith, spare, whole, count, ports, joints, loose, parts, first, second, third)
 
 pub returns-clause-laid : goal.returns-clause-laid
 returns-clause-laid c =
     let p : Plan = plan_of c.args.plan.now in
-    let none = ap (λ (q : Pool). q.cells) c.in_ok-reserve.ensures.lists ∙ ap (λ (q : Pool). q.cells) c.new-pool.ensures in
-    let cells = c.into_cells.ensures ∙ four_groups (blocks (port_cells keep_all p) 0 (ports_of p)) (blocks (joint_cells keep_all p) 0 p.joints) (blocks (loose_cells p) 0 (loose_ends p)) (blocks (part_cells keep_all p) 0 p.parts) c.reserve.new.self.cells c.place_ports.new.pool.cells c.place_joints.new.pool.cells c.place_loose.new.pool.cells c.place_parts.new.pool.cells
-    none c.place_ports.ensures.cells c.place_joints.ensures.placed.cells c.place_loose.ensures.cells c.place_parts.ensures.cells in
-    rw (cells, c.in_ok-ports.ensures) refl
+    let is : IsChoiceOf c.args.policy p c.deref.result.now =
+    subst (IsChoiceOf c.args.policy p) (sym c.deref.ensures.value) c.in_ok-keep.ensures in
+    both_then c.lay_out.result c.lay_out.ensures.laid c.lay_out.ensures.can
+    (λ net made can. subst (IsLaidBy c.args.policy p c.args.root.now) (sym made) (laid_by c.args.policy c.args.plan.now c.args.root.now can c.deref.result.now is))
 
--- what the caller sees to, and what each plan is, are what the laws ask
 pub returns-clause-accepted : goal.returns-clause-accepted
 returns-clause-accepted c =
-    let can : CanBeLaid c.args.plan.now c.args.root.now = record { in_range = c.parts.ensures.in_range; right = c.place_joints.ensures.right; ports = record { result = c.requires.result; ground = c.requires.ground }; names = c.requires.names } in
-    subst IsAccepted (sym (returns-clause-laid c)) (laid_accepted c.args.plan.now c.args.root.now can)
+    let p : Plan = plan_of c.args.plan.now in
+    let is : IsChoiceOf c.args.policy p c.deref.result.now =
+    subst (IsChoiceOf c.args.policy p) (sym c.deref.ensures.value) c.in_ok-keep.ensures in
+    both_then c.lay_out.result c.lay_out.ensures.laid c.lay_out.ensures.can
+    (λ net made can. subst IsAccepted (sym made) (accepted_by c.args.policy c.args.plan.now c.args.root.now can c.deref.result.now is))
 
 pub returns-clause-few : goal.returns-clause-few
 returns-clause-few c =
-    let can : CanBeLaid c.args.plan.now c.args.root.now = record { in_range = c.parts.ensures.in_range; right = c.place_joints.ensures.right; ports = record { result = c.requires.result; ground = c.requires.ground }; names = c.requires.names } in
-    subst (λ (net : Netlist). length net.cells ≤ plan_size (plan_of c.args.plan.now)) (sym (returns-clause-laid c)) (laid_small c.args.plan.now c.args.root.now can)
+    both_then c.lay_out.result c.lay_out.ensures.laid c.lay_out.ensures.can
+    (λ net made can.
+    subst (λ (n : Netlist). length n.cells ≤ plan_size (plan_of c.args.plan.now)) (sym made)
+    (laid_small (chosen c.deref.result.now) c.args.plan.now c.args.root.now can))

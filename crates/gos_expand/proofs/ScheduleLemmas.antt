@@ -1,0 +1,488 @@
+-- The order of a cycle's firings: the early ones by the ranks of the ends at which their tokens are taken, and then the late
+-- ones. Here it is told how often each slot stands in it, and which ranks there are.
+use Rattle.std.specs.Prelude.{◌&&◌, ◌||◌, nat_lt}
+use Rattle.std.proofs.Common.{◌≡◌, ℕ, zero, suc, ◌+◌, ◌≤◌, ◌<◌, Bool, true, false, not, List, [], ◌∷◌, ◌++◌, Some, slice_get, length, refl, sym, ◌∙◌, ap, subst, arith, nat_eq, if◌then◌else◌}
+use Rattle.gos_netlist.specs.Settling.{Numbers}
+use Rattle.gos_plan.specs.Kinds.{Part, Contact, part_contacts}
+use Rattle.gos_plan.specs.Firing.{Slot, same_slot}
+use Rattle.gos_plan.specs.Plans.{End, PartEnd, Plan}
+use Rattle.gos_plan.specs.Tokens.{Element, Fire, shake_of}
+use Rattle.gos_plan.specs.Gates.{slot_in, slots_of, is_among, pulse_in}
+use Rattle.gos_plan.specs.Law.{times, pulse_at, pulsed, late_slots, early_slots}
+use Rattle.gos_plan.specs.Cycles.{PartFiring, fires_of}
+use Rattle.gos_plan.specs.Projection.{firings_of}
+use Rattle.gos_plan.specs.laws.Inversion.{same}
+use Rattle.gos_expand.specs.Gates.{late_of}
+use Rattle.gos_expand.specs.Facts.{Places, incoming_at}
+use Rattle.gos_expand.proofs.TallyLemmas.{Each, times-append, firings-append, each_once, pulse_there, shake_in}
+
+-- which handshakes of which parts
+abbrev pub Choice : Type 0
+Choice = ℕ → Part → ℕ → Bool
+
+abbrev pub tagged : ℕ → List Slot → List PartFiring
+tagged i [] = []
+tagged i (t ∷ ts) = record { part = i; takes = t } ∷ tagged i ts
+
+-- those that are chosen, from part i on
+abbrev pub chosen_from : Choice → ℕ → List Part → List PartFiring
+chosen_from these i [] = []
+chosen_from these i (k ∷ ks) = tagged i (slots_of (these i k) 0 (part_contacts k)) ++ chosen_from these (suc i) ks
+
+-- the early ones of a rank, and of lower ranks; and the late ones
+abbrev pub is_early : Part → ℕ → Bool
+is_early k h = not (is_among (late_of k) h)
+
+abbrev pub at_rank : (End → ℕ) → ℕ → Choice
+at_rank rank r i k h = is_early k h && nat_eq (rank (PartEnd i h)) r
+
+abbrev pub below_rank : (End → ℕ) → ℕ → Choice
+below_rank rank r i k h = is_early k h && nat_lt (rank (PartEnd i h)) r
+
+abbrev pub are_late : Choice
+are_late i k h = is_among (late_of k) h
+
+-- the early ones of ranks below r, in the order of ranks
+abbrev pub early_below : Plan → (End → ℕ) → ℕ → List PartFiring
+early_below p rank zero = []
+early_below p rank (suc r) = early_below p rank r ++ chosen_from (at_rank rank r) 0 p.parts
+
+abbrev pub late_ones : Plan → List PartFiring
+late_ones p = chosen_from are_late 0 p.parts
+
+-- a number above the ranks of all ends of parts
+abbrev pub top_of : (ℕ → ℕ) → ℕ → List Contact → ℕ
+top_of f h [] = 0
+top_of f h (c ∷ cs) = suc (f h) + top_of f (suc h) cs
+
+abbrev pub top_from : (End → ℕ) → ℕ → List Part → ℕ
+top_from rank i [] = 0
+top_from rank i (k ∷ ks) = top_of (λ h. rank (PartEnd i h)) 0 (part_contacts k) + top_from rank (suc i) ks
+
+abbrev pub top : Plan → (End → ℕ) → ℕ
+top p rank = top_from rank 0 p.parts
+
+-- those at which a pulse comes in
+abbrev pub with_pulse : Plan → Places → Numbers → List PartFiring → List PartFiring
+with_pulse p n v [] = []
+with_pulse p n v (f ∷ fs) =
+    if nat_eq (pulse_in v (incoming_at p n f.part) (shake_of f.takes)) 1 then f ∷ with_pulse p n v fs else with_pulse p n v fs
+
+abbrev pub early_made : Plan → Places → (End → ℕ) → Numbers → ℕ → List PartFiring
+early_made p n rank v r = with_pulse p n v (early_below p rank r)
+
+abbrev pub made_firings : Plan → Places → (End → ℕ) → Numbers → List PartFiring
+made_firings p n rank v = early_made p n rank v (top p rank) ++ with_pulse p n v (late_ones p)
+
+pub fires-append : (xs ys : List PartFiring) → fires_of (xs ++ ys) ≡ fires_of xs ++ fires_of ys
+fires-append [] ys = refl
+fires-append (x ∷ xs) ys = ap (λ (l : List Element). Fire x.part x.takes ∷ l) (fires-append xs ys)
+
+pub firings_joined : (i : ℕ) (xs ys : List PartFiring) → firings_of i (fires_of (xs ++ ys)) ≡ firings_of i (fires_of xs) ++ firings_of i (fires_of ys)
+firings_joined i xs ys = ap (firings_of i) (fires-append xs ys) ∙ firings-append i (fires_of xs) (fires_of ys)
+
+abbrev no_slots : List Slot
+no_slots = []
+
+firings_tagged : (i j : ℕ) (ts : List Slot) → firings_of j (fires_of (tagged i ts)) ≡ (if nat_eq i j then ts else [])
+firings_tagged i j [] = by_test (nat_eq i j)
+  where
+    by_test : (b : Bool) → no_slots ≡ (if b then no_slots else no_slots)
+    by_test true = refl
+    by_test false = refl
+firings_tagged i j (t ∷ ts) = by_test (nat_eq i j) (firings_tagged i j ts)
+  where
+    by_test : (b : Bool) → firings_of j (fires_of (tagged i ts)) ≡ (if b then ts else [])
+        → (if b then t ∷ firings_of j (fires_of (tagged i ts)) else firings_of j (fires_of (tagged i ts))) ≡ (if b then t ∷ ts else [])
+    by_test true h = ap (λ (l : List Slot). t ∷ l) h
+    by_test false h = h
+
+abbrev slots_here : Choice → ℕ → Part → List Slot
+slots_here these i k = slots_of (these i k) 0 (part_contacts k)
+
+firings_two : (these : Choice) (i j : ℕ) (k : Part) (ks : List Part)
+    → firings_of j (fires_of (chosen_from these i (k ∷ ks)))
+    ≡ (if nat_eq i j then slots_here these i k else []) ++ firings_of j (fires_of (chosen_from these (suc i) ks))
+firings_two these i j k ks =
+    firings_joined j (tagged i (slots_here these i k)) (chosen_from these (suc i) ks)
+    ∙ ap (λ (l : List Slot). l ++ firings_of j (fires_of (chosen_from these (suc i) ks))) (firings_tagged i j (slots_here these i k))
+
+no_firings_before : (these : Choice) (i j : ℕ) (ks : List Part) → j < i → firings_of j (fires_of (chosen_from these i ks)) ≡ []
+no_firings_before these i j [] lt = refl
+no_firings_before these i j (k ∷ ks) lt =
+    let other : nat_eq i j ≡ false = grind (arith, lt) in
+    firings_two these i j k ks ∙ rw other (no_firings_before these (suc i) j ks (omega (arith, lt)))
+
+nil_right : (xs : List Slot) → xs ++ [] ≡ xs
+nil_right [] = refl
+nil_right (x ∷ xs) = ap (λ (l : List Slot). x ∷ l) (nil_right xs)
+
+firings_among : (these : Choice) (i m j : ℕ) (ks : List Part) (k : Part) → j ≡ i + m → slice_get ks m ≡ Some k
+    → firings_of j (fires_of (chosen_from these i ks)) ≡ slots_here these j k
+firings_among these i m j [] k e there = absurd (grind (arith, there))
+firings_among these i zero j (x ∷ ks) k e there =
+    let here : i ≡ j = omega (arith, e) in
+    let is : x ≡ k = cc there in
+    let at_j : nat_eq i j ≡ true = grind (arith, here) in
+    firings_two these i j x ks
+    ∙ (ap (λ (l : List Slot). (if nat_eq i j then slots_here these i x else []) ++ l) (no_firings_before these (suc i) j ks (omega (arith, here)))
+    ∙ (nil_right (if nat_eq i j then slots_here these i x else []) ∙ rw at_j (λ l. slots_here these (here l) (is l))))
+firings_among these i (suc m) j (x ∷ ks) k e there =
+    let other : nat_eq i j ≡ false = grind (arith, e) in
+    firings_two these i j x ks ∙ rw other (firings_among these (suc i) m j ks k (omega (arith, e)) there)
+
+-- those of one part
+pub firings_chosen : (p : Plan) (these : Choice) (i : ℕ) (k : Part) → slice_get p.parts i ≡ Some k
+    → firings_of i (fires_of (chosen_from these 0 p.parts)) ≡ slots_of (these i k) 0 (part_contacts k)
+firings_chosen p these i k is = firings_among these 0 i i p.parts k (omega arith) is
+
+-- with a pulse
+pub firings_pulsed : (p : Plan) (n : Places) (v : Numbers) (i : ℕ) (fs : List PartFiring)
+    → firings_of i (fires_of (with_pulse p n v fs)) ≡ pulsed (pulse_in v (incoming_at p n i)) (firings_of i (fires_of fs))
+firings_pulsed p n v i [] = refl
+firings_pulsed p n v i (f ∷ fs) = by_part (nat_eq f.part i) refl (firings_pulsed p n v i fs)
+  where
+    rest : List PartFiring
+    rest = with_pulse p n v fs
+
+    behind : List Slot
+    behind = firings_of i (fires_of fs)
+
+    pulse : ℕ → ℕ
+    pulse = pulse_in v (incoming_at p n i)
+
+    test : ℕ → Bool
+    test m = nat_eq (pulse_in v (incoming_at p n m) (shake_of f.takes)) 1
+
+    own : (x : Bool) → nat_eq f.part i ≡ true → firings_of i (fires_of rest) ≡ pulsed pulse behind
+        → firings_of i (fires_of (if x then f ∷ rest else rest)) ≡ (if x then f.takes ∷ pulsed pulse behind else pulsed pulse behind)
+    own true here h = rw here (ap (λ (l : List Slot). f.takes ∷ l) h)
+    own false here h = h
+
+    other : (x : Bool) → nat_eq f.part i ≡ false → firings_of i (fires_of rest) ≡ pulsed pulse behind
+        → firings_of i (fires_of (if x then f ∷ rest else rest)) ≡ pulsed pulse behind
+    other true apart h = rw apart h
+    other false apart h = h
+
+    by_part : (b : Bool) → nat_eq f.part i ≡ b → firings_of i (fires_of rest) ≡ pulsed pulse behind
+        → firings_of i (fires_of (if test f.part then f ∷ rest else rest)) ≡ pulsed pulse (if b then f.takes ∷ behind else behind)
+    by_part true here h =
+        let same_part : f.part ≡ i = grind (arith, here) in
+        ap (λ (m : ℕ). firings_of i (fires_of (if test m then f ∷ rest else rest))) same_part ∙ own (test i) here h
+    by_part false apart h = other (test f.part) apart h
+
+pub with_pulse-append : (p : Plan) (n : Places) (v : Numbers) (xs ys : List PartFiring) → with_pulse p n v (xs ++ ys) ≡ with_pulse p n v xs ++ with_pulse p n v ys
+with_pulse-append p n v [] ys = refl
+with_pulse-append p n v (x ∷ xs) ys = by_test (nat_eq (pulse_in v (incoming_at p n x.part) (shake_of x.takes)) 1) (with_pulse-append p n v xs ys)
+  where
+    by_test : (b : Bool) → with_pulse p n v (xs ++ ys) ≡ with_pulse p n v xs ++ with_pulse p n v ys
+        → (if b then x ∷ with_pulse p n v (xs ++ ys) else with_pulse p n v (xs ++ ys)) ≡ (if b then x ∷ with_pulse p n v xs else with_pulse p n v xs) ++ with_pulse p n v ys
+    by_test true h = ap (λ (l : List PartFiring). x ∷ l) h
+    by_test false h = h
+
+-- how often a slot stands among those with a pulse
+pub times_pulsed : (f : ℕ → ℕ) (s : Slot) (ts : List Slot) → times s (pulsed f ts) ≡ (if nat_eq (f (shake_of s)) 1 then times s ts else 0)
+times_pulsed f s [] = by_test (nat_eq (f (shake_of s)) 1)
+  where
+    none : ℕ
+    none = 0
+
+    by_test : (b : Bool) → none ≡ (if b then none else none)
+    by_test true = refl
+    by_test false = refl
+times_pulsed f s (t ∷ ts) = by_slot (same_slot t s) refl (times_pulsed f s ts)
+  where
+    test : Slot → Bool
+    test x = nat_eq (f (shake_of x)) 1
+
+    own : (b : Bool) → same_slot t s ≡ true → times s (pulsed f ts) ≡ (if b then times s ts else 0)
+        → times s (if b then t ∷ pulsed f ts else pulsed f ts) ≡ (if b then suc (times s ts) else 0)
+    own true e h = rw e (ap suc h)
+    own false e h = h
+
+    other : (b : Bool) → same_slot t s ≡ false → times s (pulsed f ts) ≡ (if test s then times s ts else 0)
+        → times s (if b then t ∷ pulsed f ts else pulsed f ts) ≡ (if test s then times s ts else 0)
+    other true e h = rw e h
+    other false e h = h
+
+    by_slot : (x : Bool) → same_slot t s ≡ x → times s (pulsed f ts) ≡ (if test s then times s ts else 0)
+        → times s (if test t then t ∷ pulsed f ts else pulsed f ts) ≡ (if test s then (if x then suc (times s ts) else times s ts) else 0)
+    by_slot true e h =
+        let is : t ≡ s = same t s e in
+        ap (λ (y : Slot). times s (if test y then t ∷ pulsed f ts else pulsed f ts)) is ∙ own (test s) e h
+    by_slot false e h = other (test t) e h
+
+as_often : (f : ℕ → ℕ) (s : Slot) (xs ys : List Slot) → times s xs ≡ times s ys → times s (pulsed f xs) ≡ times s (pulsed f ys)
+as_often f s xs ys h =
+    times_pulsed f s xs ∙ (ap (λ (m : ℕ). if nat_eq (f (shake_of s)) 1 then m else 0) h ∙ sym (times_pulsed f s ys))
+
+-- choices of which one is the two others
+split_times : (a b c : ℕ → Bool) (s : Slot) (h : ℕ) (cs : List Contact) → ((g : ℕ) → c g ≡ (a g || b g)) → ((g : ℕ) → a g ≡ true → b g ≡ false)
+    → times s (slots_of c h cs) ≡ times s (slots_of a h cs) + times s (slots_of b h cs)
+split_times a b c s h [] joins apart = omega arith
+split_times a b c s h (x ∷ cs) joins apart = by_tests (a h) (b h) (c h) (joins h) (apart h) (split_times a b c s (suc h) cs joins apart)
+  where
+    slot : Slot
+    slot = slot_in x.role h
+
+    in_a : List Slot
+    in_a = slots_of a (suc h) cs
+
+    in_b : List Slot
+    in_b = slots_of b (suc h) cs
+
+    in_c : List Slot
+    in_c = slots_of c (suc h) cs
+
+    first : (t : Bool) → times s in_c ≡ times s in_a + times s in_b
+        → (if t then suc (times s in_c) else times s in_c) ≡ (if t then suc (times s in_a) else times s in_a) + times s in_b
+    first true e = omega (arith, e)
+    first false e = e
+
+    second : (t : Bool) → times s in_c ≡ times s in_a + times s in_b
+        → (if t then suc (times s in_c) else times s in_c) ≡ times s in_a + (if t then suc (times s in_b) else times s in_b)
+    second true e = omega (arith, e)
+    second false e = e
+
+    by_tests : (u w z : Bool) → z ≡ (u || w) → (u ≡ true → w ≡ false) → times s in_c ≡ times s in_a + times s in_b
+        → times s (if z then slot ∷ in_c else in_c) ≡ times s (if u then slot ∷ in_a else in_a) + times s (if w then slot ∷ in_b else in_b)
+    by_tests true true z e only h = absurd (cc (only refl))
+    by_tests true false true e only h = first (same_slot slot s) h
+    by_tests true false false e only h = absurd (cc e)
+    by_tests false true true e only h = second (same_slot slot s) h
+    by_tests false true false e only h = absurd (cc e)
+    by_tests false false true e only h = absurd (cc e)
+    by_tests false false false e only h = h
+
+none_chosen : (f : ℕ → Bool) (h : ℕ) (cs : List Contact) → ((g : ℕ) → f g ≡ false) → slots_of f h cs ≡ []
+none_chosen f h [] none = refl
+none_chosen f h (c ∷ cs) none = let no = none h in rw no (none_chosen f (suc h) cs none)
+
+-- the early firings of a part, of ranks below r
+pub early_times : (p : Plan) (rank : End → ℕ) (r i : ℕ) (k : Part) (s : Slot) → slice_get p.parts i ≡ Some k
+    → times s (firings_of i (fires_of (early_below p rank r))) ≡ times s (slots_of (below_rank rank r i k) 0 (part_contacts k))
+early_times p rank zero i k s is = sym (ap (times s) (none_chosen (below_rank rank 0 i k) 0 (part_contacts k) (λ g. never (is_early k g) (rank (PartEnd i g)))))
+  where
+    never : (b : Bool) (m : ℕ) → (b && nat_lt m 0) ≡ false
+    never true m = grind arith
+    never false m = refl
+early_times p rank (suc r) i k s is =
+    ap (times s) (firings_joined i (early_below p rank r) (chosen_from (at_rank rank r) 0 p.parts))
+    ∙ (times-append s (firings_of i (fires_of (early_below p rank r))) (firings_of i (fires_of (chosen_from (at_rank rank r) 0 p.parts)))
+    ∙ ((λ l. early_times p rank r i k s is l + times s (firings_chosen p (at_rank rank r) i k is l))
+    ∙ sym (split_times (below_rank rank r i k) (at_rank rank r i k) (below_rank rank (suc r) i k) s 0 (part_contacts k)
+    (λ g. joins (is_early k g) (rank (PartEnd i g))) (λ g. apart (is_early k g) (rank (PartEnd i g))))))
+  where
+    joins : (b : Bool) (m : ℕ) → (b && nat_lt m (suc r)) ≡ ((b && nat_lt m r) || (b && nat_eq m r))
+    joins true m = grind arith
+    joins false m = refl
+
+    apart : (b : Bool) (m : ℕ) → (b && nat_lt m r) ≡ true → (b && nat_eq m r) ≡ false
+    apart true m h = grind (arith, h)
+    apart false m h = refl
+
+-- what is chosen within a list of handshakes
+slots_same : (f g : ℕ → Bool) (h : ℕ) (cs : List Contact) → ((m : ℕ) → m < h + length cs → f m ≡ g m) → slots_of f h cs ≡ slots_of g h cs
+slots_same f g h [] all = refl
+slots_same f g h (c ∷ cs) all =
+    let here : f h ≡ g h = all h (omega arith) in
+    let rest : slots_of f (suc h) cs ≡ slots_of g (suc h) cs = slots_same f g (suc h) cs (λ m lt. all m (omega (arith, lt))) in
+    λ l. if here l then slot_in c.role h ∷ rest l else rest l
+
+-- all ranks are below the top
+top_within : (f : ℕ → ℕ) (h g m : ℕ) (cs : List Contact) → m ≡ h + g → g < length cs → f m < top_of f h cs
+top_within f h g m [] e lt = absurd (omega (arith, lt))
+top_within f h zero m (c ∷ cs) e lt =
+    let same : h ≡ m = omega (arith, e) in
+    let values : f h ≡ f m = ap f same in
+    omega (arith, values)
+top_within f h (suc g) m (c ∷ cs) e lt = let rest = top_within f (suc h) g m cs (omega (arith, e)) (omega (arith, lt)) in omega (arith, rest)
+
+top_among : (rank : End → ℕ) (i m j h : ℕ) (ks : List Part) (k : Part) → j ≡ i + m → slice_get ks m ≡ Some k → h < length (part_contacts k)
+    → rank (PartEnd j h) < top_from rank i ks
+top_among rank i m j h [] k e there lt = absurd (grind (arith, there))
+top_among rank i zero j h (x ∷ ks) k e there lt =
+    let here : i ≡ j = omega (arith, e) in
+    let is : x ≡ k = cc there in
+    let within : rank (PartEnd i h) < top_of (λ g. rank (PartEnd i g)) 0 (part_contacts x) =
+    top_within (λ g. rank (PartEnd i g)) 0 h h (part_contacts x) (omega arith) (subst (λ (y : Part). h < length (part_contacts y)) (sym is) lt) in
+    let same_rank : rank (PartEnd i h) ≡ rank (PartEnd j h) = ap (λ (l : ℕ). rank (PartEnd l h)) here in
+    omega (arith, within, same_rank)
+top_among rank i (suc m) j h (x ∷ ks) k e there lt =
+    let rest = top_among rank (suc i) m j h ks k (omega (arith, e)) there lt in omega (arith, rest)
+
+pub below_top : (p : Plan) (rank : End → ℕ) (i h : ℕ) (k : Part) → slice_get p.parts i ≡ Some k → h < length (part_contacts k)
+    → rank (PartEnd i h) < top p rank
+below_top p rank i h k is lt = top_among rank 0 i i h p.parts k (omega arith) is lt
+
+early_in_all : (p : Plan) (rank : End → ℕ) (i : ℕ) (k : Part) → slice_get p.parts i ≡ Some k
+    → slots_of (below_rank rank (top p rank) i k) 0 (part_contacts k) ≡ early_slots k (late_of k)
+early_in_all p rank i k is =
+    slots_same (below_rank rank (top p rank) i k) (is_early k) 0 (part_contacts k)
+    (λ m lt. by_test (is_early k m) (rank (PartEnd i m)) (below_top p rank i m k is (omega (arith, lt))))
+  where
+    by_test : (b : Bool) (r : ℕ) → r < top p rank → (b && nat_lt r (top p rank)) ≡ b
+    by_test true r lt = grind (arith, lt)
+    by_test false r lt = refl
+
+-- Of the early slots a list has exactly those inside that have a pulse.
+only_inside : (f : ℕ → ℕ) (early inside : ℕ → Bool) (h : ℕ) (cs : List Contact) → ((g : ℕ) → inside g ≡ true → early g ≡ true)
+    → pulsed (λ g. if inside g then f g else 0) (slots_of early h cs) ≡ pulsed f (slots_of inside h cs)
+only_inside f early inside h [] sub = refl
+only_inside f early inside h (c ∷ cs) sub = by_tests (early h) (inside h) refl (sub h) (only_inside f early inside (suc h) cs sub)
+  where
+    g : ℕ → ℕ
+    g m = if inside m then f m else 0
+
+    slot : Slot
+    slot = slot_in c.role h
+
+    in_early : List Slot
+    in_early = slots_of early (suc h) cs
+
+    in_inside : List Slot
+    in_inside = slots_of inside (suc h) cs
+
+    both : (b : Bool) → pulsed g in_early ≡ pulsed f in_inside → (if b then slot ∷ pulsed g in_early else pulsed g in_early) ≡ (if b then slot ∷ pulsed f in_inside else pulsed f in_inside)
+    both true e = ap (λ (l : List Slot). slot ∷ l) e
+    both false e = e
+
+    by_tests : (x y : Bool) → inside h ≡ y → (y ≡ true → x ≡ true) → pulsed g in_early ≡ pulsed f in_inside
+        → pulsed g (if x then slot ∷ in_early else in_early) ≡ pulsed f (if y then slot ∷ in_inside else in_inside)
+    by_tests true true is so e =
+        let at_h : g (shake_of slot) ≡ f (shake_of slot) = ap (λ (m : ℕ). if inside m then f m else 0) (shake_in c.role h) ∙ (rw is refl ∙ ap f (sym (shake_in c.role h))) in
+        ap (λ (m : ℕ). if nat_eq m 1 then slot ∷ pulsed g in_early else pulsed g in_early) at_h ∙ both (nat_eq (f (shake_of slot)) 1) e
+    by_tests true false is so e =
+        let at_h : g (shake_of slot) ≡ 0 = ap (λ (m : ℕ). if inside m then f m else 0) (shake_in c.role h) ∙ rw is refl in
+        ap (λ (m : ℕ). if nat_eq m 1 then slot ∷ pulsed g in_early else pulsed g in_early) at_h ∙ e
+    by_tests false true is so e = absurd (cc (so refl))
+    by_tests false false is so e = e
+
+pub exactly_inside : (f : ℕ → ℕ) (early inside : ℕ → Bool) (cs : List Contact) (ts : List Slot) → ((g : ℕ) → inside g ≡ true → early g ≡ true)
+    → ((g : ℕ) → g < length cs → inside g ≡ true → f g ≤ 1) → ((s : Slot) → times s ts ≡ times s (slots_of inside 0 cs))
+    → (s : Slot) → times s (pulsed f ts) ≡ pulse_at (λ g. if inside g then f g else 0) s (slots_of early 0 cs)
+exactly_inside f early inside cs ts sub small count s =
+    as_often f s ts (slots_of inside 0 cs) (count s)
+    ∙ (ap (times s) (sym (only_inside f early inside 0 cs sub))
+    ∙ each_once (λ g. if inside g then f g else 0) early 0 cs s (λ g lt. by_test (inside g) (small g (omega (arith, lt)))))
+  where
+    by_test : {m : ℕ} (b : Bool) → (b ≡ true → m ≤ 1) → (if b then m else 0) ≤ 1
+    by_test true h = h refl
+    by_test false h = omega arith
+
+-- the slots of a part in all firings
+pub slots_made : (p : Plan) (n : Places) (rank : End → ℕ) (v : Numbers) (i : ℕ) (k : Part) → slice_get p.parts i ≡ Some k
+    → firings_of i (fires_of (made_firings p n rank v))
+    ≡ pulsed (pulse_in v (incoming_at p n i)) (firings_of i (fires_of (early_below p rank (top p rank))))
+    ++ pulsed (pulse_in v (incoming_at p n i)) (late_slots k (late_of k))
+slots_made p n rank v i k is =
+    firings_joined i (early_made p n rank v (top p rank)) (with_pulse p n v (late_ones p))
+    ∙ (λ l. firings_pulsed p n v i (early_below p rank (top p rank)) l ++ late l)
+  where
+    late : firings_of i (fires_of (with_pulse p n v (late_ones p))) ≡ pulsed (pulse_in v (incoming_at p n i)) (late_slots k (late_of k))
+    late = firings_pulsed p n v i (late_ones p) ∙ ap (pulsed (pulse_in v (incoming_at p n i))) (firings_chosen p are_late i k is)
+
+-- of which the early ones are exactly those that have a pulse
+pub exactly_early : (p : Plan) (rank : End → ℕ) (f : ℕ → ℕ) (i : ℕ) (k : Part) (s : Slot) → slice_get p.parts i ≡ Some k
+    → ((g : ℕ) → g < length (part_contacts k) → f g ≤ 1)
+    → times s (pulsed f (firings_of i (fires_of (early_below p rank (top p rank))))) ≡ pulse_at f s (early_slots k (late_of k))
+exactly_early p rank f i k s is small =
+    as_often f s (firings_of i (fires_of (early_below p rank (top p rank)))) (early_slots k (late_of k))
+    (early_times p rank (top p rank) i k s is ∙ ap (times s) (early_in_all p rank i k is))
+    ∙ each_once f (is_early k) 0 (part_contacts k) s (λ g lt. small g (omega (arith, lt)))
+
+-- one slot stands once where its handshake is chosen
+all_pulsed : (ts : List Slot) → pulsed (λ h. 1) ts ≡ ts
+all_pulsed [] = refl
+all_pulsed (t ∷ ts) = ap (λ (l : List Slot). t ∷ l) (all_pulsed ts)
+
+pub chosen_once : (these : ℕ → Bool) (h : ℕ) (cs : List Contact) (c : Contact) → slice_get cs h ≡ Some c
+    → times (slot_in c.role h) (slots_of these 0 cs) ≡ (if these h then 1 else 0)
+chosen_once these h cs c there =
+    ap (times (slot_in c.role h)) (sym (all_pulsed (slots_of these 0 cs)))
+    ∙ (each_once (λ g. 1) these 0 cs (slot_in c.role h) (λ g lt. omega arith) ∙ pulse_there (λ g. 1) these 0 h h cs c (omega arith) there)
+
+pub pulsed_once : (f : ℕ → ℕ) (these : ℕ → Bool) (h : ℕ) (cs : List Contact) (c : Contact) → slice_get cs h ≡ Some c
+    → times (slot_in c.role h) (pulsed f (slots_of these 0 cs)) ≡ (if nat_eq (f h) 1 then (if these h then 1 else 0) else 0)
+pulsed_once f these h cs c there =
+    times_pulsed f (slot_in c.role h) (slots_of these 0 cs)
+    ∙ (λ l. if nat_eq (f (shake_in c.role h l)) 1 then chosen_once these h cs c there l else 0)
+
+-- how often a slot stands among all firings: as its pulse says
+pub slot_count : (p : Plan) (n : Places) (rank : End → ℕ) (v : Numbers) (i h : ℕ) (k : Part) (c : Contact) → slice_get p.parts i ≡ Some k
+    → ((g : ℕ) → g < length (part_contacts k) → pulse_in v (incoming_at p n i) g ≤ 1) → slice_get (part_contacts k) h ≡ Some c
+    → times (slot_in c.role h) (firings_of i (fires_of (made_firings p n rank v))) ≡ pulse_in v (incoming_at p n i) h
+slot_count p n rank v i h k c is small there =
+    ap (times (slot_in c.role h)) (slots_made p n rank v i k is)
+    ∙ (times-append (slot_in c.role h) (pulsed pulse (firings_of i (fires_of (early_below p rank (top p rank))))) (pulsed pulse (late_slots k (late_of k)))
+    ∙ ((λ l. early l + late l) ∙ by_test (is_among (late_of k) h)))
+  where
+    pulse : ℕ → ℕ
+    pulse = pulse_in v (incoming_at p n i)
+
+    early : times (slot_in c.role h) (pulsed pulse (firings_of i (fires_of (early_below p rank (top p rank))))) ≡ (if not (is_among (late_of k) h) then pulse h else 0)
+    early = exactly_early p rank pulse i k (slot_in c.role h) is small ∙ pulse_there pulse (is_early k) 0 h h (part_contacts k) c (omega arith) there
+
+    late : times (slot_in c.role h) (pulsed pulse (late_slots k (late_of k))) ≡ (if is_among (late_of k) h then pulse h else 0)
+    late =
+        each_once pulse (is_among (late_of k)) 0 (part_contacts k) (slot_in c.role h) (λ g lt. small g (omega (arith, lt)))
+        ∙ pulse_there pulse (is_among (late_of k)) 0 h h (part_contacts k) c (omega arith) there
+
+    by_test : (b : Bool) → (if not b then pulse h else 0) + (if b then pulse h else 0) ≡ pulse h
+    by_test true = omega arith
+    by_test false = omega arith
+
+-- what holds of each firing of a list
+abbrev pub EachFiring : (PartFiring → Type 0) → List PartFiring → Type 0
+EachFiring Q [] = Unit {0}
+EachFiring Q (f ∷ fs) = Q f × EachFiring Q fs
+
+each_joined : (Q : PartFiring → Type 0) (xs ys : List PartFiring) → EachFiring Q xs → EachFiring Q ys → EachFiring Q (xs ++ ys)
+each_joined Q [] ys h g = g
+each_joined Q (x ∷ xs) ys h g = (h.0, each_joined Q xs ys h.1 g)
+
+each_tagged : (Q : PartFiring → Type 0) (i : ℕ) (ts : List Slot) → Each (λ t. Q (record { part = i; takes = t })) ts → EachFiring Q (tagged i ts)
+each_tagged Q i [] h = tt
+each_tagged Q i (t ∷ ts) h = (h.0, each_tagged Q i ts h.1)
+
+each_slot : (Q : Slot → Type 0) (these : ℕ → Bool) (h : ℕ) (cs : List Contact)
+    → ((g m : ℕ) (c : Contact) → m ≡ h + g → slice_get cs g ≡ Some c → these m ≡ true → Q (slot_in c.role m)) → Each Q (slots_of these h cs)
+each_slot Q these h [] all = tt
+each_slot Q these h (c ∷ cs) all = by_test (these h) (all 0 h c (omega arith) refl) (each_slot Q these (suc h) cs (λ g m d e there. all (suc g) m d (omega (arith, e)) there))
+  where
+    by_test : (b : Bool) → (b ≡ true → Q (slot_in c.role h)) → Each Q (slots_of these (suc h) cs)
+        → Each Q (if b then slot_in c.role h ∷ slots_of these (suc h) cs else slots_of these (suc h) cs)
+    by_test true here rest = (here refl, rest)
+    by_test false here rest = rest
+
+each_from : (Q : PartFiring → Type 0) (these : Choice) (i : ℕ) (ks : List Part)
+    → ((m j h : ℕ) (k : Part) (c : Contact) → j ≡ i + m → slice_get ks m ≡ Some k → slice_get (part_contacts k) h ≡ Some c → these j k h ≡ true
+    → Q (record { part = j; takes = slot_in c.role h })) → EachFiring Q (chosen_from these i ks)
+each_from Q these i [] all = tt
+each_from Q these i (k ∷ ks) all =
+    each_joined Q (tagged i (slots_here these i k)) (chosen_from these (suc i) ks)
+    (each_tagged Q i (slots_here these i k)
+    (each_slot (λ t. Q (record { part = i; takes = t })) (these i k) 0 (part_contacts k)
+    (λ g m c e there chosen.
+    let same_place : g ≡ m = omega (arith, e) in
+    all 0 i m k c (omega arith) refl (subst (λ (x : ℕ). slice_get (part_contacts k) x ≡ Some c) same_place there) chosen)))
+    (each_from Q these (suc i) ks (λ m j h x c e there own chosen. all (suc m) j h x c (omega (arith, e)) there own chosen))
+
+pub each_chosen : (p : Plan) (Q : PartFiring → Type 0) (these : Choice)
+    → ((i h : ℕ) (k : Part) (c : Contact) → slice_get p.parts i ≡ Some k → slice_get (part_contacts k) h ≡ Some c → these i k h ≡ true
+    → Q (record { part = i; takes = slot_in c.role h })) → EachFiring Q (chosen_from these 0 p.parts)
+each_chosen p Q these all =
+    each_from Q these 0 p.parts
+    (λ m j h k c e there own chosen.
+    let same_part : m ≡ j = omega (arith, e) in
+    all j h k c (subst (λ (x : ℕ). slice_get p.parts x ≡ Some k) same_part there) own chosen)
+
+pub each_with_pulse : (p : Plan) (n : Places) (v : Numbers) (Q : PartFiring → Type 0) (fs : List PartFiring)
+    → EachFiring (λ f. pulse_in v (incoming_at p n f.part) (shake_of f.takes) ≡ 1 → Q f) fs → EachFiring Q (with_pulse p n v fs)
+each_with_pulse p n v Q [] h = tt
+each_with_pulse p n v Q (f ∷ fs) h = by_test (nat_eq (pulse_in v (incoming_at p n f.part) (shake_of f.takes)) 1) refl (each_with_pulse p n v Q fs h.1)
+  where
+    by_test : (b : Bool) → nat_eq (pulse_in v (incoming_at p n f.part) (shake_of f.takes)) 1 ≡ b → EachFiring Q (with_pulse p n v fs)
+        → EachFiring Q (if b then f ∷ with_pulse p n v fs else with_pulse p n v fs)
+    by_test true e rest = (h.0 (grind (arith, e)), rest)
+    by_test false e rest = rest

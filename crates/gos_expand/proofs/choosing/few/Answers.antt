@@ -1,0 +1,38 @@
+use Rattle.std.proofs.Common.{◌≡◌, ◌+◌, ◌*◌, ℕ, length, map, sym, ap, subst, ◌∙◌, arith}
+use Rattle.std.proofs.lemmas.List.{length-map}
+use Rattle.gos_order.specs.Rings.{Graph}
+use Rattle.gos_plan.specs.Plans.{Plan}
+use Rattle.gos_plan.specs.Seen.{plan_of, part_of, joint_of}
+use Rattle.gos_expand.specs.inner.Directions.{directions}
+use Rattle.gos_expand.specs.inner.Choosing.{AreWithin}
+use Rattle.gos_expand.proofs.WholeLemmas.{both_then}
+use Rattle.gos_expand.proofs.TableLemmas.{joints_small, ways_within, few_by}
+use Rattle.gos_expand.proofs.choosing.few.Goals as goal
+
+pub add_parts-requires-clause-small : goal.add_parts-requires-clause-small
+add_parts-requires-clause-small c =
+    let p : Plan = plan_of c.args.plan.now in
+    let size = c.requires.size in
+    let value = ap length c.joints.ensures.value in
+    let count = length-map c.args.plan.now.joints joint_of in
+    joints_small p c.in_ok-table.table c.in_ok-table.ensures (omega (arith, size, count))
+
+pub add_parts-requires-clause-within : goal.add_parts-requires-clause-within
+add_parts-requires-clause-within c =
+    let p : Plan = plan_of c.args.plan.now in
+    let value = ap length c.joints.ensures.value in
+    let count = length-map c.args.plan.now.joints joint_of in
+    let all : directions p ≡ 2 * length c.joints.result.now = omega (arith, value, count) in
+    subst (λ (d : ℕ). AreWithin d c.in_ok-table.table) all (ways_within p c.in_ok-table.table c.in_ok-table.ensures c.joints.ensures.right)
+
+pub returns : goal.returns
+returns c =
+    let p : Plan = plan_of c.args.plan.now in
+    let value = ap length c.joints.ensures.value in
+    let count = length-map c.args.plan.now.joints joint_of in
+    let all : 2 * length c.joints.result.now ≡ directions p = omega (arith, value, count) in
+    both_then c.choose.result c.choose.ensures.few c.choose.ensures.all
+    (λ keeps few long.
+    few_by p (2 * length c.joints.result.now) (length c.args.plan.now.parts) c.in_ok-table.table c.in_ok-order.order.edges c.add_parts.new.order.edges
+    keeps.items all (sym (length-map c.args.plan.now.parts part_of)) c.in_ok-table.ensures c.joints.ensures.right
+    (ap (λ (g : Graph). g.edges) c.in_ok-order.ensures) c.in_ok-add_parts.ensures.added few long)

@@ -1,0 +1,34 @@
+-- Which directions of a plan's joints keep their registers: all, or few.
+--
+-- Read first: Laid; Cycles of gos_netlist. The directions are taken in the order of joints, of each the request and then the
+-- answer. One is left out exactly where the netlist without its register, without those already left out and with all later
+-- ones has no combinational cycle.
+use Rattle.std.specs.Prelude.{◌≡◌, ℕ, List, Bool, true, false, not, Some, None, slice_get, nat_eq, nat_lt, if◌then◌else◌}
+use Rattle.gos_netlist.specs.Events.{Direction}
+use Rattle.gos_netlist.specs.Nets.{Netlist}
+use Rattle.gos_netlist.specs.Cycles.{HasCycle}
+use Rattle.gos_plan.specs.Plans.{Joint, Plan}
+use Rattle.gos_expand.specs.declared.whole.Policy.{Policy}
+use Rattle.gos_expand.specs.declared.whole.Policy.TheVariants.{All, Few}
+use Rattle.gos_expand.specs.Starts.{Keep, keep_all, place_of}
+use Rattle.gos_expand.specs.Laid.{laid_cells, laid}
+
+-- the choice that is as this one before a place, leaves out the direction there, and keeps all later ones
+abbrev pub left_out_at : Keep → ℕ → Keep
+left_out_at keep n x way = if nat_lt (place_of x way) n then keep x way else not (nat_eq (place_of x way) n)
+
+-- a direction is kept exactly where a cycle would be left without it
+pub record KeepsFew (p : Plan) (keep : Keep) : Type 0 where
+  pub kept :
+      (x : ℕ) (j : Joint) (way : Direction) → slice_get p.joints x ≡ Some j → keep x way ≡ true
+      → HasCycle (laid_cells (left_out_at keep (place_of x way)) p)
+  pub left_out :
+      (x : ℕ) (j : Joint) (way : Direction) → slice_get p.joints x ≡ Some j → keep x way ≡ false
+      → HasCycle (laid_cells (left_out_at keep (place_of x way)) p)
+      → ⊥
+  pub beyond : (x : ℕ) (way : Direction) → slice_get p.joints x ≡ None → keep x way ≡ true
+
+-- The netlist is the one that the plan is laid out as by a policy: all directions keep their registers, or few.
+abbrev pub IsLaidBy : Policy → Plan → List ℕ → Netlist → Type 0
+IsLaidBy All p root net = net ≡ laid keep_all p root
+IsLaidBy Few p root net = (keep : Keep) × KeepsFew p keep × (net ≡ laid keep p root)

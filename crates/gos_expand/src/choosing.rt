@@ -1,0 +1,215 @@
+// Which directions of a plan's joints keep their registers where few are wanted.
+ghost use Rattle.std.specs.Prelude.{◌≡◌, ◌+◌, ◌<◌, ◌≤◌, length, option_map, IfOk, OnOk};
+ghost use Rattle.gos_plan.specs.Kinds.{part_contacts};
+ghost use Rattle.gos_plan.specs.Plans.{PartEnd};
+ghost use Rattle.gos_plan.specs.Seen.{plan_of, part_of};
+ghost use Rattle.gos_plan.specs.Ranges.{IsInRange};
+ghost use Rattle.gos_plan.specs.Size.{plan_size};
+ghost use Rattle.gos_expand.specs.Gates.{passing_of};
+ghost use Rattle.gos_expand.specs.inner.Arrivals.{AreAt};
+ghost use Rattle.gos_expand.specs.inner.Choosing.{joint_at, number_in, ways_at, ways_seen, HasSmallJoints, AreWithin, GoAcross, Adds, IsPassage, PassesTo, PassesFrom, PassesAt, AreFew, KeepsFewRings};
+
+use crate::arrivals::{Arrivals, Origin};
+use crate::gates::gates_of;
+use crate::places::shakes;
+use gos_order::Order;
+use gos_plan::{End, Kind, Macro, Plan};
+use gos_types::{NoMemory, Role};
+use std::alloc::Global;
+
+// The directions of a joint at one of its ends: that by which something arrives there, and that by which something leaves.
+#[derive(Clone, Copy)]
+pub(crate) struct Directions {
+    pub arriving: u32,
+    pub leaving: u32,
+}
+
+// Tells for each direction of the joints whether it keeps its registers: for each joint in turn its request and its answer.
+pub(crate) fn few(alloc: Global, plan: &Plan) -> Result<Vec<bool>, NoMemory>
+    requires size { plan_size (plan_of plan.now) ≤ 5000000 }
+    ensures { IfOk result (λ keeps. KeepsFewRings (plan_of plan.now) keeps.items) }
+{
+    let table = joint_table(alloc, plan)?;
+    let directions = 2 * plan.joints().len() as u32;
+    let mut order = Order::new(alloc, directions + directions)?;
+    add_parts(&mut order, &table, directions, plan)?;
+    choose(alloc, &mut order, directions)
+}
+
+// The joint at each end of a plan.
+fn joint_table(alloc: Global, plan: &Plan) -> Result<Arrivals, NoMemory>
+    requires size { plan_size (plan_of plan.now) ≤ 5000000 }
+    ensures { IfOk result (AreAt (plan_of plan.now) (joint_at (plan_of plan.now))) }
+{
+    let mut table = Arrivals::new(alloc, plan)?;
+    let joints = plan.joints();
+    for index in 0..joints.len() {
+        let joint = Origin::Cells(index as u32);
+        table.fill(joints[index].asks, joint);
+        table.fill(joints[index].serves, joint);
+    }
+    Ok(table)
+}
+
+// The number that an entry holds.
+fn number(origin: Option<Origin>) -> Option<u32>
+    ensures { result ≡ number_in origin }
+{
+    match origin {
+        Some(Origin::Cells(number)) => Some(number),
+        _ => None,
+    }
+}
+
+// The directions at an end of a part.
+fn directions_at(table: &Arrivals, part: u32, shake: u32) -> Option<Directions>
+    requires small { HasSmallJoints table.now }
+    ensures { option_map ways_seen result ≡ ways_at table.now (PartEnd part shake) }
+{
+    let entry = table.get(End::Part { part, shake })?;
+    let joint = number(entry.origin)?;
+    Some(match entry.contact.role {
+        Role::Serve => Directions {
+            arriving: joint + joint,
+            leaving: joint + joint + 1,
+        },
+        Role::Ask => Directions {
+            arriving: joint + joint + 1,
+            leaving: joint + joint,
+        },
+    })
+}
+
+// Whether what comes in at a handshake of a part goes on to another in the same cycle.
+fn passes(kind: &Kind, from: u32, to: u32) -> bool
+    requires in_range { IsInRange kind.now }
+    requires from { from < length (part_contacts (part_of kind.now)) }
+    requires to { to < length (part_contacts (part_of kind.now)) }
+    ensures { result ≡ passing_of (part_of kind.now) from to }
+{
+    gates_of(kind).passes(from, to)
+}
+
+// Adds the edge from what arrives at a handshake of a part to what leaves at another, if both stand in joints.
+fn add_passage(
+    order: &mut Order,
+    table: &Arrivals,
+    directions: u32,
+    part: u32,
+    from: u32,
+    to: u32,
+) -> Result<(), NoMemory>
+    requires nodes { order.old.nodes ≡ directions + directions }
+    requires few { directions ≤ 2000000000 }
+    requires small { HasSmallJoints table.now }
+    requires within { AreWithin directions table.now }
+    requires across { GoAcross directions order.old.edges }
+    ensures added { OnOk result (Adds (IsPassage directions table.now part from to) order.old.edges order.new.edges) }
+    ensures nodes { order.new.nodes ≡ order.old.nodes }
+    ensures across { GoAcross directions order.new.edges }
+{
+    let Some(first) = directions_at(table, part, from) else {
+        return Ok(());
+    };
+    let Some(second) = directions_at(table, part, to) else {
+        return Ok(());
+    };
+    order.add(first.arriving, directions + second.leaving)?;
+    Ok(())
+}
+
+// Adds those from what arrives at a handshake.
+fn add_passages(
+    order: &mut Order,
+    table: &Arrivals,
+    directions: u32,
+    part: u32,
+    kind: &Kind,
+    from: u32,
+) -> Result<(), NoMemory>
+    requires nodes { order.old.nodes ≡ directions + directions }
+    requires few { directions ≤ 2000000000 }
+    requires small { HasSmallJoints table.now }
+    requires within { AreWithin directions table.now }
+    requires across { GoAcross directions order.old.edges }
+    requires in_range { IsInRange kind.now }
+    requires from { from < length (part_contacts (part_of kind.now)) }
+    ensures added { OnOk result
+        (Adds (PassesTo directions table.now (part_of kind.now) part from (length (part_contacts (part_of kind.now))))
+        order.old.edges order.new.edges) }
+    ensures nodes { order.new.nodes ≡ order.old.nodes }
+    ensures across { GoAcross directions order.new.edges }
+{
+    for to in 0..shakes(kind) {
+        if passes(kind, from, to) {
+            add_passage(order, table, directions, part, from, to)?;
+        }
+    }
+    Ok(())
+}
+
+// Adds those of a part.
+fn add_part(
+    order: &mut Order,
+    table: &Arrivals,
+    directions: u32,
+    part: u32,
+    kind: &Kind,
+) -> Result<(), NoMemory>
+    requires nodes { order.old.nodes ≡ directions + directions }
+    requires few { directions ≤ 2000000000 }
+    requires small { HasSmallJoints table.now }
+    requires within { AreWithin directions table.now }
+    requires across { GoAcross directions order.old.edges }
+    requires in_range { IsInRange kind.now }
+    ensures added { OnOk result
+        (Adds (PassesFrom directions table.now (part_of kind.now) part (length (part_contacts (part_of kind.now))))
+        order.old.edges order.new.edges) }
+    ensures nodes { order.new.nodes ≡ order.old.nodes }
+    ensures across { GoAcross directions order.new.edges }
+{
+    for from in 0..shakes(kind) {
+        add_passages(order, table, directions, part, kind, from)?;
+    }
+    Ok(())
+}
+
+// Adds those of all parts.
+fn add_parts(
+    order: &mut Order,
+    table: &Arrivals,
+    directions: u32,
+    plan: &Plan,
+) -> Result<(), NoMemory>
+    requires nodes { order.old.nodes ≡ directions + directions }
+    requires few { directions ≤ 2000000000 }
+    requires small { HasSmallJoints table.now }
+    requires within { AreWithin directions table.now }
+    requires across { GoAcross directions order.old.edges }
+    requires size { plan_size (plan_of plan.now) ≤ 5000000 }
+    ensures added { OnOk result (Adds (PassesAt directions table.now (plan_of plan.now).parts (length plan.now.parts)) order.old.edges order.new.edges) }
+    ensures nodes { order.new.nodes ≡ order.old.nodes }
+    ensures across { GoAcross directions order.new.edges }
+{
+    let parts = plan.parts();
+    for index in 0..parts.len() {
+        add_part(order, table, directions, index as u32, &parts[index])?;
+    }
+    Ok(())
+}
+
+// Leaves out each direction, in turn, that closes no ring with those left out before it. Tells which are kept.
+fn choose(alloc: Global, order: &mut Order, directions: u32) -> Result<Vec<bool>, NoMemory>
+    requires nodes { order.old.nodes ≡ directions + directions }
+    requires few { directions ≤ 2000000000 }
+    requires across { GoAcross directions order.old.edges }
+    ensures few { IfOk result (λ keeps. AreFew directions order.old.edges keeps.items) }
+    ensures all { IfOk result (λ keeps. length keeps.items ≡ directions) }
+{
+    let mut keeps = Vec::new(alloc);
+    for direction in 0..directions {
+        let left_out = order.add(directions + direction, direction)?;
+        keeps.push(!left_out)?;
+    }
+    Ok(keeps)
+}
