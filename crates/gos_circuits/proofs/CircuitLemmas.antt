@@ -30,7 +30,7 @@ net_of keep p root can acyclic lists =
     }
 
 -- so it keeps pace with what the plan realises
-paces : (keep : Keep) (p : SeenPlan) (root : Word) (m : Term) → CanBeLaid p root → (HasCycle (laid keep (plan_of p) root).cells → ⊥)
+pub paces : (keep : Keep) (p : SeenPlan) (root : Word) (m : Term) → CanBeLaid p root → (HasCycle (laid keep (plan_of p) root).cells → ⊥)
     → LaidMakesLists
     → NetKeepsPace
     → IsSlim (plan_of p)

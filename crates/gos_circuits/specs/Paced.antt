@@ -1,27 +1,39 @@
 -- The circuit of a plan that realises a module keeps pace with the module's program, and that of linked modules with the
 -- substituted one.
 --
--- Read first: Circuit; Modules of gos_realises (what it is to realise a module); Ports of gos_ports (imports that may be ports);
--- Linked and Modules of gos_linked (the substituted program).
+-- Read first: Circuit; Acceptance of gos_expand (plans that can be laid out); Modules of gos_realises (what it is to realise a
+-- module); Ports of gos_ports (imports that may be ports); Linked and Modules of gos_linked (the substituted program).
 use Rattle.std.specs.Prelude.{◌≡◌, List, length}
 use Rattle.gos_types.specs.Types.{IsDone}
 use Rattle.gos_lines.specs.Lines.{Word}
 use Rattle.gos_netlist.specs.Nets.{Netlist}
+use Rattle.gos_netlist.specs.Cycles.{HasCycle}
 use Rattle.gos_model.specs.Terms.{Term}
 use Rattle.gos_model.specs.Linking.{Instances}
 use Rattle.gos_model.specs.Pace.{KeepsPaceAlways}
 use Rattle.gos_plan.specs.Plans.{Plan, IsRight}
-use Rattle.gos_plan.specs.Seen.{SeenPlan}
-use Rattle.gos_realises.specs.Matched.{program_of}
+use Rattle.gos_plan.specs.Seen.{SeenPlan, plan_of}
+use Rattle.gos_realises.specs.Matched.{RealisesDone, program_of}
 use Rattle.gos_realises.specs.Realises.{AllGround, NamesDiffer}
 use Rattle.gos_realises.specs.Modules.{RealisesOpen, RealisesModule}
 use Rattle.gos_realises.specs.Slim.{IsSlim}
+use Rattle.gos_expand.specs.Starts.{Keep}
+use Rattle.gos_expand.specs.Laid.{laid}
+use Rattle.gos_expand.specs.Acceptance.{CanBeLaid}
 use Rattle.gos_ports.specs.Ports.{HaveWidths}
 use Rattle.gos_link.specs.declared.build.Build.{Build}
 use Rattle.gos_link.specs.Linked.{plans_of, IsLinked}
 use Rattle.gos_linked.specs.Linked.{linked_program}
 use Rattle.gos_linked.specs.Modules.{AreModules}
 use Rattle.gos_circuits.specs.Circuit.{IsCircuitOf}
+
+-- The netlist that a slim plan is laid out as keeps pace with every program that the plan realises, whichever directions of joints
+-- keep their registers, where no combinational cycle is left.
+abbrev pub EveryChoiceKeepsPace : Type 0
+EveryChoiceKeepsPace =
+    (keep : Keep) (p : SeenPlan) (root : Word) (m : Term)
+    → CanBeLaid p root → (HasCycle (laid keep (plan_of p) root).cells → ⊥) → IsSlim (plan_of p) → RealisesDone (plan_of p) m
+    → KeepsPaceAlways p.weight (program_of (plan_of p) m) (laid keep (plan_of p) root)
 
 -- what ports a plan has: its imports have different names and ground types, and its result is a command or an expression
 pub record HasOpenPorts (p : Plan) : Type 0 where

@@ -1,12 +1,23 @@
 // What the circuits of plans that realise programs do. Each theorem is the contract of a function that does nothing.
 
 ghost use Rattle.gos_circuits.specs.Complete.{LinkIsNotRejected, EmptyIsNoBuild};
-ghost use Rattle.gos_circuits.specs.Paced.{LinkedCircuitsKeepPace, ModuleCircuitsKeepPace, OpenCircuitsKeepPace};
+ghost use Rattle.gos_circuits.specs.Paced.{EveryChoiceKeepsPace, LinkedCircuitsKeepPace, ModuleCircuitsKeepPace, OpenCircuitsKeepPace};
 ghost use Rattle.gos_circuits.specs.SmallPaced.{CallHasPorts, FunctionHasNone};
 
+use gos_expand::cycles_are_lists;
 use gos_link::one_build;
 use gos_linked::linked_modules;
+use gos_pace::keeps_pace;
 use gos_ports::ports;
+
+/// The netlist of a slim plan keeps pace with each program that the plan realises, whichever directions of joints keep their
+/// registers, where it has no combinational cycle: so does what `expand_with` gives for any choice.
+pub fn every_choice()
+    ensures { EveryChoiceKeepsPace }
+{
+    cycles_are_lists();
+    keeps_pace();
+}
 
 /// The circuit of a slim plan keeps pace with each term that the plan realises with any supplies, where its imports have
 /// different names and ground types and its result is a command or an expression; so it does where the plan realises a

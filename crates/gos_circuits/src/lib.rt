@@ -6,7 +6,7 @@
 // with which programs a circuit keeps pace in specs/Paced.
 #![tactic(auto)]
 
-pub use laws::{paced_circuits, right_links, small_circuits};
+pub use laws::{every_choice, paced_circuits, right_links, small_circuits};
 pub use laying::circuit;
 pub use linking::link_build;
 pub use objects::plans_in;

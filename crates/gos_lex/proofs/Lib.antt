@@ -8,3 +8,4 @@ pub mod OneReadingLemmas
 pub mod ItemLemmas
 pub mod NameLemmas
 pub mod DecimalLemmas
+pub mod SignLemmas

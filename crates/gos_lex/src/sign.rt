@@ -44,33 +44,53 @@ pub enum Sign {
     Arrow,
 }
 
-// How many bytes the longest sign at the front of the text has; 0 where none stands there.
-pub(crate) fn sign_len(text: &[u8]) -> usize
-    ensures within { result ≤ length text.now }
-    ensures sign { 0 < result → IsTrue (is_sign (take result text.now)) }
-    ensures longest { (n : ℕ) → n ≤ length text.now → IsTrue (is_sign (take n text.now)) → n ≤ result }
-{
-    match text {
-        [b':', b'=', ..] | [b'|', b'|', ..] | [b'-', b'>', ..] => 2,
-        [
-            b'('
-            | b')'
-            | b','
-            | b'.'
-            | b':'
-            | b';'
-            | b'|'
-            | b'&'
-            | b'^'
-            | b'+'
-            | b'-'
-            | b'='
-            | b'<'
-            | b'!'
-            | b'*',
-            ..
-        ] => 1,
-        _ => 0,
+// Each sign once.
+const SIGNS: [Sign; 18] = [
+    Sign::Open,
+    Sign::Close,
+    Sign::Comma,
+    Sign::Dot,
+    Sign::Colon,
+    Sign::Semicolon,
+    Sign::Assign,
+    Sign::Parallel,
+    Sign::Or,
+    Sign::And,
+    Sign::Xor,
+    Sign::Plus,
+    Sign::Minus,
+    Sign::Equal,
+    Sign::Less,
+    Sign::Bang,
+    Sign::Star,
+    Sign::Arrow,
+];
+
+impl Sign {
+    // How the sign is written.
+    fn text(self) -> &'static [u8]
+        ensures { result.now ≡ sign_text self }
+    {
+        match self {
+            Sign::Open => b"(",
+            Sign::Close => b")",
+            Sign::Comma => b",",
+            Sign::Dot => b".",
+            Sign::Colon => b":",
+            Sign::Semicolon => b";",
+            Sign::Assign => b":=",
+            Sign::Parallel => b"||",
+            Sign::Or => b"|",
+            Sign::And => b"&",
+            Sign::Xor => b"^",
+            Sign::Plus => b"+",
+            Sign::Minus => b"-",
+            Sign::Equal => b"=",
+            Sign::Less => b"<",
+            Sign::Bang => b"!",
+            Sign::Star => b"*",
+            Sign::Arrow => b"->",
+        }
     }
 }
 
@@ -78,43 +98,34 @@ pub(crate) fn sign_len(text: &[u8]) -> usize
 pub(crate) fn sign_of(bytes: &[u8]) -> Option<Sign>
     ensures { MatchOption result (is_sign bytes.now ≡ false) (λ sign. bytes.now ≡ sign_text sign) }
 {
-    if bytes == b"(".as_slice() {
-        Some(Sign::Open)
-    } else if bytes == b")".as_slice() {
-        Some(Sign::Close)
-    } else if bytes == b",".as_slice() {
-        Some(Sign::Comma)
-    } else if bytes == b".".as_slice() {
-        Some(Sign::Dot)
-    } else if bytes == b":".as_slice() {
-        Some(Sign::Colon)
-    } else if bytes == b";".as_slice() {
-        Some(Sign::Semicolon)
-    } else if bytes == b":=".as_slice() {
-        Some(Sign::Assign)
-    } else if bytes == b"||".as_slice() {
-        Some(Sign::Parallel)
-    } else if bytes == b"|".as_slice() {
-        Some(Sign::Or)
-    } else if bytes == b"&".as_slice() {
-        Some(Sign::And)
-    } else if bytes == b"^".as_slice() {
-        Some(Sign::Xor)
-    } else if bytes == b"+".as_slice() {
-        Some(Sign::Plus)
-    } else if bytes == b"-".as_slice() {
-        Some(Sign::Minus)
-    } else if bytes == b"=".as_slice() {
-        Some(Sign::Equal)
-    } else if bytes == b"<".as_slice() {
-        Some(Sign::Less)
-    } else if bytes == b"!".as_slice() {
-        Some(Sign::Bang)
-    } else if bytes == b"*".as_slice() {
-        Some(Sign::Star)
-    } else if bytes == b"->".as_slice() {
-        Some(Sign::Arrow)
+    for sign in SIGNS.iter() {
+        if bytes == sign.text() {
+            return Some(*sign);
+        }
+    }
+    None
+}
+
+// Whether the first so many bytes of the text are a sign.
+fn begins(text: &[u8], count: usize) -> bool
+    ensures within { IsTrue result → count ≤ length text.now }
+    ensures sign { IsTrue result → IsTrue (is_sign (take count text.now)) }
+    ensures none { count ≤ length text.now → IsTrue (is_sign (take count text.now)) → IsTrue result }
+{
+    count <= text.len() && sign_of(&text[..count]).is_some()
+}
+
+// How many bytes the longest sign at the front of the text has; 0 where none stands there.
+pub(crate) fn sign_len(text: &[u8]) -> usize
+    ensures within { result ≤ length text.now }
+    ensures sign { 0 < result → IsTrue (is_sign (take result text.now)) }
+    ensures longest { (n : ℕ) → n ≤ length text.now → IsTrue (is_sign (take n text.now)) → n ≤ result }
+{
+    if begins(text, 2) {
+        2
+    } else if begins(text, 1) {
+        1
     } else {
-        None
+        0
     }
 }

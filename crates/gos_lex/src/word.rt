@@ -25,45 +25,62 @@ pub enum Word {
     Var,
 }
 
+// Each word once.
+const WORDS: [Word; 17] = [
+    Word::Import,
+    Word::Export,
+    Word::Fun,
+    Word::Fst,
+    Word::Snd,
+    Word::If,
+    Word::Then,
+    Word::Else,
+    Word::While,
+    Word::Do,
+    Word::New,
+    Word::In,
+    Word::Skip,
+    Word::Not,
+    Word::Com,
+    Word::Exp,
+    Word::Var,
+];
+
+impl Word {
+    // How the word is written.
+    fn text(self) -> &'static [u8]
+        ensures { result.now ≡ word_text self }
+    {
+        match self {
+            Word::Import => b"import",
+            Word::Export => b"export",
+            Word::Fun => b"fun",
+            Word::Fst => b"fst",
+            Word::Snd => b"snd",
+            Word::If => b"if",
+            Word::Then => b"then",
+            Word::Else => b"else",
+            Word::While => b"while",
+            Word::Do => b"do",
+            Word::New => b"new",
+            Word::In => b"in",
+            Word::Skip => b"skip",
+            Word::Not => b"not",
+            Word::Com => b"com",
+            Word::Exp => b"exp",
+            Word::Var => b"var",
+        }
+    }
+}
+
 // The word that these bytes are.
 pub(crate) fn word_of(bytes: &[u8]) -> Option<Word>
     ensures { MatchOption result (is_word bytes.now ≡ false) (λ word. bytes.now ≡ word_text word) }
 {
-    if bytes == b"import".as_slice() {
-        Some(Word::Import)
-    } else if bytes == b"export".as_slice() {
-        Some(Word::Export)
-    } else if bytes == b"fun".as_slice() {
-        Some(Word::Fun)
-    } else if bytes == b"fst".as_slice() {
-        Some(Word::Fst)
-    } else if bytes == b"snd".as_slice() {
-        Some(Word::Snd)
-    } else if bytes == b"if".as_slice() {
-        Some(Word::If)
-    } else if bytes == b"then".as_slice() {
-        Some(Word::Then)
-    } else if bytes == b"else".as_slice() {
-        Some(Word::Else)
-    } else if bytes == b"while".as_slice() {
-        Some(Word::While)
-    } else if bytes == b"do".as_slice() {
-        Some(Word::Do)
-    } else if bytes == b"new".as_slice() {
-        Some(Word::New)
-    } else if bytes == b"in".as_slice() {
-        Some(Word::In)
-    } else if bytes == b"skip".as_slice() {
-        Some(Word::Skip)
-    } else if bytes == b"not".as_slice() {
-        Some(Word::Not)
-    } else if bytes == b"com".as_slice() {
-        Some(Word::Com)
-    } else if bytes == b"exp".as_slice() {
-        Some(Word::Exp)
-    } else if bytes == b"var".as_slice() {
-        Some(Word::Var)
-    } else {
-        None
+    for word in WORDS.iter() {
+        if bytes == word.text() {
+            return Some(*word);
+        }
     }
+    None
 }
