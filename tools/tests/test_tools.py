@@ -227,16 +227,26 @@ fi
 
 
 class Kept(unittest.TestCase):
-    """The lists of tools/rt."""
+    """The lists and sums of tools/rt."""
+
+    def setUp(self):
+        loader = importlib.machinery.SourceFileLoader("kept_rt", str(TOOLS / "rt"))
+        self.module = importlib.util.module_from_spec(importlib.util.spec_from_loader("kept_rt", loader))
+        loader.exec_module(self.module)
 
     def test_each_list_is_made_once(self):
-        loader = importlib.machinery.SourceFileLoader("kept_rt", str(TOOLS / "rt"))
-        module = importlib.util.module_from_spec(importlib.util.spec_from_loader("kept_rt", loader))
-        loader.exec_module(module)
         made = []
-        kept = module.keeping(lambda crate: made.append(crate) or [crate + "a", crate + "b"])
+        kept = self.module.keeping(lambda crate: made.append(crate) or [crate + "a", crate + "b"])
         kept("x").clear()
         self.assertEqual((kept("x"), kept("y"), made), (["xa", "xb"], ["ya", "yb"], ["x", "y"]))
+
+    def test_each_sum_is_taken_once_a_time(self):
+        below, taken = {"top": ["left", "right"], "left": ["low"], "right": ["low"], "low": []}, []
+        summed = self.module.once_each(lambda crate: taken.append(crate) or crate + "".join(map(summed, below[crate])))
+        self.assertEqual(summed("top"), "topleftlowrightlow")
+        self.assertEqual(taken, ["top", "left", "low", "right"])
+        summed("low")
+        self.assertEqual(taken[4:], ["low"])
 
 
 if __name__ == "__main__":
