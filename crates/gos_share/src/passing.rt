@@ -6,8 +6,8 @@ ghost use Rattle.gos_share.specs.inner.Seen.{all_of};
 use crate::shared::next;
 use gos_types::{Role, Ty, count};
 
-// Whether what comes in at one handshake of the Share of a type can go out at another in the same cycle. The lower one is
-// the source's, if any path leads between them; so only its block is asked.
+// Whether what comes in at one handshake of the Share of a type can go out at another in the same cycle. The lower
+// one is the source's, if any path leads between them; so only its block is asked.
 pub(crate) fn passes(ty: &Ty, from: u32, to: u32) -> bool
     requires { length (all_of ty.now) ≤ 64 }
     ensures { result ≡ share_passing (all_of ty.now) from to }
