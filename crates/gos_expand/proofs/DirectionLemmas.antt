@@ -1,16 +1,15 @@
 -- Rings of the graph of directions are the rings of handshakes.
 --
 -- Read first: Directions.
-use Rattle.std.proofs.Common.{◌≡◌, ◌+◌, ◌<◌, ◌⊎◌, ◌↔◌, ℕ, zero, suc, Bool, true, false, List, [], ◌∷◌, length, slice_get, Option, Some, inl, inr, refl, sym, ap, subst, ◌∙◌, arith}
-use Rattle.std.proofs.lemmas.Option.{none-some, same_Some, slice_get_within}
+use Rattle.std.proofs.Common.{◌≡◌, ◌+◌, ◌<◌, ◌⊎◌, ◌↔◌, ℕ, List, [], ◌∷◌, length, slice_get, inl, inr, refl, sym, ap, subst, ◌∙◌, arith}
+use Rattle.std.proofs.lemmas.Option.{same_Some, slice_get_within}
 use Rattle.gos_netlist.specs.Events.{Direction, Request, Answer}
-use Rattle.gos_plan.specs.Kinds.{Part, part_contacts}
-use Rattle.gos_plan.specs.Plans.{End, PartEnd, Joint, Plan}
+use Rattle.gos_plan.specs.Plans.{PartEnd, Joint, Plan}
 use Rattle.gos_expand.specs.Gates.{passing_of}
 use Rattle.gos_expand.specs.Starts.{Keep, place_of}
 use Rattle.gos_expand.specs.Facts.{PassesOn, source, target}
 use Rattle.gos_expand.specs.Rings.{Shake, PassesBy, HasRing}
-use Rattle.gos_expand.specs.inner.Directions.{directions, IsDirection, ArrivesAt, LeavesAt, PassesThrough, IsInner, IsLink}
+use Rattle.gos_expand.specs.inner.Directions.{directions, IsDirection, ArrivesAt, PassesThrough, IsInner, IsLink}
 use Rattle.gos_order.specs.Rings as graph
 use Rattle.gos_order.specs.Rings.{Edge, HasEdge, Leads, along, further}
 

@@ -1,7 +1,7 @@
 -- Without a combinational cycle the ends of a plan have ranks, which rise wherever what comes in passes on in one cycle.
 --
 -- Read first: Facts; DepthLemmas, EndRingLemmas. The rank of an end is the depth of the pulse that comes in there.
-use Rattle.std.proofs.Common.{◌≡◌, ◌<◌, ℕ, List, [], ◌∷◌, slice_get, Some, Contains, refl, subst, arith}
+use Rattle.std.proofs.Common.{◌≡◌, ◌<◌, ℕ, List, [], ◌∷◌, slice_get, Some, Contains, subst, arith}
 use Rattle.gos_netlist.specs.Nets.{Cell, pins}
 use Rattle.gos_netlist.specs.Cycles.{HasCycle}
 use Rattle.gos_plan.specs.Kinds.{Part}

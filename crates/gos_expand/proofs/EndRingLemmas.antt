@@ -2,28 +2,28 @@
 --
 -- Read first: Rings; StrideLemmas, WalkLemmas. Along a cycle each net is reached from what came in at a handshake last. After
 -- one round this is the same handshake whatever it was before.
-use Rattle.std.proofs.Common.{◌≡◌, ◌+◌, ◌≤◌, ◌<◌, ◌⊎◌, ℕ, zero, suc, Bool, true, false, List, [], ◌∷◌, ◌++◌, map, length, slice_get, Option, Some, Contains, inl, inr, refl, sym, ap, subst, ◌∙◌, arith}
+use Rattle.std.proofs.Common.{◌≡◌, ◌+◌, ◌<◌, ◌⊎◌, ℕ, zero, suc, List, [], ◌∷◌, ◌++◌, length, slice_get, Option, Some, Contains, inl, inr, refl, sym, ap, subst, ◌∙◌, arith}
 use Rattle.std.specs.Prelude.{None}
-use Rattle.std.proofs.lemmas.Option.{none-some, same_Some, slice_get_within}
+use Rattle.std.proofs.lemmas.Option.{same_Some, slice_get_within}
 use Rattle.gos_netlist.specs.Nets.{Cell, pins}
-use Rattle.gos_netlist.specs.Cycles.{IsRegister, Feeds, Chain, CombinationalCycle, HasCycle}
+use Rattle.gos_netlist.specs.Cycles.{IsRegister, Feeds, Chain, HasCycle}
 use Rattle.gos_plan.specs.Kinds.{Part, Contact, part_contacts}
 use Rattle.gos_plan.specs.Plans.{End, PartEnd, Plan, contacts_of_part, contact_at}
-use Rattle.gos_plan.specs.Gates.{Incoming, Outgoing, Bare, Bearing}
-use Rattle.gos_plan.specs.Fit.{IsOwn, GoesOut, AllGoOut}
-use Rattle.gos_plan.specs.Paths.{Drives, Path, IsIn, IsOut, IsPulseOut, LeadsOn, renamed, with_renamed}
+use Rattle.gos_plan.specs.Gates.{Outgoing, Bare, Bearing}
+use Rattle.gos_plan.specs.Fit.{AllGoOut}
+use Rattle.gos_plan.specs.Paths.{Drives, Path, IsIn, IsOut, IsPulseOut, with_renamed}
 use Rattle.gos_expand.specs.Blocks.{Nets}
-use Rattle.gos_expand.specs.Gates.{layout, outs_of, passing_of, part_size}
+use Rattle.gos_expand.specs.Gates.{layout, outs_of, part_size}
 use Rattle.gos_expand.specs.Starts.{Keep}
 use Rattle.gos_expand.specs.Laid.{nets_out, known}
-use Rattle.gos_expand.specs.Facts.{Places, PassesOn, source, target, incoming_at}
+use Rattle.gos_expand.specs.Facts.{Places, PassesOn, incoming_at}
 use Rattle.gos_expand.specs.Rings.{Shake, PassesBy, HasRing}
 use Rattle.gos_expand.proofs.GroupLemmas.{layout_length}
 use Rattle.gos_expand.proofs.GoodLemmas.{is_there}
 use Rattle.gos_expand.proofs.WiredLemmas.{OfPart, Wired, wires, wires_apart, naming, cells_named, renamed_pins, register_before, in_mapped, cell_after}
 use Rattle.gos_expand.proofs.GenericLemmas.{kept_below, to_pulse}
 use Rattle.gos_expand.proofs.WalkLemmas.{closed, joined_walk}
-use Rattle.gos_expand.proofs.StrideLemmas.{gates_of, Inner, Crosses, Entry, stride}
+use Rattle.gos_expand.proofs.StrideLemmas.{gates_of, Inner, Entry, stride}
 
 -- gates of a part lead from what comes in at a handshake to a net
 record Reaches (p : Plan) (n : Places) (s : Shake) (m : ℕ) : Type 0 where

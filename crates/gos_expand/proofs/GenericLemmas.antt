@@ -1,10 +1,10 @@
 -- Nets for a part that are all different and lie behind its own, and how they are renamed to those that it has.
 --
 -- Read first: Paths of gos_plan.
-use Rattle.std.proofs.Common.{◌≡◌, ◌≢◌, ◌+◌, ◌-◌, ◌≤◌, ◌<◌, ◌⊎◌, ℕ, zero, suc, Bool, true, false, List, [], ◌∷◌, length, inl, inr, refl, sym, ap, subst, ◌∙◌, arith}
+use Rattle.std.proofs.Common.{◌≡◌, ◌+◌, ◌-◌, ◌≤◌, ◌<◌, ◌⊎◌, ℕ, zero, suc, Bool, true, false, List, inl, inr, refl, ap, ◌∙◌, arith}
 use Rattle.std.specs.Prelude.{nat_lt, if◌then◌else◌}
 use Rattle.gos_plan.specs.Kinds.{Contact}
-use Rattle.gos_plan.specs.Gates.{Incoming, incoming_bits}
+use Rattle.gos_plan.specs.Gates.{Incoming}
 use Rattle.gos_plan.specs.Paths.{IsIn, AreApart, Renames}
 
 -- pulses have even places, values odd ones

@@ -51,7 +51,13 @@ pub mod EndRingLemmas
 pub mod EndRankLemmas
 pub mod WiringLemmas
 pub mod DirectionLemmas
+pub mod LinkedLemmas
+pub mod ChoiceLemmas
+pub mod PassageLemmas
+pub mod JointLemmas
 pub mod ChoosingLemmas
 pub mod TableLemmas
 pub mod RunLemmas
 pub mod PolicyLemmas
+pub mod RankedCellLemmas
+pub mod SmallChoiceLemmas

@@ -1,19 +1,17 @@
 -- The choice of a policy leaves no combinational cycle; and that of few registers is the one that is asked for.
 --
 -- Read first: Choices; Choosing. What is a ring of handshakes is a combinational cycle, and the other way round.
-use Rattle.std.proofs.Common.{◌≡◌, ◌+◌, ◌<◌, ◌≤◌, ℕ, zero, suc, Bool, true, false, List, [], ◌∷◌, length, slice_get, get_or, Option, Some, refl, sym, ap, subst, ◌∙◌, arith}
+use Rattle.std.proofs.Common.{◌≡◌, ◌+◌, ◌<◌, ◌≤◌, ℕ, zero, suc, Bool, true, false, List, [], ◌∷◌, length, slice_get, get_or, Some, refl, sym, ap, subst, ◌∙◌, arith}
 use Rattle.std.specs.Prelude.{None}
-use Rattle.std.proofs.lemmas.Option.{none-some, same_Some, slice_get_within, get_or_from_slice_get}
-use Rattle.gos_netlist.specs.Nets.{Netlist}
+use Rattle.std.proofs.lemmas.Option.{none-some, slice_get_within, get_or_from_slice_get}
 use Rattle.gos_netlist.specs.Events.{Direction, Request, Answer}
-use Rattle.gos_netlist.specs.Cycles.{HasCycle}
 use Rattle.gos_netcheck.specs.Accepted.{IsAccepted}
 use Rattle.gos_plan.specs.Plans.{Joint, Plan}
 use Rattle.gos_plan.specs.Seen.{SeenPlan, plan_of}
 use Rattle.gos_expand.specs.declared.whole.Policy.{Policy}
 use Rattle.gos_expand.specs.declared.whole.Policy.TheVariants as policies
 use Rattle.gos_expand.specs.Starts.{Keep, keep_all, chosen, place_of}
-use Rattle.gos_expand.specs.Laid.{laid, laid_cells}
+use Rattle.gos_expand.specs.Laid.{laid}
 use Rattle.gos_expand.specs.Choices.{left_out_at, KeepsFew, IsLaidBy}
 use Rattle.gos_expand.specs.Acceptance.{CanBeLaid}
 use Rattle.gos_expand.specs.inner.Directions.{directions}
@@ -36,6 +34,13 @@ behind_all : (keeps : List Bool) (n : ℕ) → length keeps ≤ n → get_or kee
 behind_all [] n high = refl
 behind_all (k ∷ keeps) zero high = absurd (omega (arith, high))
 behind_all (k ∷ keeps) (suc n) high = behind_all keeps n (omega (arith, high))
+
+-- beyond one joint all is kept
+pub two_chosen : (request answer : Bool) (j : Joint) (x : ℕ) (way : Direction) → slice_get (j ∷ []) x ≡ None
+    → chosen (request ∷ answer ∷ []) x way ≡ true
+two_chosen request answer j zero way none = absurd (none-some j (sym none))
+two_chosen request answer j (suc x) Request none = behind_all (request ∷ answer ∷ []) (suc x + suc x) (omega arith)
+two_chosen request answer j (suc x) Answer none = behind_all (request ∷ answer ∷ []) (suc (suc x + suc x)) (omega arith)
 
 none_beyond : {A : Type 0} (xs : List A) (n : ℕ) → slice_get xs n ≡ None → length xs ≤ n
 none_beyond [] n none = omega arith

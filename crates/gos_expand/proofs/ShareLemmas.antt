@@ -1,19 +1,21 @@
 -- How many cells the gates of a Share have: 11 at most for each handshake of its type, and 4 besides. How many
--- handshakes it has.
+-- handshakes it has, and how far it passes on.
 --
 -- Read first: Blocks and Share of gos_share.
-use Rattle.std.proofs.Common.{◌≡◌, ◌+◌, ◌*◌, ◌≤◌, ℕ, zero, suc, List, [], ◌∷◌, ◌++◌, length, refl, length-append, arith}
+use Rattle.std.proofs.Common.{◌≡◌, ◌+◌, ◌*◌, ◌≤◌, ◌⊎◌, ℕ, zero, suc, true, List, [], ◌∷◌, ◌++◌, length, inl, inr, refl, sym, ap, ◌∙◌, length-append, arith}
+use Rattle.std.specs.Int.{abs_diff}
 use Rattle.std.proofs.lemmas.List.{length-map}
 use Rattle.gos_types.specs.declared.shakes.Role.{Role}
 use Rattle.gos_types.specs.declared.shakes.Role.TheVariants.{Serve, Ask}
 use Rattle.gos_types.specs.Types.{Type', Com, Exp, Var, Pair, Fun, size}
 use Rattle.gos_types.specs.Handshakes.{handshakes_of}
 use Rattle.gos_plan.specs.Gates.{Incoming}
-use Rattle.gos_plan.specs.Kinds.{Share, Contact, contact, contacts_of, part_contacts, turned_contact, other_side}
+use Rattle.gos_plan.specs.Kinds.{Part, Share, Contact, contact, contacts_of, part_contacts, turned_contact, other_side}
 use Rattle.gos_share.specs.Blocks.{block_cells, block_size, kept_net}
 use Rattle.gos_share.specs.Share.{row_cells, share_cells}
 use Rattle.gos_share.specs.laws.Row.{block_length}
-use Rattle.gos_expand.specs.Gates.{part_size}
+use Rattle.gos_share.proofs.ApartLemmas.{AreApart, row_apart}
+use Rattle.gos_expand.specs.Gates.{passing_of, part_size}
 
 -- the blocks of these handshakes
 abbrev pub row_size : List Contact → ℕ
@@ -81,3 +83,18 @@ share_shakes t =
     let source = length-map ks turned_contact in
     let callers = length-append ks ks in
     omega (arith, all, sides, source, callers)
+
+-- what a Share passes on goes a third of its handshakes further, or two thirds, or so far back
+
+thirds : (h count from to : ℕ) → count ≡ 3 * h → AreApart h from to → (3 * abs_diff from to ≡ count) ⊎ (3 * abs_diff from to ≡ 2 * count)
+thirds h count from to all (inl is) = inl (omega (arith, is, all))
+thirds h count from to all (inr is) = inr (omega (arith, is, all))
+
+pub share_may_pass : (k : Part) (t : Type') → k ≡ Share t → (count from to : ℕ) → count ≡ length (part_contacts k) → passing_of k from to ≡ true
+    → (3 * abs_diff from to ≡ count) ⊎ (3 * abs_diff from to ≡ 2 * count)
+share_may_pass k t is count from to all passes =
+    let long = length-map (handshakes_of t) contact in
+    let sides = share_shakes t in
+    let here : count ≡ length (part_contacts (Share t)) = all ∙ ap (λ (p : Part). length (part_contacts p)) is in
+    let goes = sym (ap (λ (p : Part). passing_of p from to) is) ∙ passes in
+    thirds (length (contacts_of t)) count from to (omega (arith, here, long, sides)) (row_apart (length (contacts_of t)) 0 (contacts_of t) from to goes)

@@ -1,9 +1,8 @@
 -- One step along gates: within a part, or from what goes out of one part to what comes in at another.
 --
 -- Read first: WiredLemmas.
-use Rattle.std.proofs.Common.{◌≡◌, ◌+◌, ◌≤◌, ◌<◌, ◌⊎◌, ℕ, zero, suc, Bool, true, false, List, [], ◌∷◌, map, length, slice_get, Option, Some, Contains, inl, inr, refl, sym, ap, subst, ◌∙◌, arith}
+use Rattle.std.proofs.Common.{◌≡◌, ◌+◌, ◌<◌, ◌⊎◌, ℕ, zero, suc, false, List, [], ◌∷◌, map, length, slice_get, Option, Some, Contains, inl, inr, refl, sym, ap, subst, ◌∙◌, arith}
 use Rattle.std.specs.Prelude.{None}
-use Rattle.std.specs.List.{AllByRecursion}
 use Rattle.std.proofs.lemmas.Option.{none-some, same_Some, slice_get_within}
 use Rattle.std.proofs.lemmas.List.Elements.{All-from_recursion, All-contains}
 use Rattle.gos_types.specs.declared.shakes.Role.{Role}
@@ -13,15 +12,15 @@ use Rattle.gos_netlist.specs.Events.{Direction, Request, Answer}
 use Rattle.gos_netlist.specs.Cycles.{IsRegister, Feeds}
 use Rattle.gos_plan.specs.Kinds.{Part, Contact, part_contacts, asks, serves}
 use Rattle.gos_plan.specs.Plans.{End, PartEnd, ImportEnd, ResultEnd, Joint, Plan, Fits, contacts_of_part, contact_at}
-use Rattle.gos_plan.specs.Tokens.{IsPortEnd, bits_of, way_put, way_taken}
-use Rattle.gos_plan.specs.Gates.{Outgoing, Bare, Bearing, incoming_bits, bits_out}
+use Rattle.gos_plan.specs.Tokens.{IsPortEnd, bits_of, way_put}
+use Rattle.gos_plan.specs.Gates.{Outgoing, Bare, Bearing, bits_out}
 use Rattle.gos_plan.specs.Fit.{IsKnown, reach_of, GoesOut, AllGoOut}
 use Rattle.gos_plan.specs.Paths.{Drives, IsIn, IsOut, with_renamed}
 use Rattle.gos_expand.specs.Blocks.{Nets}
 use Rattle.gos_expand.specs.Gates.{layout, outs_of, part_size}
-use Rattle.gos_expand.specs.Starts.{Keep, bits_if, bits_taken}
+use Rattle.gos_expand.specs.Starts.{Keep, bits_taken}
 use Rattle.gos_expand.specs.Laid.{nets_out, known}
-use Rattle.gos_expand.specs.Facts.{Places, source, target, width, bits_put, incoming_at}
+use Rattle.gos_expand.specs.Facts.{Places, source, target, bits_put, incoming_at}
 use Rattle.gos_expand.proofs.NetLemmas.{IsCut}
 use Rattle.gos_expand.proofs.SeatLemmas.{joint_fits}
 use Rattle.gos_expand.proofs.GroupLemmas.{layout_length}

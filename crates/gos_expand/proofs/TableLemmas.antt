@@ -1,16 +1,16 @@
 -- The table of joints tells the directions at each end, and the edges through parts are those of the graph of directions.
 --
 -- Read first: Choosing, Directions; SeatLemmas.
-use Rattle.std.proofs.Common.{◌≡◌, ◌+◌, ◌<◌, ◌≤◌, ◌⊎◌, ◌↔◌, ℕ, zero, suc, Bool, true, false, if◌then◌else◌, List, [], ◌∷◌, length, slice_get, Option, Some, inl, inr, refl, sym, ap, ap₂, subst, ◌∙◌, zero-add, arith}
+use Rattle.std.proofs.Common.{◌≡◌, ◌+◌, ◌<◌, ◌↔◌, ℕ, suc, Bool, true, false, if◌then◌else◌, List, [], ◌∷◌, length, slice_get, Option, Some, inl, inr, refl, sym, ap, ap₂, subst, ◌∙◌, zero-add, arith}
 use Rattle.std.specs.Prelude.{None}
 use Rattle.std.proofs.lemmas.Option.{none-some, same_Some, slice_get_within}
 use Rattle.gos_order.specs.Rings.{Edge, HasEdge}
 use Rattle.gos_types.specs.declared.shakes.Role.{Role}
 use Rattle.gos_types.specs.declared.shakes.Role.TheVariants.{Serve, Ask}
 use Rattle.gos_netlist.specs.Events.{Direction, Request, Answer}
-use Rattle.gos_plan.specs.Kinds.{Part, Contact, asks, serves, part_contacts}
+use Rattle.gos_plan.specs.Kinds.{Contact, asks, serves}
 use Rattle.gos_plan.specs.Contacts.{held_contact}
-use Rattle.gos_plan.specs.Plans.{End, PartEnd, Joint, Plan, IsRight, contacts_of_part, contact_at, same_end}
+use Rattle.gos_plan.specs.Plans.{End, PartEnd, Joint, Plan, IsRight, contact_at, same_end}
 use Rattle.gos_expand.specs.declared.arrivals.Origin.{Origin}
 use Rattle.gos_expand.specs.declared.arrivals.Origin.TheVariants.{Cells}
 use Rattle.gos_expand.specs.declared.arrivals.Arrival.{Arrival}
@@ -18,13 +18,13 @@ use Rattle.gos_expand.specs.declared.arrivals.Arrivals.{Arrivals}
 use Rattle.gos_expand.specs.Starts.{place_of}
 use Rattle.gos_expand.specs.Laid.{Seat, seat_among, seat_of}
 use Rattle.gos_expand.specs.Facts.{source, target}
-use Rattle.gos_expand.specs.inner.Arrivals.{or_else, some_if, arrival_at, arrival_if, AreAt}
-use Rattle.gos_expand.specs.inner.Directions.{directions, IsDirection, ArrivesAt, LeavesAt, PassesThrough, IsInner}
+use Rattle.gos_expand.specs.inner.Arrivals.{or_else, some_if, arrival_if, AreAt}
+use Rattle.gos_expand.specs.inner.Directions.{directions, ArrivesAt, LeavesAt, IsInner}
 use Rattle.gos_expand.specs.inner.Choosing.{joint_among, joint_at, Ways, ways_by, ways_in, ways_of, ways_at, number_in, HasSmallJoints, AreWithin, Adds, PassesAt, AreFew, KeepsFewRings}
 use Rattle.gos_expand.proofs.SeatLemmas.{joint_fits, Seated, IsSide, seat_found}
 use Rattle.gos_expand.proofs.RegisterLemmas.{seat_there}
 use Rattle.gos_expand.proofs.DirectionLemmas.{direction_low}
-use Rattle.gos_expand.proofs.ChoosingLemmas.{few_rings}
+use Rattle.gos_expand.proofs.ChoiceLemmas.{few_rings}
 
 -- the joint at an end is that of its seat
 abbrev seat_origin : Option Seat → Option Origin

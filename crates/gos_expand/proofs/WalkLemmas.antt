@@ -1,10 +1,10 @@
 -- A closed walk from net to net has a combinational cycle.
 --
 -- Read first: Cycles of gos_netlist. Where a net stands twice on the walk, what lies between is a shorter one.
-use Rattle.std.proofs.Common.{◌≡◌, ◌+◌, ◌≤◌, ◌<◌, ◌⊎◌, ℕ, zero, suc, Bool, true, false, List, [], ◌∷◌, ◌++◌, length, Contains, inl, inr, refl, sym, ap, subst, ◌∙◌, length-append, arith}
+use Rattle.std.proofs.Common.{◌≡◌, ◌<◌, ◌⊎◌, ℕ, zero, suc, Bool, true, false, List, [], ◌∷◌, ◌++◌, length, Contains, inl, inr, refl, ap, subst, length-append, arith}
 use Rattle.std.specs.Prelude.{nat_eq}
 use Rattle.gos_netlist.specs.Nets.{Cell}
-use Rattle.gos_netlist.specs.Cycles.{Feeds, Chain, Distinct, HasCycle}
+use Rattle.gos_netlist.specs.Cycles.{Chain, Distinct, HasCycle}
 
 -- a net on a walk: what stands before it and behind it
 abbrev Stands : List ℕ → ℕ → Type 0

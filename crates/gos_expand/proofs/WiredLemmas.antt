@@ -1,20 +1,17 @@
 -- The netlist of a plan as its parts see it: where their gates stand, and which nets come in.
 --
 -- Read first: Facts; GenericLemmas. Of these facts it follows which handshakes pass on, and so which rings there are.
-use Rattle.std.proofs.Common.{◌≡◌, ◌≢◌, ◌+◌, ◌≤◌, ◌<◌, ◌⊎◌, ℕ, zero, suc, Bool, true, false, List, [], ◌∷◌, map, length, slice_get, Option, Some, Contains, inl, inr, refl, sym, ap, subst, ◌∙◌, option_map, arith}
-use Rattle.std.specs.Prelude.{None}
-use Rattle.std.specs.List.{AllByRecursion}
-use Rattle.std.proofs.lemmas.Option.{none-some, same_Some, slice_get_within, slice_get-map}
-use Rattle.std.proofs.lemmas.List.Elements.{All-from_recursion, All-contains}
+use Rattle.std.proofs.Common.{◌≡◌, ◌+◌, ◌<◌, ◌⊎◌, ℕ, zero, suc, false, List, [], ◌∷◌, map, length, slice_get, Some, Contains, refl, sym, ap, subst, arith}
+use Rattle.std.proofs.lemmas.Option.{none-some, same_Some}
 use Rattle.gos_netlist.specs.Nets.{Function, Input, Const, Not, And, Or, Xor, Mux, Add, Sub, Eq, Less, Gate, Reg, Cell, pins}
 use Rattle.gos_netlist.specs.Events.{Direction}
-use Rattle.gos_netlist.specs.Cycles.{IsRegister, Feeds}
+use Rattle.gos_netlist.specs.Cycles.{IsRegister}
 use Rattle.gos_plan.specs.Kinds.{Part, Contact, part_contacts}
 use Rattle.gos_plan.specs.Plans.{End, PartEnd, Joint, Plan, IsRight, contact_at}
 use Rattle.gos_plan.specs.Tokens.{IsPortEnd}
-use Rattle.gos_plan.specs.Gates.{Incoming, Outgoing, incoming_bits}
-use Rattle.gos_plan.specs.Fit.{GatesFit, IsKnown, reach_of}
-use Rattle.gos_plan.specs.Paths.{Drives, Path, IsIn, IsOut, AreApart, Renames, renamed, with_renamed, KeepPaths}
+use Rattle.gos_plan.specs.Gates.{Incoming}
+use Rattle.gos_plan.specs.Fit.{GatesFit}
+use Rattle.gos_plan.specs.Paths.{AreApart, Renames, renamed, with_renamed, KeepPaths}
 use Rattle.gos_expand.specs.Blocks.{Nets}
 use Rattle.gos_expand.specs.Gates.{layout, outs_of, late_of, passing_of, part_size}
 use Rattle.gos_expand.specs.Starts.{Keep, bits_taken}
@@ -23,8 +20,7 @@ use Rattle.gos_expand.specs.Facts.{Places, source, target, bits_put, incoming_at
 use Rattle.gos_expand.proofs.StandLemmas.{StandAt}
 use Rattle.gos_expand.proofs.NetLemmas.{IsCut}
 use Rattle.gos_expand.proofs.GroupLemmas.{layout_length}
-use Rattle.gos_expand.proofs.GoodLemmas.{pins_known, register_or}
-use Rattle.gos_expand.proofs.GenericLemmas.{generic, named_for, kept_below, to_pulse, to_value, generic_apart, generic_renames}
+use Rattle.gos_expand.proofs.GenericLemmas.{generic, named_for, generic_apart, generic_renames}
 
 -- net m is that of a cell at a place of part i
 pub record OfPart (p : Plan) (n : Places) (m : ℕ) (c : Cell) : Type 0 where

@@ -3,7 +3,7 @@
 -- Read first: Laid; Cycles of gos_netlist. The directions are taken in the order of joints, of each the request and then the
 -- answer. One is left out exactly where the netlist without its register, without those already left out and with all later
 -- ones has no combinational cycle.
-use Rattle.std.specs.Prelude.{◌≡◌, ℕ, List, Bool, true, false, not, Some, None, slice_get, nat_eq, nat_lt, if◌then◌else◌}
+use Rattle.std.specs.Prelude.{◌≡◌, ℕ, List, true, false, not, Some, None, slice_get, nat_eq, nat_lt, if◌then◌else◌}
 use Rattle.gos_netlist.specs.Events.{Direction}
 use Rattle.gos_netlist.specs.Nets.{Netlist}
 use Rattle.gos_netlist.specs.Cycles.{HasCycle}

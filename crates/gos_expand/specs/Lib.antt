@@ -10,4 +10,5 @@ pub mod Acceptance
 pub mod Rings
 pub mod Runs
 pub mod SmallNets
+pub mod SmallChoices
 pub mod inner

@@ -1,5 +1,5 @@
 // Which directions of a plan's joints keep their registers where few are wanted.
-ghost use Rattle.std.specs.Prelude.{◌≡◌, ◌+◌, ◌<◌, ◌≤◌, length, option_map, IfOk, OnOk};
+ghost use Rattle.std.specs.Prelude.{◌≡◌, ◌+◌, ◌<◌, ◌≤◌, length, option_map, Bool, IfOk, OnOk};
 ghost use Rattle.gos_plan.specs.Kinds.{part_contacts};
 ghost use Rattle.gos_plan.specs.Plans.{PartEnd};
 ghost use Rattle.gos_plan.specs.Seen.{plan_of, part_of};
@@ -80,14 +80,34 @@ fn directions_at(table: &Arrivals, part: u32, shake: u32) -> Option<Directions>
     })
 }
 
-// Whether what comes in at a handshake of a part goes on to another in the same cycle.
-fn passes(kind: &Kind, from: u32, to: u32) -> bool
+// Whether what comes in at a handshake of a part goes on to another in the same cycle. The part has `count` of them.
+fn passes(kind: &Kind, count: u32, from: u32, to: u32) -> bool
     requires in_range { IsInRange kind.now }
+    requires count { count ≡ length (part_contacts (part_of kind.now)) }
+    requires few { count ≤ 192 }
     requires from { from < length (part_contacts (part_of kind.now)) }
     requires to { to < length (part_contacts (part_of kind.now)) }
     ensures { result ≡ passing_of (part_of kind.now) from to }
 {
-    gates_of(kind).passes(from, to)
+    may_pass(kind, count, from, to) && gates_of(kind).passes(from, to)
+}
+
+// Whether it may, as far as is told at once. A Share has the source's handshakes and as many of each caller, and passes
+// on from one side to the same handshake of another; so its type is looked through for few pairs.
+fn may_pass(kind: &Kind, count: u32, from: u32, to: u32) -> bool
+    requires count { count ≡ length (part_contacts (part_of kind.now)) }
+    requires few { count ≤ 192 }
+    requires from { from < count }
+    requires to { to < count }
+    ensures { passing_of (part_of kind.now) from to ≡ Bool.true → result ≡ Bool.true }
+{
+    match kind {
+        Kind::Share(_) => {
+            let apart = 3 * from.abs_diff(to);
+            apart == count || apart == 2 * count
+        }
+        _ => true,
+    }
 }
 
 // Adds the edge from what arrives at a handshake of a part to what leaves at another, if both stand in joints.
@@ -140,8 +160,9 @@ fn add_passages(
     ensures nodes { order.new.nodes ≡ order.old.nodes }
     ensures across { GoAcross directions order.new.edges }
 {
-    for to in 0..shakes(kind) {
-        if passes(kind, from, to) {
+    let count = shakes(kind);
+    for to in 0..count {
+        if passes(kind, count, from, to) {
             add_passage(order, table, directions, part, from, to)?;
         }
     }

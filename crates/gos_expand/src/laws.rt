@@ -5,6 +5,7 @@ ghost use Rattle.gos_expand.specs.Facts.{FactsMakeLists};
 ghost use Rattle.gos_expand.specs.Kept.{AllKeep, AllKeepPaths, AreFew};
 ghost use Rattle.gos_expand.specs.Rings.{RingsAreCycles};
 ghost use Rattle.gos_expand.specs.Runs.{LaidMakesLists};
+ghost use Rattle.gos_expand.specs.SmallChoices.{SkipKeepsNone, AllAreTooMany, RingKeepsOne, NoneAreTooFew};
 ghost use Rattle.gos_expand.specs.SmallNets.{SkipIsLaid, SkipIsChosen, RingIsLeft, SkipCanBeLaid};
 
 /// The gates of each kind in range keep the laws, and what is asked of paths without registers. They are few for the
@@ -23,6 +24,15 @@ pub fn small_nets()
     ensures chosen { SkipIsChosen }
     ensures ring { RingIsLeft }
     ensures can { SkipCanBeLaid }
+{}
+
+/// The plan of `skip` keeps no register where few are kept: all of them are too many. A sequence whose first request
+/// comes back as its caller's keeps that of the request alone: none are too few.
+pub fn small_choices()
+    ensures none { SkipKeepsNone }
+    ensures all { AllAreTooMany }
+    ensures one { RingKeepsOne }
+    ensures ring { NoneAreTooFew }
 {}
 
 /// The netlist of a plan is accepted where it has no combinational cycle, whichever directions of joints keep their

@@ -3,3 +3,4 @@ pub mod CellLemmas
 pub mod SideLemmas
 pub mod SharingLemmas
 pub mod PassingLemmas
+pub mod ApartLemmas

@@ -3,26 +3,19 @@ ghost use Rattle.std.specs.Prelude.{◌≡◌, ◌+◌, ◌≤◌, length};
 ghost use Rattle.gos_share.specs.Share.{block_passing, share_passing};
 ghost use Rattle.gos_share.specs.inner.Seen.{all_of};
 
-use crate::shared::{count, next};
-use gos_types::{Role, Ty};
+use crate::shared::next;
+use gos_types::{Role, Ty, count};
 
-// Whether what comes in at one handshake of the Share of a type can go out at another in the same cycle.
+// Whether what comes in at one handshake of the Share of a type can go out at another in the same cycle. The lower
+// one is the source's, if any path leads between them; so only its block is asked.
 pub(crate) fn passes(ty: &Ty, from: u32, to: u32) -> bool
     requires { length (all_of ty.now) ≤ 64 }
     ensures { result ≡ share_passing (all_of ty.now) from to }
 {
-    let count = count(ty);
-    let mut j = 0;
-    loop {
-        match next(ty, j) {
-            Some(k) => {
-                if passes_at(k.role, count, j, from, to) {
-                    return true;
-                }
-                j += 1;
-            }
-            None => return false,
-        }
+    let j = from.min(to);
+    match next(ty, j) {
+        Some(k) => passes_at(k.role, count(ty) as u32, j, from, to),
+        None => false,
     }
 }
 

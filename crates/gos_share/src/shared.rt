@@ -93,20 +93,6 @@ pub(crate) fn next(ty: &Ty, j: u32) -> Option<Shared>
     }
 }
 
-// How many handshakes a type has.
-pub(crate) fn count(ty: &Ty) -> u32
-    requires { length (all_of ty.now) ≤ 64 }
-    ensures { result ≡ length (all_of ty.now) }
-{
-    let mut j = 0;
-    loop {
-        match next(ty, j) {
-            Some(_) => j += 1,
-            None => return j,
-        }
-    }
-}
-
 // How many cells the blocks of a type have.
 pub(crate) fn blocks(ty: &Ty) -> u32
     requires { length (all_of ty.now) ≤ 64 }

@@ -1,6 +1,6 @@
-use Rattle.std.proofs.Common.{◌≡◌, ◌∙◌}
+use Rattle.std.proofs.Common.{◌∙◌}
 use Rattle.gos_plan.specs.Seen.{part_of}
-use Rattle.gos_expand.proofs.ChoosingLemmas.{passes_from_more}
+use Rattle.gos_expand.proofs.PassageLemmas.{passes_from_more}
 use Rattle.gos_expand.proofs.choosing.add_part.Goals as goal
 
 pub loop-from-preserved : goal.loop-from-preserved

@@ -1,8 +1,8 @@
-use Rattle.std.proofs.Common.{◌≡◌, ◌∙◌, ℕ}
+use Rattle.std.proofs.Common.{◌∙◌, ℕ}
 use Rattle.gos_plan.specs.Plans.{Plan}
 use Rattle.gos_plan.specs.Seen.{plan_of, part_of}
 use Rattle.gos_expand.proofs.BlockLemmas.{item_mapped}
-use Rattle.gos_expand.proofs.ChoosingLemmas.{passes_at_more}
+use Rattle.gos_expand.proofs.PassageLemmas.{passes_at_more}
 use Rattle.gos_expand.proofs.choosing.add_parts.Goals as goal
 
 pub loop-index-preserved : goal.loop-index-preserved

@@ -1,7 +1,7 @@
-use Rattle.std.proofs.Common.{◌≡◌, ◌+◌, ◌<◌, ◌≤◌, ℕ, Some, option_map, sym, ap, ◌∙◌, arith}
+use Rattle.std.proofs.Common.{option_map, sym, ap, ◌∙◌, arith}
 use Rattle.gos_plan.specs.Plans.{PartEnd}
-use Rattle.gos_expand.specs.inner.Choosing.{ways_seen, ways_at}
-use Rattle.gos_expand.proofs.ChoosingLemmas.{passage_added}
+use Rattle.gos_expand.specs.inner.Choosing.{ways_seen}
+use Rattle.gos_expand.proofs.PassageLemmas.{passage_added}
 use Rattle.gos_expand.proofs.choosing.add_passage.Goals as goal
 
 pub overflow_add-directions : goal.overflow_add-directions

@@ -1,8 +1,8 @@
-use Rattle.std.proofs.Common.{◌≡◌, ◌+◌, true, false, sym, ap, subst, ◌∙◌}
+use Rattle.std.proofs.Common.{◌≡◌, ◌+◌, sym, subst, ◌∙◌}
 use Rattle.gos_order.specs.Rings.{Graph}
 use Rattle.gos_plan.specs.Seen.{part_of}
 use Rattle.gos_expand.specs.inner.Choosing.{GoAcross, Adds, PassesTo}
-use Rattle.gos_expand.proofs.ChoosingLemmas.{with_passage, without_passage}
+use Rattle.gos_expand.proofs.PassageLemmas.{with_passage, without_passage}
 use Rattle.gos_expand.proofs.choosing.add_passages.Goals as goal
 use Rattle.gos_expand.proofs.choosing.add_passages.Goals.{then-passes+in_ok-add_passage, else-passes}
 

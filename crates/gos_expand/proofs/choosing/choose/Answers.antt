@@ -1,4 +1,4 @@
-use Rattle.std.proofs.Common.{◌≡◌, ◌+◌, ℕ, Bool, not, List, [], ◌∷◌, ◌++◌, length, refl, sym, ap, subst, ◌∙◌, length-append, arith}
+use Rattle.std.proofs.Common.{◌≡◌, ◌+◌, Bool, not, List, [], ◌∷◌, length, refl, sym, subst, length-append, arith}
 use Rattle.gos_expand.proofs.ChoosingLemmas.{Chosen, few_none, chosen_next}
 use Rattle.gos_expand.proofs.choosing.choose.Goals as goal
 

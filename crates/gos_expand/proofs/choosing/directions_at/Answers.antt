@@ -1,4 +1,4 @@
-use Rattle.std.proofs.Common.{◌≡◌, ◌+◌, ◌<◌, ℕ, sym, ◌∙◌, arith}
+use Rattle.std.proofs.Common.{sym, ◌∙◌, arith}
 use Rattle.gos_plan.specs.Plans.{PartEnd}
 use Rattle.gos_expand.proofs.choosing.directions_at.Goals as goal
 

@@ -1,4 +1,4 @@
-use Rattle.std.proofs.Common.{◌≡◌, ℕ, List, length, map, take, slice_index_or, subst, sym, ap, ◌∙◌, arith}
+use Rattle.std.proofs.Common.{ℕ, List, length, slice_index_or, subst, ap, arith}
 use Rattle.gos_plan.specs.declared.plan.Joint as declared
 use Rattle.gos_plan.specs.declared.plan.End.TheVariants as ends
 use Rattle.gos_plan.specs.Plans.{Joint, Plan}
@@ -7,7 +7,7 @@ use Rattle.gos_expand.specs.inner.Arrivals.{AreAt}
 use Rattle.gos_expand.specs.inner.Choosing.{joint_among}
 use Rattle.gos_expand.proofs.CountLemmas.{indexed_mapped}
 use Rattle.gos_expand.proofs.NumberLemmas.{all_mapped}
-use Rattle.gos_expand.proofs.ChoosingLemmas.{joint_filled}
+use Rattle.gos_expand.proofs.JointLemmas.{joint_filled}
 use Rattle.gos_expand.proofs.choosing.joint_table.Goals as goal
 
 pub loop-index-preserved : goal.loop-index-preserved

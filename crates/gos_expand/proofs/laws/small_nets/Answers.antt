@@ -1,11 +1,9 @@
-use Rattle.std.proofs.Common.{arith, refl, List, ℕ, zero, suc, [], ◌∷◌, codes, Some, ◌≡◌, slice_get, ◌<◌, Contains}
+use Rattle.std.proofs.Common.{arith, refl, List, ℕ, zero, suc, [], ◌∷◌, codes, Some, ◌≡◌, slice_get, ◌<◌}
 use Rattle.std.proofs.lemmas.Option.{none-some}
 use Rattle.std.proofs.lemmas.List.Elements.{All-from_recursion}
-use Rattle.gos_netlist.specs.Nets.{Or}
-use Rattle.gos_netlist.specs.Cycles.{IsRegister}
-use Rattle.gos_plan.specs.Cells.{buffer}
 use Rattle.gos_plan.specs.Ranges.{IsInRange}
 use Rattle.gos_plan.specs.declared.kinds.Kind.TheVariants as kinds
+use Rattle.gos_expand.proofs.SmallChoiceLemmas.{ring_left}
 use Rattle.gos_expand.proofs.laws.small_nets.Goals as goal
 
 pub returns-clause-laid : goal.returns-clause-laid
@@ -14,16 +12,8 @@ returns-clause-laid c = refl
 pub returns-clause-chosen : goal.returns-clause-chosen
 returns-clause-chosen c = (refl, refl)
 
--- the first gate of the sequence feeds itself
-no_register : (m n : ℕ) → IsRegister (Or m n) → ⊥
-no_register m n (a, is) = absurd (cc is)
-
-none_there : (a : ℕ) → Contains [] a → ⊥
-none_there a (k, low, is) = omega (arith, low)
-
 pub returns-clause-ring : goal.returns-clause-ring
-returns-clause-ring c =
-    (5 ∷ [], ((none_there 5, tt), (buffer 5, buffer 5, refl, refl, no_register 5 5, (0, omega arith, refl))))
+returns-clause-ring c = ring_left
 
 -- one name is not two
 one_name : (name : List ℕ) (i j : ℕ) (a b : List ℕ) → i < j → slice_get (name ∷ []) i ≡ Some a → slice_get (name ∷ []) j ≡ Some b → ⊥

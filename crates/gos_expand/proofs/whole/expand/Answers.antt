@@ -1,4 +1,4 @@
-use Rattle.std.proofs.Common.{◌≡◌, ◌∙◌, ◌≤◌, List, Bool, length, ap, subst, sym}
+use Rattle.std.proofs.Common.{◌≤◌, length, subst, sym}
 use Rattle.gos_netlist.specs.Nets.{Netlist}
 use Rattle.gos_netcheck.specs.Accepted.{IsAccepted}
 use Rattle.gos_plan.specs.Plans.{Plan}
