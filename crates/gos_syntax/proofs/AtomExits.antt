@@ -1,19 +1,27 @@
 -- The ways out of the parser's functions on terms, at prefixes and atoms.
-use Rattle.std.proofs.Common.{◌≡◌, ℕ, ◌+◌, ◌≤◌, List, [], ◌∷◌, length, Result, Ok, Err, IfOk, IfErr, subst, sym, arith}
+use Rattle.std.proofs.Common.{◌≡◌, ℕ, ◌+◌, ◌≤◌, List, [], ◌∷◌, length, Result, Ok, Err, subst, sym, arith}
+use Rattle.std.specs.Global.{Box}
 use Rattle.gos_lex.specs.declared.word.Word.TheVariants as words
 use Rattle.gos_lex.specs.declared.sign.Sign.TheVariants as signs
 use Rattle.gos_syntax.specs.declared.fault.Stop.{Stop}
 use Rattle.gos_syntax.specs.declared.fault.Stop.TheVariants as stops
 use Rattle.gos_syntax.specs.declared.source.Source.{Source}
-use Rattle.gos_syntax.specs.Items.{Item, seen, reading_at}
+use Rattle.gos_syntax.specs.declared.terms.Term as program
+use Rattle.gos_syntax.specs.Items.{Item, seen, reading_at, span_of}
+use Rattle.gos_syntax.specs.Trees as trees
+use Rattle.gos_syntax.specs.Trees.{Tree}
+use Rattle.gos_syntax.specs.Grammar as rules
 use Rattle.gos_syntax.specs.Grammar.{HasWord, HasSign, HasName, HasNumber, IsTerm}
 use Rattle.gos_syntax.specs.Symbols as symbols
 use Rattle.gos_syntax.specs.Symbols.{Fits, SomeName, SomeNumber, Symbol, Part, word, sign, number, IsRule, Term, Pre, Atom, AtomTail, a_negation, a_reading, a_first_part, a_second_part, an_atom, skipping, a_literal, a_use, in_brackets, one_term, two_terms}
 use Rattle.gos_syntax.specs.Spelling.{Leads, IsRead, Stops}
+use Rattle.gos_syntax.specs.inner.Beginnings.{IsNoPrefix}
+use Rattle.gos_syntax.specs.inner.Phrases.{IsTermAnswer}
 use Rattle.gos_syntax.proofs.LeadsLemmas.{leads_then, leads_token_to, leads_part, stops_after, stops_at}
 use Rattle.gos_syntax.proofs.RuleExits.{past_token}
-use Rattle.gos_syntax.proofs.RuleLemmas.{IsNoPrefix, Tells, leads_by}
-use Rattle.gos_syntax.proofs.StopLemmas.{passed_on, stops_at_part}
+use Rattle.gos_syntax.proofs.RuleLemmas.{Tells, leads_by}
+use Rattle.gos_syntax.proofs.StopLemmas.{stops_at_part}
+use Rattle.gos_syntax.proofs.AnswerLemmas.{term_by}
 
 -- pre = ( "not" | "!" | "fst" | "snd" ) pre
 pub not_stops : {items : List Item} {i : ℕ} {stop : Stop} → HasWord items i words.Not → Stops items (Part Pre ∷ []) (i + 1) stop → Stops items (Part Pre ∷ []) i stop
@@ -29,15 +37,11 @@ pub snd_stops : {items : List Item} {i : ℕ} {stop : Stop} → HasWord items i 
 snd_stops is stopped = stops_after (past_token a_second_part is is) stopped
 
 -- pre = atom
-pub atom_stops : {T : Type 0} (items : List Item) (i : ℕ) (result : Result T Stop) → IsNoPrefix (reading_at items i)
-    → IfErr result (Stops items (Part Atom ∷ []) i) → IfErr result (Stops items (Part Pre ∷ []) i)
-atom_stops items i (Ok read) no_prefix stopped = tt
-atom_stops items i (Err stop) no_prefix stopped = stops_after (leads_by an_atom no_prefix) stopped
-
-pub atom_read : {T : Type 0} (items : List Item) (i : ℕ) (result : Result (T × ℕ) Stop) → IsNoPrefix (reading_at items i)
-    → IfOk result (λ read. IsRead items Atom i read.1) → IfOk result (λ read. IsRead items Pre i read.1)
-atom_read items i (Ok read) no_prefix atom = leads_then (leads_by an_atom no_prefix) atom
-atom_read items i (Err stop) no_prefix atom = tt
+pub atom_passed : {source : Source} {i : ℕ} (result : Result (Box program.Term × ℕ) Stop) → IsNoPrefix (reading_at (seen source) i)
+    → IsTermAnswer source rules.Atom i result → IsTermAnswer source rules.Pre i result
+atom_passed (Ok read) no_prefix answer =
+    record { read = term_by answer.read (rules.an_atom _ _ _ answer.read.derived) (leads_then (leads_by an_atom no_prefix) answer.read.read); refused = tt }
+atom_passed (Err stop) no_prefix answer = record { read = tt; refused = stops_after (leads_by an_atom no_prefix) answer.refused }
 
 -- atom = "skip" | numeral ":" numeral | name
 value_leads : {items : List Item} {i value : ℕ} → HasNumber items i value → Leads items (Part Atom ∷ []) i (sign signs.Colon ∷ number ∷ []) (i + 1)
@@ -117,22 +121,19 @@ no_atom_stops source at within no_skip no_number no_name no_open = stops_at_part
     none _ a_use told = no_name told
     none _ in_brackets told = no_open told
 
--- the ways out at prefixes, but for what is read
-pub ruleset prefix_exits =
-    (passed_on, not_stops, bang_stops, fst_stops, snd_stops, IsTerm.an_atom, IsTerm.a_negation, IsTerm.a_reading, IsTerm.a_first_part, IsTerm.a_second_part)
+-- a literal, a term in brackets and a pair are derived
+pub literal_derived : {items : List Item} {i t value width : ℕ} → HasNumber items i value → HasSign items (i + 1) signs.Colon → t ≡ i + 1 + 1 → HasNumber items t width
+    → IsTerm items rules.Atom i (i + 3) (trees.Lit (span_of items i (i + 3)) value width)
+literal_derived {items} {i} {t} {value} {width} is colon e is_width =
+    let second : t ≡ i + 2 = omega (arith, e) in
+    rules.a_literal i value width is colon (subst (λ (n : ℕ). HasNumber items n width) second is_width)
 
--- the ways out of an atom, but for what is read
-pub ruleset atom_exits = (
-  passed_on,
-  colon_stops,
-  width_stops,
-  name_stops,
-  inner_stops,
-  second_stops,
-  close_stops,
-  IsTerm.skipping,
-  IsTerm.a_literal,
-  IsTerm.a_name,
-  IsTerm.in_brackets,
-  IsTerm.a_pair,
-)
+pub inner_derived : {items : List Item} {i j k : ℕ} {a : Tree} → HasSign items i signs.Open → IsTerm items rules.Term (i + 1) j a → HasSign items j signs.Close → k ≡ j + 1
+    → IsTerm items rules.Atom i k a
+inner_derived {items} {i} {j} {k} {a} opened first close e =
+    subst (λ (n : ℕ). IsTerm items rules.Atom i n a) (sym e) (rules.in_brackets i j a opened first close)
+
+pub pair_derived : {items : List Item} {i j k l : ℕ} {a b : Tree} → HasSign items i signs.Open → IsTerm items rules.Term (i + 1) j a → HasSign items j signs.Comma
+    → IsTerm items rules.Term (j + 1) k b → HasSign items k signs.Close → l ≡ k + 1 → IsTerm items rules.Atom i l (trees.Both (span_of items i l) a b)
+pair_derived {items} {i} {j} {k} {l} {a} {b} opened first comma second close e =
+    subst (λ (n : ℕ). IsTerm items rules.Atom i n (trees.Both (span_of items i n) a b)) (sym e) (rules.a_pair i j k a b opened first comma second close)

@@ -1,16 +1,18 @@
 -- The ways out of the parser's functions on terms, at a sequence and at commands.
-use Rattle.std.proofs.Common.{◌≡◌, ℕ, ◌+◌, List, [], ◌∷◌}
+use Rattle.std.proofs.Common.{◌≡◌, ℕ, ◌+◌, List, [], ◌∷◌, subst}
 use Rattle.gos_lex.specs.declared.word.Word.TheVariants as words
 use Rattle.gos_lex.specs.declared.sign.Sign.TheVariants as signs
 use Rattle.gos_syntax.specs.declared.fault.Stop.{Stop}
-use Rattle.gos_syntax.specs.Items.{Item, reading_at}
+use Rattle.gos_syntax.specs.Items.{Item, reading_at, span_of}
+use Rattle.gos_syntax.specs.Trees as trees
+use Rattle.gos_syntax.specs.Trees.{Tree}
+use Rattle.gos_syntax.specs.Grammar as rules
 use Rattle.gos_syntax.specs.Grammar.{HasWord, HasSign, IsTerm}
 use Rattle.gos_syntax.specs.Symbols.{Part, word, Term, Par, Cmd, Rel, a_sequence, a_next, a_parallel, a_branch, a_choice, a_loop, an_assignment, a_value}
 use Rattle.gos_syntax.specs.Spelling.{Leads, IsRead, Stops}
+use Rattle.gos_syntax.specs.inner.Beginnings.{IsNoBinder, IsNoControl}
 use Rattle.gos_syntax.proofs.LeadsLemmas.{leads_then, leads_token_to, leads_part, stops_after, stops_at}
-use Rattle.gos_syntax.proofs.StopLemmas.{passed_on}
 use Rattle.gos_syntax.proofs.RuleExits.{past_token, past_tail, first_refused}
-use Rattle.gos_syntax.proofs.RuleLemmas.{IsNoBinder, IsNoControl}
 
 -- term = par [ ";" term ]
 pub step_stops : {items : List Item} {i : ℕ} {stop : Stop} → IsNoBinder (reading_at items i) → Stops items (Part Par ∷ []) i stop → Stops items (Part Term ∷ []) i stop
@@ -111,25 +113,15 @@ pub value_read : {items : List Item} {i j k : ℕ} → IsNoControl (reading_at i
     → IsRead items Rel (j + 1) k → IsRead items Cmd i k
 value_read no_control target assign value = leads_then (past_tail an_assignment no_control a_value assign assign target) value
 
--- the ways out at a sequence, but for what is read
-pub ruleset sequence_exits = (passed_on, step_stops, next_stops, IsTerm.a_parallel, IsTerm.a_sequence)
+-- a choice and a loop are derived
+pub choice_derived : {items : List Item} {i j k l m n : ℕ} {a b c : Tree} → HasWord items i words.If → IsTerm items rules.Term (i + 1) j a → HasWord items j words.Then
+    → k ≡ j + 1 → IsTerm items rules.Cmd k l b → HasWord items l words.Else → m ≡ l + 1 → IsTerm items rules.Cmd m n c
+    → IsTerm items rules.Cmd i n (trees.If (span_of items i n) a b c)
+choice_derived {items} {i} {j} {k} {l} {m} {n} {a} {b} {c} is test then_word one when_true else_word two otherwise =
+    rules.a_choice i j l n a b c is test then_word (subst (λ (from : ℕ). IsTerm items rules.Cmd from l b) one when_true)
+    else_word (subst (λ (from : ℕ). IsTerm items rules.Cmd from n c) two otherwise)
 
--- the ways out at parallel commands, but for what is read
-pub ruleset parallel_exits = (passed_on, branch_stops, parallel_stops, IsTerm.a_command, IsTerm.both_commands)
-
--- the ways out of a command, but for what is read
-pub ruleset command_exits = (
-  passed_on,
-  test_stops,
-  then_stops,
-  when_true_stops,
-  loop_test_stops,
-  do_stops,
-  body_stops,
-  target_stops,
-  value_stops,
-  IsTerm.a_relation,
-  IsTerm.an_assignment,
-  IsTerm.a_choice,
-  IsTerm.a_loop,
-)
+pub loop_derived : {items : List Item} {i j k l : ℕ} {a b : Tree} → HasWord items i words.While → IsTerm items rules.Term (i + 1) j a → HasWord items j words.Do
+    → k ≡ j + 1 → IsTerm items rules.Cmd k l b → IsTerm items rules.Cmd i l (trees.While (span_of items i l) a b)
+loop_derived {items} {i} {j} {k} {l} {a} {b} is test do_word one body =
+    rules.a_loop i j l a b is test do_word (subst (λ (from : ℕ). IsTerm items rules.Cmd from l b) one body)

@@ -4,6 +4,7 @@ pub mod ImportLemmas
 pub mod LeadsLemmas
 pub mod RuleLemmas
 pub mod StopLemmas
+pub mod AnswerLemmas
 pub mod RuleExits
 pub mod TypeExits
 pub mod BinderExits

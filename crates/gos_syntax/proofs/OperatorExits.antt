@@ -5,11 +5,10 @@ use Rattle.gos_syntax.specs.declared.terms.Op.{Op}
 use Rattle.gos_syntax.specs.declared.operators.Level.TheVariants as levels
 use Rattle.gos_syntax.specs.Operators.{sign_of, level_of}
 use Rattle.gos_syntax.specs.Items.{Item, reading_at}
-use Rattle.gos_syntax.specs.Grammar.{HasSign, IsTerm}
+use Rattle.gos_syntax.specs.Grammar.{HasSign}
 use Rattle.gos_syntax.specs.Symbols.{Part, Rel, Bits, BitsTail, Sum, SumTail, App, AppTail, Pre, a_relation, a_comparison, some_bits, more_bits, a_sum, a_summand, an_application, an_argument, no_argument}
 use Rattle.gos_syntax.specs.Spelling.{begins_operand, Leads, IsRead, Stops}
 use Rattle.gos_syntax.proofs.LeadsLemmas.{leads_then, leads_part, stops_after, stops_at}
-use Rattle.gos_syntax.proofs.StopLemmas.{passed_on}
 use Rattle.gos_syntax.proofs.RuleExits.{past_token, past_tail, first_refused}
 use Rattle.gos_syntax.proofs.RuleLemmas.{leads_by}
 
@@ -76,15 +75,3 @@ function_stops stopped = first_refused an_application tt stopped
 pub argument_stops : {items : List Item} {i j : ℕ} {stop : Stop} → Leads items (Part App ∷ []) i (Part AppTail ∷ []) j → begins_operand (reading_at items j) ≡ true
     → Stops items (Part Pre ∷ []) j stop → Stops items (Part App ∷ []) i stop
 argument_stops so_far is stopped = stops_after (argument_leads so_far is) (stops_at stopped)
-
--- the ways out at a comparison, but for what is read
-pub ruleset comparison_exits = (passed_on, left_stops, right_stops, IsTerm.some_bits, IsTerm.a_comparison)
-
--- the ways out at operations on bits, but for what is read
-pub ruleset bits_exits = (passed_on, bits_first_stops, bits_stops)
-
--- the ways out at a sum, but for what is read
-pub ruleset sum_exits = (passed_on, sum_first_stops, sum_stops)
-
--- the ways out at an application, but for what is read
-pub ruleset application_exits = (passed_on, function_stops, argument_stops)

@@ -13,20 +13,8 @@ use Rattle.gos_syntax.specs.Operators.{sign_of, level_of}
 use Rattle.gos_syntax.specs.Items.{Item, reading_at, Agree}
 use Rattle.gos_syntax.specs.Symbols.{Class, TheWord, TheSign, SomeName, SomeNumber, SomeOperator, Fits, Phrase, Module, Whole, WholeTail, Product, ProductTail, Base, Term, TermTail, Par, ParTail, Cmd, CmdTail, Rel, RelTail, Bits, BitsTail, Sum, SumTail, App, AppTail, Pre, Atom, AtomTail, Symbol, Token, Part, IsRule, an_import, an_export, a_type, an_outcome, no_outcome, a_product, a_factor, no_factor, a_command_type, an_expression_type, a_variable_type, a_type_in_brackets, a_lambda, a_block, a_sequence, a_next, no_next, a_parallel, a_branch, no_branch, a_choice, a_loop, an_assignment, a_value, no_value, a_relation, a_comparison, no_comparison, some_bits, more_bits, no_bits, a_sum, a_summand, no_summand, an_application, an_argument, no_argument, a_negation, a_reading, a_first_part, a_second_part, an_atom, skipping, a_literal, a_use, in_brackets, one_term, two_terms}
 use Rattle.gos_syntax.specs.Spelling.{Spells, at_end, with_token, by_rule, begins_operand, looseness, reach, EndsBefore, IsClear, Leads, Misses}
+use Rattle.gos_syntax.specs.inner.Beginnings.{IsNoBinder, IsNoControl, IsNoPrefix}
 use Rattle.gos_syntax.proofs.LeadsLemmas.{token_spelled, phrase_spelled, SpelledBy, leads_before}
-
--- no word that begins a function or a block
-abbrev pub IsNoBinder : Option Reading → Type 0
-IsNoBinder r = (Fits r (TheWord words.Fun) → ⊥) × (Fits r (TheWord words.New) → ⊥)
-
--- no word that begins a choice or a loop
-abbrev pub IsNoControl : Option Reading → Type 0
-IsNoControl r = (Fits r (TheWord words.If) → ⊥) × (Fits r (TheWord words.While) → ⊥)
-
--- nothing that stands before an operand
-abbrev pub IsNoPrefix : Option Reading → Type 0
-IsNoPrefix r =
-    (Fits r (TheWord words.Not) → ⊥) × (Fits r (TheSign signs.Bang) → ⊥) × (Fits r (TheWord words.Fst) → ⊥) × (Fits r (TheWord words.Snd) → ⊥)
 
 -- a token with which a rule applies
 abbrev pub Tells : {phrase : Phrase} {body : List Symbol} → IsRule phrase body → Option Reading → Type 0

@@ -1,14 +1,15 @@
 -- The ways out of the parser's functions on types: what was read, or where it stopped.
-use Rattle.std.proofs.Common.{◌≡◌, ℕ, ◌+◌, List, [], ◌∷◌, arith}
+use Rattle.std.proofs.Common.{◌≡◌, ℕ, ◌+◌, List, [], ◌∷◌, sym, subst, arith}
 use Rattle.gos_lex.specs.declared.word.Word.TheVariants as words
 use Rattle.gos_lex.specs.declared.sign.Sign.TheVariants as signs
+use Rattle.gos_types.specs.Types.{Type'}
 use Rattle.gos_syntax.specs.declared.fault.Stop.{Stop}
 use Rattle.gos_syntax.specs.Items.{Item}
+use Rattle.gos_syntax.specs.Grammar as rules
 use Rattle.gos_syntax.specs.Grammar.{HasWord, HasSign, HasNumber, IsType}
 use Rattle.gos_syntax.specs.Symbols.{Part, sign, number, Whole, Product, Base, a_type, an_outcome, a_product, a_factor, an_expression_type, a_variable_type, a_type_in_brackets}
 use Rattle.gos_syntax.specs.Spelling.{IsRead, Stops}
 use Rattle.gos_syntax.proofs.LeadsLemmas.{leads_then, leads_token_to, leads_part, stops_after, stops_at}
-use Rattle.gos_syntax.proofs.StopLemmas.{passed_on}
 use Rattle.gos_syntax.proofs.RuleExits.{past_token, past_tail, first_refused}
 
 -- type = prod [ "->" type ]
@@ -56,12 +57,8 @@ close_stops opened inner stopped = stops_after (leads_then (past_token a_type_in
 pub inner_read : {items : List Item} {i j k : ℕ} → HasSign items i signs.Open → IsRead items Whole (i + 1) j → HasSign items j signs.Close → k ≡ j + 1 → IsRead items Base i k
 inner_read opened inner closed one = leads_then (leads_then (past_token a_type_in_brackets opened opened) (leads_part inner)) (leads_token_to one closed)
 
--- the ways out of a type, but for what is read
-pub ruleset type_exits = (passed_on, argument_stops, outcome_stops, IsType.a_product, IsType.a_function)
-
--- the ways out of a product, but for what is read
-pub ruleset product_exits = (passed_on, first_stops, second_stops, IsType.a_base, IsType.a_pair)
-
--- the ways out of a base type, but for what is read
-pub ruleset base_exits =
-    (passed_on, expression_stops, variable_stops, inner_stops, close_stops, IsType.a_command, IsType.an_expression, IsType.a_variable, IsType.in_brackets)
+-- a type in brackets is derived
+pub inner_derived : {items : List Item} {i j k : ℕ} {a : Type'} → HasSign items i signs.Open → IsType items rules.Whole (i + 1) j a → HasSign items j signs.Close → k ≡ j + 1
+    → IsType items rules.Base i k a
+inner_derived {items} {i} {j} {k} {a} opened inner close one =
+    subst (λ (n : ℕ). IsType items rules.Base i n a) (sym one) (rules.in_brackets i j a opened inner close)

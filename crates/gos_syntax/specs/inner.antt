@@ -2,5 +2,7 @@
 -- files above it.
 pub mod Nested
 pub mod Stops
+pub mod Beginnings
+pub mod Phrases
 pub mod Heads
 pub mod Answers

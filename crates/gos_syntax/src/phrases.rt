@@ -1,16 +1,17 @@
-// The terms of a source text: one function for each rule of the grammar.
+// The terms of a source text: one function for each rule of the grammar, and for each way of a rule that takes more
+// than a step.
 //
-// Each gives the term that it read, and the number of the token after it. That nothing else was to be read, and that
-// none goes on past a stop, is said in the words of specs/Spelling.antt.
+// Each gives the term that it read, and the number of the token after it. What it answers is said in
+// specs/inner/Phrases.antt: also that nothing else was to be read, and that none goes on past a stop.
 
-ghost use Rattle.std.specs.Prelude.{◌≡◌, ℕ, ◌+◌, ◌<◌, ◌≤◌, [], ◌∷◌, length, IfOk, IfErr};
-ghost use Rattle.gos_types.specs.Types.{type_of};
-ghost use Rattle.gos_syntax.specs.Items.{seen, Stands, span_of};
-ghost use Rattle.gos_syntax.specs.Grammar.{Derives, Term as ATerm, Par, Cmd, Rel, Bits, Sum, App, Pre, Atom};
-ghost use Rattle.gos_syntax.specs.Symbols as phrases;
-ghost use Rattle.gos_syntax.specs.Spelling.{Leads, IsRead, Stops};
-ghost use Rattle.gos_syntax.specs.inner.Heads.{IsParameter, IsLocal, parameter, local};
-ghost use Rattle.gos_syntax.specs.declared.fault.Stop.TheVariants as stops;
+ghost use Rattle.std.specs.Prelude.{◌≡◌, ℕ, ◌<◌, ◌≤◌, length};
+ghost use Rattle.gos_lex.specs.declared.word.Word.TheVariants as words;
+ghost use Rattle.gos_lex.specs.declared.sign.Sign.TheVariants as signs;
+ghost use Rattle.gos_syntax.specs.Items.{seen, Stands, reading_at};
+ghost use Rattle.gos_syntax.specs.Grammar.{HasWord, HasSign, HasNumber, Term as ATerm, Par, Cmd, Rel, Bits, Sum, App, Pre, Atom};
+ghost use Rattle.gos_syntax.specs.inner.Beginnings.{IsNoBinder, IsNoControl};
+ghost use Rattle.gos_syntax.specs.inner.Phrases.{IsTermAnswer, IsNodeAnswer};
+ghost use Rattle.gos_syntax.specs.inner.Heads.{IsParameterAnswer, IsLocalAnswer};
 
 use crate::fault::Stop;
 use crate::operators::Level;
@@ -37,137 +38,165 @@ pub(crate) struct Local {
 }
 
 impl<'a> Source<'a> {
-    // term = "fun" name ":" type "." term | "new" name ":" numeral "in" term | par [ ";" term ]
+    // term = function | block | sequence
     #[cycle(term)]
-    #[tactic(auto, using(crate::proofs::BinderExits::binder_exits, crate::proofs::CommandExits::sequence_exits))]
     pub(crate) fn term(&self, alloc: Global, at: usize) -> Result<(Box<Term>, usize), Stop>
         requires stands { Stands self.now }
         requires within { at ≤ length self.now.tokens.now }
-        ensures after { IfOk result (λ read. at < read.1) }
-        ensures within { IfOk result (λ read. read.1 ≤ length self.now.tokens.now) }
-        ensures derived { IfOk result (λ read. Derives (seen self.now) ATerm at read.1 read.0.value) }
-        ensures read { IfOk result (λ read. IsRead (seen self.now) phrases.Term at read.1) }
-        ensures refused { IfErr result (Stops (seen self.now) (phrases.Part phrases.Term ∷ []) at) }
+        ensures { IsTermAnswer self.now ATerm at result }
     {
         match self.kind(at) {
-            Some(TokenKind::Word(Word::Fun)) => {
-                let (Parameter { name, ty, ty_span }, body_at) = self.parameter(alloc, at)?;
-                let (body, end) = self.term(alloc, body_at)?;
-                let form = Form::Fun {
-                    name,
-                    ty,
-                    ty_span,
-                    body,
-                };
-                Ok((self.node(alloc, at, end, form)?, end))
-            }
-            Some(TokenKind::Word(Word::New)) => {
-                let (
-                    Local {
-                        name,
-                        width,
-                        width_span,
-                    },
-                    body_at,
-                ) = self.local(alloc, at)?;
-                let (body, end) = self.term(alloc, body_at)?;
-                let form = Form::New {
-                    name,
-                    width,
-                    width_span,
-                    body,
-                };
-                Ok((self.node(alloc, at, end, form)?, end))
-            }
-            _ => {
-                let (first, end) = self.par(alloc, at)?;
-                if !self.is_sign(end, Sign::Semicolon) {
-                    return Ok((first, end));
-                }
-                let (second, end) = self.term(alloc, end + 1)?;
-                let form = Form::Seq(first, second);
-                Ok((self.node(alloc, at, end, form)?, end))
-            }
+            Some(TokenKind::Word(Word::Fun)) => self.function(alloc, at),
+            Some(TokenKind::Word(Word::New)) => self.block(alloc, at),
+            _ => self.sequence(alloc, at),
         }
+    }
+
+    // function = "fun" name ":" type "." term
+    #[cycle(term)]
+    fn function(&self, alloc: Global, at: usize) -> Result<(Box<Term>, usize), Stop>
+        requires stands { Stands self.now }
+        requires room { at < length self.now.tokens.now }
+        requires word { HasWord (seen self.now) at words.Fun }
+        ensures { IsTermAnswer self.now ATerm at result }
+    {
+        let (Parameter { name, ty, ty_span }, body_at) = self.parameter(alloc, at)?;
+        let (body, end) = self.term(alloc, body_at)?;
+        let form = Form::Fun {
+            name,
+            ty,
+            ty_span,
+            body,
+        };
+        self.node(alloc, at, end, form)
+    }
+
+    // block = "new" name ":" numeral "in" term
+    #[cycle(term)]
+    fn block(&self, alloc: Global, at: usize) -> Result<(Box<Term>, usize), Stop>
+        requires stands { Stands self.now }
+        requires room { at < length self.now.tokens.now }
+        requires word { HasWord (seen self.now) at words.New }
+        ensures { IsTermAnswer self.now ATerm at result }
+    {
+        let (
+            Local {
+                name,
+                width,
+                width_span,
+            },
+            body_at,
+        ) = self.local(alloc, at)?;
+        let (body, end) = self.term(alloc, body_at)?;
+        let form = Form::New {
+            name,
+            width,
+            width_span,
+            body,
+        };
+        self.node(alloc, at, end, form)
+    }
+
+    // sequence = par [ ";" term ]
+    #[cycle(term)]
+    fn sequence(&self, alloc: Global, at: usize) -> Result<(Box<Term>, usize), Stop>
+        requires stands { Stands self.now }
+        requires within { at ≤ length self.now.tokens.now }
+        requires first { IsNoBinder (reading_at (seen self.now) at) }
+        ensures { IsTermAnswer self.now ATerm at result }
+    {
+        let (first, end) = self.par(alloc, at)?;
+        if !self.is_sign(end, Sign::Semicolon) {
+            return Ok((first, end));
+        }
+        let (second, end) = self.term(alloc, end + 1)?;
+        self.node(alloc, at, end, Form::Seq(first, second))
     }
 
     // par = cmd [ "||" par ]
     #[cycle(term)]
-    #[tactic(auto, using(crate::proofs::CommandExits::parallel_exits))]
     fn par(&self, alloc: Global, at: usize) -> Result<(Box<Term>, usize), Stop>
         requires stands { Stands self.now }
         requires within { at ≤ length self.now.tokens.now }
-        ensures after { IfOk result (λ read. at < read.1) }
-        ensures within { IfOk result (λ read. read.1 ≤ length self.now.tokens.now) }
-        ensures derived { IfOk result (λ read. Derives (seen self.now) Par at read.1 read.0.value) }
-        ensures read { IfOk result (λ read. IsRead (seen self.now) phrases.Par at read.1) }
-        ensures refused { IfErr result (Stops (seen self.now) (phrases.Part phrases.Par ∷ []) at) }
+        ensures { IsTermAnswer self.now Par at result }
     {
         let (left, end) = self.cmd(alloc, at)?;
         if !self.is_sign(end, Sign::Parallel) {
             return Ok((left, end));
         }
         let (right, end) = self.par(alloc, end + 1)?;
-        let form = Form::Par(left, right);
-        Ok((self.node(alloc, at, end, form)?, end))
+        self.node(alloc, at, end, Form::Par(left, right))
     }
 
-    // cmd = "if" term "then" cmd "else" cmd | "while" term "do" cmd | rel [ ":=" rel ]
+    // cmd = choice | repetition | assignment
     #[cycle(term)]
-    #[tactic(auto, using(crate::proofs::CommandExits::command_exits))]
     fn cmd(&self, alloc: Global, at: usize) -> Result<(Box<Term>, usize), Stop>
         requires stands { Stands self.now }
         requires within { at ≤ length self.now.tokens.now }
-        ensures after { IfOk result (λ read. at < read.1) }
-        ensures within { IfOk result (λ read. read.1 ≤ length self.now.tokens.now) }
-        ensures derived { IfOk result (λ read. Derives (seen self.now) Cmd at read.1 read.0.value) }
-        ensures read { IfOk result (λ read. IsRead (seen self.now) phrases.Cmd at read.1) }
-        ensures refused { IfErr result (Stops (seen self.now) (phrases.Part phrases.Cmd ∷ []) at) }
+        ensures { IsTermAnswer self.now Cmd at result }
     {
         match self.kind(at) {
-            Some(TokenKind::Word(Word::If)) => {
-                let (test, end) = self.term(alloc, at + 1)?;
-                let (yes, end) = self.cmd(alloc, self.after_word(end, Word::Then)?)?;
-                let (no, end) = self.cmd(alloc, self.after_word(end, Word::Else)?)?;
-                let form = Form::If(test, yes, no);
-                Ok((self.node(alloc, at, end, form)?, end))
-            }
-            Some(TokenKind::Word(Word::While)) => {
-                let (test, end) = self.term(alloc, at + 1)?;
-                let (body, end) = self.cmd(alloc, self.after_word(end, Word::Do)?)?;
-                let form = Form::While(test, body);
-                Ok((self.node(alloc, at, end, form)?, end))
-            }
-            _ => {
-                let (left, end) = self.rel(alloc, at)?;
-                if !self.is_sign(end, Sign::Assign) {
-                    return Ok((left, end));
-                }
-                let (right, end) = self.rel(alloc, end + 1)?;
-                let form = Form::Assign(left, right);
-                Ok((self.node(alloc, at, end, form)?, end))
-            }
+            Some(TokenKind::Word(Word::If)) => self.choice(alloc, at),
+            Some(TokenKind::Word(Word::While)) => self.repetition(alloc, at),
+            _ => self.assignment(alloc, at),
         }
+    }
+
+    // choice = "if" term "then" cmd "else" cmd
+    #[cycle(term)]
+    fn choice(&self, alloc: Global, at: usize) -> Result<(Box<Term>, usize), Stop>
+        requires stands { Stands self.now }
+        requires room { at < length self.now.tokens.now }
+        requires word { HasWord (seen self.now) at words.If }
+        ensures { IsTermAnswer self.now Cmd at result }
+    {
+        let (test, end) = self.term(alloc, at + 1)?;
+        let (yes, end) = self.cmd(alloc, self.after_word(end, Word::Then)?)?;
+        let (no, end) = self.cmd(alloc, self.after_word(end, Word::Else)?)?;
+        self.node(alloc, at, end, Form::If(test, yes, no))
+    }
+
+    // repetition = "while" term "do" cmd
+    #[cycle(term)]
+    fn repetition(&self, alloc: Global, at: usize) -> Result<(Box<Term>, usize), Stop>
+        requires stands { Stands self.now }
+        requires room { at < length self.now.tokens.now }
+        requires word { HasWord (seen self.now) at words.While }
+        ensures { IsTermAnswer self.now Cmd at result }
+    {
+        let (test, end) = self.term(alloc, at + 1)?;
+        let (body, end) = self.cmd(alloc, self.after_word(end, Word::Do)?)?;
+        self.node(alloc, at, end, Form::While(test, body))
+    }
+
+    // assignment = rel [ ":=" rel ]
+    #[cycle(term)]
+    fn assignment(&self, alloc: Global, at: usize) -> Result<(Box<Term>, usize), Stop>
+        requires stands { Stands self.now }
+        requires within { at ≤ length self.now.tokens.now }
+        requires first { IsNoControl (reading_at (seen self.now) at) }
+        ensures { IsTermAnswer self.now Cmd at result }
+    {
+        let (left, end) = self.rel(alloc, at)?;
+        if !self.is_sign(end, Sign::Assign) {
+            return Ok((left, end));
+        }
+        let (right, end) = self.rel(alloc, end + 1)?;
+        self.node(alloc, at, end, Form::Assign(left, right))
     }
 
     // rel = bits [ ( "=" | "<" ) bits ]
     #[cycle(term)]
-    #[tactic(auto, using(crate::proofs::OperatorExits::comparison_exits))]
     fn rel(&self, alloc: Global, at: usize) -> Result<(Box<Term>, usize), Stop>
         requires stands { Stands self.now }
         requires within { at ≤ length self.now.tokens.now }
-        ensures after { IfOk result (λ read. at < read.1) }
-        ensures within { IfOk result (λ read. read.1 ≤ length self.now.tokens.now) }
-        ensures derived { IfOk result (λ read. Derives (seen self.now) Rel at read.1 read.0.value) }
-        ensures read { IfOk result (λ read. IsRead (seen self.now) phrases.Rel at read.1) }
-        ensures refused { IfErr result (Stops (seen self.now) (phrases.Part phrases.Rel ∷ []) at) }
+        ensures { IsTermAnswer self.now Rel at result }
     {
         let (left, end) = self.bits(alloc, at)?;
         match self.operator(end, Level::Comparing) {
             Some(op) => {
                 let (right, end) = self.bits(alloc, end + 1)?;
-                let form = Form::Bin(op, left, right);
-                Ok((self.node(alloc, at, end, form)?, end))
+                self.node(alloc, at, end, Form::Bin(op, left, right))
             }
             None => Ok((left, end)),
         }
@@ -175,157 +204,128 @@ impl<'a> Source<'a> {
 
     // bits = sum { ( "&" | "|" | "^" ) sum }
     #[cycle(term)]
-    #[tactic(auto, using(crate::proofs::OperatorExits::bits_exits))]
     fn bits(&self, alloc: Global, at: usize) -> Result<(Box<Term>, usize), Stop>
         requires stands { Stands self.now }
         requires within { at ≤ length self.now.tokens.now }
-        ensures after { IfOk result (λ read. at < read.1) }
-        ensures within { IfOk result (λ read. read.1 ≤ length self.now.tokens.now) }
-        ensures derived { IfOk result (λ read. Derives (seen self.now) Bits at read.1 read.0.value) }
-        ensures read { IfOk result (λ read. IsRead (seen self.now) phrases.Bits at read.1) }
-        ensures refused { IfErr result (Stops (seen self.now) (phrases.Part phrases.Bits ∷ []) at) }
+        ensures { IsTermAnswer self.now Bits at result }
     {
         let (mut left, mut end) = self.sum(alloc, at)?;
         while let Some(op) = self.operator(end, Level::OnBits) {
             let (right, after) = self.sum(alloc, end + 1)?;
-            let form = Form::Bin(op, left, right);
-            left = self.node(alloc, at, after, form)?;
-            end = after;
+            (left, end) = self.node(alloc, at, after, Form::Bin(op, left, right))?;
         }
         Ok((left, end))
     }
 
     // sum = app { ( "+" | "-" ) app }
     #[cycle(term)]
-    #[tactic(auto, using(crate::proofs::OperatorExits::sum_exits))]
     fn sum(&self, alloc: Global, at: usize) -> Result<(Box<Term>, usize), Stop>
         requires stands { Stands self.now }
         requires within { at ≤ length self.now.tokens.now }
-        ensures after { IfOk result (λ read. at < read.1) }
-        ensures within { IfOk result (λ read. read.1 ≤ length self.now.tokens.now) }
-        ensures derived { IfOk result (λ read. Derives (seen self.now) Sum at read.1 read.0.value) }
-        ensures read { IfOk result (λ read. IsRead (seen self.now) phrases.Sum at read.1) }
-        ensures refused { IfErr result (Stops (seen self.now) (phrases.Part phrases.Sum ∷ []) at) }
+        ensures { IsTermAnswer self.now Sum at result }
     {
         let (mut left, mut end) = self.app(alloc, at)?;
         while let Some(op) = self.operator(end, Level::Adding) {
             let (right, after) = self.app(alloc, end + 1)?;
-            let form = Form::Bin(op, left, right);
-            left = self.node(alloc, at, after, form)?;
-            end = after;
+            (left, end) = self.node(alloc, at, after, Form::Bin(op, left, right))?;
         }
         Ok((left, end))
     }
 
     // app = pre { pre }
     #[cycle(term)]
-    #[tactic(auto, using(crate::proofs::OperatorExits::application_exits))]
     fn app(&self, alloc: Global, at: usize) -> Result<(Box<Term>, usize), Stop>
         requires stands { Stands self.now }
         requires within { at ≤ length self.now.tokens.now }
-        ensures after { IfOk result (λ read. at < read.1) }
-        ensures within { IfOk result (λ read. read.1 ≤ length self.now.tokens.now) }
-        ensures derived { IfOk result (λ read. Derives (seen self.now) App at read.1 read.0.value) }
-        ensures read { IfOk result (λ read. IsRead (seen self.now) phrases.App at read.1) }
-        ensures refused { IfErr result (Stops (seen self.now) (phrases.Part phrases.App ∷ []) at) }
+        ensures { IsTermAnswer self.now App at result }
     {
         let (mut function, mut end) = self.pre(alloc, at)?;
         while self.begins_operand(end) {
             let (argument, after) = self.pre(alloc, end)?;
-            let form = Form::App(function, argument);
-            function = self.node(alloc, at, after, form)?;
-            end = after;
+            (function, end) = self.node(alloc, at, after, Form::App(function, argument))?;
         }
         Ok((function, end))
     }
 
     // pre = ( "not" | "!" | "fst" | "snd" ) pre | atom
     #[cycle(term)]
-    #[tactic(auto, using(crate::proofs::AtomExits::prefix_exits))]
     fn pre(&self, alloc: Global, at: usize) -> Result<(Box<Term>, usize), Stop>
         requires stands { Stands self.now }
         requires within { at ≤ length self.now.tokens.now }
-        ensures after { IfOk result (λ read. at < read.1) }
-        ensures within { IfOk result (λ read. read.1 ≤ length self.now.tokens.now) }
-        ensures derived { IfOk result (λ read. Derives (seen self.now) Pre at read.1 read.0.value) }
-        ensures read { IfOk result (λ read. IsRead (seen self.now) phrases.Pre at read.1) }
-        ensures refused { IfErr result (Stops (seen self.now) (phrases.Part phrases.Pre ∷ []) at) }
+        ensures { IsTermAnswer self.now Pre at result }
     {
         match self.kind(at) {
             Some(TokenKind::Word(Word::Not)) => {
                 let (operand, end) = self.pre(alloc, at + 1)?;
-                let form = Form::Not(operand);
-                Ok((self.node(alloc, at, end, form)?, end))
+                self.node(alloc, at, end, Form::Not(operand))
             }
             Some(TokenKind::Sign(Sign::Bang)) => {
                 let (operand, end) = self.pre(alloc, at + 1)?;
-                let form = Form::Deref(operand);
-                Ok((self.node(alloc, at, end, form)?, end))
+                self.node(alloc, at, end, Form::Deref(operand))
             }
             Some(TokenKind::Word(Word::Fst)) => {
                 let (operand, end) = self.pre(alloc, at + 1)?;
-                let form = Form::Fst(operand);
-                Ok((self.node(alloc, at, end, form)?, end))
+                self.node(alloc, at, end, Form::Fst(operand))
             }
             Some(TokenKind::Word(Word::Snd)) => {
                 let (operand, end) = self.pre(alloc, at + 1)?;
-                let form = Form::Snd(operand);
-                Ok((self.node(alloc, at, end, form)?, end))
+                self.node(alloc, at, end, Form::Snd(operand))
             }
             _ => self.atom(alloc, at),
         }
     }
 
-    // atom = "skip" | numeral ":" numeral | name | "(" term [ "," term ] ")"
+    // atom = "skip" | literal | name | brackets
     #[cycle(term)]
-    #[tactic(auto, using(crate::proofs::AtomExits::atom_exits))]
     fn atom(&self, alloc: Global, at: usize) -> Result<(Box<Term>, usize), Stop>
         requires stands { Stands self.now }
         requires within { at ≤ length self.now.tokens.now }
-        ensures after { IfOk result (λ read. at < read.1) }
-        ensures within { IfOk result (λ read. read.1 ≤ length self.now.tokens.now) }
-        ensures derived { IfOk result (λ read. Derives (seen self.now) Atom at read.1 read.0.value) }
-        ensures read { IfOk result (λ read. IsRead (seen self.now) phrases.Atom at read.1) }
-        ensures refused { IfErr result (Stops (seen self.now) (phrases.Part phrases.Atom ∷ []) at) }
+        ensures { IsTermAnswer self.now Atom at result }
     {
         match self.kind(at) {
-            Some(TokenKind::Word(Word::Skip)) => Ok((
-                self.node(alloc, at, at + 1, Form::Skip)?,
-                at + 1,
-            )),
-            Some(TokenKind::Number(value)) => {
-                let width = self.number(self.after_sign(at + 1, Sign::Colon)?)?;
-                let form = Form::Lit { value, width };
-                Ok((self.node(alloc, at, at + 3, form)?, at + 3))
-            }
+            Some(TokenKind::Word(Word::Skip)) => self.node(alloc, at, at + 1, Form::Skip),
+            Some(TokenKind::Number(value)) => self.literal(alloc, at, value),
             Some(TokenKind::Name) => {
-                let form = Form::Name(self.name(alloc, at)?);
-                Ok((self.node(alloc, at, at + 1, form)?, at + 1))
+                let name = self.name(alloc, at)?;
+                self.node(alloc, at, at + 1, Form::Name(name))
             }
-            Some(TokenKind::Sign(Sign::Open)) => {
-                let (first, end) = self.term(alloc, at + 1)?;
-                if !self.is_sign(end, Sign::Comma) {
-                    return Ok((first, self.after_sign(end, Sign::Close)?));
-                }
-                let (second, end) = self.term(alloc, end + 1)?;
-                let end = self.after_sign(end, Sign::Close)?;
-                let form = Form::Pair(first, second);
-                Ok((self.node(alloc, at, end, form)?, end))
-            }
+            Some(TokenKind::Sign(Sign::Open)) => self.brackets(alloc, at),
             _ => Err(Stop::At(at)),
         }
     }
 
+    // literal = numeral ":" numeral, the first of which has been read
+    fn literal(&self, alloc: Global, at: usize, value: u32) -> Result<(Box<Term>, usize), Stop>
+        requires room { at < length self.now.tokens.now }
+        requires number { HasNumber (seen self.now) at value }
+        ensures { IsTermAnswer self.now Atom at result }
+    {
+        let width = self.number(self.after_sign(at + 1, Sign::Colon)?)?;
+        self.node(alloc, at, at + 3, Form::Lit { value, width })
+    }
+
+    // brackets = "(" term [ "," term ] ")"
+    #[cycle(term)]
+    fn brackets(&self, alloc: Global, at: usize) -> Result<(Box<Term>, usize), Stop>
+        requires stands { Stands self.now }
+        requires room { at < length self.now.tokens.now }
+        requires sign { HasSign (seen self.now) at signs.Open }
+        ensures { IsTermAnswer self.now Atom at result }
+    {
+        let (first, end) = self.term(alloc, at + 1)?;
+        if !self.is_sign(end, Sign::Comma) {
+            return Ok((first, self.after_sign(end, Sign::Close)?));
+        }
+        let (second, end) = self.term(alloc, end + 1)?;
+        let end = self.after_sign(end, Sign::Close)?;
+        self.node(alloc, at, end, Form::Pair(first, second))
+    }
+
     // What stands from the word `fun` to just before the body, and the number of the body's first token.
-    #[tactic(auto, using(crate::proofs::BinderExits::parameter_exits))]
     fn parameter(&self, alloc: Global, at: usize) -> Result<(Parameter, usize), Stop>
         requires stands { Stands self.now }
         requires room { at < length self.now.tokens.now }
-        ensures after { IfOk result (λ read. at < read.1) }
-        ensures within { IfOk result (λ read. read.1 ≤ length self.now.tokens.now) }
-        ensures head { IfOk result (λ read. IsParameter (seen self.now) at read.1 read.0) }
-        ensures read { IfOk result (λ read. Leads (seen self.now) parameter (at + 1) [] read.1) }
-        ensures refused { IfErr result (Stops (seen self.now) parameter (at + 1)) }
+        ensures { IsParameterAnswer self.now at result }
     {
         let name = self.name(alloc, at + 1)?;
         let ty_at = self.after_sign(at + 2, Sign::Colon)?;
@@ -336,15 +336,10 @@ impl<'a> Source<'a> {
     }
 
     // What stands from the word `new` to just before the body, and the number of the body's first token.
-    #[tactic(auto, using(crate::proofs::BinderExits::local_exits))]
     fn local(&self, alloc: Global, at: usize) -> Result<(Local, usize), Stop>
         requires stands { Stands self.now }
         requires room { at < length self.now.tokens.now }
-        ensures after { IfOk result (λ read. at < read.1) }
-        ensures within { IfOk result (λ read. read.1 ≤ length self.now.tokens.now) }
-        ensures head { IfOk result (λ read. IsLocal (seen self.now) at read.1 read.0) }
-        ensures read { IfOk result (λ read. Leads (seen self.now) local (at + 1) [] read.1) }
-        ensures refused { IfErr result (Stops (seen self.now) local (at + 1)) }
+        ensures { IsLocalAnswer self.now at result }
     {
         let name = self.name(alloc, at + 1)?;
         let width_at = self.after_sign(at + 2, Sign::Colon)?;
@@ -361,16 +356,20 @@ impl<'a> Source<'a> {
         ))
     }
 
-    // The term of a form that stands from one token to just before another.
+    // The term of a form that stands from one token to just before another, and the number of this other.
     #[inline(never)]
-    fn node(&self, alloc: Global, from: usize, to: usize, form: Form) -> Result<Box<Term>, Stop>
+    fn node(
+        &self,
+        alloc: Global,
+        from: usize,
+        to: usize,
+        form: Form,
+    ) -> Result<(Box<Term>, usize), Stop>
         requires some { from < to }
         requires within { to ≤ length self.now.tokens.now }
-        ensures form { IfOk result (λ node. node.value.form ≡ form) }
-        ensures span { IfOk result (λ node. node.value.span ≡ span_of (seen self.now) from to) }
-        ensures memory { IfErr result (λ stop. stop ≡ stops.NoMemory) }
+        ensures { IsNodeAnswer self.now from to form result }
     {
         let span = self.span(from, to);
-        Ok(Box::new(alloc, Term { span, form })?)
+        Ok((Box::new(alloc, Term { span, form })?, to))
     }
 }

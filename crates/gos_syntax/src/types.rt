@@ -1,11 +1,8 @@
 // The types of a source text.
 
-ghost use Rattle.std.specs.Prelude.{ℕ, ◌<◌, ◌≤◌, [], ◌∷◌, length, IfOk, IfErr};
-ghost use Rattle.gos_types.specs.Types.{type_of};
-ghost use Rattle.gos_syntax.specs.Items.{seen};
-ghost use Rattle.gos_syntax.specs.Grammar.{IsType, Whole, Product, Base};
-ghost use Rattle.gos_syntax.specs.Spelling.{IsRead, Stops};
-ghost use Rattle.gos_syntax.specs.Symbols as phrases;
+ghost use Rattle.std.specs.Prelude.{◌≤◌, length};
+ghost use Rattle.gos_syntax.specs.Grammar.{Whole, Product, Base};
+ghost use Rattle.gos_syntax.specs.inner.Phrases.{IsTypeAnswer};
 
 use crate::fault::Stop;
 use crate::source::Source;
@@ -13,19 +10,14 @@ use gos_lex::{Sign, TokenKind, Word};
 use gos_types::Ty;
 use std::alloc::Global;
 
-// Each call gives what it read, and the number of the token after it. That nothing else was to be read, and that none
-// goes on past a stop, is said in the words of specs/Spelling.antt.
+// Each call gives what it read, and the number of the token after it. What it answers is said in
+// specs/inner/Phrases.antt: also that nothing else was to be read, and that none goes on past a stop.
 impl<'a> Source<'a> {
     // type = prod [ "->" type ]
     #[cycle(ty)]
-    #[tactic(auto, using(crate::proofs::TypeExits::type_exits))]
     pub(crate) fn ty(&self, alloc: Global, at: usize) -> Result<(Ty, usize), Stop>
         requires { at ≤ length self.now.tokens.now }
-        ensures after { IfOk result (λ read. at < read.1) }
-        ensures within { IfOk result (λ read. read.1 ≤ length self.now.tokens.now) }
-        ensures derived { IfOk result (λ read. IsType (seen self.now) Whole at read.1 (type_of read.0)) }
-        ensures read { IfOk result (λ read. IsRead (seen self.now) phrases.Whole at read.1) }
-        ensures refused { IfErr result (Stops (seen self.now) (phrases.Part phrases.Whole ∷ []) at) }
+        ensures { IsTypeAnswer self.now Whole at result }
     {
         let (argument, end) = self.product(alloc, at)?;
         if !self.is_sign(end, Sign::Arrow) {
@@ -40,14 +32,9 @@ impl<'a> Source<'a> {
 
     // prod = base [ "*" prod ]
     #[cycle(ty)]
-    #[tactic(auto, using(crate::proofs::TypeExits::product_exits))]
     fn product(&self, alloc: Global, at: usize) -> Result<(Ty, usize), Stop>
         requires { at ≤ length self.now.tokens.now }
-        ensures after { IfOk result (λ read. at < read.1) }
-        ensures within { IfOk result (λ read. read.1 ≤ length self.now.tokens.now) }
-        ensures derived { IfOk result (λ read. IsType (seen self.now) Product at read.1 (type_of read.0)) }
-        ensures read { IfOk result (λ read. IsRead (seen self.now) phrases.Product at read.1) }
-        ensures refused { IfErr result (Stops (seen self.now) (phrases.Part phrases.Product ∷ []) at) }
+        ensures { IsTypeAnswer self.now Product at result }
     {
         let (first, end) = self.base(alloc, at)?;
         if !self.is_sign(end, Sign::Star) {
@@ -62,14 +49,9 @@ impl<'a> Source<'a> {
 
     // base = "com" | "exp" numeral | "var" numeral | "(" type ")"
     #[cycle(ty)]
-    #[tactic(auto, using(crate::proofs::TypeExits::base_exits))]
     fn base(&self, alloc: Global, at: usize) -> Result<(Ty, usize), Stop>
         requires { at ≤ length self.now.tokens.now }
-        ensures after { IfOk result (λ read. at < read.1) }
-        ensures within { IfOk result (λ read. read.1 ≤ length self.now.tokens.now) }
-        ensures derived { IfOk result (λ read. IsType (seen self.now) Base at read.1 (type_of read.0)) }
-        ensures read { IfOk result (λ read. IsRead (seen self.now) phrases.Base at read.1) }
-        ensures refused { IfErr result (Stops (seen self.now) (phrases.Part phrases.Base ∷ []) at) }
+        ensures { IsTypeAnswer self.now Base at result }
     {
         match self.kind(at) {
             Some(TokenKind::Word(Word::Com)) => Ok((Ty::Com, at + 1)),

@@ -1,177 +1,424 @@
 use Rattle.std.proofs.Common.{rules, [], sym, ◌∙◌}
+use Rattle.gos_lex.specs.declared.word.Word.TheVariants as words
+use Rattle.gos_lex.specs.declared.sign.Sign.TheVariants as signs
 use Rattle.gos_syntax.specs.Items.{seen}
 use Rattle.gos_syntax.specs.Grammar as grammar
-use Rattle.gos_syntax.specs.Grammar.{HasWord, HasSign, HasNumber}
-use Rattle.gos_syntax.proofs.StopLemmas.{else_fails, passed_on}
+use Rattle.gos_syntax.specs.Grammar.{HasWord, HasSign}
 use Rattle.gos_syntax.specs.Symbols as symbols
+use Rattle.gos_syntax.proofs.ItemLemmas.{name_kind}
 use Rattle.gos_syntax.proofs.LeadsLemmas.{leads_then}
 use Rattle.gos_syntax.proofs.RuleLemmas.{leads_by}
+use Rattle.gos_syntax.proofs.StopLemmas.{else_fails}
+use Rattle.gos_syntax.proofs.AnswerLemmas.{term_refused, term_by, made, made_so_far}
 use Rattle.gos_syntax.proofs.RuleExits.{past_token, past_part, past_all}
-use Rattle.gos_syntax.proofs.ItemLemmas.{name_kind}
 use Rattle.gos_syntax.proofs.BinderExits as binders
 use Rattle.gos_syntax.proofs.CommandExits as commands
 use Rattle.gos_syntax.proofs.OperatorExits as operators
 use Rattle.gos_syntax.proofs.AtomExits as atoms
 use Rattle.gos_syntax.proofs.source.Source.+term.Goals as goal
 
-pub term-returns-in_err-body-in-Some-Word-Fun-clause-refused : goal.term-returns-in_err-body-in-Some-Word-Fun-clause-refused
-term-returns-in_err-body-in-Some-Word-Fun-clause-refused t c =
-    passed_on c.from_residual-in_err-body-in-Some-Word-Fun.result c.from_residual-in_err-body-in-Some-Word-Fun.ensures.1 (binders.function_stops (search rules) c.in_ok-name-in-Some-Word-Fun.ensures.read c.in_err-body-in-Some-Word-Fun.ensures.refused)
+-- functions and blocks
+pub function-returns-in_err-name : goal.function-returns-in_err-name
+function-returns-in_err-name t c =
+    term_refused c.from_residual.result c.from_residual.ensures.1 (binders.parameter_stops c.requires.word c.in_err-name.ensures.refused)
 
-pub term-returns-in_ok-node-in-Some-Word-Fun-clause-read : goal.term-returns-in_ok-node-in-Some-Word-Fun-clause-read
-term-returns-in_ok-node-in-Some-Word-Fun-clause-read t c =
-    binders.function_read (search rules) c.in_ok-name-in-Some-Word-Fun.ensures.read c.in_ok-body-in-Some-Word-Fun.ensures.read
+pub function-returns-in_err-body : goal.function-returns-in_err-body
+function-returns-in_err-body t c =
+    term_refused c.from_residual-in_err-body.result c.from_residual-in_err-body.ensures.1
+    (binders.function_stops c.requires.word c.in_ok-name.ensures.read.read c.in_err-body.ensures.refused)
 
-pub term-returns-in_err-body-in-Some-Word-New-clause-refused : goal.term-returns-in_err-body-in-Some-Word-New-clause-refused
-term-returns-in_err-body-in-Some-Word-New-clause-refused t c =
-    passed_on c.from_residual-in_err-body-in-Some-Word-New.result c.from_residual-in_err-body-in-Some-Word-New.ensures.1 (binders.block_stops (search rules) c.in_ok-name-in-Some-Word-New.ensures.read c.in_err-body-in-Some-Word-New.ensures.refused)
+pub function-returns : goal.function-returns
+function-returns t c =
+    made c.node.result c.node.ensures
+    (binders.function_derived c.in_ok-body.body.value c.requires.word c.in_ok-name.ensures.read c.in_ok-body.ensures.read.derived)
+    (binders.function_read c.requires.word c.in_ok-name.ensures.read.read c.in_ok-body.ensures.read.read)
 
-pub term-returns-in_ok-node-in-Some-Word-New-clause-read : goal.term-returns-in_ok-node-in-Some-Word-New-clause-read
-term-returns-in_ok-node-in-Some-Word-New-clause-read t c =
-    binders.block_read (search rules) c.in_ok-name-in-Some-Word-New.ensures.read c.in_ok-body-in-Some-Word-New.ensures.read
+pub block-returns-in_err-name : goal.block-returns-in_err-name
+block-returns-in_err-name t c =
+    term_refused c.from_residual.result c.from_residual.ensures.1 (binders.local_stops c.requires.word c.in_err-name.ensures.refused)
 
-pub term-returns-then-not-is_sign-clause-read : goal.term-returns-then-not-is_sign-clause-read
-term-returns-then-not-is_sign-clause-read t c =
-    past_all symbols.a_sequence (search rules, search rules) symbols.no_next (else_fails _ c.is_sign.ensures.sign c.if-not-is_sign.true) c.in_ok-first-in_default.ensures.read
+pub block-returns-in_err-body : goal.block-returns-in_err-body
+block-returns-in_err-body t c =
+    term_refused c.from_residual-in_err-body.result c.from_residual-in_err-body.ensures.1
+    (binders.block_stops c.requires.word c.in_ok-name.ensures.read.read c.in_err-body.ensures.refused)
 
-pub term-returns-in_err-second-in_default-clause-refused : goal.term-returns-in_err-second-in_default-clause-refused
-term-returns-in_err-second-in_default-clause-refused t c =
-    passed_on c.from_residual-in_err-second-in_default.result c.from_residual-in_err-second-in_default.ensures.1 (commands.next_stops (search rules, search rules) c.in_ok-first-in_default.ensures.read (c.is_sign.ensures.sign.0 c.if-not-is_sign.false) c.in_err-second-in_default.ensures.refused)
+pub block-returns : goal.block-returns
+block-returns t c =
+    made c.node.result c.node.ensures
+    (binders.block_derived c.in_ok-body.body.value c.requires.word c.in_ok-name.ensures.read c.in_ok-body.ensures.read.derived)
+    (binders.block_read c.requires.word c.in_ok-name.ensures.read.read c.in_ok-body.ensures.read.read)
 
-pub term-returns-in_ok-node-in_default-clause-read : goal.term-returns-in_ok-node-in_default-clause-read
-term-returns-in_ok-node-in_default-clause-read t c =
-    commands.next_read (search rules, search rules) c.in_ok-first-in_default.ensures.read (c.is_sign.ensures.sign.0 c.if-not-is_sign.false) c.in_ok-second-in_default.ensures.read
+-- sequences and parallel commands
+pub sequence-returns-in_err-first : goal.sequence-returns-in_err-first
+sequence-returns-in_err-first t c =
+    term_refused c.from_residual.result c.from_residual.ensures.1 (commands.step_stops c.requires.first c.in_err-first.ensures.refused)
 
-pub par-returns-then-not-is_sign-clause-read : goal.par-returns-then-not-is_sign-clause-read
-par-returns-then-not-is_sign-clause-read t c =
-    past_all symbols.a_parallel tt symbols.no_branch (else_fails _ c.is_sign.ensures.sign c.if-not-is_sign.true) c.in_ok-left.ensures.read
+pub sequence-returns-then-not-is_sign : goal.sequence-returns-then-not-is_sign
+sequence-returns-then-not-is_sign t c =
+    record {
+      read =
+          term_by c.in_ok-first.ensures.read (grammar.a_parallel _ _ _ c.in_ok-first.ensures.read.derived)
+          (past_all symbols.a_sequence c.requires.first symbols.no_next (else_fails _ c.is_sign.ensures.sign c.if-not-is_sign.true) c.in_ok-first.ensures.read.read);
+      refused = tt;
+    }
 
-pub par-returns-clause-read : goal.par-returns-clause-read
-par-returns-clause-read t c =
-    commands.parallel_read c.in_ok-left.ensures.read (c.is_sign.ensures.sign.0 c.if-not-is_sign.false) c.in_ok-right.ensures.read
+pub sequence-returns-in_err-second : goal.sequence-returns-in_err-second
+sequence-returns-in_err-second t c =
+    term_refused c.from_residual-in_err-second.result c.from_residual-in_err-second.ensures.1
+    (commands.next_stops c.requires.first c.in_ok-first.ensures.read.read (c.is_sign.ensures.sign.0 c.if-not-is_sign.false) c.in_err-second.ensures.refused)
 
-pub cmd-returns-in_err-after_word-in-Some-Word-If-2-clause-refused : goal.cmd-returns-in_err-after_word-in-Some-Word-If-2-clause-refused
-cmd-returns-in_err-after_word-in-Some-Word-If-2-clause-refused t c =
-    passed_on c.from_residual-in_err-after_word-in-Some-Word-If-2.result c.from_residual-in_err-after_word-in-Some-Word-If-2.ensures.1 (commands.else_stops (search rules) c.in_ok-test-in-Some-Word-If.ensures.read c.in_ok-after_word-in-Some-Word-If.ensures.word c.in_ok-after_word-in-Some-Word-If.ensures.next c.in_ok-yes-in-Some-Word-If.ensures.read c.in_err-after_word-in-Some-Word-If-2.ensures.refused)
+pub sequence-returns : goal.sequence-returns
+sequence-returns t c =
+    let semicolon = c.is_sign.ensures.sign.0 c.if-not-is_sign.false in
+    made c.node.result c.node.ensures
+    (grammar.a_sequence _ _ _ _ _ c.in_ok-first.ensures.read.derived semicolon c.in_ok-second.ensures.read.derived)
+    (commands.next_read c.requires.first c.in_ok-first.ensures.read.read semicolon c.in_ok-second.ensures.read.read)
 
-pub cmd-returns-in_err-no-in-Some-Word-If-clause-refused : goal.cmd-returns-in_err-no-in-Some-Word-If-clause-refused
-cmd-returns-in_err-no-in-Some-Word-If-clause-refused t c =
-    passed_on c.from_residual-in_err-no-in-Some-Word-If.result c.from_residual-in_err-no-in-Some-Word-If.ensures.1 (commands.otherwise_stops (search rules) c.in_ok-test-in-Some-Word-If.ensures.read c.in_ok-after_word-in-Some-Word-If.ensures.word c.in_ok-after_word-in-Some-Word-If.ensures.next c.in_ok-yes-in-Some-Word-If.ensures.read c.in_ok-after_word-in-Some-Word-If-2.ensures.word c.in_ok-after_word-in-Some-Word-If-2.ensures.next c.in_err-no-in-Some-Word-If.ensures.refused)
+pub par-returns-in_err-left : goal.par-returns-in_err-left
+par-returns-in_err-left t c =
+    term_refused c.from_residual.result c.from_residual.ensures.1 (commands.branch_stops c.in_err-left.ensures.refused)
 
-pub cmd-returns-in_ok-node-in-Some-Word-If-clause-read : goal.cmd-returns-in_ok-node-in-Some-Word-If-clause-read
-cmd-returns-in_ok-node-in-Some-Word-If-clause-read t c =
-    commands.choice_read (search rules) c.in_ok-test-in-Some-Word-If.ensures.read c.in_ok-after_word-in-Some-Word-If.ensures.word c.in_ok-after_word-in-Some-Word-If.ensures.next c.in_ok-yes-in-Some-Word-If.ensures.read c.in_ok-after_word-in-Some-Word-If-2.ensures.word c.in_ok-after_word-in-Some-Word-If-2.ensures.next c.in_ok-no-in-Some-Word-If.ensures.read
+pub par-returns-then-not-is_sign : goal.par-returns-then-not-is_sign
+par-returns-then-not-is_sign t c =
+    record {
+      read =
+          term_by c.in_ok-left.ensures.read (grammar.a_command _ _ _ c.in_ok-left.ensures.read.derived)
+          (past_all symbols.a_parallel tt symbols.no_branch (else_fails _ c.is_sign.ensures.sign c.if-not-is_sign.true) c.in_ok-left.ensures.read.read);
+      refused = tt;
+    }
 
-pub cmd-returns-in_ok-node-in-Some-Word-While-clause-read : goal.cmd-returns-in_ok-node-in-Some-Word-While-clause-read
-cmd-returns-in_ok-node-in-Some-Word-While-clause-read t c =
-    commands.loop_read (search rules) c.in_ok-test-in-Some-Word-While.ensures.read c.in_ok-after_word-in-Some-Word-While.ensures.word c.in_ok-after_word-in-Some-Word-While.ensures.next c.in_ok-body-in-Some-Word-While.ensures.read
+pub par-returns-in_err-right : goal.par-returns-in_err-right
+par-returns-in_err-right t c =
+    term_refused c.from_residual-in_err-right.result c.from_residual-in_err-right.ensures.1
+    (commands.parallel_stops c.in_ok-left.ensures.read.read (c.is_sign.ensures.sign.0 c.if-not-is_sign.false) c.in_err-right.ensures.refused)
 
-pub cmd-returns-then-not-is_sign-clause-read : goal.cmd-returns-then-not-is_sign-clause-read
-cmd-returns-then-not-is_sign-clause-read t c =
-    past_all symbols.an_assignment (search rules, search rules) symbols.no_value (else_fails _ c.is_sign.ensures.sign c.if-not-is_sign.true) c.in_ok-left-in_default.ensures.read
+pub par-returns : goal.par-returns
+par-returns t c =
+    let parallel = c.is_sign.ensures.sign.0 c.if-not-is_sign.false in
+    made c.node.result c.node.ensures
+    (grammar.both_commands _ _ _ _ _ c.in_ok-left.ensures.read.derived parallel c.in_ok-right.ensures.read.derived)
+    (commands.parallel_read c.in_ok-left.ensures.read.read parallel c.in_ok-right.ensures.read.read)
 
-pub cmd-returns-in_ok-node-in_default-clause-read : goal.cmd-returns-in_ok-node-in_default-clause-read
-cmd-returns-in_ok-node-in_default-clause-read t c =
-    commands.value_read (search rules, search rules) c.in_ok-left-in_default.ensures.read (c.is_sign.ensures.sign.0 c.if-not-is_sign.false) c.in_ok-right-in_default.ensures.read
+-- commands
+pub choice-returns-in_err-test : goal.choice-returns-in_err-test
+choice-returns-in_err-test t c =
+    term_refused c.from_residual.result c.from_residual.ensures.1 (commands.test_stops c.requires.word c.in_err-test.ensures.refused)
 
-pub rel-returns-in-None-clause-read : goal.rel-returns-in-None-clause-read
-rel-returns-in-None-clause-read t c =
-    past_all symbols.a_relation tt symbols.no_comparison c.in-None.ensures.none c.in_ok-left.ensures.read
+pub choice-returns-in_err-after_word : goal.choice-returns-in_err-after_word
+choice-returns-in_err-after_word t c =
+    term_refused c.from_residual-in_err-after_word.result c.from_residual-in_err-after_word.ensures.1
+    (commands.then_stops c.requires.word c.in_ok-test.ensures.read.read c.in_err-after_word.ensures.refused)
 
-pub rel-returns-in_ok-node-in-Some-clause-read : goal.rel-returns-in_ok-node-in-Some-clause-read
-rel-returns-in_ok-node-in-Some-clause-read t c =
-    operators.right_read c.in-Some.op c.in_ok-left.ensures.read c.in-Some.ensures.sign c.in-Some.ensures.level c.in_ok-right-in-Some.ensures.read
+pub choice-returns-in_err-yes : goal.choice-returns-in_err-yes
+choice-returns-in_err-yes t c =
+    term_refused c.from_residual-in_err-yes.result c.from_residual-in_err-yes.ensures.1
+    (commands.when_true_stops c.requires.word c.in_ok-test.ensures.read.read c.in_ok-after_word.ensures.word c.in_ok-after_word.ensures.next c.in_err-yes.ensures.refused)
+
+pub choice-returns-in_err-after_word-2 : goal.choice-returns-in_err-after_word-2
+choice-returns-in_err-after_word-2 t c =
+    term_refused c.from_residual-in_err-after_word-2.result c.from_residual-in_err-after_word-2.ensures.1
+    (commands.else_stops c.requires.word c.in_ok-test.ensures.read.read c.in_ok-after_word.ensures.word c.in_ok-after_word.ensures.next c.in_ok-yes.ensures.read.read c.in_err-after_word-2.ensures.refused)
+
+pub choice-returns-in_err-no : goal.choice-returns-in_err-no
+choice-returns-in_err-no t c =
+    term_refused c.from_residual-in_err-no.result c.from_residual-in_err-no.ensures.1
+    (commands.otherwise_stops c.requires.word c.in_ok-test.ensures.read.read c.in_ok-after_word.ensures.word c.in_ok-after_word.ensures.next c.in_ok-yes.ensures.read.read c.in_ok-after_word-2.ensures.word c.in_ok-after_word-2.ensures.next c.in_err-no.ensures.refused)
+
+pub choice-returns : goal.choice-returns
+choice-returns t c =
+    made c.node.result c.node.ensures
+    (commands.choice_derived c.requires.word c.in_ok-test.ensures.read.derived c.in_ok-after_word.ensures.word c.in_ok-after_word.ensures.next c.in_ok-yes.ensures.read.derived c.in_ok-after_word-2.ensures.word c.in_ok-after_word-2.ensures.next c.in_ok-no.ensures.read.derived)
+    (commands.choice_read c.requires.word c.in_ok-test.ensures.read.read c.in_ok-after_word.ensures.word c.in_ok-after_word.ensures.next c.in_ok-yes.ensures.read.read c.in_ok-after_word-2.ensures.word c.in_ok-after_word-2.ensures.next c.in_ok-no.ensures.read.read)
+
+pub repetition-returns-in_err-test : goal.repetition-returns-in_err-test
+repetition-returns-in_err-test t c =
+    term_refused c.from_residual.result c.from_residual.ensures.1 (commands.loop_test_stops c.requires.word c.in_err-test.ensures.refused)
+
+pub repetition-returns-in_err-after_word : goal.repetition-returns-in_err-after_word
+repetition-returns-in_err-after_word t c =
+    term_refused c.from_residual-in_err-after_word.result c.from_residual-in_err-after_word.ensures.1
+    (commands.do_stops c.requires.word c.in_ok-test.ensures.read.read c.in_err-after_word.ensures.refused)
+
+pub repetition-returns-in_err-body : goal.repetition-returns-in_err-body
+repetition-returns-in_err-body t c =
+    term_refused c.from_residual-in_err-body.result c.from_residual-in_err-body.ensures.1
+    (commands.body_stops c.requires.word c.in_ok-test.ensures.read.read c.in_ok-after_word.ensures.word c.in_ok-after_word.ensures.next c.in_err-body.ensures.refused)
+
+pub repetition-returns : goal.repetition-returns
+repetition-returns t c =
+    made c.node.result c.node.ensures
+    (commands.loop_derived c.requires.word c.in_ok-test.ensures.read.derived c.in_ok-after_word.ensures.word c.in_ok-after_word.ensures.next c.in_ok-body.ensures.read.derived)
+    (commands.loop_read c.requires.word c.in_ok-test.ensures.read.read c.in_ok-after_word.ensures.word c.in_ok-after_word.ensures.next c.in_ok-body.ensures.read.read)
+
+pub assignment-returns-in_err-left : goal.assignment-returns-in_err-left
+assignment-returns-in_err-left t c =
+    term_refused c.from_residual.result c.from_residual.ensures.1 (commands.target_stops c.requires.first c.in_err-left.ensures.refused)
+
+pub assignment-returns-then-not-is_sign : goal.assignment-returns-then-not-is_sign
+assignment-returns-then-not-is_sign t c =
+    record {
+      read =
+          term_by c.in_ok-left.ensures.read (grammar.a_relation _ _ _ c.in_ok-left.ensures.read.derived)
+          (past_all symbols.an_assignment c.requires.first symbols.no_value (else_fails _ c.is_sign.ensures.sign c.if-not-is_sign.true) c.in_ok-left.ensures.read.read);
+      refused = tt;
+    }
+
+pub assignment-returns-in_err-right : goal.assignment-returns-in_err-right
+assignment-returns-in_err-right t c =
+    term_refused c.from_residual-in_err-right.result c.from_residual-in_err-right.ensures.1
+    (commands.value_stops c.requires.first c.in_ok-left.ensures.read.read (c.is_sign.ensures.sign.0 c.if-not-is_sign.false) c.in_err-right.ensures.refused)
+
+pub assignment-returns : goal.assignment-returns
+assignment-returns t c =
+    let assign = c.is_sign.ensures.sign.0 c.if-not-is_sign.false in
+    made c.node.result c.node.ensures
+    (grammar.an_assignment _ _ _ _ _ c.in_ok-left.ensures.read.derived assign c.in_ok-right.ensures.read.derived)
+    (commands.value_read c.requires.first c.in_ok-left.ensures.read.read assign c.in_ok-right.ensures.read.read)
+
+-- comparisons
+pub rel-returns-in_err-left : goal.rel-returns-in_err-left
+rel-returns-in_err-left t c =
+    term_refused c.from_residual.result c.from_residual.ensures.1 (operators.left_stops c.in_err-left.ensures.refused)
+
+pub rel-returns-in_err-right-in-Some : goal.rel-returns-in_err-right-in-Some
+rel-returns-in_err-right-in-Some t c =
+    term_refused c.from_residual-in_err-right-in-Some.result c.from_residual-in_err-right-in-Some.ensures.1
+    (operators.right_stops c.in-Some.op c.in_ok-left.ensures.read.read c.in-Some.ensures.sign c.in-Some.ensures.level c.in_err-right-in-Some.ensures.refused)
+
+pub rel-returns-in_ok-right-in-Some : goal.rel-returns-in_ok-right-in-Some
+rel-returns-in_ok-right-in-Some t c =
+    made c.node.result c.node.ensures
+    (grammar.a_comparison _ _ _ _ _ _ c.in_ok-left.ensures.read.derived c.in-Some.ensures.sign c.in-Some.ensures.level c.in_ok-right-in-Some.ensures.read.derived)
+    (operators.right_read c.in-Some.op c.in_ok-left.ensures.read.read c.in-Some.ensures.sign c.in-Some.ensures.level c.in_ok-right-in-Some.ensures.read.read)
+
+pub rel-returns-in-None : goal.rel-returns-in-None
+rel-returns-in-None t c =
+    record {
+      read =
+          term_by c.in_ok-left.ensures.read (grammar.some_bits _ _ _ c.in_ok-left.ensures.read.derived)
+          (past_all symbols.a_relation tt symbols.no_comparison c.in-None.ensures.none c.in_ok-left.ensures.read.read);
+      refused = tt;
+    }
+
+-- operations on bits
+pub bits-returns-in_err-left : goal.bits-returns-in_err-left
+bits-returns-in_err-left t c =
+    term_refused c.from_residual.result c.from_residual.ensures.1 (operators.bits_first_stops c.in_err-left.ensures.refused)
 
 pub bits-loop-op-init : goal.bits-loop-op-init
 bits-loop-op-init t c =
-    search (rules, grammar.a_sum, past_part {symbols = []} symbols.some_bits tt c.in_ok-left.ensures.read)
+    record {
+      after = c.in_ok-left.ensures.read.after;
+      within = c.in_ok-left.ensures.read.within;
+      derived = grammar.a_sum _ _ _ c.in_ok-left.ensures.read.derived;
+      read = past_part {symbols = []} symbols.some_bits tt c.in_ok-left.ensures.read.read;
+    }
+
+pub bits-returns-in_err-right : goal.bits-returns-in_err-right
+bits-returns-in_err-right t c =
+    term_refused c.from_residual-in_err-right.result c.from_residual-in_err-right.ensures.1
+    (operators.bits_stops c.in-Some.op c.loop-op.invariant.read c.in-Some.ensures.sign c.in-Some.ensures.level c.in_err-right.ensures.refused)
 
 pub bits-loop-op-preserved : goal.bits-loop-op-preserved
 bits-loop-op-preserved t c =
-    search (rules, grammar.more_bits, operators.bits_go_on c.in-Some.op c.loop-op.invariant.read c.in-Some.ensures.sign c.in-Some.ensures.level c.in_ok-right.ensures.read)
+    made_so_far c.in_ok-left-2.ensures.made
+    (grammar.more_bits _ _ _ _ _ _ c.loop-op.invariant.derived c.in-Some.ensures.sign c.in-Some.ensures.level c.in_ok-right.ensures.read.derived)
+    (operators.bits_go_on c.in-Some.op c.loop-op.invariant.read c.in-Some.ensures.sign c.in-Some.ensures.level c.in_ok-right.ensures.read.read)
 
-pub bits-returns-clause-read : goal.bits-returns-clause-read
-bits-returns-clause-read t c =
-    leads_then c.loop-op.invariant.read (leads_by symbols.no_bits c.in_default.ensures.none)
+pub bits-returns : goal.bits-returns
+bits-returns t c =
+    record {
+      read =
+          record {
+            after = c.loop-op.invariant.after;
+            within = c.loop-op.invariant.within;
+            derived = c.loop-op.invariant.derived;
+            read = leads_then c.loop-op.invariant.read (leads_by symbols.no_bits c.in_default.ensures.none);
+          };
+      refused = tt;
+    }
+
+-- sums
+pub sum-returns-in_err-left : goal.sum-returns-in_err-left
+sum-returns-in_err-left t c =
+    term_refused c.from_residual.result c.from_residual.ensures.1 (operators.sum_first_stops c.in_err-left.ensures.refused)
 
 pub sum-loop-op-init : goal.sum-loop-op-init
 sum-loop-op-init t c =
-    search (rules, grammar.an_application, past_part {symbols = []} symbols.a_sum tt c.in_ok-left.ensures.read)
+    record {
+      after = c.in_ok-left.ensures.read.after;
+      within = c.in_ok-left.ensures.read.within;
+      derived = grammar.an_application _ _ _ c.in_ok-left.ensures.read.derived;
+      read = past_part {symbols = []} symbols.a_sum tt c.in_ok-left.ensures.read.read;
+    }
+
+pub sum-returns-in_err-right : goal.sum-returns-in_err-right
+sum-returns-in_err-right t c =
+    term_refused c.from_residual-in_err-right.result c.from_residual-in_err-right.ensures.1
+    (operators.sum_stops c.in-Some.op c.loop-op.invariant.read c.in-Some.ensures.sign c.in-Some.ensures.level c.in_err-right.ensures.refused)
 
 pub sum-loop-op-preserved : goal.sum-loop-op-preserved
 sum-loop-op-preserved t c =
-    search (rules, grammar.a_longer_sum, operators.sum_go_on c.in-Some.op c.loop-op.invariant.read c.in-Some.ensures.sign c.in-Some.ensures.level c.in_ok-right.ensures.read)
+    made_so_far c.in_ok-left-2.ensures.made
+    (grammar.a_longer_sum _ _ _ _ _ _ c.loop-op.invariant.derived c.in-Some.ensures.sign c.in-Some.ensures.level c.in_ok-right.ensures.read.derived)
+    (operators.sum_go_on c.in-Some.op c.loop-op.invariant.read c.in-Some.ensures.sign c.in-Some.ensures.level c.in_ok-right.ensures.read.read)
 
-pub sum-returns-clause-read : goal.sum-returns-clause-read
-sum-returns-clause-read t c =
-    leads_then c.loop-op.invariant.read (leads_by symbols.no_summand c.in_default.ensures.none)
+pub sum-returns : goal.sum-returns
+sum-returns t c =
+    record {
+      read =
+          record {
+            after = c.loop-op.invariant.after;
+            within = c.loop-op.invariant.within;
+            derived = c.loop-op.invariant.derived;
+            read = leads_then c.loop-op.invariant.read (leads_by symbols.no_summand c.in_default.ensures.none);
+          };
+      refused = tt;
+    }
+
+-- applications
+pub app-returns-in_err-function : goal.app-returns-in_err-function
+app-returns-in_err-function t c =
+    term_refused c.from_residual.result c.from_residual.ensures.1 (operators.function_stops c.in_err-function.ensures.refused)
 
 pub app-loop-alloc-init : goal.app-loop-alloc-init
 app-loop-alloc-init t c =
-    search (rules, grammar.an_operand, past_part {symbols = []} symbols.an_application tt c.in_ok-function.ensures.read)
+    record {
+      after = c.in_ok-function.ensures.read.after;
+      within = c.in_ok-function.ensures.read.within;
+      derived = grammar.an_operand _ _ _ c.in_ok-function.ensures.read.derived;
+      read = past_part {symbols = []} symbols.an_application tt c.in_ok-function.ensures.read.read;
+    }
+
+pub app-returns-in_err-argument : goal.app-returns-in_err-argument
+app-returns-in_err-argument t c =
+    term_refused c.from_residual-in_err-argument.result c.from_residual-in_err-argument.ensures.1
+    (operators.argument_stops c.loop-alloc.invariant.read (sym c.begins_operand.ensures.operand ∙ c.loop-alloc-test.true) c.in_err-argument.ensures.refused)
 
 pub app-loop-alloc-preserved : goal.app-loop-alloc-preserved
 app-loop-alloc-preserved t c =
-    search (rules, grammar.one_more_operand, operators.application_go_on c.loop-alloc.invariant.read (sym c.begins_operand.ensures.operand ∙ c.loop-alloc-test.true) c.in_ok-argument.ensures.read)
+    made_so_far c.in_ok-function-2.ensures.made
+    (grammar.one_more_operand _ _ _ _ _ c.loop-alloc.invariant.derived c.in_ok-argument.ensures.read.derived)
+    (operators.application_go_on c.loop-alloc.invariant.read (sym c.begins_operand.ensures.operand ∙ c.loop-alloc-test.true) c.in_ok-argument.ensures.read.read)
 
-pub app-returns-clause-read : goal.app-returns-clause-read
-app-returns-clause-read t c =
-    operators.application_read c.loop-alloc.invariant.read (sym c.begins_operand.ensures.operand ∙ c.loop-alloc-test.false)
+pub app-returns : goal.app-returns
+app-returns t c =
+    record {
+      read =
+          record {
+            after = c.loop-alloc.invariant.after;
+            within = c.loop-alloc.invariant.within;
+            derived = c.loop-alloc.invariant.derived;
+            read = operators.application_read c.loop-alloc.invariant.read (sym c.begins_operand.ensures.operand ∙ c.loop-alloc-test.false);
+          };
+      refused = tt;
+    }
 
-pub pre-returns-in_ok-node-in-Some-Word-Not-clause-read : goal.pre-returns-in_ok-node-in-Some-Word-Not-clause-read
-pre-returns-in_ok-node-in-Some-Word-Not-clause-read t c =
-    leads_then (past_token symbols.a_negation (search rules) (search rules)) c.in_ok-operand-in-Some-Word-Not.ensures.read
+-- prefixes and atoms
+pub pre-returns-in_err-operand-in-Some-Word-Not : goal.pre-returns-in_err-operand-in-Some-Word-Not
+pre-returns-in_err-operand-in-Some-Word-Not t c =
+    term_refused c.from_residual.result c.from_residual.ensures.1
+    (atoms.not_stops (search rules) c.in_err-operand-in-Some-Word-Not.ensures.refused)
 
-pub pre-returns-in_ok-node-in-Some-Sign-Bang-clause-read : goal.pre-returns-in_ok-node-in-Some-Sign-Bang-clause-read
-pre-returns-in_ok-node-in-Some-Sign-Bang-clause-read t c =
-    leads_then (past_token symbols.a_reading (search rules) (search rules)) c.in_ok-operand-in-Some-Sign-Bang.ensures.read
+pub pre-returns-in_ok-operand-in-Some-Word-Not : goal.pre-returns-in_ok-operand-in-Some-Word-Not
+pre-returns-in_ok-operand-in-Some-Word-Not t c =
+    let is : HasWord (seen c.args.self.now) c.args.at words.Not = search rules in
+    made c.node.result c.node.ensures (grammar.a_negation _ _ _ is c.in_ok-operand-in-Some-Word-Not.ensures.read.derived)
+    (leads_then (past_token symbols.a_negation is is) c.in_ok-operand-in-Some-Word-Not.ensures.read.read)
 
-pub pre-returns-in_ok-node-in-Some-Word-Fst-clause-read : goal.pre-returns-in_ok-node-in-Some-Word-Fst-clause-read
-pre-returns-in_ok-node-in-Some-Word-Fst-clause-read t c =
-    leads_then (past_token symbols.a_first_part (search rules) (search rules)) c.in_ok-operand-in-Some-Word-Fst.ensures.read
+pub pre-returns-in_err-operand-in-Some-Sign-Bang : goal.pre-returns-in_err-operand-in-Some-Sign-Bang
+pre-returns-in_err-operand-in-Some-Sign-Bang t c =
+    term_refused c.from_residual-in_err-operand-in-Some-Sign-Bang.result c.from_residual-in_err-operand-in-Some-Sign-Bang.ensures.1
+    (atoms.bang_stops (search rules) c.in_err-operand-in-Some-Sign-Bang.ensures.refused)
 
-pub pre-returns-in_ok-node-in-Some-Word-Snd-clause-read : goal.pre-returns-in_ok-node-in-Some-Word-Snd-clause-read
-pre-returns-in_ok-node-in-Some-Word-Snd-clause-read t c =
-    leads_then (past_token symbols.a_second_part (search rules) (search rules)) c.in_ok-operand-in-Some-Word-Snd.ensures.read
+pub pre-returns-in_ok-operand-in-Some-Sign-Bang : goal.pre-returns-in_ok-operand-in-Some-Sign-Bang
+pre-returns-in_ok-operand-in-Some-Sign-Bang t c =
+    let is : HasSign (seen c.args.self.now) c.args.at signs.Bang = search rules in
+    made c.node-in-Some-Sign-Bang.result c.node-in-Some-Sign-Bang.ensures (grammar.a_reading _ _ _ is c.in_ok-operand-in-Some-Sign-Bang.ensures.read.derived)
+    (leads_then (past_token symbols.a_reading is is) c.in_ok-operand-in-Some-Sign-Bang.ensures.read.read)
 
-pub pre-returns-in_default-clause-refused : goal.pre-returns-in_default-clause-refused
-pre-returns-in_default-clause-refused t c =
-    atoms.atom_stops (seen c.args.self.now) c.args.at c.atom.result (search rules, search rules, search rules, search rules) c.atom.ensures.refused
+pub pre-returns-in_err-operand-in-Some-Word-Fst : goal.pre-returns-in_err-operand-in-Some-Word-Fst
+pre-returns-in_err-operand-in-Some-Word-Fst t c =
+    term_refused c.from_residual-in_err-operand-in-Some-Word-Fst.result c.from_residual-in_err-operand-in-Some-Word-Fst.ensures.1
+    (atoms.fst_stops (search rules) c.in_err-operand-in-Some-Word-Fst.ensures.refused)
 
-pub pre-returns-in_default-clause-read : goal.pre-returns-in_default-clause-read
-pre-returns-in_default-clause-read t c =
-    atoms.atom_read (seen c.args.self.now) c.args.at c.atom.result (search rules, search rules, search rules, search rules) c.atom.ensures.read
+pub pre-returns-in_ok-operand-in-Some-Word-Fst : goal.pre-returns-in_ok-operand-in-Some-Word-Fst
+pre-returns-in_ok-operand-in-Some-Word-Fst t c =
+    let is : HasWord (seen c.args.self.now) c.args.at words.Fst = search rules in
+    made c.node-in-Some-Word-Fst.result c.node-in-Some-Word-Fst.ensures (grammar.a_first_part _ _ _ is c.in_ok-operand-in-Some-Word-Fst.ensures.read.derived)
+    (leads_then (past_token symbols.a_first_part is is) c.in_ok-operand-in-Some-Word-Fst.ensures.read.read)
 
-pub atom-returns-in_ok-node-in-Some-Word-Skip-clause-read : goal.atom-returns-in_ok-node-in-Some-Word-Skip-clause-read
-atom-returns-in_ok-node-in-Some-Word-Skip-clause-read t c =
-    past_token symbols.skipping (search rules) (search rules)
+pub pre-returns-in_err-operand-in-Some-Word-Snd : goal.pre-returns-in_err-operand-in-Some-Word-Snd
+pre-returns-in_err-operand-in-Some-Word-Snd t c =
+    term_refused c.from_residual-in_err-operand-in-Some-Word-Snd.result c.from_residual-in_err-operand-in-Some-Word-Snd.ensures.1
+    (atoms.snd_stops (search rules) c.in_err-operand-in-Some-Word-Snd.ensures.refused)
 
-pub atom-returns-in_ok-node-in-Some-Number-clause-read : goal.atom-returns-in_ok-node-in-Some-Number-clause-read
-atom-returns-in_ok-node-in-Some-Number-clause-read t c =
-    let is : HasNumber (seen c.args.self.now) c.args.at c.in-Some-Number.value = search rules in
-    atoms.literal_read is c.in_ok-after_sign-in-Some-Number.ensures.sign c.in_ok-after_sign-in-Some-Number.ensures.next c.in_ok-width-in-Some-Number.ensures.number
+pub pre-returns-in_ok-operand-in-Some-Word-Snd : goal.pre-returns-in_ok-operand-in-Some-Word-Snd
+pre-returns-in_ok-operand-in-Some-Word-Snd t c =
+    let is : HasWord (seen c.args.self.now) c.args.at words.Snd = search rules in
+    made c.node-in-Some-Word-Snd.result c.node-in-Some-Word-Snd.ensures (grammar.a_second_part _ _ _ is c.in_ok-operand-in-Some-Word-Snd.ensures.read.derived)
+    (leads_then (past_token symbols.a_second_part is is) c.in_ok-operand-in-Some-Word-Snd.ensures.read.read)
 
-pub atom-returns-in_err-name-in-Some-Name-clause-refused : goal.atom-returns-in_err-name-in-Some-Name-clause-refused
-atom-returns-in_err-name-in-Some-Name-clause-refused t c =
-    passed_on c.from_residual-in_err-name-in-Some-Name.result c.from_residual-in_err-name-in-Some-Name.ensures.1 (atoms.name_stops (name_kind c.args.self.now c.args.at _ c.in-Some-Name.ensures c.in-Some-Name.field-0-is) c.in_err-name-in-Some-Name.ensures.refused)
+pub pre-returns-in_default : goal.pre-returns-in_default
+pre-returns-in_default t c = atoms.atom_passed c.atom.result (search rules, search rules, search rules, search rules) c.atom.ensures
 
-pub atom-returns-in_ok-node-in-Some-Name-clause-read : goal.atom-returns-in_ok-node-in-Some-Name-clause-read
-atom-returns-in_ok-node-in-Some-Name-clause-read t c =
-    atoms.name_read c.in_ok-name-in-Some-Name.ensures.name
+pub atom-returns-in-Some-Word-Skip : goal.atom-returns-in-Some-Word-Skip
+atom-returns-in-Some-Word-Skip t c =
+    let is : HasWord (seen c.args.self.now) c.args.at words.Skip = search rules in
+    made c.node.result c.node.ensures (grammar.skipping _ is) (past_token symbols.skipping is is)
 
-pub atom-returns-in_err-after_sign-in-Some-Sign-Open-clause-refused : goal.atom-returns-in_err-after_sign-in-Some-Sign-Open-clause-refused
-atom-returns-in_err-after_sign-in-Some-Sign-Open-clause-refused t c =
-    passed_on c.from_residual-in_err-after_sign-in-Some-Sign-Open.result c.from_residual-in_err-after_sign-in-Some-Sign-Open.ensures.1
-    (atoms.end_stops c.args.self.now c.args.at c.in_ok-first-in-Some-Sign-Open.end _ (search rules) c.in_ok-first-in-Some-Sign-Open.ensures.read c.in_ok-first-in-Some-Sign-Open.ensures.within (else_fails _ c.is_sign.ensures.sign c.if-not-is_sign.true) c.in_err-after_sign-in-Some-Sign-Open.ensures.absent c.in_err-after_sign-in-Some-Sign-Open.ensures.here)
+pub atom-returns-in_err-name-in-Some-Name : goal.atom-returns-in_err-name-in-Some-Name
+atom-returns-in_err-name-in-Some-Name t c =
+    term_refused c.from_residual.result c.from_residual.ensures.1
+    (atoms.name_stops (name_kind c.args.self.now c.args.at _ c.in-Some-Name.ensures c.in-Some-Name.field-0-is) c.in_err-name-in-Some-Name.ensures.refused)
 
-pub atom-returns-then-not-is_sign-clause-read : goal.atom-returns-then-not-is_sign-clause-read
-atom-returns-then-not-is_sign-clause-read t c =
-    atoms.inner_read (search rules) c.in_ok-first-in-Some-Sign-Open.ensures.read c.in_ok-after_sign-in-Some-Sign-Open.ensures.sign c.in_ok-after_sign-in-Some-Sign-Open.ensures.next
+pub atom-returns-in_ok-name-in-Some-Name : goal.atom-returns-in_ok-name-in-Some-Name
+atom-returns-in_ok-name-in-Some-Name t c =
+    made c.node-in-Some-Name.result c.node-in-Some-Name.ensures (grammar.a_name _ _ c.in_ok-name-in-Some-Name.ensures.name) (atoms.name_read c.in_ok-name-in-Some-Name.ensures.name)
 
-pub atom-returns-in_ok-node-in-Some-Sign-Open-clause-read : goal.atom-returns-in_ok-node-in-Some-Sign-Open-clause-read
-atom-returns-in_ok-node-in-Some-Sign-Open-clause-read t c =
-    atoms.pair_read (search rules) c.in_ok-first-in-Some-Sign-Open.ensures.read (c.is_sign.ensures.sign.0 c.if-not-is_sign.false) c.in_ok-second-in-Some-Sign-Open.ensures.read c.in_ok-end-in-Some-Sign-Open.ensures.sign c.in_ok-end-in-Some-Sign-Open.ensures.next
+pub atom-returns-in_default : goal.atom-returns-in_default
+atom-returns-in_default t c =
+    record {
+      read = tt;
+      refused = atoms.no_atom_stops c.args.self.now c.args.at c.requires.within (search rules) (search rules) (search rules) (search rules);
+    }
 
-pub atom-returns-in_default-clause-refused : goal.atom-returns-in_default-clause-refused
-atom-returns-in_default-clause-refused t c =
-    atoms.no_atom_stops c.args.self.now c.args.at c.requires.within (search rules) (search rules) (search rules) (search rules)
+pub brackets-returns-in_err-first : goal.brackets-returns-in_err-first
+brackets-returns-in_err-first t c =
+    term_refused c.from_residual.result c.from_residual.ensures.1 (atoms.inner_stops c.requires.sign c.in_err-first.ensures.refused)
+
+pub brackets-returns-in_err-after_sign : goal.brackets-returns-in_err-after_sign
+brackets-returns-in_err-after_sign t c =
+    term_refused c.from_residual-in_err-after_sign.result c.from_residual-in_err-after_sign.ensures.1
+    (atoms.end_stops c.args.self.now c.args.at c.in_ok-first.end _ c.requires.sign c.in_ok-first.ensures.read.read c.in_ok-first.ensures.read.within
+    (else_fails _ c.is_sign.ensures.sign c.if-not-is_sign.true) c.in_err-after_sign.ensures.absent c.in_err-after_sign.ensures.here)
+
+pub brackets-returns-then-not-is_sign : goal.brackets-returns-then-not-is_sign
+brackets-returns-then-not-is_sign t c =
+    record {
+      read =
+          record {
+            after = search rules;
+            within = c.in_ok-after_sign.ensures.within;
+            derived = atoms.inner_derived c.requires.sign c.in_ok-first.ensures.read.derived c.in_ok-after_sign.ensures.sign c.in_ok-after_sign.ensures.next;
+            read = atoms.inner_read c.requires.sign c.in_ok-first.ensures.read.read c.in_ok-after_sign.ensures.sign c.in_ok-after_sign.ensures.next;
+          };
+      refused = tt;
+    }
+
+pub brackets-returns-in_err-second : goal.brackets-returns-in_err-second
+brackets-returns-in_err-second t c =
+    term_refused c.from_residual-in_err-second.result c.from_residual-in_err-second.ensures.1
+    (atoms.second_stops c.requires.sign c.in_ok-first.ensures.read.read (c.is_sign.ensures.sign.0 c.if-not-is_sign.false) c.in_err-second.ensures.refused)
+
+pub brackets-returns-in_err-end : goal.brackets-returns-in_err-end
+brackets-returns-in_err-end t c =
+    term_refused c.from_residual-in_err-end.result c.from_residual-in_err-end.ensures.1
+    (atoms.close_stops c.requires.sign c.in_ok-first.ensures.read.read (c.is_sign.ensures.sign.0 c.if-not-is_sign.false) c.in_ok-second.ensures.read.read c.in_err-end.ensures.refused)
+
+pub brackets-returns : goal.brackets-returns
+brackets-returns t c =
+    let comma = c.is_sign.ensures.sign.0 c.if-not-is_sign.false in
+    made c.node.result c.node.ensures
+    (atoms.pair_derived c.requires.sign c.in_ok-first.ensures.read.derived comma c.in_ok-second.ensures.read.derived c.in_ok-end.ensures.sign c.in_ok-end.ensures.next)
+    (atoms.pair_read c.requires.sign c.in_ok-first.ensures.read.read comma c.in_ok-second.ensures.read.read c.in_ok-end.ensures.sign c.in_ok-end.ensures.next)

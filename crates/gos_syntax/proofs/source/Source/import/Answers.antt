@@ -21,4 +21,4 @@ returns-in_err-ty-clause-refused c =
 pub returns-clause-read : goal.returns-clause-read
 returns-clause-read c =
     let colon = after_import_colon (seen c.args.self.now) c.args.at _ _ c.requires.word c.in_ok-name.ensures.name c.in_ok-ty_at.ensures.sign c.in_ok-ty_at.ensures.next in
-    leads_then colon (leads_part c.in_ok-ty.ensures.read)
+    leads_then colon (leads_part c.in_ok-ty.ensures.read.read)

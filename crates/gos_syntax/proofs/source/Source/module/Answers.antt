@@ -31,14 +31,14 @@ returns-in_err-result_at-clause-refused c =
     let leads =
     after_export (seen c.args.self.now) c.in_ok-imports.at c.in_ok-body_at.body_at c.in_ok-imports.ensures.read c.in_ok-imports.ensures.last
     c.in_ok-body_at.ensures.word c.in_ok-body_at.ensures.next in
-    module_refused (seen c.args.self.now) c.from_residual-in_err-result_at.result c.from_residual-in_err-result_at.ensures.1 (stops_after (leads_then leads (leads_part c.in_ok-body.ensures.read)) (stops_at c.in_err-result_at.ensures.refused))
+    module_refused (seen c.args.self.now) c.from_residual-in_err-result_at.result c.from_residual-in_err-result_at.ensures.1 (stops_after (leads_then leads (leads_part c.in_ok-body.ensures.read.read)) (stops_at c.in_err-result_at.ensures.refused))
 
 pub returns-in_err-result-clause-refused : goal.returns-in_err-result-clause-refused
 returns-in_err-result-clause-refused c =
     let leads =
     after_export (seen c.args.self.now) c.in_ok-imports.at c.in_ok-body_at.body_at c.in_ok-imports.ensures.read c.in_ok-imports.ensures.last
     c.in_ok-body_at.ensures.word c.in_ok-body_at.ensures.next in
-    let ended = after_body (seen c.args.self.now) _ _ _ leads c.in_ok-body.ensures.read c.in_ok-result_at.ensures.sign c.in_ok-result_at.ensures.next in
+    let ended = after_body (seen c.args.self.now) _ _ _ leads c.in_ok-body.ensures.read.read c.in_ok-result_at.ensures.sign c.in_ok-result_at.ensures.next in
     module_refused (seen c.args.self.now) c.from_residual-in_err-result.result c.from_residual-in_err-result.ensures.1 (stops_after ended (stops_at c.in_err-result.ensures.refused))
 
 pub returns-then-end-self-clause-refused : goal.returns-then-end-self-clause-refused
@@ -46,9 +46,9 @@ returns-then-end-self-clause-refused c =
     let leads =
     after_export (seen c.args.self.now) c.in_ok-imports.at c.in_ok-body_at.body_at c.in_ok-imports.ensures.read c.in_ok-imports.ensures.last
     c.in_ok-body_at.ensures.word c.in_ok-body_at.ensures.next in
-    let ended = after_body (seen c.args.self.now) _ _ _ leads c.in_ok-body.ensures.read c.in_ok-result_at.ensures.sign c.in_ok-result_at.ensures.next in
+    let ended = after_body (seen c.args.self.now) _ _ _ leads c.in_ok-body.ensures.read.read c.in_ok-result_at.ensures.sign c.in_ok-result_at.ensures.next in
     let below = subst (λ (n : ℕ). c.in_ok-result.end < n) (sym (length-map c.args.self.now.tokens.now (item_of c.args.self.now.text.now))) c.if-end-self.true in
-    left_stops (seen c.args.self.now) c.in_ok-result.end below (leads_then ended c.in_ok-result.ensures.read)
+    left_stops (seen c.args.self.now) c.in_ok-result.end below (leads_then ended c.in_ok-result.ensures.read.read)
 
 pub returns-clause-derived : goal.returns-clause-derived
 returns-clause-derived c =
@@ -64,9 +64,9 @@ returns-clause-derived c =
             colon = c.in_ok-body.end;
             body =
                 subst (λ (term : program.Term). Derives (seen c.args.self.now) Term (c.in_ok-imports.at + 1) c.in_ok-body.end term) (sym c.into_inner.ensures)
-                (subst (λ (n : ℕ). Derives (seen c.args.self.now) Term n c.in_ok-body.end c.in_ok-body.body.value) body_at c.in_ok-body.ensures.derived);
+                (subst (λ (n : ℕ). Derives (seen c.args.self.now) Term n c.in_ok-body.end c.in_ok-body.body.value) body_at c.in_ok-body.ensures.read.derived);
             sign = c.in_ok-result_at.ensures.sign;
-            result = subst (λ (n : ℕ). IsType (seen c.args.self.now) Whole n c.in_ok-result.end (type_of c.in_ok-result.result)) result_at c.in_ok-result.ensures.derived;
+            result = subst (λ (n : ℕ). IsType (seen c.args.self.now) Whole n c.in_ok-result.end (type_of c.in_ok-result.result)) result_at c.in_ok-result.ensures.read.derived;
             result_span = c.span.ensures ∙ ap (λ (n : ℕ). span_of (seen c.args.self.now) n c.in_ok-result.end) result_at;
           };
       no_more = none_there c.args.self.now.text.now c.args.self.now.tokens.now c.in_ok-result.end c.if-end-self.false;
