@@ -1,108 +1,86 @@
 // Each kind that gives, computes, reads or writes numbers, alone in a pool with room for exactly its cells and one region.
-use crate::trial::{placed, wire_from};
+use crate::trial::place_alone;
 use gos_data::Arith;
-use gos_netlist::Gate;
+use gos_netlist::{Gate, NetId};
 use gos_plan::{Kind, Op2};
 use std::test::Fail;
 
 #[test]
 fn literal_is_placed(rt: HostRuntime) -> Result<(), Fail> {
-    let mut wires = [wire_from(70, 0)];
-    let cells = placed(rt.alloc(), &Arith(Kind::Lit { w: 4, k: 9 }), &mut wires)?;
-    assert_eq!(rt; cells.len(), 3);
-    assert_eq!(rt; (wires[0].out_pulse.0, wires[0].out_value.0), (0, 2));
+    let literal = place_alone(rt.alloc(), &Arith(Kind::Lit { w: 4, k: 9 }), &[(70, 0)])?;
+    assert!(rt; literal.cells.len() == 3 && literal.shows(0, 0, 2));
     assert!(rt;
-        matches!(cells[1].gate, Gate::Const(9)),
+        matches!(literal.cells[1].gate, Gate::Const(9)),
         "the number is another"
     );
     Ok(())
 }
 
+// The nets that come in at the two operands and at the outcome of an operator.
+const OPERANDS: [(u32, u32); 3] = [(70, 71), (72, 73), (74, 0)];
+
 #[test]
 fn subtraction_is_placed(rt: HostRuntime) -> Result<(), Fail> {
-    let mut wires = [wire_from(70, 71), wire_from(72, 73), wire_from(74, 0)];
-    let cells = placed(
-        rt.alloc(),
-        &Arith(Kind::Op { op: Op2::Sub, w: 8 }),
-        &mut wires,
-    )?;
-    assert_eq!(rt; cells.len(), 7);
-    assert_eq!(rt; (wires[2].out_pulse.0, wires[2].out_value.0), (4, 6));
-    match cells[5].gate {
-        Gate::Sub(left, right) => assert_eq!(rt; (left.0, right.0), (2, 73)),
-        _ => assert!(rt; false, "it is no subtraction"),
-    }
+    let part = Arith(Kind::Op { op: Op2::Sub, w: 8 });
+    let subtraction = place_alone(rt.alloc(), &part, &OPERANDS)?;
+    assert!(rt; subtraction.cells.len() == 7 && subtraction.shows(2, 4, 6));
+    assert!(rt;
+        matches!(subtraction.cells[5].gate, Gate::Sub(NetId(2), NetId(73))),
+        "it is no subtraction"
+    );
     Ok(())
 }
 
 #[test]
 fn comparison_has_one_bit(rt: HostRuntime) -> Result<(), Fail> {
-    let mut wires = [wire_from(70, 71), wire_from(72, 73), wire_from(74, 0)];
-    let cells = placed(
-        rt.alloc(),
-        &Arith(Kind::Op {
-            op: Op2::Less,
-            w: 8,
-        }),
-        &mut wires,
-    )?;
-    assert_eq!(rt; cells.len(), 7);
-    assert_eq!(rt; (cells[2].width, cells[5].width, cells[6].width), (8, 1, 1));
+    let part = Arith(Kind::Op {
+        op: Op2::Less,
+        w: 8,
+    });
+    let comparison = place_alone(rt.alloc(), &part, &OPERANDS)?;
+    let cells = &comparison.cells;
+    assert!(rt; cells.len() == 7);
+    assert!(rt; cells[2].width == 8 && cells[5].width == 1 && cells[6].width == 1);
     Ok(())
 }
 
 #[test]
 fn complement_is_placed(rt: HostRuntime) -> Result<(), Fail> {
-    let mut wires = [wire_from(70, 71), wire_from(72, 0)];
-    let cells = placed(rt.alloc(), &Arith(Kind::Not { w: 32 }), &mut wires)?;
-    assert_eq!(rt; cells.len(), 4);
-    assert_eq!(rt; (wires[1].out_pulse.0, wires[1].out_value.0), (1, 3));
+    let part = Arith(Kind::Not { w: 32 });
+    let complement = place_alone(rt.alloc(), &part, &[(70, 71), (72, 0)])?;
+    assert!(rt; complement.cells.len() == 4 && complement.shows(1, 1, 3));
     Ok(())
 }
 
 #[test]
 fn assignment_is_placed(rt: HostRuntime) -> Result<(), Fail> {
-    let mut wires = [wire_from(70, 71), wire_from(72, 0), wire_from(74, 0)];
-    let cells = placed(rt.alloc(), &Arith(Kind::Assign { w: 1 }), &mut wires)?;
-    assert_eq!(rt; cells.len(), 4);
-    assert_eq!(rt; (wires[1].out_pulse.0, wires[1].out_value.0), (1, 2));
+    let part = Arith(Kind::Assign { w: 1 });
+    let assignment = place_alone(rt.alloc(), &part, &[(70, 71), (72, 0), (74, 0)])?;
+    assert!(rt; assignment.cells.len() == 4 && assignment.shows(1, 1, 2));
     Ok(())
 }
 
 #[test]
 fn read_is_placed(rt: HostRuntime) -> Result<(), Fail> {
-    let mut wires = [wire_from(70, 71), wire_from(72, 0)];
-    let cells = placed(rt.alloc(), &Arith(Kind::Deref { w: 16 }), &mut wires)?;
-    assert_eq!(rt; cells.len(), 3);
-    assert_eq!(rt; (wires[1].out_pulse.0, wires[1].out_value.0), (1, 2));
+    let part = Arith(Kind::Deref { w: 16 });
+    let read = place_alone(rt.alloc(), &part, &[(70, 71), (72, 0)])?;
+    assert!(rt; read.cells.len() == 3 && read.shows(1, 1, 2));
     Ok(())
 }
 
 #[test]
 fn local_of_a_command_is_placed(rt: HostRuntime) -> Result<(), Fail> {
-    let mut wires = [
-        wire_from(70, 0),
-        wire_from(72, 0),
-        wire_from(74, 75),
-        wire_from(76, 0),
-    ];
-    let cells = placed(rt.alloc(), &Arith(Kind::Local { w: 8, v: 0 }), &mut wires)?;
-    assert_eq!(rt; cells.len(), 9);
-    assert_eq!(rt; (wires[3].out_pulse.0, wires[3].out_value.0), (8, 0));
+    let part = Arith(Kind::Local { w: 8, v: 0 });
+    let local = place_alone(rt.alloc(), &part, &[(70, 0), (72, 0), (74, 75), (76, 0)])?;
+    assert!(rt; local.cells.len() == 9 && local.shows(3, 8, 0));
     Ok(())
 }
 
 #[test]
 fn local_of_an_expression_is_placed(rt: HostRuntime) -> Result<(), Fail> {
-    let mut wires = [
-        wire_from(70, 71),
-        wire_from(72, 0),
-        wire_from(74, 75),
-        wire_from(76, 0),
-    ];
-    let cells = placed(rt.alloc(), &Arith(Kind::Local { w: 8, v: 5 }), &mut wires)?;
-    assert_eq!(rt; cells.len(), 10);
-    assert_eq!(rt; (wires[3].out_pulse.0, wires[3].out_value.0), (8, 9));
-    assert_eq!(rt; (cells[7].width, cells[9].width), (8, 5));
+    let part = Arith(Kind::Local { w: 8, v: 5 });
+    let local = place_alone(rt.alloc(), &part, &[(70, 71), (72, 0), (74, 75), (76, 0)])?;
+    assert!(rt; local.cells.len() == 10 && local.shows(3, 8, 9));
+    assert!(rt; local.cells[7].width == 8 && local.cells[9].width == 5);
     Ok(())
 }

@@ -1,72 +1,92 @@
 // Each kind that gives, computes, reads or writes numbers, settled cycle by cycle over the worked steps of its firing rule.
-use crate::trial::{NO, PULSE, first_wrong, row_of_four, wire};
+use crate::trial::{NO, PULSE, ShortCycle, runs_short};
 use gos_data::Arith;
 use gos_plan::{Kind, Op2};
+use std::alloc::Global;
 use std::test::Fail;
 
 #[test]
 fn literal_answers_its_number(rt: HostRuntime) -> Result<(), Fail> {
-    let alloc = rt.alloc();
-    let mut wires = [wire(0)];
-    let part = Arith(Kind::Lit { w: 4, k: 9 });
-    let cycles = [
-        row_of_four([PULSE, NO, NO, NO], [Some(9), NO, NO, NO]),
-        row_of_four([NO, NO, NO, NO], [NO, NO, NO, NO]),
-        row_of_four([PULSE, NO, NO, NO], [Some(9), NO, NO, NO]),
+    let cycles: &[ShortCycle] = &[
+        ([PULSE, NO, NO, NO], [Some(9), NO, NO, NO]),
+        ([NO, NO, NO, NO], [NO, NO, NO, NO]),
+        ([PULSE, NO, NO, NO], [Some(9), NO, NO, NO]),
     ];
-    let wrong = first_wrong(alloc, &part, [1; 6], &mut wires, &cycles)?;
-    assert_eq!(rt; wrong, None);
-    Ok(())
+    runs_short(
+        rt.alloc(),
+        &Arith(Kind::Lit { w: 4, k: 9 }),
+        1,
+        [1; 6],
+        cycles,
+    )
 }
 
 // The right number is asked for a cycle after the left one came. The answer and the next request come in one cycle.
 #[test]
 fn comparison_holds_the_left_number(rt: HostRuntime) -> Result<(), Fail> {
-    let alloc = rt.alloc();
-    let mut wires = [wire(0), wire(1), wire(2)];
-    let less = Arith(Kind::Op {
-        op: Op2::Less,
-        w: 8,
-    });
-    let cycles = [
-        row_of_four([NO, NO, PULSE, NO], [PULSE, NO, NO, NO]),
-        row_of_four([Some(3), NO, NO, NO], [NO, NO, NO, NO]),
-        row_of_four([NO, NO, NO, NO], [NO, PULSE, NO, NO]),
-        row_of_four([NO, NO, NO, NO], [NO, NO, NO, NO]),
-        row_of_four([NO, Some(5), PULSE, NO], [PULSE, NO, Some(1), NO]),
-        row_of_four([Some(5), NO, NO, NO], [NO, NO, NO, NO]),
-        row_of_four([NO, NO, NO, NO], [NO, PULSE, NO, NO]),
-        row_of_four([NO, Some(3), NO, NO], [NO, NO, PULSE, NO]),
+    let cycles: &[ShortCycle] = &[
+        ([NO, NO, PULSE, NO], [PULSE, NO, NO, NO]),
+        ([Some(3), NO, NO, NO], [NO, NO, NO, NO]),
+        ([NO, NO, NO, NO], [NO, PULSE, NO, NO]),
+        ([NO, NO, NO, NO], [NO, NO, NO, NO]),
+        ([NO, Some(5), PULSE, NO], [PULSE, NO, Some(1), NO]),
+        ([Some(5), NO, NO, NO], [NO, NO, NO, NO]),
+        ([NO, NO, NO, NO], [NO, PULSE, NO, NO]),
+        ([NO, Some(3), NO, NO], [NO, NO, PULSE, NO]),
     ];
-    let wrong = first_wrong(alloc, &less, [8, 8, 1, 1, 1, 1], &mut wires, &cycles)?;
-    assert_eq!(rt; wrong, None);
-    Ok(())
+    runs_short(
+        rt.alloc(),
+        &Arith(Kind::Op {
+            op: Op2::Less,
+            w: 8,
+        }),
+        3,
+        [8, 8, 1, 1, 1, 1],
+        cycles,
+    )
 }
 
 // The right number comes with the next request and the next left number. The answer is of the left number that is
 // held, and the next right number is asked for a cycle later.
 #[test]
 fn subtraction_keeps_two_left_numbers_apart(rt: HostRuntime) -> Result<(), Fail> {
-    let alloc = rt.alloc();
-    let mut wires = [wire(0), wire(1), wire(2)];
-    let subtraction = Arith(Kind::Op { op: Op2::Sub, w: 8 });
-    let cycles = [
-        row_of_four([Some(9), NO, PULSE, NO], [PULSE, NO, NO, NO]),
-        row_of_four([NO, NO, NO, NO], [NO, PULSE, NO, NO]),
-        row_of_four([Some(30), Some(2), PULSE, NO], [PULSE, NO, Some(7), NO]),
-        row_of_four([NO, Some(5), NO, NO], [NO, PULSE, Some(25), NO]),
+    let cycles: &[ShortCycle] = &[
+        ([Some(9), NO, PULSE, NO], [PULSE, NO, NO, NO]),
+        ([NO, NO, NO, NO], [NO, PULSE, NO, NO]),
+        ([Some(30), Some(2), PULSE, NO], [PULSE, NO, Some(7), NO]),
+        ([NO, Some(5), NO, NO], [NO, PULSE, Some(25), NO]),
     ];
-    let wrong = first_wrong(alloc, &subtraction, [8, 8, 1, 1, 1, 1], &mut wires, &cycles)?;
-    assert_eq!(rt; wrong, None);
-    Ok(())
+    runs_short(
+        rt.alloc(),
+        &Arith(Kind::Op { op: Op2::Sub, w: 8 }),
+        3,
+        [8, 8, 1, 1, 1, 1],
+        cycles,
+    )
 }
 
-// Numbers of 8 bits: sums and differences are without carry and borrow.
+// An operator gives this number of two numbers of 8 bits.
+fn computes(alloc: Global, op: Op2, left: u64, right: u64, wanted: u64) -> Result<(), Fail> {
+    let cycles: [ShortCycle; 4] = [
+        ([NO, NO, PULSE, NO], [PULSE, NO, NO, NO]),
+        ([Some(left), NO, NO, NO], [NO, NO, NO, NO]),
+        ([NO, NO, NO, NO], [NO, PULSE, NO, NO]),
+        ([NO, Some(right), NO, NO], [NO, NO, Some(wanted), NO]),
+    ];
+    runs_short(
+        alloc,
+        &Arith(Kind::Op { op, w: 8 }),
+        3,
+        [8, 8, 1, 1, 1, 1],
+        &cycles,
+    )
+}
+
+// Sums and differences are without carry and borrow.
 #[test]
 fn operators_compute(rt: HostRuntime) -> Result<(), Fail> {
-    let alloc = rt.alloc();
-    let rows = [
-        (Op2::Add, 200u64, 100u64, 44u64),
+    let rows: &[(Op2, u64, u64, u64)] = &[
+        (Op2::Add, 200, 100, 44),
         (Op2::Sub, 100, 200, 156),
         (Op2::And, 12, 10, 8),
         (Op2::Or, 12, 10, 14),
@@ -75,17 +95,8 @@ fn operators_compute(rt: HostRuntime) -> Result<(), Fail> {
         (Op2::Eq, 7, 8, 0),
         (Op2::Less, 7, 7, 0),
     ];
-    for (op, left, right, result) in rows {
-        let mut wires = [wire(0), wire(1), wire(2)];
-        let part = Arith(Kind::Op { op, w: 8 });
-        let cycles = [
-            row_of_four([NO, NO, PULSE, NO], [PULSE, NO, NO, NO]),
-            row_of_four([Some(left), NO, NO, NO], [NO, NO, NO, NO]),
-            row_of_four([NO, NO, NO, NO], [NO, PULSE, NO, NO]),
-            row_of_four([NO, Some(right), NO, NO], [NO, NO, Some(result), NO]),
-        ];
-        let wrong = first_wrong(alloc, &part, [8, 8, 1, 1, 1, 1], &mut wires, &cycles)?;
-        assert_eq!(rt; wrong, None);
+    for (op, left, right, wanted) in rows.iter() {
+        computes(rt.alloc(), *op, *left, *right, *wanted)?;
     }
     Ok(())
 }
@@ -93,88 +104,93 @@ fn operators_compute(rt: HostRuntime) -> Result<(), Fail> {
 // Without a number nothing goes out, though all its bits are turned.
 #[test]
 fn complement_turns_all_bits(rt: HostRuntime) -> Result<(), Fail> {
-    let alloc = rt.alloc();
-    let mut wires = [wire(0), wire(1)];
-    let part = Arith(Kind::Not { w: 8 });
-    let cycles = [
-        row_of_four([NO, PULSE, NO, NO], [PULSE, NO, NO, NO]),
-        row_of_four([NO, NO, NO, NO], [NO, NO, NO, NO]),
-        row_of_four([Some(5), PULSE, NO, NO], [PULSE, Some(250), NO, NO]),
-        row_of_four([PULSE, NO, NO, NO], [NO, Some(255), NO, NO]),
+    let cycles: &[ShortCycle] = &[
+        ([NO, PULSE, NO, NO], [PULSE, NO, NO, NO]),
+        ([NO, NO, NO, NO], [NO, NO, NO, NO]),
+        ([Some(5), PULSE, NO, NO], [PULSE, Some(250), NO, NO]),
+        ([PULSE, NO, NO, NO], [NO, Some(255), NO, NO]),
     ];
-    let wrong = first_wrong(alloc, &part, [8, 1, 1, 1, 1, 1], &mut wires, &cycles)?;
-    assert_eq!(rt; wrong, None);
-    Ok(())
+    runs_short(
+        rt.alloc(),
+        &Arith(Kind::Not { w: 8 }),
+        2,
+        [8, 1, 1, 1, 1, 1],
+        cycles,
+    )
 }
 
 #[test]
 fn assignment_writes_the_number(rt: HostRuntime) -> Result<(), Fail> {
-    let alloc = rt.alloc();
-    let mut wires = [wire(0), wire(1), wire(2)];
-    let part = Arith(Kind::Assign { w: 8 });
-    let cycles = [
-        row_of_four([NO, NO, PULSE, NO], [PULSE, NO, NO, NO]),
-        row_of_four([Some(7), NO, NO, NO], [NO, Some(7), NO, NO]),
-        row_of_four([NO, NO, NO, NO], [NO, NO, NO, NO]),
-        row_of_four([NO, PULSE, PULSE, NO], [PULSE, NO, PULSE, NO]),
+    let cycles: &[ShortCycle] = &[
+        ([NO, NO, PULSE, NO], [PULSE, NO, NO, NO]),
+        ([Some(7), NO, NO, NO], [NO, Some(7), NO, NO]),
+        ([NO, NO, NO, NO], [NO, NO, NO, NO]),
+        ([NO, PULSE, PULSE, NO], [PULSE, NO, PULSE, NO]),
     ];
-    let wrong = first_wrong(alloc, &part, [8, 1, 1, 1, 1, 1], &mut wires, &cycles)?;
-    assert_eq!(rt; wrong, None);
-    Ok(())
+    runs_short(
+        rt.alloc(),
+        &Arith(Kind::Assign { w: 8 }),
+        3,
+        [8, 1, 1, 1, 1, 1],
+        cycles,
+    )
 }
 
 #[test]
 fn read_passes_the_number_on(rt: HostRuntime) -> Result<(), Fail> {
-    let alloc = rt.alloc();
-    let mut wires = [wire(0), wire(1)];
-    let part = Arith(Kind::Deref { w: 16 });
-    let cycles = [
-        row_of_four([NO, PULSE, NO, NO], [PULSE, NO, NO, NO]),
-        row_of_four([Some(900), PULSE, NO, NO], [PULSE, Some(900), NO, NO]),
-        row_of_four([PULSE, NO, NO, NO], [NO, PULSE, NO, NO]),
+    let cycles: &[ShortCycle] = &[
+        ([NO, PULSE, NO, NO], [PULSE, NO, NO, NO]),
+        ([Some(900), PULSE, NO, NO], [PULSE, Some(900), NO, NO]),
+        ([PULSE, NO, NO, NO], [NO, PULSE, NO, NO]),
     ];
-    let wrong = first_wrong(alloc, &part, [16, 1, 1, 1, 1, 1], &mut wires, &cycles)?;
-    assert_eq!(rt; wrong, None);
-    Ok(())
+    runs_short(
+        rt.alloc(),
+        &Arith(Kind::Deref { w: 16 }),
+        2,
+        [16, 1, 1, 1, 1, 1],
+        cycles,
+    )
 }
 
 // The variable is 0 at first and is set to 5; then the body ends and begins again in one cycle, and reads 0.
 #[test]
 fn local_begins_with_0(rt: HostRuntime) -> Result<(), Fail> {
-    let alloc = rt.alloc();
-    let mut wires = [wire(0), wire(1), wire(2), wire(3)];
-    let part = Arith(Kind::Local { w: 8, v: 5 });
-    let cycles = [
-        row_of_four([NO, NO, NO, PULSE], [NO, NO, NO, NO]),
-        row_of_four([NO, NO, NO, NO], [PULSE, NO, NO, NO]),
-        row_of_four([NO, PULSE, NO, NO], [NO, PULSE, NO, NO]),
-        row_of_four([NO, NO, Some(5), NO], [NO, NO, NO, NO]),
-        row_of_four([NO, NO, NO, NO], [NO, NO, PULSE, NO]),
-        row_of_four([NO, PULSE, NO, NO], [NO, Some(5), NO, NO]),
-        row_of_four([Some(17), NO, NO, PULSE], [NO, NO, NO, Some(17)]),
-        row_of_four([NO, NO, NO, NO], [PULSE, NO, NO, NO]),
-        row_of_four([NO, PULSE, NO, NO], [NO, PULSE, NO, NO]),
+    let cycles: &[ShortCycle] = &[
+        ([NO, NO, NO, PULSE], [NO, NO, NO, NO]),
+        ([NO, NO, NO, NO], [PULSE, NO, NO, NO]),
+        ([NO, PULSE, NO, NO], [NO, PULSE, NO, NO]),
+        ([NO, NO, Some(5), NO], [NO, NO, NO, NO]),
+        ([NO, NO, NO, NO], [NO, NO, PULSE, NO]),
+        ([NO, PULSE, NO, NO], [NO, Some(5), NO, NO]),
+        ([Some(17), NO, NO, PULSE], [NO, NO, NO, Some(17)]),
+        ([NO, NO, NO, NO], [PULSE, NO, NO, NO]),
+        ([NO, PULSE, NO, NO], [NO, PULSE, NO, NO]),
     ];
-    let wrong = first_wrong(alloc, &part, [5, 1, 8, 1, 1, 1], &mut wires, &cycles)?;
-    assert_eq!(rt; wrong, None);
-    Ok(())
+    runs_short(
+        rt.alloc(),
+        &Arith(Kind::Local { w: 8, v: 5 }),
+        4,
+        [5, 1, 8, 1, 1, 1],
+        cycles,
+    )
 }
 
 // A read that comes with a write gives the number before it. The body's end has no number.
 #[test]
 fn local_of_a_command_is_written(rt: HostRuntime) -> Result<(), Fail> {
-    let alloc = rt.alloc();
-    let mut wires = [wire(0), wire(1), wire(2), wire(3)];
-    let part = Arith(Kind::Local { w: 8, v: 0 });
-    let cycles = [
-        row_of_four([NO, NO, NO, PULSE], [NO, NO, NO, NO]),
-        row_of_four([NO, NO, NO, NO], [PULSE, NO, NO, NO]),
-        row_of_four([NO, PULSE, Some(5), NO], [NO, PULSE, NO, NO]),
-        row_of_four([NO, PULSE, Some(6), NO], [NO, Some(5), PULSE, NO]),
-        row_of_four([NO, PULSE, NO, NO], [NO, Some(6), PULSE, NO]),
-        row_of_four([PULSE, NO, NO, NO], [NO, NO, NO, PULSE]),
+    let cycles: &[ShortCycle] = &[
+        ([NO, NO, NO, PULSE], [NO, NO, NO, NO]),
+        ([NO, NO, NO, NO], [PULSE, NO, NO, NO]),
+        ([NO, PULSE, Some(5), NO], [NO, PULSE, NO, NO]),
+        ([NO, PULSE, Some(6), NO], [NO, Some(5), PULSE, NO]),
+        ([NO, PULSE, NO, NO], [NO, Some(6), PULSE, NO]),
+        ([PULSE, NO, NO, NO], [NO, NO, NO, PULSE]),
     ];
-    let wrong = first_wrong(alloc, &part, [1, 1, 8, 1, 1, 1], &mut wires, &cycles)?;
-    assert_eq!(rt; wrong, None);
-    Ok(())
+    runs_short(
+        rt.alloc(),
+        &Arith(Kind::Local { w: 8, v: 0 }),
+        4,
+        [1, 1, 8, 1, 1, 1],
+        cycles,
+    )
 }

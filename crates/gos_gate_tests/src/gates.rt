@@ -7,6 +7,7 @@ ghost use Rattle.gos_plan.specs.SmallPaths.{skip_passing};
 ghost use Rattle.gos_plan.specs.laws.SkipKept.{skip_gates};
 ghost use Rattle.gos_plan.specs.laws.SkipPaths.{skip_paths};
 
+use crate::trial::place_alone;
 use gos_netlist::{Cell, Gate, NetId};
 use gos_plan::{Macro, Wire};
 use gos_pool::{NetPool, Region};
@@ -61,29 +62,14 @@ impl Macro for Buffer {
     ghost paths = { λ _ _. skip_paths };
 }
 
-// A part in a pool of its own, with net 7 as the request that comes in.
+// Net 7 is the request that comes in.
 #[test]
 fn gates_of_a_skip_are_placed(rt: HostRuntime) -> Result<(), Fail> {
-    let alloc = rt.alloc();
-    let mut pool = NetPool::new(alloc);
-    pool.reserve(2)?;
-    let mut region = pool.begin();
-    let mut wires = [Wire {
-        in_pulse: NetId(7),
-        in_value: NetId(0),
-        out_pulse: NetId(0),
-        out_value: NetId(0),
-    }];
-    let gates = Buffer;
-    gates.outs(NetId(0), &mut wires);
-    gates.place(&mut pool, &mut region, &wires);
-    pool.finish(region);
-    let cells = pool.into_cells();
-    assert_eq!(rt; cells.len(), 1);
-    assert_eq!(rt; wires[0].out_pulse.0, 0);
-    match cells[0].gate {
-        Gate::Or(a, b) => assert_eq!(rt; (a.0, b.0), (7, 7)),
-        _ => assert!(rt; false, "it is no buffer"),
-    }
+    let skip = place_alone(rt.alloc(), &Buffer, &[(7, 0)])?;
+    assert!(rt; skip.cells.len() == 1 && skip.pulse_at(0) == 0);
+    assert!(rt;
+        matches!(skip.cells[0].gate, Gate::Or(NetId(7), NetId(7))),
+        "it is no buffer"
+    );
     Ok(())
 }

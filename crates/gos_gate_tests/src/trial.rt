@@ -11,6 +11,7 @@ use gos_plan::{Macro, Wire};
 use gos_pool::NetPool;
 use gos_types::NoMemory;
 use std::alloc::{AllocError, Global};
+use std::test::Fail;
 
 /// Nothing at a handshake.
 pub const NO: Option<u64> = None;
@@ -21,27 +22,14 @@ pub const PULSE: Option<u64> = Some(0);
 /// Nothing at any handshake.
 pub const QUIET: [Option<u64>; 6] = [None, None, None, None, None, None];
 
-/// What comes in at each handshake in a cycle, and what has to go out.
-#[derive(Clone, Copy)]
-pub struct Cycle {
-    pub comes: [Option<u64>; 6],
-    pub goes: [Option<u64>; 6],
-}
-
-/// A cycle of a part with up to six handshakes.
-pub fn row(comes: [Option<u64>; 6], goes: [Option<u64>; 6]) -> Cycle {
-    Cycle { comes, goes }
-}
+/// A cycle: what comes in at each of up to six handshakes, and what has to go out.
+pub type Cycle = ([Option<u64>; 6], [Option<u64>; 6]);
 
 /// A cycle of a part with up to four handshakes.
-pub fn row_of_four(comes: [Option<u64>; 4], goes: [Option<u64>; 4]) -> Cycle {
-    let [a, b, c, d] = comes;
-    let [p, q, r, s] = goes;
-    row([a, b, c, d, NO, NO], [p, q, r, s, NO, NO])
-}
+pub type ShortCycle = ([Option<u64>; 4], [Option<u64>; 4]);
 
-/// The wire of a handshake in a trial. As long as no number goes out at it, there is no net for one.
-pub fn wire(handshake: u32) -> Wire
+// The wire of a handshake in a trial. As long as no number goes out at it, there is no net for one.
+fn wire(handshake: u32) -> Wire
     requires { handshake ≤ 5 }
 {
     Wire {
@@ -52,18 +40,91 @@ pub fn wire(handshake: u32) -> Wire
     }
 }
 
-/// The wire of a handshake at which these nets come in.
-pub fn wire_from(pulse: u32, value: u32) -> Wire {
-    Wire {
-        in_pulse: NetId(pulse),
-        in_value: NetId(value),
-        out_pulse: NetId(0),
-        out_value: NetId(0),
+// The wires of so many handshakes in a trial.
+fn wires_of(alloc: Global, handshakes: u32) -> Result<Vec<Wire>, AllocError>
+    requires { handshakes ≤ 6 }
+    ensures { IfOk result (λ wires. length wires.items ≡ handshakes) }
+{
+    let mut wires = Vec::new(alloc);
+    for handshake in 0..handshakes {
+        wires.push(wire(handshake))?;
+    }
+    Ok(wires)
+}
+
+// The wires of handshakes at which these nets come in, of a pulse and of a number each.
+fn wires_from(alloc: Global, nets: &[(u32, u32)]) -> Result<Vec<Wire>, AllocError>
+    ensures { IfOk result (λ wires. length wires.items ≡ length nets.now) }
+{
+    let mut wires = Vec::new(alloc);
+    for handshake in 0..nets.len() {
+        let (pulse, value) = nets[handshake];
+        wires.push(Wire {
+            in_pulse: NetId(pulse),
+            in_value: NetId(value),
+            out_pulse: NetId(0),
+            out_value: NetId(0),
+        })?;
+    }
+    Ok(wires)
+}
+
+/// A part that was placed alone.
+#[derive(Drop)]
+pub struct Placed {
+    /// Its cells.
+    pub cells: Vec<Cell>,
+    /// The wires of its handshakes.
+    pub wires: Vec<Wire>,
+}
+
+impl Placed {
+    /// The net of the pulse that goes out at a handshake, or the last net there can be.
+    pub fn pulse_at(&self, handshake: usize) -> u32 {
+        match self.wires.get(handshake) {
+            Some(wire) => wire.out_pulse.0,
+            None => u32::MAX,
+        }
+    }
+
+    /// The net of the number that goes out at a handshake, or the last net there can be.
+    pub fn number_at(&self, handshake: usize) -> u32 {
+        match self.wires.get(handshake) {
+            Some(wire) => wire.out_value.0,
+            None => u32::MAX,
+        }
+    }
+
+    /// Whether these are the nets of the pulse and of the number that go out at a handshake.
+    pub fn shows(&self, handshake: usize, pulse: u32, number: u32) -> bool {
+        self.pulse_at(handshake) == pulse && self.number_at(handshake) == number
+    }
+
+    /// How many of the cells are registers.
+    pub fn registers(&self) -> usize {
+        self.cells
+            .iter()
+            .filter(|cell| matches!(cell.gate, Gate::Reg(_)))
+            .count()
     }
 }
 
-/// The cells of a part alone in a pool with room for exactly these and one region.
-pub fn placed<M: Macro>(alloc: Global, part: &M, wires: &mut [Wire]) -> Result<Vec<Cell>, NoMemory>
+/// The cells of a part alone in a pool with room for exactly these and one region, where these nets come in.
+pub fn place_alone<M: Macro>(
+    alloc: Global,
+    part: &M,
+    nets: &[(u32, u32)],
+) -> Result<Placed, NoMemory>
+    requires wires { length nets.now ≡ length (part_contacts (M.part part.now)) }
+    requires few { length nets.now ≤ 6 }
+{
+    let mut wires = wires_from(alloc, nets)?;
+    let cells = cells_of(alloc, part, &mut wires)?;
+    Ok(Placed { cells, wires })
+}
+
+// The cells of a part alone in a pool with room for exactly these and one region.
+fn cells_of<M: Macro>(alloc: Global, part: &M, wires: &mut [Wire]) -> Result<Vec<Cell>, NoMemory>
     requires wires { length wires.old ≡ length (part_contacts (M.part part.now)) }
     requires few { length wires.old ≤ 6 }
 {
@@ -172,30 +233,81 @@ fn input_numbers(alloc: Global, comes: [Option<u64>; 6]) -> Result<Vec<u64>, All
     Ok(numbers)
 }
 
-/// Runs a part from registers of 0: the first cycle in which something else goes out than what has to. The numbers that
-/// come in at the handshakes have so many bits.
-pub fn first_wrong<M: Macro>(
+// Runs cells from registers of 0: the first cycle in which something else goes out at the wires than what has to.
+fn first_wrong_of(
     alloc: Global,
-    part: &M,
-    bits: [u32; 6],
-    wires: &mut [Wire],
+    net: &Netlist,
+    wires: &[Wire],
     cycles: &[Cycle],
-) -> Result<Option<usize>, SettleFault>
-    requires wires { length wires.old ≡ length (part_contacts (M.part part.now)) }
-    requires few { length wires.old ≤ 6 }
-{
-    let net = Netlist {
-        cells: laid_out(alloc, part, bits, wires)?,
-        ports: Vec::new(alloc),
-    };
+) -> Result<Option<usize>, SettleFault> {
     let mut registers = Vec::new(alloc);
-    for (n, cycle) in cycles.iter().enumerate() {
-        let inputs = input_numbers(alloc, cycle.comes)?;
-        let values = settled(alloc, &net, &registers, &inputs)?;
-        if !goes_out(wires, &values, &cycle.goes) {
+    for (n, (comes, goes)) in cycles.iter().enumerate() {
+        let inputs = input_numbers(alloc, *comes)?;
+        let values = settled(alloc, net, &registers, &inputs)?;
+        if !goes_out(wires, &values, goes) {
             return Ok(Some(n));
         }
         registers = held(alloc, &net.cells, &values)?;
     }
     Ok(None)
+}
+
+/// Runs a part with so many handshakes from registers of 0: the first cycle in which something else goes out than what
+/// has to. The numbers that come in at the handshakes have so many bits.
+pub fn first_wrong<M: Macro>(
+    alloc: Global,
+    part: &M,
+    handshakes: u32,
+    bits: [u32; 6],
+    cycles: &[Cycle],
+) -> Result<Option<usize>, SettleFault>
+    requires wires { handshakes ≡ length (part_contacts (M.part part.now)) }
+    requires few { handshakes ≤ 6 }
+{
+    let mut wires = wires_of(alloc, handshakes)?;
+    let net = Netlist {
+        cells: laid_out(alloc, part, bits, &mut wires)?,
+        ports: Vec::new(alloc),
+    };
+    first_wrong_of(alloc, &net, &wires, cycles)
+}
+
+/// Runs a part in the same way: an error that names the first wrong cycle, if there is one.
+pub fn runs<M: Macro>(
+    alloc: Global,
+    part: &M,
+    handshakes: u32,
+    bits: [u32; 6],
+    cycles: &[Cycle],
+) -> Result<(), Fail>
+    requires wires { handshakes ≡ length (part_contacts (M.part part.now)) }
+    requires few { handshakes ≤ 6 }
+{
+    match first_wrong(alloc, part, handshakes, bits, cycles)? {
+        None => Ok(()),
+        Some(n) => Err(Fail::new(format!(in alloc; "cycle {n} is wrong")?)),
+    }
+}
+
+/// Runs a part with up to four handshakes in the same way.
+pub fn runs_short<M: Macro>(
+    alloc: Global,
+    part: &M,
+    handshakes: u32,
+    bits: [u32; 6],
+    cycles: &[ShortCycle],
+) -> Result<(), Fail>
+    requires wires { handshakes ≡ length (part_contacts (M.part part.now)) }
+    requires few { handshakes ≤ 4 }
+{
+    runs(alloc, part, handshakes, bits, &widened(alloc, cycles)?)
+}
+
+/// The cycles with nothing at the fifth and the sixth handshake.
+pub fn widened(alloc: Global, cycles: &[ShortCycle]) -> Result<Vec<Cycle>, AllocError> {
+    let mut wide = Vec::new(alloc);
+    for ([a, b, c, d], [p, q, r, s]) in cycles.iter() {
+        wide.push(([*a, *b, *c, *d, NO, NO], [*p, *q, *r, *s, NO, NO]))?;
+    }
+    Ok(wide)
 }

@@ -5,7 +5,7 @@ use gos_model::{
 };
 
 #[test]
-fn laws_return(rt: HostRuntime) {
+fn laws_return() {
     sequences();
     small_traces();
     small_modules();
@@ -14,5 +14,4 @@ fn laws_return(rt: HostRuntime) {
     writes();
     latch_pulses();
     keeping_pace();
-    assert!(rt; true);
 }

@@ -2,7 +2,8 @@
 
 use gos_lex::{LexFault, Span, scan};
 use gos_syntax::{
-    Form, Module, Op, SyntaxFault, Term, one_answer, one_grammar, parse, print, printed_module,
+    Form, Import, Module, Op, SyntaxFault, Term, one_answer, one_grammar, parse, print,
+    printed_module,
 };
 use gos_types::{Ty, same};
 use std::alloc::{AllocError, Global};
@@ -11,6 +12,11 @@ use std::test::Fail;
 fn parsed(alloc: Global, text: &[u8]) -> Result<Result<Module, SyntaxFault>, LexFault> {
     let tokens = scan(alloc, text)?;
     Ok(parse(alloc, text, tokens.as_slice()))
+}
+
+// The module of a text that is one.
+fn read(alloc: Global, text: &[u8]) -> Result<Module, Fail> {
+    Ok(parsed(alloc, text)??)
 }
 
 fn sequence(term: &Term) -> Option<(&Term, &Term)> {
@@ -34,113 +40,143 @@ fn operation(term: &Term) -> Option<(Op, &Term, &Term)> {
     }
 }
 
+fn at(from: usize, to: usize) -> Span {
+    Span { from, to }
+}
+
 fn stands(term: &Term, from: usize, to: usize) -> bool {
-    term.span == Span { from, to }
+    term.span == at(from, to)
+}
+
+// Whether an import is `d : exp 8`, as it stands from byte 22 on.
+fn is_expression(import: Option<&Import>) -> bool {
+    match import {
+        Some(import) => {
+            import.name.bytes() == b"d".as_slice()
+                && import.name_span == at(22, 23)
+                && same(&import.ty, &Ty::Exp(8))
+                && import.ty_span == at(26, 31)
+        }
+        None => false,
+    }
+}
+
+// Whether a term is `c ; c`, as it stands from byte 39 on.
+fn is_sequence(term: &Term) -> bool {
+    match sequence(term) {
+        Some((first, second)) => {
+            stands(term, 39, 44) && stands(first, 39, 40) && stands(second, 43, 44)
+        }
+        None => false,
+    }
 }
 
 #[test]
 fn reads_imports_and_a_body(rt: HostRuntime) -> Result<(), Fail> {
-    let module = parsed(
-        rt.alloc(),
-        b"import c : com import d : exp 8 export c ; c : com",
-    )??;
-    assert_eq!(rt; module.imports.len(), 2);
-    assert_eq!(rt; module.imports[1].name.bytes(), b"d".as_slice());
-    assert!(rt; module.imports[1].name_span == Span { from: 22, to: 23 });
-    assert!(rt; same(&module.imports[1].ty, &Ty::Exp(8)));
-    assert!(rt; module.imports[1].ty_span == Span { from: 26, to: 31 });
-    assert!(rt; same(&module.result, &Ty::Com));
-    assert!(rt; module.result_span == Span { from: 47, to: 50 });
-    let (first, second) = sequence(&module.body).ok_or("a sequence")?;
-    assert!(rt; stands(&module.body, 39, 44));
-    assert!(rt; stands(first, 39, 40));
-    assert!(rt; stands(second, 43, 44));
+    let source = b"import c : com import d : exp 8 export c ; c : com";
+    let module = read(rt.alloc(), source)?;
+    assert!(rt; module.imports.len() == 2 && is_expression(module.imports.get(1)));
+    assert!(rt; same(&module.result, &Ty::Com) && module.result_span == at(47, 50));
+    assert!(rt; is_sequence(&module.body));
     Ok(())
+}
+
+// Whether a term is `a - f (x) + y`, as it stands from byte 7 on.
+fn is_sum(term: &Term) -> bool {
+    match operation(term) {
+        Some((Op::Add, left, right)) => {
+            stands(left, 7, 16) && stands(right, 19, 20) && is_difference(left)
+        }
+        _ => false,
+    }
+}
+
+// Whether a term is `a - f (x)` of it.
+fn is_difference(term: &Term) -> bool {
+    match operation(term) {
+        Some((Op::Sub, _, call)) => stands(call, 11, 16) && is_call(call),
+        _ => false,
+    }
+}
+
+// Whether a term is `f (x)` of it.
+fn is_call(term: &Term) -> bool {
+    match application(term) {
+        Some((_, argument)) => stands(argument, 14, 15),
+        None => false,
+    }
 }
 
 #[test]
 fn groups_operands_by_their_rules(rt: HostRuntime) -> Result<(), Fail> {
-    let module = parsed(rt.alloc(), b"export a - f (x) + y ; (b) ; c : com")??;
+    let module = read(rt.alloc(), b"export a - f (x) + y ; (b) ; c : com")?;
     let (first, others) = sequence(&module.body).ok_or("a sequence")?;
-    assert!(rt; sequence(others).is_some());
-    assert!(rt; stands(others, 23, 30));
-    let (op, left, right) = operation(first).ok_or("a sum")?;
-    assert!(rt; op == Op::Add);
-    assert!(rt; stands(right, 19, 20));
-    assert!(rt; stands(left, 7, 16));
-    let (op, _, call) = operation(left).ok_or("a difference")?;
-    assert!(rt; op == Op::Sub);
-    let (_, argument) = application(call).ok_or("an application")?;
-    assert!(rt; stands(call, 11, 16));
-    assert!(rt; stands(argument, 14, 15));
+    assert!(rt; is_sum(first));
+    assert!(rt; sequence(others).is_some() && stands(others, 23, 30));
     Ok(())
+}
+
+// What is printed of the module of a text.
+fn printed(alloc: Global, text: &[u8]) -> Result<Vec<u8>, Fail> {
+    Ok(print(alloc, &read(alloc, text)?)?)
 }
 
 #[test]
 fn prints_what_reads_as_the_same_module(rt: HostRuntime) -> Result<(), Fail> {
-    let alloc = rt.alloc();
     let source = b"import c : com export new x : 1 in while !x = 0:1 do (x := 1:1 ; c) : com";
     let wanted =
         b"import c : com\nexport new x : 1 in while ((!x) = 0:1) do ((x := 1:1) ; c) : com\n";
-    let text = print(alloc, &parsed(alloc, source)??)?;
-    assert_eq!(rt; text.as_slice(), wanted.as_slice());
-    let again = print(alloc, &parsed(alloc, text.as_slice())??)?;
-    assert_eq!(rt; again.as_slice(), wanted.as_slice());
+    let text = printed(rt.alloc(), source)?;
+    assert!(rt; text.as_slice() == wanted.as_slice());
+    let again = printed(rt.alloc(), text.as_slice())?;
+    assert!(rt; again.as_slice() == wanted.as_slice());
     Ok(())
 }
+
+// Texts that are no modules, and where each goes wrong.
+const WRONG: [(&[u8], usize); 5] = [
+    (b"", 0),
+    (b"export skip com", 12),
+    (b"export (skip : com", 13),
+    (b"export skip : ", 14),
+    (b"export skip : com com", 18),
+];
 
 #[test]
-fn names_the_place_of_a_fault(rt: HostRuntime) -> Result<(), Fail> {
-    let alloc = rt.alloc();
-    assert!(rt; unexpected(parsed(alloc, b"")?) == Some(0));
-    assert!(rt; unexpected(parsed(alloc, b"export skip com")?) == Some(12));
-    assert!(rt; unexpected(parsed(alloc, b"export (skip : com")?) == Some(13));
-    assert!(rt; unexpected(parsed(alloc, b"export skip : ")?) == Some(14));
-    assert!(rt; unexpected(parsed(alloc, b"export skip : com com")?) == Some(18));
-    Ok(())
-}
-
-#[test]
-fn counts_imports_and_open_tokens(rt: HostRuntime) -> Result<(), Fail> {
-    let alloc = rt.alloc();
-    let many = repeated(alloc, b"", b"import c : com ", 65)?;
-    assert!(rt;
-        is_fault(
-            parsed(alloc, many.as_slice())?,
-            SyntaxFault::TooManyImports { at: 960 }
-        )
-    );
-    let deep = repeated(alloc, b"export ", b"(", 1_100)?;
-    assert!(rt;
-        is_fault(
-            parsed(alloc, deep.as_slice())?,
-            SyntaxFault::Depth { at: 1_031 }
-        )
-    );
-    let less = repeated(alloc, b"export ", b"not ", 1_024)?;
-    assert!(rt; unexpected(parsed(alloc, less.as_slice())?) == Some(4_103));
-    Ok(())
-}
-
-#[test]
-fn has_laws(_rt: HostRuntime) -> Result<(), Fail> {
-    one_answer();
-    one_grammar();
-    printed_module();
-    Ok(())
-}
-
-fn unexpected(answer: Result<Module, SyntaxFault>) -> Option<usize> {
-    match answer {
-        Err(SyntaxFault::Unexpected { at }) => Some(at),
-        _ => None,
+fn names_the_place_of_a_fault(rt: HostRuntime) {
+    for (text, place) in WRONG.iter() {
+        assert!(rt; has_fault(rt.alloc(), text, SyntaxFault::Unexpected { at: *place }));
     }
 }
 
-fn is_fault(answer: Result<Module, SyntaxFault>, fault: SyntaxFault) -> bool {
-    match answer {
-        Ok(_) => false,
-        Err(found) => found == fault,
+#[test]
+fn counts_imports(rt: HostRuntime) -> Result<(), Fail> {
+    let many = repeated(rt.alloc(), b"", b"import c : com ", 65)?;
+    assert!(rt; has_fault(rt.alloc(), &many, SyntaxFault::TooManyImports { at: 960 }));
+    Ok(())
+}
+
+#[test]
+fn counts_open_tokens(rt: HostRuntime) -> Result<(), Fail> {
+    let deep = repeated(rt.alloc(), b"export ", b"(", 1_100)?;
+    assert!(rt; has_fault(rt.alloc(), &deep, SyntaxFault::Depth { at: 1_031 }));
+    let less = repeated(rt.alloc(), b"export ", b"not ", 1_024)?;
+    assert!(rt; has_fault(rt.alloc(), &less, SyntaxFault::Unexpected { at: 4_103 }));
+    Ok(())
+}
+
+#[test]
+fn laws_return() {
+    one_answer();
+    one_grammar();
+    printed_module();
+}
+
+// Whether a text has tokens and is no module, for this fault.
+fn has_fault(alloc: Global, text: &[u8], wanted: SyntaxFault) -> bool {
+    match parsed(alloc, text) {
+        Ok(Err(fault)) => fault == wanted,
+        _ => false,
     }
 }
 

@@ -1,5 +1,7 @@
 // Each public function once, at types whose handshakes and texts are written out by hand.
-use gos_types::{NoMemory, Role, Step, Ty, copy, count, handshakes, is_ground, print_ty, same};
+use gos_types::{
+    Handshake, NoMemory, Role, Step, Ty, copy, count, handshakes, is_ground, print_ty, same,
+};
 use std::alloc::Global;
 use std::test::Fail;
 
@@ -11,63 +13,118 @@ fn product(alloc: Global, a: Ty, b: Ty) -> Result<Ty, NoMemory> {
     Ok(Ty::Pair(Box::new(alloc, a)?, Box::new(alloc, b)?))
 }
 
+// `com -> com` and `com * com`.
+fn function_of_commands(alloc: Global) -> Result<Ty, NoMemory> {
+    function(alloc, Ty::Com, Ty::Com)
+}
+
+fn product_of_commands(alloc: Global) -> Result<Ty, NoMemory> {
+    product(alloc, Ty::Com, Ty::Com)
+}
+
+// Whether a handshake without numbers has this role and stands at the end of this step.
+fn is_of_step(shake: Option<&Handshake>, role: Role, step: Step) -> bool {
+    match shake {
+        Some(shake) => {
+            shake.role == role
+                && shake.path.as_slice() == [step].as_slice()
+                && shake.ask_bits == 0
+                && shake.answer_bits == 0
+        }
+        None => false,
+    }
+}
+
 // `com -> com` asks its argument, and serves its outcome.
 #[test]
 fn handshakes_of_a_function(rt: HostRuntime) -> Result<(), Fail> {
-    let alloc = rt.alloc();
-    let ty = function(alloc, Ty::Com, Ty::Com)?;
-    let shakes = handshakes(alloc, &ty)?;
-    assert_eq!(rt; shakes.len(), 2);
-    assert_eq!(rt; shakes[0].role, Role::Ask);
-    assert_eq!(rt; shakes[0].path.as_slice(), [Step::Argument].as_slice());
-    assert_eq!(rt; shakes[1].role, Role::Serve);
-    assert_eq!(rt; shakes[1].path.as_slice(), [Step::Outcome].as_slice());
-    for shake in &shakes {
-        assert_eq!(rt; (shake.ask_bits, shake.answer_bits), (0, 0));
-    }
+    let ty = function_of_commands(rt.alloc())?;
+    let shakes = handshakes(rt.alloc(), &ty)?;
+    assert!(rt; shakes.len() == 2);
+    assert!(rt; is_of_step(shakes.get(0), Role::Ask, Step::Argument));
+    assert!(rt; is_of_step(shakes.get(1), Role::Serve, Step::Outcome));
     Ok(())
 }
 
 #[test]
 fn a_copy_is_the_same(rt: HostRuntime) -> Result<(), Fail> {
-    let alloc = rt.alloc();
-    let ty = function(alloc, Ty::Com, Ty::Com)?;
-    let copied = copy(alloc, &ty)?;
-    assert!(rt; same(&copied, &ty));
-    assert!(rt; !same(&copied, &Ty::Com));
-    assert!(rt; !is_ground(&ty));
-    assert!(rt; is_ground(&Ty::Var(8)));
+    let ty = function_of_commands(rt.alloc())?;
+    let copied = copy(rt.alloc(), &ty)?;
+    assert!(rt; same(&copied, &ty) && !same(&copied, &Ty::Com));
+    Ok(())
+}
+
+#[test]
+fn a_function_is_not_ground(rt: HostRuntime) -> Result<(), Fail> {
+    let ty = function_of_commands(rt.alloc())?;
+    assert!(rt; !is_ground(&ty) && is_ground(&Ty::Var(8)));
     Ok(())
 }
 
 #[test]
 fn counts(rt: HostRuntime) {
-    assert_eq!(rt; count(&Ty::Com), 1);
-    assert_eq!(rt; count(&Ty::Var(8)), 2);
+    assert!(rt; count(&Ty::Com) == 1 && count(&Ty::Var(8)) == 2);
+}
+
+// Whether a type is printed as this text; false where there was no memory for it or for the text.
+fn is_printed_as(alloc: Global, ty: Result<Ty, NoMemory>, wanted: &str) -> bool {
+    match ty {
+        Ok(ty) => match print_ty(alloc, &ty) {
+            Ok(text) => text.as_slice() == wanted.as_bytes(),
+            Err(_) => false,
+        },
+        Err(_) => false,
+    }
+}
+
+fn product_on_the_left(alloc: Global) -> Result<Ty, NoMemory> {
+    product(alloc, product(alloc, Ty::Com, Ty::Exp(4))?, Ty::Var(32))
+}
+
+fn product_on_the_right(alloc: Global) -> Result<Ty, NoMemory> {
+    product(alloc, Ty::Com, product(alloc, Ty::Exp(4), Ty::Var(32))?)
 }
 
 #[test]
-fn prints(rt: HostRuntime) -> Result<(), Fail> {
+fn prints_products(rt: HostRuntime) {
     let alloc = rt.alloc();
-    let first = product(alloc, product(alloc, Ty::Com, Ty::Exp(4))?, Ty::Var(32))?;
-    let second = product(alloc, Ty::Com, product(alloc, Ty::Exp(4), Ty::Var(32))?)?;
-    let third = function(alloc, function(alloc, Ty::Com, Ty::Com)?, Ty::Exp(1))?;
-    let fourth = function(
+    assert!(rt; is_printed_as(alloc, Ok(Ty::Exp(4)), "exp 4"));
+    assert!(rt; is_printed_as(alloc, product_on_the_left(alloc), "(com * exp 4) * var 32"));
+    assert!(rt; is_printed_as(alloc, product_on_the_right(alloc), "com * exp 4 * var 32"));
+}
+
+fn function_of_a_function(alloc: Global) -> Result<Ty, NoMemory> {
+    function(alloc, function_of_commands(alloc)?, Ty::Exp(1))
+}
+
+fn function_of_a_product(alloc: Global) -> Result<Ty, NoMemory> {
+    function(
         alloc,
-        product(alloc, Ty::Com, Ty::Com)?,
-        function(alloc, Ty::Com, Ty::Com)?,
-    )?;
-    let fifth = product(alloc, function(alloc, Ty::Com, Ty::Com)?, Ty::Com)?;
-    let rows = [
-        (&Ty::Exp(4), "exp 4"),
-        (&first, "(com * exp 4) * var 32"),
-        (&second, "com * exp 4 * var 32"),
-        (&third, "(com -> com) -> exp 1"),
-        (&fourth, "com * com -> com -> com"),
-        (&fifth, "(com -> com) * com"),
-    ];
-    for (ty, text) in rows {
-        assert_eq!(rt; print_ty(alloc, ty)?.as_slice(), text.as_bytes());
-    }
-    Ok(())
+        product_of_commands(alloc)?,
+        function_of_commands(alloc)?,
+    )
+}
+
+fn product_with_a_function(alloc: Global) -> Result<Ty, NoMemory> {
+    product(alloc, function_of_commands(alloc)?, Ty::Com)
+}
+
+#[test]
+fn prints_functions(rt: HostRuntime) {
+    let alloc = rt.alloc();
+    assert!(rt;
+        is_printed_as(
+            alloc,
+            function_of_a_function(alloc),
+            "(com -> com) -> exp 1"
+        )
+    );
+    assert!(rt;
+        is_printed_as(
+            alloc,
+            function_of_a_product(alloc),
+            "com * com -> com -> com"
+        )
+    );
+    assert!(rt; is_printed_as(alloc, product_with_a_function(alloc), "(com -> com) * com"));
 }
