@@ -1,110 +1,199 @@
 #!/usr/bin/env python3
-"""Measures `gos sim` on generated netlists, and Icarus Verilog beside it where it is installed.
+"""Measures `gos sim` on circuits of bench/circuits.py, and beside it Icarus Verilog's vvp and Verilator's compiled code.
 
-    bench/simulation.py GOS [CELLS CYCLES]..
+    bench/simulation.py GOS [NAME]..
 
-GOS is the program. Without further words the sizes are 300 cells with 100,000 cycles and 1,000,000 cells with 30 cycles.
-For each size a netlist of so many cells is made, by a seeded choice, and run twice: for one cycle, which tells the time to
-read and to accept it, and for all cycles. The difference is the time of the cycles. The same circuit in Verilog is run by
-vvp in the same way. It prints a line for each, with the megabytes of netlist text read in a second and the millions of
-cells evaluated in a second.
+GOS is the program. It prints a row of the table of docs/PERFORMANCE.md for each circuit, or for each of those named:
+
+    active 300, active 20000, active 1000000
+                  some 20 levels, in all of which nets go on changing
+    deep          20,000 cells in 850 levels
+    part          22,500 cells, of which 1/64 go on changing
+    quiet         20,000 cells, of which none changes after the first cycles
+    ports         64 imports and 172 events, of which none happens
+
+All times are of the processor, and each is the least of three runs. A run of few cycles is taken from one of many, so that
+what is left is the time of cycles alone; it is divided by them, and by the cells where these go on changing. Behind each
+peer's time stands how many times that of gos it is. A peer that isn't installed is named so, and so is one that takes
+longer than a minute for the circuit or for a run of it. `read` is the netlist's text in a second of `gos sim` with one
+cycle, which reads and accepts the netlist and makes the simulator before; `memory` is the most that this run has. Both are
+left out for small netlists. Verilator leaves out cells that no output shows: 3 in 10 of these, and 4 of the smallest.
 """
 
 import os
-import random
 import shutil
+import signal
 import subprocess
 import sys
 import tempfile
 import time
+from dataclasses import dataclass
+from pathlib import Path
 
-SIZES = [(300, 100_000), (1_000_000, 30)]
-# A gate, its pins' widths and its own; 8 stands for a byte.
-GATES = [
-    ('add', (8, 8), 8), ('sub', (8, 8), 8), ('xor', (8, 8), 8), ('and', (8, 8), 8), ('or', (8, 8), 8),
-    ('mux', (1, 8, 8), 8), ('eq', (8, 8), 1), ('less', (8, 8), 1), ('not', (8,), 8), ('reg', (8,), 8),
-]
-VERILOG = {
-    'add': '{} + {}', 'sub': '{} - {}', 'xor': '{} ^ {}', 'and': '{} & {}', 'or': '{} | {}', 'mux': '{} ? {} : {}',
-    'eq': '{} == {}', 'less': '{} < {}', 'not': '~{}',
+import circuits
+
+RUNS = 3
+# How long a run may take, in seconds, and how much longer than one of few cycles one of many takes at least.
+LIMIT, ENOUGH = 60, 0.3
+MOST_CYCLES = 1_000_000
+# Each circuit, the cycles after which it is measured, whether its cells go on changing, and what is aimed at.
+CIRCUITS = {
+    'active 300': (lambda: circuits.tiled(300), 10, True, ''),
+    'active 20000': (lambda: circuits.tiled(20_000), 10, True, ''),
+    'active 1000000': (lambda: circuits.tiled(1_000_000), 1, True, 'read 150 MB/s, memory 50 B a cell'),
+    'deep': (lambda: circuits.tiled(20_000, layers=850, tiles=1), 10, True, ''),
+    'part': (lambda: circuits.tiled(22_500, tiles=64, active=1), 1_000, True, ''),
+    'quiet': (lambda: circuits.tiled(20_000, asked=False), 1_000, False, '100 ns a cycle'),
+    'ports': (lambda: circuits.many_ports(64), 1_000, False, '100 ns a cycle'),
 }
+# Of netlists with fewer cells it isn't told how fast they are read, nor how much memory they take.
+LARGE = 10_000
+# Small functions, which a C++ compiler is done with in time.
+VERILATOR = '--cc --exe --build -j 4 -O3 --output-split 3000 --output-split-cfuncs 300 -MAKEFLAGS OPT_FAST=-O2 -Wno-lint'.split()
+HEAD = ['circuit', 'cells', 'cycles', 'gos', 'aim', 'vvp', 'Verilator', 'read', 'memory']
+BENCH = '''module bench;
+  reg clk = 0, ask = {asked};
+  integer cycles;
+  circuit circuit(.clk(clk), .n0(ask){rest});
+  initial begin
+    if (!$value$plusargs("cycles=%d", cycles)) cycles = 1;
+    repeat (cycles) begin #1 clk = 1; #1 clk = 0; ask = 0; end
+    $finish(0);
+  end
+endmodule
+'''
+MAIN = '''#include "Vcircuit.h"
+#include <cstdlib>
+int main(int, char **words) {{
+    Vcircuit circuit;
+    circuit.n0 = {asked};
+    for (long left = std::atol(words[1]); left > 0; left--) {{
+        circuit.clk = 1;
+        circuit.eval();
+        circuit.clk = 0;
+        circuit.eval();
+        circuit.n0 = 0;
+    }}
+}}
+'''
 
 
-def circuit(count):
-    """So many cells, each a word, its width and its pins or constant: a counter, and gates over it whose pins stand before
-    them, so that there is no combinational cycle and all nets go on changing."""
-    choose = random.Random(count)
-    cells = [('input', 1, ()), ('const', 8, (1,)), ('reg', 8, (3,)), ('add', 8, (2, 1))]
-    nets = {1: [0], 8: [1, 2, 3]}
-    while len(cells) < count - 1:
-        word, pins, width = choose.choice(GATES)
-        cells.append((word, width, tuple(choose.choice(nets[w][-64:]) for w in pins)))
-        nets[width].append(len(cells) - 1)
-    return cells + [('reg', 1, (nets[1][-1],))]
+class TooLong(Exception):
+    """A run took longer than the limit."""
 
 
-def netlist(cells):
-    lines = ['gosnet 1', f'cells {len(cells)}']
-    lines += [' '.join([word, str(width), *map(str, rest)]) for word, width, rest in cells]
-    return '\n'.join(lines + ['ports 1', f'give main com 0 {len(cells) - 1}', 'end', ''])
+@dataclass
+class Spent:
+    """What a run took: seconds of the processor, and bytes of memory at most."""
+    seconds: float
+    memory: int
 
 
-def verilog(cells, cycles):
-    lines = ['module bench;', '  reg clk = 0;', '  reg n0 = 0;']
-    for n, (word, width, rest) in enumerate(cells):
-        kind = 'reg' if word == 'reg' else 'wire'
-        start = ' = 0' if word == 'reg' else ''
-        if word != 'input':
-            lines.append(f'  {kind} [{width - 1}:0] n{n}{start};')
-    for n, (word, width, rest) in enumerate(cells):
-        if word == 'const':
-            lines.append(f'  assign n{n} = {rest[0]};')
-        elif word == 'reg':
-            lines.append(f'  always @(posedge clk) n{n} <= n{rest[0]};')
-        elif word != 'input':
-            lines.append(f'  assign n{n} = ' + VERILOG[word].format(*(f'n{a}' for a in rest)) + ';')
-    lines += ['  initial begin', f'    repeat ({cycles}) begin #1 clk = 1; #1 clk = 0; end', '    $finish(0);', '  end']
-    return '\n'.join(lines + ['endmodule', ''])
+def memory_of(number):
+    """The most memory that a process has had so far, in bytes."""
+    try:
+        lines = Path(f'/proc/{number}/status').read_text().split('\n')
+    except OSError:
+        return 0
+    return max([int(line.split()[1]) * 1024 for line in lines if line.startswith('VmHWM:')], default=0)
 
 
-def seconds(words, folder):
-    start = time.perf_counter()
-    subprocess.run(words, cwd=folder, check=True, stdout=subprocess.DEVNULL)
-    return time.perf_counter() - start
+def run(words, folder):
+    """Runs a program to its end. Its memory is looked at from outside: what wait tells has this script's in it."""
+    child = subprocess.Popen(words, cwd=folder, stdout=subprocess.DEVNULL, stderr=subprocess.DEVNULL, start_new_session=True)
+    start, memory, ended = time.monotonic(), 0, 0
+    while not ended:
+        memory = max(memory, memory_of(child.pid))
+        if time.monotonic() - start > LIMIT:
+            os.killpg(child.pid, signal.SIGKILL)
+        time.sleep(0.0003)
+        ended, status, used = os.wait4(child.pid, os.WNOHANG)
+    child.returncode = os.waitstatus_to_exitcode(status)
+    if child.returncode == -signal.SIGKILL:
+        raise TooLong
+    if child.returncode:
+        sys.exit(f'{" ".join(map(str, words))}: status {child.returncode}')
+    return Spent(used.ru_utime + used.ru_stime, memory)
 
 
-def run_gos(gos, cells, cycles, folder):
-    with open(os.path.join(folder, 'in.pls'), 'w') as pulses:
-        pulses.write(f'cycles {cycles}\nnext 0 main.run\n')
-    return seconds([gos, 'sim', 'a.net', 'in.pls', 'out.trc'], folder)
+def best(words, folder):
+    """The least time of a few runs, and the most memory."""
+    spent = [run(words, folder) for _ in range(RUNS)]
+    return Spent(min(one.seconds for one in spent), max(one.memory for one in spent))
 
 
-def run_icarus(cells, cycles, folder):
-    with open(os.path.join(folder, 'a.v'), 'w') as text:
-        text.write(verilog(cells, cycles))
-    subprocess.run(['iverilog', '-o', 'a.vvp', 'a.v'], cwd=folder, check=True)
-    return seconds(['vvp', '-n', 'a.vvp'], folder)
+def cycle_time(command, first, folder):
+    """The seconds of a cycle, behind the first ones, and how many cycles were run to find that."""
+    start, cycles = run(command(first), folder).seconds, first + 10
+    while cycles < MOST_CYCLES and run(command(cycles), folder).seconds < start + ENOUGH:
+        cycles = min(4 * cycles, MOST_CYCLES)
+    few, many = best(command(first), folder), best(command(cycles), folder)
+    return max(many.seconds - few.seconds, 0) / (cycles - first), cycles
 
 
-def measure(name, run, cells, cycles, size):
-    one, all_cycles = run(1), run(cycles)
-    rate = len(cells) * (cycles - 1) / max(all_cycles - one, 1e-9) / 1e6
-    read = f'{size / 1e6 / one:8.1f} MB/s' if size else ' ' * 13
-    print(f'{name:8} {len(cells):9} cells {cycles:8} cycles  {one:8.2f} s {all_cycles:8.2f} s {read} {rate:8.1f} M cells/s')
+def gos_command(gos, circuit, folder):
+    (folder / 'a.net').write_text(circuits.netlist(circuit))
+
+    def command(cycles):
+        (folder / f'{cycles}.pls').write_text(circuits.pulses(circuit, cycles))
+        return [gos, 'sim', 'a.net', f'{cycles}.pls', 'a.trc']
+    return command
+
+
+def vvp_command(circuit, folder):
+    rest = ''.join(f', .n{n}({width}\'d0)' for n, width in circuits.inputs(circuit)[1:])
+    (folder / 'a.v').write_text(circuits.verilog(circuit) + BENCH.format(asked=int(circuit.asked), rest=rest))
+    run(['iverilog', '-o', 'a.vvp', 'a.v'], folder)
+    return lambda cycles: ['vvp', '-n', 'a.vvp', f'+cycles={cycles}']
+
+
+def verilator_command(circuit, folder):
+    (folder / 'circuit.v').write_text(circuits.verilog(circuit))
+    (folder / 'main.cpp').write_text(MAIN.format(asked=int(circuit.asked)))
+    run(['verilator', *VERILATOR, 'circuit.v', 'main.cpp'], folder)
+    return lambda cycles: ['obj_dir/Vcircuit', str(cycles)]
+
+
+def round_off(number):
+    """A number with two digits, or as many as stand before its point."""
+    return f'{number:,.0f}' if number >= 10 else f'{number:.2g}'
+
+
+def peer(name, make, circuit, first, folder, time_of, ours):
+    """What a row says of a peer."""
+    if not shutil.which(name):
+        return 'not installed'
+    try:
+        seconds, _ = cycle_time(make(circuit, folder), first, folder)
+    except TooLong:
+        return 'over a minute'
+    return f'{time_of(seconds)} ({round_off(seconds / ours)} times)' if ours else time_of(seconds)
+
+
+def row(gos, name, folder):
+    make, first, changing, aim = CIRCUITS[name]
+    circuit = make()
+    cells = len(circuit.cells)
+
+    def time_of(seconds):
+        return f'{round_off(seconds * 1e9 / (cells if changing else 1))} ns {"a cell" if changing else "a cycle"}'
+
+    command = gos_command(gos, circuit, folder)
+    size, once = (folder / 'a.net').stat().st_size, best(command(1), folder)
+    ours, cycles = cycle_time(command, first, folder)
+    vvp = peer('iverilog', vvp_command, circuit, first, folder, time_of, ours)
+    verilator = peer('verilator', verilator_command, circuit, first, folder, time_of, ours)
+    read, memory = f'{size / 1e6 / once.seconds:.0f} MB/s', f'{once.memory / cells:.0f} B a cell'
+    last = [read, memory] if cells >= LARGE else ['', '']
+    return [name, f'{cells:,}', f'{cycles:,}', time_of(ours), aim, vvp, verilator, *last]
 
 
 def main():
-    gos = os.path.abspath(sys.argv[1])
-    numbers = [int(word) for word in sys.argv[2:]]
-    for count, cycles in list(zip(numbers[::2], numbers[1::2])) or SIZES:
-        cells = circuit(count)
+    gos, names = os.path.abspath(sys.argv[1]), sys.argv[2:] or list(CIRCUITS)
+    print('| ' + ' | '.join(HEAD) + ' |\n' + '|---' * len(HEAD) + '|')
+    for name in names:
         with tempfile.TemporaryDirectory() as folder:
-            text = netlist(cells)
-            with open(os.path.join(folder, 'a.net'), 'w') as file:
-                file.write(text)
-            measure('gos', lambda n: run_gos(gos, cells, n, folder), cells, cycles, len(text))
-            if shutil.which('iverilog'):
-                measure('icarus', lambda n: run_icarus(cells, n, folder), cells, cycles, 0)
+            print('| ' + ' | '.join(row(gos, name, Path(folder))) + ' |', flush=True)
 
 
 if __name__ == '__main__':

@@ -4,7 +4,7 @@
     bench/verilog.py [CELLS]
 
 It needs `rt`, and the crates below gos_verilog have to be proved. A program that reads a netlist, accepts it, writes its
-Verilog text and reads that back is built in a copy of these crates, with the netlist of bench/simulation.py of so many
+Verilog text and reads that back is built in a copy of these crates, with an active circuit of bench/circuits.py of so many
 cells, 1,000,000 without a word. It is run for each step and up to it, and prints the megabytes of Verilog text that are
 written and read in a second of the processor's time; the best of three runs counts.
 """
@@ -16,7 +16,7 @@ import sys
 import tempfile
 from pathlib import Path
 
-import simulation
+import circuits
 
 TOP = Path(__file__).resolve().parent.parent
 CRATES = ['gos_types', 'gos_lex', 'gos_netlist', 'gos_netcheck', 'gos_verilog']
@@ -109,7 +109,7 @@ def main():
         folder = Path(name)
         subprocess.run(['git', 'init', '-q', folder], check=True)
         program = build(folder)
-        (folder / 'bench.net').write_text(simulation.netlist(simulation.circuit(cells)))
+        (folder / 'bench.net').write_text(circuits.netlist(circuits.tiled(cells)))
         (accepted, _), (written, size), (read, _) = (run(program, folder, step) for step in STEPS)
     megabytes = size / 1e6
     print(f'{cells} cells, {megabytes:.0f} MB: written {megabytes / (written - accepted):.0f}, read {megabytes / (read - written):.0f} MB a second')

@@ -1,5 +1,5 @@
 -- A cycle of a driven run.
-use Rattle.std.proofs.Common.{◌≡◌, ◌≤◌, ◌^◌, ℕ, zero, suc, false, List, [], ◌∷◌, ◌++◌, All, length, reverse, get_or, sym, ap, subst, ◌∙◌, arith, Option, Some, None, pow_mono}
+use Rattle.std.proofs.Common.{◌≡◌, ◌≤◌, ◌^◌, ℕ, zero, suc, false, List, [], ◌∷◌, ◌++◌, All, length, reverse, get_or, refl, sym, ap, subst, ◌∙◌, arith, Option, Some, None, pow_mono}
 use Rattle.std.specs.Prelude.{slice_get}
 use Rattle.std.proofs.lemmas.Option.{slice_get-get_or}
 use Rattle.std.proofs.lemmas.List.{length-map}
@@ -18,9 +18,9 @@ use Rattle.gos_sim.specs.Cycle.{IsCycle, IsWord, Simulator, pulse_shown}
 use Rattle.gos_pulse.specs.declared.board.Board.{Board}
 use Rattle.gos_pulse.specs.declared.entries.Entry.{Entry}
 use Rattle.gos_pulse.specs.Guarding.{Guards, inputs_of, outputs_of}
-use Rattle.gos_pulse.specs.Driving.{BreaksAt, GivesIn, TakesAll, at_entries}
+use Rattle.gos_pulse.specs.Driving.{BreaksAt, GivesIn, GivesInput, IsHeld, TakesAll, at_entries}
 use Rattle.gos_pulse.specs.inner.Slots.{AreSlots, labels_of}
-use Rattle.gos_pulse.specs.inner.Board.{AreInRange, Begins}
+use Rattle.gos_pulse.specs.inner.Board.{AreInRange, Begins, HasSeen}
 use Rattle.gos_pulse.specs.inner.Agenda.{AreTaken}
 use Rattle.gos_pulse.specs.inner.Queue.{AreGiven}
 use Rattle.gos_pulse.specs.inner.Running.{BreaksCycle, RunsCycle}
@@ -52,7 +52,7 @@ are_words net given accepted each range = λ k d less.
 
 module _ (old : Simulator) (past : List Label) (board : Board) (accepted : IsAccepted old.net) (begins : Begins old past board) where
   -- what was seen are the outputs of every settling
-  seen_is : (ins v : Numbers) → Settling old.net.cells old.registers ins v → labels_of old.net.ports (outputs_of old.net) board.outputs.items ≡ outputs old.net v
+  pub seen_is : (ins v : Numbers) → Settling old.net.cells old.registers ins v → labels_of old.net.ports (outputs_of old.net) board.outputs.items ≡ outputs old.net v
   seen_is ins v settles =
       ap (labels_of old.net.ports (outputs_of old.net)) (begins.next ins v settles) ∙ sym (outputs_are old.net v accepted)
 
@@ -68,15 +68,15 @@ module _ (old : Simulator) (past : List Label) (board : Board) (accepted : IsAcc
         breaks = subst (λ (ls : List Label). BreaksAt old.net (reverse ls ++ past) (at_entries t file) event) (seen_is [] settles.0 settles.1) breaks;
       }
 
-  -- the cycle is run
+module _ (old : Simulator) (past : List Label) (board : Board) (accepted : IsAccepted old.net) where
+  -- the cycle is run, and its outputs are those that were seen
   pub ran : (file : List Entry) (t since : ℕ) (queue : List Entry) (mid last_board : Board) (last : ℕ) (rest : List Entry) (shown : List Pulse) (new : Simulator)
       → (taken : AreTaken old.net (reverse (labels_of old.net.ports (outputs_of old.net) board.outputs.items) ++ past) (at_entries t file) mid)
       → AreGiven old.net (reverse (labels_of old.net.ports (outputs_of old.net) board.outputs.items) ++ past) taken.taken t since queue last rest last_board
-      → IsCycle old last_board.inputs.items shown new
+      → (cycle : IsCycle old last_board.inputs.items shown new) → labels_of old.net.ports (outputs_of old.net) board.outputs.items ≡ outputs old.net cycle.values
       → (end : Board) → end.guard ≡ last_board.guard → end.slots ≡ last_board.slots → end.inputs ≡ last_board.inputs → end.outputs.items ≡ shown
       → RunsCycle old file past t since queue last rest new end
-  ran file t since queue mid last_board last rest shown new taken given cycle end guard slots ins_same outs =
-      let seen : labels_of old.net.ports (outputs_of old.net) board.outputs.items ≡ outputs old.net cycle.values = seen_is cycle.ins cycle.values cycle.settled in
+  ran file t since queue mid last_board last rest shown new taken given cycle seen end guard slots ins_same outs =
       let came : List Label = reverse (taken.taken ++ given.labels) ++ (reverse (labels_of old.net.ports (outputs_of old.net) board.outputs.items) ++ past) in
       let are : inputs old.net cycle.values ≡ labels_of old.net.ports (inputs_of old.net) last_board.inputs.items =
       inputs_are old.net old.registers cycle.ins cycle.values last_board.inputs.items accepted cycle.settled given.stands.rests.inputs cycle.inputs given.stands.in_range in
@@ -107,3 +107,15 @@ module _ (old : Simulator) (past : List Label) (board : Board) (accepted : IsAcc
         outputs_are = ap (labels_of old.net.ports (outputs_of old.net)) (outs ∙ cycle.outputs) ∙ sym (outputs_are old.net cycle.values accepted);
         left = given.known;
       }
+
+  -- a cycle is run in which no entry is due, and then its outputs are seen
+  pub passed : (file : List Entry) (t since : ℕ) (queue : List Entry) (new : Simulator)
+      → HasSeen old.net past board → at_entries t file ≡ [] → ((net : Netlist) (before : List Label) → IsHeld net before t since queue) → All (GivesInput old.net) queue
+      → IsCycle old board.inputs.items board.outputs.items new → RunsCycle old file past t since queue since queue new board
+  passed file t since queue new stands none early known cycle =
+      let came : List Label = reverse (labels_of old.net.ports (outputs_of old.net) board.outputs.items) ++ past in
+      let seen = ap (labels_of old.net.ports (outputs_of old.net)) cycle.outputs ∙ sym (outputs_are old.net cycle.values accepted) in
+      ran file t since queue board board since queue board.outputs.items new
+      (record { taken = []; takes = subst (λ (es : List Entry). TakesAll old.net came es []) (sym none) refl; stands = stands })
+      (record { labels = []; gives = (early old.net came, refl, refl); stands = stands; known = known })
+      cycle seen board refl refl refl refl

@@ -1,10 +1,11 @@
 -- The lines of a cycle, event by event.
-use Rattle.std.proofs.Common.{◌≡◌, ◌<◌, ◌+◌, ℕ, Bool, true, false, not, cond, List, [], ◌∷◌, ◌++◌, length, take, get_or, refl, sym, ap, subst, ◌∙◌, arith, Some, append_assoc}
+use Rattle.std.proofs.Common.{◌≡◌, ◌<◌, ◌+◌, ◌&&◌, ℕ, Bool, true, false, true≢false, not, cond, List, [], ◌∷◌, ◌++◌, length, take, get_or, refl, sym, ap, subst, ◌∙◌, arith, Some, append_assoc}
 use Rattle.std.specs.Prelude.{slice_get}
+use Rattle.std.specs.List.{list_all}
 use Rattle.std.proofs.lemmas.Option.{slice_get_within, slice_get-get_or}
-use Rattle.std.proofs.lemmas.List.{take_all}
+use Rattle.std.proofs.lemmas.List.{append-nil, take_all}
 use Rattle.gos_netlist.specs.declared.event.Event.{Event}
-use Rattle.gos_netlist.specs.Nets.{Netlist}
+use Rattle.gos_netlist.specs.Nets.{NetPort, Netlist}
 use Rattle.gos_netlist.specs.Events.{events_of}
 use Rattle.gos_model.specs.Labels.{Label}
 use Rattle.gos_sim.specs.declared.pulse.Pulse.{Pulse}
@@ -14,7 +15,7 @@ use Rattle.gos_pulse.specs.Guarding.{goes, events_way}
 use Rattle.gos_pulse.specs.Driving.{IsPulse}
 use Rattle.gos_pulse.specs.Traced.{AreLines}
 use Rattle.gos_pulse.specs.inner.Slots.{label_if, label_of, labels_of, number_of, port_at}
-use Rattle.gos_pulse.specs.inner.Lines.{AddsLines, HavePulses, line_if}
+use Rattle.gos_pulse.specs.inner.Lines.{AddsLines, HavePulses, is_off, line_if}
 use Rattle.gos_pulse.proofs.GuardLemmas.{event_from, way_more}
 use Rattle.gos_pulse.proofs.OrderLemmas.{labels_push}
 use Rattle.gos_pulse.proofs.SlotLemmas.{way_there}
@@ -126,3 +127,20 @@ pub adds_all : (net : Netlist) (t : ℕ) (input : Bool) (slots : List Slot) (pul
     → AddsLines net t (labels_of net.ports (events_way input (take i (events_of net))) pulses) old new → AddsLines net t (labels_of net.ports (events_way input (events_of net)) pulses) old new
 adds_all net t input slots pulses i old new has all so_far =
     subst (λ (es : List Event). AddsLines net t (labels_of net.ports (events_way input es) pulses) old new) (take_all i (events_of net) (omega (arith, all, has.slots_of.each))) so_far
+
+-- pulses that don't happen have no labels
+no_labels : (ports : List NetPort) (events : List Event) (pulses : List Pulse) → list_all is_off pulses ≡ true → labels_of ports events pulses ≡ []
+no_labels ports [] pulses off = refl
+no_labels ports (event ∷ events) [] off = refl
+no_labels ports (event ∷ events) (pulse ∷ pulses) off = by pulse.on (no_labels ports events pulses) off
+  where
+    by : (on : Bool) → (list_all is_off pulses ≡ true → labels_of ports events pulses ≡ []) → (not on && list_all is_off pulses) ≡ true
+        → cond on (label_of ports event pulse.value ∷ []) [] ++ labels_of ports events pulses ≡ []
+    by true rest h = absurd (true≢false (sym h))
+    by false rest h = rest h
+
+-- and add no lines
+pub adds_none : (net : Netlist) (t : ℕ) (events : List Event) (pulses : List Pulse) (lines : List TraceLine) → list_all is_off pulses ≡ true → AddsLines net t (labels_of net.ports events pulses) lines lines
+adds_none net t events pulses lines off =
+    subst (λ (ls : List Label). AddsLines net t ls lines lines) (sym (no_labels net.ports events pulses off))
+    (record { now = []; is = sym (append-nil lines); lines = tt })

@@ -1,6 +1,6 @@
 // Which `at` entries each cycle has.
 
-ghost use Rattle.std.specs.Prelude.{◌<◌, [], suc, ℕ, List, All, MatchOption, IfOk, length};
+ghost use Rattle.std.specs.Prelude.{◌≡◌, ◌<◌, [], IsTrue, suc, ℕ, List, All, MatchOption, IfOk, length};
 ghost use Rattle.gos_netlist.specs.Nets.{Netlist as Circuit};
 ghost use Rattle.gos_model.specs.Labels.{Label};
 ghost use Rattle.gos_pulse.specs.Guarding.{HasPorts};
@@ -55,6 +55,14 @@ impl Agenda {
         }
         self.next[place] = self.first[cycle];
         self.first[cycle] = place;
+    }
+
+    /// Whether a cycle has no `at` entry.
+    pub fn has_none(&self, cycle: usize, entries: &[Entry]) -> bool
+        requires { cycle < length self.now.first.items }
+        ensures { IsTrue result → (cycles : ℕ) → IsAgenda cycles entries.now self.now → at_entries cycle entries.now ≡ [] }
+    {
+        self.first[cycle] >= entries.len()
     }
 
     /// Takes all `at` entries of a cycle, in the file's order. The result is the event of the first of them that the

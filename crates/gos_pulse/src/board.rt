@@ -8,7 +8,8 @@ ghost use Rattle.gos_netcheck.specs.Accepted.{IsAccepted};
 ghost use Rattle.gos_pulse.specs.Guarding.{Guards, HasPorts, outputs_of};
 ghost use Rattle.gos_pulse.specs.Driving.{GivesInput};
 ghost use Rattle.gos_pulse.specs.inner.Slots.{label_if, labels_of};
-ghost use Rattle.gos_pulse.specs.inner.Board.{Begins, CanTry, IsTried, Rests, Stands};
+ghost use Rattle.gos_sim.specs.Cycle.{IsCycle};
+ghost use Rattle.gos_pulse.specs.inner.Board.{Begins, CanTry, HasSeen, IsTried, Rests, Stands};
 
 use crate::entries::Entry;
 use crate::guard::Guard;
@@ -60,6 +61,19 @@ impl Board {
         sim.peek(&mut self.outputs);
         see_outputs(&mut self.guard, &self.outputs);
         self.inputs.fill(QUIET);
+    }
+
+    /// Runs a cycle in which nothing is given, and sees its outputs.
+    pub fn pass(&mut self, sim: &mut Sim)
+        requires accepted { IsAccepted sim.old.net }
+        requires rests { (past : List Label) × Rests sim.old.net past self.old }
+        ensures cycle { IsCycle sim.old self.new.inputs.items self.new.outputs.items sim.new }
+        ensures seen { (past : List Label) → Rests sim.old.net past self.old → HasSeen sim.old.net past self.new }
+        ensures net { sim.new.net ≡ sim.old.net }
+    {
+        self.inputs.fill(QUIET);
+        sim.cycle(&self.inputs, &mut self.outputs);
+        see_outputs(&mut self.guard, &self.outputs);
     }
 
     /// Gives the pulse of an entry where the protocol allows it now. The result is whether it was given.

@@ -14,7 +14,7 @@ use crate::board::Board;
 use crate::entries::{Entry, Pulses};
 use crate::fault::PulseFault;
 use crate::lines::add_cycle;
-use crate::queue::{Queue, give_all, next_entries};
+use crate::queue::{Queue, give_all, is_early, next_entries};
 use crate::trace::Trace;
 use gos_sim::Sim;
 use std::alloc::Global;
@@ -58,7 +58,7 @@ pub fn drive(alloc: Global, sim: &mut Sim, pulses: &Pulses) -> Result<Trace, Pul
 }
 
 // Runs cycle `t`. The result is the queue after it, or the event of the first `at` entry that the protocol
-// doesn't allow.
+// doesn't allow. Where no entry is due, what comes out is looked at once, behind the cycle.
 fn run_cycle<'a>(
     sim: &mut Sim,
     t: u64,
@@ -74,6 +74,10 @@ fn run_cycle<'a>(
     ensures since { IfOk result (λ rest. rest.since ≤ t) }
     ensures net { sim.new.net ≡ sim.old.net }
 {
+    if agenda.has_none(t as usize, entries) && is_early(t, queue) {
+        board.pass(sim);
+        return Ok(queue);
+    }
     board.begin(sim);
     match agenda.take_all(t as usize, entries, board) {
         Some(event) => Err(event),

@@ -5,7 +5,8 @@ ghost use Rattle.gos_netlist.specs.Nets.{Netlist as Circuit};
 ghost use Rattle.gos_pulse.specs.Guarding.{events_way, inputs_of, outputs_of};
 ghost use Rattle.gos_netlist.specs.Events.{events_of};
 ghost use Rattle.gos_pulse.specs.inner.Slots.{labels_of};
-ghost use Rattle.gos_pulse.specs.inner.Lines.{AddsLines, HavePulses, line_if};
+ghost use Rattle.std.specs.List.{list_all};
+ghost use Rattle.gos_pulse.specs.inner.Lines.{AddsLines, HavePulses, is_off, line_if};
 
 use crate::board::Board;
 use crate::slots::Slot;
@@ -31,7 +32,7 @@ pub(crate) fn add_cycle(
     Ok(())
 }
 
-// Adds the pulses that go one way.
+// Adds the pulses that go one way. Most cycles have none, and then the events are not gone through.
 fn add_lines(
     lines: &mut Vec<TraceLine>,
     cycle: u64,
@@ -44,12 +45,22 @@ fn add_lines(
         → OnOk result (AddsLines net cycle (labels_of net.ports (events_way input (events_of net)) pulses.now)
         lines.old.items lines.new.items) }
 {
+    if are_off(pulses) {
+        return Ok(());
+    }
     for (event, slot) in slots.iter().enumerate() {
         if slot.input == input {
             add_line(lines, cycle, event, pulse_at(pulses, slot.place))?;
         }
     }
     Ok(())
+}
+
+// Whether no pulse happens.
+fn are_off(pulses: &[Pulse]) -> bool
+    ensures { result ≡ list_all is_off pulses.now }
+{
+    pulses.iter().all(|pulse| !pulse.on)
 }
 
 // Adds the pulse of an event, if it happens.

@@ -1,10 +1,10 @@
 // The `next` entries that are not given yet.
 
-ghost use Rattle.std.specs.Prelude.{◌≡◌, ◌≤◌, ◌<◌, ◌++◌, ◌∷◌, [], List, All, IfOk, IfSome, OnOk, MatchOption, length};
+ghost use Rattle.std.specs.Prelude.{◌≡◌, ◌≤◌, ◌<◌, ◌++◌, ◌∷◌, [], List, All, IsTrue, IfOk, IfSome, OnOk, MatchOption, length};
 ghost use Rattle.gos_netlist.specs.Nets.{Netlist as Circuit};
 ghost use Rattle.gos_model.specs.Labels.{Label};
 ghost use Rattle.gos_pulse.specs.Guarding.{HasPorts};
-ghost use Rattle.gos_pulse.specs.Driving.{GivesInput, next_entries};
+ghost use Rattle.gos_pulse.specs.Driving.{GivesInput, IsHeld, next_entries};
 ghost use Rattle.gos_pulse.specs.inner.Board.{Stands};
 ghost use Rattle.gos_pulse.specs.inner.Queue.{AreGiven, CanGiveAll, IsFirstGiven, IsFirstHeld};
 
@@ -40,6 +40,17 @@ fn add_next(next: &mut Vec<Entry>, entry: Entry) -> Result<(), NoMemory>
         next.push(entry)?;
     }
     Ok(())
+}
+
+/// Whether no entry is due in cycle `t`: the first one's distance has not passed, or there is none.
+pub(crate) fn is_early(t: u64, queue: Queue) -> bool
+    requires { queue.since ≤ t }
+    ensures { IsTrue result → (net : Circuit) (past : List Label) → IsHeld net past t queue.entry.since queue.entry.entries.now }
+{
+    match queue.entries.first() {
+        Some(entry) => t - queue.since < entry.number,
+        None => true,
+    }
 }
 
 /// Gives what may be given in cycle `t`, in the order of the queue. The result is the rest of it.

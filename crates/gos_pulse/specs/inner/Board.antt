@@ -47,10 +47,14 @@ pub record Stands (net : Netlist) (past given : List Label) (board : Board) : Ty
   pub order : AnyOrder given (labels_of net.ports (inputs_of net) board.inputs.items)
   pub spent : AreSpent net (reverse given ++ past) board.inputs.items
 
+-- the outputs on the board were seen after these labels, and nothing was given yet
+abbrev pub HasSeen : Netlist → List Label → Board → Type 0
+HasSeen net past board = Stands net (reverse (labels_of net.ports (outputs_of net) board.outputs.items) ++ past) [] board
+
 -- a cycle has begun: its outputs, whatever its inputs are to be, were seen after these labels
 pub record Begins (sim : Simulator) (past : List Label) (board : Board) : Type 0 where
   pub next : IsNextOutput sim board.outputs.items
-  pub stands : Stands sim.net (reverse (labels_of sim.net.ports (outputs_of sim.net) board.outputs.items) ++ past) [] board
+  pub stands : HasSeen sim.net past board
 
 -- the board stands so after some labels
 abbrev pub IsBoardOf : Netlist → Board → Type 0

@@ -1,7 +1,7 @@
 -- The lines of a trace that a cycle adds.
 --
 -- Read first: Slots, Traced. Between the driver's functions and their lemmas.
-use Rattle.std.specs.Prelude.{◌≡◌, ℕ, Bool, List, [], ◌∷◌, ◌++◌, length, if◌then◌else◌}
+use Rattle.std.specs.Prelude.{◌≡◌, ℕ, Bool, not, List, [], ◌∷◌, ◌++◌, length, if◌then◌else◌}
 use Rattle.gos_netlist.specs.Nets.{Netlist}
 use Rattle.gos_netlist.specs.Events.{events_of}
 use Rattle.gos_model.specs.Labels.{Label}
@@ -11,6 +11,10 @@ use Rattle.gos_pulse.specs.declared.trace.TraceLine.{TraceLine}
 use Rattle.gos_pulse.specs.Guarding.{events_way}
 use Rattle.gos_pulse.specs.Traced.{AreLines}
 use Rattle.gos_pulse.specs.inner.Slots.{AreSlots}
+
+-- a pulse does not happen
+abbrev pub is_off : Pulse → Bool
+is_off pulse = not pulse.on
 
 -- the line of an event's pulse in cycle t, if it happens
 abbrev pub line_if : ℕ → ℕ → Pulse → List TraceLine

@@ -10,12 +10,18 @@ use Rattle.gos_pulse.specs.Guarding.{outputs_of}
 use Rattle.gos_pulse.specs.inner.Slots.{labels_of}
 use Rattle.gos_pulse.proofs.PortLemmas.{has_ports}
 use Rattle.gos_pulse.proofs.ShownLemmas.{inputs_each, outputs_each}
-use Rattle.gos_pulse.proofs.CycleLemmas.{are_words, broken, ran}
+use Rattle.gos_pulse.proofs.CycleLemmas.{are_words, broken, passed, ran, seen_is}
 use Rattle.gos_pulse.proofs.driver.run_cycle.Goals as goal
 
 -- the labels up to the outputs of a cycle that has begun
 abbrev seen_after : Netlist → Board → List Label → List Label
 seen_after net board past = reverse (labels_of net.ports (outputs_of net) board.outputs.items) ++ past
+
+pub returns-then-is_early-clause-cycle : goal.returns-then-is_early-clause-cycle
+returns-then-is_early-clause-cycle c = λ past rests.
+    let r = c.requires in
+    passed c.args.sim.now past c.pass.new.self r.accepted c.args.entries.now c.args.t c.args.queue.since c.args.queue.entries.now c.pass.new.sim
+    (c.pass.ensures.seen past rests) (c.has_none.ensures c.if-has_none.true r.cycles r.agenda_of) (c.is_early.ensures c.if-is_early.true) r.left c.pass.ensures.cycle
 
 pub take_all-requires : goal.take_all-requires
 take_all-requires c =
@@ -88,7 +94,8 @@ returns-in-None-clause-cycle c = λ past rests.
     let board = c.give_all-rest.new.board in
     let cycle = subst (λ (ps : List Pulse). IsCycle sim ps c.cycle.new.outputs c.cycle.new.self) c.deref.ensures.value c.cycle.ensures.cycle in
     let outs : (with_items board.outputs c.cycle.new.outputs).items ≡ c.cycle.new.outputs = with_items_is board.outputs c.cycle.new.outputs (omega arith) in
-    ran sim past c.begin.new.self r.accepted begins c.args.entries.now c.args.t c.args.queue.since c.args.queue.entries.now c.take_all.new.board board
+    ran sim past c.begin.new.self r.accepted c.args.entries.now c.args.t c.args.queue.since c.args.queue.entries.now c.take_all.new.board board
     c.give_all-rest.result.since c.give_all-rest.result.entries.now c.cycle.new.outputs c.cycle.new.self taken given cycle
+    (seen_is sim past c.begin.new.self r.accepted begins cycle.ins cycle.values cycle.settled)
     (record { guard = board.guard; slots = board.slots; inputs = board.inputs; outputs = with_items board.outputs c.cycle.new.outputs })
     refl refl refl outs

@@ -1,11 +1,17 @@
-use Rattle.std.proofs.Common.{rules, ◌≡◌, ◌++◌, Bool, true, false, true≢false, get_or, sym, subst, arith}
+use Rattle.std.proofs.Common.{rules, ◌≡◌, ◌++◌, ◌∙◌, Bool, true, false, true≢false, get_or, sym, subst, arith}
 use Rattle.std.specs.Bool.{beq}
 use Rattle.std.proofs.lemmas.Option.{slice_get-get_or}
 use Rattle.gos_pulse.specs.declared.slots.Slot.{Slot}
+use Rattle.gos_netlist.specs.Events.{events_of}
+use Rattle.gos_pulse.specs.Guarding.{events_way}
 use Rattle.gos_pulse.specs.inner.Lines.{AddsLines, line_if}
-use Rattle.gos_pulse.proofs.LineLemmas.{adds_all, adds_more, adds_same, pulse_within}
+use Rattle.gos_pulse.proofs.LineLemmas.{adds_all, adds_more, adds_none, adds_same, pulse_within}
 use Rattle.gos_pulse.proofs.lines.add_lines.Goals as goal
 use Rattle.gos_pulse.proofs.lines.add_lines.Goals.{then-slot-input+in_ok-add_line, else-slot-input}
+
+pub returns-then-are_off : goal.returns-then-are_off
+returns-then-are_off c = λ net has.
+    adds_none net c.args.cycle (events_way c.args.input (events_of net)) c.args.pulses.now c.args.lines.now.items (sym c.are_off.ensures ∙ c.if-are_off.true)
 
 pub pulse_at-requires : goal.pulse_at-requires
 pulse_at-requires c =
