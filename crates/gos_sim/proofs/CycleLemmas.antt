@@ -1,9 +1,9 @@
 -- The parts of a cycle together: the values settle, and the registers after it are the next ones.
 use Rattle.std.specs.Prelude.{◌≡◌, ◌≢◌, ℕ, ◌<◌, Bool, true, false, IsTrue, IsFalse, ◌⊎◌, List, [], ◌∷◌, Option, Some, None, length, map, get_or, replicate, take, nat_eq, All, slice_get}
 use Rattle.std.specs.Option.{option_map}
-use Rattle.std.proofs.Common.{arith, refl, sym, ◌∙◌, ap, subst, inl, inr}
-use Rattle.std.proofs.lemmas.List.{length-map, length-replicate, get_or-replicate, ext_get_or}
-use Rattle.std.proofs.lemmas.List.Elements.{All-weaker, All-head, All-tail, All-replicate}
+use Rattle.std.proofs.Common.{refl, sym, ◌∙◌, ap, subst, inl, inr}
+use Rattle.std.proofs.lemmas.List.{length-map, get_or-replicate, ext_get_or}
+use Rattle.std.proofs.lemmas.List.Elements.{All-weaker, All-head, All-tail}
 use Rattle.std.proofs.lemmas.Option.{slice_get-map, slice_get-get_or, slice_get_within, get_or_from_slice_get}
 use Rattle.gos_netlist.specs.Nets.{Function, Input, Reg, Cell, Netlist}
 use Rattle.gos_netlist.specs.Cycles.{IsRegister}
@@ -11,19 +11,15 @@ use Rattle.gos_netlist.specs.Settling.{Numbers, at, shown, Settling, next_of, ne
 use Rattle.gos_netlist.specs.Seen.{function_of}
 use Rattle.gos_sim.specs.declared.event_nets.EventNets.{EventNets}
 use Rattle.gos_sim.specs.declared.pulse.Pulse.{Pulse}
-use Rattle.gos_sim.specs.declared.machine.Machine.{Machine}
 use Rattle.gos_sim.specs.declared.program.Step.{Step}
 use Rattle.gos_sim.specs.declared.program.Latch.{Latch}
 use Rattle.gos_sim.specs.EventNets.{OnNumber, OnNets, Names, input_events, output_events}
-use Rattle.gos_sim.specs.Cycle.{GivesAll, IsCycle, IsNextOutput, IsWord, number_shown, pulse_shown}
+use Rattle.gos_sim.specs.Cycle.{GivesAll, IsCycle, IsNextOutput, number_shown, pulse_shown}
 use Rattle.gos_sim.specs.inner.Program.{IsStepOf, IsProgram, IsLatchOf, AreLatches, cell_of_step, is_source, latches_at}
 use Rattle.gos_sim.specs.inner.Running.{AreShown, AreLoaded, AreTaken, HaveOnePin, KeepsOtherSteps, KeepsOthers}
 use Rattle.gos_sim.specs.inner.Ready.{AreApart, IsInputNet, IsRegisterNet}
-use Rattle.gos_sim.specs.inner.Machine.{HoldNothingElse, IsBuilt, IsMachine, IsRunnable, IsStill, RunsThrough, SettlesAtReset}
-use Rattle.gos_sim.specs.inner.Past.{HasCome, IsPast}
+use Rattle.gos_sim.specs.inner.Machine.{HoldNothingElse, IsPlan, IsRunnable, Plan, RunsThrough, SettlesAtReset}
 use Rattle.gos_sim.specs.Visits.{IsZeroSettling}
-use Rattle.gos_sim.specs.declared.past.Past.{Past}
-use Rattle.gos_sim.specs.declared.past.Past.TheVariants.{Reset}
 use Rattle.gos_sim.proofs.PlaceLemmas.{all_at, same_element, place_of}
 use Rattle.gos_sim.proofs.SourceLemmas.{input_or_register, shown_inside, register_or_not}
 use Rattle.gos_sim.proofs.ProgramLemmas.{one_cell}
@@ -157,54 +153,31 @@ registers_shown cells registers ins v (e ∷ es) settles all =
     one : (e : EventNets) → OnNets (IsRegisterNet cells) e → pulse_shown registers e ≡ pulse_shown v e
     one e on = λ i. record { on = nat_eq (shows e.pulse on.0 i) 1; value = number e.number on.1 i }
 
--- a machine runs through a cycle
-pub cycle_of : (net : Netlist) (m : Machine) (held old before values after : Numbers) (still : Bool) (past : Past) (settlings : List Numbers) (inputs outputs : List Pulse)
-    → IsBuilt net m held old before still past → RunsThrough m inputs held values outputs after
+-- a cycle that is run through
+pub cycle_of : (net : Netlist) (m : Plan) (held values after : Numbers) (settlings : List Numbers) (inputs outputs : List Pulse)
+    → IsPlan net m → HoldNothingElse net.cells held → RunsThrough m inputs held values outputs after
     → length values ≡ length net.cells → length after ≡ length net.cells
     → IsCycle (record { net = net; registers = held; settlings = settlings }) inputs outputs (record { net = net; registers = after; settlings = values ∷ take 1 settlings })
-cycle_of net m held old before values after still past settlings inputs outputs built run values_each after_each =
-    let machine = built.machine in
+cycle_of net m held values after settlings inputs outputs plan nothing run values_each after_each =
     let settles = run.settles in
-    let all_inputs : All (OnNets (IsInputNet net.cells)) m.inputs.items = subst (λ (es : List EventNets). All (OnNets (IsInputNet net.cells)) es) (sym machine.inputs) machine.ready.inputs in
-    let now_given : GivesAll m.inputs.items inputs settles.loaded = given_loaded net.cells m.latches.items m.inputs.items inputs settles.first settles.loaded machine.latched all_inputs settles.others settles.pulses in
-    let next : after ≡ next_registers net.cells values = next_taken net.cells m.latches.items values held after machine.latched built.state.others run.taken run.rest after_each in
+    let all_inputs : All (OnNets (IsInputNet net.cells)) m.inputs = subst (λ (es : List EventNets). All (OnNets (IsInputNet net.cells)) es) (sym plan.inputs) plan.ready.inputs in
+    let now_given : GivesAll m.inputs inputs settles.loaded = given_loaded net.cells m.latches m.inputs inputs settles.first settles.loaded plan.latched all_inputs settles.others settles.pulses in
+    let next : after ≡ next_registers net.cells values = next_taken net.cells m.latches values held after plan.latched nothing run.taken run.rest after_each in
     record {
       ins = settles.loaded;
       values = values;
-      inputs = subst (λ (es : List EventNets). GivesAll es inputs settles.loaded) machine.inputs now_given;
-      settled = settled net.cells m.steps.items m.latches.items held settles.loaded values machine.program machine.latched settles.registers settles.evaluated settles.sources values_each;
-      outputs = run.shows ∙ ap (map (pulse_shown values)) machine.outputs;
+      inputs = subst (λ (es : List EventNets). GivesAll es inputs settles.loaded) plan.inputs now_given;
+      settled = settled net.cells m.steps m.latches held settles.loaded values plan.program plan.latched settles.registers settles.evaluated settles.sources values_each;
+      outputs = run.shows ∙ ap (map (pulse_shown values)) plan.outputs;
       registers = ap (λ (regs : Numbers). record { net = net; registers = regs; settlings = values ∷ take 1 settlings }) next;
     }
 
--- and the simulator is as it must be after it
-pub built_after : (net : Netlist) (m : Machine) (held old before values kept after : Numbers) (still next_still : Bool) (past next : Past) (inputs outputs : List Pulse)
-    → IsBuilt net m held old before still past → RunsThrough m inputs held values outputs after
-    → length values ≡ length net.cells → length kept ≡ length net.cells → length after ≡ length net.cells
-    → All IsWord values → All IsWord kept → All IsWord after
-    → (IsTrue next_still → IsStill m after values) → HasCome next → IsPast net.cells next values kept → IsBuilt net m after values kept next_still next
-built_after net m held old before values kept after still next_still past next inputs outputs built run values_each kept_each after_each words kept_words held_words stands come came =
-    record {
-      machine = built.machine;
-      state = record {
-        registers_each = after_each;
-        values_each = values_each;
-        before_each = kept_each;
-        held = held_words;
-        words = words;
-        before_words = kept_words;
-        others = nothing_else net.cells m.latches.items held after built.machine.latched built.state.others run.rest;
-      };
-      stands = λ yes. (stands yes, come);
-      came = came;
-    }
-
 -- what the registers show is what every settling shows
-pub next_output : (net : Netlist) (m : Machine) (held values before : Numbers) (still : Bool) (past : Past) (settlings : List Numbers) (outputs : List Pulse)
-    → IsBuilt net m held values before still past → outputs ≡ map (pulse_shown held) m.outputs.items
+pub next_output : (net : Netlist) (m : Plan) (held : Numbers) (settlings : List Numbers) (outputs : List Pulse)
+    → IsPlan net m → outputs ≡ map (pulse_shown held) m.outputs
     → IsNextOutput (record { net = net; registers = held; settlings = settlings }) outputs
-next_output net m held values before still past settlings outputs built shows = λ given v settles.
-    shows ∙ (ap (map (pulse_shown held)) built.machine.outputs ∙ registers_shown net.cells held given v (output_events net) settles built.machine.ready.outputs)
+next_output net m held settlings outputs plan shows = λ given v settles.
+    shows ∙ (ap (map (pulse_shown held)) plan.outputs ∙ registers_shown net.cells held given v (output_events net) settles plan.ready.outputs)
 
 -- a fact of an event's nets that gives another one
 on_nets : (P Q : ℕ → Type 0) → ((a : ℕ) → P a → Q a) → (e : EventNets) → OnNets P e → OnNets Q e
@@ -214,70 +187,36 @@ on_nets P Q gives e on = (gives e.pulse on.0, number e.number on.1)
     number None h = tt
     number (Some x) h = gives x h
 
--- a netlist's machine can run over its nets
-pub runnable : (net : Netlist) (m : Machine) → IsMachine net m → IsRunnable (length net.cells) m
-runnable net m machine =
+-- a netlist's plan can run over its nets
+pub runnable : (net : Netlist) (m : Plan) → IsPlan net m → IsRunnable (length net.cells) m
+runnable net m plan =
     record {
-      inputs = within (IsInputNet net.cells) (λ a (c, is, input). slice_get_within net.cells a c is) m.inputs.items (input_events net) machine.inputs machine.ready.inputs;
-      outputs = within (IsRegisterNet net.cells) (λ a (c, is, register). slice_get_within net.cells a c is) m.outputs.items (output_events net) machine.outputs machine.ready.outputs;
-      apart = subst AreApart (sym machine.inputs) machine.ready.apart;
-      ordered = machine.program.ordered;
-      one_cell = one_cell net.cells m.steps.items machine.program.sound;
-      steps = machine.steps_within;
-      latches = machine.latches_within;
-      one_pin = one_pin net.cells m.latches.items machine.latched;
-      apart_from_steps = λ j l at_j. at_latch l (all_at (IsLatchOf net.cells) m.latches.items j l machine.latched.sound at_j);
+      inputs = within (IsInputNet net.cells) (λ a (c, is, input). slice_get_within net.cells a c is) m.inputs (input_events net) plan.inputs plan.ready.inputs;
+      outputs = within (IsRegisterNet net.cells) (λ a (c, is, register). slice_get_within net.cells a c is) m.outputs (output_events net) plan.outputs plan.ready.outputs;
+      apart = subst AreApart (sym plan.inputs) plan.ready.apart;
+      ordered = plan.program.ordered;
+      one_cell = one_cell net.cells m.steps plan.program.sound;
+      steps = plan.steps_within;
+      latches = plan.latches_within;
+      one_pin = one_pin net.cells m.latches plan.latched;
+      apart_from_steps = λ j l at_j. at_latch l (all_at (IsLatchOf net.cells) m.latches j l plan.latched.sound at_j);
     }
   where
-    at_latch : (l : Latch) → IsLatchOf net.cells l → All (λ s. s.net ≢ l.net) m.steps.items
-    at_latch l (w, is) = no_step net.cells m.steps.items l.net (record { width = w; gate = Reg l.pin }) machine.program is refl
+    at_latch : (l : Latch) → IsLatchOf net.cells l → All (λ s. s.net ≢ l.net) m.steps
+    at_latch l (w, is) = no_step net.cells m.steps l.net (record { width = w; gate = Reg l.pin }) plan.program is refl
 
     within : (P : ℕ → Type 0) → ((a : ℕ) → P a → a < length net.cells) → (es fs : List EventNets) → es ≡ fs → All (OnNets P) fs → All (OnNets (λ a. a < length net.cells)) es
     within P below es fs same all =
         All-weaker (OnNets P) (OnNets (λ a. a < length net.cells)) (on_nets P (λ a. a < length net.cells) below) es (subst (λ (es : List EventNets). All (OnNets P) es) (sym same) all)
 
 -- the values that settle at reset are a settling
-pub zero_settling : (net : Netlist) (m : Machine) (values : Numbers) → IsMachine net m → SettlesAtReset m values → length values ≡ length net.cells
+pub zero_settling : (net : Netlist) (m : Plan) (values : Numbers) → IsPlan net m → SettlesAtReset m values → length values ≡ length net.cells
     → IsZeroSettling net.cells values
-zero_settling net m values machine settles each =
+zero_settling net m values plan settles each =
     let zeros : Numbers = replicate (length net.cells) 0 in
-    let Sources : ℕ → Type 0 = λ n. KeepsOtherSteps m.steps.items (replicate n 0) values in
-    settled net.cells m.steps.items m.latches.items zeros zeros values machine.program machine.latched (λ j l at_j. refl) settles.evaluated
+    let Sources : ℕ → Type 0 = λ n. KeepsOtherSteps m.steps (replicate n 0) values in
+    settled net.cells m.steps m.latches zeros zeros values plan.program plan.latched (λ j l at_j. refl) settles.evaluated
     (subst Sources each settles.sources) each
-
-zero_words : (n : ℕ) → All IsWord (replicate n 0)
-zero_words n = All-replicate IsWord n 0 (omega arith)
-
--- a simulator at reset is as it must be
-pub built_at_reset : (net : Netlist) (m : Machine) (registers values before : Numbers) → IsMachine net m → registers ≡ replicate (length net.cells) 0
-    → IsZeroSettling net.cells values → All IsWord values → length before ≡ length net.cells → All IsWord before
-    → IsBuilt net m registers values before false Reset
-built_at_reset net m registers values before machine r settles words before_each before_words =
-    subst (λ (rs : Numbers). IsBuilt net m rs values before false Reset) (sym r) fresh
-  where
-    fresh : IsBuilt net m (replicate (length net.cells) 0) values before false Reset
-    fresh = record {
-      machine = machine;
-      state = record {
-        registers_each = length-replicate (length net.cells) 0;
-        values_each = settles.0;
-        before_each = before_each;
-        held = zero_words (length net.cells);
-        words = words;
-        before_words = before_words;
-        others = nothing_at_reset net.cells;
-      };
-      stands = λ no. absurd (cc);
-      came = settles;
-    }
-
--- a new simulator is as it must be
-pub built_new : (net : Netlist) (m : Machine) (registers values before : Numbers) → IsMachine net m → registers ≡ replicate (length net.cells) 0
-    → IsZeroSettling net.cells values → All IsWord values → before ≡ replicate (length net.cells) 0 → IsBuilt net m registers values before false Reset
-built_new net m registers values before machine r settles words b =
-    let zeros : ℕ = 0 in
-    built_at_reset net m registers values before machine r settles words (ap length b ∙ length-replicate (length net.cells) zeros)
-    (subst (All IsWord) (sym b) (zero_words (length net.cells)))
 
 -- what holds of two lists, of which one takes the other's place or stays
 pub either_way : {A : Type 0} (P : A → Type 0) (stays : Bool) (own other new : A) → (IsTrue stays → new ≡ own) → (IsFalse stays → new ≡ other) → P own → P other → P new

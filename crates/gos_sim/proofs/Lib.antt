@@ -8,7 +8,10 @@ pub mod LevelLemmas
 pub mod OrderLemmas
 pub mod CountingLemmas
 pub mod RegisterLemmas
+pub mod NumberLemmas
+pub mod MoveLemmas
 pub mod CycleLemmas
+pub mod MachineLemmas
 pub mod PastLemmas
 pub mod VisitLemmas
 pub mod VisitLawLemmas

@@ -4,6 +4,7 @@ pub mod Program
 pub mod Order
 pub mod Running
 pub mod Ready
+pub mod Places
 pub mod Counting
 pub mod Past
 pub mod Machine

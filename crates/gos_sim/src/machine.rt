@@ -2,12 +2,13 @@
 ghost use Rattle.std.specs.Prelude.{◌≡◌, All, IfOk, IsTrue, length, map};
 ghost use Rattle.gos_netlist.specs.Seen.{number_of};
 ghost use Rattle.gos_sim.specs.Cycle.{GivesAll, IsWord};
-ghost use Rattle.gos_sim.specs.inner.Machine.{IsMachine, IsRunnable, IsStill, RunsThrough, Settles, SettlesAtReset};
+ghost use Rattle.gos_sim.specs.inner.Machine.{IsMachine, IsRunnable, IsStill, RunsThrough, Settles, SettlesAtReset, plan_of};
 ghost use Rattle.gos_netcheck.specs.Schedule.{IsSchedule};
 ghost use Rattle.gos_netcheck.specs.Levels.{AreLevels};
 ghost use Rattle.gos_sim.specs.inner.Ready.{IsReady};
 
 use crate::event_nets::{EventNets, events_of};
+use crate::places::{Places, events_moved, latches_moved, levels_moved, numbered, steps_moved};
 use crate::program::{Latch, Step, latches, steps};
 use crate::pulse::Pulse;
 use crate::running::{evaluate, give, is_given, latch, load, show};
@@ -15,7 +16,7 @@ use gos_netlist::{NetId, Netlist};
 use gos_types::NoMemory;
 use std::alloc::Global;
 
-/// What runs in each cycle, in flat lists.
+/// What runs in each cycle, in flat lists. All but `places` speaks of places, and not of nets.
 #[derive(Drop)]
 pub struct Machine {
     /// The input events, in order.
@@ -26,8 +27,10 @@ pub struct Machine {
     pub steps: Vec<Step>,
     /// The registers.
     pub latches: Vec<Latch>,
-    /// The level of each cell.
+    /// The level of the cell at each place.
     pub levels: Vec<u32>,
+    /// The place of each net.
+    pub places: Vec<u32>,
 }
 
 // The machine of a netlist, from an order in which its cells can be evaluated and from their levels.
@@ -35,26 +38,32 @@ pub fn machine_of(
     alloc: Global,
     net: &Netlist,
     order: &[NetId],
-    levels: Vec<u32>,
+    levels: &[u32],
 ) -> Result<Machine, NoMemory>
     requires ready { IsReady net.now }
     requires order { IsSchedule net.now.cells (map number_of order.now) }
-    requires leveled { AreLevels net.now.cells levels.items }
+    requires leveled { AreLevels net.now.cells levels.now }
     ensures { IfOk result (IsMachine net.now) }
 {
+    let inputs = events_of(alloc, net, true)?;
+    let outputs = events_of(alloc, net, false)?;
+    let steps = steps(alloc, &net.cells, order, levels)?;
+    let latches = latches(alloc, &net.cells, order)?;
+    let Places { of, nets } = numbered(alloc, net.cells.len(), &latches, &steps)?;
     Ok(Machine {
-        inputs: events_of(alloc, net, true)?,
-        outputs: events_of(alloc, net, false)?,
-        steps: steps(alloc, &net.cells, order, &levels)?,
-        latches: latches(alloc, &net.cells, order)?,
-        levels,
+        inputs: events_moved(alloc, &inputs, &of)?,
+        outputs: events_moved(alloc, &outputs, &of)?,
+        steps: steps_moved(alloc, &steps, &of)?,
+        latches: latches_moved(alloc, &latches, &of)?,
+        levels: levels_moved(alloc, &nets, levels)?,
+        places: of,
     })
 }
 
 impl Machine {
     // Whether the values of the nets are already those of a cycle with these inputs: `still` says whether they stand still.
-    pub fn rests(&self, inputs: &[Pulse], values: &[u64], still: bool) -> bool
-        requires ready { IsRunnable (length values.now) self.now }
+    pub fn rests(&self, inputs: &[Pulse], values: &[u32], still: bool) -> bool
+        requires ready { IsRunnable (length values.now) (plan_of self.now) }
         requires inputs { length inputs.now ≡ length self.now.inputs.items }
         ensures still { IsTrue result → IsTrue still }
         ensures given { IsTrue result → GivesAll self.now.inputs.items inputs.now values.now }
@@ -69,23 +78,19 @@ impl Machine {
         &self,
         inputs: &[Pulse],
         outputs: &mut [Pulse],
-        registers: &mut [u64],
-        values: &mut [u64],
+        registers: &mut [u32],
+        values: &mut [u32],
         rests: bool,
     ) -> bool
-        requires ready { IsRunnable (length values.old) self.now }
+        requires ready { IsRunnable (length values.old) (plan_of self.now) }
         requires same { length registers.old ≡ length values.old }
         requires inputs { length inputs.now ≡ length self.now.inputs.items }
         requires outputs { length outputs.old ≡ length self.now.outputs.items }
         requires numbers { All (λ p. IsWord p.value) inputs.now }
-        requires held { All IsWord registers.old }
-        requires words { All IsWord values.old }
-        requires still { IsTrue rests → IsStill self.now registers.old values.old }
+        requires still { IsTrue rests → IsStill (plan_of self.now) registers.old values.old }
         requires given { IsTrue rests → GivesAll self.now.inputs.items inputs.now values.old }
-        ensures run { RunsThrough self.now inputs.now registers.old values.new outputs.new registers.new }
-        ensures held { All IsWord registers.new }
-        ensures words { All IsWord values.new }
-        ensures still { IsTrue result → IsStill self.now registers.new values.new }
+        ensures run { RunsThrough (plan_of self.now) inputs.now registers.old values.new outputs.new registers.new }
+        ensures still { IsTrue result → IsStill (plan_of self.now) registers.new values.new }
         ensures rests { IsTrue rests → values.new ≡ values.old }
     {
         if rests {
@@ -98,15 +103,12 @@ impl Machine {
     }
 
     // Settles the values of the nets for the registers and the inputs.
-    fn settle(&self, inputs: &[Pulse], registers: &[u64], values: &mut [u64])
-        requires ready { IsRunnable (length values.old) self.now }
+    fn settle(&self, inputs: &[Pulse], registers: &[u32], values: &mut [u32])
+        requires ready { IsRunnable (length values.old) (plan_of self.now) }
         requires same { length registers.now ≡ length values.old }
         requires inputs { length inputs.now ≡ length self.now.inputs.items }
         requires numbers { All (λ p. IsWord p.value) inputs.now }
-        requires held { All IsWord registers.now }
-        requires words { All IsWord values.old }
-        ensures settles { Settles self.now inputs.now registers.now values.new }
-        ensures words { All IsWord values.new }
+        ensures settles { Settles (plan_of self.now) inputs.now registers.now values.new }
     {
         give(&self.inputs, inputs, values);
         load(&self.latches, registers, values);
@@ -114,21 +116,19 @@ impl Machine {
     }
 
     // Settles the values of the nets where all registers and inputs are 0.
-    pub fn settle_at_reset(&self, values: &mut [u64])
-        requires ready { IsRunnable (length values.old) self.now }
-        ensures settles { SettlesAtReset self.now values.new }
-        ensures words { All IsWord values.new }
+    pub fn settle_at_reset(&self, values: &mut [u32])
+        requires ready { IsRunnable (length values.old) (plan_of self.now) }
+        ensures settles { SettlesAtReset (plan_of self.now) values.new }
     {
         values.fill(0);
         evaluate(&self.steps, values);
     }
 
     // The values of so many nets where all registers and inputs are 0.
-    pub fn values_at_reset(&self, alloc: Global, count: usize) -> Result<Vec<u64>, NoMemory>
-        requires ready { IsRunnable count self.now }
+    pub fn values_at_reset(&self, alloc: Global, count: usize) -> Result<Vec<u32>, NoMemory>
+        requires ready { IsRunnable count (plan_of self.now) }
         ensures each { IfOk result (λ values. length values.items ≡ count) }
-        ensures settles { IfOk result (λ values. SettlesAtReset self.now values.items) }
-        ensures words { IfOk result (λ values. All IsWord values.items) }
+        ensures settles { IfOk result (λ values. SettlesAtReset (plan_of self.now) values.items) }
     {
         let mut values = vec![in alloc; 0; count]?;
         self.settle_at_reset(&mut values);

@@ -31,7 +31,7 @@ impl Past {
 }
 
 // Makes the values those before, and room for new ones; or leaves both where no new ones come.
-pub fn turn(values: &mut Vec<u64>, before: &mut Vec<u64>, rests: bool)
+pub fn turn(values: &mut Vec<u32>, before: &mut Vec<u32>, rests: bool)
     ensures values { IsTrue rests → values.new ≡ values.old }
     ensures before { IsTrue rests → before.new ≡ before.old }
     ensures room { IsFalse rests → values.new ≡ before.old }

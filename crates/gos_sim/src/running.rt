@@ -1,5 +1,5 @@
 // The parts of a cycle: what the values of the nets are, and what the registers are after it.
-ghost use Rattle.std.specs.Prelude.{◌≡◌, ◌<◌, All, IsTrue, length, map, nat_eq, set, if◌then◌else◌};
+ghost use Rattle.std.specs.Prelude.{◌≡◌, ◌+◌, ◌-◌, ◌<◌, ◌≤◌, ◌^◌, ◌%◌, All, IsTrue, length, map, nat_eq, set, if◌then◌else◌};
 ghost use Rattle.gos_netlist.specs.Seen.{function_of};
 ghost use Rattle.gos_netlist.specs.Settling.{at, shown};
 ghost use Rattle.gos_sim.specs.Cycle.{Gives, GivesAll, IsWord, pulse_shown};
@@ -14,14 +14,12 @@ use crate::pulse::Pulse;
 use gos_netlist::{Gate, NetId};
 
 // Gives the nets of the input events what the pulses say.
-pub fn give(events: &[EventNets], pulses: &[Pulse], values: &mut [u64])
+pub fn give(events: &[EventNets], pulses: &[Pulse], values: &mut [u32])
     requires each { length pulses.now ≡ length events.now }
     requires nets { All (OnNets (λ a. a < length values.old)) events.now }
     requires apart { AreApart events.now }
     requires pulses { All (λ p. IsWord p.value) pulses.now }
-    requires words { All IsWord values.old }
     ensures given { GivesAll events.now pulses.now values.new }
-    ensures words { All IsWord values.new }
 {
     for (place, event) in events.iter().enumerate() {
         give_pulse(event, pulses[place], values);
@@ -29,23 +27,21 @@ pub fn give(events: &[EventNets], pulses: &[Pulse], values: &mut [u64])
 }
 
 // Gives the nets of an event what its pulse says.
-fn give_pulse(event: &EventNets, pulse: Pulse, values: &mut [u64])
+fn give_pulse(event: &EventNets, pulse: Pulse, values: &mut [u32])
     requires nets { OnNets (λ a. a < length values.old) event.now }
     requires apart { AreTwo event.now }
     requires word { IsWord pulse.value }
-    requires words { All IsWord values.old }
     ensures given { Gives values.new event.now pulse }
     ensures others { KeepsOtherNets event.now values.old values.new }
-    ensures words { All IsWord values.new }
 {
-    values[event.pulse as usize] = u64::from(pulse.on);
+    values[event.pulse as usize] = u32::from(pulse.on);
     if let Some(number) = event.number {
-        values[number as usize] = pulse.value;
+        values[number as usize] = pulse.value as u32;
     }
 }
 
 // Whether the nets of the input events have what the pulses say.
-pub fn is_given(events: &[EventNets], pulses: &[Pulse], values: &[u64]) -> bool
+pub fn is_given(events: &[EventNets], pulses: &[Pulse], values: &[u32]) -> bool
     requires each { length pulses.now ≡ length events.now }
     requires nets { All (OnNets (λ a. a < length values.now)) events.now }
     ensures { IsTrue result → GivesAll events.now pulses.now values.now }
@@ -59,26 +55,23 @@ pub fn is_given(events: &[EventNets], pulses: &[Pulse], values: &[u64]) -> bool
 }
 
 // Whether the nets of an event have what its pulse says.
-fn has_pulse(event: &EventNets, pulse: Pulse, values: &[u64]) -> bool
+fn has_pulse(event: &EventNets, pulse: Pulse, values: &[u32]) -> bool
     requires { OnNets (λ a. a < length values.now) event.now }
     ensures { IsTrue result → Gives values.now event.now pulse }
 {
-    let same = values[event.pulse as usize] == u64::from(pulse.on);
+    let same = values[event.pulse as usize] == u32::from(pulse.on);
     match event.number {
-        Some(number) => same && values[number as usize] == pulse.value,
+        Some(number) => same && u64::from(values[number as usize]) == pulse.value,
         None => same,
     }
 }
 
 // Gives the nets of the registers what the registers hold.
-pub fn load(latches: &[Latch], registers: &[u64], values: &mut [u64])
+pub fn load(latches: &[Latch], registers: &[u32], values: &mut [u32])
     requires registers { All (IsLatchWithin (length registers.now)) latches.now }
     requires nets { All (IsLatchWithin (length values.old)) latches.now }
-    requires held { All IsWord registers.now }
-    requires words { All IsWord values.old }
     ensures loaded { AreLoaded latches.now registers.now values.new }
     ensures others { KeepsOthers latches.now values.old values.new }
-    ensures words { All IsWord values.new }
 {
     for latch in latches {
         values[latch.net as usize] = registers[latch.net as usize];
@@ -86,14 +79,12 @@ pub fn load(latches: &[Latch], registers: &[u64], values: &mut [u64])
 }
 
 // Evaluates the steps, in their order.
-pub fn evaluate(steps: &[Step], values: &mut [u64])
+pub fn evaluate(steps: &[Step], values: &mut [u32])
     requires steps { All (IsStepWithin (length values.old)) steps.now }
     requires order { SparesEarlier steps.now }
     requires one { HaveOneCell steps.now }
-    requires words { All IsWord values.old }
     ensures shown { AreShown steps.now values.new }
     ensures others { KeepsOtherSteps steps.now values.old values.new }
-    ensures words { All IsWord values.new }
 {
     for step in steps {
         let value = value_of(step, values);
@@ -102,17 +93,14 @@ pub fn evaluate(steps: &[Step], values: &mut [u64])
 }
 
 // What a step shows, from the values of the nets. What an input or a register shows is known before, and not asked here.
-fn value_of(step: &Step, values: &[u64]) -> u64
+fn value_of(step: &Step, values: &[u32]) -> u32
     requires step { IsStepWithin (length values.now) step.now }
-    requires words { All IsWord values.now }
-    ensures shown { result ≡ shown step.now.width (function_of step.now.gate) 0 0 (at values.now) }
-    ensures word { IsWord result }
+    ensures { result ≡ shown step.now.width (function_of step.now.gate) 0 0 (at values.now) }
 {
-    let limit = 1u64 << step.width;
     match step.gate {
         Gate::Input | Gate::Reg(_) => 0,
-        Gate::Const(k) => k,
-        Gate::Not(a) => (limit - 1).saturating_sub(value_at(values, a)),
+        Gate::Const(k) => k as u32,
+        Gate::Not(a) => turned(step.width, value_at(values, a)),
         Gate::And(a, b) => value_at(values, a) & value_at(values, b),
         Gate::Or(a, b) => value_at(values, a) | value_at(values, b),
         Gate::Xor(a, b) => value_at(values, a) ^ value_at(values, b),
@@ -121,34 +109,58 @@ fn value_of(step: &Step, values: &[u64]) -> u64
             value_at(values, a),
             value_at(values, b),
         ),
-        Gate::Add(a, b) => (value_at(values, a) + value_at(values, b)) % limit,
-        Gate::Sub(a, b) => (value_at(values, a) + limit).saturating_sub(value_at(values, b))
-            % limit,
-        Gate::Eq(a, b) => u64::from(value_at(values, a) == value_at(values, b)),
-        Gate::Less(a, b) => u64::from(value_at(values, a) < value_at(values, b)),
+        Gate::Add(a, b) => sum(step.width, value_at(values, a), value_at(values, b)),
+        Gate::Sub(a, b) => difference(step.width, value_at(values, a), value_at(values, b)),
+        Gate::Eq(a, b) => u32::from(value_at(values, a) == value_at(values, b)),
+        Gate::Less(a, b) => u32::from(value_at(values, a) < value_at(values, b)),
         Gate::Gate(s, a) => chosen(value_at(values, s), value_at(values, a), 0),
     }
 }
 
 // The value of a net.
-fn value_at(values: &[u64], net: NetId) -> u64
-    requires net { net.0 < length values.now }
-    requires words { All IsWord values.now }
-    ensures value { result ≡ at values.now net.0 }
-    ensures word { IsWord result }
+fn value_at(values: &[u32], net: NetId) -> u32
+    requires { net.0 < length values.now }
+    ensures { result ≡ at values.now net.0 }
 {
     values[net.0 as usize]
 }
 
 // The first value where the selector is 1, else the second.
-fn chosen(selector: u64, a: u64, b: u64) -> u64
+fn chosen(selector: u32, a: u32, b: u32) -> u32
     ensures { result ≡ (if nat_eq selector 1 then a else b) }
 {
     if selector == 1 { a } else { b }
 }
 
+// All of so many bits turned.
+fn turned(width: u32, a: u32) -> u32
+    requires { width ≤ 32 }
+    ensures { result ≡ 2 ^ width - 1 - a }
+{
+    let limit = 1u64 << width;
+    (limit - 1).saturating_sub(u64::from(a)) as u32
+}
+
+// The sum in so many bits.
+fn sum(width: u32, a: u32, b: u32) -> u32
+    requires { width ≤ 32 }
+    ensures { result ≡ (a + b) % 2 ^ width }
+{
+    let limit = 1u64 << width;
+    ((u64::from(a) + u64::from(b)) % limit) as u32
+}
+
+// The difference in so many bits.
+fn difference(width: u32, a: u32, b: u32) -> u32
+    requires { width ≤ 32 }
+    ensures { result ≡ (a + 2 ^ width - b) % 2 ^ width }
+{
+    let limit = 1u64 << width;
+    ((u64::from(a) + limit).saturating_sub(u64::from(b)) % limit) as u32
+}
+
 // Shows the pulses of the output events.
-pub fn show(events: &[EventNets], values: &[u64], pulses: &mut [Pulse])
+pub fn show(events: &[EventNets], values: &[u32], pulses: &mut [Pulse])
     requires each { length pulses.old ≡ length events.now }
     requires nets { All (OnNets (λ a. a < length values.now)) events.now }
     ensures { pulses.new ≡ map (pulse_shown values.now) events.now }
@@ -159,28 +171,25 @@ pub fn show(events: &[EventNets], values: &[u64], pulses: &mut [Pulse])
 }
 
 // What an event shows.
-fn pulse_of(event: &EventNets, values: &[u64]) -> Pulse
+fn pulse_of(event: &EventNets, values: &[u32]) -> Pulse
     requires { OnNets (λ a. a < length values.now) event.now }
     ensures { result ≡ pulse_shown values.now event.now }
 {
     let on = values[event.pulse as usize] == 1;
     let value = match event.number {
-        Some(number) => values[number as usize],
+        Some(number) => u64::from(values[number as usize]),
         None => 0,
     };
     Pulse { on, value }
 }
 
 // Takes the values of the pins over into the registers. Answers whether all of them had these values before.
-pub fn latch(latches: &[Latch], values: &[u64], registers: &mut [u64]) -> bool
+pub fn latch(latches: &[Latch], values: &[u32], registers: &mut [u32]) -> bool
     requires pins { All (IsLatchWithin (length values.now)) latches.now }
     requires nets { All (IsLatchWithin (length registers.old)) latches.now }
     requires one { HaveOnePin latches.now }
-    requires words { All IsWord values.now }
-    requires held { All IsWord registers.old }
     ensures taken { AreTaken latches.now values.now registers.new }
     ensures others { KeepsOthers latches.now registers.old registers.new }
-    ensures held { All IsWord registers.new }
     ensures same { IsTrue result → registers.new ≡ registers.old }
 {
     let mut same = true;
@@ -192,7 +201,7 @@ pub fn latch(latches: &[Latch], values: &[u64], registers: &mut [u64]) -> bool
 }
 
 // Takes the value of a register's pin over. Answers whether it had that value before.
-fn take_over(latch: &Latch, values: &[u64], registers: &mut [u64]) -> bool
+fn take_over(latch: &Latch, values: &[u32], registers: &mut [u32]) -> bool
     requires pin { latch.now.pin < length values.now }
     requires net { latch.now.net < length registers.old }
     ensures taken { registers.new ≡ set registers.old latch.now.net (at values.now latch.now.pin) }

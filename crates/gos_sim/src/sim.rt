@@ -3,8 +3,8 @@ ghost use Rattle.std.specs.Prelude.{◌≡◌, All, IfErr, IfOk, length, replica
 ghost use Rattle.gos_netcheck.specs.Accepted.{IsAccepted};
 ghost use Rattle.gos_sim.specs.EventNets.{input_events, output_events};
 ghost use Rattle.gos_sim.specs.Cycle.{IsCycle, IsNextOutput, IsWord, at_reset};
-ghost use Rattle.gos_sim.specs.Visits.{HasVisited, IsZeroSettling};
-ghost use Rattle.gos_sim.specs.inner.Machine.{IsMachine};
+ghost use Rattle.gos_sim.specs.Visits.{HasVisited};
+ghost use Rattle.gos_sim.specs.inner.Machine.{IsMachine, SettlesAtReset, plan_of};
 
 use crate::machine::{Machine, machine_of};
 use crate::past::{Past, turn};
@@ -22,9 +22,9 @@ use std::marker::Model;
 pub struct Sim {
     net: Checked,
     machine: Machine,
-    registers: Vec<u64>,
-    values: Vec<u64>,
-    before: Vec<u64>,
+    registers: Vec<u32>,
+    values: Vec<u32>,
+    before: Vec<u32>,
     still: bool,
     past: Past,
 }
@@ -38,11 +38,9 @@ impl Model for Sim {
 
     ghost coded = { Prim.hlevel (codes, type_code) };
 
-    ghost use Rattle.gos_sim.specs.inner.Past.{settlings_of};
+    ghost use Rattle.gos_sim.specs.inner.Machine.{IsBuilt, seen};
 
-    ghost view = { λ s. record { net = s.net; registers = s.registers.items; settlings = settlings_of s.past s.values.items s.before.items } };
-
-    ghost use Rattle.gos_sim.specs.inner.Machine.{IsBuilt};
+    ghost view = { λ s. seen s.net s.machine s.registers.items s.values.items s.before.items s.past };
 
     ghost invariant = { λ s. IsBuilt s.net s.machine s.registers.items s.values.items s.before.items s.still s.past };
 }
@@ -144,25 +142,25 @@ impl Sim {
     }
 }
 
-// The machine of a netlist, with a register for each cell, the values of the nets where all registers and inputs are 0, and
-// room for those before them.
+// The machine of a netlist, with the registers, the values where all registers and inputs are 0, and room for those before
+// them, all by place.
 #[tactic(auto, using(crate::proofs::AcceptedLemmas::ready_of_accepted))]
 fn parts_of(
     alloc: Global,
     net: &Checked,
-) -> Result<(Machine, Vec<u64>, Vec<u64>, Vec<u64>), NoMemory>
+) -> Result<(Machine, Vec<u32>, Vec<u32>, Vec<u32>), NoMemory>
     ensures machine { IfOk result (λ parts. IsMachine net.now parts.0) }
-    ensures registers { IfOk result (λ parts. parts.1.items ≡ replicate (length net.now.cells) 0) }
-    ensures values { IfOk result (λ parts. IsZeroSettling net.now.cells parts.2.items) }
-    ensures words { IfOk result (λ parts. All IsWord parts.2.items) }
-    ensures before { IfOk result (λ parts. parts.3.items ≡ replicate (length net.now.cells) 0) }
+    ensures registers { IfOk result (λ parts. parts.1.items ≡ replicate (length parts.0.levels.items) 0) }
+    ensures each { IfOk result (λ parts. length parts.2.items ≡ length parts.0.levels.items) }
+    ensures values { IfOk result (λ parts. SettlesAtReset (plan_of parts.0) parts.2.items) }
+    ensures before { IfOk result (λ parts. parts.3.items ≡ replicate (length parts.0.levels.items) 0) }
 {
     let levels = net.levels(alloc)?;
     let order = net.schedule();
-    let net = net.netlist();
-    let machine = machine_of(alloc, net, order, levels)?;
-    let registers = vec![in alloc; 0; net.cells.len()]?;
-    let before = vec![in alloc; 0; net.cells.len()]?;
-    let values = machine.values_at_reset(alloc, net.cells.len())?;
+    let machine = machine_of(alloc, net.netlist(), order, &levels)?;
+    let count = machine.levels.len();
+    let registers = vec![in alloc; 0; count]?;
+    let before = vec![in alloc; 0; count]?;
+    let values = machine.values_at_reset(alloc, count)?;
     Ok((machine, registers, values, before))
 }

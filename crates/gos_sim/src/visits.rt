@@ -9,7 +9,7 @@ use gos_netlist::{Gate, NetId};
 
 // How many levels above 0 have a step that reads a net whose value differs from the one before. The steps rise by their
 // levels, so a level is counted where it is above the one that was counted last.
-pub fn levels_visited(steps: &[Step], levels: &[u32], before: &[u64], values: &[u64]) -> u64
+pub fn levels_visited(steps: &[Step], levels: &[u32], before: &[u32], values: &[u32]) -> u64
     requires steps { All (IsStepWithin (length values.now)) steps.now }
     requires levels { length levels.now ≡ length values.now }
     requires before { length before.now ≡ length values.now }
@@ -29,7 +29,7 @@ pub fn levels_visited(steps: &[Step], levels: &[u32], before: &[u64], values: &[
 }
 
 // Whether a step reads a net whose value differs.
-fn reads_change(step: &Step, before: &[u64], values: &[u64]) -> bool
+fn reads_change(step: &Step, before: &[u32], values: &[u32]) -> bool
     requires step { IsStepWithin (length values.now) step.now }
     requires before { length before.now ≡ length values.now }
     ensures { result ≡ one_has_changed before.now values.now (reads step.now) }
@@ -54,7 +54,7 @@ fn reads_change(step: &Step, before: &[u64], values: &[u64]) -> bool
 }
 
 // Whether the value of a net differs.
-fn has_changed(net: NetId, before: &[u64], values: &[u64]) -> bool
+fn has_changed(net: NetId, before: &[u32], values: &[u32]) -> bool
     requires net { net.0 < length values.now }
     requires before { length before.now ≡ length values.now }
     ensures { result ≡ has_changed before.now values.now net.0 }

@@ -6,87 +6,124 @@ use Rattle.gos_netlist.specs.Nets.{Cell, Netlist}
 use Rattle.gos_netlist.specs.Cycles.{IsRegister}
 use Rattle.gos_netlist.specs.Settling.{Numbers, at}
 use Rattle.gos_netcheck.specs.Levels.{AreLevels}
+use Rattle.gos_sim.specs.declared.event_nets.EventNets.{EventNets}
 use Rattle.gos_sim.specs.declared.machine.Machine.{Machine}
+use Rattle.gos_sim.specs.declared.program.Step.{Step}
 use Rattle.gos_sim.specs.declared.past.Past.{Past}
 use Rattle.gos_sim.specs.declared.program.Latch.{Latch}
 use Rattle.gos_sim.specs.declared.pulse.Pulse.{Pulse}
 use Rattle.gos_sim.specs.EventNets.{OnNets, input_events, output_events}
-use Rattle.gos_sim.specs.Cycle.{GivesAll, IsWord, pulse_shown}
+use Rattle.gos_sim.specs.Cycle.{GivesAll, Simulator, pulse_shown}
 use Rattle.gos_sim.specs.inner.Program.{AreLatches, HaveOneCell, IsLatchWithin, IsProgram, IsStepWithin, SparesEarlier}
 use Rattle.gos_sim.specs.inner.Running.{AreLoaded, AreShown, AreTaken, HaveOnePin, KeepsOtherSteps, KeepsOthers}
 use Rattle.gos_sim.specs.inner.Order.{StepsRise}
 use Rattle.gos_sim.specs.inner.Ready.{AreApart, IsReady}
-use Rattle.gos_sim.specs.inner.Past.{HasCome, IsPast}
+use Rattle.gos_sim.specs.inner.Past.{HasCome, IsPast, settlings_of}
+use Rattle.gos_sim.specs.inner.Places.{AreStepsMoved, IsNumbering, by_net, event_moved, latch_moved}
+
+-- what runs in each cycle, with the level of each cell
+pub record Plan : Type 0 where
+  pub inputs : List EventNets
+  pub outputs : List EventNets
+  pub steps : List Step
+  pub latches : List Latch
+  pub levels : Numbers
+
+-- that of a machine, which speaks of places
+abbrev pub plan_of : Machine → Plan
+plan_of m = record { inputs = m.inputs.items; outputs = m.outputs.items; steps = m.steps.items; latches = m.latches.items; levels = m.levels.items }
+
+-- that of a netlist, which speaks of its nets
+pub record IsPlan (net : Netlist) (m : Plan) : Type 0 where
+  pub ready : IsReady net
+  pub inputs : m.inputs ≡ input_events net
+  pub outputs : m.outputs ≡ output_events net
+  pub program : IsProgram net.cells m.steps
+  pub latched : AreLatches net.cells m.latches
+  pub steps_within : All (IsStepWithin (length net.cells)) m.steps
+  pub latches_within : All (IsLatchWithin (length net.cells)) m.latches
+  pub leveled : AreLevels net.cells m.levels
+  pub rising : StepsRise m.levels m.steps
+
+-- a plan of nets, moved to their places
+pub record IsMoved (places : Numbers) (old new : Plan) : Type 0 where
+  pub inputs : new.inputs ≡ map (event_moved (at places)) old.inputs
+  pub outputs : new.outputs ≡ map (event_moved (at places)) old.outputs
+  pub steps : AreStepsMoved (at places) old.steps new.steps
+  pub latches : new.latches ≡ map (latch_moved (at places)) old.latches
+  pub levels : (n : ℕ) → n < length places → at new.levels (at places n) ≡ at old.levels n
 
 -- the machine of a netlist
 pub record IsMachine (net : Netlist) (m : Machine) : Type 0 where
-  pub ready : IsReady net
-  pub inputs : m.inputs.items ≡ input_events net
-  pub outputs : m.outputs.items ≡ output_events net
-  pub program : IsProgram net.cells m.steps.items
-  pub latched : AreLatches net.cells m.latches.items
-  pub steps_within : All (IsStepWithin (length net.cells)) m.steps.items
-  pub latches_within : All (IsLatchWithin (length net.cells)) m.latches.items
-  pub leveled : AreLevels net.cells m.levels.items
-  pub rising : StepsRise m.levels.items m.steps.items
+  pub plan : Plan
+  pub of_net : IsPlan net plan
+  pub each : length m.places.items ≡ length net.cells
+  pub numbering : IsNumbering m.places.items (length m.levels.items)
+  pub moved : IsMoved m.places.items plan (plan_of m)
 
--- a machine can run over so many nets
-pub record IsRunnable (count : ℕ) (m : Machine) : Type 0 where
-  pub inputs : All (OnNets (λ a. a < count)) m.inputs.items
-  pub outputs : All (OnNets (λ a. a < count)) m.outputs.items
-  pub apart : AreApart m.inputs.items
-  pub ordered : SparesEarlier m.steps.items
-  pub one_cell : HaveOneCell m.steps.items
-  pub steps : All (IsStepWithin count) m.steps.items
-  pub latches : All (IsLatchWithin count) m.latches.items
-  pub one_pin : HaveOnePin m.latches.items
-  pub apart_from_steps : (j : ℕ) (l : Latch) → slice_get m.latches.items j ≡ Some l → All (λ s. s.net ≢ l.net) m.steps.items
+-- a plan can run over so many nets
+pub record IsRunnable (count : ℕ) (m : Plan) : Type 0 where
+  pub inputs : All (OnNets (λ a. a < count)) m.inputs
+  pub outputs : All (OnNets (λ a. a < count)) m.outputs
+  pub apart : AreApart m.inputs
+  pub ordered : SparesEarlier m.steps
+  pub one_cell : HaveOneCell m.steps
+  pub steps : All (IsStepWithin count) m.steps
+  pub latches : All (IsLatchWithin count) m.latches
+  pub one_pin : HaveOnePin m.latches
+  pub apart_from_steps : (j : ℕ) (l : Latch) → slice_get m.latches j ≡ Some l → All (λ s. s.net ≢ l.net) m.steps
 
 -- The values settle for what pulses give and registers hold: what the pulses give, then the registers too, then the steps.
-pub record Settles (m : Machine) (given : List Pulse) (held values : Numbers) : Type 0 where
+pub record Settles (m : Plan) (given : List Pulse) (held values : Numbers) : Type 0 where
   pub first : Numbers
   pub loaded : Numbers
-  pub pulses : GivesAll m.inputs.items given first
-  pub registers : AreLoaded m.latches.items held loaded
-  pub others : KeepsOthers m.latches.items first loaded
-  pub evaluated : AreShown m.steps.items values
-  pub sources : KeepsOtherSteps m.steps.items loaded values
+  pub pulses : GivesAll m.inputs given first
+  pub registers : AreLoaded m.latches held loaded
+  pub others : KeepsOthers m.latches first loaded
+  pub evaluated : AreShown m.steps values
+  pub sources : KeepsOtherSteps m.steps loaded values
 
 -- The values settle where all registers and inputs are 0.
-pub record SettlesAtReset (m : Machine) (values : Numbers) : Type 0 where
-  pub evaluated : AreShown m.steps.items values
-  pub sources : KeepsOtherSteps m.steps.items (replicate (length values) 0) values
+pub record SettlesAtReset (m : Plan) (values : Numbers) : Type 0 where
+  pub evaluated : AreShown m.steps values
+  pub sources : KeepsOtherSteps m.steps (replicate (length values) 0) values
 
--- A machine runs through a cycle: the values settle; then what is shown of them, and the registers after it.
-pub record RunsThrough (m : Machine) (given : List Pulse) (held values : Numbers) (seen : List Pulse) (after : Numbers) : Type 0 where
+-- A cycle is run through: the values settle; then what is shown of them, and the registers after it.
+pub record RunsThrough (m : Plan) (given : List Pulse) (held values : Numbers) (seen : List Pulse) (after : Numbers) : Type 0 where
   pub settles : Settles m given held values
-  pub shows : seen ≡ map (pulse_shown values) m.outputs.items
-  pub taken : AreTaken m.latches.items values after
-  pub rest : KeepsOthers m.latches.items held after
+  pub shows : seen ≡ map (pulse_shown values) m.outputs
+  pub taken : AreTaken m.latches values after
+  pub rest : KeepsOthers m.latches held after
 
 -- The values stand still: they are those of the registers, and each register holds what its pin has.
-pub record IsStill (m : Machine) (held values : Numbers) : Type 0 where
-  pub registers : AreLoaded m.latches.items held values
-  pub evaluated : AreShown m.steps.items values
-  pub taken : AreTaken m.latches.items values held
+pub record IsStill (m : Plan) (held values : Numbers) : Type 0 where
+  pub registers : AreLoaded m.latches held values
+  pub evaluated : AreShown m.steps values
+  pub taken : AreTaken m.latches values held
 
 -- a cell that is no register holds 0
 abbrev pub HoldNothingElse : List Cell → Numbers → Type 0
 HoldNothingElse cells registers = (n : ℕ) (c : Cell) → slice_get cells n ≡ Some c → (IsRegister c.gate → ⊥) → at registers n ≡ 0
 
--- a register for each cell, and for each net a value and one before it
-pub record IsState (cells : List Cell) (registers values before : Numbers) : Type 0 where
-  pub registers_each : length registers ≡ length cells
-  pub values_each : length values ≡ length cells
-  pub before_each : length before ≡ length cells
-  pub held : All IsWord registers
-  pub words : All IsWord values
-  pub before_words : All IsWord before
-  pub others : HoldNothingElse cells registers
+-- for each of so many places a register, a value and one before it
+pub record IsState (count : ℕ) (registers values before : Numbers) : Type 0 where
+  pub registers_each : length registers ≡ count
+  pub values_each : length values ≡ count
+  pub before_each : length before ≡ count
 
 -- what a simulator keeps; `still` only where a cycle has come and the values stand still
 pub record IsBuilt (net : Netlist) (m : Machine) (registers values before : Numbers) (still : Bool) (past : Past) : Type 0 where
   pub machine : IsMachine net m
-  pub state : IsState net.cells registers values before
-  pub stands : IsTrue still → IsStill m registers values × HasCome past
-  pub came : IsPast net.cells past values before
+  pub state : IsState (length m.levels.items) registers values before
+  pub others : HoldNothingElse net.cells (by_net m.places.items registers)
+  pub stands : IsTrue still → IsStill (plan_of m) registers values × HasCome past
+  pub came : IsPast net.cells past (by_net m.places.items values) (by_net m.places.items before)
+
+-- what clauses see of it
+abbrev pub seen : Netlist → Machine → Numbers → Numbers → Numbers → Past → Simulator
+seen net m registers values before past =
+    record {
+      net = net;
+      registers = by_net m.places.items registers;
+      settlings = settlings_of past (by_net m.places.items values) (by_net m.places.items before);
+    }

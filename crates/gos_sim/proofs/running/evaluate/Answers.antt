@@ -1,5 +1,4 @@
 use Rattle.std.proofs.Common.{◌≡◌, ◌<◌, ◌∙◌, ℕ, All, length, arith, subst}
-use Rattle.std.proofs.lemmas.Grind.{common_steps}
 use Rattle.std.proofs.lemmas.Option.{slice_get-get_or, slice_get_within}
 use Rattle.gos_sim.specs.inner.Program.{IsStepWithin}
 use Rattle.gos_sim.proofs.StepLemmas.{shown_more, kept_by_step}
@@ -12,9 +11,8 @@ loop-step-preserved c =
     record {
       shown = shown_more c.args.steps.now c.loop-step.values c.loop-step.step-index c.value_of-value.result _ c.requires.order c.requires.one is
           (subst (λ (n : ℕ). All (IsStepWithin n) c.args.steps.now) same c.requires.steps)
-          c.value_of-value.ensures.shown c.loop-step.invariant.shown;
+          c.value_of-value.ensures c.loop-step.invariant.shown;
       others = λ n free. kept_by_step c.args.steps.now c.loop-step.values c.loop-step.step-index n c.value_of-value.result _ is free ∙ c.loop-step.invariant.others n free;
-      words = grind (arith, common_steps);
     }
 
 pub returns-clause-shown : goal.returns-clause-shown

@@ -1,5 +1,3 @@
-use Rattle.std.proofs.Common.{All}
-use Rattle.gos_sim.specs.Cycle.{IsWord}
 use Rattle.gos_sim.specs.inner.Running.{KeepsOtherSteps}
 use Rattle.gos_sim.proofs.StepLemmas.{AreShownBefore}
 use Rattle.gos_sim.proofs.running.evaluate.Given as goal
@@ -10,5 +8,4 @@ invariant-loop-step l =
     record {
       shown : AreShownBefore l.steps l.step-index l.values;
       others : KeepsOtherSteps l.steps l.initial.values l.values;
-      words : All IsWord l.values;
     }

@@ -1,5 +1,4 @@
-use Rattle.std.proofs.Common.{◌≡◌, All, IsTrue}
-use Rattle.gos_sim.specs.Cycle.{IsWord}
+use Rattle.std.proofs.Common.{◌≡◌, IsTrue}
 use Rattle.gos_sim.specs.inner.Running.{KeepsOthers}
 use Rattle.gos_sim.proofs.LatchLemmas.{AreTakenBefore}
 use Rattle.gos_sim.proofs.running.latch.Given as goal
@@ -10,6 +9,5 @@ invariant-loop-latch l =
     record {
       taken : AreTakenBefore l.latches l.values l.latch-index l.registers;
       others : KeepsOthers l.latches l.initial.registers l.registers;
-      held : All IsWord l.registers;
       same : IsTrue l.same → l.registers ≡ l.initial.registers;
     }

@@ -1,5 +1,3 @@
-use Rattle.std.proofs.Common.{All}
-use Rattle.gos_sim.specs.Cycle.{IsWord}
 use Rattle.gos_sim.specs.inner.Running.{KeepsOthers}
 use Rattle.gos_sim.proofs.LatchLemmas.{AreLoadedBefore}
 use Rattle.gos_sim.proofs.running.load.Given as goal
@@ -10,5 +8,4 @@ invariant-loop-latch l =
     record {
       loaded : AreLoadedBefore l.latches l.registers l.latch-index l.values;
       others : KeepsOthers l.latches l.initial.values l.values;
-      words : All IsWord l.values;
     }

@@ -1,29 +1,31 @@
-use Rattle.std.proofs.Common.{Global, List, Vec, ℕ, ◌≡◌, ◌∙◌, All, ap, arith, length, subst, sym, take, ◌∷◌}
+use Rattle.std.proofs.Common.{Global, List, Vec, ℕ, ◌≡◌, ◌∙◌, ap, arith, length, subst, sym, take, ◌∷◌}
 use Rattle.std.specs.Vec.{with_items}
 use Rattle.std.proofs.lemmas.List.{with_items_is}
 use Rattle.gos_netlist.specs.Settling.{Numbers}
-use Rattle.gos_sim.specs.Cycle.{GivesAll, IsCycle, IsWord, Simulator}
+use Rattle.gos_sim.specs.Cycle.{GivesAll, IsCycle, Simulator}
 use Rattle.gos_sim.specs.declared.past.Past.{Past}
 use Rattle.gos_sim.specs.inner.Past.{HasCome, IsPast, settlings_of}
-use Rattle.gos_sim.specs.inner.Machine.{IsBuilt, IsRunnable, RunsThrough}
-use Rattle.gos_sim.proofs.CycleLemmas.{built_after, cycle_of, either_way, runnable}
+use Rattle.gos_sim.specs.inner.Places.{by_net}
+use Rattle.gos_sim.specs.inner.Machine.{IsBuilt, IsRunnable, RunsThrough, plan_of}
+use Rattle.gos_sim.proofs.CycleLemmas.{either_way}
+use Rattle.gos_sim.proofs.MachineLemmas.{machine_cycle, machine_others, machine_runnable}
 use Rattle.gos_sim.proofs.PastLemmas.{come_after, past_kept, settlings_after}
 use Rattle.gos_sim.proofs.sim.Sim.cycle.Goals as goal
 
 pub rests-rests-requires-clause-ready : goal.rests-rests-requires-clause-ready
 rests-rests-requires-clause-ready c =
     let parts = c.self.inside in
-    let each : length parts.net.cells ≡ length c.deref.result.now = sym (ap length c.deref.ensures.value ∙ c.self.invariant.state.values_each) in
-    subst (λ (n : ℕ). IsRunnable n parts.machine) each (runnable parts.net parts.machine c.self.invariant.machine)
+    let each : length parts.machine.levels.items ≡ length c.deref.result.now = sym (ap length c.deref.ensures.value ∙ c.self.invariant.state.values_each) in
+    subst (λ (n : ℕ). IsRunnable n (plan_of parts.machine)) each (machine_runnable parts.net parts.machine c.self.invariant.machine)
 
 pub run-stands-requires-clause-ready : goal.run-stands-requires-clause-ready
 run-stands-requires-clause-ready c =
     let parts = c.self.inside in
-    let turned : length c.turn.new.values.items ≡ length parts.net.cells =
-    either_way (λ (v : Vec ℕ Global). length v.items ≡ length parts.net.cells) c.rests-rests.result parts.values parts.before c.turn.new.values
+    let turned : length c.turn.new.values.items ≡ length parts.machine.levels.items =
+    either_way (λ (v : Vec ℕ Global). length v.items ≡ length parts.machine.levels.items) c.rests-rests.result parts.values parts.before c.turn.new.values
     c.turn.ensures.values c.turn.ensures.room c.self.invariant.state.values_each c.self.invariant.state.before_each in
-    let each : length parts.net.cells ≡ length c.deref_mut-2.result.now = sym (ap length c.deref_mut-2.ensures.value ∙ turned) in
-    subst (λ (n : ℕ). IsRunnable n parts.machine) each (runnable parts.net parts.machine c.self.invariant.machine)
+    let each : length parts.machine.levels.items ≡ length c.deref_mut-2.result.now = sym (ap length c.deref_mut-2.ensures.value ∙ turned) in
+    subst (λ (n : ℕ). IsRunnable n (plan_of parts.machine)) each (machine_runnable parts.net parts.machine c.self.invariant.machine)
 
 pub run-stands-requires-clause-given : goal.run-stands-requires-clause-given
 run-stands-requires-clause-given c = λ yes.
@@ -37,31 +39,34 @@ invariant_of-self c =
     let parts = c.self.inside in
     let built = c.self.invariant in
     let rests = c.rests-rests.result in
-    let turned : length c.turn.new.values.items ≡ length parts.net.cells =
-    either_way (λ (v : Vec ℕ Global). length v.items ≡ length parts.net.cells) rests parts.values parts.before c.turn.new.values
-    c.turn.ensures.values c.turn.ensures.room built.state.values_each built.state.before_each in
-    let kept : length c.turn.new.before.items ≡ length parts.net.cells =
-    either_way (λ (v : Vec ℕ Global). length v.items ≡ length parts.net.cells) rests parts.before parts.values c.turn.new.before
+    let nets : Numbers → Numbers = by_net parts.machine.places.items in
+    let turned : length c.turn.new.values.items ≡ length parts.machine.levels.items =
+    either_way (λ (v : Vec ℕ Global). length v.items ≡ length parts.machine.levels.items) c.rests-rests.result parts.values parts.before c.turn.new.values
+    c.turn.ensures.values c.turn.ensures.room c.self.invariant.state.values_each c.self.invariant.state.before_each in
+    let kept : length c.turn.new.before.items ≡ length parts.machine.levels.items =
+    either_way (λ (v : Vec ℕ Global). length v.items ≡ length parts.machine.levels.items) rests parts.before parts.values c.turn.new.before
     c.turn.ensures.before c.turn.ensures.turned built.state.before_each built.state.values_each in
-    let kept_words : All IsWord c.turn.new.before.items =
-    either_way (λ (v : Vec ℕ Global). All IsWord v.items) rests parts.before parts.values c.turn.new.before
-    c.turn.ensures.before c.turn.ensures.turned built.state.before_words built.state.words in
-    let registers : length c.run-stands.new.registers ≡ length parts.net.cells = omega (arith, built.state.registers_each) in
-    let values : length c.run-stands.new.values ≡ length parts.net.cells = omega (arith, turned) in
+    let registers : length c.run-stands.new.registers ≡ length parts.machine.levels.items = omega (arith, built.state.registers_each) in
+    let values : length c.run-stands.new.values ≡ length parts.machine.levels.items = omega (arith, turned) in
     let after = with_items_is parts.registers c.run-stands.new.registers (omega arith) in
     let shown = with_items_is c.turn.new.values c.run-stands.new.values (omega arith) in
-    let run = subst (λ (held : Numbers). RunsThrough parts.machine c.args.inputs.now held c.run-stands.new.values c.run-stands.new.outputs c.run-stands.new.registers) c.deref_mut.ensures.value c.run-stands.ensures.run in
+    let run = subst (λ (held : Numbers). RunsThrough (plan_of parts.machine) c.args.inputs.now held c.run-stands.new.values c.run-stands.new.outputs c.run-stands.new.registers) c.deref_mut.ensures.value c.run-stands.ensures.run in
     let next = c.after-self-inside.result in
     let come : HasCome next = subst HasCome (sym c.after-self-inside.ensures) (come_after parts.past rests) in
-    let came : IsPast parts.net.cells next c.run-stands.new.values c.turn.new.before.items =
-    subst (λ (p : Past). IsPast parts.net.cells p c.run-stands.new.values c.turn.new.before.items) (sym c.after-self-inside.ensures)
-    (past_kept parts.net.cells parts.past rests parts.values.items parts.before.items c.run-stands.new.values c.turn.new.before.items
-    (λ no. ap (λ (v : Vec ℕ Global). v.items) (c.turn.ensures.turned no)) built.came) in
+    let came : IsPast parts.net.cells next (nets c.run-stands.new.values) (nets c.turn.new.before.items) =
+    subst (λ (p : Past). IsPast parts.net.cells p (nets c.run-stands.new.values) (nets c.turn.new.before.items)) (sym c.after-self-inside.ensures)
+    (past_kept parts.net.cells parts.past rests (nets parts.values.items) (nets parts.before.items) (nets c.run-stands.new.values) (nets c.turn.new.before.items)
+    (λ no. ap (λ (v : Vec ℕ Global). nets v.items) (c.turn.ensures.turned no)) built.came) in
+    let fresh : IsBuilt parts.net parts.machine c.run-stands.new.registers c.run-stands.new.values c.turn.new.before.items c.run-stands.result next =
+    record {
+      machine = built.machine;
+      state = record { registers_each = registers; values_each = values; before_each = kept };
+      others = machine_others parts.net parts.machine built.machine parts.registers.items c.run-stands.new.values c.run-stands.new.registers c.args.inputs.now c.run-stands.new.outputs built.others run;
+      stands = λ yes. (c.run-stands.ensures.still yes, come);
+      came = came;
+    } in
     subst (λ (rs : Numbers). IsBuilt parts.net parts.machine rs (with_items c.turn.new.values c.run-stands.new.values).items c.turn.new.before.items c.run-stands.result next) (sym after)
-    (subst (λ (vs : Numbers). IsBuilt parts.net parts.machine c.run-stands.new.registers vs c.turn.new.before.items c.run-stands.result next) (sym shown)
-    (built_after parts.net parts.machine parts.registers.items parts.values.items parts.before.items c.run-stands.new.values c.turn.new.before.items
-    c.run-stands.new.registers parts.still c.run-stands.result parts.past next c.args.inputs.now c.run-stands.new.outputs
-    built run values kept registers c.run-stands.ensures.words kept_words c.run-stands.ensures.held c.run-stands.ensures.still come came))
+    (subst (λ (vs : Numbers). IsBuilt parts.net parts.machine c.run-stands.new.registers vs c.turn.new.before.items c.run-stands.result next) (sym shown) fresh)
 
 pub returns-clause-net : goal.returns-clause-net
 returns-clause-net c = ap (λ (s : Simulator). s.net) c.self.view_is
@@ -71,26 +76,22 @@ returns-clause-cycle c =
     let parts = c.self.inside in
     let built = c.self.invariant in
     let rests = c.rests-rests.result in
-    let turned : length c.turn.new.values.items ≡ length parts.net.cells =
-    either_way (λ (v : Vec ℕ Global). length v.items ≡ length parts.net.cells) rests parts.values parts.before c.turn.new.values
-    c.turn.ensures.values c.turn.ensures.room built.state.values_each built.state.before_each in
-    let registers : length c.run-stands.new.registers ≡ length parts.net.cells = omega (arith, built.state.registers_each) in
-    let values : length c.run-stands.new.values ≡ length parts.net.cells = omega (arith, turned) in
+    let nets : Numbers → Numbers = by_net parts.machine.places.items in
     let after = with_items_is parts.registers c.run-stands.new.registers (omega arith) in
     let shown = with_items_is c.turn.new.values c.run-stands.new.values (omega arith) in
-    let run = subst (λ (held : Numbers). RunsThrough parts.machine c.args.inputs.now held c.run-stands.new.values c.run-stands.new.outputs c.run-stands.new.registers) c.deref_mut.ensures.value c.run-stands.ensures.run in
-    let old : List Numbers = settlings_of parts.past parts.values.items parts.before.items in
-    let kept : Numbers = c.turn.new.before.items in
-    let settlings : settlings_of c.after-self-inside.result (with_items c.turn.new.values c.run-stands.new.values).items kept ≡ c.run-stands.new.values ∷ take 1 old =
-    ap (λ (vs : Numbers). settlings_of c.after-self-inside.result vs kept) shown
-    ∙ (ap (λ (p : Past). settlings_of p c.run-stands.new.values kept) c.after-self-inside.ensures
-    ∙ settlings_after parts.past rests parts.values.items parts.before.items c.run-stands.new.values kept
+    let run = subst (λ (held : Numbers). RunsThrough (plan_of parts.machine) c.args.inputs.now held c.run-stands.new.values c.run-stands.new.outputs c.run-stands.new.registers) c.deref_mut.ensures.value c.run-stands.ensures.run in
+    let old : List Numbers = settlings_of parts.past (nets parts.values.items) (nets parts.before.items) in
+    let kept : Numbers = nets c.turn.new.before.items in
+    let settlings : settlings_of c.after-self-inside.result (nets (with_items c.turn.new.values c.run-stands.new.values).items) kept ≡ nets c.run-stands.new.values ∷ take 1 old =
+    ap (λ (vs : Numbers). settlings_of c.after-self-inside.result (nets vs) kept) shown
+    ∙ (ap (λ (p : Past). settlings_of p (nets c.run-stands.new.values) kept) c.after-self-inside.ensures
+    ∙ settlings_after parts.past rests (nets parts.values.items) (nets parts.before.items) (nets c.run-stands.new.values) kept
     (λ yes. (built.stands (c.rests-rests.ensures.still yes)).1)
-    (λ yes. c.run-stands.ensures.rests yes ∙ (c.deref_mut-2.ensures.value ∙ ap (λ (v : Vec ℕ Global). v.items) (c.turn.ensures.values yes)))
-    (λ no. ap (λ (v : Vec ℕ Global). v.items) (c.turn.ensures.turned no))) in
-    let new : Numbers → List Numbers → Simulator = λ rs vs. record { net = parts.net; registers = rs; settlings = vs } in
-    subst (λ (rs : Numbers). IsCycle c.args.self.now c.args.inputs.now c.run-stands.new.outputs (new rs (settlings_of c.after-self-inside.result (with_items c.turn.new.values c.run-stands.new.values).items kept))) (sym after)
+    (λ yes. ap nets (c.run-stands.ensures.rests yes ∙ (c.deref_mut-2.ensures.value ∙ ap (λ (v : Vec ℕ Global). v.items) (c.turn.ensures.values yes))))
+    (λ no. ap (λ (v : Vec ℕ Global). nets v.items) (c.turn.ensures.turned no))) in
+    let new : Numbers → List Numbers → Simulator = λ rs vs. record { net = parts.net; registers = nets rs; settlings = vs } in
+    subst (λ (rs : Numbers). IsCycle c.args.self.now c.args.inputs.now c.run-stands.new.outputs (new rs (settlings_of c.after-self-inside.result (nets (with_items c.turn.new.values c.run-stands.new.values).items) kept))) (sym after)
     (subst (λ (vs : List Numbers). IsCycle c.args.self.now c.args.inputs.now c.run-stands.new.outputs (new c.run-stands.new.registers vs)) (sym settlings)
-    (subst (λ (s : Simulator). IsCycle s c.args.inputs.now c.run-stands.new.outputs (new c.run-stands.new.registers (c.run-stands.new.values ∷ take 1 old))) c.self.view_is
-    (cycle_of parts.net parts.machine parts.registers.items parts.values.items parts.before.items c.run-stands.new.values c.run-stands.new.registers parts.still parts.past old
-    c.args.inputs.now c.run-stands.new.outputs built run values registers)))
+    (subst (λ (s : Simulator). IsCycle s c.args.inputs.now c.run-stands.new.outputs (new c.run-stands.new.registers (nets c.run-stands.new.values ∷ take 1 old))) c.self.view_is
+    (machine_cycle parts.net parts.machine built.machine parts.registers.items c.run-stands.new.values c.run-stands.new.registers old
+    c.args.inputs.now c.run-stands.new.outputs built.others run)))

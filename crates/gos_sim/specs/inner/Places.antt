@@ -1,0 +1,63 @@
+-- Places: nets numbered anew, so that a simulator keeps their values in the order in which it writes them.
+--
+-- Read first: Program.
+use Rattle.std.specs.Prelude.{◌≡◌, ◌≢◌, ℕ, ◌<◌, ◌≤◌, Some, List, All, length, map, slice_get}
+use Rattle.std.specs.Option.{option_map}
+use Rattle.gos_netlist.specs.Nets.{Function, Input, Const, Not, And, Or, Xor, Mux, Add, Sub, Eq, Less, Gate, Reg}
+use Rattle.gos_netlist.specs.Seen.{function_of}
+use Rattle.gos_netlist.specs.Settling.{Numbers, at}
+use Rattle.gos_sim.specs.declared.event_nets.EventNets.{EventNets}
+use Rattle.gos_sim.specs.declared.program.Step.{Step}
+use Rattle.gos_sim.specs.declared.program.Latch.{Latch}
+
+-- the values of the nets, from those at their places
+abbrev pub by_net : Numbers → Numbers → Numbers
+by_net places values = map (at values) places
+
+-- a function of the nets at these places
+abbrev pub moved : (ℕ → ℕ) → Function → Function
+moved p Input = Input
+moved p (Const k) = Const k
+moved p (Not a) = Not (p a)
+moved p (And a b) = And (p a) (p b)
+moved p (Or a b) = Or (p a) (p b)
+moved p (Xor a b) = Xor (p a) (p b)
+moved p (Mux s a b) = Mux (p s) (p a) (p b)
+moved p (Add a b) = Add (p a) (p b)
+moved p (Sub a b) = Sub (p a) (p b)
+moved p (Eq a b) = Eq (p a) (p b)
+moved p (Less a b) = Less (p a) (p b)
+moved p (Gate s a) = Gate (p s) (p a)
+moved p (Reg a) = Reg (p a)
+
+-- a step, a latch and an event whose nets are moved to their places
+pub record IsStepMoved (p : ℕ → ℕ) (old new : Step) : Type 0 where
+  pub net : new.net ≡ p old.net
+  pub width : new.width ≡ old.width
+  pub gate : function_of new.gate ≡ moved p (function_of old.gate)
+
+abbrev pub latch_moved : (ℕ → ℕ) → Latch → Latch
+latch_moved p l = record { net = p l.net; pin = p l.pin }
+
+abbrev pub event_moved : (ℕ → ℕ) → EventNets → EventNets
+event_moved p e = record { input = e.input; pulse = p e.pulse; number = option_map p e.number }
+
+-- each of these steps is the one of those, moved
+pub record AreStepsMoved (p : ℕ → ℕ) (old new : List Step) : Type 0 where
+  pub each : length new ≡ length old
+  pub moved : (j : ℕ) (s t : Step) → slice_get old j ≡ Some s → slice_get new j ≡ Some t → IsStepMoved p s t
+
+-- where a net has no place yet
+abbrev pub none : ℕ
+none = 4294967295
+
+-- Each net that has a place stands there.
+pub record IsPartly (places nets : Numbers) : Type 0 where
+  pub room : length nets ≤ none
+  pub stands : (n : ℕ) → n < length places → at places n ≢ none → slice_get nets (at places n) ≡ Some n
+  pub within : All (λ n. n < length places) nets
+
+-- so many nets have places below a number, no two the same
+pub record IsNumbering (places : Numbers) (count : ℕ) : Type 0 where
+  pub below : (n : ℕ) → n < length places → at places n < count
+  pub one : (a b : ℕ) → a < length places → b < length places → at places a ≡ at places b → a ≡ b

@@ -1,0 +1,245 @@
+// The places of nets: a simulator keeps their values in the order in which it writes them.
+ghost use Rattle.std.specs.Prelude.{◌≡◌, ◌≢◌, ℕ, ◌<◌, All, IfOk, OnOk, Some, length, map, slice_get};
+ghost use Rattle.gos_netlist.specs.Nets.{pins};
+ghost use Rattle.gos_netlist.specs.Seen.{function_of};
+ghost use Rattle.gos_netlist.specs.Settling.{at};
+ghost use Rattle.gos_sim.specs.EventNets.{OnNets};
+ghost use Rattle.gos_sim.specs.inner.Program.{IsLatchWithin, IsStepWithin};
+ghost use Rattle.gos_sim.specs.inner.Places.{AreStepsMoved, IsNumbering, IsPartly, IsStepMoved, event_moved, latch_moved, moved, none};
+
+use crate::event_nets::EventNets;
+use crate::program::{Latch, Step};
+use gos_netlist::{Gate, NetId};
+use gos_types::NoMemory;
+use std::alloc::Global;
+
+/// Where a net has no place yet.
+const NONE: u32 = u32::MAX;
+
+/// The places of nets, and the nets that stand there.
+#[derive(Drop)]
+pub struct Places {
+    /// The place of each net.
+    pub of: Vec<u32>,
+    /// The net at each place.
+    pub nets: Vec<u32>,
+}
+
+impl Places {
+    // Gives a net the next place, if it has none. More places than 32 bits can number are more than memory has.
+    fn add(&mut self, net: u32) -> Result<(), NoMemory>
+        requires net { net < length self.old.of.items }
+        requires partly { IsPartly self.old.of.items self.old.nets.items }
+        ensures partly { OnOk result (IsPartly self.new.of.items self.new.nets.items) }
+        ensures each { OnOk result (length self.new.of.items ≡ length self.old.of.items) }
+        ensures placed { OnOk result (at self.new.of.items net ≢ none) }
+        ensures kept { OnOk result ((n : ℕ) → at self.old.of.items n ≢ none → at self.new.of.items n ≢ none) }
+    {
+        let place = self.nets.len();
+        if self.of[net as usize] != NONE {
+            return Ok(());
+        }
+        if place >= NONE as usize {
+            return Err(NoMemory);
+        }
+        self.nets.push(net)?;
+        self.of[net as usize] = place as u32;
+        Ok(())
+    }
+
+    // Gives places to the nets of registers.
+    fn add_latches(&mut self, latches: &[Latch]) -> Result<(), NoMemory>
+        requires latches { All (IsLatchWithin (length self.old.of.items)) latches.now }
+        requires partly { IsPartly self.old.of.items self.old.nets.items }
+        ensures partly { OnOk result (IsPartly self.new.of.items self.new.nets.items) }
+        ensures each { OnOk result (length self.new.of.items ≡ length self.old.of.items) }
+    {
+        for latch in latches {
+            self.add(latch.net)?;
+        }
+        Ok(())
+    }
+
+    // Gives places to the nets of steps.
+    fn add_steps(&mut self, steps: &[Step]) -> Result<(), NoMemory>
+        requires steps { All (IsStepWithin (length self.old.of.items)) steps.now }
+        requires partly { IsPartly self.old.of.items self.old.nets.items }
+        ensures partly { OnOk result (IsPartly self.new.of.items self.new.nets.items) }
+        ensures each { OnOk result (length self.new.of.items ≡ length self.old.of.items) }
+    {
+        for step in steps {
+            self.add(step.net)?;
+        }
+        Ok(())
+    }
+
+    // Gives places to all other nets below a count.
+    fn add_others(&mut self, count: u32) -> Result<(), NoMemory>
+        requires count { count ≡ length self.old.of.items }
+        requires partly { IsPartly self.old.of.items self.old.nets.items }
+        ensures partly { OnOk result (IsPartly self.new.of.items self.new.nets.items) }
+        ensures each { OnOk result (length self.new.of.items ≡ length self.old.of.items) }
+        ensures placed { OnOk result ((n : ℕ) → n < count → at self.new.of.items n ≢ none) }
+    {
+        for net in 0..count {
+            self.add(net)?;
+        }
+        Ok(())
+    }
+}
+
+// The places of so many nets: first the registers, then the steps in their order, then all others.
+#[tactic(auto, using(crate::proofs::NumberLemmas::numbering_of, crate::proofs::NumberLemmas::partly_none))]
+pub fn numbered(
+    alloc: Global,
+    count: usize,
+    latches: &[Latch],
+    steps: &[Step],
+) -> Result<Places, NoMemory>
+    requires latches { All (IsLatchWithin count) latches.now }
+    requires steps { All (IsStepWithin count) steps.now }
+    ensures each { IfOk result (λ places. length places.of.items ≡ count) }
+    ensures numbering { IfOk result (λ places. IsNumbering places.of.items (length places.nets.items)) }
+    ensures stands { IfOk result (λ places. (n : ℕ) → n < count → slice_get places.nets.items (at places.of.items n) ≡ Some n) }
+    ensures within { IfOk result (λ places. All (λ n. n < count) places.nets.items) }
+{
+    if count > NONE as usize {
+        return Err(NoMemory);
+    }
+    let of = vec![in alloc; NONE; count]?;
+    let nets = Vec::new(alloc);
+    let mut places = Places { of, nets };
+    places.add_latches(latches)?;
+    places.add_steps(steps)?;
+    places.add_others(count as u32)?;
+    Ok(places)
+}
+
+// What is known of nets, at their places.
+pub fn levels_moved(alloc: Global, nets: &[u32], levels: &[u32]) -> Result<Vec<u32>, NoMemory>
+    requires { All (λ n. n < length levels.now) nets.now }
+    ensures { IfOk result (λ there. there.items ≡ map (at levels.now) nets.now) }
+{
+    let mut there = Vec::new(alloc);
+    for net in nets {
+        there.push(levels[*net as usize])?;
+    }
+    Ok(there)
+}
+
+// Events at the places of their nets.
+pub fn events_moved(
+    alloc: Global,
+    events: &[EventNets],
+    places: &[u32],
+) -> Result<Vec<EventNets>, NoMemory>
+    requires { All (OnNets (λ a. a < length places.now)) events.now }
+    ensures { IfOk result (λ there. there.items ≡ map (event_moved (at places.now)) events.now) }
+{
+    let mut there = Vec::new(alloc);
+    for event in events {
+        there.push(event_moved(event, places))?;
+    }
+    Ok(there)
+}
+
+// An event at the places of its nets.
+fn event_moved(event: &EventNets, places: &[u32]) -> EventNets
+    requires { OnNets (λ a. a < length places.now) event.now }
+    ensures { result ≡ event_moved (at places.now) event.now }
+{
+    let number = match event.number {
+        Some(number) => Some(places[number as usize]),
+        None => None,
+    };
+    EventNets {
+        input: event.input,
+        pulse: places[event.pulse as usize],
+        number,
+    }
+}
+
+// Registers at the places of their nets.
+pub fn latches_moved(
+    alloc: Global,
+    latches: &[Latch],
+    places: &[u32],
+) -> Result<Vec<Latch>, NoMemory>
+    requires { All (IsLatchWithin (length places.now)) latches.now }
+    ensures { IfOk result (λ there. there.items ≡ map (latch_moved (at places.now)) latches.now) }
+{
+    let mut there = Vec::new(alloc);
+    for latch in latches {
+        there.push(latch_moved(latch, places))?;
+    }
+    Ok(there)
+}
+
+// A register at the places of its nets.
+fn latch_moved(latch: &Latch, places: &[u32]) -> Latch
+    requires { IsLatchWithin (length places.now) latch.now }
+    ensures { result ≡ latch_moved (at places.now) latch.now }
+{
+    Latch {
+        net: places[latch.net as usize],
+        pin: places[latch.pin as usize],
+    }
+}
+
+// Steps at the places of their nets.
+pub fn steps_moved(alloc: Global, steps: &[Step], places: &[u32]) -> Result<Vec<Step>, NoMemory>
+    requires { All (IsStepWithin (length places.now)) steps.now }
+    ensures { IfOk result (λ there. AreStepsMoved (at places.now) steps.now there.items) }
+{
+    let mut there = Vec::new(alloc);
+    for step in steps {
+        there.push(step_moved(step, places))?;
+    }
+    Ok(there)
+}
+
+// A step at the places of its nets.
+fn step_moved(step: &Step, places: &[u32]) -> Step
+    requires { IsStepWithin (length places.now) step.now }
+    ensures { IsStepMoved (at places.now) step.now result }
+{
+    Step {
+        net: places[step.net as usize],
+        width: step.width,
+        gate: gate_moved(step.gate, places),
+    }
+}
+
+// A gate at the places of its pins.
+fn gate_moved(gate: Gate, places: &[u32]) -> Gate
+    requires { All (λ a. a < length places.now) (pins (function_of gate)) }
+    ensures { function_of result ≡ moved (at places.now) (function_of gate) }
+{
+    match gate {
+        Gate::Input => Gate::Input,
+        Gate::Const(k) => Gate::Const(k),
+        Gate::Not(a) => Gate::Not(pin_moved(a, places)),
+        Gate::And(a, b) => Gate::And(pin_moved(a, places), pin_moved(b, places)),
+        Gate::Or(a, b) => Gate::Or(pin_moved(a, places), pin_moved(b, places)),
+        Gate::Xor(a, b) => Gate::Xor(pin_moved(a, places), pin_moved(b, places)),
+        Gate::Mux(s, a, b) => Gate::Mux(
+            pin_moved(s, places),
+            pin_moved(a, places),
+            pin_moved(b, places),
+        ),
+        Gate::Add(a, b) => Gate::Add(pin_moved(a, places), pin_moved(b, places)),
+        Gate::Sub(a, b) => Gate::Sub(pin_moved(a, places), pin_moved(b, places)),
+        Gate::Eq(a, b) => Gate::Eq(pin_moved(a, places), pin_moved(b, places)),
+        Gate::Less(a, b) => Gate::Less(pin_moved(a, places), pin_moved(b, places)),
+        Gate::Gate(s, a) => Gate::Gate(pin_moved(s, places), pin_moved(a, places)),
+        Gate::Reg(a) => Gate::Reg(pin_moved(a, places)),
+    }
+}
+
+// The place of a pin's net.
+fn pin_moved(pin: NetId, places: &[u32]) -> NetId
+    requires { pin.0 < length places.now }
+    ensures { result.0 ≡ at places.now pin.0 }
+{
+    NetId(places[pin.0 as usize])
+}
