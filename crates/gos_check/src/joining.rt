@@ -24,7 +24,7 @@ pub(crate) fn below_function(
     body: NumberedTerm,
 ) -> Result<NumberedTerm, CheckFault>
     requires { body.next + 1 < 2 ^ 32 }
-    ensures node { IfOk result (λ r. node_seen r.node ≡ (binder_result OfFun name.now (type_of ty.now) (seen body)).node) }
+    ensures node { IfOk result (λ r. node_seen r.node.value ≡ (binder_result OfFun name.now (type_of ty.now) (seen body)).node) }
     ensures names { IfOk result (λ r. r.names.items ≡ (binder_result OfFun name.now (type_of ty.now) (seen body)).names) }
     ensures next { IfOk result (λ r. r.next ≡ (binder_result OfFun name.now (type_of ty.now) (seen body)).next) }
     ensures room { IfOk result (λ r. r.next + length r.names.items ≤ body.next + length body.names.items + 1) }
@@ -36,15 +36,16 @@ pub(crate) fn below_function(
         next,
     } = close(alloc, name, body.names, body.next)?;
     let outcome = copy(alloc, &body.node.ty)?;
-    Ok(NumberedTerm {
-        node: Node {
-            ty: function_type(alloc, ty, outcome)?,
-            splits: Vec::new(alloc),
-            form: NodeForm::Fun {
-                number,
-                body: Box::new(alloc, body.node)?,
-            },
+    let node = Node {
+        ty: function_type(alloc, ty, outcome)?,
+        splits: Vec::new(alloc),
+        form: NodeForm::Fun {
+            number,
+            body: body.node,
         },
+    };
+    Ok(NumberedTerm {
+        node: Box::new(alloc, node)?,
         names,
         next,
     })
@@ -59,7 +60,7 @@ pub(crate) fn below_block(
     body: NumberedTerm,
 ) -> Result<NumberedTerm, CheckFault>
     requires { body.next + 1 < 2 ^ 32 }
-    ensures node { IfOk result (λ r. node_seen r.node ≡ (binder_result (OfNew width) name.now (Var width) (seen body)).node) }
+    ensures node { IfOk result (λ r. node_seen r.node.value ≡ (binder_result (OfNew width) name.now (Var width) (seen body)).node) }
     ensures names { IfOk result (λ r. r.names.items ≡ (binder_result (OfNew width) name.now (Var width) (seen body)).names) }
     ensures next { IfOk result (λ r. r.next ≡ (binder_result (OfNew width) name.now (Var width) (seen body)).next) }
     ensures room { IfOk result (λ r. r.next + length r.names.items ≤ body.next + length body.names.items + 1) }
@@ -70,16 +71,17 @@ pub(crate) fn below_block(
         names,
         next,
     } = close(alloc, name, body.names, body.next)?;
-    Ok(NumberedTerm {
-        node: Node {
-            ty: copy(alloc, &body.node.ty)?,
-            splits: Vec::new(alloc),
-            form: NodeForm::New {
-                number,
-                width,
-                body: Box::new(alloc, body.node)?,
-            },
+    let node = Node {
+        ty: copy(alloc, &body.node.ty)?,
+        splits: Vec::new(alloc),
+        form: NodeForm::New {
+            number,
+            width,
+            body: body.node,
         },
+    };
+    Ok(NumberedTerm {
+        node: Box::new(alloc, node)?,
         names,
         next,
     })
@@ -91,7 +93,7 @@ pub(crate) fn with_one(
     rule: OnePart,
     part: NumberedTerm,
 ) -> Result<NumberedTerm, CheckFault>
-    ensures node { IfOk result (λ r. node_seen r.node ≡ (one_result (one_form rule) (seen part)).node) }
+    ensures node { IfOk result (λ r. node_seen r.node.value ≡ (one_result (one_form rule) (seen part)).node) }
     ensures names { IfOk result (λ r. r.names.items ≡ (one_result (one_form rule) (seen part)).names) }
     ensures next { IfOk result (λ r. r.next ≡ (one_result (one_form rule) (seen part)).next) }
     ensures room { IfOk result (λ r. r.next + length r.names.items ≤ part.next + length part.names.items) }
@@ -112,7 +114,7 @@ pub(crate) fn with_two(
     right: NumberedTerm,
 ) -> Result<NumberedTerm, CheckFault>
     requires { right.next + length left.names.items + length right.names.items < 2 ^ 32 }
-    ensures node { IfOk result (λ r. node_seen r.node ≡ (two_result (two_form rule) (seen left) (seen right)).node) }
+    ensures node { IfOk result (λ r. node_seen r.node.value ≡ (two_result (two_form rule) (seen left) (seen right)).node) }
     ensures names { IfOk result (λ r. r.names.items ≡ (two_result (two_form rule) (seen left) (seen right)).names) }
     ensures next { IfOk result (λ r. r.next ≡ (two_result (two_form rule) (seen left) (seen right)).next) }
     ensures room { IfOk result (λ r. r.next + length r.names.items ≤ right.next + length left.names.items + length right.names.items) }
@@ -129,15 +131,15 @@ pub(crate) fn with_two(
 // A choice, whose first two parts are merged already, and whose last part was numbered after that.
 pub(crate) fn with_three(
     alloc: Global,
-    test: Node,
-    yes: Node,
+    test: Box<Node>,
+    yes: Box<Node>,
     inner: Merged,
     no: NumberedTerm,
 ) -> Result<NumberedTerm, CheckFault>
     requires { no.next + length inner.names.items + length no.names.items < 2 ^ 32 }
-    ensures node { IfOk result (λ r. node_seen r.node ≡ If (type_of_node (node_seen yes))
-        (merged_splits inner.names.items no.names.items no.next ++ inner.splits.items) (node_seen test)
-        (node_seen yes) (node_seen no.node)) }
+    ensures node { IfOk result (λ r. node_seen r.node.value ≡ If (type_of_node (node_seen yes.value))
+        (merged_splits inner.names.items no.names.items no.next ++ inner.splits.items) (node_seen test.value)
+        (node_seen yes.value) (node_seen no.node.value)) }
     ensures names { IfOk result (λ r. r.names.items ≡ merged_names inner.names.items no.names.items no.next) }
     ensures next { IfOk result (λ r. r.next ≡ merged_next inner.names.items no.names.items no.next) }
     ensures room { IfOk result (λ r. r.next + length r.names.items ≤ no.next + length inner.names.items + length no.names.items) }
@@ -158,20 +160,15 @@ pub(crate) fn with_three(
 fn choice_node(
     alloc: Global,
     splits: Vec<Split>,
-    m: Node,
-    n: Node,
-    p: Node,
-) -> Result<Node, CheckFault>
-    ensures ok { IfOk result (λ node. node_seen node ≡ If (type_of_node (node_seen n)) splits.items (node_seen m) (node_seen n) (node_seen p)) }
+    m: Box<Node>,
+    n: Box<Node>,
+    p: Box<Node>,
+) -> Result<Box<Node>, CheckFault>
+    ensures ok { IfOk result (λ node. node_seen node.value ≡ If (type_of_node (node_seen n.value)) splits.items
+        (node_seen m.value) (node_seen n.value) (node_seen p.value)) }
     ensures err { IfErr result (λ e. e ≡ CheckFault.NoMemory) }
 {
-    Ok(Node {
-        ty: copy(alloc, &n.ty)?,
-        splits,
-        form: NodeForm::If(
-            Box::new(alloc, m)?,
-            Box::new(alloc, n)?,
-            Box::new(alloc, p)?,
-        ),
-    })
+    let ty = copy(alloc, &n.ty)?;
+    let form = NodeForm::If(m, n, p);
+    Ok(Box::new(alloc, Node { ty, splits, form })?)
 }

@@ -20,23 +20,20 @@ use std::alloc::Global;
 impl OnePart {
     // The node of this form.
     #[tactic(auto, using(crate::proofs::NodeTypeLemmas::type_seen))]
-    pub fn node(self, alloc: Global, m: Node) -> Result<Node, CheckFault>
-        ensures ok { IfOk result (λ node. node_seen node ≡ One (one_type (one_form self) (type_of_node (node_seen m))) [] (one_form self) (node_seen m)) }
+    pub fn node(self, alloc: Global, m: Box<Node>) -> Result<Box<Node>, CheckFault>
+        ensures ok { IfOk result (λ node. node_seen node.value ≡ One (one_type (one_form self) (type_of_node (node_seen m.value))) []
+            (one_form self) (node_seen m.value)) }
         ensures err { IfErr result (λ e. e ≡ CheckFault.NoMemory) }
     {
         let ty = self.node_type(alloc, &m.ty)?;
-        let m = Box::new(alloc, m)?;
         let form = match self {
             OnePart::First => NodeForm::Fst(m),
             OnePart::Second => NodeForm::Snd(m),
             OnePart::Reading => NodeForm::Deref(m),
             OnePart::Negation => NodeForm::Not(m),
         };
-        Ok(Node {
-            ty,
-            splits: Vec::new(alloc),
-            form,
-        })
+        let splits = Vec::new(alloc);
+        Ok(Box::new(alloc, Node { ty, splits, form })?)
     }
 
     // The type of this form, from that of its part.
@@ -59,16 +56,14 @@ impl TwoParts {
         self,
         alloc: Global,
         splits: Vec<Split>,
-        m: Node,
-        n: Node,
-    ) -> Result<Node, CheckFault>
-        ensures ok { IfOk result (λ node. node_seen node ≡ Two (two_type (two_form self) (type_of_node (node_seen m))
-            (type_of_node (node_seen n))) splits.items (two_form self) (node_seen m) (node_seen n)) }
+        m: Box<Node>,
+        n: Box<Node>,
+    ) -> Result<Box<Node>, CheckFault>
+        ensures ok { IfOk result (λ node. node_seen node.value ≡ Two (two_type (two_form self) (type_of_node (node_seen m.value))
+            (type_of_node (node_seen n.value))) splits.items (two_form self) (node_seen m.value) (node_seen n.value)) }
         ensures err { IfErr result (λ e. e ≡ CheckFault.NoMemory) }
     {
         let ty = self.node_type(alloc, &m.ty, &n.ty)?;
-        let m = Box::new(alloc, m)?;
-        let n = Box::new(alloc, n)?;
         let form = match self {
             TwoParts::Application => NodeForm::App(m, n),
             TwoParts::Product => NodeForm::Pair(m, n),
@@ -78,7 +73,7 @@ impl TwoParts {
             TwoParts::Assignment => NodeForm::Assign(m, n),
             TwoParts::Operation(op) => NodeForm::Bin(op, m, n),
         };
-        Ok(Node { ty, splits, form })
+        Ok(Box::new(alloc, Node { ty, splits, form })?)
     }
 
     // The type of this form, from those of its parts.

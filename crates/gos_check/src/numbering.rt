@@ -13,7 +13,7 @@ ghost use Rattle.gos_syntax.specs.Sizes.{size};
 ghost use Rattle.gos_check.specs.Scopes.{type_at};
 ghost use Rattle.gos_check.specs.inner.Seen.{binders_of};
 ghost use Rattle.gos_check.specs.inner.Walked.{tree};
-ghost use Rattle.gos_check.specs.Nodes.{OfFun, OfNew, node_seen};
+ghost use Rattle.gos_check.specs.Nodes.{OfFun, OfNew, numbered_of, node_seen};
 ghost use Rattle.gos_check.specs.inner.Numbering.{
   one_form,
   two_form,
@@ -44,7 +44,7 @@ use std::alloc::Global;
 // A term that is numbered: its free names with their numbers, and the next number that is not taken.
 #[derive(Drop)]
 pub(crate) struct NumberedTerm {
-    pub node: Node,
+    pub node: Box<Node>,
     pub names: Vec<Open>,
     pub next: u32,
 }
@@ -60,7 +60,7 @@ pub(crate) fn number_module(alloc: Global, program: &Module) -> Result<Node, Che
     let imports = program.imports.as_slice();
     let first = imports.len() as u32;
     let body = number(alloc, imports, &Scope::Outermost, first, &program.body)?;
-    let mut node = body.node;
+    let mut node = Box::into_inner(body.node);
     place(imports, body.names.as_slice(), &mut node);
     Ok(node)
 }
@@ -100,15 +100,15 @@ fn number(
     term: &Term,
 ) -> Result<NumberedTerm, CheckFault>
     requires { next + 2 * size (tree term.now) < 2 ^ 32 }
-    ensures node { IfOk result (λ r. node_seen r.node ≡ (numbered (map import_of imports.now) (binders_of scope.now) next (tree term.now)).node) }
+    ensures node { IfOk result (λ r. node_seen r.node.value ≡ (numbered (map import_of imports.now) (binders_of scope.now) next (tree term.now)).node) }
     ensures names { IfOk result (λ r. r.names.items ≡ (numbered (map import_of imports.now) (binders_of scope.now) next (tree term.now)).names) }
     ensures next { IfOk result (λ r. r.next ≡ (numbered (map import_of imports.now) (binders_of scope.now) next (tree term.now)).next) }
     ensures room { IfOk result (λ r. r.next + length r.names.items ≤ next + 2 * size (tree term.now)) }
     ensures err { IfErr result (λ e. e ≡ CheckFault.NoMemory) }
 {
     match &term.form {
-        Form::Skip => Ok(closed(alloc, next, Ty::Com, NodeForm::Skip)),
-        Form::Lit { value, width } => Ok(closed(
+        Form::Skip => closed(alloc, next, Ty::Com, NodeForm::Skip),
+        Form::Lit { value, width } => closed(
             alloc,
             next,
             Ty::Exp(*width),
@@ -116,7 +116,7 @@ fn number(
                 value: u64::from(*value),
                 width: *width,
             },
-        )),
+        ),
         Form::Name(name) => number_name(alloc, imports, scope, next, name),
         Form::Fun { name, ty, body, .. } => {
             number_function(alloc, imports, scope, next, name, ty, body)
@@ -144,23 +144,20 @@ fn number(
     }
 }
 
-// A node without free names.
-fn closed(alloc: Global, next: u32, ty: Ty, form: NodeForm) -> NumberedTerm
-    ensures node { result.node.form ≡ form }
-    ensures ty { result.node.ty ≡ ty }
-    ensures splits { result.node.splits.items ≡ [] }
-    ensures names { result.names.items ≡ [] }
-    ensures next { result.next ≡ next }
+// A term without free names.
+fn closed(alloc: Global, next: u32, ty: Ty, form: NodeForm) -> Result<NumberedTerm, CheckFault>
+    ensures node { IfOk result (λ r. node_seen r.node.value ≡ numbered_of ty [] form) }
+    ensures names { IfOk result (λ r. r.names.items ≡ []) }
+    ensures next { IfOk result (λ r. r.next ≡ next) }
+    ensures room { IfOk result (λ r. r.next + length r.names.items ≤ next + 2) }
+    ensures err { IfErr result (λ e. e ≡ CheckFault.NoMemory) }
 {
-    NumberedTerm {
-        node: Node {
-            ty,
-            splits: Vec::new(alloc),
-            form,
-        },
+    let splits = Vec::new(alloc);
+    Ok(NumberedTerm {
+        node: Box::new(alloc, Node { ty, splits, form })?,
         names: Vec::new(alloc),
         next,
-    }
+    })
 }
 
 // A name that is used, with a new number.
@@ -173,7 +170,7 @@ fn number_name(
 ) -> Result<NumberedTerm, CheckFault>
     requires { next + 2 < 2 ^ 32 }
     ensures node { IfOk result (λ r.
-        node_seen r.node ≡ (use_result (or_com (type_at (map import_of imports.now) (binders_of scope.now)
+        node_seen r.node.value ≡ (use_result (or_com (type_at (map import_of imports.now) (binders_of scope.now)
         name.now)) name.now next).node) }
     ensures names { IfOk result (λ r.
         r.names.items ≡ (use_result (or_com (type_at (map import_of imports.now) (binders_of scope.now)
@@ -191,12 +188,13 @@ fn number_name(
         name: Name::new(alloc, name.bytes())?,
         number: next,
     })?;
+    let node = Node {
+        ty,
+        splits: Vec::new(alloc),
+        form: NodeForm::Use(next),
+    };
     Ok(NumberedTerm {
-        node: Node {
-            ty,
-            splits: Vec::new(alloc),
-            form: NodeForm::Use(next),
-        },
+        node: Box::new(alloc, node)?,
         names,
         next: next + 1,
     })
@@ -214,7 +212,7 @@ fn number_function(
     body: &Term,
 ) -> Result<NumberedTerm, CheckFault>
     requires { next + 2 * size (tree body.now) + 2 < 2 ^ 32 }
-    ensures node { IfOk result (λ r. node_seen r.node ≡ (binder_result OfFun name.now (type_of ty.now)
+    ensures node { IfOk result (λ r. node_seen r.node.value ≡ (binder_result OfFun name.now (type_of ty.now)
         (numbered (map import_of imports.now) (record { name = name.now; ty = type_of ty.now } ∷ binders_of scope.now)
         next (tree body.now))).node) }
     ensures names { IfOk result (λ r. r.names.items ≡ (binder_result OfFun name.now (type_of ty.now)
@@ -247,7 +245,7 @@ fn number_block(
     body: &Term,
 ) -> Result<NumberedTerm, CheckFault>
     requires { next + 2 * size (tree body.now) + 2 < 2 ^ 32 }
-    ensures node { IfOk result (λ r. node_seen r.node ≡ (binder_result (OfNew width) name.now (Var width)
+    ensures node { IfOk result (λ r. node_seen r.node.value ≡ (binder_result (OfNew width) name.now (Var width)
         (numbered (map import_of imports.now) (record { name = name.now; ty = Var width } ∷ binders_of scope.now)
         next (tree body.now))).node) }
     ensures names { IfOk result (λ r. r.names.items ≡ (binder_result (OfNew width) name.now (Var width)
@@ -280,7 +278,7 @@ fn number_one(
     m: &Term,
 ) -> Result<NumberedTerm, CheckFault>
     requires { next + 2 * size (tree m.now) < 2 ^ 32 }
-    ensures node { IfOk result (λ r. node_seen r.node ≡ (one_result (one_form rule)
+    ensures node { IfOk result (λ r. node_seen r.node.value ≡ (one_result (one_form rule)
         (numbered (map import_of imports.now) (binders_of scope.now) next (tree m.now))).node) }
     ensures names { IfOk result (λ r. r.names.items ≡ (one_result (one_form rule)
         (numbered (map import_of imports.now) (binders_of scope.now) next (tree m.now))).names) }
@@ -305,7 +303,7 @@ fn number_two(
     n: &Term,
 ) -> Result<NumberedTerm, CheckFault>
     requires { next + 2 * (size (tree m.now) + size (tree n.now)) < 2 ^ 32 }
-    ensures node { IfOk result (λ r. node_seen r.node ≡ (two_result (two_form rule)
+    ensures node { IfOk result (λ r. node_seen r.node.value ≡ (two_result (two_form rule)
         (numbered (map import_of imports.now) (binders_of scope.now) next (tree m.now))
         (numbered (map import_of imports.now) (binders_of scope.now)
         (numbered (map import_of imports.now) (binders_of scope.now) next (tree m.now)).next (tree n.now))).node) }
@@ -337,7 +335,7 @@ fn number_choice(
     p: &Term,
 ) -> Result<NumberedTerm, CheckFault>
     requires { next + 2 * (size (tree m.now) + size (tree n.now) + size (tree p.now)) < 2 ^ 32 }
-    ensures node { IfOk result (λ r. node_seen r.node ≡ (choice_result
+    ensures node { IfOk result (λ r. node_seen r.node.value ≡ (choice_result
         (numbered (map import_of imports.now) (binders_of scope.now) next (tree m.now))
         (numbered (map import_of imports.now) (binders_of scope.now)
         (numbered (map import_of imports.now) (binders_of scope.now) next (tree m.now)).next (tree n.now))

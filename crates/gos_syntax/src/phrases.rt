@@ -3,6 +3,8 @@
 //
 // Each gives the term that it read, and the number of the token after it. What it answers is said in
 // specs/inner/Phrases.antt: also that nothing else was to be read, and that none goes on past a stop.
+//
+// The ways of a rule are compiled into the rule's function, so that deep nesting takes no more of the stack for them.
 
 ghost use Rattle.std.specs.Prelude.{◌≡◌, ℕ, ◌<◌, ◌≤◌, length};
 ghost use Rattle.gos_lex.specs.declared.word.Word.TheVariants as words;
@@ -54,6 +56,7 @@ impl<'a> Source<'a> {
 
     // function = "fun" name ":" type "." term
     #[cycle(term)]
+    #[inline(always)]
     fn function(&self, alloc: Global, at: usize) -> Result<(Box<Term>, usize), Stop>
         requires stands { Stands self.now }
         requires room { at < length self.now.tokens.now }
@@ -73,6 +76,7 @@ impl<'a> Source<'a> {
 
     // block = "new" name ":" numeral "in" term
     #[cycle(term)]
+    #[inline(always)]
     fn block(&self, alloc: Global, at: usize) -> Result<(Box<Term>, usize), Stop>
         requires stands { Stands self.now }
         requires room { at < length self.now.tokens.now }
@@ -99,6 +103,7 @@ impl<'a> Source<'a> {
 
     // sequence = par [ ";" term ]
     #[cycle(term)]
+    #[inline(always)]
     fn sequence(&self, alloc: Global, at: usize) -> Result<(Box<Term>, usize), Stop>
         requires stands { Stands self.now }
         requires within { at ≤ length self.now.tokens.now }
@@ -144,6 +149,7 @@ impl<'a> Source<'a> {
 
     // choice = "if" term "then" cmd "else" cmd
     #[cycle(term)]
+    #[inline(always)]
     fn choice(&self, alloc: Global, at: usize) -> Result<(Box<Term>, usize), Stop>
         requires stands { Stands self.now }
         requires room { at < length self.now.tokens.now }
@@ -158,6 +164,7 @@ impl<'a> Source<'a> {
 
     // repetition = "while" term "do" cmd
     #[cycle(term)]
+    #[inline(always)]
     fn repetition(&self, alloc: Global, at: usize) -> Result<(Box<Term>, usize), Stop>
         requires stands { Stands self.now }
         requires room { at < length self.now.tokens.now }
@@ -171,6 +178,7 @@ impl<'a> Source<'a> {
 
     // assignment = rel [ ":=" rel ]
     #[cycle(term)]
+    #[inline(always)]
     fn assignment(&self, alloc: Global, at: usize) -> Result<(Box<Term>, usize), Stop>
         requires stands { Stands self.now }
         requires within { at ≤ length self.now.tokens.now }
@@ -306,6 +314,7 @@ impl<'a> Source<'a> {
 
     // brackets = "(" term [ "," term ] ")"
     #[cycle(term)]
+    #[inline(always)]
     fn brackets(&self, alloc: Global, at: usize) -> Result<(Box<Term>, usize), Stop>
         requires stands { Stands self.now }
         requires room { at < length self.now.tokens.now }

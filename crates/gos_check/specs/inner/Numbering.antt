@@ -68,7 +68,7 @@ pub record Result : Type 0 where
 
 -- a numbered term of the program
 abbrev pub seen : NumberedTerm → Result
-seen term = record { node = node_seen term.node; names = term.names.items; next = term.next }
+seen term = record { node = node_seen term.node.value; names = term.names.items; next = term.next }
 
 -- a term without names
 abbrev pub closed_result : Type' → Term → ℕ → Result
