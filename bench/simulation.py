@@ -5,12 +5,12 @@
 
 GOS is the program. It prints a row of the table of docs/PERFORMANCE.md for each circuit, or for each of those named:
 
-    active 300, active 20000, active 1000000
-                  some 20 levels, in all of which nets go on changing
-    deep          20,000 cells in 850 levels
-    part          22,500 cells, of which 1/64 go on changing
-    quiet         20,000 cells, of which none changes after the first cycles
-    ports         64 imports and 172 events, of which none happens
+    active-300, active-20000, active-1000000, or any other number
+              some 20 levels, in all of which nets go on changing
+    deep      20,000 cells in 850 levels
+    part      22,500 cells, of which 1/64 go on changing
+    quiet     20,000 cells, of which none changes after the first cycles
+    ports     64 imports and 172 events, of which none happens
 
 All times are of the processor, and each is the least of three runs. A run of few cycles is taken from one of many, so that
 what is left is the time of cycles alone; it is divided by them, and by the cells where these go on changing. Behind each
@@ -36,21 +36,21 @@ RUNS = 3
 # How long a run may take, in seconds, and how much longer than one of few cycles one of many takes at least.
 LIMIT, ENOUGH = 60, 0.3
 MOST_CYCLES = 1_000_000
-# Each circuit, the cycles after which it is measured, whether its cells go on changing, and what is aimed at.
+# How each circuit is made, the cycles after which it is measured, whether its cells go on changing, and what is aimed at.
 CIRCUITS = {
-    'active 300': (lambda: circuits.tiled(300), 10, True, ''),
-    'active 20000': (lambda: circuits.tiled(20_000), 10, True, ''),
-    'active 1000000': (lambda: circuits.tiled(1_000_000), 1, True, 'read 150 MB/s, memory 50 B a cell'),
+    'active-300': (lambda: circuits.tiled(300), 10, True, ''),
+    'active-20000': (lambda: circuits.tiled(20_000), 10, True, ''),
+    'active-1000000': (lambda: circuits.tiled(1_000_000), 1, True, '150 MB/s, 50 B'),
     'deep': (lambda: circuits.tiled(20_000, layers=850, tiles=1), 10, True, ''),
     'part': (lambda: circuits.tiled(22_500, tiles=64, active=1), 1_000, True, ''),
-    'quiet': (lambda: circuits.tiled(20_000, asked=False), 1_000, False, '100 ns a cycle'),
-    'ports': (lambda: circuits.many_ports(64), 1_000, False, '100 ns a cycle'),
+    'quiet': (lambda: circuits.tiled(20_000, asked=False), 1_000, False, '100 ns'),
+    'ports': (lambda: circuits.many_ports(64), 1_000, False, '100 ns'),
 }
 # Of netlists with fewer cells it isn't told how fast they are read, nor how much memory they take.
 LARGE = 10_000
 # Small functions, which a C++ compiler is done with in time.
 VERILATOR = '--cc --exe --build -j 4 -O3 --output-split 3000 --output-split-cfuncs 300 -MAKEFLAGS OPT_FAST=-O2 -Wno-lint'.split()
-HEAD = ['circuit', 'cells', 'cycles', 'gos', 'aim', 'vvp', 'Verilator', 'read', 'memory']
+HEAD = ['circuit', 'cells', 'cycles', 'time of a', 'gos', 'aim', 'vvp', 'Verilator', 'read', 'memory a cell']
 BENCH = '''module bench;
   reg clk = 0, ask = {asked};
   integer cycles;
@@ -112,7 +112,7 @@ def run(words, folder):
     if child.returncode == -signal.SIGKILL:
         raise TooLong
     if child.returncode:
-        sys.exit(f'{" ".join(map(str, words))}: status {child.returncode}')
+        raise subprocess.CalledProcessError(child.returncode, words)
     return Spent(used.ru_utime + used.ru_stime, memory)
 
 
@@ -167,25 +167,32 @@ def peer(name, make, circuit, first, folder, time_of, ours):
         seconds, _ = cycle_time(make(circuit, folder), first, folder)
     except TooLong:
         return 'over a minute'
+    except subprocess.CalledProcessError:
+        return 'fails'
     return f'{time_of(seconds)} ({round_off(seconds / ours)} times)' if ours else time_of(seconds)
 
 
+def named(name):
+    """What stands in the table of circuits; an active one of any number of cells need not stand there."""
+    return CIRCUITS.get(name) or (lambda: circuits.tiled(int(name.removeprefix('active-'))), 1, True, '')
+
+
 def row(gos, name, folder):
-    make, first, changing, aim = CIRCUITS[name]
+    make, first, changing, aim = named(name)
     circuit = make()
     cells = len(circuit.cells)
 
     def time_of(seconds):
-        return f'{round_off(seconds * 1e9 / (cells if changing else 1))} ns {"a cell" if changing else "a cycle"}'
+        return f'{round_off(seconds * 1e9 / (cells if changing else 1))} ns'
 
     command = gos_command(gos, circuit, folder)
     size, once = (folder / 'a.net').stat().st_size, best(command(1), folder)
     ours, cycles = cycle_time(command, first, folder)
     vvp = peer('iverilog', vvp_command, circuit, first, folder, time_of, ours)
     verilator = peer('verilator', verilator_command, circuit, first, folder, time_of, ours)
-    read, memory = f'{size / 1e6 / once.seconds:.0f} MB/s', f'{once.memory / cells:.0f} B a cell'
+    read, memory = f'{size / 1e6 / once.seconds:.0f} MB/s', f'{once.memory / cells:.0f} B'
     last = [read, memory] if cells >= LARGE else ['', '']
-    return [name, f'{cells:,}', f'{cycles:,}', time_of(ours), aim, vvp, verilator, *last]
+    return [name, f'{cells:,}', f'{cycles:,}', 'cell' if changing else 'cycle', time_of(ours), aim, vvp, verilator, *last]
 
 
 def main():
