@@ -5,7 +5,8 @@
 //
 // Inside, `machine.rt` has the netlist as it runs, in flat lists: its events (`event_nets.rt`), and its steps and latches
 // (`program.rt`), which `running.rt` goes through. The steps stand by their levels (`order.rt`), and the values of nets lie
-// in the order of these steps (`places.rt`). Taking a cycle needs no memory and can't be refused. `visits.rt` counts the levels in which the last cycle changed something.
+// in the order of these steps (`places.rt`). Taking a cycle needs no memory and can't be refused. `visits.rt` counts the
+// levels in which the last cycle changed something.
 #![tactic(auto)]
 
 mod event_nets;
