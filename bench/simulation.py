@@ -38,11 +38,11 @@ LIMIT, ENOUGH = 60, 0.3
 MOST_CYCLES = 1_000_000
 # How each circuit is made, the cycles after which it is measured, whether its cells go on changing, and what is aimed at.
 CIRCUITS = {
-    'active-300': (lambda: circuits.tiled(300), 10, True, ''),
-    'active-20000': (lambda: circuits.tiled(20_000), 10, True, ''),
-    'active-1000000': (lambda: circuits.tiled(1_000_000), 1, True, '150 MB/s, 50 B'),
-    'deep': (lambda: circuits.tiled(20_000, layers=850, tiles=1), 10, True, ''),
-    'part': (lambda: circuits.tiled(22_500, tiles=64, active=1), 1_000, True, ''),
+    'active-300': (lambda: circuits.tiled(300), 10, True, '1.4 ns'),
+    'active-20000': (lambda: circuits.tiled(20_000), 10, True, '1.3 ns'),
+    'active-1000000': (lambda: circuits.tiled(1_000_000), 1, True, '2.2 ns, 150 MB/s, 50 B'),
+    'deep': (lambda: circuits.tiled(20_000, layers=850, tiles=1), 10, True, '3.3 ns'),
+    'part': (lambda: circuits.tiled(22_500, tiles=64, active=1), 1_000, True, '0.27 ns'),
     'quiet': (lambda: circuits.tiled(20_000, asked=False), 1_000, False, '100 ns'),
     'ports': (lambda: circuits.many_ports(64), 1_000, False, '100 ns'),
 }
