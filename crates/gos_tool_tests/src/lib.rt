@@ -13,5 +13,3 @@ mod demo;
 mod linking;
 #[cfg(test)]
 mod rows;
-#[cfg(test)]
-mod running;
