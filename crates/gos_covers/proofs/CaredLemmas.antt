@@ -25,7 +25,7 @@ longer before b = let sum = length-append before (b ∷ []) in omega (arith, sum
 module _ (types : Types) (i j : ℕ) (ss : List Split) (env : Supplies) (ns : List ℕ) (bs : List Branch)
     (cared : (before after : List Branch) (b : Branch) → bs ≡ before ++ b ∷ after → Cared)
     (is_its : (before after : List Branch) (b : Branch) (at : bs ≡ before ++ b ∷ after) → (cared before after b at).child ≡ branch_child types i j ss env ns before b) where
-  onward : (before after : List Branch) (b : Branch) → bs ≡ before ++ b ∷ after → bs ≡ (before ++ b ∷ []) ++ after
+  pub onward : (before after : List Branch) (b : Branch) → bs ≡ before ++ b ∷ after → bs ≡ (before ++ b ∷ []) ++ after
   onward before after b at = at ∙ sym (append_assoc before (b ∷ []) after)
 
   abbrev pub cares : (before rest : List Branch) → bs ≡ before ++ rest → List Cared
@@ -93,4 +93,6 @@ module _ (types : Types) (i j : ℕ) (ss : List Split) (env : Supplies) (ns : Li
 
     -- of all branches
     pub found_in : (before after : List Branch) (b : Branch) → bs ≡ before ++ b ∷ after → Runs (cares [] bs refl) b (length before)
-    found_in before after b at = found [] bs refl before after b at
+    found_in before after b at =
+        let zeros : 0 + length before ≡ length before = omega arith in
+        subst (λ (h : ℕ). Runs (cares [] bs refl) b h) zeros (found [] bs refl before after b at)

@@ -1,42 +1,25 @@
 -- A child of a pair, whose plan is regular, is a side of it.
-use Rattle.std.specs.Prelude.{◌+◌, ◌<◌, ◌⊎◌, length, slice_get, All, Contains, nat_lt}
-use Rattle.std.proofs.Common.{◌≡◌, ℕ, zero, suc, List, Option, Some, None, true, inl, inr, refl, sym, ◌∙◌, ap, subst, arith}
-use Rattle.std.proofs.lemmas.Option.{same_Some, slice_get_within}
-use Rattle.std.proofs.lemmas.Bool.Decides.{nat_tests}
-use Rattle.gos_model.specs.Typing.{Imported, Imports}
+use Rattle.std.specs.Prelude.{◌+◌, ◌<◌, length, slice_get, Contains}
+use Rattle.std.proofs.Common.{◌≡◌, ℕ, zero, suc, List, Option, Some, inl, refl, sym, ◌∙◌, ap, arith}
+use Rattle.std.proofs.lemmas.Option.{slice_get_within}
 use Rattle.gos_check.specs.Nodes.{type_of_node}
-use Rattle.gos_check.specs.Linearity.{times}
-use Rattle.gos_check.proofs.TimesLemmas.{some_times}
 use Rattle.gos_plan.specs.Kinds.{Part, contacts_of}
 use Rattle.gos_plan.specs.Plans.{End, PartEnd, ImportEnd, ResultEnd, Joint, Plan}
-use Rattle.gos_plan.specs.TokenBits.{LiteralFits}
 use Rattle.gos_realises.specs.Regular.{count, IsRegular}
 use Rattle.gos_realises.specs.Realises.{NamesDiffer}
-use Rattle.gos_realises.proofs.LiteralLemmas.{literals_among}
-use Rattle.gos_realises.proofs.PlaceLemmas.{contains_at, place_of, differ_at, at_differ}
-use Rattle.gos_realises.proofs.ToldLemmas.{there_is}
-use Rattle.gos_webs.specs.Webs.{Dot, Of, Within, Tie, Web, IsOfWeb, joint}
+use Rattle.gos_realises.proofs.PlaceLemmas.{contains_at, place_of}
+use Rattle.gos_webs.specs.Webs.{Dot, Tie, IsOfWeb, joint}
 use Rattle.gos_webs.specs.Cutting.{Cut, StandsIn, lies_at}
-use Rattle.gos_webs.proofs.CutLemmas.{which_end, first_stands, last_stands}
-use Rattle.gos_turns.specs.Rests.{Rests}
-use Rattle.gos_folds.specs.Folds.{IsFold, joined_cut}
+use Rattle.gos_folds.specs.Folds.{joined_cut}
 use Rattle.gos_folds.proofs.RegionLemmas.{folded_joint}
-use Rattle.gos_windows.specs.OpenNodes.{IsHeard}
-use Rattle.gos_windows.proofs.PortLemmas.{stands_contact, one_place}
-use Rattle.gos_wired.specs.Wired.{Supplies, Placing, Origin, dot_at}
-use Rattle.gos_wired.specs.Regular.{AreRegular, RegularWired}
-use Rattle.gos_stages.specs.Inside.{inside_supplies, AreOrdered}
-use Rattle.gos_stages.specs.Lodging.{Spot}
-use Rattle.gos_stages.specs.Folding.{Lead, AtOwn, AtResult, led_end, Child, is_used, lodge, spot_dot, child_back, child_cut, child_fold, child_servings, child_web, IsChild, IsLaid}
+use Rattle.gos_windows.proofs.PortLemmas.{stands_contact}
+use Rattle.gos_wired.specs.Wired.{Placing, dot_at}
+use Rattle.gos_stages.specs.Inside.{AreOrdered}
+use Rattle.gos_stages.specs.Folding.{Lead, AtResult, led_end, Child, child_back, child_cut, child_fold, child_servings, child_web, IsChild, IsLaid}
 use Rattle.gos_stages.specs.Regions.{HasParts, IsStaged}
-use Rattle.gos_stages.proofs.InsideRegularLemmas.{inside_is_regular}
-use Rattle.gos_stages.proofs.LodgingLemmas.{lodged_are_inside}
-use Rattle.gos_stages.proofs.PartHomeLemmas.{numbers_are_at_home}
-use Rattle.gos_stages.proofs.HousingLemmas.{imports_are_from}
 use Rattle.gos_stages.proofs.ContactLemmas.{turned_some}
-use Rattle.gos_stages.proofs.ChildFoldLemmas.{child_is_folded}
 use Rattle.gos_stages.proofs.LoyalLemmas.{servings_are_loyal}
-use Rattle.gos_stages.proofs.StageLemmas.{has_child_of, laid_of, web_of}
+use Rattle.gos_stages.proofs.StageLemmas.{web_of}
 use Rattle.gos_stages.proofs.ChildImportLemmas as hearing
 use Rattle.gos_both.specs.Both.{Side, IsSide, IsOfSide}
 use Rattle.gos_forks.specs.Pairs.{result_leads}
@@ -62,7 +45,8 @@ module _ (f : Child) (own : List Part) (ts : List Tie) (pl plc : Placing) (r c :
   pub joint_of : (a b : End) (x : Dot) → Contains r.joints (joint a b) → child_back f (dot_at f.first pl a) ≡ Some x → IsOfSide side_of a b
   joint_of a b x listed stands =
       let (d, e, there, lies_d, lies_e) =
-      folded_joint (child_fold f pl plc (length r.parts)) (child_servings f pl) (hearing.whole f own ts pl plc r c is parts laid staged web) (child_web f plc) r c a b x (hearing.fold f own ts pl plc r c is parts laid staged web) (web_of f pl plc r c staged) listed
+      folded_joint (child_fold f pl plc (length r.parts)) (child_servings f pl) (hearing.whole f own ts pl plc r c is parts laid staged web)
+      (child_web f plc) r c a b x (hearing.fold f own ts pl plc r c is parts laid staged web) (web_of f pl plc r c staged) listed
       (inl stands)
       in (
         d,

@@ -1,27 +1,25 @@
 -- The cases of the forms that run their parts one at a time.
-use Rattle.std.specs.Prelude.{◌≡◌, ◌≢◌, ℕ, zero, suc, List, [], ◌∷◌, ◌++◌, Contains}
-use Rattle.std.proofs.Common.{refl, sym, ◌∙◌, subst, arith, inr}
-use Rattle.gos_types.specs.Types.{Type', Com, Exp, Var, Pair, Fun}
+use Rattle.std.specs.Prelude.{◌≡◌, ℕ, List, [], ◌∷◌, ◌++◌}
+use Rattle.std.proofs.Common.{refl, sym, ◌∙◌, subst, inr}
+use Rattle.gos_types.specs.Types.{Type', Com, Exp}
 use Rattle.gos_model.specs.Terms.{Op, result_width}
 use Rattle.gos_model.specs.Typing.{Typed}
 use Rattle.gos_check.specs.declared.linear.Split.{Split}
-use Rattle.gos_check.specs.Nodes.{Numbered, One, Two, If, OfNot, TwoForm, OfSeq, OfWhile, OfBin, inside, meaning, type_of_node}
-use Rattle.gos_check.specs.Linearity.{sides, used, made}
-use Rattle.gos_check.proofs.TimesLemmas.{times-append}
+use Rattle.gos_check.specs.Nodes.{Numbered, One, Two, If, OfNot, OfSeq, OfWhile, OfBin, inside, meaning, type_of_node}
+use Rattle.gos_check.specs.Linearity.{used}
 use Rattle.gos_plan.specs.Kinds as kinds
 use Rattle.gos_plan.specs.Plans.{Plan}
 use Rattle.gos_realises.specs.Realises.{NamesDiffer}
-use Rattle.gos_sessions.specs.Sessions.{Sequence, Choice, Loop, Binary, Complement, bits}
-use Rattle.gos_compile.specs.Wiring.{Types, answer_bits}
+use Rattle.gos_sessions.specs.Sessions.{Sequence, Choice, Loop, Binary, Complement}
+use Rattle.gos_compile.specs.Wiring.{Types}
 use Rattle.gos_compile.specs.Typed.{SidesTyped, NodesTyped}
 use Rattle.gos_wired.specs.Wired.{Supplies, Placing, IsWired, AreRealised, terms_of}
 use Rattle.gos_stages.specs.Inside.{AreSplit, numbers_inside}
 use Rattle.gos_meanings.specs.Meanings.{HasLeaves}
 use Rattle.gos_grounds.specs.Cases.{RealisesWired}
 use Rattle.gos_numbers.specs.Kept.{InScope, IsKept}
-use Rattle.gos_numbers.specs.Inherited.{own_numbers, first_numbers, IsPart, PartIsKept, BothAreKept, ThreeAreKept}
-use Rattle.gos_numbers.proofs.ListLemmas.{times_inside}
-use Rattle.gos_forks.specs.Forks.{Branch, IsFork, AreBranches}
+use Rattle.gos_numbers.specs.Inherited.{own_numbers, first_numbers, PartIsKept, BothAreKept, ThreeAreKept}
+use Rattle.gos_forks.specs.Forks.{Branch, IsFork}
 use Rattle.gos_forks.specs.Forms.{branch, SequenceIsFork, ChoiceIsFork, LoopIsFork, OperatorIsFork, ComplementIsFork}
 use Rattle.gos_covers.proofs.PartedLemmas.{same_bits, no_empty, of_one, of_two, of_three, one_branch, two_branches, three_branches}
 use Rattle.gos_runs.specs.Runs.{ForkRealises}

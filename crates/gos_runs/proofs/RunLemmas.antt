@@ -1,46 +1,34 @@
 -- A fork is a node of its branches, and so it realises its term.
-use Rattle.std.specs.Prelude.{◌≡◌, ◌≢◌, ℕ, zero, suc, ◌+◌, List, [], ◌∷◌, ◌++◌, All, Option, Some, Contains, length, map, slice_get}
-use Rattle.std.proofs.Common.{refl, sym, ◌∙◌, ap, subst, arith, inl, append_assoc, length-append}
-use Rattle.std.proofs.lemmas.List.Elements.{Contains-append_left, Contains-append_right}
-use Rattle.gos_types.specs.Types.{Type', Com, Exp, Var, Pair, Fun, IsDone}
+use Rattle.std.specs.Prelude.{◌≡◌, ◌≢◌, ℕ, ◌+◌, List, [], ◌∷◌, ◌++◌, All, Some, Contains, length, map}
+use Rattle.std.proofs.Common.{refl, sym, subst, arith}
+use Rattle.gos_types.specs.Types.{Type'}
 use Rattle.gos_model.specs.Terms.{Term}
 use Rattle.gos_check.specs.declared.linear.Split.{Split}
 use Rattle.gos_check.specs.Nodes.{Numbered, inside, meaning, type_of_node}
-use Rattle.gos_plan.specs.Kinds.{asks, serves, Part, contacts_of, part_contacts}
 use Rattle.gos_plan.specs.Firing.{Phase}
-use Rattle.gos_plan.specs.Plans.{PartEnd, ResultEnd, Plan, contacts_of_part, turned_if}
+use Rattle.gos_plan.specs.Plans.{Plan}
 use Rattle.gos_plan.specs.TokenBits.{LiteralFits}
-use Rattle.gos_realises.specs.Regular.{count}
 use Rattle.gos_realises.specs.Matched.{RealisesDone}
 use Rattle.gos_realises.specs.Realises.{NamesDiffer, Realises}
-use Rattle.gos_ties.specs.declared.points.Place.{Place}
-use Rattle.gos_ties.specs.declared.points.Place.TheVariants as places
-use Rattle.gos_ties.specs.declared.points.Tie as point_ties
-use Rattle.gos_ties.specs.Ties as points
-use Rattle.gos_ties.specs.Ties.{point}
-use Rattle.gos_realises.proofs.CountLemmas.{done_count}
-use Rattle.gos_webs.specs.Webs.{Dot, Of, Within, Tie, tie, Way, here, along, joint}
-use Rattle.gos_unions.specs.Unions.{within}
+use Rattle.gos_webs.specs.Webs.{Tie}
 use Rattle.gos_unions.proofs.UnionLemmas.{in_image}
-use Rattle.gos_unions.proofs.LeftLemmas.{behind}
-use Rattle.gos_sessions.specs.Sessions.{Form, Sequence, Choice, Loop, Binary, Complement, Session, bits, own_part, own_term, own_type, run_shake, session_of}
+use Rattle.gos_sessions.specs.Sessions.{Form, Session, own_part, own_term, own_type, session_of}
 use Rattle.gos_windows.specs.Nodes.{IsNode}
 use Rattle.gos_nodes.specs.Realised.{AreRealised}
 use Rattle.gos_nodes.proofs.SuitLemmas.{node_realises_by_type}
-use Rattle.gos_compile.specs.Wiring.{Types, row, led, shares, shares_ties, parts_of, ties_of}
+use Rattle.gos_compile.specs.Wiring.{Types, parts_of}
 use Rattle.gos_wired.specs.Wired as wirings
-use Rattle.gos_wired.specs.Wired.{Supplies, Source, Own, Placing, IsWired, source_dot, dot_of, dot_ties, all_supply_ties, wired_ties, terms_of}
+use Rattle.gos_wired.specs.Wired.{Supplies, Placing, IsWired, wired_ties, terms_of}
 use Rattle.gos_wired.proofs.NodeFitLemmas.{realised_are_of_types}
 use Rattle.gos_stages.specs.Inside.{InsideIsRealised}
 use Rattle.gos_stages.specs.Folding.{asked}
 use Rattle.gos_stages.specs.Nodes.{Cared, stage, IsCared, IsFormed}
-use Rattle.gos_stages.proofs.ContactLemmas.{shares_length}
 use Rattle.gos_stages.proofs.NodeLemmas.{stages_make_node}
 use Rattle.gos_meanings.specs.Meanings.{HasLeaves}
 use Rattle.gos_grounds.specs.Cases.{RealisesWired}
 use Rattle.gos_grounds.proofs.WiredLemmas.{imports_are_ground}
 use Rattle.gos_forks.specs.Forks.{Branch, IsFork, AreBranches, branch_child, BranchIsChild, BranchHasParts}
-use Rattle.gos_covers.specs.Covers.{AreBranchChildren, BranchesCover}
+use Rattle.gos_covers.specs.Covers.{BranchesCover}
 use Rattle.gos_covers.proofs.CaredLemmas as children
 use Rattle.gos_covers.proofs.OwnLemmas as own
 use Rattle.gos_runs.specs.Runs.{AreSessionsOf, ForkRealises}
@@ -130,7 +118,8 @@ module _ (insides : InsideIsRealised) (child : BranchIsChild) (parts : BranchHas
   node : IsNode r own_number f (map (stage pl r) es)
   node =
       stages_make_node f (parts_of types m) its_ties i pl r own_number es w.web formed each_cared
-      (cover f types i j m ss bs ns env pl r es fork branches (realised_are_of_types types env ns supplies) some w (children.are_children types i j ss env ns bs cared is_its [] bs refl))
+      (cover f types i j m ss bs ns env pl r es fork branches (realised_are_of_types types env ns supplies) some w
+      (children.are_children types i j ss env ns bs cared is_its [] bs refl))
       (children.one_each types i j ss env ns bs cared is_its)
       (λ p n s e. let (x, it) = served p n s e in (x, it.listed, it.shake, it.realises.suits.outcome))
 

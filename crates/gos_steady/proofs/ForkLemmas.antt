@@ -1,44 +1,35 @@
 -- A fork is a node of its branches, with imports of any types.
-use Rattle.std.specs.Prelude.{◌≡◌, ◌≢◌, ℕ, zero, suc, ◌+◌, ◌≤◌, List, [], ◌∷◌, ◌++◌, All, Option, Some, Contains, length, map, slice_get}
-use Rattle.std.proofs.Common.{refl, sym, ◌∙◌, ap, subst, arith, inl, append_assoc, length-append}
-use Rattle.std.proofs.lemmas.List.Elements.{Contains-append_left, Contains-append_right}
-use Rattle.gos_types.specs.Types.{Type', Com, Exp, Var, Pair, Fun, IsDone}
+use Rattle.std.specs.Prelude.{◌≡◌, ◌≢◌, ℕ, ◌+◌, ◌≤◌, List, [], ◌∷◌, ◌++◌, All, Some, Contains, length, map}
+use Rattle.std.proofs.Common.{refl, sym, ◌∙◌, subst, arith}
+use Rattle.std.proofs.lemmas.List.Elements.{Contains-append_right}
+use Rattle.gos_types.specs.Types.{IsDone}
 use Rattle.gos_check.specs.declared.linear.Split.{Split}
 use Rattle.gos_check.specs.Nodes.{Numbered, type_of_node}
 use Rattle.gos_check.specs.Linearity.{times}
-use Rattle.gos_plan.specs.Kinds.{asks, serves, Part, contacts_of, part_contacts}
+use Rattle.gos_plan.specs.Kinds.{Part}
 use Rattle.gos_plan.specs.Firing.{Phase}
-use Rattle.gos_plan.specs.Plans.{PartEnd, ResultEnd, Plan, contacts_of_part, turned_if}
+use Rattle.gos_plan.specs.Plans.{PartEnd, ResultEnd, Plan}
 use Rattle.gos_plan.specs.TokenBits.{LiteralFits}
-use Rattle.gos_realises.specs.Regular.{count, IsRegular}
+use Rattle.gos_realises.specs.Regular.{IsRegular}
 use Rattle.gos_realises.specs.Realises.{NamesDiffer}
-use Rattle.gos_ties.specs.declared.points.Place.{Place}
-use Rattle.gos_ties.specs.declared.points.Place.TheVariants as places
-use Rattle.gos_ties.specs.declared.points.Tie as point_ties
-use Rattle.gos_ties.specs.Ties as points
-use Rattle.gos_ties.specs.Ties.{point}
-use Rattle.gos_realises.proofs.CountLemmas.{done_count}
-use Rattle.gos_webs.specs.Webs.{Dot, Of, Within, Tie, tie, Way, here, along, joint}
-use Rattle.gos_unions.specs.Unions.{within}
+use Rattle.gos_webs.specs.Webs.{Tie, joint}
 use Rattle.gos_unions.proofs.UnionLemmas.{in_image, of_image}
-use Rattle.gos_unions.proofs.LeftLemmas.{behind}
-use Rattle.gos_sessions.specs.Sessions.{Form, Sequence, Choice, Loop, Binary, Complement, Session, bits, own_part, own_type, run_shake, session_of}
+use Rattle.gos_sessions.specs.Sessions.{Form, Session, own_part, own_type, run_shake, session_of}
 use Rattle.gos_turns.specs.Rests.{Rests}
 use Rattle.gos_windows.specs.Nodes.{Stage}
 use Rattle.gos_windows.specs.OpenNodes.{IsOpenStage, IsOpenNode}
 use Rattle.gos_windows.proofs.OrderLemmas.{open_node_is_regular}
-use Rattle.gos_compile.specs.Wiring.{Types, row, led, shares, shares_ties, parts_of, ties_of}
-use Rattle.gos_wired.specs.Wired.{Supplies, Source, Own, Placing, IsWired, source_dot, dot_of, dot_ties, all_supply_ties, wired_ties}
+use Rattle.gos_compile.specs.Wiring.{Types, parts_of}
+use Rattle.gos_wired.specs.Wired.{Supplies, Placing, IsWired, wired_ties}
 use Rattle.gos_wired.specs.NodeFitting.{AreOfTypes}
 use Rattle.gos_wired.specs.Regular.{AreRegular, RegularWired}
 use Rattle.gos_stages.specs.Folding.{Child, asked, IsChild, IsLaid}
 use Rattle.gos_stages.specs.Regions.{HasParts, IsStaged}
 use Rattle.gos_stages.specs.Nodes.{Cared, stage, IsCared, AreCovering}
-use Rattle.gos_stages.proofs.ContactLemmas.{shares_length}
 use Rattle.gos_stages.proofs.ChildStageLemmas.{child_is_staged}
 use Rattle.gos_stages.proofs.NodeLemmas.{joints_so, ones, parts_so}
-use Rattle.gos_forks.specs.Forks.{Branch, IsFork, AreBranches, branch_child, branch_parts, branch_ties, BranchIsChild, BranchHasParts}
-use Rattle.gos_covers.specs.Covers.{AreBranchChildren, BranchesCover}
+use Rattle.gos_forks.specs.Forks.{Branch, IsFork, AreBranches, branch_child, BranchIsChild, BranchHasParts}
+use Rattle.gos_covers.specs.Covers.{BranchesCover}
 use Rattle.gos_covers.proofs.CaredLemmas as children
 use Rattle.gos_covers.proofs.OwnLemmas as own
 use Rattle.gos_steady.specs.Forks.{AreRun, ForkIsSteady}
@@ -147,7 +138,9 @@ module _ (child : BranchIsChild) (parts : BranchHasParts) (cover : BranchesCover
   run_joint = own.run_joint f types i j m ss bs ns env pl r fork same w
 
   covering : AreCovering f i pl r own_number es
-  covering = cover f types i j m ss bs ns env pl r es fork branches (of_types types env ns supplies) some w (children.are_children types i j ss env ns bs cared is_its [] bs refl)
+  covering =
+      cover f types i j m ss bs ns env pl r es fork branches (of_types types env ns supplies) some w
+      (children.are_children types i j ss env ns bs cared is_its [] bs refl)
 
   abbrev Stages : List Stage
   Stages = map (stage pl r) es
@@ -176,7 +169,9 @@ module _ (child : BranchIsChild) (parts : BranchHasParts) (cover : BranchesCover
 
   pub fork_steady : IsRegular r × Rests r
   fork_steady =
-      let (regular, restful) = open_node_is_regular r own_number f Stages node in (regular, rests_where_restful r (subst IsDone (sym (own.outcome f types i j m ss bs ns env pl r fork same w)) (own.done f types i j m ss bs ns env pl r fork same w)) regular restful)
+      let (regular, restful) = open_node_is_regular r own_number f Stages node in
+      let outcome = own.outcome f types i j m ss bs ns env pl r fork same w in
+      let done = own.done f types i j m ss bs ns env pl r fork same w in (regular, rests_where_restful r (subst IsDone (sym outcome) done) regular restful)
 
 pub fork_is_steady : BranchIsChild → BranchHasParts → BranchesCover → ForkIsSteady
 fork_is_steady child parts cover f types m ss bs ns fork branches some same sessions steady i j env pl r w supplies differ fit =

@@ -1,22 +1,20 @@
 -- The five forms: their branches, and that each session of theirs runs one.
-use Rattle.std.specs.Prelude.{◌≡◌, ◌≢◌, ℕ, zero, suc, Bool, true, false, List, [], ◌∷◌, ◌++◌, Option, Some, None, Contains, length, nat_eq, if◌then◌else◌}
-use Rattle.std.proofs.Common.{refl, sym, ◌∙◌, ap, subst, arith}
-use Rattle.gos_types.specs.Types.{Type', Com, Exp, Var, Pair, Fun}
+use Rattle.std.specs.Prelude.{◌≡◌, ℕ, Bool, true, false, List, [], ◌∷◌, ◌++◌, Option, Some, None, length, nat_eq, if◌then◌else◌}
+use Rattle.std.proofs.Common.{refl, sym, ◌∙◌, ap, subst}
+use Rattle.gos_types.specs.Types.{Type', Com, Exp}
 use Rattle.gos_model.specs.Terms as terms
 use Rattle.gos_model.specs.Terms.{Op, Term, result_width}
 use Rattle.gos_check.specs.declared.linear.Split.{Split}
-use Rattle.gos_check.specs.Nodes.{Numbered, One, Two, If, OfNot, TwoForm, OfSeq, OfWhile, OfBin, type_of_node}
-use Rattle.gos_check.specs.Linearity.{sides, used, made}
-use Rattle.gos_check.proofs.TimesLemmas.{times-append}
+use Rattle.gos_check.specs.Nodes.{Numbered, One, Two, If, OfNot, OfSeq, OfWhile, OfBin, type_of_node}
+use Rattle.gos_check.specs.Linearity.{used}
 use Rattle.gos_plan.specs.Firing.{First, Second, Test, Branch as Branched, Body, Left, Right, Waiting}
 use Rattle.gos_plan.specs.Kinds as kinds
-use Rattle.gos_sessions.specs.Sessions.{Sequence, Choice, Loop, Binary, Complement, Session, session, bits}
-use Rattle.gos_compile.specs.Wiring.{Types, answer_bits}
+use Rattle.gos_sessions.specs.Sessions.{Sequence, Choice, Loop, Binary, Complement, Session, session}
+use Rattle.gos_compile.specs.Wiring.{Types}
 use Rattle.gos_wired.specs.Regular.{RegularWired}
 use Rattle.gos_numbers.specs.Kept.{IsKept}
-use Rattle.gos_numbers.specs.Inherited.{own_numbers, first_numbers, IsPart, PartIsKept, BothAreKept, ThreeAreKept}
-use Rattle.gos_numbers.proofs.ListLemmas.{times_inside}
-use Rattle.gos_forks.specs.Forks.{Branch, IsFork, AreBranches}
+use Rattle.gos_numbers.specs.Inherited.{own_numbers, first_numbers, PartIsKept, BothAreKept, ThreeAreKept}
+use Rattle.gos_forks.specs.Forks.{Branch, IsFork}
 use Rattle.gos_forks.specs.Forms.{branch, SequenceIsFork, ChoiceIsFork, LoopIsFork, OperatorIsFork, ComplementIsFork}
 use Rattle.gos_covers.proofs.PartedLemmas.{same_bits, no_empty, of_one, of_two, of_three, one_branch, two_branches, three_branches}
 use Rattle.gos_steady.specs.Forks.{AreRun, ForkIsSteady, SequenceIsSteady, ChoiceIsSteady, LoopIsSteady, OperatorIsSteady, ComplementIsSteady}
