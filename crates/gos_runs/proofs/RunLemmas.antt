@@ -1,5 +1,5 @@
 -- A fork is a node of its branches, and so it realises its term.
-use Rattle.std.specs.Prelude.{◌≡◌, ◌≢◌, ℕ, ◌+◌, List, [], ◌∷◌, ◌++◌, All, Some, Contains, length, map}
+use Rattle.std.specs.Prelude.{◌≡◌, ◌≢◌, ℕ, List, [], ◌∷◌, ◌++◌, All, Some, Contains, length, map}
 use Rattle.std.proofs.Common.{refl, sym, subst, arith}
 use Rattle.gos_types.specs.Types.{Type'}
 use Rattle.gos_model.specs.Terms.{Term}
