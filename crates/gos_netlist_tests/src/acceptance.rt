@@ -34,8 +34,9 @@ fn a_latch_is_accepted(rt: HostRuntime) -> Result<(), Fail> {
     let alloc = rt.alloc();
     match accept(alloc, latch(alloc)?) {
         Ok(checked) => {
-            assert!(rt; checked.schedule().len() == 4 && checked.netlist().ports.len() == 1);
-            assert!(rt; checked.into_netlist().cells.len() == 4);
+            assert_eq!(rt; checked.schedule().len(), 4);
+            assert_eq!(rt; checked.netlist().ports.len(), 1);
+            assert_eq!(rt; checked.into_netlist().cells.len(), 4);
         }
         Err(_) => assert!(rt; false, "the latch was refused"),
     }
@@ -48,7 +49,7 @@ fn a_latch_has_levels(rt: HostRuntime) -> Result<(), Fail> {
     let alloc = rt.alloc();
     let checked = accept(alloc, latch(alloc)?)?;
     let levels = checked.levels(alloc)?;
-    assert!(rt; levels.as_slice() == [0, 1, 0, 0].as_slice());
+    assert_eq!(rt; levels.as_slice(), [0, 1, 0, 0].as_slice());
     Ok(())
 }
 
@@ -67,67 +68,57 @@ fn a_ring_is_handed_back(rt: HostRuntime) -> Result<(), Fail> {
     match accept(alloc, Netlist { cells, ports }) {
         Ok(_) => assert!(rt; false, "the ring was accepted"),
         Err(refused) => {
-            assert!(rt; refused.net.cells.len() == 4 && is_ring(&refused.fault, 1, 2));
+            assert_eq!(rt; refused.net.cells.len(), 4);
+            assert!(rt; is_ring(&refused.fault, 1, 2));
         }
     }
     Ok(())
 }
 
-// Whether these cells with the port of `main` are refused with this text.
-fn is_refused(alloc: Global, cells: &[Cell], wanted: &str) -> Result<bool, Fail>
-    requires { length cells.now < 2 ^ 32 }
-{
-    let ports = vec![in alloc; main_port(alloc, 0, 1)?]?;
-    match fault_of(alloc, cells, ports)? {
-        Some(fault) => Ok(format!(in alloc; "{fault}")?.as_str() == wanted),
-        None => Ok(false),
-    }
-}
-
-const INPUT: Cell = Cell {
-    width: 1,
-    gate: Gate::Input,
-};
-
-const REGISTER: Cell = Cell {
-    width: 1,
-    gate: Gate::Reg(NetId(0)),
-};
-
-// A constant of more bits than it has.
-const WIDE: Cell = Cell {
-    width: 2,
-    gate: Gate::Const(4),
-};
-
-// Of two faults the first is told.
+// Each row has a fault and, where it can, one that is looked for later.
 #[test]
-fn pins_and_widths_are_told_in_turn(rt: HostRuntime) -> Result<(), Fail> {
-    let pin = [INPUT, REGISTER, WIDE, bit(Gate::Not(NetId(9)))];
-    assert!(rt; is_refused(rt.alloc(), &pin, "cell 3 names a net that is not there")?);
-    let width = [INPUT, INPUT, WIDE, bit(Gate::Not(NetId(3)))];
-    assert!(rt; is_refused(rt.alloc(), &width, "cell 2 has a wrong width")?);
-    Ok(())
-}
-
-#[test]
-fn ports_and_inputs_are_told_in_turn(rt: HostRuntime) -> Result<(), Fail> {
-    let port = [INPUT, bit(Gate::Not(NetId(1))), REGISTER, REGISTER];
-    assert!(rt; is_refused(rt.alloc(), &port, "port 0 is wrong")?);
-    let input = [INPUT, REGISTER, INPUT, REGISTER];
-    assert!(rt; is_refused(rt.alloc(), &input, "port 1 is wrong")?);
-    Ok(())
-}
-
-#[test]
-fn a_cycle_is_told_last(rt: HostRuntime) -> Result<(), Fail> {
-    let cells = [
-        INPUT,
-        REGISTER,
-        bit(Gate::Not(NetId(3))),
-        bit(Gate::Not(NetId(2))),
+fn the_first_fault_is_told(rt: HostRuntime) -> Result<(), Fail> {
+    let alloc = rt.alloc();
+    let input = bit(Gate::Input);
+    let register = bit(Gate::Reg(NetId(0)));
+    let wide = Cell {
+        width: 2,
+        gate: Gate::Const(4),
+    };
+    let rows = [
+        (
+            [input, register, wide, bit(Gate::Not(NetId(9)))],
+            "cell 3 names a net that is not there",
+        ),
+        (
+            [input, input, wide, bit(Gate::Not(NetId(3)))],
+            "cell 2 has a wrong width",
+        ),
+        (
+            [input, bit(Gate::Not(NetId(1))), register, register],
+            "port 0 is wrong",
+        ),
+        ([input, register, input, register], "port 1 is wrong"),
+        (
+            [
+                input,
+                register,
+                bit(Gate::Not(NetId(3))),
+                bit(Gate::Not(NetId(2))),
+            ],
+            "there is a combinational cycle",
+        ),
     ];
-    assert!(rt; is_refused(rt.alloc(), &cells, "there is a combinational cycle")?);
+    for (cells, want) in rows {
+        let ports = vec![in alloc; main_port(alloc, 0, 1)?]?;
+        match fault_of(alloc, &cells, ports)? {
+            Some(fault) => {
+                let text = format!(in alloc; "{fault}")?;
+                assert_eq!(rt; text.as_str(), want);
+            }
+            None => assert!(rt; false, "it was accepted"),
+        }
+    }
     Ok(())
 }
 

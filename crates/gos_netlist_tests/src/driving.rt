@@ -97,59 +97,64 @@ fn question(alloc: Global) -> Result<Netlist, LexFault>
     Ok(Netlist { cells, ports })
 }
 
-// Whether a pulse file for the latch has this trace and leaves so many entries.
-fn traces_latch(alloc: Global, file: &[u8], trace: &[u8], left: u64) -> Result<bool, LexFault> {
-    let outcome = run_file(alloc, latch(alloc)?, file);
-    Ok(is_traced(&outcome, trace, left))
-}
-
 #[test]
 fn gives_next_entries_in_turn(rt: HostRuntime) -> Result<(), Fail> {
-    let trace = b"0 main.run\n1 main.done\n2 main.done\ncycles 3\n";
-    let one = b"cycles 3\nnext 0 main.run\n";
-    assert!(rt; traces_latch(rt.alloc(), one, trace, 0)?);
-    let two = b"cycles 3\nnext 0 main.run\nnext 3 main.run\n";
-    assert!(rt; traces_latch(rt.alloc(), two, trace, 1)?);
+    let alloc = rt.alloc();
+    let trace = b"0 main.run\n1 main.done\n2 main.done\ncycles 3\n".as_slice();
+    let one = run_file(alloc, latch(alloc)?, b"cycles 3\nnext 0 main.run\n");
+    assert!(rt; is_traced(&one, trace, 0));
+    let two = run_file(
+        alloc,
+        latch(alloc)?,
+        b"cycles 3\nnext 0 main.run\nnext 3 main.run\n",
+    );
+    assert!(rt; is_traced(&two, trace, 1));
     Ok(())
 }
 
 #[test]
 fn takes_at_entries_in_their_cycles(rt: HostRuntime) -> Result<(), Fail> {
-    let trace = b"0 main.run\n1 main.done\n1 main.run\n2 main.done\ncycles 3\n";
-    let twice = b"cycles 3\nat 1 main.run\nat 0 main.run\n";
-    assert!(rt; traces_latch(rt.alloc(), twice, trace, 0)?);
-    Ok(())
-}
-
-#[test]
-fn takes_one_entry_in_a_cycle(rt: HostRuntime) -> Result<(), Fail> {
-    let file = b"cycles 3\nat 0 main.run\nat 0 main.run\n";
-    let at_once = run_file(rt.alloc(), latch(rt.alloc())?, file);
+    let alloc = rt.alloc();
+    let twice = run_file(
+        alloc,
+        latch(alloc)?,
+        b"cycles 3\nat 1 main.run\nat 0 main.run\n",
+    );
+    let trace = b"0 main.run\n1 main.done\n1 main.run\n2 main.done\ncycles 3\n".as_slice();
+    assert!(rt; is_traced(&twice, trace, 0));
+    let at_once = run_file(
+        alloc,
+        latch(alloc)?,
+        b"cycles 3\nat 0 main.run\nat 0 main.run\n",
+    );
     assert!(rt; is_broken(&at_once, 0, 0));
     Ok(())
 }
 
 #[test]
 fn answers_only_what_is_asked(rt: HostRuntime) -> Result<(), Fail> {
-    let unasked = run_file(rt.alloc(), relay(rt.alloc())?, b"cycles 100\nat 0 c.done\n");
+    let alloc = rt.alloc();
+    let unasked = run_file(alloc, relay(alloc)?, b"cycles 100\nat 0 c.done\n");
     assert!(rt; is_broken(&unasked, 0, 3));
-    Ok(())
-}
-
-#[test]
-fn answers_in_the_cycle_of_the_question(rt: HostRuntime) -> Result<(), Fail> {
-    let file = b"cycles 5\nnext 0 main.run\nnext 0 c.done\n";
-    let outcome = run_file(rt.alloc(), relay(rt.alloc())?, file);
-    let trace = b"0 main.run\n1 c.run\n1 c.done\n2 main.done\ncycles 5\n";
-    assert!(rt; is_traced(&outcome, trace, 0));
+    let in_its_cycle = run_file(
+        alloc,
+        relay(alloc)?,
+        b"cycles 5\nnext 0 main.run\nnext 0 c.done\n",
+    );
+    let trace = b"0 main.run\n1 c.run\n1 c.done\n2 main.done\ncycles 5\n".as_slice();
+    assert!(rt; is_traced(&in_its_cycle, trace, 0));
     Ok(())
 }
 
 #[test]
 fn gives_numbers(rt: HostRuntime) -> Result<(), Fail> {
-    let file = b"cycles 5\nnext 0 main.run\nnext 3 x.ans 7\n";
-    let answered = run_file(rt.alloc(), question(rt.alloc())?, file);
-    let trace = b"0 main.run\n1 x.ask\n3 x.ans 7\n4 main.done\ncycles 5\n";
+    let alloc = rt.alloc();
+    let answered = run_file(
+        alloc,
+        question(alloc)?,
+        b"cycles 5\nnext 0 main.run\nnext 3 x.ans 7\n",
+    );
+    let trace = b"0 main.run\n1 x.ask\n3 x.ans 7\n4 main.done\ncycles 5\n".as_slice();
     assert!(rt; is_traced(&answered, trace, 0));
     Ok(())
 }

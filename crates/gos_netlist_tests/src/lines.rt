@@ -4,48 +4,46 @@ use std::test::Fail;
 
 const TEXT: &[u8] = b"# a comment\r\n\n \t # another\n at  5\tmain.run \r\nend";
 
-// Whether a line has three words, of which the third is this one.
-fn has_third(words: &[&[u8]], third: &[u8]) -> bool {
-    match words {
-        [_, _, name] => *name == third,
-        _ => false,
-    }
-}
-
 #[test]
 fn numbers_every_line(rt: HostRuntime) -> Result<(), Fail> {
-    let first = next_line(rt.alloc(), TEXT)?.ok_or("a first line")?;
-    assert!(rt; first.skipped == 3 && has_third(first.words.as_slice(), b"main.run"));
-    let second = next_line(rt.alloc(), first.rest)?.ok_or("a second line")?;
-    assert!(rt; second.skipped == 0);
-    assert!(rt; next_line(rt.alloc(), second.rest)?.is_none());
+    let alloc = rt.alloc();
+    match next_line(alloc, TEXT)? {
+        Some(first) => {
+            assert_eq!(rt; first.skipped, 3);
+            match first.words.as_slice() {
+                [_, _, name] => assert_eq!(rt; *name, b"main.run".as_slice()),
+                _ => assert!(rt; false, "three words"),
+            }
+            match next_line(alloc, first.rest)? {
+                Some(second) => {
+                    assert_eq!(rt; second.skipped, 0);
+                    assert!(rt; next_line(alloc, second.rest)?.is_none());
+                }
+                None => assert!(rt; false, "a second line"),
+            }
+        }
+        None => assert!(rt; false, "a first line"),
+    }
+    assert_eq!(rt; count_lines(TEXT), 5);
+    assert_eq!(rt; count_lines(b"one\n"), 1);
+    assert_eq!(rt; count_lines(b""), 0);
     Ok(())
 }
 
 #[test]
-fn counts_lines(rt: HostRuntime) {
-    assert!(rt; count_lines(TEXT) == 5 && count_lines(b"one\n") == 1 && count_lines(b"") == 0);
-}
-
-// Texts, and the number that each is.
-const NUMBERS: [(&[u8], Option<u64>); 5] = [
-    (b"007", Some(7)),
-    (b"18446744073709551615", Some(u64::MAX)),
-    (b"18446744073709551616", None),
-    (b"", None),
-    (b"1x", None),
-];
-
-#[test]
 fn reads_numbers_of_64_bits(rt: HostRuntime) {
-    for (text, wanted) in NUMBERS.iter() {
-        assert!(rt; number(text) == *wanted);
-    }
+    assert_eq!(rt; number(b"007"), Some(7));
+    assert_eq!(rt; number(b"18446744073709551615"), Some(u64::MAX));
+    assert_eq!(rt; number(b"18446744073709551616"), None);
+    assert_eq!(rt; number(b""), None);
+    assert_eq!(rt; number(b"1x"), None);
 }
 
 #[test]
 fn finds_words(rt: HostRuntime) {
     let words = [b"net".as_slice(), b"trace".as_slice()];
-    assert!(rt; all_different(&words) && is_among(b"trace", &words));
-    assert!(rt; place_of(b"trace", &words) == Some(1) && place_of(b"run", &words) == None);
+    assert!(rt; all_different(&words));
+    assert!(rt; is_among(b"trace", &words));
+    assert_eq!(rt; place_of(b"trace", &words), Some(1));
+    assert_eq!(rt; place_of(b"run", &words), None);
 }

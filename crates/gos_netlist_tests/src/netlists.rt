@@ -16,7 +16,7 @@ fn prints_the_latch(rt: HostRuntime) -> Result<(), Fail> {
     let alloc = rt.alloc();
     let net = latch(alloc)?;
     let text = print_net(alloc, &net)?;
-    assert!(rt; text.as_slice() == LATCH.as_bytes());
+    assert_eq!(rt; text.as_slice(), LATCH.as_bytes());
     Ok(())
 }
 
@@ -31,7 +31,7 @@ fn settles_the_latch(rt: HostRuntime) -> Result<(), Fail> {
     ];
     for (registers, input, want) in rows {
         let values = settle(alloc, &net, &registers, &[input])?;
-        assert!(rt; values.as_slice() == want.as_slice());
+        assert_eq!(rt; values.as_slice(), want.as_slice());
     }
     Ok(())
 }
@@ -57,9 +57,9 @@ fn a_ring_does_not_settle(rt: HostRuntime) -> Result<(), Fail> {
 fn reads_the_latch_and_prints_it_again(rt: HostRuntime) -> Result<(), Fail> {
     let alloc = rt.alloc();
     let net = read_net(alloc, LATCH.as_bytes())?;
-    assert!(rt; net.cells.len() == 4);
+    assert_eq!(rt; net.cells.len(), 4);
     let text = print_net(alloc, &net)?;
-    assert!(rt; text.as_slice() == LATCH.as_bytes());
+    assert_eq!(rt; text.as_slice(), LATCH.as_bytes());
     Ok(())
 }
 
@@ -86,45 +86,45 @@ fn the_latch_has_two_events(rt: HostRuntime) -> Result<(), Fail> {
     Ok(())
 }
 
-// Whether a text is refused at this place, for a limit or for its form.
-fn is_refused(alloc: Global, text: &str, limit: bool, place: usize) -> bool {
-    match read_net(alloc, text.as_bytes()) {
-        Err(NetTextFault::Form { at }) => !limit && at == place,
-        Err(NetTextFault::Limit { at }) => limit && at == place,
-        Err(NetTextFault::NoMemory) | Ok(_) => false,
+// Whether it is for a limit that a text is refused, and the place; none where it is read.
+fn refusal(alloc: Global, text: &[u8]) -> Option<(bool, usize)> {
+    match read_net(alloc, text) {
+        Err(NetTextFault::Form { at }) => Some((false, at)),
+        Err(NetTextFault::Limit { at }) => Some((true, at)),
+        Err(NetTextFault::NoMemory) | Ok(_) => None,
     }
 }
-
-// Texts, whether each is refused for a limit, and where.
-const REFUSED: [(&str, bool, usize); 12] = [
-    ("", false, 0),
-    ("gosnet 1\ncells 5000001\n", true, 15),
-    ("gosnet 1\ncells 4294967296\n", true, 15),
-    ("gosnet 1\ncells 04\n", false, 16),
-    ("gosnet 1\ncells 1\ninput", false, 22),
-    ("gosnet 1\ncells 1\nnand 1 0 0\n", false, 18),
-    ("gosnet 1\ncells 1\nconst 1 2\n", false, 25),
-    ("gosnet 1\ncells 1\ninput 33\n", false, 24),
-    ("gosnet 1\ncells 0\nports 65537\n", true, 23),
-    (
-        "gosnet 1\ncells 0\nports 1\ngive 2 com 0 3\nend\n",
-        false,
-        30,
-    ),
-    ("gosnet 1\ncells 0\nports 0\nend", false, 28),
-    ("gosnet 1\ncells 0\nports 0\nend\n\n", false, 29),
-];
 
 #[test]
 fn refuses_other_texts_at_their_places(rt: HostRuntime) {
-    for (text, limit, place) in REFUSED.iter() {
-        assert!(rt; is_refused(rt.alloc(), text, *limit, *place));
+    let alloc = rt.alloc();
+    let rows = [
+        ("", false, 0),
+        ("gosnet 1\ncells 5000001\n", true, 15),
+        ("gosnet 1\ncells 4294967296\n", true, 15),
+        ("gosnet 1\ncells 04\n", false, 16),
+        ("gosnet 1\ncells 1\ninput", false, 22),
+        ("gosnet 1\ncells 1\nnand 1 0 0\n", false, 18),
+        ("gosnet 1\ncells 1\nconst 1 2\n", false, 25),
+        ("gosnet 1\ncells 1\ninput 33\n", false, 24),
+        ("gosnet 1\ncells 0\nports 65537\n", true, 23),
+        (
+            "gosnet 1\ncells 0\nports 1\ngive 2 com 0 3\nend\n",
+            false,
+            30,
+        ),
+        ("gosnet 1\ncells 0\nports 0\nend", false, 28),
+        ("gosnet 1\ncells 0\nports 0\nend\n\n", false, 29),
+    ];
+    for (text, limit, place) in rows {
+        assert!(rt; refusal(alloc, text.as_bytes()) == Some((limit, place)));
     }
 }
 
 #[test]
-fn laws_return() {
+fn laws_return(rt: HostRuntime) {
     small_nets();
     settlings();
     one_answer();
+    assert!(rt; true);
 }

@@ -5,7 +5,7 @@ ghost use Rattle.gos_pulse.specs.Guarding.{halves_of};
 
 use gos_lex::{LexFault, Name};
 use gos_netlist::{Ground, Netlist, Port, Side, events};
-use gos_pulse::{Entry, Guard, PulseFault, Pulses, Trace, TraceLine, print_trace, read_pulses};
+use gos_pulse::{Guard, PulseFault, Pulses, Trace, TraceLine, print_trace, read_pulses};
 use std::alloc::Global;
 use std::test::Fail;
 
@@ -50,65 +50,55 @@ fn answer(read: Result<Pulses, PulseFault>) -> (u8, u64) {
     }
 }
 
-// Pulse files, and how each is answered.
-const FILES: [(&str, (u8, u64)); 15] = [
-    ("", (1, 1)),
-    ("# a\n\n", (1, 3)),
-    ("at 0 main.run", (1, 1)),
-    ("cycles 0", (4, 1)),
-    ("cycles 1000001", (4, 1)),
-    ("cycles 18446744073709551616", (1, 1)),
-    ("cycles 1\n\n# b\nat 1 main.run", (4, 4)),
-    ("cycles 1\nat 1 no.run", (4, 2)),
-    ("cycles 1\nat 0 main.done", (2, 2)),
-    ("cycles 1\nat 0 main", (1, 2)),
-    ("cycles 1\nat 0 x.ans", (3, 2)),
-    ("cycles 1\nat 0 x.ans 16", (3, 2)),
-    ("cycles 1\nat 0 main.run 0", (3, 2)),
-    ("cycles 1\nnext 1000001 main.run", (4, 2)),
-    (
-        "cycles 1\r\n next 01\tx.ans 015 \r\nat 0 main.run\n",
-        (0, 0),
-    ),
-];
-
-// Whether a text is answered so.
-fn is_answered(alloc: Global, net: &Netlist, text: &str, number: u8, line: u64) -> bool {
-    let (found, place) = answer(read_pulses(alloc, text.as_bytes(), net));
-    found == number && place == line
-}
-
 #[test]
 fn names_the_first_wrong_line(rt: HostRuntime) -> Result<(), Fail> {
-    let net = circuit(rt.alloc())?;
-    for (text, (number, line)) in FILES.iter() {
-        assert!(rt; is_answered(rt.alloc(), &net, text, *number, *line));
+    let alloc = rt.alloc();
+    let net = circuit(alloc)?;
+    let cases = [
+        ("", (1, 1)),
+        ("# a\n\n", (1, 3)),
+        ("at 0 main.run", (1, 1)),
+        ("cycles 0", (4, 1)),
+        ("cycles 1000001", (4, 1)),
+        ("cycles 18446744073709551616", (1, 1)),
+        ("cycles 1\n\n# b\nat 1 main.run", (4, 4)),
+        ("cycles 1\nat 1 no.run", (4, 2)),
+        ("cycles 1\nat 0 main.done", (2, 2)),
+        ("cycles 1\nat 0 main", (1, 2)),
+        ("cycles 1\nat 0 x.ans", (3, 2)),
+        ("cycles 1\nat 0 x.ans 16", (3, 2)),
+        ("cycles 1\nat 0 main.run 0", (3, 2)),
+        ("cycles 1\nnext 1000001 main.run", (4, 2)),
+        (
+            "cycles 1\r\n next 01\tx.ans 015 \r\nat 0 main.run\n",
+            (0, 0),
+        ),
+    ];
+    for (text, want) in cases {
+        assert_eq!(rt; answer(read_pulses(alloc, text.as_bytes(), &net)), want);
     }
     Ok(())
 }
 
-// Whether there are two entries: in turn an answer of 7 from cycle 3 on, and a request in cycle 8.
-fn has_two_entries(pulses: &Pulses) -> bool {
-    match pulses.entries() {
-        [first, second] => { is_entry(first, false, 3, 5, 7) && is_entry(second, true, 8, 0, 0) }
-        _ => false,
-    }
-}
-
-// Whether an entry says this.
-fn is_entry(entry: &Entry, at: bool, number: u64, event: usize, value: u64) -> bool {
-    entry.at == at && entry.number == number && entry.event == event && entry.value == value
-}
-
 #[test]
 fn reads_entries(rt: HostRuntime) -> Result<(), Fail> {
-    let net = circuit(rt.alloc())?;
-    match read_pulses(
-        rt.alloc(),
-        b"cycles 9\nnext 3 x.ans 7\nat 8 main.run\n",
-        &net,
-    ) {
-        Ok(pulses) => assert!(rt; pulses.cycles() == 9 && has_two_entries(&pulses)),
+    let alloc = rt.alloc();
+    let net = circuit(alloc)?;
+    match read_pulses(alloc, b"cycles 9\nnext 3 x.ans 7\nat 8 main.run\n", &net) {
+        Ok(pulses) => {
+            assert_eq!(rt; pulses.cycles(), 9);
+            match pulses.entries() {
+                [first, second] => {
+                    assert!(rt;
+                        !first.at && first.number == 3 && first.event == 5 && first.value == 7
+                    );
+                    assert!(rt;
+                        second.at && second.number == 8 && second.event == 0 && second.value == 0
+                    );
+                }
+                _ => assert!(rt; false, "two entries"),
+            }
+        }
         Err(_) => assert!(rt; false, "a right file"),
     }
     Ok(())
@@ -119,7 +109,7 @@ fn prints_pulses(rt: HostRuntime) -> Result<(), Fail> {
     let alloc = rt.alloc();
     let net = circuit(alloc)?;
     let count = events(alloc, &net)?.len();
-    assert!(rt; count == 6);
+    assert_eq!(rt; count, 6);
     let run = TraceLine {
         cycle: 0,
         event: 0,
@@ -136,7 +126,10 @@ fn prints_pulses(rt: HostRuntime) -> Result<(), Fail> {
         unused: 0,
     };
     let text = print_trace(alloc, &trace, &net)?;
-    assert!(rt; text.as_slice() == b"0 main.run\n12 x.ans 7\ncycles 20\n".as_slice());
+    assert_eq!(rt;
+        text.as_slice(),
+        b"0 main.run\n12 x.ans 7\ncycles 20\n".as_slice()
+    );
     Ok(())
 }
 

@@ -1,12 +1,12 @@
 // The texts of two circuits, written by hand.
-ghost use Rattle.std.specs.Prelude.{◌≡◌, ◌≤◌, ◌<◌, ◌^◌, IfOk, length};
+ghost use Rattle.std.specs.Prelude.{◌≤◌, ◌<◌, ◌^◌, IfOk, length};
+ghost use Rattle.gos_lex.specs.Names.{IsNameOrWord};
 
-use crate::circuits::{bit, latch, port};
-use gos_lex::LexFault;
+use gos_lex::{LexFault, Name};
 use gos_netcheck::accept;
 use gos_netlist::{Cell, Gate, Ground, NetId, Netlist, Port, Side};
 use gos_verilog::{VFault, read_verilog, write_verilog};
-use std::alloc::{AllocError, Global};
+use std::alloc::Global;
 use std::test::Fail;
 
 // The text of the latch.
@@ -83,26 +83,37 @@ const SORTS: &str =
 endmodule
 ";
 
-fn latch_text() -> &'static [u8] {
-    LATCH.as_bytes()
+fn bit(gate: Gate) -> Cell {
+    Cell { width: 1, gate }
 }
 
-fn sorts_text() -> &'static [u8] {
-    SORTS.as_bytes()
-}
-
-// The text of a netlist that is accepted.
-fn written(alloc: Global, net: Netlist) -> Result<Vec<u8>, Fail>
-    requires { length net.cells < 2 ^ 32 }
+fn latch(alloc: Global) -> Result<Netlist, LexFault>
+    ensures { IfOk result (λ net. length net.cells < 2 ^ 32) }
 {
-    let net = accept(alloc, net)?;
-    Ok(write_verilog(alloc, &net)?)
+    let name = Name::new(alloc, b"main")?;
+    let nets = vec![in alloc; NetId(0), NetId(3)]?;
+    let port = Port {
+        name,
+        side: Side::Give,
+        ground: Ground::Com,
+        nets,
+    };
+    let ports = vec![in alloc; port]?;
+    let cells = vec![in alloc;
+        bit(Gate::Input),
+        bit(Gate::Or(NetId(0), NetId(2))),
+        bit(Gate::Reg(NetId(1))),
+        bit(Gate::Reg(NetId(1))),
+    ]?;
+    Ok(Netlist { cells, ports })
 }
 
 #[test]
 fn writes_the_latch(rt: HostRuntime) -> Result<(), Fail> {
-    let text = written(rt.alloc(), latch(rt.alloc())?)?;
-    assert!(rt; text.as_slice() == latch_text());
+    let alloc = rt.alloc();
+    let net = accept(alloc, latch(alloc)?)?;
+    let text = write_verilog(alloc, &net)?;
+    assert_eq!(rt; text.as_slice(), LATCH.as_bytes());
     Ok(())
 }
 
@@ -110,11 +121,32 @@ fn four(gate: Gate) -> Cell {
     Cell { width: 4, gate }
 }
 
-// A cell of each sort. The Input cells and the nets of ports stand in different orders.
-fn sorted_cells() -> [Cell; 17] {
+// A port with these nets.
+fn port(
+    alloc: Global,
+    name: &[u8],
+    side: Side,
+    ground: Ground,
+    nets: Vec<NetId>,
+) -> Result<Port, LexFault>
+    requires { IsNameOrWord name.now }
+{
+    let name = Name::new(alloc, name)?;
+    Ok(Port {
+        name,
+        side,
+        ground,
+        nets,
+    })
+}
+
+// The Input cells and the nets of ports stand in different orders.
+fn sorts(alloc: Global) -> Result<Netlist, LexFault>
+    ensures { IfOk result (λ net. length net.cells < 2 ^ 32) }
+{
     let a = NetId(2);
     let b = NetId(4);
-    [
+    let cells = [
         bit(Gate::Input),
         bit(Gate::Input),
         four(Gate::Input),
@@ -132,56 +164,44 @@ fn sorted_cells() -> [Cell; 17] {
         four(Gate::Gate(NetId(0), a)),
         bit(Gate::Reg(NetId(12))),
         four(Gate::Reg(NetId(9))),
-    ]
-}
-
-// The ports of these cells: an expression that is given, and a variable that is taken.
-fn sorted_ports(alloc: Global) -> Result<Vec<Port>, LexFault> {
-    let given = [NetId(3), NetId(15), NetId(16)];
-    let taken = [
-        NetId(15),
-        NetId(1),
-        NetId(2),
-        NetId(15),
-        NetId(16),
-        NetId(0),
     ];
-    let main = port(alloc, b"main", Side::Give, Ground::Exp(4), &given)?;
-    let v = port(alloc, b"v", Side::Take, Ground::Var(4), &taken)?;
-    Ok(vec![in alloc; main, v]?)
-}
-
-fn sorts(alloc: Global) -> Result<Netlist, LexFault>
-    ensures { IfOk result (λ net. length net.cells ≡ 17) }
-{
-    let ports = sorted_ports(alloc)?;
-    let cells = sorted_cells().as_slice().to_vec(alloc)?;
+    let given = vec![in alloc; NetId(3), NetId(15), NetId(16)]?;
+    let taken = vec![in alloc; NetId(15), NetId(1), a, NetId(15), NetId(16), NetId(0)]?;
+    let ports = vec![in alloc;
+        port(alloc, b"main", Side::Give, Ground::Exp(4), given)?,
+        port(alloc, b"v", Side::Take, Ground::Var(4), taken)?,
+    ]?;
+    let cells = cells.as_slice().to_vec(alloc)?;
     Ok(Netlist { cells, ports })
 }
 
 #[test]
 fn writes_each_sort(rt: HostRuntime) -> Result<(), Fail> {
-    let text = written(rt.alloc(), sorts(rt.alloc())?)?;
-    assert!(rt; text.as_slice() == sorts_text());
+    let alloc = rt.alloc();
+    let net = accept(alloc, sorts(alloc)?)?;
+    let text = write_verilog(alloc, &net)?;
+    assert_eq!(rt; text.as_slice(), SORTS.as_bytes());
     Ok(())
 }
 
 // The text of what is read from this one.
 fn read_and_written(alloc: Global, text: &[u8]) -> Result<Vec<u8>, Fail> {
-    written(alloc, read_verilog(alloc, text)?)
+    let net = read_verilog(alloc, text)?;
+    let net = accept(alloc, net)?;
+    Ok(write_verilog(alloc, &net)?)
 }
 
 #[test]
 fn reads_the_latch(rt: HostRuntime) -> Result<(), Fail> {
-    let written = read_and_written(rt.alloc(), latch_text())?;
-    assert!(rt; written.as_slice() == latch_text());
+    let written = read_and_written(rt.alloc(), LATCH.as_bytes())?;
+    assert_eq!(rt; written.as_slice(), LATCH.as_bytes());
     Ok(())
 }
 
 #[test]
 fn reads_each_sort(rt: HostRuntime) -> Result<(), Fail> {
-    let written = read_and_written(rt.alloc(), sorts_text())?;
-    assert!(rt; written.as_slice() == sorts_text());
+    let written = read_and_written(rt.alloc(), SORTS.as_bytes())?;
+    assert_eq!(rt; written.as_slice(), SORTS.as_bytes());
     Ok(())
 }
 
@@ -193,33 +213,22 @@ fn refused_at(alloc: Global, text: &[u8]) -> Option<usize> {
     }
 }
 
-// Whether a text is refused at this place.
-fn is_refused_at(alloc: Global, text: &[u8], place: usize) -> bool {
-    match refused_at(alloc, text) {
-        Some(at) => at == place,
-        None => false,
-    }
-}
-
 #[test]
-fn tells_where_a_text_ends(rt: HostRuntime) {
-    let text = latch_text();
+fn tells_where_a_text_ends(rt: HostRuntime) -> Result<(), Fail> {
+    let alloc = rt.alloc();
+    let text = LATCH.as_bytes();
+    assert_eq!(rt; refused_at(alloc, b""), Some(0));
     for end in 0..text.len() {
-        assert!(rt; is_refused_at(rt.alloc(), &text[..end], end));
+        assert_eq!(rt; refused_at(alloc, &text[..end]), Some(end));
     }
-}
-
-#[test]
-fn tells_what_stands_behind_a_text(rt: HostRuntime) -> Result<(), Fail> {
-    let mut longer = latch_text().to_vec(rt.alloc())?;
-    let end = longer.len();
+    let mut longer = text.to_vec(alloc)?;
     longer.push(b' ')?;
-    assert!(rt; is_refused_at(rt.alloc(), &longer, end));
+    assert_eq!(rt; refused_at(alloc, &longer), Some(text.len()));
     Ok(())
 }
 
 // The text with another byte at a place.
-fn with_byte(alloc: Global, text: &[u8], at: usize, byte: u8) -> Result<Vec<u8>, AllocError>
+fn with_byte(alloc: Global, text: &[u8], at: usize, byte: u8) -> Result<Vec<u8>, Fail>
     requires { at < length text.now }
 {
     let mut changed = text.to_vec(alloc)?;
@@ -227,116 +236,84 @@ fn with_byte(alloc: Global, text: &[u8], at: usize, byte: u8) -> Result<Vec<u8>,
     Ok(changed)
 }
 
-// Whether another byte at any place of a text is told there.
-fn tells_each_byte(alloc: Global, text: &[u8]) -> Result<bool, AllocError> {
-    for at in 0..text.len() {
-        let changed = with_byte(alloc, text, at, b'#')?;
-        if !is_refused_at(alloc, &changed, at) {
-            return Ok(false);
-        }
-    }
-    Ok(true)
-}
-
 #[test]
 fn tells_a_wrong_byte(rt: HostRuntime) -> Result<(), Fail> {
-    assert!(rt; tells_each_byte(rt.alloc(), latch_text())?);
-    assert!(rt; tells_each_byte(rt.alloc(), sorts_text())?);
-    Ok(())
-}
-
-// Starts, and where each is refused.
-const STARTS: [(&[u8], usize); 3] = [
-    (b"module gas_main", 8),
-    (b"module gos_1ab", 11),
-    (b"module gos_main(clk; rst", 19),
-];
-
-#[test]
-fn tells_a_wrong_start(rt: HostRuntime) {
-    for (text, place) in STARTS.iter() {
-        assert!(rt; is_refused_at(rt.alloc(), text, *place));
-    }
-}
-
-// The 256th byte of a name can't belong to one.
-#[test]
-fn tells_a_long_start(rt: HostRuntime) -> Result<(), Fail> {
-    let mut long = b"module gos_".as_slice().to_vec(rt.alloc())?;
-    push_letters(&mut long, 300)?;
-    assert!(rt; is_refused_at(rt.alloc(), &long, 266));
-    Ok(())
-}
-
-// Adds so many letters.
-fn push_letters(text: &mut Vec<u8>, count: usize) -> Result<(), Fail> {
-    for _ in 0..count {
-        text.push(b'a')?;
+    let alloc = rt.alloc();
+    for text in [LATCH.as_bytes(), SORTS.as_bytes()] {
+        for at in 0..text.len() {
+            let changed = with_byte(alloc, text, at, b'#')?;
+            assert_eq!(rt; refused_at(alloc, &changed), Some(at));
+        }
     }
     Ok(())
 }
 
-// Whether a head breaks off at this place of what stands behind the module's name, the clock and the reset.
-fn breaks_at(alloc: Global, behind: &[u8], place: usize) -> Result<bool, AllocError> {
+#[test]
+fn tells_a_wrong_start(rt: HostRuntime) -> Result<(), Fail> {
+    let alloc = rt.alloc();
+    assert_eq!(rt; refused_at(alloc, b"module gas_main"), Some(8));
+    assert_eq!(rt; refused_at(alloc, b"module gos_1ab"), Some(11));
+    assert_eq!(rt; refused_at(alloc, b"module gos_main(clk; rst"), Some(19));
+    // The 256th byte of a name can't belong to one.
+    let mut long = b"module gos_".as_slice().to_vec(alloc)?;
+    for _ in 0..300 {
+        long.push(b'a')?;
+    }
+    assert_eq!(rt; refused_at(alloc, &long), Some(266));
+    Ok(())
+}
+
+// Where a head breaks off: behind the module's name, the clock and the reset these stand.
+fn head_breaks(alloc: Global, behind: &[u8]) -> Result<Option<usize>, Fail> {
     let mut text = b"module gos_main(clk, rst".as_slice().to_vec(alloc)?;
     let start = text.len();
     text.extend_from_slice(behind)?;
-    match refused_at(alloc, &text) {
-        Some(at) => Ok(at.checked_sub(start) == Some(place)),
-        None => Ok(false),
-    }
+    Ok(refused_at(alloc, &text).and_then(|at| at.checked_sub(start)))
 }
-
-// Heads behind the reset, and where each breaks off.
-const HEADS: [(&[u8], usize); 8] = [
-    // There is a port, and it is named as the module.
-    (b");\n", 0),
-    (b", mane__run", 4),
-    (b", main_run", 7),
-    // The first net is none that comes later, and all nets of a port stand in order.
-    (b", main__done", 8),
-    (b", main__run);\n", 11),
-    (b", main__run, main__ans", 19),
-    (b", main__read, main__ans, main__done", 31),
-    (b", main__ask, main__ans, main__ansvalue, a__x", 44),
-];
 
 #[test]
 fn tells_where_a_head_breaks_off(rt: HostRuntime) -> Result<(), Fail> {
-    for (behind, place) in HEADS.iter() {
-        assert!(rt; breaks_at(rt.alloc(), behind, *place)?);
-    }
+    let alloc = rt.alloc();
+    // There is a port, and it is named as the module.
+    assert_eq!(rt; head_breaks(alloc, b");\n")?, Some(0));
+    assert_eq!(rt; head_breaks(alloc, b", mane__run")?, Some(4));
+    assert_eq!(rt; head_breaks(alloc, b", main_run")?, Some(7));
+    // The first net is none that comes later, and all nets of a port stand in order.
+    assert_eq!(rt; head_breaks(alloc, b", main__done")?, Some(8));
+    assert_eq!(rt; head_breaks(alloc, b", main__run);\n")?, Some(11));
+    assert_eq!(rt; head_breaks(alloc, b", main__run, main__ans")?, Some(19));
+    assert_eq!(rt;
+        head_breaks(alloc, b", main__read, main__ans, main__done")?,
+        Some(31)
+    );
+    assert_eq!(rt;
+        head_breaks(alloc, b", main__ask, main__ans, main__ansvalue, a__x")?,
+        Some(44)
+    );
     Ok(())
 }
 
-// The nets of the first port.
-const FIRST: &[u8] = b", main__run, main__done";
-
-// Whether a head breaks off at this place of what stands behind the first port.
-fn breaks_behind_first(alloc: Global, behind: &[u8], place: usize) -> Result<bool, AllocError>
-    requires { place ≤ 4294967295 }
-{
-    let mut text = FIRST.to_vec(alloc)?;
-    text.extend_from_slice(behind)?;
-    breaks_at(alloc, &text, FIRST.len() + place)
-}
-
-// Names of a second port, and where each breaks off.
-const SECONDS: [(&[u8], u32); 5] = [
-    // A name without a role, with one of a later net, or without a name breaks off at its end.
-    (b", v, v__ans", 3),
-    (b", v__done, v__run", 9),
-    (b", __run, __done", 7),
-    // So does one that a port has before, since it may go on.
-    (b", main__run, main__done", 11),
-    (b", main__run__run, main__run__done);\n  output", 38),
-];
-
 #[test]
 fn tells_a_wrong_name_of_a_port(rt: HostRuntime) -> Result<(), Fail> {
-    for (behind, place) in SECONDS.iter() {
-        assert!(rt; breaks_behind_first(rt.alloc(), behind, *place as usize)?);
-    }
+    let alloc = rt.alloc();
+    let mut text = b", main__run, main__done".as_slice().to_vec(alloc)?;
+    let start = text.len();
+    // A name without a role, with one of a later net, or without a name breaks off at its end.
+    text.extend_from_slice(b", v, v__ans")?;
+    assert_eq!(rt; head_breaks(alloc, &text)?, Some(start + 3));
+    text.truncate(start);
+    text.extend_from_slice(b", v__done, v__run")?;
+    assert_eq!(rt; head_breaks(alloc, &text)?, Some(start + 9));
+    text.truncate(start);
+    text.extend_from_slice(b", __run, __done")?;
+    assert_eq!(rt; head_breaks(alloc, &text)?, Some(start + 7));
+    // So does one that a port has before, since it may go on.
+    text.truncate(start);
+    text.extend_from_slice(b", main__run, main__done")?;
+    assert_eq!(rt; head_breaks(alloc, &text)?, Some(start + 11));
+    text.truncate(start);
+    text.extend_from_slice(b", main__run__run, main__run__done);\n  output")?;
+    assert_eq!(rt; head_breaks(alloc, &text)?, Some(start + 38));
     Ok(())
 }
 
@@ -350,38 +327,40 @@ fn add_command(text: &mut Vec<u8>, name: &[u8]) -> Result<(), Fail> {
     Ok(())
 }
 
-// A name of so many letters.
+// So many bytes.
 fn so_many(alloc: Global, count: usize) -> Result<Vec<u8>, Fail> {
     let mut name = Vec::new(alloc);
-    push_letters(&mut name, count)?;
+    for _ in 0..count {
+        name.push(b'a')?;
+    }
     Ok(name)
 }
 
-// The 256th byte has to be the suffix's.
 #[test]
 fn tells_where_a_long_name_breaks_off(rt: HostRuntime) -> Result<(), Fail> {
-    let mut text = b", ".as_slice().to_vec(rt.alloc())?;
-    push_letters(&mut text, 300)?;
-    assert!(rt; breaks_behind_first(rt.alloc(), &text, 257)?);
-    Ok(())
-}
-
-// The longest name, a second time.
-#[test]
-fn tells_where_the_longest_name_breaks_off(rt: HostRuntime) -> Result<(), Fail> {
-    let name = so_many(rt.alloc(), 255)?;
-    let mut text = FIRST.to_vec(rt.alloc())?;
+    let alloc = rt.alloc();
+    let mut text = b", main__run, main__done".as_slice().to_vec(alloc)?;
+    let start = text.len();
+    // The 256th byte has to be the suffix's.
+    text.extend_from_slice(b", ")?;
+    text.extend_from_slice(&so_many(alloc, 300)?)?;
+    assert_eq!(rt; head_breaks(alloc, &text)?, Some(start + 257));
+    // The longest name, a second time.
+    text.truncate(start);
+    let name = so_many(alloc, 255)?;
     add_command(&mut text, &name)?;
     let second = text.len();
     add_command(&mut text, &name)?;
-    assert!(rt; breaks_at(rt.alloc(), &text, second.saturating_add(256))?);
+    assert_eq!(rt; head_breaks(alloc, &text)?, Some(second + 256));
     Ok(())
 }
 
-// Commands of a name of 254 bytes, and of each that is a byte longer.
-fn all_names(alloc: Global) -> Result<Vec<u8>, Fail> {
-    let mut text = FIRST.to_vec(alloc)?;
+#[test]
+fn tells_where_no_name_is_free(rt: HostRuntime) -> Result<(), Fail> {
+    let alloc = rt.alloc();
+    let mut text = b", main__run, main__done".as_slice().to_vec(alloc)?;
     let mut name = so_many(alloc, 254)?;
+    // A name of 254 bytes, and each that is a byte longer.
     add_command(&mut text, &name)?;
     for b in 0..128u8 {
         if b.is_ascii_alphanumeric() || b == b'_' {
@@ -390,27 +369,15 @@ fn all_names(alloc: Global) -> Result<Vec<u8>, Fail> {
             name.truncate(254);
         }
     }
-    Ok(text)
-}
-
-#[test]
-fn tells_where_no_name_is_free(rt: HostRuntime) -> Result<(), Fail> {
-    let mut text = all_names(rt.alloc())?;
     let last = text.len();
-    add_command(&mut text, &so_many(rt.alloc(), 254)?)?;
-    assert!(rt; breaks_at(rt.alloc(), &text, last.saturating_add(255))?);
-    Ok(())
-}
-
-// But a shorter one may go on with its role.
-#[test]
-fn tells_where_a_shorter_name_breaks_off(rt: HostRuntime) -> Result<(), Fail> {
-    let mut text = all_names(rt.alloc())?;
-    let last = text.len();
+    add_command(&mut text, &name)?;
+    assert_eq!(rt; head_breaks(alloc, &text)?, Some(last + 255));
+    // But a shorter one may go on with its role.
+    text.truncate(last);
     text.extend_from_slice(b", ")?;
-    push_letters(&mut text, 253)?;
+    text.extend_from_slice(&so_many(alloc, 253)?)?;
     text.extend_from_slice(b"_a")?;
-    assert!(rt; breaks_at(rt.alloc(), &text, last.saturating_add(257))?);
+    assert_eq!(rt; head_breaks(alloc, &text)?, Some(last + 257));
     Ok(())
 }
 
@@ -433,64 +400,31 @@ fn with_end(alloc: Global, text: &[u8], word: &[u8], end: &[u8]) -> Result<Vec<u
     Ok(changed)
 }
 
-// Whether a text is refused so many bytes before its end, where it has this end in place of a word and what follows it.
-fn ends_refused(
-    alloc: Global,
-    text: &[u8],
-    word: &[u8],
-    end: &[u8],
-    before: usize,
-) -> Result<bool, Fail> {
-    let text = with_end(alloc, text, word, end)?;
-    match text.len().checked_sub(before) {
-        Some(place) => Ok(is_refused_at(alloc, &text, place)),
-        None => Ok(false),
-    }
-}
-
-// An output is no input.
-#[test]
-fn tells_an_output_for_an_input(rt: HostRuntime) -> Result<(), Fail> {
-    let refused = ends_refused(
-        rt.alloc(),
-        latch_text(),
-        b"run;\n  assign n1",
-        b"done;\n",
-        6,
-    )?;
-    assert!(rt; refused);
-    Ok(())
-}
-
-// Words of the second circuit's text, an end in place of each, and how long before it the text is refused.
-const ENDS: [(&[u8], &[u8], usize); 3] = [
-    // This input has more bits.
-    (b";\n  assign n2", b"value;\n", 7),
-    // 16 has more than four bits, and 32 more than none.
-    (b"9;\n  assign n5", b"16;\n", 3),
-    (b"0:0] n0", b"32:0] n0", 7),
-];
-
 #[test]
 fn tells_where_a_line_breaks_off(rt: HostRuntime) -> Result<(), Fail> {
-    for (word, end, before) in ENDS.iter() {
-        let refused = ends_refused(rt.alloc(), sorts_text(), word, end, *before)?;
-        assert!(rt; refused);
-    }
+    let alloc = rt.alloc();
+    let latch = LATCH.as_bytes();
+    let sorts = SORTS.as_bytes();
+    // An output is no input.
+    let text = with_end(alloc, latch, b"run;\n  assign n1", b"done;\n")?;
+    assert_eq!(rt; refused_at(alloc, &text), text.len().checked_sub(6));
+    // This input has more bits.
+    let text = with_end(alloc, sorts, b";\n  assign n2", b"value;\n")?;
+    assert_eq!(rt; refused_at(alloc, &text), text.len().checked_sub(7));
+    // 16 has more than four bits, and 32 more than none.
+    let text = with_end(alloc, sorts, b"9;\n  assign n5", b"16;\n")?;
+    assert_eq!(rt; refused_at(alloc, &text), text.len().checked_sub(3));
+    let text = with_end(alloc, sorts, b"0:0] n0", b"32:0] n0")?;
+    assert_eq!(rt; refused_at(alloc, &text), text.len().checked_sub(7));
     Ok(())
-}
-
-// The latch's text with the same input for the second cell.
-fn text_of_one_input(alloc: Global) -> Result<Vec<u8>, Fail> {
-    let latch = latch_text();
-    let mut text = with_end(alloc, latch, b"n0 | n2;", b"main__run;")?;
-    text.extend_from_slice(&latch[place_of(latch, b"\n  always")..])?;
-    Ok(text)
 }
 
 #[test]
 fn tells_last_that_two_cells_read_one_input(rt: HostRuntime) -> Result<(), Fail> {
-    let text = text_of_one_input(rt.alloc())?;
-    assert!(rt; is_refused_at(rt.alloc(), &text, text.len()));
+    let alloc = rt.alloc();
+    let mut text = with_end(alloc, LATCH.as_bytes(), b"n0 | n2;", b"main__run;")?;
+    let place = place_of(LATCH.as_bytes(), b"\n  always");
+    text.extend_from_slice(&LATCH.as_bytes()[place..])?;
+    assert_eq!(rt; refused_at(alloc, &text), Some(text.len()));
     Ok(())
 }

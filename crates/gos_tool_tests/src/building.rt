@@ -49,18 +49,18 @@ const SHORT_TRACE: &[u8] = b"0 main.run\n1 main.done\n2 main.done\ncycles 3\n";
 const BUILD: [&str; 2] = ["build", "b.txt"];
 
 // Runs `build b.txt` for a build of one instance.
-fn built_alone(alloc: Global, source: &[u8], pulses: &[u8]) -> Result<Left, AllocError> {
+fn built_alone<'a>(alloc: Global, source: &'a [u8], pulses: &'a [u8]) -> Result<Left, AllocError> {
     let files: [(&[u8], &[u8]); 3] = [(b"b.txt", ONE), (b"main.gos", source), (b"in.pls", pulses)];
     ran(alloc, &BUILD, &files)
 }
 
 // Runs it for a build of the sources `main` and `k`.
-fn built_of_two(
+fn built_of_two<'a>(
     alloc: Global,
-    build: &[u8],
-    main: &[u8],
-    k: &[u8],
-    pulses: &[u8],
+    build: &'a [u8],
+    main: &'a [u8],
+    k: &'a [u8],
+    pulses: &'a [u8],
 ) -> Result<Left, AllocError> {
     let files: [(&[u8], &[u8]); 4] = [
         (b"b.txt", build),
