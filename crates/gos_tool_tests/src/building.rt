@@ -55,12 +55,12 @@ fn built_alone<'a>(alloc: Global, source: &'a [u8], pulses: &'a [u8]) -> Result<
 }
 
 // Runs it for a build of the sources `main` and `k`.
-fn built_of_two<'a>(
+fn built_of_two(
     alloc: Global,
-    build: &'a [u8],
-    main: &'a [u8],
-    k: &'a [u8],
-    pulses: &'a [u8],
+    build: &[u8],
+    main: &[u8],
+    k: &[u8],
+    pulses: &[u8],
 ) -> Result<Left, AllocError> {
     let files: [(&[u8], &[u8]); 4] = [
         (b"b.txt", build),
