@@ -36,7 +36,7 @@ use Rattle.gos_calls.specs.Bodies.{with_supply, AppliedIsBody}
 use Rattle.gos_calls.specs.Functions.{FunctionCase}
 use Rattle.gos_calls.proofs.TypeLemmas.{has_leaves, supply_typed}
 use Rattle.gos_calls.proofs.FunctionLemmas.{other_number, all_with, applied_fits}
-use Rattle.gos_calls.proofs.PutLemmas.{under_any, put_typed}
+use Rattle.gos_grounds.proofs.PutLemmas.{under_any, put_typed}
 
 pub record TermLaws : Type 0 where
   pub one : OneType

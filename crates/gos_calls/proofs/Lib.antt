@@ -6,5 +6,4 @@ pub mod PartLemmas
 pub mod BodyWebLemmas
 pub mod NamedLemmas
 pub mod FunctionLemmas
-pub mod PutLemmas
 pub mod LambdaLemmas

@@ -34,7 +34,7 @@ use Rattle.gos_grounds.proofs.WhoseLemmas.{before, below_whose, whose}
 use Rattle.gos_grounds.proofs.WiredLemmas.{imports_are_ground, literals_within}
 use Rattle.gos_grounds.proofs.AgreeLemmas.{AgreeAt, below_agrees, meaning_agrees}
 use Rattle.gos_grounds.proofs.FreshLemmas.{fresh_name, is_fresh}
-use Rattle.gos_grounds.proofs.PutLemmas.{IsWithout, put_typed}
+use Rattle.gos_grounds.proofs.PutLemmas.{IsWithout, name_apart, put_typed}
 
 -- its one import is the name
 only_import : (x : Name) (w q : ℕ) (y : Imported) → slice_get (name_plan x (Var w)).imports q ≡ Some y → (q ≡ 0) × (y.name ≡ x)
@@ -222,7 +222,7 @@ module _
 
       body_typed : Typed r.imports (Var w ∷ []) body_term t → Typed body.imports [] (instantiate body_term (Import x)) t
       body_typed typed =
-          put_typed body.imports x (Var w) name_typed body_term [] t without
+          put_typed body.imports (Import x) (Var w) name_typed body_term [] t (name_apart x body_term without)
           (typed_under_fewer r.imports body.imports (Var w ∷ []) body_term t agree typed)
         where
           agree : (y : Name) → Contains (things 0 body_term) (Named y) → import_type body.imports y ≡ import_type r.imports y

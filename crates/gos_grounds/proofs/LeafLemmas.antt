@@ -1,12 +1,12 @@
--- Nodes without parts, and a variable that is read.
+-- Nodes without parts.
 use Rattle.std.specs.Prelude.{[]}
 use Rattle.std.proofs.Common.{sym, subst}
-use Rattle.gos_types.specs.Types.{Type', Com, Exp, Var}
+use Rattle.gos_types.specs.Types.{Type', Com, Exp}
 use Rattle.gos_model.specs.Terms as terms
-use Rattle.gos_check.specs.Nodes.{Closed, Use, One, OfDeref}
+use Rattle.gos_check.specs.Nodes.{Closed, Use}
 use Rattle.gos_realises.specs.Realises.{Realises}
-use Rattle.gos_leaves.specs.Leaves.{UseIsRealised, SkipIsRealised, LiteralIsRealised, ReadIsRealised}
-use Rattle.gos_grounds.specs.Cases.{UseCase, SkipCase, LiteralCase, ReadCase}
+use Rattle.gos_leaves.specs.Leaves.{UseIsRealised, SkipIsRealised, LiteralIsRealised}
+use Rattle.gos_grounds.specs.Cases.{UseCase, SkipCase, LiteralCase}
 use Rattle.gos_grounds.proofs.WiredLemmas.{imports_are_ground}
 
 pub use_case : UseIsRealised → UseCase
@@ -21,9 +21,3 @@ skip_case law types ns i j env pl r w supplies differ fit typed =
 pub literal_case : LiteralIsRealised → LiteralCase
 literal_case law types ns w k i j env pl r wired supplies differ fit (e, wide, small) =
     law types i j w k ns env pl r wired wide small fit (imports_are_ground types i j (Closed (Exp w) [] (terms.Lit k w)) ns env pl r wired supplies) differ
-
-pub read_case : ReadIsRealised → ReadCase
-read_case law types ns n w has e i j env pl r wired supplies differ fit typed =
-    law types i j w n ns env pl r wired has e fit
-    (imports_are_ground types i j (One (Exp w) [] OfDeref (Use (Var w) [] n)) ns env pl r wired supplies) differ
-    (subst (λ (u : Type'). Realises u (env n).plan (env n).term) e (supplies n has))

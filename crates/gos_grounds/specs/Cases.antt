@@ -5,7 +5,7 @@ use Rattle.std.specs.Prelude.{◌≡◌, ℕ, List, [], ◌∷◌, ◌++◌, All
 use Rattle.gos_types.specs.Types.{Type', Com, Exp, Var, IsDone}
 use Rattle.gos_model.specs.Terms as terms
 use Rattle.gos_model.specs.Typing.{Typed}
-use Rattle.gos_check.specs.Nodes.{Numbered, Closed, Use, Under, One, Two, OfNew, OfDeref, OfPar, meaning, type_of_node}
+use Rattle.gos_check.specs.Nodes.{Numbered, Closed, Use, Under, Two, OfNew, OfPar, meaning, type_of_node}
 use Rattle.gos_plan.specs.Plans.{Plan}
 use Rattle.gos_plan.specs.TokenBits.{LiteralFits}
 use Rattle.gos_realises.specs.Realises.{NamesDiffer, Realises}
@@ -34,12 +34,6 @@ SkipCase = (types : Types) (ns : List ℕ) → RealisesWired types ns (Closed Co
 
 abbrev pub LiteralCase : Type 0
 LiteralCase = (types : Types) (ns : List ℕ) (w k : ℕ) → RealisesWired types ns (Closed (Exp w) [] (terms.Lit k w))
-
--- a variable that is read
-abbrev pub ReadCase : Type 0
-ReadCase =
-    (types : Types) (ns : List ℕ) (n w : ℕ)
-    → Contains ns n → types n ≡ Var w → RealisesWired types ns (One (Exp w) [] OfDeref (Use (Var w) [] n))
 
 -- both sides of `||`
 abbrev pub ParallelCase : Type 0

@@ -1,22 +1,20 @@
 // What wired nodes of ground types realise, form by form. Each theorem is the contract of a function that does nothing.
-ghost use Rattle.gos_grounds.specs.Cases.{BlockCase, LiteralCase, ParallelCase, ReadCase, SkipCase, UseCase};
+ghost use Rattle.gos_grounds.specs.Cases.{BlockCase, LiteralCase, ParallelCase, SkipCase, UseCase};
 
 use gos_frames::{block_bodies, parallel_sides};
-use gos_leaves::{closed_is_realised, read_is_realised, use_is_realised};
+use gos_leaves::{closed_is_realised, use_is_realised};
 use gos_meanings::meanings;
 use gos_names::names;
 use gos_parallel::parallel;
 
-/// Nodes without parts, and a variable that is read.
+/// Nodes without parts.
 pub fn leaves()
     ensures used { UseCase }
     ensures skip { SkipCase }
     ensures literal { LiteralCase }
-    ensures read { ReadCase }
 {
     use_is_realised();
     closed_is_realised();
-    read_is_realised();
 }
 
 /// Both sides of `||`.

@@ -14,6 +14,8 @@ mod lines;
 #[cfg(test)]
 mod netlists;
 #[cfg(test)]
+mod plain;
+#[cfg(test)]
 mod pulse_files;
 #[cfg(test)]
 mod simulating;

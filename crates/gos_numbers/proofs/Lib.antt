@@ -7,4 +7,4 @@ mod RootLemmas
 mod ReachLemmas
 mod FreeLemmas
 mod UnsplitLemmas
-mod SmallKeptLemmas
+pub mod SmallKeptLemmas

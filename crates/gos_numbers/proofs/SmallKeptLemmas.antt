@@ -9,7 +9,7 @@ use Rattle.gos_check.proofs.TimesLemmas.{times_other}
 use Rattle.gos_leaves.specs.SmallSplits.{TwiceIsSplit}
 use Rattle.gos_numbers.specs.SmallKept.{TwiceIsKept, NoneIsNotKept}
 
-abbrev the_split : Split
+abbrev pub the_split : Split
 the_split = record { of = 0; left = 1; right = 2 }
 
 of_split : (s : Split) → IsOneOf s (the_split ∷ []) → s ≡ the_split
@@ -35,7 +35,7 @@ module _ (n : ℕ) where
       by_number (suc zero) one two = omega (arith, two)
       by_number (suc (suc m)) one two = let none = times_other 1 (suc (suc m)) [] (λ h. omega (arith, h)) in omega (arith, one, none)
 
-  apart : IsSplitBetween (the_split ∷ []) (Use Com [] n)
+  pub apart : IsSplitBetween (the_split ∷ []) (Use Com [] n)
   apart s a b one c d small more =
       let is = of_split s one in
       let left : s.left ≡ 1 = ap (λ (u : Split). u.left) is in
@@ -46,14 +46,14 @@ none_large : (k : ℕ) → times (suc (suc (suc k))) (1 ∷ 2 ∷ []) ≡ 0
 none_large k =
     times_other (suc (suc (suc k))) 1 (2 ∷ []) (λ e. omega (arith, e)) ∙ times_other (suc (suc (suc k))) 2 [] (λ e. omega (arith, e))
 
-once : (k : ℕ) → times k (1 ∷ 2 ∷ []) + times k (0 ∷ []) ≤ 1
+pub once : (k : ℕ) → times k (1 ∷ 2 ∷ []) + times k (0 ∷ []) ≤ 1
 once zero = omega arith
 once (suc zero) = omega arith
 once (suc (suc zero)) = omega arith
 once (suc (suc (suc k))) =
     let none = none_large k in let zero_none = times_other (suc (suc (suc k))) 0 [] (λ e. omega (arith, e)) in omega (arith, none, zero_none)
 
-used_once : (k : ℕ) → times k (0 ∷ 1 ∷ 2 ∷ []) ≤ 1
+pub used_once : (k : ℕ) → times k (0 ∷ 1 ∷ 2 ∷ []) ≤ 1
 used_once k = let all = once k in omega (arith, all)
 
 pub twice_is_kept : TwiceIsSplit → TwiceIsKept

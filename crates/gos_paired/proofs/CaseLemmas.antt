@@ -35,7 +35,7 @@ use Rattle.gos_both.specs.Both.{Side, IsBoth, BothIsRegular}
 use Rattle.gos_both.specs.Realised.{SidesRealiseBoth}
 use Rattle.gos_forks.specs.Forks.{Branch}
 use Rattle.gos_paired.specs.Cases.{RealisedIsRegular, BothCase, BothIsSteady}
-use Rattle.gos_paired.proofs.SideLemmas.{child_is_steady}
+use Rattle.gos_stages.proofs.ChildImportLemmas.{child_is_steady}
 use Rattle.gos_paired.proofs.PairLemmas.{half, child, ties, is_child, all_parts, has_parts, laid, found, side, is_both}
 
 module _ (types : Types) (ns : List ℕ) (ss : List Split) (m n : Numbered) (kept : IsKept types ns (Two (Pair (type_of_node m) (type_of_node n)) ss OfBoth m n)) where

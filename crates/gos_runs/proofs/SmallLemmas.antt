@@ -13,7 +13,7 @@ use Rattle.gos_forks.specs.Forms.{branch}
 use Rattle.gos_forks.specs.SmallForks.{skip}
 use Rattle.gos_runs.specs.SmallRuns.{BothHaveBranches, SecondHasNone}
 use Rattle.gos_runs.proofs.SessionLemmas.{of_sequence}
-use Rattle.gos_runs.proofs.CaseLemmas.{of_two}
+use Rattle.gos_covers.proofs.PartedLemmas.{of_two}
 
 pub both_have_branches : BothHaveBranches
 both_have_branches env r =

@@ -28,3 +28,4 @@ pub mod StageLemmas
 pub mod NodeLemmas
 pub mod CoverLemmas
 pub mod SideLemmas
+pub mod ChildImportLemmas

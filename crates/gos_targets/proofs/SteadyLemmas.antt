@@ -37,12 +37,13 @@ use Rattle.gos_stages.specs.Stages.{stage_of}
 use Rattle.gos_stages.proofs.LodgingLemmas.{lodged_are_inside}
 use Rattle.gos_stages.proofs.PartHomeLemmas.{numbers_are_at_home}
 use Rattle.gos_stages.proofs.HousingLemmas.{imports_are_from}
+use Rattle.gos_stages.proofs.ChildImportLemmas.{child_is_steady}
 use Rattle.gos_numbers.specs.Kept.{IsKept}
 use Rattle.gos_numbers.specs.Inherited.{first_numbers, own_numbers}
 use Rattle.gos_writes.specs.Written.{unread}
 use Rattle.gos_writes.specs.Assignments as assignments
 use Rattle.gos_steady.specs.Assignments.{IsOpenAssignment, AssignmentIsSteady}
-use Rattle.gos_steady.proofs.ChildLemmas.{child_is_steady, child_is_open_stage}
+use Rattle.gos_steady.proofs.ChildLemmas.{child_is_open_stage}
 use Rattle.gos_steady.proofs.WiredLemmas.{fewer}
 use Rattle.gos_targets.specs.inner.Targets.{target_cut, target_stage}
 use Rattle.gos_targets.specs.Cases.{AnyAssignIsSteady}

@@ -1,4 +1,4 @@
-use Rattle.gos_grounds.proofs.LeafLemmas.{use_case, skip_case, literal_case, read_case}
+use Rattle.gos_grounds.proofs.LeafLemmas.{use_case, skip_case, literal_case}
 use Rattle.gos_grounds.proofs.laws.leaves.Goals as goal
 
 pub returns-clause-used : goal.returns-clause-used
@@ -9,6 +9,3 @@ returns-clause-skip c = skip_case c.closed_is_realised.ensures.skip
 
 pub returns-clause-literal : goal.returns-clause-literal
 returns-clause-literal c = literal_case c.closed_is_realised.ensures.literal
-
-pub returns-clause-read : goal.returns-clause-read
-returns-clause-read c = read_case c.read_is_realised.ensures
