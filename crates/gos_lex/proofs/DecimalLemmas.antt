@@ -10,7 +10,8 @@ use Rattle.std.proofs.lemmas.Fmt.{decimal_digit, decimal_step, decimal_nonempty,
 use Rattle.gos_lex.specs.Items.{Begins, Passes, StopsAt, Misses}
 use Rattle.gos_lex.proofs.PlaceLemmas.{slice_split}
 use Rattle.gos_lex.proofs.ItemLemmas.{stops_bound}
-use Rattle.gos_lex.specs.Decimals.{IsDecimalIn, digits_so_far}
+use Rattle.gos_lex.specs.Decimals.{IsDecimalIn}
+use Rattle.gos_lex.specs.inner.Digits.{digits_so_far}
 
 -- what is left of a list that begins with `front` when its last element goes
 pub record Shorter (front whole : List ℕ) : Type 0 where

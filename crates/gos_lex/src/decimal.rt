@@ -7,7 +7,8 @@ ghost use Rattle.std.specs.List.{slice_range};
 ghost use Rattle.std.specs.Fmt.{decimal};
 ghost use Rattle.std.specs.Option.{SomeIff};
 ghost use Rattle.gos_lex.specs.Items.{Begins, Passes, StopsAt, Misses};
-ghost use Rattle.gos_lex.specs.Decimals.{IsDecimalIn, digits_so_far};
+ghost use Rattle.gos_lex.specs.Decimals.{IsDecimalIn};
+ghost use Rattle.gos_lex.specs.inner.Digits.{digits_so_far};
 
 // The longest number of the range that stands at `at`, and where it ends.
 pub(crate) fn number_end(text: &[u8], at: usize, low: u64, high: u64) -> Result<(u64, usize), usize>

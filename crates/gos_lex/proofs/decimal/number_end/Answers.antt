@@ -1,6 +1,6 @@
 use Rattle.std.proofs.Common.{ℕ, ◌<◌, ◌≤◌, ◌∙◌, ap, subst, sym, Option, arith}
 use Rattle.std.specs.Option.{IfSome}
-use Rattle.gos_lex.specs.Decimals.{digits_so_far}
+use Rattle.gos_lex.specs.inner.Digits.{digits_so_far}
 use Rattle.gos_lex.proofs.DecimalLemmas.{number_passes, number_misses}
 use Rattle.gos_lex.proofs.decimal.number_end.Goals as goal
 
