@@ -2,7 +2,7 @@
 //
 // `Err` is the place of the first byte that can't go on as the item, or the end of the text. Then the cursor may have
 // moved.
-ghost use Rattle.std.specs.Prelude.{◌≡◌, ◌<◌, ◌≤◌, ◌⊎◌, [], IfOk, IfErr, length, map, get_or};
+ghost use Rattle.std.specs.Prelude.{◌≡◌, ◌<◌, ◌≤◌, ◌⊎◌, [], ◌∷◌, IfOk, IfErr, length, map, get_or, take};
 ghost use Rattle.std.specs.Fmt.{decimal};
 ghost use Rattle.gos_lex.specs.Items.{Misses};
 ghost use Rattle.gos_netlist.specs.Seen.{number_of};
@@ -76,6 +76,26 @@ pub fn nets(alloc: Global, cursor: &mut Cursor, count: usize) -> Result<LineNets
         nets.push_reserved(NetId(n as u32));
     }
     Ok(nets)
+}
+
+/// Passes one to three nets, with a space between each two and a line feed behind the last. What stands behind so many
+/// is no net of the line.
+pub fn few_nets(cursor: &mut Cursor, count: usize) -> Result<(NetId, NetId, NetId), usize>
+    requires few { (0 < count) × (count ≤ 3) }
+    requires within { cursor.now.at ≤ length cursor.now.text }
+    ensures passed { IfOk result (λ nets. Passed cursor.old cursor.new (numbers_text (take count (nets.0.0 ∷ nets.1.0 ∷ nets.2.0 ∷ [])))) }
+    ensures wrong { IfErr result (Misses (IsNetsText count) cursor.old.text cursor.old.at) }
+{
+    let a = number(cursor, 0, LAST_NUMBER, end_with(count - 1))?;
+    if count == 1 {
+        return Ok((NetId(a as u32), NetId(0), NetId(0)));
+    }
+    let b = number(cursor, 0, LAST_NUMBER, end_with(count - 2))?;
+    if count == 2 {
+        return Ok((NetId(a as u32), NetId(b as u32), NetId(0)));
+    }
+    let c = number(cursor, 0, LAST_NUMBER, b'\n')?;
+    Ok((NetId(a as u32), NetId(b as u32), NetId(c as u32)))
 }
 
 // The byte behind a number, before so many others.

@@ -82,7 +82,7 @@ fn cell_lines(alloc: Global, cursor: &mut Cursor, count: u64) -> Result<Vec<Cell
     let mut left = count;
     while left > 0 {
         left -= 1;
-        match cell(alloc, cursor) {
+        match cell(cursor) {
             Ok(cell) => cells.push(cell)?,
             Err(at) => return Err(NetTextFault::Form { at }),
         }
