@@ -1,5 +1,5 @@
 // The rules for each cell: the nets that it names are there, and widths fit.
-ghost use Rattle.std.specs.Prelude.{◌≡◌, ◌↔◌, ◌<◌, ◌≤◌, IsTrue, MatchOption, map, length};
+ghost use Rattle.std.specs.Prelude.{◌≡◌, ◌↔◌, ◌<◌, ◌≤◌, ◌^◌, IsTrue, IsNone, IfSome, MatchOption, map, length};
 ghost use Rattle.gos_netlist.specs.Seen.{cell_of, function_of};
 ghost use Rattle.gos_netcheck.specs.CellRules.{
   PinsExist,
@@ -12,11 +12,48 @@ ghost use Rattle.gos_netcheck.specs.CellRules.{
   width_at,
   widths_of,
 };
+ghost use Rattle.gos_netcheck.specs.inner.CellFaults.{IsCellFault};
 
+use crate::fault::NetFault;
 use gos_netlist::{Cell, Gate, NetId};
 
+// The first fault of a cell. Only where there is one it is looked which.
+pub(crate) fn first_wrong_cell(cells: &[Cell]) -> Option<NetFault>
+    requires { length cells.now < 2 ^ 32 }
+    ensures nets { IsNone result → NetsExist (map cell_of cells.now) }
+    ensures widths { IsNone result → WidthsFit (map cell_of cells.now) }
+    ensures fault { IfSome result (IsCellFault (map cell_of cells.now)) }
+{
+    if all_right(cells) {
+        return None;
+    }
+    if let Some(cell) = first_without_net(cells) {
+        return Some(NetFault::NoSuchNet { cell: cell as u32 });
+    }
+    if let Some(cell) = first_of_wrong_width(cells) {
+        return Some(NetFault::Width { cell: cell as u32 });
+    }
+    None
+}
+
+// Whether all cells keep both rules.
+fn all_right(cells: &[Cell]) -> bool
+    ensures nets { IsTrue result → NetsExist (map cell_of cells.now) }
+    ensures widths { IsTrue result → WidthsFit (map cell_of cells.now) }
+{
+    for cell in cells {
+        if !pins_exist(cells.len(), cell) {
+            return false;
+        }
+        if !has_right_widths(cells, cell) {
+            return false;
+        }
+    }
+    true
+}
+
 // The first cell that names a net that isn't there.
-pub(crate) fn first_without_net(cells: &[Cell]) -> Option<usize>
+fn first_without_net(cells: &[Cell]) -> Option<usize>
     ensures { MatchOption result (NetsExist (map cell_of cells.now)) (IsFirstWithoutNet (map cell_of cells.now)) }
 {
     for (n, cell) in cells.iter().enumerate() {
@@ -54,7 +91,7 @@ fn exists(count: usize, net: NetId) -> bool
 }
 
 // The first cell with a wrong width.
-pub(crate) fn first_of_wrong_width(cells: &[Cell]) -> Option<usize>
+fn first_of_wrong_width(cells: &[Cell]) -> Option<usize>
     ensures { MatchOption result (WidthsFit (map cell_of cells.now)) (IsFirstOfWrongWidth (map cell_of cells.now)) }
 {
     for (n, cell) in cells.iter().enumerate() {
