@@ -4,6 +4,7 @@ use Rattle.std.specs.Char.{is_ascii_digit}
 use Rattle.std.specs.Fmt.{decimal}
 use Rattle.std.specs.List.{list_all, slice_range}
 use Rattle.std.specs.Option.{SomeIff, IfSome}
+use Rattle.std.proofs.Math.Nat.{pow-succ'}
 use Rattle.std.proofs.lemmas.Bool.{both_ways, cases_lt, and_parts}
 use Rattle.std.proofs.lemmas.List.Folds.{list_all-append}
 use Rattle.std.proofs.lemmas.Fmt.{decimal_digit, decimal_step, decimal_nonempty, decimal_injective, first_decimal, decimal_by_steps}
@@ -141,8 +142,12 @@ zero_stops b begins =
       | inr large ↦ absurd (omega (arith, first_decimal begins.1.0 (omega (arith, large)) fits, ap (λ whole. get_or whole 0 0) is))
     ]
 
-digit_range : (b : ℕ) → is_ascii_digit b ≡ true → (48 ≤ b) × (b ≤ 57)
+pub digit_range : (b : ℕ) → is_ascii_digit b ≡ true → (48 ≤ b) × (b ≤ 57)
 digit_range b digit = (grind arith, grind arith)
+
+-- so many digits and one more
+pub one_digit_more : (value digit k : ℕ) → value < 10 ^ k → digit < 10 → 10 * value + digit < 10 ^ suc k
+one_digit_more value digit k below small = omega (arith, below, small, pow-succ' 10 k)
 
 -- one more digit
 pub digit_more : (value b : ℕ) → is_ascii_digit b ≡ true → value ≢ 0 → 10 * value + (b - 48) < 2 ^ 64 → decimal value ++ b ∷ [] ≡ decimal (10 * value + (b - 48))

@@ -11,8 +11,8 @@ ghost use Rattle.gos_lex.specs.Items.{Begins, Passes, StopsAt, Misses};
 ghost use Rattle.gos_lex.specs.Decimals.{IsDecimalIn};
 ghost use Rattle.gos_lex.specs.inner.Digits.{digits_so_far};
 
-// A value that is read no further here: one more digit leaves it far below 2^64.
-const MANY: u64 = 100_000_000_000_000_000;
+// How many digits leave a value far below 2^64.
+const FEW: usize = 18;
 
 // The longest number of the range that stands at `at`, and where it ends.
 pub(crate) fn number_end(text: &[u8], at: usize, low: u64, high: u64) -> Result<(u64, usize), usize>
@@ -38,17 +38,27 @@ fn plain_number(text: &[u8], at: usize) -> Option<(u64, usize)>
     ensures whole { IfSome result (λ number. is_ascii_digit (get_or text.now number.1 0) ≡ false) }
 {
     let mut value = first_digit(text, at)?;
-    for i in at + 1..text.len() {
+    for i in at + 1..end_of_few(text, at) {
         let b = text[i];
         if !b.is_ascii_digit() {
             return Some((value, i));
         }
-        if value >= MANY {
-            return None;
-        }
         value = 10 * value + u64::from(b - b'0');
     }
     None
+}
+
+// Where few digits from `at` on end, or the text does.
+fn end_of_few(text: &[u8], at: usize) -> usize
+    requires { at ≤ length text.now }
+    ensures within { result ≤ length text.now }
+    ensures few { result ≤ at + 18 }
+{
+    if text.len() - at < FEW {
+        text.len()
+    } else {
+        at + FEW
+    }
 }
 
 // The digit at `at`, where it isn't 0.
@@ -65,6 +75,8 @@ fn first_digit(text: &[u8], at: usize) -> Option<u64>
 }
 
 // The longest number of the range that stands at `at`, and where it ends, read a digit at a time as far as they begin one.
+#[cold]
+#[inline(never)]
 fn any_number(text: &[u8], at: usize, low: u64, high: u64) -> Result<(u64, usize), usize>
     requires at { at ≤ length text.now }
     requires range { low ≤ high }

@@ -112,6 +112,8 @@ fn gate_text(word: GateWord) -> &'static [u8]
 }
 
 // Passes the word of a gate, whichever it is.
+#[cold]
+#[inline(never)]
 fn any_gate_word(cursor: &mut Cursor) -> Result<GateWord, usize>
     ensures passed { IfOk result (λ word. Passed cursor.old cursor.new (ended 32 (gate_text word))) }
     ensures wrong { IfErr result (Misses IsGateText cursor.old.text cursor.old.at) }
