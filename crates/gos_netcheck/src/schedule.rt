@@ -134,10 +134,11 @@ impl Search {
         Ok(())
     }
 
-    // Goes on to a net where the path is empty, if it is new.
+    // Where the path is empty, goes on to a net if it is new, or gives it its place at once if it waits for none.
     fn go_on_to_new(&mut self, cells: &[Cell], n: usize) -> Result<(), AllocError>
         requires stands { Stands (map cell_of cells.now) self.old }
         requires none { vec_len self.old.path ≡ 0 }
+        requires nets { NetsExist (map cell_of cells.now) }
         requires within { n < length cells.now }
         requires few { length cells.now < 2 ^ 32 }
         ensures stands { OnOk result (Stands (map cell_of cells.now) self.new) }
@@ -145,10 +146,20 @@ impl Search {
         ensures begun { OnOk result (IsBegun (slice_get self.new.marks.items n)) }
         ensures others { OnOk result ((k : ℕ) → IsBegun (slice_get self.old.marks.items k) → IsBegun (slice_get self.new.marks.items k)) }
     {
-        if is_new(self.marks[n]) {
-            self.go_on_to(NetId(n as u32))?;
+        if !is_new(self.marks[n]) {
+            return Ok(());
         }
-        Ok(())
+        let net = NetId(n as u32);
+        match first_waited_for(cells, &self.marks, net) {
+            None => {
+                self.place(net)?;
+                Ok(())
+            }
+            Some(_) => {
+                self.go_on_to(net)?;
+                Ok(())
+            }
+        }
     }
 
     // Puts a net behind the path.
