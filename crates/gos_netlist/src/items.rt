@@ -1,12 +1,13 @@
-// The items that lines are made of: words of a table, numbers with the byte that ends them, and nets.
+// The items that lines are made of: numbers with the byte that ends them, and nets.
 //
 // `Err` is the place of the first byte that can't go on as the item, or the end of the text. Then the cursor may have
 // moved.
-ghost use Rattle.std.specs.Prelude.{◌≡◌, ◌<◌, ◌≤◌, ◌⊎◌, [], ◌∷◌, IfOk, IfErr, length, map, get_or, take};
+ghost use Rattle.std.specs.Prelude.{◌≡◌, ◌<◌, ◌≤◌, ◌⊎◌, [], ◌∷◌, IfOk, IfErr, length, map, take};
 ghost use Rattle.std.specs.Fmt.{decimal};
 ghost use Rattle.gos_lex.specs.Items.{Misses};
 ghost use Rattle.gos_netlist.specs.Seen.{number_of};
-ghost use Rattle.gos_netlist.specs.NetItems.{Passed, end_with, ended, IsAmong, IsInRange, IsNumberText, AreNets, IsNetsText, numbers_text};
+ghost use Rattle.gos_netlist.specs.NetItems.{Passed, ended, IsInRange, IsNumberText};
+ghost use Rattle.gos_netlist.specs.inner.NetLines.{end_with, AreNets, IsNetsText, numbers_text};
 
 use crate::nets::NetId;
 use gos_lex::Cursor;
@@ -18,34 +19,6 @@ pub const LAST_NUMBER: u64 = 4_294_967_295;
 
 /// The nets of a line: six at most.
 pub type LineNets = SmallVec<NetId, 6>;
-
-/// Passes one of these words, and gives its place among them.
-pub fn one_of(cursor: &mut Cursor, words: &[&[u8]]) -> Result<usize, usize>
-    requires { 0 < length words.now }
-    ensures inside { IfOk result (λ k. k < length words.now) }
-    ensures passed { IfOk result (λ k. Passed cursor.old cursor.new (get_or (map (λ word. word.now) words.now) k [])) }
-    ensures wrong { IfErr result (Misses (IsAmong (map (λ word. word.now) words.now)) cursor.old.text cursor.old.at) }
-{
-    let mut furthest = match cursor.word(words[0]) {
-        Ok(()) => return Ok(0),
-        Err(at) => at,
-    };
-    for k in 1..words.len() {
-        match cursor.word(words[k]) {
-            Ok(()) => return Ok(k),
-            Err(at) => furthest = further(furthest, at),
-        }
-    }
-    Err(furthest)
-}
-
-// The greater of two places.
-fn further(one: usize, other: usize) -> usize
-    ensures at_least { (one ≤ result) × (other ≤ result) }
-    ensures either { (result ≡ one) ⊎ (result ≡ other) }
-{
-    if one < other { other } else { one }
-}
 
 /// Passes a number of the range, and the byte that ends it.
 pub fn number(cursor: &mut Cursor, low: u64, high: u64, end: u8) -> Result<u64, usize>
@@ -61,7 +34,7 @@ pub fn number(cursor: &mut Cursor, low: u64, high: u64, end: u8) -> Result<u64, 
 }
 
 /// Passes so many nets, with a space between each two and a line feed behind the last.
-pub fn nets(alloc: Global, cursor: &mut Cursor, count: usize) -> Result<LineNets, usize>
+pub fn so_many_nets(alloc: Global, cursor: &mut Cursor, count: usize) -> Result<LineNets, usize>
     requires few { count ≤ 6 }
     requires within { cursor.now.at ≤ length cursor.now.text }
     ensures nets { IfOk result (λ nets. AreNets count (map number_of nets.items)) }

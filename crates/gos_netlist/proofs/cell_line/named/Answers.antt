@@ -1,6 +1,6 @@
 use Rattle.std.proofs.Common.{ℕ, subst}
 use Rattle.gos_lex.specs.Items.{Misses}
-use Rattle.gos_netlist.specs.NetItems.{IsNetsText}
+use Rattle.gos_netlist.specs.inner.NetLines.{IsNetsText}
 use Rattle.std.proofs.lemmas.Result.{err_from_is_err_and}
 use Rattle.gos_netlist.proofs.OperandsLemmas.{no_nets}
 use Rattle.gos_netlist.proofs.cell_line.named.Goals as goal
