@@ -42,14 +42,50 @@ fn all_right(cells: &[Cell]) -> bool
     ensures widths { IsTrue result → WidthsFit (map cell_of cells.now) }
 {
     for cell in cells {
-        if !pins_exist(cells.len(), cell) {
-            return false;
-        }
-        if !has_right_widths(cells, cell) {
+        if !is_right(cells, cell) {
             return false;
         }
     }
     true
+}
+
+// Whether the cell keeps both rules, looked at together.
+fn is_right(cells: &[Cell], cell: &Cell) -> bool
+    ensures nets { IsTrue result → PinsExist (length cells.now) (cell_of cell.now) }
+    ensures widths { IsTrue result → HasRightWidths (widths_of (map cell_of cells.now)) (cell_of cell.now) }
+{
+    let width = cell.width;
+    if width < 1 || 32 < width {
+        return false;
+    }
+    match cell.gate {
+        Gate::Input => true,
+        Gate::Const(k) => k < 1u64 << width,
+        Gate::Not(a) | Gate::Reg(a) => has_width(cells, a, width),
+        Gate::And(a, b) | Gate::Or(a, b) | Gate::Xor(a, b) | Gate::Add(a, b) | Gate::Sub(a, b) => {
+            has_width(cells, a, width) && has_width(cells, b, width)
+        }
+        Gate::Mux(s, a, b) => {
+            has_width(cells, s, 1) && has_width(cells, a, width) && has_width(cells, b, width)
+        }
+        Gate::Eq(a, b) | Gate::Less(a, b) => {
+            width == 1
+                && has_width(cells, b, width_of(cells, a))
+                && has_width(cells, a, width_of(cells, b))
+        }
+        Gate::Gate(s, a) => has_width(cells, s, 1) && has_width(cells, a, width),
+    }
+}
+
+// Whether the net is there and has so many bits.
+fn has_width(cells: &[Cell], net: NetId, width: u32) -> bool
+    ensures there { IsTrue result → net.0 < length cells.now }
+    ensures width { IsTrue result → width_at (widths_of (map cell_of cells.now)) net.0 ≡ width }
+{
+    match cells.get(net.0 as usize) {
+        Some(cell) => cell.width == width,
+        None => false,
+    }
 }
 
 // The first cell that names a net that isn't there.

@@ -10,8 +10,8 @@ pub loop-cell-preserved : goal.loop-cell-preserved
 loop-cell-preserved c =
     let Nets : ℕ → Cell → Type 0 = λ _ x. PinsExist (length c.args.cells.now) x in
     let Widths : ℕ → Cell → Type 0 = λ _ x. HasRightWidths (widths_of (map cell_of c.args.cells.now)) x in (
-      mapped_more Nets cell_of c.args.cells.now c.loop-cell.cell-index _ c.loop-cell-test.true c.loop-cell.invariant.0 (c.pins_exist.ensures.0 c.if-not-pins_exist.false),
-      mapped_more Widths cell_of c.args.cells.now c.loop-cell.cell-index _ c.loop-cell-test.true c.loop-cell.invariant.1 (c.has_right_widths.ensures.0 c.if-not-has_right_widths.false),
+      mapped_more Nets cell_of c.args.cells.now c.loop-cell.cell-index _ c.loop-cell-test.true c.loop-cell.invariant.0 (c.is_right.ensures.nets c.if-not-is_right.false),
+      mapped_more Widths cell_of c.args.cells.now c.loop-cell.cell-index _ c.loop-cell-test.true c.loop-cell.invariant.1 (c.is_right.ensures.widths c.if-not-is_right.false),
     )
 
 pub returns-clause-nets : goal.returns-clause-nets
