@@ -3,86 +3,131 @@
 use gos_lex::Name;
 use gos_types::{NoMemory, Ty};
 use std::alloc::{AllocError, AllocFailed};
-use thiserror::Error;
+use std::error::Error;
+use std::fmt;
 
 /// Why a build file is refused, or why its instances are not linked. Lines count from 1, and all lines count.
-#[derive(Debug, Drop, Error)]
+#[derive(Debug, Drop)]
 pub enum LinkFault {
     /// The line is the first that is wrong in its place. It is 0 where the file has more than 65,536 bytes, and the number
     /// of lines plus one where lines are missing.
-    #[error("line {line} is not of its form")]
     Form {
         line: u64,
     },
     /// The line names an instance that there isn't.
-    #[error("line {line} names no instance")]
     NoInstance {
         line: u64,
         name: Name,
     },
     /// The line's user has no such import.
-    #[error("line {line} names no import")]
     NoImport {
         line: u64,
         name: Name,
     },
     /// The line's import has type `want`, and its giver's result has type `got`.
-    #[error("line {line} binds different types")]
     TypeDiffers {
         line: u64,
         want: Ty,
         got: Ty,
     },
     /// Both lines bind the same import of the same user.
-    #[error("lines {first} and {second} bind one import")]
     BoundTwice {
         first: u64,
         second: u64,
     },
     /// Both lines have the same giver.
-    #[error("lines {first} and {second} use one instance")]
     UsedTwice {
         first: u64,
         second: u64,
     },
     /// The lines up to this one hold a ring of instances, each the giver of the next.
-    #[error("line {line} closes a ring")]
     Loop {
         line: u64,
     },
     /// The instance isn't the root, and serves no import.
-    #[error("an instance is not used")]
     Unplaced {
         name: Name,
     },
     /// Two open imports have one name, `first` and `second` are their instances; or an open import of `second` has the name
     /// of the root, which is `first`.
-    #[error("two ports have one name")]
     OpenTwice {
         name: Name,
         first: Name,
         second: Name,
     },
     /// The result of the root is neither a command nor an expression, or the open import of this name isn't ground.
-    #[error("a port has no ground type")]
     NotGround {
         name: Name,
     },
     /// The plans weigh this much together, which is more than 32,768.
-    #[error("the whole weighs {weight}")]
     TooHeavy {
         weight: u64,
     },
     /// The plan would have this size and so many ports, and the one is more than 5,000,000 or the other more than 65,536.
-    #[error("the whole has size {size} and {ports} ports")]
     TooLarge {
         size: u64,
         ports: u64,
     },
     /// There was no memory left.
-    #[error("out of memory")]
     NoMemory,
 }
+
+impl fmt::Display for LinkFault {
+    fn fmt<W: fmt::Write>(&self, f: &mut fmt::Formatter<W>) -> fmt::Result {
+        match self {
+            LinkFault::Form { line } => fmt_line(f, *line, "is not of its form"),
+            LinkFault::NoInstance { line, .. } => fmt_line(f, *line, "names no instance"),
+            LinkFault::NoImport { line, .. } => fmt_line(f, *line, "names no import"),
+            LinkFault::TypeDiffers { line, .. } => fmt_line(f, *line, "binds different types"),
+            LinkFault::BoundTwice { first, second } => fmt_lines(
+                f,
+                *first,
+                *second,
+                "bind one import",
+            ),
+            LinkFault::UsedTwice { first, second } => fmt_lines(
+                f,
+                *first,
+                *second,
+                "use one instance",
+            ),
+            LinkFault::Loop { line } => fmt_line(f, *line, "closes a ring"),
+            LinkFault::Unplaced { .. } => f.write_str("an instance is not used"),
+            LinkFault::OpenTwice { .. } => f.write_str("two ports have one name"),
+            LinkFault::NotGround { .. } => f.write_str("a port has no ground type"),
+            LinkFault::TooHeavy { weight } => fmt_weight(f, *weight),
+            LinkFault::TooLarge { size, ports } => fmt_size(f, *size, *ports),
+            LinkFault::NoMemory => f.write_str("out of memory"),
+        }
+    }
+}
+
+// Writes what is wrong of a line.
+fn fmt_line<W: fmt::Write>(f: &mut fmt::Formatter<W>, line: u64, wrong: &str) -> fmt::Result {
+    write!(f, "line {line} {wrong}")
+}
+
+// Writes what is wrong of two lines.
+fn fmt_lines<W: fmt::Write>(
+    f: &mut fmt::Formatter<W>,
+    first: u64,
+    second: u64,
+    wrong: &str,
+) -> fmt::Result {
+    write!(f, "lines {first} and {second} {wrong}")
+}
+
+// Writes that the whole weighs this much.
+fn fmt_weight<W: fmt::Write>(f: &mut fmt::Formatter<W>, weight: u64) -> fmt::Result {
+    write!(f, "the whole weighs {weight}")
+}
+
+// Writes that the whole has this size and so many ports.
+fn fmt_size<W: fmt::Write>(f: &mut fmt::Formatter<W>, size: u64, ports: u64) -> fmt::Result {
+    write!(f, "the whole has size {size} and {ports} ports")
+}
+
+impl Error for LinkFault {}
 
 impl From<NoMemory> for LinkFault {
     ghost use Rattle.std.specs.Prelude.{◌≡◌};

@@ -24,7 +24,7 @@ use gos_netlist::{NetId, Side};
 use std::alloc::Global;
 
 /// What is declared of a cell's net.
-#[derive(Debug, Clone, Copy)]
+#[derive(Clone, Copy)]
 pub struct Shape {
     /// Its bits.
     pub width: u32,

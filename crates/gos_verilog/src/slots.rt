@@ -14,7 +14,7 @@ use std::alloc::Global;
 use std::marker::Model;
 
 /// A word, a number of a range, and the byte that ends it.
-#[derive(Debug, Drop)]
+#[derive(Drop)]
 pub struct Slot<'a> {
     pub before: &'a [u8],
     pub low: u32,
