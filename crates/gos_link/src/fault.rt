@@ -74,57 +74,45 @@ pub enum LinkFault {
 
 impl fmt::Display for LinkFault {
     fn fmt<W: fmt::Write>(&self, f: &mut fmt::Formatter<W>) -> fmt::Result {
+        let text = self.text();
         match self {
-            LinkFault::Form { line } => fmt_line(f, *line, "is not of its form"),
-            LinkFault::NoInstance { line, .. } => fmt_line(f, *line, "names no instance"),
-            LinkFault::NoImport { line, .. } => fmt_line(f, *line, "names no import"),
-            LinkFault::TypeDiffers { line, .. } => fmt_line(f, *line, "binds different types"),
-            LinkFault::BoundTwice { first, second } => fmt_lines(
-                f,
-                *first,
-                *second,
-                "bind one import",
-            ),
-            LinkFault::UsedTwice { first, second } => fmt_lines(
-                f,
-                *first,
-                *second,
-                "use one instance",
-            ),
-            LinkFault::Loop { line } => fmt_line(f, *line, "closes a ring"),
-            LinkFault::Unplaced { .. } => f.write_str("an instance is not used"),
-            LinkFault::OpenTwice { .. } => f.write_str("two ports have one name"),
-            LinkFault::NotGround { .. } => f.write_str("a port has no ground type"),
-            LinkFault::TooHeavy { weight } => fmt_weight(f, *weight),
-            LinkFault::TooLarge { size, ports } => fmt_size(f, *size, *ports),
-            LinkFault::NoMemory => f.write_str("out of memory"),
+            LinkFault::Form { line }
+            | LinkFault::NoInstance { line, .. }
+            | LinkFault::NoImport { line, .. }
+            | LinkFault::TypeDiffers { line, .. }
+            | LinkFault::Loop { line } => write!(f, "line {line} {text}"),
+            LinkFault::BoundTwice { first, second } | LinkFault::UsedTwice { first, second } => {
+                write!(f, "lines {first} and {second} {text}")
+            }
+            LinkFault::TooHeavy { weight } => write!(f, "{text} {weight}"),
+            LinkFault::TooLarge { size, ports } => write!(f, "{text} {size} and {ports} ports"),
+            LinkFault::Unplaced { .. }
+            | LinkFault::OpenTwice { .. }
+            | LinkFault::NotGround { .. }
+            | LinkFault::NoMemory => f.write_str(text),
         }
     }
 }
 
-// Writes what is wrong of a line.
-fn fmt_line<W: fmt::Write>(f: &mut fmt::Formatter<W>, line: u64, wrong: &str) -> fmt::Result {
-    write!(f, "line {line} {wrong}")
-}
-
-// Writes what is wrong of two lines.
-fn fmt_lines<W: fmt::Write>(
-    f: &mut fmt::Formatter<W>,
-    first: u64,
-    second: u64,
-    wrong: &str,
-) -> fmt::Result {
-    write!(f, "lines {first} and {second} {wrong}")
-}
-
-// Writes that the whole weighs this much.
-fn fmt_weight<W: fmt::Write>(f: &mut fmt::Formatter<W>, weight: u64) -> fmt::Result {
-    write!(f, "the whole weighs {weight}")
-}
-
-// Writes that the whole has this size and so many ports.
-fn fmt_size<W: fmt::Write>(f: &mut fmt::Formatter<W>, size: u64, ports: u64) -> fmt::Result {
-    write!(f, "the whole has size {size} and {ports} ports")
+impl LinkFault {
+    // What is said of the fault besides its numbers.
+    fn text(&self) -> &'static str {
+        match self {
+            LinkFault::Form { .. } => "is not of its form",
+            LinkFault::NoInstance { .. } => "names no instance",
+            LinkFault::NoImport { .. } => "names no import",
+            LinkFault::TypeDiffers { .. } => "binds different types",
+            LinkFault::BoundTwice { .. } => "bind one import",
+            LinkFault::UsedTwice { .. } => "use one instance",
+            LinkFault::Loop { .. } => "closes a ring",
+            LinkFault::Unplaced { .. } => "an instance is not used",
+            LinkFault::OpenTwice { .. } => "two ports have one name",
+            LinkFault::NotGround { .. } => "a port has no ground type",
+            LinkFault::TooHeavy { .. } => "the whole weighs",
+            LinkFault::TooLarge { .. } => "the whole has size",
+            LinkFault::NoMemory => "out of memory",
+        }
+    }
 }
 
 impl Error for LinkFault {}
