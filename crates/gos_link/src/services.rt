@@ -25,18 +25,24 @@ pub struct Service {
 pub(crate) fn instance_named(instances: &[Instance], name: &[u8]) -> Option<usize>
     ensures { result ≡ instance_named instances.now name.now }
 {
-    instances
-        .iter()
-        .position(|instance| instance.name.bytes() == name)
+    for (number, instance) in instances.iter().enumerate() {
+        if instance.name.bytes() == name {
+            return Some(number);
+        }
+    }
+    None
 }
 
 // The number of the first import of this name.
 fn import_named(imports: &[PlanImport], name: &[u8]) -> Option<usize>
     ensures { result ≡ import_named imports.now name.now }
 {
-    imports
-        .iter()
-        .position(|import| import.name.bytes() == name)
+    for (number, import) in imports.iter().enumerate() {
+        if import.name.bytes() == name {
+            return Some(number);
+        }
+    }
+    None
 }
 
 // A copy of a name. `Err` is want of memory alone.
