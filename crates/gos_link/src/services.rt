@@ -198,12 +198,18 @@ fn tops_after(alloc: Global, tops: &[usize], service: Service) -> Result<Vec<usi
     ensures { IfOk result (λ after. after.items ≡ map (moved service.giver (top_at tops.now service.user)) tops.now) }
 {
     let top = top_at(tops, service.user);
-    let giver = service.giver;
-    let after = tops
-        .iter()
-        .map(|old| if *old == giver { top } else { *old })
-        .collect(alloc)?;
+    let mut after = Vec::new(alloc);
+    for old in tops {
+        after.push(moved(service.giver, top, *old))?;
+    }
     Ok(after)
+}
+
+// The top of an instance that had the top `old`, once the giver has this top.
+fn moved(giver: usize, top: usize, old: usize) -> usize
+    ensures { result ≡ moved giver top old }
+{
+    if old == giver { top } else { old }
 }
 
 /// What the lines of a build mean, if all are right, and else why the first that isn't is wrong.
