@@ -23,9 +23,12 @@ pub(crate) fn number_bound(services: &[Service], user: usize, import: usize) -> 
     ensures number { result ≡ number_bound services.now user import }
     ensures within { IfSome result (λ t. t < length services.now) }
 {
-    services
-        .iter()
-        .position(|service| service.user == user && service.import == import)
+    for (number, service) in services.iter().enumerate() {
+        if service.user == user && service.import == import {
+            return Some(number);
+        }
+    }
+    None
 }
 
 // Adds an import, unless a service has this number for it.

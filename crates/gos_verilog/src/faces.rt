@@ -25,7 +25,7 @@ use std::alloc::Global;
 use std::marker::Model;
 
 /// A port as the head of a module names it.
-#[derive(Debug, Drop)]
+#[derive(Drop)]
 pub struct Face<'a> {
     /// The role of its first net, which tells what kind of port it is.
     pub first: Role,

@@ -11,7 +11,7 @@ use std::alloc::Global;
 use std::marker::Model;
 
 /// What a net of a port carries: a pulse, or behind it the number that comes with it.
-#[derive(Debug, Clone, Copy)]
+#[derive(Clone, Copy)]
 pub enum Role {
     Run,
     Done,
@@ -103,7 +103,7 @@ fn number_bits(ground: Ground) -> u32
 }
 
 /// A net of a port in the module.
-#[derive(Debug, Drop)]
+#[derive(Drop)]
 pub struct PortNet {
     /// Its name.
     pub name: Vec<u8>,

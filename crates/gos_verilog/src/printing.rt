@@ -19,16 +19,14 @@ pub fn add_head(text: &mut Vec<u8>, name: &[u8], nets: &[PortNet]) -> Result<(),
     text.extend_from_slice(name)?;
     text.extend_from_slice(b"(clk, rst")?;
     add_names(text, nets)?;
-    text.extend_from_slice(b");\n")?;
-    Ok(())
+    add_bytes(text, b");\n")
 }
 
 /// Adds the declarations of the clock and the reset.
 pub fn add_clock(text: &mut Vec<u8>) -> Result<(), NoMemory>
     ensures { OnOk result (text.new.items ≡ text.old.items ++ lines.clock_declarations) }
 {
-    text.extend_from_slice(b"  input clk;\n  input rst;\n")?;
-    Ok(())
+    add_bytes(text, b"  input clk;\n  input rst;\n")
 }
 
 // Adds the names of nets, each behind a comma.
@@ -73,8 +71,7 @@ fn add_declaration(
     text.extend_from_slice(kind)?;
     text.extend_from_slice(b" [")?;
     add_number(alloc, text, u64::from(width.saturating_sub(1)))?;
-    text.extend_from_slice(b":0] ")?;
-    Ok(())
+    add_bytes(text, b":0] ")
 }
 
 // Adds what ends a line.
@@ -82,8 +79,7 @@ fn add_line(text: &mut Vec<u8>, last: &[u8]) -> Result<(), NoMemory>
     ensures { OnOk result (text.new.items ≡ text.old.items ++ last.now ++ codes ";\n") }
 {
     text.extend_from_slice(last)?;
-    text.extend_from_slice(b";\n")?;
-    Ok(())
+    add_bytes(text, b";\n")
 }
 
 /// Adds the declarations of the nets of cells.
@@ -102,8 +98,7 @@ fn add_cell(alloc: Global, text: &mut Vec<u8>, i: u64, cell: &Cell) -> Result<()
 {
     add_declaration(alloc, text, kind_word(cell.gate), cell.width)?;
     add_net(alloc, text, i)?;
-    text.extend_from_slice(b";\n")?;
-    Ok(())
+    add_bytes(text, b";\n")
 }
 
 // The word for the kind of a cell's net.
@@ -157,8 +152,7 @@ fn add_driver(
 {
     add_target(alloc, text, i, cell.width, is_register(cell.gate))?;
     add_expression(alloc, text, cell.width, cell.gate, source)?;
-    text.extend_from_slice(b";\n")?;
-    Ok(())
+    add_bytes(text, b";\n")
 }
 
 // Whether the gate is a register.
@@ -202,8 +196,7 @@ fn add_clocked(alloc: Global, text: &mut Vec<u8>, i: u64) -> Result<(), NoMemory
     ensures { OnOk result (text.new.items ≡ text.old.items ++ (lines.cell_net i ++ codes " <= ")) }
 {
     add_net(alloc, text, i)?;
-    text.extend_from_slice(b" <= ")?;
-    Ok(())
+    add_bytes(text, b" <= ")
 }
 
 // Adds what stands before the value that is assigned to the net of cell `i`.
@@ -212,8 +205,7 @@ fn add_assigned(alloc: Global, text: &mut Vec<u8>, i: u64) -> Result<(), NoMemor
 {
     text.extend_from_slice(b"  assign ")?;
     add_net(alloc, text, i)?;
-    text.extend_from_slice(b" = ")?;
-    Ok(())
+    add_bytes(text, b" = ")
 }
 
 // Adds what a cell computes.
@@ -313,8 +305,7 @@ pub fn add_outputs(alloc: Global, text: &mut Vec<u8>, nets: &[PortNet]) -> Resul
             add_output(alloc, text, net)?;
         }
     }
-    text.extend_from_slice(b"endmodule\n")?;
-    Ok(())
+    add_bytes(text, b"endmodule\n")
 }
 
 // Adds the assignment of an output.
@@ -325,8 +316,7 @@ fn add_output(alloc: Global, text: &mut Vec<u8>, net: &PortNet) -> Result<(), No
     text.extend_from_slice(&net.name)?;
     text.extend_from_slice(b" = ")?;
     add_net(alloc, text, u64::from(net.cell.0))?;
-    text.extend_from_slice(b";\n")?;
-    Ok(())
+    add_bytes(text, b";\n")
 }
 
 // Adds a number of so many bits.
@@ -351,6 +341,5 @@ fn add_number(alloc: Global, text: &mut Vec<u8>, number: u64) -> Result<(), NoMe
     ensures { OnOk result (text.new.items ≡ text.old.items ++ decimal number) }
 {
     let digits = number.to_string(alloc)?;
-    text.extend_from_slice(digits.as_bytes())?;
-    Ok(())
+    add_bytes(text, digits.as_bytes())
 }
