@@ -18,6 +18,7 @@ mod forms;
 mod free;
 mod imports;
 mod joining;
+mod judged;
 mod judging;
 mod laws;
 mod linear;
