@@ -19,6 +19,7 @@ pub mod NodeTypeLemmas
 pub mod TimesLemmas
 pub mod MergeLemmas
 pub mod NumberLemmas
+pub mod NumberedLemmas
 pub mod RenameLemmas
 pub mod StandLemmas
 pub mod CheckedLemmas
