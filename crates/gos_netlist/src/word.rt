@@ -65,29 +65,32 @@ pub fn gate_word(cursor: &mut Cursor) -> Result<GateWord, usize>
     ensures passed { IfOk result (λ word. Passed cursor.old cursor.new (ended 32 (gate_text word))) }
     ensures wrong { IfErr result (Misses IsGateText cursor.old.text cursor.old.at) }
 {
-    let word = likely_word(cursor.rest());
-    match cursor.word(gate_text(word)) {
-        Ok(()) => Ok(word),
-        Err(_) => any_gate_word(cursor),
+    match cursor.rest() {
+        [b'i', ..] => this_or_any(cursor, GateWord::Input),
+        [b'c', ..] => this_or_any(cursor, GateWord::Const),
+        [b'n', ..] => this_or_any(cursor, GateWord::Not),
+        [b'a', b'n', ..] => this_or_any(cursor, GateWord::And),
+        [b'o', ..] => this_or_any(cursor, GateWord::Or),
+        [b'x', ..] => this_or_any(cursor, GateWord::Xor),
+        [b'm', ..] => this_or_any(cursor, GateWord::Mux),
+        [b'a', ..] => this_or_any(cursor, GateWord::Add),
+        [b's', ..] => this_or_any(cursor, GateWord::Sub),
+        [b'e', ..] => this_or_any(cursor, GateWord::Eq),
+        [b'l', ..] => this_or_any(cursor, GateWord::Less),
+        [b'g', ..] => this_or_any(cursor, GateWord::Gate),
+        _ => this_or_any(cursor, GateWord::Reg),
     }
 }
 
-// The word of a gate that begins like the text; any where none does.
-fn likely_word(text: &[u8]) -> GateWord {
-    match text {
-        [b'c', ..] => GateWord::Const,
-        [b'n', ..] => GateWord::Not,
-        [b'a', b'n', ..] => GateWord::And,
-        [b'o', ..] => GateWord::Or,
-        [b'x', ..] => GateWord::Xor,
-        [b'm', ..] => GateWord::Mux,
-        [b'a', ..] => GateWord::Add,
-        [b's', ..] => GateWord::Sub,
-        [b'e', ..] => GateWord::Eq,
-        [b'l', ..] => GateWord::Less,
-        [b'g', ..] => GateWord::Gate,
-        [b'r', ..] => GateWord::Reg,
-        _ => GateWord::Input,
+// Passes this word of a gate, or else whichever stands there. It is inlined, so that each word is compared as it is.
+#[inline(always)]
+fn this_or_any(cursor: &mut Cursor, word: GateWord) -> Result<GateWord, usize>
+    ensures passed { IfOk result (λ word. Passed cursor.old cursor.new (ended 32 (gate_text word))) }
+    ensures wrong { IfErr result (Misses IsGateText cursor.old.text cursor.old.at) }
+{
+    match cursor.word(gate_text(word)) {
+        Ok(()) => Ok(word),
+        Err(_) => any_gate_word(cursor),
     }
 }
 
