@@ -14,7 +14,6 @@ use Rattle.gos_check.specs.declared.forms.OnePart.{OnePart}
 use Rattle.gos_check.specs.declared.forms.TwoParts.{TwoParts}
 use Rattle.gos_check.specs.declared.free.Occurrence.{Occurrence}
 use Rattle.gos_check.specs.declared.judged.Judged.{Judged}
-use Rattle.gos_check.specs.Sizes.{IsCountable}
 use Rattle.gos_check.specs.Faults.{Fault, Found, after, Refuses, fault_of}
 use Rattle.gos_check.specs.Written.{small}
 use Rattle.gos_check.specs.Scopes.{Binders}

@@ -1,4 +1,4 @@
-use Rattle.std.specs.Prelude.{◌+◌, ◌*◌, ◌<◌, ◌∷◌, map}
+use Rattle.std.specs.Prelude.{◌+◌, ◌*◌, ◌<◌, map}
 use Rattle.std.proofs.Common.{arith, rules, ◌∙◌}
 use Rattle.gos_types.specs.Types.{type_of, Var}
 use Rattle.gos_model.specs.Sources.{import_of}
