@@ -6,6 +6,7 @@ pub mod DemandLemmas
 pub mod WeightLemmas
 pub mod PlaceLemmas
 pub mod ScopeLemmas
+pub mod PartLemmas
 pub mod RefusalLemmas
 pub mod NameLemmas
 pub mod ThingLemmas

@@ -10,7 +10,7 @@ use Rattle.gos_check.specs.declared.linear.Split.{Split}
 use Rattle.gos_check.specs.declared.opens.Open.{Open}
 use Rattle.gos_check.specs.Nodes.{If, node_seen, type_of_node}
 use Rattle.gos_check.specs.inner.Opens.{merged_splits, merged_names, merged_next}
-use Rattle.gos_check.specs.inner.Numbering.{Result, seen, Numbers, inner_splits, inner_names, choice_result}
+use Rattle.gos_check.specs.inner.Numbering.{Result, Numbers, inner_splits, inner_names, choice_result}
 
 -- an answer is seen as a result where its node, its names and its next number are
 pub numbers_all : (answer : prelude.Result NumberedTerm CheckFault) (found there : Result) → found ≡ there

@@ -5,7 +5,7 @@ use Rattle.std.proofs.lemmas.Result.{IfOk-weaker}
 use Rattle.gos_lex.specs.declared.token.Span.{Span}
 use Rattle.gos_types.specs.Types.{Type', Fun, type_of}
 use Rattle.gos_syntax.specs.declared.terms.Form.{Form}
-use Rattle.gos_syntax.specs.Trees.{Tree, Skip, Lit, Use, Lam, New, App, Both, Fst, Snd, Seq, Par, If, While, Assign, Deref, Not, Bin, tree_of}
+use Rattle.gos_syntax.specs.Trees.{Tree, tree_of}
 use Rattle.gos_syntax.specs.Sizes.{size}
 use Rattle.gos_model.specs.Typing.{Imports}
 use Rattle.gos_model.specs.Weight.{count}
@@ -14,7 +14,6 @@ use Rattle.gos_check.specs.declared.forms.OnePart.{OnePart}
 use Rattle.gos_check.specs.declared.forms.TwoParts.{TwoParts}
 use Rattle.gos_check.specs.declared.free.Occurrence.{Occurrence}
 use Rattle.gos_check.specs.declared.judged.Judged.{Judged}
-use Rattle.gos_check.specs.Sizes.{IsCountable}
 use Rattle.gos_check.specs.Faults.{Fault, Found, after, Refuses, fault_of}
 use Rattle.gos_check.specs.Written.{small}
 use Rattle.gos_check.specs.Scopes.{Binders}
@@ -26,6 +25,7 @@ use Rattle.gos_check.specs.inner.Known.{Finds, IsKnown, IsBounded, IsWhole}
 use Rattle.gos_check.specs.inner.Walked.{weight_of, parts_weight, parts_size, parts_judged}
 use Rattle.gos_check.proofs.RuleLemmas.{ruled_is}
 use Rattle.gos_check.proofs.PlaceLemmas.{place_is}
+use Rattle.gos_check.proofs.PartLemmas.{size_parts, judged_is}
 use Rattle.gos_check.proofs.WeightLemmas.{judged_weight}
 
 told : {A B : Type 0} (f : Found A) (g : Found B) (o : Option Fault) → ((fault : Fault) → f ≡ Err fault → g ≡ Err fault)
@@ -34,7 +34,7 @@ told f g None k h = tt
 told f g (Some fault) k h = k fault h
 
 -- a refusal of one question is that of another which has its faults
-pub refused_by : {A B : Type 0} (f : Found A) (g : Found B) (e : CheckFault) → ((fault : Fault) → f ≡ Err fault → g ≡ Err fault)
+refused_by : {A B : Type 0} (f : Found A) (g : Found B) (e : CheckFault) → ((fault : Fault) → f ≡ Err fault → g ≡ Err fault)
     → Refuses f e → Refuses g e
 refused_by f g e k h = told f g (fault_of e) k h
 
@@ -72,46 +72,6 @@ pub known_there : (answer : Result Judged CheckFault) (os ps : List Occurrence) 
     → IfOk answer (λ part. IsKnown os w part) → IfOk answer (λ part. IsBounded ps v most part)
 known_there answer os ps w v most h k l known =
     IfOk-weaker answer _ _ (λ part it. (it.0 ∙ h, it.1, it.2 ∙ k, subst (λ (n : ℕ). n ≤ most) (sym it.2) l)) known
-
--- a tree has its parts and its own node
-pub size_parts : (tree : Tree) → size tree ≡ parts_size tree + 1
-size_parts (Skip s) = omega arith
-size_parts (Lit s k w) = omega arith
-size_parts (Use s x) = omega arith
-size_parts (Lam s x a t m) = omega arith
-size_parts (New s x w t m) = omega arith
-size_parts (App s m n) = omega arith
-size_parts (Both s m n) = omega arith
-size_parts (Fst s m) = omega arith
-size_parts (Snd s m) = omega arith
-size_parts (Seq s m n) = omega arith
-size_parts (Par s m n) = omega arith
-size_parts (If s m n p) = omega arith
-size_parts (While s m n) = omega arith
-size_parts (Assign s m n) = omega arith
-size_parts (Deref s m) = omega arith
-size_parts (Not s m) = omega arith
-size_parts (Bin s op m n) = omega arith
-
--- a tree is judged by its parts, and by the handshakes of its type
-judged_is : (i : Imports) (g : Binders) (tree : Tree) → judged i g tree ≡ sized (place_of tree) (parts_judged i g tree)
-judged_is i g (Skip s) = refl
-judged_is i g (Lit s k w) = refl
-judged_is i g (Use s x) = refl
-judged_is i g (Lam s x a t m) = refl
-judged_is i g (New s x w t m) = refl
-judged_is i g (App s m n) = refl
-judged_is i g (Both s m n) = refl
-judged_is i g (Fst s m) = refl
-judged_is i g (Snd s m) = refl
-judged_is i g (Seq s m n) = refl
-judged_is i g (Par s m n) = refl
-judged_is i g (If s m n p) = refl
-judged_is i g (While s m n) = refl
-judged_is i g (Assign s m n) = refl
-judged_is i g (Deref s m) = refl
-judged_is i g (Not s m) = refl
-judged_is i g (Bin s op m n) = refl
 
 -- its parts are typed: only the handshakes are left
 pub sized_there : (i : Imports) (g : Binders) (form : Form) (s : Span) (a : Type') → parts_judged i g (tree_of form s) ≡ Ok a

@@ -10,7 +10,7 @@ use Rattle.gos_check.specs.declared.forms.OnePart.TheVariants as one
 use Rattle.gos_check.specs.declared.forms.TwoParts.{TwoParts}
 use Rattle.gos_check.specs.declared.forms.TwoParts.TheVariants as two
 use Rattle.gos_check.specs.Sizes.{IsCountable}
-use Rattle.gos_check.specs.Faults.{Fault, Found, after}
+use Rattle.gos_check.specs.Faults.{Found, after}
 use Rattle.gos_check.specs.Free.{free}
 use Rattle.gos_check.specs.Demands.{demanded, done, expression, variable, sequence, looping, assignment, operation}
 use Rattle.gos_model.specs.Terms.{result_width}

@@ -5,12 +5,12 @@
 // square of the number of names that can be free at one place. In a source of 65,536 bytes these are 64 imports and some
 // 200 binders, since the nesting of binders is bounded by the open tokens.
 
-ghost use Rattle.std.specs.Prelude.{◌≡◌, ◌+◌, ◌*◌, ◌^◌, ◌<◌, [], ◌∷◌, map, Ok, IfOk, MatchResult};
+ghost use Rattle.std.specs.Prelude.{◌+◌, ◌*◌, ◌^◌, ◌<◌, [], ◌∷◌, map, Ok, IfOk};
 ghost use Rattle.gos_types.specs.Types.{type_of, Fun, Var};
 ghost use Rattle.gos_model.specs.Sources.{import_of};
 ghost use Rattle.gos_syntax.specs.Sizes.{size};
 ghost use Rattle.gos_check.specs.Sizes.{IsCountable, WritesCountable, AreCountable};
-ghost use Rattle.gos_check.specs.Faults.{Refuses, after};
+ghost use Rattle.gos_check.specs.Faults.{after};
 ghost use Rattle.gos_check.specs.Written.{written, written_width};
 ghost use Rattle.gos_check.specs.Scopes.{type_at, used};
 ghost use Rattle.gos_check.specs.Free.{free, joined, without};

@@ -1,4 +1,4 @@
-use Rattle.std.specs.Prelude.{◌+◌, ◌*◌, ◌<◌, ◌∷◌, map}
+use Rattle.std.specs.Prelude.{◌+◌, ◌*◌, ◌<◌, map}
 use Rattle.std.proofs.Common.{arith, rules, ◌∙◌}
 use Rattle.gos_types.specs.Types.{type_of, Var}
 use Rattle.gos_model.specs.Sources.{import_of}
@@ -7,7 +7,7 @@ use Rattle.gos_check.specs.Nodes.{OfFun, OfNew}
 use Rattle.gos_check.specs.inner.Seen.{binders_of}
 use Rattle.gos_check.specs.inner.Walked.{tree}
 use Rattle.gos_check.specs.inner.Numbering.{one_form, two_form, seen, binder_result, one_result, two_result, choice_result, inner_next, numbered}
-use Rattle.gos_check.proofs.RefusalLemmas.{size_parts}
+use Rattle.gos_check.proofs.PartLemmas.{size_parts}
 use Rattle.gos_check.proofs.NumberedLemmas.{numbers_all, numbers_choice, room_there}
 use Rattle.gos_check.proofs.numbering.+numbering.Goals as goal
 
