@@ -23,12 +23,9 @@ pub(crate) fn number_bound(services: &[Service], user: usize, import: usize) -> 
     ensures number { result ≡ number_bound services.now user import }
     ensures within { IfSome result (λ t. t < length services.now) }
 {
-    for (number, service) in services.iter().enumerate() {
-        if service.user == user && service.import == import {
-            return Some(number);
-        }
-    }
-    None
+    services
+        .iter()
+        .position(|service| service.user == user && service.import == import)
 }
 
 // Adds an import, unless a service has this number for it.

@@ -158,34 +158,19 @@ fn is_new_source(file: &[u8], own: &[u8], before: &[Item]) -> bool
 fn has_instance(items: &[Item], name: &[u8]) -> bool
     ensures { result ≡ has_instance items.now name.now }
 {
-    for item in items {
-        if item.said.is_instance(name) {
-            return true;
-        }
-    }
-    false
+    items.iter().any(|item| item.said.is_instance(name))
 }
 
 // Whether one of the lines names the file as a source.
 fn has_source(items: &[Item], file: &[u8]) -> bool
     ensures { result ≡ has_source items.now file.now }
 {
-    for item in items {
-        if item.said.is_source(file) {
-            return true;
-        }
-    }
-    false
+    items.iter().any(|item| item.said.is_source(file))
 }
 
 // Whether one of the lines names the file as something else than a source.
 fn has_no_source(items: &[Item], file: &[u8]) -> bool
     ensures { result ≡ has_no_source items.now file.now }
 {
-    for item in items {
-        if item.said.is_no_source(file) {
-            return true;
-        }
-    }
-    false
+    items.iter().any(|item| item.said.is_no_source(file))
 }

@@ -25,24 +25,18 @@ pub struct Service {
 pub(crate) fn instance_named(instances: &[Instance], name: &[u8]) -> Option<usize>
     ensures { result ≡ instance_named instances.now name.now }
 {
-    for (number, instance) in instances.iter().enumerate() {
-        if instance.name.bytes() == name {
-            return Some(number);
-        }
-    }
-    None
+    instances
+        .iter()
+        .position(|instance| instance.name.bytes() == name)
 }
 
 // The number of the first import of this name.
 fn import_named(imports: &[PlanImport], name: &[u8]) -> Option<usize>
     ensures { result ≡ import_named imports.now name.now }
 {
-    for (number, import) in imports.iter().enumerate() {
-        if import.name.bytes() == name {
-            return Some(number);
-        }
-    }
-    None
+    imports
+        .iter()
+        .position(|import| import.name.bytes() == name)
 }
 
 // A copy of a name. `Err` is want of memory alone.
@@ -198,18 +192,12 @@ fn tops_after(alloc: Global, tops: &[usize], service: Service) -> Result<Vec<usi
     ensures { IfOk result (λ after. after.items ≡ map (moved service.giver (top_at tops.now service.user)) tops.now) }
 {
     let top = top_at(tops, service.user);
-    let mut after = Vec::new(alloc);
-    for old in tops {
-        after.push(moved(service.giver, top, *old))?;
-    }
+    let giver = service.giver;
+    let after = tops
+        .iter()
+        .map(|old| if *old == giver { top } else { *old })
+        .collect(alloc)?;
     Ok(after)
-}
-
-// The top of an instance that had the top `old`, once the giver has this top.
-fn moved(giver: usize, top: usize, old: usize) -> usize
-    ensures { result ≡ moved giver top old }
-{
-    if old == giver { top } else { old }
 }
 
 /// What the lines of a build mean, if all are right, and else why the first that isn't is wrong.

@@ -17,12 +17,7 @@ fn number_used(services: &[Service], giver: usize) -> Option<usize>
     ensures number { result ≡ number_used services.now giver }
     ensures within { IfSome result (λ t. t < length services.now) }
 {
-    for (number, service) in services.iter().enumerate() {
-        if service.giver == giver {
-            return Some(number);
-        }
-    }
-    None
+    services.iter().position(|service| service.giver == giver)
 }
 
 // The place of an import: that of its service, or its own among the imports that stay.

@@ -1,7 +1,0 @@
-use Rattle.std.proofs.Common.{◌≡◌, ◌+◌, ◌&&◌, drop, nat_eq}
-use Rattle.std.specs.List.{position_or_len}
-use Rattle.gos_link.proofs.opens.number_bound.Given as goal
-
--- it is found among those that are left
-abbrev pub invariant-loop-number : goal.invariant-loop-number
-invariant-loop-number l = l.number + position_or_len (λ s. nat_eq s.user l.user && nat_eq s.import l.import) (drop l.number l.services) ≡ position_or_len (λ s. nat_eq s.user l.user && nat_eq s.import l.import) l.services
