@@ -117,7 +117,7 @@ fn next_due(t: u64, cycles: u64, agenda: &Agenda, entries: &[Entry], queue: Queu
     requires since { queue.since ≤ t }
     ensures within { (t < result) × (result ≤ cycles) }
     ensures none { HaveNone entries.now (suc t) result }
-    ensures held { StaysHeld t queue.since queue.entries.now result }
+    ensures held { StaysHeld t queue.entry.since queue.entry.entries.now result }
 {
     agenda.next_from(t + 1, held_until(t, queue, cycles), entries)
 }

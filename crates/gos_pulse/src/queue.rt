@@ -60,7 +60,7 @@ pub(crate) fn held_until(t: u64, queue: Queue, end: u64) -> u64
     requires since { queue.since ≤ t }
     requires end { t < end }
     ensures within { (t < result) × (result ≤ end) }
-    ensures held { StaysHeld t queue.since queue.entries.now result }
+    ensures held { StaysHeld t queue.entry.since queue.entry.entries.now result }
 {
     match queue.entries.first() {
         Some(entry) if t - queue.since < entry.number => {
