@@ -11,7 +11,7 @@ use Rattle.gos_sim.specs.Repeats.{Repeats}
 use Rattle.gos_pulse.specs.declared.board.Board.{Board}
 use Rattle.gos_pulse.specs.declared.entries.Entry.{Entry}
 use Rattle.gos_pulse.specs.declared.trace.TraceLine.{TraceLine}
-use Rattle.gos_pulse.specs.Driving.{GivesIn, GivesInput, GoesBy, IsHeld, TakesAll, at_entries}
+use Rattle.gos_pulse.specs.Driving.{GivesIn, GivesInput, IsHeld, TakesAll, at_entries}
 use Rattle.gos_pulse.specs.Guarding.{inputs_of, outputs_of}
 use Rattle.gos_pulse.specs.Traced.{AreLines}
 use Rattle.gos_pulse.specs.inner.Agenda.{HaveNone}
