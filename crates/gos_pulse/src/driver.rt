@@ -100,8 +100,8 @@ fn run_cycle<'a>(
     }
 }
 
-// Whether the cycles from now on are as the last one was, as long as nothing is given: it had no pulses and left the simulator as
-// it was.
+// Whether the cycles from now on are as the last one was, as long as nothing is given: it had no pulses, and left the
+// simulator as it was.
 fn is_quiet(sim: &Sim, board: &Board) -> bool
     ensures repeats { IsTrue result → Repeats sim.now }
     ensures inputs { IsTrue result → IsTrue (list_all is_off board.now.inputs.items) }

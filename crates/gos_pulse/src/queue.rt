@@ -54,8 +54,8 @@ pub(crate) fn is_early(t: u64, queue: Queue) -> bool
     }
 }
 
-/// Up to which cycle the queue stays as cycle `t` left it, where nothing happens before: up to the first one in which the first
-/// entry's distance has passed and in which it had not in cycle `t`, or to `end`.
+/// Up to which cycle the queue stays as cycle `t` left it, where nothing happens before: the one in which the first
+/// entry's distance has passed, if it had not in cycle `t`, or else `end`.
 pub(crate) fn held_until(t: u64, queue: Queue, end: u64) -> u64
     requires since { queue.since ≤ t }
     requires end { t < end }
