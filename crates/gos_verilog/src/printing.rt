@@ -69,8 +69,7 @@ fn add_declaration(
 {
     text.extend_from_slice(b"  ")?;
     text.extend_from_slice(kind)?;
-    text.extend_from_slice(b" [")?;
-    add_number(alloc, text, u64::from(width.saturating_sub(1)))?;
+    add_number(alloc, text, b" [", u64::from(width.saturating_sub(1)))?;
     add_bytes(text, b":0] ")
 }
 
@@ -97,7 +96,7 @@ fn add_cell(alloc: Global, text: &mut Vec<u8>, i: u64, cell: &Cell) -> Result<()
     ensures { OnOk result (text.new.items ≡ text.old.items ++ lines.cell_declaration i (cell_of cell.now)) }
 {
     add_declaration(alloc, text, kind_word(cell.gate), cell.width)?;
-    add_net(alloc, text, i)?;
+    add_number(alloc, text, b"n", i)?;
     add_bytes(text, b";\n")
 }
 
@@ -195,7 +194,7 @@ fn add_reset(alloc: Global, text: &mut Vec<u8>, i: u64, width: u32) -> Result<()
 fn add_clocked(alloc: Global, text: &mut Vec<u8>, i: u64) -> Result<(), NoMemory>
     ensures { OnOk result (text.new.items ≡ text.old.items ++ (lines.cell_net i ++ codes " <= ")) }
 {
-    add_net(alloc, text, i)?;
+    add_number(alloc, text, b"n", i)?;
     add_bytes(text, b" <= ")
 }
 
@@ -203,8 +202,7 @@ fn add_clocked(alloc: Global, text: &mut Vec<u8>, i: u64) -> Result<(), NoMemory
 fn add_assigned(alloc: Global, text: &mut Vec<u8>, i: u64) -> Result<(), NoMemory>
     ensures { OnOk result (text.new.items ≡ text.old.items ++ (codes "  assign " ++ lines.cell_net i ++ codes " = ")) }
 {
-    text.extend_from_slice(b"  assign ")?;
-    add_net(alloc, text, i)?;
+    add_number(alloc, text, b"  assign n", i)?;
     add_bytes(text, b" = ")
 }
 
@@ -221,7 +219,7 @@ fn add_expression(
     match gate {
         Gate::Input => add_bytes(text, source),
         Gate::Const(k) => add_literal(alloc, text, width, k),
-        Gate::Not(a) => add_complement(alloc, text, a),
+        Gate::Not(a) => add_number(alloc, text, b"~n", u64::from(a.0)),
         Gate::And(a, b) => add_binary(alloc, text, a, b"&", b),
         Gate::Or(a, b) => add_binary(alloc, text, a, b"|", b),
         Gate::Xor(a, b) => add_binary(alloc, text, a, b"^", b),
@@ -231,7 +229,7 @@ fn add_expression(
         Gate::Eq(a, b) => add_binary(alloc, text, a, b"==", b),
         Gate::Less(a, b) => add_binary(alloc, text, a, b"<", b),
         Gate::Gate(s, a) => add_gated(alloc, text, width, s, a),
-        Gate::Reg(a) => add_net(alloc, text, u64::from(a.0)),
+        Gate::Reg(a) => add_number(alloc, text, b"n", u64::from(a.0)),
     }
 }
 
@@ -241,14 +239,6 @@ fn add_bytes(text: &mut Vec<u8>, bytes: &[u8]) -> Result<(), NoMemory>
 {
     text.extend_from_slice(bytes)?;
     Ok(())
-}
-
-// Adds all bits of a net turned.
-fn add_complement(alloc: Global, text: &mut Vec<u8>, a: NetId) -> Result<(), NoMemory>
-    ensures { OnOk result (text.new.items ≡ text.old.items ++ codes "~" ++ lines.cell_net a.0) }
-{
-    text.extend_from_slice(b"~")?;
-    add_net(alloc, text, u64::from(a.0))
 }
 
 // Adds an expression of two nets.
@@ -261,22 +251,19 @@ fn add_binary(
 ) -> Result<(), NoMemory>
     ensures { OnOk result (text.new.items ≡ text.old.items ++ lines.binary a.0 sign.now b.0) }
 {
-    add_net(alloc, text, u64::from(a.0))?;
+    add_number(alloc, text, b"n", u64::from(a.0))?;
     text.extend_from_slice(b" ")?;
     text.extend_from_slice(sign)?;
-    text.extend_from_slice(b" ")?;
-    add_net(alloc, text, u64::from(b.0))
+    add_number(alloc, text, b" n", u64::from(b.0))
 }
 
 // Adds a choice between two nets.
 fn add_mux(alloc: Global, text: &mut Vec<u8>, s: NetId, a: NetId, b: NetId) -> Result<(), NoMemory>
     ensures { OnOk result (text.new.items ≡ text.old.items ++ lines.conditional s.0 (lines.cell_net a.0) (lines.cell_net b.0)) }
 {
-    add_net(alloc, text, u64::from(s.0))?;
-    text.extend_from_slice(b" ? ")?;
-    add_net(alloc, text, u64::from(a.0))?;
-    text.extend_from_slice(b" : ")?;
-    add_net(alloc, text, u64::from(b.0))
+    add_number(alloc, text, b"n", u64::from(s.0))?;
+    add_number(alloc, text, b" ? n", u64::from(a.0))?;
+    add_number(alloc, text, b" : n", u64::from(b.0))
 }
 
 // Adds a net that is let through.
@@ -289,9 +276,8 @@ fn add_gated(
 ) -> Result<(), NoMemory>
     ensures { OnOk result (text.new.items ≡ text.old.items ++ lines.conditional s.0 (lines.cell_net a.0) (lines.literal width 0)) }
 {
-    add_net(alloc, text, u64::from(s.0))?;
-    text.extend_from_slice(b" ? ")?;
-    add_net(alloc, text, u64::from(a.0))?;
+    add_number(alloc, text, b"n", u64::from(s.0))?;
+    add_number(alloc, text, b" ? n", u64::from(a.0))?;
     text.extend_from_slice(b" : ")?;
     add_literal(alloc, text, width, 0)
 }
@@ -314,8 +300,7 @@ fn add_output(alloc: Global, text: &mut Vec<u8>, net: &PortNet) -> Result<(), No
 {
     text.extend_from_slice(b"  assign ")?;
     text.extend_from_slice(&net.name)?;
-    text.extend_from_slice(b" = ")?;
-    add_net(alloc, text, u64::from(net.cell.0))?;
+    add_number(alloc, text, b" = n", u64::from(net.cell.0))?;
     add_bytes(text, b";\n")
 }
 
@@ -323,23 +308,15 @@ fn add_output(alloc: Global, text: &mut Vec<u8>, net: &PortNet) -> Result<(), No
 fn add_literal(alloc: Global, text: &mut Vec<u8>, width: u32, k: u64) -> Result<(), NoMemory>
     ensures { OnOk result (text.new.items ≡ text.old.items ++ lines.literal width k) }
 {
-    add_number(alloc, text, u64::from(width))?;
-    text.extend_from_slice(b"'d")?;
-    add_number(alloc, text, k)
+    add_number(alloc, text, b"", u64::from(width))?;
+    add_number(alloc, text, b"'d", k)
 }
 
-// Adds the net of a cell.
-fn add_net(alloc: Global, text: &mut Vec<u8>, i: u64) -> Result<(), NoMemory>
-    ensures { OnOk result (text.new.items ≡ text.old.items ++ lines.cell_net i) }
-{
-    text.extend_from_slice(b"n")?;
-    add_number(alloc, text, i)
-}
-
-// Adds a number.
-fn add_number(alloc: Global, text: &mut Vec<u8>, number: u64) -> Result<(), NoMemory>
-    ensures { OnOk result (text.new.items ≡ text.old.items ++ decimal number) }
+// Adds a word and a number.
+fn add_number(alloc: Global, text: &mut Vec<u8>, word: &[u8], number: u64) -> Result<(), NoMemory>
+    ensures { OnOk result (text.new.items ≡ text.old.items ++ word.now ++ decimal number) }
 {
     let digits = number.to_string(alloc)?;
+    text.extend_from_slice(word)?;
     add_bytes(text, digits.as_bytes())
 }
