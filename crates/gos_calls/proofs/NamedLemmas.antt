@@ -36,7 +36,7 @@ use Rattle.gos_woven.proofs.CrossingLemmas.{still}
 use Rattle.gos_uses.proofs.SupplyLemmas.{inside, tied_at}
 use Rattle.gos_uses.proofs.SideLemmas.{its_part, its_import}
 use Rattle.gos_uses.proofs.PermuteLemmas.{front, behind}
-use Rattle.gos_uses.proofs.ApplyWebLemmas.{below, not_below}
+use Rattle.gos_uses.proofs.ApplyWebLemmas.{below, not_below, in_links, of_links}
 
 twice_turned : (o : Option Contact) → turned_if (turned_if o) ≡ o
 twice_turned None = refl
@@ -49,25 +49,6 @@ turned_side (c ∷ cs) (suc h) = turned_side cs h
 
 none_there : (X : Type 0) (x : X) → Contains [] x → ⊥
 none_there X x (k, small, e) = omega (arith, small)
-
--- the links of an application
-in_links : (x l h : ℕ) → x ≤ h → h < x + l → Contains (results_linked 1 x l) (link 0 (ResultEnd h) 1 (ResultEnd h))
-in_links x zero h low high = absurd (omega (arith, low, high))
-in_links x (suc l) h low high = by_number (h - x) (omega (arith, low)) (λ above. later (in_links (suc x) l h above (omega (arith, high))))
-  where
-    later : Contains (results_linked 1 (suc x) l) (link 0 (ResultEnd h) 1 (ResultEnd h)) → Contains (results_linked 1 x (suc l)) (link 0 (ResultEnd h) 1 (ResultEnd h))
-    later (k, small, e) = (suc k, omega (arith, small), e)
-
-    by_number : (d : ℕ) → h ≡ x + d → (suc x ≤ h → Contains (results_linked 1 x (suc l)) (link 0 (ResultEnd h) 1 (ResultEnd h)))
-        → Contains (results_linked 1 x (suc l)) (link 0 (ResultEnd h) 1 (ResultEnd h))
-    by_number zero e further = let same : x ≡ h = omega (arith, e) in (0, omega arith, ap (λ (y : ℕ). link 0 (ResultEnd y) 1 (ResultEnd y)) same)
-    by_number (suc d) e further = further (omega (arith, e))
-
-of_links : (x l : ℕ) (z : Link) → Contains (results_linked 1 x l) z → (h : ℕ) × (h < x + l) × (link 0 (ResultEnd h) 1 (ResultEnd h) ≡ z)
-of_links x zero z (k, small, e) = absurd (omega (arith, small))
-of_links x (suc l) z (zero, small, e) = (x, omega arith, e)
-of_links x (suc l) z (suc k, small, e) =
-    let (h, low, same) = of_links (suc x) l z (k, omega (arith, small), e) in (h, omega (arith, low), same)
 
 module _
     (x : Imported) (b : Type') (r e q : Plan) (right : IsRight r) (outcome : r.outcome ≡ Fun x.ty b) (is : IsNamePlan x e)

@@ -1,5 +1,4 @@
 -- In reading order: a file uses only files above it.
-mod SizeLemmas
 mod OneLemmas
 mod SlidLemmas
 mod ClosedLemmas

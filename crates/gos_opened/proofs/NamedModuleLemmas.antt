@@ -19,11 +19,9 @@ use Rattle.gos_plan.proofs.JointLemmas.{fits, same_itself, one_joint, contained}
 use Rattle.gos_ties.specs.declared.points.Place.{Place}
 use Rattle.gos_ties.specs.declared.points.Place.TheVariants as places
 use Rattle.gos_ties.specs.declared.points.Tie as point_ties
-use Rattle.gos_ties.specs.Ties as paths
-use Rattle.gos_ties.specs.Ties.{point}
 use Rattle.gos_realises.specs.Regular.{count}
 use Rattle.gos_realises.specs.Realises.{NamesDiffer}
-use Rattle.gos_webs.specs.Webs.{Dot, Of, Number, Node, Within, Tie, tie, Web, Way, here, joint, IsOfWeb, own_web, SameWays}
+use Rattle.gos_webs.specs.Webs.{Dot, Of, Number, Node, Within, Tie, tie, Way, here, joint, own_web, SameWays}
 use Rattle.gos_webs.proofs.WebLemmas.{same_ways}
 use Rattle.gos_webs.proofs.WayLemmas.{mapped_way, one_way, way_back, way_then}
 use Rattle.gos_unions.specs.Unions.{within}
@@ -35,40 +33,13 @@ use Rattle.gos_compile.specs.Wiring.{Types, row, led, parts_of, ties_of, import_
 use Rattle.gos_wired.specs.Wired.{Supplies, Placing, Source, Own, Supplied, IsFrom, placed, dot_at, dot_of, dot_of_place, dot_ties, result_ties, all_supply_ties, wired_ties, wired_web, IsWired}
 use Rattle.gos_wired.specs.Regular.{AreRegular}
 use Rattle.gos_wired.specs.Modules.{numbers_from, PathsFit, MakesNoImport}
-use Rattle.gos_wired.proofs.WayLemmas.{way_path, path_way}
 use Rattle.gos_wired.proofs.AwayLemmas.{IsAway, row_away, ties_away, tie_away}
 use Rattle.gos_wired.proofs.PlacingLemmas.{import_numbered, numbered_import}
 use Rattle.gos_wired.proofs.TieLemmas.{import_tie, in_import_ties, inside, result_tie, of_results, in_results, OfSupplies, of_supplies, in_supplies}
 use Rattle.gos_wired.proofs.TypeLemmas.{type_is}
+use Rattle.gos_wired.proofs.ModuleLemmas.{term_web, of_term}
 use Rattle.gos_opened.specs.Opened.{ModuleIsRegular}
 use Rattle.gos_opened.proofs.OneLemmas.{listed_there}
-
--- joints, in the two ways to say that they are there
-has_joint : (js : List Joint) (j : Joint) → Contains js j → paths.Has js j
-has_joint [] j (n, small, e) = absurd (omega (arith, small))
-has_joint (x ∷ js) j (zero, small, e) = inl e
-has_joint (x ∷ js) j (suc n, small, e) = inr (has_joint js j (n, omega (arith, small), e))
-
-joint_there : (js : List Joint) (j : Joint) → paths.Has js j → Contains js j
-joint_there [] j has = absurd has
-joint_there (x ∷ js) j (inl e) = (0, omega arith, e)
-joint_there (x ∷ js) j (inr has) = let (n, small, e) = joint_there js j has in (suc n, omega (arith, small), e)
-
--- the web of a term
-abbrev term_web : Imports → Numbered → Web
-term_web is m = record { ties = dot_ties (all_ties is m); at = Of }
-
-of_term : (is : Imports) (t : Type') (w : ℕ) (m : Numbered) (p : Plan) → IsPlanOf is t w m p → PathsFit (all_ties is m) p → IsOfWeb (term_web is m) p
-of_term is t w m p plan fit =
-    record {
-      right = plan.right;
-      fits = λ a b c d at_a at_b differ way. fit a b c d at_a at_b differ (way_path (all_ties is m) a b way);
-      joints = λ a b. (
-        λ has. (let (q, v, asked, served, path) = (plan.joints a b).0 (has_joint p.joints (joint a b) has) in
-            (q, v, asked, served, path_way (all_ties is m) a b path)),
-        λ led. joint_there p.joints (joint a b) ((plan.joints a b).1 (led.0, led.1, led.2, led.3, way_path (all_ties is m) a b led.4)),
-      );
-    }
 
 -- the tie of an import's handshake is that of one that there is
 abbrev OfImport : ℕ → Imports → point_ties.Tie → Type 0

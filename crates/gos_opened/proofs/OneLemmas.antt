@@ -18,7 +18,7 @@ use Rattle.gos_webs.proofs.WayLemmas.{one_way}
 use Rattle.gos_compile.specs.Wiring.{Types, parts_of, ties_of, row}
 use Rattle.gos_wired.specs.Wired.{Supplies, Source, Own, Supplied, Origin, Placing, IsFrom, placed, source_dot, dot_at, dot_ties, wired_ties, wired_web, result_ties, all_supply_ties, IsWired}
 use Rattle.gos_uses.proofs.MatchingLemmas.{matched}
-use Rattle.gos_opened.proofs.SizeLemmas.{AreOneToOne, same_size, extended, below, above, extended_returns}
+use Rattle.gos_renumbered.proofs.SizeLemmas.{AreOneToOne, same_size, extended, below, above, extended_returns}
 
 -- the same supplies of these numbers
 abbrev pub AgreeOn : List ℕ → Supplies → Supplies → Type 0

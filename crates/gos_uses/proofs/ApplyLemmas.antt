@@ -40,9 +40,9 @@ use Rattle.gos_uses.proofs.SupplyLemmas.{inside}
 use Rattle.gos_uses.proofs.SideLemmas.{its_part, its_import, child_led}
 use Rattle.gos_uses.proofs.PermuteLemmas.{chosen, others, total, put, taken, there_and_back, back_and_there, chosen_length, put_there, comes_last, front, behind, Standing, stands_first, stands_last}
 use Rattle.gos_uses.proofs.ChosenLemmas as choices
-use Rattle.gos_uses.proofs.ChosenLemmas.{Choice, Placed, child_wired}
+use Rattle.gos_uses.proofs.ChosenLemmas.{Placed, child_wired}
 use Rattle.gos_uses.proofs.ApplyWebLemmas as apply
-use Rattle.gos_uses.proofs.ApplyWebLemmas.{pick, sink, below, not_below}
+use Rattle.gos_uses.proofs.ApplyWebLemmas.{pick, below, not_below}
 use Rattle.gos_uses.proofs.PartedLemmas.{up, down, itself, of_first, first_choice, second_choice}
 
 row_all : (j x l : ℕ) → map (renamed (λ h. point (places.Node j) h)) (row places.Result x l) ≡ row (places.Node j) x l

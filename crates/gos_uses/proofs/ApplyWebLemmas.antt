@@ -54,6 +54,25 @@ below k n low = grind (arith, nat_tests)
 pub not_below : (k n : ℕ) → n ≤ k → nat_lt k n ≡ false
 not_below k n high = grind (arith, nat_tests)
 
+-- the links of an application
+pub in_links : (x l h : ℕ) → x ≤ h → h < x + l → Contains (results_linked 1 x l) (link 0 (ResultEnd h) 1 (ResultEnd h))
+in_links x zero h low high = absurd (omega (arith, low, high))
+in_links x (suc l) h low high = by_number (h - x) (omega (arith, low)) (λ above. later (in_links (suc x) l h above (omega (arith, high))))
+  where
+    later : Contains (results_linked 1 (suc x) l) (link 0 (ResultEnd h) 1 (ResultEnd h)) → Contains (results_linked 1 x (suc l)) (link 0 (ResultEnd h) 1 (ResultEnd h))
+    later (k, small, e) = (suc k, omega (arith, small), e)
+
+    by_number : (d : ℕ) → h ≡ x + d → (suc x ≤ h → Contains (results_linked 1 x (suc l)) (link 0 (ResultEnd h) 1 (ResultEnd h)))
+        → Contains (results_linked 1 x (suc l)) (link 0 (ResultEnd h) 1 (ResultEnd h))
+    by_number zero e further = let same : x ≡ h = omega (arith, e) in (0, omega arith, ap (λ (y : ℕ). link 0 (ResultEnd y) 1 (ResultEnd y)) same)
+    by_number (suc d) e further = further (omega (arith, e))
+
+pub of_links : (x l : ℕ) (z : Link) → Contains (results_linked 1 x l) z → (h : ℕ) × (h < x + l) × (link 0 (ResultEnd h) 1 (ResultEnd h) ≡ z)
+of_links x zero z (k, small, e) = absurd (omega (arith, small))
+of_links x (suc l) z (zero, small, e) = (x, omega arith, e)
+of_links x (suc l) z (suc k, small, e) =
+    let (h, low, same) = of_links (suc x) l z (k, omega (arith, small), e) in (h, omega (arith, low), same)
+
 module _
     (types : Types) (i j : ℕ) (m n : Numbered) (t : Type') (ns ms ks : List ℕ) (env : Supplies) (pl pm pn : Placing) (p q : Plan) where
   abbrev pub size : ℕ
@@ -144,28 +163,10 @@ module _
     abbrev of_link : Link → Tie
     of_link l = tie (unions.dot_at webs l.one) (unions.dot_at webs l.other)
 
-    in_row : (x l h : ℕ) → x ≤ h → h < x + l → Contains (results_linked 1 x l) (link 0 (ResultEnd h) 1 (ResultEnd h))
-    in_row x zero h low high = absurd (omega (arith, low, high))
-    in_row x (suc l) h low high = by_number (h - x) (omega (arith, low)) (λ above. later (in_row (suc x) l h above (omega (arith, high))))
-      where
-        later : Contains (results_linked 1 (suc x) l) (link 0 (ResultEnd h) 1 (ResultEnd h)) → Contains (results_linked 1 x (suc l)) (link 0 (ResultEnd h) 1 (ResultEnd h))
-        later (k, small, e) = (suc k, omega (arith, small), e)
-
-        by_number : (d : ℕ) → h ≡ x + d → (suc x ≤ h → Contains (results_linked 1 x (suc l)) (link 0 (ResultEnd h) 1 (ResultEnd h)))
-            → Contains (results_linked 1 x (suc l)) (link 0 (ResultEnd h) 1 (ResultEnd h))
-        by_number zero e further = let same : x ≡ h = omega (arith, e) in (0, omega arith, ap (λ (y : ℕ). link 0 (ResultEnd y) 1 (ResultEnd y)) same)
-        by_number (suc d) e further = further (omega (arith, e))
-
-    of_row : (x l : ℕ) (z : Link) → Contains (results_linked 1 x l) z → (h : ℕ) × (h < x + l) × (link 0 (ResultEnd h) 1 (ResultEnd h) ≡ z)
-    of_row x zero z (k, small, e) = absurd (omega (arith, small))
-    of_row x (suc l) z (zero, small, e) = (x, omega arith, e)
-    of_row x (suc l) z (suc k, small, e) =
-        let (h, low, same) = of_row (suc x) l z (k, omega (arith, small), e) in (h, omega (arith, low), same)
-
     in_link : (h : ℕ) → h < size → Contains u.ties (linked h)
     in_link h low =
         Contains-append_right (within 0 vm.ties ++ (within 1 vn.ties ++ [])) (link_ties webs (results_linked 1 0 size)) (linked h)
-        (in_image of_link (results_linked 1 0 size) (link 0 (ResultEnd h) 1 (ResultEnd h)) (in_row 0 size h (omega arith) (omega (arith, low))))
+        (in_image of_link (results_linked 1 0 size) (link 0 (ResultEnd h) 1 (ResultEnd h)) (in_links 0 size h (omega arith) (omega (arith, low))))
 
     -- dots of the node, in the union
     chosen : (b : Bool) (d : Dot) → b ≡ true → Within 0 d ≡ pick b d
@@ -367,7 +368,7 @@ module _
         row_back l is (h, low, same) = subst Back (ap of_link same ∙ is) (link_back h (omega (arith, low)))
 
         links : Image of_link (results_linked 1 0 size) x → Back x
-        links (l, among, is) = row_back l is (of_row 0 size l among)
+        links (l, among, is) = row_back l is (of_links 0 size l among)
 
         by_last : Contains (within 1 vn.ties) x ⊎ Contains [] x → Back x
         by_last (inl inner) = second (of_image (inside 1) vn.ties x inner)

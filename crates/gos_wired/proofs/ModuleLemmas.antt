@@ -20,7 +20,7 @@ use Rattle.gos_realises.specs.Modules.{Supply, plans_of, AreSupplied, imports_li
 use Rattle.gos_webs.specs.Webs.{Dot, Of, Number, Node, Within, Tie, tie, Web, Way, here, along, joint, IsOfWeb, own_web, SameWays}
 use Rattle.gos_webs.proofs.WebLemmas.{same_ways, right_is_of_its_web}
 use Rattle.gos_webs.proofs.WayLemmas.{mapped_way, one_way}
-use Rattle.gos_unions.specs.Unions.{within, all_within, at_of, link_ties, union, AreOfWebs}
+use Rattle.gos_unions.specs.Unions.{within, all_within, link_ties, union, AreOfWebs}
 use Rattle.gos_unions.specs.Unions as unions
 use Rattle.gos_unions.proofs.UnionLemmas.{Image, of_image, in_image, joining_is_union}
 use Rattle.gos_unions.proofs.FlatFitLemmas.{links_stand}
@@ -47,10 +47,10 @@ joint_there (x ∷ js) j (inl e) = (0, omega arith, e)
 joint_there (x ∷ js) j (inr has) = let (n, small, e) = joint_there js j has in (suc n, omega (arith, small), e)
 
 -- the web of a term
-abbrev term_web : Imports → Numbered → Web
+abbrev pub term_web : Imports → Numbered → Web
 term_web is m = record { ties = dot_ties (all_ties is m); at = Of }
 
-of_term : (is : Imports) (t : Type') (w : ℕ) (m : Numbered) (p : Plan) → IsPlanOf is t w m p → PathsFit (all_ties is m) p → IsOfWeb (term_web is m) p
+pub of_term : (is : Imports) (t : Type') (w : ℕ) (m : Numbered) (p : Plan) → IsPlanOf is t w m p → PathsFit (all_ties is m) p → IsOfWeb (term_web is m) p
 of_term is t w m p plan fit =
     record {
       right = plan.right;

@@ -11,7 +11,7 @@ use Rattle.gos_realises.proofs.LeftLemmas.{left_all, left_joined}
 use Rattle.gos_joined.proofs.OriginLemmas.{before, import_of}
 use Rattle.gos_unions.proofs.DeepLemmas.{place_of_part}
 use Rattle.gos_renumbered.proofs.SupplyLemmas as supplies
-use Rattle.gos_renumbered.proofs.SupplyLemmas.{supply_link, OfImports, of_imports, in_imports, supply_of, import_for, plan_at, first_joined, supply_free}
+use Rattle.gos_renumbered.proofs.SupplyLemmas.{supply_of, import_for, plan_at, first_joined, supply_free}
 use Rattle.gos_wired.specs.Wired.{Supplies, Source, Own, Supplied, Origin, Placing, IsFrom, placed}
 use Rattle.gos_wired.specs.Modules.{supply_at, numbers_from}
 use Rattle.gos_wired.proofs.NumberLemmas.{PartOf, part_of, part_there, imports_before, all_imports, import_in, import_there}

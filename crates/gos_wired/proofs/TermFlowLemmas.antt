@@ -8,7 +8,7 @@ use Rattle.gos_model.specs.Typing.{Imports, Imported}
 use Rattle.gos_check.specs.declared.linear.Split.{Split}
 use Rattle.gos_check.specs.Nodes.{Numbered, Closed, Use, Under, One, Two, If, type_of_node}
 use Rattle.gos_plan.specs.Kinds as kinds
-use Rattle.gos_plan.specs.Kinds.{Part, Contact, contacts_of, other_side}
+use Rattle.gos_plan.specs.Kinds.{Part, Contact, contacts_of}
 use Rattle.gos_plan.specs.Plans.{contacts_of_import}
 use Rattle.gos_plan.proofs.SideLemmas.{sides_turn_back}
 use Rattle.gos_ties.specs.declared.points.Place.TheVariants as places

@@ -13,7 +13,7 @@ use Rattle.gos_types.specs.Types.{Type'}
 use Rattle.gos_model.specs.Typing.{Imported}
 use Rattle.gos_check.specs.Nodes.{Numbered, type_of_node}
 use Rattle.gos_plan.specs.Kinds as kinds
-use Rattle.gos_plan.specs.Kinds.{Part, Contact, asks, serves, contacts_of, turned_contact}
+use Rattle.gos_plan.specs.Kinds.{Part, Contact, asks, contacts_of, turned_contact}
 use Rattle.gos_plan.specs.Plans.{End, ResultEnd, Joint, Plan, contact_at, turned_if, IsRight}
 use Rattle.gos_plan.proofs.JointLemmas.{fits, one_joint, contained}
 use Rattle.gos_ties.specs.declared.points.Place.TheVariants as places
