@@ -10,6 +10,7 @@ pub mod CountingLemmas
 pub mod RegisterLemmas
 pub mod NumberLemmas
 pub mod MoveLemmas
+pub mod EvaluationLemmas
 pub mod CycleLemmas
 pub mod MachineLemmas
 pub mod PastLemmas

@@ -9,9 +9,13 @@
 // levels in which the last cycle changed something.
 #![tactic(auto)]
 
+mod chains;
+mod evaluation;
 mod event_nets;
 mod laws;
+mod levels;
 mod machine;
+mod operations;
 mod order;
 mod past;
 mod places;

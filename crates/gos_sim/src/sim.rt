@@ -126,7 +126,8 @@ impl Sim {
             Past::Reset | Past::Still => 0,
             Past::First | Past::Later => {
                 let machine = &self.machine;
-                levels_visited(&machine.steps, &machine.levels, &self.before, &self.values)
+                let cells = &self.net.netlist().cells;
+                levels_visited(&machine.levels, cells, &machine.places, &self.before, &self.values)
             }
         }
     }
@@ -150,15 +151,15 @@ fn parts_of(
     net: &Checked,
 ) -> Result<(Machine, Vec<u32>, Vec<u32>, Vec<u32>), NoMemory>
     ensures machine { IfOk result (λ parts. IsMachine net.now parts.0) }
-    ensures registers { IfOk result (λ parts. parts.1.items ≡ replicate (length parts.0.levels.items) 0) }
-    ensures each { IfOk result (λ parts. length parts.2.items ≡ length parts.0.levels.items) }
+    ensures registers { IfOk result (λ parts. parts.1.items ≡ replicate (parts.0.count) 0) }
+    ensures each { IfOk result (λ parts. length parts.2.items ≡ parts.0.count) }
     ensures values { IfOk result (λ parts. SettlesAtReset (plan_of parts.0) parts.2.items) }
-    ensures before { IfOk result (λ parts. parts.3.items ≡ replicate (length parts.0.levels.items) 0) }
+    ensures before { IfOk result (λ parts. parts.3.items ≡ replicate (parts.0.count) 0) }
 {
     let levels = net.levels(alloc)?;
     let order = net.schedule();
     let machine = machine_of(alloc, net.netlist(), order, &levels)?;
-    let count = machine.levels.len();
+    let count = machine.count;
     let registers = vec![in alloc; 0; count]?;
     let before = vec![in alloc; 0; count]?;
     let values = machine.values_at_reset(alloc, count)?;
