@@ -6,6 +6,7 @@ pub mod SourceLemmas
 pub mod ProgramLemmas
 pub mod LevelLemmas
 pub mod OrderLemmas
+pub mod ChainLemmas
 pub mod CountingLemmas
 pub mod RegisterLemmas
 pub mod NumberLemmas

@@ -23,22 +23,8 @@ use Rattle.gos_sim.specs.inner.Ready.{AreApart, AreTwo}
 use Rattle.gos_sim.specs.inner.Evaluation.{bits_of}
 use Rattle.gos_sim.specs.inner.Places.{AreStepsMoved, IsNumbering, IsStepMoved, by_net, event_moved, latch_moved, moved}
 use Rattle.gos_sim.specs.inner.Machine.{IsMoved, IsRunnable, Plan, RunsThrough, SettlesAtReset}
-use Rattle.gos_sim.proofs.PlaceLemmas.{all_at, same_element}
+use Rattle.gos_sim.proofs.PlaceLemmas.{all_at, all_of_at, moved_at, moved_from, same_element}
 use Rattle.gos_sim.proofs.ProgramLemmas.{pushed}
-
--- what holds at each place of a list holds of all that is in it
-pub all_of_at : {A : Type 0} (P : A → Type 0) (xs : List A) → ((k : ℕ) (x : A) → slice_get xs k ≡ Some x → P x) → All P xs
-all_of_at P xs each = λ k d below. each k (get_or xs k d) (slice_get-get_or xs k d below)
-
--- what stands in a list stands in its image
-pub moved_at : {A B : Type 0} (f : A → B) (xs : List A) (k : ℕ) (x : A) → slice_get xs k ≡ Some x → slice_get (map f xs) k ≡ Some (f x)
-moved_at f xs k x is = slice_get-map f xs k ∙ ap (option_map f) is
-
--- and what stands in the image is of what stands in the list
-pub moved_from : {A B : Type 0} (f : A → B) (xs : List A) (k : ℕ) (y : B) → slice_get (map f xs) k ≡ Some y → (x : A) × (slice_get xs k ≡ Some x) × (f x ≡ y)
-moved_from f [] k y is = absurd (cc)
-moved_from f (x ∷ xs) zero y is = (x, refl, cc)
-moved_from f (x ∷ xs) (suc k) y is = moved_from f xs k y is
 
 -- the value of a net is the one at its place
 pub at_by_net : (places v : Numbers) (n : ℕ) → n < length places → at (by_net places v) n ≡ at v (at places n)

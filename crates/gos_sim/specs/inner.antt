@@ -3,6 +3,7 @@
 pub mod Program
 pub mod Evaluation
 pub mod Order
+pub mod Chains
 pub mod Running
 pub mod Ready
 pub mod Places

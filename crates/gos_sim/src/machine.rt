@@ -10,6 +10,7 @@ ghost use Rattle.gos_sim.specs.inner.Ready.{IsReady};
 use crate::event_nets::{EventNets, events_of};
 use crate::chains::Chains;
 use crate::levels::chained_levels;
+use crate::order::by_keys;
 use crate::places::{Places, events_moved, latches_moved, numbered};
 use crate::program::{Latch, latches, steps};
 use crate::pulse::Pulse;
@@ -52,8 +53,9 @@ pub fn machine_of(
 {
     let inputs = events_of(alloc, net, true)?;
     let outputs = events_of(alloc, net, false)?;
-    let steps = steps(alloc, &net.cells, order)?;
-    let latches = latches(alloc, &net.cells, order)?;
+    let sorted = by_keys(alloc, &net.cells, order)?;
+    let steps = steps(alloc, &net.cells, &sorted)?;
+    let latches = latches(alloc, &net.cells, &sorted)?;
     let Places { of, nets } = numbered(alloc, net.cells.len(), &latches, &steps)?;
     Ok(Machine {
         inputs: events_moved(alloc, &inputs, &of)?,

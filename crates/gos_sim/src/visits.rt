@@ -3,7 +3,7 @@ ghost use Rattle.std.specs.Prelude.{◌≡◌, ◌<◌, ◌≤◌, All, IsFalse,
 ghost use Rattle.gos_netlist.specs.Nets.{pins};
 ghost use Rattle.gos_netlist.specs.Seen.{cell_of, function_of};
 ghost use Rattle.gos_sim.specs.inner.Ready.{AreCellsReady};
-ghost use Rattle.gos_sim.specs.inner.Order.{IsBounded};
+ghost use Rattle.gos_sim.specs.inner.Chains.{IsBounded};
 ghost use Rattle.gos_sim.specs.inner.Places.{by_net};
 ghost use Rattle.gos_sim.specs.inner.Counting.{CountsVisited, HasVisit, LacksVisit, has_changed, one_has_changed};
 

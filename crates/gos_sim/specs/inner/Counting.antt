@@ -1,13 +1,13 @@
 -- Levels as they are counted, one after another, each by the chain of its nets.
 --
--- Read first: Order; Visits.
+-- Read first: Chains; Visits.
 use Rattle.std.specs.Prelude.{◌≡◌, ℕ, ◌<◌, ◌||◌, Bool, false, not, List, [], ◌∷◌, All, length, nat_eq}
 use Rattle.gos_netlist.specs.Nets.{Cell}
 use Rattle.gos_netlist.specs.Settling.{Numbers, at}
 use Rattle.gos_netcheck.specs.Levels.{AreLevels}
 use Rattle.gos_sim.specs.declared.chains.Chains.{Chains}
 use Rattle.gos_sim.specs.Visits.{IsVisited, VisitsLevels}
-use Rattle.gos_sim.specs.inner.Order.{AreChained}
+use Rattle.gos_sim.specs.inner.Chains.{AreChained}
 
 -- whether the value of a net differs
 abbrev pub has_changed : Numbers → Numbers → ℕ → Bool
@@ -21,6 +21,7 @@ one_has_changed before values (a ∷ b ∷ ns) = has_changed before values a || 
 
 -- the nets of these levels are chained, each level by a key of its own
 pub record ChainLevels (chains : Chains) (levels : Numbers) : Type 0 where
+  pub each : length chains.next.items ≡ length levels
   pub chained : AreChained (λ l. l) levels (length levels) chains.heads.items chains.next.items
   pub within : All (λ l. l < length chains.heads.items) levels
 

@@ -6,5 +6,5 @@ use Rattle.gos_sim.proofs.sim.parts_of.Goals as goal
 pub values_at_reset-requires : goal.values_at_reset-requires
 values_at_reset-requires c =
     let machine = c.in_ok-machine.machine in
-    let count : c.len-count.result ≡ length machine.levels.items = search rules in
+    let count : c.len-count.result ≡ machine.count = search rules in
     record { ready = subst (λ (n : ℕ). IsRunnable n (plan_of machine)) (sym count) (machine_runnable c.netlist.result.now machine c.in_ok-machine.ensures) }

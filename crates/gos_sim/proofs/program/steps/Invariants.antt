@@ -2,7 +2,7 @@ use Rattle.std.proofs.Common.{All, length, map, take}
 use Rattle.gos_netlist.specs.Seen.{cell_of, number_of}
 use Rattle.gos_sim.specs.inner.Program.{IsStepWithin}
 use Rattle.gos_sim.proofs.ProgramLemmas.{ArePlaced}
-use Rattle.gos_sim.proofs.program.steps_of.Given as goal
+use Rattle.gos_sim.proofs.program.steps.Given as goal
 
 -- the steps of the nets so far
 abbrev pub invariant-loop-net : goal.invariant-loop-net
