@@ -1,18 +1,18 @@
 -- Levels counted one after another, each by its chain of nets.
-use Rattle.std.specs.Prelude.{◌≡◌, ◌≢◌, ℕ, zero, suc, ◌+◌, ◌<◌, ◌≤◌, ◌⊎◌, ◌||◌, Bool, true, false, IsTrue, IsFalse, List, [], ◌∷◌, All, Contains, Some, get_or, slice_get, length}
+use Rattle.std.specs.Prelude.{◌≡◌, ◌≢◌, ℕ, zero, suc, ◌+◌, ◌<◌, ◌≤◌, ◌⊎◌, ◌||◌, Bool, true, false, IsTrue, IsFalse, List, [], ◌∷◌, Contains, Some, slice_get, length}
 use Rattle.std.proofs.Common.{arith, refl, sym, ap, subst, inl, inr, ◌∙◌}
 use Rattle.std.proofs.Math.Nat.{eq-or-lt_of_le}
 use Rattle.std.proofs.lemmas.Bool.{cases_order}
 use Rattle.std.proofs.lemmas.Bool.Decides.{nat_tests}
 use Rattle.std.proofs.lemmas.List.Elements.{All-get_or}
-use Rattle.std.proofs.lemmas.Option.{get_or_from_slice_get, slice_get-get_or, slice_get_within}
+use Rattle.std.proofs.lemmas.Option.{slice_get-get_or, slice_get_within}
 use Rattle.gos_netlist.specs.Nets.{Cell, pins}
 use Rattle.gos_netlist.specs.Cycles.{Distinct}
 use Rattle.gos_netlist.specs.Settling.{Numbers, at}
 use Rattle.gos_netcheck.specs.Levels.{AreLevels}
 use Rattle.gos_sim.specs.declared.chains.Chains.{Chains}
 use Rattle.gos_sim.specs.Visits.{IsVisited, VisitsLevels}
-use Rattle.gos_sim.specs.inner.Chains.{AreChained, IsLast}
+use Rattle.gos_sim.specs.inner.Chains.{IsLast}
 use Rattle.gos_sim.specs.inner.Counting.{ChainLevels, CountsVisited, HasVisit, LacksVisit, has_changed, one_has_changed}
 use Rattle.gos_sim.proofs.PlaceLemmas.{same_element}
 

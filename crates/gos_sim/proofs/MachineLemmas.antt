@@ -1,5 +1,5 @@
 -- The machine of a netlist runs as the netlist does, as its nets see it.
-use Rattle.std.specs.Prelude.{◌≡◌, ℕ, ◌<◌, false, List, ◌∷◌, Some, length, map, replicate, slice_get, take}
+use Rattle.std.specs.Prelude.{◌≡◌, ℕ, false, List, ◌∷◌, length, map, replicate, take}
 use Rattle.std.proofs.Common.{sym, subst, ap, ◌∙◌}
 use Rattle.std.proofs.lemmas.List.{length-map, length-replicate}
 use Rattle.gos_netlist.specs.Nets.{Netlist}
@@ -13,7 +13,6 @@ use Rattle.gos_sim.specs.Visits.{IsZeroSettling}
 use Rattle.gos_sim.specs.inner.Counting.{ChainLevels}
 use Rattle.gos_sim.specs.inner.Places.{AreStepsMoved, IsNumbering, by_net, event_moved, latch_moved}
 use Rattle.gos_sim.specs.inner.Machine.{HoldNothingElse, IsBuilt, IsMachine, IsPlan, IsRunnable, Plan, RunsThrough, SettlesAtReset, plan_of}
-use Rattle.gos_sim.proofs.PlaceLemmas.{moved_at}
 use Rattle.gos_sim.proofs.MoveLemmas.{pulses_by_net, reset_by_net, runnable_moved, through_by_net, zeros_by_net}
 use Rattle.gos_sim.proofs.CycleLemmas.{cycle_of, next_output, nothing_at_reset, nothing_else, runnable, zero_settling}
 

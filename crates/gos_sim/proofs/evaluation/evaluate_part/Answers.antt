@@ -1,4 +1,4 @@
-use Rattle.std.proofs.Common.{◌≡◌, ◌∙◌, ◌+◌, ℕ, All, arith, drop, length, refl, rules, subst, sym}
+use Rattle.std.proofs.Common.{◌∙◌, ◌+◌, ℕ, All, arith, drop, length, refl, rules, subst, sym}
 use Rattle.std.proofs.lemmas.List.{length-set}
 use Rattle.std.proofs.lemmas.Option.{slice_get_read}
 use Rattle.gos_sim.specs.inner.Program.{IsStepWithin}

@@ -1,5 +1,5 @@
 use Rattle.std.specs.List.{flat_map}
-use Rattle.std.proofs.Common.{List, ◌≡◌, ◌∙◌, ap, subst, sym}
+use Rattle.std.proofs.Common.{List, ◌∙◌, ap, subst, sym}
 use Rattle.gos_netlist.specs.Settling.{Numbers}
 use Rattle.gos_sim.specs.declared.evaluation.Run.{Run}
 use Rattle.gos_sim.specs.inner.Evaluation.{after, steps_of}
