@@ -145,12 +145,7 @@ fn part<'a, T>(run: &Run, operands: &'a [T]) -> &'a [T]
 }
 
 // Evaluates steps that do the same, with these operands and at nets from this one on.
-fn evaluate_part<O: Operation>(
-    operation: &O,
-    net: u32,
-    operands: &[O::Operand],
-    values: &mut [u32],
-)
+fn evaluate_part<O: Operation>(operation: &O, net: u32, operands: &[O::Operand], values: &mut [u32])
     requires steps { All (IsStepWithin (length values.old)) (steps_from (O.width operation.now) (O.gate operation.now) net operands.now) }
     ensures { values.new ≡ after (steps_from (O.width operation.now) (O.gate operation.now) net operands.now) values.old }
 {
@@ -175,7 +170,11 @@ pub fn steps_moved(alloc: Global, steps: &[Step], places: &[u32]) -> Result<Prog
         let next = operands.add(step_moved(step, places))?;
         add_run(&mut runs, &mut last, next)?;
     }
-    Ok(Program { operands, runs, last })
+    Ok(Program {
+        operands,
+        runs,
+        last,
+    })
 }
 
 // A run of no steps.
@@ -251,7 +250,13 @@ impl Operands {
             Gate::Less(a, b) => (Kind::Less, 0, added(&mut self.pairs, Pair { a, b })?),
             Gate::Gate(a, b) => (Kind::Gate, 0, added(&mut self.pairs, Pair { a, b })?),
         };
-        Ok(Run { kind, width, net, first, count: 1 })
+        Ok(Run {
+            kind,
+            width,
+            net,
+            first,
+            count: 1,
+        })
     }
 }
 

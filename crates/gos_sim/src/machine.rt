@@ -7,15 +7,15 @@ ghost use Rattle.gos_netcheck.specs.Schedule.{IsSchedule};
 ghost use Rattle.gos_netcheck.specs.Levels.{AreLevels};
 ghost use Rattle.gos_sim.specs.inner.Ready.{IsReady};
 
-use crate::event_nets::{EventNets, events_of};
 use crate::chains::Chains;
+use crate::evaluation::{Program, steps_moved};
+use crate::event_nets::{EventNets, events_of};
 use crate::levels::chained_levels;
 use crate::order::by_keys;
 use crate::places::{Places, events_moved, latches_moved, numbered};
 use crate::program::{Latch, latches, steps};
 use crate::pulse::Pulse;
 use crate::running::{give, is_given, latch, load, show};
-use crate::evaluation::{Program, steps_moved};
 use gos_netlist::{NetId, Netlist};
 use gos_types::NoMemory;
 use std::alloc::Global;

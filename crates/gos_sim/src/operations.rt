@@ -169,7 +169,11 @@ impl Operation for Add {
     ghost gate = { λ _ p. gates.Add p.a p.b };
 
     fn value(&self, pair: &Pair, values: &[u32]) -> u32 {
-        sum(self.width, value_at(values, pair.a), value_at(values, pair.b))
+        sum(
+            self.width,
+            value_at(values, pair.a),
+            value_at(values, pair.b),
+        )
     }
 }
 
@@ -181,7 +185,11 @@ impl Operation for Sub {
     ghost gate = { λ _ p. gates.Sub p.a p.b };
 
     fn value(&self, pair: &Pair, values: &[u32]) -> u32 {
-        difference(self.width, value_at(values, pair.a), value_at(values, pair.b))
+        difference(
+            self.width,
+            value_at(values, pair.a),
+            value_at(values, pair.b),
+        )
     }
 }
 
@@ -262,4 +270,3 @@ fn difference(width: u32, a: u32, b: u32) -> u32
     let limit = 1u64 << width;
     ((u64::from(a) + limit).saturating_sub(u64::from(b)) % limit) as u32
 }
-

@@ -127,7 +127,13 @@ impl Sim {
             Past::First | Past::Later => {
                 let machine = &self.machine;
                 let cells = &self.net.netlist().cells;
-                levels_visited(&machine.levels, cells, &machine.places, &self.before, &self.values)
+                levels_visited(
+                    &machine.levels,
+                    cells,
+                    &machine.places,
+                    &self.before,
+                    &self.values,
+                )
             }
         }
     }
