@@ -1,9 +1,11 @@
 // Steps in runs: one behind another, all of one kind, so that a loop for that kind goes through them.
-ghost use Rattle.std.specs.Prelude.{◌≡◌, ℕ, ◌+◌, ◌≤◌, List, ◌∷◌, [], ◌++◌, All, IfOk, IsFalse, IsTrue, OnOk, length};
+ghost use Rattle.std.specs.Prelude.{◌≡◌, ℕ, ◌+◌, ◌<◌, ◌≤◌, List, ◌∷◌, [], ◌++◌, All, IfOk, IsFalse, IsTrue, OnOk, length, map};
 ghost use Rattle.std.specs.List.{flat_map};
-ghost use Rattle.gos_netlist.specs.Seen.{function_of};
-ghost use Rattle.gos_netlist.specs.Settling.{at};
-ghost use Rattle.gos_sim.specs.inner.Program.{HaveOneCell, IsShort, IsStepWithin, SparesEarlier, is_source};
+ghost use Rattle.gos_netlist.specs.Seen.{cell_of, function_of, number_of};
+ghost use Rattle.gos_netlist.specs.Settling.{Numbers, at};
+ghost use Rattle.gos_sim.specs.inner.Program.{HaveOneCell, IsShort, IsStepWithin, SparesEarlier, is_source, steps_at, steps_named};
+ghost use Rattle.gos_sim.specs.inner.Ready.{AreCellsReady};
+ghost use Rattle.gos_sim.specs.inner.Drafts.{AddsSteps, IsDraft};
 ghost use Rattle.gos_sim.specs.inner.Places.{AreStepsMoved};
 ghost use Rattle.gos_sim.specs.inner.Running.{AreShown, KeepsOtherSteps};
 ghost use Rattle.gos_sim.specs.inner.Evaluation.{AreFitting, AreRunsMore, Fits, GoesOn, IsAdded, after, part, steps_from, steps_of};
@@ -13,7 +15,7 @@ use crate::operations::{
 };
 use crate::places::step_moved;
 use crate::program::Step;
-use gos_netlist::{Gate, NetId};
+use gos_netlist::{Cell, Gate, NetId};
 use gos_types::NoMemory;
 use std::alloc::Global;
 use std::marker::Model;
@@ -67,7 +69,6 @@ pub struct Operands {
 pub struct Program {
     operands: Operands,
     runs: Vec<Run>,
-    last: Run,
 }
 
 impl Model for Program {
@@ -80,11 +81,13 @@ impl Model for Program {
 
     ghost coded = { Prim.hlevel (codes, a_gate.the_row.coded) };
 
-    ghost use Rattle.gos_sim.specs.inner.Evaluation.{AreFitting, all_steps};
+    ghost use Rattle.std.specs.Prelude.{All};
+    ghost use Rattle.std.specs.List.{flat_map};
+    ghost use Rattle.gos_sim.specs.inner.Evaluation.{Fits, steps_of};
 
-    ghost view = { λ p. all_steps p.operands p.runs.items p.last };
+    ghost view = { λ p. flat_map (steps_of p.operands) p.runs.items };
 
-    ghost invariant = { λ p. AreFitting p.operands p.runs.items p.last };
+    ghost invariant = { λ p. All (Fits p.operands) p.runs.items };
 }
 
 impl Program {
@@ -97,7 +100,6 @@ impl Program {
         ensures others { KeepsOtherSteps self.now values.old values.new }
     {
         evaluate_runs(&self.runs, &self.operands, values);
-        evaluate_run(&self.last, &self.operands, values);
     }
 }
 
@@ -157,24 +159,70 @@ fn evaluate_part<O: Operation>(operation: &O, net: u32, operands: &[O::Operand],
     }
 }
 
-// Steps at the places of their nets, in runs.
-pub fn steps_moved(alloc: Global, steps: &[Step], places: &[u32]) -> Result<Program, NoMemory>
-    requires within { All (IsStepWithin (length places.now)) steps.now }
-    requires inside { All (λ s. IsFalse (is_source (function_of s.gate))) steps.now }
-    ensures { IfOk result (λ there. AreStepsMoved (at places.now) steps.now there) }
+// The steps among nets, at the places of these, in runs.
+pub fn steps_moved(
+    alloc: Global,
+    cells: &[Cell],
+    nets: &[NetId],
+    places: &[u32],
+) -> Result<Program, NoMemory>
+    requires cells { AreCellsReady (map cell_of cells.now) }
+    requires nets { All (λ n. n.0 < length cells.now) nets.now }
+    requires places { length places.now ≡ length cells.now }
+    ensures { IfOk result (λ there. AreStepsMoved (at places.now) (steps_named cells.now (map number_of nets.now)) there) }
 {
-    let mut operands = no_operands(alloc);
-    let mut runs = Vec::new(alloc);
-    let mut last = no_run();
-    for step in steps {
-        let next = operands.add(step_moved(step, places))?;
-        add_run(&mut runs, &mut last, next)?;
+    let mut draft = no_steps(alloc);
+    for net in nets {
+        draft.add(net.0, cells[net.0 as usize], places)?;
     }
-    Ok(Program {
+    let Draft {
         operands,
-        runs,
+        mut runs,
         last,
-    })
+    } = draft;
+    runs.push(last)?;
+    Ok(Program { operands, runs })
+}
+
+/// Runs to which steps are added.
+#[derive(Drop)]
+pub struct Draft {
+    /// The operands of the steps.
+    pub operands: Operands,
+    /// The runs but for the last.
+    pub runs: Vec<Run>,
+    /// The last run.
+    pub last: Run,
+}
+
+// No steps.
+fn no_steps(alloc: Global) -> Draft
+    ensures { (places : Numbers) → IsDraft places [] result }
+{
+    Draft {
+        operands: no_operands(alloc),
+        runs: Vec::new(alloc),
+        last: no_run(),
+    }
+}
+
+impl Draft {
+    // Adds a cell at its place, if it is a step.
+    fn add(&mut self, net: u32, cell: Cell, places: &[u32]) -> Result<(), NoMemory>
+        requires { All (IsStepWithin (length places.now)) (steps_at net cell) }
+        ensures { OnOk result (AddsSteps places.now (steps_at net cell) self.old self.new) }
+    {
+        let Cell { width, gate } = cell;
+        match gate {
+            Gate::Input | Gate::Reg(_) => Ok(()),
+            _ => {
+                let step = step_moved(&Step { net, width, gate }, places);
+                let next = self.operands.add(step)?;
+                add_run(&mut self.runs, &mut self.last, next)?;
+                Ok(())
+            }
+        }
+    }
 }
 
 // A run of no steps.
