@@ -23,7 +23,7 @@ use Rattle.gos_sim.specs.inner.Ready.{AreApart, AreTwo}
 use Rattle.gos_sim.specs.inner.Evaluation.{bits_of}
 use Rattle.gos_sim.specs.inner.Places.{AreStepsMoved, IsNumbering, IsStepMoved, by_net, event_moved, latch_moved, moved}
 use Rattle.gos_sim.specs.inner.Machine.{IsMoved, IsRunnable, Plan, RunsThrough, SettlesAtReset}
-use Rattle.gos_sim.proofs.PlaceLemmas.{all_at, all_of_at, moved_at, moved_from, same_element}
+use Rattle.gos_sim.proofs.PlaceLemmas.{all_at, all_of_at, moved_at, moved_from}
 use Rattle.gos_sim.proofs.ProgramLemmas.{pushed}
 
 -- the value of a net is the one at its place

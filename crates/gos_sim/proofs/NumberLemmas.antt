@@ -1,5 +1,5 @@
 -- Places, given to one net after another.
-use Rattle.std.specs.Prelude.{◌≡◌, ◌≢◌, ℕ, ◌+◌, ◌<◌, ◌≤◌, ◌⊎◌, List, All, Contains, Some, length, map, replicate, set, slice_get}
+use Rattle.std.specs.Prelude.{◌≡◌, ◌≢◌, ℕ, ◌+◌, ◌<◌, ◌⊎◌, List, All, Contains, Some, length, map, replicate, set, slice_get}
 use Rattle.std.proofs.Common.{arith, sym, ap, subst, inl, inr, ◌∙◌, get_or-set_same, get_or-set_other}
 use Rattle.std.proofs.lemmas.Bool.{cases_order}
 use Rattle.std.proofs.lemmas.List.{length-replicate, length-set, get_or-replicate}

@@ -1,7 +1,7 @@
 -- Places: nets numbered anew, so that a simulator keeps their values in the order in which it writes them.
 --
 -- Read first: Program.
-use Rattle.std.specs.Prelude.{◌≡◌, ◌≢◌, ℕ, ◌<◌, ◌≤◌, Some, List, All, length, map, slice_get}
+use Rattle.std.specs.Prelude.{◌≡◌, ◌≢◌, ℕ, ◌<◌, ◌≤◌, Some, List, length, map, slice_get}
 use Rattle.std.specs.Option.{option_map}
 use Rattle.gos_netlist.specs.Nets.{Function, Input, Const, Not, And, Or, Xor, Mux, Add, Sub, Eq, Less, Gate, Reg}
 use Rattle.gos_netlist.specs.Seen.{function_of}

@@ -1,4 +1,4 @@
-use Rattle.std.proofs.Common.{[], ◌≡◌, All, List, length, subst, sym}
+use Rattle.std.proofs.Common.{[], All, List, length, subst, sym}
 use Rattle.std.proofs.lemmas.List.Elements.{All-head}
 use Rattle.gos_sim.specs.declared.evaluation.Draft.{Draft}
 use Rattle.gos_sim.specs.declared.program.Step.{Step}

@@ -1,4 +1,4 @@
-use Rattle.std.proofs.Common.{◌≢◌, ◌∙◌, All, List, get_or, subst, sym, take}
+use Rattle.std.proofs.Common.{◌≢◌, ◌∙◌, All, get_or, subst, sym, take}
 use Rattle.std.proofs.lemmas.List.{take_more}
 use Rattle.std.proofs.lemmas.List.Elements.{All-push, All-weaker}
 use Rattle.gos_netlist.specs.declared.nets.NetId.{NetId}
