@@ -54,7 +54,7 @@ pub fn machine_of(
     let inputs = events_of(alloc, net, true)?;
     let outputs = events_of(alloc, net, false)?;
     let sorted = by_keys(alloc, &net.cells, order)?;
-    let latches = latches(alloc, &net.cells, &sorted)?;
+    let latches = latches(alloc, &net.cells, order)?;
     let Places { of, count } = numbered(alloc, net.cells.len(), &latches, &sorted)?;
     Ok(Machine {
         inputs: events_moved(alloc, &inputs, &of)?,

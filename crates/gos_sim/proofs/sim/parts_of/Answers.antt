@@ -2,4 +2,4 @@ use Rattle.gos_sim.proofs.MachineLemmas.{machine_runnable}
 use Rattle.gos_sim.proofs.sim.parts_of.Goals as goal
 
 pub values_at_reset-requires : goal.values_at_reset-requires
-values_at_reset-requires c = record { ready = machine_runnable c.netlist.result.now c.in_ok-machine.machine c.in_ok-machine.ensures }
+values_at_reset-requires c = record { ready = machine_runnable c.args.net.now c.in_ok-machine.machine c.in_ok-machine.ensures }
