@@ -4,7 +4,6 @@ pub mod LatchLemmas
 pub mod GiveLemmas
 pub mod SourceLemmas
 pub mod ProgramLemmas
-pub mod LevelLemmas
 pub mod OrderLemmas
 pub mod ChainLemmas
 pub mod CountingLemmas

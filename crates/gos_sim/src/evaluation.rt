@@ -20,7 +20,7 @@ use gos_types::NoMemory;
 use std::alloc::Global;
 use std::marker::Model;
 
-/// What the steps of a run do.
+/// What the steps of a run do, by the names of their gates.
 #[derive(Debug, Clone, Copy, PartialEq, Eq)]
 pub enum Kind {
     Const,
