@@ -1,4 +1,5 @@
 // Worked builds, and files that are refused; the other commands once each; and a store and a sink that fail.
+use crate::running::{Left, events, held, ran, words_of};
 use gos_outside::{MemorySink, MemoryStore, SureSink, SureStore};
 use gos_tool::run;
 use std::alloc::{AllocError, Global};
@@ -45,402 +46,340 @@ const RING: &[u8] =
 
 const SHORT_TRACE: &[u8] = b"0 main.run\n1 main.done\n2 main.done\ncycles 3\n";
 
-type Held = Vec<(Vec<u8>, Vec<u8>)>;
+const BUILD: [&str; 2] = ["build", "b.txt"];
 
-// The files of a build: the build file, the sources of `main` and `k`, and the pulse file.
-fn files(
+// Runs `build b.txt` for a build of one instance.
+fn built_alone<'a>(alloc: Global, source: &'a [u8], pulses: &'a [u8]) -> Result<Left, AllocError> {
+    let files: [(&[u8], &[u8]); 3] = [(b"b.txt", ONE), (b"main.gos", source), (b"in.pls", pulses)];
+    ran(alloc, &BUILD, &files)
+}
+
+// Runs it for a build of the sources `main` and `k`.
+fn built_of_two(
     alloc: Global,
     build: &[u8],
-    sources: &[(&[u8], &[u8])],
+    main: &[u8],
+    k: &[u8],
     pulses: &[u8],
-) -> Result<Held, AllocError> {
-    let mut files = Vec::new(alloc);
-    files.push((b"b.txt".to_vec(alloc)?, build.to_vec(alloc)?))?;
-    for (name, source) in sources {
-        files.push((name.to_vec(alloc)?, source.to_vec(alloc)?))?;
-    }
-    files.push((b"in.pls".to_vec(alloc)?, pulses.to_vec(alloc)?))?;
-    Ok(files)
+) -> Result<Left, AllocError> {
+    let files: [(&[u8], &[u8]); 4] = [
+        (b"b.txt", build),
+        (b"main.gos", main),
+        (b"k.gos", k),
+        (b"in.pls", pulses),
+    ];
+    ran(alloc, &BUILD, &files)
 }
 
-fn words_of(alloc: Global, words: &[&str]) -> Result<Vec<String>, AllocError> {
-    let mut all = Vec::new(alloc);
-    for word in words {
-        all.push(String::from_str(alloc, word)?)?;
-    }
-    Ok(all)
-}
-
-fn words(alloc: Global) -> Result<Vec<String>, AllocError> {
-    words_of(alloc, &["build", "b.txt"])
-}
-
-// What a build leaves: its exit status, what it printed, and the files.
-#[derive(Drop)]
-struct Left {
-    code: u8,
-    out: SureSink,
-    store: SureStore,
-}
-
-// Runs `build b.txt` over these files.
-fn built(alloc: Global, files: Held) -> Result<Left, AllocError> {
-    let mut store = SureStore::new(files);
-    let mut out = SureSink::new(alloc);
-    let code = run(alloc, words(alloc)?.as_slice(), &mut store, &mut out).code();
-    Ok(Left { code, out, store })
-}
-
-// Runs it for a build of one instance.
-fn built_alone(alloc: Global, source: &[u8], pulses: &[u8]) -> Result<Left, AllocError> {
-    built(
-        alloc,
-        files(alloc, ONE, &[(b"main.gos".as_slice(), source)], pulses)?,
-    )
-}
-
-// The pulses of a trace without their cycles, which are the compiler's choice.
-fn events(alloc: Global, trace: &[u8]) -> Result<Vec<u8>, AllocError> {
-    let mut events = Vec::new(alloc);
-    let mut in_number = true;
-    for byte in trace {
-        if !in_number || !(byte.is_ascii_digit() || *byte == b' ') {
-            in_number = *byte == b'\n';
-            events.push(*byte)?;
-        }
-    }
-    Ok(events)
+// Whether a build ended well, printed this line, and has a trace of these pulses.
+fn is_traced(alloc: Global, left: &Left, line: &[u8], order: &[u8]) -> Result<bool, AllocError> {
+    Ok(left.ended(0, line) && left.is_traced(alloc, order)?)
 }
 
 #[test]
 fn sequence_is_built_and_traced(rt: HostRuntime) -> Result<(), Fail> {
-    let alloc = rt.alloc();
-    let left = built_alone(alloc, SOURCE, PULSES)?;
-    assert_eq!(rt; left.code, 0);
-    assert!(rt; left.out.bytes() == b"ok weight 17 cycles 2000 pulses 6 unused 0\n".as_slice());
-    let trace = left.store.get(b"out.trc").unwrap_or(b"");
-    assert!(rt; events(alloc, trace)?.as_slice() == EVENTS);
+    let left = built_alone(rt.alloc(), SOURCE, PULSES)?;
+    let line = b"ok weight 17 cycles 2000 pulses 6 unused 0\n";
+    assert!(rt; is_traced(rt.alloc(), &left, line, EVENTS)?);
     Ok(())
+}
+
+// Sources and pulses, and of each build the line and the pulses in their order.
+const GROUND: [(&str, &str, &str, &str); 5] = [
+    (
+        "export skip : com",
+        "cycles 1000\nnext 0 main.run\n",
+        "ok weight 5 cycles 1000 pulses 2 unused 0\n",
+        "main.run\nmain.done\ncycles 1000\n",
+    ),
+    (
+        "import c : com import d : com export c ; d ; c : com",
+        "cycles 2000\nnext 0 main.run\nnext 0 c.done\nnext 0 d.done\nnext 0 c.done\n",
+        "ok weight 27 cycles 2000 pulses 8 unused 0\n",
+        "main.run\nc.run\nc.done\nd.run\nd.done\nc.run\nc.done\nmain.done\ncycles 2000\n",
+    ),
+    (
+        "import c : com export new x : 1 in while !x = 0:1 do (x := 1:1 ; c) : com",
+        "cycles 9000\nnext 0 main.run\nnext 0 c.done\n",
+        "ok weight 58 cycles 9000 pulses 4 unused 0\n",
+        "main.run\nc.run\nc.done\nmain.done\ncycles 9000\n",
+    ),
+    (
+        "export 255:8 + 1:8 : exp 8",
+        "cycles 1000\nnext 0 main.ask\n",
+        "ok weight 15 cycles 1000 pulses 2 unused 0\n",
+        "main.ask\nmain.ans 0\ncycles 1000\n",
+    ),
+    (
+        "export while 1:1 do skip : com",
+        "cycles 1000\nnext 0 main.run\n",
+        "ok weight 15 cycles 1000 pulses 1 unused 0\n",
+        "main.run\ncycles 1000\n",
+    ),
+];
+
+// Whether the build of a source under these pulses leaves this line, this trace and all its files.
+fn is_built(
+    alloc: Global,
+    source: &str,
+    pulses: &str,
+    line: &str,
+    order: &str,
+) -> Result<bool, AllocError> {
+    let left = built_alone(alloc, source.as_bytes(), pulses.as_bytes())?;
+    let traced = is_traced(alloc, &left, line.as_bytes(), order.as_bytes())?;
+    Ok(traced && left.has(b"out.net") && left.has(b"out.v"))
 }
 
 #[test]
 fn ground_modules_are_built(rt: HostRuntime) -> Result<(), Fail> {
-    let alloc = rt.alloc();
-    let rows = [
-        (
-            "export skip : com",
-            "cycles 1000\nnext 0 main.run\n",
-            "ok weight 5 cycles 1000 pulses 2 unused 0\n",
-            "main.run\nmain.done\ncycles 1000\n",
-        ),
-        (
-            "import c : com import d : com export c ; d ; c : com",
-            "cycles 2000\nnext 0 main.run\nnext 0 c.done\nnext 0 d.done\nnext 0 c.done\n",
-            "ok weight 27 cycles 2000 pulses 8 unused 0\n",
-            "main.run\nc.run\nc.done\nd.run\nd.done\nc.run\nc.done\nmain.done\ncycles 2000\n",
-        ),
-        (
-            "import c : com export new x : 1 in while !x = 0:1 do (x := 1:1 ; c) : com",
-            "cycles 9000\nnext 0 main.run\nnext 0 c.done\n",
-            "ok weight 58 cycles 9000 pulses 4 unused 0\n",
-            "main.run\nc.run\nc.done\nmain.done\ncycles 9000\n",
-        ),
-        (
-            "export 255:8 + 1:8 : exp 8",
-            "cycles 1000\nnext 0 main.ask\n",
-            "ok weight 15 cycles 1000 pulses 2 unused 0\n",
-            "main.ask\nmain.ans 0\ncycles 1000\n",
-        ),
-        (
-            "export while 1:1 do skip : com",
-            "cycles 1000\nnext 0 main.run\n",
-            "ok weight 15 cycles 1000 pulses 1 unused 0\n",
-            "main.run\ncycles 1000\n",
-        ),
-    ];
-    for (source, pulses, line, order) in rows {
-        let left = built_alone(alloc, source.as_bytes(), pulses.as_bytes())?;
-        assert!(rt; left.out.bytes() == line.as_bytes());
-        assert_eq!(rt; left.code, 0);
-        let trace = left.store.get(b"out.trc").unwrap_or(b"");
-        assert!(rt; events(alloc, trace)?.as_slice() == order.as_bytes());
-        assert!(rt; left.store.get(b"out.net").is_some());
-        assert!(rt; left.store.get(b"out.v").is_some());
+    for (source, pulses, line, order) in GROUND.iter() {
+        assert!(rt; is_built(rt.alloc(), source, pulses, line, order)?);
     }
     Ok(())
 }
 
 #[test]
 fn instances_are_compiled_and_linked(rt: HostRuntime) -> Result<(), Fail> {
-    let alloc = rt.alloc();
-    let sources = [
-        (
-            b"main.gos".as_slice(),
-            b"import e : com export e : com".as_slice(),
-        ),
-        (b"k.gos".as_slice(), b"export skip : com".as_slice()),
-    ];
-    let two = built(alloc, files(alloc, TWO, &sources, RUN)?)?;
-    assert_eq!(rt; two.code, 0);
-    assert!(rt; two.out.bytes() == b"ok weight 11 cycles 2000 pulses 2 unused 0\n".as_slice());
-    assert!(rt; two.store.get(b"k.obj").unwrap_or(b"") == SKIP_OBJECT);
-    let sources = [
-        (
-            b"main.gos".as_slice(),
-            b"import a : com import b : com export a ; b : com".as_slice(),
-        ),
-        (b"k.gos".as_slice(), b"export skip : com".as_slice()),
-    ];
-    let twice = built(alloc, files(alloc, TWICE, &sources, RUN)?)?;
-    assert_eq!(rt; twice.code, 0);
-    assert!(rt; twice.out.bytes() == b"ok weight 27 cycles 2000 pulses 2 unused 0\n".as_slice());
-    assert!(rt; twice.store.get(b"p.obj").unwrap_or(b"") == SKIP_OBJECT);
-    assert!(rt; twice.store.get(b"q.obj").unwrap_or(b"") == SKIP_OBJECT);
+    let main = b"import e : com export e : com";
+    let two = built_of_two(rt.alloc(), TWO, main, b"export skip : com", RUN)?;
+    assert!(rt; two.ended(0, b"ok weight 11 cycles 2000 pulses 2 unused 0\n"));
+    assert!(rt; two.holds(b"k.obj", SKIP_OBJECT));
+    Ok(())
+}
+
+#[test]
+fn instances_of_one_source_are_compiled_and_linked(rt: HostRuntime) -> Result<(), Fail> {
+    let main = b"import a : com import b : com export a ; b : com";
+    let twice = built_of_two(rt.alloc(), TWICE, main, b"export skip : com", RUN)?;
+    assert!(rt; twice.ended(0, b"ok weight 27 cycles 2000 pulses 2 unused 0\n"));
+    assert!(rt; twice.holds(b"p.obj", SKIP_OBJECT) && twice.holds(b"q.obj", SKIP_OBJECT));
     Ok(())
 }
 
 // A procedure is called with the write of a variable, twice, and runs it twice each time.
 #[test]
 fn functions_are_built(rt: HostRuntime) -> Result<(), Fail> {
-    let alloc = rt.alloc();
-    let sources = [
-        (
-            b"main.gos".as_slice(),
-            b"import f : com -> com import v : var 8 export f (v := 1:8) ; f (v := 2:8) : com".as_slice(),
-        ),
-        (
-            b"k.gos".as_slice(),
-            b"export fun a : com . a ; a : com -> com".as_slice(),
-        ),
-    ];
+    let main = b"import f : com -> com import v : var 8 export f (v := 1:8) ; f (v := 2:8) : com";
+    let k = b"export fun a : com . a ; a : com -> com";
     let pulses =
         b"cycles 300000\nnext 0 main.run\nnext 0 v.done\nnext 0 v.done\nnext 0 v.done\nnext 0 v.done\n";
-    let left = built(alloc, files(alloc, CALLED, &sources, pulses)?)?;
-    assert_eq!(rt; left.code, 0);
-    assert!(rt; left.out.bytes() == b"ok weight 84 cycles 300000 pulses 10 unused 0\n".as_slice());
-    let trace = left.store.get(b"out.trc").unwrap_or(b"");
-    assert!(rt; events(alloc, trace)?.as_slice() == CALLS);
+    let left = built_of_two(rt.alloc(), CALLED, main, k, pulses)?;
+    let line = b"ok weight 84 cycles 300000 pulses 10 unused 0\n";
+    assert!(rt; is_traced(rt.alloc(), &left, line, CALLS)?);
     Ok(())
 }
 
 // An argument is called by name: asked twice, it is summed twice. Of a pair of handlers one is used.
+const ARGUMENTS: [(&str, &str, &str, &str); 2] = [
+    (
+        "import e : exp 8 export (fun x : exp 8 . x + x) e : exp 8",
+        "cycles 20000\nnext 0 main.ask\nnext 0 e.ans 3\nnext 0 e.ans 4\n",
+        "ok weight 32 cycles 20000 pulses 6 unused 0\n",
+        "main.ask\ne.ask\ne.ans 3\ne.ask\ne.ans 4\nmain.ans 7\ncycles 20000\n",
+    ),
+    (
+        "import c : com import d : com export (fun p : com * com . fst p) (c, d) : com",
+        "cycles 20000\nnext 0 main.run\nnext 0 c.done\n",
+        "ok weight 41 cycles 20000 pulses 4 unused 0\n",
+        "main.run\nc.run\nc.done\nmain.done\ncycles 20000\n",
+    ),
+];
+
 #[test]
 fn arguments_and_pairs_are_built(rt: HostRuntime) -> Result<(), Fail> {
-    let alloc = rt.alloc();
-    let rows = [
-        (
-            "import e : exp 8 export (fun x : exp 8 . x + x) e : exp 8",
-            "cycles 20000\nnext 0 main.ask\nnext 0 e.ans 3\nnext 0 e.ans 4\n",
-            "ok weight 32 cycles 20000 pulses 6 unused 0\n",
-            "main.ask\ne.ask\ne.ans 3\ne.ask\ne.ans 4\nmain.ans 7\ncycles 20000\n",
-        ),
-        (
-            "import c : com import d : com export (fun p : com * com . fst p) (c, d) : com",
-            "cycles 20000\nnext 0 main.run\nnext 0 c.done\n",
-            "ok weight 41 cycles 20000 pulses 4 unused 0\n",
-            "main.run\nc.run\nc.done\nmain.done\ncycles 20000\n",
-        ),
-    ];
-    for (source, pulses, line, trace) in rows {
-        let left = built_alone(alloc, source.as_bytes(), pulses.as_bytes())?;
-        assert_eq!(rt; left.code, 0);
-        assert!(rt; left.out.bytes() == line.as_bytes());
-        assert!(rt;
-            events(alloc, left.store.get(b"out.trc").unwrap_or(b""))?.as_slice() == trace.as_bytes()
-        );
+    for (source, pulses, line, order) in ARGUMENTS.iter() {
+        assert!(rt; is_built(rt.alloc(), source, pulses, line, order)?);
     }
     Ok(())
+}
+
+// Sources of `main` and `k`, the line that each build prints, and whether both objects are written.
+const LATER: [(&str, &str, &str, bool); 4] = [
+    (
+        "import e : com export e : com",
+        "",
+        "k.gos: S1 at 0\n",
+        false,
+    ),
+    (
+        "import e : com export e : com",
+        "export fun a : com . a : com -> com",
+        "b.txt: B4 line 4 want com got com -> com\n",
+        true,
+    ),
+    (
+        "import e : exp 4 export e : exp 4",
+        "export 3:8 : exp 8",
+        "b.txt: B4 line 4 want exp 4 got exp 8\n",
+        true,
+    ),
+    (
+        "import a : com export a : com",
+        "export skip : com",
+        "b.txt: B3 line 4 e\n",
+        true,
+    ),
+];
+
+// Whether the build of these sources is rejected with this line, after one or all of its objects.
+fn is_rejected(
+    alloc: Global,
+    main: &str,
+    k: &str,
+    line: &str,
+    all: bool,
+) -> Result<bool, AllocError> {
+    let left = built_of_two(alloc, TWO, main.as_bytes(), k.as_bytes(), RUN)?;
+    let objects = left.has(b"main.obj") && left.has(b"k.obj") == all;
+    Ok(left.ended(2, line.as_bytes()) && objects && !left.has(b"out.net"))
 }
 
 // The first fault is told, and what is written before it stays.
 #[test]
 fn later_files_are_rejected(rt: HostRuntime) -> Result<(), Fail> {
-    let alloc = rt.alloc();
-    let rows = [
-        (
-            "import e : com export e : com",
-            "",
-            "k.gos: S1 at 0\n",
-            false,
-        ),
-        (
-            "import e : com export e : com",
-            "export fun a : com . a : com -> com",
-            "b.txt: B4 line 4 want com got com -> com\n",
-            true,
-        ),
-        (
-            "import e : exp 4 export e : exp 4",
-            "export 3:8 : exp 8",
-            "b.txt: B4 line 4 want exp 4 got exp 8\n",
-            true,
-        ),
-        (
-            "import a : com export a : com",
-            "export skip : com",
-            "b.txt: B3 line 4 e\n",
-            true,
-        ),
-    ];
-    for (main, k, line, all) in rows {
-        let sources = [
-            (b"main.gos".as_slice(), main.as_bytes()),
-            (b"k.gos".as_slice(), k.as_bytes()),
-        ];
-        let left = built(alloc, files(alloc, TWO, &sources, RUN)?)?;
-        assert_eq!(rt; left.code, 2);
-        assert!(rt; left.out.bytes() == line.as_bytes());
-        assert!(rt; left.store.get(b"main.obj").is_some());
-        assert!(rt; left.store.get(b"k.obj").is_some() == all);
-        assert!(rt; left.store.get(b"out.net").is_none());
+    for (main, k, line, all) in LATER.iter() {
+        assert!(rt; is_rejected(rt.alloc(), main, k, line, *all)?);
     }
     Ok(())
 }
 
+// Pulse files, and the line that each is told.
+const PULSE_FILES: [(&str, &str); 2] = [
+    (
+        "cycles 100\nat 0 c.done\n",
+        "in.pls: P5 c.done at cycle 0\n",
+    ),
+    ("cycles 9\n\nnext 0 e.done\n", "in.pls: P2 line 3\n"),
+];
+
+// Whether a build under these pulses prints this line and leaves all its files but the trace.
+fn is_told(alloc: Global, pulses: &str, line: &str) -> Result<bool, AllocError> {
+    let left = built_alone(alloc, SOURCE, pulses.as_bytes())?;
+    let written = left.has(b"main.obj") && left.has(b"out.net") && left.has(b"out.v");
+    Ok(left.ended(2, line.as_bytes()) && written && !left.has(b"out.trc"))
+}
+
 #[test]
 fn pulse_files_are_told(rt: HostRuntime) -> Result<(), Fail> {
-    let alloc = rt.alloc();
-    let rows = [
-        (
-            "cycles 100\nat 0 c.done\n",
-            "in.pls: P5 c.done at cycle 0\n",
-        ),
-        ("cycles 9\n\nnext 0 e.done\n", "in.pls: P2 line 3\n"),
-    ];
-    for (pulses, line) in rows {
-        let left = built_alone(alloc, SOURCE, pulses.as_bytes())?;
-        assert_eq!(rt; left.code, 2);
-        assert!(rt; left.out.bytes() == line.as_bytes());
-        assert!(rt; left.store.get(b"main.obj").is_some());
-        assert!(rt; left.store.get(b"out.net").is_some());
-        assert!(rt; left.store.get(b"out.v").is_some());
-        assert!(rt; left.store.get(b"out.trc").is_none());
+    for (pulses, line) in PULSE_FILES.iter() {
+        assert!(rt; is_told(rt.alloc(), pulses, line)?);
     }
     Ok(())
 }
 
 #[test]
 fn build_file_is_told_by_its_line(rt: HostRuntime) -> Result<(), Fail> {
-    let alloc = rt.alloc();
-    let empty = built(alloc, files(alloc, b"", &[], RUN)?)?;
-    assert_eq!(rt; empty.code, 2);
-    assert!(rt; empty.out.bytes() == b"b.txt: B1 line 1\n".as_slice());
+    let files: [(&[u8], &[u8]); 2] = [(b"b.txt", b""), (b"in.pls", RUN)];
+    let empty = ran(rt.alloc(), &BUILD, &files)?;
+    assert!(rt; empty.ended(2, b"b.txt: B1 line 1\n"));
     Ok(())
 }
 
-// The store of a simulation of this netlist.
-fn simulation(alloc: Global, net: &[u8]) -> Result<SureStore, AllocError> {
-    let mut files = Vec::new(alloc);
-    files.push((b"a.net".to_vec(alloc)?, net.to_vec(alloc)?))?;
-    files.push((
-        b"in.pls".to_vec(alloc)?,
-        b"cycles 3\nnext 0 main.run\n".to_vec(alloc)?,
-    ))?;
-    Ok(SureStore::new(files))
+// Runs `sim` over this netlist.
+fn simulated(alloc: Global, net: &[u8]) -> Result<Left, AllocError> {
+    let files: [(&[u8], &[u8]); 2] = [(b"a.net", net), (b"in.pls", b"cycles 3\nnext 0 main.run\n")];
+    ran(alloc, &["sim", "a.net", "in.pls", "out.trc"], &files)
 }
 
 #[test]
 fn netlist_is_simulated(rt: HostRuntime) -> Result<(), Fail> {
-    let alloc = rt.alloc();
-    let words = words_of(alloc, &["sim", "a.net", "in.pls", "out.trc"])?;
-    let mut store = simulation(alloc, TWO_REGISTERS)?;
-    let mut out = SureSink::new(alloc);
-    let status = run(alloc, words.as_slice(), &mut store, &mut out);
-    assert_eq!(rt; status.code(), 0);
-    assert!(rt; out.bytes() == b"ok cycles 3 pulses 3 unused 0\n".as_slice());
-    assert!(rt; store.get(b"out.trc").unwrap_or(b"") == SHORT_TRACE);
+    let left = simulated(rt.alloc(), TWO_REGISTERS)?;
+    assert!(rt; left.ended(0, b"ok cycles 3 pulses 3 unused 0\n"));
+    assert!(rt; left.holds(b"out.trc", SHORT_TRACE));
     Ok(())
 }
 
 #[test]
 fn ring_of_gates_is_refused(rt: HostRuntime) -> Result<(), Fail> {
-    let alloc = rt.alloc();
-    let words = words_of(alloc, &["sim", "a.net", "in.pls", "out.trc"])?;
-    let mut store = simulation(alloc, RING)?;
-    let mut out = SureSink::new(alloc);
-    let status = run(alloc, words.as_slice(), &mut store, &mut out);
-    assert_eq!(rt; status.code(), 2);
-    assert!(rt; out.bytes() == b"a.net: K1 cycle 1 2\n".as_slice());
-    assert!(rt; store.get(b"out.trc").is_none());
+    let left = simulated(rt.alloc(), RING)?;
+    assert!(rt; left.ended(2, b"a.net: K1 cycle 1 2\n") && !left.has(b"out.trc"));
     Ok(())
 }
 
-// What `check main.gos` prints for this source.
-fn checked(alloc: Global, source: &[u8]) -> Result<SureSink, AllocError> {
-    let mut store = SureStore::new(files(alloc, ONE, &[(b"main.gos".as_slice(), source)], PULSES)?);
-    let mut out = SureSink::new(alloc);
-    let words = words_of(alloc, &["check", "main.gos"])?;
-    let _status = run(alloc, words.as_slice(), &mut store, &mut out);
-    Ok(out)
+// Sources, and what `check main.gos` prints for each.
+const CHECKED: [(&[u8], &[u8]); 6] = [
+    (SOURCE, b"ok weight 17\n"),
+    (
+        b"import c : com export c || c : com",
+        b"main.gos: C5 c at 22..23 and 27..28\n",
+    ),
+    (
+        b"export 32:5 : exp 5",
+        b"main.gos: C6 at 7..11 width 5 value 32\n",
+    ),
+    (
+        b"export skip : exp 5",
+        b"main.gos: C2 at 7..11 want exp 5 got com\n",
+    ),
+    (b"", b"main.gos: S1 at 0\n"),
+    (b"?", b"main.gos: L2 byte at 0\n"),
+];
+
+// Whether `check main.gos` prints this for a source.
+fn is_checked(alloc: Global, source: &[u8], printed: &[u8]) -> Result<bool, AllocError> {
+    let files: [(&[u8], &[u8]); 3] = [(b"b.txt", ONE), (b"main.gos", source), (b"in.pls", PULSES)];
+    let left = ran(alloc, &["check", "main.gos"], &files)?;
+    Ok(left.printed(printed))
 }
 
 #[test]
 fn sources_are_checked(rt: HostRuntime) -> Result<(), Fail> {
-    let alloc = rt.alloc();
-    let typed = checked(alloc, SOURCE)?;
-    assert!(rt; typed.bytes() == b"ok weight 17\n".as_slice());
-    let shared = checked(alloc, b"import c : com export c || c : com")?;
-    assert!(rt; shared.bytes() == b"main.gos: C5 c at 22..23 and 27..28\n".as_slice());
-    let wide = checked(alloc, b"export 32:5 : exp 5")?;
-    assert!(rt; wide.bytes() == b"main.gos: C6 at 7..11 width 5 value 32\n".as_slice());
-    let other = checked(alloc, b"export skip : exp 5")?;
-    assert!(rt; other.bytes() == b"main.gos: C2 at 7..11 want exp 5 got com\n".as_slice());
-    let empty = checked(alloc, b"")?;
-    assert!(rt; empty.bytes() == b"main.gos: S1 at 0\n".as_slice());
-    let no_token = checked(alloc, b"?")?;
-    assert!(rt; no_token.bytes() == b"main.gos: L2 byte at 0\n".as_slice());
+    for (source, printed) in CHECKED.iter() {
+        assert!(rt; is_checked(rt.alloc(), source, printed)?);
+    }
     Ok(())
 }
 
 #[test]
 fn no_words_are_answered_with_the_usage(rt: HostRuntime) -> Result<(), Fail> {
-    let alloc = rt.alloc();
-    let mut store = SureStore::new(Vec::new(alloc));
-    let mut out = SureSink::new(alloc);
-    let status = run(alloc, &[], &mut store, &mut out);
-    assert_eq!(rt; status.code(), 1);
-    assert!(rt;
-        out.bytes()
-            == b"usage: gos check SRC | compile SRC OBJ | link BUILD | sim NET PULSES TRACE | build BUILD | demo N\n".as_slice()
-    );
+    let left = ran(rt.alloc(), &[], &[])?;
+    let usage =
+        b"usage: gos check SRC | compile SRC OBJ | link BUILD | sim NET PULSES TRACE | build BUILD | demo N\n";
+    assert!(rt; left.ended(1, usage));
     Ok(())
+}
+
+// Whether a build of two instances, of whose calls of the store this one fails, ends and leaves what it should.
+fn ends_at(alloc: Global, call: u64) -> Result<bool, AllocError> {
+    let files: [(&[u8], &[u8]); 4] = [
+        (b"b.txt", TWO),
+        (b"main.gos", b"import e : com export e : com"),
+        (b"k.gos", b"export skip : com"),
+        (b"in.pls", RUN),
+    ];
+    let words = words_of(alloc, &BUILD)?;
+    let mut store = MemoryStore::new(held(alloc, &files)?, vec![in alloc; call]?);
+    let mut out = SureSink::new(alloc);
+    let code = run(alloc, words.as_slice(), &mut store, &mut out).code();
+    let told = code == if call < 10 { 3 } else { 0 } && out.bytes().is_empty() == (call < 10);
+    let object = store.get(b"k.obj").is_some() == (call > 5);
+    Ok(told && object && store.get(b"out.v").is_some() == (call > 7))
 }
 
 // A build of two instances makes nine calls of the store: it reads the build file, reads a source and writes its object
 // twice, writes netlist and Verilog text, reads the pulse file, and writes the trace.
 #[test]
 fn each_failing_call_is_told(rt: HostRuntime) -> Result<(), Fail> {
-    let alloc = rt.alloc();
-    let sources = [
-        (
-            b"main.gos".as_slice(),
-            b"import e : com export e : com".as_slice(),
-        ),
-        (b"k.gos".as_slice(), b"export skip : com".as_slice()),
-    ];
-    let calls: [u64; 10] = [1, 2, 3, 4, 5, 6, 7, 8, 9, 10];
-    for call in calls {
-        let held = files(alloc, TWO, &sources, RUN)?;
-        let mut store = MemoryStore::new(held, vec![in alloc; call]?);
-        let mut out = SureSink::new(alloc);
-        let status = run(alloc, words(alloc)?.as_slice(), &mut store, &mut out);
-        assert_eq!(rt; status.code(), if call < 10 { 3 } else { 0 });
-        assert!(rt; out.bytes().is_empty() == (call < 10));
-        assert!(rt; store.get(b"k.obj").is_some() == (call > 5));
-        assert!(rt; store.get(b"out.v").is_some() == (call > 7));
+    for call in 1..11u64 {
+        assert!(rt; ends_at(rt.alloc(), call)?);
     }
     Ok(())
 }
 
+// The status and the trace of a build whose line can't be printed.
+fn built_with_no_line(alloc: Global) -> Result<(u8, Vec<u8>), AllocError> {
+    let files: [(&[u8], &[u8]); 3] = [(b"b.txt", ONE), (b"main.gos", SOURCE), (b"in.pls", PULSES)];
+    let words = words_of(alloc, &BUILD)?;
+    let mut store = SureStore::new(held(alloc, &files)?);
+    let mut broken = MemorySink::new(alloc, vec![in alloc; 1]?);
+    let code = run(alloc, words.as_slice(), &mut store, &mut broken).code();
+    Ok((code, events(alloc, store.get(b"out.trc").unwrap_or(b""))?))
+}
+
 #[test]
 fn failing_line_is_told(rt: HostRuntime) -> Result<(), Fail> {
-    let alloc = rt.alloc();
-    let sources = [(b"main.gos".as_slice(), SOURCE)];
-    let mut store = SureStore::new(files(alloc, ONE, &sources, PULSES)?);
-    let mut broken = MemorySink::new(alloc, vec![in alloc; 1]?);
-    let status = run(alloc, words(alloc)?.as_slice(), &mut store, &mut broken);
-    assert_eq!(rt; status.code(), 4);
-    let trace = store.get(b"out.trc").unwrap_or(b"");
-    assert!(rt; events(alloc, trace)?.as_slice() == EVENTS);
+    let (code, trace) = built_with_no_line(rt.alloc())?;
+    assert!(rt; code == 4 && trace.as_slice() == EVENTS);
     Ok(())
 }

@@ -1,6 +1,5 @@
 // The files of the demo, and words that ask for none.
-use gos_outside::{SureSink, SureStore};
-use gos_tool::run;
+use crate::running::{Left, ran};
 use std::alloc::{AllocError, Global};
 use std::test::Fail;
 
@@ -10,63 +9,44 @@ const THREE: &[u8] =
 
 const PULSES: &[u8] = b"cycles 33600\nnext 0 main.run\nnext 0 c.done\nnext 0 c.done\n";
 
-// What `demo` with this word leaves: its exit status, what it printed, and the files.
-#[derive(Drop)]
-struct Left {
-    code: u8,
-    out: SureSink,
-    store: SureStore,
-}
-
-// Runs it over a store without files.
+// Runs `demo` with this word over a store without files.
 fn demo(alloc: Global, number: &str) -> Result<Left, AllocError> {
-    let mut words = Vec::new(alloc);
-    words.push(String::from_str(alloc, "demo")?)?;
-    words.push(String::from_str(alloc, number)?)?;
-    let mut store = SureStore::new(Vec::new(alloc));
-    let mut out = SureSink::new(alloc);
-    let code = run(alloc, words.as_slice(), &mut store, &mut out).code();
-    Ok(Left { code, out, store })
+    ran(alloc, &["demo", number], &[])
 }
 
 #[test]
 fn files_of_three_levels_are_written(rt: HostRuntime) -> Result<(), Fail> {
-    let alloc = rt.alloc();
-    let left = demo(alloc, "3")?;
-    assert_eq!(rt; left.code, 0);
-    assert!(rt; left.store.get(b"demo.txt").unwrap_or(b"") == THREE);
-    assert!(rt; left.store.get(b"demo.pls").unwrap_or(b"") == PULSES);
-    assert!(rt;
-        left.store.get(b"demo_pair.gos").unwrap_or(b"")
-            == b"import f : com -> com export fun a : com . f (fst (a, skip)) : com -> com\n".as_slice()
-    );
+    let left = demo(rt.alloc(), "3")?;
+    let pair = b"import f : com -> com export fun a : com . f (fst (a, skip)) : com -> com\n";
+    assert!(rt; left.has_code(0) && left.holds(b"demo.txt", THREE));
+    assert!(rt; left.holds(b"demo.pls", PULSES) && left.holds(b"demo_pair.gos", pair));
     Ok(())
 }
+
+// Numbers of levels, and the line that each is told.
+const LEVELS: [(&str, &str); 3] = [
+    ("1", "ok weight 75 cycles 19200 pulses 6 unused 0\n"),
+    ("4", "ok weight 179 cycles 40800 pulses 6 unused 0\n"),
+    ("12", "ok weight 435 cycles 98400 pulses 6 unused 0\n"),
+];
 
 // The command is run twice, since the first level calls the second twice.
 #[test]
 fn each_number_of_levels_is_run(rt: HostRuntime) -> Result<(), Fail> {
-    let alloc = rt.alloc();
-    let rows = [
-        ("1", "ok weight 75 cycles 19200 pulses 6 unused 0\n"),
-        ("4", "ok weight 179 cycles 40800 pulses 6 unused 0\n"),
-        ("12", "ok weight 435 cycles 98400 pulses 6 unused 0\n"),
-    ];
-    for (number, line) in rows {
-        let left = demo(alloc, number)?;
-        assert_eq!(rt; left.code, 0);
-        assert!(rt; left.out.bytes() == line.as_bytes());
+    for (number, line) in LEVELS.iter() {
+        let left = demo(rt.alloc(), number)?;
+        assert!(rt; left.ended(0, line.as_bytes()));
     }
     Ok(())
 }
 
+const NO_LEVELS: [&str; 5] = ["0", "13", "01", "1.", "x"];
+
 #[test]
 fn other_numbers_are_no_demo(rt: HostRuntime) -> Result<(), Fail> {
-    let alloc = rt.alloc();
-    for number in ["0", "13", "01", "1.", "x"] {
-        let left = demo(alloc, number)?;
-        assert_eq!(rt; left.code, 1);
-        assert!(rt; left.store.get(b"demo.txt").is_none());
+    for number in NO_LEVELS.iter() {
+        let left = demo(rt.alloc(), number)?;
+        assert!(rt; left.has_code(1) && !left.has(b"demo.txt"));
     }
     Ok(())
 }

@@ -13,3 +13,5 @@ mod demo;
 mod linking;
 #[cfg(test)]
 mod rows;
+#[cfg(test)]
+mod running;
