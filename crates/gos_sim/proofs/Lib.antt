@@ -4,12 +4,13 @@ pub mod LatchLemmas
 pub mod GiveLemmas
 pub mod SourceLemmas
 pub mod ProgramLemmas
-pub mod LevelLemmas
 pub mod OrderLemmas
+pub mod ChainLemmas
 pub mod CountingLemmas
 pub mod RegisterLemmas
 pub mod NumberLemmas
 pub mod MoveLemmas
+pub mod EvaluationLemmas
 pub mod CycleLemmas
 pub mod MachineLemmas
 pub mod PastLemmas

@@ -4,14 +4,19 @@
 // are those of the settling. `laws.rt` says what cycles are together: a run from reset.
 //
 // Inside, `machine.rt` has the netlist as it runs, in flat lists: its events (`event_nets.rt`), and its steps and latches
-// (`program.rt`), which `running.rt` goes through. The steps stand by their levels (`order.rt`), and the values of nets lie
-// in the order of these steps (`places.rt`). Taking a cycle needs no memory and can't be refused. `visits.rt` counts the
-// levels in which the last cycle changed something.
+// (`program.rt`). The steps stand in an order in which those of one kind come one behind another (`order.rt`), and the values
+// of nets lie in the order of these steps (`places.rt`). `evaluation.rt` keeps the steps in runs and goes through them, by the
+// operations of `operations.rt`; `running.rt` has the other parts of a cycle. Taking a cycle needs no memory and can't be
+// refused. `visits.rt` counts the levels in which the last cycle changed something, by chains (`levels.rt`, `chains.rt`).
 #![tactic(auto)]
 
+mod chains;
+mod evaluation;
 mod event_nets;
 mod laws;
+mod levels;
 mod machine;
+mod operations;
 mod order;
 mod past;
 mod places;

@@ -126,7 +126,14 @@ impl Sim {
             Past::Reset | Past::Still => 0,
             Past::First | Past::Later => {
                 let machine = &self.machine;
-                levels_visited(&machine.steps, &machine.levels, &self.before, &self.values)
+                let cells = &self.net.netlist().cells;
+                levels_visited(
+                    &machine.levels,
+                    cells,
+                    &machine.places,
+                    &self.before,
+                    &self.values,
+                )
             }
         }
     }
@@ -144,23 +151,29 @@ impl Sim {
 
 // The machine of a netlist, with the registers, the values where all registers and inputs are 0, and room for those before
 // them, all by place.
-#[tactic(auto, using(crate::proofs::AcceptedLemmas::ready_of_accepted))]
 fn parts_of(
     alloc: Global,
     net: &Checked,
 ) -> Result<(Machine, Vec<u32>, Vec<u32>, Vec<u32>), NoMemory>
     ensures machine { IfOk result (λ parts. IsMachine net.now parts.0) }
-    ensures registers { IfOk result (λ parts. parts.1.items ≡ replicate (length parts.0.levels.items) 0) }
-    ensures each { IfOk result (λ parts. length parts.2.items ≡ length parts.0.levels.items) }
+    ensures registers { IfOk result (λ parts. parts.1.items ≡ replicate parts.0.count 0) }
+    ensures each { IfOk result (λ parts. length parts.2.items ≡ parts.0.count) }
     ensures values { IfOk result (λ parts. SettlesAtReset (plan_of parts.0) parts.2.items) }
-    ensures before { IfOk result (λ parts. parts.3.items ≡ replicate (length parts.0.levels.items) 0) }
+    ensures before { IfOk result (λ parts. parts.3.items ≡ replicate parts.0.count 0) }
 {
-    let levels = net.levels(alloc)?;
-    let order = net.schedule();
-    let machine = machine_of(alloc, net.netlist(), order, &levels)?;
-    let count = machine.levels.len();
+    let machine = machine_for(alloc, net)?;
+    let count = machine.count;
     let registers = vec![in alloc; 0; count]?;
     let before = vec![in alloc; 0; count]?;
     let values = machine.values_at_reset(alloc, count)?;
     Ok((machine, registers, values, before))
+}
+
+// The machine of an accepted netlist.
+#[tactic(auto, using(crate::proofs::AcceptedLemmas::ready_of_accepted))]
+fn machine_for(alloc: Global, net: &Checked) -> Result<Machine, NoMemory>
+    ensures { IfOk result (IsMachine net.now) }
+{
+    let levels = net.levels(alloc)?;
+    machine_of(alloc, net.netlist(), net.schedule(), &levels)
 }

@@ -1,7 +1,7 @@
 -- Places: nets numbered anew, so that a simulator keeps their values in the order in which it writes them.
 --
 -- Read first: Program.
-use Rattle.std.specs.Prelude.{◌≡◌, ◌≢◌, ℕ, ◌<◌, ◌≤◌, Some, List, All, length, map, slice_get}
+use Rattle.std.specs.Prelude.{◌≡◌, ◌≢◌, ℕ, ◌<◌, ◌≤◌, Some, List, length, map, slice_get}
 use Rattle.std.specs.Option.{option_map}
 use Rattle.gos_netlist.specs.Nets.{Function, Input, Const, Not, And, Or, Xor, Mux, Add, Sub, Eq, Less, Gate, Reg}
 use Rattle.gos_netlist.specs.Seen.{function_of}
@@ -9,6 +9,7 @@ use Rattle.gos_netlist.specs.Settling.{Numbers, at}
 use Rattle.gos_sim.specs.declared.event_nets.EventNets.{EventNets}
 use Rattle.gos_sim.specs.declared.program.Step.{Step}
 use Rattle.gos_sim.specs.declared.program.Latch.{Latch}
+use Rattle.gos_sim.specs.inner.Evaluation.{bits_of}
 
 -- the values of the nets, from those at their places
 abbrev pub by_net : Numbers → Numbers → Numbers
@@ -30,10 +31,10 @@ moved p (Less a b) = Less (p a) (p b)
 moved p (Gate s a) = Gate (p s) (p a)
 moved p (Reg a) = Reg (p a)
 
--- a step, a latch and an event whose nets are moved to their places
+-- a step, a latch and an event whose nets are moved to their places; the step keeps its bits only where they matter
 pub record IsStepMoved (p : ℕ → ℕ) (old new : Step) : Type 0 where
   pub net : new.net ≡ p old.net
-  pub width : new.width ≡ old.width
+  pub width : new.width ≡ bits_of (function_of old.gate) old.width
   pub gate : function_of new.gate ≡ moved p (function_of old.gate)
 
 abbrev pub latch_moved : (ℕ → ℕ) → Latch → Latch
@@ -51,13 +52,13 @@ pub record AreStepsMoved (p : ℕ → ℕ) (old new : List Step) : Type 0 where
 abbrev pub none : ℕ
 none = 4294967295
 
--- Each net that has a place stands there.
-pub record IsPartly (places nets : Numbers) : Type 0 where
-  pub room : length nets ≤ none
-  pub stands : (n : ℕ) → n < length places → at places n ≢ none → slice_get nets (at places n) ≡ Some n
-  pub within : All (λ n. n < length places) nets
+-- some nets have places below a number, no two the same
+pub record IsPartly (places : Numbers) (count : ℕ) : Type 0 where
+  pub room : count ≤ none
+  pub below : (n : ℕ) → n < length places → at places n ≢ none → at places n < count
+  pub one : (a b : ℕ) → a < length places → b < length places → at places a ≢ none → at places b ≢ none → at places a ≡ at places b → a ≡ b
 
--- so many nets have places below a number, no two the same
+-- all nets have places below a number, no two the same
 pub record IsNumbering (places : Numbers) (count : ℕ) : Type 0 where
   pub below : (n : ℕ) → n < length places → at places n < count
   pub one : (a b : ℕ) → a < length places → b < length places → at places a ≡ at places b → a ≡ b

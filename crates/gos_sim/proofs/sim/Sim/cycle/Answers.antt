@@ -15,16 +15,16 @@ use Rattle.gos_sim.proofs.sim.Sim.cycle.Goals as goal
 pub rests-rests-requires-clause-ready : goal.rests-rests-requires-clause-ready
 rests-rests-requires-clause-ready c =
     let parts = c.self.inside in
-    let each : length parts.machine.levels.items ≡ length c.deref.result.now = sym (ap length c.deref.ensures.value ∙ c.self.invariant.state.values_each) in
+    let each : parts.machine.count ≡ length c.deref.result.now = sym (ap length c.deref.ensures.value ∙ c.self.invariant.state.values_each) in
     subst (λ (n : ℕ). IsRunnable n (plan_of parts.machine)) each (machine_runnable parts.net parts.machine c.self.invariant.machine)
 
 pub run-stands-requires-clause-ready : goal.run-stands-requires-clause-ready
 run-stands-requires-clause-ready c =
     let parts = c.self.inside in
-    let turned : length c.turn.new.values.items ≡ length parts.machine.levels.items =
-    either_way (λ (v : Vec ℕ Global). length v.items ≡ length parts.machine.levels.items) c.rests-rests.result parts.values parts.before c.turn.new.values
+    let turned : length c.turn.new.values.items ≡ parts.machine.count =
+    either_way (λ (v : Vec ℕ Global). length v.items ≡ parts.machine.count) c.rests-rests.result parts.values parts.before c.turn.new.values
     c.turn.ensures.values c.turn.ensures.room c.self.invariant.state.values_each c.self.invariant.state.before_each in
-    let each : length parts.machine.levels.items ≡ length c.deref_mut-2.result.now = sym (ap length c.deref_mut-2.ensures.value ∙ turned) in
+    let each : parts.machine.count ≡ length c.deref_mut-2.result.now = sym (ap length c.deref_mut-2.ensures.value ∙ turned) in
     subst (λ (n : ℕ). IsRunnable n (plan_of parts.machine)) each (machine_runnable parts.net parts.machine c.self.invariant.machine)
 
 pub run-stands-requires-clause-given : goal.run-stands-requires-clause-given
@@ -40,14 +40,14 @@ invariant_of-self c =
     let built = c.self.invariant in
     let rests = c.rests-rests.result in
     let nets : Numbers → Numbers = by_net parts.machine.places.items in
-    let turned : length c.turn.new.values.items ≡ length parts.machine.levels.items =
-    either_way (λ (v : Vec ℕ Global). length v.items ≡ length parts.machine.levels.items) c.rests-rests.result parts.values parts.before c.turn.new.values
+    let turned : length c.turn.new.values.items ≡ parts.machine.count =
+    either_way (λ (v : Vec ℕ Global). length v.items ≡ parts.machine.count) c.rests-rests.result parts.values parts.before c.turn.new.values
     c.turn.ensures.values c.turn.ensures.room c.self.invariant.state.values_each c.self.invariant.state.before_each in
-    let kept : length c.turn.new.before.items ≡ length parts.machine.levels.items =
-    either_way (λ (v : Vec ℕ Global). length v.items ≡ length parts.machine.levels.items) rests parts.before parts.values c.turn.new.before
+    let kept : length c.turn.new.before.items ≡ parts.machine.count =
+    either_way (λ (v : Vec ℕ Global). length v.items ≡ parts.machine.count) rests parts.before parts.values c.turn.new.before
     c.turn.ensures.before c.turn.ensures.turned built.state.before_each built.state.values_each in
-    let registers : length c.run-stands.new.registers ≡ length parts.machine.levels.items = omega (arith, built.state.registers_each) in
-    let values : length c.run-stands.new.values ≡ length parts.machine.levels.items = omega (arith, turned) in
+    let registers : length c.run-stands.new.registers ≡ parts.machine.count = omega (arith, built.state.registers_each) in
+    let values : length c.run-stands.new.values ≡ parts.machine.count = omega (arith, turned) in
     let after = with_items_is parts.registers c.run-stands.new.registers (omega arith) in
     let shown = with_items_is c.turn.new.values c.run-stands.new.values (omega arith) in
     let run = subst (λ (held : Numbers). RunsThrough (plan_of parts.machine) c.args.inputs.now held c.run-stands.new.values c.run-stands.new.outputs c.run-stands.new.registers) c.deref_mut.ensures.value c.run-stands.ensures.run in
