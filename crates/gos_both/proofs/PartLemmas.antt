@@ -8,7 +8,8 @@ use Rattle.gos_plan.proofs.AskingLemmas.{behind}
 use Rattle.gos_plan.proofs.SideLemmas.{pairs_join}
 use Rattle.gos_realises.specs.Regular.{count, some_open, beyond, KeepsTurnsOf}
 use Rattle.gos_realises.proofs.GroundTurnLemmas.{some_there, there_some}
-use Rattle.gos_turns.proofs.TypeLemmas.{count_pair, turns_agree}
+use Rattle.gos_renumbered.proofs.TurnLemmas.{turns_agree}
+use Rattle.gos_realises.proofs.CountLemmas.{count_pair}
 use Rattle.gos_windows.proofs.TypeTurnLemmas.{closed_kept}
 use Rattle.gos_both.proofs.PlaceLemmas.{IsPartOf}
 

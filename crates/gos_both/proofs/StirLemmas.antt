@@ -21,7 +21,7 @@ use Rattle.gos_windows.proofs.ShareLemmas.{share_puts, not_source, not_branch}
 use Rattle.gos_windows.proofs.WholeLemmas.{other_state}
 use Rattle.gos_both.specs.Both.{Side}
 use Rattle.gos_both.proofs.PlaceLemmas as place
-use Rattle.gos_both.proofs.PlaceLemmas.{IsLaid, cut, at_lies, at_port, Port, port_of, same_contact, Met}
+use Rattle.gos_both.proofs.PlaceLemmas.{IsLaid, cut, at_lies, Port, port_of, same_contact, Met}
 
 abbrev pub TokenIn : Token → List Token → Type 0
 TokenIn x [] = ⊥

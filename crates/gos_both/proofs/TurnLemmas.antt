@@ -14,8 +14,7 @@ use Rattle.gos_plan.proofs.JointLemmas.{same_is}
 use Rattle.gos_realises.specs.Regular.{Pass, pass, way_in, is_request, is_open, count, some_open, beyond, KeepsTurnsOf, whole_type, whole_end, ComesInTurn, KeepsTurns}
 use Rattle.gos_realises.proofs.GroundTurnLemmas.{some_there, there_some}
 use Rattle.gos_realises.proofs.InputLemmas.{in_there}
-use Rattle.gos_renumbered.proofs.TurnLemmas.{of_import, of_result, ImportKeeps, EachKeeps, keeps_each, each_keeps}
-use Rattle.gos_turns.proofs.TypeLemmas.{turns_agree}
+use Rattle.gos_renumbered.proofs.TurnLemmas.{of_import, of_result, ImportKeeps, EachKeeps, keeps_each, each_keeps, turns_agree}
 use Rattle.gos_windows.proofs.TurnLemmas.{Turned, open_before}
 use Rattle.gos_windows.proofs.TypeTurnLemmas.{closed_kept}
 use Rattle.gos_both.specs.Both.{Side}

@@ -6,9 +6,9 @@ use Rattle.gos_types.specs.declared.shakes.Role.TheVariants.{Serve, Ask}
 use Rattle.gos_netlist.specs.Events.{Direction, Request, Answer}
 use Rattle.gos_realises.specs.Regular.{count}
 use Rattle.gos_plan.specs.Kinds.{Contact, serves, Part, Share, part_contacts}
-use Rattle.gos_plan.specs.Plans.{End, PartEnd, Plan, contact_at, same_end, stands_in, IsRight}
+use Rattle.gos_plan.specs.Plans.{End, PartEnd, Plan, contact_at, same_end, IsRight}
 use Rattle.gos_plan.specs.Firing.{Rest, State, at, Slot, Req, Ans, Token, put}
-use Rattle.gos_plan.specs.Tokens.{Tokens, Element, Fire, Out, In, places_of, held_at, token_at, end_of, way_of, shake_of, way_taken, way_put, firing_of, fired, with_token, Passes, Does, IsIdle}
+use Rattle.gos_plan.specs.Tokens.{Tokens, Element, Fire, Out, In, places_of, held_at, token_at, end_of, way_of, shake_of, way_taken, way_put, firing_of, Passes, Does, IsIdle}
 use Rattle.gos_plan.specs.Orderly.{Open, none_open, named_by, handshake_at, after_taken, after_put, after_puts, ComesInOrder, OrderlyFrom}
 use Rattle.gos_plan.proofs.JointLemmas.{IsIn, same_is, found, joined}
 use Rattle.gos_plan.proofs.HeldLemmas.{AllFit, step}

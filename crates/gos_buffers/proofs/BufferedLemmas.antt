@@ -89,26 +89,26 @@ in_onto (x ∷ xs) before j h = by_side (in_onto xs (x ∷ before) j h)
     by_side (inr (inr k)) = inr k
 
 -- the joints of the plan, behind the Share
-in_map : (f : Joint → Joint) (js : List Joint) (j : Joint) → IsIn j (map f js) → (k : Joint) × IsIn k js × (j ≡ f k)
+pub in_map : (f : Joint → Joint) (js : List Joint) (j : Joint) → IsIn j (map f js) → (k : Joint) × IsIn k js × (j ≡ f k)
 in_map f [] j h = absurd h
 in_map f (x ∷ xs) j (inl e) = (x, inl refl, e)
 in_map f (x ∷ xs) j (inr h) = let rest = in_map f xs j h in (rest.0, inr rest.1, rest.2)
 
-map_in : (f : Joint → Joint) (js : List Joint) (k : Joint) → IsIn k js → IsIn (f k) (map f js)
+pub map_in : (f : Joint → Joint) (js : List Joint) (k : Joint) → IsIn k js → IsIn (f k) (map f js)
 map_in f [] k h = absurd h
 map_in f (x ∷ xs) k (inl e) = inl (ap f e)
 map_in f (x ∷ xs) k (inr h) = inr (map_in f xs k h)
 
-in_first : (xs ys : List Joint) (j : Joint) → IsIn j xs → IsIn j (xs ++ ys)
+pub in_first : (xs ys : List Joint) (j : Joint) → IsIn j xs → IsIn j (xs ++ ys)
 in_first [] ys j h = absurd h
 in_first (x ∷ xs) ys j (inl e) = inl e
 in_first (x ∷ xs) ys j (inr h) = inr (in_first xs ys j h)
 
-in_second : (xs ys : List Joint) (j : Joint) → IsIn j ys → IsIn j (xs ++ ys)
+pub in_second : (xs ys : List Joint) (j : Joint) → IsIn j ys → IsIn j (xs ++ ys)
 in_second [] ys j h = h
 in_second (x ∷ xs) ys j h = inr (in_second xs ys j h)
 
-in_either : (xs ys : List Joint) (j : Joint) → IsIn j (xs ++ ys) → IsIn j xs ⊎ IsIn j ys
+pub in_either : (xs ys : List Joint) (j : Joint) → IsIn j (xs ++ ys) → IsIn j xs ⊎ IsIn j ys
 in_either [] ys j h = inr h
 in_either (x ∷ xs) ys j (inl e) = inl (inl e)
 in_either (x ∷ xs) ys j (inr h) = by_side (in_either xs ys j h)

@@ -3,7 +3,7 @@ use Rattle.std.specs.Prelude.{◌≢◌, ◌⊎◌, ◌+◌, None, slice_get, ma
 use Rattle.std.proofs.Common.{◌≡◌, ℕ, zero, suc, true, [], Option, Some, Contains, inl, inr, refl, sym, ◌∙◌, ap, subst}
 use Rattle.gos_types.specs.declared.shakes.Role.TheVariants.{Serve, Ask}
 use Rattle.gos_plan.specs.Kinds.{Contact, asks, serves, contacts_of, turned_contact}
-use Rattle.gos_plan.specs.Plans.{End, PartEnd, ImportEnd, ResultEnd, Joint, Plan, contact_at, IsRight}
+use Rattle.gos_plan.specs.Plans.{End, Joint, Plan, contact_at, IsRight}
 use Rattle.gos_plan.specs.Joining.{Place, Wiring, all_parts, all_weight, all_left, origin, JoinedWithin, Linked, Path, Connects, contacts_of_result, IsJoining}
 use Rattle.gos_plan.specs.Tokens.{places_of}
 use Rattle.gos_plan.specs.Orderly.{named_by, handshake_at}

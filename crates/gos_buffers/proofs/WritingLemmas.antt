@@ -8,7 +8,7 @@ use Rattle.gos_types.specs.Types.{Type', Com, Exp, Var}
 use Rattle.gos_netlist.specs.Events.{Request}
 use Rattle.gos_model.specs.Typing.{Imported}
 use Rattle.gos_plan.specs.Kinds as kinds
-use Rattle.gos_plan.specs.Kinds.{Contact, asks, serves, Part, contacts_of, part_contacts}
+use Rattle.gos_plan.specs.Kinds.{Contact, asks, serves, Part, part_contacts}
 use Rattle.gos_plan.specs.Plans.{End, PartEnd, ImportEnd, ResultEnd, Joint, Plan, contact_at, contacts_of_part, contacts_of_import, IsRight}
 use Rattle.gos_plan.specs.Joining.{Place, place, Link, Wiring, all_left, left_place, is_joined, origin, JoinedWithin, Linked, Path, Connects, IsJoining}
 use Rattle.gos_plan.specs.Orderly.{handshake_at}

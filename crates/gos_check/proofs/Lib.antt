@@ -6,6 +6,7 @@ pub mod DemandLemmas
 pub mod WeightLemmas
 pub mod PlaceLemmas
 pub mod ScopeLemmas
+pub mod PartLemmas
 pub mod RefusalLemmas
 pub mod NameLemmas
 pub mod ThingLemmas
@@ -19,6 +20,7 @@ pub mod NodeTypeLemmas
 pub mod TimesLemmas
 pub mod MergeLemmas
 pub mod NumberLemmas
+pub mod NumberedLemmas
 pub mod RenameLemmas
 pub mod StandLemmas
 pub mod CheckedLemmas

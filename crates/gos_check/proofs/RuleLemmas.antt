@@ -10,13 +10,13 @@ use Rattle.gos_check.specs.declared.forms.OnePart.TheVariants as one
 use Rattle.gos_check.specs.declared.forms.TwoParts.{TwoParts}
 use Rattle.gos_check.specs.declared.forms.TwoParts.TheVariants as two
 use Rattle.gos_check.specs.Sizes.{IsCountable}
-use Rattle.gos_check.specs.Faults.{Fault, Found, after}
+use Rattle.gos_check.specs.Faults.{Found, after}
 use Rattle.gos_check.specs.Free.{free}
-use Rattle.gos_check.specs.Demands.{demanded, done, expression, variable}
+use Rattle.gos_check.specs.Demands.{demanded, done, expression, variable, sequence, looping, assignment, operation}
 use Rattle.gos_model.specs.Terms.{result_width}
 use Rattle.gos_model.specs.Sources.{op_of}
 use Rattle.gos_check.specs.Judging.{place_of}
-use Rattle.gos_check.specs.inner.Rules.{rule_of_one, rule_of_two, names_of_two, ruled}
+use Rattle.gos_check.specs.inner.Rules.{rule_of_one, rule_of_two, two_rule, ruled}
 use Rattle.gos_check.proofs.SizeLemmas.{countable_of_small, countable_pair, countable_first, countable_second, countable_outcome}
 use Rattle.gos_check.proofs.FoundLemmas.{after_is, demanded_is, done_is}
 
@@ -76,35 +76,17 @@ two_countable (two.Operation op) s a t b u k l h =
     let q = after_is (demanded t (Exp p.0) b) (λ _. Ok (Exp (result_width (op_of op) p.0))) u p.2 in
     same_countable (Exp (result_width (op_of op) p.0)) u (ok_is (Exp (result_width (op_of op) p.0)) u q.2) (omega arith)
 
--- types and names are as the rule demands
-pub ruled_ok : (rule : TwoParts) (m n : Tree) (a b t : Type') → rule_of_two rule (place_of m) a (place_of n) b ≡ Ok t
-    → names_of_two rule (free m) (free n) ≡ Ok tt → ruled rule m n a b ≡ Ok t
-ruled_ok two.Application m n a b t h k = rw (h, k) refl
-ruled_ok two.Product m n a b t h k = h
-ruled_ok two.Sequence m n a b t h k = h
-ruled_ok two.Parallel m n a b t h k = rw (h, k) refl
-ruled_ok two.Loop m n a b t h k = h
-ruled_ok two.Assignment m n a b t h k = h
-ruled_ok (two.Operation op) m n a b t h k = h
+-- an answer that nothing more is asked of
+after_itself : (found : Found Type') → found ≡ after found (λ u. Ok u)
+after_itself (Ok u) = refl
+after_itself (Err fault) = refl
 
--- the types are not as the rule demands
-pub ruled_type : (rule : TwoParts) (m n : Tree) (a b : Type') (fault : Fault) → rule_of_two rule (place_of m) a (place_of n) b ≡ Err fault
-    → ruled rule m n a b ≡ Err fault
-ruled_type two.Application m n a b fault h = rw h refl
-ruled_type two.Product m n a b fault h = h
-ruled_type two.Sequence m n a b fault h = h
-ruled_type two.Parallel m n a b fault h = rw h refl
-ruled_type two.Loop m n a b fault h = h
-ruled_type two.Assignment m n a b fault h = h
-ruled_type (two.Operation op) m n a b fault h = h
-
--- the types are, and the names are not
-pub ruled_names : (rule : TwoParts) (m n : Tree) (a b t : Type') (fault : Fault) → rule_of_two rule (place_of m) a (place_of n) b ≡ Ok t
-    → names_of_two rule (free m) (free n) ≡ Err fault → ruled rule m n a b ≡ Err fault
-ruled_names two.Application m n a b t fault h k = rw (h, k) refl
-ruled_names two.Product m n a b t fault h k = cc
-ruled_names two.Sequence m n a b t fault h k = cc
-ruled_names two.Parallel m n a b t fault h k = rw (h, k) refl
-ruled_names two.Loop m n a b t fault h k = cc
-ruled_names two.Assignment m n a b t fault h k = cc
-ruled_names (two.Operation op) m n a b t fault h k = cc
+-- what a form of two parts makes of them is what its rule makes of their places, types and names
+pub ruled_is : (rule : TwoParts) (m n : Tree) (a b : Type') → ruled rule m n a b ≡ two_rule rule (place_of m) a (free m) (place_of n) b (free n)
+ruled_is two.Application m n a b = refl
+ruled_is two.Product m n a b = refl
+ruled_is two.Sequence m n a b = after_itself (sequence (place_of m) a (place_of n) b)
+ruled_is two.Parallel m n a b = refl
+ruled_is two.Loop m n a b = after_itself (looping (place_of m) a (place_of n) b)
+ruled_is two.Assignment m n a b = after_itself (assignment (place_of m) a (place_of n) b)
+ruled_is (two.Operation op) m n a b = after_itself (operation op (place_of m) a (place_of n) b)

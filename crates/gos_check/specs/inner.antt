@@ -2,6 +2,7 @@
 -- files above it.
 pub mod Seen
 pub mod Rules
+pub mod Known
 pub mod Walked
 pub mod Opens
 pub mod Numbering

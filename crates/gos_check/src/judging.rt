@@ -5,40 +5,34 @@
 // square of the number of names that can be free at one place. In a source of 65,536 bytes these are 64 imports and some
 // 200 binders, since the nesting of binders is bounded by the open tokens.
 
-ghost use Rattle.std.specs.Prelude.{◌≡◌, ◌+◌, ◌*◌, ◌^◌, ◌<◌, ◌≤◌, [], ◌∷◌, map, Ok, IfOk, IfErr};
+ghost use Rattle.std.specs.Prelude.{◌+◌, ◌*◌, ◌^◌, ◌<◌, [], ◌∷◌, map, Ok, IfOk};
 ghost use Rattle.gos_types.specs.Types.{type_of, Fun, Var};
-ghost use Rattle.gos_model.specs.Weight.{count};
 ghost use Rattle.gos_model.specs.Sources.{import_of};
 ghost use Rattle.gos_syntax.specs.Sizes.{size};
 ghost use Rattle.gos_check.specs.Sizes.{IsCountable, WritesCountable, AreCountable};
-ghost use Rattle.gos_check.specs.Faults.{Refuses, after};
-ghost use Rattle.gos_check.specs.Written.{small, written, written_width};
+ghost use Rattle.gos_check.specs.Faults.{after};
+ghost use Rattle.gos_check.specs.Written.{written, written_width};
 ghost use Rattle.gos_check.specs.Scopes.{type_at, used};
 ghost use Rattle.gos_check.specs.Free.{free, joined, without};
 ghost use Rattle.gos_check.specs.Demands.{done, choice};
 ghost use Rattle.gos_check.specs.Judging.{place_of, of_two, of_three, judged};
 ghost use Rattle.gos_check.specs.inner.Seen.{binders_of};
 ghost use Rattle.gos_check.specs.inner.Rules.{rule_of_one, ruled};
-ghost use Rattle.gos_check.specs.inner.Walked.{tree, BindCountable, weight_of, parts_weight};
+ghost use Rattle.gos_check.specs.inner.Known.{Finds, IsKnown, IsBounded, IsWhole};
+ghost use Rattle.gos_check.specs.inner.Walked.{tree, BindCountable, weight_of, parts_weight, parts_size, parts_judged};
 
-use crate::demands::{choice, done};
 use crate::fault::CheckFault;
-use crate::forms::{OnePart, TwoParts, function_type};
-use crate::free::{Occurrence, apart, joined, one_name, without};
+use crate::forms::{OnePart, TwoParts};
+use crate::judged::{
+    Judged, closed, counted, typed_block, typed_choice, typed_function, typed_literal, typed_name,
+    typed_one, typed_two,
+};
 use crate::scope::Scope;
-use crate::written::{literal, small, written, written_width};
+use crate::written::{written, written_width};
 use gos_lex::{Name, Span};
 use gos_syntax::{Form, Import, Term};
-use gos_types::{Ty, copy};
+use gos_types::Ty;
 use std::alloc::Global;
-
-// What is known of a term that is typed.
-#[derive(Drop)]
-pub(crate) struct Judged {
-    pub ty: Ty,
-    pub free: Vec<Occurrence>,
-    pub weight: u64,
-}
 
 // The type of a term, or its first fault.
 #[cycle(judging)]
@@ -52,20 +46,12 @@ pub(crate) fn judge(
     requires scope { BindCountable (binders_of scope.now) }
     requires size { size (tree term.now) < 2 ^ 32 }
     requires types { WritesCountable (tree term.now) }
-    ensures ok { IfOk result (λ part. judged (map import_of imports.now) (binders_of scope.now) (tree term.now) ≡ Ok (type_of part.ty)) }
-    ensures free { IfOk result (λ part. part.free.items ≡ free (tree term.now)) }
-    ensures small { IfOk result (λ part. count (type_of part.ty) ≤ 64) }
-    ensures weight { IfOk result (λ part. part.weight ≡ weight_of (map import_of imports.now) (binders_of scope.now) (tree term.now)) }
-    ensures bound { IfOk result (λ part. part.weight ≤ 68 * size (tree term.now)) }
-    ensures err { IfErr result (λ e. Refuses (judged (map import_of imports.now) (binders_of scope.now) (tree term.now)) e) }
+    ensures found { Finds (judged (map import_of imports.now) (binders_of scope.now) (tree term.now)) result }
+    ensures known { IfOk result (λ part. IsWhole (free (tree term.now))
+        (weight_of (map import_of imports.now) (binders_of scope.now) (tree term.now)) (68 * size (tree term.now)) part) }
 {
-    let Judged { ty, free, weight } = judge_form(alloc, imports, scope, term)?;
-    let handshakes = small(term.span, &ty)?;
-    Ok(Judged {
-        ty,
-        free,
-        weight: weight + 4 + handshakes,
-    })
+    let part = judge_form(alloc, imports, scope, term)?;
+    counted(term.span, part)
 }
 
 // The same, before the handshakes of the term's own type are counted.
@@ -80,19 +66,13 @@ fn judge_form(
     requires scope { BindCountable (binders_of scope.now) }
     requires size { size (tree term.now) < 2 ^ 32 }
     requires types { WritesCountable (tree term.now) }
-    ensures ok { IfOk result (λ part. judged (map import_of imports.now) (binders_of scope.now) (tree term.now) ≡ small term.now.span (type_of part.ty)) }
-    ensures free { IfOk result (λ part. part.free.items ≡ free (tree term.now)) }
-    ensures countable { IfOk result (λ part. IsCountable (type_of part.ty)) }
-    ensures weight { IfOk result (λ part. part.weight ≡ parts_weight (map import_of imports.now) (binders_of scope.now) (tree term.now)) }
-    ensures bound { IfOk result (λ part. part.weight + 68 ≤ 68 * size (tree term.now)) }
-    ensures err { IfErr result (λ e. Refuses (judged (map import_of imports.now) (binders_of scope.now) (tree term.now)) e) }
+    ensures found { Finds (parts_judged (map import_of imports.now) (binders_of scope.now) (tree term.now)) result }
+    ensures known { IfOk result (λ part. IsBounded (free (tree term.now))
+        (parts_weight (map import_of imports.now) (binders_of scope.now) (tree term.now)) (68 * parts_size (tree term.now)) part) }
 {
     match &term.form {
         Form::Skip => Ok(closed(alloc, Ty::Com)),
-        Form::Lit { value, width } => {
-            let ty = literal(term.span, *value, *width)?;
-            Ok(closed(alloc, ty))
-        }
+        Form::Lit { value, width } => typed_literal(alloc, term.span, *value, *width),
         Form::Name(name) => judge_name(alloc, imports, scope, name, term.span),
         Form::Fun {
             name,
@@ -121,19 +101,6 @@ fn judge_form(
     }
 }
 
-// A term without names.
-fn closed(alloc: Global, ty: Ty) -> Judged
-    ensures ty { type_of result.ty ≡ type_of ty }
-    ensures free { result.free.items ≡ [] }
-    ensures weight { result.weight ≡ 0 }
-{
-    Judged {
-        ty,
-        free: Vec::new(alloc),
-        weight: 0,
-    }
-}
-
 // A name that is used.
 fn judge_name(
     alloc: Global,
@@ -144,18 +111,11 @@ fn judge_name(
 ) -> Result<Judged, CheckFault>
     requires imports { AreCountable imports.now }
     requires scope { BindCountable (binders_of scope.now) }
-    ensures ok { IfOk result (λ part. used span name.now (type_at (map import_of imports.now) (binders_of scope.now) name.now) ≡ Ok (type_of part.ty)) }
-    ensures free { IfOk result (λ part. part.free.items ≡ record { name = name.now; span = span } ∷ []) }
-    ensures countable { IfOk result (λ part. IsCountable (type_of part.ty)) }
-    ensures weight { IfOk result (λ part. part.weight ≡ 0) }
-    ensures err { IfErr result (λ e. Refuses (used span name.now (type_at (map import_of imports.now) (binders_of scope.now) name.now)) e) }
+    ensures found { Finds (used span name.now (type_at (map import_of imports.now) (binders_of scope.now) name.now)) result }
+    ensures known { IfOk result (λ part. IsKnown (record { name = name.now; span = span } ∷ []) 0 part) }
 {
     match scope.find(imports, name) {
-        Some(ty) => Ok(Judged {
-            ty: copy(alloc, ty)?,
-            free: one_name(alloc, name, span)?,
-            weight: 0,
-        }),
+        Some(ty) => typed_name(alloc, name, span, ty),
         None => Err(CheckFault::Unbound {
             name: Name::new(alloc, name.bytes())?,
             span,
@@ -179,31 +139,21 @@ fn judge_function(
     requires size { size (tree body.now) + 1 < 2 ^ 32 }
     requires ty { IsCountable (type_of ty.now) }
     requires types { WritesCountable (tree body.now) }
-    ensures ok { IfOk result (λ part. after (written ty_span (type_of ty.now)) (λ _.
+    ensures found { Finds (after (written ty_span (type_of ty.now)) (λ _.
         after (judged (map import_of imports.now) (record { name = name.now; ty = type_of ty.now } ∷ binders_of scope.now)
-        (tree body.now)) (λ b. Ok (Fun (type_of ty.now) b))) ≡ Ok (type_of part.ty)) }
-    ensures free { IfOk result (λ part. part.free.items ≡ without name.now (free (tree body.now))) }
-    ensures countable { IfOk result (λ part. IsCountable (type_of part.ty)) }
-    ensures weight { IfOk result (λ part. part.weight ≡ weight_of (map import_of imports.now)
-        (record { name = name.now; ty = type_of ty.now } ∷ binders_of scope.now) (tree body.now)) }
-    ensures bound { IfOk result (λ part. part.weight ≤ 68 * size (tree body.now)) }
-    ensures err { IfErr result (λ e. Refuses (after (written ty_span (type_of ty.now)) (λ _.
-        after (judged (map import_of imports.now) (record { name = name.now; ty = type_of ty.now } ∷ binders_of scope.now)
-        (tree body.now)) (λ b. Ok (Fun (type_of ty.now) b)))) e) }
+        (tree body.now)) (λ b. Ok (Fun (type_of ty.now) b)))) result }
+    ensures known { IfOk result (λ part. IsBounded (without name.now (free (tree body.now)))
+        (weight_of (map import_of imports.now) (record { name = name.now; ty = type_of ty.now } ∷ binders_of scope.now)
+        (tree body.now)) (68 * size (tree body.now)) part) }
 {
     written(ty_span, ty)?;
     let inner = Scope::Binder {
-        name,
-        ty,
-        outer: scope,
+        name: &*name,
+        ty: &*ty,
+        outer: &*scope,
     };
     let body = judge(alloc, imports, &inner, body)?;
-    let ty = function_type(alloc, ty, body.ty)?;
-    Ok(Judged {
-        ty,
-        free: without(alloc, name, body.free)?,
-        weight: body.weight,
-    })
+    typed_function(alloc, &*name, &*ty, body)
 }
 
 // A block with a variable.
@@ -221,31 +171,22 @@ fn judge_block(
     requires scope { BindCountable (binders_of scope.now) }
     requires size { size (tree body.now) + 1 < 2 ^ 32 }
     requires types { WritesCountable (tree body.now) }
-    ensures ok { IfOk result (λ part. after (written_width width_span width) (λ _.
+    ensures found { Finds (after (written_width width_span width) (λ _.
         after (judged (map import_of imports.now) (record { name = name.now; ty = Var width } ∷ binders_of scope.now)
-        (tree body.now)) (λ b. done (place_of (tree body.now)) b)) ≡ Ok (type_of part.ty)) }
-    ensures free { IfOk result (λ part. part.free.items ≡ without name.now (free (tree body.now))) }
-    ensures countable { IfOk result (λ part. IsCountable (type_of part.ty)) }
-    ensures weight { IfOk result (λ part. part.weight ≡ weight_of (map import_of imports.now)
-        (record { name = name.now; ty = Var width } ∷ binders_of scope.now) (tree body.now)) }
-    ensures bound { IfOk result (λ part. part.weight ≤ 68 * size (tree body.now)) }
-    ensures err { IfErr result (λ e. Refuses (after (written_width width_span width) (λ _.
-        after (judged (map import_of imports.now) (record { name = name.now; ty = Var width } ∷ binders_of scope.now)
-        (tree body.now)) (λ b. done (place_of (tree body.now)) b))) e) }
+        (tree body.now)) (λ b. done (place_of (tree body.now)) b))) result }
+    ensures known { IfOk result (λ part. IsBounded (without name.now (free (tree body.now)))
+        (weight_of (map import_of imports.now) (record { name = name.now; ty = Var width } ∷ binders_of scope.now)
+        (tree body.now)) (68 * size (tree body.now)) part) }
 {
     written_width(width_span, width)?;
     let variable = Ty::Var(width);
     let inner = Scope::Binder {
-        name,
+        name: &*name,
         ty: &variable,
-        outer: scope,
+        outer: &*scope,
     };
     let judged = judge(alloc, imports, &inner, body)?;
-    Ok(Judged {
-        ty: done(body.span, judged.ty)?,
-        free: without(alloc, name, judged.free)?,
-        weight: judged.weight,
-    })
+    typed_block(alloc, &*name, body.span, judged)
 }
 
 // A form of one part.
@@ -261,21 +202,13 @@ fn judge_one(
     requires scope { BindCountable (binders_of scope.now) }
     requires size { size (tree m.now) + 1 < 2 ^ 32 }
     requires types { WritesCountable (tree m.now) }
-    ensures ok { IfOk result (λ part. after (judged (map import_of imports.now) (binders_of scope.now) (tree m.now)) (λ a.
-        rule_of_one rule (place_of (tree m.now)) a) ≡ Ok (type_of part.ty)) }
-    ensures free { IfOk result (λ part. part.free.items ≡ free (tree m.now)) }
-    ensures countable { IfOk result (λ part. IsCountable (type_of part.ty)) }
-    ensures weight { IfOk result (λ part. part.weight ≡ weight_of (map import_of imports.now) (binders_of scope.now) (tree m.now)) }
-    ensures bound { IfOk result (λ part. part.weight ≤ 68 * size (tree m.now)) }
-    ensures err { IfErr result (λ e. Refuses (after (judged (map import_of imports.now) (binders_of scope.now) (tree m.now)) (λ a.
-        rule_of_one rule (place_of (tree m.now)) a)) e) }
+    ensures found { Finds (after (judged (map import_of imports.now) (binders_of scope.now) (tree m.now)) (λ a.
+        rule_of_one rule (place_of (tree m.now)) a)) result }
+    ensures known { IfOk result (λ part. IsBounded (free (tree m.now))
+        (weight_of (map import_of imports.now) (binders_of scope.now) (tree m.now)) (68 * size (tree m.now)) part) }
 {
     let part = judge(alloc, imports, scope, m)?;
-    Ok(Judged {
-        ty: rule.outcome(m.span, part.ty)?,
-        free: part.free,
-        weight: part.weight,
-    })
+    typed_one(rule, m.span, part)
 }
 
 // A form of two parts.
@@ -293,27 +226,17 @@ fn judge_two(
     requires size { size (tree m.now) + size (tree n.now) + 1 < 2 ^ 32 }
     requires left { WritesCountable (tree m.now) }
     requires right { WritesCountable (tree n.now) }
-    ensures ok { IfOk result (λ part. of_two (judged (map import_of imports.now) (binders_of scope.now) (tree m.now))
+    ensures found { Finds (of_two (judged (map import_of imports.now) (binders_of scope.now) (tree m.now))
         (judged (map import_of imports.now) (binders_of scope.now) (tree n.now)) (λ a b.
-        ruled rule (tree m.now) (tree n.now) a b) ≡ Ok (type_of part.ty)) }
-    ensures free { IfOk result (λ part. part.free.items ≡ joined (free (tree m.now)) (free (tree n.now))) }
-    ensures countable { IfOk result (λ part. IsCountable (type_of part.ty)) }
-    ensures weight { IfOk result (λ part. part.weight ≡ weight_of (map import_of imports.now) (binders_of scope.now) (tree m.now)
-        + weight_of (map import_of imports.now) (binders_of scope.now) (tree n.now)) }
-    ensures bound { IfOk result (λ part. part.weight ≤ 68 * (size (tree m.now) + size (tree n.now))) }
-    ensures err { IfErr result (λ e. Refuses (of_two (judged (map import_of imports.now) (binders_of scope.now) (tree m.now))
-        (judged (map import_of imports.now) (binders_of scope.now) (tree n.now)) (λ a b.
-        ruled rule (tree m.now) (tree n.now) a b)) e) }
+        ruled rule (tree m.now) (tree n.now) a b)) result }
+    ensures known { IfOk result (λ part. IsBounded (joined (free (tree m.now)) (free (tree n.now)))
+        (weight_of (map import_of imports.now) (binders_of scope.now) (tree m.now)
+        + weight_of (map import_of imports.now) (binders_of scope.now) (tree n.now))
+        (68 * (size (tree m.now) + size (tree n.now))) part) }
 {
     let left = judge(alloc, imports, scope, m)?;
     let right = judge(alloc, imports, scope, n)?;
-    let ty = rule.outcome(alloc, m.span, left.ty, n.span, right.ty)?;
-    rule.separate(alloc, left.free.as_slice(), right.free.as_slice())?;
-    Ok(Judged {
-        ty,
-        free: joined(alloc, left.free, right.free)?,
-        weight: left.weight + right.weight,
-    })
+    typed_two(alloc, rule, m.span, left, n.span, right)
 }
 
 // `if M then N else P`
@@ -332,29 +255,18 @@ fn judge_choice(
     requires test { WritesCountable (tree m.now) }
     requires yes { WritesCountable (tree n.now) }
     requires no { WritesCountable (tree p.now) }
-    ensures ok { IfOk result (λ part. of_three (judged (map import_of imports.now) (binders_of scope.now) (tree m.now))
+    ensures found { Finds (of_three (judged (map import_of imports.now) (binders_of scope.now) (tree m.now))
         (judged (map import_of imports.now) (binders_of scope.now) (tree n.now))
         (judged (map import_of imports.now) (binders_of scope.now) (tree p.now)) (λ a b c.
-        choice (place_of (tree m.now)) a (place_of (tree n.now)) b (place_of (tree p.now)) c) ≡ Ok (type_of part.ty)) }
-    ensures free { IfOk result (λ part. part.free.items ≡ joined (joined (free (tree m.now)) (free (tree n.now))) (free (tree p.now))) }
-    ensures countable { IfOk result (λ part. IsCountable (type_of part.ty)) }
-    ensures weight { IfOk result (λ part. part.weight ≡ weight_of (map import_of imports.now) (binders_of scope.now) (tree m.now)
+        choice (place_of (tree m.now)) a (place_of (tree n.now)) b (place_of (tree p.now)) c)) result }
+    ensures known { IfOk result (λ part. IsBounded (joined (joined (free (tree m.now)) (free (tree n.now))) (free (tree p.now)))
+        (weight_of (map import_of imports.now) (binders_of scope.now) (tree m.now)
         + weight_of (map import_of imports.now) (binders_of scope.now) (tree n.now)
-        + weight_of (map import_of imports.now) (binders_of scope.now) (tree p.now)) }
-    ensures bound { IfOk result (λ part. part.weight ≤ 68 * (size (tree m.now) + size (tree n.now) + size (tree p.now))) }
-    ensures err { IfErr result (λ e. Refuses (of_three (judged (map import_of imports.now) (binders_of scope.now) (tree m.now))
-        (judged (map import_of imports.now) (binders_of scope.now) (tree n.now))
-        (judged (map import_of imports.now) (binders_of scope.now) (tree p.now)) (λ a b c.
-        choice (place_of (tree m.now)) a (place_of (tree n.now)) b (place_of (tree p.now)) c)) e) }
+        + weight_of (map import_of imports.now) (binders_of scope.now) (tree p.now))
+        (68 * (size (tree m.now) + size (tree n.now) + size (tree p.now))) part) }
 {
     let test = judge(alloc, imports, scope, m)?;
     let yes = judge(alloc, imports, scope, n)?;
     let no = judge(alloc, imports, scope, p)?;
-    let ty = choice(m.span, test.ty, n.span, yes.ty, p.span, no.ty)?;
-    let free = joined(alloc, test.free, yes.free)?;
-    Ok(Judged {
-        ty,
-        free: joined(alloc, free, no.free)?,
-        weight: test.weight + yes.weight + no.weight,
-    })
+    typed_choice(alloc, m.span, test, n.span, yes, p.span, no)
 }

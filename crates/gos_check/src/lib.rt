@@ -1,9 +1,9 @@
 // The affine checker: whether a module is typed, and its first fault where it isn't; and the typed term of one that is.
 //
 // `check` is the one call. Read `checker.rt` first. Then comes the walk over the body (`judging.rt`) with the files that it
-// uses: `written.rt`, `scope.rt`, `free.rt`, `demands.rt`. The typed term is made after that (`numbering.rt`, `joining.rt`,
-// `opens.rt`). What is promised stands in `specs`, in the order of `specs/Lib.antt`: `Accepted` says which modules are
-// accepted, `Judgements` which fault is the first, and `Linearity` what a typed term stands for.
+// uses: `judged.rt`, `written.rt`, `scope.rt`, `free.rt`, `demands.rt`. The typed term is made after that (`numbering.rt`,
+// `joining.rt`, `opens.rt`). What is promised stands in `specs`, in the order of `specs/Lib.antt`: `Accepted` says which
+// modules are accepted, `Judgements` which fault is the first, and `Linearity` what a typed term stands for.
 #![tactic(auto)]
 
 pub use checker::check;
@@ -18,6 +18,7 @@ mod forms;
 mod free;
 mod imports;
 mod joining;
+mod judged;
 mod judging;
 mod laws;
 mod linear;

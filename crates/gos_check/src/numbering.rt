@@ -5,19 +5,17 @@
 // their numbers for their places.
 
 ghost use Rattle.std.specs.Prelude.{◌≡◌, ◌+◌, ◌*◌, ◌^◌, ◌<◌, ◌≤◌, [], ◌∷◌, map, length, IfOk, IfErr};
-ghost use Rattle.gos_types.specs.Types.{type_of, Com, Exp, Var};
-ghost use Rattle.gos_model.specs.Terms as terms;
+ghost use Rattle.gos_types.specs.Types.{type_of, Var};
 ghost use Rattle.gos_model.specs.Sources.{import_of};
 ghost use Rattle.gos_model.specs.Weight.{or_com};
 ghost use Rattle.gos_syntax.specs.Sizes.{size};
 ghost use Rattle.gos_check.specs.Scopes.{type_at};
 ghost use Rattle.gos_check.specs.inner.Seen.{binders_of};
-ghost use Rattle.gos_check.specs.inner.Walked.{tree};
+ghost use Rattle.gos_check.specs.inner.Walked.{tree, parts_size};
 ghost use Rattle.gos_check.specs.Nodes.{OfFun, OfNew, numbered_of, node_seen};
 ghost use Rattle.gos_check.specs.inner.Numbering.{
   one_form,
   two_form,
-  closed_result,
   use_result,
   binder_result,
   one_result,
@@ -25,6 +23,7 @@ ghost use Rattle.gos_check.specs.inner.Numbering.{
   choice_result,
   inner_next,
   numbered,
+  Numbers,
   import_number,
   placed,
 };
@@ -100,11 +99,8 @@ fn number(
     term: &Term,
 ) -> Result<NumberedTerm, CheckFault>
     requires { next + 2 * size (tree term.now) < 2 ^ 32 }
-    ensures node { IfOk result (λ r. node_seen r.node.value ≡ (numbered (map import_of imports.now) (binders_of scope.now) next (tree term.now)).node) }
-    ensures names { IfOk result (λ r. r.names.items ≡ (numbered (map import_of imports.now) (binders_of scope.now) next (tree term.now)).names) }
-    ensures next { IfOk result (λ r. r.next ≡ (numbered (map import_of imports.now) (binders_of scope.now) next (tree term.now)).next) }
-    ensures room { IfOk result (λ r. r.next + length r.names.items ≤ next + 2 * size (tree term.now)) }
-    ensures err { IfErr result (λ e. e ≡ CheckFault.NoMemory) }
+    ensures seen { Numbers (numbered (map import_of imports.now) (binders_of scope.now) next (tree term.now)) result }
+    ensures room { IfOk result (λ r. r.next + length r.names.items ≤ next + 2 * parts_size (tree term.now) + 2) }
 {
     match &term.form {
         Form::Skip => closed(alloc, next, Ty::Com, NodeForm::Skip),
@@ -146,11 +142,8 @@ fn number(
 
 // A term without free names.
 fn closed(alloc: Global, next: u32, ty: Ty, form: NodeForm) -> Result<NumberedTerm, CheckFault>
-    ensures node { IfOk result (λ r. node_seen r.node.value ≡ numbered_of ty [] form) }
-    ensures names { IfOk result (λ r. r.names.items ≡ []) }
-    ensures next { IfOk result (λ r. r.next ≡ next) }
-    ensures room { IfOk result (λ r. r.next + length r.names.items ≤ next + 2) }
-    ensures err { IfErr result (λ e. e ≡ CheckFault.NoMemory) }
+    ensures seen { Numbers (record { node = numbered_of ty [] form; names = []; next = next }) result }
+    ensures room { IfOk result (λ r. r.next + length r.names.items ≤ next + 2 * 0 + 2) }
 {
     let splits = Vec::new(alloc);
     Ok(NumberedTerm {
@@ -169,15 +162,8 @@ fn number_name(
     name: &Name,
 ) -> Result<NumberedTerm, CheckFault>
     requires { next + 2 < 2 ^ 32 }
-    ensures node { IfOk result (λ r.
-        node_seen r.node.value ≡ (use_result (or_com (type_at (map import_of imports.now) (binders_of scope.now)
-        name.now)) name.now next).node) }
-    ensures names { IfOk result (λ r.
-        r.names.items ≡ (use_result (or_com (type_at (map import_of imports.now) (binders_of scope.now)
-        name.now)) name.now next).names) }
-    ensures next { IfOk result (λ r. r.next ≡ (use_result (or_com (type_at (map import_of imports.now) (binders_of scope.now) name.now)) name.now next).next) }
-    ensures room { IfOk result (λ r. r.next + length r.names.items ≤ next + 2) }
-    ensures err { IfErr result (λ e. e ≡ CheckFault.NoMemory) }
+    ensures seen { Numbers (use_result (or_com (type_at (map import_of imports.now) (binders_of scope.now) name.now)) name.now next) result }
+    ensures room { IfOk result (λ r. r.next + length r.names.items ≤ next + 2 * 0 + 2) }
 {
     let ty = match scope.find(imports, name) {
         Some(ty) => copy(alloc, ty)?,
@@ -212,17 +198,9 @@ fn number_function(
     body: &Term,
 ) -> Result<NumberedTerm, CheckFault>
     requires { next + 2 * size (tree body.now) + 2 < 2 ^ 32 }
-    ensures node { IfOk result (λ r. node_seen r.node.value ≡ (binder_result OfFun name.now (type_of ty.now)
-        (numbered (map import_of imports.now) (record { name = name.now; ty = type_of ty.now } ∷ binders_of scope.now)
-        next (tree body.now))).node) }
-    ensures names { IfOk result (λ r. r.names.items ≡ (binder_result OfFun name.now (type_of ty.now)
-        (numbered (map import_of imports.now) (record { name = name.now; ty = type_of ty.now } ∷ binders_of scope.now) next
-        (tree body.now))).names) }
-    ensures next { IfOk result (λ r. r.next ≡ (binder_result OfFun name.now (type_of ty.now)
-        (numbered (map import_of imports.now) (record { name = name.now; ty = type_of ty.now } ∷ binders_of scope.now)
-        next (tree body.now))).next) }
-    ensures room { IfOk result (λ r. r.next + length r.names.items ≤ next + 2 * size (tree body.now) + 1) }
-    ensures err { IfErr result (λ e. e ≡ CheckFault.NoMemory) }
+    ensures seen { Numbers (binder_result OfFun name.now (type_of ty.now) (numbered (map import_of imports.now)
+        (record { name = name.now; ty = type_of ty.now } ∷ binders_of scope.now) next (tree body.now))) result }
+    ensures room { IfOk result (λ r. r.next + length r.names.items ≤ next + 2 * size (tree body.now) + 2) }
 {
     let inner = Scope::Binder {
         name: &*name,
@@ -245,17 +223,9 @@ fn number_block(
     body: &Term,
 ) -> Result<NumberedTerm, CheckFault>
     requires { next + 2 * size (tree body.now) + 2 < 2 ^ 32 }
-    ensures node { IfOk result (λ r. node_seen r.node.value ≡ (binder_result (OfNew width) name.now (Var width)
-        (numbered (map import_of imports.now) (record { name = name.now; ty = Var width } ∷ binders_of scope.now)
-        next (tree body.now))).node) }
-    ensures names { IfOk result (λ r. r.names.items ≡ (binder_result (OfNew width) name.now (Var width)
-        (numbered (map import_of imports.now) (record { name = name.now; ty = Var width } ∷ binders_of scope.now) next
-        (tree body.now))).names) }
-    ensures next { IfOk result (λ r. r.next ≡ (binder_result (OfNew width) name.now (Var width)
-        (numbered (map import_of imports.now) (record { name = name.now; ty = Var width } ∷ binders_of scope.now)
-        next (tree body.now))).next) }
-    ensures room { IfOk result (λ r. r.next + length r.names.items ≤ next + 2 * size (tree body.now) + 1) }
-    ensures err { IfErr result (λ e. e ≡ CheckFault.NoMemory) }
+    ensures seen { Numbers (binder_result (OfNew width) name.now (Var width) (numbered (map import_of imports.now)
+        (record { name = name.now; ty = Var width } ∷ binders_of scope.now) next (tree body.now))) result }
+    ensures room { IfOk result (λ r. r.next + length r.names.items ≤ next + 2 * size (tree body.now) + 2) }
 {
     let variable = Ty::Var(width);
     let inner = Scope::Binder {
@@ -278,14 +248,9 @@ fn number_one(
     m: &Term,
 ) -> Result<NumberedTerm, CheckFault>
     requires { next + 2 * size (tree m.now) < 2 ^ 32 }
-    ensures node { IfOk result (λ r. node_seen r.node.value ≡ (one_result (one_form rule)
-        (numbered (map import_of imports.now) (binders_of scope.now) next (tree m.now))).node) }
-    ensures names { IfOk result (λ r. r.names.items ≡ (one_result (one_form rule)
-        (numbered (map import_of imports.now) (binders_of scope.now) next (tree m.now))).names) }
-    ensures next { IfOk result (λ r. r.next ≡ (one_result (one_form rule)
-        (numbered (map import_of imports.now) (binders_of scope.now) next (tree m.now))).next) }
-    ensures room { IfOk result (λ r. r.next + length r.names.items ≤ next + 2 * size (tree m.now)) }
-    ensures err { IfErr result (λ e. e ≡ CheckFault.NoMemory) }
+    ensures seen { Numbers (one_result (one_form rule)
+        (numbered (map import_of imports.now) (binders_of scope.now) next (tree m.now))) result }
+    ensures room { IfOk result (λ r. r.next + length r.names.items ≤ next + 2 * size (tree m.now) + 2) }
 {
     let part = number(alloc, imports, scope, next, m)?;
     with_one(alloc, rule, part)
@@ -303,20 +268,11 @@ fn number_two(
     n: &Term,
 ) -> Result<NumberedTerm, CheckFault>
     requires { next + 2 * (size (tree m.now) + size (tree n.now)) < 2 ^ 32 }
-    ensures node { IfOk result (λ r. node_seen r.node.value ≡ (two_result (two_form rule)
+    ensures seen { Numbers (two_result (two_form rule)
         (numbered (map import_of imports.now) (binders_of scope.now) next (tree m.now))
         (numbered (map import_of imports.now) (binders_of scope.now)
-        (numbered (map import_of imports.now) (binders_of scope.now) next (tree m.now)).next (tree n.now))).node) }
-    ensures names { IfOk result (λ r. r.names.items ≡ (two_result (two_form rule)
-        (numbered (map import_of imports.now) (binders_of scope.now) next (tree m.now))
-        (numbered (map import_of imports.now) (binders_of scope.now)
-        (numbered (map import_of imports.now) (binders_of scope.now) next (tree m.now)).next (tree n.now))).names) }
-    ensures next { IfOk result (λ r. r.next ≡ (two_result (two_form rule)
-        (numbered (map import_of imports.now) (binders_of scope.now) next (tree m.now))
-        (numbered (map import_of imports.now) (binders_of scope.now)
-        (numbered (map import_of imports.now) (binders_of scope.now) next (tree m.now)).next (tree n.now))).next) }
-    ensures room { IfOk result (λ r. r.next + length r.names.items ≤ next + 2 * (size (tree m.now) + size (tree n.now))) }
-    ensures err { IfErr result (λ e. e ≡ CheckFault.NoMemory) }
+        (numbered (map import_of imports.now) (binders_of scope.now) next (tree m.now)).next (tree n.now))) result }
+    ensures room { IfOk result (λ r. r.next + length r.names.items ≤ next + 2 * (size (tree m.now) + size (tree n.now)) + 2) }
 {
     let left = number(alloc, imports, scope, next, m)?;
     let right = number(alloc, imports, scope, left.next, n)?;
@@ -335,30 +291,16 @@ fn number_choice(
     p: &Term,
 ) -> Result<NumberedTerm, CheckFault>
     requires { next + 2 * (size (tree m.now) + size (tree n.now) + size (tree p.now)) < 2 ^ 32 }
-    ensures node { IfOk result (λ r. node_seen r.node.value ≡ (choice_result
+    ensures seen { Numbers (choice_result
         (numbered (map import_of imports.now) (binders_of scope.now) next (tree m.now))
         (numbered (map import_of imports.now) (binders_of scope.now)
         (numbered (map import_of imports.now) (binders_of scope.now) next (tree m.now)).next (tree n.now))
         (numbered (map import_of imports.now) (binders_of scope.now)
         (inner_next (numbered (map import_of imports.now) (binders_of scope.now) next (tree m.now))
         (numbered (map import_of imports.now) (binders_of scope.now)
-        (numbered (map import_of imports.now) (binders_of scope.now) next (tree m.now)).next (tree n.now))) (tree p.now))).node) }
-    ensures names { IfOk result (λ r. r.names.items ≡ (choice_result (numbered (map import_of imports.now) (binders_of scope.now)
-        next (tree m.now)) (numbered (map import_of imports.now) (binders_of scope.now)
-        (numbered (map import_of imports.now) (binders_of scope.now) next (tree m.now)).next (tree n.now))
-        (numbered (map import_of imports.now) (binders_of scope.now)
-        (inner_next (numbered (map import_of imports.now) (binders_of scope.now) next (tree m.now))
-        (numbered (map import_of imports.now) (binders_of scope.now)
-        (numbered (map import_of imports.now) (binders_of scope.now) next (tree m.now)).next (tree n.now))) (tree p.now))).names) }
-    ensures next { IfOk result (λ r. r.next ≡ (choice_result (numbered (map import_of imports.now) (binders_of scope.now) next
-        (tree m.now)) (numbered (map import_of imports.now) (binders_of scope.now)
-        (numbered (map import_of imports.now) (binders_of scope.now) next (tree m.now)).next (tree n.now))
-        (numbered (map import_of imports.now) (binders_of scope.now)
-        (inner_next (numbered (map import_of imports.now) (binders_of scope.now) next (tree m.now))
-        (numbered (map import_of imports.now) (binders_of scope.now)
-        (numbered (map import_of imports.now) (binders_of scope.now) next (tree m.now)).next (tree n.now))) (tree p.now))).next) }
-    ensures room { IfOk result (λ r. r.next + length r.names.items ≤ next + 2 * (size (tree m.now) + size (tree n.now) + size (tree p.now))) }
-    ensures err { IfErr result (λ e. e ≡ CheckFault.NoMemory) }
+        (numbered (map import_of imports.now) (binders_of scope.now) next (tree m.now)).next (tree n.now))) (tree p.now))) result }
+    ensures room { IfOk result (λ r. r.next + length r.names.items
+        ≤ next + 2 * (size (tree m.now) + size (tree n.now) + size (tree p.now)) + 2) }
 {
     let test = number(alloc, imports, scope, next, m)?;
     let yes = number(alloc, imports, scope, test.next, n)?;

@@ -5,7 +5,8 @@ use Rattle.gos_plan.specs.declared.gates.Wire.{Wire}
 use Rattle.gos_plan.specs.Gates.{Incoming}
 use Rattle.gos_plan.specs.Wires.{HoldsNets}
 use Rattle.gos_plan.specs.Cells.{wide}
-use Rattle.gos_data.specs.Local.{number_cells, local_answer, local_size}
+use Rattle.gos_data.specs.Local.{number_cells, local_answer}
+use Rattle.gos_data.specs.inner.Sizes.{local_size}
 
 pub answer_nets : (v b : ℕ) (w : Wire) → w.out_pulse.0 ≡ b + 8 → (0 < v → w.out_value.0 ≡ b + 9) → HoldsNets (local_answer v b) w
 answer_nets zero b w pulse value = pulse

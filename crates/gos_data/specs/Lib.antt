@@ -8,4 +8,5 @@ pub mod Deref
 pub mod Local
 pub mod Layout
 pub mod Ranges
+pub mod inner
 pub mod laws

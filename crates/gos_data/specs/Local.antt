@@ -32,11 +32,6 @@ number_cells (suc v) i = wide (suc v) (Gate (i.pulse 0) (i.value 0)) ∷ []
 abbrev pub local_cells : ℕ → ℕ → ℕ → Incoming → List Cell
 local_cells w v b i = variable_cells w b i ++ number_cells v i
 
--- how many cells these are
-abbrev pub local_size : ℕ → ℕ
-local_size zero = 9
-local_size (suc v) = 10
-
 -- what goes out at the handshake that is served
 abbrev pub local_answer : ℕ → ℕ → Outgoing
 local_answer zero b = Bare (b + 8)

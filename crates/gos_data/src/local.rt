@@ -4,7 +4,8 @@
 ghost use Rattle.std.specs.Prelude.{◌≡◌, ◌+◌, ◌<◌, ◌≤◌, [], ◌∷◌, length, map};
 ghost use Rattle.gos_netlist.specs.Seen.{cell_of};
 ghost use Rattle.gos_plan.specs.Wires.{nets_in, incoming_of, HoldsNets, HoldNets};
-ghost use Rattle.gos_data.specs.Local.{variable_cells, number_cells, local_size, local_answer, local_outs};
+ghost use Rattle.gos_data.specs.Local.{variable_cells, number_cells, local_answer, local_outs};
+ghost use Rattle.gos_data.specs.inner.Sizes.{local_size};
 
 use gos_netlist::{Cell, Gate};
 use gos_plan::Wire;

@@ -1,16 +1,18 @@
 -- Which digits begin a number of a range.
-use Rattle.std.proofs.Common.{◌≡◌, ◌≢◌, inl, inr, ℕ, zero, suc, ◌+◌, ◌-◌, ◌*◌, ◌/◌, ◌%◌, ◌^◌, ◌<◌, ◌≤◌, ◌&&◌, true, List, [], ◌∷◌, ◌++◌, length, get_or, refl, sym, ◌∙◌, ap, subst, arith, append-nil, append_assoc, length-append, Option, Some, None, MatchOption}
+use Rattle.std.proofs.Common.{◌≡◌, ◌≢◌, inl, inr, ℕ, zero, suc, ◌+◌, ◌-◌, ◌*◌, ◌/◌, ◌%◌, ◌^◌, ◌<◌, ◌≤◌, ◌&&◌, true, false, List, [], ◌∷◌, ◌++◌, length, get_or, refl, sym, ◌∙◌, ap, subst, arith, append-nil, append_assoc, length-append, Option, Some, None, MatchOption}
 use Rattle.std.specs.Char.{is_ascii_digit}
 use Rattle.std.specs.Fmt.{decimal}
 use Rattle.std.specs.List.{list_all, slice_range}
 use Rattle.std.specs.Option.{SomeIff, IfSome}
-use Rattle.std.proofs.lemmas.Bool.{cases_lt, and_parts}
+use Rattle.std.proofs.Math.Nat.{pow-succ'}
+use Rattle.std.proofs.lemmas.Bool.{both_ways, cases_lt, and_parts}
 use Rattle.std.proofs.lemmas.List.Folds.{list_all-append}
 use Rattle.std.proofs.lemmas.Fmt.{decimal_digit, decimal_step, decimal_nonempty, decimal_injective, first_decimal, decimal_by_steps}
 use Rattle.gos_lex.specs.Items.{Begins, Passes, StopsAt, Misses}
 use Rattle.gos_lex.proofs.PlaceLemmas.{slice_split}
-use Rattle.gos_lex.proofs.ItemLemmas.{stops_bound}
-use Rattle.gos_lex.specs.Decimals.{IsDecimalIn, digits_so_far}
+use Rattle.gos_lex.proofs.ItemLemmas.{stops_bound, stops_here}
+use Rattle.gos_lex.specs.Decimals.{IsDecimalIn}
+use Rattle.gos_lex.specs.inner.Digits.{digits_so_far}
 
 -- what is left of a list that begins with `front` when its last element goes
 pub record Shorter (front whole : List ℕ) : Type 0 where
@@ -140,8 +142,12 @@ zero_stops b begins =
       | inr large ↦ absurd (omega (arith, first_decimal begins.1.0 (omega (arith, large)) fits, ap (λ whole. get_or whole 0 0) is))
     ]
 
-digit_range : (b : ℕ) → is_ascii_digit b ≡ true → (48 ≤ b) × (b ≤ 57)
+pub digit_range : (b : ℕ) → is_ascii_digit b ≡ true → (48 ≤ b) × (b ≤ 57)
 digit_range b digit = (grind arith, grind arith)
+
+-- so many digits and one more
+pub one_digit_more : (value digit k : ℕ) → value < 10 ^ k → digit < 10 → 10 * value + digit < 10 ^ suc k
+one_digit_more value digit k below small = omega (arith, below, small, pow-succ' 10 k)
 
 -- one more digit
 pub digit_more : (value b : ℕ) → is_ascii_digit b ≡ true → value ≢ 0 → 10 * value + (b - 48) < 2 ^ 64 → decimal value ++ b ∷ [] ≡ decimal (10 * value + (b - 48))
@@ -225,6 +231,14 @@ number_passes text at place low high value above below is stops =
       item = (value, above, below, is);
       longest = λ end within item. stops_bound (IsDecimalIn low high) text at place end stops within item;
     }
+
+-- a number of the range stands, and no digit behind it
+pub plain_passes : (text : List ℕ) (at place low high value : ℕ) → high < 2 ^ 64 → at ≤ place → place < length text → slice_range text at place ≡ decimal value → is_ascii_digit (get_or text place 0) ≡ false → low ≤ value → value ≤ high → Passes (IsDecimalIn low high) text at place
+plain_passes text at place low high value fits after inside is other above below =
+    let byte : ℕ = get_or text place 0 in
+    number_passes text at place low high value above below is
+    (stops_here (IsDecimalIn low high) text at place (decimal value) after inside is (begins_whole value low high above below)
+    (λ more. both_ways (is_ascii_digit byte) other (digit_within (decimal value) byte (begins_wider (decimal value ++ byte ∷ []) low high fits more))))
 
 -- the digits that stand are those of no number, or of one below the range
 pub number_misses : (text : List ℕ) (at place low high : ℕ) (value : Option ℕ) → high < 2 ^ 64 → low ≤ high → IfSome value (λ v. v < low) → slice_range text at place ≡ digits_so_far value → StopsAt (IsDecimalIn low high) text at place → Misses (IsDecimalIn low high) text at place

@@ -8,7 +8,8 @@ use Rattle.gos_lex.specs.declared.fault.LexFault.TheVariants as faults
 use Rattle.gos_lex.specs.Lexemes.{is_lexeme, IsLongest}
 use Rattle.gos_lex.specs.Gaps.{IsSkipped}
 use Rattle.gos_lex.specs.declared.token.Token.{Token}
-use Rattle.gos_lex.specs.Tokens.{HasLexeme, IsTooGreat, IsTooLong, IsLexemeFault, StandsIn, EndsWith, Reads, HasFault}
+use Rattle.gos_lex.specs.Tokens.{HasLexeme, IsTooGreat, IsTooLong, StandsIn, EndsWith, Reads, HasFault}
+use Rattle.gos_lex.specs.inner.LexemeFaults.{IsLexemeFault}
 use Rattle.gos_lex.proofs.PlaceLemmas.{rest_whole}
 
 -- the longest lexeme at the front of the rest stands in the text

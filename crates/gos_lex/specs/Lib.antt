@@ -10,3 +10,4 @@ pub mod Tokens
 pub mod OneReading
 pub mod Items
 pub mod Decimals
+pub mod inner

@@ -33,12 +33,6 @@ IsTooGreat bytes = IsTrue (is_numeral bytes) × (4294967295 < value_of bytes)
 abbrev pub IsTooLong : List ℕ → Type 0
 IsTooLong bytes = IsTrue (spells_name bytes) × (255 < length bytes)
 
--- why a lexeme that begins at `from` is no token
-abbrev pub IsLexemeFault : List ℕ → ℕ → LexFault → Type 0
-IsLexemeFault bytes from (faults.Number at) = (at ≡ from) × IsTooGreat bytes
-IsLexemeFault bytes from (faults.Name at) = (at ≡ from) × IsTooLong bytes
-IsLexemeFault bytes from fault = ⊥
-
 -- after the blanks and comments from `at` on, a lexeme stands at from to to, and no longer one
 pub record HasLexeme (text : List ℕ) (at from to : ℕ) : Type 0 where
   pub skipped : IsSkipped text at from

@@ -1,6 +1,6 @@
 // A place in a text of fixed form, which moves on over what is asked for.
 
-ghost use Rattle.std.specs.Prelude.{◌≡◌, ℕ, ◌+◌, ◌-◌, ◌≤◌, ◌<◌, ◌↔◌, length, IsTrue, IfOk, IfErr, OnOk, OnErr};
+ghost use Rattle.std.specs.Prelude.{◌≡◌, ℕ, ◌+◌, ◌-◌, ◌≤◌, ◌<◌, ◌↔◌, length, drop, IsTrue, IfOk, IfErr, OnOk, OnErr};
 ghost use Rattle.std.specs.List.{slice_range};
 ghost use Rattle.std.specs.Fmt.{decimal};
 ghost use Rattle.gos_lex.specs.Names.{IsNameOrWord, IsSpelled};
@@ -45,6 +45,13 @@ impl<'a> Cursor<'a> {
         ensures within { self.now.at ≤ length self.now.text }
     {
         self.at
+    }
+
+    /// The bytes from the cursor on.
+    pub fn rest(&self) -> &[u8]
+        ensures { result.now ≡ drop self.now.at self.now.text }
+    {
+        &self.text[self.at..]
     }
 
     /// Whether the cursor is at the end of the text.

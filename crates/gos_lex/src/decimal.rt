@@ -2,15 +2,82 @@
 //
 // A number of the range is read as far as its digits begin some number of the range.
 
-ghost use Rattle.std.specs.Prelude.{◌≡◌, ◌+◌, ◌-◌, ◌*◌, ◌^◌, ◌<◌, ◌≤◌, ◌↔◌, List, [], ◌∷◌, ◌++◌, length, IsTrue, MatchOption, IfSome, IfOk, IfErr};
+ghost use Rattle.std.specs.Prelude.{◌≡◌, ◌+◌, ◌-◌, ◌*◌, ◌^◌, ◌<◌, ◌≤◌, ◌↔◌, List, [], ◌∷◌, ◌++◌, length, get_or, false, IsTrue, MatchOption, IfSome, IfOk, IfErr};
+ghost use Rattle.std.specs.Char.{is_ascii_digit};
 ghost use Rattle.std.specs.List.{slice_range};
 ghost use Rattle.std.specs.Fmt.{decimal};
 ghost use Rattle.std.specs.Option.{SomeIff};
 ghost use Rattle.gos_lex.specs.Items.{Begins, Passes, StopsAt, Misses};
-ghost use Rattle.gos_lex.specs.Decimals.{IsDecimalIn, digits_so_far};
+ghost use Rattle.gos_lex.specs.Decimals.{IsDecimalIn};
+ghost use Rattle.gos_lex.specs.inner.Digits.{digits_so_far};
+
+// How many digits leave a value far below 2^64.
+const FEW: usize = 18;
 
 // The longest number of the range that stands at `at`, and where it ends.
 pub(crate) fn number_end(text: &[u8], at: usize, low: u64, high: u64) -> Result<(u64, usize), usize>
+    requires at { at ≤ length text.now }
+    requires range { low ≤ high }
+    ensures passes { IfOk result (λ number. Passes (IsDecimalIn low high) text.now at number.1) }
+    ensures value { IfOk result (λ number. slice_range text.now at number.1 ≡ decimal number.0) }
+    ensures range { IfOk result (λ number. (low ≤ number.0) × (number.0 ≤ high)) }
+    ensures wrong { IfErr result (Misses (IsDecimalIn low high) text.now at) }
+{
+    match plain_number(text, at) {
+        Some((value, end)) if low <= value && value <= high => Ok((value, end)),
+        _ => any_number(text, at, low, high),
+    }
+}
+
+// The digits from `at` on as a number, and where they end, if they don't begin with 0, are few, and another byte stands
+// behind them. Nearly all numbers are such ones, and few tests tell so.
+fn plain_number(text: &[u8], at: usize) -> Option<(u64, usize)>
+    requires { at ≤ length text.now }
+    ensures value { IfSome result (λ number. slice_range text.now at number.1 ≡ decimal number.0) }
+    ensures end { IfSome result (λ number. (at ≤ number.1) × (number.1 < length text.now)) }
+    ensures whole { IfSome result (λ number. is_ascii_digit (get_or text.now number.1 0) ≡ false) }
+{
+    let mut value = first_digit(text, at)?;
+    for i in at + 1..end_of_few(text, at) {
+        let b = text[i];
+        if !b.is_ascii_digit() {
+            return Some((value, i));
+        }
+        value = 10 * value + u64::from(b - b'0');
+    }
+    None
+}
+
+// Where few digits from `at` on end, or the text does.
+fn end_of_few(text: &[u8], at: usize) -> usize
+    requires { at ≤ length text.now }
+    ensures within { result ≤ length text.now }
+    ensures few { result ≤ at + 18 }
+{
+    if text.len() - at < FEW {
+        text.len()
+    } else {
+        at + FEW
+    }
+}
+
+// The digit at `at`, where it isn't 0.
+fn first_digit(text: &[u8], at: usize) -> Option<u64>
+    requires { at ≤ length text.now }
+    ensures inside { IfSome result (λ _. at < length text.now) }
+    ensures value { IfSome result (λ value. slice_range text.now at (at + 1) ≡ decimal value) }
+    ensures range { IfSome result (λ value. (0 < value) × (value < 10)) }
+{
+    if at == text.len() || text[at] == b'0' || !text[at].is_ascii_digit() {
+        return None;
+    }
+    Some(u64::from(text[at] - b'0'))
+}
+
+// The longest number of the range that stands at `at`, and where it ends, read a digit at a time as far as they begin one.
+#[cold]
+#[inline(never)]
+fn any_number(text: &[u8], at: usize, low: u64, high: u64) -> Result<(u64, usize), usize>
     requires at { at ≤ length text.now }
     requires range { low ≤ high }
     ensures passes { IfOk result (λ number. Passes (IsDecimalIn low high) text.now at number.1) }

@@ -7,7 +7,8 @@ ghost use Rattle.gos_lex.specs.Bytes.{continues_name};
 ghost use Rattle.gos_lex.specs.Names.{spells_name};
 ghost use Rattle.gos_lex.specs.Numerals.{is_numeral};
 ghost use Rattle.gos_lex.specs.Lexemes.{is_lexeme, IsLongest};
-ghost use Rattle.gos_lex.specs.Tokens.{IsOfKind, IsLexemeFault};
+ghost use Rattle.gos_lex.specs.Tokens.{IsOfKind};
+ghost use Rattle.gos_lex.specs.inner.LexemeFaults.{IsLexemeFault};
 
 use crate::fault::LexFault;
 use crate::name::{MAX_NAME, begins_name, name_bytes, spells_name};

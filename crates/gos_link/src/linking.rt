@@ -34,8 +34,7 @@ fn check_ports(
     let opens = opens_of(alloc, plans, services)?;
     check_names(alloc, &build.instances, &build.root, &opens)?;
     check_result(alloc, &build.root, plans[root].result())?;
-    check_imports(alloc, &opens)?;
-    Ok(())
+    check_imports(alloc, &opens)
 }
 
 // Judges what a build asks behind its bind lines, which mean these services; the answer is the number of the root.

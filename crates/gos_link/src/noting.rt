@@ -12,14 +12,14 @@ use gos_types::NoMemory;
 use std::alloc::Global;
 
 // The root, with the line that names it.
-#[derive(Debug, Drop)]
+#[derive(Drop)]
 pub(crate) struct RootLine {
     pub line: u64,
     pub name: Name,
 }
 
 // What is noted of the lines so far.
-#[derive(Debug, Drop)]
+#[derive(Drop)]
 pub(crate) struct Noted {
     pub instances: Vec<Instance>,
     pub binds: Vec<Bind>,

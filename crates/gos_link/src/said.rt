@@ -13,7 +13,7 @@ use gos_types::NoMemory;
 use std::alloc::Global;
 
 /// The files of a build besides those of its instances.
-#[derive(Debug, Clone, Copy, PartialEq, Eq)]
+#[derive(Clone, Copy)]
 pub enum Role {
     Net,
     Verilog,
@@ -22,7 +22,7 @@ pub enum Role {
 }
 
 /// What a line says.
-#[derive(Debug, Drop)]
+#[derive(Drop)]
 pub enum Said {
     Version,
     Inst {
@@ -45,7 +45,7 @@ pub enum Said {
 }
 
 /// A line with its number.
-#[derive(Debug, Drop)]
+#[derive(Drop)]
 pub struct Item {
     pub line: u64,
     pub said: Said,

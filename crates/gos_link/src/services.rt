@@ -13,7 +13,7 @@ use gos_types::{NoMemory, Ty, copy, same};
 use std::alloc::Global;
 
 /// That instance `giver` serves import `import` of instance `user`, by a line.
-#[derive(Debug, Clone, Copy, PartialEq, Eq)]
+#[derive(Clone, Copy)]
 pub struct Service {
     pub line: u64,
     pub user: usize,

@@ -8,6 +8,7 @@ use Rattle.gos_netcheck.specs.CellRules.{NetsExist, WidthsFit}
 use Rattle.gos_netcheck.specs.PortRules.{PortsFit}
 use Rattle.gos_netcheck.specs.Schedule.{IsSchedule}
 use Rattle.gos_netcheck.specs.Accepted.{IsAccepted, HasFault}
+use Rattle.gos_netcheck.specs.inner.CellFaults.{IsCellFault}
 use Rattle.gos_netcheck.specs.inner.Search.{IsCycleFault}
 use Rattle.gos_netcheck.proofs.ScheduleLemmas.{scheduled_is_acyclic}
 
@@ -39,3 +40,16 @@ faulty net cells e nets widths ports fault cycle =
     by_fault (faults.NoSuchNet cell) found = absurd found
     by_fault (faults.Port index) found = absurd found
     by_fault faults.NoMemory found = tt
+
+-- a fault of the cells is one of the netlist
+pub wrong_cell : (net : Netlist) (cells : List Cell) → cells ≡ net.cells → (fault : NetFault) → IsCellFault cells fault → HasFault net fault
+wrong_cell net cells e fault wrong =
+    let P : List Cell → Type 0 = λ cs. IsCellFault cs fault in
+    by_fault fault (subst P e wrong)
+  where
+    by_fault : (fault : NetFault) → IsCellFault net.cells fault → HasFault net fault
+    by_fault (faults.NoSuchNet cell) found = found
+    by_fault (faults.Width cell) found = found
+    by_fault (faults.Port index) found = absurd found
+    by_fault (faults.Cycle ring) found = absurd found
+    by_fault faults.NoMemory found = absurd found

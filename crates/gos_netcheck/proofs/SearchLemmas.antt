@@ -27,6 +27,12 @@ set_here [] p m l = absurd (omega (arith, l))
 set_here (x ∷ xs) zero m l = refl
 set_here (x ∷ xs) (suc p) m l = set_here xs p m (omega (arith, l))
 
+-- of two marks that are set the later one stays
+set_twice : (marks : List Mark) (p : ℕ) (m k : Mark) → slice_set (slice_set marks p m) p k ≡ slice_set marks p k
+set_twice [] p m k = refl
+set_twice (x ∷ xs) zero m k = refl
+set_twice (x ∷ xs) (suc p) m k = ap (λ rest. x ∷ rest) (set_twice xs p m k)
+
 set_there : (marks : List Mark) (p n : ℕ) (m : Mark) → p ≢ n → slice_get (slice_set marks p m) n ≡ slice_get marks n
 set_there [] p n m h = refl
 set_there (x ∷ xs) zero zero m h = absurd (h refl)
@@ -207,6 +213,24 @@ later_by_placed marks p is_open =
     let was : steps_of (get_or marks p Open) ≡ 1 = ap steps_of (get_or_from_slice_get marks p Open Open is_open) in
     record {
       nearer = omega (arith, was, sum_by-set steps_of marks p Placed Open l);
+      begun = λ n was. begun_after marks p n Placed tt l was;
+    }
+
+-- where the path is empty, it gives a new net its place at once, if all that feeds it has one
+pub places_at_once : (cells : List Cell) (marks : List Mark) (net : ℕ) (order : List ℕ) → IsSearch cells marks [] order → slice_get marks net ≡ Some New
+    → IsReady cells marks net → IsSearch cells (slice_set marks net Placed) [] (order ++ net ∷ [])
+places_at_once cells marks net order s new ready =
+    let other = new_or_placed (slice_get marks net) new in
+    let ready_still : IsReady cells (slice_set marks net Open) net = λ a feeds. kept_after marks net a Open Placed other (ready a feeds) in
+    let P : List Mark → Type 0 = λ m. IsSearch cells m [] (order ++ net ∷ []) in
+    subst P (set_twice marks net Open Placed) (places cells (slice_set marks net Open) net [] order (goes_on cells marks [] order net s new tt) ready_still)
+
+pub later_at_once : (marks : List Mark) (p : ℕ) → slice_get marks p ≡ Some New → IsLater marks (slice_set marks p Placed)
+later_at_once marks p new =
+    let l : p < length marks = slice_get_within marks p New new in
+    let was : steps_of (get_or marks p New) ≡ 2 = ap steps_of (get_or_from_slice_get marks p New New new) in
+    record {
+      nearer = omega (arith, was, sum_by-set steps_of marks p Placed New l);
       begun = λ n was. begun_after marks p n Placed tt l was;
     }
 

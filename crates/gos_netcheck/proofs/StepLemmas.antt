@@ -15,7 +15,7 @@ use Rattle.gos_netcheck.specs.Schedule.{IsSchedule}
 use Rattle.gos_netcheck.specs.inner.Turning.{IsFrontTo, IsTurned}
 use Rattle.gos_netcheck.specs.inner.Search.{Trail, IsSearch, Stands, path_of, IsReady, IsWaiting, IsBegun, IsLater}
 use Rattle.gos_netcheck.proofs.TurnLemmas.{first, cycle_found}
-use Rattle.gos_netcheck.proofs.SearchLemmas.{set_here, goes_on, places, later_by_open, later_by_placed, search_ends}
+use Rattle.gos_netcheck.proofs.SearchLemmas.{set_here, goes_on, places, places_at_once, later_by_open, later_by_placed, later_at_once, search_ends}
 use Rattle.gos_netcheck.proofs.ScheduleLemmas.{place_of}
 
 -- a path and one more net, from the last one back
@@ -92,6 +92,23 @@ step_goes_on cells old new net stands is_new trail marks path order =
     let L : List Mark → Type 0 = λ m. IsLater old.marks.items m in
     (subst R (sym nets) (subst Q (sym longer) (subst P (sym marks) next)), subst L (sym marks) (later_by_open old.marks.items net.0 is_new))
 
+-- where the path is empty, a new net gets its place at once
+pub step_places_at_once : (cells : List Cell) (old new : Search) (net : NetId) → old.path.len ≡ 0 → Stands cells old → slice_get old.marks.items net.0 ≡ Some New
+    → IsReady cells old.marks.items net.0 → new.marks.items ≡ slice_set old.marks.items net.0 Placed → new.path.items ≡ take (old.path.len - 1) old.path.items
+    → new.order.items ≡ old.order.items ++ net ∷ [] → Stands cells new × IsLater old.marks.items new.marks.items
+step_places_at_once cells old new net none stands is_new ready marks path order =
+    let e : old.path.items ≡ [] = nil_from_length old.path.items (omega (arith, none, old.path.ok.0)) in
+    let still : new.path.items ≡ [] = path ∙ (ap (take (old.path.len - 1)) e ∙ take_all (old.path.len - 1) [] (omega arith)) in
+    let P : List NetId → Type 0 = λ xs. IsSearch cells old.marks.items (reverse (map number_of xs)) (map number_of old.order.items) in
+    let next = places_at_once cells old.marks.items net.0 (map number_of old.order.items) (subst P e stands) is_new ready in
+    let nets : map number_of new.order.items ≡ map number_of old.order.items ++ net.0 ∷ [] =
+    ap (map number_of) order ∙ map-append number_of old.order.items (net ∷ []) in
+    let M : List Mark → Type 0 = λ m. IsSearch cells m [] (map number_of old.order.items ++ net.0 ∷ []) in
+    let Q : List NetId → Type 0 = λ xs. IsSearch cells new.marks.items (reverse (map number_of xs)) (map number_of old.order.items ++ net.0 ∷ []) in
+    let R : List ℕ → Type 0 = λ o. IsSearch cells new.marks.items (path_of new) o in
+    let L : List Mark → Type 0 = λ m. IsLater old.marks.items m in
+    (subst R (sym nets) (subst Q (sym still) (subst M (sym marks) next)), subst L (sym marks) (later_at_once old.marks.items net.0 is_new))
+
 new_by_rest : (m : Mark) → (m ≡ Open → ⊥) → (m ≡ Placed → ⊥) → m ≡ New
 new_by_rest New a b = refl
 new_by_rest Open a b = absurd (a refl)
@@ -153,6 +170,12 @@ stands_last cells s stands none begun =
     let P : List NetId → Type 0 = λ xs. IsSearch cells s.marks.items (reverse (map number_of xs)) (map number_of s.order.items) in
     let e : s.path.items ≡ [] = nil_from_length s.path.items (omega (arith, none, s.path.ok.0)) in
     search_ends cells s.marks.items (map number_of s.order.items) (subst P e stands) begun
+
+-- a net that is marked as placed is begun
+pub placed_begun : (old new : List Mark) (n : ℕ) → n < length old → new ≡ slice_set old n Placed → IsBegun (slice_get new n)
+placed_begun old new n l is =
+    let P : List Mark → Type 0 = λ marks. IsBegun (slice_get marks n) in
+    subst P (sym is) (subst IsBegun (sym (set_here old n Placed l)) tt)
 
 -- a net that is marked as open is begun
 pub open_begun : (old new : List Mark) (n : ℕ) → n < length old → new ≡ slice_set old n Open → IsBegun (slice_get new n)

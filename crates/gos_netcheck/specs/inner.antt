@@ -1,5 +1,6 @@
 -- What stands between this crate's own functions and lemmas, and no public clause cites. In reading order: a file uses only
 -- files above it.
+pub mod CellFaults
 pub mod Turning
 pub mod Search
 pub mod PortSearch

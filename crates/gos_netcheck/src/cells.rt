@@ -1,5 +1,5 @@
 // The rules for each cell: the nets that it names are there, and widths fit.
-ghost use Rattle.std.specs.Prelude.{◌≡◌, ◌↔◌, ◌<◌, ◌≤◌, IsTrue, MatchOption, map, length};
+ghost use Rattle.std.specs.Prelude.{◌≡◌, ◌↔◌, ◌<◌, ◌≤◌, ◌^◌, IsTrue, IsNone, IfSome, MatchOption, map, length};
 ghost use Rattle.gos_netlist.specs.Seen.{cell_of, function_of};
 ghost use Rattle.gos_netcheck.specs.CellRules.{
   PinsExist,
@@ -12,11 +12,84 @@ ghost use Rattle.gos_netcheck.specs.CellRules.{
   width_at,
   widths_of,
 };
+ghost use Rattle.gos_netcheck.specs.inner.CellFaults.{IsCellFault};
 
+use crate::fault::NetFault;
 use gos_netlist::{Cell, Gate, NetId};
 
+// The first fault of a cell. Only where there is one it is looked which.
+pub(crate) fn first_wrong_cell(cells: &[Cell]) -> Option<NetFault>
+    requires { length cells.now < 2 ^ 32 }
+    ensures nets { IsNone result → NetsExist (map cell_of cells.now) }
+    ensures widths { IsNone result → WidthsFit (map cell_of cells.now) }
+    ensures fault { IfSome result (IsCellFault (map cell_of cells.now)) }
+{
+    if all_right(cells) {
+        return None;
+    }
+    if let Some(cell) = first_without_net(cells) {
+        return Some(NetFault::NoSuchNet { cell: cell as u32 });
+    }
+    if let Some(cell) = first_of_wrong_width(cells) {
+        return Some(NetFault::Width { cell: cell as u32 });
+    }
+    None
+}
+
+// Whether all cells keep both rules.
+fn all_right(cells: &[Cell]) -> bool
+    ensures nets { IsTrue result → NetsExist (map cell_of cells.now) }
+    ensures widths { IsTrue result → WidthsFit (map cell_of cells.now) }
+{
+    for cell in cells {
+        if !is_right(cells, cell) {
+            return false;
+        }
+    }
+    true
+}
+
+// Whether the cell keeps both rules, looked at together.
+fn is_right(cells: &[Cell], cell: &Cell) -> bool
+    ensures nets { IsTrue result → PinsExist (length cells.now) (cell_of cell.now) }
+    ensures widths { IsTrue result → HasRightWidths (widths_of (map cell_of cells.now)) (cell_of cell.now) }
+{
+    let width = cell.width;
+    if width < 1 || 32 < width {
+        return false;
+    }
+    match cell.gate {
+        Gate::Input => true,
+        Gate::Const(k) => k < 1u64 << width,
+        Gate::Not(a) | Gate::Reg(a) => has_width(cells, a, width),
+        Gate::And(a, b) | Gate::Or(a, b) | Gate::Xor(a, b) | Gate::Add(a, b) | Gate::Sub(a, b) => {
+            has_width(cells, a, width) && has_width(cells, b, width)
+        }
+        Gate::Mux(s, a, b) => {
+            has_width(cells, s, 1) && has_width(cells, a, width) && has_width(cells, b, width)
+        }
+        Gate::Eq(a, b) | Gate::Less(a, b) => {
+            width == 1
+                && has_width(cells, b, width_of(cells, a))
+                && has_width(cells, a, width_of(cells, b))
+        }
+        Gate::Gate(s, a) => has_width(cells, s, 1) && has_width(cells, a, width),
+    }
+}
+
+// Whether the net is there and has so many bits.
+fn has_width(cells: &[Cell], net: NetId, width: u32) -> bool
+    ensures there { IsTrue result → net.0 < length cells.now }
+    ensures width { IsTrue result → width_at (widths_of (map cell_of cells.now)) net.0 ≡ width }
+{
+    match cells.get(net.0 as usize) {
+        Some(cell) => cell.width == width,
+        None => false,
+    }
+}
+
 // The first cell that names a net that isn't there.
-pub(crate) fn first_without_net(cells: &[Cell]) -> Option<usize>
+fn first_without_net(cells: &[Cell]) -> Option<usize>
     ensures { MatchOption result (NetsExist (map cell_of cells.now)) (IsFirstWithoutNet (map cell_of cells.now)) }
 {
     for (n, cell) in cells.iter().enumerate() {
@@ -54,7 +127,7 @@ fn exists(count: usize, net: NetId) -> bool
 }
 
 // The first cell with a wrong width.
-pub(crate) fn first_of_wrong_width(cells: &[Cell]) -> Option<usize>
+fn first_of_wrong_width(cells: &[Cell]) -> Option<usize>
     ensures { MatchOption result (WidthsFit (map cell_of cells.now)) (IsFirstOfWrongWidth (map cell_of cells.now)) }
 {
     for (n, cell) in cells.iter().enumerate() {

@@ -5,7 +5,7 @@ ghost use Rattle.gos_netcheck.specs.Schedule.{IsSchedule};
 ghost use Rattle.gos_netcheck.specs.Levels.{AreLevels};
 ghost use Rattle.gos_netcheck.specs.Accepted.{IsAccepted, HasFault};
 
-use crate::cells::{first_of_wrong_width, first_without_net};
+use crate::cells::first_wrong_cell;
 use crate::fault::{NetFault, Refused};
 use crate::levels::levels_of;
 use crate::ports::first_wrong_port;
@@ -95,11 +95,8 @@ fn judged(alloc: Global, net: &Netlist) -> Result<Vec<NetId>, NetFault>
     ensures schedule { IfOk result (λ order. IsSchedule net.now.cells (map number_of order.items)) }
     ensures fault { IfErr result (HasFault net.now) }
 {
-    if let Some(cell) = first_without_net(&net.cells) {
-        return Err(NetFault::NoSuchNet { cell: cell as u32 });
-    }
-    if let Some(cell) = first_of_wrong_width(&net.cells) {
-        return Err(NetFault::Width { cell: cell as u32 });
+    if let Some(fault) = first_wrong_cell(&net.cells) {
+        return Err(fault);
     }
     if let Some(index) = first_wrong_port(alloc, &net.cells, &net.ports)? {
         return Err(NetFault::Port { index });

@@ -33,12 +33,13 @@ ghost use Rattle.std.specs.Prelude.{
   slice_get,
   slice_set,
 };
+ghost use Rattle.gos_netlist.specs.Nets.{pins};
 ghost use Rattle.gos_netlist.specs.Seen.{cell_of, function_of, number_of};
 ghost use Rattle.gos_netlist.specs.Cycles.{IsRegister, Feeds};
 ghost use Rattle.gos_netcheck.specs.Rules.{Kept};
 ghost use Rattle.gos_netcheck.specs.CellRules.{NetsExist};
 ghost use Rattle.gos_netcheck.specs.Schedule.{IsSchedule};
-ghost use Rattle.gos_netcheck.specs.inner.Search.{Stands, IsLater, IsBegun, IsDone, IsUndone, IsWaiting, IsReady, IsCycleFault, steps_left};
+ghost use Rattle.gos_netcheck.specs.inner.Search.{Stands, IsLater, IsBegun, IsDone, IsUndone, IsWaiting, IsReady, IsCycleFault, nets_of, steps_left};
 
 use crate::cycle::cycle_at;
 use crate::fault::NetFault;
@@ -54,6 +55,15 @@ enum Mark {
     Open,
     // It has its place in the order.
     Placed,
+}
+
+// The nets that a cell names, in written order.
+#[derive(Clone, Copy)]
+enum Named {
+    None,
+    One(NetId),
+    Two(NetId, NetId),
+    Three(NetId, NetId, NetId),
 }
 
 // Where the search stands.
@@ -110,7 +120,7 @@ impl Search {
         ensures cycle { IfErr result (IsCycleFault (map cell_of cells.now)) }
     {
         let net = self.path[self.path.len() - 1];
-        match first_waited_for(alloc, cells, &self.marks, net) {
+        match first_waited_for(cells, &self.marks, net) {
             None => self.place(net)?,
             Some(pin) => {
                 if is_open(self.marks[pin.0 as usize]) {
@@ -124,10 +134,11 @@ impl Search {
         Ok(())
     }
 
-    // Goes on to a net where the path is empty, if it is new.
+    // Where the path is empty, goes on to a net if it is new, or gives it its place at once if it waits for none.
     fn go_on_to_new(&mut self, cells: &[Cell], n: usize) -> Result<(), AllocError>
         requires stands { Stands (map cell_of cells.now) self.old }
         requires none { vec_len self.old.path ≡ 0 }
+        requires nets { NetsExist (map cell_of cells.now) }
         requires within { n < length cells.now }
         requires few { length cells.now < 2 ^ 32 }
         ensures stands { OnOk result (Stands (map cell_of cells.now) self.new) }
@@ -135,10 +146,20 @@ impl Search {
         ensures begun { OnOk result (IsBegun (slice_get self.new.marks.items n)) }
         ensures others { OnOk result ((k : ℕ) → IsBegun (slice_get self.old.marks.items k) → IsBegun (slice_get self.new.marks.items k)) }
     {
-        if is_new(self.marks[n]) {
-            self.go_on_to(NetId(n as u32))?;
+        if !is_new(self.marks[n]) {
+            return Ok(());
         }
-        Ok(())
+        let net = NetId(n as u32);
+        match first_waited_for(cells, &self.marks, net) {
+            None => {
+                self.place(net)?;
+                Ok(())
+            }
+            Some(_) => {
+                self.go_on_to(net)?;
+                Ok(())
+            }
+        }
     }
 
     // Puts a net behind the path.
@@ -168,14 +189,37 @@ impl Search {
 }
 
 // The first net that the net's cell waits for, in the order of its pins.
-fn first_waited_for(alloc: Global, cells: &[Cell], marks: &[Mark], net: NetId) -> Option<NetId>
+fn first_waited_for(cells: &[Cell], marks: &[Mark], net: NetId) -> Option<NetId>
     requires there { net.0 < length cells.now }
     requires marked { length marks.now ≡ length cells.now }
     requires nets { NetsExist (map cell_of cells.now) }
     ensures { MatchOption result (IsReady (map cell_of cells.now) marks.now net.0) (λ pin. IsWaiting (map cell_of cells.now) marks.now net.0 pin.0) }
 {
-    let pins = cells[net.0 as usize].pins(alloc);
-    first_undone(cells, marks, pins.as_slice())
+    match pins_of(cells[net.0 as usize].gate) {
+        Named::None => None,
+        Named::One(a) => first_undone(cells, marks, &[a]),
+        Named::Two(a, b) => first_undone(cells, marks, &[a, b]),
+        Named::Three(a, b, c) => first_undone(cells, marks, &[a, b, c]),
+    }
+}
+
+// The nets that a gate names.
+fn pins_of(gate: Gate) -> Named
+    ensures { nets_of result ≡ pins (function_of gate) }
+{
+    match gate {
+        Gate::Input | Gate::Const(_) => Named::None,
+        Gate::Not(a) | Gate::Reg(a) => Named::One(a),
+        Gate::And(a, b)
+        | Gate::Or(a, b)
+        | Gate::Xor(a, b)
+        | Gate::Add(a, b)
+        | Gate::Sub(a, b)
+        | Gate::Eq(a, b)
+        | Gate::Less(a, b)
+        | Gate::Gate(a, b) => Named::Two(a, b),
+        Gate::Mux(s, a, b) => Named::Three(s, a, b),
+    }
 }
 
 // The first of these nets that is no register and not placed.
@@ -200,7 +244,7 @@ fn waits_for(cell: &Cell, mark: Mark) -> bool
     ensures { MatchBool result ((IsRegister (function_of cell.now.gate) → ⊥) × (mark ≡ Mark.Placed → ⊥))
         ((IsRegister (function_of cell.now.gate) → ⊥) → mark ≡ Mark.Placed) }
 {
-    !is_register(cell.gate) && !is_placed(mark)
+    !is_placed(mark) && !is_register(cell.gate)
 }
 
 fn is_register(gate: Gate) -> bool

@@ -9,7 +9,7 @@ use Rattle.gos_netlist.specs.Nets.{Cell, NetPort, Netlist}
 use Rattle.gos_netlist.specs.NetText.{cell_text, port_text, text_of}
 use Rattle.gos_netlist.specs.Writable.{IsWritableCell}
 use Rattle.gos_netlist.specs.NetFaults.{IsNetText, IsRead, IsAbove, CountAbove, before_cells, before_ports, IsAboveLimit, IsOneNetlist, ReadHasNoFault, HasOneFault}
-use Rattle.gos_netlist.specs.NetItems.{section_text}
+use Rattle.gos_netlist.specs.inner.NetLines.{section_text}
 use Rattle.gos_netlist.proofs.SequenceLemmas.{slice_front, same_fronts}
 use Rattle.gos_netlist.proofs.NumberLemmas.{no_longer_number}
 use Rattle.gos_netlist.proofs.SectionLemmas.{number_under}

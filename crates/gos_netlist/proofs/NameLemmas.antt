@@ -7,7 +7,8 @@ use Rattle.gos_lex.specs.Bytes.{begins_name, continues_name}
 use Rattle.gos_lex.specs.Names.{IsSpelled, IsNameOrWord}
 use Rattle.gos_lex.specs.Items.{IsJust, Passes, StopsAt, Misses}
 use Rattle.gos_lex.proofs.PlaceLemmas.{length_slice, slice_split, slice_cons}
-use Rattle.gos_netlist.specs.NetItems.{IsTextOf, IsNameText, ended}
+use Rattle.gos_netlist.specs.NetItems.{IsTextOf, ended}
+use Rattle.gos_netlist.specs.inner.NetLines.{IsNameText}
 use Rattle.gos_netlist.proofs.SequenceLemmas.{Lacks, IsCode, ended_misses, ended_code}
 use Rattle.gos_netlist.proofs.NumberLemmas.{byte_missed}
 

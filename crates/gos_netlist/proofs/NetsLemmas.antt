@@ -1,11 +1,12 @@
 -- Numbers one behind the other, with a space between each two and a line feed behind the last.
-use Rattle.std.proofs.Common.{◌≡◌, inl, inr, ◌⊎◌, ℕ, suc, zero, ◌+◌, ◌≤◌, List, [], ◌∷◌, ◌++◌, length, refl, sym, ◌∙◌, ap, subst, arith, append_assoc, append-nil, length-append}
+use Rattle.std.proofs.Common.{◌≡◌, inl, inr, ◌⊎◌, ℕ, suc, zero, ◌+◌, ◌-◌, ◌<◌, ◌≤◌, List, [], ◌∷◌, ◌++◌, length, refl, sym, ◌∙◌, ap, subst, arith, append_assoc, append-nil, length-append}
 use Rattle.std.specs.Fmt.{decimal}
 use Rattle.std.specs.List.{AllByRecursion, slice_range}
 use Rattle.gos_lex.specs.Items.{TextAt, Misses}
 use Rattle.gos_lex.proofs.PlaceLemmas.{slice_split, slice_nothing}
 use Rattle.gos_netlist.specs.Writable.{IsNumber}
-use Rattle.gos_netlist.specs.NetItems.{IsInRange, IsNumberText, Passed, ended, end_before, end_with, numbers_text, AreNets, IsNetsText}
+use Rattle.gos_netlist.specs.NetItems.{IsInRange, IsNumberText, Passed, ended}
+use Rattle.gos_netlist.specs.inner.NetLines.{end_before, end_with, numbers_text, AreNets, IsNetsText}
 use Rattle.gos_netlist.proofs.SequenceLemmas.{Then, IsCode, misses_as, then_first, then_rest}
 use Rattle.gos_netlist.proofs.NumberLemmas.{number_code}
 
@@ -93,6 +94,12 @@ one_more count old mid new ns before left n fewer far is passed =
       breaks = λ place misses.
           far.breaks place (subst (λ (k : ℕ). Misses (IsNetsText k) old.text mid.at place) (sym fewer) (nets_rest left n old.text mid.at new.at place is passed.after within part misses));
     }
+
+-- the first net is read
+pub first_net : (count : ℕ) (old new : TextAt) (n : ℕ) → 0 < count → old.at ≤ length old.text → n ≤ 4294967295
+    → Passed old new (ended (end_with (count - 1)) (decimal n)) → NetsSoFar count old new (n ∷ []) (count - 1)
+first_net count old new n some within is passed =
+    one_more count old old new [] count (count - 1) n (omega (arith, some)) (none_yet count old within) is passed
 
 -- where a number breaks off, the nets do
 pub no_more : (count : ℕ) (old mid : TextAt) (ns : List ℕ) (before left place : ℕ) → before ≡ suc left → NetsSoFar count old mid ns before

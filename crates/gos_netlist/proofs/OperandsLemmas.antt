@@ -9,7 +9,8 @@ use Rattle.gos_netlist.specs.declared.word.GateWord.TheVariants as gates
 use Rattle.gos_netlist.specs.Nets.{Function, Input, Const, Not, And, Or, Xor, Mux, Add, Sub, Eq, Less, Gate, Reg}
 use Rattle.gos_netlist.specs.NetText.{operands}
 use Rattle.gos_netlist.specs.Writable.{IsNumber, OperandsFit}
-use Rattle.gos_netlist.specs.NetItems.{IsNumberText, ended, numbers_text, AreNets, IsNetsText, word_for, pin_count, HasWord, IsOperandsText}
+use Rattle.gos_netlist.specs.NetItems.{IsNumberText, ended}
+use Rattle.gos_netlist.specs.inner.NetLines.{numbers_text, AreNets, IsNetsText, word_for, pin_count, HasWord, IsOperandsText}
 use Rattle.gos_netlist.proofs.SequenceLemmas.{misses_as}
 
 -- a function with the word of constants is one

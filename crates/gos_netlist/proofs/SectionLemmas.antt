@@ -8,7 +8,8 @@ use Rattle.gos_lex.specs.Decimals.{IsDecimalIn}
 use Rattle.gos_netlist.specs.declared.fault.NetTextFault.{NetTextFault}
 use Rattle.gos_netlist.specs.declared.fault.NetTextFault.TheVariants as faults
 use Rattle.gos_netlist.specs.NetFaults.{IsAbove}
-use Rattle.gos_netlist.specs.NetItems.{IsInRange, Passed, BreaksOff, ended, IsLinesText, CountFault, section_text, AreCounted, IsSectionText, SectionFault}
+use Rattle.gos_netlist.specs.NetItems.{IsInRange, Passed, ended}
+use Rattle.gos_netlist.specs.inner.NetLines.{BreaksOff, IsLinesText, CountFault, section_text, AreCounted, IsSectionText, SectionFault}
 use Rattle.gos_netlist.proofs.SequenceLemmas.{Then, IsCode, misses_as, then_first, then_rest}
 use Rattle.gos_netlist.proofs.PassedLemmas.{passed_both, passed_as}
 use Rattle.gos_netlist.proofs.NumberLemmas.{number_code, no_number, number_not_ended}

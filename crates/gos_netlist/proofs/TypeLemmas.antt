@@ -10,7 +10,8 @@ use Rattle.gos_netlist.specs.declared.word.TypeWord.{TypeWord}
 use Rattle.gos_netlist.specs.declared.word.TypeWord.TheVariants as types
 use Rattle.gos_netlist.specs.Writable.{IsPortType}
 use Rattle.gos_netlist.specs.Events.{net_count}
-use Rattle.gos_netlist.specs.NetItems.{IsNumberText, Passed, ended, numbers_text, AreNets, IsNetsText, type_word, tail_text, IsTypeWordText, IsTypeText, IsTailText}
+use Rattle.gos_netlist.specs.NetItems.{IsNumberText, Passed, ended}
+use Rattle.gos_netlist.specs.inner.NetLines.{numbers_text, AreNets, IsNetsText, type_word, tail_text, IsTypeWordText, IsTypeText, IsTailText}
 use Rattle.gos_netlist.proofs.SequenceLemmas.{Then, IsCode, misses_as, then_first, then_rest}
 use Rattle.gos_netlist.proofs.PassedLemmas.{passed_both}
 use Rattle.gos_netlist.proofs.NumberLemmas.{number_code}

@@ -12,7 +12,8 @@ use Rattle.gos_netlist.specs.declared.word.TypeWord.{TypeWord}
 use Rattle.gos_netlist.specs.declared.word.TypeWord.TheVariants as types
 use Rattle.gos_netlist.specs.Nets.{Side, Give, Take}
 use Rattle.gos_netlist.specs.NetText.{side_word}
-use Rattle.gos_netlist.specs.NetItems.{IsTextOf, IsAmong, ended, gate_text, type_word, IsGateText, IsSideText, IsTypeWordText}
+use Rattle.gos_netlist.specs.NetItems.{IsTextOf, IsAmong, ended}
+use Rattle.gos_netlist.specs.inner.NetLines.{gate_text, type_word, IsGateText, IsSideText, IsTypeWordText}
 use Rattle.gos_netlist.proofs.SequenceLemmas.{Lacks, IsCode, misses_as, ended_code}
 
 -- a text of letters has no other byte

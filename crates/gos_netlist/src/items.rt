@@ -1,12 +1,13 @@
-// The items that lines are made of: words of a table, numbers with the byte that ends them, and nets.
+// The items that lines are made of: numbers with the byte that ends them, and nets.
 //
 // `Err` is the place of the first byte that can't go on as the item, or the end of the text. Then the cursor may have
 // moved.
-ghost use Rattle.std.specs.Prelude.{◌≡◌, ◌<◌, ◌≤◌, ◌⊎◌, [], IfOk, IfErr, length, map, get_or};
+ghost use Rattle.std.specs.Prelude.{◌≡◌, ◌<◌, ◌≤◌, ◌⊎◌, [], ◌∷◌, IfOk, IfErr, length, map, take};
 ghost use Rattle.std.specs.Fmt.{decimal};
 ghost use Rattle.gos_lex.specs.Items.{Misses};
 ghost use Rattle.gos_netlist.specs.Seen.{number_of};
-ghost use Rattle.gos_netlist.specs.NetItems.{Passed, end_with, ended, IsAmong, IsInRange, IsNumberText, AreNets, IsNetsText, numbers_text};
+ghost use Rattle.gos_netlist.specs.NetItems.{Passed, ended, IsInRange, IsNumberText};
+ghost use Rattle.gos_netlist.specs.inner.NetLines.{end_with, AreNets, IsNetsText, numbers_text};
 
 use crate::nets::NetId;
 use gos_lex::Cursor;
@@ -18,34 +19,6 @@ pub const LAST_NUMBER: u64 = 4_294_967_295;
 
 /// The nets of a line: six at most.
 pub type LineNets = SmallVec<NetId, 6>;
-
-/// Passes one of these words, and gives its place among them.
-pub fn one_of(cursor: &mut Cursor, words: &[&[u8]]) -> Result<usize, usize>
-    requires { 0 < length words.now }
-    ensures inside { IfOk result (λ k. k < length words.now) }
-    ensures passed { IfOk result (λ k. Passed cursor.old cursor.new (get_or (map (λ word. word.now) words.now) k [])) }
-    ensures wrong { IfErr result (Misses (IsAmong (map (λ word. word.now) words.now)) cursor.old.text cursor.old.at) }
-{
-    let mut furthest = match cursor.word(words[0]) {
-        Ok(()) => return Ok(0),
-        Err(at) => at,
-    };
-    for k in 1..words.len() {
-        match cursor.word(words[k]) {
-            Ok(()) => return Ok(k),
-            Err(at) => furthest = further(furthest, at),
-        }
-    }
-    Err(furthest)
-}
-
-// The greater of two places.
-fn further(one: usize, other: usize) -> usize
-    ensures at_least { (one ≤ result) × (other ≤ result) }
-    ensures either { (result ≡ one) ⊎ (result ≡ other) }
-{
-    if one < other { other } else { one }
-}
 
 /// Passes a number of the range, and the byte that ends it.
 pub fn number(cursor: &mut Cursor, low: u64, high: u64, end: u8) -> Result<u64, usize>
@@ -61,7 +34,7 @@ pub fn number(cursor: &mut Cursor, low: u64, high: u64, end: u8) -> Result<u64, 
 }
 
 /// Passes so many nets, with a space between each two and a line feed behind the last.
-pub fn nets(alloc: Global, cursor: &mut Cursor, count: usize) -> Result<LineNets, usize>
+pub fn so_many_nets(alloc: Global, cursor: &mut Cursor, count: usize) -> Result<LineNets, usize>
     requires few { count ≤ 6 }
     requires within { cursor.now.at ≤ length cursor.now.text }
     ensures nets { IfOk result (λ nets. AreNets count (map number_of nets.items)) }
@@ -76,6 +49,26 @@ pub fn nets(alloc: Global, cursor: &mut Cursor, count: usize) -> Result<LineNets
         nets.push_reserved(NetId(n as u32));
     }
     Ok(nets)
+}
+
+/// Passes one to three nets, with a space between each two and a line feed behind the last. What stands behind so many
+/// is no net of the line.
+pub fn few_nets(cursor: &mut Cursor, count: usize) -> Result<(NetId, NetId, NetId), usize>
+    requires few { (0 < count) × (count ≤ 3) }
+    requires within { cursor.now.at ≤ length cursor.now.text }
+    ensures passed { IfOk result (λ nets. Passed cursor.old cursor.new (numbers_text (take count (nets.0.0 ∷ nets.1.0 ∷ nets.2.0 ∷ [])))) }
+    ensures wrong { IfErr result (Misses (IsNetsText count) cursor.old.text cursor.old.at) }
+{
+    let a = number(cursor, 0, LAST_NUMBER, end_with(count - 1))?;
+    if count == 1 {
+        return Ok((NetId(a as u32), NetId(0), NetId(0)));
+    }
+    let b = number(cursor, 0, LAST_NUMBER, end_with(count - 2))?;
+    if count == 2 {
+        return Ok((NetId(a as u32), NetId(b as u32), NetId(0)));
+    }
+    let c = number(cursor, 0, LAST_NUMBER, b'\n')?;
+    Ok((NetId(a as u32), NetId(b as u32), NetId(c as u32)))
 }
 
 // The byte behind a number, before so many others.

@@ -6,9 +6,9 @@
 // and `NetFaults` (why a text is none).
 //
 // `printing.rt` and `reading.rt` lead from a netlist to its text and back. The reader stands on `sections.rt` (a count
-// and its lines), `cell_line.rt` and `port_line.rt` (one line), `word.rt` and `items.rt` (what lines are made of).
-// `laws.rt` has the small theorems that show what the definitions say. `passes.rt` is a plain, slow program over small
-// netlists, which the faster ones of other crates are compared with.
+// and its lines), `cell_line.rt` and `port_line.rt` (one line), `word.rt`, `table.rt` and `items.rt` (what lines are
+// made of). `laws.rt` has the small theorems that show what the definitions say. `passes.rt` is a plain, slow program
+// over small netlists, which the faster ones of other crates are compared with.
 #![tactic(auto)]
 
 mod cell_line;
@@ -22,13 +22,14 @@ mod port_line;
 mod printing;
 mod reading;
 mod sections;
+mod table;
 mod word;
 
 pub use event::{Event, events};
 pub use fault::NetTextFault;
-pub use items::one_of;
 pub use laws::{one_answer, reads_back, settlings, small_nets};
 pub use nets::{Cell, Gate, Ground, NetId, Netlist, Pins, Port, Side};
 pub use passes::{SettleFault, settle};
 pub use printing::print_net;
 pub use reading::read_net;
+pub use table::one_of;

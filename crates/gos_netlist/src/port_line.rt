@@ -7,10 +7,11 @@ ghost use Rattle.gos_netlist.specs.Seen.{ground_type, number_of};
 ghost use Rattle.gos_netlist.specs.NetText.{port_text};
 ghost use Rattle.gos_netlist.specs.Writable.{IsPortType, IsWritablePort};
 ghost use Rattle.gos_netlist.specs.Events.{net_count};
-ghost use Rattle.gos_netlist.specs.NetItems.{Passed, BreaksOff, ended, numbers_text, AreNets, tail_text, IsNameText, IsTypeText, IsTailText, IsPortText};
+ghost use Rattle.gos_netlist.specs.NetItems.{Passed, ended};
+ghost use Rattle.gos_netlist.specs.inner.NetLines.{BreaksOff, numbers_text, AreNets, tail_text, IsNameText, IsTypeText, IsTailText, IsPortText};
 
 use crate::fault::NetTextFault;
-use crate::items::{LineNets, nets, number};
+use crate::items::{LineNets, number, so_many_nets};
 use crate::nets::{Ground, NetId, Port};
 use crate::word::{TypeWord, side_word, type_word};
 use gos_lex::{Cursor, Name};
@@ -68,7 +69,7 @@ fn type_and_nets(alloc: Global, cursor: &mut Cursor) -> Result<(Ground, Vec<NetI
         Ok(ty) => ty,
         Err(at) => return Err(NetTextFault::Form { at }),
     };
-    let nets = match nets(alloc, cursor, net_count(ty)) {
+    let nets = match so_many_nets(alloc, cursor, net_count(ty)) {
         Ok(nets) => nets,
         Err(at) => return Err(NetTextFault::Form { at }),
     };

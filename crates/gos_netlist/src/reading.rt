@@ -1,7 +1,8 @@
 // Reading a netlist from its text.
 ghost use Rattle.std.specs.Prelude.{◌≡◌, ◌≤◌, IfOk, IfErr, length};
 ghost use Rattle.gos_netlist.specs.NetFaults.{IsRead, HasFault};
-ghost use Rattle.gos_netlist.specs.NetItems.{Passed, BreaksOff, IsFixed};
+ghost use Rattle.gos_netlist.specs.NetItems.{Passed, IsFixed};
+ghost use Rattle.gos_netlist.specs.inner.NetLines.{BreaksOff};
 
 use crate::fault::NetTextFault;
 use crate::nets::Netlist;

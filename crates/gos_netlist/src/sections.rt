@@ -6,7 +6,8 @@ ghost use Rattle.gos_netlist.specs.Seen.{cell_of};
 ghost use Rattle.gos_netlist.specs.NetText.{cell_text, port_text};
 ghost use Rattle.gos_netlist.specs.Writable.{IsWritableCell, IsWritablePort};
 ghost use Rattle.gos_netlist.specs.NetFaults.{IsAbove};
-ghost use Rattle.gos_netlist.specs.NetItems.{Passed, BreaksOff, CountFault, SectionFault, ended, AreSo, AreCounted, IsLinesText, IsSectionText, section_text};
+ghost use Rattle.gos_netlist.specs.NetItems.{Passed, ended};
+ghost use Rattle.gos_netlist.specs.inner.NetLines.{BreaksOff, CountFault, SectionFault, AreSo, AreCounted, IsLinesText, IsSectionText, section_text};
 ghost use Rattle.std.specs.List.{flat_map};
 
 use crate::cell_line::cell;
@@ -82,7 +83,7 @@ fn cell_lines(alloc: Global, cursor: &mut Cursor, count: u64) -> Result<Vec<Cell
     let mut left = count;
     while left > 0 {
         left -= 1;
-        match cell(alloc, cursor) {
+        match cell(cursor) {
             Ok(cell) => cells.push(cell)?,
             Err(at) => return Err(NetTextFault::Form { at }),
         }

@@ -3,10 +3,11 @@ ghost use Rattle.std.specs.Prelude.{◌≡◌, IfOk, IfErr};
 ghost use Rattle.gos_lex.specs.Items.{Misses};
 ghost use Rattle.gos_netlist.specs.Seen.{side_of};
 ghost use Rattle.gos_netlist.specs.NetText.{side_word};
-ghost use Rattle.gos_netlist.specs.NetItems.{Passed, ended, gate_text, type_word, pin_count, width_end, IsGateText, IsSideText, IsTypeWordText};
+ghost use Rattle.gos_netlist.specs.NetItems.{Passed, ended};
+ghost use Rattle.gos_netlist.specs.inner.NetLines.{gate_text, type_word, pin_count, width_end, IsGateText, IsSideText, IsTypeWordText};
 
-use crate::items::one_of;
 use crate::nets::Side;
+use crate::table::one_of;
 use gos_lex::Cursor;
 
 /// The word of a cell's line.
@@ -64,6 +65,63 @@ pub fn gate_word(cursor: &mut Cursor) -> Result<GateWord, usize>
     ensures passed { IfOk result (λ word. Passed cursor.old cursor.new (ended 32 (gate_text word))) }
     ensures wrong { IfErr result (Misses IsGateText cursor.old.text cursor.old.at) }
 {
+    match cursor.rest() {
+        [b'i', ..] => this_or_any(cursor, GateWord::Input),
+        [b'c', ..] => this_or_any(cursor, GateWord::Const),
+        [b'n', ..] => this_or_any(cursor, GateWord::Not),
+        [b'a', b'n', ..] => this_or_any(cursor, GateWord::And),
+        [b'o', ..] => this_or_any(cursor, GateWord::Or),
+        [b'x', ..] => this_or_any(cursor, GateWord::Xor),
+        [b'm', ..] => this_or_any(cursor, GateWord::Mux),
+        [b'a', ..] => this_or_any(cursor, GateWord::Add),
+        [b's', ..] => this_or_any(cursor, GateWord::Sub),
+        [b'e', ..] => this_or_any(cursor, GateWord::Eq),
+        [b'l', ..] => this_or_any(cursor, GateWord::Less),
+        [b'g', ..] => this_or_any(cursor, GateWord::Gate),
+        _ => this_or_any(cursor, GateWord::Reg),
+    }
+}
+
+// Passes this word of a gate, or else whichever stands there. It is inlined, so that each word is compared as it is.
+#[inline(always)]
+fn this_or_any(cursor: &mut Cursor, word: GateWord) -> Result<GateWord, usize>
+    ensures passed { IfOk result (λ word. Passed cursor.old cursor.new (ended 32 (gate_text word))) }
+    ensures wrong { IfErr result (Misses IsGateText cursor.old.text cursor.old.at) }
+{
+    match cursor.word(gate_text(word)) {
+        Ok(()) => Ok(word),
+        Err(_) => any_gate_word(cursor),
+    }
+}
+
+// The text of a word, with the space behind it.
+fn gate_text(word: GateWord) -> &'static [u8]
+    ensures { result.now ≡ ended 32 (gate_text word) }
+{
+    match word {
+        GateWord::Input => b"input ",
+        GateWord::Const => b"const ",
+        GateWord::Not => b"not ",
+        GateWord::And => b"and ",
+        GateWord::Or => b"or ",
+        GateWord::Xor => b"xor ",
+        GateWord::Mux => b"mux ",
+        GateWord::Add => b"add ",
+        GateWord::Sub => b"sub ",
+        GateWord::Eq => b"eq ",
+        GateWord::Less => b"less ",
+        GateWord::Gate => b"gate ",
+        GateWord::Reg => b"reg ",
+    }
+}
+
+// Passes the word of a gate, whichever it is.
+#[cold]
+#[inline(never)]
+fn any_gate_word(cursor: &mut Cursor) -> Result<GateWord, usize>
+    ensures passed { IfOk result (λ word. Passed cursor.old cursor.new (ended 32 (gate_text word))) }
+    ensures wrong { IfErr result (Misses IsGateText cursor.old.text cursor.old.at) }
+{
     let words = [
         GateWord::Input,
         GateWord::Const,
@@ -80,19 +138,19 @@ pub fn gate_word(cursor: &mut Cursor) -> Result<GateWord, usize>
         GateWord::Reg,
     ];
     let texts = [
-        b"input ".as_slice(),
-        b"const ".as_slice(),
-        b"not ".as_slice(),
-        b"and ".as_slice(),
-        b"or ".as_slice(),
-        b"xor ".as_slice(),
-        b"mux ".as_slice(),
-        b"add ".as_slice(),
-        b"sub ".as_slice(),
-        b"eq ".as_slice(),
-        b"less ".as_slice(),
-        b"gate ".as_slice(),
-        b"reg ".as_slice(),
+        gate_text(GateWord::Input),
+        gate_text(GateWord::Const),
+        gate_text(GateWord::Not),
+        gate_text(GateWord::And),
+        gate_text(GateWord::Or),
+        gate_text(GateWord::Xor),
+        gate_text(GateWord::Mux),
+        gate_text(GateWord::Add),
+        gate_text(GateWord::Sub),
+        gate_text(GateWord::Eq),
+        gate_text(GateWord::Less),
+        gate_text(GateWord::Gate),
+        gate_text(GateWord::Reg),
     ];
     let k = one_of(cursor, &texts)?;
     Ok(words[k])

@@ -153,3 +153,35 @@ fn gives_numbers(rt: HostRuntime) -> Result<(), Fail> {
     assert!(rt; is_traced(&answered, trace, 0));
     Ok(())
 }
+
+// The answer may not be given before the question, however long it waits. It is given with the question, which an `at` entry
+// brings after a long time without pulses; the next one is never given.
+#[test]
+fn holds_an_answer_until_it_is_asked(rt: HostRuntime) -> Result<(), Fail> {
+    let file = b"cycles 1000\nnext 0 c.done\nat 500 main.run\nnext 0 c.done\n";
+    let outcome = run_file(rt.alloc(), relay(rt.alloc())?, file);
+    let trace = b"500 main.run\n501 c.run\n501 c.done\n502 main.done\ncycles 1000\n";
+    assert!(rt; is_traced(&outcome, trace, 1));
+    Ok(())
+}
+
+#[test]
+fn waits_for_distances_and_cycles(rt: HostRuntime) -> Result<(), Fail> {
+    let file = b"cycles 1000\nnext 300 main.run\nnext 200 c.done\nnext 7 c.done\nat 800 main.run\n";
+    let outcome = run_file(rt.alloc(), relay(rt.alloc())?, file);
+    let first = b"300 main.run\n301 c.run\n500 c.done\n501 main.done\n";
+    let second = b"800 main.run\n801 c.run\n801 c.done\n802 main.done\ncycles 1000\n";
+    let mut trace = Vec::new(rt.alloc());
+    trace.extend_from_slice(first)?;
+    trace.extend_from_slice(second)?;
+    assert!(rt; is_traced(&outcome, trace.as_slice(), 0));
+    Ok(())
+}
+
+#[test]
+fn breaks_after_a_long_time_without_pulses(rt: HostRuntime) -> Result<(), Fail> {
+    let file = b"cycles 1000\nnext 999 main.run\nat 998 c.done\n";
+    let outcome = run_file(rt.alloc(), relay(rt.alloc())?, file);
+    assert!(rt; is_broken(&outcome, 998, 3));
+    Ok(())
+}

@@ -1,7 +1,8 @@
-// The latch, cycle by cycle: it shows `done` from the cycle after `run` on. And how many levels its cycles visit.
+// The latch, cycle by cycle: it shows `done` from the cycle after `run` on. And how many levels its cycles visit, and after
+// which cycles it repeats.
 use crate::circuits::latch;
 use gos_netcheck::{accept, cell_levels};
-use gos_sim::{Pulse, Sim, runs, visits_counted};
+use gos_sim::{Pulse, Sim, repeats, runs, visits_counted};
 use std::test::Fail;
 
 const OFF: Pulse = Pulse {
@@ -55,10 +56,36 @@ fn visits_the_gate_where_its_request_changes(rt: HostRuntime) -> Result<(), Fail
     Ok(())
 }
 
+// Its request comes and goes, and one cycle later it is at rest. Where the request comes again its inputs change once more.
+#[test]
+fn repeats_where_nothing_changes(rt: HostRuntime) -> Result<(), Fail> {
+    let alloc = rt.alloc();
+    let mut sim = Sim::new(alloc, accept(alloc, latch(alloc)?)?)?;
+    let mut inputs = vec![in alloc; ON; sim.inputs()]?;
+    let mut outputs = vec![in alloc; OFF; sim.outputs()]?;
+    assert!(rt; !sim.repeats());
+    sim.cycle(&inputs, &mut outputs);
+    assert!(rt; !sim.repeats());
+    inputs.fill(OFF);
+    sim.cycle(&inputs, &mut outputs);
+    assert!(rt; !sim.repeats());
+    sim.cycle(&inputs, &mut outputs);
+    assert!(rt; sim.repeats());
+    inputs.fill(ON);
+    sim.cycle(&inputs, &mut outputs);
+    assert!(rt; !sim.repeats());
+    sim.cycle(&inputs, &mut outputs);
+    assert!(rt; sim.repeats());
+    sim.reset();
+    assert!(rt; !sim.repeats());
+    Ok(())
+}
+
 #[test]
 fn laws_return(rt: HostRuntime) {
     runs();
     visits_counted();
+    repeats();
     cell_levels();
     assert!(rt; true);
 }

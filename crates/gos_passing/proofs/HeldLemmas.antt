@@ -10,7 +10,6 @@ use Rattle.gos_plan.specs.Kinds.{Contact, contacts_of}
 use Rattle.gos_plan.specs.Firing.{Rest}
 use Rattle.gos_plan.specs.Plans.{ImportEnd, ResultEnd, Plan}
 use Rattle.gos_plan.specs.Tokens.{Tokens}
-use Rattle.gos_plan.specs.TokenBits.{LiteralFits}
 use Rattle.gos_plan.specs.TokenBits as bits
 use Rattle.gos_plan.specs.Orderly.{Open, AllWelcome}
 use Rattle.gos_plan.proofs.HeldLemmas as held

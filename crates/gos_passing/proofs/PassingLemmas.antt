@@ -13,39 +13,11 @@ use Rattle.gos_webs.specs.Webs.{joint}
 use Rattle.gos_webs.proofs.CutLemmas.{which_end}
 use Rattle.gos_webs.proofs.MovedLemmas.{listed}
 use Rattle.gos_buffers.specs.Buffering.{end_behind, joint_behind}
-use Rattle.gos_buffers.proofs.BufferedLemmas.{free_of, asks_of, serves_of}
+use Rattle.gos_buffers.proofs.BufferedLemmas.{in_map, map_in, in_first, in_second, in_either, free_of, asks_of, serves_of}
 use Rattle.gos_passing.specs.Behind.{outer_joint, outer_joints, passing, HasShare, IsBehind, LiesBehind}
 use Rattle.gos_passing.proofs.EndLemmas.{Owned, asker, server, outer_is, owned_contact, contact_behind, caller_contact, result_contact, same_behind, not_asker, not_server}
 
--- lists of joints
-in_map : (f : Joint → Joint) (js : List Joint) (j : Joint) → IsIn j (map f js) → (k : Joint) × IsIn k js × (j ≡ f k)
-in_map f [] j h = absurd h
-in_map f (x ∷ xs) j (inl e) = (x, inl refl, e)
-in_map f (x ∷ xs) j (inr h) = let rest = in_map f xs j h in (rest.0, inr rest.1, rest.2)
-
-map_in : (f : Joint → Joint) (js : List Joint) (k : Joint) → IsIn k js → IsIn (f k) (map f js)
-map_in f [] k h = absurd h
-map_in f (x ∷ xs) k (inl e) = inl (ap f e)
-map_in f (x ∷ xs) k (inr h) = inr (map_in f xs k h)
-
-in_first : (xs ys : List Joint) (j : Joint) → IsIn j xs → IsIn j (xs ++ ys)
-in_first [] ys j h = absurd h
-in_first (x ∷ xs) ys j (inl e) = inl e
-in_first (x ∷ xs) ys j (inr h) = inr (in_first xs ys j h)
-
-in_second : (xs ys : List Joint) (j : Joint) → IsIn j ys → IsIn j (xs ++ ys)
-in_second [] ys j h = h
-in_second (x ∷ xs) ys j h = inr (in_second xs ys j h)
-
-in_either : (xs ys : List Joint) (j : Joint) → IsIn j (xs ++ ys) → IsIn j xs ⊎ IsIn j ys
-in_either [] ys j h = inr h
-in_either (x ∷ xs) ys j (inl e) = inl (inl e)
-in_either (x ∷ xs) ys j (inr h) = elim (in_either xs ys j h) [
-  | inl k ↦ inl (inr k)
-  | inr k ↦ inr k
-]
-
--- those of the caller
+-- joints of the caller
 in_outer : (i : ℕ) (t : Type') (c j : ℕ) (cs : List Contact) (x : Joint) → IsIn x (outer_joints i t c j cs)
     → (m : ℕ) × (k : Contact) × (slice_get cs m ≡ Some k) × (x ≡ outer_joint i t c (j + m) k.role)
 in_outer i t c j [] x h = absurd h

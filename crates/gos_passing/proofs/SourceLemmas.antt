@@ -9,7 +9,7 @@ use Rattle.gos_types.specs.Types.{Type', IsGround}
 use Rattle.gos_types.specs.Handshakes.{turned}
 use Rattle.gos_netlist.specs.Events.{Direction, Request, Answer}
 use Rattle.gos_model.specs.Typing.{Imported}
-use Rattle.gos_plan.specs.Kinds.{Part, Share, Contact, contacts_of, turned_contact, part_contacts}
+use Rattle.gos_plan.specs.Kinds.{Share, Contact, contacts_of, turned_contact, part_contacts}
 use Rattle.gos_plan.specs.Firing.{Phase, Rest, State, Slot, Token, Row, rows, shared_rows, share_rows, firing}
 use Rattle.gos_plan.specs.Plans.{End, PartEnd, ImportEnd, ResultEnd, Plan, contact_at, contacts_of_part, contacts_of_import, turned_if}
 use Rattle.gos_plan.specs.Tokens.{Tokens, Element, Fire, Out, In, IsPortEnd, Passes, places_of, token_at, with_token, with_state, with_puts, end_of, way_of, shake_of, way_taken, way_put, firing_of, fired, Does, Runs, IsIdle}

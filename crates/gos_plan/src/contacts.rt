@@ -57,32 +57,40 @@ fn result_bits(op: Op2, w: u32) -> u32
 pub fn part_contacts(alloc: Global, kind: &Kind) -> Result<Vec<Contact>, NoMemory>
     ensures { IfOk result (λ contacts. contacts.items ≡ map held_contact (part_contacts (part_of kind.now))) }
 {
-    let contacts = match kind {
-        Kind::Skip => vec![in alloc; serves(0, 0)]?,
-        Kind::Lit { w, k: _ } => vec![in alloc; serves(0, *w)]?,
-        Kind::Seq => vec![in alloc; asks(0, 0), asks(0, 0), serves(0, 0)]?,
-        Kind::SeqExp { w } => vec![in alloc; asks(0, 0), asks(0, *w), serves(0, *w)]?,
-        Kind::Par => vec![in alloc; asks(0, 0), asks(0, 0), serves(0, 0)]?,
-        Kind::If => vec![in alloc; asks(0, 1), asks(0, 0), asks(0, 0), serves(0, 0)]?,
-        Kind::IfExp { w } => vec![in alloc; asks(0, 1), asks(0, *w), asks(0, *w), serves(0, *w)]?,
-        Kind::While => vec![in alloc; asks(0, 1), asks(0, 0), serves(0, 0)]?,
-        Kind::Op { op, w } => vec![in alloc;
-            asks(0, *w),
-            asks(0, *w),
-            serves(0, result_bits(*op, *w)),
-        ]?,
-        Kind::Not { w } => vec![in alloc; asks(0, *w), serves(0, *w)]?,
-        Kind::Assign { w } => vec![in alloc; asks(0, *w), asks(*w, 0), serves(0, 0)]?,
-        Kind::Deref { w } => vec![in alloc; asks(0, *w), serves(0, *w)]?,
-        Kind::Local { w, v } => vec![in alloc;
-            asks(0, *v),
-            serves(0, *w),
-            serves(*w, 0),
-            serves(0, *v),
-        ]?,
-        Kind::Share(ty) => share_contacts(alloc, ty)?,
-    };
-    Ok(contacts)
+    let run = asks(0, 0);
+    let test = asks(0, 1);
+    let done = serves(0, 0);
+    match kind {
+        Kind::Skip => listed(alloc, &[done]),
+        Kind::Lit { w, .. } => listed(alloc, &[serves(0, *w)]),
+        Kind::Seq | Kind::Par => listed(alloc, &[run, run, done]),
+        Kind::SeqExp { w } => listed(alloc, &[run, asks(0, *w), serves(0, *w)]),
+        Kind::If => listed(alloc, &[test, run, run, done]),
+        Kind::IfExp { w } => {
+            let value = asks(0, *w);
+            listed(alloc, &[test, value, value, serves(0, *w)])
+        }
+        Kind::While => listed(alloc, &[test, run, done]),
+        Kind::Op { op, w } => {
+            let operand = asks(0, *w);
+            listed(alloc, &[operand, operand, serves(0, result_bits(*op, *w))])
+        }
+        Kind::Not { w } | Kind::Deref { w } => listed(alloc, &[asks(0, *w), serves(0, *w)]),
+        Kind::Assign { w } => listed(alloc, &[asks(0, *w), asks(*w, 0), done]),
+        Kind::Local { w, v } => {
+            let body = asks(0, *v);
+            let answer = serves(0, *v);
+            listed(alloc, &[body, serves(0, *w), serves(*w, 0), answer])
+        }
+        Kind::Share(ty) => share_contacts(alloc, ty),
+    }
+}
+
+// A vector of these.
+fn listed(alloc: Global, contacts: &[Contact]) -> Result<Vec<Contact>, NoMemory>
+    ensures { IfOk result (λ list. list.items ≡ contacts.now) }
+{
+    Ok(contacts.to_vec(alloc)?)
 }
 
 // The handshakes of a Share: the source's, which it uses, and those of two callers.

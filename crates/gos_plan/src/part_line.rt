@@ -22,8 +22,7 @@ pub fn part(alloc: Global, cursor: &mut Cursor) -> Result<Kind, ObjectFault>
     ensures wrong { IfErr result (Fails part_line cursor.old.text cursor.old.at) }
 {
     let word = part_word(cursor)?;
-    let kind = operands(alloc, cursor, word)?;
-    Ok(kind)
+    operands(alloc, cursor, word)
 }
 
 // Passes what stands behind the word of a part.

@@ -35,8 +35,7 @@ pub fn print_object(alloc: Global, plan: &Plan) -> Result<Vec<u8>, NoMemory>
     ensures { IfOk result (λ text. text.items ≡ text_of (plan_of plan.now)) }
 {
     let mut text = Vec::new(alloc);
-    text.extend_from_slice(b"gosobj 1\nweight ")?;
-    add_number(alloc, &mut text, plan.weight(), b'\n')?;
+    add_number(alloc, &mut text, b"gosobj 1\nweight ", plan.weight(), b'\n')?;
     add_imports(alloc, &mut text, plan.imports())?;
     text.extend_from_slice(b"result ")?;
     add_type(alloc, &mut text, plan.result(), b'\n')?;
@@ -46,11 +45,18 @@ pub fn print_object(alloc: Global, plan: &Plan) -> Result<Vec<u8>, NoMemory>
     Ok(text)
 }
 
-// Adds a number, and the byte that ends it.
-fn add_number(alloc: Global, text: &mut Vec<u8>, number: u64, end: u8) -> Result<(), NoMemory>
-    ensures { OnOk result (text.new.items ≡ text.old.items ++ number_text end number) }
+// Adds a word, a number, and the byte that ends it.
+fn add_number(
+    alloc: Global,
+    text: &mut Vec<u8>,
+    word: &[u8],
+    number: u64,
+    end: u8,
+) -> Result<(), NoMemory>
+    ensures { OnOk result (text.new.items ≡ text.old.items ++ word.now ++ number_text end number) }
 {
     let digits = number.to_string(alloc)?;
+    text.extend_from_slice(word)?;
     text.extend_from_slice(digits.as_bytes())?;
     text.push(end)?;
     Ok(())
@@ -66,14 +72,8 @@ fn add_type(alloc: Global, text: &mut Vec<u8>, ty: &Ty, end: u8) -> Result<(), N
             text.push(end)?;
             Ok(())
         }
-        Ty::Exp(w) => {
-            text.extend_from_slice(b"exp ")?;
-            add_number(alloc, text, u64::from(*w), end)
-        }
-        Ty::Var(w) => {
-            text.extend_from_slice(b"var ")?;
-            add_number(alloc, text, u64::from(*w), end)
-        }
+        Ty::Exp(w) => add_number(alloc, text, b"exp ", u64::from(*w), end),
+        Ty::Var(w) => add_number(alloc, text, b"var ", u64::from(*w), end),
         Ty::Pair(a, b) => {
             text.extend_from_slice(b"pair ")?;
             add_type(alloc, text, a, b' ')?;
@@ -91,8 +91,7 @@ fn add_type(alloc: Global, text: &mut Vec<u8>, ty: &Ty, end: u8) -> Result<(), N
 fn add_imports(alloc: Global, text: &mut Vec<u8>, imports: &[PlanImport]) -> Result<(), NoMemory>
     ensures { OnOk result (text.new.items ≡ text.old.items ++ imports_text (map import_of imports.now)) }
 {
-    text.extend_from_slice(b"imports ")?;
-    add_number(alloc, text, imports.len() as u64, b'\n')?;
+    add_number(alloc, text, b"imports ", imports.len() as u64, b'\n')?;
     add_import_lines(alloc, text, imports)
 }
 
@@ -125,8 +124,7 @@ fn add_parts(alloc: Global, text: &mut Vec<u8>, parts: &[Kind]) -> Result<(), No
     requires { All IsInRange parts.now }
     ensures { OnOk result (text.new.items ≡ text.old.items ++ parts_text (map part_of parts.now)) }
 {
-    text.extend_from_slice(b"parts ")?;
-    add_number(alloc, text, parts.len() as u64, b'\n')?;
+    add_number(alloc, text, b"parts ", parts.len() as u64, b'\n')?;
     add_part_lines(alloc, text, parts)
 }
 
@@ -200,13 +198,13 @@ fn add_operands(alloc: Global, text: &mut Vec<u8>, kind: &Kind) -> Result<(), No
         | Kind::Op { op: _, w }
         | Kind::Not { w }
         | Kind::Assign { w }
-        | Kind::Deref { w } => add_number(alloc, text, u64::from(*w), b'\n'),
+        | Kind::Deref { w } => add_number(alloc, text, b"", u64::from(*w), b'\n'),
         Kind::Lit { w, k } => {
-            add_number(alloc, text, u64::from(*w), b' ')?;
-            add_number(alloc, text, *k, b'\n')
+            add_number(alloc, text, b"", u64::from(*w), b' ')?;
+            add_number(alloc, text, b"", *k, b'\n')
         }
         Kind::Local { w, v } => {
-            add_number(alloc, text, u64::from(*w), b' ')?;
+            add_number(alloc, text, b"", u64::from(*w), b' ')?;
             add_body(alloc, text, *v)
         }
         Kind::Share(ty) => add_type(alloc, text, ty, b'\n'),
@@ -221,8 +219,7 @@ fn add_body(alloc: Global, text: &mut Vec<u8>, v: u32) -> Result<(), NoMemory>
         text.extend_from_slice(b"com\n")?;
         Ok(())
     } else {
-        text.extend_from_slice(b"exp ")?;
-        add_number(alloc, text, u64::from(v), b'\n')
+        add_number(alloc, text, b"exp ", u64::from(v), b'\n')
     }
 }
 
@@ -230,8 +227,7 @@ fn add_body(alloc: Global, text: &mut Vec<u8>, v: u32) -> Result<(), NoMemory>
 fn add_joints(alloc: Global, text: &mut Vec<u8>, joints: &[Joint]) -> Result<(), NoMemory>
     ensures { OnOk result (text.new.items ≡ text.old.items ++ joints_text (map joint_of joints.now)) }
 {
-    text.extend_from_slice(b"joints ")?;
-    add_number(alloc, text, joints.len() as u64, b'\n')?;
+    add_number(alloc, text, b"joints ", joints.len() as u64, b'\n')?;
     add_joint_lines(alloc, text, joints)
 }
 
@@ -252,18 +248,13 @@ fn add_end(alloc: Global, text: &mut Vec<u8>, end: End, last: u8) -> Result<(), 
 {
     match end {
         End::Part { part, shake } => {
-            text.extend_from_slice(b"p")?;
-            add_number(alloc, text, u64::from(part), b'.')?;
-            add_number(alloc, text, u64::from(shake), last)
+            add_number(alloc, text, b"p", u64::from(part), b'.')?;
+            add_number(alloc, text, b"", u64::from(shake), last)
         }
         End::Import { import, shake } => {
-            text.extend_from_slice(b"i")?;
-            add_number(alloc, text, u64::from(import), b'.')?;
-            add_number(alloc, text, u64::from(shake), last)
+            add_number(alloc, text, b"i", u64::from(import), b'.')?;
+            add_number(alloc, text, b"", u64::from(shake), last)
         }
-        End::Result { shake } => {
-            text.extend_from_slice(b"r.")?;
-            add_number(alloc, text, u64::from(shake), last)
-        }
+        End::Result { shake } => add_number(alloc, text, b"r.", u64::from(shake), last),
     }
 }

@@ -92,8 +92,7 @@ fn weight(cursor: &mut Cursor) -> Result<u64, ObjectFault>
     ensures wrong { IfErr result (Fails weight_line cursor.old.text cursor.old.at) }
 {
     exact(cursor, b"gosobj 1\nweight ")?;
-    let w = number(cursor, 1, MOST_WEIGHT, b'\n')?;
-    Ok(w)
+    number(cursor, 1, MOST_WEIGHT, b'\n')
 }
 
 // Passes the type of the result.
@@ -102,6 +101,5 @@ fn outcome(alloc: Global, cursor: &mut Cursor) -> Result<Ty, ObjectFault>
     ensures wrong { IfErr result (Fails result_line cursor.old.text cursor.old.at) }
 {
     exact(cursor, b"result ")?;
-    let t = ty(alloc, cursor, b'\n', 0)?;
-    Ok(t)
+    ty(alloc, cursor, b'\n', 0)
 }

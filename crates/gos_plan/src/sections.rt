@@ -34,8 +34,7 @@ pub fn imports(
 {
     exact(cursor, b"imports ")?;
     let n = count(cursor, MOST_IMPORTS)?;
-    let imports = import_lines(alloc, text, cursor, n)?;
-    Ok(imports)
+    import_lines(alloc, text, cursor, n)
 }
 
 /// Passes the parts.
@@ -46,8 +45,7 @@ pub fn parts(alloc: Global, cursor: &mut Cursor) -> Result<Vec<Kind>, ObjectFaul
 {
     exact(cursor, b"parts ")?;
     let n = count(cursor, MOST_PARTS)?;
-    let parts = part_lines(alloc, cursor, n)?;
-    Ok(parts)
+    part_lines(alloc, cursor, n)
 }
 
 /// Passes the joints.
@@ -57,8 +55,7 @@ pub fn joints(alloc: Global, cursor: &mut Cursor) -> Result<Vec<Joint>, ObjectFa
 {
     exact(cursor, b"joints ")?;
     let n = count(cursor, MOST_JOINTS)?;
-    let joints = joint_lines(alloc, cursor, n)?;
-    Ok(joints)
+    joint_lines(alloc, cursor, n)
 }
 
 // Passes a count and the line feed behind it.

@@ -26,8 +26,7 @@ pub fn ty(alloc: Global, cursor: &mut Cursor, end: u8, before: u32) -> Result<Ty
     ensures wrong { IfErr result (Fails (typed end before) cursor.old.text cursor.old.at) }
 {
     let word = type_word(cursor, before)?;
-    let t = operands(alloc, cursor, word, end, before)?;
-    Ok(t)
+    operands(alloc, cursor, word, end, before)
 }
 
 // Passes the word of a type.

@@ -115,13 +115,7 @@ pub fn type_letters(cursor: &mut Cursor) -> Result<TypeWord, ObjectFault>
         TypeWord::Pair,
         TypeWord::Fun,
     ];
-    let texts = [
-        b"com".as_slice(),
-        b"exp".as_slice(),
-        b"var".as_slice(),
-        b"pair".as_slice(),
-        b"fun".as_slice(),
-    ];
+    let texts: [&[u8]; 5] = [b"com", b"exp", b"var", b"pair", b"fun"];
     match one_of(cursor, &texts) {
         Ok(k) => Ok(words[k]),
         Err(at) => Err(ObjectFault::Form { at }),
@@ -134,7 +128,8 @@ pub fn body_word(cursor: &mut Cursor) -> Result<BodyWord, ObjectFault>
     ensures wrong { IfErr result (Fails (words BodyWord body_word_text) cursor.old.text cursor.old.at) }
 {
     let words = [BodyWord::Com, BodyWord::Exp];
-    match one_of(cursor, &[b"com\n".as_slice(), b"exp ".as_slice()]) {
+    let texts: [&[u8]; 2] = [b"com\n", b"exp "];
+    match one_of(cursor, &texts) {
         Ok(k) => Ok(words[k]),
         Err(at) => Err(ObjectFault::Form { at }),
     }
@@ -146,10 +141,8 @@ pub fn end_word(cursor: &mut Cursor) -> Result<EndWord, ObjectFault>
     ensures wrong { IfErr result (Fails (words EndWord end_word_text) cursor.old.text cursor.old.at) }
 {
     let words = [EndWord::Part, EndWord::Import, EndWord::Result];
-    match one_of(
-        cursor,
-        &[b"p".as_slice(), b"i".as_slice(), b"r.".as_slice()],
-    ) {
+    let texts: [&[u8]; 3] = [b"p", b"i", b"r."];
+    match one_of(cursor, &texts) {
         Ok(k) => Ok(words[k]),
         Err(at) => Err(ObjectFault::Form { at }),
     }

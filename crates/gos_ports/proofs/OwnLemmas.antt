@@ -23,7 +23,7 @@ use Rattle.gos_renumbered.proofs.ImportLemmas.{name_is}
 use Rattle.gos_renumbered.proofs.SupplyLemmas.{supply_link, OfImports, of_imports, in_imports, plan_at, supply_at, first_joined, supply_free}
 use Rattle.gos_typing.specs.Supplied.{imports_of}
 use Rattle.gos_names.specs.Names.{passed_on, name_plan, HasWidth, NameIsRealised}
-use Rattle.gos_ports.specs.Ports.{HaveWidths, WidthsAreHad, own_supply, own_supplies}
+use Rattle.gos_ports.specs.Ports.{HaveWidths, WidthsAreHad}
 use Rattle.gos_ports.proofs.ShadowLemmas.{Near, OfJoint, joint_near, IsShadow}
 
 type_has : (t : Type') → HasWidths t → HasWidth t
@@ -39,6 +39,14 @@ widths_are_had (i ∷ is) all = (type_has i.ty (all i (0, omega arith, refl)), w
   where
     later : (j : Imported) → Contains is j → Contains (i ∷ is) j
     later j (k, small, at) = (suc k, omega (arith, small), at)
+
+-- the supplies by which imports stay imports
+abbrev own_supply : Imported → Supply
+own_supply i = record { plan = name_plan i.name i.ty; term = Import i.name }
+
+abbrev pub own_supplies : List Imported → List Supply
+own_supplies [] = []
+own_supplies (i ∷ is) = own_supply i ∷ own_supplies is
 
 pub own_are : NameIsRealised → (is : List Imported) → AllGround is → HaveWidths is → AreSupplied is (own_supplies is)
 own_are named [] ground wide = tt

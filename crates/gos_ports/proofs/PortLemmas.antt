@@ -14,10 +14,10 @@ use Rattle.gos_renumbered.proofs.HigherLemmas.{renumbered_is_realised}
 use Rattle.gos_typing.proofs.LeftLemmas.{imports_are_of_supplies}
 use Rattle.gos_pace.specs.Keeping.{NetKeepsPace}
 use Rattle.gos_names.specs.Names.{NameIsRealised}
-use Rattle.gos_ports.specs.Ports.{own_supplies, OpenIsRealised, OpenIsDone}
+use Rattle.gos_ports.specs.Ports.{OpenIsRealised, OpenIsDone}
 use Rattle.gos_ports.specs.Paced.{ModuleIsPlanFor, ModulesKeepPace}
 use Rattle.gos_ports.proofs.ShadowLemmas.{shadow_is_it}
-use Rattle.gos_ports.proofs.OwnLemmas.{own_are, own_term, supplied_stays, parts_stay, own_imports, own_stand, own_home, own_shadow}
+use Rattle.gos_ports.proofs.OwnLemmas.{own_supplies, own_are, own_term, supplied_stays, parts_stay, own_imports, own_stand, own_home, own_shadow}
 
 pub open_is_realised : NameIsRealised → OpenIsRealised
 open_is_realised named p m right ground wide differ any =

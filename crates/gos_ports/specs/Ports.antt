@@ -4,14 +4,14 @@
 use Rattle.std.specs.Prelude.{List, [], ◌∷◌, Contains}
 use Rattle.gos_types.specs.Types.{IsDone}
 use Rattle.gos_types.specs.Widths.{HasWidths}
-use Rattle.gos_model.specs.Terms.{Term, Import}
+use Rattle.gos_model.specs.Terms.{Term}
 use Rattle.gos_model.specs.Typing.{Imported}
 use Rattle.gos_plan.specs.Plans.{Plan, IsRight}
 use Rattle.gos_realises.specs.Regular.{IsRegular}
 use Rattle.gos_realises.specs.Matched.{RealisesDone}
 use Rattle.gos_realises.specs.Realises.{AllGround, NamesDiffer, Realises}
-use Rattle.gos_realises.specs.Modules.{Supply, RealisesOpen}
-use Rattle.gos_names.specs.Names.{name_plan, HasWidth}
+use Rattle.gos_realises.specs.Modules.{RealisesOpen}
+use Rattle.gos_names.specs.Names.{HasWidth}
 
 -- the numbers of the variables that are imported fit widths
 abbrev pub HaveWidths : List Imported → Type 0
@@ -21,14 +21,6 @@ HaveWidths (i ∷ is) = HasWidth i.ty × HaveWidths is
 -- they do where the numbers of all types of imports do
 abbrev pub WidthsAreHad : Type 0
 WidthsAreHad = (is : List Imported) → ((i : Imported) → Contains is i → HasWidths i.ty) → HaveWidths is
-
--- the supplies by which imports stay imports
-abbrev pub own_supply : Imported → Supply
-own_supply i = record { plan = name_plan i.name i.ty; term = Import i.name }
-
-abbrev pub own_supplies : List Imported → List Supply
-own_supplies [] = []
-own_supplies (i ∷ is) = own_supply i ∷ own_supplies is
 
 -- A plan that realises a term with any supplies realises it with its imports as ports.
 abbrev pub OpenIsRealised : Type 0

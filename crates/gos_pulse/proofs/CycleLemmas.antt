@@ -1,5 +1,5 @@
 -- A cycle of a driven run.
-use Rattle.std.proofs.Common.{◌≡◌, ◌≤◌, ◌^◌, ℕ, zero, suc, false, List, [], ◌∷◌, ◌++◌, All, length, reverse, get_or, refl, sym, ap, subst, ◌∙◌, arith, Option, Some, None, pow_mono}
+use Rattle.std.proofs.Common.{◌≡◌, ◌≤◌, ◌^◌, ℕ, zero, suc, false, List, [], ◌∷◌, ◌++◌, All, length, reverse, take, get_or, refl, sym, ap, subst, ◌∙◌, arith, Option, Some, None, pow_mono}
 use Rattle.std.specs.Prelude.{slice_get}
 use Rattle.std.proofs.lemmas.Option.{slice_get-get_or}
 use Rattle.std.proofs.lemmas.List.{length-map}
@@ -89,6 +89,7 @@ module _ (old : Simulator) (past : List Label) (board : Board) (accepted : IsAcc
         settled = cycle.settled;
         in_range = in_range old.net cycle.ins last_board.inputs.items accepted given.stands.rests.inputs cycle.inputs given.stands.in_range;
         registers = ap (λ (s : Simulator). s.registers) cycle.registers;
+        newest = ap (λ (s : Simulator). take 1 s.settlings) cycle.registers;
         goes = record {
           taken = taken.taken;
           given = given.labels;

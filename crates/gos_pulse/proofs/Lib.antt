@@ -16,6 +16,7 @@ mod LineLemmas
 mod BoardLemmas
 mod CycleLemmas
 mod RunLemmas
+mod QuietLemmas
 mod GiveLemmas
 mod OneEventLemmas
 mod OneFileLemmas

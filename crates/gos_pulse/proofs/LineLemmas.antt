@@ -129,7 +129,7 @@ adds_all net t input slots pulses i old new has all so_far =
     subst (λ (es : List Event). AddsLines net t (labels_of net.ports (events_way input es) pulses) old new) (take_all i (events_of net) (omega (arith, all, has.slots_of.each))) so_far
 
 -- pulses that don't happen have no labels
-no_labels : (ports : List NetPort) (events : List Event) (pulses : List Pulse) → list_all is_off pulses ≡ true → labels_of ports events pulses ≡ []
+pub no_labels : (ports : List NetPort) (events : List Event) (pulses : List Pulse) → list_all is_off pulses ≡ true → labels_of ports events pulses ≡ []
 no_labels ports [] pulses off = refl
 no_labels ports (event ∷ events) [] off = refl
 no_labels ports (event ∷ events) (pulse ∷ pulses) off = by pulse.on (no_labels ports events pulses) off

@@ -58,7 +58,7 @@ breaks_later net file past came t since queue v last rest [] cycle event goes h 
 breaks_later net file past came t since queue v last rest (w ∷ vs) cycle event goes h = (came, last, rest, goes, h)
 
 -- one cycle more
-driven_more : (old new : Simulator) (file : List Entry) (t since : ℕ) (queue : List Entry) (past : List Label) (lines lines1 : List TraceLine) (last : ℕ) (rest : List Entry) (board : Board)
+pub driven_more : (old new : Simulator) (file : List Entry) (t since : ℕ) (queue : List Entry) (past : List Label) (lines lines1 : List TraceLine) (last : ℕ) (rest : List Entry) (board : Board)
     → IsDrivenTo old.net file t since queue past old.registers lines
     → (cycle : RunsCycle old file past t since queue last rest new board)
     → AddsLines old.net t (outputs old.net cycle.values ++ inputs old.net cycle.values) lines lines1

@@ -1,12 +1,12 @@
 // Which `at` entries each cycle has.
 
-ghost use Rattle.std.specs.Prelude.{◌≡◌, ◌<◌, [], IsTrue, suc, ℕ, List, All, MatchOption, IfOk, length};
+ghost use Rattle.std.specs.Prelude.{◌≡◌, ◌<◌, ◌≤◌, [], IsTrue, suc, ℕ, List, All, MatchOption, IfOk, length};
 ghost use Rattle.gos_netlist.specs.Nets.{Netlist as Circuit};
 ghost use Rattle.gos_model.specs.Labels.{Label};
 ghost use Rattle.gos_pulse.specs.Guarding.{HasPorts};
 ghost use Rattle.gos_pulse.specs.Driving.{GivesInput, BreaksAt, at_entries};
 ghost use Rattle.gos_pulse.specs.inner.Board.{Stands};
-ghost use Rattle.gos_pulse.specs.inner.Agenda.{AreTaken, CanTakeAll, IsAgenda, IsAgendaFrom};
+ghost use Rattle.gos_pulse.specs.inner.Agenda.{AreTaken, CanTakeAll, HaveNone, IsAgenda, IsAgendaFrom};
 
 use crate::board::Board;
 use crate::entries::Entry;
@@ -63,6 +63,21 @@ impl Agenda {
         ensures { IsTrue result → (cycles : ℕ) → IsAgenda cycles entries.now self.now → at_entries cycle entries.now ≡ [] }
     {
         self.first[cycle] >= entries.len()
+    }
+
+    /// The first cycle from one on that has an `at` entry, or `end` where none before it has.
+    pub fn next_from(&self, from: u64, end: u64, entries: &[Entry]) -> u64
+        requires order { from ≤ end }
+        requires end { end ≤ length self.now.first.items }
+        ensures within { (from ≤ result) × (result ≤ end) }
+        ensures none { (cycles : ℕ) → IsAgenda cycles entries.now self.now → HaveNone entries.now from result }
+    {
+        for cycle in from..end {
+            if !self.has_none(cycle as usize, entries) {
+                return cycle;
+            }
+        }
+        end
     }
 
     /// Takes all `at` entries of a cycle, in the file's order. The result is the event of the first of them that the

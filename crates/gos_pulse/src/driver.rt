@@ -1,20 +1,25 @@
 // The driver: a run of a simulator under a pulse file.
 
-ghost use Rattle.std.specs.Prelude.{◌≡◌, ◌≢◌, ◌≤◌, ◌<◌, List, All, MatchResult, length, IfOk, IfErr};
+ghost use Rattle.std.specs.Prelude.{◌≡◌, ◌≢◌, ◌≤◌, ◌<◌, suc, List, All, MatchResult, length, IfOk, IfErr, IsTrue};
+ghost use Rattle.std.specs.List.{list_all};
 ghost use Rattle.gos_netlist.specs.Events.{events_of};
 ghost use Rattle.gos_model.specs.Labels.{Label};
 ghost use Rattle.gos_sim.specs.Cycle.{at_reset};
+ghost use Rattle.gos_sim.specs.Repeats.{Repeats};
 ghost use Rattle.gos_pulse.specs.Driving.{GivesInput, BreaksAs};
 ghost use Rattle.gos_pulse.specs.Traced.{IsTraced};
+ghost use Rattle.gos_pulse.specs.inner.Agenda.{HaveNone, IsAgenda};
 ghost use Rattle.gos_pulse.specs.inner.Board.{Rests};
+ghost use Rattle.gos_pulse.specs.inner.Lines.{is_off};
+ghost use Rattle.gos_pulse.specs.inner.Queue.{StaysHeld};
 ghost use Rattle.gos_pulse.specs.inner.Running.{BreaksCycle, CanRun, RunsCycle};
 
 use crate::agenda::Agenda;
 use crate::board::Board;
 use crate::entries::{Entry, Pulses};
 use crate::fault::PulseFault;
-use crate::lines::add_cycle;
-use crate::queue::{Queue, give_all, is_early, next_entries};
+use crate::lines::{add_cycle, are_off};
+use crate::queue::{Queue, give_all, held_until, is_early, next_entries};
 use crate::trace::Trace;
 use gos_sim::Sim;
 use std::alloc::Global;
@@ -42,12 +47,18 @@ pub fn drive(alloc: Global, sim: &mut Sim, pulses: &Pulses) -> Result<Trace, Pul
         since: 0,
     };
     let mut lines = Vec::new(alloc);
-    for t in 0..cycles {
+    let mut t = 0;
+    while t < cycles {
         match run_cycle(sim, t, &agenda, entries, queue, &mut board) {
             Ok(rest) => queue = rest,
             Err(event) => return Err(PulseFault::Broken { cycle: t, event }),
         }
         add_cycle(&mut lines, t, &board)?;
+        t = if is_quiet(sim, &board) {
+            next_due(t, cycles, &agenda, entries, queue)
+        } else {
+            t + 1
+        };
     }
     let unused = queue.entries.len() as u64;
     Ok(Trace {
@@ -87,4 +98,26 @@ fn run_cycle<'a>(
             Ok(rest)
         }
     }
+}
+
+// Whether the cycles from now on are as the last one was, as long as nothing is given: it had no pulses, and left the
+// simulator as it was.
+fn is_quiet(sim: &Sim, board: &Board) -> bool
+    ensures repeats { IsTrue result → Repeats sim.now }
+    ensures inputs { IsTrue result → IsTrue (list_all is_off board.now.inputs.items) }
+    ensures outputs { IsTrue result → IsTrue (list_all is_off board.now.outputs.items) }
+{
+    sim.repeats() && are_off(&board.inputs) && are_off(&board.outputs)
+}
+
+// The first cycle behind `t` in which an entry may be due, where nothing happens before.
+fn next_due(t: u64, cycles: u64, agenda: &Agenda, entries: &[Entry], queue: Queue) -> u64
+    requires cycles { t < cycles }
+    requires agenda { IsAgenda cycles entries.now agenda.now }
+    requires since { queue.since ≤ t }
+    ensures within { (t < result) × (result ≤ cycles) }
+    ensures none { HaveNone entries.now (suc t) result }
+    ensures held { StaysHeld t queue.entry.since queue.entry.entries.now result }
+{
+    agenda.next_from(t + 1, held_until(t, queue, cycles), entries)
 }

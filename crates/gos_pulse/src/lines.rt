@@ -56,8 +56,8 @@ fn add_lines(
     Ok(())
 }
 
-// Whether no pulse happens.
-fn are_off(pulses: &[Pulse]) -> bool
+/// Whether no pulse happens.
+pub(crate) fn are_off(pulses: &[Pulse]) -> bool
     ensures { result ≡ list_all is_off pulses.now }
 {
     pulses.iter().all(|pulse| !pulse.on)

@@ -6,12 +6,13 @@ ghost use Rattle.gos_model.specs.Labels.{Label};
 ghost use Rattle.gos_pulse.specs.Guarding.{HasPorts};
 ghost use Rattle.gos_pulse.specs.Driving.{GivesInput, IsHeld, next_entries};
 ghost use Rattle.gos_pulse.specs.inner.Board.{Stands};
-ghost use Rattle.gos_pulse.specs.inner.Queue.{AreGiven, CanGiveAll, IsFirstGiven, IsFirstHeld};
+ghost use Rattle.gos_pulse.specs.inner.Queue.{AreGiven, CanGiveAll, IsFirstGiven, IsFirstHeld, StaysHeld};
 
 use crate::board::Board;
 use crate::entries::Entry;
 use gos_types::NoMemory;
 use std::alloc::Global;
+use std::cmp::min;
 
 /// The `next` entries that are not given yet, and the cycle in which the one before them was given, at first 0.
 #[derive(Clone, Copy)]
@@ -50,6 +51,22 @@ pub(crate) fn is_early(t: u64, queue: Queue) -> bool
     match queue.entries.first() {
         Some(entry) => t - queue.since < entry.number,
         None => true,
+    }
+}
+
+/// Up to which cycle the queue stays as cycle `t` left it, where nothing happens before: the one in which the first
+/// entry's distance has passed, if it had not in cycle `t`, or else `end`.
+pub(crate) fn held_until(t: u64, queue: Queue, end: u64) -> u64
+    requires since { queue.since ≤ t }
+    requires end { t < end }
+    ensures within { (t < result) × (result ≤ end) }
+    ensures held { StaysHeld t queue.entry.since queue.entry.entries.now result }
+{
+    match queue.entries.first() {
+        Some(entry) if t - queue.since < entry.number => {
+            min(queue.since.saturating_add(entry.number), end)
+        }
+        _ => end,
     }
 }
 

@@ -1,7 +1,7 @@
 pub mod ImportLemmas
 pub mod TurnLemmas
 pub mod OrderLemmas
-mod SizeLemmas
+pub mod SizeLemmas
 mod SplitLemmas
 pub mod RewireLemmas
 pub mod HigherLemmas

@@ -16,10 +16,10 @@ use Rattle.gos_webs.specs.Renumbering.{Renumber, IsRenumbered, moved_end}
 use Rattle.gos_webs.proofs.MovedLemmas.{both_moved}
 
 -- turns of a type depend on its handshakes alone
-abbrev Agree : ℕ → (ℕ → Bool) → (ℕ → Bool) → Type 0
+abbrev pub Agree : ℕ → (ℕ → Bool) → (ℕ → Bool) → Type 0
 Agree n f g = (h : ℕ) → h < n → f h ≡ g h
 
-some_agree : (n : ℕ) (f g : ℕ → Bool) → Agree n f g → some_open n f ≡ some_open n g
+pub some_agree : (n : ℕ) (f g : ℕ → Bool) → Agree n f g → some_open n f ≡ some_open n g
 some_agree zero f g agree = refl
 some_agree (suc n) f g agree =
     let last = agree n (omega arith) in
@@ -38,7 +38,7 @@ beyond_agree m n k f g sum agree h low = agree (m + h) (omega (arith, low, sum))
 one_agree : (n k : ℕ) → n ≡ k → (f g : ℕ → Bool) → Agree n f g → Agree k f g
 one_agree n k same f g agree h low = agree h (omega (arith, low, same))
 
-turns_agree : (t : Type') (f g : ℕ → Bool) → Agree (count t) f g → KeepsTurnsOf t f → KeepsTurnsOf t g
+pub turns_agree : (t : Type') (f g : ℕ → Bool) → Agree (count t) f g → KeepsTurnsOf t f → KeepsTurnsOf t g
 turns_agree Com f g agree keeps = tt
 turns_agree (Exp w) f g agree keeps = tt
 turns_agree (Var w) f g agree keeps =

@@ -18,4 +18,5 @@ pub mod VisitLemmas
 pub mod VisitLawLemmas
 pub mod StillLemmas
 pub mod RunLemmas
+pub mod RepeatLemmas
 pub mod AcceptedLemmas

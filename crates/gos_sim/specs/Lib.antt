@@ -3,4 +3,5 @@ pub mod EventNets
 pub mod Cycle
 pub mod Runs
 pub mod Visits
+pub mod Repeats
 pub mod inner

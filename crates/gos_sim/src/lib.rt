@@ -27,6 +27,6 @@ mod sim;
 mod visits;
 
 pub use event_nets::EventNets;
-pub use laws::{runs, visits_counted};
+pub use laws::{repeats, runs, visits_counted};
 pub use pulse::Pulse;
 pub use sim::Sim;

@@ -1,9 +1,10 @@
 // The simulator.
-ghost use Rattle.std.specs.Prelude.{◌≡◌, All, IfErr, IfOk, length, replicate};
+ghost use Rattle.std.specs.Prelude.{◌≡◌, All, IfErr, IfOk, IsTrue, length, replicate};
 ghost use Rattle.gos_netcheck.specs.Accepted.{IsAccepted};
 ghost use Rattle.gos_sim.specs.EventNets.{input_events, output_events};
 ghost use Rattle.gos_sim.specs.Cycle.{IsCycle, IsNextOutput, IsWord, at_reset};
 ghost use Rattle.gos_sim.specs.Visits.{HasVisited};
+ghost use Rattle.gos_sim.specs.Repeats.{Repeats};
 ghost use Rattle.gos_sim.specs.inner.Machine.{IsMachine, SettlesAtReset, plan_of};
 
 use crate::machine::{Machine, machine_of};
@@ -135,6 +136,17 @@ impl Sim {
                     &self.values,
                 )
             }
+        }
+    }
+
+    /// Whether another cycle with the same inputs leaves the simulator as it is: its registers, and its last two settlings.
+    /// It is so after a cycle that had the inputs of the one before, where that one changed no register.
+    pub fn repeats(&self) -> bool
+        ensures { IsTrue result → Repeats self.now }
+    {
+        match self.past {
+            Past::Still => self.still,
+            Past::Reset | Past::First | Past::Later => false,
         }
     }
 

@@ -16,7 +16,8 @@ use Rattle.gos_realises.specs.Wirings.{link, applying}
 use Rattle.gos_turns.specs.Composed.{ApplyingIsRegular}
 use Rattle.gos_turns.proofs.TrailLemmas.{LinksArePorts}
 use Rattle.gos_turns.proofs.GoesLemmas.{IsTurned}
-use Rattle.gos_turns.proofs.TypeLemmas.{Changed, Agree, some_agree, turns_agree, still_busy, sides}
+use Rattle.gos_renumbered.proofs.TurnLemmas.{Agree, some_agree, turns_agree}
+use Rattle.gos_turns.proofs.TypeLemmas.{Changed, still_busy, sides}
 use Rattle.gos_turns.proofs.TurnedLemmas.{res, to_each, result_changed, in_result, fun_busy}
 use Rattle.gos_turns.proofs.PassLemmas.{StandsForImport, StandsForArgument, IsPair, Composes, passes_turns}
 use Rattle.gos_turns.proofs.LinkLemmas.{of_results, in_results}

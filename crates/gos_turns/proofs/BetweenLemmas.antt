@@ -13,7 +13,8 @@ use Rattle.gos_plan.proofs.SideLemmas.{pairs_join, functions_join}
 use Rattle.gos_plan.proofs.AskingLemmas.{front, behind}
 use Rattle.gos_realises.specs.Regular.{count, some_open, beyond, KeepsTurnsOf}
 use Rattle.gos_realises.proofs.GroundTurnLemmas.{some_there, there_some, count_fun}
-use Rattle.gos_turns.proofs.TypeLemmas.{count_pair, sides}
+use Rattle.gos_realises.proofs.CountLemmas.{count_pair}
+use Rattle.gos_turns.proofs.TypeLemmas.{sides}
 use Rattle.gos_turns.proofs.TurnedLemmas.{fun_busy}
 
 -- where something is open a handshake is by which the holder serves

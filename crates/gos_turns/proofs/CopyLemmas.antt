@@ -25,7 +25,8 @@ use Rattle.gos_turns.proofs.GoesLemmas.{IsTurned}
 use Rattle.gos_turns.proofs.WholeLemmas.{first_turned}
 use Rattle.gos_turns.specs.Rests.{Rests}
 use Rattle.gos_turns.proofs.RestLemmas.{passes_are, Neat, neat_first, stays_neat, told_asker}
-use Rattle.gos_turns.proofs.TypeLemmas.{told_same, Agree, some_agree, turns_agree}
+use Rattle.gos_renumbered.proofs.TurnLemmas.{Agree, some_agree, turns_agree}
+use Rattle.gos_turns.proofs.TypeLemmas.{told_same}
 use Rattle.gos_turns.proofs.BetweenLemmas.{Leads, Between, busy_to, busy_from, between_keeps}
 
 false_true : false ≡ true → ⊥

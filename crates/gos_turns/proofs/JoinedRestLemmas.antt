@@ -23,7 +23,7 @@ use Rattle.gos_turns.proofs.FollowLemmas.{Family, Seat, seat, at_place, joint_tr
 use Rattle.gos_turns.proofs.GoesLemmas.{IsTurned, Goes}
 use Rattle.gos_turns.proofs.TurnedLemmas.{res}
 use Rattle.gos_turns.proofs.PassLemmas.{Composes, passes_turns, giver_busy, result_agree}
-use Rattle.gos_turns.proofs.TypeLemmas.{some_agree}
+use Rattle.gos_renumbered.proofs.TurnLemmas.{some_agree}
 use Rattle.gos_turns.proofs.WholeLemmas.{goes_all}
 
 no_value : (v : ℕ) (h : Option ℕ) → h ≡ Some v → h ≡ None → ⊥

@@ -14,7 +14,7 @@ use Rattle.gos_turns.specs.Names.{NamePlanIsThere}
 use Rattle.gos_turns.specs.Pairs.{PairPlanIsThere}
 use Rattle.gos_turns.proofs.StandLemmas.{same_apart}
 use Rattle.gos_turns.proofs.TrailLemmas.{turned_twice}
-use Rattle.gos_turns.proofs.TypeLemmas.{count_pair}
+use Rattle.gos_realises.proofs.CountLemmas.{count_pair}
 use Rattle.gos_turns.proofs.NameLemmas.{import_number, result_number, import_apart}
 use Rattle.gos_turns.proofs.PairLemmas.{argument_at, result_same}
 

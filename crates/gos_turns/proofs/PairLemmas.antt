@@ -20,7 +20,8 @@ use Rattle.gos_turns.specs.Resting.{PairPlanRests, PairRests}
 use Rattle.gos_turns.specs.Pairs.{IsPairPlan, PairPlanIsRegular, PairIsRegular}
 use Rattle.gos_turns.proofs.TrailLemmas.{turned_twice}
 use Rattle.gos_turns.proofs.GoesLemmas.{IsTurned}
-use Rattle.gos_turns.proofs.TypeLemmas.{count_pair, sides}
+use Rattle.gos_realises.proofs.CountLemmas.{count_pair}
+use Rattle.gos_turns.proofs.TypeLemmas.{sides}
 use Rattle.gos_turns.proofs.TurnedLemmas.{res, to_each, from_each, busy_fun}
 use Rattle.gos_turns.proofs.BetweenLemmas.{Leads, busy_to, pair_first, pair_second, fun_first, both_up, not_both}
 use Rattle.gos_turns.proofs.CopyLemmas.{copy_rests, IsCopy, shown_at, copy_is_regular}

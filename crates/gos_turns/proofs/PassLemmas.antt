@@ -24,7 +24,8 @@ use Rattle.gos_turns.proofs.StandLemmas.{same_apart}
 use Rattle.gos_turns.proofs.TrailLemmas.{LinksArePorts, contact_place, link_contacts, link_back, turned_twice}
 use Rattle.gos_turns.proofs.FollowLemmas.{is_free, is_alone}
 use Rattle.gos_turns.proofs.GoesLemmas.{IsTurned, AllTurned, AllAgree, PortsAgree, LooseShut, PassesTurns}
-use Rattle.gos_turns.proofs.TypeLemmas.{Changed, told_same, Agree, some_agree, turns_agree}
+use Rattle.gos_renumbered.proofs.TurnLemmas.{Agree, some_agree, turns_agree}
+use Rattle.gos_turns.proofs.TypeLemmas.{Changed, told_same}
 use Rattle.gos_turns.proofs.TurnedLemmas.{imp, res, to_each, from_each, import_changed, result_changed, in_import, in_result, in_argument}
 
 -- plan m stands for an import of plan k, or for the argument of its function

@@ -7,7 +7,7 @@ use Rattle.gos_plan.specs.Plans.{ResultEnd, Plan}
 use Rattle.gos_plan.specs.Tokens.{way_taken}
 use Rattle.gos_realises.specs.Regular.{Pass, pass, count, some_open, KeepsTurnsOf}
 use Rattle.gos_turns.proofs.GoesLemmas.{IsTurned}
-use Rattle.gos_turns.proofs.TypeLemmas.{some_agree, turns_agree}
+use Rattle.gos_renumbered.proofs.TurnLemmas.{some_agree, turns_agree}
 use Rattle.gos_turns.proofs.TurnedLemmas.{res, to_each, in_result}
 
 zeros : (n : ℕ) → 0 + n ≡ n

@@ -21,7 +21,8 @@ use Rattle.gos_turns.specs.Composed.{SidesAreRegular}
 use Rattle.gos_turns.proofs.TrailLemmas.{LinksArePorts}
 use Rattle.gos_turns.proofs.FollowLemmas.{IsLoose, sort_there}
 use Rattle.gos_turns.proofs.GoesLemmas.{IsTurned, LooseShut}
-use Rattle.gos_turns.proofs.TypeLemmas.{Agree, some_agree, turns_agree, count_pair}
+use Rattle.gos_renumbered.proofs.TurnLemmas.{Agree, some_agree, turns_agree}
+use Rattle.gos_realises.proofs.CountLemmas.{count_pair}
 use Rattle.gos_turns.proofs.TurnedLemmas.{res, to_each, result_changed, in_result}
 use Rattle.gos_turns.proofs.PassLemmas.{StandsForImport, StandsForArgument, Composes, passes_turns}
 use Rattle.gos_turns.proofs.WholeLemmas.{joining_is_regular}

@@ -11,8 +11,8 @@ use Rattle.gos_plan.specs.Plans.{ImportEnd, ResultEnd, Plan}
 use Rattle.gos_plan.specs.Tokens.{way_taken, way_put}
 use Rattle.gos_realises.specs.Regular.{Pass, pass, is_open, is_request, count, some_open, beyond, KeepsTurnsOf, whole_end}
 use Rattle.gos_realises.proofs.GroundTurnLemmas.{some_there, there_some, count_fun}
-use Rattle.gos_renumbered.proofs.TurnLemmas.{keeps_each, each_keeps}
-use Rattle.gos_turns.proofs.TypeLemmas.{Changed, told_same, still_busy, was_busy, Agree, some_agree, turns_agree}
+use Rattle.gos_renumbered.proofs.TurnLemmas.{keeps_each, each_keeps, Agree, some_agree, turns_agree}
+use Rattle.gos_turns.proofs.TypeLemmas.{Changed, told_same, still_busy, was_busy}
 use Rattle.gos_turns.proofs.GoesLemmas.{IsTurned}
 
 -- what is open at an import and at the result

@@ -2,8 +2,8 @@
 --
 -- A handshake by which the holder of a term asks is never the only open one. So where the other side opens or closes a
 -- handshake, something was open before if something is after; and where the holder does, it is if it was.
-use Rattle.std.specs.Prelude.{ℕ, zero, suc, ◌+◌, ◌-◌, ◌<◌, Bool, true, false, ◌&&◌, ◌||◌, IsTrue, IsFalse, List, Some, slice_get, nat_eq, nat_lt, length}
-use Rattle.std.proofs.Common.{◌≡◌, ◌++◌, ◌⊎◌, inl, inr, refl, sym, ◌∙◌, ap, subst, arith, length-append}
+use Rattle.std.specs.Prelude.{ℕ, zero, suc, ◌+◌, ◌-◌, ◌<◌, Bool, true, false, List, Some, slice_get, nat_eq, nat_lt, length}
+use Rattle.std.proofs.Common.{◌≡◌, ◌++◌, ◌⊎◌, inl, inr, refl, sym, ◌∙◌, ap, arith, length-append}
 use Rattle.std.proofs.lemmas.Bool.Decides.{nat_tests}
 use Rattle.std.proofs.lemmas.Option.{none-some}
 use Rattle.gos_types.specs.declared.shakes.Role.{Role}
@@ -15,10 +15,8 @@ use Rattle.gos_plan.specs.Tokens.{way_taken, way_put}
 use Rattle.gos_plan.proofs.SideLemmas.{pairs_join, functions_join}
 use Rattle.gos_realises.specs.Regular.{count, some_open, beyond, KeepsTurnsOf, is_request}
 use Rattle.gos_realises.proofs.GroundTurnLemmas.{some_there, there_some, count_fun}
+use Rattle.gos_realises.proofs.CountLemmas.{count_pair}
 use Rattle.gos_joined.proofs.OriginLemmas.{front_at, behind_at}
-
-pub count_pair : (a b : Type') → count (Pair a b) ≡ count a + count b
-count_pair a b = ap (λ (cs : List Contact). length cs) (pairs_join a b).joined ∙ length-append (contacts_of a) (contacts_of b)
 
 -- another handshake is open
 abbrev Beside : ℕ → (ℕ → Bool) → ℕ → Type 0
@@ -137,45 +135,3 @@ was_busy t f g h c way changed there is keeps busy = of_open (some_there (count 
         by_told : (k ≡ h) ⊎ (k ≡ h → ⊥) → some_open (count t) f ≡ true
         by_told (inr apart) = there_some (count t) f k low (sym (changed.else_same k low apart) ∙ up)
         by_told (inl same) = by_role same c.role refl
-
--- turns of a type depend on its handshakes alone
-abbrev pub Agree : ℕ → (ℕ → Bool) → (ℕ → Bool) → Type 0
-Agree n f g = (h : ℕ) → h < n → f h ≡ g h
-
-pub some_agree : (n : ℕ) (f g : ℕ → Bool) → Agree n f g → some_open n f ≡ some_open n g
-some_agree zero f g agree = refl
-some_agree (suc n) f g agree =
-    let last = agree n (omega arith) in
-    let rest = some_agree n f g (λ h low. agree h (omega (arith, low))) in
-    λ i. last i || rest i
-
-first_agree : (m n k : ℕ) (f g : ℕ → Bool) → k ≡ m + n → Agree k f g → Agree m f g
-first_agree m n k f g sum agree h low = agree h (omega (arith, low, sum))
-
-beyond_agree : (m n k : ℕ) (f g : ℕ → Bool) → k ≡ m + n → Agree k f g → Agree n (beyond m f) (beyond m g)
-beyond_agree m n k f g sum agree h low = agree (m + h) (omega (arith, low, sum))
-
-pub turns_agree : (t : Type') (f g : ℕ → Bool) → Agree (count t) f g → KeepsTurnsOf t f → KeepsTurnsOf t g
-turns_agree Com f g agree keeps = tt
-turns_agree (Exp w) f g agree keeps = tt
-turns_agree (Var w) f g agree keeps =
-    let one = agree 0 (omega arith) in
-    let other = agree 1 (omega arith) in
-    subst (λ (b : Bool). IsFalse (b && g 1)) one (subst (λ (b : Bool). IsFalse (f 0 && b)) other keeps)
-turns_agree (Pair a b) f g agree (first, second, shut) =
-    let of_a = first_agree (count a) (count b) (count (Pair a b)) f g (count_pair a b) agree in
-    let of_b = beyond_agree (count a) (count b) (count (Pair a b)) f g (count_pair a b) agree in (
-      turns_agree a f g of_a first,
-      turns_agree b (beyond (count a) f) (beyond (count a) g) of_b second,
-      subst (λ (x : Bool). IsFalse (x && some_open (count b) (beyond (count a) g))) (some_agree (count a) f g of_a)
-          (subst (λ (x : Bool). IsFalse (some_open (count a) f && x)) (some_agree (count b) (beyond (count a) f) (beyond (count a) g) of_b) shut),
-    )
-turns_agree (Fun a b) f g agree (first, second, leads) =
-    let of_a = first_agree (count a) (count b) (count (Fun a b)) f g (count_fun a b) agree in
-    let of_b = beyond_agree (count a) (count b) (count (Fun a b)) f g (count_fun a b) agree in (
-      turns_agree a f g of_a first,
-      turns_agree b (beyond (count a) f) (beyond (count a) g) of_b second,
-      λ busy.
-          subst (λ (x : Bool). IsTrue x) (some_agree (count b) (beyond (count a) f) (beyond (count a) g) of_b)
-          (leads (subst (λ (x : Bool). IsTrue x) (sym (some_agree (count a) f g of_a)) busy)),
-    )

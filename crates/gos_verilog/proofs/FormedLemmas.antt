@@ -11,7 +11,8 @@ use Rattle.gos_verilog.specs.PortNets.{PortNet, roles, number_bits, net_in_role,
 use Rattle.gos_verilog.specs.Lines.{clock_declarations, port_declaration, cell_net, cell_declaration, cell_declarations, driver, driver_of, assignment, output_assignment}
 use Rattle.gos_verilog.specs.VerilogText.{first_name, declarations, outputs, IsFed, AreDrivers}
 use Rattle.gos_verilog.specs.Readable.{HasOwnName}
-use Rattle.gos_verilog.specs.Place.{IsOfItsBits, IsFormedText, ArePorts, front_of, head_of}
+use Rattle.gos_verilog.specs.Place.{IsOfItsBits, IsFormedText, ArePorts, head_of}
+use Rattle.gos_verilog.specs.inner.Parts.{front_of}
 use Rattle.gos_verilog.specs.inner.Stages.{declared_net, shape_of}
 use Rattle.gos_verilog.specs.inner.Breaks.{Leads}
 use Rattle.gos_verilog.specs.inner.Left.{LeftNets, named_nets, only_names, LeftOutput, LeftOutputs, IsSource, LeftDrivers, IsShape, shape_text, shapes_text, LeftCells}

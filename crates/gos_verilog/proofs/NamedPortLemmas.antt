@@ -14,7 +14,8 @@ use Rattle.gos_verilog.specs.PortNets.{PortNet, suffix, roles, number_bits, nets
 use Rattle.gos_verilog.specs.Lines.{clock_declarations, port_declaration, cell_declarations}
 use Rattle.gos_verilog.specs.VerilogText.{first_name, declarations, outputs}
 use Rattle.gos_verilog.specs.Readable.{HasOwnName}
-use Rattle.gos_verilog.specs.Place.{IsFormedText, ArePorts, HasHead, front_of, head_of}
+use Rattle.gos_verilog.specs.Place.{IsFormedText, ArePorts, HasHead, head_of}
+use Rattle.gos_verilog.specs.inner.Parts.{front_of}
 use Rattle.std.proofs.Math.Seq.{drop-append_seam}
 use Rattle.gos_verilog.specs.declared.fault.VFault.{VFault}
 use Rattle.gos_verilog.specs.declared.fault.VFault.TheVariants as faults

@@ -14,9 +14,9 @@ use Rattle.gos_verilog.specs.Readable.{IsRead, IsReadable, IsRefused}
 use Rattle.gos_verilog.specs.inner.Stages.{IsWant, IsNetName, HaveOwnNames, HaveCellWidths, declared_net}
 use Rattle.gos_verilog.specs.inner.Inputs.{AreFed}
 use Rattle.gos_verilog.specs.inner.Noted.{HasPlaces, AreRight}
-use Rattle.gos_verilog.specs.inner.Parts.{Parts}
+use Rattle.gos_verilog.specs.inner.Parts.{Parts, front_of}
 use Rattle.gos_verilog.specs.Lines.{cell_declarations}
-use Rattle.gos_verilog.specs.Place.{ArePorts, front_of}
+use Rattle.gos_verilog.specs.Place.{ArePorts}
 use Rattle.std.proofs.Common.{append_assoc}
 use Rattle.gos_verilog.proofs.SuffixLemmas as names
 use Rattle.gos_verilog.proofs.PortLemmas.{IsRightNet, right_nets}

@@ -3,7 +3,7 @@
 -- Read first: Readable; Items of gos_lex. Which cell each input is, is judged last. Until then the line of an Input cell
 -- may name any input of its bits, so texts in which it does are counted here too.
 use Rattle.std.specs.Prelude.{◌≡◌, ℕ, ◌<◌, List, ◌++◌, length}
-use Rattle.std.specs.List.{AllByRecursion, flat_map}
+use Rattle.std.specs.List.{AllByRecursion}
 use Rattle.gos_lex.specs.Items.{Begins, StopsAt}
 use Rattle.gos_netlist.specs.Nets.{NetPort, Netlist}
 use Rattle.gos_netlist.specs.Writable.{IsNumber, IsWritablePort, IsWritable}
@@ -12,7 +12,7 @@ use Rattle.gos_verilog.specs.declared.fault.VFault.{VFault}
 use Rattle.gos_verilog.specs.declared.fault.VFault.TheVariants.{Form, NoMemory}
 use Rattle.gos_verilog.specs.VerilogText.{first_name, Feeding, IsModuleOf}
 use Rattle.gos_verilog.specs.PortNets.{port_nets}
-use Rattle.gos_verilog.specs.Lines.{module_head, clock_declarations, port_declaration}
+use Rattle.gos_verilog.specs.Lines.{module_head, clock_declarations}
 use Rattle.gos_verilog.specs.Readable.{HasOwnName, IsRead}
 
 -- an Input cell reads an input of its bits
@@ -45,12 +45,9 @@ ReadIsFormed = (text : List ℕ) (net : Netlist) → IsRead text net → IsForme
 abbrev pub HasOnePlace : Type 0
 HasOnePlace = (text : List ℕ) (at other : ℕ) → IsPlace text at → IsPlace text other → at ≡ other
 
--- the text up to the declarations of the nets of these ports, and up to those of cells' nets
+-- the text up to the declarations of the nets of these ports
 abbrev pub head_of : List NetPort → List ℕ
 head_of ports = module_head (first_name ports) (port_nets ports) ++ clock_declarations
-
-abbrev pub front_of : List NetPort → List ℕ
-front_of ports = head_of ports ++ flat_map port_declaration (port_nets ports)
 
 -- ports of names of their own, whose names and numbers are in the ranges of the format
 pub record ArePorts (ports : List NetPort) : Type 0 where

@@ -1,6 +1,6 @@
 // The lines that drive the nets of cells, but those of Input cells. `Err` is the place of the first byte that can't go on
 // as the line, or the end of the text.
-ghost use Rattle.std.specs.Prelude.{◌≡◌, ◌≤◌, ◌^◌, ◌-◌, [], IfOk, IfErr, length, codes};
+ghost use Rattle.std.specs.Prelude.{◌≡◌, ◌≤◌, ◌^◌, ◌-◌, [], IfOk, IfErr, get_or, length, codes};
 ghost use Rattle.gos_lex.specs.Items.{Misses};
 ghost use Rattle.gos_netlist.specs.Seen.{function_of};
 ghost use Rattle.gos_types.specs.Widths.{IsWidth};
@@ -16,7 +16,7 @@ use gos_netlist::{Gate, NetId};
 use std::alloc::Global;
 
 /// What kind of function drives a net.
-#[derive(Debug, Clone, Copy)]
+#[derive(Clone, Copy)]
 pub enum Kind {
     Const,
     Not,
@@ -214,19 +214,31 @@ fn greatest(width: u32) -> u32
 fn gate(kind: Kind, numbers: &[u32]) -> Gate
     ensures { function_of result ≡ lines.made kind numbers.now }
 {
-    match (kind, numbers) {
-        (Kind::Const, [_, _, k, ..]) => Gate::Const(u64::from(*k)),
-        (Kind::Not, [_, a, ..]) => Gate::Not(NetId(*a)),
-        (Kind::And, [_, a, b, ..]) => Gate::And(NetId(*a), NetId(*b)),
-        (Kind::Or, [_, a, b, ..]) => Gate::Or(NetId(*a), NetId(*b)),
-        (Kind::Xor, [_, a, b, ..]) => Gate::Xor(NetId(*a), NetId(*b)),
-        (Kind::Mux, [_, s, a, b, ..]) => Gate::Mux(NetId(*s), NetId(*a), NetId(*b)),
-        (Kind::Add, [_, a, b, ..]) => Gate::Add(NetId(*a), NetId(*b)),
-        (Kind::Sub, [_, a, b, ..]) => Gate::Sub(NetId(*a), NetId(*b)),
-        (Kind::Eq, [_, a, b, ..]) => Gate::Eq(NetId(*a), NetId(*b)),
-        (Kind::Less, [_, a, b, ..]) => Gate::Less(NetId(*a), NetId(*b)),
-        (Kind::Gate, [_, s, a, ..]) => Gate::Gate(NetId(*s), NetId(*a)),
-        (Kind::Reg, [_, _, _, a, ..]) => Gate::Reg(NetId(*a)),
-        _ => Gate::Input,
+    let first = net_at(numbers, 1);
+    let second = net_at(numbers, 2);
+    let third = net_at(numbers, 3);
+    match kind {
+        Kind::Const => Gate::Const(u64::from(second.0)),
+        Kind::Not => Gate::Not(first),
+        Kind::And => Gate::And(first, second),
+        Kind::Or => Gate::Or(first, second),
+        Kind::Xor => Gate::Xor(first, second),
+        Kind::Mux => Gate::Mux(first, second, third),
+        Kind::Add => Gate::Add(first, second),
+        Kind::Sub => Gate::Sub(first, second),
+        Kind::Eq => Gate::Eq(first, second),
+        Kind::Less => Gate::Less(first, second),
+        Kind::Gate => Gate::Gate(first, second),
+        Kind::Reg => Gate::Reg(third),
+    }
+}
+
+// The net of the number at this place of a line; net 0 where there is none.
+fn net_at(numbers: &[u32], place: usize) -> NetId
+    ensures { result.0 ≡ get_or numbers.now place 0 }
+{
+    match numbers.get(place) {
+        Some(number) => NetId(*number),
+        None => NetId(0),
     }
 }

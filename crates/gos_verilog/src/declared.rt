@@ -18,13 +18,13 @@ use crate::cell_line::exactly;
 use crate::fault::VFault;
 use crate::port_net::{PortNet, Role};
 use crate::ports_of::ends_with;
-use crate::slots::{Slot, line};
+use crate::slots::{Slot, framed, line};
 use gos_lex::Cursor;
 use gos_netlist::{NetId, Side};
 use std::alloc::Global;
 
 /// What is declared of a cell's net.
-#[derive(Debug, Clone, Copy)]
+#[derive(Clone, Copy)]
 pub struct Shape {
     /// Its bits.
     pub width: u32,
@@ -174,9 +174,7 @@ fn net_line(
         × PassedIn rest.now 0 both.1 (net_text name.now (input, n))) }
     ensures wrong { IfErr result (BreaksAt (IsNetOf input (lefts.least_of role last) (lefts.most_of role last) name.now) (record { text = rest.now; at = 0 })) }
 {
-    let mut tail = b"0] ".as_slice().to_vec(alloc)?;
-    tail.extend_from_slice(name)?;
-    tail.extend_from_slice(b";\n")?;
+    let tail = framed(alloc, b"0] ", name, b";\n")?;
     let mut cursor = Cursor::new(rest);
     let slots = [Slot {
         before: net_word(input),

@@ -25,7 +25,7 @@ use std::alloc::Global;
 use std::marker::Model;
 
 /// A port as the head of a module names it.
-#[derive(Debug, Drop)]
+#[derive(Drop)]
 pub struct Face<'a> {
     /// The role of its first net, which tells what kind of port it is.
     pub first: Role,
@@ -314,25 +314,16 @@ fn behind_first(alloc: Global, face: &Face) -> Result<Vec<u8>, NoMemory>
 {
     let roles = roles_behind(alloc, face.first)?;
     let text = names_in(alloc, face.name, without_first(&roles))?;
-    Ok(without_byte(&text).to_vec(alloc)?)
+    Ok(without_first(&text).to_vec(alloc)?)
 }
 
 // All but the first.
-fn without_first(roles: &[Role]) -> &[Role]
-    ensures { result.now ≡ drop 1 roles.now }
+fn without_first<T>(items: &[T]) -> &[T]
+    ensures { result.now ≡ drop 1 items.now }
 {
-    match roles {
+    match items {
         [_, rest @ ..] => rest,
-        [] => roles,
-    }
-}
-
-fn without_byte(bytes: &[u8]) -> &[u8]
-    ensures { result.now ≡ drop 1 bytes.now }
-{
-    match bytes {
-        [_, rest @ ..] => rest,
-        [] => bytes,
+        [] => items,
     }
 }
 

@@ -109,7 +109,12 @@ pub fn name_at(text: &[u8], at: usize) -> &[u8]
 pub fn name_length(text: &[u8]) -> usize
     ensures { result ≡ prefix_len continues_name text.now }
 {
-    text.iter().take_while(|b| continues_name(**b)).count()
+    for (n, b) in text.iter().enumerate() {
+        if !continues_name(*b) {
+            return n;
+        }
+    }
+    text.len()
 }
 
 // Whether a name may go on with the byte.

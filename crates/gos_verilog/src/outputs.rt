@@ -14,7 +14,7 @@ use crate::fault::VFault;
 use crate::head::word;
 use crate::inputs::Inputs;
 use crate::port_net::PortNet;
-use crate::slots::{Slot, line};
+use crate::slots::{Slot, framed, line};
 use gos_lex::Cursor;
 use gos_netlist::NetId;
 use std::alloc::Global;
@@ -72,9 +72,7 @@ fn output(alloc: Global, cursor: &mut Cursor, name: &[u8]) -> Result<NetId, VFau
     ensures stands { (n : ℕ) (x : List ℕ) → IsNumber n → Rest cursor.old (assignment name.now (cell_net n) ++ x)
         → MatchResult result (λ found. (found.0 ≡ n) × Rest cursor.new x) IsWant }
 {
-    let mut before = b"  assign ".as_slice().to_vec(alloc)?;
-    before.extend_from_slice(name)?;
-    before.extend_from_slice(b" = n")?;
+    let before = framed(alloc, b"  assign ", name, b" = n")?;
     let slots = [Slot {
         before: &before,
         low: 0,

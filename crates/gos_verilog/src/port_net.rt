@@ -1,6 +1,5 @@
 // The nets of ports in a module.
 ghost use Rattle.std.specs.Prelude.{◌≡◌, ◌++◌, ◌<◌, IfOk, OnOk, length, map};
-ghost use Rattle.gos_types.specs.Types.{Var};
 ghost use Rattle.gos_netlist.specs.Events.{Request, Answer, is_input};
 ghost use Rattle.gos_netlist.specs.Seen.{ground_type, number_of, side_of};
 ghost use Rattle.gos_verilog.specs.PortNets as nets;
@@ -11,7 +10,7 @@ use std::alloc::Global;
 use std::marker::Model;
 
 /// What a net of a port carries: a pulse, or behind it the number that comes with it.
-#[derive(Debug, Clone, Copy)]
+#[derive(Clone, Copy)]
 pub enum Role {
     Run,
     Done,
@@ -67,29 +66,28 @@ impl Role {
 pub fn roles(alloc: Global, ground: Ground) -> Result<Vec<Role>, NoMemory>
     ensures { IfOk result (λ roles. roles.items ≡ nets.roles (ground_type ground)) }
 {
-    let roles = match ground {
-        Ground::Com => [Role::Run, Role::Done].as_slice().to_vec(alloc)?,
-        Ground::Exp(_) => [Role::Ask, Role::Ans, Role::AnsValue]
-            .as_slice()
-            .to_vec(alloc)?,
-        Ground::Var(_) => var_roles(alloc)?,
-    };
-    Ok(roles)
+    match ground {
+        Ground::Com => listed(alloc, &[Role::Run, Role::Done]),
+        Ground::Exp(_) => listed(alloc, &[Role::Ask, Role::Ans, Role::AnsValue]),
+        Ground::Var(_) => {
+            let roles = [
+                Role::Read,
+                Role::Ans,
+                Role::AnsValue,
+                Role::Write,
+                Role::WriteValue,
+                Role::Done,
+            ];
+            listed(alloc, &roles)
+        }
+    }
 }
 
-// The nets of a variable.
-fn var_roles(alloc: Global) -> Result<Vec<Role>, NoMemory>
-    ensures { IfOk result (λ list. list.items ≡ nets.roles (Var 1)) }
+// A vector of these.
+fn listed(alloc: Global, roles: &[Role]) -> Result<Vec<Role>, NoMemory>
+    ensures { IfOk result (λ list. list.items ≡ roles.now) }
 {
-    let roles = [
-        Role::Read,
-        Role::Ans,
-        Role::AnsValue,
-        Role::Write,
-        Role::WriteValue,
-        Role::Done,
-    ];
-    Ok(roles.as_slice().to_vec(alloc)?)
+    Ok(roles.to_vec(alloc)?)
 }
 
 // The bits of a port's numbers; 1 where it has none.
@@ -103,7 +101,7 @@ fn number_bits(ground: Ground) -> u32
 }
 
 /// A net of a port in the module.
-#[derive(Debug, Drop)]
+#[derive(Drop)]
 pub struct PortNet {
     /// Its name.
     pub name: Vec<u8>,

@@ -19,16 +19,14 @@ pub fn add_head(text: &mut Vec<u8>, name: &[u8], nets: &[PortNet]) -> Result<(),
     text.extend_from_slice(name)?;
     text.extend_from_slice(b"(clk, rst")?;
     add_names(text, nets)?;
-    text.extend_from_slice(b");\n")?;
-    Ok(())
+    add_bytes(text, b");\n")
 }
 
 /// Adds the declarations of the clock and the reset.
 pub fn add_clock(text: &mut Vec<u8>) -> Result<(), NoMemory>
     ensures { OnOk result (text.new.items ≡ text.old.items ++ lines.clock_declarations) }
 {
-    text.extend_from_slice(b"  input clk;\n  input rst;\n")?;
-    Ok(())
+    add_bytes(text, b"  input clk;\n  input rst;\n")
 }
 
 // Adds the names of nets, each behind a comma.
@@ -71,10 +69,8 @@ fn add_declaration(
 {
     text.extend_from_slice(b"  ")?;
     text.extend_from_slice(kind)?;
-    text.extend_from_slice(b" [")?;
-    add_number(alloc, text, u64::from(width.saturating_sub(1)))?;
-    text.extend_from_slice(b":0] ")?;
-    Ok(())
+    add_number(alloc, text, b" [", u64::from(width.saturating_sub(1)))?;
+    add_bytes(text, b":0] ")
 }
 
 // Adds what ends a line.
@@ -82,8 +78,7 @@ fn add_line(text: &mut Vec<u8>, last: &[u8]) -> Result<(), NoMemory>
     ensures { OnOk result (text.new.items ≡ text.old.items ++ last.now ++ codes ";\n") }
 {
     text.extend_from_slice(last)?;
-    text.extend_from_slice(b";\n")?;
-    Ok(())
+    add_bytes(text, b";\n")
 }
 
 /// Adds the declarations of the nets of cells.
@@ -101,9 +96,8 @@ fn add_cell(alloc: Global, text: &mut Vec<u8>, i: u64, cell: &Cell) -> Result<()
     ensures { OnOk result (text.new.items ≡ text.old.items ++ lines.cell_declaration i (cell_of cell.now)) }
 {
     add_declaration(alloc, text, kind_word(cell.gate), cell.width)?;
-    add_net(alloc, text, i)?;
-    text.extend_from_slice(b";\n")?;
-    Ok(())
+    add_number(alloc, text, b"n", i)?;
+    add_bytes(text, b";\n")
 }
 
 // The word for the kind of a cell's net.
@@ -157,8 +151,7 @@ fn add_driver(
 {
     add_target(alloc, text, i, cell.width, is_register(cell.gate))?;
     add_expression(alloc, text, cell.width, cell.gate, source)?;
-    text.extend_from_slice(b";\n")?;
-    Ok(())
+    add_bytes(text, b";\n")
 }
 
 // Whether the gate is a register.
@@ -201,19 +194,16 @@ fn add_reset(alloc: Global, text: &mut Vec<u8>, i: u64, width: u32) -> Result<()
 fn add_clocked(alloc: Global, text: &mut Vec<u8>, i: u64) -> Result<(), NoMemory>
     ensures { OnOk result (text.new.items ≡ text.old.items ++ (lines.cell_net i ++ codes " <= ")) }
 {
-    add_net(alloc, text, i)?;
-    text.extend_from_slice(b" <= ")?;
-    Ok(())
+    add_number(alloc, text, b"n", i)?;
+    add_bytes(text, b" <= ")
 }
 
 // Adds what stands before the value that is assigned to the net of cell `i`.
 fn add_assigned(alloc: Global, text: &mut Vec<u8>, i: u64) -> Result<(), NoMemory>
     ensures { OnOk result (text.new.items ≡ text.old.items ++ (codes "  assign " ++ lines.cell_net i ++ codes " = ")) }
 {
-    text.extend_from_slice(b"  assign ")?;
-    add_net(alloc, text, i)?;
-    text.extend_from_slice(b" = ")?;
-    Ok(())
+    add_number(alloc, text, b"  assign n", i)?;
+    add_bytes(text, b" = ")
 }
 
 // Adds what a cell computes.
@@ -229,7 +219,7 @@ fn add_expression(
     match gate {
         Gate::Input => add_bytes(text, source),
         Gate::Const(k) => add_literal(alloc, text, width, k),
-        Gate::Not(a) => add_complement(alloc, text, a),
+        Gate::Not(a) => add_number(alloc, text, b"~n", u64::from(a.0)),
         Gate::And(a, b) => add_binary(alloc, text, a, b"&", b),
         Gate::Or(a, b) => add_binary(alloc, text, a, b"|", b),
         Gate::Xor(a, b) => add_binary(alloc, text, a, b"^", b),
@@ -239,7 +229,7 @@ fn add_expression(
         Gate::Eq(a, b) => add_binary(alloc, text, a, b"==", b),
         Gate::Less(a, b) => add_binary(alloc, text, a, b"<", b),
         Gate::Gate(s, a) => add_gated(alloc, text, width, s, a),
-        Gate::Reg(a) => add_net(alloc, text, u64::from(a.0)),
+        Gate::Reg(a) => add_number(alloc, text, b"n", u64::from(a.0)),
     }
 }
 
@@ -249,14 +239,6 @@ fn add_bytes(text: &mut Vec<u8>, bytes: &[u8]) -> Result<(), NoMemory>
 {
     text.extend_from_slice(bytes)?;
     Ok(())
-}
-
-// Adds all bits of a net turned.
-fn add_complement(alloc: Global, text: &mut Vec<u8>, a: NetId) -> Result<(), NoMemory>
-    ensures { OnOk result (text.new.items ≡ text.old.items ++ codes "~" ++ lines.cell_net a.0) }
-{
-    text.extend_from_slice(b"~")?;
-    add_net(alloc, text, u64::from(a.0))
 }
 
 // Adds an expression of two nets.
@@ -269,22 +251,19 @@ fn add_binary(
 ) -> Result<(), NoMemory>
     ensures { OnOk result (text.new.items ≡ text.old.items ++ lines.binary a.0 sign.now b.0) }
 {
-    add_net(alloc, text, u64::from(a.0))?;
+    add_number(alloc, text, b"n", u64::from(a.0))?;
     text.extend_from_slice(b" ")?;
     text.extend_from_slice(sign)?;
-    text.extend_from_slice(b" ")?;
-    add_net(alloc, text, u64::from(b.0))
+    add_number(alloc, text, b" n", u64::from(b.0))
 }
 
 // Adds a choice between two nets.
 fn add_mux(alloc: Global, text: &mut Vec<u8>, s: NetId, a: NetId, b: NetId) -> Result<(), NoMemory>
     ensures { OnOk result (text.new.items ≡ text.old.items ++ lines.conditional s.0 (lines.cell_net a.0) (lines.cell_net b.0)) }
 {
-    add_net(alloc, text, u64::from(s.0))?;
-    text.extend_from_slice(b" ? ")?;
-    add_net(alloc, text, u64::from(a.0))?;
-    text.extend_from_slice(b" : ")?;
-    add_net(alloc, text, u64::from(b.0))
+    add_number(alloc, text, b"n", u64::from(s.0))?;
+    add_number(alloc, text, b" ? n", u64::from(a.0))?;
+    add_number(alloc, text, b" : n", u64::from(b.0))
 }
 
 // Adds a net that is let through.
@@ -297,9 +276,8 @@ fn add_gated(
 ) -> Result<(), NoMemory>
     ensures { OnOk result (text.new.items ≡ text.old.items ++ lines.conditional s.0 (lines.cell_net a.0) (lines.literal width 0)) }
 {
-    add_net(alloc, text, u64::from(s.0))?;
-    text.extend_from_slice(b" ? ")?;
-    add_net(alloc, text, u64::from(a.0))?;
+    add_number(alloc, text, b"n", u64::from(s.0))?;
+    add_number(alloc, text, b" ? n", u64::from(a.0))?;
     text.extend_from_slice(b" : ")?;
     add_literal(alloc, text, width, 0)
 }
@@ -313,8 +291,7 @@ pub fn add_outputs(alloc: Global, text: &mut Vec<u8>, nets: &[PortNet]) -> Resul
             add_output(alloc, text, net)?;
         }
     }
-    text.extend_from_slice(b"endmodule\n")?;
-    Ok(())
+    add_bytes(text, b"endmodule\n")
 }
 
 // Adds the assignment of an output.
@@ -323,34 +300,23 @@ fn add_output(alloc: Global, text: &mut Vec<u8>, net: &PortNet) -> Result<(), No
 {
     text.extend_from_slice(b"  assign ")?;
     text.extend_from_slice(&net.name)?;
-    text.extend_from_slice(b" = ")?;
-    add_net(alloc, text, u64::from(net.cell.0))?;
-    text.extend_from_slice(b";\n")?;
-    Ok(())
+    add_number(alloc, text, b" = n", u64::from(net.cell.0))?;
+    add_bytes(text, b";\n")
 }
 
 // Adds a number of so many bits.
 fn add_literal(alloc: Global, text: &mut Vec<u8>, width: u32, k: u64) -> Result<(), NoMemory>
     ensures { OnOk result (text.new.items ≡ text.old.items ++ lines.literal width k) }
 {
-    add_number(alloc, text, u64::from(width))?;
-    text.extend_from_slice(b"'d")?;
-    add_number(alloc, text, k)
+    add_number(alloc, text, b"", u64::from(width))?;
+    add_number(alloc, text, b"'d", k)
 }
 
-// Adds the net of a cell.
-fn add_net(alloc: Global, text: &mut Vec<u8>, i: u64) -> Result<(), NoMemory>
-    ensures { OnOk result (text.new.items ≡ text.old.items ++ lines.cell_net i) }
-{
-    text.extend_from_slice(b"n")?;
-    add_number(alloc, text, i)
-}
-
-// Adds a number.
-fn add_number(alloc: Global, text: &mut Vec<u8>, number: u64) -> Result<(), NoMemory>
-    ensures { OnOk result (text.new.items ≡ text.old.items ++ decimal number) }
+// Adds a word and a number.
+fn add_number(alloc: Global, text: &mut Vec<u8>, word: &[u8], number: u64) -> Result<(), NoMemory>
+    ensures { OnOk result (text.new.items ≡ text.old.items ++ word.now ++ decimal number) }
 {
     let digits = number.to_string(alloc)?;
-    text.extend_from_slice(digits.as_bytes())?;
-    Ok(())
+    text.extend_from_slice(word)?;
+    add_bytes(text, digits.as_bytes())
 }

@@ -6,13 +6,13 @@ ghost use Rattle.gos_netlist.specs.Writable.{IsWritableCell, IsWritablePort};
 ghost use Rattle.gos_types.specs.Widths.{IsWidth};
 ghost use Rattle.gos_netlist.specs.Nets.{NetPort, Netlist as Net};
 ghost use Rattle.gos_verilog.specs.Readable.{IsRead, IsReadable, IsRefused};
-ghost use Rattle.gos_verilog.specs.Place.{ArePorts, HasPlace, IsFormedText, front_of};
+ghost use Rattle.gos_verilog.specs.Place.{ArePorts, HasPlace, IsFormedText};
 ghost use Rattle.gos_verilog.specs.VerilogText.{IsVerilogOf};
 ghost use Rattle.gos_verilog.specs.PortNets.{port_nets as nets_of};
 ghost use Rattle.gos_verilog.specs.inner.Stages.{IsWant, declared_net, shape_of};
 ghost use Rattle.gos_verilog.specs.inner.Breaks.{FaultFrom};
 ghost use Rattle.gos_verilog.specs.inner.Left.{HaveNetNames, LeadsOnOf, LeftDrivers};
-ghost use Rattle.gos_verilog.specs.inner.Parts.{Parts};
+ghost use Rattle.gos_verilog.specs.inner.Parts.{Parts, front_of};
 
 use crate::declared::{Shape, cell_declarations, further, port_declarations};
 use crate::driven::drivers;

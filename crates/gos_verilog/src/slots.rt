@@ -9,12 +9,13 @@ ghost use Rattle.gos_verilog.specs.inner.Stages.{Rest};
 ghost use Rattle.gos_verilog.specs.inner.Slots.{IsSlot, IsRightSlot, AreSlots, FitSlots, slot_text, line_text, IsLine, Slot'};
 
 use gos_lex::Cursor;
+use gos_types::NoMemory;
 use smallvec::SmallVec;
 use std::alloc::Global;
 use std::marker::Model;
 
 /// A word, a number of a range, and the byte that ends it.
-#[derive(Debug, Drop)]
+#[derive(Drop)]
 pub struct Slot<'a> {
     pub before: &'a [u8],
     pub low: u32,
@@ -110,4 +111,14 @@ pub fn pass(cursor: &mut Cursor, bytes: &[u8]) -> Result<(), usize>
 {
     cursor.word(bytes)?;
     Ok(())
+}
+
+/// A name between two words.
+pub fn framed(alloc: Global, before: &[u8], name: &[u8], behind: &[u8]) -> Result<Vec<u8>, NoMemory>
+    ensures { IfOk result (λ text. text.items ≡ before.now ++ name.now ++ behind.now) }
+{
+    let mut text = before.to_vec(alloc)?;
+    text.extend_from_slice(name)?;
+    text.extend_from_slice(behind)?;
+    Ok(text)
 }

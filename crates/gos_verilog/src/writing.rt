@@ -33,8 +33,7 @@ pub(crate) fn module_text(
 {
     let nets = port_nets(alloc, ports)?;
     let table = table(alloc, &nets, cells.len())?;
-    let text = lines(alloc, first_name(ports), &nets, &table, cells)?;
-    Ok(text)
+    lines(alloc, first_name(ports), &nets, &table, cells)
 }
 
 // The lines of the module of this name, with these nets of ports.

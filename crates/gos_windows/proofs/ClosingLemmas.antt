@@ -12,7 +12,7 @@ use Rattle.gos_netlist.specs.Events.{Direction, Request, Answer}
 use Rattle.gos_plan.specs.Kinds.{Part, Share, Contact, contacts_of}
 use Rattle.gos_plan.specs.Firing.{Phase, State, Slot, Req, Ans, Token, Row, at, same_slot, firing}
 use Rattle.gos_plan.specs.Plans.{End, PartEnd, ImportEnd, ResultEnd, Plan, IsRight, contact_at, same_end}
-use Rattle.gos_plan.specs.Tokens.{Tokens, Element, Fire, Out, In, IsPortEnd, places_of, way_taken, way_put, way_of, end_of, shake_of, token_at, with_token, with_state, fired, Does, IsIdle}
+use Rattle.gos_plan.specs.Tokens.{Tokens, Element, Fire, Out, In, IsPortEnd, places_of, way_taken, way_put, way_of, end_of, shake_of, token_at, with_token, Does, IsIdle}
 use Rattle.gos_plan.specs.Tokens as tokens
 use Rattle.gos_plan.specs.Turns.{IsUnshared}
 use Rattle.gos_plan.specs.Orderly.{named_by, handshake_at, Open, none_open, with_open, after_taken, after_put, after_puts, ComesInOrder, OrderlyFrom}

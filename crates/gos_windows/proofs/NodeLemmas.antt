@@ -20,7 +20,7 @@ use Rattle.gos_windows.proofs.PortLemmas.{port_end}
 use Rattle.gos_windows.proofs.OwnLemmas.{none_at_rest}
 use Rattle.gos_windows.proofs.StageLemmas.{Emptied}
 use Rattle.gos_windows.proofs.TurnLemmas.{result_in, result_out, OnlyResult, NoneOpen}
-use Rattle.gos_windows.proofs.WholeLemmas.{own_end, done, result_place, own_place, at_own_joint, in_turn_at, put_only, taken_empty, only_there, held_beside, idle_token, other_state, Going, Led, asks, own_leads}
+use Rattle.gos_windows.proofs.WholeLemmas.{done, result_place, own_place, at_own_joint, in_turn_at, put_only, taken_empty, only_there, held_beside, idle_token, Going, Led, own_leads}
 use Rattle.gos_windows.proofs.WholeLemmas as whole
 
 -- where the whole is

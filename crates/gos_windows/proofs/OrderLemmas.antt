@@ -33,7 +33,7 @@ use Rattle.gos_windows.proofs.OwnLemmas.{takes_request, asked_apart}
 use Rattle.gos_windows.proofs.StageLemmas.{Emptied, stage, result_zero, own_stands}
 use Rattle.gos_windows.proofs.TurnLemmas.{result_out, OnlyResult, NoneOpen, imports_shut}
 use Rattle.gos_windows.proofs.WholeLemmas as whole
-use Rattle.gos_windows.proofs.WholeLemmas.{done, result_place, own_place, at_own_joint, only_there, idle_token, run_stands, Going, Led, asks}
+use Rattle.gos_windows.proofs.WholeLemmas.{done, result_place, own_place, only_there, idle_token, run_stands, Going, Led, asks}
 use Rattle.gos_windows.proofs.NodeLemmas.{Place, AtRest, AtAsked, AtStage, AtAnswer, InTurn, first_turn, turns_after, Holds, rest_step, asked_step, answer_step, request_slot, own_slot}
 use Rattle.gos_windows.proofs.WindowLemmas.{StageStep, OwnStep, stage_step, fit_after}
 use Rattle.gos_windows.proofs.OutputLemmas.{outputs_in_turn, is_restful}

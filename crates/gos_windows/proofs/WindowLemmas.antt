@@ -21,7 +21,7 @@ use Rattle.gos_windows.specs.Regions.{whole_element}
 use Rattle.gos_windows.specs.Nodes.{Stage}
 use Rattle.gos_windows.specs.OpenNodes.{IsOpenNode}
 use Rattle.gos_windows.specs.Windows as windows
-use Rattle.gos_windows.specs.Windows.{seen, StirsOnly, HoldsOnly, Where, Resting, Asked, Within, Answered, to_session, to_answer, Staged, rests, waits, stays, holds, is_asked, begins, stirs, goes_on, ListsAreStaged}
+use Rattle.gos_windows.specs.Windows.{seen, HoldsOnly, Where, Resting, Asked, Within, Answered, to_session, to_answer, Staged, rests, waits, stays, holds, is_asked, begins, stirs, goes_on, ListsAreStaged}
 use Rattle.gos_windows.proofs.OwnLemmas.{none_at_rest}
 use Rattle.gos_windows.proofs.StageLemmas.{Emptied, stage, InStage, OnStage, lies, end_is, fires_in, out_in, in_in, in_none, answers, answer_fits, emptied}
 use Rattle.gos_windows.proofs.MeetLemmas.{Meets, met_contact, met_contacts}

@@ -7,5 +7,5 @@ mod laws;
 
 pub use laws::{
     idle_is_closed, lists_of_nodes, nodes_are_regular, open_nodes_are_regular, small_nodes,
-    turns_keep_protocol,
+    small_regions, turns_keep_protocol,
 };

@@ -16,13 +16,18 @@ use Rattle.gos_realises.proofs.GroundTurnLemmas.{width, count_fun, there_some, s
 use Rattle.gos_realises.proofs.InputLemmas.{import_serves, one_ground}
 use Rattle.gos_realises.proofs.ToldLemmas.{there_is}
 use Rattle.gos_windows.proofs.TurnLemmas.{Turned}
-use Rattle.gos_writes.specs.Writes.{asked_type, request_bits, answer_bits}
+use Rattle.gos_writes.specs.Writes.{asked_type, answer_bits}
 use Rattle.gos_renumbered.proofs.TurnLemmas.{of_import, of_result, ImportKeeps, each_keeps}
 use Rattle.gos_windows.proofs.TypeTurnLemmas.{closed_kept}
 use Rattle.gos_writes.specs.OneSession.{IsAsked, Stays}
 use Rattle.gos_webs.specs.Cutting.{Cut, StandsIn}
 use Rattle.gos_plan.proofs.TurnLemmas.{nat_eq_self}
 use Rattle.gos_windows.specs.OpenNodes.{IsHeard}
+
+-- the bits of the request of handshake h of an Assign of w bits
+abbrev pub request_bits : ℕ → ℕ → ℕ
+request_bits zero w = 0
+request_bits (suc h) w = w
 
 type_contact : (h w : ℕ) → h < 2 → turned_if (slice_get (contacts_of (asked_type h w)) h) ≡ Some (asks (request_bits h w) (answer_bits h w))
 type_contact zero w low = refl

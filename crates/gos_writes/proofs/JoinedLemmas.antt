@@ -7,7 +7,7 @@ use Rattle.gos_types.specs.declared.shakes.Role.TheVariants.{Serve, Ask}
 use Rattle.gos_types.specs.Types.{Var, IsGround}
 use Rattle.gos_model.specs.Typing.{Imported}
 use Rattle.gos_plan.specs.Kinds as kinds
-use Rattle.gos_plan.specs.Kinds.{Part, Contact, asks, serves, part_contacts}
+use Rattle.gos_plan.specs.Kinds.{Part, Contact, asks, serves}
 use Rattle.gos_plan.specs.Plans.{End, PartEnd, ImportEnd, ResultEnd, Joint, Plan, contact_at, contacts_of_part, contacts_of_import, same_end, stands_in, is_free, AreRight, IsRight}
 use Rattle.gos_plan.specs.Tokens.{IsPortEnd, places_of}
 use Rattle.gos_plan.specs.TokenBits.{LiteralFits}

@@ -22,8 +22,8 @@ use Rattle.gos_webs.specs.Cutting.{lies_at, StandsIn}
 use Rattle.gos_webs.proofs.CutLemmas.{Owns}
 use Rattle.gos_windows.specs.Regions.{whole_element}
 use Rattle.gos_windows.specs.Nodes.{Stage}
-use Rattle.gos_writes.specs.Writes.{request_bits, answer_bits, IsWriteStage, IsWrite, AreRestful, WriteIsRegular}
-use Rattle.gos_writes.proofs.AskedLemmas.{asked_contact, asked_ground, asked_role, asked_out, ground_port, answered_shut}
+use Rattle.gos_writes.specs.Writes.{answer_bits, IsWriteStage, IsWrite, AreRestful, WriteIsRegular}
+use Rattle.gos_writes.proofs.AskedLemmas.{request_bits, asked_contact, asked_ground, asked_role, asked_out, ground_port, answered_shut}
 use Rattle.gos_windows.specs.Windows.{seen, HoldsOnly}
 use Rattle.gos_windows.proofs.PortLemmas.{port_end, stands_contact}
 use Rattle.gos_writes.proofs.OwnLemmas.{takes_request}
@@ -31,7 +31,7 @@ use Rattle.gos_writes.proofs.StageLemmas.{Emptied, stage, own_stands}
 use Rattle.gos_windows.proofs.TurnLemmas.{OnlyResult, NoneOpen}
 use Rattle.gos_writes.proofs.WholeLemmas as whole
 use Rattle.gos_windows.proofs.WholeLemmas.{only_there, idle_token, other_state}
-use Rattle.gos_writes.proofs.WholeLemmas.{done, result_place, own_place, at_own_joint, run_stands, Going, Led}
+use Rattle.gos_writes.proofs.WholeLemmas.{done, result_place, own_place, run_stands, Going, Led}
 use Rattle.gos_windows.proofs.NodeLemmas.{InTurn, first_turn, turns_after, request_slot}
 use Rattle.gos_writes.proofs.OneSessionLemmas.{open_is_one, ended_is_one}
 use Rattle.gos_writes.proofs.PlaceLemmas.{Place, AtRest, AtAsked, AtStage, AtAnswer, Holds, rest_step, asked_step, answer_step, own_slot}

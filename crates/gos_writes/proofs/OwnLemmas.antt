@@ -5,7 +5,8 @@ use Rattle.std.proofs.lemmas.Option.{none-some, same_Some}
 use Rattle.gos_plan.specs.Kinds.{Assign}
 use Rattle.gos_plan.specs.Firing.{Phase, Rest, Value, Writing, State, Slot, Req, Ans, Token, Row, at, put, firing}
 use Rattle.gos_assigned.proofs.TableLemmas.{assigns_do}
-use Rattle.gos_writes.specs.Writes.{request_bits, answer_bits, waits_at}
+use Rattle.gos_writes.specs.Writes.{answer_bits, waits_at}
+use Rattle.gos_writes.proofs.AskedLemmas.{request_bits}
 
 -- a firing leads to where the Assign asks handshake h with the number n, or it answers with k
 abbrev pub LeadsOn : ℕ → State → List Token → Type 0

@@ -12,7 +12,7 @@ use Rattle.gos_plan.proofs.DecidedLemmas.{one_state}
 use Rattle.gos_plan.proofs.TurnLemmas.{token_state, nat_eq_self}
 use Rattle.gos_webs.specs.Webs.{joint}
 use Rattle.gos_webs.specs.Cutting as cutting
-use Rattle.gos_webs.specs.Cutting.{Cut, lies_at, StandsIn}
+use Rattle.gos_webs.specs.Cutting.{Cut, lies_at}
 use Rattle.gos_webs.proofs.CutLemmas.{first_stands, last_stands, lies_there, number_at}
 use Rattle.gos_windows.specs.Nodes.{Stage}
 use Rattle.gos_windows.specs.Windows.{seen}

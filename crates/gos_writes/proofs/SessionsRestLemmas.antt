@@ -13,9 +13,9 @@ use Rattle.gos_realises.specs.Matched.{program_of}
 use Rattle.gos_realises.proofs.InputLemmas.{in_there}
 use Rattle.gos_nodes.proofs.SilentLemmas.{idle_shows, answer_last}
 use Rattle.gos_writes.specs.OneSession.{IsRestfulAt}
-use Rattle.gos_writes.specs.Writes.{asked_type, request_bits}
+use Rattle.gos_writes.specs.Writes.{asked_type}
 use Rattle.gos_writes.specs.Realised.{IsSessionMatched, SessionIsRealised}
-use Rattle.gos_writes.proofs.AskedLemmas.{asked_is, asked_role}
+use Rattle.gos_writes.proofs.AskedLemmas.{request_bits, asked_is, asked_role}
 
 -- after its answer a program is idle
 ends_idle : (p : Program) (acts : List Act) (c d : Config) (v : ℕ) → Moves p acts c d → labels acts ≡ given 1 v ∷ [] → d ≡ Idle

@@ -19,11 +19,11 @@ use Rattle.gos_webs.proofs.CutLemmas.{Owns, outside_name, asks_there, place_ther
 use Rattle.gos_windows.specs.Regions.{Serving, IsOther}
 use Rattle.gos_windows.specs.Nodes.{Stage}
 use Rattle.gos_writes.specs.OneSession.{IsTidy, IsOpenSession}
-use Rattle.gos_writes.specs.Writes.{request_bits, answer_bits, IsWriteStage, HasStages}
+use Rattle.gos_writes.specs.Writes.{answer_bits, IsWriteStage, HasStages}
 use Rattle.gos_windows.specs.Windows.{seen}
 use Rattle.gos_windows.proofs.InlayLemmas.{laid, inlay, same_contact, from_laid, inlay_cut, inlay_place, place_agrees, Agree, agree_token, agree_put, AllAgree, agree_fired, agrees_or_other, LiesOn, lies_on}
 use Rattle.gos_windows.proofs.ShareLemmas.{share_puts, not_source, not_branch}
-use Rattle.gos_writes.proofs.AskedLemmas.{asked_contact, asked_is, asked_role}
+use Rattle.gos_writes.proofs.AskedLemmas.{request_bits, asked_contact, asked_is, asked_role}
 use Rattle.gos_windows.proofs.PortLemmas.{stands_contact, stands_place, place_stands, ground_within, run_one}
 
 abbrev pub TokenIn : Token → List Token → Type 0

@@ -22,10 +22,10 @@ use Rattle.gos_windows.specs.Windows.{seen, HoldsOnly}
 use Rattle.gos_windows.proofs.PortLemmas.{port_end}
 use Rattle.gos_windows.proofs.TurnLemmas.{Turned, asked_within, way_in_of, OnlyResult}
 use Rattle.gos_windows.proofs.WholeLemmas.{no_bits, zero_only, other_state, put_only, held_beside}
-use Rattle.gos_writes.specs.Writes.{request_bits, waits_at, IsWriteStage, IsWrite}
+use Rattle.gos_writes.specs.Writes.{waits_at, IsWriteStage, IsWrite}
 use Rattle.gos_writes.specs.OneSession.{IsTidy}
 use Rattle.gos_writes.specs.Windows.{StirsOnly}
-use Rattle.gos_writes.proofs.AskedLemmas.{asked_first, asked_in}
+use Rattle.gos_writes.proofs.AskedLemmas.{request_bits, asked_first, asked_in}
 use Rattle.gos_writes.proofs.OwnLemmas.{LeadsOn}
 use Rattle.gos_writes.proofs.StageLemmas.{Emptied, stage, InStage, Ran, end_is, idle_seen, asked}
 use Rattle.gos_writes.proofs.FollowLemmas.{Follows, follows_first}

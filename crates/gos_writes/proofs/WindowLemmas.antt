@@ -26,7 +26,7 @@ use Rattle.gos_writes.specs.OneSession.{IsAsked, Stays, IsOneSession}
 use Rattle.gos_writes.proofs.OneSessionLemmas.{open_then, then_one, ended_is_one, well_before}
 use Rattle.gos_writes.specs.Writes.{answer_bits, waits_at, IsWrite, AreRestful}
 use Rattle.gos_writes.specs.Windows as windows
-use Rattle.gos_writes.specs.Windows.{StirsOnly, Where, Resting, Asked, Within, Answered, to_session, to_answer, Staged, rests, waits, stays, holds, is_asked, begins, stirs, goes_on, WritesAreStaged}
+use Rattle.gos_writes.specs.Windows.{Where, Resting, Asked, Within, Answered, to_session, to_answer, Staged, rests, waits, stays, holds, is_asked, begins, stirs, goes_on, WritesAreStaged}
 use Rattle.gos_writes.proofs.AskedLemmas.{asked_out, asked_shut, answered_shut}
 use Rattle.gos_writes.proofs.OwnLemmas as table
 use Rattle.gos_writes.proofs.StageLemmas.{Emptied, stage, InStage, OnStage, lies, end_is, fires_in, out_in, in_in, in_none, answers, answer_fits, emptied}

@@ -20,14 +20,10 @@ use Rattle.gos_windows.specs.OpenNodes.{IsHeard}
 use Rattle.gos_writes.specs.OneSession.{IsRegularAt, IsRestfulAt, IsLoyalAt}
 
 -- The result of which an Assign of w bits asks handshake h: of an expression its one handshake, of a variable the write.
--- The bits of its request, and of its answer.
+-- The bits of its answer.
 abbrev pub asked_type : ℕ → ℕ → Type'
 asked_type zero w = Exp w
 asked_type (suc h) w = Var w
-
-abbrev pub request_bits : ℕ → ℕ → ℕ
-request_bits zero w = 0
-request_bits (suc h) w = w
 
 abbrev pub answer_bits : ℕ → ℕ → ℕ
 answer_bits zero w = w

@@ -1,7 +1,8 @@
 -- How a term is numbered, from its leaves up.
 --
 -- Read first: Nodes, Opens, Scopes. Between the functions of this crate: what a numbered term is for says Linearity.
-use Rattle.std.specs.Prelude.{ℕ, suc, ◌+◌, List, [], ◌∷◌, ◌++◌, map, Option, Some, None, nat_eq, if◌then◌else◌}
+use Rattle.std.specs.Prelude as prelude
+use Rattle.std.specs.Prelude.{◌≡◌, ℕ, suc, ◌+◌, List, [], ◌∷◌, ◌++◌, map, Option, Some, None, nat_eq, if◌then◌else◌, MatchResult}
 use Rattle.std.specs.Str.{bytes_eq}
 use Rattle.gos_types.specs.Types.{Type', Com, Exp, Var, Pair, Fun}
 use Rattle.gos_syntax.specs.Trees as trees
@@ -12,6 +13,8 @@ use Rattle.gos_model.specs.Terms.{Name, Term}
 use Rattle.gos_model.specs.Typing.{Imports}
 use Rattle.gos_model.specs.Weight.{or_com, after_fun, left_of, right_of, read_of, op_type}
 use Rattle.gos_model.specs.Sources.{op_of}
+use Rattle.gos_check.specs.declared.fault.CheckFault.{CheckFault}
+use Rattle.gos_check.specs.declared.fault.CheckFault.TheVariants as faults
 use Rattle.gos_check.specs.declared.forms.OnePart.{OnePart}
 use Rattle.gos_check.specs.declared.forms.OnePart.TheVariants as one
 use Rattle.gos_check.specs.declared.forms.TwoParts.{TwoParts}
@@ -69,6 +72,10 @@ pub record Result : Type 0 where
 -- a numbered term of the program
 abbrev pub seen : NumberedTerm → Result
 seen term = record { node = node_seen term.node.value; names = term.names.items; next = term.next }
+
+-- the answer is a numbered term that is seen so, or want of memory
+abbrev pub Numbers : Result → prelude.Result NumberedTerm CheckFault → Type 0
+Numbers found answer = MatchResult answer (λ r. seen r ≡ found) (λ e. e ≡ faults.NoMemory)
 
 -- a term without names
 abbrev pub closed_result : Type' → Term → ℕ → Result

@@ -3,14 +3,14 @@
 -- Read first: Judging. Between the functions of this crate.
 use Rattle.std.specs.Prelude.{List, Ok}
 use Rattle.gos_lex.specs.declared.token.Span.{Span}
-use Rattle.gos_types.specs.Types.{Type', Pair}
+use Rattle.gos_types.specs.Types.{Type', Pair, Fun}
 use Rattle.gos_syntax.specs.Trees.{Tree}
 use Rattle.gos_check.specs.declared.forms.OnePart.{OnePart}
 use Rattle.gos_check.specs.declared.forms.OnePart.TheVariants as one
 use Rattle.gos_check.specs.declared.forms.TwoParts.{TwoParts}
 use Rattle.gos_check.specs.declared.forms.TwoParts.TheVariants as two
 use Rattle.gos_check.specs.declared.free.Occurrence.{Occurrence}
-use Rattle.gos_check.specs.Faults.{Found}
+use Rattle.gos_check.specs.Faults.{Found, after}
 use Rattle.gos_check.specs.Free.{apart}
 use Rattle.gos_check.specs.Demands.{application, first_side, second_side, sequence, parallel, looping, assignment, reading, negation, operation}
 use Rattle.gos_check.specs.Judging.{place_of, separate}
@@ -41,6 +41,14 @@ names_of_two two.Parallel os ps = apart os ps
 names_of_two two.Loop os ps = Ok tt
 names_of_two two.Assignment os ps = Ok tt
 names_of_two (two.Operation op) os ps = Ok tt
+
+-- the type of a form of two parts, where besides their names are as it demands
+abbrev pub two_rule : TwoParts → Span → Type' → List Occurrence → Span → Type' → List Occurrence → Found Type'
+two_rule rule s a os t b ps = after (rule_of_two rule s a t b) (λ u. after (names_of_two rule os ps) (λ _. Ok u))
+
+-- the type of a function
+abbrev pub function_found : Type' → Type' → Found Type'
+function_found a b = Ok (Fun a b)
 
 -- what a form of two parts makes of them
 abbrev pub ruled : TwoParts → Tree → Tree → Type' → Type' → Found Type'

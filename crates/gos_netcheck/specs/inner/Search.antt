@@ -9,9 +9,18 @@ use Rattle.gos_netcheck.specs.declared.fault.NetFault.{NetFault}
 use Rattle.gos_netcheck.specs.declared.fault.NetFault.TheVariants as faults
 use Rattle.gos_netcheck.specs.declared.schedule.Mark.{Mark}
 use Rattle.gos_netcheck.specs.declared.schedule.Mark.TheVariants.{New, Open, Placed}
+use Rattle.gos_netcheck.specs.declared.schedule.Named.{Named}
+use Rattle.gos_netcheck.specs.declared.schedule.Named.TheVariants as named
 use Rattle.gos_netcheck.specs.declared.schedule.Search.{Search}
 use Rattle.gos_netcheck.specs.Schedule.{IsDue}
 use Rattle.gos_netcheck.specs.Accepted.{IsCycleFromLeast}
+
+-- the nets that a cell names, as the search looks at them
+abbrev pub nets_of : Named → List ℕ
+nets_of named.None = []
+nets_of (named.One a) = a.0 ∷ []
+nets_of (named.Two a b) = a.0 ∷ b.0 ∷ []
+nets_of (named.Three a b c) = a.0 ∷ b.0 ∷ c.0 ∷ []
 
 -- each net feeds the next one
 abbrev pub Trail : List Cell → List ℕ → Type 0

@@ -29,6 +29,10 @@ pub record IsAgendaFrom (cycles : ℕ) (file : List Entry) (from : ℕ) (agenda 
 abbrev pub IsAgenda : ℕ → List Entry → Agenda → Type 0
 IsAgenda cycles file agenda = IsAgendaFrom cycles file 0 agenda
 
+-- no cycle from one on, up to before another one, has an `at` entry
+abbrev pub HaveNone : List Entry → ℕ → ℕ → Type 0
+HaveNone file from end = (t : ℕ) → from ≤ t → t < end → at_entries t file ≡ []
+
 -- the entries of the cycle may be taken
 pub record CanTakeAll (agenda : Agenda) (cycle : ℕ) (file : List Entry) (board : Board) : Type 0 where
   pub net : Netlist

@@ -1,7 +1,7 @@
 -- What a cycle of a driven run does.
 --
 -- Read first: Agenda, Queue. Between the driver's functions and their lemmas.
-use Rattle.std.specs.Prelude.{◌≡◌, ◌≤◌, ◌<◌, ℕ, List, ◌++◌, All, reverse}
+use Rattle.std.specs.Prelude.{◌≡◌, ◌≤◌, ◌<◌, ℕ, List, [], ◌∷◌, ◌++◌, All, reverse, take}
 use Rattle.gos_netlist.specs.Settling.{Numbers, Settling, next_registers}
 use Rattle.gos_netcheck.specs.Accepted.{IsAccepted}
 use Rattle.gos_model.specs.Labels.{Label}
@@ -38,6 +38,7 @@ pub record RunsCycle (old : Simulator) (file : List Entry) (past : List Label) (
   pub settled : Settling old.net.cells old.registers ins values
   pub in_range : IsInRange old.net ins
   pub registers : new.registers ≡ next_registers old.net.cells values
+  pub newest : take 1 new.settlings ≡ values ∷ []
   pub goes : GoesBy old.net file past t since queue values came last rest
   pub rests : Rests old.net came board
   pub inputs_are : labels_of old.net.ports (inputs_of old.net) board.inputs.items ≡ inputs old.net values

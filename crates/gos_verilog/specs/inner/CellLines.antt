@@ -1,7 +1,7 @@
 -- The lines that drive the nets of cells, as the reader passes them: kind by kind.
 --
 -- Read first: Slots; Lines. The cell's number, its bits and whether it is a register are known before its line.
-use Rattle.std.specs.Prelude.{◌≡◌, ℕ, ◌-◌, ◌^◌, Bool, true, false, List, [], ◌∷◌, ◌++◌, Option, Some, None, codes}
+use Rattle.std.specs.Prelude.{◌≡◌, ℕ, ◌-◌, ◌^◌, Bool, true, false, List, [], ◌∷◌, ◌++◌, Option, Some, None, codes, get_or}
 use Rattle.gos_netlist.specs.Nets.{Function, Input, Const, Not, And, Or, Xor, Mux, Add, Sub, Eq, Less, Gate, Reg}
 use Rattle.gos_netlist.specs.Writable.{OperandsFit}
 use Rattle.gos_netlist.specs.NetItems.{IsTextOf}
@@ -94,18 +94,17 @@ abbrev pub kind_tail : Kind → List ℕ
 kind_tail kinds.Gate = codes "d0;\n"
 kind_tail kind = codes "\n"
 
--- the function of this kind with the numbers of its line
+-- the function of this kind with the numbers of its line, of which the first is the cell's
 abbrev pub made : Kind → List ℕ → Function
-made kinds.Const (i ∷ w ∷ k ∷ ns) = Const k
-made kinds.Not (i ∷ a ∷ ns) = Not a
-made kinds.And (i ∷ a ∷ b ∷ ns) = And a b
-made kinds.Or (i ∷ a ∷ b ∷ ns) = Or a b
-made kinds.Xor (i ∷ a ∷ b ∷ ns) = Xor a b
-made kinds.Mux (i ∷ s ∷ a ∷ b ∷ ns) = Mux s a b
-made kinds.Add (i ∷ a ∷ b ∷ ns) = Add a b
-made kinds.Sub (i ∷ a ∷ b ∷ ns) = Sub a b
-made kinds.Eq (i ∷ a ∷ b ∷ ns) = Eq a b
-made kinds.Less (i ∷ a ∷ b ∷ ns) = Less a b
-made kinds.Gate (i ∷ s ∷ a ∷ ns) = Gate s a
-made kinds.Reg (i ∷ w ∷ j ∷ a ∷ ns) = Reg a
-made kind ns = Input
+made kinds.Const ns = Const (get_or ns 2 0)
+made kinds.Not ns = Not (get_or ns 1 0)
+made kinds.And ns = And (get_or ns 1 0) (get_or ns 2 0)
+made kinds.Or ns = Or (get_or ns 1 0) (get_or ns 2 0)
+made kinds.Xor ns = Xor (get_or ns 1 0) (get_or ns 2 0)
+made kinds.Mux ns = Mux (get_or ns 1 0) (get_or ns 2 0) (get_or ns 3 0)
+made kinds.Add ns = Add (get_or ns 1 0) (get_or ns 2 0)
+made kinds.Sub ns = Sub (get_or ns 1 0) (get_or ns 2 0)
+made kinds.Eq ns = Eq (get_or ns 1 0) (get_or ns 2 0)
+made kinds.Less ns = Less (get_or ns 1 0) (get_or ns 2 0)
+made kinds.Gate ns = Gate (get_or ns 1 0) (get_or ns 2 0)
+made kinds.Reg ns = Reg (get_or ns 3 0)

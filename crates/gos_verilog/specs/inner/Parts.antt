@@ -1,16 +1,21 @@
 -- The parts of a text of a netlist, as the stages of the reader find them.
 --
--- Read first: Noted, VerilogText.
+-- Read first: Noted, VerilogText, Place.
 use Rattle.std.specs.Prelude.{◌≡◌, ℕ, ◌≤◌, List, ◌++◌, length, codes}
 use Rattle.std.specs.List.{AllByRecursion, flat_map}
 use Rattle.gos_lex.specs.Names.{IsNameOrWord}
-use Rattle.gos_netlist.specs.Nets.{Cell, Netlist}
+use Rattle.gos_netlist.specs.Nets.{Cell, NetPort, Netlist}
 use Rattle.gos_netlist.specs.Writable.{IsNumber, IsWritablePort}
 use Rattle.gos_verilog.specs.PortNets.{PortNet, port_nets}
-use Rattle.gos_verilog.specs.Lines.{output_assignment}
+use Rattle.gos_verilog.specs.Lines.{output_assignment, port_declaration}
 use Rattle.gos_verilog.specs.VerilogText.{AreDrivers, IsItsNet}
+use Rattle.gos_verilog.specs.Place.{head_of}
 use Rattle.gos_verilog.specs.inner.Stages.{HaveNames, HaveWidths, HaveCellWidths, IsBody}
 use Rattle.gos_verilog.specs.inner.Noted.{AreRight}
+
+-- the text up to the declarations of cells' nets, where these are the ports
+abbrev pub front_of : List NetPort → List ℕ
+front_of ports = head_of ports ++ flat_map port_declaration (port_nets ports)
 
 -- the name of the module, the nets of ports, the cells, the lines that drive them, and what stands behind these
 pub record Parts (net : Netlist) : Type 0 where

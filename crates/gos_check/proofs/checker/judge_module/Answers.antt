@@ -11,7 +11,8 @@ pub returns-clause-size : goal.returns-clause-size
 returns-clause-size c =
     let imports : List SeenImport = c.as_slice-imports.result.now in
     let same : c.args.program.now.imports ≡ imports = search rules in
-    let weighs : c.in_ok-body.body.weight ≡ weight_of (map import_of imports) [] (tree c.args.program.now.body) = search rules in
+    let weighs : c.in_ok-body.body.weight ≡ weight_of (map import_of imports) [] (tree c.args.program.now.body) =
+    search (rules, c.in_ok-body.ensures.known.2) in
     let held : length imports + 4 * size (tree c.args.program.now.body) ≤ c.in_ok-weight.weight =
     omega (
       arith,

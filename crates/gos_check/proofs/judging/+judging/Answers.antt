@@ -1,87 +1,111 @@
-use Rattle.std.specs.Prelude.{◌≤◌, map}
-use Rattle.std.proofs.Common.{arith, sym, subst, ◌∙◌}
-use Rattle.std.proofs.lemmas.Result.{err_from_is_err_and}
-use Rattle.gos_types.specs.Types.{Type', type_of}
-use Rattle.gos_model.specs.Weight.{count}
+use Rattle.std.specs.Prelude.{◌+◌, ◌∷◌, Ok, map}
+use Rattle.std.proofs.Common.{arith, sym, subst}
+use Rattle.gos_types.specs.Types.{Fun, type_of}
+use Rattle.gos_syntax.specs.declared.terms.Form.{Form}
+use Rattle.gos_syntax.specs.declared.terms.Term.{Term}
+use Rattle.gos_syntax.specs.Trees.{tree_of}
 use Rattle.gos_model.specs.Sources.{import_of}
-use Rattle.gos_check.specs.Sizes.{IsCountable}
+use Rattle.gos_check.specs.Faults.{after}
+use Rattle.gos_check.specs.Written.{written}
+use Rattle.gos_check.specs.Free.{joined, without}
+use Rattle.gos_check.specs.Judging.{judged}
 use Rattle.gos_check.specs.inner.Seen.{binders_of}
-use Rattle.gos_check.specs.inner.Walked.{tree}
-use Rattle.gos_check.proofs.SizeLemmas.{countable_fun}
-use Rattle.gos_check.proofs.RuleLemmas.{one_countable, two_countable}
-use Rattle.gos_check.proofs.WeightLemmas.{judged_weight}
-use Rattle.gos_check.proofs.RefusalLemmas.{one_refused, block_refused, choice_refused, choice_found, two_found, two_types_refused, two_names_refused}
+use Rattle.gos_check.specs.inner.Known.{Finds}
+use Rattle.gos_check.specs.inner.Walked.{tree, parts_judged}
+use Rattle.gos_check.proofs.RefusalLemmas.{finds_same, one_found, function_is_found, block_found, choice_found, two_found, known_there, sized_there, whole_there}
 use Rattle.gos_check.proofs.judging.+judging.Goals as goal
 
-pub judge-returns-clause-weight : goal.judge-returns-clause-weight
-judge-returns-clause-weight t c =
-    let known =
-    judged_weight (map import_of c.args.imports.now) (binders_of c.args.scope.now) (tree c.args.term.now) (type_of c.in_ok-ty.field-0.ty)
-    (c.in_ok-ty.ensures.ok ∙ c.in_ok-handshakes.ensures.ok) in
-    omega (arith, known, c.in_ok-ty.ensures.weight, c.in_ok-handshakes.ensures.count)
+pub judge-returns-clause-known : goal.judge-returns-clause-known
+judge-returns-clause-known t c =
+    let known = c.in_ok-part.ensures.known in
+    let found =
+    finds_same c.counted.result _ _
+    (sized_there (map import_of c.args.imports.now) (binders_of c.args.scope.now) c.args.term.now.form c.args.term.now.span (type_of c.in_ok-part.part.ty)
+    c.in_ok-part.ensures.found)
+    c.counted.ensures.found in
+    whole_there c.counted.result (map import_of c.args.imports.now) (binders_of c.args.scope.now) (tree c.args.term.now)
+    c.in_ok-part.part.free.items c.in_ok-part.part.weight known.0 known.2 known.3 found c.counted.ensures.known
 
-pub judge_block-returns-in_err-done-clause-err : goal.judge_block-returns-in_err-done-clause-err
-judge_block-returns-in_err-done-clause-err t c =
-    let p = err_from_is_err_and c.from_residual-in_err-done.result c.from_residual-in_err-done.ensures.1 in
-    rw (p.1, p.2)
-    (block_refused _ _ c.args.body.now.form c.args.body.now.span (type_of c.in_ok-judged.judged.ty) c.in_err-done.field-0.0
-    c.in_ok-written_width.ensures.ok c.in_ok-judged.ensures.ok c.in_err-done.ensures.err)
+pub judge-returns-clause-found : goal.judge-returns-clause-found
+judge-returns-clause-found t c =
+    finds_same c.counted.result _ _
+    (sized_there (map import_of c.args.imports.now) (binders_of c.args.scope.now) c.args.term.now.form c.args.term.now.span (type_of c.in_ok-part.part.ty)
+    c.in_ok-part.ensures.found)
+    c.counted.ensures.found
 
-pub judge_choice-returns-in_err-ty-clause-err : goal.judge_choice-returns-in_err-ty-clause-err
-judge_choice-returns-in_err-ty-clause-err t c =
-    let p = err_from_is_err_and c.from_residual-in_err-ty.result c.from_residual-in_err-ty.ensures.1 in
-    rw (p.1, p.2)
-    (choice_refused _ _ _ c.args.m.now.form c.args.n.now.form c.args.p.now.form c.args.m.now.span c.args.n.now.span c.args.p.now.span
-    (type_of c.in_ok-test.test.ty) (type_of c.in_ok-yes.yes.ty) (type_of c.in_ok-no.no.ty) c.in_err-ty.field-0.0
-    c.in_ok-test.ensures.ok c.in_ok-yes.ensures.ok c.in_ok-no.ensures.ok c.in_err-ty.ensures.err)
+pub judge_one-returns-clause-known : goal.judge_one-returns-clause-known
+judge_one-returns-clause-known t c =
+    let known = c.in_ok-part.ensures.known in
+    known_there c.typed_one.result _ _ _ _ _ known.0 known.2 (omega (arith, known.2, known.3)) c.typed_one.ensures.known
 
-pub judge_choice-returns-clause-ok : goal.judge_choice-returns-clause-ok
-judge_choice-returns-clause-ok t c =
-    choice_found _ _ _ c.args.m.now.form c.args.n.now.form c.args.p.now.form c.args.m.now.span c.args.n.now.span c.args.p.now.span
-    (type_of c.in_ok-test.test.ty) (type_of c.in_ok-yes.yes.ty) (type_of c.in_ok-no.no.ty) (type_of c.in_ok-ty.ty)
-    c.in_ok-test.ensures.ok c.in_ok-yes.ensures.ok c.in_ok-no.ensures.ok c.in_ok-ty.ensures.ok
+pub judge_one-returns-clause-found : goal.judge_one-returns-clause-found
+judge_one-returns-clause-found t c =
+    finds_same c.typed_one.result _ _
+    (one_found _ c.args.rule c.args.m.now.form c.args.m.now.span (type_of c.in_ok-part.part.ty) c.in_ok-part.ensures.found)
+    c.typed_one.ensures.found
 
-pub judge_function-returns-clause-countable : goal.judge_function-returns-clause-countable
-judge_function-returns-clause-countable t c =
-    let small : count (type_of c.args.ty.now) ≤ 64 = omega (arith, c.in_ok-written.ensures.count, c.in_ok-written.ensures.within) in
-    subst (λ (t : Type'). IsCountable t) (sym c.in_ok-ty.ensures.ok) (countable_fun _ _ small c.in_ok-body.ensures.small)
+pub judge_two-returns-clause-known : goal.judge_two-returns-clause-known
+judge_two-returns-clause-known t c =
+    let left = c.in_ok-left.ensures.known in
+    let right = c.in_ok-right.ensures.known in
+    known_there c.typed_two.result _ _ _ _ _ (λ i. joined (left.0 i) (right.0 i)) (λ i. left.2 i + right.2 i) (omega (arith, left.3, right.3))
+    c.typed_two.ensures.known
 
-pub judge_one-returns-in_err-outcome-clause-err : goal.judge_one-returns-in_err-outcome-clause-err
-judge_one-returns-in_err-outcome-clause-err t c =
-    let p = err_from_is_err_and c.from_residual-in_err-outcome.result c.from_residual-in_err-outcome.ensures.1 in
-    rw (p.1, p.2)
-    (one_refused _ c.args.rule c.args.m.now.form c.args.m.now.span (type_of c.in_ok-part.part.ty) c.in_err-outcome.field-0.0
-    c.in_ok-part.ensures.ok c.in_err-outcome.ensures.err)
+pub judge_two-returns-clause-found : goal.judge_two-returns-clause-found
+judge_two-returns-clause-found t c =
+    finds_same c.typed_two.result _ _
+    (two_found _ _ c.args.rule c.args.m.now.form c.args.n.now.form c.args.m.now.span c.args.n.now.span
+    (type_of c.in_ok-left.left.ty) (type_of c.in_ok-right.right.ty) c.in_ok-left.left.free.items c.in_ok-right.right.free.items
+    c.in_ok-left.ensures.found c.in_ok-right.ensures.found c.in_ok-left.ensures.known.0 c.in_ok-right.ensures.known.0)
+    c.typed_two.ensures.found
 
-pub judge_one-returns-clause-countable : goal.judge_one-returns-clause-countable
-judge_one-returns-clause-countable t c =
-    one_countable c.args.rule c.args.m.now.span (type_of c.in_ok-part.part.ty) (type_of c.in_ok-outcome.field-0) c.in_ok-part.ensures.small c.in_ok-outcome.ensures.ok
+pub judge_choice-returns-clause-known : goal.judge_choice-returns-clause-known
+judge_choice-returns-clause-known t c =
+    let test = c.in_ok-test.ensures.known in
+    let yes = c.in_ok-yes.ensures.known in
+    let no = c.in_ok-no.ensures.known in
+    known_there c.typed_choice.result _ _ _ _ _ (λ i. joined (joined (test.0 i) (yes.0 i)) (no.0 i)) (λ i. test.2 i + yes.2 i + no.2 i)
+    (omega (arith, test.3, yes.3, no.3))
+    c.typed_choice.ensures.known
 
-pub judge_two-returns-in_err-ty-clause-err : goal.judge_two-returns-in_err-ty-clause-err
-judge_two-returns-in_err-ty-clause-err t c =
-    let p = err_from_is_err_and c.from_residual-in_err-ty.result c.from_residual-in_err-ty.ensures.1 in
-    rw (p.1, p.2)
-    (two_types_refused _ _ c.args.rule c.args.m.now.form c.args.n.now.form c.args.m.now.span c.args.n.now.span
-    (type_of c.in_ok-left.left.ty) (type_of c.in_ok-right.right.ty) c.in_err-ty.field-0.0
-    c.in_ok-left.ensures.ok c.in_ok-right.ensures.ok c.in_err-ty.ensures.err)
+pub judge_choice-returns-clause-found : goal.judge_choice-returns-clause-found
+judge_choice-returns-clause-found t c =
+    finds_same c.typed_choice.result _ _
+    (choice_found _ _ _ c.args.m.now.form c.args.n.now.form c.args.p.now.form c.args.m.now.span c.args.n.now.span c.args.p.now.span
+    (type_of c.in_ok-test.test.ty) (type_of c.in_ok-yes.yes.ty) (type_of c.in_ok-no.no.ty)
+    c.in_ok-test.ensures.found c.in_ok-yes.ensures.found c.in_ok-no.ensures.found)
+    c.typed_choice.ensures.found
 
-pub judge_two-returns-in_err-separate-clause-err : goal.judge_two-returns-in_err-separate-clause-err
-judge_two-returns-in_err-separate-clause-err t c =
-    let p = err_from_is_err_and c.from_residual-in_err-separate.result c.from_residual-in_err-separate.ensures.1 in
-    rw (p.1, p.2)
-    (two_names_refused _ _ c.args.rule c.args.m.now.form c.args.n.now.form c.args.m.now.span c.args.n.now.span
-    (type_of c.in_ok-left.left.ty) (type_of c.in_ok-right.right.ty) (type_of c.in_ok-ty.ty) c.as_slice.result.now c.as_slice-2.result.now c.in_err-separate.field-0.0
-    c.in_ok-left.ensures.ok c.in_ok-right.ensures.ok c.in_ok-ty.ensures.ok
-    (c.as_slice.ensures.value ∙ c.in_ok-left.ensures.free) (c.as_slice-2.ensures.value ∙ c.in_ok-right.ensures.free) c.in_err-separate.ensures.err)
+pub judge_block-returns-clause-known : goal.judge_block-returns-clause-known
+judge_block-returns-clause-known t c =
+    let known = c.in_ok-judged.ensures.known in
+    known_there c.typed_block.result _ _ _ _ _ (λ i. without c.args.name.now (known.0 i)) known.2 (omega (arith, known.3)) c.typed_block.ensures.known
 
-pub judge_two-returns-clause-ok : goal.judge_two-returns-clause-ok
-judge_two-returns-clause-ok t c =
-    two_found _ _ c.args.rule c.args.m.now.form c.args.n.now.form c.args.m.now.span c.args.n.now.span
-    (type_of c.in_ok-left.left.ty) (type_of c.in_ok-right.right.ty) (type_of c.in_ok-ty.ty) c.as_slice.result.now c.as_slice-2.result.now
-    c.in_ok-left.ensures.ok c.in_ok-right.ensures.ok c.in_ok-ty.ensures.ok
-    (c.as_slice.ensures.value ∙ c.in_ok-left.ensures.free) (c.as_slice-2.ensures.value ∙ c.in_ok-right.ensures.free) c.in_ok-separate.ensures.ok
+pub judge_block-returns-clause-found : goal.judge_block-returns-clause-found
+judge_block-returns-clause-found t c =
+    finds_same c.typed_block.result _ _
+    (block_found _ _ c.args.body.now.form c.args.body.now.span (type_of c.in_ok-judged.judged.ty)
+    c.in_ok-written_width.ensures.ok c.in_ok-judged.ensures.found)
+    c.typed_block.ensures.found
 
-pub judge_two-returns-clause-countable : goal.judge_two-returns-clause-countable
-judge_two-returns-clause-countable t c =
-    two_countable c.args.rule c.args.m.now.span (type_of c.in_ok-left.left.ty) c.args.n.now.span (type_of c.in_ok-right.right.ty) (type_of c.in_ok-ty.ty)
-    c.in_ok-left.ensures.small c.in_ok-right.ensures.small c.in_ok-ty.ensures.ok
+pub judge_function-returns-clause-known : goal.judge_function-returns-clause-known
+judge_function-returns-clause-known t c =
+    let known = c.in_ok-body.ensures.known in
+    known_there c.typed_function.result _ _ _ _ _ (λ i. without c.args.name.now (known.0 i)) known.2 (omega (arith, known.3)) c.typed_function.ensures.known
+
+pub judge_function-returns-clause-found : goal.judge_function-returns-clause-found
+judge_function-returns-clause-found t c =
+    finds_same c.typed_function.result _ _
+    (function_is_found _ _ (type_of c.args.ty.now) (type_of c.in_ok-body.body.ty) _ c.in_ok-written.ensures.ok c.in_ok-body.ensures.found)
+    c.typed_function.ensures.found
+
+pub judge_form-returns-in-Fun-clause-found : goal.judge_form-returns-in-Fun-clause-found
+judge_form-returns-in-Fun-clause-found t c =
+    let there =
+    subst (λ (m : Term). Finds (after (written c.in-Fun.ty_span (type_of c.in-Fun.ty)) (λ _.
+    after (judged (map import_of c.args.imports.now) (record { name = c.in-Fun.name; ty = type_of c.in-Fun.ty } ∷ binders_of c.args.scope.now) (tree m))
+    (λ b. Ok (Fun (type_of c.in-Fun.ty) b)))) c.judge_function.result)
+    c.deref.ensures c.judge_function.ensures.found in
+    subst (λ (form : Form). Finds (parts_judged (map import_of c.args.imports.now) (binders_of c.args.scope.now) (tree_of form c.args.term.now.span))
+    c.judge_function.result)
+    (sym c.in-Fun.is) there

@@ -1,5 +1,6 @@
 use Rattle.std.proofs.Common.{◌∙◌, arith}
-use Rattle.gos_lex.specs.Decimals.{IsDecimalIn, digits_so_far}
+use Rattle.gos_lex.specs.Decimals.{IsDecimalIn}
+use Rattle.gos_lex.specs.inner.Digits.{digits_so_far}
 use Rattle.gos_lex.proofs.PlaceLemmas.{slice_nothing}
 use Rattle.gos_lex.proofs.ItemLemmas.{part_more, stops_here}
 use Rattle.gos_lex.proofs.DecimalLemmas.{begins_nothing}

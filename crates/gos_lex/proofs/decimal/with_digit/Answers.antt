@@ -1,7 +1,7 @@
 use Rattle.std.proofs.Common.{sym, ◌∙◌}
 use Rattle.std.specs.Char.{is_ascii_digit}
 use Rattle.std.proofs.lemmas.Bool.{both_ways}
-use Rattle.gos_lex.specs.Decimals.{digits_so_far}
+use Rattle.gos_lex.specs.inner.Digits.{digits_so_far}
 use Rattle.gos_lex.proofs.DecimalLemmas.{digit_within, first_digit, another_digit}
 use Rattle.gos_lex.proofs.decimal.with_digit.Goals as goal
 

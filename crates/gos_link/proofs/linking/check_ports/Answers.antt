@@ -1,7 +1,7 @@
 use Rattle.std.proofs.Common.{◌≡◌, ◌∙◌, ◌<◌, ◌∷◌, ℕ, List, ap, length, map, refl, subst, sym}
 use Rattle.std.specs.Prelude.{slice_get}
 use Rattle.std.proofs.lemmas.Option.{slice_get_read}
-use Rattle.std.proofs.lemmas.Result.{err_from_is_err_and}
+use Rattle.std.proofs.lemmas.Result.{IfErr-weaker, IfOk-weaker, err_from_is_err_and}
 use Rattle.gos_types.specs.declared.types.Ty.{Ty}
 use Rattle.gos_types.specs.Types.{type_of}
 use Rattle.gos_plan.specs.Joining.{LeftImport}
@@ -40,8 +40,8 @@ returns-in_err-check_result-clause-fault c =
     rw (p.1, p.2) (λ real. let (never, told) = c.in_err-check_result.ensures.fault real in
     wrong_result c.args.build.now c.args.plans.now c.args.services.now c.args.root c.requires (type_of c.result.result.now) _ names root never told)
 
-pub returns-in_err-check_imports-clause-fault : goal.returns-in_err-check_imports-clause-fault
-returns-in_err-check_imports-clause-fault c =
+pub returns-clause-fault : goal.returns-clause-fault
+returns-clause-fault c =
     let seen = ap (λ (os : List Open). map open_seen os) c.deref-2.ensures.value ∙ c.in_ok-opens.ensures.seen in
     let all = ap (λ (is : List Instance). (record { name = c.args.build.now.root; instance = c.args.build.now.root }) ∷ map (port_of is) (map open_seen c.deref-2.result.now)) c.deref.ensures.value
     ∙ ports c.args.build.now c.args.plans.now c.args.services.now c.args.root c.requires c.deref-2.result.now seen in
@@ -53,8 +53,9 @@ returns-in_err-check_imports-clause-fault c =
     let result = done c.args.build.now c.args.plans.now c.args.services.now c.args.root c.requires (type_of c.result.result.now) root c.in_ok-check_result.ensures.done in
     let imports = lefts c.args.build.now c.args.plans.now c.args.services.now c.args.root c.requires c.deref-3.result.now
     (ap (λ (os : List Open). map open_seen os) c.deref-3.ensures.value ∙ c.in_ok-opens.ensures.seen) in
-    let p = err_from_is_err_and c.from_residual-in_err-check_imports.result c.from_residual-in_err-check_imports.ensures.1 in
-    rw (p.1, p.2) (λ real. wrong_import c.args.build.now c.args.plans.now c.args.services.now c.args.root c.requires _ _ names result imports (c.in_err-check_imports.ensures.fault real))
+    IfErr-weaker c.check_imports.result _ _
+    (λ f first real. wrong_import c.args.build.now c.args.plans.now c.args.services.now c.args.root c.requires _ f names result imports (first real))
+    c.check_imports.ensures.fault
 
 pub returns-clause-grounded : goal.returns-clause-grounded
 returns-clause-grounded c =
@@ -68,8 +69,11 @@ returns-clause-grounded c =
     ∙ ap (λ (t : Ty). type_of t) (sym c.result.ensures) in
     let imports = lefts c.args.build.now c.args.plans.now c.args.services.now c.args.root c.requires c.deref-3.result.now
     (ap (λ (os : List Open). map open_seen os) c.deref-3.ensures.value ∙ c.in_ok-opens.ensures.seen) in
-    record {
+    let result = done c.args.build.now c.args.plans.now c.args.services.now c.args.root c.requires (type_of c.result.result.now) root c.in_ok-check_result.ensures.done in
+    IfOk-weaker c.check_imports.result _ _
+    (λ u ground. record {
       named = names;
-      result = done c.args.build.now c.args.plans.now c.args.services.now c.args.root c.requires (type_of c.result.result.now) root c.in_ok-check_result.ensures.done;
-      imports = all_ground c.args.build.now c.args.plans.now c.args.services.now c.args.root c.requires c.deref-3.result.now imports c.in_ok-check_imports.ensures.ground;
-    }
+      result = result;
+      imports = all_ground c.args.build.now c.args.plans.now c.args.services.now c.args.root c.requires c.deref-3.result.now imports ground;
+    })
+    c.check_imports.ensures.ground

@@ -1,7 +1,7 @@
 use Rattle.std.proofs.Common.{map}
 use Rattle.std.proofs.lemmas.Result.{err_from_is_err_and}
 use Rattle.gos_netlist.specs.Seen.{ground_type, number_of, side_of}
-use Rattle.gos_netlist.specs.NetItems.{IsNameText, IsTailText, IsPortText}
+use Rattle.gos_netlist.specs.inner.NetLines.{IsNameText, IsTailText, IsPortText}
 use Rattle.gos_netlist.proofs.BreakLemmas.{breaks_by}
 use Rattle.gos_netlist.proofs.PortLemmas.{no_side_here, no_name_here, no_tail_here, port_passed}
 use Rattle.gos_netlist.proofs.port_line.port.Goals as goal

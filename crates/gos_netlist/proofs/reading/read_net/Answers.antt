@@ -7,7 +7,8 @@ use Rattle.gos_netlist.specs.NetText.{cell_text, port_text}
 use Rattle.gos_netlist.specs.Writable.{IsWritable, IsWritableCell, IsWritablePort}
 use Rattle.gos_netlist.specs.NetFaults.{IsAbove, HasFault}
 use Rattle.gos_netlist.specs.declared.fault.NetTextFault.TheVariants as faults
-use Rattle.gos_netlist.specs.NetItems.{IsFixed, BreaksOff, SectionFault, IsSectionText}
+use Rattle.gos_netlist.specs.NetItems.{IsFixed}
+use Rattle.gos_netlist.specs.inner.NetLines.{BreaksOff, SectionFault, IsSectionText}
 use Rattle.gos_netlist.proofs.WholeLemmas.{head, middle, foot, cells_text, ports_text, spans_of, first_spans, next_text, fault_head, fault_cells, fault_middle, fault_ports, fault_foot, net_spans, fault_behind, slice_whole}
 use Rattle.gos_netlist.proofs.reading.read_net.Goals as goal
 

@@ -3,7 +3,7 @@ use Rattle.std.proofs.lemmas.Result.{err_from_is_err_and}
 use Rattle.gos_netlist.specs.Nets.{NetPort}
 use Rattle.gos_netlist.specs.NetText.{port_text}
 use Rattle.gos_netlist.specs.Writable.{IsWritablePort}
-use Rattle.gos_netlist.specs.NetItems.{IsPortText, IsLinesText}
+use Rattle.gos_netlist.specs.inner.NetLines.{IsPortText, IsLinesText}
 use Rattle.gos_netlist.proofs.BreakLemmas.{breaks_by}
 use Rattle.gos_netlist.proofs.PortLemmas.{port_code}
 use Rattle.gos_netlist.proofs.LinesLemmas.{LinesSoFar, one_line_more, no_line_more}

@@ -1,4 +1,4 @@
-use Rattle.std.proofs.lemmas.Result.{err_from_is_err_and}
+use Rattle.std.proofs.lemmas.Result.{IfErr-weaker, IfOk-weaker, err_from_is_err_and}
 use Rattle.std.specs.Prelude.{codes}
 use Rattle.gos_types.specs.Types.{type_of, Com}
 use Rattle.gos_plan.specs.TextItems.{exactly}
@@ -15,15 +15,11 @@ returns-in_err-exact-clause-wrong c =
     let p = err_from_is_err_and c.from_residual.result c.from_residual.ensures.1 in
     rw (p.1, p.2) known
 
-pub returns-in_err-t-clause-wrong : goal.returns-in_err-t-clause-wrong
-returns-in_err-t-clause-wrong c =
+pub returns-clause-wrong : goal.returns-clause-wrong
+returns-clause-wrong c =
     let old = c.args.cursor.now in
-    let fault = c.in_err-t.field-0.0 in
-    let wrong = c.in_err-t.ensures.wrong in
-    let known = rest_fails (exactly (codes "result ")) (λ u. typed 10 0) (lawful_exactly (codes "result ")) old c.exact.new.cursor tt c.in_ok-exact.ensures.read fault wrong in
-    let p = err_from_is_err_and c.from_residual-in_err-t.result c.from_residual-in_err-t.ensures.1 in
-    rw (p.1, p.2) known
+    IfErr-weaker c.ty.result _ _ (λ fault wrong. rest_fails (exactly (codes "result ")) (λ u. typed 10 0) (lawful_exactly (codes "result ")) old c.exact.new.cursor tt c.in_ok-exact.ensures.read fault wrong) c.ty.ensures.wrong
 
 pub returns-clause-read : goal.returns-clause-read
 returns-clause-read c =
-    both_read (exactly (codes "result ")) (λ u. typed 10 0) c.args.cursor.now c.exact.new.cursor c.ty.new.cursor tt (type_of c.in_ok-t.t) c.in_ok-exact.ensures.read c.in_ok-t.ensures.read
+    IfOk-weaker c.ty.result _ _ (λ value read. both_read (exactly (codes "result ")) (λ u. typed 10 0) c.args.cursor.now c.exact.new.cursor c.ty.new.cursor tt (type_of value) c.in_ok-exact.ensures.read read) c.ty.ensures.read

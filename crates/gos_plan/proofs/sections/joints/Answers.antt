@@ -1,6 +1,6 @@
 use Rattle.std.proofs.Common.{map}
 use Rattle.std.specs.Prelude.{codes}
-use Rattle.std.proofs.lemmas.Result.{err_from_is_err_and}
+use Rattle.std.proofs.lemmas.Result.{IfErr-weaker, IfOk-weaker, err_from_is_err_and}
 use Rattle.gos_plan.specs.Seen.{joint_of}
 use Rattle.gos_plan.specs.ObjectItems.{joint_line}
 use Rattle.gos_plan.proofs.LineLemmas.{lawful_joint}
@@ -20,12 +20,10 @@ returns-in_err-n-clause-wrong c =
     let p = err_from_is_err_and c.from_residual-in_err-n.result c.from_residual-in_err-n.ensures.1 in
     rw (p.1, p.2) known
 
-pub returns-in_err-joints-clause-wrong : goal.returns-in_err-joints-clause-wrong
-returns-in_err-joints-clause-wrong c =
-    let known = lines_fail (codes "joints ") 65536 joint_line c.args.cursor.now c.exact.new.cursor c.count.new.cursor c.in_ok-n.n c.in_ok-exact.ensures.read c.in_ok-n.ensures.read c.in_err-joints.field-0.0 c.in_err-joints.ensures.wrong in
-    let p = err_from_is_err_and c.from_residual-in_err-joints.result c.from_residual-in_err-joints.ensures.1 in
-    rw (p.1, p.2) known
+pub returns-clause-wrong : goal.returns-clause-wrong
+returns-clause-wrong c =
+    IfErr-weaker c.joint_lines.result _ _ (λ fault wrong. lines_fail (codes "joints ") 65536 joint_line c.args.cursor.now c.exact.new.cursor c.count.new.cursor c.in_ok-n.n c.in_ok-exact.ensures.read c.in_ok-n.ensures.read fault wrong) c.joint_lines.ensures.wrong
 
 pub returns-clause-read : goal.returns-clause-read
 returns-clause-read c =
-    section_read (codes "joints ") 65536 joint_line c.args.cursor.now c.exact.new.cursor c.count.new.cursor c.joint_lines.new.cursor c.in_ok-n.n (map joint_of c.in_ok-joints.joints.items) c.in_ok-exact.ensures.read c.in_ok-n.ensures.read c.in_ok-joints.ensures.read
+    IfOk-weaker c.joint_lines.result _ _ (λ value read. section_read (codes "joints ") 65536 joint_line c.args.cursor.now c.exact.new.cursor c.count.new.cursor c.joint_lines.new.cursor c.in_ok-n.n (map joint_of value.items) c.in_ok-exact.ensures.read c.in_ok-n.ensures.read read) c.joint_lines.ensures.read

@@ -1,6 +1,6 @@
 use Rattle.std.proofs.Common.{map}
 use Rattle.std.specs.Prelude.{codes}
-use Rattle.std.proofs.lemmas.Result.{err_from_is_err_and}
+use Rattle.std.proofs.lemmas.Result.{IfErr-weaker, IfOk-weaker, err_from_is_err_and}
 use Rattle.gos_plan.specs.Seen.{part_of}
 use Rattle.gos_plan.specs.ObjectItems.{part_line}
 use Rattle.gos_plan.proofs.PartLemmas.{lawful_part}
@@ -20,12 +20,10 @@ returns-in_err-n-clause-wrong c =
     let p = err_from_is_err_and c.from_residual-in_err-n.result c.from_residual-in_err-n.ensures.1 in
     rw (p.1, p.2) known
 
-pub returns-in_err-parts-clause-wrong : goal.returns-in_err-parts-clause-wrong
-returns-in_err-parts-clause-wrong c =
-    let known = lines_fail (codes "parts ") 16384 part_line c.args.cursor.now c.exact.new.cursor c.count.new.cursor c.in_ok-n.n c.in_ok-exact.ensures.read c.in_ok-n.ensures.read c.in_err-parts.field-0.0 c.in_err-parts.ensures.wrong in
-    let p = err_from_is_err_and c.from_residual-in_err-parts.result c.from_residual-in_err-parts.ensures.1 in
-    rw (p.1, p.2) known
+pub returns-clause-wrong : goal.returns-clause-wrong
+returns-clause-wrong c =
+    IfErr-weaker c.part_lines.result _ _ (λ fault wrong. lines_fail (codes "parts ") 16384 part_line c.args.cursor.now c.exact.new.cursor c.count.new.cursor c.in_ok-n.n c.in_ok-exact.ensures.read c.in_ok-n.ensures.read fault wrong) c.part_lines.ensures.wrong
 
 pub returns-clause-read : goal.returns-clause-read
 returns-clause-read c =
-    section_read (codes "parts ") 16384 part_line c.args.cursor.now c.exact.new.cursor c.count.new.cursor c.part_lines.new.cursor c.in_ok-n.n (map part_of c.in_ok-parts.parts.items) c.in_ok-exact.ensures.read c.in_ok-n.ensures.read c.in_ok-parts.ensures.read
+    IfOk-weaker c.part_lines.result _ _ (λ value read. section_read (codes "parts ") 16384 part_line c.args.cursor.now c.exact.new.cursor c.count.new.cursor c.part_lines.new.cursor c.in_ok-n.n (map part_of value.items) c.in_ok-exact.ensures.read c.in_ok-n.ensures.read read) c.part_lines.ensures.read

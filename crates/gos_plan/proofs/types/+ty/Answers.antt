@@ -1,5 +1,5 @@
 use Rattle.std.proofs.Common.{◌+◌, ◌∷◌, [], ℕ, refl, sym, subst}
-use Rattle.std.proofs.lemmas.Result.{err_from_is_err_and}
+use Rattle.std.proofs.lemmas.Result.{IfErr-weaker, IfOk-weaker, err_from_is_err_and}
 use Rattle.gos_types.specs.Types.{type_of, Com}
 use Rattle.gos_plan.specs.declared.word.TypeWord.{TypeWord}
 use Rattle.gos_plan.specs.declared.word.TypeWord.TheVariants as types
@@ -99,24 +99,24 @@ ty-returns-in_err-word-clause-wrong t c =
     let p = err_from_is_err_and c.from_residual.result c.from_residual.ensures.1 in
     rw (p.1, p.2) known
 
-pub ty-returns-in_err-t-clause-wrong : goal.ty-returns-in_err-t-clause-wrong
-ty-returns-in_err-t-clause-wrong t c =
+pub ty-returns-clause-wrong : goal.ty-returns-clause-wrong
+ty-returns-clause-wrong t c =
     let old = c.args.cursor.now in
     let mid = c.type_word.new.cursor in
-    let fault = c.in_err-t.field-0.0 in
-    let here = rest_fails (type_word c.args.before) (type_operands c.args.end c.args.before) (lawful_word c.args.before) old mid c.in_ok-word.word c.in_ok-word.ensures.read fault c.in_err-t.ensures.wrong in
-    let known = via_fails (typed c.args.end c.args.before) (by_word c.args.end c.args.before) (typed_via c.args.end c.args.before) old.text old.at fault here in
-    let p = err_from_is_err_and c.from_residual-in_err-t.result c.from_residual-in_err-t.ensures.1 in
-    rw (p.1, p.2) known
+    IfErr-weaker c.operands.result _ _ (λ fault wrong.
+    let here = rest_fails (type_word c.args.before) (type_operands c.args.end c.args.before) (lawful_word c.args.before) old mid c.in_ok-word.word c.in_ok-word.ensures.read fault wrong in
+    via_fails (typed c.args.end c.args.before) (by_word c.args.end c.args.before) (typed_via c.args.end c.args.before) old.text old.at fault here)
+    c.operands.ensures.wrong
 
 pub ty-returns-clause-read : goal.ty-returns-clause-read
 ty-returns-clause-read t c =
     let old = c.args.cursor.now in
     let mid = c.type_word.new.cursor in
     let new = c.operands.new.cursor in
-    let value = type_of c.in_ok-t.t in
     let word = c.in_ok-word.word in
-    let read = c.in_ok-t.ensures.read in
+    IfOk-weaker c.operands.result _ _ (λ ty read.
+    let value = type_of ty in
     let whole = both_read (type_word c.args.before) (type_operands c.args.end c.args.before) old mid new word value c.in_ok-word.ensures.read read in
     let known = subst (λ (w : TypeWord). Reads (by_word c.args.end c.args.before) old new (w, value)) (sym read.is.1) whole in
-    reads_as (typed c.args.end c.args.before) (by_word c.args.end c.args.before) old new value (word_of_type value, value) (text_parts c.args.end value) read.is.0 read.keeps known
+    reads_as (typed c.args.end c.args.before) (by_word c.args.end c.args.before) old new value (word_of_type value, value) (text_parts c.args.end value) read.is.0 read.keeps known)
+    c.operands.ensures.read

@@ -1,4 +1,4 @@
-use Rattle.std.proofs.Common.{◌∷◌, []}
+use Rattle.std.proofs.Common.{refl}
 use Rattle.gos_plan.specs.declared.word.BodyWord.{BodyWord}
 use Rattle.gos_plan.specs.ObjectItems.{body_word_text}
 use Rattle.gos_plan.proofs.TableLemmas.{words_fail}
@@ -7,4 +7,4 @@ use Rattle.gos_plan.proofs.word.body_word.Goals as goal
 
 pub returns-in-Err-clause-wrong : goal.returns-in-Err-clause-wrong
 returns-in-Err-clause-wrong c =
-    words_fail BodyWord body_word_text body_table _ (λ i. c.as_slice.ensures i ∷ c.as_slice-2.ensures i ∷ []) c.args.cursor.now.text c.args.cursor.now.at c.in-Err.at c.in-Err.ensures.wrong
+    words_fail BodyWord body_word_text body_table _ refl c.args.cursor.now.text c.args.cursor.now.at c.in-Err.at c.in-Err.ensures.wrong

@@ -5,6 +5,7 @@ use Rattle.gos_pulse.specs.declared.trace.Trace.{Trace}
 use Rattle.gos_pulse.specs.Driving.{GivesInput, IsBroken, next_entries}
 use Rattle.gos_pulse.specs.inner.Board.{Rests}
 use Rattle.gos_pulse.proofs.RunLemmas.{IsUnderWay, begins_run, goes_on, has_inputs, has_outputs, run_broken, trace_known, way_traced}
+use Rattle.gos_pulse.proofs.QuietLemmas.{goes_on_to}
 use Rattle.gos_pulse.proofs.driver.drive.Goals as goal
 
 pub loop-t-init : goal.loop-t-init
@@ -16,6 +17,7 @@ loop-t-init c =
     let rests = subst (λ (net : Netlist). Rests net [] c.in_ok-board.board) c.netlist.ensures.value c.in_ok-board.ensures in
     record {
       net = refl;
+      within = omega arith;
       since = omega arith;
       run =
           subst (IsUnderWay sim file 0 0 c.as_slice.result.now c.in_ok-board.board) (sym c.new-lines.ensures.items)
@@ -46,10 +48,30 @@ loop-t-preserved c =
     let cycle = c.in-Ok.ensures.cycle way.past way.rests in
     record {
       net = c.run_cycle.ensures.net ∙ c.loop-t.invariant.net;
+      within = omega (arith, c.loop-t-test.true);
       since = omega (arith, c.in-Ok.ensures.since);
       run =
           goes_on c.loop-t.sim c.run_cycle.new.sim c.entries-entries.result.now c.loop-t.t c.loop-t.queue.since c.loop-t.queue.entries.now c.loop-t.board board
           c.loop-t.lines.items c.add_cycle.new.lines.items c.in-Ok.rest.since c.in-Ok.rest.entries.now c.run_cycle.ensures.net way cycle
+          (c.in_ok-add_cycle.ensures net (has_inputs net cycle.came board cycle.rests) (has_outputs net cycle.came board cycle.rests));
+    }
+
+pub loop-t-preserved-then-is_quiet : goal.loop-t-preserved-then-is_quiet
+loop-t-preserved-then-is_quiet c =
+    let way = c.loop-t.invariant.run in
+    let net = c.loop-t.sim.net in
+    let board = c.run_cycle.new.board in
+    let cycle = c.in-Ok.ensures.cycle way.past way.rests in
+    let quiet = c.is_quiet.ensures in
+    let due = c.next_due-t.ensures in
+    record {
+      net = c.run_cycle.ensures.net ∙ c.loop-t.invariant.net;
+      within = due.within.1;
+      since = omega (arith, c.in-Ok.ensures.since, due.within.0);
+      run =
+          goes_on_to c.loop-t.sim c.run_cycle.new.sim c.entries-entries.result.now way.past c.loop-t.t c.loop-t.queue.since c.loop-t.queue.entries.now c.in-Ok.rest.since c.in-Ok.rest.entries.now board
+          c.run_cycle.ensures.net cycle (quiet.repeats c.if-is_quiet.true) (quiet.inputs c.if-is_quiet.true) (quiet.outputs c.if-is_quiet.true)
+          c.next_due-t.result c.loop-t.board c.loop-t.lines.items c.add_cycle.new.lines.items way refl due.within.0 due.none due.held
           (c.in_ok-add_cycle.ensures net (has_inputs net cycle.came board cycle.rests) (has_outputs net cycle.came board cycle.rests));
     }
 

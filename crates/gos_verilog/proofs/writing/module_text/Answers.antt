@@ -1,5 +1,6 @@
 use Rattle.std.proofs.Common.{List, ℕ, length, map, sym, ◌∙◌, subst}
 use Rattle.std.proofs.lemmas.List.{length-map}
+use Rattle.std.proofs.lemmas.Result.{IfOk-weaker}
 use Rattle.gos_netlist.specs.Nets.{Netlist}
 use Rattle.gos_netlist.specs.Seen.{cell_of}
 use Rattle.gos_verilog.specs.PortNets.{PortNet}
@@ -13,10 +14,11 @@ returns c =
     let nets : List PortNet = c.in_ok-nets.nets.items in
     let table : List ℕ = c.in_ok-table.table.items in
     let name : List ℕ = c.first_name.result.now in
-    let text : List ℕ = c.in_ok-text.text.items in
     let one = c.deref.ensures.value in
     let two = c.deref-2.ensures.value in
     let three = c.deref-3.ensures.value in
-    text_is net nets name table text c.requires c.in_ok-nets.ensures c.first_name.ensures (c.in_ok-table.ensures.length ∙ sym (length-map c.args.cells.now cell_of))
+    IfOk-weaker c.lines.result _ _ (λ text is.
+    text_is net nets name table text.items c.requires c.in_ok-nets.ensures c.first_name.ensures (c.in_ok-table.ensures.length ∙ sym (length-map c.args.cells.now cell_of))
     (subst (λ (list : List PortNet). LeadsToFeeds list (length list) table) one c.in_ok-table.ensures.leads)
-    (c.in_ok-text.ensures ∙ (λ i. module_lines name (two i) (three i) net.cells))
+    (is ∙ (λ i. module_lines name (two i) (three i) net.cells)))
+    c.lines.ensures

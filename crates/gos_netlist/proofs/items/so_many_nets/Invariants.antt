@@ -1,7 +1,7 @@
 use Rattle.std.proofs.Common.{◌≡◌, map}
 use Rattle.gos_netlist.specs.Seen.{number_of}
 use Rattle.gos_netlist.proofs.NetsLemmas.{NetsSoFar}
-use Rattle.gos_netlist.proofs.items.nets.Given as goal
+use Rattle.gos_netlist.proofs.items.so_many_nets.Given as goal
 
 abbrev pub invariant-loop-left : goal.invariant-loop-left
 invariant-loop-left l =

@@ -1,7 +1,7 @@
 use Rattle.std.proofs.Common.{◌≡◌, map}
 use Rattle.gos_lex.specs.Items.{Misses}
 use Rattle.gos_netlist.proofs.WordTableLemmas.{IsAmongFirst}
-use Rattle.gos_netlist.proofs.items.one_of.Given as goal
+use Rattle.gos_netlist.proofs.table.one_of.Given as goal
 
 -- the words so far don't stand
 abbrev pub invariant-loop-k : goal.invariant-loop-k

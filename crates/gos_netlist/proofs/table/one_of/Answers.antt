@@ -3,7 +3,7 @@ use Rattle.std.proofs.Math.ListN.{get_or-map}
 use Rattle.std.proofs.lemmas.List.{length-map}
 use Rattle.gos_lex.specs.Items.{TextAt, IsJust, Misses}
 use Rattle.gos_netlist.proofs.WordTableLemmas.{IsAmongFirst, first_word, next_word}
-use Rattle.gos_netlist.proofs.items.one_of.Goals as goal
+use Rattle.gos_netlist.proofs.table.one_of.Goals as goal
 
 abbrev now_of : List (Bor (List ℕ)) → List (List ℕ)
 now_of words = map (λ word. word.now) words

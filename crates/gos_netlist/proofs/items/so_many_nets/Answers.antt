@@ -6,7 +6,7 @@ use Rattle.gos_netlist.specs.Seen.{number_of}
 use Rattle.gos_lex.specs.Items.{Misses}
 use Rattle.gos_netlist.specs.NetItems.{Passed, ended, IsNumberText}
 use Rattle.gos_netlist.proofs.NetsLemmas.{NetsSoFar, none_yet, one_more, no_more, nets_passed}
-use Rattle.gos_netlist.proofs.items.nets.Goals as goal
+use Rattle.gos_netlist.proofs.items.so_many_nets.Goals as goal
 
 pub loop-left-init : goal.loop-left-init
 loop-left-init c =
