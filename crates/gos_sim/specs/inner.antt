@@ -7,4 +7,7 @@ pub mod Ready
 pub mod Places
 pub mod Counting
 pub mod Past
+pub mod Marks
+pub mod Readers
+pub mod Active
 pub mod Machine

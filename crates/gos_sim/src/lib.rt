@@ -11,15 +11,19 @@
 
 mod event_nets;
 mod laws;
+mod log;
 mod machine;
+mod marks;
 mod order;
 mod past;
 mod places;
 mod program;
 mod pulse;
+mod readers;
 mod running;
 mod sim;
 mod visits;
+mod wake;
 
 pub use event_nets::EventNets;
 pub use laws::{runs, visits_counted};
