@@ -2,6 +2,9 @@ pub mod PlaceLemmas
 pub mod StepLemmas
 pub mod LatchLemmas
 pub mod GiveLemmas
+pub mod MarkLemmas
+pub mod ReaderLemmas
+pub mod ActiveLemmas
 pub mod SourceLemmas
 pub mod ProgramLemmas
 pub mod LevelLemmas

@@ -49,7 +49,7 @@ impl Marks {
         ensures each { length self.new.words.items ≡ length self.old.words.items }
         ensures kept { (item : ℕ) → IsUnmarked self.new.words.items item → item ≢ result → IsUnmarked self.old.words.items item }
     {
-        let bit = self.words[word].trailing_zeros() as usize;
+        let bit = lowest(self.words[word]);
         self.words[word] &= !(1 << bit);
         word * 64 + bit
     }
@@ -63,6 +63,14 @@ impl Marks {
             None => first_from(&self.words, 0),
         }
     }
+}
+
+// The lowest bit of a word that is set.
+fn lowest(word: u64) -> usize
+    requires { 0 < word }
+    ensures { result < 64 }
+{
+    word.trailing_zeros() as usize
 }
 
 // The first word from one on that isn't 0.

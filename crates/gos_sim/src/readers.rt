@@ -89,7 +89,8 @@ impl Readers {
             | Gate::Gate(a, b) => self.add_two(a, b, item),
             Gate::Mux(s, a, b) => {
                 self.add(s.0, item)?;
-                self.add_two(a, b, item)
+                self.add_two(a, b, item)?;
+                Ok(())
             }
         }
     }
@@ -105,7 +106,8 @@ impl Readers {
         ensures second { OnOk result (Reads self.new b.0 item) }
     {
         self.add(a.0, item)?;
-        self.add(b.0, item)
+        self.add(b.0, item)?;
+        Ok(())
     }
 
     // Adds the steps as readers of their pins.
