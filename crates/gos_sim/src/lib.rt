@@ -9,6 +9,7 @@
 // levels in which the last cycle changed something.
 #![tactic(auto)]
 
+mod active;
 mod event_nets;
 mod laws;
 mod log;

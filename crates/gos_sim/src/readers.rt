@@ -4,7 +4,7 @@ ghost use Rattle.gos_netlist.specs.Nets.{pins};
 ghost use Rattle.gos_netlist.specs.Seen.{function_of};
 ghost use Rattle.gos_sim.specs.inner.Program.{IsLatchWithin, IsStepWithin};
 ghost use Rattle.gos_sim.specs.inner.Marks.{IsUnmarked, KeepsMarks};
-ghost use Rattle.gos_sim.specs.inner.Readers.{AreLatchesReading, AreLinked, AreReaders, AreStepsReading, KeepsReaders, Reads};
+ghost use Rattle.gos_sim.specs.inner.Readers.{AreLatchesReading, AreLinked, AreStepsReading, KeepsReaders, ReadAll, Reads};
 
 use crate::marks::Marks;
 use crate::program::{Latch, Step};
@@ -150,7 +150,9 @@ pub fn readers_of(
     requires steps { All (IsStepWithin count) steps.now }
     requires latches { All (IsLatchWithin count) latches.now }
     requires few { length steps.now + length latches.now ≤ 4294967295 }
-    ensures { IfOk result (λ readers. (words : ℕ) → (length steps.now + length latches.now) / 64 < words → AreReaders count words steps.now latches.now readers) }
+    ensures each { IfOk result (λ readers. length readers.heads.items ≡ count) }
+    ensures linked { IfOk result (λ readers. (words : ℕ) → (length steps.now + length latches.now) / 64 < words → AreLinked words readers) }
+    ensures reading { IfOk result (λ readers. ReadAll steps.now latches.now readers) }
 {
     let heads = vec![in alloc; 0; count]?;
     let all = Vec::new(alloc);

@@ -93,7 +93,7 @@ pub fn evaluate(steps: &[Step], values: &mut [u32])
 }
 
 // What a step shows, from the values of the nets. What an input or a register shows is known before, and not asked here.
-fn value_of(step: &Step, values: &[u32]) -> u32
+pub fn value_of(step: &Step, values: &[u32]) -> u32
     requires step { IsStepWithin (length values.now) step.now }
     ensures { result ≡ shown step.now.width (function_of step.now.gate) 0 0 (at values.now) }
 {

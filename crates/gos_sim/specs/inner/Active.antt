@@ -1,23 +1,31 @@
 -- What has to be evaluated: steps and latches are items, and an item that isn't marked stands as it must.
 --
 -- Read first: Running, Marks, Readers.
-use Rattle.std.specs.Prelude.{◌≡◌, ◌≢◌, ℕ, ◌+◌, IsFalse, List, All, Some, length, slice_get}
+use Rattle.std.specs.Prelude.{◌≡◌, ◌≢◌, ℕ, ◌+◌, ◌<◌, ◌≤◌, ◌^◌, IsTrue, IsFalse, List, All, Some, length, slice_get}
 use Rattle.gos_netlist.specs.Settling.{Numbers, at, shown}
 use Rattle.gos_netlist.specs.Seen.{function_of}
 use Rattle.gos_sim.specs.declared.event_nets.EventNets.{EventNets}
 use Rattle.gos_sim.specs.declared.program.Step.{Step}
 use Rattle.gos_sim.specs.declared.program.Latch.{Latch}
 use Rattle.gos_sim.specs.declared.log.Log.{Log}
+use Rattle.gos_sim.specs.declared.active.Active.{Active}
 use Rattle.gos_sim.specs.declared.wake.Wake.{Wake}
 use Rattle.gos_sim.specs.EventNets.{Names}
 use Rattle.gos_sim.specs.inner.Program.{HasLatch}
-use Rattle.gos_sim.specs.inner.Running.{KeepsOtherSteps, KeepsOthers}
-use Rattle.gos_sim.specs.inner.Marks.{IsUnmarked, KeepsMarks}
-use Rattle.gos_sim.specs.inner.Readers.{Reads}
+use Rattle.gos_sim.specs.inner.Running.{AreShown, AreTaken, KeepsOtherSteps, KeepsOthers}
+use Rattle.gos_sim.specs.inner.Marks.{AreUnmarked, IsUnmarked, KeepsMarks}
+use Rattle.gos_sim.specs.inner.Readers.{AreLinked, ReadAll, Reads}
 
 -- a log that had room for all places lacks this one
 abbrev pub Lacks : Log → ℕ → Type 0
 Lacks log place = IsFalse log.full × All (λ p. p ≢ place) log.places.items
+
+-- readers of so many places, with marks for all of them, and places that are noted
+pub record IsWake (count : ℕ) (wake : Wake) : Type 0 where
+  pub each : length wake.readers.heads.items ≡ count
+  pub linked : AreLinked (length wake.marks.words.items) wake.readers
+  pub few : length wake.marks.words.items ≤ 2 ^ 32
+  pub within : All (λ p. p < count) wake.touched.places.items
 
 -- Values change: what reads a place whose value differs is marked, and the place is noted.
 pub record Follows (old new : Wake) (before after : Numbers) : Type 0 where
@@ -57,10 +65,21 @@ pub record Stand (steps : List Step) (latches : List Latch) (marks v registers :
   pub shown : (k : ℕ) (s : Step) → slice_get steps k ≡ Some s → IsUnmarked marks k → at v s.net ≡ shown s.width (function_of s.gate) 0 0 (at v)
   pub taken : (j : ℕ) (l : Latch) → slice_get latches j ≡ Some l → IsUnmarked marks (length steps + j) → at registers l.net ≡ at v l.pin
 
--- How far a cycle has come that began with some values and registers, and in which these values were loaded.
-pub record HasSwept (steps : List Step) (latches : List Latch) (start loaded held : Numbers) (wake : Wake) (changed : Log) (v registers : Numbers) : Type 0 where
-  pub noted : (place : ℕ) → Lacks wake.touched place → at v place ≡ at start place
+-- How far a cycle has come that began with some values and registers, and in which others were loaded.
+pub record HasSwept (steps : List Step) (latches : List Latch) (start loaded held : Numbers) (active : Active) (v registers : Numbers) : Type 0 where
+  pub noted : (place : ℕ) → Lacks active.wake.touched place → at v place ≡ at start place
   pub others : KeepsOtherSteps steps loaded v
   pub rest : KeepsOthers latches held registers
-  pub unchanged : AreLoadedButNoted latches changed registers v
-  pub listed : All (HasLatch latches) changed.places.items
+  pub unchanged : AreLoadedButNoted latches active.changed registers v
+  pub listed : All (HasLatch latches) active.changed.places.items
+
+-- Between cycles nothing is marked; and after one that has settled, each step shows what its cell does, each register holds what
+-- its pin has, and the nets of registers that aren't noted have what these hold.
+pub record IsTracked (count : ℕ) (steps : List Step) (latches : List Latch) (active : Active) (v registers : Numbers) : Type 0 where
+  pub wake : IsWake count active.wake
+  pub reading : ReadAll steps latches active.wake.readers
+  pub unmarked : AreUnmarked active.wake.marks.words.items
+  pub listed : All (HasLatch latches) active.changed.places.items
+  pub shown : IsTrue active.settled → AreShown steps v
+  pub taken : IsTrue active.settled → AreTaken latches v registers
+  pub unchanged : IsTrue active.settled → AreLoadedButNoted latches active.changed registers v

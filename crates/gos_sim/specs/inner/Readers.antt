@@ -39,9 +39,7 @@ abbrev pub AreLatchesReading : ℕ → List Latch → Readers → Type 0
 AreLatchesReading first latches readers =
     (k : ℕ) (l : Latch) → slice_get latches k ≡ Some l → Reads readers l.pin (first + k)
 
--- the readers of all places below a count
-pub record AreReaders (count words : ℕ) (steps : List Step) (latches : List Latch) (readers : Readers) : Type 0 where
-  pub each : length readers.heads.items ≡ count
-  pub linked : AreLinked words readers
+-- each step reads its pins, and each latch behind them its own
+pub record ReadAll (steps : List Step) (latches : List Latch) (readers : Readers) : Type 0 where
   pub stepped : AreStepsReading steps readers
   pub latched : AreLatchesReading (length steps) latches readers

@@ -1,0 +1,87 @@
+// A cycle in which little changes: only what hangs on the changes is evaluated.
+ghost use Rattle.std.specs.Prelude.{◌≡◌, ◌≢◌, ℕ, ◌+◌, ◌<◌, ◌≤◌, ◌/◌, ◌^◌, ◌⊎◌, ◌++◌, ◌∷◌, [], All, IfOk, IsFalse, IsTrue, length, set};
+ghost use Rattle.gos_netlist.specs.Settling.{Numbers, at, shown};
+ghost use Rattle.gos_netlist.specs.Seen.{function_of};
+ghost use Rattle.gos_sim.specs.Cycle.{GivesAll, IsWord};
+ghost use Rattle.gos_sim.specs.inner.Program.{HasLatch, IsLatchWithin, IsStepWithin};
+ghost use Rattle.gos_sim.specs.inner.Running.{AreShown, AreTaken};
+ghost use Rattle.gos_sim.specs.inner.Marks.{AreUnmarked};
+ghost use Rattle.gos_sim.specs.inner.Readers.{ReadAll};
+ghost use Rattle.gos_sim.specs.inner.Active.{Follows, HasSwept, IsTracked, IsWake, Lacks, Stand, StandBut};
+ghost use Rattle.gos_sim.specs.inner.Machine.{IsRunnable, IsStill, RunsThrough, Settles, plan_of};
+
+use crate::log::Log;
+use crate::machine::Machine;
+use crate::marks::Marks;
+use crate::program::{Latch, Step};
+use crate::pulse::Pulse;
+use crate::readers::readers_of;
+use crate::running::{evaluate, latch, show, value_of};
+use crate::wake::Wake;
+use gos_types::NoMemory;
+use std::alloc::Global;
+
+/// What has changed, and what has to be evaluated for it.
+#[derive(Drop)]
+pub struct Active {
+    /// What changed values bring with them.
+    pub wake: Wake,
+    /// The nets of the registers that took over another value.
+    pub changed: Log,
+    /// Whether the values are those of a cycle.
+    pub settled: bool,
+    /// How many cycles evaluate all cells before it is tried again to evaluate few.
+    pub wait: u32,
+    /// How many they are after the next time that these were too many.
+    pub pause: u32,
+}
+
+// Evaluates a step, into the values.
+fn show_step(wake: &mut Wake, step: &Step, values: &mut [u32])
+    requires step { IsStepWithin (length values.old) step.now }
+    requires wake { IsWake (length values.old) wake.old }
+    ensures values { values.new ≡ set values.old step.now.net (shown step.now.width (function_of step.now.gate) 0 0 (at values.old)) }
+    ensures follows { Follows wake.old wake.new values.old values.new }
+    ensures wake { IsWake (length values.old) wake.new }
+{
+    let value = value_of(step, values);
+    wake.put(step.net, value, values);
+}
+
+// Takes the value of a register's pin over, and notes the register where it had another one.
+fn take_latch(changed: &mut Log, latch: &Latch, values: &[u32], registers: &mut [u32])
+    requires pin { latch.now.pin < length values.now }
+    requires net { latch.now.net < length registers.old }
+    ensures taken { registers.new ≡ set registers.old latch.now.net (at values.now latch.now.pin) }
+    ensures noted { (p : ℕ) → Lacks changed.new p → Lacks changed.old p × (at registers.new p ≡ at registers.old p) }
+    ensures listed { (changed.new.places.items ≡ changed.old.places.items) ⊎ (changed.new.places.items ≡ changed.old.places.items ++ latch.now.net ∷ []) }
+{
+    let value = values[latch.pin as usize];
+    if registers[latch.net as usize] == value {
+        return;
+    }
+    registers[latch.net as usize] = value;
+    changed.note(latch.net);
+}
+
+impl Active {
+    // Evaluates an item: a step into the values, or a latch into the registers.
+    fn follow(&mut self, machine: &Machine, item: usize, values: &mut [u32], registers: &mut [u32])
+        requires ready { IsRunnable (length values.old) (plan_of machine.now) }
+        requires same { length registers.old ≡ length values.old }
+        requires wake { IsWake (length values.old) self.old.wake }
+        requires reading { ReadAll machine.now.steps.items machine.now.latches.items self.old.wake.readers }
+        requires stand { StandBut machine.now.steps.items machine.now.latches.items self.old.wake.marks.words.items values.old registers.old item }
+        ensures wake { IsWake (length values.old) self.new.wake }
+        ensures reading { ReadAll machine.now.steps.items machine.now.latches.items self.new.wake.readers }
+        ensures stand { Stand machine.now.steps.items machine.now.latches.items self.new.wake.marks.words.items values.new registers.new }
+        ensures swept { (start loaded held : Numbers) → HasSwept machine.now.steps.items machine.now.latches.items start loaded held self.old values.old registers.old → HasSwept machine.now.steps.items machine.now.latches.items start loaded held self.new values.new registers.new }
+    {
+        let steps = machine.steps.len();
+        if item < steps {
+            show_step(&mut self.wake, &machine.steps[item], values);
+        } else if item - steps < machine.latches.len() {
+            take_latch(&mut self.changed, &machine.latches[item - steps], values, registers);
+        }
+    }
+}
