@@ -9,6 +9,7 @@ pub mod SourceLemmas
 pub mod ProgramLemmas
 pub mod LevelLemmas
 pub mod OrderLemmas
+pub mod SweepLemmas
 pub mod CountingLemmas
 pub mod RegisterLemmas
 pub mod NumberLemmas

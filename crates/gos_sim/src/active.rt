@@ -8,7 +8,7 @@ ghost use Rattle.gos_sim.specs.inner.Running.{AreShown, AreTaken};
 ghost use Rattle.gos_sim.specs.inner.Marks.{AreUnmarked};
 ghost use Rattle.gos_sim.specs.inner.Readers.{ReadAll};
 ghost use Rattle.gos_sim.specs.inner.Active.{Follows, HasSwept, IsTracked, IsWake, Lacks, Stand, StandBut};
-ghost use Rattle.gos_sim.specs.inner.Machine.{IsRunnable, IsStill, RunsThrough, Settles, plan_of};
+ghost use Rattle.gos_sim.specs.inner.Machine.{HasBegun, IsRunnable, IsStill, RunsThrough, Settles, plan_of};
 
 use crate::log::Log;
 use crate::machine::Machine;
@@ -83,5 +83,58 @@ impl Active {
         } else if item - steps < machine.latches.len() {
             take_latch(&mut self.changed, &machine.latches[item - steps], values, registers);
         }
+    }
+    // Evaluates what is marked, and what hangs on it, until nothing is left. Answers whether it came to an end: it gives up where
+    // that is more than so many items.
+    fn sweep(&mut self, machine: &Machine, most: usize, values: &mut [u32], registers: &mut [u32]) -> bool
+        requires ready { IsRunnable (length values.old) (plan_of machine.now) }
+        requires same { length registers.old ≡ length values.old }
+        requires wake { IsWake (length values.old) self.old.wake }
+        requires reading { ReadAll machine.now.steps.items machine.now.latches.items self.old.wake.readers }
+        requires stand { Stand machine.now.steps.items machine.now.latches.items self.old.wake.marks.words.items values.old registers.old }
+        ensures wake { IsWake (length values.old) self.new.wake }
+        ensures reading { ReadAll machine.now.steps.items machine.now.latches.items self.new.wake.readers }
+        ensures unmarked { IsTrue result → AreUnmarked self.new.wake.marks.words.items }
+        ensures shown { IsTrue result → AreShown machine.now.steps.items values.new }
+        ensures taken { IsTrue result → AreTaken machine.now.latches.items values.new registers.new }
+        ensures swept { (start loaded held : Numbers) → HasSwept machine.now.steps.items machine.now.latches.items start loaded held self.old values.old registers.old → HasSwept machine.now.steps.items machine.now.latches.items start loaded held self.new values.new registers.new }
+    {
+        let mut word = 0;
+        for _ in 0..most {
+            match self.wake.marks.marked_word(word) {
+                None => return true,
+                Some(next) => {
+                    word = next;
+                    let item = self.wake.marks.take(next);
+                    self.follow(machine, item, values, registers);
+                }
+            }
+        }
+        false
+    }
+    // Gives the values what the inputs and the registers have, and marks what reads those that changed.
+    fn begin(
+        &mut self,
+        machine: &Machine,
+        inputs: &[Pulse],
+        registers: &[u32],
+        values: &mut [u32],
+    )
+        requires ready { IsRunnable (length values.old) (plan_of machine.now) }
+        requires same { length registers.now ≡ length values.old }
+        requires inputs { length inputs.now ≡ length machine.now.inputs.items }
+        requires numbers { All (λ p. IsWord p.value) inputs.now }
+        requires tracked { IsTracked (length values.old) machine.now.steps.items machine.now.latches.items self.old values.old registers.now }
+        requires settled { IsTrue self.old.settled }
+        ensures wake { IsWake (length values.old) self.new.wake }
+        ensures reading { ReadAll machine.now.steps.items machine.now.latches.items self.new.wake.readers }
+        ensures stand { Stand machine.now.steps.items machine.now.latches.items self.new.wake.marks.words.items values.new registers.now }
+        ensures begun { HasBegun (plan_of machine.now) inputs.now registers.now values.new }
+        ensures swept { HasSwept machine.now.steps.items machine.now.latches.items values.old values.new registers.now self.new values.new registers.now }
+    {
+        self.wake.touched.clear();
+        self.wake.give(&machine.inputs, inputs, values);
+        self.wake.load(&self.changed, &machine.latches, registers, values);
+        self.changed.clear();
     }
 }

@@ -12,7 +12,7 @@ use Rattle.gos_sim.specs.declared.program.Step.{Step}
 use Rattle.gos_sim.specs.declared.past.Past.{Past}
 use Rattle.gos_sim.specs.declared.program.Latch.{Latch}
 use Rattle.gos_sim.specs.declared.pulse.Pulse.{Pulse}
-use Rattle.gos_sim.specs.EventNets.{OnNets, input_events, output_events}
+use Rattle.gos_sim.specs.EventNets.{Names, OnNets, input_events, output_events}
 use Rattle.gos_sim.specs.Cycle.{GivesAll, Simulator, pulse_shown}
 use Rattle.gos_sim.specs.inner.Program.{AreLatches, HaveOneCell, IsLatchWithin, IsProgram, IsStepWithin, SparesEarlier}
 use Rattle.gos_sim.specs.inner.Running.{AreLoaded, AreShown, AreTaken, HaveOnePin, KeepsOtherSteps, KeepsOthers}
@@ -71,7 +71,15 @@ pub record IsRunnable (count : ℕ) (m : Plan) : Type 0 where
   pub steps : All (IsStepWithin count) m.steps
   pub latches : All (IsLatchWithin count) m.latches
   pub one_pin : HaveOnePin m.latches
+  pub inputs_apart : (j : ℕ) (e : EventNets) (a : ℕ) → slice_get m.inputs j ≡ Some e → Names e a → All (λ s. s.net ≢ a) m.steps
   pub apart_from_steps : (j : ℕ) (l : Latch) → slice_get m.latches j ≡ Some l → All (λ s. s.net ≢ l.net) m.steps
+
+-- The values are given and loaded: what the pulses give, and then the registers too.
+pub record HasBegun (m : Plan) (given : List Pulse) (held loaded : Numbers) : Type 0 where
+  pub first : Numbers
+  pub pulses : GivesAll m.inputs given first
+  pub registers : AreLoaded m.latches held loaded
+  pub others : KeepsOthers m.latches first loaded
 
 -- The values settle for what pulses give and registers hold: what the pulses give, then the registers too, then the steps.
 pub record Settles (m : Plan) (given : List Pulse) (held values : Numbers) : Type 0 where
