@@ -14,7 +14,7 @@ use Rattle.gos_sim.specs.declared.log.Log.{Log}
 use Rattle.gos_sim.specs.declared.wake.Wake.{Wake}
 use Rattle.gos_sim.specs.declared.active.Active.{Active}
 use Rattle.gos_sim.specs.inner.Program.{HasLatch, HaveOneCell, reads}
-use Rattle.gos_sim.specs.inner.Running.{HaveOnePin}
+use Rattle.gos_sim.specs.inner.Running.{AreShown, AreTaken, HaveOnePin}
 use Rattle.gos_sim.specs.inner.Marks.{AreUnmarked, IsUnmarked, KeepsMarks}
 use Rattle.gos_sim.specs.inner.Readers.{ReadAll, Reads}
 use Rattle.gos_sim.specs.inner.Active.{Follows, HasSwept, Lacks, Stand, StandBut}
@@ -102,6 +102,16 @@ stand_none steps latches marks v registers item past beyond stand =
       taken = λ j l at_j bare.
           let within : j < length latches = slice_get_within latches j l at_j in
           stand.taken j l at_j bare (λ same. absurd (omega (arith, same, beyond, within)));
+    }
+
+-- the inputs are given and the registers loaded, where all stood as it must
+pub stand_begun : (steps : List Step) (latches : List Latch) (old new : Wake) (v w registers : Numbers) → ReadAll steps latches old.readers
+    → Follows old new v w → AreShown steps v → AreTaken latches v registers
+    → ((k : ℕ) (s : Step) → slice_get steps k ≡ Some s → at w s.net ≡ at v s.net) → Stand steps latches new.marks.words.items w registers
+stand_begun steps latches old new v w registers reading follows all_shown taken kept =
+    record {
+      shown = λ k s at_k bare. kept k s at_k ∙ (all_shown k s at_k ∙ sym (shows_same steps latches old new v w k s reading follows at_k bare));
+      taken = λ j l at_j bare. taken j l at_j ∙ sym (follows.marked l.pin (length steps + j) (reading.latched j l at_j) bare);
     }
 
 -- a mark is taken away

@@ -21,6 +21,13 @@ use crate::wake::Wake;
 use gos_types::NoMemory;
 use std::alloc::Global;
 
+/// It is given up to evaluate few steps where they are more than one in so many of all, and so many beside.
+const PART: usize = 8;
+const LEAST: usize = 16;
+
+/// How many cycles pass at most until it is tried again.
+const LONGEST: u32 = 64;
+
 /// What has changed, and what has to be evaluated for it.
 #[derive(Drop)]
 pub struct Active {
@@ -136,5 +143,61 @@ impl Active {
         self.wake.give(&machine.inputs, inputs, values);
         self.wake.load(&self.changed, &machine.latches, registers, values);
         self.changed.clear();
+    }
+    // Runs a cycle, where the values are those of the one before, and evaluates few cells if few change. The answer says whether
+    // the values stand still after it.
+    pub fn run(
+        &mut self,
+        machine: &Machine,
+        inputs: &[Pulse],
+        outputs: &mut [Pulse],
+        registers: &mut [u32],
+        values: &mut [u32],
+    ) -> bool
+        requires ready { IsRunnable (length values.old) (plan_of machine.now) }
+        requires same { length registers.old ≡ length values.old }
+        requires inputs { length inputs.now ≡ length machine.now.inputs.items }
+        requires outputs { length outputs.old ≡ length machine.now.outputs.items }
+        requires numbers { All (λ p. IsWord p.value) inputs.now }
+        requires tracked { IsTracked (length values.old) machine.now.steps.items machine.now.latches.items self.old values.old registers.old }
+        requires settled { IsTrue self.old.settled }
+        ensures run { RunsThrough (plan_of machine.now) inputs.now registers.old values.new outputs.new registers.new }
+        ensures still { IsTrue result → IsStill (plan_of machine.now) registers.new values.new }
+        ensures tracked { IsTracked (length values.old) machine.now.steps.items machine.now.latches.items self.new values.new registers.new }
+        ensures noted { (p : ℕ) → Lacks self.new.wake.touched p → at values.new p ≡ at values.old p }
+    {
+        self.begin(machine, inputs, registers, values);
+        let most = machine.steps.len() / PART + LEAST;
+        if self.sweep(machine, most, values, registers) {
+            self.pause = 1;
+            show(&machine.outputs, values, outputs);
+            return self.changed.is_empty();
+        }
+        self.give_up();
+        evaluate(&machine.steps, values);
+        show(&machine.outputs, values, outputs);
+        latch(&machine.latches, values, registers);
+        false
+    }
+
+    // Gives up, where too many items were marked: no more is known of them. Each time twice as many cycles pass until it is tried
+    // again.
+    fn give_up(&mut self)
+        ensures readers { self.new.wake.readers ≡ self.old.wake.readers }
+        ensures each { length self.new.wake.marks.words.items ≡ length self.old.wake.marks.words.items }
+        ensures unmarked { AreUnmarked self.new.wake.marks.words.items }
+        ensures touched { IsTrue self.new.wake.touched.full }
+        ensures no_touched { self.new.wake.touched.places.items ≡ [] }
+        ensures changed { IsTrue self.new.changed.full }
+        ensures no_changed { self.new.changed.places.items ≡ [] }
+        ensures settled { self.new.settled ≡ self.old.settled }
+    {
+        self.wake.marks.clear();
+        self.wake.touched.spoil();
+        self.changed.spoil();
+        self.wait = self.pause;
+        if self.pause < LONGEST {
+            self.pause *= 2;
+        }
     }
 }

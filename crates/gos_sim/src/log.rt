@@ -54,4 +54,11 @@ impl Log {
         self.places.clear();
         self.full = true;
     }
+    // Whether it has no place, and had room for all.
+    pub fn is_empty(&self) -> bool
+        ensures none { IsTrue result → self.now.places.items ≡ [] }
+        ensures full { IsTrue result → IsFalse self.now.full }
+    {
+        !self.full && self.places.is_empty()
+    }
 }

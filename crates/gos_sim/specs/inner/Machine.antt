@@ -71,7 +71,8 @@ pub record IsRunnable (count : ℕ) (m : Plan) : Type 0 where
   pub steps : All (IsStepWithin count) m.steps
   pub latches : All (IsLatchWithin count) m.latches
   pub one_pin : HaveOnePin m.latches
-  pub inputs_apart : (j : ℕ) (e : EventNets) (a : ℕ) → slice_get m.inputs j ≡ Some e → Names e a → All (λ s. s.net ≢ a) m.steps
+  pub inputs_apart_from_steps : (j : ℕ) (e : EventNets) (a : ℕ) → slice_get m.inputs j ≡ Some e → Names e a → All (λ s. s.net ≢ a) m.steps
+  pub inputs_apart_from_latches : (j : ℕ) (e : EventNets) (a : ℕ) → slice_get m.inputs j ≡ Some e → Names e a → All (λ l. l.net ≢ a) m.latches
   pub apart_from_steps : (j : ℕ) (l : Latch) → slice_get m.latches j ≡ Some l → All (λ s. s.net ≢ l.net) m.steps
 
 -- The values are given and loaded: what the pulses give, and then the registers too.
