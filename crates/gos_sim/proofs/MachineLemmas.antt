@@ -84,8 +84,8 @@ module _ (net : Netlist) (m : Machine) (machine : IsMachine net m) where
 
   -- a simulator at reset is as it must be
   pub built_at_reset : (registers values before : Numbers) → registers ≡ replicate (length m.levels.items) 0 → SettlesAtReset (plan_of m) values
-      → length values ≡ length m.levels.items → length before ≡ length m.levels.items → IsBuilt net m registers values before false Reset
-  built_at_reset registers values before zeros settles values_each before_each =
+      → length values ≡ length m.levels.items → length before ≡ length m.levels.items → IsBuilt net m active registers values before false Reset
+  built_at_reset active registers values before awake fresh zeros settles values_each before_each =
       record {
         machine = machine;
         state = record {
@@ -96,4 +96,7 @@ module _ (net : Netlist) (m : Machine) (machine : IsMachine net m) where
         others = subst (HoldNothingElse net.cells) (sym (ap (by_net m.places.items) zeros ∙ machine_zeros)) (nothing_at_reset net.cells);
         stands = λ no. absurd (cc);
         came = machine_zero values settles;
+        awake = awake;
+        settled = λ yes. let never : true ≡ false = sym yes ∙ fresh in absurd (cc);
+        noted = λ yes. let never : true ≡ false = sym yes ∙ fresh in absurd (cc);
       }

@@ -1,15 +1,19 @@
 // A cycle in which little changes: only what hangs on the changes is evaluated.
-ghost use Rattle.std.specs.Prelude.{◌≡◌, ◌≢◌, ℕ, ◌+◌, ◌<◌, ◌≤◌, ◌/◌, ◌^◌, ◌⊎◌, ◌++◌, ◌∷◌, [], All, IfOk, IsFalse, IsTrue, length, set};
+ghost use Rattle.std.specs.Prelude.{◌≡◌, ◌≢◌, ℕ, ◌+◌, ◌<◌, ◌≤◌, ◌/◌, ◌^◌, ◌⊎◌, ◌++◌, ◌∷◌, [], All, IfOk, IsFalse, IsTrue, List, length, set};
 ghost use Rattle.gos_netlist.specs.Settling.{Numbers, at, shown};
 ghost use Rattle.gos_netlist.specs.Seen.{function_of};
+ghost use Rattle.gos_sim.specs.declared.program.Step.{Step};
+ghost use Rattle.gos_sim.specs.declared.program.Latch.{Latch};
 ghost use Rattle.gos_sim.specs.Cycle.{GivesAll, IsWord};
 ghost use Rattle.gos_sim.specs.inner.Program.{HasLatch, IsLatchWithin, IsStepWithin};
 ghost use Rattle.gos_sim.specs.inner.Running.{AreShown, AreTaken};
 ghost use Rattle.gos_sim.specs.inner.Marks.{AreUnmarked};
 ghost use Rattle.gos_sim.specs.inner.Readers.{ReadAll};
-ghost use Rattle.gos_sim.specs.inner.Active.{Follows, HasSwept, IsTracked, IsWake, Lacks, Stand, StandBut};
+ghost use Rattle.gos_sim.specs.inner.Active.{Follows, HasSwept, IsAwake, IsSettled, IsWake, Lacks, Stand, StandBut};
+ghost use Rattle.gos_sim.specs.inner.Past.{is_all, is_few, is_rest};
 ghost use Rattle.gos_sim.specs.inner.Machine.{HasBegun, IsRunnable, IsStill, RunsThrough, Settles, plan_of};
 
+use crate::course::Course;
 use crate::log::Log;
 use crate::machine::Machine;
 use crate::marks::Marks;
@@ -72,6 +76,112 @@ fn take_latch(changed: &mut Log, latch: &Latch, values: &[u32], registers: &mut 
 }
 
 impl Active {
+    // What is to be known of a machine of so many places, before its first cycle.
+    pub fn new(alloc: Global, machine: &Machine, count: usize) -> Result<Active, NoMemory>
+        requires steps { All (IsStepWithin count) machine.now.steps.items }
+        requires latches { All (IsLatchWithin count) machine.now.latches.items }
+        ensures fresh { IfOk result (λ active. IsFalse active.settled) }
+        ensures awake { IfOk result (λ active. IsAwake count machine.now.steps.items machine.now.latches.items active) }
+    {
+        let items = machine.steps.len().saturating_add(machine.latches.len());
+        if items > u32::MAX as usize {
+            return Err(NoMemory);
+        }
+        let room = items / PART + LEAST;
+        let readers = readers_of(alloc, count, &machine.steps, &machine.latches)?;
+        let marks = Marks::new(alloc, items / 64 + 1)?;
+        let touched = Log::new(alloc, room)?;
+        let changed = Log::new(alloc, room)?;
+        Ok(Active {
+            wake: Wake {
+                readers,
+                marks,
+                touched,
+            },
+            changed,
+            settled: false,
+            wait: 0,
+            pause: 1,
+        })
+    }
+
+    // How a cycle is run, where the values rest or not.
+    pub fn course(&self, rests: bool) -> Course
+        ensures rest { IsTrue (is_rest result) → IsTrue rests }
+        ensures few { IsTrue (is_few result) → IsTrue self.now.settled }
+    {
+        if rests {
+            Course::Rest
+        } else if self.settled && self.wait == 0 {
+            Course::Few
+        } else {
+            Course::All
+        }
+    }
+
+    // Forgets what it knows of the values, as after a reset.
+    pub fn reset(&mut self)
+        ensures fresh { IsFalse self.new.settled }
+        ensures awake { (count : ℕ) (steps : List Step) (latches : List Latch) → IsAwake count steps latches self.old → IsAwake count steps latches self.new }
+    {
+        self.wake.touched.spoil();
+        self.changed.spoil();
+        self.settled = false;
+        self.wait = 0;
+        self.pause = 1;
+    }
+
+    // After a cycle that evaluated all steps.
+    fn settle(&mut self)
+        ensures touched { IsTrue self.new.wake.touched.full }
+        ensures awake { (count : ℕ) (steps : List Step) (latches : List Latch) → IsAwake count steps latches self.old → IsAwake count steps latches self.new }
+        ensures settled { (steps : List Step) (latches : List Latch) (v registers : Numbers) → AreShown steps v → AreTaken latches v registers → IsSettled steps latches self.new v registers }
+    {
+        self.wake.touched.spoil();
+        self.changed.spoil();
+        self.settled = true;
+        self.wait = self.wait.saturating_sub(1);
+    }
+
+    // Runs a cycle. The answer says whether the values stand still after it.
+    pub fn cycle(
+        &mut self,
+        machine: &Machine,
+        course: Course,
+        inputs: &[Pulse],
+        outputs: &mut [Pulse],
+        registers: &mut [u32],
+        values: &mut [u32],
+    ) -> bool
+        requires ready { IsRunnable (length values.old) (plan_of machine.now) }
+        requires same { length registers.old ≡ length values.old }
+        requires inputs { length inputs.now ≡ length machine.now.inputs.items }
+        requires outputs { length outputs.old ≡ length machine.now.outputs.items }
+        requires numbers { All (λ p. IsWord p.value) inputs.now }
+        requires still { IsTrue (is_rest course) → IsStill (plan_of machine.now) registers.old values.old }
+        requires given { IsTrue (is_rest course) → GivesAll machine.now.inputs.items inputs.now values.old }
+        requires few { IsTrue (is_few course) → IsTrue self.old.settled }
+        requires awake { IsAwake (length values.old) machine.now.steps.items machine.now.latches.items self.old }
+        requires settled { IsFalse (is_all course) → IsTrue self.old.settled → IsSettled machine.now.steps.items machine.now.latches.items self.old values.old registers.old }
+        ensures run { RunsThrough (plan_of machine.now) inputs.now registers.old values.new outputs.new registers.new }
+        ensures still { IsTrue result → IsStill (plan_of machine.now) registers.new values.new }
+        ensures rest { IsTrue (is_rest course) → (self.new ≡ self.old) × (values.new ≡ values.old) × (registers.new ≡ registers.old) }
+        ensures few { IsTrue (is_few course) → (p : ℕ) → Lacks self.new.wake.touched p → at values.new p ≡ at values.old p }
+        ensures all { IsTrue (is_all course) → IsTrue self.new.wake.touched.full }
+        ensures awake { IsAwake (length values.old) machine.now.steps.items machine.now.latches.items self.new }
+        ensures settled { IsTrue self.new.settled → IsSettled machine.now.steps.items machine.now.latches.items self.new values.new registers.new }
+    {
+        match course {
+            Course::Rest => machine.run(inputs, outputs, registers, values, true),
+            Course::Few => self.run(machine, inputs, outputs, registers, values),
+            Course::All => {
+                let stands = machine.run(inputs, outputs, registers, values, false);
+                self.settle();
+                stands
+            }
+        }
+    }
+
     // Evaluates an item: a step into the values, or a latch into the registers.
     fn follow(&mut self, machine: &Machine, item: usize, values: &mut [u32], registers: &mut [u32])
         requires ready { IsRunnable (length values.old) (plan_of machine.now) }
@@ -131,8 +241,8 @@ impl Active {
         requires same { length registers.now ≡ length values.old }
         requires inputs { length inputs.now ≡ length machine.now.inputs.items }
         requires numbers { All (λ p. IsWord p.value) inputs.now }
-        requires tracked { IsTracked (length values.old) machine.now.steps.items machine.now.latches.items self.old values.old registers.now }
-        requires settled { IsTrue self.old.settled }
+        requires awake { IsAwake (length values.old) machine.now.steps.items machine.now.latches.items self.old }
+        requires settled { IsSettled machine.now.steps.items machine.now.latches.items self.old values.old registers.now }
         ensures wake { IsWake (length values.old) self.new.wake }
         ensures reading { ReadAll machine.now.steps.items machine.now.latches.items self.new.wake.readers }
         ensures stand { Stand machine.now.steps.items machine.now.latches.items self.new.wake.marks.words.items values.new registers.now }
@@ -159,11 +269,12 @@ impl Active {
         requires inputs { length inputs.now ≡ length machine.now.inputs.items }
         requires outputs { length outputs.old ≡ length machine.now.outputs.items }
         requires numbers { All (λ p. IsWord p.value) inputs.now }
-        requires tracked { IsTracked (length values.old) machine.now.steps.items machine.now.latches.items self.old values.old registers.old }
-        requires settled { IsTrue self.old.settled }
+        requires awake { IsAwake (length values.old) machine.now.steps.items machine.now.latches.items self.old }
+        requires settled { IsSettled machine.now.steps.items machine.now.latches.items self.old values.old registers.old }
         ensures run { RunsThrough (plan_of machine.now) inputs.now registers.old values.new outputs.new registers.new }
         ensures still { IsTrue result → IsStill (plan_of machine.now) registers.new values.new }
-        ensures tracked { IsTracked (length values.old) machine.now.steps.items machine.now.latches.items self.new values.new registers.new }
+        ensures awake { IsAwake (length values.old) machine.now.steps.items machine.now.latches.items self.new }
+        ensures settled { IsSettled machine.now.steps.items machine.now.latches.items self.new values.new registers.new }
         ensures noted { (p : ℕ) → Lacks self.new.wake.touched p → at values.new p ≡ at values.old p }
     {
         self.begin(machine, inputs, registers, values);

@@ -10,6 +10,7 @@
 #![tactic(auto)]
 
 mod active;
+mod course;
 mod event_nets;
 mod laws;
 mod log;

@@ -73,13 +73,16 @@ pub record HasSwept (steps : List Step) (latches : List Latch) (start loaded hel
   pub unchanged : AreLoadedButNoted latches active.changed registers v
   pub listed : All (HasLatch latches) active.changed.places.items
 
--- Between cycles nothing is marked; and after one that has settled, each step shows what its cell does, each register holds what
--- its pin has, and the nets of registers that aren't noted have what these hold.
-pub record IsTracked (count : ℕ) (steps : List Step) (latches : List Latch) (active : Active) (v registers : Numbers) : Type 0 where
+-- Between cycles nothing is marked.
+pub record IsAwake (count : ℕ) (steps : List Step) (latches : List Latch) (active : Active) : Type 0 where
   pub wake : IsWake count active.wake
   pub reading : ReadAll steps latches active.wake.readers
   pub unmarked : AreUnmarked active.wake.marks.words.items
   pub listed : All (HasLatch latches) active.changed.places.items
-  pub shown : IsTrue active.settled → AreShown steps v
-  pub taken : IsTrue active.settled → AreTaken latches v registers
-  pub unchanged : IsTrue active.settled → AreLoadedButNoted latches active.changed registers v
+
+-- After a cycle each step shows what its cell does, each register holds what its pin has, and the nets of the registers that aren't
+-- noted have what these hold.
+pub record IsSettled (steps : List Step) (latches : List Latch) (active : Active) (v registers : Numbers) : Type 0 where
+  pub shown : AreShown steps v
+  pub taken : AreTaken latches v registers
+  pub unchanged : AreLoadedButNoted latches active.changed registers v

@@ -7,6 +7,7 @@ use Rattle.gos_netlist.specs.Cycles.{IsRegister}
 use Rattle.gos_netlist.specs.Settling.{Numbers, at}
 use Rattle.gos_netcheck.specs.Levels.{AreLevels}
 use Rattle.gos_sim.specs.declared.event_nets.EventNets.{EventNets}
+use Rattle.gos_sim.specs.declared.active.Active.{Active}
 use Rattle.gos_sim.specs.declared.machine.Machine.{Machine}
 use Rattle.gos_sim.specs.declared.program.Step.{Step}
 use Rattle.gos_sim.specs.declared.past.Past.{Past}
@@ -19,6 +20,7 @@ use Rattle.gos_sim.specs.inner.Running.{AreLoaded, AreShown, AreTaken, HaveOnePi
 use Rattle.gos_sim.specs.inner.Order.{StepsRise}
 use Rattle.gos_sim.specs.inner.Ready.{AreApart, IsReady}
 use Rattle.gos_sim.specs.inner.Past.{HasCome, IsPast, settlings_of}
+use Rattle.gos_sim.specs.inner.Active.{IsAwake, IsSettled, Lacks}
 use Rattle.gos_sim.specs.inner.Places.{AreStepsMoved, IsNumbering, by_net, event_moved, latch_moved}
 
 -- what runs in each cycle, with the level of each cell
@@ -121,12 +123,15 @@ pub record IsState (count : ℕ) (registers values before : Numbers) : Type 0 wh
   pub before_each : length before ≡ count
 
 -- what a simulator keeps; `still` only where a cycle has come and the values stand still
-pub record IsBuilt (net : Netlist) (m : Machine) (registers values before : Numbers) (still : Bool) (past : Past) : Type 0 where
+pub record IsBuilt (net : Netlist) (m : Machine) (active : Active) (registers values before : Numbers) (still : Bool) (past : Past) : Type 0 where
   pub machine : IsMachine net m
   pub state : IsState (length m.levels.items) registers values before
   pub others : HoldNothingElse net.cells (by_net m.places.items registers)
   pub stands : IsTrue still → IsStill (plan_of m) registers values × HasCome past
   pub came : IsPast net.cells past (by_net m.places.items values) (by_net m.places.items before)
+  pub awake : IsAwake (length m.levels.items) m.steps.items m.latches.items active
+  pub settled : IsTrue active.settled → IsSettled m.steps.items m.latches.items active values registers
+  pub noted : IsTrue active.settled → (place : ℕ) → Lacks active.wake.touched place → at before place ≡ at values place
 
 -- what clauses see of it
 abbrev pub seen : Netlist → Machine → Numbers → Numbers → Numbers → Past → Simulator

@@ -21,11 +21,11 @@ load-requires-clause-loaded c =
     subst (λ (ls : List Latch). AreLoadedButNoted ls c.args.self.now.changed c.args.registers.now c.give.new.values) (sym c.deref-2.ensures.value)
     (λ j l at_j lacks.
       given l.net (λ k e at_k names. all_at (λ (m : Latch). m.net ≢ l.net) latches j l (c.requires.ready.inputs_apart_from_latches k e l.net at_k names) at_j refl)
-      ∙ c.requires.tracked.unchanged c.requires.settled j l at_j lacks)
+      ∙ c.requires.settled.unchanged j l at_j lacks)
 
 pub load-requires-clause-listed : goal.load-requires-clause-listed
 load-requires-clause-listed c =
-    subst (λ (ls : List Latch). All (HasLatch ls) c.args.self.now.changed.places.items) (sym c.deref-2.ensures.value) c.requires.tracked.listed
+    subst (λ (ls : List Latch). All (HasLatch ls) c.args.self.now.changed.places.items) (sym c.deref-2.ensures.value) c.requires.awake.listed
 
 pub returns-clause-stand : goal.returns-clause-stand
 returns-clause-stand c =
@@ -41,9 +41,9 @@ returns-clause-stand c =
     let kept : (k : ℕ) (s : Step) → slice_get steps k ≡ Some s → at c.load.new.values s.net ≡ at v s.net =
     λ k s at_k. loaded s.net (apart k s at_k)
     ∙ given s.net (λ j e at_j names. all_at (λ (t : Step). t.net ≢ s.net) steps k s (c.requires.ready.inputs_apart_from_steps j e s.net at_j names) at_k refl) in
-    stand_begun steps latches old c.load.new.self v c.load.new.values c.args.registers.now c.requires.tracked.reading
+    stand_begun steps latches old c.load.new.self v c.load.new.values c.args.registers.now c.requires.awake.reading
     (follows_on old c.give.new.self c.load.new.self v c.give.new.values c.load.new.values c.give.ensures.follows c.load.ensures.follows)
-    (c.requires.tracked.shown c.requires.settled) (c.requires.tracked.taken c.requires.settled) kept
+    c.requires.settled.shown c.requires.settled.taken kept
 
 pub returns-clause-begun : goal.returns-clause-begun
 returns-clause-begun c =
