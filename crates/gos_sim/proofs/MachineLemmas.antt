@@ -1,9 +1,10 @@
 -- The machine of a netlist runs as the netlist does, as its nets see it.
-use Rattle.std.specs.Prelude.{◌≡◌, ℕ, ◌<◌, false, List, ◌∷◌, Some, length, map, replicate, slice_get, take}
+use Rattle.std.specs.Prelude.{◌≡◌, ℕ, ◌<◌, true, false, IsFalse, List, ◌∷◌, Some, length, map, replicate, slice_get, take}
 use Rattle.std.proofs.Common.{sym, subst, ap, ◌∙◌}
 use Rattle.std.proofs.lemmas.List.{length-map, length-replicate}
 use Rattle.gos_netlist.specs.Nets.{Netlist}
 use Rattle.gos_netlist.specs.Settling.{Numbers, at}
+use Rattle.gos_sim.specs.declared.active.Active.{Active}
 use Rattle.gos_sim.specs.declared.machine.Machine.{Machine}
 use Rattle.gos_sim.specs.declared.past.Past.TheVariants.{Reset}
 use Rattle.gos_sim.specs.declared.pulse.Pulse.{Pulse}
@@ -11,6 +12,7 @@ use Rattle.gos_sim.specs.Cycle.{IsCycle, IsNextOutput, pulse_shown}
 use Rattle.gos_sim.specs.Visits.{IsZeroSettling}
 use Rattle.std.proofs.lemmas.Option.{get_or_from_slice_get}
 use Rattle.gos_sim.specs.inner.Places.{AreStepsMoved, IsNumbering, by_net, event_moved, latch_moved}
+use Rattle.gos_sim.specs.inner.Active.{IsAwake}
 use Rattle.gos_sim.specs.inner.Machine.{HoldNothingElse, IsBuilt, IsMachine, IsPlan, IsRunnable, Plan, RunsThrough, SettlesAtReset, plan_of}
 use Rattle.gos_sim.proofs.MoveLemmas.{moved_at, pulses_by_net, reset_by_net, runnable_moved, through_by_net, zeros_by_net}
 use Rattle.gos_sim.proofs.CycleLemmas.{cycle_of, next_output, nothing_at_reset, nothing_else, runnable, zero_settling}
@@ -83,7 +85,8 @@ module _ (net : Netlist) (m : Machine) (machine : IsMachine net m) where
   machine_zeros = zeros_by_net m.places.items (length m.levels.items) ∙ ap (λ (n : ℕ). replicate n 0) machine.each
 
   -- a simulator at reset is as it must be
-  pub built_at_reset : (registers values before : Numbers) → registers ≡ replicate (length m.levels.items) 0 → SettlesAtReset (plan_of m) values
+  pub built_at_reset : (active : Active) (registers values before : Numbers) → IsAwake (length m.levels.items) m.steps.items m.latches.items active → IsFalse active.settled
+      → registers ≡ replicate (length m.levels.items) 0 → SettlesAtReset (plan_of m) values
       → length values ≡ length m.levels.items → length before ≡ length m.levels.items → IsBuilt net m active registers values before false Reset
   built_at_reset active registers values before awake fresh zeros settles values_each before_each =
       record {

@@ -165,7 +165,7 @@ impl Active {
         requires settled { IsFalse (is_all course) → IsTrue self.old.settled → IsSettled machine.now.steps.items machine.now.latches.items self.old values.old registers.old }
         ensures run { RunsThrough (plan_of machine.now) inputs.now registers.old values.new outputs.new registers.new }
         ensures still { IsTrue result → IsStill (plan_of machine.now) registers.new values.new }
-        ensures rest { IsTrue (is_rest course) → (self.new ≡ self.old) × (values.new ≡ values.old) × (registers.new ≡ registers.old) }
+        ensures rest { IsTrue (is_rest course) → (self.new ≡ self.old) × (values.new ≡ values.old) }
         ensures few { IsTrue (is_few course) → (p : ℕ) → Lacks self.new.wake.touched p → at values.new p ≡ at values.old p }
         ensures all { IsTrue (is_all course) → IsTrue self.new.wake.touched.full }
         ensures awake { IsAwake (length values.old) machine.now.steps.items machine.now.latches.items self.new }
