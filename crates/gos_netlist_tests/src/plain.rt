@@ -320,11 +320,11 @@ fn shows_what_a_plain_evaluator_shows(rt: HostRuntime) {
 #[test]
 fn shows_the_same_where_few_cells_change(rt: HostRuntime) {
     let trial = Trial {
-        pairs: 400,
-        cycles: 400,
-        rarely: 20,
+        pairs: 120,
+        cycles: 80,
+        rarely: 12,
     };
-    for seed in 1..6 {
+    for seed in 1..4 {
         assert!(rt; shows_the_same(rt.alloc(), seed, trial) == Some(true));
     }
 }

@@ -1,15 +1,19 @@
--- Levels counted step by step; and that the levels of a netlist's steps are those of its cells.
+-- Levels counted one after another, each by its chain of nets.
 use Rattle.std.specs.Prelude.{◌≡◌, ◌≢◌, ℕ, zero, suc, ◌+◌, ◌<◌, ◌≤◌, ◌⊎◌, ◌||◌, Bool, true, false, IsTrue, IsFalse, List, [], ◌∷◌, Contains, Some, slice_get, length}
 use Rattle.std.proofs.Common.{arith, refl, sym, ap, subst, inl, inr, ◌∙◌}
+use Rattle.std.proofs.Math.Nat.{eq-or-lt_of_le}
 use Rattle.std.proofs.lemmas.Bool.{cases_order}
 use Rattle.std.proofs.lemmas.Bool.Decides.{nat_tests}
-use Rattle.std.proofs.lemmas.Option.{slice_get_within}
+use Rattle.std.proofs.lemmas.List.Elements.{All-get_or}
+use Rattle.std.proofs.lemmas.Option.{slice_get-get_or, slice_get_within}
+use Rattle.gos_netlist.specs.Nets.{Cell, pins}
 use Rattle.gos_netlist.specs.Cycles.{Distinct}
 use Rattle.gos_netlist.specs.Settling.{Numbers, at}
-use Rattle.gos_sim.specs.declared.program.Step.{Step}
-use Rattle.gos_sim.specs.inner.Program.{reads}
-use Rattle.gos_sim.specs.inner.Order.{StepsRise}
-use Rattle.gos_sim.specs.inner.Counting.{AreVisited, IsVisitedByStep, has_changed, one_has_changed}
+use Rattle.gos_netcheck.specs.Levels.{AreLevels}
+use Rattle.gos_sim.specs.declared.chains.Chains.{Chains}
+use Rattle.gos_sim.specs.Visits.{IsVisited, VisitsLevels}
+use Rattle.gos_sim.specs.inner.Chains.{IsLast}
+use Rattle.gos_sim.specs.inner.Counting.{ChainLevels, CountsVisited, HasVisit, LacksVisit, has_changed, one_has_changed}
 use Rattle.gos_sim.proofs.PlaceLemmas.{same_element}
 
 -- what the tests say
@@ -51,136 +55,169 @@ no_change before values (b ∷ c ∷ ns) h a (zero, low, is) apart =
 no_change before values (b ∷ c ∷ ns) h a (suc k, low, is) apart =
     no_change before values (c ∷ ns) (neither (has_changed before values b) (one_has_changed before values (c ∷ ns)) h).1 a (k, omega (arith, low), is) apart
 
--- the levels of the steps before place i are counted, and none of them is above the top, which is the last that was counted
-pub record AreCounted (steps : List Step) (levels before values : Numbers) (i count top : ℕ) : Type 0 where
+-- The nets from a place on of a level, whatever levels are chained, read nothing that differs; and the link leads to the level's next one.
+pub record IsQuietFrom (chains : Chains) (levels : Numbers) (cells : List Cell) (before values : Numbers) (level link : ℕ) : Type 0 where
+  pub here : (n : ℕ) → link ≡ n + 1 → at levels n ≡ level
+  pub quiet : (n : ℕ) (c : Cell) → link ≤ n → slice_get cells n ≡ Some c → at levels n ≡ level → IsFalse (one_has_changed before values (pins c.gate))
+
+abbrev pub AreQuiet : Chains → List Cell → Numbers → Numbers → ℕ → ℕ → Type 0
+AreQuiet chains cells before values level link =
+    (levels : Numbers) → length levels ≡ length cells → ChainLevels chains levels → IsQuietFrom chains levels cells before values level link
+
+at_level : (levels : Numbers) (n level : ℕ) → n < length levels → at levels n ≡ level → slice_get levels n ≡ Some level
+at_level levels n level below is = slice_get-get_or levels n 0 below ∙ ap Some is
+
+-- the chain of a level begins behind all its nets
+pub quiet_at_end : (chains : Chains) (cells : List Cell) (before values : Numbers) (level link : ℕ) → level < length chains.heads.items → link ≡ at chains.heads.items level
+    → AreQuiet chains cells before values level link
+quiet_at_end chains cells before values level link below is = λ levels each chained.
+    let last : IsLast (λ l. l) levels level (length levels) link = subst (IsLast (λ l. l) levels level (length levels)) (sym is) (chained.chained.ends level below) in
+    record {
+      here = λ n e. let low : n < length levels = omega (arith, last.within, e) in last.last n (at levels n) e (slice_get-get_or levels n 0 low);
+      quiet = λ n c past at_n stands.
+          let low : n < length levels = let inside = slice_get_within cells n c at_n in omega (arith, inside, each) in
+          absurd (last.lacks n level past low (at_level levels n level low stands) refl);
+    }
+
+-- a net more is quiet
+pub quiet_more : (chains : Chains) (cells : List Cell) (before values : Numbers) (level net link : ℕ) (c : Cell) → slice_get cells net ≡ Some c
+    → IsFalse (one_has_changed before values (pins c.gate)) → link ≡ at chains.next.items net → AreQuiet chains cells before values level (net + 1)
+    → AreQuiet chains cells before values level link
+quiet_more chains cells before values level net link c at_net none is h = λ levels each chained. more levels each chained (h levels each chained)
+  where
+    more : (levels : Numbers) → length levels ≡ length cells → ChainLevels chains levels → IsQuietFrom chains levels cells before values level (net + 1)
+        → IsQuietFrom chains levels cells before values level link
+    more levels each chained now =
+        record {
+          here = λ n e. let low : n < length levels = omega (arith, last.within, e, below) in last.last n (at levels n) e (slice_get-get_or levels n 0 low);
+          quiet = λ n d past at_n stands. by_place n d past at_n stands (cases_order n net);
+        }
+      where
+        below : net < length levels
+        below = let inside = slice_get_within cells net c at_net in omega (arith, inside, each)
+
+        stands : at levels net ≡ level
+        stands = now.here net refl
+
+        last : IsLast (λ l. l) levels level net link
+        last = subst (IsLast (λ l. l) levels level net) (sym is) (chained.chained.links net level below (at_level levels net level below stands))
+
+        by_place : (n : ℕ) (d : Cell) → link ≤ n → slice_get cells n ≡ Some d → at levels n ≡ level → (n ≡ net) ⊎ ((n < net) ⊎ (net < n))
+            → IsFalse (one_has_changed before values (pins d.gate))
+        by_place n d past at_n same (inl e) =
+            let one : c ≡ d = same_element cells net c d at_net (subst (λ (m : ℕ). slice_get cells m ≡ Some d) e at_n) in
+            subst (λ (x : Cell). IsFalse (one_has_changed before values (pins x.gate))) one none
+        by_place n d past at_n same (inr (inl less)) =
+            let low : n < length levels = omega (arith, less, below) in
+            absurd (last.lacks n level past less (at_level levels n level low same) refl)
+        by_place n d past at_n same (inr (inr greater)) = now.quiet n d (omega (arith, greater)) at_n same
+
+-- all nets of a level are quiet
+pub lacks_visit : (chains : Chains) (cells : List Cell) (before values : Numbers) (level link : ℕ) → link ≤ 0 → AreQuiet chains cells before values level link
+    → LacksVisit chains cells before values level
+lacks_visit chains cells before values level link none h = λ levels each chained seen.
+    let quiet = (h levels each chained).quiet seen.net seen.cell (omega (arith, none)) seen.is seen.stands in
+    no_change before values (pins seen.cell.gate) quiet seen.pin seen.reads seen.differs
+
+-- a net of the level isn't
+pub has_visit : (chains : Chains) (cells : List Cell) (before values : Numbers) (level net : ℕ) (c : Cell) → slice_get cells net ≡ Some c
+    → IsTrue (one_has_changed before values (pins c.gate)) → AreQuiet chains cells before values level (net + 1) → HasVisit chains cells before values level
+has_visit chains cells before values level net c at_net changed h = λ levels each chained above.
+    let found = change_of before values (pins c.gate) changed in
+    record {
+      net = net;
+      cell = c;
+      pin = found.pin;
+      is = at_net;
+      stands = (h levels each chained).here net refl;
+      above = above;
+      reads = found.among;
+      differs = found.differs;
+    }
+
+-- the levels above 0 and below one are counted
+pub record AreCounted (cells : List Cell) (levels before values : Numbers) (i count : ℕ) : Type 0 where
   pub visited : List ℕ
   pub distinct : Distinct visited
   pub counted : length visited ≡ count
-  pub within : count ≤ i
-  pub low : (l : ℕ) → Contains visited l → l ≤ top
-  pub last : (top ≡ 0) ⊎ Contains visited top
-  pub sound : (l : ℕ) → Contains visited l → (seen : IsVisitedByStep steps levels before values l) × (seen.place < i)
-  pub whole : (l : ℕ) (seen : IsVisitedByStep steps levels before values l) → seen.place < i → Contains visited l
+  pub sound : (l : ℕ) → Contains visited l → IsVisited cells levels before values l × (l < i)
+  pub whole : (l : ℕ) → IsVisited cells levels before values l → l < i → Contains visited l
 
-module _ (steps : List Step) (levels before values : Numbers) (rise : StepsRise levels steps) where
-  pub none_counted : AreCounted steps levels before values 0 0 0
-  none_counted =
-      record {
-        visited = [];
-        distinct = tt;
-        counted = refl;
-        within = omega arith;
-        low = λ l has. absurd (omega (arith, has.1));
-        last = inl refl;
-        sound = λ l has. absurd (omega (arith, has.1));
-        whole = λ l seen below. absurd (omega (arith, below));
-      }
+abbrev pub CountsBefore : Chains → List Cell → Numbers → Numbers → ℕ → ℕ → Type 0
+CountsBefore chains cells before values i count =
+    (levels : Numbers) → length levels ≡ length cells → ChainLevels chains levels → AreCounted cells levels before values i count
 
-  -- a level more
-  pub one_counted : (i count top : ℕ) (s : Step) → slice_get steps i ≡ Some s → top < at levels s.net → IsTrue (one_has_changed before values (reads s))
-      → AreCounted steps levels before values i count top → AreCounted steps levels before values (i + 1) (count + 1) (at levels s.net)
-  one_counted i count top s is above changed h =
-      record {
-        visited = level ∷ h.visited;
-        distinct = ((λ has. omega (arith, above, h.low level has)), h.distinct);
-        counted = omega (arith, h.counted);
-        within = omega (arith, h.within);
-        low = low;
-        last = inr (0, omega arith, refl);
-        sound = sound;
-        whole = whole;
-      }
-    where
-      level : ℕ
-      level = at levels s.net
+pub counts_none : (chains : Chains) (cells : List Cell) (before values : Numbers) → CountsBefore chains cells before values 1 0
+counts_none chains cells before values = λ levels each chained.
+    record {
+      visited = [];
+      distinct = tt;
+      counted = refl;
+      sound = λ l has. absurd (omega (arith, has.1));
+      whole = λ l seen low. absurd (omega (arith, low, seen.above));
+    }
 
-      found : HasChange before values (reads s)
-      found = change_of before values (reads s) changed
+pub counts_one : (chains : Chains) (cells : List Cell) (before values : Numbers) (i count : ℕ) → 0 < i → HasVisit chains cells before values i
+    → CountsBefore chains cells before values i count → CountsBefore chains cells before values (i + 1) (count + 1)
+counts_one chains cells before values i count above has h = λ levels each chained. more levels (has levels each chained above) (h levels each chained)
+  where
+    more : (levels : Numbers) → IsVisited cells levels before values i → AreCounted cells levels before values i count → AreCounted cells levels before values (i + 1) (count + 1)
+    more levels here now =
+        record {
+          visited = i ∷ now.visited;
+          distinct = ((λ has. let low = (now.sound i has).1 in omega (arith, low)), now.distinct);
+          counted = omega (arith, now.counted);
+          sound = sound;
+          whole = λ l seen low. by_level l seen (eq-or-lt_of_le {n = l} {m = i} (omega (arith, low)));
+        }
+      where
+        sound : (l : ℕ) → Contains (i ∷ now.visited) l → IsVisited cells levels before values l × (l < i + 1)
+        sound l (zero, inside, same) =
+            let P : ℕ → Type 0 = λ n. IsVisited cells levels before values n × (n < i + 1) in
+            subst P same (here, omega arith)
+        sound l (suc k, inside, same) = let (seen, low) = now.sound l (k, omega (arith, inside), same) in (seen, omega (arith, low))
 
-      low : (l : ℕ) → Contains (at levels s.net ∷ h.visited) l → l ≤ at levels s.net
-      low l (zero, inside, same) = omega (arith, same)
-      low l (suc k, inside, same) = let below = h.low l (k, omega (arith, inside), same) in omega (arith, below, above)
+        by_level : (l : ℕ) → IsVisited cells levels before values l → (l ≡ i) ⊎ (l < i) → Contains (i ∷ now.visited) l
+        by_level l seen (inl e) = (zero, omega arith, sym e)
+        by_level l seen (inr less) = let found = now.whole l seen less in (suc found.0, omega (arith, found.1), found.2)
 
-      here : IsVisitedByStep steps levels before values (at levels s.net)
-      here = record { place = i; step = s; pin = found.pin; is = is; stands = refl; above = omega (arith, above); reads = found.among; differs = found.differs }
+pub counts_not : (chains : Chains) (cells : List Cell) (before values : Numbers) (i count : ℕ) → LacksVisit chains cells before values i
+    → CountsBefore chains cells before values i count → CountsBefore chains cells before values (i + 1) count
+counts_not chains cells before values i count lacks h = λ levels each chained. more levels (lacks levels each chained) (h levels each chained)
+  where
+    more : (levels : Numbers) → (IsVisited cells levels before values i → ⊥) → AreCounted cells levels before values i count → AreCounted cells levels before values (i + 1) count
+    more levels never now =
+        record {
+          visited = now.visited;
+          distinct = now.distinct;
+          counted = now.counted;
+          sound = λ l has. let (seen, low) = now.sound l has in (seen, omega (arith, low));
+          whole = λ l seen low. by_level l seen (eq-or-lt_of_le {n = l} {m = i} (omega (arith, low)));
+        }
+      where
+        by_level : (l : ℕ) → IsVisited cells levels before values l → (l ≡ i) ⊎ (l < i) → Contains now.visited l
+        by_level l seen (inl e) = absurd (never (subst (λ (n : ℕ). IsVisited cells levels before values n) e seen))
+        by_level l seen (inr less) = now.whole l seen less
 
-      sound : (l : ℕ) → Contains (at levels s.net ∷ h.visited) l → (seen : IsVisitedByStep steps levels before values l) × (seen.place < i + 1)
-      sound l (zero, inside, same) =
-          let P : ℕ → Type 0 = λ n. (seen : IsVisitedByStep steps levels before values n) × (seen.place < i + 1) in
-          subst P same (here, omega arith)
-      sound l (suc k, inside, same) = let (seen, earlier) = h.sound l (k, omega (arith, inside), same) in (seen, omega (arith, earlier))
-
-      whole : (l : ℕ) (seen : IsVisitedByStep steps levels before values l) → seen.place < i + 1 → Contains (at levels s.net ∷ h.visited) l
-      whole l seen earlier = by_place (cases_order seen.place i)
-        where
-          by_place : (seen.place ≡ i) ⊎ ((seen.place < i) ⊎ (i < seen.place)) → Contains (at levels s.net ∷ h.visited) l
-          by_place (inl same) =
-              let P : ℕ → Type 0 = λ k. slice_get steps k ≡ Some seen.step in
-              let one : s ≡ seen.step = same_element steps i s seen.step is (subst P same seen.is) in
-              (0, omega arith, ap (λ (t : Step). at levels t.net) one ∙ seen.stands)
-          by_place (inr (inl less)) = let has = h.whole l seen less in (suc has.0, omega (arith, has.1), has.2)
-          by_place (inr (inr more)) = absurd (omega (arith, more, earlier))
-
-  -- a step whose level is counted already, or which reads nothing that differs
-  pub not_counted : (i count top : ℕ) (s : Step) → slice_get steps i ≡ Some s → (top < at levels s.net → IsFalse (one_has_changed before values (reads s)))
-      → AreCounted steps levels before values i count top → AreCounted steps levels before values (i + 1) count top
-  not_counted i count top s is not_above h =
-      record {
-        visited = h.visited;
-        distinct = h.distinct;
-        counted = h.counted;
-        within = omega (arith, h.within);
-        low = h.low;
-        last = h.last;
-        sound = λ l has. let (seen, earlier) = h.sound l has in (seen, omega (arith, earlier));
-        whole = whole;
-      }
-    where
-      -- no step here is below the top
-      top_low : at levels s.net < top → ⊥
-      top_low below = by_top h.last
-        where
-          by_top : (top ≡ 0) ⊎ Contains h.visited top → ⊥
-          by_top (inl none) = omega (arith, below, none)
-          by_top (inr has) =
-              let (seen, earlier) = h.sound top has in
-              let up = rise seen.place i seen.step s seen.is is (omega (arith, earlier)) in
-              omega (arith, up, seen.stands, below)
-
-      newest : (l : ℕ) (seen : IsVisitedByStep steps levels before values l) → s ≡ seen.step → Contains h.visited l
-      newest l seen one = by_order (cases_order (at levels s.net) top)
-        where
-          stands : at levels s.net ≡ l
-          stands = ap (λ (t : Step). at levels t.net) one ∙ seen.stands
-
-          at_top : (top ≡ 0) ⊎ Contains h.visited top → at levels s.net ≡ top → Contains h.visited l
-          at_top (inl none) same = absurd (omega (arith, none, same, stands, seen.above))
-          at_top (inr has) same = let P : ℕ → Type 0 = Contains h.visited in subst P (sym same ∙ stands) has
-
-          by_order : (at levels s.net ≡ top) ⊎ ((at levels s.net < top) ⊎ (top < at levels s.net)) → Contains h.visited l
-          by_order (inl same) = at_top h.last same
-          by_order (inr (inl less)) = absurd (top_low less)
-          by_order (inr (inr more)) =
-              let Q : Step → Type 0 = λ t. Contains (reads t) seen.pin in
-              absurd (no_change before values (reads s) (not_above more) seen.pin (subst Q (sym one) seen.reads) seen.differs)
-
-      whole : (l : ℕ) (seen : IsVisitedByStep steps levels before values l) → seen.place < i + 1 → Contains h.visited l
-      whole l seen earlier = by_place (cases_order seen.place i)
-        where
-          by_place : (seen.place ≡ i) ⊎ ((seen.place < i) ⊎ (i < seen.place)) → Contains h.visited l
-          by_place (inl same) =
-              let P : ℕ → Type 0 = λ k. slice_get steps k ≡ Some seen.step in
-              newest l seen (same_element steps i s seen.step is (subst P same seen.is))
-          by_place (inr (inl less)) = h.whole l seen less
-          by_place (inr (inr more)) = absurd (omega (arith, more, earlier))
-
-  -- all steps
-  pub all_counted : (i count top : ℕ) → length steps ≤ i → AreCounted steps levels before values i count top → AreVisited steps levels before values count
-  all_counted i count top end h =
-      record {
-        visited = h.visited;
-        distinct = h.distinct;
-        counted = h.counted;
-        sound = λ l has. (h.sound l has).0;
-        whole = λ l seen. h.whole l seen (omega (arith, end, slice_get_within steps seen.place seen.step seen.is));
-      }
+-- all levels
+pub counts_all : (chains : Chains) (cells : List Cell) (before values : Numbers) (i count : ℕ) → length chains.heads.items ≤ i
+    → CountsBefore chains cells before values i count → CountsVisited chains cells before values count
+counts_all chains cells before values i count end h = λ levels leveled chained. all levels leveled chained (h levels leveled.each chained)
+  where
+    all : (levels : Numbers) → AreLevels cells levels → ChainLevels chains levels → AreCounted cells levels before values i count → VisitsLevels cells before values count
+    all levels leveled chained now =
+        record {
+          levels = levels;
+          leveled = leveled;
+          visited = now.visited;
+          distinct = now.distinct;
+          counted = now.counted;
+          sound = λ l has. (now.sound l has).0;
+          whole = λ l seen. now.whole l seen (low l seen);
+        }
+      where
+        low : (l : ℕ) → IsVisited cells levels before values l → l < i
+        low l seen =
+            let inside = slice_get_within cells seen.net seen.cell seen.is in
+            let below : at levels seen.net < length chains.heads.items = All-get_or (λ l. l < length chains.heads.items) levels seen.net 0 (omega (arith, inside, leveled.each)) chained.within in
+            omega (arith, below, seen.stands, end)

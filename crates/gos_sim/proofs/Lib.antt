@@ -10,10 +10,12 @@ pub mod ProgramLemmas
 pub mod LevelLemmas
 pub mod OrderLemmas
 pub mod SweepLemmas
+pub mod ChainLemmas
 pub mod CountingLemmas
 pub mod RegisterLemmas
 pub mod NumberLemmas
 pub mod MoveLemmas
+pub mod EvaluationLemmas
 pub mod CycleLemmas
 pub mod MachineLemmas
 pub mod PastLemmas

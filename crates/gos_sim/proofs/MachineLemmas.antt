@@ -1,5 +1,5 @@
 -- The machine of a netlist runs as the netlist does, as its nets see it.
-use Rattle.std.specs.Prelude.{◌≡◌, ℕ, ◌<◌, true, false, IsFalse, List, ◌∷◌, Some, length, map, replicate, slice_get, take}
+use Rattle.std.specs.Prelude.{◌≡◌, ℕ, true, false, IsFalse, List, ◌∷◌, length, map, replicate, take}
 use Rattle.std.proofs.Common.{sym, subst, ap, ◌∙◌}
 use Rattle.std.proofs.lemmas.List.{length-map, length-replicate}
 use Rattle.gos_netlist.specs.Nets.{Netlist}
@@ -9,33 +9,33 @@ use Rattle.gos_sim.specs.declared.machine.Machine.{Machine}
 use Rattle.gos_sim.specs.declared.past.Past.TheVariants.{Reset}
 use Rattle.gos_sim.specs.declared.pulse.Pulse.{Pulse}
 use Rattle.gos_sim.specs.Cycle.{IsCycle, IsNextOutput, pulse_shown}
+use Rattle.gos_netcheck.specs.Levels.{AreLevels}
 use Rattle.gos_sim.specs.Visits.{IsZeroSettling}
-use Rattle.std.proofs.lemmas.Option.{get_or_from_slice_get}
+use Rattle.gos_sim.specs.inner.Counting.{ChainLevels}
 use Rattle.gos_sim.specs.inner.Places.{AreStepsMoved, IsNumbering, by_net, event_moved, latch_moved}
 use Rattle.gos_sim.specs.inner.Active.{IsAwake}
 use Rattle.gos_sim.specs.inner.Machine.{HoldNothingElse, IsBuilt, IsMachine, IsPlan, IsRunnable, Plan, RunsThrough, SettlesAtReset, plan_of}
-use Rattle.gos_sim.proofs.MoveLemmas.{moved_at, pulses_by_net, reset_by_net, runnable_moved, through_by_net, zeros_by_net}
+use Rattle.gos_sim.proofs.MoveLemmas.{pulses_by_net, reset_by_net, runnable_moved, through_by_net, zeros_by_net}
 use Rattle.gos_sim.proofs.CycleLemmas.{cycle_of, next_output, nothing_at_reset, nothing_else, runnable, zero_settling}
 
 -- a machine that is made of a netlist's events, steps, latches and levels, by places that number its nets
-pub machine_made : (net : Netlist) (m : Machine) (plan : Plan) (nets : Numbers) → IsPlan net plan → length m.places.items ≡ length net.cells
-    → IsNumbering m.places.items (length nets) → ((n : ℕ) → n < length net.cells → slice_get nets (at m.places.items n) ≡ Some n)
+pub machine_made : (net : Netlist) (m : Machine) (plan : Plan) (levels : Numbers) → IsPlan net plan → length m.places.items ≡ length net.cells
+    → IsNumbering m.places.items m.count
     → m.inputs.items ≡ map (event_moved (at m.places.items)) plan.inputs → m.outputs.items ≡ map (event_moved (at m.places.items)) plan.outputs
-    → AreStepsMoved (at m.places.items) plan.steps m.steps.items → m.latches.items ≡ map (latch_moved (at m.places.items)) plan.latches
-    → m.levels.items ≡ map (at plan.levels) nets → IsMachine net m
-machine_made net m plan nets of_net each numbering stands inputs outputs steps latches levels =
+    → AreStepsMoved (at m.places.items) plan.steps m.program → m.latches.items ≡ map (latch_moved (at m.places.items)) plan.latches
+    → AreLevels net.cells levels → ChainLevels m.levels levels → m.steps.items ≡ m.program → IsMachine net m
+machine_made net m plan levels of_net each numbering inputs outputs steps latches leveled chained listed =
     record {
       plan = plan;
       of_net = of_net;
       each = each;
-      numbering = subst (IsNumbering m.places.items) (sym (ap length levels ∙ length-map nets (at plan.levels))) numbering;
-      moved = record { inputs = inputs; outputs = outputs; steps = steps; latches = latches; levels = level };
+      numbering = numbering;
+      moved = record { inputs = inputs; outputs = outputs; steps = steps; latches = latches };
+      levels = levels;
+      leveled = leveled;
+      chained = chained;
+      listed = listed;
     }
-  where
-    level : (n : ℕ) → n < length m.places.items → at m.levels.items (at m.places.items n) ≡ at plan.levels n
-    level n below =
-        let there = moved_at (at plan.levels) nets (at m.places.items n) n (stands n (subst (λ (k : ℕ). n < k) each below)) in
-        ap (λ (ls : Numbers). at ls (at m.places.items n)) levels ∙ get_or_from_slice_get (map (at plan.levels) nets) (at m.places.items n) (at plan.levels n) 0 there
 
 module _ (net : Netlist) (m : Machine) (machine : IsMachine net m) where
   runs_of_net : IsRunnable (length m.places.items) machine.plan
@@ -46,11 +46,11 @@ module _ (net : Netlist) (m : Machine) (machine : IsMachine net m) where
 
   through : (given seen : List Pulse) (held v after : Numbers) → RunsThrough (plan_of m) given held v seen after
       → RunsThrough machine.plan given (by_net m.places.items held) (by_net m.places.items v) seen (by_net m.places.items after)
-  through = through_by_net m.places.items (length m.levels.items) machine.plan (plan_of m) machine.moved machine.numbering runs_of_net
+  through = through_by_net m.places.items m.count machine.plan (plan_of m) machine.moved machine.numbering runs_of_net
 
   -- it can run over its places
-  pub machine_runnable : IsRunnable (length m.levels.items) (plan_of m)
-  machine_runnable = runnable_moved m.places.items (length m.levels.items) machine.plan (plan_of m) machine.moved machine.numbering runs_of_net
+  pub machine_runnable : IsRunnable m.count (plan_of m)
+  machine_runnable = runnable_moved m.places.items m.count machine.plan (plan_of m) machine.moved machine.numbering runs_of_net
 
   -- a cycle through it is one of the netlist
   pub machine_cycle : (held values after : Numbers) (settlings : List Numbers) (inputs outputs : List Pulse) → HoldNothingElse net.cells (by_net m.places.items held)
@@ -78,21 +78,21 @@ module _ (net : Netlist) (m : Machine) (machine : IsMachine net m) where
   pub machine_zero : (values : Numbers) → SettlesAtReset (plan_of m) values → IsZeroSettling net.cells (by_net m.places.items values)
   machine_zero values settles =
       zero_settling net machine.plan (by_net m.places.items values) machine.of_net
-      (reset_by_net m.places.items (length m.levels.items) machine.plan (plan_of m) machine.moved machine.numbering runs_of_net values settles) (long values)
+      (reset_by_net m.places.items m.count machine.plan (plan_of m) machine.moved machine.numbering runs_of_net values settles) (long values)
 
   -- registers at reset are 0 at each net
-  pub machine_zeros : by_net m.places.items (replicate (length m.levels.items) 0) ≡ replicate (length net.cells) 0
-  machine_zeros = zeros_by_net m.places.items (length m.levels.items) ∙ ap (λ (n : ℕ). replicate n 0) machine.each
+  pub machine_zeros : by_net m.places.items (replicate m.count 0) ≡ replicate (length net.cells) 0
+  machine_zeros = zeros_by_net m.places.items m.count ∙ ap (λ (n : ℕ). replicate n 0) machine.each
 
   -- a simulator at reset is as it must be
-  pub built_at_reset : (active : Active) (registers values before : Numbers) → IsAwake (length m.levels.items) m.steps.items m.latches.items active → IsFalse active.settled
-      → registers ≡ replicate (length m.levels.items) 0 → SettlesAtReset (plan_of m) values
-      → length values ≡ length m.levels.items → length before ≡ length m.levels.items → IsBuilt net m active registers values before false Reset
+  pub built_at_reset : (active : Active) (registers values before : Numbers) → IsAwake m.count m.program m.latches.items active → IsFalse active.settled
+      → registers ≡ replicate m.count 0 → SettlesAtReset (plan_of m) values
+      → length values ≡ m.count → length before ≡ m.count → IsBuilt net m active registers values before false Reset
   built_at_reset active registers values before awake fresh zeros settles values_each before_each =
       record {
         machine = machine;
         state = record {
-          registers_each = ap length zeros ∙ length-replicate (length m.levels.items) 0;
+          registers_each = ap length zeros ∙ length-replicate m.count 0;
           values_each = values_each;
           before_each = before_each;
         };

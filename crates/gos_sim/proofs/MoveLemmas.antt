@@ -1,11 +1,11 @@
 -- Plans of nets, and the same ones at the places of these nets.
-use Rattle.std.specs.Prelude.{◌≡◌, ◌≢◌, ℕ, zero, suc, ◌<◌, ◌≤◌, ◌⊎◌, List, [], ◌∷◌, ◌++◌, All, Option, Some, None, get_or, length, map, nat_eq, replicate, slice_get}
+use Rattle.std.specs.Prelude.{◌≡◌, ◌≢◌, ℕ, suc, ◌<◌, ◌≤◌, ◌⊎◌, List, [], ◌∷◌, ◌++◌, All, Option, Some, None, get_or, length, map, nat_eq, replicate, slice_get}
 use Rattle.std.specs.Option.{option_map}
 use Rattle.std.proofs.Common.{arith, refl, sym, ap, subst, inl, inr, ◌∙◌}
 use Rattle.std.proofs.lemmas.Bool.{cases_order}
 use Rattle.std.proofs.lemmas.List.{length-map, get_or-replicate, get_or_past, length-replicate, ext_get_or}
 use Rattle.std.proofs.lemmas.List.Elements.{All-contains, All-map, All-weaker}
-use Rattle.std.proofs.lemmas.Option.{slice_get-map, slice_get-get_or, slice_get_within, get_or_from_slice_get}
+use Rattle.std.proofs.lemmas.Option.{slice_get-get_or, slice_get_within, get_or_from_slice_get}
 use Rattle.gos_netlist.specs.declared.nets.Gate.TheVariants as gates
 use Rattle.gos_netlist.specs.Nets.{Function, Input, Const, Not, And, Or, Xor, Mux, Add, Sub, Eq, Less, Gate, Reg, Cell, pins}
 use Rattle.gos_netlist.specs.Seen.{function_of}
@@ -20,24 +20,11 @@ use Rattle.gos_sim.specs.Cycle.{Gives, GivesAll, HasNumber, number_shown, pulse_
 use Rattle.gos_sim.specs.inner.Program.{IsLatchWithin, IsShort, IsStepWithin, Spares, cell_of_step, reads}
 use Rattle.gos_sim.specs.inner.Running.{AreLoaded, AreShown, AreTaken, HaveOnePin, KeepsOtherSteps, KeepsOthers}
 use Rattle.gos_sim.specs.inner.Ready.{AreApart, AreTwo}
+use Rattle.gos_sim.specs.inner.Evaluation.{bits_of}
 use Rattle.gos_sim.specs.inner.Places.{AreStepsMoved, IsNumbering, IsStepMoved, by_net, event_moved, latch_moved, moved}
 use Rattle.gos_sim.specs.inner.Machine.{IsMoved, IsRunnable, Plan, RunsThrough, SettlesAtReset}
-use Rattle.gos_sim.proofs.PlaceLemmas.{all_at, same_element}
+use Rattle.gos_sim.proofs.PlaceLemmas.{all_at, all_of_at, moved_at, moved_from, same_element}
 use Rattle.gos_sim.proofs.ProgramLemmas.{pushed}
-
--- what holds at each place of a list holds of all that is in it
-pub all_of_at : {A : Type 0} (P : A → Type 0) (xs : List A) → ((k : ℕ) (x : A) → slice_get xs k ≡ Some x → P x) → All P xs
-all_of_at P xs each = λ k d below. each k (get_or xs k d) (slice_get-get_or xs k d below)
-
--- what stands in a list stands in its image
-pub moved_at : {A B : Type 0} (f : A → B) (xs : List A) (k : ℕ) (x : A) → slice_get xs k ≡ Some x → slice_get (map f xs) k ≡ Some (f x)
-moved_at f xs k x is = slice_get-map f xs k ∙ ap (option_map f) is
-
--- and what stands in the image is of what stands in the list
-pub moved_from : {A B : Type 0} (f : A → B) (xs : List A) (k : ℕ) (y : B) → slice_get (map f xs) k ≡ Some y → (x : A) × (slice_get xs k ≡ Some x) × (f x ≡ y)
-moved_from f [] k y is = absurd (cc)
-moved_from f (x ∷ xs) zero y is = (x, refl, cc)
-moved_from f (x ∷ xs) (suc k) y is = moved_from f xs k y is
 
 -- the value of a net is the one at its place
 pub at_by_net : (places v : Numbers) (n : ℕ) → n < length places → at (by_net places v) n ≡ at v (at places n)
@@ -162,6 +149,37 @@ steps_more p old new k s t long is m before = λ j u w at_u at_w. by_place j u w
 pub reads_moved : (p : ℕ → ℕ) (s t : Step) → IsStepMoved p s t → reads t ≡ map p (reads s)
 reads_moved p s t m = ap pins m.gate ∙ pins_moved p (function_of s.gate)
 
+-- bits that don't matter change nothing of what is shown
+shown_bits : (w : ℕ) (p : ℕ → ℕ) (f : Function) (v : ℕ → ℕ) → shown (bits_of f w) (moved p f) 0 0 v ≡ shown w (moved p f) 0 0 v
+shown_bits w p Input v = refl
+shown_bits w p (Const k) v = refl
+shown_bits w p (Not a) v = refl
+shown_bits w p (And a b) v = refl
+shown_bits w p (Or a b) v = refl
+shown_bits w p (Xor a b) v = refl
+shown_bits w p (Mux s a b) v = refl
+shown_bits w p (Add a b) v = refl
+shown_bits w p (Sub a b) v = refl
+shown_bits w p (Eq a b) v = refl
+shown_bits w p (Less a b) v = refl
+shown_bits w p (Gate s a) v = refl
+shown_bits w p (Reg a) v = refl
+
+bits_small : (f : Function) (w : ℕ) → w ≤ 32 → bits_of f w ≤ 32
+bits_small Input w h = omega arith
+bits_small (Const k) w h = omega arith
+bits_small (Not a) w h = h
+bits_small (And a b) w h = omega arith
+bits_small (Or a b) w h = omega arith
+bits_small (Xor a b) w h = omega arith
+bits_small (Mux s a b) w h = omega arith
+bits_small (Add a b) w h = h
+bits_small (Sub a b) w h = h
+bits_small (Eq a b) w h = omega arith
+bits_small (Less a b) w h = omega arith
+bits_small (Gate s a) w h = omega arith
+bits_small (Reg a) w h = omega arith
+
 -- steps show at places what they show at nets
 shown_by_net : (places v : Numbers) (old new : List Step) → AreStepsMoved (at places) old new → All (IsStepWithin (length places)) old → AreShown new v
     → AreShown old (by_net places v)
@@ -172,9 +190,10 @@ shown_by_net places v old new are within all = λ j s is.
     ∙ (ap (at v) (sym m.net)
     ∙ (all j t at_t
     ∙ ((λ i. shown (m.width i) (m.gate i) 0 0 (at v))
+    ∙ (shown_bits s.width (at places) (function_of s.gate) (at v)
     ∙ (shown_moved s.width (at places) (function_of s.gate) (at v)
     ∙ same_shown s.width 0 0 (function_of s.gate) (λ a. at v (at places a)) (at (by_net places v))
-    (λ a read. sym (at_by_net places v a (All-contains (λ b. b < length places) (reads s) a here.reads read)))))))
+    (λ a read. sym (at_by_net places v a (All-contains (λ b. b < length places) (reads s) a here.reads read))))))))
 
 -- and keep at places what they keep at nets
 kept_by_net : (places u v : Numbers) (count : ℕ) (old new : List Step) → AreStepsMoved (at places) old new → All (IsStepWithin (length places)) old
@@ -287,7 +306,7 @@ step_within places count s t numbering m within =
       net = subst (λ (n : ℕ). n < count) (sym m.net) (numbering.below s.net within.net);
       reads = subst (All (λ a. a < count)) (sym (reads_moved (at places) s t m))
           (All-map (λ a. a < count) (at places) (reads s) (All-weaker (λ a. a < length places) (λ a. at places a < count) numbering.below (reads s) within.reads));
-      width = subst (λ (w : ℕ). w ≤ 32) (sym m.width) within.width;
+      width = subst (λ (w : ℕ). w ≤ 32) (sym m.width) (bits_small (function_of s.gate) s.width within.width);
       short = subst IsShort (sym m.gate) (short_moved (at places) (function_of s.gate) within.short);
     }
 
@@ -304,7 +323,7 @@ spares_moved places count s t u w numbering moved_s moved_t within_s within_t sp
         (numbering.one a t.net (all_at (λ b. b < length places) (reads s) k a within_s.reads is) within_t.net (same ∙ moved_t.net))
 
 abbrev cell_moved : (ℕ → ℕ) → Cell → Cell
-cell_moved p c = record { width = c.width; gate = moved p c.gate }
+cell_moved p c = record { width = bits_of c.gate c.width; gate = moved p c.gate }
 
 module _ (places : Numbers) (count : ℕ) (old new : Plan) (move : IsMoved places old new) (numbering : IsNumbering places count)
     (runs : IsRunnable (length places) old) where

@@ -12,7 +12,7 @@ use Rattle.gos_netlist.specs.declared.nets.NetId.{NetId}
 use Rattle.gos_netlist.specs.Nets.{Cell, pins}
 use Rattle.gos_netlist.specs.Seen.{cell_of, function_of, number_of}
 use Rattle.gos_sim.specs.declared.program.Step.{Step}
-use Rattle.gos_netcheck.specs.Schedule.{IsDue, IsSchedule}
+use Rattle.gos_sim.specs.inner.Order.{IsDueStep, IsOrder}
 use Rattle.gos_sim.specs.inner.Program.{IsProgram, IsStepOf, IsStepWithin, HasStep, HaveOneCell, Spares, SparesEarlier, cell_of_step, is_source, reads, steps_at}
 use Rattle.gos_sim.specs.inner.Ready.{AreCellsReady, IsCellWithin}
 use Rattle.gos_sim.proofs.PlaceLemmas.{all_at, same_element}
@@ -120,14 +120,14 @@ placed_step cells before steps s step new known placed =
         subst (λ (u : Step). Spares u (reads t)) also.1 (subst (λ (t : Step). Spares s (reads t)) last.1 (spares s known))
 
 -- the pins of a due cell that is no source are known
-due_known : (cells : List Cell) (before : List ℕ) (n : ℕ) (c : Cell) → AreCellsReady cells → IsDue cells before n → slice_get cells n ≡ Some c
+due_known : (cells : List Cell) (before : List ℕ) (n : ℕ) (c : Cell) → AreCellsReady cells → IsDueStep cells before n → slice_get cells n ≡ Some c
     → IsFalse (is_source c.gate) → All (IsKnown cells before) (pins c.gate)
 due_known cells before n c ready due is inside = λ k d l. at_pin (get_or (pins c.gate) k d) ((ready n c is).pins k d l) (Contains-get_or (pins c.gate) k d l)
   where
     by_test : (a : ℕ) (e : Cell) (t : Bool) → slice_get cells a ≡ Some e → Contains (pins c.gate) a → is_source e.gate ≡ t → IsKnown cells before a
     by_test a e true at_a named source = inl (e, at_a, source)
     by_test a e false at_a named other =
-        inr (due.2 a (e, c, at_a, is, (λ register. let no : true ≡ false = sym (register_is_source e.gate register) ∙ other in absurd (cc)), named))
+        inr (due.fed c is inside a (e, c, at_a, is, (λ register. let no : true ≡ false = sym (register_is_source e.gate register) ∙ other in absurd (cc)), named))
 
     at_pin : (a : ℕ) → a < length cells → Contains (pins c.gate) a → IsKnown cells before a
     at_pin a below named = by_test a (get_or cells a c) (is_source (get_or cells a c).gate) (slice_get-get_or cells a c below) named refl
@@ -143,9 +143,9 @@ take_one order i n is =
 
 -- one net more of the order
 pub placed_more : (cells : List declared.Cell) (order : List ℕ) (steps : List Step) (i n : ℕ) (c : declared.Cell) → AreCellsReady (map cell_of cells)
-    → IsSchedule (map cell_of cells) order → slice_get order i ≡ Some n → slice_get cells n ≡ Some c
+    → IsOrder (map cell_of cells) order → slice_get order i ≡ Some n → slice_get cells n ≡ Some c
     → ArePlaced (map cell_of cells) (take i order) steps → ArePlaced (map cell_of cells) (take (i + 1) order) (steps ++ steps_at n c)
-placed_more cells order steps i n c ready schedule at_i at_n placed =
+placed_more cells order steps i n c ready is_order at_i at_n placed =
     subst (λ (before : List ℕ). ArePlaced (map cell_of cells) before (steps ++ steps_at n c)) (sym (take_one order i n at_i)) (by_test (is_source (function_of c.gate)) refl)
   where
     made : Step
@@ -156,8 +156,8 @@ placed_more cells order steps i n c ready schedule at_i at_n placed =
         subst (λ (more : List Step). ArePlaced (map cell_of cells) (take i order ++ n ∷ []) more) (sym (append-nil steps))
         (placed_source (map cell_of cells) (take i order) steps n (cell_of c) (cell_at cells n c at_n) source placed)
     by_test false inside =
-        let due = schedule.due i n at_i in
-        placed_step (map cell_of cells) (take i order) steps made (cell_at cells n c at_n, inside) due.1
+        let due = is_order.due i n at_i in
+        placed_step (map cell_of cells) (take i order) steps made (cell_at cells n c at_n, inside) due.new
         (due_known (map cell_of cells) (take i order) n (cell_of c) ready due (cell_at cells n c at_n) inside) placed
 
 -- nothing has come yet
@@ -172,12 +172,12 @@ placed_none cells =
     }
 
 -- all has come
-pub program_of_placed : (cells : List Cell) (order : List ℕ) (steps : List Step) (i : ℕ) → IsSchedule cells order → length order ≤ i
+pub program_of_placed : (cells : List Cell) (order : List ℕ) (steps : List Step) (i : ℕ) → IsOrder cells order → length order ≤ i
     → ArePlaced cells (take i order) steps → IsProgram cells steps
-program_of_placed cells order steps i schedule end placed =
+program_of_placed cells order steps i is_order end placed =
     record {
       sound = placed.sound;
-      whole = λ n c is inside. placed.whole n c (subst (λ (ns : List ℕ). Contains ns n) (sym (take_all i order end)) (schedule.all n (slice_get_within cells n c is))) is inside;
+      whole = λ n c is inside. placed.whole n c (subst (λ (ns : List ℕ). Contains ns n) (sym (take_all i order end)) (is_order.all n (slice_get_within cells n c is))) is inside;
       ordered = placed.ordered;
     }
 
@@ -200,8 +200,14 @@ pub order_at : (order : List NetId) (i : ℕ) (d : NetId) → i < length order �
 order_at order i d below = slice_get-map number_of order i ∙ ap (option_map number_of) (slice_get-get_or order i d below)
 
 -- it is a cell
-pub below_cells : (cells : List declared.Cell) (order : List ℕ) (i n : ℕ) → IsSchedule (map cell_of cells) order → slice_get order i ≡ Some n → n < length cells
-below_cells cells order i n schedule at_i = subst (λ (m : ℕ). n < m) (length-map cells cell_of) (schedule.due i n at_i).0
+pub below_cells : (cells : List declared.Cell) (order : List ℕ) (i n : ℕ) → IsOrder (map cell_of cells) order → slice_get order i ≡ Some n → n < length cells
+below_cells cells order i n is_order at_i = subst (λ (m : ℕ). n < m) (length-map cells cell_of) (is_order.due i n at_i).below
+
+-- a cell that is ready reads cells
+pub pins_below : (cells : List declared.Cell) (n count : ℕ) (d : declared.Cell) → AreCellsReady (map cell_of cells) → n < length cells → count ≡ length (map cell_of cells)
+    → All (λ a. a < count) (pins (function_of (get_or cells n d).gate))
+pins_below cells n count d ready below same =
+    subst (λ (m : ℕ). All (λ a. a < m) (pins (function_of (get_or cells n d).gate))) (sym same) (ready n (cell_of (get_or cells n d)) (cell_at cells n (get_or cells n d) (slice_get-get_or cells n d below))).pins
 
 -- steps of one net are of one cell
 pub one_cell : (cells : List Cell) (steps : List Step) → All (IsStepOf cells) steps → HaveOneCell steps

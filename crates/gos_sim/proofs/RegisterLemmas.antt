@@ -10,7 +10,7 @@ use Rattle.gos_netlist.specs.Cycles.{IsRegister}
 use Rattle.gos_netlist.specs.Settling.{Numbers, next_of}
 use Rattle.gos_netlist.specs.Seen.{cell_of, function_of}
 use Rattle.gos_sim.specs.declared.program.Latch.{Latch}
-use Rattle.gos_netcheck.specs.Schedule.{IsSchedule}
+use Rattle.gos_sim.specs.inner.Order.{IsOrder}
 use Rattle.gos_sim.specs.inner.Program.{IsLatchOf, IsLatchWithin, HasLatch, AreLatches, latches_at}
 use Rattle.gos_sim.specs.inner.Ready.{AreCellsReady, IsCellWithin}
 use Rattle.gos_sim.proofs.PlaceLemmas.{same_element}
@@ -77,12 +77,12 @@ pub made_none : (cells : List Cell) → AreMade cells [] []
 made_none cells = record { sound = All-nil (IsLatchOf cells); whole = λ n a c came. absurd (omega (arith, came.1)) }
 
 -- all has come
-pub latches_of_made : (cells : List Cell) (order : List ℕ) (latches : List Latch) (i : ℕ) → IsSchedule cells order → length order ≤ i
+pub latches_of_made : (cells : List Cell) (order : List ℕ) (latches : List Latch) (i : ℕ) → IsOrder cells order → length order ≤ i
     → AreMade cells (take i order) latches → AreLatches cells latches
-latches_of_made cells order latches i schedule end made =
+latches_of_made cells order latches i is_order end made =
     record {
       sound = made.sound;
-      whole = λ n a c is register. made.whole n a c (subst (λ (ns : List ℕ). Contains ns n) (sym (take_all i order end)) (schedule.all n (slice_get_within cells n c is))) is register;
+      whole = λ n a c is register. made.whole n a c (subst (λ (ns : List ℕ). Contains ns n) (sym (take_all i order end)) (is_order.all n (slice_get_within cells n c is))) is register;
     }
 
 -- a latch of a cell that is ready is within

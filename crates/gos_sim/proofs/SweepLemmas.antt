@@ -87,9 +87,9 @@ stand_latch steps latches marks v registers item k l one is place low stand =
         get_or-set_other registers l.net m.net (at v l.pin) 0 apart
         ∙ stand.taken j m at_j bare
         (λ same.
-          let here : j ≡ k = omega (arith, same, place) in
-          let it : m ≡ l = same_element latches k m l (subst (λ (n : ℕ). slice_get latches n ≡ Some m) here at_j) is in
-          apart (ap (λ (r : Latch). r.net) it))
+        let here : j ≡ k = omega (arith, same, place) in
+        let it : m ≡ l = same_element latches k m l (subst (λ (n : ℕ). slice_get latches n ≡ Some m) here at_j) is in
+        apart (ap (λ (r : Latch). r.net) it))
 
 -- an item that is neither a step nor a register is none
 pub stand_none : (steps : List Step) (latches : List Latch) (marks v registers : Numbers) (item : ℕ) → length steps ≤ item

@@ -1,7 +1,9 @@
 -- What stands between this crate's own functions and lemmas, and no public clause cites. In reading order: a file uses only
 -- files above it.
 pub mod Program
+pub mod Evaluation
 pub mod Order
+pub mod Chains
 pub mod Running
 pub mod Ready
 pub mod Places

@@ -17,16 +17,18 @@ use crate::course::Course;
 use crate::log::Log;
 use crate::machine::Machine;
 use crate::marks::Marks;
+use crate::operations::value_of;
 use crate::program::{Latch, Step};
 use crate::pulse::Pulse;
 use crate::readers::readers_of;
-use crate::running::{evaluate, latch, show, value_of};
+use crate::running::{latch, show};
 use crate::wake::Wake;
 use gos_types::NoMemory;
 use std::alloc::Global;
 
 /// It is given up to evaluate few steps where they are more than one in so many of all, and so many beside.
 const PART: usize = 8;
+
 const LEAST: usize = 16;
 
 /// How many cycles pass at most until it is tried again.
@@ -78,10 +80,11 @@ fn take_latch(changed: &mut Log, latch: &Latch, values: &[u32], registers: &mut 
 impl Active {
     // What is to be known of a machine of so many places, before its first cycle.
     pub fn new(alloc: Global, machine: &Machine, count: usize) -> Result<Active, NoMemory>
-        requires steps { All (IsStepWithin count) machine.now.steps.items }
+        requires listed { machine.now.steps.items ≡ machine.now.program }
+        requires steps { All (IsStepWithin count) machine.now.program }
         requires latches { All (IsLatchWithin count) machine.now.latches.items }
         ensures fresh { IfOk result (λ active. IsFalse active.settled) }
-        ensures awake { IfOk result (λ active. IsAwake count machine.now.steps.items machine.now.latches.items active) }
+        ensures awake { IfOk result (λ active. IsAwake count machine.now.program machine.now.latches.items active) }
     {
         let items = machine.steps.len().saturating_add(machine.latches.len());
         if items > u32::MAX as usize {
@@ -154,6 +157,7 @@ impl Active {
         values: &mut [u32],
     ) -> bool
         requires ready { IsRunnable (length values.old) (plan_of machine.now) }
+        requires listed { machine.now.steps.items ≡ machine.now.program }
         requires same { length registers.old ≡ length values.old }
         requires inputs { length inputs.now ≡ length machine.now.inputs.items }
         requires outputs { length outputs.old ≡ length machine.now.outputs.items }
@@ -161,15 +165,15 @@ impl Active {
         requires still { IsTrue (is_rest course) → IsStill (plan_of machine.now) registers.old values.old }
         requires given { IsTrue (is_rest course) → GivesAll machine.now.inputs.items inputs.now values.old }
         requires few { IsTrue (is_few course) → IsTrue self.old.settled }
-        requires awake { IsAwake (length values.old) machine.now.steps.items machine.now.latches.items self.old }
-        requires settled { IsFalse (is_all course) → IsTrue self.old.settled → IsSettled machine.now.steps.items machine.now.latches.items self.old values.old registers.old }
+        requires awake { IsAwake (length values.old) machine.now.program machine.now.latches.items self.old }
+        requires settled { IsFalse (is_all course) → IsTrue self.old.settled → IsSettled machine.now.program machine.now.latches.items self.old values.old registers.old }
         ensures run { RunsThrough (plan_of machine.now) inputs.now registers.old values.new outputs.new registers.new }
         ensures still { IsTrue result → IsStill (plan_of machine.now) registers.new values.new }
         ensures rest { IsTrue (is_rest course) → (self.new ≡ self.old) × (values.new ≡ values.old) }
         ensures few { IsTrue (is_few course) → (p : ℕ) → Lacks self.new.wake.touched p → at values.new p ≡ at values.old p }
         ensures all { IsTrue (is_all course) → IsTrue self.new.wake.touched.full }
-        ensures awake { IsAwake (length values.old) machine.now.steps.items machine.now.latches.items self.new }
-        ensures settled { IsTrue self.new.settled → IsSettled machine.now.steps.items machine.now.latches.items self.new values.new registers.new }
+        ensures awake { IsAwake (length values.old) machine.now.program machine.now.latches.items self.new }
+        ensures settled { IsTrue self.new.settled → IsSettled machine.now.program machine.now.latches.items self.new values.new registers.new }
     {
         match course {
             Course::Rest => machine.run(inputs, outputs, registers, values, true),
@@ -185,36 +189,49 @@ impl Active {
     // Evaluates an item: a step into the values, or a latch into the registers.
     fn follow(&mut self, machine: &Machine, item: usize, values: &mut [u32], registers: &mut [u32])
         requires ready { IsRunnable (length values.old) (plan_of machine.now) }
+        requires listed { machine.now.steps.items ≡ machine.now.program }
         requires same { length registers.old ≡ length values.old }
         requires wake { IsWake (length values.old) self.old.wake }
-        requires reading { ReadAll machine.now.steps.items machine.now.latches.items self.old.wake.readers }
-        requires stand { StandBut machine.now.steps.items machine.now.latches.items self.old.wake.marks.words.items values.old registers.old item }
+        requires reading { ReadAll machine.now.program machine.now.latches.items self.old.wake.readers }
+        requires stand { StandBut machine.now.program machine.now.latches.items self.old.wake.marks.words.items values.old registers.old item }
         ensures wake { IsWake (length values.old) self.new.wake }
-        ensures reading { ReadAll machine.now.steps.items machine.now.latches.items self.new.wake.readers }
-        ensures stand { Stand machine.now.steps.items machine.now.latches.items self.new.wake.marks.words.items values.new registers.new }
-        ensures swept { (start loaded held : Numbers) → HasSwept machine.now.steps.items machine.now.latches.items start loaded held self.old values.old registers.old → HasSwept machine.now.steps.items machine.now.latches.items start loaded held self.new values.new registers.new }
+        ensures reading { ReadAll machine.now.program machine.now.latches.items self.new.wake.readers }
+        ensures stand { Stand machine.now.program machine.now.latches.items self.new.wake.marks.words.items values.new registers.new }
+        ensures swept { (start loaded held : Numbers) → HasSwept machine.now.program machine.now.latches.items start loaded held self.old values.old registers.old → HasSwept machine.now.program machine.now.latches.items start loaded held self.new values.new registers.new }
     {
         let steps = machine.steps.len();
         if item < steps {
             show_step(&mut self.wake, &machine.steps[item], values);
         } else if item - steps < machine.latches.len() {
-            take_latch(&mut self.changed, &machine.latches[item - steps], values, registers);
+            take_latch(
+                &mut self.changed,
+                &machine.latches[item - steps],
+                values,
+                registers,
+            );
         }
     }
     // Evaluates what is marked, and what hangs on it, until nothing is left. Answers whether it came to an end: it gives up where
     // that is more than so many items.
-    fn sweep(&mut self, machine: &Machine, most: usize, values: &mut [u32], registers: &mut [u32]) -> bool
+    fn sweep(
+        &mut self,
+        machine: &Machine,
+        most: usize,
+        values: &mut [u32],
+        registers: &mut [u32],
+    ) -> bool
         requires ready { IsRunnable (length values.old) (plan_of machine.now) }
+        requires listed { machine.now.steps.items ≡ machine.now.program }
         requires same { length registers.old ≡ length values.old }
         requires wake { IsWake (length values.old) self.old.wake }
-        requires reading { ReadAll machine.now.steps.items machine.now.latches.items self.old.wake.readers }
-        requires stand { Stand machine.now.steps.items machine.now.latches.items self.old.wake.marks.words.items values.old registers.old }
+        requires reading { ReadAll machine.now.program machine.now.latches.items self.old.wake.readers }
+        requires stand { Stand machine.now.program machine.now.latches.items self.old.wake.marks.words.items values.old registers.old }
         ensures wake { IsWake (length values.old) self.new.wake }
-        ensures reading { ReadAll machine.now.steps.items machine.now.latches.items self.new.wake.readers }
+        ensures reading { ReadAll machine.now.program machine.now.latches.items self.new.wake.readers }
         ensures unmarked { IsTrue result → AreUnmarked self.new.wake.marks.words.items }
-        ensures shown { IsTrue result → AreShown machine.now.steps.items values.new }
+        ensures shown { IsTrue result → AreShown machine.now.program values.new }
         ensures taken { IsTrue result → AreTaken machine.now.latches.items values.new registers.new }
-        ensures swept { (start loaded held : Numbers) → HasSwept machine.now.steps.items machine.now.latches.items start loaded held self.old values.old registers.old → HasSwept machine.now.steps.items machine.now.latches.items start loaded held self.new values.new registers.new }
+        ensures swept { (start loaded held : Numbers) → HasSwept machine.now.program machine.now.latches.items start loaded held self.old values.old registers.old → HasSwept machine.now.program machine.now.latches.items start loaded held self.new values.new registers.new }
     {
         let mut word = 0;
         for _ in 0..most {
@@ -230,28 +247,23 @@ impl Active {
         false
     }
     // Gives the values what the inputs and the registers have, and marks what reads those that changed.
-    fn begin(
-        &mut self,
-        machine: &Machine,
-        inputs: &[Pulse],
-        registers: &[u32],
-        values: &mut [u32],
-    )
+    fn begin(&mut self, machine: &Machine, inputs: &[Pulse], registers: &[u32], values: &mut [u32])
         requires ready { IsRunnable (length values.old) (plan_of machine.now) }
         requires same { length registers.now ≡ length values.old }
         requires inputs { length inputs.now ≡ length machine.now.inputs.items }
         requires numbers { All (λ p. IsWord p.value) inputs.now }
-        requires awake { IsAwake (length values.old) machine.now.steps.items machine.now.latches.items self.old }
-        requires settled { IsSettled machine.now.steps.items machine.now.latches.items self.old values.old registers.now }
+        requires awake { IsAwake (length values.old) machine.now.program machine.now.latches.items self.old }
+        requires settled { IsSettled machine.now.program machine.now.latches.items self.old values.old registers.now }
         ensures wake { IsWake (length values.old) self.new.wake }
-        ensures reading { ReadAll machine.now.steps.items machine.now.latches.items self.new.wake.readers }
-        ensures stand { Stand machine.now.steps.items machine.now.latches.items self.new.wake.marks.words.items values.new registers.now }
+        ensures reading { ReadAll machine.now.program machine.now.latches.items self.new.wake.readers }
+        ensures stand { Stand machine.now.program machine.now.latches.items self.new.wake.marks.words.items values.new registers.now }
         ensures begun { HasBegun (plan_of machine.now) inputs.now registers.now values.new }
-        ensures swept { HasSwept machine.now.steps.items machine.now.latches.items values.old values.new registers.now self.new values.new registers.now }
+        ensures swept { HasSwept machine.now.program machine.now.latches.items values.old values.new registers.now self.new values.new registers.now }
     {
         self.wake.touched.clear();
         self.wake.give(&machine.inputs, inputs, values);
-        self.wake.load(&self.changed, &machine.latches, registers, values);
+        self.wake
+            .load(&self.changed, &machine.latches, registers, values);
         self.changed.clear();
     }
     // Runs a cycle, where the values are those of the one before, and evaluates few cells if few change. The answer says whether
@@ -265,16 +277,17 @@ impl Active {
         values: &mut [u32],
     ) -> bool
         requires ready { IsRunnable (length values.old) (plan_of machine.now) }
+        requires listed { machine.now.steps.items ≡ machine.now.program }
         requires same { length registers.old ≡ length values.old }
         requires inputs { length inputs.now ≡ length machine.now.inputs.items }
         requires outputs { length outputs.old ≡ length machine.now.outputs.items }
         requires numbers { All (λ p. IsWord p.value) inputs.now }
-        requires awake { IsAwake (length values.old) machine.now.steps.items machine.now.latches.items self.old }
-        requires settled { IsSettled machine.now.steps.items machine.now.latches.items self.old values.old registers.old }
+        requires awake { IsAwake (length values.old) machine.now.program machine.now.latches.items self.old }
+        requires settled { IsSettled machine.now.program machine.now.latches.items self.old values.old registers.old }
         ensures run { RunsThrough (plan_of machine.now) inputs.now registers.old values.new outputs.new registers.new }
         ensures still { IsTrue result → IsStill (plan_of machine.now) registers.new values.new }
-        ensures awake { IsAwake (length values.old) machine.now.steps.items machine.now.latches.items self.new }
-        ensures settled { IsSettled machine.now.steps.items machine.now.latches.items self.new values.new registers.new }
+        ensures awake { IsAwake (length values.old) machine.now.program machine.now.latches.items self.new }
+        ensures settled { IsSettled machine.now.program machine.now.latches.items self.new values.new registers.new }
         ensures noted { (p : ℕ) → Lacks self.new.wake.touched p → at values.new p ≡ at values.old p }
     {
         self.begin(machine, inputs, registers, values);
@@ -285,7 +298,7 @@ impl Active {
             return self.changed.is_empty();
         }
         self.give_up();
-        evaluate(&machine.steps, values);
+        machine.program.evaluate(values);
         show(&machine.outputs, values, outputs);
         latch(&machine.latches, values, registers);
         false

@@ -7,16 +7,20 @@ ghost use Rattle.gos_netcheck.specs.Schedule.{IsSchedule};
 ghost use Rattle.gos_netcheck.specs.Levels.{AreLevels};
 ghost use Rattle.gos_sim.specs.inner.Ready.{IsReady};
 
+use crate::chains::Chains;
+use crate::evaluation::{Program, steps_moved};
 use crate::event_nets::{EventNets, events_of};
-use crate::places::{Places, events_moved, latches_moved, levels_moved, numbered, steps_moved};
+use crate::levels::chained_levels;
+use crate::order::by_keys;
+use crate::places::{Places, events_moved, latches_moved, numbered};
 use crate::program::{Latch, Step, latches, steps};
 use crate::pulse::Pulse;
-use crate::running::{evaluate, give, is_given, latch, load, show};
+use crate::running::{give, is_given, latch, load, show};
 use gos_netlist::{NetId, Netlist};
 use gos_types::NoMemory;
 use std::alloc::Global;
 
-/// What runs in each cycle, in flat lists. All but `places` speaks of places, and not of nets.
+/// What runs in each cycle, in flat lists. All but `levels` and `places` speaks of places, and not of nets.
 #[derive(Drop)]
 pub struct Machine {
     /// The input events, in order.
@@ -24,13 +28,17 @@ pub struct Machine {
     /// The output events, in order.
     pub outputs: Vec<EventNets>,
     /// The cells to evaluate, in order.
+    pub program: Program,
+    /// The same, one by one.
     pub steps: Vec<Step>,
     /// The registers.
     pub latches: Vec<Latch>,
-    /// The level of the cell at each place.
-    pub levels: Vec<u32>,
+    /// The nets of each level, chained.
+    pub levels: Chains,
     /// The place of each net.
     pub places: Vec<u32>,
+    /// How many places there are.
+    pub count: usize,
 }
 
 // The machine of a netlist, from an order in which its cells can be evaluated and from their levels.
@@ -47,16 +55,22 @@ pub fn machine_of(
 {
     let inputs = events_of(alloc, net, true)?;
     let outputs = events_of(alloc, net, false)?;
-    let steps = steps(alloc, &net.cells, order, levels)?;
-    let latches = latches(alloc, &net.cells, order)?;
+    let sorted = by_keys(alloc, &net.cells, order)?;
+    let steps = steps(alloc, &net.cells, &sorted)?;
+    let latches = latches(alloc, &net.cells, &sorted)?;
     let Places { of, nets } = numbered(alloc, net.cells.len(), &latches, &steps)?;
+    let inputs_there = events_moved(alloc, &inputs, &of)?;
+    let outputs_there = events_moved(alloc, &outputs, &of)?;
+    let (program, steps_there) = steps_moved(alloc, &steps, &of)?;
     Ok(Machine {
-        inputs: events_moved(alloc, &inputs, &of)?,
-        outputs: events_moved(alloc, &outputs, &of)?,
-        steps: steps_moved(alloc, &steps, &of)?,
+        inputs: inputs_there,
+        outputs: outputs_there,
+        program,
+        steps: steps_there,
         latches: latches_moved(alloc, &latches, &of)?,
-        levels: levels_moved(alloc, &nets, levels)?,
+        levels: chained_levels(alloc, levels)?,
         places: of,
+        count: nets.len(),
     })
 }
 
@@ -112,7 +126,7 @@ impl Machine {
     {
         give(&self.inputs, inputs, values);
         load(&self.latches, registers, values);
-        evaluate(&self.steps, values);
+        self.program.evaluate(values);
     }
 
     // Settles the values of the nets where all registers and inputs are 0.
@@ -121,7 +135,7 @@ impl Machine {
         ensures settles { SettlesAtReset (plan_of self.now) values.new }
     {
         values.fill(0);
-        evaluate(&self.steps, values);
+        self.program.evaluate(values);
     }
 
     // The values of so many nets where all registers and inputs are 0.

@@ -5,7 +5,7 @@ ghost use Rattle.gos_netlist.specs.Seen.{function_of};
 ghost use Rattle.gos_netlist.specs.Settling.{at};
 ghost use Rattle.gos_sim.specs.EventNets.{OnNets};
 ghost use Rattle.gos_sim.specs.inner.Program.{IsLatchWithin, IsStepWithin};
-ghost use Rattle.gos_sim.specs.inner.Places.{AreStepsMoved, IsNumbering, IsPartly, IsStepMoved, event_moved, latch_moved, moved, none};
+ghost use Rattle.gos_sim.specs.inner.Places.{IsNumbering, IsPartly, event_moved, latch_moved, moved, none};
 
 use crate::event_nets::EventNets;
 use crate::program::{Latch, Step};
@@ -115,18 +115,6 @@ pub fn numbered(
     Ok(places)
 }
 
-// What is known of nets, at their places.
-pub fn levels_moved(alloc: Global, nets: &[u32], levels: &[u32]) -> Result<Vec<u32>, NoMemory>
-    requires { All (λ n. n < length levels.now) nets.now }
-    ensures { IfOk result (λ there. there.items ≡ map (at levels.now) nets.now) }
-{
-    let mut there = Vec::new(alloc);
-    for net in nets {
-        there.push(levels[*net as usize])?;
-    }
-    Ok(there)
-}
-
 // Events at the places of their nets.
 pub fn events_moved(
     alloc: Global,
@@ -186,22 +174,12 @@ fn latch_moved(latch: &Latch, places: &[u32]) -> Latch
     }
 }
 
-// Steps at the places of their nets.
-pub fn steps_moved(alloc: Global, steps: &[Step], places: &[u32]) -> Result<Vec<Step>, NoMemory>
-    requires { All (IsStepWithin (length places.now)) steps.now }
-    ensures { IfOk result (λ there. AreStepsMoved (at places.now) steps.now there.items) }
-{
-    let mut there = Vec::new(alloc);
-    for step in steps {
-        there.push(step_moved(step, places))?;
-    }
-    Ok(there)
-}
-
 // A step at the places of its nets.
-fn step_moved(step: &Step, places: &[u32]) -> Step
+pub fn step_moved(step: &Step, places: &[u32]) -> Step
     requires { IsStepWithin (length places.now) step.now }
-    ensures { IsStepMoved (at places.now) step.now result }
+    ensures net { result.net ≡ at places.now step.now.net }
+    ensures width { result.width ≡ step.now.width }
+    ensures gate { function_of result.gate ≡ moved (at places.now) (function_of step.now.gate) }
 {
     Step {
         net: places[step.net as usize],

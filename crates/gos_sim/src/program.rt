@@ -3,11 +3,8 @@ ghost use Rattle.std.specs.Prelude.{◌≡◌, ◌++◌, All, IfOk, OnOk, length
 ghost use Rattle.gos_netlist.specs.Seen.{cell_of, function_of, number_of};
 ghost use Rattle.gos_sim.specs.inner.Program.{AreLatches, IsLatchWithin, IsProgram, IsStepWithin, latches_at, steps_at};
 ghost use Rattle.gos_sim.specs.inner.Ready.{AreCellsReady};
-ghost use Rattle.gos_sim.specs.inner.Order.{StepsRise};
-ghost use Rattle.gos_netcheck.specs.Schedule.{IsSchedule};
-ghost use Rattle.gos_netcheck.specs.Levels.{AreLevels};
+ghost use Rattle.gos_sim.specs.inner.Order.{IsOrder};
 
-use crate::order::by_level;
 use gos_netlist::{Cell, Gate, NetId};
 use gos_types::NoMemory;
 use std::alloc::Global;
@@ -32,28 +29,10 @@ pub struct Latch {
     pub pin: u32,
 }
 
-// The cells to evaluate, by their levels.
-pub fn steps(
-    alloc: Global,
-    cells: &[Cell],
-    order: &[NetId],
-    levels: &[u32],
-) -> Result<Vec<Step>, NoMemory>
-    requires cells { AreCellsReady (map cell_of cells.now) }
-    requires order { IsSchedule (map cell_of cells.now) (map number_of order.now) }
-    requires leveled { AreLevels (map cell_of cells.now) levels.now }
-    ensures program { IfOk result (λ steps. IsProgram (map cell_of cells.now) steps.items) }
-    ensures within { IfOk result (λ steps. All (IsStepWithin (length cells.now)) steps.items) }
-    ensures rising { IfOk result (λ steps. StepsRise levels.now steps.items) }
-{
-    let steps = steps_of(alloc, cells, order)?;
-    by_level(alloc, &steps, levels)
-}
-
 // The cells to evaluate, in an order of all cells.
-fn steps_of(alloc: Global, cells: &[Cell], order: &[NetId]) -> Result<Vec<Step>, NoMemory>
+pub fn steps(alloc: Global, cells: &[Cell], order: &[NetId]) -> Result<Vec<Step>, NoMemory>
     requires cells { AreCellsReady (map cell_of cells.now) }
-    requires order { IsSchedule (map cell_of cells.now) (map number_of order.now) }
+    requires order { IsOrder (map cell_of cells.now) (map number_of order.now) }
     ensures program { IfOk result (λ steps. IsProgram (map cell_of cells.now) steps.items) }
     ensures within { IfOk result (λ steps. All (IsStepWithin (length cells.now)) steps.items) }
 {
@@ -78,10 +57,10 @@ fn add_step(steps: &mut Vec<Step>, net: u32, cell: Cell) -> Result<(), NoMemory>
     }
 }
 
-// The registers.
+// The registers, in an order of all cells.
 pub fn latches(alloc: Global, cells: &[Cell], order: &[NetId]) -> Result<Vec<Latch>, NoMemory>
     requires cells { AreCellsReady (map cell_of cells.now) }
-    requires order { IsSchedule (map cell_of cells.now) (map number_of order.now) }
+    requires order { IsOrder (map cell_of cells.now) (map number_of order.now) }
     ensures latches { IfOk result (λ latches. AreLatches (map cell_of cells.now) latches.items) }
     ensures within { IfOk result (λ latches. All (IsLatchWithin (length cells.now)) latches.items) }
 {

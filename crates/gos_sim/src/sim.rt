@@ -137,7 +137,14 @@ impl Sim {
             Past::Reset | Past::Still => 0,
             Past::First | Past::Later => {
                 let machine = &self.machine;
-                levels_visited(&machine.steps, &machine.levels, &self.before, &self.values)
+                let cells = &self.net.netlist().cells;
+                levels_visited(
+                    &machine.levels,
+                    cells,
+                    &machine.places,
+                    &self.before,
+                    &self.values,
+                )
             }
         }
     }
@@ -163,16 +170,16 @@ fn parts_of(
 ) -> Result<(Machine, Active, Vec<u32>, Vec<u32>, Vec<u32>), NoMemory>
     ensures machine { IfOk result (λ parts. IsMachine net.now parts.0) }
     ensures fresh { IfOk result (λ parts. IsFalse parts.1.settled) }
-    ensures awake { IfOk result (λ parts. IsAwake (length parts.0.levels.items) parts.0.steps.items parts.0.latches.items parts.1) }
-    ensures registers { IfOk result (λ parts. parts.2.items ≡ replicate (length parts.0.levels.items) 0) }
-    ensures each { IfOk result (λ parts. length parts.3.items ≡ length parts.0.levels.items) }
+    ensures awake { IfOk result (λ parts. IsAwake parts.0.count parts.0.program parts.0.latches.items parts.1) }
+    ensures registers { IfOk result (λ parts. parts.2.items ≡ replicate parts.0.count 0) }
+    ensures each { IfOk result (λ parts. length parts.3.items ≡ parts.0.count) }
     ensures values { IfOk result (λ parts. SettlesAtReset (plan_of parts.0) parts.3.items) }
-    ensures before { IfOk result (λ parts. parts.4.items ≡ replicate (length parts.0.levels.items) 0) }
+    ensures before { IfOk result (λ parts. parts.4.items ≡ replicate parts.0.count 0) }
 {
     let levels = net.levels(alloc)?;
     let order = net.schedule();
     let machine = machine_of(alloc, net.netlist(), order, &levels)?;
-    let count = machine.levels.len();
+    let count = machine.count;
     let registers = vec![in alloc; 0; count]?;
     let before = vec![in alloc; 0; count]?;
     let values = machine.values_at_reset(alloc, count)?;

@@ -1,42 +1,80 @@
 // How many levels a cycle visited: those in which some cell reads a net that has changed.
-ghost use Rattle.std.specs.Prelude.{◌≡◌, ◌<◌, All, length};
-ghost use Rattle.gos_sim.specs.inner.Program.{IsStepWithin, reads};
-ghost use Rattle.gos_sim.specs.inner.Order.{StepsRise};
-ghost use Rattle.gos_sim.specs.inner.Counting.{AreVisited, has_changed, one_has_changed};
+ghost use Rattle.std.specs.Prelude.{◌≡◌, ◌<◌, ◌≤◌, All, IsFalse, IsTrue, length, map};
+ghost use Rattle.gos_netlist.specs.Nets.{pins};
+ghost use Rattle.gos_netlist.specs.Seen.{cell_of, function_of};
+ghost use Rattle.gos_sim.specs.inner.Ready.{AreCellsReady};
+ghost use Rattle.gos_sim.specs.inner.Chains.{IsBounded};
+ghost use Rattle.gos_sim.specs.inner.Places.{by_net};
+ghost use Rattle.gos_sim.specs.inner.Counting.{CountsVisited, HasVisit, LacksVisit, has_changed, one_has_changed};
 
-use crate::program::Step;
-use gos_netlist::{Gate, NetId};
+use crate::chains::Chains;
+use gos_netlist::{Cell, Gate, NetId};
 
-// How many levels above 0 have a step that reads a net whose value differs from the one before. The steps rise by their
-// levels, so a level is counted where it is above the one that was counted last.
-pub fn levels_visited(steps: &[Step], levels: &[u32], before: &[u32], values: &[u32]) -> u64
-    requires steps { All (IsStepWithin (length values.now)) steps.now }
-    requires levels { length levels.now ≡ length values.now }
+// How many levels above 0 have a cell that reads a net whose value differs from the one before.
+pub fn levels_visited(
+    levels: &Chains,
+    cells: &[Cell],
+    places: &[u32],
+    before: &[u32],
+    values: &[u32],
+) -> u64
+    requires each { length levels.now.next.items ≡ length cells.now }
+    requires bounded { IsBounded (length cells.now) levels.now.heads.items levels.now.next.items }
+    requires cells { AreCellsReady (map cell_of cells.now) }
+    requires places { length places.now ≡ length cells.now }
+    requires there { All (λ p. p < length values.now) places.now }
     requires before { length before.now ≡ length values.now }
-    requires rising { StepsRise levels.now steps.now }
-    ensures { AreVisited steps.now levels.now before.now values.now result }
+    ensures { CountsVisited levels.now (map cell_of cells.now) (by_net places.now before.now) (by_net places.now values.now) result }
 {
     let mut count = 0;
-    let mut top = 0;
-    for step in steps {
-        let level = levels[step.net as usize];
-        if level > top && reads_change(step, before, values) {
+    for level in 1..levels.heads.len() {
+        if is_visited(levels, level, cells, places, before, values) {
             count += 1;
-            top = level;
         }
     }
     count
 }
 
-// Whether a step reads a net whose value differs.
-fn reads_change(step: &Step, before: &[u32], values: &[u32]) -> bool
-    requires step { IsStepWithin (length values.now) step.now }
+// Whether a level has a cell that reads a net whose value differs. Goes through its nets, from the last one to the first.
+fn is_visited(
+    levels: &Chains,
+    level: usize,
+    cells: &[Cell],
+    places: &[u32],
+    before: &[u32],
+    values: &[u32],
+) -> bool
+    requires level { level < length levels.now.heads.items }
+    requires each { length levels.now.next.items ≡ length cells.now }
+    requires bounded { IsBounded (length cells.now) levels.now.heads.items levels.now.next.items }
+    requires cells { AreCellsReady (map cell_of cells.now) }
+    requires places { length places.now ≡ length cells.now }
+    requires there { All (λ p. p < length values.now) places.now }
     requires before { length before.now ≡ length values.now }
-    ensures { result ≡ one_has_changed before.now values.now (reads step.now) }
+    ensures visited { IsTrue result → HasVisit levels.now (map cell_of cells.now) (by_net places.now before.now) (by_net places.now values.now) level }
+    ensures other { IsFalse result → LacksVisit levels.now (map cell_of cells.now) (by_net places.now before.now) (by_net places.now values.now) level }
 {
-    match step.gate {
+    let mut link = levels.end_of(level);
+    while link > 0 {
+        let net = link - 1;
+        if reads_change(cells[net as usize], places, before, values) {
+            return true;
+        }
+        link = levels.link_of(net);
+    }
+    false
+}
+
+// Whether a cell reads a net whose value differs.
+fn reads_change(cell: Cell, places: &[u32], before: &[u32], values: &[u32]) -> bool
+    requires pins { All (λ a. a < length places.now) (pins (function_of cell.gate)) }
+    requires there { All (λ p. p < length values.now) places.now }
+    requires before { length before.now ≡ length values.now }
+    ensures { result ≡ one_has_changed (by_net places.now before.now) (by_net places.now values.now) (pins (function_of cell.gate)) }
+{
+    match cell.gate {
         Gate::Input | Gate::Const(_) => false,
-        Gate::Not(a) | Gate::Reg(a) => has_changed(a, before, values),
+        Gate::Not(a) | Gate::Reg(a) => has_changed(a, places, before, values),
         Gate::And(a, b)
         | Gate::Or(a, b)
         | Gate::Xor(a, b)
@@ -44,20 +82,25 @@ fn reads_change(step: &Step, before: &[u32], values: &[u32]) -> bool
         | Gate::Sub(a, b)
         | Gate::Eq(a, b)
         | Gate::Less(a, b)
-        | Gate::Gate(a, b) => has_changed(a, before, values) || has_changed(b, before, values),
+        | Gate::Gate(a, b) => {
+            has_changed(a, places, before, values) || has_changed(b, places, before, values)
+        }
         Gate::Mux(s, a, b) => {
-            has_changed(s, before, values)
-                || has_changed(a, before, values)
-                || has_changed(b, before, values)
+            has_changed(s, places, before, values)
+                || has_changed(a, places, before, values)
+                || has_changed(b, places, before, values)
         }
     }
 }
 
 // Whether the value of a net differs.
-fn has_changed(net: NetId, before: &[u32], values: &[u32]) -> bool
-    requires net { net.0 < length values.now }
+#[tactic(auto, using(crate::proofs::MoveLemmas::at_by_net))]
+fn has_changed(net: NetId, places: &[u32], before: &[u32], values: &[u32]) -> bool
+    requires net { net.0 < length places.now }
+    requires there { All (λ p. p < length values.now) places.now }
     requires before { length before.now ≡ length values.now }
-    ensures { result ≡ has_changed before.now values.now net.0 }
+    ensures { result ≡ has_changed (by_net places.now before.now) (by_net places.now values.now) net.0 }
 {
-    values[net.0 as usize] != before[net.0 as usize]
+    let place = places[net.0 as usize] as usize;
+    values[place] != before[place]
 }

@@ -78,13 +78,7 @@ impl Wake {
     }
 
     // Gives the nets of the registers what these hold. Those that aren't noted have it.
-    pub fn load(
-        &mut self,
-        changed: &Log,
-        latches: &[Latch],
-        registers: &[u32],
-        values: &mut [u32],
-    )
+    pub fn load(&mut self, changed: &Log, latches: &[Latch], registers: &[u32], values: &mut [u32])
         requires latches { All (IsLatchWithin (length values.old)) latches.now }
         requires same { length registers.now ≡ length values.old }
         requires loaded { AreLoadedButNoted latches.now changed.now registers.now values.old }

@@ -1,11 +1,13 @@
--- Levels as they are counted, from steps that rise by them.
+-- Levels as they are counted, one after another, each by the chain of its nets.
 --
--- Read first: Order. Between the count and its lemmas.
-use Rattle.std.specs.Prelude.{◌≡◌, ◌≢◌, ℕ, ◌<◌, ◌||◌, Bool, false, not, List, [], ◌∷◌, Contains, Some, slice_get, length, nat_eq}
-use Rattle.gos_netlist.specs.Cycles.{Distinct}
+-- Read first: Chains; Visits.
+use Rattle.std.specs.Prelude.{◌≡◌, ℕ, ◌<◌, ◌||◌, Bool, false, not, List, [], ◌∷◌, All, length, nat_eq}
+use Rattle.gos_netlist.specs.Nets.{Cell}
 use Rattle.gos_netlist.specs.Settling.{Numbers, at}
-use Rattle.gos_sim.specs.declared.program.Step.{Step}
-use Rattle.gos_sim.specs.inner.Program.{reads}
+use Rattle.gos_netcheck.specs.Levels.{AreLevels}
+use Rattle.gos_sim.specs.declared.chains.Chains.{Chains}
+use Rattle.gos_sim.specs.Visits.{IsVisited, VisitsLevels}
+use Rattle.gos_sim.specs.inner.Chains.{AreChained}
 
 -- whether the value of a net differs
 abbrev pub has_changed : Numbers → Numbers → ℕ → Bool
@@ -17,21 +19,21 @@ one_has_changed before values [] = false
 one_has_changed before values (a ∷ []) = has_changed before values a
 one_has_changed before values (a ∷ b ∷ ns) = has_changed before values a || one_has_changed before values (b ∷ ns)
 
--- one of the steps has this level, above 0, and reads a net whose value differs
-pub record IsVisitedByStep (steps : List Step) (levels before values : Numbers) (level : ℕ) : Type 0 where
-  pub place : ℕ
-  pub step : Step
-  pub pin : ℕ
-  pub is : slice_get steps place ≡ Some step
-  pub stands : at levels step.net ≡ level
-  pub above : 0 < level
-  pub reads : Contains (reads step) pin
-  pub differs : at values pin ≢ at before pin
+-- the nets of these levels are chained, each level by a key of its own
+pub record ChainLevels (chains : Chains) (levels : Numbers) : Type 0 where
+  pub each : length chains.next.items ≡ length levels
+  pub chained : AreChained (λ l. l) levels (length levels) chains.heads.items chains.next.items
+  pub within : All (λ l. l < length chains.heads.items) levels
 
--- the levels of steps, a list without repetition and so long
-pub record AreVisited (steps : List Step) (levels before values : Numbers) (count : ℕ) : Type 0 where
-  pub visited : List ℕ
-  pub distinct : Distinct visited
-  pub counted : length visited ≡ count
-  pub sound : (l : ℕ) → Contains visited l → IsVisitedByStep steps levels before values l
-  pub whole : (l : ℕ) → IsVisitedByStep steps levels before values l → Contains visited l
+-- Whatever levels are chained so: one of them is visited, or isn't, or so many of them are.
+abbrev pub HasVisit : Chains → List Cell → Numbers → Numbers → ℕ → Type 0
+HasVisit chains cells before values level =
+    (levels : Numbers) → length levels ≡ length cells → ChainLevels chains levels → 0 < level → IsVisited cells levels before values level
+
+abbrev pub LacksVisit : Chains → List Cell → Numbers → Numbers → ℕ → Type 0
+LacksVisit chains cells before values level =
+    (levels : Numbers) → length levels ≡ length cells → ChainLevels chains levels → IsVisited cells levels before values level → ⊥
+
+abbrev pub CountsVisited : Chains → List Cell → Numbers → Numbers → ℕ → Type 0
+CountsVisited chains cells before values count =
+    (levels : Numbers) → AreLevels cells levels → ChainLevels chains levels → VisitsLevels cells before values count

@@ -17,23 +17,22 @@ use Rattle.gos_sim.specs.EventNets.{Names, OnNets, input_events, output_events}
 use Rattle.gos_sim.specs.Cycle.{GivesAll, Simulator, pulse_shown}
 use Rattle.gos_sim.specs.inner.Program.{AreLatches, HaveOneCell, IsLatchWithin, IsProgram, IsStepWithin, SparesEarlier}
 use Rattle.gos_sim.specs.inner.Running.{AreLoaded, AreShown, AreTaken, HaveOnePin, KeepsOtherSteps, KeepsOthers}
-use Rattle.gos_sim.specs.inner.Order.{StepsRise}
+use Rattle.gos_sim.specs.inner.Counting.{ChainLevels}
 use Rattle.gos_sim.specs.inner.Ready.{AreApart, IsReady}
 use Rattle.gos_sim.specs.inner.Past.{HasCome, IsPast, settlings_of}
 use Rattle.gos_sim.specs.inner.Active.{IsAwake, IsSettled, Lacks}
 use Rattle.gos_sim.specs.inner.Places.{AreStepsMoved, IsNumbering, by_net, event_moved, latch_moved}
 
--- what runs in each cycle, with the level of each cell
+-- what runs in each cycle
 pub record Plan : Type 0 where
   pub inputs : List EventNets
   pub outputs : List EventNets
   pub steps : List Step
   pub latches : List Latch
-  pub levels : Numbers
 
 -- that of a machine, which speaks of places
 abbrev pub plan_of : Machine → Plan
-plan_of m = record { inputs = m.inputs.items; outputs = m.outputs.items; steps = m.steps.items; latches = m.latches.items; levels = m.levels.items }
+plan_of m = record { inputs = m.inputs.items; outputs = m.outputs.items; steps = m.program; latches = m.latches.items }
 
 -- that of a netlist, which speaks of its nets
 pub record IsPlan (net : Netlist) (m : Plan) : Type 0 where
@@ -44,8 +43,6 @@ pub record IsPlan (net : Netlist) (m : Plan) : Type 0 where
   pub latched : AreLatches net.cells m.latches
   pub steps_within : All (IsStepWithin (length net.cells)) m.steps
   pub latches_within : All (IsLatchWithin (length net.cells)) m.latches
-  pub leveled : AreLevels net.cells m.levels
-  pub rising : StepsRise m.levels m.steps
 
 -- a plan of nets, moved to their places
 pub record IsMoved (places : Numbers) (old new : Plan) : Type 0 where
@@ -53,15 +50,18 @@ pub record IsMoved (places : Numbers) (old new : Plan) : Type 0 where
   pub outputs : new.outputs ≡ map (event_moved (at places)) old.outputs
   pub steps : AreStepsMoved (at places) old.steps new.steps
   pub latches : new.latches ≡ map (latch_moved (at places)) old.latches
-  pub levels : (n : ℕ) → n < length places → at new.levels (at places n) ≡ at old.levels n
 
 -- the machine of a netlist
 pub record IsMachine (net : Netlist) (m : Machine) : Type 0 where
   pub plan : Plan
   pub of_net : IsPlan net plan
   pub each : length m.places.items ≡ length net.cells
-  pub numbering : IsNumbering m.places.items (length m.levels.items)
+  pub numbering : IsNumbering m.places.items m.count
   pub moved : IsMoved m.places.items plan (plan_of m)
+  pub listed : m.steps.items ≡ m.program
+  pub levels : Numbers
+  pub leveled : AreLevels net.cells levels
+  pub chained : ChainLevels m.levels levels
 
 -- a plan can run over so many nets
 pub record IsRunnable (count : ℕ) (m : Plan) : Type 0 where
@@ -125,12 +125,12 @@ pub record IsState (count : ℕ) (registers values before : Numbers) : Type 0 wh
 -- what a simulator keeps; `still` only where a cycle has come and the values stand still
 pub record IsBuilt (net : Netlist) (m : Machine) (active : Active) (registers values before : Numbers) (still : Bool) (past : Past) : Type 0 where
   pub machine : IsMachine net m
-  pub state : IsState (length m.levels.items) registers values before
+  pub state : IsState m.count registers values before
   pub others : HoldNothingElse net.cells (by_net m.places.items registers)
   pub stands : IsTrue still → IsStill (plan_of m) registers values × HasCome past
   pub came : IsPast net.cells past (by_net m.places.items values) (by_net m.places.items before)
-  pub awake : IsAwake (length m.levels.items) m.steps.items m.latches.items active
-  pub settled : IsTrue active.settled → IsSettled m.steps.items m.latches.items active values registers
+  pub awake : IsAwake m.count m.program m.latches.items active
+  pub settled : IsTrue active.settled → IsSettled m.program m.latches.items active values registers
   pub noted : IsTrue active.settled → (place : ℕ) → Lacks active.wake.touched place → at before place ≡ at values place
 
 -- what clauses see of it

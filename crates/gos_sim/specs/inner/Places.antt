@@ -9,6 +9,7 @@ use Rattle.gos_netlist.specs.Settling.{Numbers, at}
 use Rattle.gos_sim.specs.declared.event_nets.EventNets.{EventNets}
 use Rattle.gos_sim.specs.declared.program.Step.{Step}
 use Rattle.gos_sim.specs.declared.program.Latch.{Latch}
+use Rattle.gos_sim.specs.inner.Evaluation.{bits_of}
 
 -- the values of the nets, from those at their places
 abbrev pub by_net : Numbers → Numbers → Numbers
@@ -30,10 +31,10 @@ moved p (Less a b) = Less (p a) (p b)
 moved p (Gate s a) = Gate (p s) (p a)
 moved p (Reg a) = Reg (p a)
 
--- a step, a latch and an event whose nets are moved to their places
+-- a step, a latch and an event whose nets are moved to their places; the step keeps its bits only where they matter
 pub record IsStepMoved (p : ℕ → ℕ) (old new : Step) : Type 0 where
   pub net : new.net ≡ p old.net
-  pub width : new.width ≡ old.width
+  pub width : new.width ≡ bits_of (function_of old.gate) old.width
   pub gate : function_of new.gate ≡ moved p (function_of old.gate)
 
 abbrev pub latch_moved : (ℕ → ℕ) → Latch → Latch

@@ -9,8 +9,7 @@ use Rattle.gos_sim.specs.inner.Program.{HasLatch}
 use Rattle.gos_sim.specs.inner.Running.{AreLoaded, KeepsOthers}
 use Rattle.gos_sim.specs.inner.Active.{AreLoadedButNoted, KeepsOtherEvents}
 use Rattle.gos_sim.proofs.ActiveLemmas.{follows_on}
-use Rattle.gos_sim.proofs.MoveLemmas.{all_of_at}
-use Rattle.gos_sim.proofs.PlaceLemmas.{all_at}
+use Rattle.gos_sim.proofs.PlaceLemmas.{all_at, all_of_at}
 use Rattle.gos_sim.proofs.SweepLemmas.{stand_begun}
 use Rattle.gos_sim.proofs.active.Active.begin.Goals as goal
 
@@ -20,8 +19,8 @@ load-requires-clause-loaded c =
     let given = subst (λ (es : List EventNets). KeepsOtherEvents es c.args.values.now c.give.new.values) c.deref.ensures.value c.give.ensures.others in
     subst (λ (ls : List Latch). AreLoadedButNoted ls c.args.self.now.changed c.args.registers.now c.give.new.values) (sym c.deref-2.ensures.value)
     (λ j l at_j lacks.
-      given l.net (λ k e at_k names. all_at (λ (m : Latch). m.net ≢ l.net) latches j l (c.requires.ready.inputs_apart_from_latches k e l.net at_k names) at_j refl)
-      ∙ c.requires.settled.unchanged j l at_j lacks)
+    given l.net (λ k e at_k names. all_at (λ (m : Latch). m.net ≢ l.net) latches j l (c.requires.ready.inputs_apart_from_latches k e l.net at_k names) at_j refl)
+    ∙ c.requires.settled.unchanged j l at_j lacks)
 
 pub load-requires-clause-listed : goal.load-requires-clause-listed
 load-requires-clause-listed c =
@@ -29,7 +28,7 @@ load-requires-clause-listed c =
 
 pub returns-clause-stand : goal.returns-clause-stand
 returns-clause-stand c =
-    let steps = c.args.machine.now.steps.items in
+    let steps = c.args.machine.now.program in
     let latches = c.args.machine.now.latches.items in
     let old : Wake = record { readers = c.args.self.now.wake.readers; marks = c.args.self.now.wake.marks; touched = c.clear.new.self } in
     let v = c.args.values.now in

@@ -64,8 +64,7 @@ returns-clause-run c =
     let begun = c.begin.ensures.begun in
     let swept = c.sweep.ensures.swept c.args.values.now c.begin.new.values c.args.registers.now c.begin.ensures.swept in
     let values = c.evaluate.new.values in
-    let sources = subst (λ (ss : List Step). KeepsOtherSteps ss c.sweep.new.values values) c.deref-2.ensures.value c.evaluate.ensures.others in
-    let rest = subst (λ (ls : List Latch). KeepsOthers ls c.sweep.new.registers c.latch.new.registers) c.deref-4.ensures.value c.latch.ensures.others in
+    let rest = subst (λ (ls : List Latch). KeepsOthers ls c.sweep.new.registers c.latch.new.registers) c.deref-3.ensures.value c.latch.ensures.others in
     record {
       settles = record {
         first = begun.first;
@@ -73,10 +72,10 @@ returns-clause-run c =
         pulses = begun.pulses;
         registers = begun.registers;
         others = begun.others;
-        evaluated = subst (λ (ss : List Step). AreShown ss values) c.deref-2.ensures.value c.evaluate.ensures.shown;
-        sources = λ n free. sources n free ∙ swept.others n free;
+        evaluated = c.evaluate.ensures.shown;
+        sources = λ n free. c.evaluate.ensures.others n free ∙ swept.others n free;
       };
-      shows = c.show-2.ensures ∙ ap (map (pulse_shown values)) c.deref-3.ensures.value;
-      taken = subst (λ (ls : List Latch). AreTaken ls values c.latch.new.registers) c.deref-4.ensures.value c.latch.ensures.taken;
+      shows = c.show-2.ensures ∙ ap (map (pulse_shown values)) c.deref-2.ensures.value;
+      taken = subst (λ (ls : List Latch). AreTaken ls values c.latch.new.registers) c.deref-3.ensures.value c.latch.ensures.taken;
       rest = λ n free. rest n free ∙ swept.rest n free;
     }

@@ -14,5 +14,5 @@ loop-preserved c =
       stand = follow.stand;
       swept = λ start loaded held before.
           let h = known.swept start loaded held before in
-          follow.swept start loaded held (record { noted = h.noted; others = h.others; rest = h.rest; unchanged = h.unchanged; listed = h.listed; });
+          follow.swept start loaded held (record { noted = h.noted; others = h.others; rest = h.rest; unchanged = h.unchanged; listed = h.listed });
     }

@@ -9,8 +9,8 @@ abbrev pub invariant-loop : goal.invariant-loop
 invariant-loop l =
     record {
       wake : IsWake (length l.initial.values) l.self.wake;
-      reading : ReadAll l.machine.steps.items l.machine.latches.items l.self.wake.readers;
-      stand : Stand l.machine.steps.items l.machine.latches.items l.self.wake.marks.words.items l.values l.registers;
-      swept : (start loaded held : Numbers) → HasSwept l.machine.steps.items l.machine.latches.items start loaded held l.initial.self l.initial.values l.initial.registers
-          → HasSwept l.machine.steps.items l.machine.latches.items start loaded held l.self l.values l.registers;
+      reading : ReadAll l.machine.program l.machine.latches.items l.self.wake.readers;
+      stand : Stand l.machine.program l.machine.latches.items l.self.wake.marks.words.items l.values l.registers;
+      swept : (start loaded held : Numbers) → HasSwept l.machine.program l.machine.latches.items start loaded held l.initial.self l.initial.values l.initial.registers
+          → HasSwept l.machine.program l.machine.latches.items start loaded held l.self l.values l.registers;
     }

@@ -1,9 +1,8 @@
 use Rattle.std.proofs.Common.{List, subst}
 use Rattle.gos_sim.specs.declared.event_nets.EventNets.{EventNets}
-use Rattle.gos_sim.specs.declared.program.Step.{Step}
 use Rattle.gos_sim.specs.declared.program.Latch.{Latch}
 use Rattle.gos_sim.specs.Cycle.{GivesAll}
-use Rattle.gos_sim.specs.inner.Running.{AreLoaded, AreShown, KeepsOtherSteps, KeepsOthers}
+use Rattle.gos_sim.specs.inner.Running.{AreLoaded, KeepsOthers}
 use Rattle.gos_sim.proofs.machine.Machine.settle.Goals as goal
 
 pub returns : goal.returns
@@ -19,7 +18,7 @@ returns c =
         pulses = subst (λ (es : List EventNets). GivesAll es c.args.inputs.now first) c.deref.ensures.value c.give.ensures.given;
         registers = subst (λ (ls : List Latch). AreLoaded ls held loaded) c.deref-2.ensures.value c.load.ensures.loaded;
         others = subst (λ (ls : List Latch). KeepsOthers ls first loaded) c.deref-2.ensures.value c.load.ensures.others;
-        evaluated = subst (λ (ss : List Step). AreShown ss values) c.deref-3.ensures.value c.evaluate.ensures.shown;
-        sources = subst (λ (ss : List Step). KeepsOtherSteps ss loaded values) c.deref-3.ensures.value c.evaluate.ensures.others;
+        evaluated = c.evaluate.ensures.shown;
+        sources = c.evaluate.ensures.others;
       };
     }

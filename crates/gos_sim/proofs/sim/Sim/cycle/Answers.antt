@@ -15,14 +15,14 @@ use Rattle.gos_sim.proofs.sim.Sim.cycle.Goals as goal
 pub rests-rests-requires-clause-ready : goal.rests-rests-requires-clause-ready
 rests-rests-requires-clause-ready c =
     let parts = c.self.inside in
-    let each : length parts.machine.levels.items ≡ length c.deref.result.now = sym (ap length c.deref.ensures.value ∙ c.self.invariant.state.values_each) in
+    let each : parts.machine.count ≡ length c.deref.result.now = sym (ap length c.deref.ensures.value ∙ c.self.invariant.state.values_each) in
     subst (λ (n : ℕ). IsRunnable n (plan_of parts.machine)) each (machine_runnable parts.net parts.machine c.self.invariant.machine)
 
 pub cycle-stands-requires-clause-ready : goal.cycle-stands-requires-clause-ready
 cycle-stands-requires-clause-ready c =
     let parts = c.self.inside in
-    let turned : length c.turn.new.values.items ≡ length parts.machine.levels.items = c.turn.ensures.each ∙ c.self.invariant.state.values_each in
-    let each : length parts.machine.levels.items ≡ length c.deref_mut-2.result.now = sym (ap length c.deref_mut-2.ensures.value ∙ turned) in
+    let turned : length c.turn.new.values.items ≡ parts.machine.count = c.turn.ensures.each ∙ c.self.invariant.state.values_each in
+    let each : parts.machine.count ≡ length c.deref_mut-2.result.now = sym (ap length c.deref_mut-2.ensures.value ∙ turned) in
     subst (λ (n : ℕ). IsRunnable n (plan_of parts.machine)) each (machine_runnable parts.net parts.machine c.self.invariant.machine)
 
 pub cycle-stands-requires-clause-given : goal.cycle-stands-requires-clause-given
@@ -38,10 +38,10 @@ invariant_of-self c =
     let built = c.self.invariant in
     let active = c.cycle-stands.new.self in
     let nets : Numbers → Numbers = by_net parts.machine.places.items in
-    let turned : length c.turn.new.values.items ≡ length parts.machine.levels.items = c.turn.ensures.each ∙ built.state.values_each in
-    let each : length c.deref_mut-2.result.now ≡ length parts.machine.levels.items = ap length c.deref_mut-2.ensures.value ∙ turned in
-    let registers : length c.cycle-stands.new.registers ≡ length parts.machine.levels.items = omega (arith, built.state.registers_each) in
-    let values : length c.cycle-stands.new.values ≡ length parts.machine.levels.items = omega (arith, turned) in
+    let turned : length c.turn.new.values.items ≡ parts.machine.count = c.turn.ensures.each ∙ built.state.values_each in
+    let each : length c.deref_mut-2.result.now ≡ parts.machine.count = ap length c.deref_mut-2.ensures.value ∙ turned in
+    let registers : length c.cycle-stands.new.registers ≡ parts.machine.count = omega (arith, built.state.registers_each) in
+    let values : length c.cycle-stands.new.values ≡ parts.machine.count = omega (arith, turned) in
     let after = with_items_is parts.registers c.cycle-stands.new.registers (omega arith) in
     let shown = with_items_is c.turn.new.values c.cycle-stands.new.values (omega arith) in
     let run = subst (λ (held : Numbers). RunsThrough (plan_of parts.machine) c.args.inputs.now held c.cycle-stands.new.values c.cycle-stands.new.outputs c.cycle-stands.new.registers) c.deref_mut.ensures.value c.cycle-stands.ensures.run in
@@ -65,7 +65,7 @@ invariant_of-self c =
       others = machine_others parts.net parts.machine built.machine parts.registers.items c.cycle-stands.new.values c.cycle-stands.new.registers c.args.inputs.now c.cycle-stands.new.outputs built.others run;
       stands = λ yes. (c.cycle-stands.ensures.still yes, come);
       came = came;
-      awake = subst (λ (n : ℕ). IsAwake n parts.machine.steps.items parts.machine.latches.items active) each c.cycle-stands.ensures.awake;
+      awake = subst (λ (n : ℕ). IsAwake n parts.machine.program parts.machine.latches.items active) each c.cycle-stands.ensures.awake;
       settled = c.cycle-stands.ensures.settled;
       noted = kept;
     } in

@@ -10,7 +10,7 @@ use Rattle.gos_sim.proofs.sim.Sim.peek.Goals as goal
 pub show-requires-clause-nets : goal.show-requires-clause-nets
 show-requires-clause-nets c =
     let parts = c.self.inside in
-    let each : length parts.machine.levels.items ≡ length c.deref-2.result.now = sym (ap length c.deref-2.ensures.value ∙ c.self.invariant.state.registers_each) in
+    let each : parts.machine.count ≡ length c.deref-2.result.now = sym (ap length c.deref-2.ensures.value ∙ c.self.invariant.state.registers_each) in
     subst (λ (es : List EventNets). All (OnNets (λ a. a < length c.deref-2.result.now)) es) (sym c.deref.ensures.value)
     (subst (λ (n : ℕ). All (OnNets (λ a. a < n)) parts.machine.outputs.items) each (machine_runnable parts.net parts.machine c.self.invariant.machine).outputs)
 

@@ -11,14 +11,14 @@ use Rattle.gos_sim.proofs.sim.Sim.reset.Goals as goal
 pub settle_at_reset-requires : goal.settle_at_reset-requires
 settle_at_reset-requires c =
     let parts = c.self.inside in
-    let each : length parts.machine.levels.items ≡ length c.deref_mut.result.now = sym (ap length c.deref_mut.ensures.value ∙ c.self.invariant.state.values_each) in
+    let each : parts.machine.count ≡ length c.deref_mut.result.now = sym (ap length c.deref_mut.ensures.value ∙ c.self.invariant.state.values_each) in
     record { ready = subst (λ (n : ℕ). IsRunnable n (plan_of parts.machine)) each (machine_runnable parts.net parts.machine c.self.invariant.machine) }
 
 pub invariant_of-self : goal.invariant_of-self
 invariant_of-self c =
     let parts = c.self.inside in
-    let values : length c.settle_at_reset.new.values ≡ length parts.machine.levels.items = omega (arith, c.self.invariant.state.values_each) in
-    let zeros : c.fill.new.self.items ≡ replicate (length parts.machine.levels.items) 0 = search rules in
+    let values : length c.settle_at_reset.new.values ≡ parts.machine.count = omega (arith, c.self.invariant.state.values_each) in
+    let zeros : c.fill.new.self.items ≡ replicate (parts.machine.count) 0 = search rules in
     let settled = with_items_is parts.values c.settle_at_reset.new.values (omega arith) in
     subst (λ (vs : Numbers). IsBuilt parts.net parts.machine c.reset.new.self c.fill.new.self.items vs parts.before.items false Reset) (sym settled)
     (built_at_reset parts.net parts.machine c.self.invariant.machine c.reset.new.self c.fill.new.self.items c.settle_at_reset.new.values parts.before.items
@@ -28,7 +28,7 @@ invariant_of-self c =
 pub returns : goal.returns
 returns c =
     let parts = c.self.inside in
-    let zeros : c.fill.new.self.items ≡ replicate (length parts.machine.levels.items) 0 = search rules in
+    let zeros : c.fill.new.self.items ≡ replicate (parts.machine.count) 0 = search rules in
     let nets : by_net parts.machine.places.items c.fill.new.self.items ≡ replicate (length parts.net.cells) 0 =
     ap (by_net parts.machine.places.items) zeros ∙ machine_zeros parts.net parts.machine c.self.invariant.machine in
     (λ i. record { net = parts.net; registers = nets i; settlings = [] }) ∙ ap (λ (s : Simulator). at_reset s.net) c.self.view_is

@@ -1,0 +1,295 @@
+// Steps in runs: one behind another, all of one kind, so that a loop for that kind goes through them.
+ghost use Rattle.std.specs.Prelude.{◌≡◌, ℕ, ◌+◌, ◌≤◌, List, ◌∷◌, [], ◌++◌, All, IfOk, IsFalse, IsTrue, OnOk, length};
+ghost use Rattle.std.specs.List.{flat_map};
+ghost use Rattle.gos_netlist.specs.Seen.{function_of};
+ghost use Rattle.gos_netlist.specs.Settling.{at};
+ghost use Rattle.gos_sim.specs.inner.Program.{HaveOneCell, IsShort, IsStepWithin, SparesEarlier, is_source};
+ghost use Rattle.gos_sim.specs.inner.Places.{AreStepsMoved};
+ghost use Rattle.gos_sim.specs.inner.Running.{AreShown, KeepsOtherSteps};
+ghost use Rattle.gos_sim.specs.inner.Evaluation.{AreFitting, AreRunsMore, Fits, GoesOn, IsAdded, after, bits_of, part, steps_from, steps_of};
+
+use crate::operations::{
+    Add, And, Constant, Equal, Less, Mux, Not, Operation, Or, Pair, Pass, Sub, Triple, Xor,
+};
+use crate::places::step_moved;
+use crate::program::Step;
+use gos_netlist::{Gate, NetId};
+use gos_types::NoMemory;
+use std::alloc::Global;
+use std::marker::Model;
+
+/// What the steps of a run do.
+#[derive(Debug, Clone, Copy, PartialEq, Eq)]
+pub enum Kind {
+    Const,
+    Not,
+    And,
+    Or,
+    Xor,
+    Mux,
+    Add,
+    Sub,
+    Eq,
+    Less,
+    Gate,
+}
+
+/// Steps of one kind, whose nets stand one behind another, and so do their operands.
+#[derive(Debug, Clone, Copy)]
+pub struct Run {
+    /// What they do.
+    pub kind: Kind,
+    /// Their bits; 0 where these don't matter.
+    pub width: u32,
+    /// The net of the first one.
+    pub net: u32,
+    /// Where the operand of the first one stands, among those of its kind.
+    pub first: u32,
+    /// How many there are.
+    pub count: u32,
+}
+
+/// The operands of all steps: constants, and the nets that they read, of steps with one pin, two and three.
+#[derive(Drop)]
+pub struct Operands {
+    /// The constants.
+    pub constants: Vec<u32>,
+    /// The pins of those with one.
+    pub pins: Vec<NetId>,
+    /// The pins of those with two.
+    pub pairs: Vec<Pair>,
+    /// The pins of those with three.
+    pub triples: Vec<Triple>,
+}
+
+/// Steps in runs. Clauses see them as the steps.
+#[derive(Drop)]
+pub struct Program {
+    operands: Operands,
+    runs: Vec<Run>,
+    last: Run,
+}
+
+impl Model for Program {
+    ghost use Rattle.std.specs.Coded.{codes};
+    ghost use Rattle.std.specs.Prelude.{List};
+    ghost use Rattle.gos_netlist.specs.contracts.nets.Gate as a_gate;
+    ghost use Rattle.gos_sim.specs.declared.program.Step.{Step};
+
+    ghost Value = { List Step };
+
+    ghost coded = { Prim.hlevel (codes, a_gate.the_row.coded) };
+
+    ghost use Rattle.gos_sim.specs.inner.Evaluation.{AreFitting, all_steps};
+
+    ghost view = { λ p. all_steps p.operands p.runs.items p.last };
+
+    ghost invariant = { λ p. AreFitting p.operands p.runs.items p.last };
+}
+
+impl Program {
+    // Evaluates the steps, in their order.
+    pub fn evaluate(&self, values: &mut [u32])
+        requires steps { All (IsStepWithin (length values.old)) self.now }
+        requires order { SparesEarlier self.now }
+        requires one { HaveOneCell self.now }
+        ensures shown { AreShown self.now values.new }
+        ensures others { KeepsOtherSteps self.now values.old values.new }
+    {
+        evaluate_runs(&self.runs, &self.operands, values);
+        evaluate_run(&self.last, &self.operands, values);
+    }
+}
+
+// Evaluates the steps of runs.
+fn evaluate_runs(runs: &[Run], operands: &Operands, values: &mut [u32])
+    requires fit { All (Fits operands.now) runs.now }
+    requires steps { All (IsStepWithin (length values.old)) (flat_map (steps_of operands.now) runs.now) }
+    ensures { values.new ≡ after (flat_map (steps_of operands.now) runs.now) values.old }
+{
+    for run in runs {
+        evaluate_run(run, operands, values);
+    }
+}
+
+// Evaluates the steps of a run.
+fn evaluate_run(run: &Run, operands: &Operands, values: &mut [u32])
+    requires fits { Fits operands.now run.now }
+    requires steps { All (IsStepWithin (length values.old)) (steps_of operands.now run.now) }
+    ensures { values.new ≡ after (steps_of operands.now run.now) values.old }
+{
+    let net = run.net;
+    let width = run.width;
+    match run.kind {
+        Kind::Const => evaluate_part(&Constant, net, part(run, &operands.constants), values),
+        Kind::Not => evaluate_part(&Not { width }, net, part(run, &operands.pins), values),
+        Kind::And => evaluate_part(&And, net, part(run, &operands.pairs), values),
+        Kind::Or => evaluate_part(&Or, net, part(run, &operands.pairs), values),
+        Kind::Xor => evaluate_part(&Xor, net, part(run, &operands.pairs), values),
+        Kind::Mux => evaluate_part(&Mux, net, part(run, &operands.triples), values),
+        Kind::Add => evaluate_part(&Add { width }, net, part(run, &operands.pairs), values),
+        Kind::Sub => evaluate_part(&Sub { width }, net, part(run, &operands.pairs), values),
+        Kind::Eq => evaluate_part(&Equal, net, part(run, &operands.pairs), values),
+        Kind::Less => evaluate_part(&Less, net, part(run, &operands.pairs), values),
+        Kind::Gate => evaluate_part(&Pass, net, part(run, &operands.pairs), values),
+    }
+}
+
+// Those of the operands that are a run's.
+fn part<'a, T>(run: &Run, operands: &'a [T]) -> &'a [T]
+    requires { run.now.first + run.now.count ≤ length operands.now }
+    ensures { result.now ≡ part run.now operands.now }
+{
+    let first = run.first as usize;
+    &operands[first..first + run.count as usize]
+}
+
+// Evaluates steps that do the same, with these operands and at nets from this one on.
+fn evaluate_part<O: Operation>(operation: &O, net: u32, operands: &[O::Operand], values: &mut [u32])
+    requires steps { All (IsStepWithin (length values.old)) (steps_from (O.width operation.now) (O.gate operation.now) net operands.now) }
+    ensures { values.new ≡ after (steps_from (O.width operation.now) (O.gate operation.now) net operands.now) values.old }
+{
+    let mut place = net as usize;
+    for operand in operands {
+        let value = operation.value(operand, values);
+        values[place] = value;
+        place += 1;
+    }
+}
+
+// Steps at the places of their nets, in runs, and also one by one.
+pub fn steps_moved(
+    alloc: Global,
+    steps: &[Step],
+    places: &[u32],
+) -> Result<(Program, Vec<Step>), NoMemory>
+    requires within { All (IsStepWithin (length places.now)) steps.now }
+    requires inside { All (λ s. IsFalse (is_source (function_of s.gate))) steps.now }
+    ensures moved { IfOk result (λ there. AreStepsMoved (at places.now) steps.now there.0) }
+    ensures listed { IfOk result (λ there. there.0 ≡ there.1.items) }
+{
+    let mut operands = no_operands(alloc);
+    let mut runs = Vec::new(alloc);
+    let mut last = no_run();
+    let mut all = Vec::new(alloc);
+    for step in steps {
+        let there = step_moved(step, places);
+        let next = operands.add(there)?;
+        add_run(&mut runs, &mut last, next)?;
+        all.push(narrowed(there))?;
+    }
+    let program = Program {
+        operands,
+        runs,
+        last,
+    };
+    Ok((program, all))
+}
+
+// A step without its bits where these don't matter.
+fn narrowed(step: Step) -> Step
+    ensures { result ≡ record { net = step.net; width = bits_of (function_of step.gate) step.width; gate = step.gate } }
+{
+    let Step { net, width, gate } = step;
+    let width = match gate {
+        Gate::Not(_) | Gate::Add(_, _) | Gate::Sub(_, _) => width,
+        _ => 0,
+    };
+    Step { net, width, gate }
+}
+
+// A run of no steps.
+fn no_run() -> Run
+    ensures count { result.count ≡ 0 }
+    ensures first { result.first ≡ 0 }
+{
+    Run {
+        kind: Kind::Const,
+        width: 0,
+        net: 0,
+        first: 0,
+        count: 0,
+    }
+}
+
+// No operands.
+fn no_operands(alloc: Global) -> Operands {
+    Operands {
+        constants: Vec::new(alloc),
+        pins: Vec::new(alloc),
+        pairs: Vec::new(alloc),
+        triples: Vec::new(alloc),
+    }
+}
+
+// Adds a run behind the last one, or makes that longer where it goes on as the last one does.
+fn add_run(runs: &mut Vec<Run>, last: &mut Run, next: Run) -> Result<(), NoMemory>
+    requires { next.count ≡ 1 }
+    ensures { OnOk result (AreRunsMore runs.old.items last.old next runs.new.items last.new) }
+{
+    if last.goes_on(&next) {
+        last.count += 1;
+    } else {
+        runs.push(*last)?;
+        *last = next;
+    }
+    Ok(())
+}
+
+impl Run {
+    // Whether a run goes on as this one ends. One of as many steps as 32 bits can number doesn't.
+    fn goes_on(&self, next: &Run) -> bool
+        ensures { IsTrue result → GoesOn self.now next.now }
+    {
+        self.kind == next.kind
+            && self.width == next.width
+            && self.count < u32::MAX
+            && u64::from(self.net) + u64::from(self.count) == u64::from(next.net)
+            && u64::from(self.first) + u64::from(self.count) == u64::from(next.first)
+    }
+}
+
+impl Operands {
+    // Adds the operand of a step, and gives the run of that step alone.
+    fn add(&mut self, step: Step) -> Result<Run, NoMemory>
+        requires inside { IsFalse (is_source (function_of step.gate)) }
+        requires short { IsShort (function_of step.gate) }
+        ensures { IfOk result (IsAdded self.old self.new step) }
+    {
+        let (net, width) = (step.net, step.width);
+        let (kind, width, first) = match step.gate {
+            Gate::Input | Gate::Reg(_) => unreachable!(),
+            Gate::Const(k) => (Kind::Const, 0, added(&mut self.constants, k as u32)?),
+            Gate::Not(a) => (Kind::Not, width, added(&mut self.pins, a)?),
+            Gate::And(a, b) => (Kind::And, 0, added(&mut self.pairs, Pair { a, b })?),
+            Gate::Or(a, b) => (Kind::Or, 0, added(&mut self.pairs, Pair { a, b })?),
+            Gate::Xor(a, b) => (Kind::Xor, 0, added(&mut self.pairs, Pair { a, b })?),
+            Gate::Mux(s, a, b) => (Kind::Mux, 0, added(&mut self.triples, Triple { s, a, b })?),
+            Gate::Add(a, b) => (Kind::Add, width, added(&mut self.pairs, Pair { a, b })?),
+            Gate::Sub(a, b) => (Kind::Sub, width, added(&mut self.pairs, Pair { a, b })?),
+            Gate::Eq(a, b) => (Kind::Eq, 0, added(&mut self.pairs, Pair { a, b })?),
+            Gate::Less(a, b) => (Kind::Less, 0, added(&mut self.pairs, Pair { a, b })?),
+            Gate::Gate(a, b) => (Kind::Gate, 0, added(&mut self.pairs, Pair { a, b })?),
+        };
+        Ok(Run {
+            kind,
+            width,
+            net,
+            first,
+            count: 1,
+        })
+    }
+}
+
+// Adds an operand, and gives its place. More than 32 bits can number are more than memory has.
+fn added<T: Drop>(operands: &mut Vec<T>, operand: T) -> Result<u32, NoMemory>
+    ensures place { IfOk result (λ place. place ≡ length operands.old.items) }
+    ensures added { OnOk result (operands.new.items ≡ operands.old.items ++ operand ∷ []) }
+{
+    let place = operands.len();
+    if place >= u32::MAX as usize {
+        return Err(NoMemory);
+    }
+    operands.push(operand)?;
+    Ok(place as u32)
+}
