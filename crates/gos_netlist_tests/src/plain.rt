@@ -239,13 +239,7 @@ fn reads_change(gate: Gate, before: &[u64], values: &[u64]) -> bool {
 }
 
 // Notes the levels in which some gate reads a number that differs.
-fn note_levels(
-    cells: &[Cell],
-    levels: &[u32],
-    before: &[u64],
-    values: &[u64],
-    seen: &mut [bool],
-) {
+fn note_levels(cells: &[Cell], levels: &[u32], before: &[u64], values: &[u64], seen: &mut [bool]) {
     seen.fill(false);
     for (cell, level) in cells.iter().zip(levels) {
         if reads_change(cell.gate, before, values) && (*level as usize) < seen.len() {
