@@ -1,11 +1,11 @@
 -- Bits of words: to set one keeps all that are set, and to take one away leaves all others.
-use Rattle.std.specs.Prelude.{◌≡◌, ◌≢◌, ℕ, ◌+◌, ◌*◌, ◌-◌, ◌<◌, ◌≤◌, ◌/◌, ◌%◌, ◌^◌, ◌⊎◌, get_or, length, set, bit_and, bit_or}
-use Rattle.std.proofs.Common.{arith, refl, ap, sym, subst, inl, inr, ◌∙◌, get_or-set_same, get_or-set_other, w64}
+use Rattle.std.specs.Prelude.{◌≡◌, ◌≢◌, ℕ, ◌+◌, ◌*◌, ◌-◌, ◌<◌, ◌/◌, ◌%◌, ◌^◌, ◌⊎◌, get_or, length, set, bit_and, bit_or}
+use Rattle.std.proofs.Common.{arith, refl, ap, sym, inl, inr, ◌∙◌, get_or-set_same, get_or-set_other, w64}
 use Rattle.std.proofs.lemmas.Bool.{cases_eq}
 use Rattle.std.proofs.lemmas.Nat.Bits.{bit_at_set_same, bit_at_set_other, bit_at_clear_other}
 use Rattle.std.proofs.lemmas.Option.{get_or_from_slice_get, slice_get_read}
 use Rattle.gos_netlist.specs.Settling.{Numbers, at}
-use Rattle.gos_sim.specs.inner.Marks.{AreUnmarked, IsUnmarked, KeepsMarks}
+use Rattle.gos_sim.specs.inner.Marks.{IsUnmarked, KeepsMarks}
 
 -- a word with a bit more, and without one
 abbrev pub with_bit : ℕ → ℕ → ℕ

@@ -1,5 +1,5 @@
 -- Items, one after another: where one is evaluated and its readers are marked, all that isn't marked stands as it must.
-use Rattle.std.specs.Prelude.{◌≡◌, ◌≢◌, ℕ, ◌+◌, ◌<◌, ◌-◌, ◌≤◌, ◌⊎◌, List, [], ◌∷◌, ◌++◌, All, Contains, Some, length, set, slice_get}
+use Rattle.std.specs.Prelude.{◌≡◌, ◌≢◌, ℕ, ◌+◌, ◌<◌, ◌-◌, ◌≤◌, ◌⊎◌, List, [], ◌∷◌, ◌++◌, All, Some, length, set, slice_get}
 use Rattle.std.proofs.Common.{arith, refl, ap, sym, subst, inl, inr, ◌∙◌, get_or-set_same, get_or-set_other}
 use Rattle.std.proofs.lemmas.Bool.{cases_eq}
 use Rattle.std.proofs.lemmas.List.Elements.{All-contains, All-push}
@@ -15,10 +15,10 @@ use Rattle.gos_sim.specs.declared.wake.Wake.{Wake}
 use Rattle.gos_sim.specs.declared.active.Active.{Active}
 use Rattle.gos_sim.specs.inner.Program.{HasLatch, HaveOneCell, reads}
 use Rattle.gos_sim.specs.inner.Running.{AreShown, AreTaken, HaveOnePin}
-use Rattle.gos_sim.specs.inner.Marks.{AreUnmarked, IsUnmarked, KeepsMarks}
+use Rattle.gos_sim.specs.inner.Marks.{IsUnmarked}
 use Rattle.gos_sim.specs.inner.Readers.{ReadAll, Reads}
 use Rattle.gos_sim.specs.inner.Active.{Follows, HasSwept, Lacks, Stand, StandBut}
-use Rattle.gos_sim.proofs.PlaceLemmas.{all_at, same_element}
+use Rattle.gos_sim.proofs.PlaceLemmas.{same_element}
 use Rattle.gos_sim.proofs.OrderLemmas.{contains_at}
 use Rattle.gos_sim.proofs.StepLemmas.{kept_by_step}
 use Rattle.gos_sim.proofs.LatchLemmas.{kept_by_latch}

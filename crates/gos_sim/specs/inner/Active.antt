@@ -1,7 +1,7 @@
 -- What has to be evaluated: steps and latches are items, and an item that isn't marked stands as it must.
 --
 -- Read first: Running, Marks, Readers.
-use Rattle.std.specs.Prelude.{◌≡◌, ◌≢◌, ℕ, ◌+◌, ◌<◌, ◌≤◌, ◌^◌, IsTrue, IsFalse, List, All, Some, length, slice_get}
+use Rattle.std.specs.Prelude.{◌≡◌, ◌≢◌, ℕ, ◌+◌, ◌<◌, ◌≤◌, ◌^◌, IsFalse, List, All, Some, length, slice_get}
 use Rattle.gos_netlist.specs.Settling.{Numbers, at, shown}
 use Rattle.gos_netlist.specs.Seen.{function_of}
 use Rattle.gos_sim.specs.declared.event_nets.EventNets.{EventNets}

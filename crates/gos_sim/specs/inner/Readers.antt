@@ -3,7 +3,7 @@
 -- Read first: Program, Marks. The readers of a place are linked, each to the one before it. A link is one more than the reader's
 -- place; 0 is none.
 use Rattle.std.specs.Prelude.{◌≡◌, ℕ, ◌+◌, ◌<◌, ◌≤◌, ◌/◌, List, All, Some, length, slice_get}
-use Rattle.gos_netlist.specs.Settling.{Numbers, at}
+use Rattle.gos_netlist.specs.Settling.{at}
 use Rattle.gos_sim.specs.declared.program.Step.{Step}
 use Rattle.gos_sim.specs.declared.program.Latch.{Latch}
 use Rattle.gos_sim.specs.declared.readers.Reader.{Reader}

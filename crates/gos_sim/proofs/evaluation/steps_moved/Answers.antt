@@ -1,6 +1,5 @@
-use Rattle.std.proofs.Common.{List, ◌++◌, ◌∷◌, [], ◌∙◌, ap, sym}
+use Rattle.std.proofs.Common.{◌++◌, ◌∷◌, [], ◌∙◌, sym}
 use Rattle.std.proofs.lemmas.Option.{slice_get-get_or}
-use Rattle.gos_sim.specs.declared.program.Step.{Step}
 use Rattle.gos_sim.proofs.EvaluationLemmas.{all_more, moved_more}
 use Rattle.gos_sim.proofs.evaluation.steps_moved.Goals as goal
 

@@ -1,4 +1,4 @@
-use Rattle.std.proofs.Common.{ℕ, ◌≡◌, ◌≢◌, All, drop}
+use Rattle.std.proofs.Common.{ℕ, drop}
 use Rattle.gos_sim.proofs.ActiveLemmas.{LoadedButListed}
 use Rattle.gos_sim.proofs.past.keep_noted.Given as goal
 

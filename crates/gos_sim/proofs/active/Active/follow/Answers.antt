@@ -1,4 +1,4 @@
-use Rattle.std.proofs.Common.{List, ℕ, ◌+◌, ◌-◌, ◌<◌, ◌≡◌, ◌∙◌, All, Some, ap, arith, length, refl, rules, slice_get, subst, sym}
+use Rattle.std.proofs.Common.{List, ℕ, ◌+◌, ◌-◌, ◌<◌, ◌≡◌, ◌∙◌, Some, ap, arith, length, refl, rules, slice_get, subst, sym}
 use Rattle.std.proofs.lemmas.Option.{slice_get_read}
 use Rattle.gos_netlist.specs.Settling.{Numbers, at}
 use Rattle.gos_sim.specs.declared.program.Step.{Step}

@@ -1,9 +1,9 @@
-use Rattle.std.proofs.Common.{List, ℕ, ◌+◌, ◌<◌, ◌≤◌, ◌≡◌, ◌∙◌, ◌/◌, All, ap, arith, length, rules, subst, sym}
+use Rattle.std.proofs.Common.{List, ◌+◌, ◌<◌, ◌≡◌, ◌∙◌, ◌/◌, All, ap, arith, length, rules, subst, sym}
 use Rattle.std.proofs.lemmas.List.Elements.{All-nil}
 use Rattle.gos_sim.specs.declared.program.Step.{Step}
 use Rattle.gos_sim.specs.declared.program.Latch.{Latch}
 use Rattle.gos_sim.specs.inner.Program.{HasLatch, IsStepWithin}
-use Rattle.gos_sim.specs.inner.Readers.{AreLinked, ReadAll}
+use Rattle.gos_sim.specs.inner.Readers.{ReadAll}
 use Rattle.gos_sim.proofs.active.Active.new.Goals as goal
 
 pub readers_of-requires-clause-steps : goal.readers_of-requires-clause-steps

@@ -1,9 +1,8 @@
 use Rattle.std.proofs.Common.{List, ℕ, ◌≡◌, ◌≢◌, ◌∙◌, All, ap, arith, length, map, subst, sym}
 use Rattle.std.proofs.lemmas.List.Elements.{All-nil}
-use Rattle.gos_sim.specs.declared.program.Step.{Step}
 use Rattle.gos_sim.specs.declared.program.Latch.{Latch}
 use Rattle.gos_sim.specs.Cycle.{pulse_shown}
-use Rattle.gos_sim.specs.inner.Running.{AreShown, AreTaken, KeepsOtherSteps, KeepsOthers}
+use Rattle.gos_sim.specs.inner.Running.{AreTaken, KeepsOthers}
 use Rattle.gos_sim.specs.inner.Active.{IsWake}
 use Rattle.gos_sim.proofs.active.Active.run.Goals as goal
 

@@ -1,5 +1,4 @@
 use Rattle.std.proofs.Common.{ℕ, ◌≡◌, arith, length, subst}
-use Rattle.gos_sim.specs.declared.active.Active.{Active}
 use Rattle.gos_sim.specs.inner.Active.{IsWake}
 use Rattle.gos_sim.proofs.active.Active.sweep.Goals as goal
 

@@ -1,4 +1,4 @@
-use Rattle.std.proofs.Common.{ℕ, ◌≡◌, length}
+use Rattle.std.proofs.Common.{length}
 use Rattle.gos_netlist.specs.Settling.{Numbers}
 use Rattle.gos_sim.specs.inner.Readers.{ReadAll}
 use Rattle.gos_sim.specs.inner.Active.{HasSwept, IsWake, Stand}

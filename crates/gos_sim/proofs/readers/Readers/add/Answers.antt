@@ -1,4 +1,4 @@
-use Rattle.std.proofs.Common.{ℕ, ◌≡◌, length, rules, sym}
+use Rattle.std.proofs.Common.{◌≡◌, length, rules, sym}
 use Rattle.gos_sim.specs.declared.readers.Reader.{Reader}
 use Rattle.gos_sim.proofs.MarkLemmas.{read_at}
 use Rattle.gos_sim.proofs.ReaderLemmas.{reads_more, reads_new}

@@ -1,4 +1,4 @@
-use Rattle.std.proofs.Common.{◌≡◌, ℕ, ◌+◌, ◌<◌, ◌/◌, All, Some, length, slice_get}
+use Rattle.std.proofs.Common.{◌≡◌, ℕ, ◌<◌, ◌/◌, All, Some, length, slice_get}
 use Rattle.gos_sim.specs.declared.program.Step.{Step}
 use Rattle.gos_sim.specs.inner.Program.{reads}
 use Rattle.gos_sim.specs.inner.Readers.{AreLinked, Reads}

@@ -1,4 +1,4 @@
-use Rattle.std.proofs.Common.{All, Global, List, Vec, ℕ, ◌≡◌, ◌<◌, ◌∙◌, IsTrue, ap, arith, length, subst, sym, take, ◌∷◌}
+use Rattle.std.proofs.Common.{Global, List, Vec, ℕ, ◌≡◌, ◌∙◌, IsTrue, ap, arith, length, subst, sym, take, ◌∷◌}
 use Rattle.std.specs.Vec.{with_items}
 use Rattle.std.proofs.lemmas.List.{with_items_is}
 use Rattle.gos_netlist.specs.Settling.{Numbers, at}
@@ -6,8 +6,8 @@ use Rattle.gos_sim.specs.Cycle.{GivesAll, IsCycle, Simulator}
 use Rattle.gos_sim.specs.declared.past.Past.{Past}
 use Rattle.gos_sim.specs.inner.Past.{HasCome, IsPast, is_rest, settlings_of}
 use Rattle.gos_sim.specs.inner.Places.{by_net}
-use Rattle.gos_sim.specs.inner.Active.{IsAwake, IsSettled, Lacks}
-use Rattle.gos_sim.specs.inner.Machine.{IsBuilt, IsRunnable, IsStill, RunsThrough, plan_of}
+use Rattle.gos_sim.specs.inner.Active.{IsAwake, Lacks}
+use Rattle.gos_sim.specs.inner.Machine.{IsBuilt, IsRunnable, RunsThrough, plan_of}
 use Rattle.gos_sim.proofs.MachineLemmas.{machine_cycle, machine_others, machine_runnable}
 use Rattle.gos_sim.proofs.PastLemmas.{come_after, noted_after, past_kept, settlings_after}
 use Rattle.gos_sim.proofs.sim.Sim.cycle.Goals as goal

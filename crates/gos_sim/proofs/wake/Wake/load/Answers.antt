@@ -1,4 +1,4 @@
-use Rattle.std.proofs.Common.{List, ℕ, ◌<◌, ◌≢◌, All, length, subst, sym}
+use Rattle.std.proofs.Common.{ℕ, ◌<◌, ◌≢◌, All, length, subst, sym}
 use Rattle.gos_sim.proofs.ActiveLemmas.{listed_below, listed_apart}
 use Rattle.gos_sim.proofs.wake.Wake.load.Goals as goal
 
