@@ -2,14 +2,12 @@
 ghost use Rattle.std.specs.Prelude.{◌≡◌, ◌≢◌, ℕ, ◌+◌, ◌<◌, ◌≤◌, ◌/◌, ◌^◌, ◌⊎◌, ◌++◌, ◌∷◌, [], All, IfOk, IsFalse, IsTrue, List, length, set};
 ghost use Rattle.gos_netlist.specs.Settling.{Numbers, at, shown};
 ghost use Rattle.gos_netlist.specs.Seen.{function_of};
-ghost use Rattle.gos_sim.specs.declared.program.Step.{Step};
-ghost use Rattle.gos_sim.specs.declared.program.Latch.{Latch};
 ghost use Rattle.gos_sim.specs.Cycle.{GivesAll, IsWord};
 ghost use Rattle.gos_sim.specs.inner.Program.{HasLatch, IsLatchWithin, IsStepWithin};
 ghost use Rattle.gos_sim.specs.inner.Running.{AreShown, AreTaken};
 ghost use Rattle.gos_sim.specs.inner.Marks.{AreUnmarked};
 ghost use Rattle.gos_sim.specs.inner.Readers.{ReadAll};
-ghost use Rattle.gos_sim.specs.inner.Active.{Follows, HasSwept, IsAwake, IsSettled, IsWake, Lacks, Stand, StandBut};
+ghost use Rattle.gos_sim.specs.inner.Active.{Follows, HasSettled, HasSwept, IsAwake, IsReadyToSettle, IsSettled, IsWake, KeepsAwake, Lacks, Stand, StandBut, SweepsOn};
 ghost use Rattle.gos_sim.specs.inner.Past.{is_all, is_few, is_rest};
 ghost use Rattle.gos_sim.specs.inner.Machine.{HasBegun, IsRunnable, IsStill, RunsThrough, Settles, plan_of};
 
@@ -125,7 +123,7 @@ impl Active {
     // Forgets what it knows of the values, as after a reset.
     pub fn reset(&mut self)
         ensures fresh { IsFalse self.new.settled }
-        ensures awake { (count : ℕ) (steps : List Step) (latches : List Latch) → IsAwake count steps latches self.old → IsAwake count steps latches self.new }
+        ensures awake { KeepsAwake self.old self.new }
     {
         self.wake.touched.spoil();
         self.changed.spoil();
@@ -137,8 +135,8 @@ impl Active {
     // After a cycle that evaluated all steps.
     fn settle(&mut self)
         ensures touched { IsTrue self.new.wake.touched.full }
-        ensures awake { (count : ℕ) (steps : List Step) (latches : List Latch) → IsAwake count steps latches self.old → IsAwake count steps latches self.new }
-        ensures settled { (steps : List Step) (latches : List Latch) (v registers : Numbers) → AreShown steps v → AreTaken latches v registers → IsSettled steps latches self.new v registers }
+        ensures awake { KeepsAwake self.old self.new }
+        ensures settled { IsReadyToSettle self.new }
     {
         self.wake.touched.spoil();
         self.changed.spoil();
@@ -166,14 +164,14 @@ impl Active {
         requires given { IsTrue (is_rest course) → GivesAll machine.now.inputs.items inputs.now values.old }
         requires few { IsTrue (is_few course) → IsTrue self.old.settled }
         requires awake { IsAwake (length values.old) machine.now.program machine.now.latches.items self.old }
-        requires settled { IsFalse (is_all course) → IsTrue self.old.settled → IsSettled machine.now.program machine.now.latches.items self.old values.old registers.old }
+        requires settled { IsFalse (is_all course) → HasSettled machine.now.program machine.now.latches.items self.old values.old registers.old }
         ensures run { RunsThrough (plan_of machine.now) inputs.now registers.old values.new outputs.new registers.new }
         ensures still { IsTrue result → IsStill (plan_of machine.now) registers.new values.new }
         ensures rest { IsTrue (is_rest course) → (self.new ≡ self.old) × (values.new ≡ values.old) }
         ensures few { IsTrue (is_few course) → (p : ℕ) → Lacks self.new.wake.touched p → at values.new p ≡ at values.old p }
         ensures all { IsTrue (is_all course) → IsTrue self.new.wake.touched.full }
         ensures awake { IsAwake (length values.old) machine.now.program machine.now.latches.items self.new }
-        ensures settled { IsTrue self.new.settled → IsSettled machine.now.program machine.now.latches.items self.new values.new registers.new }
+        ensures settled { HasSettled machine.now.program machine.now.latches.items self.new values.new registers.new }
     {
         match course {
             Course::Rest => machine.run(inputs, outputs, registers, values, true),
@@ -197,7 +195,7 @@ impl Active {
         ensures wake { IsWake (length values.old) self.new.wake }
         ensures reading { ReadAll machine.now.program machine.now.latches.items self.new.wake.readers }
         ensures stand { Stand machine.now.program machine.now.latches.items self.new.wake.marks.words.items values.new registers.new }
-        ensures swept { (start loaded held : Numbers) → HasSwept machine.now.program machine.now.latches.items start loaded held self.old values.old registers.old → HasSwept machine.now.program machine.now.latches.items start loaded held self.new values.new registers.new }
+        ensures swept { SweepsOn machine.now.program machine.now.latches.items self.old values.old registers.old self.new values.new registers.new }
     {
         let steps = machine.steps.len();
         if item < steps {
@@ -231,7 +229,7 @@ impl Active {
         ensures unmarked { IsTrue result → AreUnmarked self.new.wake.marks.words.items }
         ensures shown { IsTrue result → AreShown machine.now.program values.new }
         ensures taken { IsTrue result → AreTaken machine.now.latches.items values.new registers.new }
-        ensures swept { (start loaded held : Numbers) → HasSwept machine.now.program machine.now.latches.items start loaded held self.old values.old registers.old → HasSwept machine.now.program machine.now.latches.items start loaded held self.new values.new registers.new }
+        ensures swept { SweepsOn machine.now.program machine.now.latches.items self.old values.old registers.old self.new values.new registers.new }
     {
         let mut word = 0;
         for _ in 0..most {

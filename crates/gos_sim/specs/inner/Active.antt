@@ -73,6 +73,11 @@ pub record HasSwept (steps : List Step) (latches : List Latch) (start loaded hel
   pub unchanged : AreLoadedButNoted latches active.changed registers v
   pub listed : All (HasLatch latches) active.changed.places.items
 
+-- it comes further, whatever it began with
+abbrev pub SweepsOn : List Step → List Latch → Active → Numbers → Numbers → Active → Numbers → Numbers → Type 0
+SweepsOn steps latches old v registers new w after =
+    (start loaded held : Numbers) → HasSwept steps latches start loaded held old v registers → HasSwept steps latches start loaded held new w after
+
 -- Between cycles nothing is marked.
 pub record IsAwake (count : ℕ) (steps : List Step) (latches : List Latch) (active : Active) : Type 0 where
   pub wake : IsWake count active.wake
@@ -86,3 +91,16 @@ pub record IsSettled (steps : List Step) (latches : List Latch) (active : Active
   pub shown : AreShown steps v
   pub taken : AreTaken latches v registers
   pub unchanged : AreLoadedButNoted latches active.changed registers v
+
+-- where it says so, it has settled
+abbrev pub HasSettled : List Step → List Latch → Active → Numbers → Numbers → Type 0
+HasSettled steps latches active v registers = IsTrue active.settled → IsSettled steps latches active v registers
+
+-- what is awake stays so
+abbrev pub KeepsAwake : Active → Active → Type 0
+KeepsAwake old new = (count : ℕ) (steps : List Step) (latches : List Latch) → IsAwake count steps latches old → IsAwake count steps latches new
+
+-- nothing more is asked for it to be settled than of a cycle that evaluated all
+abbrev pub IsReadyToSettle : Active → Type 0
+IsReadyToSettle active =
+    (steps : List Step) (latches : List Latch) (v registers : Numbers) → AreShown steps v → AreTaken latches v registers → IsSettled steps latches active v registers

@@ -20,7 +20,7 @@ use Rattle.gos_sim.specs.inner.Running.{AreLoaded, AreShown, AreTaken, HaveOnePi
 use Rattle.gos_sim.specs.inner.Counting.{ChainLevels}
 use Rattle.gos_sim.specs.inner.Ready.{AreApart, IsReady}
 use Rattle.gos_sim.specs.inner.Past.{HasCome, IsPast, settlings_of}
-use Rattle.gos_sim.specs.inner.Active.{IsAwake, IsSettled, Lacks}
+use Rattle.gos_sim.specs.inner.Active.{HasSettled, IsAwake, Lacks}
 use Rattle.gos_sim.specs.inner.Places.{AreStepsMoved, IsNumbering, by_net, event_moved, latch_moved}
 
 -- what runs in each cycle
@@ -130,7 +130,7 @@ pub record IsBuilt (net : Netlist) (m : Machine) (active : Active) (registers va
   pub stands : IsTrue still → IsStill (plan_of m) registers values × HasCome past
   pub came : IsPast net.cells past (by_net m.places.items values) (by_net m.places.items before)
   pub awake : IsAwake m.count m.program m.latches.items active
-  pub settled : IsTrue active.settled → IsSettled m.program m.latches.items active values registers
+  pub settled : HasSettled m.program m.latches.items active values registers
   pub noted : IsTrue active.settled → (place : ℕ) → Lacks active.wake.touched place → at before place ≡ at values place
 
 -- what clauses see of it
