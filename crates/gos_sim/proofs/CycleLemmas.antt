@@ -17,7 +17,7 @@ use Rattle.gos_sim.specs.EventNets.{OnNumber, OnNets, Names, input_events, outpu
 use Rattle.gos_sim.specs.Cycle.{GivesAll, IsCycle, IsNextOutput, number_shown, pulse_shown}
 use Rattle.gos_sim.specs.inner.Program.{IsStepOf, IsProgram, IsLatchOf, AreLatches, cell_of_step, is_source, latches_at}
 use Rattle.gos_sim.specs.inner.Running.{AreShown, AreLoaded, AreTaken, HaveOnePin, KeepsOtherSteps, KeepsOthers}
-use Rattle.gos_sim.specs.inner.Ready.{AreApart, IsInputNet, IsRegisterNet}
+use Rattle.gos_sim.specs.inner.Ready.{AreApart, IsInputNet, IsReady, IsRegisterNet}
 use Rattle.gos_sim.specs.inner.Machine.{HoldNothingElse, IsPlan, IsRunnable, Plan, RunsThrough, SettlesAtReset}
 use Rattle.gos_sim.specs.Visits.{IsZeroSettling}
 use Rattle.gos_sim.proofs.PlaceLemmas.{all_at, same_element, place_of}
@@ -187,12 +187,23 @@ on_nets P Q gives e on = (gives e.pulse on.0, number e.number on.1)
     number None h = tt
     number (Some x) h = gives x h
 
+-- the nets of events are cells
+events_within : (net : Netlist) (P : ℕ → Type 0) → ((a : ℕ) → P a → a < length net.cells) → (es : List EventNets) → All (OnNets P) es
+    → All (OnNets (λ a. a < length net.cells)) es
+events_within net P below es all = All-weaker (OnNets P) (OnNets (λ a. a < length net.cells)) (on_nets P (λ a. a < length net.cells) below) es all
+
+pub inputs_within : (net : Netlist) → IsReady net → All (OnNets (λ a. a < length net.cells)) (input_events net)
+inputs_within net ready = events_within net (IsInputNet net.cells) (λ a (c, is, input). slice_get_within net.cells a c is) (input_events net) ready.inputs
+
+pub outputs_within : (net : Netlist) → IsReady net → All (OnNets (λ a. a < length net.cells)) (output_events net)
+outputs_within net ready = events_within net (IsRegisterNet net.cells) (λ a (c, is, register). slice_get_within net.cells a c is) (output_events net) ready.outputs
+
 -- a netlist's plan can run over its nets
 pub runnable : (net : Netlist) (m : Plan) → IsPlan net m → IsRunnable (length net.cells) m
 runnable net m plan =
     record {
-      inputs = within (IsInputNet net.cells) (λ a (c, is, input). slice_get_within net.cells a c is) m.inputs (input_events net) plan.inputs plan.ready.inputs;
-      outputs = within (IsRegisterNet net.cells) (λ a (c, is, register). slice_get_within net.cells a c is) m.outputs (output_events net) plan.outputs plan.ready.outputs;
+      inputs = subst (All (OnNets (λ a. a < length net.cells))) (sym plan.inputs) (inputs_within net plan.ready);
+      outputs = subst (All (OnNets (λ a. a < length net.cells))) (sym plan.outputs) (outputs_within net plan.ready);
       apart = subst AreApart (sym plan.inputs) plan.ready.apart;
       ordered = plan.program.ordered;
       one_cell = one_cell net.cells m.steps plan.program.sound;
@@ -221,10 +232,6 @@ runnable net m plan =
 
     at_latch : (l : Latch) → IsLatchOf net.cells l → All (λ s. s.net ≢ l.net) m.steps
     at_latch l (w, is) = no_step net.cells m.steps l.net (record { width = w; gate = Reg l.pin }) plan.program is refl
-
-    within : (P : ℕ → Type 0) → ((a : ℕ) → P a → a < length net.cells) → (es fs : List EventNets) → es ≡ fs → All (OnNets P) fs → All (OnNets (λ a. a < length net.cells)) es
-    within P below es fs same all =
-        All-weaker (OnNets P) (OnNets (λ a. a < length net.cells)) (on_nets P (λ a. a < length net.cells) below) es (subst (λ (es : List EventNets). All (OnNets P) es) (sym same) all)
 
 -- the values that settle at reset are a settling
 pub zero_settling : (net : Netlist) (m : Plan) (values : Numbers) → IsPlan net m → SettlesAtReset m values → length values ≡ length net.cells

@@ -4,24 +4,26 @@ use Rattle.std.specs.List.{flat_map}
 use Rattle.std.proofs.Common.{arith, refl, sym, ap, subst, ◌∙◌, get_or-set_other}
 use Rattle.std.proofs.Math.ListN.{drop_of_length-le}
 use Rattle.std.proofs.Math.Seq.{take-add}
-use Rattle.std.proofs.lemmas.List.{append_assoc, drop-append-le, drop-drop, length-append, length-drop, length-set, length-take-le, take-append-le}
-use Rattle.std.proofs.lemmas.List.Elements.{All-cons, All-head, All-nil, All-tail, All-weaker}
+use Rattle.std.proofs.lemmas.List.{append-nil, append_assoc, drop-append-le, drop-drop, flat_map_more, length-append, length-drop, length-set, length-take-le, take-append-le}
+use Rattle.std.proofs.lemmas.List.Elements.{All-cons, All-head, All-nil, All-push, All-tail, All-weaker}
 use Rattle.std.proofs.lemmas.List.Concat.{flat_map-cons}
 use Rattle.gos_netlist.specs.declared.nets.Gate as declared
 use Rattle.gos_netlist.specs.declared.nets.Gate.TheVariants as gates
 use Rattle.gos_netlist.specs.Nets.{Function, Input, Const, Not, And, Or, Xor, Mux, Add, Sub, Eq, Less, Gate, Reg}
 use Rattle.gos_netlist.specs.Seen.{function_of}
 use Rattle.gos_netlist.specs.Settling.{Numbers, at, shown}
+use Rattle.gos_sim.specs.declared.evaluation.Draft.{Draft}
 use Rattle.gos_sim.specs.declared.evaluation.Kind.{Kind}
 use Rattle.gos_sim.specs.declared.evaluation.Kind.TheVariants as kinds
 use Rattle.gos_sim.specs.declared.evaluation.Operands.{Operands}
 use Rattle.gos_sim.specs.declared.evaluation.Run.{Run}
 use Rattle.gos_sim.specs.declared.program.Step.{Step}
 use Rattle.gos_sim.specs.inner.Program.{HaveOneCell, IsStepWithin, SparesEarlier}
-use Rattle.gos_sim.specs.inner.Places.{IsStepMoved, moved}
+use Rattle.gos_sim.specs.inner.Places.{AreStepsMoved, IsStepMoved, moved}
+use Rattle.gos_sim.specs.inner.Drafts.{AddsSteps, IsDraft}
 use Rattle.gos_sim.specs.inner.Evaluation.{AreFitting, AreLonger, AreRunsMore, Fits, GoesOn, IsAdded, IsLonger, after, bits_of, all_steps, part, room_of, steps_from, steps_of, steps_of_kind, value_of}
 use Rattle.gos_sim.specs.inner.Running.{AreShown, KeepsOtherSteps}
-use Rattle.gos_sim.proofs.MoveLemmas.{steps_more}
+use Rattle.gos_sim.proofs.MoveLemmas.{steps_pushed}
 use Rattle.gos_sim.proofs.StepLemmas.{AreShownBefore, shown_more}
 
 one_more : (k : ℕ) → suc k ≡ k + 1
@@ -266,27 +268,6 @@ kept_all old new runs last more fit = λ i. those runs fit.all i ++ (kept_steps 
         ∙ ((λ i. (kept_steps r.kind old new r more (All-head (Fits old) r rs all)).0 i ++ those rs (All-tail (Fits old) r rs all) i)
         ∙ sym (flat_map-cons (steps_of old) r rs))
 
--- runs, and then a last one
-pub last_within : (o : Operands) (runs : List Run) (last : Run) (steps : List Step) (v w : Numbers) → all_steps o runs last ≡ steps
-    → All (IsStepWithin (length v)) steps → w ≡ after (flat_map (steps_of o) runs) v → All (IsStepWithin (length w)) (steps_of o last)
-last_within o runs last steps v w are all gives =
-    subst (λ (n : ℕ). All (IsStepWithin n) (steps_of o last)) (sym (ap length gives ∙ length_after (flat_map (steps_of o) runs) v))
-    (All-right (IsStepWithin (length v)) (flat_map (steps_of o) runs) (steps_of o last) (subst (All (IsStepWithin (length v))) (sym are) all))
-
-pub all_after : (o : Operands) (runs : List Run) (last : Run) (steps : List Step) (v w x : Numbers) → all_steps o runs last ≡ steps
-    → w ≡ after (flat_map (steps_of o) runs) v → x ≡ after (steps_of o last) w → x ≡ after steps v
-all_after o runs last steps v w x are first second =
-    second
-    ∙ (ap (after (steps_of o last)) first
-    ∙ (sym (after_append (flat_map (steps_of o) runs) (steps_of o last) v)
-    ∙ ap (λ (ss : List Step). after ss v) are))
-
--- steps in runs are those of nets, moved
-pub record AreMoved (places : Numbers) (steps : List Step) (o : Operands) (runs : List Run) (last : Run) (k : ℕ) : Type 0 where
-  pub fit : AreFitting o runs last
-  pub each : length (all_steps o runs last) ≡ k
-  pub moved : (j : ℕ) (u t : Step) → slice_get steps j ≡ Some u → slice_get (all_steps o runs last) j ≡ Some t → IsStepMoved (at places) u t
-
 bits_moved : (p : ℕ → ℕ) (f : Function) (w : ℕ) → bits_of (moved p f) w ≡ bits_of f w
 bits_moved p Input w = refl
 bits_moved p (Const k) w = refl
@@ -302,28 +283,70 @@ bits_moved p (Less a b) w = refl
 bits_moved p (Gate s a) w = refl
 bits_moved p (Reg a) w = refl
 
--- all steps, where one more is added
-pub all_more : (old new : Operands) (runs more : List Run) (last next newest : Run) (m : Step) → AreFitting old runs last
-    → IsAdded old new m next → AreRunsMore runs last next more newest
-    → all_steps new more newest ≡ all_steps old runs last ++ (record { net = m.net; width = bits_of (function_of m.gate) m.width; gate = m.gate }) ∷ []
-all_more old new runs more last next newest m fit added join =
-    let kept = kept_all old new runs last added.longer fit in
-    (join new (kept_fitting old new runs last added.longer fit) added.fits).0 ∙ (λ i. kept i ++ added.steps i)
+-- no steps
+pub draft_none : (places : Numbers) (d : Draft) → d.last.count ≡ 0 → d.runs.items ≡ [] → d.last.first ≡ 0 → IsDraft places [] d
+draft_none places d none runs first =
+    record {
+      fit = record { all = subst (All (Fits d.operands)) (sym runs) (All-nil (Fits d.operands)); too = omega (arith, none, first) };
+      moved = subst (AreStepsMoved (at places) []) (sym (λ i. flat_map (steps_of d.operands) (runs i) ++ empty d.last.kind i)) (record { each = refl; moved = λ j s t at_j. absurd (cc) });
+    }
+  where
+    nothing : {A : Type 0} (xs : List A) → part d.last xs ≡ []
+    nothing xs = ap (λ (n : ℕ). take n (drop d.last.first xs)) none
 
--- the steps so far, and one more
-pub moved_more : (places : Numbers) (steps : List Step) (old new : Operands) (runs more : List Run) (last next newest : Run) (k : ℕ) (s m : Step)
-    → AreFitting old runs last → length (all_steps old runs last) ≡ k
-    → ((j : ℕ) (u t : Step) → slice_get steps j ≡ Some u → slice_get (all_steps old runs last) j ≡ Some t → IsStepMoved (at places) u t)
-    → slice_get steps k ≡ Some s → m.net ≡ at places s.net → m.width ≡ s.width → function_of m.gate ≡ moved (at places) (function_of s.gate)
-    → IsAdded old new m next → AreRunsMore runs last next more newest → AreMoved places steps new more newest (k + 1)
-moved_more places steps old new runs more last next newest k s m fit long before is net width gate added join =
+    empty : (k : Kind) → steps_of_kind k d.operands d.last ≡ []
+    empty kinds.Const = ap (steps_from 0 gates.Const d.last.net) (nothing d.operands.constants.items)
+    empty kinds.Not = ap (steps_from d.last.width gates.Not d.last.net) (nothing d.operands.pins.items)
+    empty kinds.And = ap (steps_from 0 (λ p. gates.And p.a p.b) d.last.net) (nothing d.operands.pairs.items)
+    empty kinds.Or = ap (steps_from 0 (λ p. gates.Or p.a p.b) d.last.net) (nothing d.operands.pairs.items)
+    empty kinds.Xor = ap (steps_from 0 (λ p. gates.Xor p.a p.b) d.last.net) (nothing d.operands.pairs.items)
+    empty kinds.Mux = ap (steps_from 0 (λ t. gates.Mux t.s t.a t.b) d.last.net) (nothing d.operands.triples.items)
+    empty kinds.Add = ap (steps_from d.last.width (λ p. gates.Add p.a p.b) d.last.net) (nothing d.operands.pairs.items)
+    empty kinds.Sub = ap (steps_from d.last.width (λ p. gates.Sub p.a p.b) d.last.net) (nothing d.operands.pairs.items)
+    empty kinds.Eq = ap (steps_from 0 (λ p. gates.Eq p.a p.b) d.last.net) (nothing d.operands.pairs.items)
+    empty kinds.Less = ap (steps_from 0 (λ p. gates.Less p.a p.b) d.last.net) (nothing d.operands.pairs.items)
+    empty kinds.Gate = ap (steps_from 0 (λ p. gates.Gate p.a p.b) d.last.net) (nothing d.operands.pairs.items)
+
+-- a step more
+pub draft_more : (places : Numbers) (s m : Step) (old new : Draft) (next : Run) → m.net ≡ at places s.net → m.width ≡ s.width
+    → function_of m.gate ≡ moved (at places) (function_of s.gate) → IsAdded old.operands new.operands m next
+    → AreRunsMore old.runs.items old.last next new.runs.items new.last → AddsSteps places (s ∷ []) old new
+draft_more places s m old new next net width gate added join = λ steps d.
     let here : Step = record { net = m.net; width = bits_of (function_of m.gate) m.width; gate = m.gate } in
-    let joined = join new (kept_fitting old new runs last added.longer fit) added.fits in
-    let all : all_steps new more newest ≡ all_steps old runs last ++ here ∷ [] = all_more old new runs more last next newest m fit added join in
+    let kept = kept_all old.operands new.operands old.runs.items old.last added.longer d.fit in
+    let joined = join new.operands (kept_fitting old.operands new.operands old.runs.items old.last added.longer d.fit) added.fits in
+    let all : all_steps new.operands new.runs.items new.last ≡ all_steps old.operands old.runs.items old.last ++ here ∷ [] = joined.0 ∙ (λ i. kept i ++ added.steps i) in
     let step : IsStepMoved (at places) s here = record { net = net; width = ap (λ (f : Function). bits_of f m.width) gate ∙ (bits_moved (at places) (function_of s.gate) m.width ∙ ap (bits_of (function_of s.gate)) width); gate = gate } in
     record {
       fit = joined.1;
-      each = ap length all ∙ (length-append (all_steps old runs last) (here ∷ []) ∙ ap (λ (n : ℕ). n + 1) long);
-      moved = subst (λ (ts : List Step). (j : ℕ) (u t : Step) → slice_get steps j ≡ Some u → slice_get ts j ≡ Some t → IsStepMoved (at places) u t) (sym all)
-          (steps_more (at places) steps (all_steps old runs last) k s here long is step before);
+      moved = subst (AreStepsMoved (at places) (steps ++ s ∷ [])) (sym all) (steps_pushed (at places) steps (all_steps old.operands old.runs.items old.last) s here d.moved step);
     }
+
+-- none more
+pub draft_same : (places : Numbers) (d : Draft) → AddsSteps places [] d d
+draft_same places d = λ steps is. subst (λ (ss : List Step). IsDraft places ss d) (sym (append-nil steps)) is
+
+-- the runs of a draft, with the last one
+pub fitting_runs : (places : Numbers) (steps : List Step) (d : Draft) → IsDraft places steps d → All (Fits d.operands) (d.runs.items ++ d.last ∷ [])
+fitting_runs places steps d is = All-push (Fits d.operands) d.runs.items d.last is.fit.all is.fit.too
+
+pub moved_runs : (places : Numbers) (steps : List Step) (d : Draft) → IsDraft places steps d
+    → AreStepsMoved (at places) steps (flat_map (steps_of d.operands) (d.runs.items ++ d.last ∷ []))
+moved_runs places steps d is = subst (AreStepsMoved (at places) steps) (flat_map_more (steps_of d.operands) [] d.runs.items d.last) is.moved
+
+-- a step more is listed
+pub listed_next : {A : Type 0} (w : ℕ) (gate : A → declared.Gate) (n : ℕ) (xs : List A) (k : ℕ) (x : A) (steps : List Step) → slice_get xs k ≡ Some x
+    → (steps ++ (record { net = n; width = w; gate = gate x }) ∷ []) ++ steps_from w gate (n + 1) (drop (k + 1) xs) ≡ steps ++ steps_from w gate n (drop k xs)
+listed_next w gate n xs k x steps is =
+    let s : Step = record { net = n; width = w; gate = gate x } in
+    let rest : List Step = steps_from w gate (n + 1) (drop (k + 1) xs) in
+    let next : s ∷ rest ≡ steps_from w gate n (drop k xs) =
+    ap (λ (m : ℕ). s ∷ steps_from w gate m (drop (k + 1) xs)) (sym (one_more n)) ∙ sym (ap (steps_from w gate n) (drop_one xs k x is)) in
+    append_assoc steps (s ∷ []) rest ∙ ap (λ (ss : List Step). steps ++ ss) next
+
+-- and at the end all are
+pub listed_all : {A : Type 0} (w : ℕ) (gate : A → declared.Gate) (n : ℕ) (xs : List A) (k : ℕ) (steps all : List Step) → length xs ≤ k
+    → steps ++ steps_from w gate n (drop k xs) ≡ all → steps ≡ all
+listed_all w gate n xs k steps all past so_far =
+    let none : drop k xs ≡ [] = drop_of_length-le xs past in
+    sym (append-nil steps) ∙ (sym (ap (λ ys. steps ++ steps_from w gate n ys) none) ∙ so_far)

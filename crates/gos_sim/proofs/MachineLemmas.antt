@@ -23,8 +23,8 @@ pub machine_made : (net : Netlist) (m : Machine) (plan : Plan) (levels : Numbers
     → IsNumbering m.places.items m.count
     → m.inputs.items ≡ map (event_moved (at m.places.items)) plan.inputs → m.outputs.items ≡ map (event_moved (at m.places.items)) plan.outputs
     → AreStepsMoved (at m.places.items) plan.steps m.program → m.latches.items ≡ map (latch_moved (at m.places.items)) plan.latches
-    → AreLevels net.cells levels → ChainLevels m.levels levels → m.steps.items ≡ m.program → IsMachine net m
-machine_made net m plan levels of_net each numbering inputs outputs steps latches leveled chained listed =
+    → AreLevels net.cells levels → ChainLevels m.levels levels → IsMachine net m
+machine_made net m plan levels of_net each numbering inputs outputs steps latches leveled chained =
     record {
       plan = plan;
       of_net = of_net;
@@ -34,7 +34,6 @@ machine_made net m plan levels of_net each numbering inputs outputs steps latche
       levels = levels;
       leveled = leveled;
       chained = chained;
-      listed = listed;
     }
 
 module _ (net : Netlist) (m : Machine) (machine : IsMachine net m) where

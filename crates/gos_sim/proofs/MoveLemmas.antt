@@ -1,9 +1,9 @@
 -- Plans of nets, and the same ones at the places of these nets.
-use Rattle.std.specs.Prelude.{◌≡◌, ◌≢◌, ℕ, suc, ◌<◌, ◌≤◌, ◌⊎◌, List, [], ◌∷◌, ◌++◌, All, Option, Some, None, get_or, length, map, nat_eq, replicate, slice_get}
+use Rattle.std.specs.Prelude.{◌≡◌, ◌≢◌, ℕ, suc, ◌+◌, ◌<◌, ◌≤◌, ◌⊎◌, List, [], ◌∷◌, ◌++◌, All, Option, Some, None, get_or, length, map, nat_eq, replicate, slice_get}
 use Rattle.std.specs.Option.{option_map}
 use Rattle.std.proofs.Common.{arith, refl, sym, ap, subst, inl, inr, ◌∙◌}
 use Rattle.std.proofs.lemmas.Bool.{cases_order}
-use Rattle.std.proofs.lemmas.List.{length-map, get_or-replicate, get_or_past, length-replicate, ext_get_or}
+use Rattle.std.proofs.lemmas.List.{length-map, get_or-replicate, get_or_past, length-append, length-replicate, ext_get_or}
 use Rattle.std.proofs.lemmas.List.Elements.{All-contains, All-map, All-weaker}
 use Rattle.std.proofs.lemmas.Option.{slice_get-get_or, slice_get_within, get_or_from_slice_get}
 use Rattle.gos_netlist.specs.declared.nets.Gate.TheVariants as gates
@@ -23,7 +23,7 @@ use Rattle.gos_sim.specs.inner.Ready.{AreApart, AreTwo}
 use Rattle.gos_sim.specs.inner.Evaluation.{bits_of}
 use Rattle.gos_sim.specs.inner.Places.{AreStepsMoved, IsNumbering, IsStepMoved, by_net, event_moved, latch_moved, moved}
 use Rattle.gos_sim.specs.inner.Machine.{IsMoved, IsRunnable, Plan, RunsThrough, SettlesAtReset}
-use Rattle.gos_sim.proofs.PlaceLemmas.{all_at, all_of_at, moved_at, moved_from, same_element}
+use Rattle.gos_sim.proofs.PlaceLemmas.{all_at, all_of_at, moved_at, moved_from}
 use Rattle.gos_sim.proofs.ProgramLemmas.{pushed}
 
 -- the value of a net is the one at its place
@@ -134,17 +134,20 @@ step_to p old new j s are is =
     let at_new = slice_get-get_or new j any_step below in
     (get_or new j any_step, at_new, are.moved j s (get_or new j any_step) is at_new)
 
--- a step more is moved
-pub steps_more : (p : ℕ → ℕ) (old new : List Step) (k : ℕ) (s t : Step) → length new ≡ k → slice_get old k ≡ Some s → IsStepMoved p s t
-    → ((j : ℕ) (u w : Step) → slice_get old j ≡ Some u → slice_get new j ≡ Some w → IsStepMoved p u w)
-    → (j : ℕ) (u w : Step) → slice_get old j ≡ Some u → slice_get (new ++ t ∷ []) j ≡ Some w → IsStepMoved p u w
-steps_more p old new k s t long is m before = λ j u w at_u at_w. by_place j u w at_u (pushed new t w j at_w)
+-- moved steps, and one more
+pub steps_pushed : (p : ℕ → ℕ) (old new : List Step) (s t : Step) → AreStepsMoved p old new → IsStepMoved p s t → AreStepsMoved p (old ++ s ∷ []) (new ++ t ∷ [])
+steps_pushed p old new s t are m =
+    record {
+      each = length-append new (t ∷ []) ∙ (ap (λ (n : ℕ). n + 1) are.each ∙ sym (length-append old (s ∷ [])));
+      moved = λ j u w at_u at_w. by_place j u w (pushed old s u j at_u) (pushed new t w j at_w);
+    }
   where
-    by_place : (j : ℕ) (u w : Step) → slice_get old j ≡ Some u → (slice_get new j ≡ Some w) × (j < length new) ⊎ (j ≡ length new) × (t ≡ w) → IsStepMoved p u w
-    by_place j u w at_u (inl (at_w, below)) = before j u w at_u at_w
-    by_place j u w at_u (inr (e, same)) =
-        let there : slice_get old k ≡ Some u = subst (λ (i : ℕ). slice_get old i ≡ Some u) (e ∙ long) at_u in
-        subst (IsStepMoved p u) same (subst (λ (x : Step). IsStepMoved p x t) (same_element old k s u is there) m)
+    by_place : (j : ℕ) (u w : Step) → (slice_get old j ≡ Some u) × (j < length old) ⊎ (j ≡ length old) × (s ≡ u)
+        → (slice_get new j ≡ Some w) × (j < length new) ⊎ (j ≡ length new) × (t ≡ w) → IsStepMoved p u w
+    by_place j u w (inl (at_u, below)) (inl (at_w, too)) = are.moved j u w at_u at_w
+    by_place j u w (inl (at_u, below)) (inr (end, one)) = absurd (omega (arith, below, end, are.each))
+    by_place j u w (inr (end, one)) (inl (at_w, below)) = absurd (omega (arith, below, end, are.each))
+    by_place j u w (inr (end, one)) (inr (last, same)) = subst (IsStepMoved p u) same (subst (λ (x : Step). IsStepMoved p x t) one m)
 
 pub reads_moved : (p : ℕ → ℕ) (s t : Step) → IsStepMoved p s t → reads t ≡ map p (reads s)
 reads_moved p s t m = ap pins m.gate ∙ pins_moved p (function_of s.gate)

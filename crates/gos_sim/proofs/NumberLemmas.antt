@@ -1,62 +1,76 @@
 -- Places, given to one net after another.
-use Rattle.std.specs.Prelude.{◌≡◌, ◌≢◌, ℕ, zero, suc, ◌<◌, ◌≤◌, ◌⊎◌, List, [], ◌∷◌, ◌++◌, All, Some, length, replicate, set, slice_get}
+use Rattle.std.specs.Prelude.{◌≡◌, ◌≢◌, ℕ, ◌+◌, ◌<◌, ◌⊎◌, List, All, Contains, Some, length, map, replicate, set, slice_get}
 use Rattle.std.proofs.Common.{arith, sym, ap, subst, inl, inr, ◌∙◌, get_or-set_same, get_or-set_other}
 use Rattle.std.proofs.lemmas.Bool.{cases_order}
-use Rattle.std.proofs.lemmas.List.{length-append, length-replicate, length-set, get_or-replicate}
-use Rattle.std.proofs.lemmas.List.Elements.{All-push, All-nil}
-use Rattle.std.proofs.lemmas.Option.{slice_get_within}
+use Rattle.std.proofs.lemmas.List.{length-replicate, length-set, get_or-replicate}
+use Rattle.gos_netlist.specs.declared.nets.NetId.{NetId}
+use Rattle.gos_netlist.specs.Seen.{number_of}
 use Rattle.gos_netlist.specs.Settling.{Numbers, at}
 use Rattle.gos_sim.specs.inner.Places.{IsNumbering, IsPartly, none}
-use Rattle.gos_sim.proofs.PlaceLemmas.{same_element}
-
--- what stands in a list stands in a longer one
-pub still_at : {A : Type 0} (xs : List A) (y x : A) (k : ℕ) → slice_get xs k ≡ Some x → slice_get (xs ++ y ∷ []) k ≡ Some x
-still_at [] y x k is = absurd (cc)
-still_at (z ∷ xs) y x zero is = is
-still_at (z ∷ xs) y x (suc k) is = still_at xs y x k is
-
--- and what is pushed stands behind it
-pub last_at : {A : Type 0} (xs : List A) (y : A) → slice_get (xs ++ y ∷ []) (length xs) ≡ Some y
-last_at [] y = cc
-last_at (z ∷ xs) y = last_at xs y
+use Rattle.gos_sim.proofs.PlaceLemmas.{all_at, moved_from, place_of}
 
 -- a net more has a place
-pub partly_more : (places nets : Numbers) (n : ℕ) → n < length places → length nets < none → IsPartly places nets
-    → IsPartly (set places n (length nets)) (nets ++ n ∷ [])
-partly_more places nets n below room partly =
+pub partly_more : (places : Numbers) (n count : ℕ) → n < length places → count < none → IsPartly places count → IsPartly (set places n count) (count + 1)
+partly_more places n count within room partly =
     record {
-      room = subst (λ (k : ℕ). k ≤ none) (sym (length-append nets (n ∷ []))) (omega (arith, room));
-      stands = λ m within placed. by_net m (subst (λ (k : ℕ). m < k) long within) placed (cases_order m n);
-      within = subst (λ (k : ℕ). All (λ m. m < k) (nets ++ n ∷ [])) (sym long) (All-push (λ m. m < length places) nets n partly.within below);
+      room = omega (arith, room);
+      below = λ m low placed. below m (inside m low) placed (cases_order m n);
+      one = λ a b a_low b_low a_placed b_placed same. one a b (inside a a_low) (inside b b_low) a_placed b_placed same (cases_order a n) (cases_order b n);
     }
   where
-    long : length (set places n (length nets)) ≡ length places
-    long = length-set places n (length nets)
+    inside : (m : ℕ) → m < length (set places n count) → m < length places
+    inside m low = subst (λ (k : ℕ). m < k) (length-set places n count) low
 
-    other : (m : ℕ) → m < length places → m ≢ n → at (set places n (length nets)) m ≢ none
-        → slice_get (nets ++ n ∷ []) (at (set places n (length nets)) m) ≡ Some m
-    other m within apart placed =
-        let kept : at (set places n (length nets)) m ≡ at places m = get_or-set_other places n m (length nets) 0 apart in
-        subst (λ (k : ℕ). slice_get (nets ++ n ∷ []) k ≡ Some m) (sym kept)
-        (still_at nets n m (at places m) (partly.stands m within (λ e. placed (kept ∙ e))))
+    own : at (set places n count) n ≡ count
+    own = get_or-set_same places n count 0 within
 
-    by_net : (m : ℕ) → m < length places → at (set places n (length nets)) m ≢ none → (m ≡ n) ⊎ ((m < n) ⊎ (n < m))
-        → slice_get (nets ++ n ∷ []) (at (set places n (length nets)) m) ≡ Some m
-    by_net m within placed (inl same) =
-        let here : at (set places n (length nets)) m ≡ length nets = subst (λ (k : ℕ). at (set places n (length nets)) k ≡ length nets) (sym same) (get_or-set_same places n (length nets) 0 below) in
-        subst (λ (k : ℕ). slice_get (nets ++ n ∷ []) k ≡ Some m) (sym here) (subst (λ (k : ℕ). slice_get (nets ++ n ∷ []) (length nets) ≡ Some k) (sym same) (last_at nets n))
-    by_net m within placed (inr (inl less)) = other m within (λ e. omega (arith, less, e)) placed
-    by_net m within placed (inr (inr more)) = other m within (λ e. omega (arith, more, e)) placed
+    here : (m : ℕ) → m ≡ n → at (set places n count) m ≡ count
+    here m same = ap (at (set places n count)) same ∙ own
+
+    other : (m : ℕ) → m ≢ n → at (set places n count) m ≡ at places m
+    other m apart = get_or-set_other places n m count 0 apart
+
+    old_below : (m : ℕ) → m < length places → m ≢ n → at (set places n count) m ≢ none → at (set places n count) m < count
+    old_below m low apart placed =
+        subst (λ (k : ℕ). k < count) (sym (other m apart)) (partly.below m low (λ e. placed (other m apart ∙ e)))
+
+    below : (m : ℕ) → m < length places → at (set places n count) m ≢ none → (m ≡ n) ⊎ ((m < n) ⊎ (n < m)) → at (set places n count) m < count + 1
+    below m low placed (inl same) = let e = here m same in omega (arith, e)
+    below m low placed (inr (inl less)) = let l = old_below m low (λ e. omega (arith, less, e)) placed in omega (arith, l)
+    below m low placed (inr (inr more)) = let l = old_below m low (λ e. omega (arith, more, e)) placed in omega (arith, l)
+
+    old_one : (a b : ℕ) → a < length places → b < length places → a ≢ n → b ≢ n → at (set places n count) a ≢ none → at (set places n count) b ≢ none
+        → at (set places n count) a ≡ at (set places n count) b → a ≡ b
+    old_one a b a_low b_low a_apart b_apart a_placed b_placed same =
+        partly.one a b a_low b_low (λ e. a_placed (other a a_apart ∙ e)) (λ e. b_placed (other b b_apart ∙ e)) (sym (other a a_apart) ∙ (same ∙ other b b_apart))
+
+    -- an old place is not the new one
+    clash : (a b : ℕ) → a < length places → a ≢ n → at (set places n count) a ≢ none → b ≡ n → at (set places n count) a ≡ at (set places n count) b → a ≡ b
+    clash a b a_low apart placed same equal = let l = old_below a a_low apart placed in let e = here b same in absurd (omega (arith, l, e, equal))
+
+    one : (a b : ℕ) → a < length places → b < length places → at (set places n count) a ≢ none → at (set places n count) b ≢ none
+        → at (set places n count) a ≡ at (set places n count) b → (a ≡ n) ⊎ ((a < n) ⊎ (n < a)) → (b ≡ n) ⊎ ((b < n) ⊎ (n < b)) → a ≡ b
+    one a b a_low b_low a_placed b_placed same (inl a_is) (inl b_is) = a_is ∙ sym b_is
+    one a b a_low b_low a_placed b_placed same (inl a_is) (inr (inl less)) = sym (clash b a b_low (λ e. omega (arith, less, e)) b_placed a_is (sym same))
+    one a b a_low b_low a_placed b_placed same (inl a_is) (inr (inr more)) = sym (clash b a b_low (λ e. omega (arith, more, e)) b_placed a_is (sym same))
+    one a b a_low b_low a_placed b_placed same (inr (inl less)) (inl b_is) = clash a b a_low (λ e. omega (arith, less, e)) a_placed b_is same
+    one a b a_low b_low a_placed b_placed same (inr (inr more)) (inl b_is) = clash a b a_low (λ e. omega (arith, more, e)) a_placed b_is same
+    one a b a_low b_low a_placed b_placed same (inr (inl l)) (inr (inl m)) = old_one a b a_low b_low (λ e. omega (arith, l, e)) (λ e. omega (arith, m, e)) a_placed b_placed same
+    one a b a_low b_low a_placed b_placed same (inr (inl l)) (inr (inr m)) = old_one a b a_low b_low (λ e. omega (arith, l, e)) (λ e. omega (arith, m, e)) a_placed b_placed same
+    one a b a_low b_low a_placed b_placed same (inr (inr l)) (inr (inl m)) = old_one a b a_low b_low (λ e. omega (arith, l, e)) (λ e. omega (arith, m, e)) a_placed b_placed same
+    one a b a_low b_low a_placed b_placed same (inr (inr l)) (inr (inr m)) = old_one a b a_low b_low (λ e. omega (arith, l, e)) (λ e. omega (arith, m, e)) a_placed b_placed same
 
 -- no net has a place yet
-pub partly_none : (count : ℕ) → IsPartly (replicate count none) []
+pub partly_none : (count : ℕ) → IsPartly (replicate count none) 0
 partly_none count =
-    let empty : ℕ = none in
     record {
       room = omega arith;
-      stands = λ n within placed. absurd (placed (get_or-replicate count n none 0 (subst (λ (k : ℕ). n < k) (length-replicate count empty) within)));
-      within = All-nil (λ n. n < length (replicate count none));
+      below = λ n within placed. absurd (placed (empty n within));
+      one = λ a b a_within b_within placed. absurd (placed (empty a a_within));
     }
+  where
+    empty : (n : ℕ) → n < length (replicate count none) → at (replicate count none) n ≡ none
+    empty n within = get_or-replicate count n none 0 (subst (λ (k : ℕ). n < k) (length-replicate count none) within)
 
 -- and a net that has a place keeps one
 pub kept_more : (places : Numbers) (n x m : ℕ) → n < length places → x ≢ none → at places m ≢ none → at (set places n x) m ≢ none
@@ -71,13 +85,18 @@ kept_more places n x m below is placed = by_net (cases_order m n)
     by_net (inr (inr more)) = other (λ e. omega (arith, more, e))
 
 -- where each net has a place, no two have the same
-pub numbering_of : (places nets : Numbers) → IsPartly places nets → ((n : ℕ) → n < length places → at places n ≢ none)
-    → IsNumbering places (length nets)
-numbering_of places nets partly placed =
+pub numbering_of : (places : Numbers) (count : ℕ) → IsPartly places count → ((n : ℕ) → n < length places → at places n ≢ none) → IsNumbering places count
+numbering_of places count partly placed =
     record {
-      below = λ n within. slice_get_within nets (at places n) n (partly.stands n within (placed n within));
-      one = λ a b a_within b_within same.
-          same_element nets (at places b) a b
-          (subst (λ (k : ℕ). slice_get nets k ≡ Some a) same (partly.stands a a_within (placed a a_within)))
-          (partly.stands b b_within (placed b b_within));
+      below = λ n within. partly.below n within (placed n within);
+      one = λ a b a_within b_within same. partly.one a b a_within b_within (placed a a_within) (placed b b_within) same;
     }
+
+-- nets among which each one is have all places
+pub all_placed : (places : Numbers) (nets : List NetId) (n : ℕ) → Contains (map number_of nets) n → All (λ (m : NetId). at places m.0 ≢ none) nets → at places n ≢ none
+all_placed places nets n has all = by_place (place_of (map number_of nets) n has)
+  where
+    by_place : (k : ℕ) × (slice_get (map number_of nets) k ≡ Some n) → at places n ≢ none
+    by_place (k, at_k) =
+        let (m, at_m, number) = moved_from number_of nets k n at_k in
+        subst (λ (i : ℕ). at places i ≢ none) number (all_at (λ (m : NetId). at places m.0 ≢ none) nets k m all at_m)

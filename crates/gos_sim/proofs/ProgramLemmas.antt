@@ -4,16 +4,18 @@
 use Rattle.std.specs.Prelude.{◌≡◌, ◌≢◌, ℕ, zero, suc, ◌+◌, ◌<◌, ◌≤◌, Bool, true, false, IsTrue, IsFalse, if◌then◌else◌, ◌⊎◌, List, [], ◌∷◌, ◌++◌, length, map, take, get_or, All, Contains, Some, slice_get}
 use Rattle.std.specs.Option.{option_map}
 use Rattle.std.proofs.Common.{arith, refl, sym, ◌∙◌, ap, subst, inl, inr}
-use Rattle.std.proofs.lemmas.List.{append-nil, length-map, take_more, take_all}
-use Rattle.std.proofs.lemmas.List.Elements.{All-push, All-nil, All-cons, All-weaker, Contains-get_or, Contains-push, Contains-append_left, Contains-push_cases}
+use Rattle.std.proofs.lemmas.List.{append-nil, append_assoc, length-map, take_more, take_all}
+use Rattle.std.proofs.lemmas.List.Elements.{All-append, All-push, All-nil, All-cons, All-weaker, Contains-get_or, Contains-push, Contains-append_left, Contains-push_cases}
 use Rattle.std.proofs.lemmas.Option.{slice_get-get_or, slice_get-map, slice_get_within, get_or_from_slice_get}
 use Rattle.gos_netlist.specs.declared.nets.Cell as declared
+use Rattle.gos_netlist.specs.declared.nets.Gate as gate
+use Rattle.gos_netlist.specs.declared.nets.Gate.TheVariants as gates
 use Rattle.gos_netlist.specs.declared.nets.NetId.{NetId}
 use Rattle.gos_netlist.specs.Nets.{Cell, pins}
 use Rattle.gos_netlist.specs.Seen.{cell_of, function_of, number_of}
 use Rattle.gos_sim.specs.declared.program.Step.{Step}
 use Rattle.gos_sim.specs.inner.Order.{IsDueStep, IsOrder}
-use Rattle.gos_sim.specs.inner.Program.{IsProgram, IsStepOf, IsStepWithin, HasStep, HaveOneCell, Spares, SparesEarlier, cell_of_step, is_source, reads, steps_at}
+use Rattle.gos_sim.specs.inner.Program.{IsProgram, IsStepOf, IsStepWithin, HasStep, HaveOneCell, Spares, SparesEarlier, cell_of_step, is_source, no_cell, reads, steps_at, steps_named}
 use Rattle.gos_sim.specs.inner.Ready.{AreCellsReady, IsCellWithin}
 use Rattle.gos_sim.proofs.PlaceLemmas.{all_at, same_element}
 use Rattle.gos_sim.proofs.SourceLemmas.{register_is_source}
@@ -171,16 +173,6 @@ placed_none cells =
       ordered = λ j k s t at_j. absurd (cc);
     }
 
--- all has come
-pub program_of_placed : (cells : List Cell) (order : List ℕ) (steps : List Step) (i : ℕ) → IsOrder cells order → length order ≤ i
-    → ArePlaced cells (take i order) steps → IsProgram cells steps
-program_of_placed cells order steps i is_order end placed =
-    record {
-      sound = placed.sound;
-      whole = λ n c is inside. placed.whole n c (subst (λ (ns : List ℕ). Contains ns n) (sym (take_all i order end)) (is_order.all n (slice_get_within cells n c is))) is inside;
-      ordered = placed.ordered;
-    }
-
 -- a step of a cell that is ready is within
 pub steps_at_within : (cells : List declared.Cell) (n : ℕ) (c : declared.Cell) → AreCellsReady (map cell_of cells) → slice_get cells n ≡ Some c
     → All (IsStepWithin (length cells)) (steps_at n c)
@@ -195,19 +187,87 @@ steps_at_within cells n c ready at_n = by_test (is_source (function_of c.gate))
         All-cons (IsStepWithin (length cells)) (record { net = n; width = c.width; gate = c.gate }) []
         (record { net = slice_get_within cells n c at_n; reads = cell.pins; width = cell.width; short = cell.short }) (All-nil (IsStepWithin (length cells)))
 
--- the net at a place of the order
-pub order_at : (order : List NetId) (i : ℕ) (d : NetId) → i < length order → slice_get (map number_of order) i ≡ Some (number_of (get_or order i d))
-order_at order i d below = slice_get-map number_of order i ∙ ap (option_map number_of) (slice_get-get_or order i d below)
-
 -- it is a cell
 pub below_cells : (cells : List declared.Cell) (order : List ℕ) (i n : ℕ) → IsOrder (map cell_of cells) order → slice_get order i ≡ Some n → n < length cells
 below_cells cells order i n is_order at_i = subst (λ (m : ℕ). n < m) (length-map cells cell_of) (is_order.due i n at_i).below
+
+-- the steps of nets, and those of one more
+pub steps_named_more : (cells : List declared.Cell) (ns : List ℕ) (n : ℕ) → steps_named cells (ns ++ n ∷ []) ≡ steps_named cells ns ++ steps_at n (get_or cells n no_cell)
+steps_named_more cells [] n = append-nil (steps_at n (get_or cells n no_cell))
+steps_named_more cells (m ∷ ns) n =
+    ap (λ (ss : List Step). steps_at m (get_or cells m no_cell) ++ ss) (steps_named_more cells ns n)
+    ∙ sym (append_assoc (steps_at m (get_or cells m no_cell)) (steps_named cells ns) (steps_at n (get_or cells n no_cell)))
+
+-- the steps of nets in an order are a program
+module _ (cells : List declared.Cell) (order : List ℕ) (ready : AreCellsReady (map cell_of cells)) (is_order : IsOrder (map cell_of cells) order) where
+  placed_one : (i n : ℕ) → slice_get order i ≡ Some n → ArePlaced (map cell_of cells) (take i order) (steps_named cells (take i order))
+      → ArePlaced (map cell_of cells) (take (i + 1) order) (steps_named cells (take (i + 1) order))
+  placed_one i n at_i placed =
+      let at_n = slice_get-get_or cells n no_cell (below_cells cells order i n is_order at_i) in
+      subst (ArePlaced (map cell_of cells) (take (i + 1) order)) (sym (ap (steps_named cells) (take_one order i n at_i) ∙ steps_named_more cells (take i order) n))
+      (placed_more cells order (steps_named cells (take i order)) i n (get_or cells n no_cell) ready is_order at_i at_n placed)
+
+  all_placed : (i : ℕ) → i ≤ length order → ArePlaced (map cell_of cells) (take i order) (steps_named cells (take i order))
+  all_placed zero low = placed_none (map cell_of cells)
+  all_placed (suc i) low =
+      let next : i + 1 ≡ suc i = omega arith in
+      subst (λ (k : ℕ). ArePlaced (map cell_of cells) (take k order) (steps_named cells (take k order))) next
+      (placed_one i (get_or order i 0) (slice_get-get_or order i 0 (omega (arith, low))) (all_placed i (omega (arith, low))))
+
+  pub program_of_order : IsProgram (map cell_of cells) (steps_named cells order)
+  program_of_order =
+      let placed = subst (λ (ns : List ℕ). ArePlaced (map cell_of cells) ns (steps_named cells ns)) (take_all (length order) order (omega arith)) (all_placed (length order) (omega arith)) in
+      record {
+        sound = placed.sound;
+        whole = λ n c is inside. placed.whole n c (is_order.all n (slice_get_within (map cell_of cells) n c is)) is inside;
+        ordered = placed.ordered;
+      }
+
+  pub steps_named_within : All (IsStepWithin (length cells)) (steps_named cells order)
+  steps_named_within = each order (λ i n is. below_cells cells order i n is_order is)
+    where
+      each : (ns : List ℕ) → ((i n : ℕ) → slice_get ns i ≡ Some n → n < length cells) → All (IsStepWithin (length cells)) (steps_named cells ns)
+      each [] below = All-nil (IsStepWithin (length cells))
+      each (n ∷ ns) below =
+          All-append (IsStepWithin (length cells)) (steps_at n (get_or cells n no_cell)) (steps_named cells ns)
+          (steps_at_within cells n (get_or cells n no_cell) ready (slice_get-get_or cells n no_cell (below 0 n refl)))
+          (each ns (λ i m is. below (suc i) m is))
+
+-- a gate that is neither an input nor a register is a step's
+pub step_gate : (g : gate.Gate) → (g ≡ gates.Input → ⊥) → ((a : NetId) → g ≡ gates.Reg a → ⊥) → IsFalse (is_source (function_of g))
+step_gate gates.Input input register = absurd (input refl)
+step_gate (gates.Const k) input register = refl
+step_gate (gates.Not a) input register = refl
+step_gate (gates.And a b) input register = refl
+step_gate (gates.Or a b) input register = refl
+step_gate (gates.Xor a b) input register = refl
+step_gate (gates.Mux s a b) input register = refl
+step_gate (gates.Add a b) input register = refl
+step_gate (gates.Sub a b) input register = refl
+step_gate (gates.Eq a b) input register = refl
+step_gate (gates.Less a b) input register = refl
+step_gate (gates.Gate s a) input register = refl
+step_gate (gates.Reg a) input register = absurd (register a refl)
+
+-- the steps of such a cell are one
+pub one_step : (n : ℕ) (c : declared.Cell) → IsFalse (is_source (function_of c.gate)) → steps_at n c ≡ record { net = n; width = c.width; gate = c.gate } ∷ []
+one_step n c inside = ap (λ (t : Bool). if t then [] else record { net = n; width = c.width; gate = c.gate } ∷ []) inside
+
+-- the net at a place of the order
+pub order_at : (order : List NetId) (i : ℕ) (d : NetId) → i < length order → slice_get (map number_of order) i ≡ Some (number_of (get_or order i d))
+order_at order i d below = slice_get-map number_of order i ∙ ap (option_map number_of) (slice_get-get_or order i d below)
 
 -- a cell that is ready reads cells
 pub pins_below : (cells : List declared.Cell) (n count : ℕ) (d : declared.Cell) → AreCellsReady (map cell_of cells) → n < length cells → count ≡ length (map cell_of cells)
     → All (λ a. a < count) (pins (function_of (get_or cells n d).gate))
 pins_below cells n count d ready below same =
     subst (λ (m : ℕ). All (λ a. a < m) (pins (function_of (get_or cells n d).gate))) (sym same) (ready n (cell_of (get_or cells n d)) (cell_at cells n (get_or cells n d) (slice_get-get_or cells n d below))).pins
+
+-- so do its steps
+pub steps_below : (cells : List declared.Cell) (n count : ℕ) (d : declared.Cell) → AreCellsReady (map cell_of cells) → n < length cells → count ≡ length cells
+    → All (IsStepWithin count) (steps_at n (get_or cells n d))
+steps_below cells n count d ready below same =
+    subst (λ (m : ℕ). All (IsStepWithin m) (steps_at n (get_or cells n d))) (sym same) (steps_at_within cells n (get_or cells n d) ready (slice_get-get_or cells n d below))
 
 -- steps of one net are of one cell
 pub one_cell : (cells : List Cell) (steps : List Step) → All (IsStepOf cells) steps → HaveOneCell steps

@@ -7,6 +7,7 @@ pub mod Chains
 pub mod Running
 pub mod Ready
 pub mod Places
+pub mod Drafts
 pub mod Counting
 pub mod Past
 pub mod Marks

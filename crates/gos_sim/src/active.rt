@@ -35,6 +35,8 @@ const LONGEST: u32 = 64;
 /// What has changed, and what has to be evaluated for it.
 #[derive(Drop)]
 pub struct Active {
+    /// The steps, one by one.
+    pub steps: Vec<Step>,
     /// What changed values bring with them.
     pub wake: Wake,
     /// The nets of the registers that took over another value.
@@ -78,22 +80,23 @@ fn take_latch(changed: &mut Log, latch: &Latch, values: &[u32], registers: &mut 
 impl Active {
     // What is to be known of a machine of so many places, before its first cycle.
     pub fn new(alloc: Global, machine: &Machine, count: usize) -> Result<Active, NoMemory>
-        requires listed { machine.now.steps.items ≡ machine.now.program }
         requires steps { All (IsStepWithin count) machine.now.program }
         requires latches { All (IsLatchWithin count) machine.now.latches.items }
         ensures fresh { IfOk result (λ active. IsFalse active.settled) }
         ensures awake { IfOk result (λ active. IsAwake count machine.now.program machine.now.latches.items active) }
     {
-        let items = machine.steps.len().saturating_add(machine.latches.len());
+        let steps = machine.program.list(alloc)?;
+        let items = steps.len().saturating_add(machine.latches.len());
         if items > u32::MAX as usize {
             return Err(NoMemory);
         }
         let room = items / PART + LEAST;
-        let readers = readers_of(alloc, count, &machine.steps, &machine.latches)?;
+        let readers = readers_of(alloc, count, &steps, &machine.latches)?;
         let marks = Marks::new(alloc, items / 64 + 1)?;
         let touched = Log::new(alloc, room)?;
         let changed = Log::new(alloc, room)?;
         Ok(Active {
+            steps,
             wake: Wake {
                 readers,
                 marks,
@@ -155,7 +158,6 @@ impl Active {
         values: &mut [u32],
     ) -> bool
         requires ready { IsRunnable (length values.old) (plan_of machine.now) }
-        requires listed { machine.now.steps.items ≡ machine.now.program }
         requires same { length registers.old ≡ length values.old }
         requires inputs { length inputs.now ≡ length machine.now.inputs.items }
         requires outputs { length outputs.old ≡ length machine.now.outputs.items }
@@ -187,19 +189,20 @@ impl Active {
     // Evaluates an item: a step into the values, or a latch into the registers.
     fn follow(&mut self, machine: &Machine, item: usize, values: &mut [u32], registers: &mut [u32])
         requires ready { IsRunnable (length values.old) (plan_of machine.now) }
-        requires listed { machine.now.steps.items ≡ machine.now.program }
+        requires listed { self.old.steps.items ≡ machine.now.program }
         requires same { length registers.old ≡ length values.old }
         requires wake { IsWake (length values.old) self.old.wake }
         requires reading { ReadAll machine.now.program machine.now.latches.items self.old.wake.readers }
         requires stand { StandBut machine.now.program machine.now.latches.items self.old.wake.marks.words.items values.old registers.old item }
+        ensures listed { self.new.steps.items ≡ machine.now.program }
         ensures wake { IsWake (length values.old) self.new.wake }
         ensures reading { ReadAll machine.now.program machine.now.latches.items self.new.wake.readers }
         ensures stand { Stand machine.now.program machine.now.latches.items self.new.wake.marks.words.items values.new registers.new }
         ensures swept { SweepsOn machine.now.program machine.now.latches.items self.old values.old registers.old self.new values.new registers.new }
     {
-        let steps = machine.steps.len();
+        let steps = self.steps.len();
         if item < steps {
-            show_step(&mut self.wake, &machine.steps[item], values);
+            show_step(&mut self.wake, &self.steps[item], values);
         } else if item - steps < machine.latches.len() {
             take_latch(
                 &mut self.changed,
@@ -219,11 +222,12 @@ impl Active {
         registers: &mut [u32],
     ) -> bool
         requires ready { IsRunnable (length values.old) (plan_of machine.now) }
-        requires listed { machine.now.steps.items ≡ machine.now.program }
+        requires listed { self.old.steps.items ≡ machine.now.program }
         requires same { length registers.old ≡ length values.old }
         requires wake { IsWake (length values.old) self.old.wake }
         requires reading { ReadAll machine.now.program machine.now.latches.items self.old.wake.readers }
         requires stand { Stand machine.now.program machine.now.latches.items self.old.wake.marks.words.items values.old registers.old }
+        ensures listed { self.new.steps.items ≡ machine.now.program }
         ensures wake { IsWake (length values.old) self.new.wake }
         ensures reading { ReadAll machine.now.program machine.now.latches.items self.new.wake.readers }
         ensures unmarked { IsTrue result → AreUnmarked self.new.wake.marks.words.items }
@@ -252,6 +256,7 @@ impl Active {
         requires numbers { All (λ p. IsWord p.value) inputs.now }
         requires awake { IsAwake (length values.old) machine.now.program machine.now.latches.items self.old }
         requires settled { IsSettled machine.now.program machine.now.latches.items self.old values.old registers.now }
+        ensures steps { self.new.steps ≡ self.old.steps }
         ensures wake { IsWake (length values.old) self.new.wake }
         ensures reading { ReadAll machine.now.program machine.now.latches.items self.new.wake.readers }
         ensures stand { Stand machine.now.program machine.now.latches.items self.new.wake.marks.words.items values.new registers.now }
@@ -275,7 +280,6 @@ impl Active {
         values: &mut [u32],
     ) -> bool
         requires ready { IsRunnable (length values.old) (plan_of machine.now) }
-        requires listed { machine.now.steps.items ≡ machine.now.program }
         requires same { length registers.old ≡ length values.old }
         requires inputs { length inputs.now ≡ length machine.now.inputs.items }
         requires outputs { length outputs.old ≡ length machine.now.outputs.items }
@@ -289,7 +293,7 @@ impl Active {
         ensures noted { (p : ℕ) → Lacks self.new.wake.touched p → at values.new p ≡ at values.old p }
     {
         self.begin(machine, inputs, registers, values);
-        let most = machine.steps.len() / PART + LEAST;
+        let most = self.steps.len() / PART + LEAST;
         if self.sweep(machine, most, values, registers) {
             self.pause = 1;
             show(&machine.outputs, values, outputs);
@@ -305,6 +309,7 @@ impl Active {
     // Gives up, where too many items were marked: no more is known of them. Each time twice as many cycles pass until it is tried
     // again.
     fn give_up(&mut self)
+        ensures steps { self.new.steps ≡ self.old.steps }
         ensures readers { self.new.wake.readers ≡ self.old.wake.readers }
         ensures each { length self.new.wake.marks.words.items ≡ length self.old.wake.marks.words.items }
         ensures unmarked { AreUnmarked self.new.wake.marks.words.items }

@@ -1,19 +1,21 @@
 // Steps in runs: one behind another, all of one kind, so that a loop for that kind goes through them.
-ghost use Rattle.std.specs.Prelude.{◌≡◌, ℕ, ◌+◌, ◌≤◌, List, ◌∷◌, [], ◌++◌, All, IfOk, IsFalse, IsTrue, OnOk, length};
+ghost use Rattle.std.specs.Prelude.{◌≡◌, ℕ, ◌+◌, ◌<◌, ◌≤◌, List, ◌∷◌, [], ◌++◌, All, IfOk, IsFalse, IsTrue, OnOk, length, map};
 ghost use Rattle.std.specs.List.{flat_map};
-ghost use Rattle.gos_netlist.specs.Seen.{function_of};
-ghost use Rattle.gos_netlist.specs.Settling.{at};
-ghost use Rattle.gos_sim.specs.inner.Program.{HaveOneCell, IsShort, IsStepWithin, SparesEarlier, is_source};
+ghost use Rattle.gos_netlist.specs.Seen.{cell_of, function_of, number_of};
+ghost use Rattle.gos_netlist.specs.Settling.{Numbers, at};
+ghost use Rattle.gos_sim.specs.inner.Program.{HaveOneCell, IsShort, IsStepWithin, SparesEarlier, is_source, steps_at, steps_named};
+ghost use Rattle.gos_sim.specs.inner.Ready.{AreCellsReady};
+ghost use Rattle.gos_sim.specs.inner.Drafts.{AddsSteps, IsDraft};
 ghost use Rattle.gos_sim.specs.inner.Places.{AreStepsMoved};
 ghost use Rattle.gos_sim.specs.inner.Running.{AreShown, KeepsOtherSteps};
-ghost use Rattle.gos_sim.specs.inner.Evaluation.{AreFitting, AreRunsMore, Fits, GoesOn, IsAdded, after, bits_of, part, steps_from, steps_of};
+ghost use Rattle.gos_sim.specs.inner.Evaluation.{AreFitting, AreRunsMore, Fits, GoesOn, IsAdded, after, part, steps_from, steps_of};
 
 use crate::operations::{
     Add, And, Constant, Equal, Less, Mux, Not, Operation, Or, Pair, Pass, Sub, Triple, Xor,
 };
 use crate::places::step_moved;
 use crate::program::Step;
-use gos_netlist::{Gate, NetId};
+use gos_netlist::{Cell, Gate, NetId};
 use gos_types::NoMemory;
 use std::alloc::Global;
 use std::marker::Model;
@@ -67,7 +69,6 @@ pub struct Operands {
 pub struct Program {
     operands: Operands,
     runs: Vec<Run>,
-    last: Run,
 }
 
 impl Model for Program {
@@ -80,11 +81,13 @@ impl Model for Program {
 
     ghost coded = { Prim.hlevel (codes, a_gate.the_row.coded) };
 
-    ghost use Rattle.gos_sim.specs.inner.Evaluation.{AreFitting, all_steps};
+    ghost use Rattle.std.specs.Prelude.{All};
+    ghost use Rattle.std.specs.List.{flat_map};
+    ghost use Rattle.gos_sim.specs.inner.Evaluation.{Fits, steps_of};
 
-    ghost view = { λ p. all_steps p.operands p.runs.items p.last };
+    ghost view = { λ p. flat_map (steps_of p.operands) p.runs.items };
 
-    ghost invariant = { λ p. AreFitting p.operands p.runs.items p.last };
+    ghost invariant = { λ p. All (Fits p.operands) p.runs.items };
 }
 
 impl Program {
@@ -97,8 +100,85 @@ impl Program {
         ensures others { KeepsOtherSteps self.now values.old values.new }
     {
         evaluate_runs(&self.runs, &self.operands, values);
-        evaluate_run(&self.last, &self.operands, values);
     }
+
+    // The steps, one by one.
+    pub fn list(&self, alloc: Global) -> Result<Vec<Step>, NoMemory>
+        ensures { IfOk result (λ steps. steps.items ≡ self.now) }
+    {
+        list_runs(alloc, &self.runs, &self.operands)
+    }
+}
+
+// The steps of runs, one by one.
+fn list_runs(alloc: Global, runs: &[Run], operands: &Operands) -> Result<Vec<Step>, NoMemory>
+    requires fit { All (Fits operands.now) runs.now }
+    ensures { IfOk result (λ steps. steps.items ≡ flat_map (steps_of operands.now) runs.now) }
+{
+    let mut steps = Vec::new(alloc);
+    for run in runs {
+        list_run(run, operands, &mut steps)?;
+    }
+    Ok(steps)
+}
+
+// Adds the steps of a run.
+fn list_run(run: &Run, operands: &Operands, steps: &mut Vec<Step>) -> Result<(), NoMemory>
+    requires fits { Fits operands.now run.now }
+    ensures { OnOk result (steps.new.items ≡ steps.old.items ++ steps_of operands.now run.now) }
+{
+    let net = run.net;
+    let width = run.width;
+    match run.kind {
+        Kind::Const => list_part(&Constant, 0, net, part(run, &operands.constants), steps),
+        Kind::Not => list_part(&Not { width }, width, net, part(run, &operands.pins), steps),
+        Kind::And => list_part(&And, 0, net, part(run, &operands.pairs), steps),
+        Kind::Or => list_part(&Or, 0, net, part(run, &operands.pairs), steps),
+        Kind::Xor => list_part(&Xor, 0, net, part(run, &operands.pairs), steps),
+        Kind::Mux => list_part(&Mux, 0, net, part(run, &operands.triples), steps),
+        Kind::Add => list_part(
+            &Add { width },
+            width,
+            net,
+            part(run, &operands.pairs),
+            steps,
+        ),
+        Kind::Sub => list_part(
+            &Sub { width },
+            width,
+            net,
+            part(run, &operands.pairs),
+            steps,
+        ),
+        Kind::Eq => list_part(&Equal, 0, net, part(run, &operands.pairs), steps),
+        Kind::Less => list_part(&Less, 0, net, part(run, &operands.pairs), steps),
+        Kind::Gate => list_part(&Pass, 0, net, part(run, &operands.pairs), steps),
+    }
+}
+
+// Adds steps of so many bits that do the same, with these operands and at nets from this one on. More nets than 32 bits can number
+// are more than memory has.
+fn list_part<O: Operation>(
+    operation: &O,
+    width: u32,
+    net: u32,
+    operands: &[O::Operand],
+    steps: &mut Vec<Step>,
+) -> Result<(), NoMemory>
+    requires { width ≡ O.width operation.now }
+    ensures { OnOk result (steps.new.items ≡ steps.old.items ++ steps_from (O.width operation.now) (O.gate operation.now) net operands.now) }
+{
+    let mut place = u64::from(net);
+    for operand in operands {
+        if place > u64::from(u32::MAX) {
+            return Err(NoMemory);
+        }
+        let gate = operation.gate_of(operand);
+        let net = place as u32;
+        steps.push(Step { net, width, gate })?;
+        place += 1;
+    }
+    Ok(())
 }
 
 // Evaluates the steps of runs.
@@ -157,45 +237,70 @@ fn evaluate_part<O: Operation>(operation: &O, net: u32, operands: &[O::Operand],
     }
 }
 
-// Steps at the places of their nets, in runs, and also one by one.
+// The steps among nets, at the places of these, in runs.
 pub fn steps_moved(
     alloc: Global,
-    steps: &[Step],
+    cells: &[Cell],
+    nets: &[NetId],
     places: &[u32],
-) -> Result<(Program, Vec<Step>), NoMemory>
-    requires within { All (IsStepWithin (length places.now)) steps.now }
-    requires inside { All (λ s. IsFalse (is_source (function_of s.gate))) steps.now }
-    ensures moved { IfOk result (λ there. AreStepsMoved (at places.now) steps.now there.0) }
-    ensures listed { IfOk result (λ there. there.0 ≡ there.1.items) }
+) -> Result<Program, NoMemory>
+    requires cells { AreCellsReady (map cell_of cells.now) }
+    requires nets { All (λ n. n.0 < length cells.now) nets.now }
+    requires places { length places.now ≡ length cells.now }
+    ensures { IfOk result (λ there. AreStepsMoved (at places.now) (steps_named cells.now (map number_of nets.now)) there) }
 {
-    let mut operands = no_operands(alloc);
-    let mut runs = Vec::new(alloc);
-    let mut last = no_run();
-    let mut all = Vec::new(alloc);
-    for step in steps {
-        let there = step_moved(step, places);
-        let next = operands.add(there)?;
-        add_run(&mut runs, &mut last, next)?;
-        all.push(narrowed(there))?;
+    let mut draft = no_steps(alloc);
+    for net in nets {
+        draft.add(net.0, cells[net.0 as usize], places)?;
     }
-    let program = Program {
+    let Draft {
         operands,
-        runs,
+        mut runs,
         last,
-    };
-    Ok((program, all))
+    } = draft;
+    runs.push(last)?;
+    Ok(Program { operands, runs })
 }
 
-// A step without its bits where these don't matter.
-fn narrowed(step: Step) -> Step
-    ensures { result ≡ record { net = step.net; width = bits_of (function_of step.gate) step.width; gate = step.gate } }
+/// Runs to which steps are added.
+#[derive(Drop)]
+pub struct Draft {
+    /// The operands of the steps.
+    pub operands: Operands,
+    /// The runs but for the last.
+    pub runs: Vec<Run>,
+    /// The last run.
+    pub last: Run,
+}
+
+// No steps.
+fn no_steps(alloc: Global) -> Draft
+    ensures { (places : Numbers) → IsDraft places [] result }
 {
-    let Step { net, width, gate } = step;
-    let width = match gate {
-        Gate::Not(_) | Gate::Add(_, _) | Gate::Sub(_, _) => width,
-        _ => 0,
-    };
-    Step { net, width, gate }
+    Draft {
+        operands: no_operands(alloc),
+        runs: Vec::new(alloc),
+        last: no_run(),
+    }
+}
+
+impl Draft {
+    // Adds a cell at its place, if it is a step.
+    fn add(&mut self, net: u32, cell: Cell, places: &[u32]) -> Result<(), NoMemory>
+        requires { All (IsStepWithin (length places.now)) (steps_at net cell) }
+        ensures { OnOk result (AddsSteps places.now (steps_at net cell) self.old self.new) }
+    {
+        let Cell { width, gate } = cell;
+        match gate {
+            Gate::Input | Gate::Reg(_) => Ok(()),
+            _ => {
+                let step = step_moved(&Step { net, width, gate }, places);
+                let next = self.operands.add(step)?;
+                add_run(&mut self.runs, &mut self.last, next)?;
+                Ok(())
+            }
+        }
+    }
 }
 
 // A run of no steps.

@@ -13,7 +13,7 @@ use crate::event_nets::{EventNets, events_of};
 use crate::levels::chained_levels;
 use crate::order::by_keys;
 use crate::places::{Places, events_moved, latches_moved, numbered};
-use crate::program::{Latch, Step, latches, steps};
+use crate::program::{Latch, latches};
 use crate::pulse::Pulse;
 use crate::running::{give, is_given, latch, load, show};
 use gos_netlist::{NetId, Netlist};
@@ -29,8 +29,6 @@ pub struct Machine {
     pub outputs: Vec<EventNets>,
     /// The cells to evaluate, in order.
     pub program: Program,
-    /// The same, one by one.
-    pub steps: Vec<Step>,
     /// The registers.
     pub latches: Vec<Latch>,
     /// The nets of each level, chained.
@@ -56,21 +54,16 @@ pub fn machine_of(
     let inputs = events_of(alloc, net, true)?;
     let outputs = events_of(alloc, net, false)?;
     let sorted = by_keys(alloc, &net.cells, order)?;
-    let steps = steps(alloc, &net.cells, &sorted)?;
     let latches = latches(alloc, &net.cells, &sorted)?;
-    let Places { of, nets } = numbered(alloc, net.cells.len(), &latches, &steps)?;
-    let inputs_there = events_moved(alloc, &inputs, &of)?;
-    let outputs_there = events_moved(alloc, &outputs, &of)?;
-    let (program, steps_there) = steps_moved(alloc, &steps, &of)?;
+    let Places { of, count } = numbered(alloc, net.cells.len(), &latches, &sorted)?;
     Ok(Machine {
-        inputs: inputs_there,
-        outputs: outputs_there,
-        program,
-        steps: steps_there,
+        inputs: events_moved(alloc, &inputs, &of)?,
+        outputs: events_moved(alloc, &outputs, &of)?,
+        program: steps_moved(alloc, &net.cells, &sorted, &of)?,
         latches: latches_moved(alloc, &latches, &of)?,
         levels: chained_levels(alloc, levels)?,
         places: of,
-        count: nets.len(),
+        count: count as usize,
     })
 }
 

@@ -43,6 +43,10 @@ pub trait Operation {
     fn value(&self, operand: &Self::Operand, values: &[u32]) -> u32
         requires { IsCellWithin (length values.now) (record { width = width self.now; gate = function_of (gate self.now operand.now) }) }
         ensures { result ≡ shown (width self.now) (function_of (gate self.now operand.now)) 0 0 (at values.now) };
+
+    /// What the step is.
+    fn gate_of(&self, operand: &Self::Operand) -> Gate
+        ensures { result ≡ gate self.now operand.now };
 }
 
 /// A number that never changes.
@@ -100,6 +104,10 @@ impl Operation for Constant {
     fn value(&self, constant: &u32, _values: &[u32]) -> u32 {
         *constant
     }
+
+    fn gate_of(&self, constant: &u32) -> Gate {
+        Gate::Const(u64::from(*constant))
+    }
 }
 
 impl Operation for Not {
@@ -111,6 +119,10 @@ impl Operation for Not {
 
     fn value(&self, pin: &NetId, values: &[u32]) -> u32 {
         turned(self.width, value_at(values, *pin))
+    }
+
+    fn gate_of(&self, pin: &NetId) -> Gate {
+        Gate::Not(*pin)
     }
 }
 
@@ -124,6 +136,10 @@ impl Operation for And {
     fn value(&self, pair: &Pair, values: &[u32]) -> u32 {
         value_at(values, pair.a) & value_at(values, pair.b)
     }
+
+    fn gate_of(&self, pair: &Pair) -> Gate {
+        Gate::And(pair.a, pair.b)
+    }
 }
 
 impl Operation for Or {
@@ -135,6 +151,10 @@ impl Operation for Or {
 
     fn value(&self, pair: &Pair, values: &[u32]) -> u32 {
         value_at(values, pair.a) | value_at(values, pair.b)
+    }
+
+    fn gate_of(&self, pair: &Pair) -> Gate {
+        Gate::Or(pair.a, pair.b)
     }
 }
 
@@ -148,6 +168,10 @@ impl Operation for Xor {
     fn value(&self, pair: &Pair, values: &[u32]) -> u32 {
         value_at(values, pair.a) ^ value_at(values, pair.b)
     }
+
+    fn gate_of(&self, pair: &Pair) -> Gate {
+        Gate::Xor(pair.a, pair.b)
+    }
 }
 
 impl Operation for Mux {
@@ -160,6 +184,10 @@ impl Operation for Mux {
     fn value(&self, triple: &Triple, values: &[u32]) -> u32 {
         let (a, b) = (value_at(values, triple.a), value_at(values, triple.b));
         chosen(value_at(values, triple.s), a, b)
+    }
+
+    fn gate_of(&self, triple: &Triple) -> Gate {
+        Gate::Mux(triple.s, triple.a, triple.b)
     }
 }
 
@@ -177,6 +205,10 @@ impl Operation for Add {
             value_at(values, pair.b),
         )
     }
+
+    fn gate_of(&self, pair: &Pair) -> Gate {
+        Gate::Add(pair.a, pair.b)
+    }
 }
 
 impl Operation for Sub {
@@ -193,6 +225,10 @@ impl Operation for Sub {
             value_at(values, pair.b),
         )
     }
+
+    fn gate_of(&self, pair: &Pair) -> Gate {
+        Gate::Sub(pair.a, pair.b)
+    }
 }
 
 impl Operation for Equal {
@@ -204,6 +240,10 @@ impl Operation for Equal {
 
     fn value(&self, pair: &Pair, values: &[u32]) -> u32 {
         u32::from(value_at(values, pair.a) == value_at(values, pair.b))
+    }
+
+    fn gate_of(&self, pair: &Pair) -> Gate {
+        Gate::Eq(pair.a, pair.b)
     }
 }
 
@@ -217,6 +257,10 @@ impl Operation for Less {
     fn value(&self, pair: &Pair, values: &[u32]) -> u32 {
         u32::from(value_at(values, pair.a) < value_at(values, pair.b))
     }
+
+    fn gate_of(&self, pair: &Pair) -> Gate {
+        Gate::Less(pair.a, pair.b)
+    }
 }
 
 impl Operation for Pass {
@@ -228,6 +272,10 @@ impl Operation for Pass {
 
     fn value(&self, pair: &Pair, values: &[u32]) -> u32 {
         chosen(value_at(values, pair.a), value_at(values, pair.b), 0)
+    }
+
+    fn gate_of(&self, pair: &Pair) -> Gate {
+        Gate::Gate(pair.a, pair.b)
     }
 }
 

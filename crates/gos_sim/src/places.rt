@@ -1,7 +1,7 @@
 // The places of nets: a simulator keeps their values in the order in which it writes them.
-ghost use Rattle.std.specs.Prelude.{◌≡◌, ◌≢◌, ℕ, ◌<◌, All, IfOk, OnOk, Some, length, map, slice_get};
+ghost use Rattle.std.specs.Prelude.{◌≡◌, ◌≢◌, ℕ, ◌<◌, All, Contains, IfOk, OnOk, length, map};
 ghost use Rattle.gos_netlist.specs.Nets.{pins};
-ghost use Rattle.gos_netlist.specs.Seen.{function_of};
+ghost use Rattle.gos_netlist.specs.Seen.{function_of, number_of};
 ghost use Rattle.gos_netlist.specs.Settling.{at};
 ghost use Rattle.gos_sim.specs.EventNets.{OnNets};
 ghost use Rattle.gos_sim.specs.inner.Program.{IsLatchWithin, IsStepWithin};
@@ -16,42 +16,41 @@ use std::alloc::Global;
 /// Where a net has no place yet.
 const NONE: u32 = u32::MAX;
 
-/// The places of nets, and the nets that stand there.
+/// The places of nets, and how many there are.
 #[derive(Drop)]
 pub struct Places {
     /// The place of each net.
     pub of: Vec<u32>,
-    /// The net at each place.
-    pub nets: Vec<u32>,
+    /// How many places are taken.
+    pub count: u32,
 }
 
 impl Places {
     // Gives a net the next place, if it has none. More places than 32 bits can number are more than memory has.
     fn add(&mut self, net: u32) -> Result<(), NoMemory>
         requires net { net < length self.old.of.items }
-        requires partly { IsPartly self.old.of.items self.old.nets.items }
-        ensures partly { OnOk result (IsPartly self.new.of.items self.new.nets.items) }
+        requires partly { IsPartly self.old.of.items self.old.count }
+        ensures partly { OnOk result (IsPartly self.new.of.items self.new.count) }
         ensures each { OnOk result (length self.new.of.items ≡ length self.old.of.items) }
         ensures placed { OnOk result (at self.new.of.items net ≢ none) }
         ensures kept { OnOk result ((n : ℕ) → at self.old.of.items n ≢ none → at self.new.of.items n ≢ none) }
     {
-        let place = self.nets.len();
         if self.of[net as usize] != NONE {
             return Ok(());
         }
-        if place >= NONE as usize {
+        if self.count == NONE {
             return Err(NoMemory);
         }
-        self.nets.push(net)?;
-        self.of[net as usize] = place as u32;
+        self.of[net as usize] = self.count;
+        self.count += 1;
         Ok(())
     }
 
     // Gives places to the nets of registers.
     fn add_latches(&mut self, latches: &[Latch]) -> Result<(), NoMemory>
         requires latches { All (IsLatchWithin (length self.old.of.items)) latches.now }
-        requires partly { IsPartly self.old.of.items self.old.nets.items }
-        ensures partly { OnOk result (IsPartly self.new.of.items self.new.nets.items) }
+        requires partly { IsPartly self.old.of.items self.old.count }
+        ensures partly { OnOk result (IsPartly self.new.of.items self.new.count) }
         ensures each { OnOk result (length self.new.of.items ≡ length self.old.of.items) }
     {
         for latch in latches {
@@ -60,58 +59,39 @@ impl Places {
         Ok(())
     }
 
-    // Gives places to the nets of steps.
-    fn add_steps(&mut self, steps: &[Step]) -> Result<(), NoMemory>
-        requires steps { All (IsStepWithin (length self.old.of.items)) steps.now }
-        requires partly { IsPartly self.old.of.items self.old.nets.items }
-        ensures partly { OnOk result (IsPartly self.new.of.items self.new.nets.items) }
+    // Gives places to nets in their order.
+    fn add_nets(&mut self, nets: &[NetId]) -> Result<(), NoMemory>
+        requires nets { All (λ n. n.0 < length self.old.of.items) nets.now }
+        requires partly { IsPartly self.old.of.items self.old.count }
+        ensures partly { OnOk result (IsPartly self.new.of.items self.new.count) }
         ensures each { OnOk result (length self.new.of.items ≡ length self.old.of.items) }
+        ensures placed { OnOk result (All (λ n. at self.new.of.items n.0 ≢ none) nets.now) }
     {
-        for step in steps {
-            self.add(step.net)?;
-        }
-        Ok(())
-    }
-
-    // Gives places to all other nets below a count.
-    fn add_others(&mut self, count: u32) -> Result<(), NoMemory>
-        requires count { count ≡ length self.old.of.items }
-        requires partly { IsPartly self.old.of.items self.old.nets.items }
-        ensures partly { OnOk result (IsPartly self.new.of.items self.new.nets.items) }
-        ensures each { OnOk result (length self.new.of.items ≡ length self.old.of.items) }
-        ensures placed { OnOk result ((n : ℕ) → n < count → at self.new.of.items n ≢ none) }
-    {
-        for net in 0..count {
-            self.add(net)?;
+        for net in nets {
+            self.add(net.0)?;
         }
         Ok(())
     }
 }
 
-// The places of so many nets: first the registers, then the steps in their order, then all others.
+// The places of so many nets: first the registers, then all others in their order.
 #[tactic(auto, using(crate::proofs::NumberLemmas::numbering_of, crate::proofs::NumberLemmas::partly_none))]
 pub fn numbered(
     alloc: Global,
     count: usize,
     latches: &[Latch],
-    steps: &[Step],
+    nets: &[NetId],
 ) -> Result<Places, NoMemory>
     requires latches { All (IsLatchWithin count) latches.now }
-    requires steps { All (IsStepWithin count) steps.now }
+    requires nets { All (λ n. n.0 < count) nets.now }
+    requires all { (n : ℕ) → n < count → Contains (map number_of nets.now) n }
     ensures each { IfOk result (λ places. length places.of.items ≡ count) }
-    ensures numbering { IfOk result (λ places. IsNumbering places.of.items (length places.nets.items)) }
-    ensures stands { IfOk result (λ places. (n : ℕ) → n < count → slice_get places.nets.items (at places.of.items n) ≡ Some n) }
-    ensures within { IfOk result (λ places. All (λ n. n < count) places.nets.items) }
+    ensures numbering { IfOk result (λ places. IsNumbering places.of.items places.count) }
 {
-    if count > NONE as usize {
-        return Err(NoMemory);
-    }
     let of = vec![in alloc; NONE; count]?;
-    let nets = Vec::new(alloc);
-    let mut places = Places { of, nets };
+    let mut places = Places { of, count: 0 };
     places.add_latches(latches)?;
-    places.add_steps(steps)?;
-    places.add_others(count as u32)?;
+    places.add_nets(nets)?;
     Ok(places)
 }
 

@@ -1,7 +1,7 @@
 // The program that a simulator runs in each cycle, as it is made of the cells.
 ghost use Rattle.std.specs.Prelude.{◌≡◌, ◌++◌, All, IfOk, OnOk, length, map};
 ghost use Rattle.gos_netlist.specs.Seen.{cell_of, function_of, number_of};
-ghost use Rattle.gos_sim.specs.inner.Program.{AreLatches, IsLatchWithin, IsProgram, IsStepWithin, latches_at, steps_at};
+ghost use Rattle.gos_sim.specs.inner.Program.{AreLatches, IsLatchWithin, latches_at};
 ghost use Rattle.gos_sim.specs.inner.Ready.{AreCellsReady};
 ghost use Rattle.gos_sim.specs.inner.Order.{IsOrder};
 
@@ -27,34 +27,6 @@ pub struct Latch {
     pub net: u32,
     /// The net whose value it takes over at the end of a cycle.
     pub pin: u32,
-}
-
-// The cells to evaluate, in an order of all cells.
-pub fn steps(alloc: Global, cells: &[Cell], order: &[NetId]) -> Result<Vec<Step>, NoMemory>
-    requires cells { AreCellsReady (map cell_of cells.now) }
-    requires order { IsOrder (map cell_of cells.now) (map number_of order.now) }
-    ensures program { IfOk result (λ steps. IsProgram (map cell_of cells.now) steps.items) }
-    ensures within { IfOk result (λ steps. All (IsStepWithin (length cells.now)) steps.items) }
-{
-    let mut steps = Vec::new(alloc);
-    for net in order {
-        add_step(&mut steps, net.0, cells[net.0 as usize])?;
-    }
-    Ok(steps)
-}
-
-// Adds a cell as a step, if it is one.
-fn add_step(steps: &mut Vec<Step>, net: u32, cell: Cell) -> Result<(), NoMemory>
-    ensures { OnOk result (steps.new.items ≡ steps.old.items ++ steps_at net cell) }
-{
-    match cell.gate {
-        Gate::Input | Gate::Reg(_) => Ok(()),
-        gate => {
-            let width = cell.width;
-            steps.push(Step { net, width, gate })?;
-            Ok(())
-        }
-    }
 }
 
 // The registers, in an order of all cells.

@@ -1,7 +1,7 @@
 -- What has to be evaluated: steps and latches are items, and an item that isn't marked stands as it must.
 --
 -- Read first: Running, Marks, Readers.
-use Rattle.std.specs.Prelude.{◌≡◌, ◌≢◌, ℕ, ◌+◌, ◌<◌, ◌≤◌, ◌^◌, IsFalse, List, All, Some, length, slice_get}
+use Rattle.std.specs.Prelude.{◌≡◌, ◌≢◌, ℕ, ◌+◌, ◌<◌, ◌≤◌, ◌^◌, IsTrue, IsFalse, List, All, Some, length, slice_get}
 use Rattle.gos_netlist.specs.Settling.{Numbers, at, shown}
 use Rattle.gos_netlist.specs.Seen.{function_of}
 use Rattle.gos_sim.specs.declared.event_nets.EventNets.{EventNets}
@@ -78,12 +78,13 @@ abbrev pub SweepsOn : List Step → List Latch → Active → Numbers → Number
 SweepsOn steps latches old v registers new w after =
     (start loaded held : Numbers) → HasSwept steps latches start loaded held old v registers → HasSwept steps latches start loaded held new w after
 
--- Between cycles nothing is marked.
+-- Between cycles all steps are there, and nothing is marked.
 pub record IsAwake (count : ℕ) (steps : List Step) (latches : List Latch) (active : Active) : Type 0 where
+  pub listed : active.steps.items ≡ steps
   pub wake : IsWake count active.wake
   pub reading : ReadAll steps latches active.wake.readers
   pub unmarked : AreUnmarked active.wake.marks.words.items
-  pub listed : All (HasLatch latches) active.changed.places.items
+  pub noted : All (HasLatch latches) active.changed.places.items
 
 -- After a cycle each step shows what its cell does, each register holds what its pin has, and the nets of the registers that aren't
 -- noted have what these hold.

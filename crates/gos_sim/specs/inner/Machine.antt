@@ -58,7 +58,6 @@ pub record IsMachine (net : Netlist) (m : Machine) : Type 0 where
   pub each : length m.places.items ≡ length net.cells
   pub numbering : IsNumbering m.places.items m.count
   pub moved : IsMoved m.places.items plan (plan_of m)
-  pub listed : m.steps.items ≡ m.program
   pub levels : Numbers
   pub leveled : AreLevels net.cells levels
   pub chained : ChainLevels m.levels levels

@@ -1,7 +1,7 @@
 -- Places: nets numbered anew, so that a simulator keeps their values in the order in which it writes them.
 --
 -- Read first: Program.
-use Rattle.std.specs.Prelude.{◌≡◌, ◌≢◌, ℕ, ◌<◌, ◌≤◌, Some, List, All, length, map, slice_get}
+use Rattle.std.specs.Prelude.{◌≡◌, ◌≢◌, ℕ, ◌<◌, ◌≤◌, Some, List, length, map, slice_get}
 use Rattle.std.specs.Option.{option_map}
 use Rattle.gos_netlist.specs.Nets.{Function, Input, Const, Not, And, Or, Xor, Mux, Add, Sub, Eq, Less, Gate, Reg}
 use Rattle.gos_netlist.specs.Seen.{function_of}
@@ -52,13 +52,13 @@ pub record AreStepsMoved (p : ℕ → ℕ) (old new : List Step) : Type 0 where
 abbrev pub none : ℕ
 none = 4294967295
 
--- Each net that has a place stands there.
-pub record IsPartly (places nets : Numbers) : Type 0 where
-  pub room : length nets ≤ none
-  pub stands : (n : ℕ) → n < length places → at places n ≢ none → slice_get nets (at places n) ≡ Some n
-  pub within : All (λ n. n < length places) nets
+-- some nets have places below a number, no two the same
+pub record IsPartly (places : Numbers) (count : ℕ) : Type 0 where
+  pub room : count ≤ none
+  pub below : (n : ℕ) → n < length places → at places n ≢ none → at places n < count
+  pub one : (a b : ℕ) → a < length places → b < length places → at places a ≢ none → at places b ≢ none → at places a ≡ at places b → a ≡ b
 
--- so many nets have places below a number, no two the same
+-- all nets have places below a number, no two the same
 pub record IsNumbering (places : Numbers) (count : ℕ) : Type 0 where
   pub below : (n : ℕ) → n < length places → at places n < count
   pub one : (a b : ℕ) → a < length places → b < length places → at places a ≡ at places b → a ≡ b

@@ -2,8 +2,9 @@
 --
 -- Read first: Nets and Cycles of gos_netlist. A step is a cell that is neither an input nor a register, and a latch is a
 -- register with its pin. No step writes a net that it or an earlier one has read.
-use Rattle.std.specs.Prelude.{◌≡◌, ◌≢◌, ℕ, ◌<◌, ◌≤◌, Bool, true, false, IsFalse, if◌then◌else◌, List, [], ◌∷◌, All, Contains, Some, slice_get}
+use Rattle.std.specs.Prelude.{◌≡◌, ◌≢◌, ℕ, ◌<◌, ◌≤◌, Bool, true, false, IsFalse, if◌then◌else◌, List, [], ◌∷◌, ◌++◌, All, Contains, Some, get_or, slice_get}
 use Rattle.gos_netlist.specs.declared.nets.Cell as declared
+use Rattle.gos_netlist.specs.declared.nets.Gate.TheVariants as gates
 use Rattle.gos_netlist.specs.Nets.{Function, Input, Const, Reg, Cell, pins}
 use Rattle.gos_netlist.specs.Seen.{function_of}
 use Rattle.gos_sim.specs.declared.program.Step.{Step}
@@ -85,6 +86,15 @@ pub record IsLatchWithin (count : ℕ) (l : Latch) : Type 0 where
 -- the steps of a cell: one, or none where it is a source
 abbrev pub steps_at : ℕ → declared.Cell → List Step
 steps_at n c = if is_source (function_of c.gate) then [] else record { net = n; width = c.width; gate = c.gate } ∷ []
+
+-- where there is no cell
+abbrev pub no_cell : declared.Cell
+no_cell = record { width = 0; gate = gates.Input }
+
+-- the steps of cells, one after another
+abbrev pub steps_named : List declared.Cell → List ℕ → List Step
+steps_named cells [] = []
+steps_named cells (n ∷ ns) = steps_at n (get_or cells n no_cell) ++ steps_named cells ns
 
 -- the latches of a cell: one, or none where it is no register
 abbrev pub latches_at : ℕ → Function → List Latch

@@ -1,12 +1,9 @@
-use Rattle.std.proofs.Common.{◌≡◌}
-use Rattle.gos_sim.specs.inner.Evaluation.{all_steps}
-use Rattle.gos_sim.proofs.EvaluationLemmas.{AreMoved}
+use Rattle.std.proofs.Common.{map, take}
+use Rattle.gos_netlist.specs.Seen.{number_of}
+use Rattle.gos_sim.specs.inner.Program.{steps_named}
+use Rattle.gos_sim.specs.inner.Drafts.{IsDraft}
 use Rattle.gos_sim.proofs.evaluation.steps_moved.Given as goal
 
--- the steps so far
-abbrev pub invariant-loop-step : goal.invariant-loop-step
-invariant-loop-step l =
-    record {
-      moved : AreMoved l.places l.steps l.operands l.runs.items l.last l.step-index;
-      listed : all_steps l.operands l.runs.items l.last ≡ l.all.items;
-    }
+-- the steps among the nets so far
+abbrev pub invariant-loop-net : goal.invariant-loop-net
+invariant-loop-net l = IsDraft l.places (steps_named l.cells (take l.net-index (map number_of l.nets))) l.draft

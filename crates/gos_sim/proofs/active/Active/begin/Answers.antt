@@ -24,7 +24,7 @@ load-requires-clause-loaded c =
 
 pub load-requires-clause-listed : goal.load-requires-clause-listed
 load-requires-clause-listed c =
-    subst (λ (ls : List Latch). All (HasLatch ls) c.args.self.now.changed.places.items) (sym c.deref-2.ensures.value) c.requires.awake.listed
+    subst (λ (ls : List Latch). All (HasLatch ls) c.args.self.now.changed.places.items) (sym c.deref-2.ensures.value) c.requires.awake.noted
 
 pub returns-clause-stand : goal.returns-clause-stand
 returns-clause-stand c =

@@ -13,25 +13,25 @@ pub show_step-requires-clause-step : goal.show_step-requires-clause-step
 show_step-requires-clause-step c =
     let steps = c.args.machine.now.program in
     let v = c.args.values.now in
-    let own : c.len-steps.result ≡ length c.args.machine.now.steps.items = search rules in
+    let own : c.len-steps.result ≡ length c.args.self.now.steps.items = search rules in
     let t = c.index.result.now in
     let is : slice_get steps c.args.item ≡ Some t =
     subst (λ (ss : List Step). slice_get ss c.args.item ≡ Some t) c.requires.listed
-    (slice_get_read c.args.machine.now.steps.items c.len-steps.result c.args.item t own c.if-item-steps.true c.index.ensures) in
+    (slice_get_read c.args.self.now.steps.items c.len-steps.result c.args.item t own c.if-item-steps.true c.index.ensures) in
     all_at (IsStepWithin (length v)) steps c.args.item t c.requires.ready.steps is
 
 pub returns-then-item-steps-clause-swept : goal.returns-then-item-steps-clause-swept
 returns-then-item-steps-clause-swept c = λ start loaded held swept.
     let steps = c.args.machine.now.program in
     let v = c.args.values.now in
-    let own : c.len-steps.result ≡ length c.args.machine.now.steps.items = search rules in
+    let own : c.len-steps.result ≡ length c.args.self.now.steps.items = search rules in
     let t = c.index.result.now in
     let is : slice_get steps c.args.item ≡ Some t =
     subst (λ (ss : List Step). slice_get ss c.args.item ≡ Some t) c.requires.listed
-    (slice_get_read c.args.machine.now.steps.items c.len-steps.result c.args.item t own c.if-item-steps.true c.index.ensures) in
+    (slice_get_read c.args.self.now.steps.items c.len-steps.result c.args.item t own c.if-item-steps.true c.index.ensures) in
     let latches = c.args.machine.now.latches.items in
     let old = c.args.self.now in
-    let new : Active = record { wake = c.show_step.new.wake; changed = old.changed; settled = old.settled; wait = old.wait; pause = old.pause } in
+    let new : Active = record { steps = old.steps; wake = c.show_step.new.wake; changed = old.changed; settled = old.settled; wait = old.wait; pause = old.pause } in
     subst (λ (w : Numbers). HasSwept steps latches start loaded held new w c.args.registers.now) (sym c.show_step.ensures.values)
     (swept_step steps latches start loaded held old new v c.args.registers.now c.args.item _ t c.requires.ready.apart_from_steps is
     (subst (Follows old.wake new.wake v) c.show_step.ensures.values c.show_step.ensures.follows) refl swept)
@@ -42,13 +42,13 @@ returns-then-item-steps-clause-stand c =
     let latches = c.args.machine.now.latches.items in
     let old = c.args.self.now.wake in
     let v = c.args.values.now in
-    let own : c.len-steps.result ≡ length c.args.machine.now.steps.items = search rules in
+    let own : c.len-steps.result ≡ length c.args.self.now.steps.items = search rules in
     let count : c.len-steps.result ≡ length steps = own ∙ ap length c.requires.listed in
     let low : c.args.item < length steps = omega (arith, c.if-item-steps.true, count) in
     let t = c.index.result.now in
     let is : slice_get steps c.args.item ≡ Some t =
     subst (λ (ss : List Step). slice_get ss c.args.item ≡ Some t) c.requires.listed
-    (slice_get_read c.args.machine.now.steps.items c.len-steps.result c.args.item t own c.if-item-steps.true c.index.ensures) in
+    (slice_get_read c.args.self.now.steps.items c.len-steps.result c.args.item t own c.if-item-steps.true c.index.ensures) in
     let within = (all_at (IsStepWithin (length v)) steps c.args.item t c.requires.ready.steps is).net in
     subst (λ (w : Numbers). Stand steps latches c.show_step.new.wake.marks.words.items w c.args.registers.now) (sym c.show_step.ensures.values)
     (stand_step steps latches old c.show_step.new.wake v c.args.registers.now c.args.item _ t c.requires.ready.one_cell is within refl c.requires.reading
@@ -60,7 +60,7 @@ returns-then-item-steps-2-clause-stand c =
     let latches = c.args.machine.now.latches.items in
     let v = c.args.values.now in
     let k : ℕ = c.args.item - c.len-steps.result in
-    let own : c.len-steps.result ≡ length c.args.machine.now.steps.items = search rules in
+    let own : c.len-steps.result ≡ length c.args.self.now.steps.items = search rules in
     let count : c.len-steps.result ≡ length steps = own ∙ ap length c.requires.listed in
     let many : c.len.result ≡ length c.args.machine.now.latches.items = search rules in
     let low : k < length latches = omega (arith, c.if-item-steps-2.true, many) in
@@ -83,7 +83,7 @@ returns-then-item-steps-2-clause-swept c = λ start loaded held swept.
     let low : k < length latches = omega (arith, c.if-item-steps-2.true, many) in
     let l = c.index-then-item-steps-2.result.now in
     let is = slice_get_read latches (length latches) k l refl low c.index-then-item-steps-2.ensures in
-    let new : Active = record { wake = old.wake; changed = c.take_latch.new.changed; settled = old.settled; wait = old.wait; pause = old.pause } in
+    let new : Active = record { steps = old.steps; wake = old.wake; changed = c.take_latch.new.changed; settled = old.settled; wait = old.wait; pause = old.pause } in
     let taken = c.take_latch.ensures.taken in
     subst (HasSwept steps latches start loaded held new v) (sym taken)
     (swept_latch steps latches start loaded held old new v c.args.registers.now k l is refl
@@ -94,7 +94,7 @@ pub returns-else-item-steps-2-clause-stand : goal.returns-else-item-steps-2-clau
 returns-else-item-steps-2-clause-stand c =
     let steps = c.args.machine.now.program in
     let latches = c.args.machine.now.latches.items in
-    let own : c.len-steps.result ≡ length c.args.machine.now.steps.items = search rules in
+    let own : c.len-steps.result ≡ length c.args.self.now.steps.items = search rules in
     let count : c.len-steps.result ≡ length steps = own ∙ ap length c.requires.listed in
     let many : c.len.result ≡ length c.args.machine.now.latches.items = search rules in
     stand_none steps latches c.args.self.now.wake.marks.words.items c.args.values.now c.args.registers.now c.args.item

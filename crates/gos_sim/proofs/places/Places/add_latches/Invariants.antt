@@ -6,6 +6,6 @@ use Rattle.gos_sim.proofs.places.Places.add_latches.Given as goal
 abbrev pub invariant-loop-latch : goal.invariant-loop-latch
 invariant-loop-latch l =
     record {
-      partly : IsPartly l.self.of.items l.self.nets.items;
+      partly : IsPartly l.self.of.items l.self.count;
       each : length l.self.of.items ≡ length l.initial.self.of.items;
     }
