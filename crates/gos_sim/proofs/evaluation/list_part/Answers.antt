@@ -1,4 +1,4 @@
-use Rattle.std.proofs.Common.{List, ℕ, ◌≡◌, ◌+◌, ◌++◌, ◌∷◌, [], ◌∙◌, ap, arith, drop, length, refl}
+use Rattle.std.proofs.Common.{List, ◌+◌, ◌++◌, ◌∷◌, [], ◌∙◌, ap, arith, drop, length, refl}
 use Rattle.std.proofs.lemmas.Option.{slice_get_read}
 use Rattle.gos_sim.specs.declared.program.Step.{Step}
 use Rattle.gos_sim.specs.inner.Evaluation.{steps_from}
