@@ -7,6 +7,7 @@ use gos_netcheck::accept;
 use gos_netlist::{Cell, Gate, Ground, NetId, Netlist, Side};
 use gos_sim::{Pulse, Sim};
 use std::alloc::Global;
+use std::mem::swap;
 
 // How many nets come before those that are drawn: nets of a bit at even places, and of four bits at odd ones.
 const GIVEN: u32 = 4;
@@ -213,38 +214,111 @@ fn run_cycle(sim: &mut Sim, on: bool, inputs: &mut [Pulse], outputs: &mut [Pulse
     true
 }
 
-// Whether simulator and plain evaluator show the same in each of fifty cycles; none where a step before them fails.
-fn shows_the_same(alloc: Global, seed: u64) -> Option<bool> {
-    let net = small(drawn(alloc, seed, 40).ok()?)?;
-    let mut sim = Sim::new(alloc, accept(alloc, net).ok()?).ok()?;
+// Whether the number at a net differs.
+fn differs(before: &[u64], values: &[u64], net: NetId) -> bool {
+    at(before, net) != at(values, net)
+}
+
+// Whether a gate that is evaluated reads a number that differs.
+fn reads_change(gate: Gate, before: &[u64], values: &[u64]) -> bool {
+    match gate {
+        Gate::Input | Gate::Const(_) | Gate::Reg(_) => false,
+        Gate::Not(a) => differs(before, values, a),
+        Gate::And(a, b)
+        | Gate::Or(a, b)
+        | Gate::Xor(a, b)
+        | Gate::Add(a, b)
+        | Gate::Sub(a, b)
+        | Gate::Eq(a, b)
+        | Gate::Less(a, b)
+        | Gate::Gate(a, b) => differs(before, values, a) || differs(before, values, b),
+        Gate::Mux(s, a, b) => {
+            differs(before, values, s) || differs(before, values, a) || differs(before, values, b)
+        }
+    }
+}
+
+// Notes the levels in which some gate reads a number that differs.
+fn note_levels(cells: &[Cell], levels: &[u32], before: &[u64], values: &[u64], seen: &mut [bool]) {
+    seen.fill(false);
+    for (cell, level) in cells.iter().zip(levels) {
+        if reads_change(cell.gate, before, values) && (*level as usize) < seen.len() {
+            seen[*level as usize] = true;
+        }
+    }
+}
+
+// How many levels are noted.
+fn count_of(seen: &[bool]) -> u64 {
+    seen.iter().filter(|level| **level).count() as u64
+}
+
+// How large a netlist is drawn, in pairs, how many cycles it runs, and in one of how many it is asked.
+#[derive(Debug, Clone, Copy)]
+struct Trial {
+    pairs: u32,
+    cycles: u32,
+    rarely: u32,
+}
+
+// Whether simulator and plain evaluator show the same in each cycle, and visit as many levels; none where a step before the
+// cycles fails.
+fn shows_the_same(alloc: Global, seed: u64, trial: Trial) -> Option<bool>
+    requires pairs { trial.pairs ≤ 400 }
+    requires rarely { 0 < trial.rarely }
+{
+    let net = small(drawn(alloc, seed, trial.pairs).ok()?)?;
+    let net = accept(alloc, net).ok()?;
+    let levels = net.levels(alloc).ok()?;
+    let mut sim = Sim::new(alloc, net).ok()?;
     let count = sim.netlist().cells.len();
-    let mut inputs = vec![in alloc; Pulse {
+    let none = Pulse {
         on: false,
-        value: 0
-    }; sim.inputs()]
-    .ok()?;
-    let mut outputs = vec![in alloc; Pulse {
-        on: false,
-        value: 0
-    }; sim.outputs()]
-    .ok()?;
+        value: 0,
+    };
+    let mut inputs = vec![in alloc; none; sim.inputs()].ok()?;
+    let mut outputs = vec![in alloc; none; sim.outputs()].ok()?;
     let mut registers = vec![in alloc; 0; count].ok()?;
     let mut values = vec![in alloc; 0; count].ok()?;
+    let mut before = vec![in alloc; 0; count].ok()?;
+    let mut seen = vec![in alloc; false; count].ok()?;
+    settle(&sim.netlist().cells, 0, &registers, &mut values);
     let mut draw = Draw { state: seed };
     let mut same = true;
-    for _ in 0..50 {
-        let on = draw.number() % 4 == 0;
+    for _ in 0..trial.cycles {
+        let on = draw.number() % trial.rarely == 0;
         let ran = run_cycle(&mut sim, on, &mut inputs, &mut outputs);
+        swap(&mut values, &mut before);
         settle(&sim.netlist().cells, u64::from(on), &registers, &mut values);
         latch(&sim.netlist().cells, &values, &mut registers);
-        same = same && ran && is_shown(&outputs, GIVEN + 80, &values);
+        note_levels(&sim.netlist().cells, &levels, &before, &values, &mut seen);
+        same = same && ran && is_shown(&outputs, GIVEN + 2 * trial.pairs, &values);
+        same = same && sim.visited() == count_of(&seen);
     }
     Some(same)
 }
 
 #[test]
 fn shows_what_a_plain_evaluator_shows(rt: HostRuntime) {
+    let trial = Trial {
+        pairs: 40,
+        cycles: 50,
+        rarely: 4,
+    };
     for seed in 1..9 {
-        assert!(rt; shows_the_same(rt.alloc(), seed) == Some(true));
+        assert!(rt; shows_the_same(rt.alloc(), seed, trial) == Some(true));
+    }
+}
+
+// Most cells stand still, so that often few are evaluated; and where it is asked again, many.
+#[test]
+fn shows_the_same_where_few_cells_change(rt: HostRuntime) {
+    let trial = Trial {
+        pairs: 120,
+        cycles: 80,
+        rarely: 12,
+    };
+    for seed in 1..4 {
+        assert!(rt; shows_the_same(rt.alloc(), seed, trial) == Some(true));
     }
 }

@@ -210,9 +210,26 @@ runnable net m plan =
       steps = plan.steps_within;
       latches = plan.latches_within;
       one_pin = one_pin net.cells m.latches plan.latched;
+      inputs_apart_from_steps = λ j e a at_j names. free a (input_at j e a at_j names);
+      inputs_apart_from_latches = λ j e a at_j names. beside a (input_at j e a at_j names);
       apart_from_steps = λ j l at_j. at_latch l (all_at (IsLatchOf net.cells) m.latches j l plan.latched.sound at_j);
     }
   where
+    named : (e : EventNets) (a : ℕ) → OnNets (IsInputNet net.cells) e → Names e a → IsInputNet net.cells a
+    named e a on (inl same) = subst (IsInputNet net.cells) (sym same) on.0
+    named e a on (inr is) = subst (OnNumber (IsInputNet net.cells)) is on.1
+
+    input_at : (j : ℕ) (e : EventNets) (a : ℕ) → slice_get m.inputs j ≡ Some e → Names e a → IsInputNet net.cells a
+    input_at j e a at_j names =
+        named e a
+        (all_at (OnNets (IsInputNet net.cells)) (input_events net) j e plan.ready.inputs (subst (λ (es : List EventNets). slice_get es j ≡ Some e) plan.inputs at_j)) names
+
+    beside : (a : ℕ) → IsInputNet net.cells a → All (λ l. l.net ≢ a) m.latches
+    beside a (c, is, input) = no_latch net.cells m.latches a c plan.latched is (λ (b, register). let no : Input ≡ Reg b = sym input ∙ register in cc)
+
+    free : (a : ℕ) → IsInputNet net.cells a → All (λ s. s.net ≢ a) m.steps
+    free a (c, is, input) = no_step net.cells m.steps a c plan.program is (ap is_source input)
+
     at_latch : (l : Latch) → IsLatchOf net.cells l → All (λ s. s.net ≢ l.net) m.steps
     at_latch l (w, is) = no_step net.cells m.steps l.net (record { width = w; gate = Reg l.pin }) plan.program is refl
 

@@ -2,9 +2,13 @@ pub mod PlaceLemmas
 pub mod StepLemmas
 pub mod LatchLemmas
 pub mod GiveLemmas
+pub mod MarkLemmas
+pub mod ReaderLemmas
+pub mod ActiveLemmas
 pub mod SourceLemmas
 pub mod ProgramLemmas
 pub mod OrderLemmas
+pub mod SweepLemmas
 pub mod ChainLemmas
 pub mod CountingLemmas
 pub mod RegisterLemmas

@@ -1,9 +1,10 @@
 -- The machine of a netlist runs as the netlist does, as its nets see it.
-use Rattle.std.specs.Prelude.{◌≡◌, ℕ, false, List, ◌∷◌, length, map, replicate, take}
+use Rattle.std.specs.Prelude.{◌≡◌, ℕ, true, false, IsFalse, List, ◌∷◌, length, map, replicate, take}
 use Rattle.std.proofs.Common.{sym, subst, ap, ◌∙◌}
 use Rattle.std.proofs.lemmas.List.{length-map, length-replicate}
 use Rattle.gos_netlist.specs.Nets.{Netlist}
 use Rattle.gos_netlist.specs.Settling.{Numbers, at}
+use Rattle.gos_sim.specs.declared.active.Active.{Active}
 use Rattle.gos_sim.specs.declared.machine.Machine.{Machine}
 use Rattle.gos_sim.specs.declared.past.Past.TheVariants.{Reset}
 use Rattle.gos_sim.specs.declared.pulse.Pulse.{Pulse}
@@ -12,6 +13,7 @@ use Rattle.gos_netcheck.specs.Levels.{AreLevels}
 use Rattle.gos_sim.specs.Visits.{IsZeroSettling}
 use Rattle.gos_sim.specs.inner.Counting.{ChainLevels}
 use Rattle.gos_sim.specs.inner.Places.{AreStepsMoved, IsNumbering, by_net, event_moved, latch_moved}
+use Rattle.gos_sim.specs.inner.Active.{IsAwake}
 use Rattle.gos_sim.specs.inner.Machine.{HoldNothingElse, IsBuilt, IsMachine, IsPlan, IsRunnable, Plan, RunsThrough, SettlesAtReset, plan_of}
 use Rattle.gos_sim.proofs.MoveLemmas.{pulses_by_net, reset_by_net, runnable_moved, through_by_net, zeros_by_net}
 use Rattle.gos_sim.proofs.CycleLemmas.{cycle_of, next_output, nothing_at_reset, nothing_else, runnable, zero_settling}
@@ -82,9 +84,10 @@ module _ (net : Netlist) (m : Machine) (machine : IsMachine net m) where
   machine_zeros = zeros_by_net m.places.items m.count ∙ ap (λ (n : ℕ). replicate n 0) machine.each
 
   -- a simulator at reset is as it must be
-  pub built_at_reset : (registers values before : Numbers) → registers ≡ replicate m.count 0 → SettlesAtReset (plan_of m) values
-      → length values ≡ m.count → length before ≡ m.count → IsBuilt net m registers values before false Reset
-  built_at_reset registers values before zeros settles values_each before_each =
+  pub built_at_reset : (active : Active) (registers values before : Numbers) → IsAwake m.count m.program m.latches.items active → IsFalse active.settled
+      → registers ≡ replicate m.count 0 → SettlesAtReset (plan_of m) values
+      → length values ≡ m.count → length before ≡ m.count → IsBuilt net m active registers values before false Reset
+  built_at_reset active registers values before awake fresh zeros settles values_each before_each =
       record {
         machine = machine;
         state = record {
@@ -95,4 +98,7 @@ module _ (net : Netlist) (m : Machine) (machine : IsMachine net m) where
         others = subst (HoldNothingElse net.cells) (sym (ap (by_net m.places.items) zeros ∙ machine_zeros)) (nothing_at_reset net.cells);
         stands = λ no. absurd (cc);
         came = machine_zero values settles;
+        awake = awake;
+        settled = λ yes. let never : true ≡ false = sym yes ∙ fresh in absurd (cc);
+        noted = λ yes. let never : true ≡ false = sym yes ∙ fresh in absurd (cc);
       }

@@ -363,6 +363,10 @@ module _ (places : Numbers) (count : ℕ) (old new : Plan) (move : IsMoved place
         latches = subst (All (IsLatchWithin count)) (sym move.latches) (All-map (IsLatchWithin count) (latch_moved (at places)) old.latches
             (All-weaker (IsLatchWithin (length places)) (λ l. IsLatchWithin count (latch_moved (at places) l)) (λ l h. record { net = numbering.below l.net h.net; pin = numbering.below l.pin h.pin }) old.latches runs.latches));
         one_pin = subst HaveOnePin (sym move.latches) one_pin_moved;
+        inputs_apart_from_latches = λ j e x is names. subst (All (λ l. l.net ≢ x)) (sym move.latches) (all_of_at (λ l. l.net ≢ x) (map (latch_moved (at places)) old.latches)
+            (λ k l at_k same. no_input_latch j e x k l (subst (λ (es : List EventNets). slice_get es j ≡ Some e) move.inputs is) names at_k same));
+        inputs_apart_from_steps = λ j e x is names. all_of_at (λ s. s.net ≢ x) new.steps (λ k t at_k same.
+            no_input_moved j e x k t (subst (λ (es : List EventNets). slice_get es j ≡ Some e) move.inputs is) names at_k same);
         apart_from_steps = λ j l is. all_of_at (λ s. s.net ≢ l.net) new.steps (λ k t at_k same. no_step_moved j l k t (subst (λ (ls : List Latch). slice_get ls j ≡ Some l) move.latches is) at_k same);
       }
     where
@@ -382,6 +386,26 @@ module _ (places : Numbers) (count : ℕ) (old new : Plan) (move : IsMoved place
           let nets : at places a.net ≡ at places b.net = ap (λ (x : Latch). x.net) moved_a ∙ (same ∙ sym (ap (λ (x : Latch). x.net) moved_b)) in
           let pin : a.pin ≡ b.pin = runs.one_pin j k a b at_a at_b (numbering.one a.net b.net (latch_here j a at_a).net (latch_here k b at_b).net nets) in
           sym (ap (λ (x : Latch). x.pin) moved_a) ∙ (ap (at places) pin ∙ ap (λ (x : Latch). x.pin) moved_b)
+
+      no_input_moved : (j : ℕ) (e : EventNets) (x k : ℕ) (t : Step) → slice_get (map (event_moved (at places)) old.inputs) j ≡ Some e → Names e x
+          → slice_get new.steps k ≡ Some t → t.net ≢ x
+      no_input_moved j e x k t is names at_k same =
+          let (f, at_f, moved_f) = moved_from (event_moved (at places)) old.inputs j e is in
+          let (s, at_s, moved_s) = step_from (at places) old.steps new.steps k t move.steps at_k in
+          let (a, a_is, a_below, a_there) = named places f x (all_at (OnNets (λ a. a < length places)) old.inputs j f runs.inputs at_f)
+          (subst (λ (g : EventNets). Names g x) (sym moved_f) names) in
+          all_at (λ (s : Step). s.net ≢ a) old.steps k s (runs.inputs_apart_from_steps j f a at_f a_is) at_s
+          (numbering.one s.net a (here k s at_s).net a_below (sym moved_s.net ∙ (same ∙ sym a_there)))
+
+      no_input_latch : (j : ℕ) (e : EventNets) (x k : ℕ) (l : Latch) → slice_get (map (event_moved (at places)) old.inputs) j ≡ Some e → Names e x
+          → slice_get (map (latch_moved (at places)) old.latches) k ≡ Some l → l.net ≢ x
+      no_input_latch j e x k l is names at_k same =
+          let (f, at_f, moved_f) = moved_from (event_moved (at places)) old.inputs j e is in
+          let (b, at_b, moved_b) = moved_from (latch_moved (at places)) old.latches k l at_k in
+          let (a, a_is, a_below, a_there) = named places f x (all_at (OnNets (λ a. a < length places)) old.inputs j f runs.inputs at_f)
+          (subst (λ (g : EventNets). Names g x) (sym moved_f) names) in
+          all_at (λ (m : Latch). m.net ≢ a) old.latches k b (runs.inputs_apart_from_latches j f a at_f a_is) at_b
+          (numbering.one b.net a (latch_here k b at_b).net a_below (ap (λ (m : Latch). m.net) moved_b ∙ (same ∙ sym a_there)))
 
       no_step_moved : (j : ℕ) (l : Latch) (k : ℕ) (t : Step) → slice_get (map (latch_moved (at places)) old.latches) j ≡ Some l → slice_get new.steps k ≡ Some t → t.net ≢ l.net
       no_step_moved j l k t is at_k same =

@@ -1,12 +1,16 @@
 -- The last two settlings after a cycle.
-use Rattle.std.specs.Prelude.{◌≡◌, Bool, true, false, IsTrue, IsFalse, List, [], ◌∷◌, take}
-use Rattle.std.proofs.Common.{refl, ap, sym, subst}
+use Rattle.std.specs.Prelude.{◌≡◌, ℕ, Bool, true, false, IsTrue, IsFalse, List, [], ◌∷◌, take}
+use Rattle.std.proofs.Common.{refl, ap, sym, subst, ◌∙◌}
 use Rattle.gos_netlist.specs.Nets.{Cell}
-use Rattle.gos_netlist.specs.Settling.{Numbers}
+use Rattle.gos_netlist.specs.Settling.{Numbers, at}
 use Rattle.gos_sim.specs.declared.past.Past.{Past}
 use Rattle.gos_sim.specs.declared.past.Past.TheVariants.{Reset, First, Later, Still}
+use Rattle.gos_sim.specs.declared.active.Active.{Active}
+use Rattle.gos_sim.specs.declared.course.Course.{Course}
+use Rattle.gos_sim.specs.declared.course.Course.TheVariants as course
 use Rattle.gos_sim.specs.Visits.{IsZeroSettling}
-use Rattle.gos_sim.specs.inner.Past.{HasCome, IsPast, past_after, settlings_of}
+use Rattle.gos_sim.specs.inner.Past.{HasCome, IsPast, is_all, is_few, is_rest, past_after, settlings_of}
+use Rattle.gos_sim.specs.inner.Active.{Lacks}
 
 -- a cycle has come
 pub come_after : (past : Past) (rests : Bool) → HasCome (past_after past rests)
@@ -36,3 +40,20 @@ past_kept cells Reset false old before values kept turned came = subst (IsZeroSe
 past_kept cells First false old before values kept turned came = tt
 past_kept cells Later false old before values kept turned came = tt
 past_kept cells Still false old before values kept turned came = tt
+
+-- what is noted after a cycle: a place that isn't has what it had before
+pub noted_after : (way : Course) (old new : Active) (values before moved kept after : Numbers) → (IsTrue (is_rest way) → new ≡ old)
+    → (IsTrue (is_rest way) → after ≡ values) → (IsTrue (is_rest way) → kept ≡ before) → (IsTrue (is_few way) → moved ≡ values)
+    → (IsFalse (is_rest way) → kept ≡ values)
+    → (IsTrue (is_few way) → (p : ℕ) → Lacks new.wake.touched p → at after p ≡ at moved p) → (IsTrue (is_all way) → IsTrue new.wake.touched.full)
+    → (IsTrue old.settled → (p : ℕ) → Lacks old.wake.touched p → at before p ≡ at values p)
+    → IsTrue new.settled → (p : ℕ) → Lacks new.wake.touched p → at kept p ≡ at after p
+noted_after course.Rest old new values before moved kept after same rest left few turned noted full known settled p lacks =
+    ap (λ (v : Numbers). at v p) (left refl)
+    ∙ (known (subst (λ (a : Active). IsTrue a.settled) (same refl) settled) p (subst (λ (a : Active). Lacks a.wake.touched p) (same refl) lacks)
+    ∙ ap (λ (v : Numbers). at v p) (sym (rest refl)))
+noted_after course.Few old new values before moved kept after same rest left few turned noted full known settled p lacks =
+    ap (λ (v : Numbers). at v p) (turned refl ∙ sym (few refl)) ∙ sym (noted refl p lacks)
+noted_after course.All old new values before moved kept after same rest left few turned noted full known settled p lacks =
+    let never : true ≡ false = sym (full refl) ∙ lacks.0 in
+    absurd (cc)

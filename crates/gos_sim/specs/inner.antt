@@ -10,4 +10,7 @@ pub mod Places
 pub mod Drafts
 pub mod Counting
 pub mod Past
+pub mod Marks
+pub mod Readers
+pub mod Active
 pub mod Machine

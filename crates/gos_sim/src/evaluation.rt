@@ -101,6 +101,84 @@ impl Program {
     {
         evaluate_runs(&self.runs, &self.operands, values);
     }
+
+    // The steps, one by one.
+    pub fn list(&self, alloc: Global) -> Result<Vec<Step>, NoMemory>
+        ensures { IfOk result (λ steps. steps.items ≡ self.now) }
+    {
+        list_runs(alloc, &self.runs, &self.operands)
+    }
+}
+
+// The steps of runs, one by one.
+fn list_runs(alloc: Global, runs: &[Run], operands: &Operands) -> Result<Vec<Step>, NoMemory>
+    requires fit { All (Fits operands.now) runs.now }
+    ensures { IfOk result (λ steps. steps.items ≡ flat_map (steps_of operands.now) runs.now) }
+{
+    let mut steps = Vec::new(alloc);
+    for run in runs {
+        list_run(run, operands, &mut steps)?;
+    }
+    Ok(steps)
+}
+
+// Adds the steps of a run.
+fn list_run(run: &Run, operands: &Operands, steps: &mut Vec<Step>) -> Result<(), NoMemory>
+    requires fits { Fits operands.now run.now }
+    ensures { OnOk result (steps.new.items ≡ steps.old.items ++ steps_of operands.now run.now) }
+{
+    let net = run.net;
+    let width = run.width;
+    match run.kind {
+        Kind::Const => list_part(&Constant, 0, net, part(run, &operands.constants), steps),
+        Kind::Not => list_part(&Not { width }, width, net, part(run, &operands.pins), steps),
+        Kind::And => list_part(&And, 0, net, part(run, &operands.pairs), steps),
+        Kind::Or => list_part(&Or, 0, net, part(run, &operands.pairs), steps),
+        Kind::Xor => list_part(&Xor, 0, net, part(run, &operands.pairs), steps),
+        Kind::Mux => list_part(&Mux, 0, net, part(run, &operands.triples), steps),
+        Kind::Add => list_part(
+            &Add { width },
+            width,
+            net,
+            part(run, &operands.pairs),
+            steps,
+        ),
+        Kind::Sub => list_part(
+            &Sub { width },
+            width,
+            net,
+            part(run, &operands.pairs),
+            steps,
+        ),
+        Kind::Eq => list_part(&Equal, 0, net, part(run, &operands.pairs), steps),
+        Kind::Less => list_part(&Less, 0, net, part(run, &operands.pairs), steps),
+        Kind::Gate => list_part(&Pass, 0, net, part(run, &operands.pairs), steps),
+    }
+}
+
+// Adds steps of so many bits that do the same, with these operands and at nets from this one on. More nets than 32 bits can number
+// are more than memory has.
+fn list_part<O: Operation>(
+    operation: &O,
+    width: u32,
+    net: u32,
+    operands: &[O::Operand],
+    steps: &mut Vec<Step>,
+) -> Result<(), NoMemory>
+    requires { width ≡ O.width operation.now }
+    ensures { OnOk result (steps.new.items ≡ steps.old.items ++ steps_from (O.width operation.now) (O.gate operation.now) net operands.now) }
+{
+    let mut place = u64::from(net);
+    for operand in operands {
+        if place > u64::from(u32::MAX) {
+            return Err(NoMemory);
+        }
+        let gate = operation.gate_of(operand);
+        let net = place as u32;
+        steps.push(Step { net, width, gate })?;
+        place += 1;
+    }
+    Ok(())
 }
 
 // Evaluates the steps of runs.

@@ -4,9 +4,11 @@ ghost use Rattle.gos_netlist.specs.declared.nets.Gate as declared;
 ghost use Rattle.gos_netlist.specs.declared.nets.Gate.TheVariants as gates;
 ghost use Rattle.gos_netlist.specs.Seen.{function_of};
 ghost use Rattle.gos_netlist.specs.Settling.{at, shown};
+ghost use Rattle.gos_sim.specs.inner.Program.{IsStepWithin};
 ghost use Rattle.gos_sim.specs.inner.Ready.{IsCellWithin};
 
-use gos_netlist::NetId;
+use crate::program::Step;
+use gos_netlist::{Gate, NetId};
 
 /// The nets that a step of two pins reads.
 #[derive(Debug, Clone, Copy)]
@@ -41,6 +43,10 @@ pub trait Operation {
     fn value(&self, operand: &Self::Operand, values: &[u32]) -> u32
         requires { IsCellWithin (length values.now) (record { width = width self.now; gate = function_of (gate self.now operand.now) }) }
         ensures { result ≡ shown (width self.now) (function_of (gate self.now operand.now)) 0 0 (at values.now) };
+
+    /// What the step is.
+    fn gate_of(&self, operand: &Self::Operand) -> Gate
+        ensures { result ≡ gate self.now operand.now };
 }
 
 /// A number that never changes.
@@ -98,6 +104,10 @@ impl Operation for Constant {
     fn value(&self, constant: &u32, _values: &[u32]) -> u32 {
         *constant
     }
+
+    fn gate_of(&self, constant: &u32) -> Gate {
+        Gate::Const(u64::from(*constant))
+    }
 }
 
 impl Operation for Not {
@@ -109,6 +119,10 @@ impl Operation for Not {
 
     fn value(&self, pin: &NetId, values: &[u32]) -> u32 {
         turned(self.width, value_at(values, *pin))
+    }
+
+    fn gate_of(&self, pin: &NetId) -> Gate {
+        Gate::Not(*pin)
     }
 }
 
@@ -122,6 +136,10 @@ impl Operation for And {
     fn value(&self, pair: &Pair, values: &[u32]) -> u32 {
         value_at(values, pair.a) & value_at(values, pair.b)
     }
+
+    fn gate_of(&self, pair: &Pair) -> Gate {
+        Gate::And(pair.a, pair.b)
+    }
 }
 
 impl Operation for Or {
@@ -133,6 +151,10 @@ impl Operation for Or {
 
     fn value(&self, pair: &Pair, values: &[u32]) -> u32 {
         value_at(values, pair.a) | value_at(values, pair.b)
+    }
+
+    fn gate_of(&self, pair: &Pair) -> Gate {
+        Gate::Or(pair.a, pair.b)
     }
 }
 
@@ -146,6 +168,10 @@ impl Operation for Xor {
     fn value(&self, pair: &Pair, values: &[u32]) -> u32 {
         value_at(values, pair.a) ^ value_at(values, pair.b)
     }
+
+    fn gate_of(&self, pair: &Pair) -> Gate {
+        Gate::Xor(pair.a, pair.b)
+    }
 }
 
 impl Operation for Mux {
@@ -158,6 +184,10 @@ impl Operation for Mux {
     fn value(&self, triple: &Triple, values: &[u32]) -> u32 {
         let (a, b) = (value_at(values, triple.a), value_at(values, triple.b));
         chosen(value_at(values, triple.s), a, b)
+    }
+
+    fn gate_of(&self, triple: &Triple) -> Gate {
+        Gate::Mux(triple.s, triple.a, triple.b)
     }
 }
 
@@ -175,6 +205,10 @@ impl Operation for Add {
             value_at(values, pair.b),
         )
     }
+
+    fn gate_of(&self, pair: &Pair) -> Gate {
+        Gate::Add(pair.a, pair.b)
+    }
 }
 
 impl Operation for Sub {
@@ -191,6 +225,10 @@ impl Operation for Sub {
             value_at(values, pair.b),
         )
     }
+
+    fn gate_of(&self, pair: &Pair) -> Gate {
+        Gate::Sub(pair.a, pair.b)
+    }
 }
 
 impl Operation for Equal {
@@ -202,6 +240,10 @@ impl Operation for Equal {
 
     fn value(&self, pair: &Pair, values: &[u32]) -> u32 {
         u32::from(value_at(values, pair.a) == value_at(values, pair.b))
+    }
+
+    fn gate_of(&self, pair: &Pair) -> Gate {
+        Gate::Eq(pair.a, pair.b)
     }
 }
 
@@ -215,6 +257,10 @@ impl Operation for Less {
     fn value(&self, pair: &Pair, values: &[u32]) -> u32 {
         u32::from(value_at(values, pair.a) < value_at(values, pair.b))
     }
+
+    fn gate_of(&self, pair: &Pair) -> Gate {
+        Gate::Less(pair.a, pair.b)
+    }
 }
 
 impl Operation for Pass {
@@ -226,6 +272,35 @@ impl Operation for Pass {
 
     fn value(&self, pair: &Pair, values: &[u32]) -> u32 {
         chosen(value_at(values, pair.a), value_at(values, pair.b), 0)
+    }
+
+    fn gate_of(&self, pair: &Pair) -> Gate {
+        Gate::Gate(pair.a, pair.b)
+    }
+}
+
+// What a step shows, from the values of the nets. What an input or a register shows is known before, and not asked here.
+pub fn value_of(step: &Step, values: &[u32]) -> u32
+    requires step { IsStepWithin (length values.now) step.now }
+    ensures { result ≡ shown step.now.width (function_of step.now.gate) 0 0 (at values.now) }
+{
+    match step.gate {
+        Gate::Input | Gate::Reg(_) => 0,
+        Gate::Const(k) => k as u32,
+        Gate::Not(a) => turned(step.width, value_at(values, a)),
+        Gate::And(a, b) => value_at(values, a) & value_at(values, b),
+        Gate::Or(a, b) => value_at(values, a) | value_at(values, b),
+        Gate::Xor(a, b) => value_at(values, a) ^ value_at(values, b),
+        Gate::Mux(s, a, b) => chosen(
+            value_at(values, s),
+            value_at(values, a),
+            value_at(values, b),
+        ),
+        Gate::Add(a, b) => sum(step.width, value_at(values, a), value_at(values, b)),
+        Gate::Sub(a, b) => difference(step.width, value_at(values, a), value_at(values, b)),
+        Gate::Eq(a, b) => u32::from(value_at(values, a) == value_at(values, b)),
+        Gate::Less(a, b) => u32::from(value_at(values, a) < value_at(values, b)),
+        Gate::Gate(s, a) => chosen(value_at(values, s), value_at(values, a), 0),
     }
 }
 

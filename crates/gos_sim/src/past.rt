@@ -1,7 +1,11 @@
 // How the values of the nets came about, and what is kept of those before them.
-ghost use Rattle.std.specs.Prelude.{◌≡◌, IsTrue, IsFalse};
-ghost use Rattle.gos_sim.specs.inner.Past.{past_after};
+ghost use Rattle.std.specs.Prelude.{◌≡◌, ◌≢◌, ℕ, ◌<◌, All, IsTrue, IsFalse, length};
+ghost use Rattle.gos_netlist.specs.Settling.{at};
+ghost use Rattle.gos_sim.specs.inner.Past.{is_few, is_rest, past_after};
+ghost use Rattle.gos_sim.specs.inner.Active.{Lacks};
 
+use crate::course::Course;
+use crate::log::Log;
 use std::mem::swap;
 
 /// How the values of the nets came about.
@@ -18,26 +22,60 @@ pub enum Past {
 }
 
 impl Past {
-    // After a cycle, which left the values as they were or not.
-    pub fn after(self, rests: bool) -> Past
-        ensures { result ≡ past_after self rests }
+    // After a cycle.
+    pub fn after(self, course: Course) -> Past
+        ensures { result ≡ past_after self (is_rest course) }
     {
-        match self {
-            _ if rests => Past::Still,
-            Past::Reset => Past::First,
-            Past::First | Past::Later | Past::Still => Past::Later,
+        match (course, self) {
+            (Course::Rest, _) => Past::Still,
+            (Course::Few | Course::All, Past::Reset) => Past::First,
+            (Course::Few | Course::All, Past::First | Past::Later | Past::Still) => Past::Later,
         }
     }
 }
 
-// Makes the values those before, and room for new ones; or leaves both where no new ones come.
-pub fn turn(values: &mut Vec<u32>, before: &mut Vec<u32>, rests: bool)
-    ensures values { IsTrue rests → values.new ≡ values.old }
-    ensures before { IsTrue rests → before.new ≡ before.old }
-    ensures room { IsFalse rests → values.new ≡ before.old }
-    ensures turned { IsFalse rests → before.new ≡ values.old }
+// Makes the values those before: they are copied where few will change, and else give room for new ones. Where no new ones come,
+// both are left.
+pub fn turn(values: &mut Vec<u32>, before: &mut Vec<u32>, touched: &Log, course: Course)
+    requires same { length before.old.items ≡ length values.old.items }
+    requires within { All (λ p. p < length values.old.items) touched.now.places.items }
+    requires noted { IsTrue (is_few course) → (p : ℕ) → Lacks touched.now p → at before.old.items p ≡ at values.old.items p }
+    ensures rest { IsTrue (is_rest course) → values.new ≡ values.old }
+    ensures left { IsTrue (is_rest course) → before.new ≡ before.old }
+    ensures few { IsTrue (is_few course) → values.new ≡ values.old }
+    ensures turned { IsFalse (is_rest course) → before.new.items ≡ values.old.items }
+    ensures each { length values.new.items ≡ length values.old.items }
+    ensures kept { length before.new.items ≡ length values.old.items }
 {
-    if !rests {
-        swap(values, before);
+    match course {
+        Course::Rest => {}
+        Course::Few => keep(touched, values, before),
+        Course::All => swap(values, before),
+    }
+}
+
+// Copies values. Those that aren't noted are the same.
+fn keep(touched: &Log, values: &[u32], before: &mut [u32])
+    requires same { length before.old ≡ length values.now }
+    requires within { All (λ p. p < length values.now) touched.now.places.items }
+    requires noted { (p : ℕ) → Lacks touched.now p → at before.old p ≡ at values.now p }
+    ensures { before.new ≡ values.now }
+{
+    if touched.full {
+        before.copy_from_slice(values);
+    } else {
+        keep_noted(&touched.places, values, before);
+    }
+}
+
+// Copies the values of some places. All others are the same.
+fn keep_noted(places: &[u32], values: &[u32], before: &mut [u32])
+    requires same { length before.old ≡ length values.now }
+    requires within { All (λ p. p < length values.now) places.now }
+    requires noted { (p : ℕ) → All (λ q. q ≢ p) places.now → at before.old p ≡ at values.now p }
+    ensures { before.new ≡ values.now }
+{
+    for place in places {
+        before[*place as usize] = values[*place as usize];
     }
 }

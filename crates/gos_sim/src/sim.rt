@@ -1,12 +1,14 @@
 // The simulator.
-ghost use Rattle.std.specs.Prelude.{◌≡◌, All, IfErr, IfOk, IsTrue, length, replicate};
+ghost use Rattle.std.specs.Prelude.{◌≡◌, All, IfErr, IfOk, IsFalse, IsTrue, length, replicate};
 ghost use Rattle.gos_netcheck.specs.Accepted.{IsAccepted};
 ghost use Rattle.gos_sim.specs.EventNets.{input_events, output_events};
 ghost use Rattle.gos_sim.specs.Cycle.{IsCycle, IsNextOutput, IsWord, at_reset};
 ghost use Rattle.gos_sim.specs.Visits.{HasVisited};
 ghost use Rattle.gos_sim.specs.Repeats.{Repeats};
+ghost use Rattle.gos_sim.specs.inner.Active.{IsAwake};
 ghost use Rattle.gos_sim.specs.inner.Machine.{IsMachine, SettlesAtReset, plan_of};
 
+use crate::active::Active;
 use crate::machine::{Machine, machine_of};
 use crate::past::{Past, turn};
 use crate::pulse::Pulse;
@@ -23,6 +25,7 @@ use std::marker::Model;
 pub struct Sim {
     net: Checked,
     machine: Machine,
+    active: Active,
     registers: Vec<u32>,
     values: Vec<u32>,
     before: Vec<u32>,
@@ -43,7 +46,7 @@ impl Model for Sim {
 
     ghost view = { λ s. seen s.net s.machine s.registers.items s.values.items s.before.items s.past };
 
-    ghost invariant = { λ s. IsBuilt s.net s.machine s.registers.items s.values.items s.before.items s.still s.past };
+    ghost invariant = { λ s. IsBuilt s.net s.machine s.active s.registers.items s.values.items s.before.items s.still s.past };
 }
 
 impl Sim {
@@ -53,9 +56,10 @@ impl Sim {
         ensures refused { IfErr result (λ back. back ≡ net) }
     {
         match parts_of(alloc, &net) {
-            Ok((machine, registers, values, before)) => Ok(Sim {
+            Ok((machine, active, registers, values, before)) => Ok(Sim {
                 net,
                 machine,
+                active,
                 registers,
                 values,
                 before,
@@ -106,16 +110,23 @@ impl Sim {
         ensures net { self.new.net ≡ self.old.net }
     {
         let rests = self.machine.rests(inputs, &self.values, self.still);
-        turn(&mut self.values, &mut self.before, rests);
-        let stands = self.machine.run(
+        let course = self.active.course(rests);
+        turn(
+            &mut self.values,
+            &mut self.before,
+            &self.active.wake.touched,
+            course,
+        );
+        let stands = self.active.cycle(
+            &self.machine,
+            course,
             inputs,
             outputs,
             &mut self.registers,
             &mut self.values,
-            rests,
         );
         self.still = stands;
-        self.past = self.past.after(rests);
+        self.past = self.past.after(course);
     }
 
     /// The number of levels above 0 in which, in the last cycle, some cell had a pin whose value differed from the settling
@@ -156,29 +167,33 @@ impl Sim {
     {
         self.registers.fill(0);
         self.machine.settle_at_reset(&mut self.values);
+        self.active.reset();
         self.still = false;
         self.past = Past::Reset;
     }
 }
 
-// The machine of a netlist, with the registers, the values where all registers and inputs are 0, and room for those before
-// them, all by place.
+// The machine of a netlist, with what it has to know of changes, the registers, the values where all registers and inputs are 0,
+// and room for those before them, all by place.
 fn parts_of(
     alloc: Global,
     net: &Checked,
-) -> Result<(Machine, Vec<u32>, Vec<u32>, Vec<u32>), NoMemory>
+) -> Result<(Machine, Active, Vec<u32>, Vec<u32>, Vec<u32>), NoMemory>
     ensures machine { IfOk result (λ parts. IsMachine net.now parts.0) }
-    ensures registers { IfOk result (λ parts. parts.1.items ≡ replicate parts.0.count 0) }
-    ensures each { IfOk result (λ parts. length parts.2.items ≡ parts.0.count) }
-    ensures values { IfOk result (λ parts. SettlesAtReset (plan_of parts.0) parts.2.items) }
-    ensures before { IfOk result (λ parts. parts.3.items ≡ replicate parts.0.count 0) }
+    ensures fresh { IfOk result (λ parts. IsFalse parts.1.settled) }
+    ensures awake { IfOk result (λ parts. IsAwake parts.0.count parts.0.program parts.0.latches.items parts.1) }
+    ensures registers { IfOk result (λ parts. parts.2.items ≡ replicate parts.0.count 0) }
+    ensures each { IfOk result (λ parts. length parts.3.items ≡ parts.0.count) }
+    ensures values { IfOk result (λ parts. SettlesAtReset (plan_of parts.0) parts.3.items) }
+    ensures before { IfOk result (λ parts. parts.4.items ≡ replicate parts.0.count 0) }
 {
     let machine = machine_for(alloc, net)?;
     let count = machine.count;
     let registers = vec![in alloc; 0; count]?;
     let before = vec![in alloc; 0; count]?;
     let values = machine.values_at_reset(alloc, count)?;
-    Ok((machine, registers, values, before))
+    let active = Active::new(alloc, &machine, count)?;
+    Ok((machine, active, registers, values, before))
 }
 
 // The machine of an accepted netlist.

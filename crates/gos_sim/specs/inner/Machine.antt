@@ -7,18 +7,20 @@ use Rattle.gos_netlist.specs.Cycles.{IsRegister}
 use Rattle.gos_netlist.specs.Settling.{Numbers, at}
 use Rattle.gos_netcheck.specs.Levels.{AreLevels}
 use Rattle.gos_sim.specs.declared.event_nets.EventNets.{EventNets}
+use Rattle.gos_sim.specs.declared.active.Active.{Active}
 use Rattle.gos_sim.specs.declared.machine.Machine.{Machine}
 use Rattle.gos_sim.specs.declared.program.Step.{Step}
 use Rattle.gos_sim.specs.declared.past.Past.{Past}
 use Rattle.gos_sim.specs.declared.program.Latch.{Latch}
 use Rattle.gos_sim.specs.declared.pulse.Pulse.{Pulse}
-use Rattle.gos_sim.specs.EventNets.{OnNets, input_events, output_events}
+use Rattle.gos_sim.specs.EventNets.{Names, OnNets, input_events, output_events}
 use Rattle.gos_sim.specs.Cycle.{GivesAll, Simulator, pulse_shown}
 use Rattle.gos_sim.specs.inner.Program.{AreLatches, HaveOneCell, IsLatchWithin, IsProgram, IsStepWithin, SparesEarlier}
 use Rattle.gos_sim.specs.inner.Running.{AreLoaded, AreShown, AreTaken, HaveOnePin, KeepsOtherSteps, KeepsOthers}
 use Rattle.gos_sim.specs.inner.Counting.{ChainLevels}
 use Rattle.gos_sim.specs.inner.Ready.{AreApart, IsReady}
 use Rattle.gos_sim.specs.inner.Past.{HasCome, IsPast, settlings_of}
+use Rattle.gos_sim.specs.inner.Active.{HasSettled, IsAwake, Lacks}
 use Rattle.gos_sim.specs.inner.Places.{AreStepsMoved, IsNumbering, by_net, event_moved, latch_moved}
 
 -- what runs in each cycle
@@ -70,7 +72,16 @@ pub record IsRunnable (count : ℕ) (m : Plan) : Type 0 where
   pub steps : All (IsStepWithin count) m.steps
   pub latches : All (IsLatchWithin count) m.latches
   pub one_pin : HaveOnePin m.latches
+  pub inputs_apart_from_steps : (j : ℕ) (e : EventNets) (a : ℕ) → slice_get m.inputs j ≡ Some e → Names e a → All (λ s. s.net ≢ a) m.steps
+  pub inputs_apart_from_latches : (j : ℕ) (e : EventNets) (a : ℕ) → slice_get m.inputs j ≡ Some e → Names e a → All (λ l. l.net ≢ a) m.latches
   pub apart_from_steps : (j : ℕ) (l : Latch) → slice_get m.latches j ≡ Some l → All (λ s. s.net ≢ l.net) m.steps
+
+-- The values are given and loaded: what the pulses give, and then the registers too.
+pub record HasBegun (m : Plan) (given : List Pulse) (held loaded : Numbers) : Type 0 where
+  pub first : Numbers
+  pub pulses : GivesAll m.inputs given first
+  pub registers : AreLoaded m.latches held loaded
+  pub others : KeepsOthers m.latches first loaded
 
 -- The values settle for what pulses give and registers hold: what the pulses give, then the registers too, then the steps.
 pub record Settles (m : Plan) (given : List Pulse) (held values : Numbers) : Type 0 where
@@ -111,12 +122,15 @@ pub record IsState (count : ℕ) (registers values before : Numbers) : Type 0 wh
   pub before_each : length before ≡ count
 
 -- what a simulator keeps; `still` only where a cycle has come and the values stand still
-pub record IsBuilt (net : Netlist) (m : Machine) (registers values before : Numbers) (still : Bool) (past : Past) : Type 0 where
+pub record IsBuilt (net : Netlist) (m : Machine) (active : Active) (registers values before : Numbers) (still : Bool) (past : Past) : Type 0 where
   pub machine : IsMachine net m
   pub state : IsState m.count registers values before
   pub others : HoldNothingElse net.cells (by_net m.places.items registers)
   pub stands : IsTrue still → IsStill (plan_of m) registers values × HasCome past
   pub came : IsPast net.cells past (by_net m.places.items values) (by_net m.places.items before)
+  pub awake : IsAwake m.count m.program m.latches.items active
+  pub settled : HasSettled m.program m.latches.items active values registers
+  pub noted : IsTrue active.settled → (place : ℕ) → Lacks active.wake.touched place → at before place ≡ at values place
 
 -- what clauses see of it
 abbrev pub seen : Netlist → Machine → Numbers → Numbers → Numbers → Past → Simulator

@@ -6,6 +6,8 @@ use Rattle.gos_netlist.specs.Nets.{Cell}
 use Rattle.gos_netlist.specs.Settling.{Numbers}
 use Rattle.gos_sim.specs.declared.past.Past.{Past}
 use Rattle.gos_sim.specs.declared.past.Past.TheVariants.{Reset, First, Later, Still}
+use Rattle.gos_sim.specs.declared.course.Course.{Course}
+use Rattle.gos_sim.specs.declared.course.Course.TheVariants.{Rest, Few, All}
 use Rattle.gos_sim.specs.Visits.{IsZeroSettling}
 
 -- the settlings that there were, the newest one first
@@ -31,3 +33,21 @@ abbrev pub past_after : Past → Bool → Past
 past_after past true = Still
 past_after Reset false = First
 past_after past false = Later
+
+-- a cycle in which nothing is evaluated
+abbrev pub is_rest : Course → Bool
+is_rest Rest = true
+is_rest Few = false
+is_rest All = false
+
+-- one in which few steps may be
+abbrev pub is_few : Course → Bool
+is_few Rest = false
+is_few Few = true
+is_few All = false
+
+-- one in which all steps are
+abbrev pub is_all : Course → Bool
+is_all Rest = false
+is_all Few = false
+is_all All = true

@@ -8,7 +8,8 @@ pub invariant_of-result : goal.invariant_of-result
 invariant_of-result c =
     let parts = c.in-Ok in
     let zero : ℕ = 0 in
-    built_at_reset c.args.net parts.machine parts.ensures.machine parts.registers.items parts.values.items parts.before.items parts.ensures.registers
+    built_at_reset c.args.net parts.machine parts.ensures.machine parts.active parts.registers.items parts.values.items parts.before.items parts.ensures.awake
+    parts.ensures.fresh parts.ensures.registers
     parts.ensures.values parts.ensures.each (ap length parts.ensures.before ∙ length-replicate (parts.machine.count) zero)
 
 pub returns-in-Ok-clause-made : goal.returns-in-Ok-clause-made

@@ -20,8 +20,9 @@ invariant_of-self c =
     let values : length c.settle_at_reset.new.values ≡ parts.machine.count = omega (arith, c.self.invariant.state.values_each) in
     let zeros : c.fill.new.self.items ≡ replicate (parts.machine.count) 0 = search rules in
     let settled = with_items_is parts.values c.settle_at_reset.new.values (omega arith) in
-    subst (λ (vs : Numbers). IsBuilt parts.net parts.machine c.fill.new.self.items vs parts.before.items false Reset) (sym settled)
-    (built_at_reset parts.net parts.machine c.self.invariant.machine c.fill.new.self.items c.settle_at_reset.new.values parts.before.items zeros
+    subst (λ (vs : Numbers). IsBuilt parts.net parts.machine c.reset.new.self c.fill.new.self.items vs parts.before.items false Reset) (sym settled)
+    (built_at_reset parts.net parts.machine c.self.invariant.machine c.reset.new.self c.fill.new.self.items c.settle_at_reset.new.values parts.before.items
+    (c.reset.ensures.awake _ _ _ c.self.invariant.awake) c.reset.ensures.fresh zeros
     c.settle_at_reset.ensures.settles values c.self.invariant.state.before_each)
 
 pub returns : goal.returns
