@@ -5,6 +5,7 @@ use Rattle.std.proofs.lemmas.Option.{same_Some}
 use Rattle.gos_netlist.specs.Nets.{Function, Input, Const, Not, And, Or, Xor, Mux, Add, Sub, Eq, Less, Gate, Reg, Cell, Netlist}
 use Rattle.gos_netlist.specs.SmallNets.{bit, latch}
 use Rattle.gos_netlist.specs.Settling.{Numbers, at, shown, Settling, next_registers}
+use Rattle.gos_sim.specs.declared.active.Active.{Active}
 use Rattle.gos_sim.specs.declared.machine.Machine.{Machine}
 use Rattle.gos_sim.specs.declared.past.Past.{Past}
 use Rattle.gos_sim.specs.declared.past.Past.TheVariants.{Still}
@@ -53,9 +54,9 @@ repeated net registers values given shows cycle =
     }
 
 -- where the last cycle left the values as they were, and they stand still
-pub still_repeats : (net : Netlist) (m : Machine) (registers values before : Numbers) (still : Bool) (past : Past) → IsTrue still → past ≡ Still
-    → IsBuilt net m registers values before still past → Repeats (seen net m registers values before past)
-still_repeats net m registers values before still past stands is built =
+pub still_repeats : (net : Netlist) (m : Machine) (active : Active) (registers values before : Numbers) (still : Bool) (past : Past) → IsTrue still
+    → past ≡ Still → IsBuilt net m active registers values before still past → Repeats (seen net m registers values before past)
+still_repeats net m active registers values before still past stands is built =
     subst (λ (p : Past). Repeats (seen net m registers values before p)) (sym is)
     (repeated net (nets registers) (nets values) [] shows
     (machine_cycle net m built.machine registers values registers (nets values ∷ nets values ∷ []) [] shows built.others

@@ -55,3 +55,9 @@ shown_more steps v k x t spares one is all_within e before = below_more (λ j. (
         let same : t ≡ s = same_element steps k t s is at_k in
         subst (λ (u : Step). at (set v t.net x) u.net ≡ shown u.width (function_of u.gate) 0 0 (at (set v t.net x))) same
         (get_or-set_same v t.net x 0 within ∙ (e ∙ sym (still t t v x (spares k k t t is is (omega arith)))))
+
+-- a net that is no step's is kept
+pub kept_by_step : (steps : List Step) (v : Numbers) (k n x : ℕ) (t : Step) → slice_get steps k ≡ Some t → All (λ s. s.net ≢ n) steps
+    → at (set v t.net x) n ≡ at v n
+kept_by_step steps v k n x t is others =
+    get_or-set_other v t.net n x 0 (λ same. all_at (λ (s : Step). s.net ≢ n) steps k t others is (sym same))

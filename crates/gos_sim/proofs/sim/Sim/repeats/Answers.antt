@@ -7,4 +7,4 @@ pub returns-in-Still : goal.returns-in-Still
 returns-in-Still c = λ yes.
     let parts = c.self.inside in
     subst Repeats c.self.view_is
-    (still_repeats parts.net parts.machine parts.registers.items parts.values.items parts.before.items parts.still parts.past yes c.in-Still.is c.self.invariant)
+    (still_repeats parts.net parts.machine parts.active parts.registers.items parts.values.items parts.before.items parts.still parts.past yes c.in-Still.is c.self.invariant)
