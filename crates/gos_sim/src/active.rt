@@ -25,9 +25,9 @@ use gos_types::NoMemory;
 use std::alloc::Global;
 
 /// It is given up to evaluate few steps where they are more than one in so many of all, and so many beside.
-const PART: usize = 8;
+const PART: usize = 16;
 
-const LEAST: usize = 16;
+const LEAST: usize = 8;
 
 /// How many cycles pass at most until it is tried again.
 const LONGEST: u32 = 64;
