@@ -9,12 +9,10 @@ use Rattle.gos_link.specs.declared.build.Instance.{Instance}
 use Rattle.gos_link.specs.declared.build.Bind.{Bind}
 use Rattle.gos_link.specs.declared.build.Build.{Build}
 use Rattle.gos_link.specs.declared.services.Service.{Service}
-use Rattle.gos_link.specs.BuildFile.{Sum, RootLine, nothing, sum_of, whole, IsBuildFile}
+use Rattle.gos_link.specs.BuildFile.{Sum, RootLine, nothing, sum_of, whole}
 use Rattle.gos_link.specs.Services.{instance_named}
 use Rattle.gos_link.specs.Linked.{links_of, outcome_of, first_unplaced}
-use Rattle.gos_link.specs.Answers.{IsOneBuild}
-use Rattle.gos_demo.specs.DemoFiles.{build_file}
-use Rattle.gos_demo.proofs.FormLemmas.{demo_items, demo_build}
+use Rattle.gos_demo.proofs.FormLemmas.{demo_items}
 use Rattle.gos_demo.proofs.SortLemmas.{Sort, bare_plans}
 use Rattle.gos_demo.proofs.LinkLemmas.{IsLinkable, left_c}
 use Rattle.gos_demo.proofs.BindLemmas.{binds}
@@ -81,7 +79,7 @@ tested (suc (suc (suc (suc (suc (suc (suc (suc (suc (suc zero)))))))))) few = al
 tested (suc (suc (suc (suc (suc (suc (suc (suc (suc (suc (suc zero))))))))))) few = all refl refl refl refl refl refl refl refl refl refl
 tested (suc (suc (suc (suc (suc (suc (suc (suc (suc (suc (suc (suc k)))))))))))) few = absurd (omega (arith, few))
 
--- what is known of every build that the file says
+-- what is known of a build that they say
 pub record IsDemoBuild (k : ℕ) (b : Build) : Type 0 where
   pub sources : sources_of b.instances.items ≡ names_of_kinds (kinds k)
   pub links : IsLinkable b.instances.items b.binds.items b.root (sorts k) (services k)
@@ -91,11 +89,9 @@ pub record IsDemoBuild (k : ℕ) (b : Build) : Type 0 where
 same_inside : {X : Type 0} (x y : X) → Some x ≡ Some y → x ≡ y
 same_inside x y e = cc e
 
-pub is_demo_build : (k : ℕ) (b : Build) → k ≤ 11 → IsOneBuild → IsBuildFile (build_file (suc k)).text (build_file (suc k)).name b → IsDemoBuild k b
-is_demo_build k b few one is =
-    let made = demo_build k few in
+pub is_demo_build : (k : ℕ) (b : Build) → k ≤ 11 → sum_of nothing (demo_items k) ≡ whole b → IsDemoBuild k b
+is_demo_build k b few same =
     let t = tested k few in
-    let same : demo_sum k ≡ whole b = made.2 ∙ one (build_file (suc k)).text (build_file (suc k)).name made.0 b made.1 is in
     let instances : (demo_sum k).instances ≡ b.instances.items = ap (λ (s : Sum). s.instances) same in
     let binds : (demo_sum k).binds ≡ b.binds.items = ap (λ (s : Sum). s.binds) same in
     let of_root : Some (record { line = 2 * k + 7; name = codes "main" }) ≡ Some (record { line = b.root_line; name = b.root }) = sym t.root ∙ ap (λ (s : Sum). s.root) same in

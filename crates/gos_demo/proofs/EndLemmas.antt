@@ -6,7 +6,8 @@ use Rattle.gos_outside.specs.OtherFiles.{OthersSame}
 use Rattle.gos_outside.specs.Faults.{LastFault}
 use Rattle.gos_outside.proofs.OtherFilesLemmas.{none_yet, then_later, more_names, apart_front, apart_back}
 use Rattle.gos_lines.specs.Lines.{Word}
-use Rattle.gos_link.specs.Answers.{IsOneBuild, BuildHasNoWrongLine, JointsAreFew}
+use Rattle.gos_check.specs.Accepted.{FoundExactly}
+use Rattle.gos_link.specs.Answers.{JointsAreFew}
 use Rattle.gos_link.specs.BuildFile.{IsBuildFile}
 use Rattle.gos_link.specs.declared.build.Build.{Build}
 use Rattle.gos_command.specs.Ends.{IfStopped}
@@ -17,10 +18,11 @@ use Rattle.gos_command.proofs.EndLemmas.{of_result, of_stop}
 use Rattle.gos_circuits.specs.Linked.{SaysBuild}
 use Rattle.gos_build.specs.Built as building
 use Rattle.gos_build.specs.Built.{IsBuilt, RejectsBuild, IsBuildCall, IsBuildCutShort, KeepsUnnamed}
+use Rattle.gos_build.specs.Complete.{BuildIsNotRejected}
 use Rattle.gos_demo.specs.DemoFiles.{IsLevelCount, build_file, demo_files}
 use Rattle.gos_demo.specs.Demo.{with_files, with_demo, IsFront, IsWriting, HoldsEach, IsDemoDone, IsDemoCall, IsDemoCutShort, names_of, built_by, written_by}
 use Rattle.gos_demo.proofs.BuildFileLemmas.{demo_written}
-use Rattle.gos_demo.proofs.RejectLemmas.{IsOnePulseFile, PulseFilesAreNotRefused, not_rejected}
+use Rattle.gos_demo.proofs.RightLemmas.{demo_is_right}
 use Rattle.gos_demo.proofs.HoldLemmas.{put, demo_held, demo_hold}
 
 -- the files of the demo are written
@@ -75,20 +77,20 @@ demo_done levels old mid new ended count between keeps =
     by (Some files) hold report built = record { hold = hold; built = built }
 
 -- no file is rejected
-pub demo_never_rejected : (levels : ℕ) (old mid new : Option Files) (ended : Result Report Stop) → IsLevelCount levels → IsOneBuild → BuildHasNoWrongLine → JointsAreFew
-    → IsOnePulseFile → PulseFilesAreNotRefused → IsBetween levels old mid → KeepsUnnamed (build_file levels).name mid new
+pub demo_never_rejected : (levels : ℕ) (old mid new : Option Files) (ended : Result Report Stop) → IsLevelCount levels → FoundExactly → JointsAreFew
+    → BuildIsNotRejected → IsBetween levels old mid
     → IfErr ended (λ stop. IfStopped stop (λ fault line. IfSome mid (λ files. RejectsBuild files new (build_file levels).name fault line)))
     → IfErr ended (λ stop. IfStopped stop (λ fault line. old ≡ None))
-demo_never_rejected levels old mid new ended count one either few one_file read between keeps =
+demo_never_rejected levels old mid new ended count exactly few not_rejected between =
     of_stop (λ fault line. IfSome mid (λ files. RejectsBuild files new (build_file levels).name fault line)) (λ fault line. old ≡ None) ended
-    (λ fault line rejects. by old (kept_by levels old mid new count between keeps) fault line
+    (λ fault line rejects. by old fault line
     (lifted (λ files. RejectsBuild files new (build_file levels).name fault line) (λ files. RejectsBuild (with_demo levels files) new (build_file levels).name fault line) levels old mid between (λ files b. b) rejects))
   where
-    by : (o : Option Files) → IfSome o (λ files. HoldsEach new (demo_files levels)) → (fault : Fault) (line : List ℕ)
-        → IfSome o (λ files. RejectsBuild (with_demo levels files) new (build_file levels).name fault line) → o ≡ None
-    by None held fault line rejects = refl
-    by (Some files) held fault line rejects =
-        absurd (not_rejected one either few one_file read levels (with_demo levels files) new fault line count (demo_held levels files) held (own_text levels files) rejects)
+    by : (o : Option Files) (fault : Fault) (line : List ℕ) → IfSome o (λ files. RejectsBuild (with_demo levels files) new (build_file levels).name fault line) → o ≡ None
+    by None fault line rejects = refl
+    by (Some files) fault line rejects =
+        absurd (not_rejected (with_demo levels files) new (build_file levels).name fault line
+        (demo_is_right exactly few levels (with_demo levels files) new count (demo_held levels files) (own_text levels files)) rejects)
 
 pub demo_call : (levels : ℕ) (old mid new : Option Files) (fault : LastFault) → IsBetween levels old mid
     → IfSome mid (λ files. IsBuildCall files new (build_file levels).name fault) → IfSome old (λ files. IsDemoCall files new levels fault)

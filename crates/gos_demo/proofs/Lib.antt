@@ -9,8 +9,7 @@ mod ScanLemmas
 mod LimitLemmas
 mod SourceTexts
 mod RuleLemmas
-mod SourceTrees
-mod TreeLemmas
+mod SourceModules
 mod AcceptedLemmas
 mod SourceLemmas
 mod SortLemmas
@@ -20,5 +19,5 @@ mod KindLemmas
 mod DemoLinkLemmas
 mod PulseTextLemmas
 mod PulseLemmas
-mod RejectLemmas
+mod RightLemmas
 mod EndLemmas

@@ -2,20 +2,20 @@
 use Rattle.std.proofs.Common.{refl, arith}
 use Rattle.gos_demo.specs.DemoFiles.{main_source, twice_source, pass_source, pair_source, id_source}
 use Rattle.gos_demo.proofs.SourceTexts.{main_read, twice_read, pass_read, pair_read, id_read, main_written, twice_written, pass_written, pair_written, id_written}
-use Rattle.gos_demo.proofs.SourceTrees.{main_tree, twice_tree, pass_tree, pair_tree, id_tree, main_derived, twice_derived, pass_derived, pair_derived, id_derived}
-use Rattle.gos_demo.proofs.AcceptedLemmas.{IsAccepted}
+use Rattle.gos_demo.proofs.SourceModules.{main_module, twice_module, pass_module, pair_module, id_module, main_derived, twice_derived, pass_derived, pair_derived, id_derived}
+use Rattle.gos_demo.proofs.AcceptedLemmas.{IsSourceOf}
 
-pub main_accepted : IsAccepted main_source.text main_read main_tree 19
+pub main_accepted : IsSourceOf main_source.text main_read main_module 19
 main_accepted = record { short = omega arith; few = omega arith; written = main_written; derived = main_derived; judged = λ items. refl }
 
-pub twice_accepted : IsAccepted twice_source.text twice_read twice_tree 45
+pub twice_accepted : IsSourceOf twice_source.text twice_read twice_module 45
 twice_accepted = record { short = omega arith; few = omega arith; written = twice_written; derived = twice_derived; judged = λ items. refl }
 
-pub pass_accepted : IsAccepted pass_source.text pass_read pass_tree 24
+pub pass_accepted : IsSourceOf pass_source.text pass_read pass_module 24
 pass_accepted = record { short = omega arith; few = omega arith; written = pass_written; derived = pass_derived; judged = λ items. refl }
 
-pub pair_accepted : IsAccepted pair_source.text pair_read pair_tree 40
+pub pair_accepted : IsSourceOf pair_source.text pair_read pair_module 40
 pair_accepted = record { short = omega arith; few = omega arith; written = pair_written; derived = pair_derived; judged = λ items. refl }
 
-pub id_accepted : IsAccepted id_source.text id_read id_tree 11
+pub id_accepted : IsSourceOf id_source.text id_read id_module 11
 id_accepted = record { short = omega arith; few = omega arith; written = id_written; derived = id_derived; judged = λ items. refl }

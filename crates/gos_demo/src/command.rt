@@ -8,11 +8,11 @@ ghost use Rattle.gos_demo.specs.DemoFiles.{IsLevelCount};
 ghost use Rattle.gos_demo.specs.Demo.{IsDemoDone, IsDemoCall, IsDemoCutShort, written_by};
 
 use crate::files::{demo_files, write_files};
-use gos_build::build;
+use gos_build::{build, right_builds};
+use gos_check::found_exactly;
 use gos_command::{Report, Stop};
-use gos_link::{few_joints, one_build};
+use gos_link::few_joints;
 use gos_outside::Store;
-use gos_pulse::one_answer;
 use std::alloc::Global;
 
 /// Writes the files of the demo of so many levels, and then does what `build demo.txt` does.
@@ -34,9 +34,9 @@ pub fn demo<S: Store>(alloc: Global, levels: u64, store: &mut S) -> Result<Repor
     ensures never_falls { S.faults store.old ≤ S.faults store.new }
     ensures others { OthersSame (written_by levels) (S.contents store.old) (S.contents store.new) }
 {
-    one_build();
+    found_exactly();
     few_joints();
-    one_answer();
+    right_builds();
     let files = demo_files(alloc, levels)?;
     write_files(alloc, files.as_slice(), store)?;
     build(alloc, b"demo.txt", store)

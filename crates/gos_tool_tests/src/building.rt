@@ -352,7 +352,8 @@ fn ends_at(alloc: Global, call: u64) -> Result<bool, AllocError> {
     let mut store = MemoryStore::new(held(alloc, &files)?, vec![in alloc; call]?);
     let mut out = SureSink::new(alloc);
     let code = run(alloc, words.as_slice(), &mut store, &mut out).code();
-    let told = code == if call < 10 { 3 } else { 0 } && out.bytes().is_empty() == (call < 10);
+    let wanted = if call < 10 { 3 } else { 0 };
+    let told = code == wanted && out.bytes().is_empty() == (call < 10);
     let object = store.get(b"k.obj").is_some() == (call > 5);
     Ok(told && object && store.get(b"out.v").is_some() == (call > 7))
 }

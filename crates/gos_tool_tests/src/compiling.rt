@@ -1,5 +1,6 @@
 // Sources that are compiled, some that are refused, and stores that fail.
-use gos_command::{Report, Stop};
+use crate::running::{told_line, told_weight};
+use gos_command::Stop;
 use gos_objects::{check_source, compile_source};
 use gos_outside::{MemoryStore, SureStore};
 use std::alloc::{AllocError, Global};
@@ -14,24 +15,6 @@ fn held(alloc: Global, source: &[u8]) -> Result<Vec<(Vec<u8>, Vec<u8>)>, AllocEr
     let mut files = Vec::new(alloc);
     files.push((b"a.gos".to_vec(alloc)?, source.to_vec(alloc)?))?;
     Ok(files)
-}
-
-// The weight that is told, or none.
-fn told_weight(ended: Result<Report, Stop>) -> Option<u64> {
-    match ended {
-        Ok(report) => report.weight,
-        Err(_) => None,
-    }
-}
-
-// The line of a file that is rejected, or nothing.
-fn told_line(alloc: Global, ended: Result<Report, Stop>) -> Vec<u8> {
-    match ended {
-        Err(Stop::Rejected(rejection)) => rejection.line,
-        Err(Stop::StoreFailed) => Vec::new(alloc),
-        Err(Stop::NoMemory) => Vec::new(alloc),
-        Ok(_) => Vec::new(alloc),
-    }
 }
 
 #[test]

@@ -1,6 +1,7 @@
 // Builds that are linked, and some that are refused.
+use crate::running::{told_line, told_weight};
 use gos_circuits::link_build;
-use gos_command::{Report, Stop};
+use gos_command::Stop;
 use gos_outside::{MemoryStore, SureStore};
 use std::alloc::{AllocError, Global};
 use std::test::Fail;
@@ -28,24 +29,6 @@ fn held(
         files.push((name.to_vec(alloc)?, text.to_vec(alloc)?))?;
     }
     Ok(files)
-}
-
-// The weight that is told, or none.
-fn told_weight(ended: Result<Report, Stop>) -> Option<u64> {
-    match ended {
-        Ok(report) => report.weight,
-        Err(_) => None,
-    }
-}
-
-// The line of a file that is rejected, or nothing.
-fn told_line(alloc: Global, ended: Result<Report, Stop>) -> Vec<u8> {
-    match ended {
-        Err(Stop::Rejected(rejection)) => rejection.line,
-        Err(Stop::StoreFailed) => Vec::new(alloc),
-        Err(Stop::NoMemory) => Vec::new(alloc),
-        Ok(_) => Vec::new(alloc),
-    }
 }
 
 #[test]

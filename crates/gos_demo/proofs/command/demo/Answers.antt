@@ -15,8 +15,8 @@ pub returns-clause-never_rejected : goal.returns-clause-never_rejected
 returns-clause-never_rejected g c =
     let old = g.S.Store.contents c.args.store.now in
     demo_never_rejected c.args.levels old (g.S.Store.contents c.write_files.new.store) (g.S.Store.contents c.build.new.store) c.build.result c.requires
-    c.one_build.ensures.build c.one_build.ensures.either c.few_joints.ensures c.one_answer.ensures.file c.one_answer.ensures.read
-    (c.in_ok-write_files.ensures.written ∙ ap (λ (fs : List NamedText). with_files fs old) (c.as_slice.ensures.value ∙ c.in_ok-files.ensures)) c.build.ensures.others c.build.ensures.rejected
+    c.found_exactly.ensures c.few_joints.ensures c.right_builds.ensures.rejected
+    (c.in_ok-write_files.ensures.written ∙ ap (λ (fs : List NamedText). with_files fs old) (c.as_slice.ensures.value ∙ c.in_ok-files.ensures)) c.build.ensures.rejected
 
 pub returns-clause-failed_call : goal.returns-clause-failed_call
 returns-clause-failed_call g c = λ failed.

@@ -1,11 +1,19 @@
--- The modules that the demo's sources are.
+-- The modules that the demo's sources are, and that the grammar derives them. Where a box of theirs lies counts for nothing.
 use Rattle.std.proofs.Common.{◌+◌, ℕ, List, [], ◌∷◌, ◌++◌, refl}
+use denote.RawPtr.{null_ptr}
+use Rattle.std.specs.Global.{Box}
 use Rattle.gos_lex.specs.Tokens.{Reading}
+use Rattle.gos_types.specs.declared.types.Ty.{Ty}
+use Rattle.gos_types.specs.declared.types.Ty.TheVariants as tys
 use Rattle.gos_types.specs.Types as types
+use Rattle.gos_syntax.specs.declared.terms.Term as program
+use Rattle.gos_syntax.specs.declared.terms.Form.{Form}
+use Rattle.gos_syntax.specs.declared.terms.Form.TheVariants as forms
 use Rattle.gos_syntax.specs.Items.{Item, span_of}
 use Rattle.gos_syntax.specs.Trees as trees
 use Rattle.gos_syntax.specs.Trees.{Tree}
-use Rattle.gos_syntax.specs.ModuleTrees.{ImportTree, ModuleTree}
+use Rattle.gos_syntax.specs.Modules.{SeenImport, SeenModule}
+use Rattle.gos_syntax.specs.ModuleTrees.{import_tree, module_tree}
 use Rattle.gos_syntax.specs.Grammar as grammar
 use Rattle.gos_syntax.specs.Grammar.{IsTerm}
 use Rattle.gos_syntax.specs.ParsedModules.{IsImport, IsModule}
@@ -22,49 +30,78 @@ c = 99 ∷ []
 abbrev f : List ℕ
 f = 102 ∷ []
 
--- the imports
-abbrev f_import : List Item → ImportTree
-f_import items =
-    record { name = f; name_span = span_of items 1 2; ty = types.Fun types.Com types.Com; ty_span = span_of items 3 6 }
+-- where a box lies
+abbrev here : Box (Unit {0})
+here = record { ptr = null_ptr; alloc = record { memory = record { seal = tt } }; value = tt }
 
-abbrev c_import : List Item → ImportTree
-c_import items = record { name = c; name_span = span_of items 7 8; ty = types.Com; ty_span = span_of items 9 10 }
+-- `com -> com`
+abbrev to_command : Ty
+to_command = tys.Fun' here tys.Com here tys.Com
+
+-- the imports
+abbrev f_import : List Item → SeenImport
+f_import items = record { name = f; name_span = span_of items 1 2; ty = to_command; ty_span = span_of items 3 6 }
+
+abbrev c_import : List Item → SeenImport
+c_import items = record { name = c; name_span = span_of items 7 8; ty = tys.Com; ty_span = span_of items 9 10 }
+
+-- `x y`
+abbrev call_of : List Item → ℕ → ℕ → ℕ → List ℕ → List ℕ → Form
+call_of items i j k x y = forms.App' here (span_of items i j) (forms.Name x) here (span_of items j k) (forms.Name y)
 
 -- the modules, by the items of the text
-abbrev pub main_tree : List Item → ModuleTree
-main_tree items =
-    record { imports = f_import items ∷ c_import items ∷ []; body = call items 11 12 13 f c; result = types.Com; result_span = span_of items 14 15 }
+abbrev pub main_module : List Item → SeenModule
+main_module items =
+    record {
+      imports = f_import items ∷ c_import items ∷ [];
+      body = record { span = span_of items 11 13; form = call_of items 11 12 13 f c };
+      result = tys.Com;
+      result_span = span_of items 14 15;
+    }
 
 -- a function of `a`, whose colon has number `colon`
-abbrev fun_tree : List Item → List ImportTree → ℕ → ℕ → Tree → ModuleTree
-fun_tree items imports at colon body =
+abbrev fun_module : List Item → List SeenImport → ℕ → ℕ → program.Term → SeenModule
+fun_module items imports at colon body =
     record {
       imports = imports;
-      body = trees.Lam (span_of items at colon) a types.Com (span_of items (at + 3) (at + 4)) body;
-      result = types.Fun types.Com types.Com;
+      body =
+          record { span = span_of items at colon; form = forms.Fun' a tys.Com (span_of items (at + 3) (at + 4)) here body.span body.form };
+      result = to_command;
       result_span = span_of items (colon + 1) (colon + 4);
     }
 
-abbrev pub twice_tree : List Item → ModuleTree
-twice_tree items =
-    fun_tree items (f_import items ∷ []) 7 17 (trees.Seq (span_of items 12 17) (call items 12 13 14 f a) (call items 15 16 17 f a))
+abbrev twice_body : List Item → program.Term
+twice_body items =
+    record {
+      span = span_of items 12 17;
+      form = forms.Seq' here (span_of items 12 14) (call_of items 12 13 14 f a) here (span_of items 15 17) (call_of items 15 16 17 f a);
+    }
 
-abbrev pub pass_tree : List Item → ModuleTree
-pass_tree items = fun_tree items (f_import items ∷ []) 7 14 (call items 12 13 14 f a)
+abbrev pub twice_module : List Item → SeenModule
+twice_module items = fun_module items (f_import items ∷ []) 7 17 (twice_body items)
 
-abbrev pair_body : List Item → Tree
-pair_body items =
-    trees.App (span_of items 12 21) (trees.Use (span_of items 12 13) f)
-    (trees.Fst (span_of items 14 20) (trees.Both (span_of items 15 20) (trees.Use (span_of items 16 17) a) (trees.Skip (span_of items 18 19))))
+abbrev pub pass_module : List Item → SeenModule
+pass_module items = fun_module items (f_import items ∷ []) 7 14 (record { span = span_of items 12 14; form = call_of items 12 13 14 f a })
 
-abbrev pub pair_tree : List Item → ModuleTree
-pair_tree items = fun_tree items (f_import items ∷ []) 7 21 (pair_body items)
+-- `(a, skip)`
+abbrev pair_of : List Item → Form
+pair_of items = forms.Pair' here (span_of items 16 17) (forms.Name a) here (span_of items 18 19) forms.Skip
 
-abbrev pub id_tree : List Item → ModuleTree
-id_tree items = fun_tree items [] 1 7 (trees.Use (span_of items 6 7) a)
+abbrev pub pair_module : List Item → SeenModule
+pair_module items =
+    fun_module items (f_import items ∷ []) 7 21
+    (record {
+      span = span_of items 12 21;
+      form =
+          forms.App' here (span_of items 12 13) (forms.Name f) here (span_of items 14 20)
+          (forms.Fst' here (span_of items 15 20) (pair_of items));
+    })
+
+abbrev pub id_module : List Item → SeenModule
+id_module items = fun_module items [] 1 7 (record { span = span_of items 6 7; form = forms.Name a })
 
 -- what is derived
-f_imported : (items : List Item) (rest : List Reading) → AreRead items (import_f ++ rest) → IsImport items 0 6 (f_import items)
+f_imported : (items : List Item) (rest : List Reading) → AreRead items (import_f ++ rest) → IsImport items 0 6 (import_tree (f_import items))
 f_imported items rest is =
     record {
       word = is 0;
@@ -75,7 +112,7 @@ f_imported items rest is =
       ty_span = refl;
     }
 
-pub main_derived : (items : List Item) → AreRead items main_read → IsModule items (main_tree items)
+pub main_derived : (items : List Item) → AreRead items main_read → IsModule items (module_tree (main_module items))
 main_derived items is =
     record {
       end = 15;
@@ -97,7 +134,7 @@ main_derived items is =
       no_more = is 15;
     }
 
-pub twice_derived : (items : List Item) → AreRead items twice_read → IsModule items (twice_tree items)
+pub twice_derived : (items : List Item) → AreRead items twice_read → IsModule items (module_tree (twice_module items))
 twice_derived items is =
     record {
       end = 21;
@@ -124,7 +161,7 @@ twice_derived items is =
       no_more = is 21;
     }
 
-pub pass_derived : (items : List Item) → AreRead items pass_read → IsModule items (pass_tree items)
+pub pass_derived : (items : List Item) → AreRead items pass_read → IsModule items (module_tree (pass_module items))
 pass_derived items is =
     record {
       end = 18;
@@ -152,6 +189,9 @@ pass_derived items is =
 abbrev both : List Item → Tree
 both items = trees.Both (span_of items 15 20) (trees.Use (span_of items 16 17) a) (trees.Skip (span_of items 18 19))
 
+abbrev pair_body : List Item → Tree
+pair_body items = trees.App (span_of items 12 21) (trees.Use (span_of items 12 13) f) (trees.Fst (span_of items 14 20) (both items))
+
 first_derived : (items : List Item) → AreRead items pair_read → IsTerm items grammar.App 14 20 (trees.Fst (span_of items 14 20) (both items))
 first_derived items is =
     let skip : Tree = trees.Skip (span_of items 18 19) in
@@ -169,7 +209,7 @@ pair_body_derived items is =
     (app items 12 13 (trees.Use (span_of items 12 13) f) (named items 12 13 f refl (is 12)))
     (grammar.an_atom 13 21 first (grammar.in_brackets 13 20 first (is 13) (term items 14 20 first (first_derived items is)) (is 20)))
 
-pub pair_derived : (items : List Item) → AreRead items pair_read → IsModule items (pair_tree items)
+pub pair_derived : (items : List Item) → AreRead items pair_read → IsModule items (module_tree (pair_module items))
 pair_derived items is =
     record {
       end = 25;
@@ -193,7 +233,7 @@ pair_derived items is =
       no_more = is 25;
     }
 
-pub id_derived : (items : List Item) → AreRead items id_read → IsModule items (id_tree items)
+pub id_derived : (items : List Item) → AreRead items id_read → IsModule items (module_tree (id_module items))
 id_derived items is =
     record {
       end = 11;
