@@ -57,7 +57,7 @@ weight_of APass = 24
 weight_of APair = 40
 weight_of AnId = 11
 
-accepted : (k : Kind) → IsSourceOf (source_of k).text (read_of k) (made_of k) (weight_of k)
+pub accepted : (k : Kind) → IsSourceOf (source_of k).text (read_of k) (made_of k) (weight_of k)
 accepted AMain = main_accepted
 accepted ATwice = twice_accepted
 accepted APass = pass_accepted
