@@ -16,16 +16,16 @@ const ON: Pulse = Pulse { on: true, value: 0 };
 fn shows_done_from_the_cycle_after_run(rt: HostRuntime) -> Result<(), Fail> {
     let alloc = rt.alloc();
     let mut sim = Sim::new(alloc, accept(alloc, latch(alloc)?)?)?;
-    let mut inputs = vec![in alloc; ON; sim.inputs()]?;
+    let on = vec![in alloc; ON; sim.inputs()]?;
+    let off = vec![in alloc; OFF; sim.inputs()]?;
     let mut outputs = vec![in alloc; ON; sim.outputs()]?;
     sim.peek(&mut outputs);
     assert_eq!(rt; outputs.as_slice(), [OFF].as_slice());
-    sim.cycle(&inputs, &mut outputs);
+    sim.cycle(&on, &mut outputs);
     assert_eq!(rt; outputs.as_slice(), [OFF].as_slice());
-    inputs.fill(OFF);
-    sim.cycle(&inputs, &mut outputs);
+    sim.cycle(&off, &mut outputs);
     assert_eq!(rt; outputs.as_slice(), [ON].as_slice());
-    sim.cycle(&inputs, &mut outputs);
+    sim.cycle(&off, &mut outputs);
     assert_eq!(rt; outputs.as_slice(), [ON].as_slice());
     sim.reset();
     sim.peek(&mut outputs);
@@ -39,19 +39,19 @@ fn shows_done_from_the_cycle_after_run(rt: HostRuntime) -> Result<(), Fail> {
 fn visits_the_gate_where_its_request_changes(rt: HostRuntime) -> Result<(), Fail> {
     let alloc = rt.alloc();
     let mut sim = Sim::new(alloc, accept(alloc, latch(alloc)?)?)?;
-    let mut inputs = vec![in alloc; ON; sim.inputs()]?;
+    let on = vec![in alloc; ON; sim.inputs()]?;
+    let off = vec![in alloc; OFF; sim.inputs()]?;
     let mut outputs = vec![in alloc; OFF; sim.outputs()]?;
     assert_eq!(rt; sim.visited(), 0);
-    sim.cycle(&inputs, &mut outputs);
+    sim.cycle(&on, &mut outputs);
     assert_eq!(rt; sim.visited(), 1);
-    inputs.fill(OFF);
-    sim.cycle(&inputs, &mut outputs);
+    sim.cycle(&off, &mut outputs);
     assert_eq!(rt; sim.visited(), 1);
-    sim.cycle(&inputs, &mut outputs);
+    sim.cycle(&off, &mut outputs);
     assert_eq!(rt; sim.visited(), 0);
     sim.reset();
     assert_eq!(rt; sim.visited(), 0);
-    sim.cycle(&inputs, &mut outputs);
+    sim.cycle(&off, &mut outputs);
     assert_eq!(rt; sim.visited(), 0);
     Ok(())
 }
@@ -61,20 +61,19 @@ fn visits_the_gate_where_its_request_changes(rt: HostRuntime) -> Result<(), Fail
 fn repeats_where_nothing_changes(rt: HostRuntime) -> Result<(), Fail> {
     let alloc = rt.alloc();
     let mut sim = Sim::new(alloc, accept(alloc, latch(alloc)?)?)?;
-    let mut inputs = vec![in alloc; ON; sim.inputs()]?;
+    let on = vec![in alloc; ON; sim.inputs()]?;
+    let off = vec![in alloc; OFF; sim.inputs()]?;
     let mut outputs = vec![in alloc; OFF; sim.outputs()]?;
     assert!(rt; !sim.repeats());
-    sim.cycle(&inputs, &mut outputs);
+    sim.cycle(&on, &mut outputs);
     assert!(rt; !sim.repeats());
-    inputs.fill(OFF);
-    sim.cycle(&inputs, &mut outputs);
+    sim.cycle(&off, &mut outputs);
     assert!(rt; !sim.repeats());
-    sim.cycle(&inputs, &mut outputs);
+    sim.cycle(&off, &mut outputs);
     assert!(rt; sim.repeats());
-    inputs.fill(ON);
-    sim.cycle(&inputs, &mut outputs);
+    sim.cycle(&on, &mut outputs);
     assert!(rt; !sim.repeats());
-    sim.cycle(&inputs, &mut outputs);
+    sim.cycle(&on, &mut outputs);
     assert!(rt; sim.repeats());
     sim.reset();
     assert!(rt; !sim.repeats());
