@@ -6,7 +6,6 @@ use Rattle.gos_plan.specs.Firing.{Rest, State, Slot}
 use Rattle.gos_plan.specs.Plans.{End, ResultEnd, Plan, contact_at, same_end}
 use Rattle.gos_plan.specs.Tokens.{Tokens, Element, Fire, Out, In, IsPortEnd, way_put, Does, Runs, IsIdle}
 use Rattle.gos_plan.specs.Orderly.{Open, none_open, ComesInOrder, AllWelcome, OrderlyFrom, IsOrderly}
-use Rattle.gos_plan.proofs.DecidedLemmas.{one_state, one_open}
 use Rattle.gos_plan.proofs.JointLemmas.{same_itself}
 use Rattle.gos_realises.specs.Regular.{Pass, pass, way_in, way_out, is_open, count, ComesInTurn, KeepsTurns, InputsKeepTurns}
 use Rattle.gos_realises.proofs.InputLemmas.{passed, passed_then, inputs_then, outputs_last, runs_then}
@@ -14,7 +13,6 @@ use Rattle.gos_realises.proofs.RingLemmas.{after}
 use Rattle.gos_pace.proofs.HoldLemmas.{orderly_append}
 use Rattle.gos_renumbered.proofs.TurnLemmas.{of_result}
 use Rattle.gos_webs.specs.Cutting.{lies_at, StandsIn}
-use Rattle.gos_webs.proofs.CutLemmas.{Owns}
 use Rattle.gos_turns.proofs.RestLemmas.{passes_are}
 use Rattle.gos_windows.proofs.ClosingLemmas.{Ports, open_idle_is_closed, ports_along}
 use Rattle.gos_windows.proofs.NodeLemmas.{InTurn}
@@ -24,20 +22,9 @@ use Rattle.gos_both.specs.Both.{Side}
 use Rattle.gos_both.proofs.PlaceLemmas.{IsLaid, at, at_port, Port, same_contact, Met, met_port}
 use Rattle.gos_both.proofs.StirLemmas.{seen, InSide, Ran, fires_in, Puts, out_in, Takes, in_in, idle_whole, idle_seen}
 use Rattle.gos_both.proofs.TurnLemmas.{Follows, each_of, none_turned, result_port, follows_pass, follows_none, side_turned, whole_turned, comes_as, goes_as, all_shut, IsBeside, where_in}
-use Rattle.gos_both.proofs.OrderLemmas.{IsUnjoined, placed, Stands, Opens, side_order, side_welcome}
-
--- the last element of an orderly list
-last_order : (p : Plan) (hs : List Element) (y : Element) (o u q : Open) (s t w z : Tokens) → OrderlyFrom p (hs ++ y ∷ []) o s u t → OrderlyFrom p hs o s q w → Does p y w z
-    → (m : Open) × ComesInOrder p y w q m × AllWelcome p z
-last_order p [] y o u q s t w z (m, v, does, comes, welcome, rest) is also = (
-  m,
-  subst (λ (a : Tokens). ComesInOrder p y a q m) (sym is.1) (subst (λ (b : Open). ComesInOrder p y s b m) (sym is.0) comes),
-  subst (AllWelcome p) (one_state p y w v z (subst (λ (a : Tokens). Does p y a v) (sym is.1) does) also) welcome,
-)
-last_order p (x ∷ hs) y o u q s t w z (m, v, does, comes, welcome, rest) (n, a, doing, coming, well, more) also =
-    let tokens = one_state p x s v a does doing in
-    let open_so = one_open p x o m n s v does comes coming in
-    last_order p hs y n u q a t w z (subst (λ (b : Open). OrderlyFrom p (hs ++ y ∷ []) b a u t) open_so (subst (λ (b : Tokens). OrderlyFrom p (hs ++ y ∷ []) m b u t) tokens rest)) more also
+use Rattle.gos_windows.proofs.OpensLemmas.{IsThere}
+use Rattle.gos_windows.proofs.OrderLemmas.{last_order}
+use Rattle.gos_both.proofs.OrderLemmas.{Never, placed, Stands, Opens, side_order, side_welcome}
 
 -- an output of the element keeps turns
 abbrev pub OutTurn : Plan → List Pass → Element → Type 0
@@ -78,7 +65,7 @@ module _ (r : Plan) (n : ℕ) (g : Side) (is : IsLaid r n g) where
         follows = follows_none r n g is past shut;
         own = none_open;
         orderly = (refl, refl);
-        opens = record { same = λ e owned. closed (lies_at g.cut e); only = λ x up. absurd (not_both (o x) up (closed x)) };
+        opens = record { kept = λ x never. absurd never; same = λ e owned. closed (lies_at g.cut e); only = λ x up. absurd (not_both (o x) up (closed x)) };
       }
 
   -- after an element
@@ -283,10 +270,11 @@ module _ (r : Plan) (n : ℕ) (g : Side) (is : IsLaid r n g) where
         own_closed =
             open_idle_is_closed g.plan going.hs going.own going.before (seen g s) is.side.region.right going.ran.idle going.orderly idle port_closed
 
-        by_end : (x : End) → o x ≡ true → ((e : End) × Owns g.plan e × (lies_at g.cut e ≡ x)) ⊎ IsUnjoined r x → ⊥
-        by_end x up (inl (e, owned, lies)) =
+        by_end : (x : End) → o x ≡ true → IsThere g.cut r g.plan Never x → ⊥
+        by_end x up (inl never) = never
+        by_end x up (inr (inl (e, owned, lies))) =
             not_both (going.own e) (sym (going.opens.same e owned) ∙ (ap o lies ∙ up)) (own_closed e)
-        by_end x up (inr loose) = let (there, held) = ports x loose.0 up in not_both (is_open past x) held (past_shut x)
+        by_end x up (inr (inr loose)) = let (there, held) = ports x loose.0 up in not_both (is_open past x) held (past_shut x)
 
         by_open : (x : End) (t : Bool) → o x ≡ t → t ≡ false
         by_open x false t = refl

@@ -28,8 +28,8 @@ use Rattle.gos_windows.specs.Nodes.{Stage, IsStage}
 use Rattle.gos_windows.specs.Windows.{seen, Begins}
 use Rattle.gos_windows.proofs.KeepingLemmas.{turns_keep_protocol}
 use Rattle.gos_nodes.proofs.SilentLemmas.{silent_inner, one_inner, inner_stays, asked_first, answer_last, no_request}
-use Rattle.gos_nodes.proofs.FrameLemmas.{frame_is, framed, framed_unfolds}
-use Rattle.gos_nodes.proofs.RegionLemmas.{token_stands, own_stays, fires_goes_on, out_shown, in_shown}
+use Rattle.gos_nodes.proofs.FrameLemmas.{IsFrame, frame_is, framed, framed_unfolds}
+use Rattle.gos_nodes.proofs.RegionLemmas.{token_stands, outside_stays, fires_goes_on, out_shown, in_shown}
 use Rattle.gos_realises.proofs.InputLemmas.{in_there}
 use Rattle.gos_nodes.proofs.PortLemmas.{request_shown, answer_shown, no_other_out, no_other_in, out_held, ground_one, ground_all, among, import_port, comes_open, OpenStand, open_first, open_then}
 
@@ -67,7 +67,7 @@ pub stage_among : (r : Plan) (d : ℕ) (g : Stage) → NamesDiffer r.imports →
 stage_among r d g differ is = among g.plan.imports r.imports differ is.imports
 
 -- to an equal configuration
-moves_at : (q : Program) (acts : List Act) (b c d : Config) → c ≡ d → Moves q acts b c → Moves q acts b d
+pub moves_at : (q : Program) (acts : List Act) (b c d : Config) → c ≡ d → Moves q acts b c → Moves q acts b d
 moves_at q acts b c d e h = subst (λ (x : Config). Moves q acts b x) e h
 
 matched_at : (p : Plan) (q : Program) (xs : List Element) (s : Tokens) (c d : Config) → c ≡ d → IsMatched p q xs s c → IsMatched p q xs s d
@@ -85,7 +85,7 @@ pub record Opened (d : ℕ) (f : Form) (g : Stage) (ys : List Element) (s : Toke
 pub opens : (r : Plan) (d : ℕ) (f : Form) (g : Stage) (ys : List Element) (s : Tokens) (e : Session)
     → AllGround r.imports → IsStage r d g
     → session_of f (s.state d).phase (s.state d).number ≡ Some e → e.asked_at ≡ g.asked_at → g.plan.outcome ≡ e.ty
-    → Typed g.plan.imports [] e.term e.ty → RealisesDone g.plan e.term → Begins g ys s → Opened d f g ys s e
+    → Typed g.plan.imports [] e.term e.ty → RealisesDone g.plan e.term → Begins 0 g 0 ys s → Opened d f g ys s e
 opens r d f g ys s e ground is at asked outcome typed realises begins =
     let p = g.plan in
     let list : List Element = In (ResultEnd 0) 0 ∷ ys in
@@ -138,7 +138,7 @@ stirred r d g ground is p (Fire i slot) ys s u t acts m st c past does whole mov
     record {
       inner = silent_inner acts shown;
       shown = shown;
-      goes = fires_goes_on r d g is i slot s u t acts does goes;
+      goes = fires_goes_on r g is.region i slot s u t acts does goes;
       past = past;
       turns = turns;
       stand = stand;
@@ -150,7 +150,7 @@ stirred r d g ground is p (Out (ImportEnd i h) v) ys s u t acts m st c past does
     let way = way_out (contact_at g.plan (ImportEnd i h)) in
     record {
       inner = one_inner acts (label_at g.plan (ImportEnd i h) way v) shown (import_port g.plan i h v way k at);
-      shown = shown ∙ sym (out_shown r d g is i h v stands);
+      shown = shown ∙ sym (out_shown r g is.ports i h v stands);
       goes = tt;
       past = pass (ImportEnd i h) way ∷ past;
       turns = turns;
@@ -168,7 +168,7 @@ stirred r d g ground is p (In (ImportEnd i h) v) ys s u t acts m st c past does 
     let way = way_in (contact_at g.plan (ImportEnd i h)) in
     record {
       inner = one_inner acts (label_at g.plan (ImportEnd i h) way v) shown (import_port g.plan i h v way k at);
-      shown = shown ∙ sym (in_shown r d g is i h v stands);
+      shown = shown ∙ sym (in_shown r g is.ports i h v stands);
       goes = tt;
       past = pass (ImportEnd i h) way ∷ past;
       turns = turns.1;
@@ -209,7 +209,7 @@ goes_within r d f q g y ys s t e m st ground differ same is does whole inner =
       goes = stir.goes;
       inner =
           record {
-            at = ap (λ (x : State). session_of f x.phase x.number) (own_stays r d g is y s (seen g t) t does whole) ∙ inner.at;
+            at = ap (λ (x : State). session_of f x.phase x.number) (outside_stays r g is.region d is.outside y s (seen g t) t does whole) ∙ inner.at;
             asked = inner.asked;
             outcome = inner.outcome;
             typed = inner.typed;
@@ -235,22 +235,20 @@ is_value : (t : Type') (m : Term) (k : ℕ) → IsResult t m k → (m ≡ value_
 is_value t m k (inl (command, skip, zero_is)) = (skip ∙ ap (λ x. value_of x k) (sym command), inl skip)
 is_value t m k (inr (w, exp, lit, fits)) = (lit ∙ ap (λ x. value_of x k) (sym exp), inr (k, w, lit))
 
-pub ends : (r : Plan) (d : ℕ) (f : Form) (q : Program) (g : Stage) (s u : Tokens) (e : Session) (m : Term) (st : Store) (v : ℕ)
-    → NamesDiffer r.imports → q.imports ≡ r.imports → IsStage r d g
-    → Does g.plan (Out (ResultEnd 0) v) (seen g s) u → Inner d f g (Out (ResultEnd 0) v ∷ []) s e m st → Ended q e m st v
-ends r d f q g s u e m st v differ same is does inner =
+-- An answer of the child, in its frame: of a child that ran from its request.
+pub child_ends : (q : Program) (g : Stage) (e : Session) (acts : List Act) (m : Term) (st : Store) (v : ℕ) (more : List Act) (c : Config)
+    → IsFrame e.frame → AreAmong g.plan.imports q.imports → Typed g.plan.imports [] e.term e.ty → Moves (child g e) acts Idle (Running m st)
+    → Moves (child g e) more (Running m st) c → labels more ≡ given 1 v ∷ [] → Ended q e m st v
+child_ends q g e acts m st v more c frame less typed ran goes shown =
     let p = child g e in
-    let next = inner.matched.1 u does in
-    let last = answer_last p next.0 m st next.1 v next.2 (next.3 ∙ answer_shown g.plan v is.outcome) in
-    let ran = moves_then p inner.acts last.0 Idle (Running m st) (Running last.1 last.2) inner.ran last.4 in
-    let answer = answers_are_typed p e.ty (inner.acts ++ last.0) last.1 last.2 v inner.typed ran last.5 in
+    let last = answer_last p more m st c v goes shown in
+    let all = moves_then p acts last.0 Idle (Running m st) (Running last.1 last.2) ran last.4 in
+    let answer = answers_are_typed p e.ty (acts ++ last.0) last.1 last.2 v typed all last.5 in
     let value = is_value e.ty answer.1 v answer.3 in
-    let shut = sources_are_shut g.plan.imports [] e.term e.ty inner.typed in
+    let shut = sources_are_shut g.plan.imports [] e.term e.ty typed in
     let scopes : KeepsScopes answer.1 last.2 =
-    unfoldings_keep last.2 answer.0 last.1 answer.1 answer.2 (runs_keep_scopes p (inner.acts ++ last.0) last.1 last.2 shut ran) in
+    unfoldings_keep last.2 answer.0 last.1 answer.1 answer.2 (runs_keep_scopes p (acts ++ last.0) last.1 last.2 shut all) in
     let empty : last.2 ≡ [] = none_left answer.1 last.2 scopes value.1 in
-    let frame = frame_is f (s.state d).phase (s.state d).number e inner.at in
-    let less : AreAmong g.plan.imports q.imports = subst (λ (i : List Imported). AreAmong g.plan.imports i) (sym same) (stage_among r d g differ is) in
     let moves : Moves q last.0 (Running (e.frame m) st) (Running (e.frame last.1) last.2) =
     framed p q e.frame last.0 m last.1 st last.2 frame less (silent_inner last.0 last.3) last.4 in
     record {
@@ -262,3 +260,12 @@ ends r d f q g s u e m st v differ same is does inner =
       unfolds =
           subst (λ (x : Term). Unfoldings answer.0 (e.frame last.1) (e.frame x)) value.0 (framed_unfolds e.frame answer.0 last.1 answer.1 frame answer.2);
     }
+
+pub ends : (r : Plan) (d : ℕ) (f : Form) (q : Program) (g : Stage) (s u : Tokens) (e : Session) (m : Term) (st : Store) (v : ℕ)
+    → NamesDiffer r.imports → q.imports ≡ r.imports → IsStage r d g
+    → Does g.plan (Out (ResultEnd 0) v) (seen g s) u → Inner d f g (Out (ResultEnd 0) v ∷ []) s e m st → Ended q e m st v
+ends r d f q g s u e m st v differ same is does inner =
+    let next = inner.matched.1 u does in
+    let less : AreAmong g.plan.imports q.imports = subst (λ (i : List Imported). AreAmong g.plan.imports i) (sym same) (stage_among r d g differ is) in
+    child_ends q g e inner.acts m st v next.0 next.1 (frame_is f (s.state d).phase (s.state d).number e inner.at) less inner.typed inner.ran next.2
+    (next.3 ∙ answer_shown g.plan v is.outcome)

@@ -3,7 +3,7 @@
 use Rattle.std.specs.Prelude.{◌≡◌, ◌⊎◌, ℕ, List, Option, Some, None}
 use Rattle.std.proofs.Common.{refl, sym, subst, inl, inr}
 use Rattle.gos_model.specs.Terms as terms
-use Rattle.gos_model.specs.Terms.{Op, Term}
+use Rattle.gos_model.specs.Terms.{Term}
 use Rattle.gos_model.specs.Stores.{Store}
 use Rattle.gos_model.specs.Moves.{Program, Running, Act, Moves, Unfoldings, Stalled}
 use Rattle.gos_plan.specs.Firing.{Phase, First, Second, Test, Branch, Body, Left, Right, Waiting}

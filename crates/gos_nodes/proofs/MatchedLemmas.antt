@@ -23,10 +23,9 @@ use Rattle.gos_contexts.proofs.WideningLemmas.{sources_known, runs_known}
 use Rattle.gos_results.proofs.ResultLemmas.{moves_then}
 use Rattle.gos_windows.specs.Regions.{whole_element}
 use Rattle.gos_windows.specs.Nodes.{Stage, IsNode}
-use Rattle.gos_windows.specs.Windows.{seen, HoldsOnly, StirsOnly, Begins, Where, Resting, Asked, Within, Answered, LeadsTo, to_session, to_answer, Staged, rests, waits, stays, holds, is_asked, begins, stirs, goes_on, replies}
-use Rattle.gos_windows.proofs.QuietLemmas.{quiet_is_within, own_part_can}
-use Rattle.gos_windows.proofs.WindowLemmas.{lists_are_staged}
-use Rattle.gos_windows.proofs.OrderLemmas.{node_is_regular}
+use Rattle.gos_windows.specs.Windows.{form_runner, seen, HoldsOnly, StirsOnly, Begins, Where, Resting, Asked, Within, Answered, LeadsTo, to_session, to_answer, Staged, rests, waits, stays, holds, is_asked, begins, stirs, goes_on, replies}
+use Rattle.gos_windows.proofs.WholeLemmas.{zero_only}
+use Rattle.gos_windows.proofs.FormLemmas.{quiet_is_within, own_part_can, lists_are_staged, node_is_regular}
 use Rattle.gos_nodes.specs.Realised.{AreRealised, NodeIsMatched, NodeRealises}
 use Rattle.gos_nodes.proofs.SilentLemmas.{labels_then, unfold_first}
 use Rattle.gos_nodes.proofs.FrameLemmas.{frame_is, framed, framed_waits}
@@ -40,38 +39,40 @@ run_is_no_output o out e =
     let is : o ≡ given 0 0 = cc e in
     let no : false ≡ true = subst (λ l. IsTrue (is_output l)) is out in cc no
 
-idle_is_stalled : (p : Program) → Stalled p Idle
+pub idle_is_stalled : (p : Program) → Stalled p Idle
 idle_is_stalled p = (λ d move. let e = move.0 in cc e, λ o d out move. run_is_no_output o out move.0)
 
-running_is_not_idle : (m : Term) (s : Store) → Running m s ≡ Idle → ⊥
+pub running_is_not_idle : (m : Term) (s : Store) → Running m s ≡ Idle → ⊥
 running_is_not_idle m s e = cc e
 
 -- the tokens that the own part puts
-first_token : (t u : Token) → t ∷ [] ≡ u ∷ [] → t ≡ u
+pub first_token : (t u : Token) → t ∷ [] ≡ u ∷ [] → t ≡ u
 first_token t u e = cc e
 
-one_asked : (a b : ℕ) → put (Req a) 0 ∷ [] ≡ put (Req b) 0 ∷ [] → a ≡ b
-one_asked a b e = let slots : Req a ≡ Req b = ap (λ t. t.slot) (first_token (put (Req a) 0) (put (Req b) 0) e) in cc slots
+pub one_asked : (a b x y : ℕ) → put (Req a) x ∷ [] ≡ put (Req b) y ∷ [] → (a ≡ b) × (x ≡ y)
+one_asked a b x y e =
+    let tokens = first_token (put (Req a) x) (put (Req b) y) e in
+    let slots : Req a ≡ Req b = ap (λ t. t.slot) tokens in (cc slots, ap (λ t. t.value) tokens)
+
+pub asks_or_answers : (a b x j : ℕ) → put (Req a) x ∷ [] ≡ put (Ans b) j ∷ [] → ⊥
+asks_or_answers a b x j e = let slots : Req a ≡ Ans b = ap (λ t. t.slot) (first_token (put (Req a) x) (put (Ans b) j) e) in cc slots
+
+pub no_asking : (ts : List Token) (a j : ℕ) → ts ≡ put (Ans a) j ∷ [] → asks_on ts ≡ true → ⊥
+no_asking ts a j e asks = let clash : asks_on (put (Ans a) j ∷ []) ≡ true = subst (λ (x : List Token). asks_on x ≡ true) e asks in cc clash
+
+pub more_some : (xs ys : List Act) → ys ≢ [] → xs ++ ys ≢ []
+more_some [] ys some e = some e
+more_some (x ∷ xs) ys some e = cc e
+
+pub both_silent : (xs ys : List Act) → labels xs ≡ [] → labels ys ≡ [] → labels (xs ++ ys) ≡ []
+both_silent xs ys e h = labels_then xs ys ∙ (ap (λ ls. ls ++ labels ys) e ∙ h)
 
 one_answer : (a j k : ℕ) → put (Ans a) j ∷ [] ≡ put (Ans a) k ∷ [] → j ≡ k
 one_answer a j k e = ap (λ t. t.value) (first_token (put (Ans a) j) (put (Ans a) k) e)
 
-asks_or_answers : (a b j : ℕ) → put (Req a) 0 ∷ [] ≡ put (Ans b) j ∷ [] → ⊥
-asks_or_answers a b j e = let slots : Req a ≡ Ans b = ap (λ t. t.slot) (first_token (put (Req a) 0) (put (Ans b) j) e) in cc slots
-
-no_asking : (ts : List Token) (a j : ℕ) → ts ≡ put (Ans a) j ∷ [] → asks_on ts ≡ true → ⊥
-no_asking ts a j e asks = let clash : asks_on (put (Ans a) j ∷ []) ≡ true = subst (λ (x : List Token). asks_on x ≡ true) e asks in cc clash
-
 still_some : (xs ys : List Act) → xs ≢ [] → xs ++ ys ≢ []
 still_some [] ys some e = some refl
 still_some (x ∷ xs) ys some e = cc e
-
-more_some : (xs ys : List Act) → ys ≢ [] → xs ++ ys ≢ []
-more_some [] ys some e = some e
-more_some (x ∷ xs) ys some e = cc e
-
-both_silent : (xs ys : List Act) → labels xs ≡ [] → labels ys ≡ [] → labels (xs ++ ys) ≡ []
-both_silent xs ys e h = labels_then xs ys ∙ (ap (λ ls. ls ++ labels ys) e ∙ h)
 
 module _
     (r : Plan) (d : ℕ) (f : Form) (gs : List Stage) (node : IsNode r d f gs) (real : AreRealised f gs) where
@@ -96,7 +97,7 @@ module _
 
   -- within a session the child is
   within_agrees : (g : Stage) (ys : List Element) (s : Tokens) (e : Session) (m : Term) (st : Store)
-      → Contains gs g → StirsOnly d f g s → Inner d f g ys s e m st → Agrees r whole s (Running (e.frame m) st)
+      → Contains gs g → StirsOnly d (form_runner f) g s → Inner d f g ys s e m st → Agrees r whole s (Running (e.frame m) st)
   within_agrees g ys s e m st has only inner = (
     λ q.
         framed_waits (child g e) whole e.frame m st (frame_is f (s.state d).phase (s.state d).number e inner.at)
@@ -128,11 +129,11 @@ module _
 
   enters : (row : Row) (v : ℕ) (t : Tokens) (xs : List Element) (n : ℕ) (m base : Term) (answered : Bool) (g : Stage) (ys : List Element)
       → Unfoldings n m base → (answered ≡ true) ⊎ (m ≡ base) → t.state d ≡ row.next v
-      → Contains gs g → Begins g ys t → row.puts v ≡ put (Req g.asked_at) 0 ∷ [] → Matches (Within g ys) xs t
+      → Contains gs g → Begins 0 g 0 ys t → row.puts v ≡ put (Req g.asked_at) 0 ∷ [] → Matches (Within g ys) xs t
       → (e : Session) (acts : List Act) → session_of f (row.next v).phase (row.next v).number ≡ Some e → row.puts v ≡ put (Req e.asked_at) 0 ∷ []
       → Computes whole acts base (e.frame e.term) → (answered ≡ true → acts ≢ []) → Led row v t xs m answered
   enters row v t xs n m base answered g ys us from is has start puts rest e acts at ts (silent, moves) some =
-      let asked : e.asked_at ≡ g.asked_at = one_asked e.asked_at g.asked_at (sym ts ∙ puts) in
+      let asked : e.asked_at ≡ g.asked_at = (one_asked e.asked_at g.asked_at 0 0 (sym ts ∙ puts)).0 in
       let found = real (row.next v).phase (row.next v).number e at in
       let same : found.0 ≡ g = node.one found.0 g found.1 has (found.2 ∙ asked) in
       let outcome : g.plan.outcome ≡ e.ty = subst (λ (x : Stage). x.plan.outcome ≡ e.ty) same found.3 in
@@ -181,15 +182,20 @@ module _
         rest 0 (value_of (own_type f) k) refl,
       )
 
+  -- a request without bits
+  asks_zero : (g : Stage) (k : ℕ) → k ≡ 0 → (ts : List Token) → ts ≡ put (Req g.asked_at) k ∷ [] → ts ≡ put (Req g.asked_at) 0 ∷ []
+  asks_zero g k none ts puts = puts ∙ ap (λ (x : ℕ). put (Req g.asked_at) x ∷ []) none
+
   leads : (row : Row) (v : ℕ) (t : Tokens) (w : Where) (xs : List Element) (n : ℕ) (m base : Term) (answered : Bool)
       → Unfoldings n m base → (answered ≡ true) ⊎ (m ≡ base) → t.state d ≡ row.next v
-      → LeadsTo r d f gs row v t w → LeadsOn whole f base (row.next v) (row.puts v) answered → Matches w xs t → Led row v t xs m answered
-  leads row v t w xs n m base answered us from is (to_session g ys has only start puts) (inl (e, acts, at, ts, goes, some)) rest =
-      enters row v t xs n m base answered g ys us from is has start puts rest e acts at ts goes some
-  leads row v t w xs n m base answered us from is (to_session g ys has only start puts) (inr (k, acts, phase, ts, goes)) rest =
-      absurd (asks_or_answers g.asked_at (run_shake (own_part f)) k (sym puts ∙ ts))
+      → LeadsTo r d (form_runner f) gs row v t w → LeadsOn whole f base (row.next v) (row.puts v) answered → Matches w xs t → Led row v t xs m answered
+  leads row v t w xs n m base answered us from is (to_session g k ys has fits only start puts) (inl (e, acts, at, ts, goes, some)) rest =
+      let none = zero_only k fits in
+      enters row v t xs n m base answered g ys us from is has (subst (λ (x : ℕ). Begins 0 g x ys t) none start) (asks_zero g k none (row.puts v) puts) rest e acts at ts goes some
+  leads row v t w xs n m base answered us from is (to_session g k ys has fits only start puts) (inr (j, acts, phase, ts, goes)) rest =
+      absurd (asks_or_answers g.asked_at (run_shake (own_part f)) 0 j (sym (asks_zero g k (zero_only k fits) (row.puts v) puts) ∙ ts))
   leads row v t w xs n m base answered us from is (to_answer k here puts) (inl (e, acts, at, ts, goes, some)) rest =
-      absurd (asks_or_answers e.asked_at (run_shake (own_part f)) k (sym ts ∙ puts))
+      absurd (asks_or_answers e.asked_at (run_shake (own_part f)) 0 k (sym ts ∙ puts))
   leads row v t w xs n m base answered us from is (to_answer k here puts) (inr (j, acts, phase, ts, goes)) rest =
       answers row v t xs n m base answered k us puts rest j acts ts goes
 
@@ -197,7 +203,7 @@ module _
   begun : (s t : Tokens) (xs : List Element) (row : Row) (w : Where)
       → HoldsOnly r (PartEnd d (run_shake (own_part f))) Request 0 s
       → firing (own_part f) (s.state d) (Req (run_shake (own_part f))) ≡ Some row
-      → Does r (Fire d (Req (run_shake (own_part f)))) s t → t.state d ≡ row.next 0 → LeadsTo r d f gs row 0 t w → Matches w xs t
+      → Does r (Fire d (Req (run_shake (own_part f)))) s t → t.state d ≡ row.next 0 → LeadsTo r d (form_runner f) gs row 0 t w → Matches w xs t
       → IsMatched r whole (Fire d (Req (run_shake (own_part f))) ∷ xs) s (Running (own_term f) [])
   begun s t xs row w here fires does is to rest =
       let own_state : s.state d ≡ at Rest (s.state d).number = λ i. at (here.states d i) (s.state d).number in
@@ -229,9 +235,9 @@ module _
       some_value a b e = cc e
 
   gone_on : (s t : Tokens) (xs : List Element) (g : Stage) (v : ℕ) (u : Tokens) (row : Row) (w : Where)
-      → Contains gs g → StirsOnly d f g s → Does g.plan (Out (ResultEnd 0) v) (seen g s) u → v < 2 ^ bits g.plan.outcome
+      → Contains gs g → StirsOnly d (form_runner f) g s → Does g.plan (Out (ResultEnd 0) v) (seen g s) u → v < 2 ^ bits g.plan.outcome
       → token_at r s (PartEnd d g.asked_at) Answer ≡ Some v → firing (own_part f) (s.state d) (Ans g.asked_at) ≡ Some row
-      → Does r (Fire d (Ans g.asked_at)) s t → t.state d ≡ row.next v → LeadsTo r d f gs row v t w → Matches w xs t
+      → Does r (Fire d (Ans g.asked_at)) s t → t.state d ≡ row.next v → LeadsTo r d (form_runner f) gs row v t w → Matches w xs t
       → Matches (Within g (Out (ResultEnd 0) v ∷ [])) (Fire d (Ans g.asked_at) ∷ xs) s
   gone_on s t xs g v u row w has only answer fits held fires does is to rest e m st inner =
       let over = ends r d f whole g s u e m st v node.names refl (node.stages g has) answer inner in
@@ -252,7 +258,7 @@ module _
 
   -- an element of the child
   stirred_on : (s t : Tokens) (xs ys : List Element) (g : Stage) (y : Element)
-      → Contains gs g → StirsOnly d f g s → Does g.plan y (seen g s) (seen g t) → Does r (whole_element g.cut y) s t
+      → Contains gs g → StirsOnly d (form_runner f) g s → Does g.plan y (seen g s) (seen g t) → Does r (whole_element g.cut y) s t
       → Matches (Within g ys) xs t → Matches (Within g (y ∷ ys)) (whole_element g.cut y ∷ xs) s
   stirred_on s t xs ys g y has only does_there does rest e m st inner =
       let went = goes_within r d f whole g y ys s t e m st node.ground node.names refl (node.stages g has) does_there does inner in
@@ -288,7 +294,7 @@ module _
   next_fits : (x : Element) (s t : Tokens) → AllFit r s → Does r x s t → AllFit r t
   next_fits x s t fits does = all_stay_fit r (x ∷ []) s t node.right node.literals fits (t, does, refl)
 
-  matches : (w : Where) (xs : List Element) (s : Tokens) → Staged r d f gs w xs s → AllFit r s → Matches w xs s
+  matches : (w : Where) (xs : List Element) (s : Tokens) → Staged r d (form_runner f) gs w xs s → AllFit r s → Matches w xs s
   matches w xs s (rests s1 idle) fits = (λ q. idle_is_stalled whole, λ e. idle)
   matches w xs s (waits s1 here) fits = asked_agrees s1 (own_term f) [] here
   matches w xs s (stays s1 g has only) fits = λ e m st inner. within_agrees g [] s1 e m st has only inner
@@ -297,7 +303,7 @@ module _
       asked_on s1 t ys idle does (matches Asked ys t rest (next_fits (In (ResultEnd 0) 0) s1 t fits does))
   matches w xs s (begins s1 t ys row v here fires does is to rest) fits =
       begun s1 t ys row v here fires does is to (matches v ys t rest (next_fits (Fire d (Req (run_shake (own_part f)))) s1 t fits does))
-  matches w xs s (stirs s1 t ys zs g y has only does_there does rest) fits =
+  matches w xs s (stirs s1 t ys zs g y has only does_there stay does rest) fits =
       stirred_on s1 t ys zs g y has only does_there does (matches (Within g zs) ys t rest (next_fits (whole_element g.cut y) s1 t fits does))
   matches w xs s (goes_on s1 t ys g v u row k has only answer idle small held fires does is to rest) fits =
       gone_on s1 t ys g v u row k has only answer small held fires does is to (matches k ys t rest (next_fits (Fire d (Ans g.asked_at)) s1 t fits does))

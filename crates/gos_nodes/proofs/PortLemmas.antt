@@ -1,13 +1,12 @@
 -- Ports: the handshakes of a result that is a command or an expression, and of ground imports; what passes there.
 use Rattle.std.specs.Prelude.{◌≡◌, ℕ, zero, suc, ◌^◌, ◌<◌, ◌⊎◌, Bool, true, false, List, [], ◌∷◌, Option, Some, None, slice_get, Contains}
-use Rattle.std.specs.Str.{bytes_eq}
 use Rattle.std.proofs.Common.{arith, refl, sym, ap, subst, inl, inr, ◌∙◌}
-use Rattle.std.proofs.lemmas.Bool.{cond-true, cond-false}
+use Rattle.std.proofs.lemmas.Bool.{cond-false}
 use Rattle.gos_types.specs.declared.shakes.Role.TheVariants.{Serve}
 use Rattle.gos_types.specs.Types.{Type', Com, Exp, Var, Pair, Fun, IsGround, IsDone}
 use Rattle.gos_netlist.specs.Events.{Direction, Request, Answer}
 use Rattle.gos_model.specs.Terms.{Name}
-use Rattle.gos_model.specs.Typing.{Imported, Imports, import_type}
+use Rattle.gos_model.specs.Typing.{Imported, Imports}
 use Rattle.gos_model.specs.Labels.{Given, Taken, given}
 use Rattle.gos_model.specs.Moves.{Answers}
 use Rattle.gos_plan.specs.Kinds.{Contact, contacts_of}
@@ -20,9 +19,9 @@ use Rattle.gos_realises.specs.Matched.{port_if, event_number, label_at, shows}
 use Rattle.gos_realises.specs.Realises.{AllGround, NamesDiffer}
 use Rattle.gos_realises.proofs.InputLemmas.{import_serves, one_ground}
 use Rattle.gos_realises.proofs.ToldLemmas.{there_is}
+use Rattle.gos_renumbered.proofs.ImportLemmas.{has_type, type_has}
 use Rattle.gos_webs.specs.Cutting.{StandsIn}
 use Rattle.gos_contexts.specs.Widening.{AreAmong}
-use Rattle.gos_contexts.proofs.PlacedLemmas.{same_true, name_cases}
 use Rattle.gos_sessions.specs.Sessions.{value_of}
 
 -- the result of a command or an expression has one handshake, at which the outside asks
@@ -101,37 +100,10 @@ pub ground_all : (is : List Imported) → ((x : Imported) → Contains is x → 
 ground_all [] f = tt
 ground_all (i ∷ is) f = (f i (contains_head i is), ground_all is (λ x there. f x (contains_tail i x is there)))
 
--- the type of an import is that of one with its name
-typed_there : (is : Imports) (x : Name) (t : Type') → import_type is x ≡ Some t → (i : Imported) × Contains is i × (i.name ≡ x) × (i.ty ≡ t)
-typed_there [] x t h = absurd (cc h)
-typed_there (i ∷ is) x t h =
-    name_cases i.name x
-    (λ same yes. (i, contains_head i is, same, some_type i.ty t (sym (cond-true (bytes_eq i.name x) (Some i.ty) (import_type is x) yes) ∙ h)))
-    (λ other.
-    let r = typed_there is x t (sym (cond-false (bytes_eq i.name x) (Some i.ty) (import_type is x) other) ∙ h) in
-    (r.0, contains_tail i r.0 is r.1, r.2, r.3))
-  where
-    some_type : (a b : Type') → Some a ≡ Some b → a ≡ b
-    some_type a b e = cc
-
-pub there_typed : (is : Imports) (i : Imported) → NamesDiffer is → Contains is i → import_type is i.name ≡ Some i.ty
-there_typed [] i differ there = absurd (none_there i there)
-there_typed (j ∷ is) i differ there =
-    elim (contains_cases j i is there) [
-      | inl e ↦
-          cond-true (bytes_eq j.name i.name) (Some j.ty) (import_type is i.name) (same_true j.name i.name (ap (λ (y : Imported). y.name) e))
-          ∙ ap (λ (y : Imported). Some y.ty) e
-      | inr later ↦
-          name_cases j.name i.name
-          (λ same yes. absurd (differ.0 i later same))
-          (λ other. cond-false (bytes_eq j.name i.name) (Some j.ty) (import_type is i.name) other ∙ there_typed is i differ.1 later)
-    ]
-
+-- imports that are all among others of different names have their types there
 pub among : (is js : Imports) → NamesDiffer js → ((i : Imported) → Contains is i → Contains js i) → AreAmong is js
 among is js differ f x t h =
-    let (i, there, name, ty) = typed_there is x t h in
-    subst (λ (n : Name). import_type js n ≡ Some t) name
-    (there_typed js i differ (f i there) ∙ ap (λ y. Some y) ty)
+    let (i, there, named, typed) = has_type is x t h in type_has js differ x i (f i there) named ∙ ap Some typed
 
 -- the port of an import that is there
 pub import_port : (p : Plan) (i h v : ℕ) (way : Direction) (c : Contact) → contact_at p (ImportEnd i h) ≡ Some c → (label_at p (ImportEnd i h) way v).port ≡ Given → ⊥

@@ -1,4 +1,4 @@
--- What an element of a stage is in the whole: it leaves the own part as it is, its tokens are those of the stage's plan, and it
+-- What an element of a stage is in the whole: it leaves what is outside as it is, its tokens are those of the stage's plan, and it
 -- shows the same.
 use Rattle.std.specs.Prelude.{◌≡◌, ◌≢◌, ℕ, true, List, [], ◌∷◌, Option, Some, None, slice_get, length, nat_eq, nat_lt}
 use Rattle.std.proofs.Common.{arith, refl, sym, ap, ◌∙◌}
@@ -22,7 +22,7 @@ use Rattle.gos_webs.proofs.MovedLemmas.{listed}
 use Rattle.gos_webs.proofs.CutLemmas.{which_end, stands_cut, asks_there}
 use Rattle.gos_contexts.proofs.StoreLemmas.{eq_false}
 use Rattle.gos_windows.specs.Regions.{Serving, IsRegion, whole_element}
-use Rattle.gos_windows.specs.Nodes.{Stage, IsStage}
+use Rattle.gos_windows.specs.Nodes.{Stage}
 use Rattle.gos_windows.specs.Windows.{seen}
 
 -- an end at which a token lies stands in a joint
@@ -49,7 +49,7 @@ token_same f ss r c is e (j, listing, stands) s way =
     ∙ (cond-true (asks_in c.joints j.asking) (s.in_place way (lies_at f j.asking)) None (asks_there c.joints j is_in)
     ∙ ap (held_at s way) (sym there))
 
--- the own part stays as it is
+-- what is outside stays as it is
 pub part_there : (o : Option Part) (q : State) (t : Slot) (row : Row) → firing_of o q t ≡ Some row → (k : Part) × (o ≡ Some k)
 part_there None q t row h = absurd (cc h)
 part_there (Some k) q t row h = (k, refl)
@@ -65,16 +65,16 @@ comes_state : (p : Plan) (e : End) (v d : ℕ) (c : Option Contact) (s t : Token
 comes_state p e v d None s t h = absurd h
 comes_state p e v d (Some c) s t (fits, is) = ap (λ (u : Tokens). u.state d) is ∙ token_state p e (way_put c.role) (Some v) s d
 
-pub own_stays : (r : Plan) (d : ℕ) (g : Stage) → IsStage r d g → (y : Element) (s u t : Tokens)
-    → Does g.plan y (seen g s) u → Does r (whole_element g.cut y) s t → t.state d ≡ s.state d
-own_stays r d g is (Fire i slot) s u t (v, row, held, by, to) (w, line, lies, fires, is_t) =
+pub outside_stays : (r : Plan) (g : Stage) → IsRegion g.cut g.sides r g.plan → (n : ℕ) → g.cut.number n ≡ None → (y : Element) (s u t : Tokens)
+    → Does g.plan y (seen g s) u → Does r (whole_element g.cut y) s t → t.state n ≡ s.state n
+outside_stays r g region n out (Fire i slot) s u t (v, row, held, by, to) (w, line, lies, fires, is_t) =
     let there = part_there (slice_get g.plan.parts i) ((seen g s).state i) slot row by in
-    let other : d ≢ g.cut.part i = apart_number g.cut (g.cut.part i) i d (is.region.parts i there.0 there.1).1 is.outside in
-    ap (λ (x : Tokens). x.state d) is_t
-    ∙ (fired_state r (g.cut.part i) line w s d
-    ∙ cond-false (nat_eq d (g.cut.part i)) (line.next w) (s.state d) (eq_false d (g.cut.part i) other))
-own_stays r d g is (Out e v) s u t does (port, passes) = passes_state r (lies_at g.cut e) v d (contact_at r (lies_at g.cut e)) s t passes
-own_stays r d g is (In e v) s u t does (port, passes) = comes_state r (lies_at g.cut e) v d (contact_at r (lies_at g.cut e)) s t passes
+    let other : n ≢ g.cut.part i = apart_number g.cut (g.cut.part i) i n (region.parts i there.0 there.1).1 out in
+    ap (λ (x : Tokens). x.state n) is_t
+    ∙ (fired_state r (g.cut.part i) line w s n
+    ∙ cond-false (nat_eq n (g.cut.part i)) (line.next w) (s.state n) (eq_false n (g.cut.part i) other))
+outside_stays r g region n out (Out e v) s u t does (port, passes) = passes_state r (lies_at g.cut e) v n (contact_at r (lies_at g.cut e)) s t passes
+outside_stays r g region n out (In e v) s u t does (port, passes) = comes_state r (lies_at g.cut e) v n (contact_at r (lies_at g.cut e)) s t passes
 
 -- the import at whose end it passes
 import_shown : (r c : Plan) (i k h : ℕ) (way : Option Contact → Direction) (v : ℕ) → slice_get r.imports k ≡ slice_get c.imports i
@@ -84,31 +84,37 @@ import_shown r c i k h way v same =
     record { port = port_if o; event = event_number (way (slice_get (contacts_of_import o) h)) h; value = v }) same
 
 -- a firing of the region shows nothing, and goes on where the stage's does
-pub fires_goes_on : (r : Plan) (d : ℕ) (g : Stage) → IsStage r d g → (i : ℕ) (slot : Slot) (s u t : Tokens) (acts : List Act)
+pub fires_goes_on : (r : Plan) (g : Stage) → IsRegion g.cut g.sides r g.plan → (i : ℕ) (slot : Slot) (s u t : Tokens) (acts : List Act)
     → Does g.plan (Fire i slot) (seen g s) u → GoesOn g.plan (seen g s) (Fire i slot) acts → GoesOn r s (Fire (g.cut.part i) slot) acts
-fires_goes_on r d g is i (Req h) s u t acts does k = tt
-fires_goes_on r d g is i (Ans h) s u t acts (v, row, held, by, to) k = λ w line lies fires asks.
+fires_goes_on r g region i (Req h) s u t acts does k = tt
+fires_goes_on r g region i (Ans h) s u t acts (v, row, held, by, to) k = λ w line lies fires asks.
     let there = part_there (slice_get g.plan.parts i) ((seen g s).state i) (Ans h) row by in
     let stands : StandsIn g.plan (PartEnd i h) = token_stands g.plan (seen g s) (PartEnd i h) Answer v held in
     let same : token_at g.plan (seen g s) (PartEnd i h) Answer ≡ Some w =
-    token_same g.cut g.sides r g.plan is.region (PartEnd i h) stands s Answer ∙ lies in
+    token_same g.cut g.sides r g.plan region (PartEnd i h) stands s Answer ∙ lies in
     let less = slice_get_within g.plan.parts i there.0 there.1 in
     let within : nat_lt i (length g.plan.parts) ≡ true = grind (arith, less) in
     let state : (seen g s).state i ≡ s.state (g.cut.part i) = cond-true (nat_lt i (length g.plan.parts)) (s.state (g.cut.part i)) (at Rest 0) within in
-    let part : slice_get g.plan.parts i ≡ slice_get r.parts (g.cut.part i) = there.1 ∙ sym (is.region.parts i there.0 there.1).0 in
+    let part : slice_get g.plan.parts i ≡ slice_get r.parts (g.cut.part i) = there.1 ∙ sym (region.parts i there.0 there.1).0 in
     let fired : firing_of (slice_get g.plan.parts i) ((seen g s).state i) (Ans h) ≡ Some line =
     ap (λ (o : Option Part). firing_of o ((seen g s).state i) (Ans h)) part ∙ (ap (λ (q : State). firing_of (slice_get r.parts (g.cut.part i)) q (Ans h)) state ∙ fires) in
     k w line same fired asks
 
+-- imports of the stage that stand in joints are imports of the whole
+abbrev pub HasImports : Plan → Stage → Type 0
+HasImports r g =
+    (i h : ℕ) → StandsIn g.plan (ImportEnd i h)
+    → (k : ℕ) × (g.cut.outer (ImportEnd i h) ≡ ImportEnd k h) × (slice_get r.imports k ≡ slice_get g.plan.imports i)
+
 -- so does an output or an input at an import that stands in a joint
-pub out_shown : (r : Plan) (d : ℕ) (g : Stage) → IsStage r d g → (i h v : ℕ) → StandsIn g.plan (ImportEnd i h)
+pub out_shown : (r : Plan) (g : Stage) → HasImports r g → (i h v : ℕ) → StandsIn g.plan (ImportEnd i h)
     → shows r (Out (g.cut.outer (ImportEnd i h)) v) ≡ shows g.plan (Out (ImportEnd i h) v)
-out_shown r d g is i h v stands =
-    let port = is.ports i h stands in
+out_shown r g ports i h v stands =
+    let port = ports i h stands in
     ap (λ (e : End). shows r (Out e v)) port.1 ∙ ap (λ (l : Label). l ∷ []) (import_shown r g.plan i port.0 h way_out v port.2)
 
-pub in_shown : (r : Plan) (d : ℕ) (g : Stage) → IsStage r d g → (i h v : ℕ) → StandsIn g.plan (ImportEnd i h)
+pub in_shown : (r : Plan) (g : Stage) → HasImports r g → (i h v : ℕ) → StandsIn g.plan (ImportEnd i h)
     → shows r (In (g.cut.outer (ImportEnd i h)) v) ≡ shows g.plan (In (ImportEnd i h) v)
-in_shown r d g is i h v stands =
-    let port = is.ports i h stands in
+in_shown r g ports i h v stands =
+    let port = ports i h stands in
     ap (λ (e : End). shows r (In e v)) port.1 ∙ ap (λ (l : Label). l ∷ []) (import_shown r g.plan i port.0 h way_in v port.2)

@@ -9,11 +9,11 @@ use Rattle.gos_webs.specs.Cutting.{StandsIn}
 use Rattle.gos_turns.specs.Rests.{Rests}
 use Rattle.gos_windows.specs.Nodes.{Stage}
 use Rattle.gos_windows.proofs.PortLemmas.{stands_contact}
-use Rattle.gos_writes.specs.OneSession.{IsRegularAt, IsRestfulAt, IsLoyalAt}
+use Rattle.gos_windows.specs.OneSession.{IsRegularAt, IsRestfulAt, IsLoyalAt}
 use Rattle.gos_writes.specs.Writes.{asked_type, IsWriteStage, IsWrite, AreRestful}
 use Rattle.gos_writes.specs.Written.{unread}
 use Rattle.gos_writes.proofs.JoinedLemmas.{only_written}
-use Rattle.gos_writes.proofs.OrderLemmas.{write_is_regular}
+use Rattle.gos_writes.proofs.AssignLemmas.{write_is_regular}
 use Rattle.gos_writes.proofs.UnreadLemmas.{unread_loyal}
 use Rattle.gos_steady.specs.Assignments.{IsOpenAssignment, AssignmentIsSteady}
 use Rattle.gos_steady.proofs.RestLemmas.{rests_where_restful}

@@ -18,7 +18,7 @@ use Rattle.gos_sessions.specs.Sessions.{Form, Session, own_part, own_type, run_s
 use Rattle.gos_turns.specs.Rests.{Rests}
 use Rattle.gos_windows.specs.Nodes.{Stage}
 use Rattle.gos_windows.specs.OpenNodes.{IsOpenStage, IsOpenNode}
-use Rattle.gos_windows.proofs.OrderLemmas.{open_node_is_regular}
+use Rattle.gos_windows.proofs.FormLemmas.{open_node_is_regular}
 use Rattle.gos_compile.specs.Wiring.{Types, parts_of}
 use Rattle.gos_wired.specs.Wired.{Supplies, Placing, IsWired, wired_ties}
 use Rattle.gos_wired.specs.NodeFitting.{AreOfTypes}

@@ -11,10 +11,11 @@ use Rattle.gos_realises.proofs.InputLemmas.{passed, passed_then}
 use Rattle.gos_turns.specs.Rests.{Rests}
 use Rattle.gos_turns.proofs.RestLemmas.{all_shut}
 use Rattle.gos_windows.proofs.TurnLemmas.{Turned}
-use Rattle.gos_writes.specs.OneSession.{AllStay, IsOpenSession, IsRestfulAt}
+use Rattle.gos_windows.specs.OneSession.{AllStay, IsOpenSession, IsRestfulAt}
 use Rattle.gos_writes.specs.Written.{unread}
-use Rattle.gos_writes.proofs.OneSessionLemmas.{ended_is_one}
-use Rattle.gos_writes.proofs.AskedLemmas.{OnlyAt, asked_in, asked_out, answered_shut}
+use Rattle.gos_windows.proofs.OneSessionLemmas.{ended_is_one}
+use Rattle.gos_windows.proofs.AskedLemmas.{OnlyAt, asked_in, asked_out, answered_shut}
+use Rattle.gos_writes.proofs.AskedLemmas.{asked_by}
 use Rattle.gos_writes.proofs.UnreadLemmas.{unread_regular, unread_runs}
 use Rattle.gos_steady.specs.Sides.{NumberIsSteady, VariableIsSteady}
 use Rattle.gos_steady.proofs.RestLemmas.{last_turned, rests_after_answers}
@@ -73,8 +74,8 @@ module _ (w : ℕ) (p : Plan) (right : IsRight p) (outcome : p.outcome ≡ Var w
       shut : (k : ℕ) → is_open (passed p [] list) (ResultEnd k) ≡ false
       shut k =
           ap (λ (past : List Pass). is_open past (ResultEnd k)) (passed_then p [] xs (Out (ResultEnd 1) v))
-          ∙ (ap (λ (way : Direction). is_open (pass (ResultEnd 1) way ∷ passed p [] xs) (ResultEnd k)) (asked_out p 1 w low outcome)
-          ∙ answered_shut 1 (passed p [] xs) (open_alone p c 1 (asked_in p 1 w low outcome) xs begun) k)
+          ∙ (ap (λ (way : Direction). is_open (pass (ResultEnd 1) way ∷ passed p [] xs) (ResultEnd k)) (asked_out p 1 _ _ (asked_by p 1 w low outcome))
+          ∙ answered_shut 1 (passed p [] xs) (open_alone p c 1 (asked_in p 1 _ _ (asked_by p 1 w low outcome)) xs begun) k)
 
       none : some_open (count p.outcome) (λ h. is_open (passed p [] list) (ResultEnd h)) ≡ true → ⊥
       none some =

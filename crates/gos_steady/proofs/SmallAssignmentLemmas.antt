@@ -5,7 +5,7 @@ use Rattle.gos_plan.specs.Kinds.{Assign}
 use Rattle.gos_plan.specs.Plans.{Plan}
 use Rattle.gos_assigned.specs.SmallWrites.{write_plan, one_plan}
 use Rattle.gos_writes.specs.SmallWrites.{x_written, number_stage, variable_stage}
-use Rattle.gos_writes.proofs.AskedLemmas.{ground_heard}
+use Rattle.gos_windows.proofs.AskedLemmas.{ground_heard}
 use Rattle.gos_writes.proofs.SmallLemmas.{one_is_assigned}
 use Rattle.gos_steady.specs.SmallAssignments.{OneIsOpen, SevenAreNotOpen, ReadIsNotOpen}
 

@@ -1,9 +1,7 @@
--- What the plan of a wired node has of its supplies: its imports; and a name that no import has.
-use Rattle.std.specs.Prelude.{◌≢◌, ◌≤◌, All, length, slice_get, Contains, nat_eq}
-use Rattle.std.proofs.Common.{◌≡◌, ℕ, zero, suc, true, false, List, [], ◌∷◌, ◌++◌, Some, inl, inr, sym, ◌∙◌, ap, arith, length-append}
-use Rattle.std.proofs.lemmas.List.Elements.{Contains-append_cases}
-use Rattle.gos_model.specs.Terms.{Name}
-use Rattle.gos_model.specs.Typing.{Imported, Imports}
+-- What the plan of a wired node has of its supplies: its imports, and the literals of a region's parts.
+use Rattle.std.specs.Prelude.{All, slice_get, Contains}
+use Rattle.std.proofs.Common.{◌≡◌, ℕ, List, Some, sym, ◌∙◌, ap}
+use Rattle.gos_model.specs.Typing.{Imported}
 use Rattle.gos_check.specs.Nodes.{Numbered}
 use Rattle.gos_plan.specs.Plans.{Plan}
 use Rattle.gos_plan.specs.TokenBits.{LiteralFits}
@@ -41,40 +39,3 @@ names_differ types i j m ns env pl r w a b n ms pc c v among differ = at_differ 
 -- the literals of a region's parts fit, since they are parts of the whole
 pub literals_within : (f : Cut) (r c : Plan) → IsCut f r c → All LiteralFits r.parts → All LiteralFits c.parts
 literals_within f r c cut fit = literals_among f.part c.parts r.parts (λ k x at. (cut.parts k x at).0) fit
-
--- a name that no import has: it is longer than all of theirs together
-abbrev names_joined : Imports → Name
-names_joined [] = []
-names_joined (i ∷ is) = i.name ++ names_joined is
-
-abbrev pub fresh_name : Imports → Name
-fresh_name is = 0 ∷ names_joined is
-
-no_longer : (is : Imports) (i : Imported) → Contains is i → length i.name ≤ length (names_joined is)
-no_longer [] i (k, small, e) = absurd (omega (arith, small))
-no_longer (j ∷ is) i (zero, small, e) =
-    let same : length j.name ≡ length i.name = ap (λ (x : Imported). length x.name) e in
-    let sum = length-append j.name (names_joined is) in
-    omega (arith, same, sum)
-no_longer (j ∷ is) i (suc k, small, e) =
-    let rest = no_longer is i (k, omega (arith, small), e) in
-    let sum = length-append j.name (names_joined is) in
-    omega (arith, rest, sum)
-
-pub is_fresh : (is : Imports) (i : Imported) → Contains is i → i.name ≢ fresh_name is
-is_fresh is i has e =
-    let short = no_longer is i has in
-    let same : length i.name ≡ length (fresh_name is) = ap (λ (x : Name). length x) e in
-    omega (arith, short, same)
-
--- a number of a list with one more at its end
-in_list : (ns : List ℕ) (k n : ℕ) → nat_eq k n ≡ false → Contains (n ∷ ns) k → Contains ns k
-in_list ns k n apart (zero, small, e) = let no : nat_eq k n ≡ true = grind (arith, e) in absurd (cc (sym no ∙ apart))
-in_list ns k n apart (suc j, small, e) = (j, omega (arith, small), e)
-
-pub before : (ns : List ℕ) (n k : ℕ) → nat_eq k n ≡ false → Contains (ns ++ n ∷ []) k → Contains ns k
-before ns n k apart has =
-    elim (Contains-append_cases ns (n ∷ []) k has) [
-      | inl h ↦ h
-      | inr h ↦ (let (j, small, e) = in_list [] k n apart h in absurd (omega (arith, small)))
-    ]

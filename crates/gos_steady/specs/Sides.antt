@@ -6,7 +6,7 @@ use Rattle.gos_types.specs.Types.{Exp, Var}
 use Rattle.gos_plan.specs.Plans.{Plan, IsRight}
 use Rattle.gos_realises.specs.Regular.{IsRegular}
 use Rattle.gos_turns.specs.Rests.{Rests}
-use Rattle.gos_writes.specs.OneSession.{IsRegularAt, IsRestfulAt}
+use Rattle.gos_windows.specs.OneSession.{IsRegularAt, IsRestfulAt}
 use Rattle.gos_writes.specs.Written.{unread}
 
 -- The plan of an expression, where it is asked.

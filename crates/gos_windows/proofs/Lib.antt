@@ -3,10 +3,17 @@ pub mod ShareLemmas
 pub mod OwnLemmas
 pub mod PortLemmas
 pub mod OpenLemmas
-pub mod StageLemmas
+pub mod OneSessionLemmas
 pub mod TypeTurnLemmas
 pub mod MeetLemmas
 pub mod TurnLemmas
+pub mod AskedLemmas
+pub mod RunnerLemmas
+pub mod RegionLemmas
+pub mod OpensLemmas
+pub mod StageLemmas
+pub mod LiftLemmas
+pub mod FollowLemmas
 pub mod QuietLemmas
 pub mod WholeLemmas
 pub mod NodeLemmas
@@ -19,6 +26,7 @@ pub mod WaitLemmas
 pub mod ClosingLemmas
 pub mod MatchLemmas
 pub mod OrderLemmas
+pub mod FormLemmas
 pub mod SmallNodeLemmas
 pub mod SmallRegionLemmas
 pub mod SmallLoyalLemmas

@@ -2,12 +2,13 @@
 use Rattle.std.specs.Prelude.{◌≡◌, ℕ, zero, suc, false, Some, All, slice_get, Contains, List, [], ◌∷◌, ◌++◌, ◌⊎◌}
 use Rattle.std.proofs.Common.{refl, sym, ◌∙◌, ap, subst, arith, inl, inr}
 use Rattle.std.proofs.lemmas.Option.{none-some, same_Some}
+use Rattle.gos_types.specs.Types.{Com}
 use Rattle.gos_netlist.specs.Events.{Request}
 use Rattle.gos_model.specs.Typing.{Imported}
 use Rattle.gos_plan.specs.Kinds.{Part, Skip}
 use Rattle.gos_plan.specs.Firing.{Phase, Rest, First, Second, Req, Ans, row, at, put}
-use Rattle.gos_plan.specs.Plans.{End, PartEnd, ImportEnd, ResultEnd, Joint, Plan, contact_at, stands_in}
-use Rattle.gos_plan.specs.Tokens.{Tokens, Element, Fire, Out, In, IsPortEnd, with_token, fired, Runs, IsIdle}
+use Rattle.gos_plan.specs.Plans.{End, PartEnd, ImportEnd, ResultEnd, Joint, Plan, stands_in}
+use Rattle.gos_plan.specs.Tokens.{Tokens, Element, Fire, Out, In, with_token, fired, Runs, IsIdle}
 use Rattle.gos_plan.specs.TokenBits.{LiteralFits}
 use Rattle.gos_plan.specs.SmallPlans.{skip_plan, at_first}
 use Rattle.gos_realises.specs.Regular.{IsRegular}
@@ -17,8 +18,9 @@ use Rattle.gos_realises.proofs.SkipLemmas as skips
 use Rattle.gos_realises.proofs.SkipLemmas.{skip_is_realised}
 use Rattle.gos_webs.specs.Webs.{joint}
 use Rattle.gos_webs.specs.SmallWebs.{twice_plan, first_out}
-use Rattle.gos_webs.specs.Cutting.{Cut, IsCut, IsInside, StandsIn, lies_at}
-use Rattle.gos_webs.proofs.SmallWebLemmas.{twice_is_right, skip_is_right, skip_joint, one_port, first_is_cut}
+use Rattle.gos_webs.specs.Cutting.{Cut, IsCut, StandsIn}
+use Rattle.gos_webs.proofs.LoneCutLemmas.{AreOutside, lone_is_cut}
+use Rattle.gos_webs.proofs.SmallWebLemmas.{twice_is_right, skip_is_right, one_port, first_is_cut}
 use Rattle.gos_sessions.specs.Sessions.{Session, session_of}
 use Rattle.gos_windows.specs.Regions.{Serving, IsRegion}
 use Rattle.gos_windows.specs.Nodes.{Stage, IsRestful, IsStage, IsOfStage}
@@ -46,62 +48,42 @@ cut_region f r c is =
     }
 
 -- the second Skip
-its_part : (i : ℕ) (k : Part) → slice_get skip_plan.parts i ≡ Some k → (slice_get twice_plan.parts 2 ≡ Some k) × (Some 0 ≡ Some i)
-its_part zero k is = (is, refl)
-its_part (suc i) k is = absurd (none-some k is)
-
-its_number : (i j : ℕ) → number_of_second i ≡ Some j → (2 ≡ i) × ((k : Part) × (slice_get skip_plan.parts j ≡ Some k))
+its_number : (i j : ℕ) → number_of_second i ≡ Some j → (2 ≡ i) × (0 ≡ j)
 its_number zero j is = absurd (none-some j is)
 its_number (suc zero) j is = absurd (none-some j is)
-its_number (suc (suc zero)) j is = (refl, (Skip, ap (λ n. slice_get skip_plan.parts n) (sym (same_Some 0 j is))))
+its_number (suc (suc zero)) j is = (refl, same_Some 0 j is)
 its_number (suc (suc (suc i))) j is = absurd (none-some j is)
 
-its_inner : (b e : End) → port_of_second b ≡ Some e → IsPortEnd e × StandsIn skip_plan e × (PartEnd 0 1 ≡ b)
-its_inner (PartEnd zero zero) e is = absurd (none-some e is)
-its_inner (PartEnd zero (suc zero)) e is =
-    subst (λ x. IsPortEnd x × StandsIn skip_plan x × (PartEnd 0 1 ≡ PartEnd 0 1)) (same_Some (ResultEnd 0) e is)
-    (tt, (skip_joint, (0, omega arith, refl), refl), refl)
-its_inner (PartEnd zero (suc (suc h))) e is = absurd (none-some e is)
-its_inner (PartEnd (suc i) h) e is = absurd (none-some e is)
-its_inner (ImportEnd i h) e is = absurd (none-some e is)
-its_inner (ResultEnd h) e is = absurd (none-some e is)
+its_port : (b e : End) → port_of_second b ≡ Some e → (PartEnd 0 1 ≡ b) × (ResultEnd 0 ≡ e)
+its_port (PartEnd zero zero) e is = absurd (none-some e is)
+its_port (PartEnd zero (suc zero)) e is = (refl, same_Some (ResultEnd 0) e is)
+its_port (PartEnd zero (suc (suc h))) e is = absurd (none-some e is)
+its_port (PartEnd (suc i) h) e is = absurd (none-some e is)
+its_port (ImportEnd i h) e is = absurd (none-some e is)
+its_port (ResultEnd h) e is = absurd (none-some e is)
 
-its_joint : (a b : End) → Contains skip_plan.joints (joint a b) → Contains twice_plan.joints (joint (lies_at second_out a) (lies_at second_out b))
-its_joint a b (zero, l, e) = (2, omega arith, ap (λ (j : Joint). joint (lies_at second_out j.asking) (lies_at second_out j.serving)) e)
-its_joint a b (suc n, l, e) = absurd (omega (arith, l))
-
-abbrev Inside : Joint → Type 0
-Inside j = IsInside second_out j.asking ⊎ IsInside second_out j.serving
-
-outside_run : Inside (joint (ResultEnd 0) (PartEnd 0 2)) → ⊥
-outside_run (inl h) = h
-outside_run (inr (j, h)) = none-some j h
-
-outside_first : Inside (joint (PartEnd 0 0) (PartEnd 1 0)) → ⊥
-outside_first (inl (j, h)) = none-some j h
-outside_first (inr (j, h)) = none-some j h
-
-all_its_joints : (a b : End) → Contains twice_plan.joints (joint a b) → IsInside second_out a ⊎ IsInside second_out b
-    → (d e : End) × Contains skip_plan.joints (joint d e) × (lies_at second_out d ≡ a) × (lies_at second_out e ≡ b)
-all_its_joints a b (zero, l, e) inside = absurd (outside_run (subst (λ (j : Joint). Inside j) (sym e) inside))
-all_its_joints a b (suc zero, l, e) inside = absurd (outside_first (subst (λ (j : Joint). Inside j) (sym e) inside))
-all_its_joints a b (suc (suc zero), l, e) inside =
-    (ResultEnd 0, PartEnd 0 0, (0, omega arith, refl), ap (λ (j : Joint). j.asking) e, ap (λ (j : Joint). j.serving) e)
-all_its_joints a b (suc (suc (suc n)), l, e) inside = absurd (omega (arith, l))
+its_joint : (j : Joint) → Contains twice_plan.joints j → (joint (PartEnd 0 1) (PartEnd 2 0) ≡ j) ⊎ AreOutside second_out j
+its_joint j (zero, l, e) = inr (subst (AreOutside second_out) e (tt, refl))
+its_joint j (suc zero, l, e) = inr (subst (AreOutside second_out) e (refl, refl))
+its_joint j (suc (suc zero), l, e) = inl e
+its_joint j (suc (suc (suc n)), l, e) = absurd (omega (arith, l))
 
 second_is_cut : IsCut second_out twice_plan skip_plan
 second_is_cut =
-    record {
+    lone_is_cut 5 Com Skip 2 (PartEnd 0 1) number_of_second port_of_second twice_plan
+    (record {
       whole_right = twice_is_right;
       right = skip_is_right;
-      parts = its_part;
-      numbers = its_number;
-      ports = λ e port stands. (refl, ap Some (one_port e port stands));
-      inners = its_inner;
-      contacts = λ e port stands. ap (contact_at skip_plan) (one_port e port stands);
+      part = refl;
+      own_number = refl;
+      one_number = its_number;
+      outside = refl;
+      own_port = refl;
+      one_port = its_port;
+      contact = refl;
+      asked = (2, omega arith, refl);
       joints = its_joint;
-      all = all_its_joints;
-    }
+    })
 
 -- `skip` rests after its answer
 last_of : (xs : List Element) (x : Element) (q : skips.Stage) (s t : Tokens) → skips.At q s → Runs skip_plan (xs ++ x ∷ []) s t → Script skips.Stage skips.next skips.succ (xs ++ x ∷ []) q

@@ -1,5 +1,5 @@
--- Turns at the ports of a plan with a command or an expression for its result; and at those of a stage.
-use Rattle.std.specs.Prelude.{◌+◌, ◌-◌, ◌<◌, slice_get, nat_lt, Contains}
+-- Turns at the ports of a plan, with a command or an expression for its result.
+use Rattle.std.specs.Prelude.{◌+◌, ◌-◌, ◌<◌, slice_get, nat_lt}
 use Rattle.std.proofs.Common.{◌≡◌, ℕ, zero, suc, Bool, true, false, List, [], ◌∷◌, ◌⊎◌, Option, Some, inl, inr, refl, sym, ◌∙◌, ap, subst, arith, if◌then◌else◌}
 use Rattle.std.proofs.lemmas.Option.{none-some, same_Some, slice_get_within}
 use Rattle.std.proofs.lemmas.Bool.Decides.{nat_tests}
@@ -12,20 +12,13 @@ use Rattle.gos_plan.specs.Kinds.{Contact, contacts_of}
 use Rattle.gos_plan.specs.Plans.{End, ImportEnd, ResultEnd, Plan, contact_at, contacts_of_import, turned_if, same_end}
 use Rattle.gos_plan.specs.Tokens.{Element, Fire, Out, In, way_taken, way_put}
 use Rattle.gos_plan.proofs.JointLemmas.{same_is, same_itself}
-use Rattle.gos_realises.specs.Regular.{count, some_open, Pass, pass, way_in, way_out, is_request, is_open, KeepsTurnsOf, whole_type, whole_end, ComesInTurn, KeepsTurns, InputsKeepTurns}
+use Rattle.gos_realises.specs.Regular.{count, some_open, Pass, pass, way_in, way_out, is_open, KeepsTurnsOf, whole_type, whole_end, ComesInTurn, KeepsTurns, InputsKeepTurns}
 use Rattle.gos_realises.proofs.GroundTurnLemmas.{width, width_small, some_there, there_some, done_kept, result_open, result_end}
 use Rattle.gos_realises.proofs.RingLemmas.{after}
 use Rattle.gos_realises.proofs.ToldLemmas.{there_is}
 use Rattle.gos_renumbered.proofs.TurnLemmas.{of_import, of_result, ImportKeeps, keeps_each, each_keeps}
-use Rattle.gos_webs.specs.Cutting.{Cut, lies_at, StandsIn}
-use Rattle.gos_webs.proofs.CutLemmas.{place_there}
-use Rattle.gos_sessions.specs.Sessions.{Form}
-use Rattle.gos_windows.specs.Nodes.{Stage, IsStage}
-use Rattle.gos_windows.specs.OpenNodes.{IsOpenNode}
-use Rattle.gos_windows.proofs.InlayLemmas.{inlay, inlay_place}
-use Rattle.gos_windows.proofs.MeetLemmas.{Meets, met_joined, HasPorts, AreFollowed, met_at, met_import, heard_meets, followed_pass, alike}
-use Rattle.gos_windows.proofs.PortLemmas.{stands_place, place_stands}
-use Rattle.gos_windows.proofs.StageLemmas.{stage, cut}
+use Rattle.gos_webs.specs.Cutting.{Cut}
+use Rattle.gos_windows.proofs.MeetLemmas.{Meets, HasPorts, AreFollowed, met_at, alike}
 use Rattle.gos_windows.proofs.TypeTurnLemmas.{OpenServed, closed_kept, open_served}
 
 -- the ways at a result and at an import
@@ -67,12 +60,13 @@ import_kept p past turned i x there =
     let same : 0 + i ≡ i = omega arith in
     subst (λ (m : ℕ). KeepsTurnsOf x.ty (λ h. is_open past (ImportEnd m h))) same (each.0 i x there).0
 
-pub imports_turned : (p : Plan) → IsDone p.outcome → (past : List Pass)
-    → ((i h : ℕ) (x : Imported) → slice_get p.imports i ≡ Some x → is_open past (ImportEnd i h) ≡ true → KeepsTurnsOf x.ty (λ n. is_open past (ImportEnd i n)))
-    → ((i h : ℕ) → is_open past (ImportEnd i h) ≡ true → is_open past (ResultEnd 0) ≡ true) → Turned p past
-imports_turned p done past kept led =
+-- Turns are kept where those of the result are, and those of each import that has an open handshake, if then the result has one.
+pub ports_turned : (p : Plan) (past : List Pass) → KeepsTurnsOf p.outcome (of_result (is_open past))
+    → ((i g : ℕ) (x : Imported) → slice_get p.imports i ≡ Some x → is_open past (ImportEnd i g) ≡ true → KeepsTurnsOf x.ty (λ n. is_open past (ImportEnd i n)))
+    → ((i g : ℕ) → is_open past (ImportEnd i g) ≡ true → some_open (count p.outcome) (of_result (is_open past)) ≡ true) → Turned p past
+ports_turned p past result kept led =
     each_keeps 0 p.imports p.outcome (λ h. is_open past (whole_end 0 p.imports h)) (is_open past) (λ h. refl)
-    (λ i x there. subst (λ (m : ℕ). ImportKeeps (is_open past) m x p.outcome) (zero_plus i) (one i x there), done_kept p.outcome done (of_result (is_open past)))
+    (λ i x there. subst (λ (m : ℕ). ImportKeeps (is_open past) m x p.outcome) (zero_plus i) (one i x there), result)
   where
     zero_plus : (i : ℕ) → i ≡ 0 + i
     zero_plus i = omega arith
@@ -87,14 +81,19 @@ imports_turned p done past kept led =
     one : (i : ℕ) (x : Imported) → slice_get p.imports i ≡ Some x → ImportKeeps (is_open past) i x p.outcome
     one i x there = (
       by_test (some_open (count x.ty) (of_import (is_open past) i)) refl,
-      λ some.
-          (let (h, low, up) = some_there (count x.ty) (of_import (is_open past) i) some in
-          there_some (count p.outcome) (of_result (is_open past)) 0 (width_small [] p.outcome done) (led i h up)),
+      λ some. let (h, low, up) = some_there (count x.ty) (of_import (is_open past) i) some in led i h up,
     )
       where
         by_test : (b : Bool) → some_open (count x.ty) (of_import (is_open past) i) ≡ b → KeepsTurnsOf x.ty (of_import (is_open past) i)
         by_test false none = closed_kept x.ty (of_import (is_open past) i) (closed i x none)
         by_test true some = let (h, low, up) = some_there (count x.ty) (of_import (is_open past) i) some in kept i h x there up
+
+pub imports_turned : (p : Plan) → IsDone p.outcome → (past : List Pass)
+    → ((i h : ℕ) (x : Imported) → slice_get p.imports i ≡ Some x → is_open past (ImportEnd i h) ≡ true → KeepsTurnsOf x.ty (λ n. is_open past (ImportEnd i n)))
+    → ((i h : ℕ) → is_open past (ImportEnd i h) ≡ true → is_open past (ResultEnd 0) ≡ true) → Turned p past
+imports_turned p done past kept led =
+    ports_turned p past (done_kept p.outcome done (of_result (is_open past))) kept
+    (λ i h up. there_some (count p.outcome) (of_result (is_open past)) 0 (width_small [] p.outcome done) (led i h up))
 
 -- the result alone is open; nothing is
 abbrev pub ImportsClosed : List Pass → Type 0
@@ -113,9 +112,6 @@ closed_turned p done past closed =
   where
     never : (i h : ℕ) → is_open past (ImportEnd i h) ≡ true → ⊥
     never i h up = let clash : true ≡ false = sym up ∙ closed i h in cc clash
-
-pub first_turned : (p : Plan) → IsDone p.outcome → Turned p (pass (ResultEnd 0) Request ∷ [])
-first_turned p done = closed_turned p done (pass (ResultEnd 0) Request ∷ []) (λ k h. refl)
 
 -- Where the surroundings ask at an import, another of its handshakes is open, and so is the result.
 pub asked_beside : (p : Plan) (past : List Pass) (i h : ℕ) (c : Contact) → Turned p (pass (ImportEnd i h) Request ∷ past) → contact_at p (ImportEnd i h) ≡ Some c → c.role ≡ Ask
@@ -168,7 +164,7 @@ comes_so past own a b Request same turn = same ∙ turn
 comes_so past own a b Answer same turn = same ∙ turn
 
 -- the number of an import's handshake among all
-whole_index : (is : List Imported) (n i h : ℕ) (c : Contact) → slice_get (contacts_of_import (slice_get is i)) h ≡ Some c
+pub whole_index : (is : List Imported) (n i h : ℕ) (c : Contact) → slice_get (contacts_of_import (slice_get is i)) h ≡ Some c
     → (k : ℕ) × (k < width is) × (whole_end n is k ≡ ImportEnd (n + i) h)
 whole_index [] n i h c there = absurd (none-some c there)
 whole_index (x ∷ xs) n zero h c there =
@@ -230,127 +226,3 @@ region_turned r f c has done own past followed only result turned = imports_turn
         let meets = followed.met i h up in
         let (k, at, same) = met_at r f c has i h meets in
         subst (KeepsTurnsOf x.ty) (λ l n. sym (alike r f c has own past followed i h k meets at (only i h k meets at) n) l) (import_kept r past turned k x (same ∙ is))
-
--- What passed a stage's ports, and the whole's: the result of both is open, and the open handshakes of imports are the same.
-pub record Follows (r : Plan) (g : Stage) (own past : List Pass) : Type 0 where
-  pub result : is_open past (ResultEnd 0) ≡ true
-  pub of_stage : is_open own (ResultEnd 0) ≡ true
-  pub imports : AreFollowed r g.cut g.plan own past
-  pub only :
-      (k h : ℕ) → is_open past (ImportEnd k h) ≡ true
-      → (i : ℕ) × Meets r g.cut g.plan i h × (g.cut.outer (ImportEnd i h) ≡ ImportEnd k h)
-
-module _
-    (r : Plan) (d : ℕ) (f : Form) (gs : List Stage) (node : IsOpenNode r d f gs) (g : Stage) (has : Contains gs g) where
-  there : IsStage r d g
-  there = stage r d f gs node g has
-
-  pub has_ports : HasPorts r g.cut g.plan
-  has_ports =
-      record {
-        right = there.region.right;
-        whole_right = node.right;
-        names = there.names;
-        whole_names = node.names;
-        ports = λ i h k stands at.
-            let (q, at_q, same) = there.ports i h stands in
-            let both : ImportEnd q h ≡ ImportEnd k h = sym at_q ∙ at in
-            let one : q ≡ k = cc both in
-            ap (slice_get r.imports) (sym one) ∙ same;
-        joined = λ i h stands.
-            let (a, named) = stands_place g.plan there.region.right (ImportEnd i h) stands in
-            let laid = place_there g.cut (inlay g.cut r g.plan) g.plan (cut r d f gs node g has) (ImportEnd i h) a named in
-            place_stands r (g.cut.outer (ImportEnd i h)) (lies_at g.cut a)
-            (inlay_place g.cut g.sides r g.plan there.region (g.cut.outer (ImportEnd i h)) (lies_at g.cut a) laid);
-        heard = (node.stages g has).heard;
-      }
-
-  -- what stands in a joint leads to an import of the whole
-  pub standing : (i h : ℕ) → StandsIn g.plan (ImportEnd i h) → Meets r g.cut g.plan i h
-  standing i h stands = let (k, at, same) = there.ports i h stands in met_joined r g.cut g.plan i h k stands at
-
-  pub follows_first : (past : List Pass) → OnlyResult past → Follows r g (pass (ResultEnd 0) Request ∷ []) past
-  follows_first past (result, closed) =
-      record {
-        result = result;
-        of_stage = refl;
-        imports = record { same = λ i h k meets at. sym (closed k h); met = λ i h up. absurd (cc up) };
-        only = λ k h up. let clash : false ≡ true = sym (closed k h) ∙ up in absurd (cc clash);
-      }
-
-  follows_at : (own past : List Pass) → Follows r g own past → (i h k : ℕ) → Meets r g.cut g.plan i h → g.cut.outer (ImportEnd i h) ≡ ImportEnd k h → (way : Direction)
-      → Follows r g (pass (ImportEnd i h) way ∷ own) (pass (ImportEnd k h) way ∷ past)
-  follows_at own past follows i h k meets at way =
-      record {
-        result = follows.result;
-        of_stage = follows.of_stage;
-        imports = followed_pass r g.cut g.plan has_ports own past follows.imports i h k meets at way;
-        only = λ m n up. only m n (same_end (ImportEnd k h) (ImportEnd m n)) refl up;
-      }
-    where
-      only : (m n : ℕ) (b : Bool) → same_end (ImportEnd k h) (ImportEnd m n) ≡ b → (if b then is_request way else is_open past (ImportEnd m n)) ≡ true
-          → (j : ℕ) × Meets r g.cut g.plan j n × (g.cut.outer (ImportEnd j n) ≡ ImportEnd m n)
-      only m n true t up =
-          let is : ImportEnd k h ≡ ImportEnd m n = same_is (ImportEnd k h) (ImportEnd m n) t in
-          let shake : h ≡ n = cc is in
-          let both = subst (λ (x : ℕ). Meets r g.cut g.plan i x × (g.cut.outer (ImportEnd i x) ≡ ImportEnd m n)) shake (meets, at ∙ is) in
-          (i, both.0, both.1)
-      only m n false t up = follows.only m n up
-
-  pub follows_step : (own past : List Pass) → Follows r g own past → (i h : ℕ) (b : End) → Meets r g.cut g.plan i h → g.cut.outer (ImportEnd i h) ≡ b → (way : Direction)
-      → Follows r g (pass (ImportEnd i h) way ∷ own) (pass b way ∷ past)
-  follows_step own past follows i h b meets at way =
-      let (k, at_k, is) = met_at r g.cut g.plan has_ports i h meets in
-      subst (λ (x : End). Follows r g (pass (ImportEnd i h) way ∷ own) (pass x way ∷ past)) (sym at_k ∙ at) (follows_at own past follows i h k meets at_k way)
-
-  -- an end at which the surroundings ask, of an import that is open in the stage
-  pub asked_meets : (own past : List Pass) → Follows r g own past → (k h n : ℕ) (c : Contact) → is_open past (ImportEnd k n) ≡ true
-      → contact_at r (ImportEnd k h) ≡ Some c → c.role ≡ Ask → (i : ℕ) × Meets r g.cut g.plan i h × (g.cut.outer (ImportEnd i h) ≡ ImportEnd k h)
-  asked_meets own past follows k h n c up at_k asks =
-      let (i, meets, at) = follows.only k n up in
-      let (here, there) = heard_meets r g.cut g.plan has_ports i n k h c meets at at_k asks in (i, here, there)
-
-  -- So the turns of both are the same.
-  module _ (own past : List Pass) (follows : Follows r g own past) where
-    alike_there : (i h k : ℕ) → Meets r g.cut g.plan i h → g.cut.outer (ImportEnd i h) ≡ ImportEnd k h → (n : ℕ)
-        → is_open own (ImportEnd i n) ≡ is_open past (ImportEnd k n)
-    alike_there i h k meets at = alike r g.cut g.plan has_ports own past follows.imports i h k meets at (λ n up. follows.only k n up)
-
-    pub stage_turned : Turned r past → Turned g.plan own
-    stage_turned =
-        region_turned r g.cut g.plan has_ports there.outcome own past follows.imports (λ i h k meets at n up. follows.only k n up) follows.of_stage
-
-    pub whole_turned : Turned g.plan own → Turned r past
-    whole_turned turned = imports_turned r (subst IsDone (sym node.outcome) node.done) past kept (λ i h up. follows.result)
-      where
-        kept : (k h : ℕ) (x : Imported) → slice_get r.imports k ≡ Some x → is_open past (ImportEnd k h) ≡ true → KeepsTurnsOf x.ty (λ n. is_open past (ImportEnd k n))
-        kept k h x is up =
-            let (i, meets, at) = follows.only k h up in
-            subst (KeepsTurnsOf x.ty) (λ l n. alike_there i h k meets at n l)
-            (import_kept g.plan own turned i x (sym (met_import r g.cut g.plan has_ports i h k meets at) ∙ is))
-
-    -- an input or an output comes in turn in both
-    same_there : (i h : ℕ) (b : End) → Meets r g.cut g.plan i h → g.cut.outer (ImportEnd i h) ≡ b → is_open own (ImportEnd i h) ≡ is_open past b
-    same_there i h b meets at =
-        let (k, at_k, is) = met_at r g.cut g.plan has_ports i h meets in
-        follows.imports.same i h k meets at_k ∙ ap (is_open past) (sym at_k ∙ at)
-
-    pub comes_as : (i h : ℕ) (b : End) → Meets r g.cut g.plan i h → g.cut.outer (ImportEnd i h) ≡ b → (way : Direction) → ComesInTurn past b way
-        → ComesInTurn own (ImportEnd i h) way
-    comes_as i h b meets at Request turn = same_there i h b meets at ∙ turn
-    comes_as i h b meets at Answer turn = same_there i h b meets at ∙ turn
-
-    pub goes_as : (i h : ℕ) (b : End) → Meets r g.cut g.plan i h → g.cut.outer (ImportEnd i h) ≡ b → (way : Direction) → ComesInTurn own (ImportEnd i h) way
-        → ComesInTurn past b way
-    goes_as i h b meets at Request turn = sym (same_there i h b meets at) ∙ turn
-    goes_as i h b meets at Answer turn = sym (same_there i h b meets at) ∙ turn
-
-    pub imports_shut : ((k h : ℕ) → is_open past (ImportEnd k h) ≡ false) → (i h : ℕ) → is_open own (ImportEnd i h) ≡ false
-    imports_shut closed i h = by_test (is_open own (ImportEnd i h)) refl
-      where
-        by_test : (b : Bool) → is_open own (ImportEnd i h) ≡ b → b ≡ false
-        by_test false shut = refl
-        by_test true up =
-            let meets = follows.imports.met i h up in
-            let (k, at, same) = met_at r g.cut g.plan has_ports i h meets in
-            sym up ∙ (follows.imports.same i h k meets at ∙ closed k h)

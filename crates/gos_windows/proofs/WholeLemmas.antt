@@ -6,10 +6,8 @@ use Rattle.gos_types.specs.declared.shakes.Role.{Role}
 use Rattle.gos_types.specs.declared.shakes.Role.TheVariants.{Serve, Ask}
 use Rattle.gos_types.specs.Types.{Type', Com, Exp, Var, Pair, Fun, IsDone}
 use Rattle.gos_netlist.specs.Events.{Direction, Request, Answer}
-use Rattle.gos_model.specs.Terms.{Term}
-use Rattle.gos_model.specs.Moves.{Program}
 use Rattle.gos_plan.specs.Kinds.{Contact, contacts_of}
-use Rattle.gos_plan.specs.Firing.{Rest, State, Req, Ans, Token, Row, put}
+use Rattle.gos_plan.specs.Firing.{Rest, State, Req, Ans, Token, Row, at, put}
 use Rattle.gos_plan.specs.Plans.{End, PartEnd, ImportEnd, ResultEnd, Joint, Plan, contact_at, stands_in, same_end, turned_if}
 use Rattle.gos_plan.specs.Tokens.{Tokens, Element, In, places_of, same_way, held_at, with_held, with_token, with_state, token_at, with_puts, end_of, way_of, way_put, bits_of, Passes, Does, IsIdle}
 use Rattle.gos_plan.proofs.JointLemmas.{IsIn, Found, found, one_joint, stands_there, contained, same_is, same_itself}
@@ -21,14 +19,15 @@ use Rattle.gos_webs.specs.Webs.{joint}
 use Rattle.gos_webs.specs.Cutting.{lies_at, StandsIn}
 use Rattle.gos_webs.proofs.MovedLemmas.{listed}
 use Rattle.gos_webs.proofs.CutLemmas.{which_end, stands_by, first_stands, last_stands, stands_own, lies_there, same_ways}
-use Rattle.gos_sessions.specs.Sessions.{Form, Session, own_part, own_term, run_shake, session_of, LeadsOn}
-use Rattle.gos_windows.specs.Nodes.{Stage, IsStage}
-use Rattle.gos_windows.specs.OpenNodes.{IsOpenNode}
-use Rattle.gos_windows.specs.Windows.{seen, StirsOnly, HoldsOnly}
+use Rattle.gos_windows.specs.Nodes.{Stage}
+use Rattle.gos_windows.specs.OneSession.{IsTidy}
+use Rattle.gos_windows.specs.Windows.{Runner, seen, StirsOnly, HoldsOnly}
 use Rattle.gos_windows.proofs.PortLemmas.{port_end}
-use Rattle.gos_windows.proofs.OwnLemmas.{asked_apart}
 use Rattle.gos_windows.proofs.StageLemmas.{Emptied, stage, InStage, Ran, end_is, idle_seen, asked}
-use Rattle.gos_windows.proofs.TurnLemmas.{Turned, asked_within, first_turned, result_in, way_in_of, Follows, follows_first, OnlyResult}
+use Rattle.gos_windows.proofs.TurnLemmas.{Turned, asked_within, way_in_of, OnlyResult}
+use Rattle.gos_windows.proofs.FollowLemmas.{Follows, follows_first}
+use Rattle.gos_windows.proofs.AskedLemmas.{asked_first, asked_in}
+use Rattle.gos_windows.proofs.RunnerLemmas.{IsAskedStage, LeadsOn, RunsStages}
 
 way_is : (a b : Direction) → same_way a b ≡ true → a ≡ b
 way_is Request Request t = refl
@@ -131,16 +130,12 @@ idle_token r s idle e way v held = by_place (places_of r e) refl
     by_place (Some x) named =
         let clash : None ≡ Some v = sym (idle.0 way x) ∙ (sym (ap (held_at s way) named) ∙ held) in cc clash
 
--- what the own part's firing leads to by its table
-abbrev pub LeadsTo : Plan → Form → Row → ℕ → Type 0
-LeadsTo r f row v = LeadsOn (record { imports = r.imports; body = own_term f }) f (own_term f) (row.next v) (row.puts v) false
-
-module _ (r : Plan) (d : ℕ) (f : Form) (gs : List Stage) (node : IsOpenNode r d f gs) where
+module _ (r : Plan) (d : ℕ) (runner : Runner) (gs : List Stage) (node : RunsStages r d runner gs) where
   abbrev pub own_end : End
-  own_end = PartEnd d (run_shake (own_part f))
+  own_end = PartEnd d runner.run
 
   pub done : IsDone r.outcome
-  done = subst IsDone (sym node.outcome) node.done
+  done = node.done
 
   -- the joint of the result
 
@@ -148,16 +143,16 @@ module _ (r : Plan) (d : ℕ) (f : Form) (gs : List Stage) (node : IsOpenNode r 
   own_is_in = contained r.joints (joint (ResultEnd 0) own_end) node.result
 
   pub result_place : places_of r (ResultEnd 0) ≡ Some (ResultEnd 0)
-  result_place = stands_there r (joint (ResultEnd 0) own_end) (ResultEnd 0) node.right own_is_in (first_stands (joint (ResultEnd 0) own_end))
+  result_place = stands_there r (joint (ResultEnd 0) own_end) (ResultEnd 0) node.base.right own_is_in (first_stands (joint (ResultEnd 0) own_end))
 
   pub own_place : places_of r own_end ≡ Some (ResultEnd 0)
-  own_place = stands_there r (joint (ResultEnd 0) own_end) own_end node.right own_is_in (last_stands (joint (ResultEnd 0) own_end))
+  own_place = stands_there r (joint (ResultEnd 0) own_end) own_end node.base.right own_is_in (last_stands (joint (ResultEnd 0) own_end))
 
   pub at_own_joint : (b : End) → places_of r b ≡ Some (ResultEnd 0) → (b ≡ ResultEnd 0) ⊎ (b ≡ own_end)
   at_own_joint b named =
       let at = found r.joints b (ResultEnd 0) named in
       let same : at.joint ≡ joint (ResultEnd 0) own_end =
-      one_joint r [] r.joints at.joint (joint (ResultEnd 0) own_end) (ResultEnd 0) node.right at.is_in own_is_in
+      one_joint r [] r.joints at.joint (joint (ResultEnd 0) own_end) (ResultEnd 0) node.base.right at.is_in own_is_in
       (stands_by (ResultEnd 0) at.joint (inl (sym at.named))) (first_stands (joint (ResultEnd 0) own_end)) in
       which_end b (joint (ResultEnd 0) own_end) (subst (λ (x : Joint). stands_in b x ≡ true) same at.stands)
 
@@ -210,18 +205,18 @@ module _ (r : Plan) (d : ℕ) (f : Form) (gs : List Stage) (node : IsOpenNode r 
           let (n, up) = asked_within r past k h c turned at_k asks in (n, is, up, inr (c, at_k, asks))
 
   -- a stage that the own part asks has its joint
-  module _ (g : Stage) (has : Contains gs g) (apart : g.asked_at ≡ run_shake (own_part f) → ⊥) where
+  module _ (g : Stage) (has : Contains gs g) (apart : g.asked_at ≡ runner.run → ⊥) where
     of_other : (e : Stage) → Contains gs e → (x : End) (j : Joint) → Contains e.plan.joints j → stands_in x j ≡ true → lies_at e.cut x ≡ PartEnd d g.asked_at
-        → StandsIn g.plan (ResultEnd 0)
+        → StandsIn g.plan (ResultEnd (runner.asked g))
     of_other e also x j in_joints stands lies =
-        let there : IsStage r d e = stage r d f gs node e also in
+        let there : IsAskedStage r d runner e = stage r d runner gs node.base e also in
         let owned = stands_own e.plan j x there.region.right (contained e.plan.joints j in_joints) stands in
-        elim (end_is r d f gs node e also d g.asked_at x owned (j, in_joints, stands) lies) [
+        elim (end_is r d runner gs node.base e also d g.asked_at x owned (j, in_joints, stands) lies) [
           | inl inside ↦ (let clash : None ≡ Some inside.0 = sym there.outside ∙ inside.1 in absurd (cc clash))
-          | inr at ↦ subst (λ (y : Stage). StandsIn y.plan (ResultEnd 0)) (sym (node.one g e has also at.1)) at.2
+          | inr at ↦ subst (λ (y : Stage). StandsIn y.plan (ResultEnd (runner.asked y))) (sym (node.one g e has also at.1)) at.2
         ]
 
-    pub run_stands : (x : End) → places_of r (PartEnd d g.asked_at) ≡ Some x → StandsIn g.plan (ResultEnd 0)
+    pub run_stands : (x : End) → places_of r (PartEnd d g.asked_at) ≡ Some x → StandsIn g.plan (ResultEnd (runner.asked g))
     run_stands x named =
         elim (node.joints whole.joint.asking whole.joint.serving (listed r.joints whole.joint whole.is_in)) [
           | inl result ↦ absurd (not_own result.0 result.1 (which_end (PartEnd d g.asked_at) whole.joint whole.stands))
@@ -235,31 +230,32 @@ module _ (r : Plan) (d : ℕ) (f : Form) (gs : List Stage) (node : IsOpenNode r 
             → (PartEnd d g.asked_at ≡ whole.joint.asking) ⊎ (PartEnd d g.asked_at ≡ whole.joint.serving) → ⊥
         not_own first last (inl is) = let clash : PartEnd d g.asked_at ≡ ResultEnd 0 = is ∙ first in cc clash
         not_own first last (inr is) =
-            let same : PartEnd d g.asked_at ≡ PartEnd d (run_shake (own_part f)) = is ∙ last in
-            let shake : g.asked_at ≡ run_shake (own_part f) = cc same in apart shake
+            let same : PartEnd d g.asked_at ≡ PartEnd d runner.run = is ∙ last in
+            let shake : g.asked_at ≡ runner.run = cc same in apart shake
 
         of_stage : (e : Stage) (a b : End) → Contains gs e → Contains e.plan.joints (joint a b) → lies_at e.cut a ≡ whole.joint.asking → lies_at e.cut b ≡ whole.joint.serving
-            → (PartEnd d g.asked_at ≡ whole.joint.asking) ⊎ (PartEnd d g.asked_at ≡ whole.joint.serving) → StandsIn g.plan (ResultEnd 0)
+            → (PartEnd d g.asked_at ≡ whole.joint.asking) ⊎ (PartEnd d g.asked_at ≡ whole.joint.serving) → StandsIn g.plan (ResultEnd (runner.asked g))
         of_stage e a b also in_joints first last (inl is) = of_other e also a (joint a b) in_joints (first_stands (joint a b)) (first ∙ sym is)
         of_stage e a b also in_joints first last (inr is) = of_other e also b (joint a b) in_joints (last_stands (joint a b)) (last ∙ sym is)
 
   -- A stage runs: its list so far, from an idle state; its turns, and what passed its ports.
   pub record Going (g : Stage) (has : Contains gs g) (hs : List Element) (before s : Tokens) (past : List Pass) : Type 0 where
-    pub ran : Ran r d f gs node g has before hs s
+    pub ran : Ran r d runner gs node.base g has before hs s
     pub turned : Turned g.plan (passed g.plan [] hs)
-    pub stirs : StirsOnly d f g s
-    pub follows : Follows r g (passed g.plan [] hs) past
+    pub stirs : StirsOnly d runner g s
+    pub follows : Follows r runner g (passed g.plan [] hs) past
 
   -- what the own part's firing leads to
   pub data Led (row : Row) (v : ℕ) (t : Tokens) (past : List Pass) : Type 0 where
     asks :
-        (g : Stage) (has : Contains gs g) (before : Tokens)
-        → Going g has (In (ResultEnd 0) 0 ∷ []) before t past → Does g.plan (In (ResultEnd 0) 0) before (seen g t) → row.puts v ≡ put (Req g.asked_at) 0 ∷ []
+        (g : Stage) (has : Contains gs g) (n : ℕ) (before : Tokens)
+        → n < 2 ^ runner.request_bits g → Going g has (In (ResultEnd (runner.asked g)) n ∷ []) before t past → Does g.plan (In (ResultEnd (runner.asked g)) n) before (seen g t)
+        → row.puts v ≡ put (Req g.asked_at) n ∷ []
         → Led row v t past
-    replies : (k : ℕ) → HoldsOnly r (ResultEnd 0) Answer k t → OnlyResult past → row.puts v ≡ put (Ans (run_shake (own_part f))) k ∷ [] → Led row v t past
+    replies : (k : ℕ) → HoldsOnly r (ResultEnd 0) Answer k t → OnlyResult past → row.puts v ≡ put (Ans runner.run) k ∷ [] → Led row v t past
 
   module _
-      (p : Program) (m : Term) (answered : Bool) (u t : Tokens) (row : Row) (v : ℕ) (past : List Pass) (empty : Emptied d u)
+      (u t : Tokens) (row : Row) (v : ℕ) (past : List Pass) (empty : Emptied d u)
       (leads : t ≡ with_puts r d (row.puts v) (with_state d (row.next v) u)) (only : OnlyResult past) where
     abbrev between : Tokens
     between = with_state d (row.next v) u
@@ -277,59 +273,63 @@ module _ (r : Plan) (d : ℕ) (f : Form) (gs : List Stage) (node : IsOpenNode r 
     after_one : (x : Token) → row.puts v ≡ x ∷ [] → t ≡ with_token r (end_of d x.slot) (way_of x.slot) (Some x.value) between
     after_one x puts = leads ∙ ap (λ (ts : List Token). with_puts r d ts (with_state d (row.next v) u)) puts
 
-    to_stage : (e : Session) → session_of f (row.next v).phase (row.next v).number ≡ Some e → row.puts v ≡ put (Req e.asked_at) 0 ∷ []
-        → (g : Stage) → Contains gs g → g.asked_at ≡ e.asked_at → Led row v t past
-    to_stage e is puts g has same = asks g has (seen g between) going does asked_so
+    to_stage : (g : Stage) (n : ℕ) → Contains gs g → runner.waits (row.next v) ≡ Some g.asked_at → row.puts v ≡ put (Req g.asked_at) n ∷ []
+        → n < 2 ^ runner.request_bits g → Led row v t past
+    to_stage g n has is puts fits = asks g has n (seen g between) fits going does puts
       where
-        asked_so : row.puts v ≡ put (Req g.asked_at) 0 ∷ []
-        asked_so = puts ∙ ap (λ (h : ℕ). put (Req h) 0 ∷ []) (sym same)
+        t_is : t ≡ with_token r (PartEnd d g.asked_at) Request (Some n) between
+        t_is = after_one (put (Req g.asked_at) n) puts
 
-        t_is : t ≡ with_token r (PartEnd d g.asked_at) Request (Some 0) between
-        t_is = after_one (put (Req g.asked_at) 0) asked_so
+        there : IsAskedStage r d runner g
+        there = stage r d runner gs node.base g has
 
-        apart : g.asked_at ≡ run_shake (own_part f) → ⊥
-        apart run = asked_apart f (row.next v).phase (row.next v).number e is (sym same ∙ run)
+        apart : g.asked_at ≡ runner.run → ⊥
+        apart = node.table.apart (row.next v) g.asked_at is
 
-        begun : Does g.plan (In (ResultEnd 0) 0) (seen g between) (seen g (with_token r (PartEnd d g.asked_at) Request (Some 0) between))
-            × InStage r d f gs node g has (with_token r (PartEnd d g.asked_at) Request (Some 0) between)
-        begun = asked r d f gs node g has between empty_between (run_stands g has apart)
+        begun : Does g.plan (In (ResultEnd (runner.asked g)) n) (seen g between) (seen g (with_token r (PartEnd d g.asked_at) Request (Some n) between))
+            × InStage r d runner gs node.base g has (with_token r (PartEnd d g.asked_at) Request (Some n) between)
+        begun =
+            asked r d runner gs node.base g has n fits between empty_between (run_stands g has apart)
 
-        does : Does g.plan (In (ResultEnd 0) 0) (seen g between) (seen g t)
-        does = subst (λ (x : Tokens). Does g.plan (In (ResultEnd 0) 0) (seen g between) (seen g x)) (sym t_is) begun.0
+        does : Does g.plan (In (ResultEnd (runner.asked g)) n) (seen g between) (seen g t)
+        does = subst (λ (x : Tokens). Does g.plan (In (ResultEnd (runner.asked g)) n) (seen g between) (seen g x)) (sym t_is) begun.0
 
         state : (i : ℕ) → t.state i ≡ between.state i
-        state i = ap (λ (x : Tokens). x.state i) t_is ∙ token_state r (PartEnd d g.asked_at) Request (Some 0) between i
+        state i = ap (λ (x : Tokens). x.state i) t_is ∙ token_state r (PartEnd d g.asked_at) Request (Some n) between i
 
-        stirring : StirsOnly d f g t
+        stirring : StirsOnly d runner g t
         stirring =
             record {
-              session = (e, ap (λ (q : State). session_of f q.phase q.number) (state d ∙ at_own) ∙ is, sym same);
+              session = ap (λ (q : State). runner.waits q) (state d ∙ at_own) ∙ is;
               states = λ i other out. ap (λ (q : State). q.phase) (state i) ∙ empty_between.states i other;
-              places = subst (λ (x : Tokens). InStage r d f gs node g has x) (sym t_is) begun.1;
+              places = subst (λ (x : Tokens). InStage r d runner gs node.base g has x) (sym t_is) begun.1;
             }
 
-        outcome : IsDone g.plan.outcome
-        outcome = (stage r d f gs node g has).outcome
+        first : Turned g.plan (pass (ResultEnd (runner.asked g)) Request ∷ [])
+        first = asked_first g.plan _ _ _ there.asked
 
-        first : Turned g.plan (pass (ResultEnd 0) Request ∷ [])
-        first = first_turned g.plan outcome
+        comes : way_in (contact_at g.plan (ResultEnd (runner.asked g))) ≡ Request
+        comes = asked_in g.plan _ _ _ there.asked
 
-        turn : KeepsTurns g.plan [] (pass (ResultEnd 0) (way_in (contact_at g.plan (ResultEnd 0))))
-        turn = subst (λ (way : Direction). KeepsTurns g.plan [] (pass (ResultEnd 0) way)) (sym (result_in g.plan outcome)) (refl, first)
+        turn : KeepsTurns g.plan [] (pass (ResultEnd (runner.asked g)) (way_in (contact_at g.plan (ResultEnd (runner.asked g)))))
+        turn = subst (λ (way : Direction). KeepsTurns g.plan [] (pass (ResultEnd (runner.asked g)) way)) (sym comes) (refl, first)
 
-        going : Going g has (In (ResultEnd 0) 0 ∷ []) (seen g between) t past
+        tidy : IsTidy g.plan (seen g between)
+        tidy i beyond = ap (λ (b : Bool). if b then between.state (g.cut.part i) else at Rest 0) beyond
+
+        going : Going g has (In (ResultEnd (runner.asked g)) n ∷ []) (seen g between) t past
         going =
             record {
-              ran = record { idle = idle_seen r d f gs node g has between empty_between; ran = (seen g t, does, refl); turns = (turn, tt) };
+              ran = record { idle = idle_seen r d runner gs node.base g has between empty_between; ran = (seen g t, does, refl); turns = (turn, tt); tidy = tidy; session = (refl, tt) };
               turned = turn.1;
               stirs = stirring;
-              follows = subst (λ (way : Direction). Follows r g (pass (ResultEnd 0) way ∷ []) past) (sym (result_in g.plan outcome)) (follows_first r d f gs node g has past only);
+              follows = subst (λ (way : Direction). Follows r runner g (pass (ResultEnd (runner.asked g)) way ∷ []) past) (sym comes) (follows_first r d runner gs node.base g has past only);
             }
 
-    to_reply : (k : ℕ) → (row.next v).phase ≡ Rest → row.puts v ≡ put (Ans (run_shake (own_part f))) k ∷ [] → Led row v t past
+    to_reply : (k : ℕ) → (row.next v).phase ≡ Rest → row.puts v ≡ put (Ans runner.run) k ∷ [] → Led row v t past
     to_reply k rests puts =
         replies k
-        (subst (λ (x : Tokens). HoldsOnly r (ResultEnd 0) Answer k x) (sym (after_one (put (Ans (run_shake (own_part f))) k) puts))
+        (subst (λ (x : Tokens). HoldsOnly r (ResultEnd 0) Answer k x) (sym (after_one (put (Ans runner.run) k) puts))
         (held_beside r own_end (ResultEnd 0) Answer k (with_token r own_end Answer (Some k) between) (own_place ∙ sym result_place)
         (put_only r own_end Answer k between empty_between.places at_rest (ResultEnd 0) own_place)))
         only puts
@@ -343,7 +343,6 @@ module _ (r : Plan) (d : ℕ) (f : Form) (gs : List Stage) (node : IsOpenNode r 
                 ap (λ (x : ℕ). (between.state x).phase) same ∙ (ap (λ (q : State). q.phase) at_own ∙ rests)
             by_test false t = empty_between.states i (λ same. let clash : nat_eq i d ≡ true = grind (arith, same) in absurd (cc (sym t ∙ clash)))
 
-    pub own_leads : LeadsOn p f m (row.next v) (row.puts v) answered → Led row v t past
-    own_leads (inl (e, acts, is, puts, steps, more)) =
-        let (g, has, same, ty) = node.staged (row.next v).phase (row.next v).number e is in to_stage e is puts g has same
-    own_leads (inr (k, acts, rests, puts, steps)) = to_reply k rests puts
+    pub own_leads : LeadsOn runner gs (row.next v) (row.puts v) → Led row v t past
+    own_leads (inl (g, n, has, is, puts, fits)) = to_stage g n has is puts fits
+    own_leads (inr (k, rests, puts)) = to_reply k rests puts

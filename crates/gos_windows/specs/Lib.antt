@@ -2,6 +2,7 @@
 pub mod Regions
 pub mod Nodes
 pub mod OpenNodes
+pub mod OneSession
 pub mod Windows
 pub mod Keeping
 pub mod Closing

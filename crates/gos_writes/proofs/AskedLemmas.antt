@@ -1,76 +1,21 @@
--- The result of which an Assign asks one handshake: its contact; and turns at the ports of a plan with such a result.
-use Rattle.std.specs.Prelude.{◌+◌, ◌-◌, ◌<◌, slice_get, nat_eq, nat_lt}
-use Rattle.std.proofs.Common.{◌≡◌, ℕ, zero, suc, Bool, true, false, List, [], ◌∷◌, ◌⊎◌, Option, Some, inl, inr, refl, sym, ◌∙◌, ap, subst, arith, if◌then◌else◌}
-use Rattle.std.proofs.lemmas.Option.{none-some, same_Some, slice_get_within}
-use Rattle.std.proofs.lemmas.Bool.Decides.{nat_tests}
-use Rattle.gos_types.specs.declared.shakes.Role.TheVariants.{Serve, Ask}
-use Rattle.gos_types.specs.Types.{Type', Com, Exp, Var, Pair, Fun, IsGround}
-use Rattle.gos_netlist.specs.Events.{Request, Answer}
-use Rattle.gos_model.specs.Typing.{Imported}
-use Rattle.gos_plan.specs.Kinds.{Contact, asks, contacts_of}
-use Rattle.gos_plan.specs.Plans.{End, PartEnd, ImportEnd, ResultEnd, Plan, contact_at, contacts_of_import, turned_if}
-use Rattle.gos_plan.specs.Tokens.{IsPortEnd, In}
-use Rattle.gos_realises.specs.Regular.{count, Pass, pass, way_in, way_out, is_open, beyond, KeepsTurnsOf, whole_type, whole_end, some_open}
-use Rattle.gos_realises.specs.Realises.{AllGround}
-use Rattle.gos_realises.proofs.GroundTurnLemmas.{width, count_fun, there_some, some_there}
-use Rattle.gos_realises.proofs.InputLemmas.{import_serves, one_ground}
-use Rattle.gos_realises.proofs.ToldLemmas.{there_is}
-use Rattle.gos_windows.proofs.TurnLemmas.{Turned}
-use Rattle.gos_writes.specs.Writes.{asked_type, answer_bits}
-use Rattle.gos_renumbered.proofs.TurnLemmas.{of_import, of_result, ImportKeeps, each_keeps}
-use Rattle.gos_windows.proofs.TypeTurnLemmas.{closed_kept}
-use Rattle.gos_writes.specs.OneSession.{IsAsked, Stays}
-use Rattle.gos_webs.specs.Cutting.{Cut, StandsIn}
-use Rattle.gos_plan.proofs.TurnLemmas.{nat_eq_self}
-use Rattle.gos_windows.specs.OpenNodes.{IsHeard}
-
--- the bits of the request of handshake h of an Assign of w bits
-abbrev pub request_bits : ℕ → ℕ → ℕ
-request_bits zero w = 0
-request_bits (suc h) w = w
+-- The result of which an Assign asks one handshake: its contact and its turns.
+use Rattle.std.specs.Prelude.{◌<◌, slice_get}
+use Rattle.std.proofs.Common.{◌≡◌, ℕ, zero, suc, Bool, true, false, Some, refl, sym, ◌∙◌, ap, subst, arith}
+use Rattle.gos_types.specs.Types.{Type', Var, IsGround}
+use Rattle.gos_plan.specs.Kinds.{asks, contacts_of}
+use Rattle.gos_plan.specs.Plans.{Plan, turned_if}
+use Rattle.gos_realises.specs.Regular.{KeepsTurnsOf}
+use Rattle.gos_windows.proofs.AskedLemmas.{IsAskedAt}
+use Rattle.gos_writes.specs.Writes.{asked_type, request_bits, answer_bits}
 
 type_contact : (h w : ℕ) → h < 2 → turned_if (slice_get (contacts_of (asked_type h w)) h) ≡ Some (asks (request_bits h w) (answer_bits h w))
 type_contact zero w low = refl
 type_contact (suc zero) w low = refl
 type_contact (suc (suc h)) w low = absurd (omega (arith, low))
 
-type_below : (h w : ℕ) → h < 2 → h < count (asked_type h w)
-type_below zero w low = omega arith
-type_below (suc zero) w low = omega arith
-type_below (suc (suc h)) w low = absurd (omega (arith, low))
-
 type_ground : (h w : ℕ) → IsGround (asked_type h w)
 type_ground zero w = tt
 type_ground (suc h) w = tt
-
--- a result of a ground type asks
-pub ground_asks : (t : Type') → IsGround t → (h : ℕ) (c : Contact) → turned_if (slice_get (contacts_of t) h) ≡ Some c → Ask ≡ c.role
-ground_asks Com g zero c is = ap (λ (x : Contact). x.role) (same_Some _ c is)
-ground_asks Com g (suc h) c is = absurd (none-some c is)
-ground_asks (Exp w) g zero c is = ap (λ (x : Contact). x.role) (same_Some _ c is)
-ground_asks (Exp w) g (suc h) c is = absurd (none-some c is)
-ground_asks (Var w) g zero c is = ap (λ (x : Contact). x.role) (same_Some _ c is)
-ground_asks (Var w) g (suc zero) c is = ap (λ (x : Contact). x.role) (same_Some _ c is)
-ground_asks (Var w) g (suc (suc h)) c is = absurd (none-some c is)
-ground_asks (Pair a b) g h c is = absurd g
-ground_asks (Fun a b) g h c is = absurd g
-
--- which ports there are
-pub ground_port : (p : Plan) → IsGround p.outcome → (e : End) (c : Contact) → IsPortEnd e → contact_at p e ≡ Some c
-    → ((h : ℕ) × (e ≡ ResultEnd h) × (c.role ≡ Ask)) ⊎ ((i h : ℕ) × (e ≡ ImportEnd i h))
-ground_port p done (PartEnd i h) c port is = absurd port
-ground_port p done (ImportEnd i h) c port is = inr (i, h, refl)
-ground_port p done (ResultEnd h) c port is = inl (h, refl, sym (ground_asks p.outcome done h c is))
-
--- with ground imports
-pub ground_role : (p : Plan) → AllGround p.imports → IsGround p.outcome → (e : End) (c : Contact) → IsPortEnd e → contact_at p e ≡ Some c
-    → ((h : ℕ) × (e ≡ ResultEnd h) × (c.role ≡ Ask)) ⊎ ((i h : ℕ) × (e ≡ ImportEnd i h) × (c.role ≡ Serve))
-ground_role p ground done (PartEnd i h) c port is = absurd port
-ground_role p ground done (ImportEnd i h) c port is =
-    let (x, there) = there_is p.imports i h c is in
-    let role = import_serves x.ty (one_ground p.imports ground i x there) h c (sym (ap (λ (o : Option Imported). slice_get (contacts_of_import o) h) there) ∙ is) in
-    inr (i, h, refl, sym role)
-ground_role p ground done (ResultEnd h) c port is = inl (h, refl, sym (ground_asks p.outcome done h c is))
 
 -- where the result is closed, or only its handshake that is asked is open
 keeps_result : (h w : ℕ) (f : ℕ → Bool) → ((k : ℕ) → f k ≡ true → k ≡ h) → KeepsTurnsOf (asked_type h w) f
@@ -81,185 +26,11 @@ keeps_result (suc h) w f only = by_test (f 0) refl
     by_test false t = rw t refl
     by_test true t = let none : 0 ≡ suc h = only 0 t in absurd (omega (arith, none))
 
--- the number of all handshakes
-count_whole : (is : List Imported) (t : Type') → count (whole_type is t) ≡ width is + count t
-count_whole [] t = omega arith
-count_whole (i ∷ is) t =
-    let sum = count_fun i.ty (whole_type is t) in
-    let rest = count_whole is t in omega (arith, sum, rest)
-
--- where something is open, something of the result is
-result_some : (is : List Imported) (t : Type') (f r : ℕ → Bool) → ((j : ℕ) → f (width is + j) ≡ r j) → KeepsTurnsOf (whole_type is t) f
-    → (k : ℕ) → k < count (whole_type is t) → f k ≡ true → (j : ℕ) × (j < count t) × (r j ≡ true)
-result_some [] t f r same keeps k low up =
-    let none : k ≡ 0 + k = omega arith in (k, low, sym (same k) ∙ (ap f (sym none) ∙ up))
-result_some (i ∷ is) t f r same (own, rest, leads) k low up =
-    by_test (nat_lt k (count i.ty)) refl (λ n less open_n. result_some is t (beyond (count i.ty) f) r behind rest n less open_n)
-  where
-    behind : (j : ℕ) → beyond (count i.ty) f (width is + j) ≡ r j
-    behind j =
-        let order : count i.ty + (width is + j) ≡ count i.ty + width is + j = omega arith in ap f order ∙ same j
-
-    by_test : (b : Bool) → nat_lt k (count i.ty) ≡ b
-        → ((n : ℕ) → n < count (whole_type is t) → beyond (count i.ty) f n ≡ true → (j : ℕ) × (j < count t) × (r j ≡ true))
-        → (j : ℕ) × (j < count t) × (r j ≡ true)
-    by_test true t' further =
-        let small : k < count i.ty = grind (arith, nat_tests, t') in
-        let (n, less, open_n) = some_there (count (whole_type is t)) (beyond (count i.ty) f) (leads (there_some (count i.ty) f k small up)) in
-        further n less open_n
-    by_test false t' further =
-        let sum = count_fun i.ty (whole_type is t) in
-        let past : count i.ty + (k - count i.ty) ≡ k = grind (arith, nat_tests, t') in
-        let small : k - count i.ty < count (whole_type is t) = omega (arith, low, sum, past) in
-        further (k - count i.ty) small (ap f past ∙ up)
-
--- Turns are kept where those of the result are, and those of each import that has an open handshake, if then the result has one.
-pub ports_turned : (p : Plan) (past : List Pass) → KeepsTurnsOf p.outcome (of_result (is_open past))
-    → ((i g : ℕ) (x : Imported) → slice_get p.imports i ≡ Some x → is_open past (ImportEnd i g) ≡ true → KeepsTurnsOf x.ty (λ n. is_open past (ImportEnd i n)))
-    → ((i g : ℕ) → is_open past (ImportEnd i g) ≡ true → some_open (count p.outcome) (of_result (is_open past)) ≡ true) → Turned p past
-ports_turned p past result kept led =
-    each_keeps 0 p.imports p.outcome (λ h. is_open past (whole_end 0 p.imports h)) (is_open past) (λ h. refl)
-    (λ i x there. subst (λ (m : ℕ). ImportKeeps (is_open past) m x p.outcome) (zero_plus i) (one i x there), result)
-  where
-    zero_plus : (i : ℕ) → i ≡ 0 + i
-    zero_plus i = omega arith
-
-    closed : (i : ℕ) (x : Imported) → some_open (count x.ty) (of_import (is_open past) i) ≡ false → (h : ℕ) → h < count x.ty → is_open past (ImportEnd i h) ≡ false
-    closed i x none h low = by_test (is_open past (ImportEnd i h)) refl
-      where
-        by_test : (b : Bool) → is_open past (ImportEnd i h) ≡ b → b ≡ false
-        by_test false t = refl
-        by_test true t = sym (there_some (count x.ty) (of_import (is_open past) i) h low t) ∙ none
-
-    one : (i : ℕ) (x : Imported) → slice_get p.imports i ≡ Some x → ImportKeeps (is_open past) i x p.outcome
-    one i x there = (
-      by_test (some_open (count x.ty) (of_import (is_open past) i)) refl,
-      λ some. let (h, low, up) = some_there (count x.ty) (of_import (is_open past) i) some in led i h up,
-    )
-      where
-        by_test : (b : Bool) → some_open (count x.ty) (of_import (is_open past) i) ≡ b → KeepsTurnsOf x.ty (of_import (is_open past) i)
-        by_test false none = closed_kept x.ty (of_import (is_open past) i) (closed i x none)
-        by_test true some = let (h, low, up) = some_there (count x.ty) (of_import (is_open past) i) some in kept i h x there up
-
--- ground imports don't ask
-pub not_asked : (p : Plan) → AllGround p.imports → IsGround p.outcome → (i h : ℕ) → IsAsked p (ImportEnd i h) → ⊥
-not_asked p ground done i h (c, there, asks) =
-    elim (ground_role p ground done (ImportEnd i h) c tt there) [
-      | inl result ↦ (let clash : ImportEnd i h ≡ ResultEnd result.0 = result.1 in cc clash)
-      | inr import ↦ (let clash : Ask ≡ Serve = sym asks ∙ import.3 in cc clash)
-    ]
-
-pub ground_in : (p : Plan) → AllGround p.imports → IsGround p.outcome → (i h v : ℕ) → Stays p (In (ImportEnd i h) v) → StandsIn p (ImportEnd i h)
-ground_in p ground done i h v (inl stands) = stands
-ground_in p ground done i h v (inr asked) = absurd (not_asked p ground done i h asked)
-
-pub ground_heard : (f : Cut) (r p : Plan) → AllGround p.imports → IsGround p.outcome → IsHeard f r p
-ground_heard f r p ground done i h n k c stands at is asks = absurd (not_asked p ground done i n (c, is, asks))
-
--- where the ends of the whole type stand
-result_ends : (k : ℕ) (is : List Imported) (j : ℕ) → whole_end k is (width is + j) ≡ ResultEnd j
-result_ends k [] j = let none : 0 + j ≡ j = omega arith in ap ResultEnd none
-result_ends k (i ∷ is) j =
-    let past : nat_lt (count i.ty + width is + j) (count i.ty) ≡ false = grind (arith, nat_tests) in
-    let less : count i.ty + width is + j - count i.ty ≡ width is + j = omega arith in
-    ap (λ (b : Bool). if b then ImportEnd k (count i.ty + width is + j) else whole_end (suc k) is (count i.ty + width is + j - count i.ty)) past
-    ∙ (ap (whole_end (suc k) is) less ∙ result_ends (suc k) is j)
-
--- the number of an import's handshake among all
-whole_index : (is : List Imported) (n i h : ℕ) (c : Contact) → slice_get (contacts_of_import (slice_get is i)) h ≡ Some c
-    → (k : ℕ) × (k < width is) × (whole_end n is k ≡ ImportEnd (n + i) h)
-whole_index [] n i h c there = absurd (none-some c there)
-whole_index (x ∷ xs) n zero h c there =
-    let low : h < count x.ty = slice_get_within (contacts_of x.ty) h c there in
-    let test : nat_lt h (count x.ty) ≡ true = grind (arith, low) in
-    let same : n ≡ n + 0 = omega arith in
-    (h, omega (arith, low), ap (λ (b : Bool). if b then ImportEnd n h else whole_end (suc n) xs (h - count x.ty)) test ∙ ap (λ (m : ℕ). ImportEnd m h) same)
-whole_index (x ∷ xs) n (suc i) h c there =
-    let (k, low, at) = whole_index xs (suc n) i h c there in
-    let past : nat_lt (count x.ty + k) (count x.ty) ≡ false = grind (arith, nat_tests) in
-    let less : count x.ty + k - count x.ty ≡ k = omega arith in
-    let same : suc n + i ≡ n + suc i = omega arith in (
-      count x.ty + k,
-      omega (arith, low),
-      ap (λ (b : Bool). if b then ImportEnd n (count x.ty + k) else whole_end (suc n) xs (count x.ty + k - count x.ty)) past
-          ∙ (ap (whole_end (suc n) xs) less ∙ (at ∙ ap (λ (m : ℕ). ImportEnd m h) same)),
-    )
-
--- only this handshake of the result is open
-abbrev pub OnlyAt : ℕ → List Pass → Type 0
-OnlyAt h past = (k : ℕ) → is_open past (ResultEnd k) ≡ true → k ≡ h
-
--- its answer closes it
-pub answered_shut : (h : ℕ) (past : List Pass) → OnlyAt h past → (k : ℕ) → is_open (pass (ResultEnd h) Answer ∷ past) (ResultEnd k) ≡ false
-answered_shut h past only k = by_test (nat_eq h k) refl
-  where
-    by_open : (b : Bool) → is_open past (ResultEnd k) ≡ b → nat_eq h k ≡ false → b ≡ false
-    by_open false shut t = refl
-    by_open true up t =
-        let same : k ≡ h = only k up in
-        let clash : nat_eq h k ≡ true = grind (arith, same) in absurd (cc (sym t ∙ clash))
-
-    by_test : (b : Bool) → nat_eq h k ≡ b → (if b then false else is_open past (ResultEnd k)) ≡ false
-    by_test true t = refl
-    by_test false t = by_open (is_open past (ResultEnd k)) refl t
-
--- a plan whose result is asked at handshake h, with w bits
-module _ (p : Plan) (h w : ℕ) (low : h < 2) (is : p.outcome ≡ asked_type h w) where
-  pub asked_contact : contact_at p (ResultEnd h) ≡ Some (asks (request_bits h w) (answer_bits h w))
-  asked_contact = ap (λ (t : Type'). turned_if (slice_get (contacts_of t) h)) is ∙ type_contact h w low
-
-  pub asked_ground : IsGround p.outcome
-  asked_ground = subst IsGround (sym is) (type_ground h w)
-
-  pub asked_is : (c : Contact) → contact_at p (ResultEnd h) ≡ Some c → asks (request_bits h w) (answer_bits h w) ≡ c
-  asked_is c at = same_Some _ c (sym asked_contact ∙ at)
-
-  pub asked_role : (c : Contact) → contact_at p (ResultEnd h) ≡ Some c → Ask ≡ c.role
-  asked_role c at = ap (λ (x : Contact). x.role) (asked_is c at)
-
-  pub asked_in : way_in (contact_at p (ResultEnd h)) ≡ Request
-  asked_in = ap way_in asked_contact
-
-  pub asked_out : way_out (contact_at p (ResultEnd h)) ≡ Answer
-  asked_out = ap way_out asked_contact
-
-  result_keeps : (f : ℕ → Bool) → ((k : ℕ) → f k ≡ true → k ≡ h) → KeepsTurnsOf p.outcome f
-  result_keeps f only = subst (λ (t : Type'). KeepsTurnsOf t f) (sym is) (keeps_result h w f only)
-
-  result_at : (past : List Pass) (j : ℕ) → is_open past (whole_end 0 p.imports (width p.imports + j)) ≡ is_open past (ResultEnd j)
-  result_at past j = ap (is_open past) (result_ends 0 p.imports j)
-
-  -- where the result is open at this handshake alone
-  pub asked_turned : (past : List Pass) → OnlyAt h past → is_open past (ResultEnd h) ≡ true
-      → ((i g : ℕ) (x : Imported) → slice_get p.imports i ≡ Some x → is_open past (ImportEnd i g) ≡ true → KeepsTurnsOf x.ty (λ n. is_open past (ImportEnd i n)))
-      → Turned p past
-  asked_turned past only up kept =
-      ports_turned p past (result_keeps (of_result (is_open past)) only) kept (λ i g there. there_some (count p.outcome) (of_result (is_open past)) h below up)
-    where
-      below : h < count p.outcome
-      below = subst (λ (t : Type'). h < count t) (sym is) (type_below h w low)
-
-  pub asked_first : Turned p (pass (ResultEnd h) Request ∷ [])
-  asked_first =
-      asked_turned (pass (ResultEnd h) Request ∷ []) (λ k up. one k (nat_eq h k) refl up) (ap (λ (b : Bool). if b then true else false) (nat_eq_self h))
-      (λ i g x there up. absurd (cc up))
-    where
-      one : (k : ℕ) (b : Bool) → nat_eq h k ≡ b → (if b then true else false) ≡ true → k ≡ h
-      one k true t up = grind (arith, t)
-      one k false t up = absurd (cc up)
-
-  -- where the result is closed so are the imports
-  pub asked_shut : (past : List Pass) → Turned p past → ((k : ℕ) → is_open past (ResultEnd k) ≡ false) → (i g : ℕ) (c : Contact) → contact_at p (ImportEnd i g) ≡ Some c
-      → is_open past (ImportEnd i g) ≡ false
-  asked_shut past turned shut i g c there = by_test (is_open past (ImportEnd i g)) refl
-    where
-      by_test : (b : Bool) → is_open past (ImportEnd i g) ≡ b → b ≡ false
-      by_test false t = refl
-      by_test true t =
-          let (k, small, at) = whole_index p.imports 0 i g c there in
-          let zero_plus : 0 + i ≡ i = omega arith in
-          let up : is_open past (whole_end 0 p.imports k) ≡ true = ap (is_open past) (at ∙ ap (λ (m : ℕ). ImportEnd m g) zero_plus) ∙ t in
-          let sum = count_whole p.imports p.outcome in
-          let (j, less, open_j) =
-          result_some p.imports p.outcome (λ n. is_open past (whole_end 0 p.imports n)) (λ n. is_open past (ResultEnd n)) (result_at past) turned k (omega (arith, small, sum)) up in
-          let clash : true ≡ false = sym open_j ∙ shut j in absurd (cc clash)
+-- a plan whose result is asked at handshake h, by an Assign of w bits
+pub asked_by : (p : Plan) (h w : ℕ) → h < 2 → p.outcome ≡ asked_type h w → IsAskedAt p h (request_bits h w) (answer_bits h w)
+asked_by p h w low is =
+    record {
+      contact = ap (λ (t : Type'). turned_if (slice_get (contacts_of t) h)) is ∙ type_contact h w low;
+      ground = subst IsGround (sym is) (type_ground h w);
+      keeps = λ f only. subst (λ (t : Type'). KeepsTurnsOf t f) (sym is) (keeps_result h w f only);
+    }

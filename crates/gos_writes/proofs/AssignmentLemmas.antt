@@ -12,14 +12,14 @@ use Rattle.gos_webs.specs.Cutting.{StandsIn}
 use Rattle.gos_windows.specs.Regions.{IsLoyal}
 use Rattle.gos_windows.specs.Nodes.{Stage, IsRestful}
 use Rattle.gos_windows.proofs.PortLemmas.{stands_contact}
-use Rattle.gos_writes.specs.OneSession.{IsRegularAt, IsRestfulAt, IsLoyalAt}
+use Rattle.gos_windows.specs.OneSession.{IsRegularAt, IsRestfulAt, IsLoyalAt}
 use Rattle.gos_writes.specs.Writes.{asked_type, IsWriteStage, IsWrite, AreRestful}
 use Rattle.gos_writes.specs.Realised.{SessionIsRealised, AreWritten}
 use Rattle.gos_writes.specs.Written.{unread}
 use Rattle.gos_writes.specs.Assignments.{IsAssignment, AssignmentIsRealised}
-use Rattle.gos_writes.proofs.AskedLemmas.{ground_heard}
+use Rattle.gos_windows.proofs.AskedLemmas.{ground_heard}
 use Rattle.gos_writes.proofs.JoinedLemmas.{only_written}
-use Rattle.gos_writes.proofs.OrderLemmas.{write_is_regular}
+use Rattle.gos_writes.proofs.AssignLemmas.{write_is_regular}
 use Rattle.gos_writes.proofs.MatchedLemmas.{write_realises_by_type}
 use Rattle.gos_writes.proofs.UnreadLemmas.{unread_loyal}
 use Rattle.gos_writes.proofs.WrittenLemmas.{number_is_asked, variable_is_written}

@@ -21,21 +21,24 @@ use Rattle.gos_webs.specs.Cutting.{Cut, StandsIn}
 use Rattle.gos_nodes.proofs.SilentLemmas.{inner_stays}
 use Rattle.gos_windows.specs.Regions.{whole_element}
 use Rattle.gos_windows.specs.Nodes.{Stage}
-use Rattle.gos_windows.specs.Windows.{seen}
+use Rattle.gos_windows.specs.Windows.{seen, StirsOnly}
 use Rattle.gos_windows.proofs.GroundLemmas.{answer_turned}
 use Rattle.gos_windows.proofs.TurnLemmas.{Turned, way_in_of}
-use Rattle.gos_writes.specs.OneSession.{Stays, AllStay}
+use Rattle.gos_windows.specs.OneSession.{Stays, AllStay}
 use Rattle.gos_writes.specs.Writes.{waits_at, IsWriteStage, HasStages}
-use Rattle.gos_writes.specs.Windows.{StirsOnly}
+use Rattle.gos_windows.proofs.RunnerLemmas as runners
+use Rattle.gos_writes.specs.Windows.{assign_runner}
 use Rattle.gos_writes.specs.Realised.{session_shows, IsSessionMatched}
 use Rattle.gos_writes.specs.Variables.{lone_stage}
-use Rattle.gos_writes.proofs.OneSessionLemmas.{open_then}
-use Rattle.gos_writes.proofs.AskedLemmas.{ground_role, asked_ground}
+use Rattle.gos_windows.proofs.OneSessionLemmas.{open_then}
+use Rattle.gos_windows.proofs.AskedLemmas.{ground_role}
+use Rattle.gos_writes.proofs.AskedLemmas.{asked_by}
+use Rattle.gos_writes.proofs.AssignLemmas.{has_stages}
 use Rattle.gos_writes.proofs.OwnLemmas as table
-use Rattle.gos_writes.proofs.StageLemmas.{stage, ground_stage, Ran, OnStage, lies, end_is, fires_in, out_in, answers}
-use Rattle.gos_writes.proofs.LiftLemmas.{Lifted, fire_up, out_up, in_up, goes_down}
-use Rattle.gos_writes.proofs.FollowLemmas.{Follows, standing, follows_step, goes_as}
-use Rattle.gos_writes.proofs.RegionLemmas.{outside_stays, out_shown, in_shown}
+use Rattle.gos_windows.proofs.StageLemmas.{ground_stage, Ran, OnStage, lies, end_is, fires_in, out_in, answers}
+use Rattle.gos_windows.proofs.LiftLemmas.{Lifted, fire_up, out_up, in_up, goes_down}
+use Rattle.gos_windows.proofs.FollowLemmas.{Follows, standing, follows_step, goes_as}
+use Rattle.gos_nodes.proofs.RegionLemmas.{outside_stays, out_shown, in_shown}
 use Rattle.gos_writes.proofs.SessionLemmas.{Stirred, stirred, in_stage_stands}
 use Rattle.gos_realises.specs.Realises.{AllGround}
 
@@ -52,19 +55,22 @@ module _
   has = (0, omega arith, refl)
 
   pub there : IsWriteStage q d w g
-  there = stage q d w gs base g has
+  there = base.stages g has
+
+  abbrev pub asking : runners.HasStages q d (assign_runner w) gs
+  asking = has_stages q d w gs base
 
   pub done : IsDone q.outcome
   done = subst IsDone (sym outcome) tt
 
   -- where the session is, in the plan and in the lone write
   pub record At (hs ks : List Element) (s : Tokens) : Type 0 where
-    pub ran : Ran q d w gs base g has before hs s
-    pub stirs : StirsOnly d g s
+    pub ran : Ran q d (assign_runner w) gs asking g has before hs s
+    pub stirs : StirsOnly d (assign_runner w) g s
     pub whole : Runs q ks first s
     pub turns : InputsKeepTurns q [] ks
     pub turned : Turned q (passed q [] ks)
-    pub follows : Follows q g (passed p [] hs) (passed q [] ks)
+    pub follows : Follows q (assign_runner w) g (passed p [] hs) (passed q [] ks)
     pub fit : AllFit q s
 
   pub record Up (hs ks : List Element) (y : Element) (s u : Tokens) : Type 0 where
@@ -75,8 +81,8 @@ module _
     pub turn : InputsKeepTurns q (passed q [] ks) (whole_element f y ∷ [])
 
   make : (hs ks : List Element) (y : Element) (s u : Tokens) → At hs ks s → Stays p y → InputsKeepTurns p (passed p [] hs) (y ∷ []) → Does p y (seen g s) u
-      → Lifted q d w gs base g has (whole_element f y) s u → InputsKeepTurns q (passed q [] ks) (whole_element f y ∷ []) → Turned q (after q (whole_element f y) (passed q [] ks))
-      → Follows q g (after p y (passed p [] hs)) (after q (whole_element f y) (passed q [] ks)) → Up hs ks y s u
+      → Lifted q d (assign_runner w) gs asking g has (whole_element f y) s u → InputsKeepTurns q (passed q [] ks) (whole_element f y ∷ []) → Turned q (after q (whole_element f y) (passed q [] ks))
+      → Follows q (assign_runner w) g (after p y (passed p [] hs)) (after q (whole_element f y) (passed q [] ks)) → Up hs ks y s u
   make hs ks y s u at stays own_turn own_does lifted turn turned follows =
       record {
         to = lifted.to;
@@ -95,17 +101,17 @@ module _
               stirs =
                   record {
                     session =
-                        ap (λ (x : State). waits_at x.phase) (outside_stays q d w g there d there.outside y s (seen g lifted.to) lifted.to own lifted.does) ∙ at.stirs.session;
+                        ap (λ (x : State). waits_at x.phase) (outside_stays q g there.region d there.outside y s (seen g lifted.to) lifted.to own lifted.does) ∙ at.stirs.session;
                     states = λ i apart out.
-                        ap (λ (x : State). x.phase) (outside_stays q d w g there i out y s (seen g lifted.to) lifted.to own lifted.does) ∙ at.stirs.states i apart out;
+                        ap (λ (x : State). x.phase) (outside_stays q g there.region i out y s (seen g lifted.to) lifted.to own lifted.does) ∙ at.stirs.states i apart out;
                     places = lifted.within;
                   };
               whole = runs_then q ks (whole_element f y) first s lifted.to at.whole lifted.does;
               turns = inputs_then q [] ks (whole_element f y ∷ []) at.turns turn;
               turned = subst (Turned q) (sym (passed_then q [] ks (whole_element f y))) turned;
               follows =
-                  subst (λ (x : List Pass). Follows q g x (passed q [] (ks ++ whole_element f y ∷ []))) (sym (passed_then p [] hs y))
-                  (subst (λ (x : List Pass). Follows q g (after p y (passed p [] hs)) x) (sym (passed_then q [] ks (whole_element f y))) follows);
+                  subst (λ (x : List Pass). Follows q (assign_runner w) g x (passed q [] (ks ++ whole_element f y ∷ []))) (sym (passed_then p [] hs y))
+                  (subst (λ (x : List Pass). Follows q (assign_runner w) g (after p y (passed p [] hs)) x) (sym (passed_then q [] ks (whole_element f y))) follows);
               fit = all_stay_fit q (whole_element f y ∷ []) s lifted.to base.right base.literals at.fit (lifted.to, lifted.does, refl);
             };
         turn = turn;
@@ -120,15 +126,15 @@ module _
   ways_in : (i h : ℕ) → StandsIn p (ImportEnd i h) → way_in (contact_at q (f.outer (ImportEnd i h))) ≡ way_in (contact_at p (ImportEnd i h))
   ways_in i h stands = ap way_in (there.region.contacts (ImportEnd i h) tt stands)
 
-  follows_at : (own past : List Pass) → Follows q g own past → (i h : ℕ) → StandsIn p (ImportEnd i h) → (way other : Direction) → other ≡ way
-      → Follows q g (pass (ImportEnd i h) way ∷ own) (pass (f.outer (ImportEnd i h)) other ∷ past)
+  follows_at : (own past : List Pass) → Follows q (assign_runner w) g own past → (i h : ℕ) → StandsIn p (ImportEnd i h) → (way other : Direction) → other ≡ way
+      → Follows q (assign_runner w) g (pass (ImportEnd i h) way ∷ own) (pass (f.outer (ImportEnd i h)) other ∷ past)
   follows_at own past follows i h stands way other same =
-      subst (λ (x : Direction). Follows q g (pass (ImportEnd i h) way ∷ own) (pass (f.outer (ImportEnd i h)) x ∷ past)) (sym same)
-      (follows_step q d w gs base g has own past follows i h (f.outer (ImportEnd i h)) (standing q d w gs base g has i h stands) refl way)
+      subst (λ (x : Direction). Follows q (assign_runner w) g (pass (ImportEnd i h) way ∷ own) (pass (f.outer (ImportEnd i h)) x ∷ past)) (sym same)
+      (follows_step q d (assign_runner w) gs asking g has own past follows i h (f.outer (ImportEnd i h)) (standing q d (assign_runner w) gs asking g has i h stands) refl way)
 
   pub up : (hs ks : List Element) (y : Element) (s u : Tokens) → At hs ks s → Stays p y → InputsKeepTurns p (passed p [] hs) (y ∷ []) → Does p y (seen g s) u → Up hs ks y s u
   up hs ks (Fire j slot) s u at stays own_turn does =
-      make hs ks (Fire j slot) s u at stays own_turn does (fire_up q d w gs base g has before s hs at.ran at.stirs.places j slot u does) tt at.turned at.follows
+      make hs ks (Fire j slot) s u at stays own_turn does (fire_up q d (assign_runner w) gs asking g has before s hs at.ran at.stirs.places j slot u does) tt at.turned at.follows
   up hs ks (Out (PartEnd i h) v) s u at stays own_turn does = absurd stays
   up hs ks (Out (ResultEnd h) v) s u at stays own_turn does = absurd stays
   up hs ks (Out (ImportEnd i h) v) s u at stays own_turn does =
@@ -138,8 +144,8 @@ module _
       b : End
       b = f.outer (ImportEnd i h)
 
-      lifted : Lifted q d w gs base g has (Out b v) s u
-      lifted = out_up q d w gs base g has s at.fit at.stirs.places i h v u stays does
+      lifted : Lifted q d (assign_runner w) gs asking g has (Out b v) s u
+      lifted = out_up q d (assign_runner w) gs asking g has s at.stirs.places i h v u stays does
 
       kept : KeepsTurns q (passed q [] ks) (pass b (way_out (contact_at q b)))
       kept =
@@ -148,7 +154,7 @@ module _
   up hs ks (In (PartEnd i h) v) s u at stays own_turn does = absurd stays
   up hs ks (In (ResultEnd h) v) s u at stays own_turn does = absurd stays
   up hs ks (In (ImportEnd i h) v) s u at stays own_turn does =
-      make hs ks (In (ImportEnd i h) v) s u at stays own_turn does (in_up q d w gs base g has s at.fit at.stirs.places i h v u stands does) (turn, tt) turn.1
+      make hs ks (In (ImportEnd i h) v) s u at stays own_turn does (in_up q d (assign_runner w) gs asking g has s at.stirs.places i h v u stands does) (turn, tt) turn.1
       (follows_at (passed p [] hs) (passed q [] ks) at.follows i h stands (way_in (contact_at p (ImportEnd i h))) (way_in (contact_at q b)) (ways_in i h stands))
     where
       b : End
@@ -160,7 +166,7 @@ module _
       comes : way_in (contact_at p (ImportEnd i h)) ≡ Answer
       comes =
           let (c, at_end) = in_there p (ImportEnd i h) v (seen g s) u does in
-          elim (ground_role p (ground_stage q d w gs base g has ground) (asked_ground p 1 w there.low there.outcome) (ImportEnd i h) c tt at_end) [
+          elim (ground_role p (ground_stage q d (assign_runner w) gs asking g has ground) (asked_by p 1 w there.low there.outcome).ground (ImportEnd i h) c tt at_end) [
             | inl result ↦ (let clash : ImportEnd i h ≡ ResultEnd result.0 = result.1 in absurd (cc clash))
             | inr import ↦ way_in_of p (ImportEnd i h) c at_end ∙ ap way_put import.3
           ]
@@ -172,7 +178,7 @@ module _
       turn =
           let (n, at_n, same) = there.ports i h stands in
           subst (λ (x : Direction). KeepsTurns q (passed q [] ks) (pass b x)) (sym (ways_in i h stands ∙ comes)) (
-            goes_as q d w gs base g has (passed p [] hs) (passed q [] ks) at.follows i h b (standing q d w gs base g has i h stands) refl Answer own_open,
+            goes_as q d (assign_runner w) gs asking g has (passed p [] hs) (passed q [] ks) at.follows i h b (standing q d (assign_runner w) gs asking g has i h stands) refl Answer own_open,
             subst (λ (x : End). Turned q (pass x Answer ∷ passed q [] ks)) (sym at_n) (answer_turned q ground done n h (passed q [] ks) at.turned),
           )
 
@@ -182,18 +188,18 @@ module _
     where
       outs_not : (b : End) (v : ℕ) (t : Tokens) → Does q (Out b v) s t → ⊥
       outs_not b v t does =
-          let found = out_in q d w gs base g has b v s t at.fit at.stirs.places does in quiet.1 (ImportEnd found.0 found.1) v (seen g t) found.4
+          let found = out_in q d (assign_runner w) gs asking g has b v s t at.stirs.places does in quiet.1 (ImportEnd found.0 found.1) v (seen g t) found.4
 
       of_own : (i : ℕ) (slot : Slot) (v : ℕ) (row : Row) → f.number i ≡ None → token_at q s (end_of i slot) (way_of slot) ≡ Some v
           → firing_of (slice_get q.parts i) (s.state i) slot ≡ Some row → ⊥
-      of_own i slot v row out held by = quiet.1 (ResultEnd 1) v _ (answers q d w gs base g has s at.stirs.places v held_so).0
+      of_own i slot v row out held by = quiet.1 (ResultEnd 1) v _ (answers q d (assign_runner w) gs asking g has s at.stirs.places v held_so).0
         where
-          on : OnStage q d w gs base g has (end_of i slot)
-          on = lies q d w gs base g has s at.stirs.places (end_of i slot) (way_of slot) v held
+          on : OnStage q d (assign_runner w) gs asking g has (end_of i slot)
+          on = lies q d (assign_runner w) gs asking g has s at.stirs.places (end_of i slot) (way_of slot) v held
 
           which : (i ≡ d) × (shake_of slot ≡ 1) × StandsIn p (ResultEnd 1)
           which =
-              elim (end_is q d w gs base g has i (shake_of slot) on.own on.owned on.stands on.lies) [
+              elim (end_is q d (assign_runner w) gs asking g has i (shake_of slot) on.own on.owned on.stands on.lies) [
                 | inl inside ↦ (let clash : None ≡ Some inside.0 = sym out ∙ inside.1 in absurd (cc clash))
                 | inr is ↦ is
               ]
@@ -219,7 +225,7 @@ module _
           by_number : (o : Option ℕ) → f.number i ≡ o → ⊥
           by_number None out = let (v, row, held, by, leads) = does in of_own i slot v row out held by
           by_number (Some j) number =
-              quiet.0 j slot (seen g t) (fires_in q d w gs base g has before s t hs at.ran at.stirs.places i j number slot does).0
+              quiet.0 j slot (seen g t) (fires_in q d (assign_runner w) gs asking g has before s t hs at.ran at.stirs.places i j number slot does).0
 
   running_is_not_idle : (b : Term) (st : Store) → Running b st ≡ Idle → ⊥
   running_is_not_idle b st e = cc e
@@ -232,13 +238,13 @@ module _
   shown_down (Fire j slot) stays = refl
   shown_down (Out (PartEnd i h) v) stays = absurd stays
   shown_down (Out (ResultEnd h) v) stays = absurd stays
-  shown_down (Out (ImportEnd i h) v) stays = out_shown q d w g there i h v stays
+  shown_down (Out (ImportEnd i h) v) stays = out_shown q g there.ports i h v stays
   shown_down (In (PartEnd i h) v) stays = absurd stays
   shown_down (In (ResultEnd h) v) stays = absurd stays
-  shown_down (In (ImportEnd i h) v) stays = in_shown q d w g there i h v (in_stage_stands q d w g ground there i h v stays)
+  shown_down (In (ImportEnd i h) v) stays = in_shown q g there.ports i h v (in_stage_stands q d w g ground there i h v stays)
 
   goes_so : (y : Element) (s u : Tokens) (acts : List Act) → Does p y (seen g s) u → GoesOn q s (whole_element f y) acts → GoesOn p (seen g s) y acts
-  goes_so (Fire j slot) s u acts does goes = goes_down q d w gs base g has s u j slot acts does goes
+  goes_so (Fire j slot) s u acts does goes = goes_down q d (assign_runner w) gs asking g has s u j slot acts does goes
   goes_so (Out e v) s u acts does goes = tt
   goes_so (In e v) s u acts does goes = tt
 

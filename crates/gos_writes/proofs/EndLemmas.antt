@@ -31,11 +31,15 @@ use Rattle.gos_windows.proofs.InlayLemmas.{inlay}
 use Rattle.gos_windows.proofs.WholeLemmas.{zero_only}
 use Rattle.gos_writes.specs.Writes.{HasStages}
 use Rattle.gos_writes.specs.Variables.{lone_stage}
-use Rattle.gos_writes.proofs.AskedLemmas.{asked_role}
+use Rattle.gos_windows.proofs.AskedLemmas.{asked_role}
+use Rattle.gos_windows.proofs.RunnerLemmas as runners
+use Rattle.gos_writes.specs.Windows.{assign_runner}
+use Rattle.gos_writes.proofs.AskedLemmas.{asked_by}
+use Rattle.gos_writes.proofs.AssignLemmas.{has_stages}
 use Rattle.gos_writes.proofs.OwnLemmas as table
-use Rattle.gos_writes.proofs.StageLemmas.{stage, cut, InStage, answers, answer_fits}
-use Rattle.gos_writes.proofs.LiftLemmas.{held_whole, stage_stands}
-use Rattle.gos_writes.proofs.MatchedLemmas.{idle_is_stalled}
+use Rattle.gos_windows.proofs.StageLemmas.{cut, InStage, answers, answer_fits}
+use Rattle.gos_windows.proofs.LiftLemmas.{held_whole, stage_stands}
+use Rattle.gos_nodes.proofs.MatchedLemmas.{idle_is_stalled}
 use Rattle.gos_writes.proofs.PrefixLemmas.{lies_across, state_apart, apart_if}
 use Rattle.gos_writes.proofs.CourseLemmas as course
 use Rattle.gos_writes.proofs.CourseLemmas.{At, Tails}
@@ -67,6 +71,9 @@ module _
   has : Contains gs g
   has = (0, omega arith, refl)
 
+  abbrev asking : runners.HasStages q d (assign_runner w) gs
+  asking = has_stages q d w gs base
+
   run_in : IsIn (joint (ResultEnd 0) (PartEnd d 2)) q.joints
   run_in = contained q.joints (joint (ResultEnd 0) (PartEnd d 2)) run
 
@@ -80,15 +87,15 @@ module _
   done_so = ap (λ t. turned_if (slice_get (contacts_of t) 0)) outcome
 
   not_result : (e : End) → cutting.asks_in p.joints e ≡ true → lies_at f e ≢ ResultEnd 0
-  not_result e asking = of_end e (asker_own p (stage q d w gs base g has).region.right e asking)
+  not_result e asking = of_end e (asker_own p (base.stages g has).region.right e asking)
     where
       of_end : (e : End) → Owns p e → lies_at f e ≢ ResultEnd 0
       of_end (PartEnd i h) stands is = cc is
       of_end (ImportEnd i h) stands is =
-          let (n, at_n, same) = (stage q d w gs base g has).ports i h stands in
+          let (n, at_n, same) = (base.stages g has).ports i h stands in
           let clash : ImportEnd n h ≡ ResultEnd 0 = sym at_n ∙ is in cc clash
       of_end (ResultEnd h) stands is =
-          let there = stage q d w gs base g has in
+          let there = base.stages g has in
           let one = there.only h stands in
           let here = subst (λ (n : ℕ). StandsIn p (ResultEnd n)) one stands in
           let clash : PartEnd d 1 ≡ ResultEnd 0 = sym (there.run_by here) ∙ (ap (λ (n : ℕ). f.outer (ResultEnd n)) (sym one) ∙ is) in cc clash
@@ -99,20 +106,20 @@ module _
 
     own_held : token_at p (seen g s) (ResultEnd 1) Answer ≡ Some v
     own_held =
-        let there = stage q d w gs base g has in
-        ap (λ (x : Direction). token_at p (seen g s) (ResultEnd 1) x) (ap way_taken (asked_role p 1 w there.low there.outcome c.0 c.1))
+        let there = base.stages g has in
+        ap (λ (x : Direction). token_at p (seen g s) (ResultEnd 1) x) (ap way_taken (asked_role p 1 _ _ (asked_by p 1 w there.low there.outcome) c.0 c.1))
         ∙ (subst (λ (o : Option Contact). Passes p (Out (ResultEnd 1) v) o (seen g s) u) c.1 own_does.1).0
 
     stands : StandsIn p (ResultEnd 1)
-    stands = stage_stands q d w gs base g has s (ResultEnd 1) Answer v own_held
+    stands = stage_stands q d (assign_runner w) gs asking g has s (ResultEnd 1) Answer v own_held
 
     held : token_at q s (PartEnd d 1) Answer ≡ Some v
     held =
-        ap (λ (e : End). token_at q s e Answer) (sym ((stage q d w gs base g has).run_by stands))
-        ∙ held_whole q d w gs base g has s (ResultEnd 1) stands Answer v own_held
+        ap (λ (e : End). token_at q s e Answer) (sym ((base.stages g has).run_by stands))
+        ∙ held_whole q d (assign_runner w) gs asking g has s (ResultEnd 1) stands Answer v own_held
 
     zero_is : v ≡ 0
-    zero_is = zero_only v (answer_fits q d w gs base g has s at_s.fit at_s.stirs.places v held)
+    zero_is = zero_only v (answer_fits q d (assign_runner w) gs asking g has s at_s.fit at_s.stirs.places v held)
 
     pub takes : (row : Row) × (firing (Assign w) (s.state d) (Ans 1) ≡ Some row)
     takes = table.takes_answer w (s.state d) 1 at_s.stirs.session
@@ -152,8 +159,8 @@ module _
     )
 
     -- what the plan sees
-    own : Does p (Out (ResultEnd 1) v) (seen g s) (seen g taken) × InStage q d w gs base g has taken
-    own = answers q d w gs base g has s at_s.stirs.places v held
+    own : Does p (Out (ResultEnd 1) v) (seen g s) (seen g taken) × InStage q d (assign_runner w) gs asking g has taken
+    own = answers q d (assign_runner w) gs asking g has s at_s.stirs.places v held
 
     seen_is : seen g taken ≡ u
     seen_is = one_state p (Out (ResultEnd 1) v) (seen g s) (seen g taken) u own.0 own_does
@@ -181,8 +188,8 @@ module _
 
         by_part : (i : ℕ) (t : Bool) → nat_lt i (length p.parts) ≡ t → (if t then taken.state (f.part i) else at Rest 0).phase ≡ Rest
         by_part i true within =
-            let number = number_at f (inlay f q p) p (cut q d w gs base g has) (Assign w) i within in
-            let apart = apart_if f d (f.part i) (stage q d w gs base g has).outside i number in
+            let number = number_at f (inlay f q p) p (cut q d (assign_runner w) gs asking g has) (Assign w) i within in
+            let apart = apart_if f d (f.part i) (base.stages g has).outside i number in
             ap (λ (x : State). x.phase) (sym (state_so (f.part i) apart)) ∙ idle.1 (f.part i)
         by_part i false within = refl
 

@@ -25,11 +25,12 @@ use Rattle.gos_buffers.proofs.WritingLemmas.{WriteOwn, write_is_driven}
 use Rattle.gos_windows.specs.Regions.{IsRegion}
 use Rattle.gos_windows.specs.Nodes.{Stage}
 use Rattle.gos_windows.proofs.PortLemmas.{stands_place, place_stands}
-use Rattle.gos_writes.specs.OneSession.{IsRegularAt}
+use Rattle.gos_windows.specs.OneSession.{IsRegularAt}
 use Rattle.gos_writes.specs.Writes.{IsWriteStage, HasStages}
 use Rattle.gos_writes.specs.Variables.{lone_stage, IsLoneWrite}
 use Rattle.gos_writes.specs.Written.{unread_joints, unread, if_there, written_cut}
-use Rattle.gos_writes.proofs.AskedLemmas.{ground_asks, ground_heard, asked_contact}
+use Rattle.gos_windows.proofs.AskedLemmas.{ground_asks, ground_heard}
+use Rattle.gos_writes.proofs.AskedLemmas.{asked_by}
 
 -- joints without those of handshake 0
 kept_in : (x : Joint) (js : List Joint) → same_end x.asking (ResultEnd 0) ≡ false → IsIn x js → IsIn x (unread_joints js)
@@ -250,7 +251,7 @@ module _
   lit_part = part_at (suc n) 1 (kinds.Lit w k) (omega arith) refl
 
   write_contact : contact_at q (PartEnd n 1) ≡ contact_at c (ResultEnd 1)
-  write_contact = ap (λ (o : Option Part). slice_get (contacts_of_part o) 1) own_part ∙ sym (asked_contact c 1 w low outcome)
+  write_contact = ap (λ (o : Option Part). slice_get (contacts_of_part o) 1) own_part ∙ sym (asked_by c 1 w low outcome).contact
 
   inner_result : StandsIn c (ResultEnd 1) → f.inner (PartEnd n 1) ≡ Some (ResultEnd 1)
   inner_result stands =

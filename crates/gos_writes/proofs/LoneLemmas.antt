@@ -24,17 +24,20 @@ use Rattle.gos_windows.specs.Regions.{whole_element}
 use Rattle.gos_windows.specs.Nodes.{Stage}
 use Rattle.gos_windows.specs.Windows.{seen}
 use Rattle.gos_windows.proofs.KeepingLemmas.{turns_keep_protocol}
-use Rattle.gos_windows.proofs.TurnLemmas.{Turned, first_turned, result_in}
-use Rattle.gos_writes.specs.OneSession.{IsTidy, AllStay, EndsWell}
+use Rattle.gos_windows.proofs.TurnLemmas.{Turned, closed_turned, result_in}
+use Rattle.gos_windows.specs.OneSession.{IsTidy, AllStay, EndsWell}
 use Rattle.gos_writes.specs.Realised.{IsSessionMatched}
 use Rattle.gos_writes.specs.Variables.{lone_stage, IsLoneWrite, LoneWriteIsSession}
-use Rattle.gos_writes.proofs.FollowLemmas.{Follows, follows_first}
+use Rattle.gos_windows.proofs.FollowLemmas.{Follows, follows_first}
 use Rattle.gos_writes.proofs.PrefixLemmas as prefix
 use Rattle.gos_writes.proofs.CourseLemmas as course
-use Rattle.gos_writes.proofs.AskedLemmas.{asked_in}
+use Rattle.gos_windows.proofs.AskedLemmas.{asked_in}
+use Rattle.gos_writes.specs.Windows.{assign_runner}
+use Rattle.gos_writes.proofs.AskedLemmas.{asked_by}
+use Rattle.gos_writes.proofs.AssignLemmas.{has_stages}
 use Rattle.gos_writes.proofs.CourseLemmas.{At, Tails, no_tails}
 use Rattle.gos_writes.proofs.EndLemmas.{ended_tails}
-use Rattle.gos_writes.proofs.MatchedLemmas.{more_some, both_silent}
+use Rattle.gos_nodes.proofs.MatchedLemmas.{more_some, both_silent}
 
 -- The moves of the first four elements: after the request they are silent, and there is a step.
 four_moves : (G : Program) (a b c d : List Act) (v w x y : Config) → Moves G a Idle v → labels a ≡ given 0 0 ∷ [] → Moves G b v w → labels b ≡ [] → Moves G c w x
@@ -100,7 +103,7 @@ module _
   )
 
   first : Turned q (pass (ResultEnd 0) Request ∷ [])
-  first = first_turned q done
+  first = closed_turned q done (pass (ResultEnd 0) Request ∷ []) (λ i h. refl)
 
   turn : KeepsTurns q [] (pass (ResultEnd 0) (way_in (contact_at q (ResultEnd 0))))
   turn = subst (λ (way : Direction). KeepsTurns q [] (pass (ResultEnd 0) way)) (sym (result_in q done)) (refl, first)
@@ -122,15 +125,15 @@ module _
         turns = (turn, tt);
         turned = turn.1;
         follows =
-            subst (λ (way : Direction). Follows q g (passed p [] (In (ResultEnd 1) k ∷ [])) (pass (ResultEnd 0) way ∷ [])) (sym (result_in q done))
-            (subst (λ (way : Direction). Follows q g (pass (ResultEnd 1) way ∷ []) (pass (ResultEnd 0) Request ∷ [])) (sym own_in)
-            (follows_first q d w (g ∷ []) lone.base g (course.has q d w f p lone.base lone.ground lone.outcome regular before s0 idle_first) (pass (ResultEnd 0) Request ∷ []) (refl, λ i h. refl)));
+            subst (λ (way : Direction). Follows q (assign_runner w) g (passed p [] (In (ResultEnd 1) k ∷ [])) (pass (ResultEnd 0) way ∷ [])) (sym (result_in q done))
+            (subst (λ (way : Direction). Follows q (assign_runner w) g (pass (ResultEnd 1) way ∷ []) (pass (ResultEnd 0) Request ∷ [])) (sym own_in)
+            (follows_first q d (assign_runner w) (g ∷ []) (has_stages q d w (g ∷ []) lone.base) g (course.has q d w f p lone.base lone.ground lone.outcome regular before s0 idle_first) (pass (ResultEnd 0) Request ∷ []) (refl, λ i h. refl)));
         fit = all_stay_fit q first_list s0 s4 lone.base.right lone.base.literals (idle_fits q s0 idle_first) runs;
       }
     where
       own_in : way_in (contact_at p (ResultEnd 1)) ≡ Request
       own_in =
-          let there = course.there q d w f p lone.base lone.ground lone.outcome regular before s0 idle_first in asked_in p 1 w there.low there.outcome
+          let there = course.there q d w f p lone.base lone.ground lone.outcome regular before s0 idle_first in asked_in p 1 _ _ (asked_by p 1 w there.low there.outcome)
 
   -- its session's list, with this end
   module _

@@ -1,16 +1,16 @@
 -- The list of a write is matched by its term: at rest, asked, within a session, and answered. As in gos_nodes.
-use Rattle.std.specs.Prelude.{◌≡◌, ◌≢◌, ℕ, ◌^◌, ◌<◌, true, false, IsTrue, List, [], ◌∷◌, ◌++◌, Option, Some, slice_get, Contains}
+use Rattle.std.specs.Prelude.{◌≡◌, ◌≢◌, ℕ, ◌^◌, ◌<◌, true, List, [], ◌∷◌, ◌++◌, Option, Some, slice_get, Contains}
 use Rattle.std.proofs.Common.{refl, sym, ap, subst, inl, inr, ◌∙◌}
 use Rattle.gos_types.specs.Types.{Com, IsDone}
 use Rattle.gos_netlist.specs.Events.{Request, Answer}
 use Rattle.gos_model.specs.Terms.{Term, Skip, Lit, Assign}
 use Rattle.gos_model.specs.Typing.{Typed}
 use Rattle.gos_model.specs.Stores.{Store}
-use Rattle.gos_model.specs.Labels.{given, is_output}
-use Rattle.gos_model.specs.Moves.{Program, Config, Idle, Running, Act, Showing, Unfoldings, Moves, labels, Stalled}
+use Rattle.gos_model.specs.Labels.{given}
+use Rattle.gos_model.specs.Moves.{Program, Config, Idle, Running, Act, Showing, Unfoldings, Moves, labels}
 use Rattle.gos_plan.specs.Kinds as kinds
 use Rattle.gos_plan.specs.Kinds.{Part}
-use Rattle.gos_plan.specs.Firing.{Slot, Req, Ans, Token, Row, put, firing}
+use Rattle.gos_plan.specs.Firing.{Slot, Req, Ans, Row, put, firing}
 use Rattle.gos_plan.specs.Plans.{PartEnd, ResultEnd, Plan}
 use Rattle.gos_plan.specs.Tokens.{Tokens, Element, Fire, Out, In, token_at, firing_of, Does, IsIdle}
 use Rattle.gos_plan.specs.TokenBits.{AllFit}
@@ -23,55 +23,21 @@ use Rattle.gos_contexts.proofs.WideningLemmas.{sources_known, runs_known}
 use Rattle.gos_results.proofs.ResultLemmas.{moves_then}
 use Rattle.gos_windows.specs.Regions.{whole_element}
 use Rattle.gos_windows.specs.Nodes.{Stage}
-use Rattle.gos_windows.specs.Windows.{seen, HoldsOnly}
+use Rattle.gos_windows.specs.Windows.{seen, HoldsOnly, StirsOnly, Begins, Where, Resting, Asked, Within, Answered, LeadsTo, to_session, to_answer, Staged, rests, waits, stays, holds, is_asked, begins, stirs, goes_on, replies}
 use Rattle.gos_windows.proofs.PortLemmas.{ground_within}
-use Rattle.gos_nodes.proofs.SilentLemmas.{labels_then, unfold_first, silent_inner}
+use Rattle.gos_nodes.proofs.MatchedLemmas.{idle_is_stalled, running_is_not_idle, one_asked, asks_or_answers, no_asking, more_some, both_silent}
+use Rattle.gos_nodes.proofs.SilentLemmas.{unfold_first, silent_inner}
 use Rattle.gos_nodes.proofs.FrameLemmas.{framed, framed_waits}
 use Rattle.gos_nodes.proofs.PortLemmas.{request_shown, answer_shown, answers_value}
-use Rattle.gos_writes.specs.OneSession.{Stays}
+use Rattle.gos_windows.specs.OneSession.{Stays}
 use Rattle.gos_writes.specs.Writes.{asked_type, answer_bits, IsWriteStage, IsWrite}
-use Rattle.gos_writes.specs.Windows.{StirsOnly, Begins, Where, Resting, Asked, Within, Answered, LeadsTo, to_session, to_answer, Staged, rests, waits, stays, holds, is_asked, begins, stirs, goes_on, replies}
+use Rattle.gos_writes.specs.Windows.{assign_runner}
 use Rattle.gos_writes.specs.Realised.{SessionIsRealised, AreWritten, WriteRealises, WriteRealisesByType}
 use Rattle.gos_writes.proofs.OwnLemmas.{asks_number, asks_write, answers_zero}
-use Rattle.gos_writes.proofs.QuietLemmas.{quiet_is_within, assign_can}
-use Rattle.gos_writes.proofs.WindowLemmas.{writes_are_staged}
-use Rattle.gos_writes.proofs.OrderLemmas.{write_is_regular}
-use Rattle.gos_writes.proofs.SessionLemmas.{number_session, write_session, IsSession, frame_is, child, Inner, agrees_here, stage_among, done_session, Opened, opens, goes_within, Ended, ends}
+use Rattle.gos_writes.proofs.AssignLemmas.{quiet_is_within, assign_can, writes_are_staged, write_is_regular}
+use Rattle.gos_writes.proofs.SessionLemmas.{number_session, write_session, IsSession, frame_is, Inner, agrees_here, stage_among, done_session, Opened, opens, goes_within, ends}
+use Rattle.gos_nodes.proofs.ChildLemmas.{child, Ended}
 use Rattle.gos_realises.specs.Realises.{AllGround}
-
--- an idle program can only wait
-run_is_no_output : (o : _) → IsTrue (is_output o) → Showing o ≡ Showing (given 0 0) → ⊥
-run_is_no_output o out e =
-    let is : o ≡ given 0 0 = cc e in
-    let no : false ≡ true = subst (λ l. IsTrue (is_output l)) is out in cc no
-
-pub idle_is_stalled : (p : Program) → Stalled p Idle
-idle_is_stalled p = (λ d move. let e = move.0 in cc e, λ o d out move. run_is_no_output o out move.0)
-
-running_is_not_idle : (m : Term) (s : Store) → Running m s ≡ Idle → ⊥
-running_is_not_idle m s e = cc e
-
--- the tokens that the Assign puts
-first_token : (t u : Token) → t ∷ [] ≡ u ∷ [] → t ≡ u
-first_token t u e = cc e
-
-one_asked : (a b x y : ℕ) → put (Req a) x ∷ [] ≡ put (Req b) y ∷ [] → (a ≡ b) × (x ≡ y)
-one_asked a b x y e =
-    let tokens = first_token (put (Req a) x) (put (Req b) y) e in
-    let slots : Req a ≡ Req b = ap (λ t. t.slot) tokens in (cc slots, ap (λ t. t.value) tokens)
-
-asks_or_answers : (a b x j : ℕ) → put (Req a) x ∷ [] ≡ put (Ans b) j ∷ [] → ⊥
-asks_or_answers a b x j e = let slots : Req a ≡ Ans b = ap (λ t. t.slot) (first_token (put (Req a) x) (put (Ans b) j) e) in cc slots
-
-no_asking : (ts : List Token) (a j : ℕ) → ts ≡ put (Ans a) j ∷ [] → asks_on ts ≡ true → ⊥
-no_asking ts a j e asks = let clash : asks_on (put (Ans a) j ∷ []) ≡ true = subst (λ (x : List Token). asks_on x ≡ true) e asks in cc clash
-
-pub more_some : (xs ys : List Act) → ys ≢ [] → xs ++ ys ≢ []
-more_some [] ys some e = some e
-more_some (x ∷ xs) ys some e = cc e
-
-pub both_silent : (xs ys : List Act) → labels xs ≡ [] → labels ys ≡ [] → labels (xs ++ ys) ≡ []
-both_silent xs ys e h = labels_then xs ys ∙ (ap (λ ls. ls ++ labels ys) e ∙ h)
 
 module _
     (r : Plan) (d : ℕ) (wide : ℕ) (gs : List Stage) (node : IsWrite r d wide gs) (ground : AllGround r.imports) (m n : Term)
@@ -97,7 +63,7 @@ module _
 
   -- within a session the child is
   within_agrees : (g : Stage) (ys : List Element) (s : Tokens) (e : Session) (b : Term) (st : Store)
-      → Contains gs g → StirsOnly d g s → Inner wide m n g ys s e b st → Agrees r whole s (Running (e.frame b) st)
+      → Contains gs g → StirsOnly d (assign_runner wide) g s → Inner wide m n g ys s e b st → Agrees r whole s (Running (e.frame b) st)
   within_agrees g ys s e b st has only inner = (
     λ q.
         framed_waits (child g e) whole e.frame b st (frame_is wide m n e inner.at) (stage_among r d wide g node.base.names (node.base.stages g has))
@@ -119,7 +85,7 @@ module _
     moves : Moves whole o.acts (Running (e.frame e.term) []) (Running (e.frame o.term) o.store)
 
   enters : (g : Stage) (k : ℕ) (ys : List Element) (s : Tokens) (e : Session) → Contains gs g → IsSession wide m n e → e.asked_at ≡ g.asked_at
-      → Typed g.plan.imports [] e.term e.ty → SessionIsRealised g.plan g.asked_at k e.term → Begins g k ys s → Entered g ys s e
+      → Typed g.plan.imports [] e.term e.ty → SessionIsRealised g.plan g.asked_at k e.term → Begins g.asked_at g k ys s → Entered g ys s e
   enters g k ys s e has at asked typed realised start =
       let opened = opens wide m n g k ys s e at asked typed realised start in
       record {
@@ -130,7 +96,7 @@ module _
       }
 
   -- N is asked
-  of_number : (g : Stage) (k : ℕ) (ys : List Element) (s : Tokens) → Contains gs g → 0 ≡ g.asked_at → 0 ≡ k → Begins g k ys s → Entered g ys s (number_session wide m n)
+  of_number : (g : Stage) (k : ℕ) (ys : List Element) (s : Tokens) → Contains gs g → 0 ≡ g.asked_at → 0 ≡ k → Begins g.asked_at g k ys s → Entered g ys s (number_session wide m n)
   of_number g k ys s has at none start =
       let (typed, realises) = real.number g has (sym at) in
       let there : IsWriteStage r d wide g = node.base.stages g has in
@@ -141,7 +107,7 @@ module _
       (subst (λ (h : ℕ). SessionIsRealised g.plan h k n) at (subst (λ (x : ℕ). SessionIsRealised g.plan 0 x n) none realised)) start
 
   -- M is written
-  of_write : (g : Stage) (v k : ℕ) (ys : List Element) (s : Tokens) → Contains gs g → 1 ≡ g.asked_at → v ≡ k → v < 2 ^ wide → Begins g k ys s → Entered g ys s (write_session wide m v)
+  of_write : (g : Stage) (v k : ℕ) (ys : List Element) (s : Tokens) → Contains gs g → 1 ≡ g.asked_at → v ≡ k → v < 2 ^ wide → Begins g.asked_at g k ys s → Entered g ys s (write_session wide m v)
   of_write g v k ys s has at same fits start =
       let (typed, realised) = real.variable g has (sym at) v fits in
       enters g k ys s (write_session wide m v) has (inr (v, refl)) at typed
@@ -151,8 +117,8 @@ module _
   -- the Assign is run
   begun : (s t : Tokens) (xs : List Element) (row : Row) (w : Where)
       → HoldsOnly r (PartEnd d 2) Request 0 s → firing (kinds.Assign wide) (s.state d) (Req 2) ≡ Some row
-      → Does r (Fire d (Req 2)) s t → LeadsTo r d gs row 0 t w → Matches w xs t → IsMatched r whole (Fire d (Req 2) ∷ xs) s (Running (Assign m n) [])
-  begun s t xs row w here fires does (to_session g k ys has only start puts) rest =
+      → Does r (Fire d (Req 2)) s t → LeadsTo r d (assign_runner wide) gs row 0 t w → Matches w xs t → IsMatched r whole (Fire d (Req 2) ∷ xs) s (Running (Assign m n) [])
+  begun s t xs row w here fires does (to_session g k ys has low only start puts) rest =
       let same = one_asked 0 g.asked_at 0 k (sym (asks_number wide (s.state d) row (here.states d) fires) ∙ puts) in
       let entered = of_number g k ys t has same.0 same.1 start in
       let o = entered.o in
@@ -193,8 +159,8 @@ module _
 
   -- with the number
   to_write : (v : ℕ) (row : Row) (t : Tokens) (w : Where) (xs : List Element) (j : ℕ) (b : Term) → v < 2 ^ wide → row.puts v ≡ put (Req 1) v ∷ []
-      → Unfoldings j b (Assign m (Lit v wide)) → LeadsTo r d gs row v t w → Matches w xs t → Led row v t xs b
-  to_write v row t w xs j b fits puts us (to_session g k ys has only start asks) rest =
+      → Unfoldings j b (Assign m (Lit v wide)) → LeadsTo r d (assign_runner wide) gs row v t w → Matches w xs t → Led row v t xs b
+  to_write v row t w xs j b fits puts us (to_session g k ys has low only start asks) rest =
       let same = one_asked 1 g.asked_at v k (sym puts ∙ asks) in
       let entered = of_write g v k ys t has same.0 same.1 fits start in
       let o = entered.o in (
@@ -209,14 +175,14 @@ module _
 
   -- the write is done
   to_end : (v : ℕ) (row : Row) (t : Tokens) (w : Where) (xs : List Element) (j : ℕ) (b : Term) → row.puts v ≡ put (Ans 2) 0 ∷ []
-      → Unfoldings j b Skip → LeadsTo r d gs row v t w → Matches w xs t → Led row v t xs b
-  to_end v row t w xs j b puts us (to_session g k ys has only start asks) rest = absurd (asks_or_answers g.asked_at 2 k 0 (sym asks ∙ puts))
+      → Unfoldings j b Skip → LeadsTo r d (assign_runner wide) gs row v t w → Matches w xs t → Led row v t xs b
+  to_end v row t w xs j b puts us (to_session g k ys has low only start asks) rest = absurd (asks_or_answers g.asked_at 2 k 0 (sym asks ∙ puts))
   to_end v row t w xs j b puts us (to_answer k holding answers) rest =
       ([], Running b [], refl, refl, (λ asking. absurd (no_asking (row.puts v) 2 0 puts asking)), rest j b us)
 
-  leads : (g : Stage) (v : ℕ) (row : Row) (s t : Tokens) (w : Where) (xs : List Element) (e : Session) (j : ℕ) (b : Term) → StirsOnly d g s
+  leads : (g : Stage) (v : ℕ) (row : Row) (s t : Tokens) (w : Where) (xs : List Element) (e : Session) (j : ℕ) (b : Term) → StirsOnly d (assign_runner wide) g s
       → v < 2 ^ answer_bits g.asked_at wide → firing (kinds.Assign wide) (s.state d) (Ans g.asked_at) ≡ Some row → IsSession wide m n e → e.asked_at ≡ g.asked_at
-      → Unfoldings j b (e.frame (value_of e.ty v)) → LeadsTo r d gs row v t w → Matches w xs t → Led row v t xs b
+      → Unfoldings j b (e.frame (value_of e.ty v)) → LeadsTo r d (assign_runner wide) gs row v t w → Matches w xs t → Led row v t xs b
   leads g v row s t w xs e j b only fits fires (inl is) asked us to rest =
       let at : g.asked_at ≡ 0 = sym asked ∙ ap (λ (x : Session). x.asked_at) (sym is) in
       let puts =
@@ -230,9 +196,9 @@ module _
       to_end v row t w xs j b puts (subst (λ (x : Session). Unfoldings j b (x.frame (value_of x.ty v))) (sym is) us) to rest
 
   gone_on : (s t : Tokens) (xs : List Element) (g : Stage) (v : ℕ) (u : Tokens) (row : Row) (w : Where)
-      → Contains gs g → StirsOnly d g s → Does g.plan (Out (ResultEnd g.asked_at) v) (seen g s) u → v < 2 ^ answer_bits g.asked_at wide
+      → Contains gs g → StirsOnly d (assign_runner wide) g s → Does g.plan (Out (ResultEnd g.asked_at) v) (seen g s) u → v < 2 ^ answer_bits g.asked_at wide
       → token_at r s (PartEnd d g.asked_at) Answer ≡ Some v → firing (kinds.Assign wide) (s.state d) (Ans g.asked_at) ≡ Some row
-      → Does r (Fire d (Ans g.asked_at)) s t → LeadsTo r d gs row v t w → Matches w xs t
+      → Does r (Fire d (Ans g.asked_at)) s t → LeadsTo r d (assign_runner wide) gs row v t w → Matches w xs t
       → Matches (Within g (Out (ResultEnd g.asked_at) v ∷ [])) (Fire d (Ans g.asked_at) ∷ xs) s
   gone_on s t xs g v u row w has only answer fits held fires does to rest e b st inner =
       let over : Ended whole e b st v = ends r d wide m n whole g s u e b st v node.base.names refl (node.base.stages g has) answer inner in
@@ -249,7 +215,7 @@ module _
 
   -- an element of a stage
   stirred_on : (s t : Tokens) (xs ys : List Element) (g : Stage) (y : Element)
-      → Contains gs g → StirsOnly d g s → Does g.plan y (seen g s) (seen g t) → Stays g.plan y → Does r (whole_element g.cut y) s t
+      → Contains gs g → StirsOnly d (assign_runner wide) g s → Does g.plan y (seen g s) (seen g t) → Stays g.plan y → Does r (whole_element g.cut y) s t
       → Matches (Within g ys) xs t → Matches (Within g (y ∷ ys)) (whole_element g.cut y ∷ xs) s
   stirred_on s t xs ys g y has only does_there stands does rest e b st inner =
       let went = goes_within r d wide m n whole g y ys s t e b st node.base.names ground refl (node.base.stages g has) does_there stands does inner in
@@ -288,7 +254,7 @@ module _
   next_fits : (x : Element) (s t : Tokens) → AllFit r s → Does r x s t → AllFit r t
   next_fits x s t fits does = all_stay_fit r (x ∷ []) s t node.base.right node.base.literals fits (t, does, refl)
 
-  matches : (w : Where) (xs : List Element) (s : Tokens) → Staged r d wide gs w xs s → AllFit r s → Matches w xs s
+  matches : (w : Where) (xs : List Element) (s : Tokens) → Staged r d (assign_runner wide) gs w xs s → AllFit r s → Matches w xs s
   matches w xs s (rests s1 idle) fits = (λ q. idle_is_stalled whole, λ e. idle)
   matches w xs s (waits s1 here) fits = asked_agrees s1 (Assign m n) [] here
   matches w xs s (stays s1 g has only) fits = λ e b st inner. within_agrees g [] s1 e b st has only inner

@@ -5,8 +5,7 @@ use Rattle.std.proofs.lemmas.Option.{none-some, same_Some}
 use Rattle.gos_plan.specs.Kinds.{Assign}
 use Rattle.gos_plan.specs.Firing.{Phase, Rest, Value, Writing, State, Slot, Req, Ans, Token, Row, at, put, firing}
 use Rattle.gos_assigned.proofs.TableLemmas.{assigns_do}
-use Rattle.gos_writes.specs.Writes.{answer_bits, waits_at}
-use Rattle.gos_writes.proofs.AskedLemmas.{request_bits}
+use Rattle.gos_writes.specs.Writes.{request_bits, answer_bits, waits_at}
 
 -- a firing leads to where the Assign asks handshake h with the number n, or it answers with k
 abbrev pub LeadsOn : ℕ → State → List Token → Type 0
@@ -69,6 +68,14 @@ waiting : (p : Phase) (h : ℕ) → waits_at p ≡ Some h → ((p ≡ Value) × 
 waiting Value h is = inl (refl, sym (same_Some 0 h is))
 waiting Writing h is = inr (refl, sym (same_Some 1 h is))
 waiting p h is = absurd (none-some h is)
+
+-- a stage is asked at another handshake than that by which the Assign is run
+pub asked_apart : (p : Phase) (h : ℕ) → waits_at p ≡ Some h → h ≡ 2 → ⊥
+asked_apart p h is run =
+    elim (waiting p h is) [
+      | inl value ↦ omega (arith, run, value.1)
+      | inr writing ↦ omega (arith, run, writing.1)
+    ]
 
 pub asks_number : (w : ℕ) (q : State) (r : Row) → q.phase ≡ Rest → firing (Assign w) q (Req 2) ≡ Some r → r.puts 0 ≡ put (Req 0) 0 ∷ []
 asks_number w q r rests by =

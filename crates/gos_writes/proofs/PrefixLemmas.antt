@@ -15,15 +15,17 @@ use Rattle.gos_webs.specs.Cutting as cutting
 use Rattle.gos_webs.specs.Cutting.{Cut, lies_at}
 use Rattle.gos_webs.proofs.CutLemmas.{first_stands, last_stands, lies_there, number_at}
 use Rattle.gos_windows.specs.Nodes.{Stage}
-use Rattle.gos_windows.specs.Windows.{seen}
+use Rattle.gos_windows.specs.Windows.{seen, StirsOnly}
 use Rattle.gos_windows.proofs.InlayLemmas.{inlay}
 use Rattle.gos_windows.proofs.PortLemmas.{place_stands}
 use Rattle.gos_windows.proofs.WholeLemmas.{other_state}
-use Rattle.gos_writes.specs.OneSession.{IsTidy}
+use Rattle.gos_windows.specs.OneSession.{IsTidy}
 use Rattle.gos_writes.specs.Writes.{waits_at}
-use Rattle.gos_writes.specs.Windows.{StirsOnly}
+use Rattle.gos_windows.proofs.RunnerLemmas as runners
+use Rattle.gos_writes.specs.Windows.{assign_runner}
+use Rattle.gos_writes.proofs.AssignLemmas.{has_stages}
 use Rattle.gos_writes.specs.Variables.{lone_stage, IsLoneWrite}
-use Rattle.gos_writes.proofs.StageLemmas.{Emptied, stage, cut, InStage, asked}
+use Rattle.gos_windows.proofs.StageLemmas.{Emptied, cut, InStage, asked}
 
 -- a token put at one end of a joint and taken at the other leaves nothing
 taken_again : (r : Plan) (a b x : End) (way : Direction) (v : ℕ) (s : Tokens) → places_of r a ≡ Some x → places_of r b ≡ Some x
@@ -63,6 +65,9 @@ module _
 
   pub has : Contains (g ∷ []) g
   has = (0, omega arith, refl)
+
+  abbrev asking : runners.HasStages q d (assign_runner w) (g ∷ [])
+  asking = has_stages q d w (g ∷ []) lone.base
 
   -- the places of the two joints
   run_in : IsIn (joint (ResultEnd 0) (PartEnd d 2)) q.joints
@@ -146,7 +151,7 @@ module _
       state_apart d i (at Writing (s3.state d).number) (with_token q (PartEnd d 0) Answer None s3) apart ∙ token_state q (PartEnd d 0) Answer None s3 i
 
   outside_own : s0.state d ≡ at Rest 0
-  outside_own = ap (taken_over before) (stage q d w (g ∷ []) lone.base g has).outside
+  outside_own = ap (taken_over before) (lone.base.stages g has).outside
 
   outside_lit : s0.state l ≡ at Rest 0
   outside_lit = ap (taken_over before) lone.beside
@@ -210,7 +215,7 @@ module _
 
   within : (i j : ℕ) → f.number i ≡ Some j → a3.state i ≡ before.state j
   within i j number =
-      let apart_own = apart_if f d i (stage q d w (g ∷ []) lone.base g has).outside j number in
+      let apart_own = apart_if f d i (lone.base.stages g has).outside j number in
       let apart_lit = apart_if f l i lone.beside j number in
       last_state i apart_own ∙ (third_state i apart_lit ∙ (second_state i apart_own ∙ ap (taken_over before) number))
 
@@ -226,7 +231,7 @@ module _
 
   -- what the plan sees then
   part_state : (i : ℕ) (t : Bool) → nat_lt i (length p.parts) ≡ t → (if t then a3.state (f.part i) else at Rest 0) ≡ before.state i
-  part_state i true t = within (f.part i) i (number_at f (inlay f q p) p (cut q d w (g ∷ []) lone.base g has) (Lit w k) i t)
+  part_state i true t = within (f.part i) i (number_at f (inlay f q p) p (cut q d (assign_runner w) (g ∷ []) asking g has) (Lit w k) i t)
   part_state i false t = sym (tidy i t)
 
   place_state : (way : Direction) (e : End) (t : Bool) → (if t then a3.in_place way (lies_at f e) else None) ≡ before.in_place way e
@@ -239,8 +244,8 @@ module _
     state = λ i. part_state i (nat_lt i (length p.parts)) refl x;
   }
 
-  begun : Does p (In (ResultEnd 1) k) (seen g a3) (seen g s4) × InStage q d w (g ∷ []) lone.base g has s4
-  begun = asked q d w (g ∷ []) lone.base g has k lone.fits a3 emptied (λ x named. lone.written (place_stands q (PartEnd d 1) x named))
+  begun : Does p (In (ResultEnd 1) k) (seen g a3) (seen g s4) × InStage q d (assign_runner w) (g ∷ []) asking g has s4
+  begun = asked q d (assign_runner w) (g ∷ []) asking g has k lone.fits a3 emptied (λ x named. lone.written (place_stands q (PartEnd d 1) x named))
 
   pub seen_after : seen g s4 ≡ u
   seen_after =
@@ -249,7 +254,7 @@ module _
   pub asked_so : Does p (In (ResultEnd 1) k) before (seen g s4)
   asked_so = subst (λ (x : Tokens). Does p (In (ResultEnd 1) k) x (seen g s4)) seen_before begun.0
 
-  pub stirs : StirsOnly d g s4
+  pub stirs : StirsOnly d (assign_runner w) g s4
   stirs =
       record {
         session =

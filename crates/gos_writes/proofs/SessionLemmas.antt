@@ -1,42 +1,38 @@
 -- A stage's session: how it begins, what it does in its frame, and how it ends. As in gos_nodes.
 use Rattle.std.specs.Prelude.{◌≡◌, ◌≢◌, ◌⊎◌, ℕ, zero, suc, List, [], ◌∷◌, ◌++◌}
-use Rattle.std.proofs.Common.{arith, refl, sym, ap, subst, inl, inr, ◌∙◌}
-use Rattle.gos_types.specs.Types.{Type', Com, Exp, IsDone}
+use Rattle.std.proofs.Common.{arith, refl, sym, subst, inl, inr, ◌∙◌}
+use Rattle.gos_types.specs.Types.{Com, Exp, IsDone}
 use Rattle.gos_model.specs.Terms.{Term, Lit, Assign}
 use Rattle.gos_model.specs.Typing.{Imported, Typed}
 use Rattle.gos_model.specs.Stores.{Store}
-use Rattle.gos_model.specs.Steps.{IsValue}
 use Rattle.gos_model.specs.Labels.{given}
-use Rattle.gos_model.specs.Moves.{Program, Config, Idle, Running, Act, Showing, Unfoldings, Moves, labels}
+use Rattle.gos_model.specs.Moves.{Program, Config, Idle, Running, Act, Showing, Moves, labels}
 use Rattle.gos_plan.specs.Plans.{PartEnd, ImportEnd, ResultEnd, Plan, contact_at}
 use Rattle.gos_plan.specs.Tokens.{Tokens, Element, Fire, Out, In, Does}
 use Rattle.gos_realises.specs.Regular.{way_in, way_out}
 use Rattle.gos_realises.specs.Matched.{label_at, shows, GoesOn, Agrees, IsMatched, program_of, RealisesDone}
 use Rattle.gos_realises.specs.Realises.{AllGround, NamesDiffer}
 use Rattle.gos_realises.proofs.InputLemmas.{in_there}
-use Rattle.gos_sessions.specs.Sessions.{Session, session, value_of}
+use Rattle.gos_sessions.specs.Sessions.{Session, session}
 use Rattle.gos_contexts.specs.Contexts.{AssignRight}
 use Rattle.gos_contexts.specs.Plugged.{AreInner}
-use Rattle.gos_contexts.specs.Scopes.{KeepsScopes}
 use Rattle.gos_contexts.specs.Widening.{AreAmong}
-use Rattle.gos_contexts.proofs.ScopeLemmas.{runs_keep_scopes, unfoldings_keep, none_left}
-use Rattle.gos_contexts.proofs.ShutLemmas.{sources_are_shut}
-use Rattle.gos_results.specs.Results.{IsResult}
-use Rattle.gos_results.proofs.ResultLemmas.{moves_then, answers_are_typed}
+use Rattle.gos_results.proofs.ResultLemmas.{moves_then}
 use Rattle.gos_windows.specs.Regions.{whole_element}
 use Rattle.gos_windows.specs.Nodes.{Stage}
-use Rattle.gos_windows.specs.Windows.{seen}
+use Rattle.gos_windows.specs.Windows.{seen, Begins}
 use Rattle.gos_windows.proofs.KeepingLemmas.{turns_keep_protocol}
-use Rattle.gos_nodes.proofs.SilentLemmas.{silent_inner, one_inner, inner_stays, asked_first, answer_last}
-use Rattle.gos_nodes.proofs.FrameLemmas.{IsFrame, framed, framed_unfolds}
+use Rattle.gos_nodes.proofs.SilentLemmas.{silent_inner, one_inner, inner_stays, asked_first}
+use Rattle.gos_nodes.proofs.ChildLemmas.{child, moves_at, Ended, child_ends}
+use Rattle.gos_nodes.proofs.FrameLemmas.{IsFrame, framed}
 use Rattle.gos_nodes.proofs.PortLemmas.{request_shown, answer_shown, no_other_out, out_held, among, import_port}
 use Rattle.gos_writes.specs.Writes.{IsWriteStage}
-use Rattle.gos_writes.specs.OneSession.{Stays}
-use Rattle.gos_writes.specs.Windows.{Begins}
+use Rattle.gos_windows.specs.OneSession.{Stays}
 use Rattle.gos_writes.specs.Realised.{session_shows, IsSessionMatched, SessionIsRealised}
-use Rattle.gos_writes.proofs.RegionLemmas.{fires_goes_on, out_shown, in_shown}
+use Rattle.gos_nodes.proofs.RegionLemmas.{fires_goes_on, out_shown, in_shown}
 use Rattle.gos_webs.specs.Cutting.{StandsIn}
-use Rattle.gos_writes.proofs.AskedLemmas.{asked_ground, ground_in}
+use Rattle.gos_windows.proofs.AskedLemmas.{ground_in}
+use Rattle.gos_writes.proofs.AskedLemmas.{asked_by}
 use Rattle.gos_windows.proofs.PortLemmas.{ground_within}
 
 -- the two sessions of an assignment: N in its frame, and the write of the number k
@@ -52,10 +48,6 @@ IsSession w m n e = (number_session w m n ≡ e) ⊎ ((k : ℕ) × (write_sessio
 pub frame_is : (w : ℕ) (m n : Term) (e : Session) → IsSession w m n e → IsFrame e.frame
 frame_is w m n e (inl is) = subst (λ (x : Session). IsFrame x.frame) is (inr (AssignRight m, tt, λ x. refl))
 frame_is w m n e (inr (k, is)) = subst (λ (x : Session). IsFrame x.frame) is (inl (λ x. refl))
-
--- a child's program
-abbrev pub child : Stage → Session → Program
-child g e = program_of g.plan e.term
 
 -- Within a session of stage g, of which ys is left: what the child ran to, and that the rest of its list is matched from there.
 pub record Inner (w : ℕ) (m n : Term) (g : Stage) (ys : List Element) (s : Tokens) (e : Session) (b : Term) (st : Store) : Type 0 where
@@ -76,9 +68,6 @@ pub stage_among : (r : Plan) (d wide : ℕ) (g : Stage) → NamesDiffer r.import
 stage_among r d wide g differ is = among g.plan.imports r.imports differ is.imports
 
 -- to an equal configuration
-pub moves_at : (q : Program) (acts : List Act) (b c d : Config) → c ≡ d → Moves q acts b c → Moves q acts b d
-moves_at q acts b c d e h = subst (λ (x : Config). Moves q acts b x) e h
-
 matched_at : (p : Plan) (q : Program) (xs : List Element) (s : Tokens) (c d : Config) → c ≡ d → IsSessionMatched p q xs s c → IsSessionMatched p q xs s d
 matched_at p q xs s c d e h = subst (λ (x : Config). IsSessionMatched p q xs s x) e h
 
@@ -119,7 +108,7 @@ pub record Opened (w : ℕ) (m n : Term) (g : Stage) (ys : List Element) (s : To
   pub inner : Inner w m n g ys s e term store
 
 pub opens : (w : ℕ) (m n : Term) (g : Stage) (k : ℕ) (ys : List Element) (s : Tokens) (e : Session)
-    → IsSession w m n e → e.asked_at ≡ g.asked_at → Typed g.plan.imports [] e.term e.ty → SessionIsRealised g.plan g.asked_at k e.term → Begins g k ys s
+    → IsSession w m n e → e.asked_at ≡ g.asked_at → Typed g.plan.imports [] e.term e.ty → SessionIsRealised g.plan g.asked_at k e.term → Begins g.asked_at g k ys s
     → Opened w m n g ys s e
 opens w m n g k ys s e at asked typed realised begins =
     let first = realised begins.before (seen g s) begins.after ys begins.tidy begins.idle begins.well begins.asked begins.runs begins.turns in
@@ -148,7 +137,7 @@ opens w m n g k ys s e at asked typed realised begins =
 pub in_stage_stands : (r : Plan) (d wide : ℕ) (g : Stage) → AllGround r.imports → IsWriteStage r d wide g → (i h v : ℕ) → Stays g.plan (In (ImportEnd i h) v)
     → StandsIn g.plan (ImportEnd i h)
 in_stage_stands r d wide g ground is i h v stays =
-    ground_in g.plan (ground_within g.plan.imports r.imports ground is.imports) (asked_ground g.plan g.asked_at wide is.low is.outcome) i h v stays
+    ground_in g.plan (ground_within g.plan.imports r.imports ground is.imports) (asked_by g.plan g.asked_at wide is.low is.outcome).ground i h v stays
 
 -- of the acts that match an element of a stage: what they are in the whole
 pub record Stirred (r : Plan) (g : Stage) (y : Element) (s : Tokens) (acts : List Act) : Type 0 where
@@ -160,14 +149,14 @@ pub stirred : (r : Plan) (d wide : ℕ) (g : Stage) → AllGround r.imports → 
     → Does g.plan y (seen g s) u → Stays g.plan y → Does r (whole_element g.cut y) s t → labels acts ≡ session_shows g.plan y
     → GoesOn g.plan (seen g s) y acts → Stirred r g y s acts
 stirred r d wide g ground is (Fire i slot) s u t acts does stands whole shown goes =
-    record { inner = silent_inner acts shown; shown = shown; goes = fires_goes_on r d wide g is i slot s u t acts does goes }
+    record { inner = silent_inner acts shown; shown = shown; goes = fires_goes_on r g is.region i slot s u t acts does goes }
 stirred r d wide g ground is (Out (PartEnd i h) v) s u t acts does stands whole shown goes = absurd does.0
 stirred r d wide g ground is (Out (ImportEnd i h) v) s u t acts does stands whole shown goes =
     let (k, at, held) = out_held g.plan (ImportEnd i h) v (seen g s) u does in
     let way = way_out (contact_at g.plan (ImportEnd i h)) in
     record {
       inner = one_inner acts (label_at g.plan (ImportEnd i h) way v) shown (import_port g.plan i h v way k at);
-      shown = shown ∙ sym (out_shown r d wide g is i h v stands);
+      shown = shown ∙ sym (out_shown r g is.ports i h v stands);
       goes = tt;
     }
 stirred r d wide g ground is (Out (ResultEnd h) v) s u t acts does stands whole shown goes = absurd stands
@@ -177,7 +166,7 @@ stirred r d wide g ground is (In (ImportEnd i h) v) s u t acts does stands whole
     let way = way_in (contact_at g.plan (ImportEnd i h)) in
     record {
       inner = one_inner acts (label_at g.plan (ImportEnd i h) way v) shown (import_port g.plan i h v way k at);
-      shown = shown ∙ sym (in_shown r d wide g is i h v (in_stage_stands r d wide g ground is i h v stands));
+      shown = shown ∙ sym (in_shown r g is.ports i h v (in_stage_stands r d wide g ground is i h v stands));
       goes = tt;
     }
 stirred r d wide g ground is (In (ResultEnd h) v) s u t acts does stands whole shown goes = absurd stands
@@ -221,43 +210,11 @@ goes_within r d w m n q g y ys s t e b st differ ground same is does stands whol
           };
     }
 
--- how it ends: silent moves lead to a term that unfolds to the value of the answer, with an empty store
-pub record Ended (q : Program) (e : Session) (b : Term) (st : Store) (v : ℕ) : Type 0 where
-  pub term : Term
-  pub acts : List Act
-  pub silent : labels acts ≡ []
-  pub moves : Moves q acts (Running (e.frame b) st) (Running term [])
-  pub count : ℕ
-  pub unfolds : Unfoldings count term (e.frame (value_of e.ty v))
-
-is_value : (t : Type') (m : Term) (k : ℕ) → IsResult t m k → (m ≡ value_of t k) × IsValue m
-is_value t m k (inl (command, skip, zero_is)) = (skip ∙ ap (λ x. value_of x k) (sym command), inl skip)
-is_value t m k (inr (w, exp, lit, fits)) = (lit ∙ ap (λ x. value_of x k) (sym exp), inr (k, w, lit))
-
+-- how it ends
 pub ends : (r : Plan) (d w : ℕ) (m n : Term) (q : Program) (g : Stage) (s u : Tokens) (e : Session) (b : Term) (st : Store) (v : ℕ)
     → NamesDiffer r.imports → q.imports ≡ r.imports → IsWriteStage r d w g
     → Does g.plan (Out (ResultEnd g.asked_at) v) (seen g s) u → Inner w m n g (Out (ResultEnd g.asked_at) v ∷ []) s e b st → Ended q e b st v
 ends r d w m n q g s u e b st v differ same is does inner =
-    let p = child g e in
     let next = inner.matched.1 u does in
-    let last = answer_last p next.0 b st next.1 v next.2 next.3 in
-    let ran = moves_then p inner.acts last.0 Idle (Running b st) (Running last.1 last.2) inner.ran last.4 in
-    let answer = answers_are_typed p e.ty (inner.acts ++ last.0) last.1 last.2 v inner.typed ran last.5 in
-    let value = is_value e.ty answer.1 v answer.3 in
-    let shut = sources_are_shut g.plan.imports [] e.term e.ty inner.typed in
-    let scopes : KeepsScopes answer.1 last.2 =
-    unfoldings_keep last.2 answer.0 last.1 answer.1 answer.2 (runs_keep_scopes p (inner.acts ++ last.0) last.1 last.2 shut ran) in
-    let empty : last.2 ≡ [] = none_left answer.1 last.2 scopes value.1 in
-    let frame = frame_is w m n e inner.at in
     let less : AreAmong g.plan.imports q.imports = subst (λ (i : List Imported). AreAmong g.plan.imports i) (sym same) (stage_among r d w g differ is) in
-    let moves : Moves q last.0 (Running (e.frame b) st) (Running (e.frame last.1) last.2) =
-    framed p q e.frame last.0 b last.1 st last.2 frame less (silent_inner last.0 last.3) last.4 in
-    record {
-      term = e.frame last.1;
-      acts = last.0;
-      silent = last.3;
-      moves = subst (λ (x : Store). Moves q last.0 (Running (e.frame b) st) (Running (e.frame last.1) x)) empty moves;
-      count = answer.0;
-      unfolds =
-          subst (λ (x : Term). Unfoldings answer.0 (e.frame last.1) (e.frame x)) value.0 (framed_unfolds e.frame answer.0 last.1 answer.1 frame answer.2);
-    }
+    child_ends q g e inner.acts b st v next.0 next.1 (frame_is w m n e inner.at) less inner.typed inner.ran next.2 next.3

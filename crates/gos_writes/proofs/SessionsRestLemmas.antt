@@ -12,10 +12,11 @@ use Rattle.gos_realises.specs.Regular.{InputsKeepTurns}
 use Rattle.gos_realises.specs.Matched.{program_of}
 use Rattle.gos_realises.proofs.InputLemmas.{in_there}
 use Rattle.gos_nodes.proofs.SilentLemmas.{idle_shows, answer_last}
-use Rattle.gos_writes.specs.OneSession.{IsRestfulAt}
-use Rattle.gos_writes.specs.Writes.{asked_type}
+use Rattle.gos_windows.specs.OneSession.{IsRestfulAt}
+use Rattle.gos_writes.specs.Writes.{asked_type, request_bits}
 use Rattle.gos_writes.specs.Realised.{IsSessionMatched, SessionIsRealised}
-use Rattle.gos_writes.proofs.AskedLemmas.{request_bits, asked_is, asked_role}
+use Rattle.gos_windows.proofs.AskedLemmas.{asked_is, asked_role}
+use Rattle.gos_writes.proofs.AskedLemmas.{asked_by}
 
 -- after its answer a program is idle
 ends_idle : (p : Program) (acts : List Act) (c d : Config) (v : ℕ) → Moves p acts c d → labels acts ≡ given 1 v ∷ [] → d ≡ Idle
@@ -35,8 +36,8 @@ asked_fits p h w low is n s u does =
     let (c, at) = in_there p (ResultEnd h) n s u does in
     let passes = subst (λ (o : Option Contact). Passes p (In (ResultEnd h) n) o s u) at does.1 in
     let small : n < 2 ^ bits_of c Request =
-    subst (λ (way : Direction). n < 2 ^ bits_of c way) (sym (ap way_put (asked_role p h w low is c at))) passes.0 in
-    subst (λ (x : Contact). n < 2 ^ x.ask_bits) (sym (asked_is p h w low is c at)) small
+    subst (λ (way : Direction). n < 2 ^ bits_of c way) (sym (ap way_put (asked_role p h _ _ (asked_by p h w low is) c at))) passes.0 in
+    subst (λ (x : Contact). n < 2 ^ x.ask_bits) (sym (asked_is p h _ _ (asked_by p h w low is) c at)) small
 
 -- the plan rests, where each session that may be asked is matched
 pub sessions_rest : (p : Plan) (h w : ℕ) (term : ℕ → Term) → h < 2 → p.outcome ≡ asked_type h w

@@ -15,11 +15,11 @@ use Rattle.gos_assigned.specs.SmallWrites.{write_plan, one_plan, one_out}
 use Rattle.gos_assigned.proofs.SmallLemmas.{one_is_written}
 use Rattle.gos_windows.specs.Regions.{IsRegion}
 use Rattle.gos_windows.specs.Nodes.{Stage, IsOfStage}
-use Rattle.gos_writes.specs.OneSession.{IsRegularAt}
+use Rattle.gos_windows.specs.OneSession.{IsRegularAt}
 use Rattle.gos_writes.specs.Writes.{IsWriteStage}
 use Rattle.gos_writes.specs.Assignments.{IsLaid}
 use Rattle.gos_writes.specs.SmallWrites.{x_plan, OneIsAssigned, ReadStageIsNone, x_written, x_inner, x_out, number_stage, variable_stage, OneIsWritten, SevenBitsAreNone, LitIsNone, StageIsMissing, ReadIsDropped, WriteIsSession, ReadIsNoSession, ArgumentIsAsked, OutcomeIsNotAsked}
-use Rattle.gos_writes.proofs.AskedLemmas.{ground_heard}
+use Rattle.gos_windows.proofs.AskedLemmas.{ground_heard}
 use Rattle.gos_types.specs.declared.shakes.Role.TheVariants.{Serve, Ask}
 
 no_member : {A : Type 0} (x : A) → Contains [] x → ⊥

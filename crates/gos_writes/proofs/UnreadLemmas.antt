@@ -26,13 +26,13 @@ use Rattle.gos_webs.specs.Cutting.{StandsIn}
 use Rattle.gos_webs.proofs.CutLemmas.{which_end, part_there}
 use Rattle.gos_windows.specs.Regions.{IsLoyal}
 use Rattle.gos_windows.proofs.PortLemmas.{stands_place}
-use Rattle.gos_writes.specs.OneSession.{IsAsked, AllStay, EndsWell, IsOneSession, IsRegularAt, IsLoyalAt}
+use Rattle.gos_windows.specs.OneSession.{IsAsked, AllStay, EndsWell, IsOneSession, IsRegularAt, IsLoyalAt}
 use Rattle.gos_writes.specs.Written.{unread_joints, unread}
-use Rattle.gos_writes.proofs.OneSessionLemmas.{open_is_one}
-use Rattle.gos_writes.proofs.AskedLemmas.{ground_asks}
+use Rattle.gos_windows.proofs.OneSessionLemmas.{open_is_one}
+use Rattle.gos_windows.proofs.AskedLemmas.{ground_asks}
 use Rattle.gos_windows.proofs.ClosingLemmas.{asks_itself}
 use Rattle.gos_writes.proofs.JoinedLemmas.{was_in, unread_right}
-use Rattle.gos_writes.proofs.OrderLemmas.{last_order}
+use Rattle.gos_windows.proofs.OrderLemmas.{last_order}
 
 -- the places of an end of another joint
 asking_same : (js : List Joint) (e : End) → (asking_in js e ≡ Some (ResultEnd 0) → ⊥) → asking_in (unread_joints js) e ≡ asking_in js e

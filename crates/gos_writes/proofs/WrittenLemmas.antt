@@ -12,7 +12,7 @@ use Rattle.gos_realises.specs.Links.{IsJoined}
 use Rattle.gos_realises.specs.Realises.{Realises}
 use Rattle.gos_joined.specs.Joined.{HasJoining}
 use Rattle.gos_joined.proofs.WholeLemmas.{variables_are_joined}
-use Rattle.gos_writes.specs.OneSession.{IsRegularAt, IsRestfulAt}
+use Rattle.gos_windows.specs.OneSession.{IsRegularAt, IsRestfulAt}
 use Rattle.gos_writes.specs.Realised.{SessionIsRealised}
 use Rattle.gos_writes.specs.Variables.{IsLoneWrite}
 use Rattle.gos_writes.specs.Written.{unread, written_cut, UnreadIsRegular, JoinedIsLoneWrite, VariableIsWritten, NumberIsAsked}

@@ -1,4 +1,3 @@
-pub mod OneSession
 pub mod Writes
 pub mod Windows
 pub mod Realised

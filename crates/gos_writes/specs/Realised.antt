@@ -13,7 +13,7 @@ use Rattle.gos_realises.specs.Regular.{InputsKeepTurns}
 use Rattle.gos_realises.specs.Matched.{shows, GoesOn, Agrees, program_of, RealisesDone}
 use Rattle.gos_realises.specs.Realises.{AllGround, Realises}
 use Rattle.gos_windows.specs.Nodes.{Stage}
-use Rattle.gos_writes.specs.OneSession.{IsTidy, EndsWell}
+use Rattle.gos_windows.specs.OneSession.{IsTidy, EndsWell}
 use Rattle.gos_writes.specs.Writes.{IsWrite, AreRestful}
 
 -- What an element shows in a session: the answer of the result, at whatever handshake, is that of the program.

@@ -9,7 +9,7 @@ use Rattle.gos_webs.specs.Webs.{joint}
 use Rattle.gos_webs.specs.Cutting.{Cut}
 use Rattle.gos_assigned.specs.SmallWrites.{x_name, write_plan, one_plan, one_out}
 use Rattle.gos_windows.specs.Nodes.{Stage}
-use Rattle.gos_writes.specs.OneSession.{IsAsked, IsRegularAt, IsOneSession}
+use Rattle.gos_windows.specs.OneSession.{IsAsked, IsRegularAt, IsOneSession}
 use Rattle.gos_writes.specs.Writes.{IsWrite}
 use Rattle.gos_writes.specs.Written.{unread}
 use Rattle.gos_writes.specs.Assignments.{IsAssignment}

@@ -1,6 +1,6 @@
 -- The plan of `M := N`: a part Assign, and the regions of N and of M, which run one after the other and may share supplies.
 --
--- Read first: Regions, Nodes and OpenNodes of gos_windows; Tables of gos_assigned. N is asked for a number by handshake 0 of the Assign,
+-- Read first: Regions, Nodes, OpenNodes and OneSession of gos_windows; Tables of gos_assigned. N is asked for a number by handshake 0 of the Assign,
 -- and M is written by handshake 1: it is the plan of a variable, of which the write alone is joined. Imports may have any types:
 -- a stage that has a part of an import is asked where this asks.
 use Rattle.std.specs.Prelude.{◌≡◌, ℕ, zero, suc, ◌<◌, List, ◌⊎◌, Option, Some, None, All, slice_get, Contains}
@@ -17,13 +17,17 @@ use Rattle.gos_webs.specs.Cutting.{StandsIn}
 use Rattle.gos_windows.specs.Regions.{Serving, IsRegion}
 use Rattle.gos_windows.specs.Nodes.{Stage, IsRestful, IsOfStage}
 use Rattle.gos_windows.specs.OpenNodes.{IsHeard}
-use Rattle.gos_writes.specs.OneSession.{IsRegularAt, IsRestfulAt, IsLoyalAt}
+use Rattle.gos_windows.specs.OneSession.{IsRegularAt, IsRestfulAt, IsLoyalAt}
 
 -- The result of which an Assign of w bits asks handshake h: of an expression its one handshake, of a variable the write.
--- The bits of its answer.
+-- The bits of the request, and those of the answer.
 abbrev pub asked_type : ℕ → ℕ → Type'
 asked_type zero w = Exp w
 asked_type (suc h) w = Var w
+
+abbrev pub request_bits : ℕ → ℕ → ℕ
+request_bits zero w = 0
+request_bits (suc h) w = w
 
 abbrev pub answer_bits : ℕ → ℕ → ℕ
 answer_bits zero w = w

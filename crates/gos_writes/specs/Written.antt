@@ -14,7 +14,7 @@ use Rattle.gos_realises.specs.Regular.{IsRegular}
 use Rattle.gos_realises.specs.Realises.{Realises}
 use Rattle.gos_webs.specs.Cutting.{Cut}
 use Rattle.gos_windows.specs.Regions.{IsLoyal}
-use Rattle.gos_writes.specs.OneSession.{IsRegularAt, IsRestfulAt, IsLoyalAt}
+use Rattle.gos_windows.specs.OneSession.{IsRegularAt, IsRestfulAt, IsLoyalAt}
 use Rattle.gos_writes.specs.Realised.{SessionIsRealised}
 use Rattle.gos_writes.specs.Variables.{IsLoneWrite}
 

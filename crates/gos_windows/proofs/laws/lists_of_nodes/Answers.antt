@@ -1,5 +1,4 @@
-use Rattle.gos_windows.proofs.QuietLemmas.{quiet_is_within, own_part_can}
-use Rattle.gos_windows.proofs.WindowLemmas.{lists_are_staged}
+use Rattle.gos_windows.proofs.FormLemmas.{lists_are_staged, quiet_is_within, own_part_can}
 use Rattle.gos_windows.proofs.laws.lists_of_nodes.Goals as goal
 
 pub returns-clause-staged : goal.returns-clause-staged

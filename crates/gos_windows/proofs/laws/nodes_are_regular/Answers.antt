@@ -1,5 +1,4 @@
-use Rattle.gos_windows.proofs.OutputLemmas.{node_keeps_turns}
-use Rattle.gos_windows.proofs.OrderLemmas.{node_is_regular}
+use Rattle.gos_windows.proofs.FormLemmas.{node_keeps_turns, node_is_regular}
 use Rattle.gos_windows.proofs.laws.nodes_are_regular.Goals as goal
 
 pub returns-clause-turns : goal.returns-clause-turns

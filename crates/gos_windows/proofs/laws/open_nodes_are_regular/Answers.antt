@@ -1,5 +1,5 @@
 use Rattle.gos_windows.proofs.OpenLemmas.{ground_node_is_open}
-use Rattle.gos_windows.proofs.OrderLemmas.{open_node_is_regular}
+use Rattle.gos_windows.proofs.FormLemmas.{open_node_is_regular}
 use Rattle.gos_windows.proofs.laws.open_nodes_are_regular.Goals as goal
 
 pub returns-clause-regular : goal.returns-clause-regular

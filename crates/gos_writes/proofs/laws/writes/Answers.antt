@@ -1,5 +1,4 @@
-use Rattle.gos_writes.proofs.QuietLemmas.{quiet_is_within, assign_can}
-use Rattle.gos_writes.proofs.WindowLemmas.{writes_are_staged}
+use Rattle.gos_writes.proofs.AssignLemmas.{writes_are_staged, quiet_is_within, assign_can}
 use Rattle.gos_writes.proofs.laws.writes.Goals as goal
 
 pub returns-clause-staged : goal.returns-clause-staged

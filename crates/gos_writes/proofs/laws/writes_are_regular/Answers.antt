@@ -1,5 +1,5 @@
-use Rattle.gos_writes.proofs.OrderLemmas as order
+use Rattle.gos_writes.proofs.AssignLemmas as assign
 use Rattle.gos_writes.proofs.laws.writes_are_regular.Goals as goal
 
 pub returns : goal.returns
-returns c = order.write_is_regular
+returns c = assign.write_is_regular

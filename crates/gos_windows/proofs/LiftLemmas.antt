@@ -8,7 +8,6 @@ use Rattle.gos_model.specs.Moves.{Act}
 use Rattle.gos_plan.specs.Firing.{Rest, Slot, Req, Ans, Row, at}
 use Rattle.gos_plan.specs.Plans.{End, PartEnd, ImportEnd, Plan, contact_at}
 use Rattle.gos_plan.specs.Tokens.{Tokens, Element, Fire, Out, In, IsPortEnd, places_of, token_at, with_token, end_of, way_of, way_taken, way_put, fired, firing_of, Passes, Does}
-use Rattle.gos_plan.specs.TokenBits.{AllFit}
 use Rattle.gos_plan.proofs.DecidedLemmas.{one_state}
 use Rattle.gos_plan.proofs.HeldLemmas.{nothing_there}
 use Rattle.gos_realises.proofs.InputLemmas.{in_there, out_there}
@@ -16,15 +15,15 @@ use Rattle.gos_realises.specs.Matched.{GoesOn}
 use Rattle.gos_webs.specs.Cutting.{lies_at, StandsIn}
 use Rattle.gos_webs.proofs.CutLemmas.{Owns, part_there, token_cut}
 use Rattle.gos_windows.specs.Nodes.{Stage}
-use Rattle.gos_windows.specs.Windows.{seen}
+use Rattle.gos_windows.specs.Windows.{Runner, seen}
 use Rattle.gos_windows.proofs.InlayLemmas.{inlay, place_agrees, agree_token}
 use Rattle.gos_windows.proofs.PortLemmas.{place_stands, below_so}
-use Rattle.gos_writes.specs.Writes.{IsWriteStage, HasStages}
-use Rattle.gos_writes.proofs.StageLemmas.{stage, cut, InStage, Ran, fires_in, out_in, in_in}
+use Rattle.gos_windows.proofs.RunnerLemmas.{IsAskedStage, HasStages}
+use Rattle.gos_windows.proofs.StageLemmas.{stage, cut, InStage, Ran, fires_in, out_in, in_in}
 
-module _ (r : Plan) (d : ℕ) (wide : ℕ) (gs : List Stage) (base : HasStages r d wide gs) (g : Stage) (has : Contains gs g) where
-  abbrev there : IsWriteStage r d wide g
-  there = stage r d wide gs base g has
+module _ (r : Plan) (d : ℕ) (runner : Runner) (gs : List Stage) (base : HasStages r d runner gs) (g : Stage) (has : Contains gs g) where
+  abbrev there : IsAskedStage r d runner g
+  there = stage r d runner gs base g has
 
   -- a token of the stage lies in the whole
   pub held_whole : (s : Tokens) (e : End) → Owns g.plan e → (way : Direction) (v : ℕ) → token_at g.plan (seen g s) e way ≡ Some v
@@ -32,7 +31,7 @@ module _ (r : Plan) (d : ℕ) (wide : ℕ) (gs : List Stage) (base : HasStages r
   held_whole s e own way v held = by_place (places_of (inlay g.cut r g.plan) (lies_at g.cut e)) refl
     where
       inlaid : token_at (inlay g.cut r g.plan) s (lies_at g.cut e) way ≡ Some v
-      inlaid = sym (token_cut g.cut (inlay g.cut r g.plan) g.plan (cut r d wide gs base g has) e own s way) ∙ held
+      inlaid = sym (token_cut g.cut (inlay g.cut r g.plan) g.plan (cut r d runner gs base g has) e own s way) ∙ held
 
       by_place : (o : Option End) → places_of (inlay g.cut r g.plan) (lies_at g.cut e) ≡ o → token_at r s (lies_at g.cut e) way ≡ Some v
       by_place None none = absurd (nothing_there (inlay g.cut r g.plan) (lies_at g.cut e) way v s inlaid none)
@@ -63,9 +62,9 @@ module _ (r : Plan) (d : ℕ) (wide : ℕ) (gs : List Stage) (base : HasStages r
     pub to : Tokens
     pub does : Does r x s to
     pub same : seen g to ≡ u
-    pub within : InStage r d wide gs base g has to
+    pub within : InStage r d runner gs base g has to
 
-  pub fire_up : (before s : Tokens) (hs : List Element) → Ran r d wide gs base g has before hs s → InStage r d wide gs base g has s → (j : ℕ) (slot : Slot) (u : Tokens)
+  pub fire_up : (before s : Tokens) (hs : List Element) → Ran r d runner gs base g has before hs s → InStage r d runner gs base g has s → (j : ℕ) (slot : Slot) (u : Tokens)
       → Does g.plan (Fire j slot) (seen g s) u → Lifted (Fire (g.cut.part j) slot) s u
   fire_up before s hs ran within j slot u (v, row, held, by, leads) =
       record { to = to; does = does; same = one_state g.plan (Fire j slot) (seen g s) (seen g to) u own.0 (v, row, held, by, leads); within = own.1 }
@@ -79,8 +78,8 @@ module _ (r : Plan) (d : ℕ) (wide : ℕ) (gs : List Stage) (base : HasStages r
       does : Does r (Fire (g.cut.part j) slot) s to
       does = (v, row, held_whole s (end_of j slot) part (way_of slot) v held, fires_whole s j slot row by, refl)
 
-      own : Does g.plan (Fire j slot) (seen g s) (seen g to) × InStage r d wide gs base g has to
-      own = fires_in r d wide gs base g has before s to hs ran within (g.cut.part j) j (there.region.parts j part.0 part.1).1 slot does
+      own : Does g.plan (Fire j slot) (seen g s) (seen g to) × InStage r d runner gs base g has to
+      own = fires_in r d runner gs base g has before s to hs ran within (g.cut.part j) j (there.region.parts j part.0 part.1).1 slot does
 
   port_contact : (i h : ℕ) → StandsIn g.plan (ImportEnd i h) → (c : Contact) → contact_at g.plan (ImportEnd i h) ≡ Some c
       → contact_at r (g.cut.outer (ImportEnd i h)) ≡ Some c
@@ -89,9 +88,9 @@ module _ (r : Plan) (d : ℕ) (wide : ℕ) (gs : List Stage) (base : HasStages r
   port_end : (i h : ℕ) → StandsIn g.plan (ImportEnd i h) → IsPortEnd (g.cut.outer (ImportEnd i h))
   port_end i h stands = subst (λ (x : End). IsPortEnd x) (sym (there.ports i h stands).1) tt
 
-  pub out_up : (s : Tokens) → AllFit r s → InStage r d wide gs base g has s → (i h v : ℕ) (u : Tokens) → StandsIn g.plan (ImportEnd i h)
+  pub out_up : (s : Tokens) → InStage r d runner gs base g has s → (i h v : ℕ) (u : Tokens) → StandsIn g.plan (ImportEnd i h)
       → Does g.plan (Out (ImportEnd i h) v) (seen g s) u → Lifted (Out (g.cut.outer (ImportEnd i h)) v) s u
-  out_up s fit within i h v u stands own_does =
+  out_up s within i h v u stands own_does =
       record { to = to; does = does; same = one_state g.plan (Out (ImportEnd i h) v) (seen g s) (seen g to) u back own_does; within = found.5 }
     where
       c : (c : Contact) × (contact_at g.plan (ImportEnd i h) ≡ Some c)
@@ -111,8 +110,8 @@ module _ (r : Plan) (d : ℕ) (wide : ℕ) (gs : List Stage) (base : HasStages r
       )
 
       found : (j n : ℕ) × StandsIn g.plan (ImportEnd j n) × (g.cut.outer (ImportEnd j n) ≡ g.cut.outer (ImportEnd i h))
-          × Does g.plan (Out (ImportEnd j n) v) (seen g s) (seen g to) × InStage r d wide gs base g has to
-      found = out_in r d wide gs base g has (g.cut.outer (ImportEnd i h)) v s to fit within does
+          × Does g.plan (Out (ImportEnd j n) v) (seen g s) (seen g to) × InStage r d runner gs base g has to
+      found = out_in r d runner gs base g has (g.cut.outer (ImportEnd i h)) v s to within does
 
       one : ImportEnd found.0 found.1 ≡ ImportEnd i h
       one =
@@ -122,9 +121,9 @@ module _ (r : Plan) (d : ℕ) (wide : ℕ) (gs : List Stage) (base : HasStages r
       back : Does g.plan (Out (ImportEnd i h) v) (seen g s) (seen g to)
       back = subst (λ (e : End). Does g.plan (Out e v) (seen g s) (seen g to)) one found.4
 
-  pub in_up : (s : Tokens) → AllFit r s → InStage r d wide gs base g has s → (i h v : ℕ) (u : Tokens) → StandsIn g.plan (ImportEnd i h)
+  pub in_up : (s : Tokens) → InStage r d runner gs base g has s → (i h v : ℕ) (u : Tokens) → StandsIn g.plan (ImportEnd i h)
       → Does g.plan (In (ImportEnd i h) v) (seen g s) u → Lifted (In (g.cut.outer (ImportEnd i h)) v) s u
-  in_up s fit within i h v u stands own_does =
+  in_up s within i h v u stands own_does =
       record { to = to; does = does; same = one_state g.plan (In (ImportEnd i h) v) (seen g s) (seen g to) u own.0 own_does; within = own.1 }
     where
       c : (c : Contact) × (contact_at g.plan (ImportEnd i h) ≡ Some c)
@@ -140,8 +139,8 @@ module _ (r : Plan) (d : ℕ) (wide : ℕ) (gs : List Stage) (base : HasStages r
             ((subst (λ (o : Option Contact). Passes g.plan (In (ImportEnd i h) v) o (seen g s) u) c.1 own_does.1).0, refl),
       )
 
-      own : Does g.plan (In (ImportEnd i h) v) (seen g s) (seen g to) × InStage r d wide gs base g has to
-      own = in_in r d wide gs base g has (g.cut.outer (ImportEnd i h)) v s to i h fit within stands refl does
+      own : Does g.plan (In (ImportEnd i h) v) (seen g s) (seen g to) × InStage r d runner gs base g has to
+      own = in_in r d runner gs base g has (g.cut.outer (ImportEnd i h)) v s to i h within stands refl does
 
   -- a firing of the stage goes on where that of the whole does
   pub goes_down : (s u : Tokens) (j : ℕ) (slot : Slot) (acts : List Act) → Does g.plan (Fire j slot) (seen g s) u → GoesOn r s (Fire (g.cut.part j) slot) acts

@@ -1,7 +1,7 @@
 -- Lists of one session: a handshake of the result is asked, and at last perhaps answered; meanwhile all else is within the plan, or
 -- at its imports.
 --
--- Read first: Regular of gos_realises; Regions and Nodes of gos_windows. That a plan is regular, restful and loyal is asked here of
+-- Read first: Regular of gos_realises; Regions, Nodes. That a plan is regular, restful and loyal is asked here of
 -- such lists alone.
 use Rattle.std.specs.Prelude.{◌≡◌, ℕ, ◌<◌, false, List, [], ◌∷◌, ◌++◌, ◌⊎◌, Some, length, nat_lt}
 use Rattle.gos_types.specs.declared.shakes.Role.TheVariants.{Ask}
@@ -63,7 +63,7 @@ IsRestfulAt h p =
     → IsTidy p s → IsIdle p s → IsOpenSession h p xs → Runs p (xs ++ Out (ResultEnd h) v ∷ []) s t
     → InputsKeepTurns p [] (xs ++ Out (ResultEnd h) v ∷ []) → IsIdle p t
 
--- IsLoyal of gos_windows, of these lists: each token that the Share i takes from its source finds this branch
+-- IsLoyal, of these lists: each token that the Share i takes from its source finds this branch
 abbrev pub IsLoyalAt : ℕ → ℕ → Type' → ℕ → Plan → Type 0
 IsLoyalAt h i t side p =
     (s w u : Tokens) (xs : List Element) (slot : Slot)

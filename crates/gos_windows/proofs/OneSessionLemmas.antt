@@ -4,7 +4,7 @@ use Rattle.std.proofs.Common.{inl, inr, refl, ap}
 use Rattle.gos_plan.specs.Plans.{End, PartEnd, ImportEnd, ResultEnd, Plan}
 use Rattle.gos_plan.specs.Tokens.{Element, Fire, Out, In}
 use Rattle.gos_webs.specs.Cutting.{StandsIn}
-use Rattle.gos_writes.specs.OneSession.{IsAsked, Stays, AllStay, EndsWell, IsOpenSession, IsOneSession}
+use Rattle.gos_windows.specs.OneSession.{IsAsked, Stays, AllStay, EndsWell, IsOpenSession, IsOneSession}
 
 stay_then : (p : Plan) (xs : List Element) (y : Element) → AllStay p xs → Stays p y → AllStay p (xs ++ y ∷ [])
 stay_then p [] y all one = (one, tt)

@@ -1,4 +1,4 @@
--- What is open at the ports of a stage is what is open at those of the whole, but for the result. As in gos_windows.
+-- What is open at the ports of a stage is what is open at those of the whole, but for the result.
 use Rattle.std.specs.Prelude.{slice_get, Contains, nat_eq}
 use Rattle.std.proofs.Common.{◌≡◌, ℕ, Bool, true, false, List, [], ◌∷◌, Some, refl, sym, ◌∙◌, ap, subst, arith, if◌then◌else◌}
 use Rattle.gos_types.specs.declared.shakes.Role.TheVariants.{Ask}
@@ -13,29 +13,30 @@ use Rattle.gos_realises.specs.Regular.{Pass, pass, is_request, is_open, KeepsTur
 use Rattle.gos_webs.specs.Cutting.{lies_at, StandsIn}
 use Rattle.gos_webs.proofs.CutLemmas.{place_there}
 use Rattle.gos_windows.specs.Nodes.{Stage}
+use Rattle.gos_windows.specs.Windows.{Runner}
 use Rattle.gos_windows.proofs.InlayLemmas.{inlay, inlay_place}
 use Rattle.gos_windows.proofs.MeetLemmas.{Meets, met_joined, HasPorts, AreFollowed, met_at, met_import, heard_meets, followed_pass, alike}
 use Rattle.gos_windows.proofs.PortLemmas.{stands_place, place_stands}
 use Rattle.gos_windows.proofs.TurnLemmas.{Turned, import_kept, imports_turned, OnlyResult}
-use Rattle.gos_writes.specs.Writes.{IsWriteStage, HasStages}
-use Rattle.gos_writes.proofs.AskedLemmas.{OnlyAt, asked_turned}
-use Rattle.gos_writes.proofs.StageLemmas.{stage, cut}
+use Rattle.gos_windows.proofs.RunnerLemmas.{IsAskedStage, HasStages}
+use Rattle.gos_windows.proofs.AskedLemmas.{OnlyAt, asked_turned}
+use Rattle.gos_windows.proofs.StageLemmas.{stage, cut}
 
 -- What passed a stage's ports, and the whole's: the whole's result is open, of the stage's result what is asked alone, and the open
 -- handshakes of imports are the same.
-pub record Follows (r : Plan) (g : Stage) (own past : List Pass) : Type 0 where
+pub record Follows (r : Plan) (runner : Runner) (g : Stage) (own past : List Pass) : Type 0 where
   pub result : is_open past (ResultEnd 0) ≡ true
-  pub of_stage : is_open own (ResultEnd g.asked_at) ≡ true
-  pub alone : OnlyAt g.asked_at own
+  pub of_stage : is_open own (ResultEnd (runner.asked g)) ≡ true
+  pub alone : OnlyAt (runner.asked g) own
   pub imports : AreFollowed r g.cut g.plan own past
   pub only :
       (k h : ℕ) → is_open past (ImportEnd k h) ≡ true
       → (i : ℕ) × Meets r g.cut g.plan i h × (g.cut.outer (ImportEnd i h) ≡ ImportEnd k h)
 
 module _
-    (r : Plan) (d : ℕ) (wide : ℕ) (gs : List Stage) (node : HasStages r d wide gs) (g : Stage) (has : Contains gs g) where
-  there : IsWriteStage r d wide g
-  there = stage r d wide gs node g has
+    (r : Plan) (d : ℕ) (runner : Runner) (gs : List Stage) (node : HasStages r d runner gs) (g : Stage) (has : Contains gs g) where
+  there : IsAskedStage r d runner g
+  there = stage r d runner gs node g has
 
   pub has_ports : HasPorts r g.cut g.plan
   has_ports =
@@ -51,7 +52,7 @@ module _
             ap (slice_get r.imports) (sym one) ∙ same;
         joined = λ i h stands.
             let (a, named) = stands_place g.plan there.region.right (ImportEnd i h) stands in
-            let laid = place_there g.cut (inlay g.cut r g.plan) g.plan (cut r d wide gs node g has) (ImportEnd i h) a named in
+            let laid = place_there g.cut (inlay g.cut r g.plan) g.plan (cut r d runner gs node g has) (ImportEnd i h) a named in
             place_stands r (g.cut.outer (ImportEnd i h)) (lies_at g.cut a)
             (inlay_place g.cut g.sides r g.plan there.region (g.cut.outer (ImportEnd i h)) (lies_at g.cut a) laid);
         heard = there.heard;
@@ -61,22 +62,22 @@ module _
   pub standing : (i h : ℕ) → StandsIn g.plan (ImportEnd i h) → Meets r g.cut g.plan i h
   standing i h stands = let (k, at, same) = there.ports i h stands in met_joined r g.cut g.plan i h k stands at
 
-  pub follows_first : (past : List Pass) → OnlyResult past → Follows r g (pass (ResultEnd g.asked_at) Request ∷ []) past
+  pub follows_first : (past : List Pass) → OnlyResult past → Follows r runner g (pass (ResultEnd (runner.asked g)) Request ∷ []) past
   follows_first past (result, closed) =
       record {
         result = result;
-        of_stage = ap (λ (b : Bool). if b then true else false) (nat_eq_self g.asked_at);
-        alone = λ k up. by_test k (nat_eq g.asked_at k) refl up;
+        of_stage = ap (λ (b : Bool). if b then true else false) (nat_eq_self (runner.asked g));
+        alone = λ k up. by_test k (nat_eq (runner.asked g) k) refl up;
         imports = record { same = λ i h k meets at. sym (closed k h); met = λ i h up. absurd (cc up) };
         only = λ k h up. let clash : false ≡ true = sym (closed k h) ∙ up in absurd (cc clash);
       }
     where
-      by_test : (k : ℕ) (b : Bool) → nat_eq g.asked_at k ≡ b → (if b then true else false) ≡ true → k ≡ g.asked_at
+      by_test : (k : ℕ) (b : Bool) → nat_eq (runner.asked g) k ≡ b → (if b then true else false) ≡ true → k ≡ runner.asked g
       by_test k true t up = grind (arith, t)
       by_test k false t up = absurd (cc up)
 
-  follows_at : (own past : List Pass) → Follows r g own past → (i h k : ℕ) → Meets r g.cut g.plan i h → g.cut.outer (ImportEnd i h) ≡ ImportEnd k h → (way : Direction)
-      → Follows r g (pass (ImportEnd i h) way ∷ own) (pass (ImportEnd k h) way ∷ past)
+  follows_at : (own past : List Pass) → Follows r runner g own past → (i h k : ℕ) → Meets r g.cut g.plan i h → g.cut.outer (ImportEnd i h) ≡ ImportEnd k h → (way : Direction)
+      → Follows r runner g (pass (ImportEnd i h) way ∷ own) (pass (ImportEnd k h) way ∷ past)
   follows_at own past follows i h k meets at way =
       record {
         result = follows.result;
@@ -95,27 +96,27 @@ module _
           (i, both.0, both.1)
       only m n false t up = follows.only m n up
 
-  pub follows_step : (own past : List Pass) → Follows r g own past → (i h : ℕ) (b : End) → Meets r g.cut g.plan i h → g.cut.outer (ImportEnd i h) ≡ b → (way : Direction)
-      → Follows r g (pass (ImportEnd i h) way ∷ own) (pass b way ∷ past)
+  pub follows_step : (own past : List Pass) → Follows r runner g own past → (i h : ℕ) (b : End) → Meets r g.cut g.plan i h → g.cut.outer (ImportEnd i h) ≡ b → (way : Direction)
+      → Follows r runner g (pass (ImportEnd i h) way ∷ own) (pass b way ∷ past)
   follows_step own past follows i h b meets at way =
       let (k, at_k, is) = met_at r g.cut g.plan has_ports i h meets in
-      subst (λ (x : End). Follows r g (pass (ImportEnd i h) way ∷ own) (pass x way ∷ past)) (sym at_k ∙ at) (follows_at own past follows i h k meets at_k way)
+      subst (λ (x : End). Follows r runner g (pass (ImportEnd i h) way ∷ own) (pass x way ∷ past)) (sym at_k ∙ at) (follows_at own past follows i h k meets at_k way)
 
   -- an end at which the surroundings ask, of an import that is open in the stage
-  pub asked_meets : (own past : List Pass) → Follows r g own past → (k h n : ℕ) (c : Contact) → is_open past (ImportEnd k n) ≡ true
+  pub asked_meets : (own past : List Pass) → Follows r runner g own past → (k h n : ℕ) (c : Contact) → is_open past (ImportEnd k n) ≡ true
       → contact_at r (ImportEnd k h) ≡ Some c → c.role ≡ Ask → (i : ℕ) × Meets r g.cut g.plan i h × (g.cut.outer (ImportEnd i h) ≡ ImportEnd k h)
   asked_meets own past follows k h n c up at_k asks =
       let (i, meets, at) = follows.only k n up in
       let (here, there) = heard_meets r g.cut g.plan has_ports i n k h c meets at at_k asks in (i, here, there)
 
   -- So the turns of both are the same.
-  module _ (own past : List Pass) (follows : Follows r g own past) where
+  module _ (own past : List Pass) (follows : Follows r runner g own past) where
     alike_there : (i h k : ℕ) → Meets r g.cut g.plan i h → g.cut.outer (ImportEnd i h) ≡ ImportEnd k h → (n : ℕ)
         → is_open own (ImportEnd i n) ≡ is_open past (ImportEnd k n)
     alike_there i h k meets at = alike r g.cut g.plan has_ports own past follows.imports i h k meets at (λ n up. follows.only k n up)
 
     pub stage_turned : Turned r past → Turned g.plan own
-    stage_turned turned = asked_turned g.plan g.asked_at wide there.low there.outcome own follows.alone follows.of_stage kept
+    stage_turned turned = asked_turned g.plan _ _ _ there.asked own follows.alone follows.of_stage kept
       where
         kept : (i h : ℕ) (x : Imported) → slice_get g.plan.imports i ≡ Some x → is_open own (ImportEnd i h) ≡ true → KeepsTurnsOf x.ty (λ n. is_open own (ImportEnd i n))
         kept i h x is up =
