@@ -12,6 +12,7 @@ use Rattle.gos_sim.specs.declared.wake.Wake.{Wake}
 use Rattle.gos_sim.specs.inner.Program.{HasLatch, IsLatchWithin}
 use Rattle.gos_sim.specs.inner.Marks.{IsUnmarked, KeepsMarks}
 use Rattle.gos_sim.specs.inner.Readers.{AreLinked, Reads}
+use Rattle.gos_sim.specs.inner.Spots.{KeepsOthersThan}
 use Rattle.gos_sim.specs.inner.Active.{Follows, IsWake, Lacks}
 
 -- nothing follows where nothing changes
@@ -25,25 +26,29 @@ follows_none wake v =
       noted = λ place lacks. (lacks, refl);
     }
 
--- a place has another value: its readers are marked, and it is noted
-pub follows_put : (old new : Wake) (v : Numbers) (place value : ℕ) → new.readers ≡ old.readers
+-- a place may have another value: its readers are marked, and it is noted
+pub follows_put : (old new : Wake) (v w : Numbers) (place : ℕ) → KeepsOthersThan place v w → new.readers ≡ old.readers
     → length new.marks.words.items ≡ length old.marks.words.items → KeepsMarks old.marks.words.items new.marks.words.items
     → ((item : ℕ) → Reads old.readers place item → IsUnmarked new.marks.words.items item → ⊥)
     → ((p : ℕ) → Lacks new.touched p → place ≢ p) → ((p : ℕ) → Lacks new.touched p → Lacks old.touched p)
-    → Follows old new v (set v place value)
-follows_put old new v place value readers each kept marked noted lacked =
+    → Follows old new v w
+follows_put old new v w place others readers each kept marked noted lacked =
     record {
       readers = readers;
       each = each;
       kept = kept;
       marked = λ p item reads bare. by_place p item reads bare (cases_eq p place);
-      noted = λ p lacks. (lacked p lacks, get_or-set_other v place p value 0 (λ same. noted p lacks (sym same)));
+      noted = λ p lacks. (lacked p lacks, others p (noted p lacks));
     }
   where
     by_place : (p item : ℕ) → Reads old.readers p item → IsUnmarked new.marks.words.items item → (p ≡ place) ⊎ (p ≢ place)
-        → at (set v place value) p ≡ at v p
+        → at w p ≡ at v p
     by_place p item reads bare (inl same) = absurd (marked item (subst (λ (q : ℕ). Reads old.readers q item) same reads) bare)
-    by_place p item reads bare (inr apart) = get_or-set_other v place p value 0 apart
+    by_place p item reads bare (inr apart) = others p (λ same. apart (sym same))
+
+-- a value is put there
+pub kept_put : (v : Numbers) (place value : ℕ) → KeepsOthersThan place v (set v place value)
+kept_put v place value = λ p apart. get_or-set_other v place p value 0 (λ same. apart (sym same))
 
 -- and one after another
 pub follows_on : (old mid new : Wake) (u v w : Numbers) → Follows old mid u v → Follows mid new v w → Follows old new u w

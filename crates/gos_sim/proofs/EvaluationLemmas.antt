@@ -333,20 +333,3 @@ fitting_runs places steps d is = All-push (Fits d.operands) d.runs.items d.last 
 pub moved_runs : (places : Numbers) (steps : List Step) (d : Draft) → IsDraft places steps d
     → AreStepsMoved (at places) steps (flat_map (steps_of d.operands) (d.runs.items ++ d.last ∷ []))
 moved_runs places steps d is = subst (AreStepsMoved (at places) steps) (flat_map_more (steps_of d.operands) [] d.runs.items d.last) is.moved
-
--- a step more is listed
-pub listed_next : {A : Type 0} (w : ℕ) (gate : A → declared.Gate) (n : ℕ) (xs : List A) (k : ℕ) (x : A) (steps : List Step) → slice_get xs k ≡ Some x
-    → (steps ++ (record { net = n; width = w; gate = gate x }) ∷ []) ++ steps_from w gate (n + 1) (drop (k + 1) xs) ≡ steps ++ steps_from w gate n (drop k xs)
-listed_next w gate n xs k x steps is =
-    let s : Step = record { net = n; width = w; gate = gate x } in
-    let rest : List Step = steps_from w gate (n + 1) (drop (k + 1) xs) in
-    let next : s ∷ rest ≡ steps_from w gate n (drop k xs) =
-    ap (λ (m : ℕ). s ∷ steps_from w gate m (drop (k + 1) xs)) (sym (one_more n)) ∙ sym (ap (steps_from w gate n) (drop_one xs k x is)) in
-    append_assoc steps (s ∷ []) rest ∙ ap (λ (ss : List Step). steps ++ ss) next
-
--- and at the end all are
-pub listed_all : {A : Type 0} (w : ℕ) (gate : A → declared.Gate) (n : ℕ) (xs : List A) (k : ℕ) (steps all : List Step) → length xs ≤ k
-    → steps ++ steps_from w gate n (drop k xs) ≡ all → steps ≡ all
-listed_all w gate n xs k steps all past so_far =
-    let none : drop k xs ≡ [] = drop_of_length-le xs past in
-    sym (append-nil steps) ∙ (sym (ap (λ ys. steps ++ steps_from w gate n ys) none) ∙ so_far)

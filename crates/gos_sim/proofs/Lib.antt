@@ -15,6 +15,7 @@ pub mod RegisterLemmas
 pub mod NumberLemmas
 pub mod MoveLemmas
 pub mod EvaluationLemmas
+pub mod SpotLemmas
 pub mod CycleLemmas
 pub mod MachineLemmas
 pub mod PastLemmas

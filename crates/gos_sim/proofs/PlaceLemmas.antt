@@ -1,13 +1,19 @@
 -- Elements of a list at a place.
-use Rattle.std.specs.Prelude.{◌≡◌, ℕ, zero, suc, Some, get_or, slice_get, List, [], ◌∷◌, All, Contains, map}
+use Rattle.std.specs.Prelude.{◌≡◌, ℕ, zero, suc, ◌<◌, Some, length, get_or, slice_get, List, [], ◌∷◌, All, Contains, map}
 use Rattle.std.specs.Option.{option_map}
 use Rattle.std.proofs.lemmas.Option.{get_or_from_slice_get, slice_get-get_or, slice_get-map, slice_get_within}
 use Rattle.std.proofs.lemmas.List.Elements.{All-get_or}
-use Rattle.std.proofs.Common.{ap, refl, subst, ◌∙◌}
+use Rattle.std.proofs.Common.{arith, ap, refl, subst, ◌∙◌}
 
 -- the element at a place is one
 pub same_element : {A : Type 0} (xs : List A) (k : ℕ) (a b : A) → slice_get xs k ≡ Some a → slice_get xs k ≡ Some b → a ≡ b
 same_element xs k a b e f = cc
+
+-- there is one at each place
+pub element_at : {A : Type 0} (xs : List A) (k : ℕ) → k < length xs → (x : A) × (slice_get xs k ≡ Some x)
+element_at [] k less = absurd (omega (arith, less))
+element_at (x ∷ xs) zero less = (x, refl)
+element_at (x ∷ xs) (suc k) less = element_at xs k (omega (arith, less))
 
 -- what holds of all elements holds of that one
 pub all_at : {A : Type 0} (P : A → Type 0) (xs : List A) (k : ℕ) (a : A) → All P xs → slice_get xs k ≡ Some a → P a

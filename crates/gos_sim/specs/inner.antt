@@ -2,6 +2,7 @@
 -- files above it.
 pub mod Program
 pub mod Evaluation
+pub mod Spots
 pub mod Order
 pub mod Chains
 pub mod Running

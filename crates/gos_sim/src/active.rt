@@ -1,22 +1,22 @@
 // A cycle in which little changes: only what hangs on the changes is evaluated.
 ghost use Rattle.std.specs.Prelude.{◌≡◌, ◌≢◌, ℕ, ◌+◌, ◌<◌, ◌≤◌, ◌/◌, ◌^◌, ◌⊎◌, ◌++◌, ◌∷◌, [], All, IfOk, IsFalse, IsTrue, List, length, set};
-ghost use Rattle.gos_netlist.specs.Settling.{Numbers, at, shown};
-ghost use Rattle.gos_netlist.specs.Seen.{function_of};
+ghost use Rattle.gos_netlist.specs.Settling.{Numbers, at};
 ghost use Rattle.gos_sim.specs.Cycle.{GivesAll, IsWord};
 ghost use Rattle.gos_sim.specs.inner.Program.{HasLatch, IsLatchWithin, IsStepWithin};
 ghost use Rattle.gos_sim.specs.inner.Running.{AreShown, AreTaken};
 ghost use Rattle.gos_sim.specs.inner.Marks.{AreUnmarked};
 ghost use Rattle.gos_sim.specs.inner.Readers.{ReadAll};
 ghost use Rattle.gos_sim.specs.inner.Active.{Follows, HasSettled, HasSwept, IsAwake, IsReadyToSettle, IsSettled, IsWake, KeepsAwake, Lacks, Stand, StandBut, SweepsOn};
+ghost use Rattle.gos_sim.specs.inner.Spots.{IsEvaluated};
 ghost use Rattle.gos_sim.specs.inner.Past.{is_all, is_few, is_rest};
 ghost use Rattle.gos_sim.specs.inner.Machine.{HasBegun, IsRunnable, IsStill, RunsThrough, Settles, plan_of};
 
 use crate::course::Course;
+use crate::evaluation::Program;
 use crate::log::Log;
 use crate::machine::Machine;
 use crate::marks::Marks;
-use crate::operations::value_of;
-use crate::program::{Latch, Step};
+use crate::program::Latch;
 use crate::pulse::Pulse;
 use crate::readers::readers_of;
 use crate::running::{latch, show};
@@ -35,8 +35,6 @@ const LONGEST: u32 = 64;
 /// What has changed, and what has to be evaluated for it.
 #[derive(Drop)]
 pub struct Active {
-    /// The steps, one by one.
-    pub steps: Vec<Step>,
     /// What changed values bring with them.
     pub wake: Wake,
     /// The nets of the registers that took over another value.
@@ -50,15 +48,17 @@ pub struct Active {
 }
 
 // Evaluates a step, into the values.
-fn show_step(wake: &mut Wake, step: &Step, values: &mut [u32])
-    requires step { IsStepWithin (length values.old) step.now }
+fn show_step(wake: &mut Wake, program: &Program, step: usize, values: &mut [u32])
+    requires steps { All (IsStepWithin (length values.old)) program.now }
+    requires step { step < length program.now }
     requires wake { IsWake (length values.old) wake.old }
-    ensures values { values.new ≡ set values.old step.now.net (shown step.now.width (function_of step.now.gate) 0 0 (at values.old)) }
+    ensures evaluated { IsEvaluated program.now step values.old values.new }
     ensures follows { Follows wake.old wake.new values.old values.new }
     ensures wake { IsWake (length values.old) wake.new }
 {
-    let value = value_of(step, values);
-    wake.put(step.net, value, values);
+    if let Some(net) = program.evaluate_step(step, values) {
+        wake.note(net);
+    }
 }
 
 // Takes the value of a register's pin over, and notes the register where it had another one.
@@ -85,18 +85,17 @@ impl Active {
         ensures fresh { IfOk result (λ active. IsFalse active.settled) }
         ensures awake { IfOk result (λ active. IsAwake count machine.now.program machine.now.latches.items active) }
     {
-        let steps = machine.program.list(alloc)?;
-        let items = steps.len().saturating_add(machine.latches.len());
+        let program = &machine.program;
+        let items = program.len().saturating_add(machine.latches.len());
         if items > u32::MAX as usize {
             return Err(NoMemory);
         }
         let room = items / PART + LEAST;
-        let readers = readers_of(alloc, count, &steps, &machine.latches)?;
+        let readers = readers_of(alloc, count, program, &machine.latches)?;
         let marks = Marks::new(alloc, items / 64 + 1)?;
         let touched = Log::new(alloc, room)?;
         let changed = Log::new(alloc, room)?;
         Ok(Active {
-            steps,
             wake: Wake {
                 readers,
                 marks,
@@ -189,20 +188,18 @@ impl Active {
     // Evaluates an item: a step into the values, or a latch into the registers.
     fn follow(&mut self, machine: &Machine, item: usize, values: &mut [u32], registers: &mut [u32])
         requires ready { IsRunnable (length values.old) (plan_of machine.now) }
-        requires listed { self.old.steps.items ≡ machine.now.program }
         requires same { length registers.old ≡ length values.old }
         requires wake { IsWake (length values.old) self.old.wake }
         requires reading { ReadAll machine.now.program machine.now.latches.items self.old.wake.readers }
         requires stand { StandBut machine.now.program machine.now.latches.items self.old.wake.marks.words.items values.old registers.old item }
-        ensures listed { self.new.steps.items ≡ machine.now.program }
         ensures wake { IsWake (length values.old) self.new.wake }
         ensures reading { ReadAll machine.now.program machine.now.latches.items self.new.wake.readers }
         ensures stand { Stand machine.now.program machine.now.latches.items self.new.wake.marks.words.items values.new registers.new }
         ensures swept { SweepsOn machine.now.program machine.now.latches.items self.old values.old registers.old self.new values.new registers.new }
     {
-        let steps = self.steps.len();
+        let steps = machine.program.len();
         if item < steps {
-            show_step(&mut self.wake, &self.steps[item], values);
+            show_step(&mut self.wake, &machine.program, item, values);
         } else if item - steps < machine.latches.len() {
             take_latch(
                 &mut self.changed,
@@ -222,12 +219,10 @@ impl Active {
         registers: &mut [u32],
     ) -> bool
         requires ready { IsRunnable (length values.old) (plan_of machine.now) }
-        requires listed { self.old.steps.items ≡ machine.now.program }
         requires same { length registers.old ≡ length values.old }
         requires wake { IsWake (length values.old) self.old.wake }
         requires reading { ReadAll machine.now.program machine.now.latches.items self.old.wake.readers }
         requires stand { Stand machine.now.program machine.now.latches.items self.old.wake.marks.words.items values.old registers.old }
-        ensures listed { self.new.steps.items ≡ machine.now.program }
         ensures wake { IsWake (length values.old) self.new.wake }
         ensures reading { ReadAll machine.now.program machine.now.latches.items self.new.wake.readers }
         ensures unmarked { IsTrue result → AreUnmarked self.new.wake.marks.words.items }
@@ -256,7 +251,6 @@ impl Active {
         requires numbers { All (λ p. IsWord p.value) inputs.now }
         requires awake { IsAwake (length values.old) machine.now.program machine.now.latches.items self.old }
         requires settled { IsSettled machine.now.program machine.now.latches.items self.old values.old registers.now }
-        ensures steps { self.new.steps ≡ self.old.steps }
         ensures wake { IsWake (length values.old) self.new.wake }
         ensures reading { ReadAll machine.now.program machine.now.latches.items self.new.wake.readers }
         ensures stand { Stand machine.now.program machine.now.latches.items self.new.wake.marks.words.items values.new registers.now }
@@ -293,7 +287,7 @@ impl Active {
         ensures noted { (p : ℕ) → Lacks self.new.wake.touched p → at values.new p ≡ at values.old p }
     {
         self.begin(machine, inputs, registers, values);
-        let most = self.steps.len() / PART + LEAST;
+        let most = machine.program.len() / PART + LEAST;
         if self.sweep(machine, most, values, registers) {
             self.pause = 1;
             show(&machine.outputs, values, outputs);
@@ -309,7 +303,6 @@ impl Active {
     // Gives up, where too many items were marked: no more is known of them. Each time twice as many cycles pass until it is tried
     // again.
     fn give_up(&mut self)
-        ensures steps { self.new.steps ≡ self.old.steps }
         ensures readers { self.new.wake.readers ≡ self.old.wake.readers }
         ensures each { length self.new.wake.marks.words.items ≡ length self.old.wake.marks.words.items }
         ensures unmarked { AreUnmarked self.new.wake.marks.words.items }

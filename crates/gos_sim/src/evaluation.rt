@@ -8,6 +8,7 @@ ghost use Rattle.gos_sim.specs.inner.Ready.{AreCellsReady};
 ghost use Rattle.gos_sim.specs.inner.Drafts.{AddsSteps, IsDraft};
 ghost use Rattle.gos_sim.specs.inner.Places.{AreStepsMoved};
 ghost use Rattle.gos_sim.specs.inner.Running.{AreShown, KeepsOtherSteps};
+ghost use Rattle.gos_sim.specs.inner.Spots.{HasGate, IsEvaluated, IsGate, IsNumbered, IsSpot, Tells};
 ghost use Rattle.gos_sim.specs.inner.Evaluation.{AreFitting, AreRunsMore, Fits, GoesOn, IsAdded, after, part, steps_from, steps_of};
 
 use crate::operations::{
@@ -15,6 +16,7 @@ use crate::operations::{
 };
 use crate::places::step_moved;
 use crate::program::Step;
+use crate::spots::{Spot, Spots, alone, spots_of};
 use gos_netlist::{Cell, Gate, NetId};
 use gos_types::NoMemory;
 use std::alloc::Global;
@@ -69,6 +71,8 @@ pub struct Operands {
 pub struct Program {
     operands: Operands,
     runs: Vec<Run>,
+    spots: Vec<Spot>,
+    count: u32,
 }
 
 impl Model for Program {
@@ -81,13 +85,13 @@ impl Model for Program {
 
     ghost coded = { Prim.hlevel (codes, a_gate.the_row.coded) };
 
-    ghost use Rattle.std.specs.Prelude.{All};
     ghost use Rattle.std.specs.List.{flat_map};
-    ghost use Rattle.gos_sim.specs.inner.Evaluation.{Fits, steps_of};
+    ghost use Rattle.gos_sim.specs.inner.Evaluation.{steps_of};
+    ghost use Rattle.gos_sim.specs.inner.Spots.{IsIndexed};
 
     ghost view = { λ p. flat_map (steps_of p.operands) p.runs.items };
 
-    ghost invariant = { λ p. All (Fits p.operands) p.runs.items };
+    ghost invariant = { λ p. IsIndexed p.operands p.runs.items p.spots.items p.count };
 }
 
 impl Program {
@@ -102,83 +106,99 @@ impl Program {
         evaluate_runs(&self.runs, &self.operands, values);
     }
 
-    // The steps, one by one.
-    pub fn list(&self, alloc: Global) -> Result<Vec<Step>, NoMemory>
-        ensures { IfOk result (λ steps. steps.items ≡ self.now) }
+    // How many steps there are.
+    pub fn len(&self) -> usize
+        ensures { result ≡ length self.now }
     {
-        list_runs(alloc, &self.runs, &self.operands)
+        self.count as usize
+    }
+
+    // What a step is.
+    pub fn gate(&self, step: usize) -> Gate
+        requires { step < length self.now }
+        ensures { IsGate self.now step result }
+    {
+        gate_alone(&self.runs, &self.spots, &self.operands, step)
+    }
+
+    // Evaluates a step by itself. The answer is its net, if its value has changed.
+    pub fn evaluate_step(&self, step: usize, values: &mut [u32]) -> Option<u32>
+        requires steps { All (IsStepWithin (length values.old)) self.now }
+        requires step { step < length self.now }
+        ensures evaluated { IsEvaluated self.now step values.old values.new }
+        ensures told { Tells result values.old values.new }
+    {
+        evaluate_alone(&self.runs, &self.spots, &self.operands, step, values)
     }
 }
 
-// The steps of runs, one by one.
-fn list_runs(alloc: Global, runs: &[Run], operands: &Operands) -> Result<Vec<Step>, NoMemory>
+// What a step of runs is.
+fn gate_alone(runs: &[Run], spots: &[Spot], operands: &Operands, step: usize) -> Gate
     requires fit { All (Fits operands.now) runs.now }
-    ensures { IfOk result (λ steps. steps.items ≡ flat_map (steps_of operands.now) runs.now) }
+    requires spots { All (IsSpot runs.now) spots.now }
+    requires numbered { All IsNumbered runs.now }
+    requires step { step < length (flat_map (steps_of operands.now) runs.now) }
+    ensures { IsGate (flat_map (steps_of operands.now) runs.now) step result }
 {
-    let mut steps = Vec::new(alloc);
-    for run in runs {
-        list_run(run, operands, &mut steps)?;
-    }
-    Ok(steps)
+    let one = alone(runs, spots, step);
+    gate_of_run(&one, operands)
 }
 
-// Adds the steps of a run.
-fn list_run(run: &Run, operands: &Operands, steps: &mut Vec<Step>) -> Result<(), NoMemory>
+// What the step of a run of one step is.
+fn gate_of_run(run: &Run, operands: &Operands) -> Gate
     requires fits { Fits operands.now run.now }
-    ensures { OnOk result (steps.new.items ≡ steps.old.items ++ steps_of operands.now run.now) }
+    requires one { run.now.count ≡ 1 }
+    ensures { HasGate (steps_of operands.now run.now) result }
 {
-    let net = run.net;
     let width = run.width;
     match run.kind {
-        Kind::Const => list_part(&Constant, 0, net, part(run, &operands.constants), steps),
-        Kind::Not => list_part(&Not { width }, width, net, part(run, &operands.pins), steps),
-        Kind::And => list_part(&And, 0, net, part(run, &operands.pairs), steps),
-        Kind::Or => list_part(&Or, 0, net, part(run, &operands.pairs), steps),
-        Kind::Xor => list_part(&Xor, 0, net, part(run, &operands.pairs), steps),
-        Kind::Mux => list_part(&Mux, 0, net, part(run, &operands.triples), steps),
-        Kind::Add => list_part(
-            &Add { width },
-            width,
-            net,
-            part(run, &operands.pairs),
-            steps,
-        ),
-        Kind::Sub => list_part(
-            &Sub { width },
-            width,
-            net,
-            part(run, &operands.pairs),
-            steps,
-        ),
-        Kind::Eq => list_part(&Equal, 0, net, part(run, &operands.pairs), steps),
-        Kind::Less => list_part(&Less, 0, net, part(run, &operands.pairs), steps),
-        Kind::Gate => list_part(&Pass, 0, net, part(run, &operands.pairs), steps),
+        Kind::Const => first_gate(&Constant, part(run, &operands.constants)),
+        Kind::Not => first_gate(&Not { width }, part(run, &operands.pins)),
+        Kind::And => first_gate(&And, part(run, &operands.pairs)),
+        Kind::Or => first_gate(&Or, part(run, &operands.pairs)),
+        Kind::Xor => first_gate(&Xor, part(run, &operands.pairs)),
+        Kind::Mux => first_gate(&Mux, part(run, &operands.triples)),
+        Kind::Add => first_gate(&Add { width }, part(run, &operands.pairs)),
+        Kind::Sub => first_gate(&Sub { width }, part(run, &operands.pairs)),
+        Kind::Eq => first_gate(&Equal, part(run, &operands.pairs)),
+        Kind::Less => first_gate(&Less, part(run, &operands.pairs)),
+        Kind::Gate => first_gate(&Pass, part(run, &operands.pairs)),
     }
 }
 
-// Adds steps of so many bits that do the same, with these operands and at nets from this one on. More nets than 32 bits can number
-// are more than memory has.
-fn list_part<O: Operation>(
-    operation: &O,
-    width: u32,
-    net: u32,
-    operands: &[O::Operand],
-    steps: &mut Vec<Step>,
-) -> Result<(), NoMemory>
-    requires { width ≡ O.width operation.now }
-    ensures { OnOk result (steps.new.items ≡ steps.old.items ++ steps_from (O.width operation.now) (O.gate operation.now) net operands.now) }
+// What the first of steps is that do the same, with these operands.
+fn first_gate<O: Operation>(operation: &O, operands: &[O::Operand]) -> Gate
+    requires { 0 < length operands.now }
+    ensures { (width net : ℕ) → HasGate (steps_from width (O.gate operation.now) net operands.now) result }
 {
-    let mut place = u64::from(net);
-    for operand in operands {
-        if place > u64::from(u32::MAX) {
-            return Err(NoMemory);
-        }
-        let gate = operation.gate_of(operand);
-        let net = place as u32;
-        steps.push(Step { net, width, gate })?;
-        place += 1;
+    operation.gate_of(&operands[0])
+}
+
+// Evaluates a step of runs by itself. The answer is its net, if its value has changed.
+fn evaluate_alone(
+    runs: &[Run],
+    spots: &[Spot],
+    operands: &Operands,
+    step: usize,
+    values: &mut [u32],
+) -> Option<u32>
+    requires fit { All (Fits operands.now) runs.now }
+    requires spots { All (IsSpot runs.now) spots.now }
+    requires numbered { All IsNumbered runs.now }
+    requires steps { All (IsStepWithin (length values.old)) (flat_map (steps_of operands.now) runs.now) }
+    requires step { step < length (flat_map (steps_of operands.now) runs.now) }
+    ensures evaluated { IsEvaluated (flat_map (steps_of operands.now) runs.now) step values.old values.new }
+    ensures told { Tells result values.old values.new }
+{
+    let one = alone(runs, spots, step);
+    let net = one.net as usize;
+    let before = values[net];
+    evaluate_run(&one, operands, values);
+    if values[net] == before {
+        None
+    } else {
+        Some(one.net)
     }
-    Ok(())
 }
 
 // Evaluates the steps of runs.
@@ -218,7 +238,8 @@ fn evaluate_run(run: &Run, operands: &Operands, values: &mut [u32])
 // Those of the operands that are a run's.
 fn part<'a, T>(run: &Run, operands: &'a [T]) -> &'a [T]
     requires { run.now.first + run.now.count ≤ length operands.now }
-    ensures { result.now ≡ part run.now operands.now }
+    ensures part { result.now ≡ part run.now operands.now }
+    ensures each { length result.now ≡ run.now.count }
 {
     let first = run.first as usize;
     &operands[first..first + run.count as usize]
@@ -259,7 +280,14 @@ pub fn steps_moved(
         last,
     } = draft;
     runs.push(last)?;
-    Ok(Program { operands, runs })
+    let found = spots_of(alloc, &runs)?;
+    let Spots { all, count } = found;
+    Ok(Program {
+        operands,
+        runs,
+        spots: all,
+        count,
+    })
 }
 
 /// Runs to which steps are added.

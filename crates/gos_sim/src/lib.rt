@@ -6,7 +6,7 @@
 // Inside, `machine.rt` has the netlist as it runs, in flat lists: its events (`event_nets.rt`), and its steps and latches
 // (`program.rt`). The steps stand in an order in which those of one kind come one behind another (`order.rt`), and the values
 // of nets lie in the order of these steps (`places.rt`). `evaluation.rt` keeps the steps in runs and goes through them, by the
-// operations of `operations.rt`; `running.rt` has the other parts of a cycle. Where little changes, `active.rt` evaluates no more
+// operations of `operations.rt`; `spots.rt` finds one of them. `running.rt` has the other parts of a cycle. Where little changes, `active.rt` evaluates no more
 // than hangs on it: `readers.rt` has what reads a net, `marks.rt` what is to be evaluated, and `log.rt` what changed. Taking a
 // cycle needs no memory and can't be refused. `visits.rt` counts the levels in which the last cycle changed something, by chains
 // (`levels.rt`, `chains.rt`).
@@ -31,6 +31,7 @@ mod pulse;
 mod readers;
 mod running;
 mod sim;
+mod spots;
 mod visits;
 mod wake;
 

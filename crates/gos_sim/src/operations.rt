@@ -4,10 +4,8 @@ ghost use Rattle.gos_netlist.specs.declared.nets.Gate as declared;
 ghost use Rattle.gos_netlist.specs.declared.nets.Gate.TheVariants as gates;
 ghost use Rattle.gos_netlist.specs.Seen.{function_of};
 ghost use Rattle.gos_netlist.specs.Settling.{at, shown};
-ghost use Rattle.gos_sim.specs.inner.Program.{IsStepWithin};
 ghost use Rattle.gos_sim.specs.inner.Ready.{IsCellWithin};
 
-use crate::program::Step;
 use gos_netlist::{Gate, NetId};
 
 /// The nets that a step of two pins reads.
@@ -276,31 +274,6 @@ impl Operation for Pass {
 
     fn gate_of(&self, pair: &Pair) -> Gate {
         Gate::Gate(pair.a, pair.b)
-    }
-}
-
-// What a step shows, from the values of the nets. What an input or a register shows is known before, and not asked here.
-pub fn value_of(step: &Step, values: &[u32]) -> u32
-    requires step { IsStepWithin (length values.now) step.now }
-    ensures { result ≡ shown step.now.width (function_of step.now.gate) 0 0 (at values.now) }
-{
-    match step.gate {
-        Gate::Input | Gate::Reg(_) => 0,
-        Gate::Const(k) => k as u32,
-        Gate::Not(a) => turned(step.width, value_at(values, a)),
-        Gate::And(a, b) => value_at(values, a) & value_at(values, b),
-        Gate::Or(a, b) => value_at(values, a) | value_at(values, b),
-        Gate::Xor(a, b) => value_at(values, a) ^ value_at(values, b),
-        Gate::Mux(s, a, b) => chosen(
-            value_at(values, s),
-            value_at(values, a),
-            value_at(values, b),
-        ),
-        Gate::Add(a, b) => sum(step.width, value_at(values, a), value_at(values, b)),
-        Gate::Sub(a, b) => difference(step.width, value_at(values, a), value_at(values, b)),
-        Gate::Eq(a, b) => u32::from(value_at(values, a) == value_at(values, b)),
-        Gate::Less(a, b) => u32::from(value_at(values, a) < value_at(values, b)),
-        Gate::Gate(s, a) => chosen(value_at(values, s), value_at(values, a), 0),
     }
 }
 

@@ -6,8 +6,9 @@ ghost use Rattle.gos_sim.specs.inner.Program.{IsLatchWithin, IsStepWithin};
 ghost use Rattle.gos_sim.specs.inner.Marks.{IsUnmarked, KeepsMarks};
 ghost use Rattle.gos_sim.specs.inner.Readers.{AreLatchesReading, AreLinked, AreStepsReading, KeepsReaders, ReadAll, Reads};
 
+use crate::evaluation::Program;
 use crate::marks::Marks;
-use crate::program::{Latch, Step};
+use crate::program::Latch;
 use gos_netlist::{Gate, NetId};
 use gos_types::NoMemory;
 use std::alloc::Global;
@@ -111,15 +112,15 @@ impl Readers {
     }
 
     // Adds the steps as readers of their pins.
-    fn add_steps(&mut self, steps: &[Step]) -> Result<(), NoMemory>
+    fn add_steps(&mut self, steps: &Program) -> Result<(), NoMemory>
         requires steps { All (IsStepWithin (length self.old.heads.items)) steps.now }
         requires few { length steps.now ≤ 4294967295 }
         ensures each { OnOk result (length self.new.heads.items ≡ length self.old.heads.items) }
         ensures linked { OnOk result ((words : ℕ) → length steps.now / 64 < words → AreLinked words self.old → AreLinked words self.new) }
         ensures reads { OnOk result (AreStepsReading steps.now self.new) }
     {
-        for (place, step) in steps.iter().enumerate() {
-            self.add_pins(step.gate, place as u32)?;
+        for step in 0..steps.len() {
+            self.add_pins(steps.gate(step), step as u32)?;
         }
         Ok(())
     }
@@ -144,7 +145,7 @@ impl Readers {
 pub fn readers_of(
     alloc: Global,
     count: usize,
-    steps: &[Step],
+    steps: &Program,
     latches: &[Latch],
 ) -> Result<Readers, NoMemory>
     requires steps { All (IsStepWithin count) steps.now }

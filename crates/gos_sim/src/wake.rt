@@ -1,11 +1,13 @@
 // What a changed value brings with it: its place is noted, and what reads it is marked.
 ghost use Rattle.std.specs.Prelude.{◌≡◌, ◌≢◌, ℕ, ◌<◌, All, length, set};
-ghost use Rattle.gos_netlist.specs.Settling.{at};
+ghost use Rattle.gos_netlist.specs.Settling.{Numbers, at};
 ghost use Rattle.gos_sim.specs.EventNets.{OnNets};
 ghost use Rattle.gos_sim.specs.Cycle.{Gives, GivesAll, IsWord};
 ghost use Rattle.gos_sim.specs.inner.Program.{HasLatch, IsLatchWithin};
 ghost use Rattle.gos_sim.specs.inner.Running.{AreLoaded, KeepsOtherNets, KeepsOthers};
 ghost use Rattle.gos_sim.specs.inner.Ready.{AreApart, AreTwo};
+ghost use Rattle.gos_sim.specs.inner.Readers.{AreLinked};
+ghost use Rattle.gos_sim.specs.inner.Spots.{KeepsOthersThan};
 ghost use Rattle.gos_sim.specs.inner.Active.{AreLoadedButNoted, Follows, IsWake, KeepsOtherEvents};
 
 use crate::event_nets::EventNets;
@@ -39,6 +41,16 @@ impl Wake {
             return;
         }
         values[place as usize] = value;
+        self.note(place);
+    }
+
+    // Notes a place whose value has changed, and marks what reads it.
+    pub fn note(&mut self, place: u32)
+        requires place { place < length self.old.readers.heads.items }
+        requires linked { AreLinked (length self.old.marks.words.items) self.old.readers }
+        ensures follows { (v w : Numbers) → KeepsOthersThan place v w → Follows self.old self.new v w }
+        ensures wake { (count : ℕ) → place < count → IsWake count self.old → IsWake count self.new }
+    {
         self.touched.note(place);
         self.readers.mark(place, &mut self.marks);
     }

@@ -78,9 +78,8 @@ abbrev pub SweepsOn : List Step → List Latch → Active → Numbers → Number
 SweepsOn steps latches old v registers new w after =
     (start loaded held : Numbers) → HasSwept steps latches start loaded held old v registers → HasSwept steps latches start loaded held new w after
 
--- Between cycles all steps are there, and nothing is marked.
+-- Between cycles nothing is marked.
 pub record IsAwake (count : ℕ) (steps : List Step) (latches : List Latch) (active : Active) : Type 0 where
-  pub listed : active.steps.items ≡ steps
   pub wake : IsWake count active.wake
   pub reading : ReadAll steps latches active.wake.readers
   pub unmarked : AreUnmarked active.wake.marks.words.items

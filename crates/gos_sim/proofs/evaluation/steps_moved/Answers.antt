@@ -9,6 +9,7 @@ use Rattle.gos_sim.specs.declared.evaluation.Run.{Run}
 use Rattle.gos_sim.specs.declared.program.Step.{Step}
 use Rattle.gos_sim.specs.inner.Drafts.{IsDraft}
 use Rattle.gos_sim.specs.inner.Evaluation.{Fits, steps_of}
+use Rattle.gos_sim.specs.inner.Spots.{IsNumbered, IsSpot, steps_in}
 use Rattle.gos_sim.specs.inner.Places.{AreStepsMoved}
 use Rattle.gos_sim.proofs.EvaluationLemmas.{fitting_runs, moved_runs}
 use Rattle.gos_sim.specs.inner.Program.{steps_named}
@@ -34,7 +35,13 @@ loop-net-preserved c =
 pub invariant_of-result : goal.invariant_of-result
 invariant_of-result c =
     let steps = steps_named c.args.cells.now (take c.loop-net.net-index (map number_of c.args.nets.now)) in
-    subst (All (Fits c.loop-net.draft.operands)) (sym c.in_ok-push.ensures.items) (fitting_runs c.args.places.now steps c.loop-net.draft c.loop-net.invariant)
+    let same = c.deref.ensures.value in
+    record {
+      fit = subst (All (Fits c.loop-net.draft.operands)) (sym c.in_ok-push.ensures.items) (fitting_runs c.args.places.now steps c.loop-net.draft c.loop-net.invariant);
+      spots = subst (λ (rs : List Run). All (IsSpot rs) c.in_ok-found.found.all.items) same c.in_ok-found.ensures.spots;
+      numbered = subst (All IsNumbered) same c.in_ok-found.ensures.numbered;
+      count = c.in_ok-found.ensures.count ∙ ap steps_in same;
+    }
 
 pub returns : goal.returns
 returns c =

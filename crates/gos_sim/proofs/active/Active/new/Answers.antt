@@ -1,38 +1,29 @@
-use Rattle.std.proofs.Common.{List, ◌+◌, ◌<◌, ◌≡◌, ◌∙◌, ◌/◌, All, ap, arith, length, rules, subst, sym}
+use Rattle.std.proofs.Common.{List, ◌+◌, ◌<◌, ◌≡◌, ◌/◌, All, arith, length, rules, subst, sym}
 use Rattle.std.proofs.lemmas.List.Elements.{All-nil}
-use Rattle.gos_sim.specs.declared.program.Step.{Step}
 use Rattle.gos_sim.specs.declared.program.Latch.{Latch}
-use Rattle.gos_sim.specs.inner.Program.{HasLatch, IsStepWithin}
+use Rattle.gos_sim.specs.inner.Program.{HasLatch}
 use Rattle.gos_sim.specs.inner.Readers.{ReadAll}
 use Rattle.gos_sim.proofs.active.Active.new.Goals as goal
-
-pub readers_of-requires-clause-steps : goal.readers_of-requires-clause-steps
-readers_of-requires-clause-steps c = subst (All (IsStepWithin c.args.count)) (sym (c.deref.ensures.value ∙ c.in_ok-steps.ensures)) c.requires.steps
 
 pub returns-clause-awake : goal.returns-clause-awake
 returns-clause-awake c =
     let steps = c.args.machine.now.program in
     let latches = c.args.machine.now.latches.items in
     let readers = c.in_ok-readers.readers in
-    let own : c.len.result ≡ length c.in_ok-steps.steps.items = search rules in
-    let many : c.len.result ≡ length steps = own ∙ ap length c.in_ok-steps.ensures in
-    let same : c.deref.result.now ≡ steps = c.deref.ensures.value ∙ c.in_ok-steps.ensures in
+    let many : c.len.result ≡ length steps = search rules in
     let more : c.len-2.result ≡ length c.args.machine.now.latches.items = search rules in
     let items : c.saturating_add-items.result ≡ length steps + length latches = omega (arith, c.saturating_add-items.ensures, c.if-items.false, many, more) in
     let words : length c.in_ok-marks.marks.words.items ≡ (length steps + length latches) / 64 + 1 = omega (arith, c.in_ok-marks.ensures.each, items) in
-    let reading = subst (λ (ss : List Step). ReadAll ss c.deref-2.result.now readers) same c.in_ok-readers.ensures.reading in
-    let low : (length c.deref.result.now + length c.deref-2.result.now) / 64 < length c.in_ok-marks.marks.words.items =
-    subst (λ (ss : List Step). (length ss + length c.deref-2.result.now) / 64 < length c.in_ok-marks.marks.words.items) (sym same)
-    (subst (λ (ls : List Latch). (length steps + length ls) / 64 < length c.in_ok-marks.marks.words.items) (sym c.deref-2.ensures.value) (omega (arith, words))) in
+    let low : (length steps + length c.deref.result.now) / 64 < length c.in_ok-marks.marks.words.items =
+    subst (λ (ls : List Latch). (length steps + length ls) / 64 < length c.in_ok-marks.marks.words.items) (sym c.deref.ensures.value) (omega (arith, words)) in
     record {
-      listed = c.in_ok-steps.ensures;
       wake = record {
         each = c.in_ok-readers.ensures.each;
         linked = c.in_ok-readers.ensures.linked (length c.in_ok-marks.marks.words.items) low;
         few = omega (arith, words, items, c.if-items.false);
         within = subst (All (λ p. p < c.args.count)) (sym c.in_ok-touched.ensures.none) (All-nil (λ p. p < c.args.count));
       };
-      reading = subst (λ (ls : List Latch). ReadAll steps ls readers) c.deref-2.ensures.value reading;
+      reading = subst (λ (ls : List Latch). ReadAll steps ls readers) c.deref.ensures.value c.in_ok-readers.ensures.reading;
       unmarked = c.in_ok-marks.ensures.none;
       noted = subst (All (HasLatch latches)) (sym c.in_ok-changed.ensures.none) (All-nil (HasLatch latches));
     }

@@ -40,7 +40,6 @@ returns-then-sweep-clause-awake c =
     let swept = c.sweep.ensures.swept c.args.values.now c.begin.new.values c.args.registers.now c.begin.ensures.swept in
     let same : length c.begin.new.values ≡ length c.args.values.now = omega arith in
     record {
-      listed = c.sweep.ensures.listed;
       wake = subst (λ (n : ℕ). IsWake n c.sweep.new.self.wake) same c.sweep.ensures.wake;
       reading = c.sweep.ensures.reading;
       unmarked = c.sweep.ensures.unmarked c.if-sweep.true;

@@ -8,7 +8,6 @@ loop-preserved c =
     let follow = c.follow.ensures in
     let same : length c.loop.values ≡ length c.args.values.now = omega arith in
     record {
-      listed = follow.listed;
       wake = subst (λ (n : ℕ). IsWake n c.follow.new.self.wake) same follow.wake;
       reading = follow.reading;
       stand = follow.stand;

@@ -1,4 +1,4 @@
-use Rattle.std.proofs.Common.{◌≡◌, length}
+use Rattle.std.proofs.Common.{length}
 use Rattle.gos_netlist.specs.Settling.{Numbers}
 use Rattle.gos_sim.specs.inner.Readers.{ReadAll}
 use Rattle.gos_sim.specs.inner.Active.{HasSwept, IsWake, Stand}
@@ -8,7 +8,6 @@ use Rattle.gos_sim.proofs.active.Active.sweep.Given as goal
 abbrev pub invariant-loop : goal.invariant-loop
 invariant-loop l =
     record {
-      listed : l.self.steps.items ≡ l.machine.program;
       wake : IsWake (length l.initial.values) l.self.wake;
       reading : ReadAll l.machine.program l.machine.latches.items l.self.wake.readers;
       stand : Stand l.machine.program l.machine.latches.items l.self.wake.marks.words.items l.values l.registers;
