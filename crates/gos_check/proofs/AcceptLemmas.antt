@@ -11,11 +11,11 @@ use Rattle.gos_model.specs.Typing.{Imports, Typed}
 use Rattle.gos_types.specs.Widths.{IsWidth, HasWidths}
 use Rattle.gos_model.specs.Weight.{count, node_type}
 use Rattle.gos_model.specs.Sources.{term_of, binder_of, bound_or_import}
-use Rattle.gos_check.specs.Faults.{Found, Width}
+use Rattle.gos_check.specs.Faults.{Found, Width, after}
 use Rattle.gos_check.specs.Written.{is_width, first_of, bad_width, no_bad, small, literal, written, written_width}
 use Rattle.gos_check.specs.Scopes.{Binders, type_at, used}
 use Rattle.gos_check.specs.Demands.{application, first_side, second_side, sequence, parallel, choice, looping, assignment, reading, negation, operation, done}
-use Rattle.gos_check.specs.Judging.{place_of, separate, judged}
+use Rattle.gos_check.specs.Judging.{place_of, of_two, separate, sized, judged}
 use Rattle.gos_check.specs.inner.Walked.{names_of, types_of}
 use Rattle.gos_check.specs.Accepted.{IsSmall, IsWritten, KeepsLimits}
 use Rattle.gos_check.proofs.FoundLemmas.{after_is, small_is, sized_is, done_is, two_is, three_is, separate_is, if_ok}
@@ -170,6 +170,28 @@ small_here : (i : Imports) (g : Binders) (tree : Tree) (t : Type') → judged i 
     → IsSmall (node_type i (types_of g) (term_of (names_of g) tree))
 small_here i g tree t h k = subst (λ (u : Type'). IsSmall u) (sym (judged_type i g tree t h)) k
 
+-- where a part is judged, it keeps the limits
+abbrev Keeps : Imports → Binders → Tree → Type 0
+Keeps i g m = (t : Type') → judged i g m ≡ Ok t → KeepsLimits i (types_of g) (term_of (names_of g) m)
+
+-- a tree of one part or of two that is judged is small, and its parts keep the limits
+keeps_one : (i : Imports) (g : Binders) (s : Span) (tree m : Tree) (rule : Type' → Found Type') (t : Type') → judged i g tree ≡ Ok t
+    → sized s (after (judged i g m) rule) ≡ Ok t → Keeps i g m
+    → IsSmall (node_type i (types_of g) (term_of (names_of g) tree)) × KeepsLimits i (types_of g) (term_of (names_of g) m)
+keeps_one i g s tree m rule t h k keep =
+    let e = sized_is s _ t k in
+    let p = after_is (judged i g m) rule t e.0 in
+    (small_here i g tree t h e.1, keep p.0 p.1)
+
+keeps_two : (i : Imports) (g : Binders) (s : Span) (tree m n : Tree) (rule : Type' → Type' → Found Type') (t : Type') → judged i g tree ≡ Ok t
+    → sized s (of_two (judged i g m) (judged i g n) rule) ≡ Ok t → Keeps i g m → Keeps i g n
+    → IsSmall (node_type i (types_of g) (term_of (names_of g) tree)) × KeepsLimits i (types_of g) (term_of (names_of g) m)
+    × KeepsLimits i (types_of g) (term_of (names_of g) n)
+keeps_two i g s tree m n rule t h k keep_m keep_n =
+    let e = sized_is s _ t k in
+    let p = two_is (judged i g m) (judged i g n) rule t e.0 in
+    (small_here i g tree t h e.1, keep_m p.0 p.2, keep_n p.1 p.3)
+
 -- a term that is judged keeps the limits
 pub judged_keeps : (i : Imports) (g : Binders) (tree : Tree) (t : Type') → judged i g tree ≡ Ok t
     → KeepsLimits i (types_of g) (term_of (names_of g) tree)
@@ -187,51 +209,18 @@ judged_keeps i g (New s x w wt m) t h =
     let p = after_is (written_width wt w) _ t e.0 in
     let q = after_is (judged i (record { name = x; ty = Var w } ∷ g) m) (λ b. done (place_of m) b) t p.2 in
     (small_here i g (New s x w wt m) t h e.1, judged_keeps i (record { name = x; ty = Var w } ∷ g) m q.0 q.1)
-judged_keeps i g (App s m n) t h =
-    let e = sized_is s _ t h in
-    let p = two_is (judged i g m) (judged i g n) (λ a b. separate m n (application (place_of m) a (place_of n) b)) t e.0 in
-    (small_here i g (App s m n) t h e.1, judged_keeps i g m p.0 p.2, judged_keeps i g n p.1 p.3)
-judged_keeps i g (Both s m n) t h =
-    let e = sized_is s _ t h in
-    let p = two_is (judged i g m) (judged i g n) (λ a b. Ok (Pair a b)) t e.0 in
-    (small_here i g (Both s m n) t h e.1, judged_keeps i g m p.0 p.2, judged_keeps i g n p.1 p.3)
-judged_keeps i g (Fst s m) t h =
-    let e = sized_is s _ t h in
-    let p = after_is (judged i g m) (λ a. first_side (place_of m) a) t e.0 in
-    (small_here i g (Fst s m) t h e.1, judged_keeps i g m p.0 p.1)
-judged_keeps i g (Snd s m) t h =
-    let e = sized_is s _ t h in
-    let p = after_is (judged i g m) (λ a. second_side (place_of m) a) t e.0 in
-    (small_here i g (Snd s m) t h e.1, judged_keeps i g m p.0 p.1)
-judged_keeps i g (Seq s m n) t h =
-    let e = sized_is s _ t h in
-    let p = two_is (judged i g m) (judged i g n) (λ a b. sequence (place_of m) a (place_of n) b) t e.0 in
-    (small_here i g (Seq s m n) t h e.1, judged_keeps i g m p.0 p.2, judged_keeps i g n p.1 p.3)
-judged_keeps i g (Par s m n) t h =
-    let e = sized_is s _ t h in
-    let p = two_is (judged i g m) (judged i g n) (λ a b. separate m n (parallel (place_of m) a (place_of n) b)) t e.0 in
-    (small_here i g (Par s m n) t h e.1, judged_keeps i g m p.0 p.2, judged_keeps i g n p.1 p.3)
 judged_keeps i g (If s m n o) t h =
     let e = sized_is s _ t h in
     let p = three_is (judged i g m) (judged i g n) (judged i g o) (λ a b c. choice (place_of m) a (place_of n) b (place_of o) c) t e.0 in
     (small_here i g (If s m n o) t h e.1, judged_keeps i g m p.0 p.3, judged_keeps i g n p.1 p.4, judged_keeps i g o p.2 p.5)
-judged_keeps i g (While s m n) t h =
-    let e = sized_is s _ t h in
-    let p = two_is (judged i g m) (judged i g n) (λ a b. looping (place_of m) a (place_of n) b) t e.0 in
-    (small_here i g (While s m n) t h e.1, judged_keeps i g m p.0 p.2, judged_keeps i g n p.1 p.3)
-judged_keeps i g (Assign s m n) t h =
-    let e = sized_is s _ t h in
-    let p = two_is (judged i g m) (judged i g n) (λ a b. assignment (place_of m) a (place_of n) b) t e.0 in
-    (small_here i g (Assign s m n) t h e.1, judged_keeps i g m p.0 p.2, judged_keeps i g n p.1 p.3)
-judged_keeps i g (Deref s m) t h =
-    let e = sized_is s _ t h in
-    let p = after_is (judged i g m) (λ a. reading (place_of m) a) t e.0 in
-    (small_here i g (Deref s m) t h e.1, judged_keeps i g m p.0 p.1)
-judged_keeps i g (Not s m) t h =
-    let e = sized_is s _ t h in
-    let p = after_is (judged i g m) (λ a. negation (place_of m) a) t e.0 in
-    (small_here i g (Not s m) t h e.1, judged_keeps i g m p.0 p.1)
-judged_keeps i g (Bin s op m n) t h =
-    let e = sized_is s _ t h in
-    let p = two_is (judged i g m) (judged i g n) (λ a b. operation op (place_of m) a (place_of n) b) t e.0 in
-    (small_here i g (Bin s op m n) t h e.1, judged_keeps i g m p.0 p.2, judged_keeps i g n p.1 p.3)
+judged_keeps i g (Fst s m) t h = keeps_one i g s (Fst s m) m _ t h h (λ u k. judged_keeps i g m u k)
+judged_keeps i g (Snd s m) t h = keeps_one i g s (Snd s m) m _ t h h (λ u k. judged_keeps i g m u k)
+judged_keeps i g (Deref s m) t h = keeps_one i g s (Deref s m) m _ t h h (λ u k. judged_keeps i g m u k)
+judged_keeps i g (Not s m) t h = keeps_one i g s (Not s m) m _ t h h (λ u k. judged_keeps i g m u k)
+judged_keeps i g (App s m n) t h = keeps_two i g s (App s m n) m n _ t h h (λ u k. judged_keeps i g m u k) (λ u k. judged_keeps i g n u k)
+judged_keeps i g (Both s m n) t h = keeps_two i g s (Both s m n) m n _ t h h (λ u k. judged_keeps i g m u k) (λ u k. judged_keeps i g n u k)
+judged_keeps i g (Seq s m n) t h = keeps_two i g s (Seq s m n) m n _ t h h (λ u k. judged_keeps i g m u k) (λ u k. judged_keeps i g n u k)
+judged_keeps i g (Par s m n) t h = keeps_two i g s (Par s m n) m n _ t h h (λ u k. judged_keeps i g m u k) (λ u k. judged_keeps i g n u k)
+judged_keeps i g (While s m n) t h = keeps_two i g s (While s m n) m n _ t h h (λ u k. judged_keeps i g m u k) (λ u k. judged_keeps i g n u k)
+judged_keeps i g (Assign s m n) t h = keeps_two i g s (Assign s m n) m n _ t h h (λ u k. judged_keeps i g m u k) (λ u k. judged_keeps i g n u k)
+judged_keeps i g (Bin s op m n) t h = keeps_two i g s (Bin s op m n) m n _ t h h (λ u k. judged_keeps i g m u k) (λ u k. judged_keeps i g n u k)

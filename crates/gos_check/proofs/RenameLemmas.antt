@@ -3,7 +3,6 @@ use Rattle.std.specs.Prelude.{◌≡◌, ℕ, ◌+◌, ◌<◌, List, [], ◌∷
 use Rattle.std.proofs.Common.{refl, sym, ap, subst, ◌∙◌, inl, inr}
 use Rattle.gos_types.specs.Types.{Type'}
 use Rattle.gos_model.specs.Terms as terms
-use Rattle.gos_model.specs.Terms.{Term}
 use Rattle.gos_model.specs.Typing.{Imports}
 use Rattle.gos_model.specs.Weight.{node_type}
 use Rattle.gos_check.specs.declared.linear.Split.{Split}
@@ -52,22 +51,32 @@ under_renamed : (f : ℕ → ℕ) → UndoesItself f → (n : ℕ) (ss : List Sp
 under_renamed f back n ss env =
     below_renamed f back n (inside (map (renamed_split f) ss) env) ∙ ap (λ (e : Meaning). below n e) (inside_renamed f back ss env)
 
+-- a node that means the same below renamed splits means the same below the splits
+meaning_inside : (f : ℕ → ℕ) → UndoesItself f → (ss : List Split) (env : Meaning) (node : Numbered)
+    → meaning (inside (map (renamed_split f) ss) env) (renamed f node) ≡ meaning (λ k. inside (map (renamed_split f) ss) env (f k)) node
+    → meaning (inside (map (renamed_split f) ss) env) (renamed f node) ≡ meaning (inside ss (λ k. env (f k))) node
+meaning_inside f back ss env node same = same ∙ ap (λ (e : Meaning). meaning e node) (inside_renamed f back ss env)
+
 pub meaning_renamed : (f : ℕ → ℕ) → UndoesItself f → (env : Meaning) (node : Numbered) → meaning env (renamed f node) ≡ meaning (λ k. env (f k)) node
 meaning_renamed f back env (Closed t ss c) = refl
 meaning_renamed f back env (Use t ss n) = refl
 meaning_renamed f back env (Under t ss b n m) =
     ap (binder_term b t) (meaning_renamed f back _ m ∙ ap (λ (e : Meaning). meaning e m) (under_renamed f back n ss env))
-meaning_renamed f back env (One t ss g m) =
-    ap (one_term g) (meaning_renamed f back _ m ∙ ap (λ (e : Meaning). meaning e m) (inside_renamed f back ss env))
+meaning_renamed f back env (One t ss g m) = ap (one_term g) (meaning_inside f back ss env m (meaning_renamed f back (inside (map (renamed_split f) ss) env) m))
 meaning_renamed f back env (Two t ss g m n) =
-    let p = meaning_renamed f back (inside (map (renamed_split f) ss) env) m ∙ ap (λ (e : Meaning). meaning e m) (inside_renamed f back ss env) in
-    let q = meaning_renamed f back (inside (map (renamed_split f) ss) env) n ∙ ap (λ (e : Meaning). meaning e n) (inside_renamed f back ss env) in
+    let p = meaning_inside f back ss env m (meaning_renamed f back (inside (map (renamed_split f) ss) env) m) in
+    let q = meaning_inside f back ss env n (meaning_renamed f back (inside (map (renamed_split f) ss) env) n) in
     λ i. two_term g (p i) (q i)
 meaning_renamed f back env (If t ss m n o) =
-    let p = meaning_renamed f back (inside (map (renamed_split f) ss) env) m ∙ ap (λ (e : Meaning). meaning e m) (inside_renamed f back ss env) in
-    let q = meaning_renamed f back (inside (map (renamed_split f) ss) env) n ∙ ap (λ (e : Meaning). meaning e n) (inside_renamed f back ss env) in
-    let r = meaning_renamed f back (inside (map (renamed_split f) ss) env) o ∙ ap (λ (e : Meaning). meaning e o) (inside_renamed f back ss env) in
+    let p = meaning_inside f back ss env m (meaning_renamed f back (inside (map (renamed_split f) ss) env) m) in
+    let q = meaning_inside f back ss env n (meaning_renamed f back (inside (map (renamed_split f) ss) env) n) in
+    let r = meaning_inside f back ss env o (meaning_renamed f back (inside (map (renamed_split f) ss) env) o) in
     λ i. terms.If (p i) (q i) (r i)
+
+-- types below splits are types below the renamed splits
+types_inside : (f : ℕ → ℕ) → UndoesItself f → (i : Imports) (g : List Type') (ss : List Split) (env : Meaning) (node : Numbered)
+    → HasTypes i g (inside ss (λ k. env (f k))) node → HasTypes i g (λ k. inside (map (renamed_split f) ss) env (f k)) node
+types_inside f back i g ss env node h = subst (λ (e : Meaning). HasTypes i g e node) (sym (inside_renamed f back ss env)) h
 
 pub types_renamed : (f : ℕ → ℕ) → UndoesItself f → (i : Imports) (g : List Type') (env : Meaning) (node : Numbered)
     → HasTypes i g (λ k. env (f k)) node → HasTypes i g env (renamed f node)
@@ -80,18 +89,18 @@ types_renamed f back i g env (Under t ss b n m) h = (
 )
 types_renamed f back i g env (One t ss o m) h = (
   h.0 ∙ ap (node_type i g) (sym (meaning_renamed f back env (One t ss o m))),
-  types_renamed f back i g _ m (subst (λ (e : Meaning). HasTypes i g e m) (sym (inside_renamed f back ss env)) h.1),
+  types_renamed f back i g _ m (types_inside f back i g ss env m h.1),
 )
 types_renamed f back i g env (Two t ss o m n) h = (
   h.0 ∙ ap (node_type i g) (sym (meaning_renamed f back env (Two t ss o m n))),
-  types_renamed f back i g _ m (subst (λ (e : Meaning). HasTypes i g e m) (sym (inside_renamed f back ss env)) h.1),
-  types_renamed f back i g _ n (subst (λ (e : Meaning). HasTypes i g e n) (sym (inside_renamed f back ss env)) h.2),
+  types_renamed f back i g _ m (types_inside f back i g ss env m h.1),
+  types_renamed f back i g _ n (types_inside f back i g ss env n h.2),
 )
 types_renamed f back i g env (If t ss m n o) h = (
   h.0 ∙ ap (node_type i g) (sym (meaning_renamed f back env (If t ss m n o))),
-  types_renamed f back i g _ m (subst (λ (e : Meaning). HasTypes i g e m) (sym (inside_renamed f back ss env)) h.1),
-  types_renamed f back i g _ n (subst (λ (e : Meaning). HasTypes i g e n) (sym (inside_renamed f back ss env)) h.2),
-  types_renamed f back i g _ o (subst (λ (e : Meaning). HasTypes i g e o) (sym (inside_renamed f back ss env)) h.3),
+  types_renamed f back i g _ m (types_inside f back i g ss env m h.1),
+  types_renamed f back i g _ n (types_inside f back i g ss env n h.2),
+  types_renamed f back i g _ o (types_inside f back i g ss env o h.3),
 )
 
 -- a number is as often in the images as its image is in the list
@@ -108,49 +117,52 @@ sides_times f back k (s ∷ ss) =
     one_times f back k s.left (f s.right ∷ sides (map (renamed_split f) ss)) (s.right ∷ sides ss)
     (one_times f back k s.right (sides (map (renamed_split f) ss)) (sides ss) (sides_times f back k ss))
 
-append_times : (k j : ℕ) (xs ys vs ws : List ℕ) → times k xs ≡ times j vs → times k ys ≡ times j ws → times k (xs ++ ys) ≡ times j (vs ++ ws)
-append_times k j xs ys vs ws p q = times-append k xs ys ∙ ((λ i. p i + q i) ∙ sym (times-append j vs ws))
+-- lists of parts, in each of which one number is as often as another is in a list of its own
+two_times : (k j : ℕ) (xs ys vs ws : List ℕ) → times k xs ≡ times j vs → times k ys ≡ times j ws → times k (xs ++ ys) ≡ times j (vs ++ ws)
+two_times k j xs ys vs ws p q = times-append k xs ys ∙ ((λ i. p i + q i) ∙ sym (times-append j vs ws))
+
+three_times : (k j : ℕ) (xs ys zs us vs ws : List ℕ) → times k xs ≡ times j us → times k ys ≡ times j vs → times k zs ≡ times j ws
+    → times k (xs ++ (ys ++ zs)) ≡ times j (us ++ (vs ++ ws))
+three_times k j xs ys zs us vs ws p q r = two_times k j xs (ys ++ zs) us (vs ++ ws) p (two_times k j ys zs vs ws q r)
+
+four_times : (k j : ℕ) (rs xs ys zs ts us vs ws : List ℕ) → times k rs ≡ times j ts → times k xs ≡ times j us → times k ys ≡ times j vs
+    → times k zs ≡ times j ws → times k (rs ++ (xs ++ (ys ++ zs))) ≡ times j (ts ++ (us ++ (vs ++ ws)))
+four_times k j rs xs ys zs ts us vs ws o p q r = two_times k j rs (xs ++ (ys ++ zs)) ts (us ++ (vs ++ ws)) o (three_times k j xs ys zs us vs ws p q r)
 
 pub used_times : (f : ℕ → ℕ) → UndoesItself f → (k : ℕ) (node : Numbered) → times k (used (renamed f node)) ≡ times (f k) (used node)
 used_times f back k (Closed t ss c) = split_in_times f back k ss
 used_times f back k (Use t ss n) =
-    append_times k (f k) _ _ (split_in ss) (n ∷ []) (split_in_times f back k ss) (one_times f back k n [] [] refl)
-used_times f back k (Under t ss b n m) = append_times k (f k) _ _ (split_in ss) _ (split_in_times f back k ss) (used_times f back k m)
-used_times f back k (One t ss g m) = append_times k (f k) _ _ (split_in ss) _ (split_in_times f back k ss) (used_times f back k m)
+    two_times k (f k) _ _ (split_in ss) (n ∷ []) (split_in_times f back k ss) (one_times f back k n [] [] refl)
+used_times f back k (Under t ss b n m) = two_times k (f k) _ _ (split_in ss) _ (split_in_times f back k ss) (used_times f back k m)
+used_times f back k (One t ss g m) = two_times k (f k) _ _ (split_in ss) _ (split_in_times f back k ss) (used_times f back k m)
 used_times f back k (Two t ss g m n) =
-    append_times k (f k) _ _ (split_in ss) (used m ++ used n) (split_in_times f back k ss)
-    (append_times k (f k) _ _ (used m) _ (used_times f back k m) (used_times f back k n))
+    three_times k (f k) _ _ _ (split_in ss) (used m) _ (split_in_times f back k ss) (used_times f back k m) (used_times f back k n)
 used_times f back k (If t ss m n o) =
-    append_times k (f k) _ _ (split_in ss) (used m ++ (used n ++ used o)) (split_in_times f back k ss)
-    (append_times k (f k) _ _ (used m) (used n ++ used o) (used_times f back k m)
-    (append_times k (f k) _ _ (used n) _ (used_times f back k n) (used_times f back k o)))
+    four_times k (f k) _ _ _ _ (split_in ss) (used m) (used n) _ (split_in_times f back k ss)
+    (used_times f back k m) (used_times f back k n) (used_times f back k o)
 
 pub all_sides_times : (f : ℕ → ℕ) → UndoesItself f → (k : ℕ) (node : Numbered) → times k (all_sides (renamed f node)) ≡ times (f k) (all_sides node)
 all_sides_times f back k (Closed t ss c) = sides_times f back k ss
 all_sides_times f back k (Use t ss n) = sides_times f back k ss
-all_sides_times f back k (Under t ss b n m) = append_times k (f k) _ _ (sides ss) _ (sides_times f back k ss) (all_sides_times f back k m)
-all_sides_times f back k (One t ss g m) = append_times k (f k) _ _ (sides ss) _ (sides_times f back k ss) (all_sides_times f back k m)
+all_sides_times f back k (Under t ss b n m) = two_times k (f k) _ _ (sides ss) _ (sides_times f back k ss) (all_sides_times f back k m)
+all_sides_times f back k (One t ss g m) = two_times k (f k) _ _ (sides ss) _ (sides_times f back k ss) (all_sides_times f back k m)
 all_sides_times f back k (Two t ss g m n) =
-    append_times k (f k) _ _ (sides ss) (all_sides m ++ all_sides n) (sides_times f back k ss)
-    (append_times k (f k) _ _ (all_sides m) _ (all_sides_times f back k m) (all_sides_times f back k n))
+    three_times k (f k) _ _ _ (sides ss) (all_sides m) _ (sides_times f back k ss) (all_sides_times f back k m) (all_sides_times f back k n)
 all_sides_times f back k (If t ss m n o) =
-    append_times k (f k) _ _ (sides ss) (all_sides m ++ (all_sides n ++ all_sides o)) (sides_times f back k ss)
-    (append_times k (f k) _ _ (all_sides m) (all_sides n ++ all_sides o) (all_sides_times f back k m)
-    (append_times k (f k) _ _ (all_sides n) _ (all_sides_times f back k n) (all_sides_times f back k o)))
+    four_times k (f k) _ _ _ _ (sides ss) (all_sides m) (all_sides n) _ (sides_times f back k ss)
+    (all_sides_times f back k m) (all_sides_times f back k n) (all_sides_times f back k o)
 
 pub made_times : (f : ℕ → ℕ) → UndoesItself f → (k : ℕ) (node : Numbered) → times k (made (renamed f node)) ≡ times (f k) (made node)
 made_times f back k (Closed t ss c) = sides_times f back k ss
 made_times f back k (Use t ss n) = sides_times f back k ss
 made_times f back k (Under t ss b n m) =
-    append_times k (f k) _ _ (sides ss) (n ∷ made m) (sides_times f back k ss) (one_times f back k n _ _ (made_times f back k m))
-made_times f back k (One t ss g m) = append_times k (f k) _ _ (sides ss) _ (sides_times f back k ss) (made_times f back k m)
+    two_times k (f k) _ _ (sides ss) (n ∷ made m) (sides_times f back k ss) (one_times f back k n _ _ (made_times f back k m))
+made_times f back k (One t ss g m) = two_times k (f k) _ _ (sides ss) _ (sides_times f back k ss) (made_times f back k m)
 made_times f back k (Two t ss g m n) =
-    append_times k (f k) _ _ (sides ss) (made m ++ made n) (sides_times f back k ss)
-    (append_times k (f k) _ _ (made m) _ (made_times f back k m) (made_times f back k n))
+    three_times k (f k) _ _ _ (sides ss) (made m) _ (sides_times f back k ss) (made_times f back k m) (made_times f back k n)
 made_times f back k (If t ss m n o) =
-    append_times k (f k) _ _ (sides ss) (made m ++ (made n ++ made o)) (sides_times f back k ss)
-    (append_times k (f k) _ _ (made m) (made n ++ made o) (made_times f back k m)
-    (append_times k (f k) _ _ (made n) _ (made_times f back k n) (made_times f back k o)))
+    four_times k (f k) _ _ _ _ (sides ss) (made m) (made n) _ (sides_times f back k ss)
+    (made_times f back k m) (made_times f back k n) (made_times f back k o)
 
 -- a renamed split back as it was
 one_of_renamed : (f : ℕ → ℕ) (s : Split) (ss : List Split) → IsOneOf s (map (renamed_split f) ss) → (t : Split) × (s ≡ renamed_split f t) × IsOneOf t ss

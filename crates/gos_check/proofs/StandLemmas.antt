@@ -8,7 +8,7 @@ use Rattle.gos_syntax.specs.Trees as trees
 use Rattle.gos_syntax.specs.Trees.{Tree, tree_of}
 use Rattle.gos_syntax.specs.Modules.{SeenImport, SeenModule}
 use Rattle.gos_model.specs.Terms as terms
-use Rattle.gos_model.specs.Terms.{Name, Term}
+use Rattle.gos_model.specs.Terms.{Name}
 use Rattle.gos_model.specs.Typing.{Imports, import_type, Typed}
 use Rattle.gos_model.specs.Weight.{or_com, node_type}
 use Rattle.gos_model.specs.Sources.{use_of, binder_of, bound_or_import, one_further, op_of, term_of, import_of, program_of}

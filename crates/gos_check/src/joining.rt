@@ -3,8 +3,7 @@
 ghost use Rattle.std.specs.Prelude.{◌≡◌, ◌+◌, ◌++◌, ◌^◌, ◌<◌, ◌≤◌, length, IfOk, IfErr};
 ghost use Rattle.gos_types.specs.Types.{type_of, Var};
 ghost use Rattle.gos_check.specs.Nodes.{OfFun, OfNew, If, node_seen, type_of_node};
-ghost use Rattle.gos_check.specs.inner.Numbering.{one_form, two_form, seen, binder_result, one_result, two_result};
-ghost use Rattle.gos_check.specs.inner.Opens.{merged_splits, merged_names, merged_next};
+ghost use Rattle.gos_check.specs.inner.Numbering.{one_form, two_form, seen, binder_result, one_result, two_result, choice_after, Numbers};
 
 use crate::fault::CheckFault;
 use crate::forms::{OnePart, TwoParts, function_type};
@@ -24,11 +23,8 @@ pub(crate) fn below_function(
     body: NumberedTerm,
 ) -> Result<NumberedTerm, CheckFault>
     requires { body.next + 1 < 2 ^ 32 }
-    ensures node { IfOk result (λ r. node_seen r.node.value ≡ (binder_result OfFun name.now (type_of ty.now) (seen body)).node) }
-    ensures names { IfOk result (λ r. r.names.items ≡ (binder_result OfFun name.now (type_of ty.now) (seen body)).names) }
-    ensures next { IfOk result (λ r. r.next ≡ (binder_result OfFun name.now (type_of ty.now) (seen body)).next) }
+    ensures seen { Numbers (binder_result OfFun name.now (type_of ty.now) (seen body)) result }
     ensures room { IfOk result (λ r. r.next + length r.names.items ≤ body.next + length body.names.items + 1) }
-    ensures err { IfErr result (λ e. e ≡ CheckFault.NoMemory) }
 {
     let Closed {
         number,
@@ -60,11 +56,8 @@ pub(crate) fn below_block(
     body: NumberedTerm,
 ) -> Result<NumberedTerm, CheckFault>
     requires { body.next + 1 < 2 ^ 32 }
-    ensures node { IfOk result (λ r. node_seen r.node.value ≡ (binder_result (OfNew width) name.now (Var width) (seen body)).node) }
-    ensures names { IfOk result (λ r. r.names.items ≡ (binder_result (OfNew width) name.now (Var width) (seen body)).names) }
-    ensures next { IfOk result (λ r. r.next ≡ (binder_result (OfNew width) name.now (Var width) (seen body)).next) }
+    ensures seen { Numbers (binder_result (OfNew width) name.now (Var width) (seen body)) result }
     ensures room { IfOk result (λ r. r.next + length r.names.items ≤ body.next + length body.names.items + 1) }
-    ensures err { IfErr result (λ e. e ≡ CheckFault.NoMemory) }
 {
     let Closed {
         number,
@@ -93,11 +86,8 @@ pub(crate) fn with_one(
     rule: OnePart,
     part: NumberedTerm,
 ) -> Result<NumberedTerm, CheckFault>
-    ensures node { IfOk result (λ r. node_seen r.node.value ≡ (one_result (one_form rule) (seen part)).node) }
-    ensures names { IfOk result (λ r. r.names.items ≡ (one_result (one_form rule) (seen part)).names) }
-    ensures next { IfOk result (λ r. r.next ≡ (one_result (one_form rule) (seen part)).next) }
+    ensures seen { Numbers (one_result (one_form rule) (seen part)) result }
     ensures room { IfOk result (λ r. r.next + length r.names.items ≤ part.next + length part.names.items) }
-    ensures err { IfErr result (λ e. e ≡ CheckFault.NoMemory) }
 {
     Ok(NumberedTerm {
         node: rule.node(alloc, part.node)?,
@@ -114,11 +104,8 @@ pub(crate) fn with_two(
     right: NumberedTerm,
 ) -> Result<NumberedTerm, CheckFault>
     requires { right.next + length left.names.items + length right.names.items < 2 ^ 32 }
-    ensures node { IfOk result (λ r. node_seen r.node.value ≡ (two_result (two_form rule) (seen left) (seen right)).node) }
-    ensures names { IfOk result (λ r. r.names.items ≡ (two_result (two_form rule) (seen left) (seen right)).names) }
-    ensures next { IfOk result (λ r. r.next ≡ (two_result (two_form rule) (seen left) (seen right)).next) }
+    ensures seen { Numbers (two_result (two_form rule) (seen left) (seen right)) result }
     ensures room { IfOk result (λ r. r.next + length r.names.items ≤ right.next + length left.names.items + length right.names.items) }
-    ensures err { IfErr result (λ e. e ≡ CheckFault.NoMemory) }
 {
     let merged = merge(alloc, left.names, right.names, right.next)?;
     Ok(NumberedTerm {
@@ -137,13 +124,8 @@ pub(crate) fn with_three(
     no: NumberedTerm,
 ) -> Result<NumberedTerm, CheckFault>
     requires { no.next + length inner.names.items + length no.names.items < 2 ^ 32 }
-    ensures node { IfOk result (λ r. node_seen r.node.value ≡ If (type_of_node (node_seen yes.value))
-        (merged_splits inner.names.items no.names.items no.next ++ inner.splits.items) (node_seen test.value)
-        (node_seen yes.value) (node_seen no.node.value)) }
-    ensures names { IfOk result (λ r. r.names.items ≡ merged_names inner.names.items no.names.items no.next) }
-    ensures next { IfOk result (λ r. r.next ≡ merged_next inner.names.items no.names.items no.next) }
+    ensures seen { Numbers (choice_after inner.splits.items inner.names.items (node_seen test.value) (node_seen yes.value) (seen no)) result }
     ensures room { IfOk result (λ r. r.next + length r.names.items ≤ no.next + length inner.names.items + length no.names.items) }
-    ensures err { IfErr result (λ e. e ≡ CheckFault.NoMemory) }
 {
     let outer = merge(alloc, inner.names, no.names, no.next)?;
     let mut splits = outer.splits;

@@ -24,22 +24,19 @@ pub data Outcome : Type 0 where
   AToken : (kind : TokenKind) → Outcome
   AnEnd : (ending : Option LexFault) → Outcome
 
-abbrev word_among : List ℕ → List Word → Word
-word_among bytes [] = words.Var
-word_among bytes (word ∷ others) = cond (bytes_eq bytes (word_text word)) word (word_among bytes others)
-
-abbrev sign_among : List ℕ → List Sign → Sign
-sign_among bytes [] = signs.Arrow
-sign_among bytes (sign ∷ others) = cond (bytes_eq bytes (sign_text sign)) sign (sign_among bytes others)
+-- the first of these that is written so, and another one where none is
+abbrev among : {A : Type 0} → (A → List ℕ) → A → List A → List ℕ → A
+among {A} text other [] bytes = other
+among {A} text other (x ∷ xs) bytes = cond (bytes_eq bytes (text x)) x (among text other xs bytes)
 
 -- what the bytes of a lexeme that begins at `from` are read as
 abbrev pub class_of : ℕ → List ℕ → Outcome
 class_of from bytes =
     cond (spells_name bytes)
-    (cond (nat_lt 255 (length bytes)) (AnEnd (Some (faults.Name from))) (AToken (cond (is_word bytes) (kinds.Word (word_among bytes all_words)) kinds.Name)))
+    (cond (nat_lt 255 (length bytes)) (AnEnd (Some (faults.Name from))) (AToken (cond (is_word bytes) (kinds.Word (among word_text words.Var all_words bytes)) kinds.Name)))
     (cond (is_numeral bytes)
     (cond (nat_lt 4294967295 (value_of bytes)) (AnEnd (Some (faults.Number from))) (AToken (kinds.Number (value_of bytes))))
-    (AToken (kinds.Sign (sign_among bytes all_signs))))
+    (AToken (kinds.Sign (among sign_text signs.Arrow all_signs bytes))))
 
 class_of_word : (from : ℕ) (word : Word) → class_of from (word_text word) ≡ AToken (kinds.Word word)
 class_of_word from words.Import = refl

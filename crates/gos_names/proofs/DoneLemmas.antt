@@ -11,7 +11,6 @@ use Rattle.gos_model.specs.Terms.{Name, Term, Import, Wait}
 use Rattle.gos_model.specs.Typing.{Imported, import_type}
 use Rattle.gos_model.specs.Labels.{Label, Taken, given, taken, IsAnswer, Emits}
 use Rattle.gos_model.specs.Protocol as protocol
-use Rattle.gos_model.specs.Protocol.{shake_of}
 use Rattle.gos_model.specs.Moves.{Config, Idle, Running, Act, Showing, Moves, labels, Answers, Stalled}
 use Rattle.gos_plan.specs.Kinds.{Contact, asks, serves}
 use Rattle.gos_plan.specs.Firing.{Slot, Req, Ans}

@@ -9,8 +9,9 @@ use Rattle.gos_order.specs.inner.Levels.{AreRising, AreBefore, AreBehind, MakesR
 use Rattle.gos_order.proofs.RingLemmas.{leads_twice}
 use Rattle.gos_order.proofs.LevelLemmas.{parted}
 
-pub in_one : (node : ℕ) → IsIn (node ∷ []) node
-in_one node = (0, omega arith, refl)
+-- a node is in a list of it alone, and no other one is
+pub in_one : (items : List ℕ) (node : ℕ) → items ≡ node ∷ [] → IsIn items node
+in_one items node is = subst (λ (xs : List ℕ). IsIn xs node) (sym is) (0, omega arith, refl)
 
 pub only_one : (a b : ℕ) → IsIn (a ∷ []) b → a ≡ b
 only_one a b (zero, within, is) = is
@@ -28,17 +29,18 @@ abbrev pub behind_task : List Edge → List ℕ → List ℕ → ℕ → Task
 behind_task edges levels before limit = record { way = Out; limit = limit; edges = edges; levels = levels; apart = before }
 
 module _ (edges : List Edge) (levels apart : List ℕ) (from to : ℕ) (other : from ≢ to) (is : apart ≡ to ∷ []) where
-  pub before_start : AreHeld (before_task edges levels apart from) from (from ∷ [])
-  before_start =
-      held_start (before_task edges levels apart from) from (omega arith)
-      (λ among. other (sym (only_one to from (subst (λ (items : List ℕ). IsIn items from) is among))))
+  pub before_start : (items : List ℕ) → items ≡ from ∷ [] → AreHeld (before_task edges levels apart from) from items
+  before_start items alone =
+      subst (λ (xs : List ℕ). AreHeld (before_task edges levels apart from) from xs) (sym alone)
+      (held_start (before_task edges levels apart from) from (omega arith)
+      (λ among. other (sym (only_one to from (subst (λ (xs : List ℕ). IsIn xs from) is among)))))
 
   pub before_met : IsMet (before_task edges levels apart from) from → Leads edges to from
   before_met (node, among, path) =
       subst (λ (x : ℕ). Leads edges x from) (sym (only_one to node (subst (λ (items : List ℕ). IsIn items node) is among))) path
 
   pub before_other : (items : List ℕ) → AreHeld (before_task edges levels apart from) from items → IsIn items to → ⊥
-  before_other items held among = (held to among).other (subst (λ (xs : List ℕ). IsIn xs to) (sym is) (in_one to))
+  before_other items held among = (held to among).other (in_one apart to is)
 
   -- all edges were followed
   pub before_all : (items : List ℕ) → IsIn items from → AreHeld (before_task edges levels apart from) from items
@@ -52,8 +54,9 @@ module _ (edges : List Edge) (levels apart : List ℕ) (from to : ℕ) (other : 
   }
 
 module _ (edges : List Edge) (levels before : List ℕ) (from to limit : ℕ) (are_before : AreBefore edges levels before from limit) where
-  pub behind_start : at levels to < limit → (IsIn before to → ⊥) → AreHeld (behind_task edges levels before limit) to (to ∷ [])
-  behind_start below other = held_start (behind_task edges levels before limit) to below other
+  pub behind_start : (items : List ℕ) → items ≡ to ∷ [] → at levels to < limit → (IsIn before to → ⊥) → AreHeld (behind_task edges levels before limit) to items
+  behind_start items alone below other =
+      subst (λ (xs : List ℕ). AreHeld (behind_task edges levels before limit) to xs) (sym alone) (held_start (behind_task edges levels before limit) to below other)
 
   pub behind_met : IsMet (behind_task edges levels before limit) to → Leads edges to from
   behind_met (node, among, path) = elim (are_before.leads node among) [

@@ -1,4 +1,4 @@
--- The ways out of the parser's functions on terms, at prefixes and atoms.
+-- How far the parser's functions on prefixes and atoms read.
 use Rattle.std.proofs.Common.{◌≡◌, ℕ, ◌+◌, ◌≤◌, List, [], ◌∷◌, length, Result, Ok, Err, subst, sym, arith}
 use Rattle.std.specs.Global.{Box}
 use Rattle.gos_lex.specs.declared.word.Word.TheVariants as words
@@ -11,92 +11,50 @@ use Rattle.gos_syntax.specs.Items.{Item, seen, reading_at, span_of}
 use Rattle.gos_syntax.specs.Trees as trees
 use Rattle.gos_syntax.specs.Trees.{Tree}
 use Rattle.gos_syntax.specs.Grammar as rules
-use Rattle.gos_syntax.specs.Grammar.{HasWord, HasSign, HasName, HasNumber, IsTerm}
-use Rattle.gos_syntax.specs.Symbols as symbols
-use Rattle.gos_syntax.specs.Symbols.{Fits, SomeName, SomeNumber, Symbol, Part, word, sign, number, IsRule, Term, Pre, Atom, AtomTail, a_negation, a_reading, a_first_part, a_second_part, an_atom, skipping, a_literal, a_use, in_brackets, one_term, two_terms}
+use Rattle.gos_syntax.specs.Grammar.{HasWord, HasSign, HasNumber, IsTerm}
+use Rattle.gos_syntax.specs.Symbols.{Fits, SomeName, SomeNumber, Symbol, Part, sign, number, IsRule, Term, Atom, AtomTail, an_atom, skipping, a_literal, a_use, in_brackets, one_term, two_terms}
 use Rattle.gos_syntax.specs.Spelling.{Leads, IsRead, Stops}
 use Rattle.gos_syntax.specs.inner.Beginnings.{IsNoPrefix}
 use Rattle.gos_syntax.specs.inner.Phrases.{IsTermAnswer}
-use Rattle.gos_syntax.proofs.LeadsLemmas.{leads_then, leads_token_to, leads_part, stops_after, stops_at}
+use Rattle.gos_syntax.proofs.LeadsLemmas.{leads_then, leads_token_to, leads_part, stops_after}
 use Rattle.gos_syntax.proofs.RuleExits.{past_token}
 use Rattle.gos_syntax.proofs.RuleLemmas.{Tells, leads_by}
 use Rattle.gos_syntax.proofs.StopLemmas.{stops_at_part}
-use Rattle.gos_syntax.proofs.AnswerLemmas.{term_by}
-
--- pre = ( "not" | "!" | "fst" | "snd" ) pre
-pub not_stops : {items : List Item} {i : ℕ} {stop : Stop} → HasWord items i words.Not → Stops items (Part Pre ∷ []) (i + 1) stop → Stops items (Part Pre ∷ []) i stop
-not_stops is stopped = stops_after (past_token a_negation is is) stopped
-
-pub bang_stops : {items : List Item} {i : ℕ} {stop : Stop} → HasSign items i signs.Bang → Stops items (Part Pre ∷ []) (i + 1) stop → Stops items (Part Pre ∷ []) i stop
-bang_stops is stopped = stops_after (past_token a_reading is is) stopped
-
-pub fst_stops : {items : List Item} {i : ℕ} {stop : Stop} → HasWord items i words.Fst → Stops items (Part Pre ∷ []) (i + 1) stop → Stops items (Part Pre ∷ []) i stop
-fst_stops is stopped = stops_after (past_token a_first_part is is) stopped
-
-pub snd_stops : {items : List Item} {i : ℕ} {stop : Stop} → HasWord items i words.Snd → Stops items (Part Pre ∷ []) (i + 1) stop → Stops items (Part Pre ∷ []) i stop
-snd_stops is stopped = stops_after (past_token a_second_part is is) stopped
+use Rattle.gos_syntax.proofs.AnswerLemmas.{read_by}
 
 -- pre = atom
 pub atom_passed : {source : Source} {i : ℕ} (result : Result (Box program.Term × ℕ) Stop) → IsNoPrefix (reading_at (seen source) i)
     → IsTermAnswer source rules.Atom i result → IsTermAnswer source rules.Pre i result
 atom_passed (Ok read) no_prefix answer =
-    record { read = term_by answer.read (rules.an_atom _ _ _ answer.read.derived) (leads_then (leads_by an_atom no_prefix) answer.read.read); refused = tt }
+    record { read = read_by answer.read (rules.an_atom _ _ _) (leads_then (leads_by an_atom no_prefix)); refused = tt }
 atom_passed (Err stop) no_prefix answer = record { read = tt; refused = stops_after (leads_by an_atom no_prefix) answer.refused }
 
--- atom = "skip" | numeral ":" numeral | name
-value_leads : {items : List Item} {i value : ℕ} → HasNumber items i value → Leads items (Part Atom ∷ []) i (sign signs.Colon ∷ number ∷ []) (i + 1)
-value_leads {value = value} is = past_token a_literal (value, is) (value, is)
+-- atom = numeral ":" numeral
+pub value_leads : {items : List Item} {i value : ℕ} → HasNumber items i value → Leads items (Part Atom ∷ []) i (sign signs.Colon ∷ number ∷ []) (i + 1)
+value_leads {value = value} is = past_token a_literal (value, is)
 
-colon_leads : {items : List Item} {i value t : ℕ} → HasNumber items i value → HasSign items (i + 1) signs.Colon → t ≡ i + 1 + 1
+pub colon_leads : {items : List Item} {i value t : ℕ} → HasNumber items i value → HasSign items (i + 1) signs.Colon → t ≡ i + 1 + 1
     → Leads items (Part Atom ∷ []) i (number ∷ []) t
 colon_leads is colon e = leads_then (value_leads is) (leads_token_to e colon)
-
-pub colon_stops : {items : List Item} {i value : ℕ} {stop : Stop} → HasNumber items i value → Stops items (sign signs.Colon ∷ []) (i + 1) stop → Stops items (Part Atom ∷ []) i stop
-colon_stops is stopped = stops_after (value_leads is) (stops_at stopped)
-
-pub width_stops : {items : List Item} {i value t : ℕ} {stop : Stop} → HasNumber items i value → HasSign items (i + 1) signs.Colon → t ≡ i + 1 + 1
-    → Stops items (number ∷ []) t stop → Stops items (Part Atom ∷ []) i stop
-width_stops is colon e stopped = stops_after (colon_leads is colon e) stopped
 
 pub literal_read : {items : List Item} {i value width t : ℕ} → HasNumber items i value → HasSign items (i + 1) signs.Colon → t ≡ i + 1 + 1
     → HasNumber items t width → IsRead items Atom i (i + 3)
 literal_read {width = width} is colon e is_width = leads_then (colon_leads is colon e) (leads_token_to (omega (arith, e)) (width, is_width))
 
-pub name_stops : {items : List Item} {i : ℕ} {stop : Stop} → Fits (reading_at items i) SomeName → Stops items (symbols.name ∷ []) i stop → Stops items (Part Atom ∷ []) i stop
-name_stops is stopped = stops_after (leads_by a_use is) stopped
-
-pub name_read : {items : List Item} {i : ℕ} {bytes : List ℕ} → HasName items i bytes → IsRead items Atom i (i + 1)
-name_read {bytes = bytes} is = past_token a_use (bytes, is) (bytes, is)
-
 -- atom = "(" term [ "," term ] ")"
-first_leads : {items : List Item} {i j : ℕ} → HasSign items i signs.Open → IsRead items Term (i + 1) j → Leads items (Part Atom ∷ []) i (Part AtomTail ∷ []) j
-first_leads opened first = leads_then (past_token in_brackets opened opened) (leads_part first)
-
-comma_leads : {items : List Item} {i j : ℕ} → HasSign items i signs.Open → IsRead items Term (i + 1) j → HasSign items j signs.Comma
-    → Leads items (Part Atom ∷ []) i (Part Term ∷ sign signs.Close ∷ []) (j + 1)
-comma_leads opened first comma = leads_then (first_leads opened first) (past_token two_terms comma comma)
-
-second_leads : {items : List Item} {i j k : ℕ} → HasSign items i signs.Open → IsRead items Term (i + 1) j → HasSign items j signs.Comma → IsRead items Term (j + 1) k
-    → Leads items (Part Atom ∷ []) i (sign signs.Close ∷ []) k
-second_leads opened first comma second = leads_then (comma_leads opened first comma) (leads_part second)
-
-pub inner_stops : {items : List Item} {i : ℕ} {stop : Stop} → HasSign items i signs.Open → Stops items (Part Term ∷ []) (i + 1) stop → Stops items (Part Atom ∷ []) i stop
-inner_stops opened stopped = stops_after (past_token in_brackets opened opened) (stops_at stopped)
+pub first_leads : {items : List Item} {i j : ℕ} → HasSign items i signs.Open → IsRead items Term (i + 1) j → Leads items (Part Atom ∷ []) i (Part AtomTail ∷ []) j
+first_leads opened first = leads_then (past_token in_brackets opened) (leads_part first)
 
 pub inner_read : {items : List Item} {i j k : ℕ} → HasSign items i signs.Open → IsRead items Term (i + 1) j → HasSign items j signs.Close → k ≡ j + 1 → IsRead items Atom i k
 inner_read opened first close e = leads_then (first_leads opened first) (leads_then (leads_by one_term close) (leads_token_to e close))
 
-pub second_stops : {items : List Item} {i j : ℕ} {stop : Stop} → HasSign items i signs.Open → IsRead items Term (i + 1) j → HasSign items j signs.Comma
-    → Stops items (Part Term ∷ []) (j + 1) stop → Stops items (Part Atom ∷ []) i stop
-second_stops opened first comma stopped = stops_after (comma_leads opened first comma) (stops_at stopped)
+pub comma_leads : {items : List Item} {i j : ℕ} → HasSign items i signs.Open → IsRead items Term (i + 1) j → HasSign items j signs.Comma
+    → Leads items (Part Atom ∷ []) i (Part Term ∷ sign signs.Close ∷ []) (j + 1)
+comma_leads opened first comma = leads_then (first_leads opened first) (past_token two_terms comma)
 
-pub close_stops : {items : List Item} {i j k : ℕ} {stop : Stop} → HasSign items i signs.Open → IsRead items Term (i + 1) j → HasSign items j signs.Comma
-    → IsRead items Term (j + 1) k → Stops items (sign signs.Close ∷ []) k stop → Stops items (Part Atom ∷ []) i stop
-close_stops opened first comma second stopped = stops_after (second_leads opened first comma second) stopped
-
-pub pair_read : {items : List Item} {i j k l : ℕ} → HasSign items i signs.Open → IsRead items Term (i + 1) j → HasSign items j signs.Comma
-    → IsRead items Term (j + 1) k → HasSign items k signs.Close → l ≡ k + 1 → IsRead items Atom i l
-pair_read opened first comma second close e = leads_then (second_leads opened first comma second) (leads_token_to e close)
+pub second_leads : {items : List Item} {i j k : ℕ} → HasSign items i signs.Open → IsRead items Term (i + 1) j → HasSign items j signs.Comma → IsRead items Term (j + 1) k
+    → Leads items (Part Atom ∷ []) i (sign signs.Close ∷ []) k
+second_leads opened first comma second = leads_then (comma_leads opened first comma) (leads_part second)
 
 -- neither a comma nor a closing bracket stands behind the first term
 pub end_stops : (source : Source) (i j : ℕ) (stop : Stop) → HasSign (seen source) i signs.Open → IsRead (seen source) Term (i + 1) j → j ≤ length source.tokens.now

@@ -9,7 +9,6 @@ pub mod RuleExits
 pub mod TypeExits
 pub mod BinderExits
 pub mod CommandExits
-pub mod OperatorExits
 pub mod AtomExits
 pub mod StepLemmas
 pub mod SpellingLemmas

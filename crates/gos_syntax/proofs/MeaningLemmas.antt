@@ -11,10 +11,10 @@ use Rattle.gos_syntax.specs.Trees as trees
 use Rattle.gos_syntax.specs.Trees.{Tree}
 use Rattle.gos_syntax.specs.ModuleTrees.{ImportTree, ModuleTree}
 use Rattle.gos_syntax.specs.Grammar as grammar
-use Rattle.gos_syntax.specs.Grammar.{HasSign, HasWord, HasNumber, HasName, IsType, IsTerm, TypeRule, Rule}
+use Rattle.gos_syntax.specs.Grammar.{HasSign, IsType, IsTerm, TypeRule, Rule}
 use Rattle.gos_syntax.specs.ParsedModules.{IsImport, IsModuleAt, IsModule}
 use Rattle.gos_syntax.specs.Symbols as symbols
-use Rattle.gos_syntax.specs.Symbols.{Class, Fits, Phrase, Module, Whole, WholeTail, Product, ProductTail, Base, Term, TermTail, Par, ParTail, Cmd, CmdTail, Rel, RelTail, Bits, BitsTail, Sum, SumTail, App, AppTail, Pre, Atom, AtomTail, Symbol, Token, Part, IsRule}
+use Rattle.gos_syntax.specs.Symbols.{Fits, Phrase, Module, Whole, WholeTail, Product, ProductTail, Base, Term, TermTail, Par, ParTail, Cmd, CmdTail, Rel, RelTail, Bits, BitsTail, Sum, SumTail, App, AppTail, Pre, Atom, AtomTail, Symbol, Token, Part, IsRule}
 use Rattle.gos_syntax.proofs.StepLemmas.{two, three, four, five, there}
 use Rattle.gos_syntax.specs.Spelling.{Spells, at_end, with_token, by_rule}
 

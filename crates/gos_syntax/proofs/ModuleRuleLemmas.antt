@@ -62,10 +62,10 @@ pub after_import_colon : (items : List Item) (i j : ℕ) (bytes : List ℕ) → 
 after_import_colon items i j bytes is named colon next = leads_to _ _ next (leads_then (after_import_name items i bytes is named) (leads_token colon))
 
 -- what is exported, token by token
-pub after_export : (items : List Item) (i j : ℕ) → Leads items (Part Module ∷ []) 0 (Part Module ∷ []) i → (HasWord items i words.Import → ⊥)
+pub after_export : {items : List Item} {i j : ℕ} → Leads items (Part Module ∷ []) 0 (Part Module ∷ []) i → (HasWord items i words.Import → ⊥)
     → HasWord items i words.Export → j ≡ i + 1 → Leads items (Part Module ∷ []) 0 exported j
-after_export items i j leads none is next = leads_to _ _ next (leads_then leads (leads_then (export_rule items i none) (leads_token is)))
+after_export {items} {i} leads none is next = leads_to _ _ next (leads_then leads (leads_then (export_rule items i none) (leads_token is)))
 
-pub after_body : (items : List Item) (i j k : ℕ) → Leads items (Part Module ∷ []) 0 exported i → IsRead items Term i j → HasSign items j signs.Colon
+pub after_body : {items : List Item} {i j k : ℕ} → Leads items (Part Module ∷ []) 0 exported i → IsRead items Term i j → HasSign items j signs.Colon
     → k ≡ j + 1 → Leads items (Part Module ∷ []) 0 (Part Whole ∷ []) k
-after_body items i j k leads body colon next = leads_to _ _ next (leads_then (leads_then leads (leads_part body)) (leads_token colon))
+after_body leads body colon next = leads_to _ _ next (leads_then (leads_then leads (leads_part body)) (leads_token colon))

@@ -13,7 +13,7 @@ use Rattle.gos_syntax.specs.Operators.{sign_of, level_of}
 use Rattle.gos_syntax.specs.declared.operators.Level.TheVariants as levels
 use Rattle.gos_lex.specs.declared.token.Span.{Span}
 use Rattle.gos_syntax.specs.Grammar as grammar
-use Rattle.gos_syntax.specs.Grammar.{HasWord, HasSign, HasName, HasNumber, IsType, IsTerm, TypeRule, Rule}
+use Rattle.gos_syntax.specs.Grammar.{IsTerm, Rule}
 use Rattle.gos_syntax.specs.ParsedModules.{IsImport, AreImports, IsModuleAt}
 use Rattle.gos_syntax.specs.ModuleText.{is_atom}
 use Rattle.gos_syntax.specs.ModuleTokens.{enclosed, type_tokens, as_operand, tokens_of, imports_tokens, module_tokens}

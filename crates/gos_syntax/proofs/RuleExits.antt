@@ -9,8 +9,8 @@ use Rattle.gos_syntax.proofs.RuleLemmas.{Tells, leads_by}
 
 -- a rule that begins with a token leads past it
 pub past_token : {items : List Item} {phrase : Phrase} {class : Class} {body symbols : List Symbol} {i : ℕ} (rule : IsRule phrase (Token class ∷ body))
-    → Tells rule (reading_at items i) → Fits (reading_at items i) class → Leads items (Part phrase ∷ symbols) i (body ++ symbols) (i + 1)
-past_token rule told fits = leads_then (leads_by rule told) (leads_token fits)
+    → Fits (reading_at items i) class → Leads items (Part phrase ∷ symbols) i (body ++ symbols) (i + 1)
+past_token rule fits = leads_then (leads_by rule fits) (leads_token fits)
 
 -- a rule that begins with a phrase leads past it
 pub past_part : {items : List Item} {phrase first : Phrase} {body symbols : List Symbol} {i j : ℕ} (rule : IsRule phrase (Part first ∷ body))
@@ -28,7 +28,7 @@ pub past_all : {items : List Item} {phrase first tail : Phrase} {i j : ℕ} (rul
 past_all rule told none ends read = leads_then (past_part rule told read) (leads_by none ends)
 
 -- a phrase to just behind the token with which its tail goes on
-pub past_tail : {items : List Item} {phrase first tail : Phrase} {class : Class} {body : List Symbol} {i j : ℕ} (rule : IsRule phrase (Part first ∷ Part tail ∷ []))
-    → Tells rule (reading_at items i) → (more : IsRule tail (Token class ∷ body)) → Tells more (reading_at items j) → Fits (reading_at items j) class
-    → IsRead items first i j → Leads items (Part phrase ∷ []) i (body ++ []) (j + 1)
-past_tail rule told more goes_on fits read = leads_then (past_part rule told read) (past_token more goes_on fits)
+pub past_tail : {items : List Item} {phrase first tail next : Phrase} {class : Class} {i j : ℕ} (rule : IsRule phrase (Part first ∷ Part tail ∷ []))
+    → Tells rule (reading_at items i) → (more : IsRule tail (Token class ∷ Part next ∷ [])) → Fits (reading_at items j) class → IsRead items first i j
+    → Leads items (Part phrase ∷ []) i (Part next ∷ []) (j + 1)
+past_tail rule told more fits read = leads_then (past_part rule told read) (past_token more fits)

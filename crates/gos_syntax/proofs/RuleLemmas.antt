@@ -11,61 +11,28 @@ use Rattle.gos_syntax.specs.declared.operators.Level.{Level}
 use Rattle.gos_syntax.specs.declared.operators.Level.TheVariants as levels
 use Rattle.gos_syntax.specs.Operators.{sign_of, level_of}
 use Rattle.gos_syntax.specs.Items.{Item, reading_at, Agree}
-use Rattle.gos_syntax.specs.Symbols.{Class, TheWord, TheSign, SomeName, SomeNumber, SomeOperator, Fits, Phrase, Module, Whole, WholeTail, Product, ProductTail, Base, Term, TermTail, Par, ParTail, Cmd, CmdTail, Rel, RelTail, Bits, BitsTail, Sum, SumTail, App, AppTail, Pre, Atom, AtomTail, Symbol, Token, Part, IsRule, an_import, an_export, a_type, an_outcome, no_outcome, a_product, a_factor, no_factor, a_command_type, an_expression_type, a_variable_type, a_type_in_brackets, a_lambda, a_block, a_sequence, a_next, no_next, a_parallel, a_branch, no_branch, a_choice, a_loop, an_assignment, a_value, no_value, a_relation, a_comparison, no_comparison, some_bits, more_bits, no_bits, a_sum, a_summand, no_summand, an_application, an_argument, no_argument, a_negation, a_reading, a_first_part, a_second_part, an_atom, skipping, a_literal, a_use, in_brackets, one_term, two_terms}
+use Rattle.gos_syntax.specs.Symbols.{Class, TheWord, TheSign, SomeOperator, Fits, Phrase, Module, Whole, WholeTail, Product, ProductTail, Base, Term, TermTail, Par, ParTail, Cmd, CmdTail, Rel, RelTail, Bits, BitsTail, Sum, SumTail, App, AppTail, Pre, Atom, AtomTail, Symbol, Token, Part, IsRule, an_import, an_export, a_type, an_outcome, no_outcome, a_product, a_factor, no_factor, a_command_type, an_expression_type, a_variable_type, a_type_in_brackets, a_lambda, a_block, a_sequence, a_next, no_next, a_parallel, a_branch, no_branch, a_choice, a_loop, an_assignment, a_value, no_value, a_relation, a_comparison, no_comparison, some_bits, more_bits, no_bits, a_sum, a_summand, no_summand, an_application, an_argument, no_argument, a_negation, a_reading, a_first_part, a_second_part, an_atom, skipping, a_literal, a_use, in_brackets, one_term, two_terms}
 use Rattle.gos_syntax.specs.Spelling.{Spells, at_end, with_token, by_rule, begins_operand, looseness, reach, EndsBefore, IsClear, Leads, Misses}
 use Rattle.gos_syntax.specs.inner.Beginnings.{IsNoBinder, IsNoControl, IsNoPrefix}
 use Rattle.gos_syntax.proofs.LeadsLemmas.{token_spelled, phrase_spelled, SpelledBy, leads_before}
 
--- a token with which a rule applies
+-- A token with which a rule applies: the one that it begins with, or what tells that there is one, or none.
 abbrev pub Tells : {phrase : Phrase} {body : List Symbol} → IsRule phrase body → Option Reading → Type 0
-Tells an_import r = Fits r (TheWord words.Import)
-Tells an_export r = Fits r (TheWord words.Export)
-Tells an_outcome r = Fits r (TheSign signs.Arrow)
+Tells {body = Token class ∷ symbols} rule r = Fits r class
 Tells no_outcome r = Fits r (TheSign signs.Arrow) → ⊥
-Tells a_factor r = Fits r (TheSign signs.Star)
 Tells no_factor r = Fits r (TheSign signs.Star) → ⊥
-Tells a_command_type r = Fits r (TheWord words.Com)
-Tells an_expression_type r = Fits r (TheWord words.Exp)
-Tells a_variable_type r = Fits r (TheWord words.Var)
-Tells a_type_in_brackets r = Fits r (TheSign signs.Open)
-Tells a_lambda r = Fits r (TheWord words.Fun)
-Tells a_block r = Fits r (TheWord words.New)
 Tells a_sequence r = IsNoBinder r
-Tells a_next r = Fits r (TheSign signs.Semicolon)
 Tells no_next r = Fits r (TheSign signs.Semicolon) → ⊥
-Tells a_branch r = Fits r (TheSign signs.Parallel)
 Tells no_branch r = Fits r (TheSign signs.Parallel) → ⊥
-Tells a_choice r = Fits r (TheWord words.If)
-Tells a_loop r = Fits r (TheWord words.While)
 Tells an_assignment r = IsNoControl r
-Tells a_value r = Fits r (TheSign signs.Assign)
 Tells no_value r = Fits r (TheSign signs.Assign) → ⊥
-Tells a_comparison r = Fits r (SomeOperator levels.Comparing)
 Tells no_comparison r = Fits r (SomeOperator levels.Comparing) → ⊥
-Tells more_bits r = Fits r (SomeOperator levels.OnBits)
 Tells no_bits r = Fits r (SomeOperator levels.OnBits) → ⊥
-Tells a_summand r = Fits r (SomeOperator levels.Adding)
 Tells no_summand r = Fits r (SomeOperator levels.Adding) → ⊥
 Tells an_argument r = begins_operand r ≡ true
 Tells no_argument r = begins_operand r ≡ true → ⊥
-Tells a_negation r = Fits r (TheWord words.Not)
-Tells a_reading r = Fits r (TheSign signs.Bang)
-Tells a_first_part r = Fits r (TheWord words.Fst)
-Tells a_second_part r = Fits r (TheWord words.Snd)
 Tells an_atom r = IsNoPrefix r
-Tells skipping r = Fits r (TheWord words.Skip)
-Tells a_literal r = Fits r SomeNumber
-Tells a_use r = Fits r SomeName
-Tells in_brackets r = Fits r (TheSign signs.Open)
-Tells one_term r = Fits r (TheSign signs.Close)
-Tells two_terms r = Fits r (TheSign signs.Comma)
-Tells a_type r = Unit {0}
-Tells a_product r = Unit {0}
-Tells a_parallel r = Unit {0}
-Tells a_relation r = Unit {0}
-Tells some_bits r = Unit {0}
-Tells a_sum r = Unit {0}
-Tells an_application r = Unit {0}
+Tells rule r = Unit {0}
 
 -- with one token only one rule of a phrase applies
 pub apart : {phrase : Phrase} {body other_body : List Symbol} (r : Option Reading) (rule : IsRule phrase body) (other_rule : IsRule phrase other_body)

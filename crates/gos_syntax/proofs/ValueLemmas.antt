@@ -12,7 +12,7 @@ use Rattle.gos_syntax.specs.Grammar as grammar
 use Rattle.gos_syntax.specs.Grammar.{IsType, IsTerm, TypeRule, Rule}
 use Rattle.gos_syntax.specs.ParsedModules.{AreImports, IsModule}
 use Rattle.gos_syntax.specs.Symbols as symbols
-use Rattle.gos_syntax.specs.Symbols.{Class, TheWord, TheSign, SomeName, SomeNumber, SomeOperator, Fits, Phrase, Module, Whole, WholeTail, Product, ProductTail, Base, Term, TermTail, Par, ParTail, Cmd, CmdTail, Rel, RelTail, Bits, BitsTail, Sum, SumTail, App, AppTail, Pre, Atom, AtomTail, Symbol, Token, Part, word, sign, name, number, operator, IsRule}
+use Rattle.gos_syntax.specs.Symbols.{Module, Whole, WholeTail, Product, ProductTail, Base, Term, TermTail, Par, ParTail, Cmd, CmdTail, Rel, RelTail, Bits, BitsTail, Sum, SumTail, App, AppTail, Pre, Atom, AtomTail, Symbol, Part, word, sign, name}
 use Rattle.gos_syntax.specs.Spelling.{Spells, at_end}
 use Rattle.gos_syntax.proofs.StepLemmas.{two, three, five}
 use Rattle.gos_syntax.proofs.SpellingLemmas.{chosen, passed, moved, type_phrase, type_spelled, phrase_of, repeated, term_spelled, imports_spelled, module_spelled}

@@ -117,14 +117,18 @@ inner_names a b = merged_names a.names b.names b.next
 abbrev pub inner_next : Result → Result → ℕ
 inner_next a b = merged_next a.names b.names b.next
 
--- a choice, of which the second branch was numbered last
-abbrev pub choice_result : Result → Result → Result → Result
-choice_result a b c =
+-- a choice, whose test and first branch have these splits and leave these names open together, and whose second branch was
+-- numbered last
+abbrev pub choice_after : List Split → List Open → Numbered → Numbered → Result → Result
+choice_after splits names m n c =
     record {
-      node = If (type_of_node b.node) (merged_splits (inner_names a b) c.names c.next ++ inner_splits a b) a.node b.node c.node;
-      names = merged_names (inner_names a b) c.names c.next;
-      next = merged_next (inner_names a b) c.names c.next;
+      node = If (type_of_node n) (merged_splits names c.names c.next ++ splits) m n c.node;
+      names = merged_names names c.names c.next;
+      next = merged_next names c.names c.next;
     }
+
+abbrev pub choice_result : Result → Result → Result → Result
+choice_result a b c = choice_after (inner_splits a b) (inner_names a b) a.node b.node c
 
 -- a tree under imports and binders, from a number on
 abbrev pub numbered : Imports → Binders → ℕ → Tree → Result

@@ -1,7 +1,7 @@
 -- What stands before the body of a function or of a block, as the parser hands it on.
 --
 -- Read first: Phrases.
-use Rattle.std.specs.Prelude.{◌≡◌, ℕ, ◌+◌, ◌<◌, ◌≤◌, List, [], ◌∷◌, length, Result, IfOk, IfErr}
+use Rattle.std.specs.Prelude.{◌≡◌, ℕ, ◌+◌, ◌<◌, ◌≤◌, List, [], ◌∷◌, length, Result}
 use Rattle.gos_lex.specs.declared.word.Word.TheVariants as words
 use Rattle.gos_lex.specs.declared.sign.Sign.TheVariants as signs
 use Rattle.gos_types.specs.Types.{type_of}
@@ -13,7 +13,8 @@ use Rattle.gos_syntax.specs.Items.{seen, span_of}
 use Rattle.gos_syntax.specs.Grammar.{HasWord, HasSign, HasName, HasNumber, IsType, Whole}
 use Rattle.gos_syntax.specs.Symbols as symbols
 use Rattle.gos_syntax.specs.Symbols.{Symbol, Part, name, number, sign, word}
-use Rattle.gos_syntax.specs.Spelling.{Leads, Stops}
+use Rattle.gos_syntax.specs.Spelling.{Leads}
+use Rattle.gos_syntax.specs.inner.Phrases.{IsAnswer}
 
 -- what has to stand between the word `fun` and the body, and between the word `new` and the body
 abbrev pub parameter : List Symbol
@@ -36,9 +37,8 @@ pub record IsParameter (source : Source) (i : ℕ) (parameter' : Parameter) (j :
   pub read : Leads (seen source) parameter (i + 1) [] j
 
 -- what is answered where a parameter is to be read
-pub record IsParameterAnswer (source : Source) (at : ℕ) (result : Result (Parameter × ℕ) Stop) : Type 0 where
-  pub read : IfOk result (λ read. IsParameter source at read.0 read.1)
-  pub refused : IfErr result (Stops (seen source) parameter (at + 1))
+abbrev pub IsParameterAnswer : Source → ℕ → Result (Parameter × ℕ) Stop → Type 0
+IsParameterAnswer source at result = IsAnswer source parameter (at + 1) (λ read end. IsParameter source at read end) result
 
 -- after the word `new` at i stand a local variable and the word `in`, and the body begins at j
 pub record IsLocal (source : Source) (i : ℕ) (local' : Local) (j : ℕ) : Type 0 where
@@ -53,6 +53,5 @@ pub record IsLocal (source : Source) (i : ℕ) (local' : Local) (j : ℕ) : Type
   pub read : Leads (seen source) local (i + 1) [] j
 
 -- what is answered where a local variable is to be read
-pub record IsLocalAnswer (source : Source) (at : ℕ) (result : Result (Local × ℕ) Stop) : Type 0 where
-  pub read : IfOk result (λ read. IsLocal source at read.0 read.1)
-  pub refused : IfErr result (Stops (seen source) local (at + 1))
+abbrev pub IsLocalAnswer : Source → ℕ → Result (Local × ℕ) Stop → Type 0
+IsLocalAnswer source at result = IsAnswer source local (at + 1) (λ read end. IsLocal source at read end) result

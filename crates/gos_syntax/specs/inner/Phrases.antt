@@ -1,7 +1,7 @@
 -- What the parser's functions answer: a phrase that they read, or where they stopped.
 --
 -- Read first: Spelling. That nothing else was to be read, and that none goes on past a stop, is said in its words.
-use Rattle.std.specs.Prelude.{◌≡◌, ℕ, ◌<◌, ◌≤◌, [], ◌∷◌, length, Result, IfOk, IfErr}
+use Rattle.std.specs.Prelude.{◌≡◌, ℕ, ◌<◌, ◌≤◌, List, [], ◌∷◌, length, Result, IfOk, IfErr}
 use Rattle.std.specs.Global.{Box}
 use Rattle.gos_types.specs.declared.types.Ty.{Ty}
 use Rattle.gos_types.specs.Types.{type_of}
@@ -14,8 +14,8 @@ use Rattle.gos_syntax.specs.Items.{seen, span_of}
 use Rattle.gos_syntax.specs.Grammar as rules
 use Rattle.gos_syntax.specs.Grammar.{TypeRule, IsType, Rule, Derives}
 use Rattle.gos_syntax.specs.Symbols as phrases
-use Rattle.gos_syntax.specs.Symbols.{Phrase, Part}
-use Rattle.gos_syntax.specs.Spelling.{Leads, IsRead, Stops}
+use Rattle.gos_syntax.specs.Symbols.{Phrase, Symbol, Part}
+use Rattle.gos_syntax.specs.Spelling.{Leads, Stops}
 
 -- the phrase of a rule of types
 abbrev pub type_phrase : TypeRule → Phrase
@@ -35,36 +35,36 @@ phrase_of rules.App = phrases.App
 phrase_of rules.Pre = phrases.Pre
 phrase_of rules.Atom = phrases.Atom
 
--- by a rule a type was read, from one token to just before another
-pub record IsTypeRead (source : Source) (rule : TypeRule) (at : ℕ) (ty : Ty) (end : ℕ) : Type 0 where
+-- what is answered where these symbols are wanted: what was read and where it ends, or where the parser stopped
+pub record IsAnswer {T : Type 0} (source : Source) (wanted : List Symbol) (at : ℕ) (Read : T → ℕ → Type 0) (result : Result (T × ℕ) Stop) : Type 0 where
+  pub read : IfOk result (λ read. Read read.0 read.1)
+  pub refused : IfErr result (Stops (seen source) wanted at)
+
+-- from one token to just before another stands what is derived, and of the symbols that were wanted these are left
+pub record IsReadTo (source : Source) (wanted left : List Symbol) (Derived : Type 0) (at end : ℕ) : Type 0 where
   pub after : at < end
   pub within : end ≤ length source.tokens.now
-  pub derived : IsType (seen source) rule at end (type_of ty)
-  pub read : IsRead (seen source) (type_phrase rule) at end
+  pub derived : Derived
+  pub read : Leads (seen source) wanted at left end
 
--- what is answered where a type is to be read
-pub record IsTypeAnswer (source : Source) (rule : TypeRule) (at : ℕ) (result : Result (Ty × ℕ) Stop) : Type 0 where
-  pub read : IfOk result (λ read. IsTypeRead source rule at read.0 read.1)
-  pub refused : IfErr result (Stops (seen source) (Part (type_phrase rule) ∷ []) at)
+-- by a rule a type was read
+abbrev pub IsTypeRead : Source → TypeRule → ℕ → Ty → ℕ → Type 0
+IsTypeRead source rule at ty end = IsReadTo source (Part (type_phrase rule) ∷ []) [] (IsType (seen source) rule at end (type_of ty)) at end
 
--- by a rule a term was read, from one token to just before another
-pub record IsTermRead (source : Source) (rule : Rule) (at : ℕ) (term : program.Term) (end : ℕ) : Type 0 where
-  pub after : at < end
-  pub within : end ≤ length source.tokens.now
-  pub derived : Derives (seen source) rule at end term
-  pub read : IsRead (seen source) (phrase_of rule) at end
+abbrev pub IsTypeAnswer : Source → TypeRule → ℕ → Result (Ty × ℕ) Stop → Type 0
+IsTypeAnswer source rule at result = IsAnswer source (Part (type_phrase rule) ∷ []) at (λ ty end. IsTypeRead source rule at ty end) result
 
--- what is answered where a term is to be read
-pub record IsTermAnswer (source : Source) (rule : Rule) (at : ℕ) (result : Result (Box program.Term × ℕ) Stop) : Type 0 where
-  pub read : IfOk result (λ read. IsTermRead source rule at read.0.value read.1)
-  pub refused : IfErr result (Stops (seen source) (Part (phrase_of rule) ∷ []) at)
+-- by a rule a term was read
+abbrev pub IsTermRead : Source → Rule → ℕ → program.Term → ℕ → Type 0
+IsTermRead source rule at term end = IsReadTo source (Part (phrase_of rule) ∷ []) [] (Derives (seen source) rule at end term) at end
+
+abbrev pub IsTermAnswer : Source → Rule → ℕ → Result (Box program.Term × ℕ) Stop → Type 0
+IsTermAnswer source rule at result = IsAnswer source (Part (phrase_of rule) ∷ []) at (λ term end. IsTermRead source rule at term.value end) result
 
 -- by a rule that repeats a term was read so far; its tail may follow
-pub record IsReadSoFar (source : Source) (rule : Rule) (tail : Phrase) (at : ℕ) (term : program.Term) (end : ℕ) : Type 0 where
-  pub after : at < end
-  pub within : end ≤ length source.tokens.now
-  pub derived : Derives (seen source) rule at end term
-  pub read : Leads (seen source) (Part (phrase_of rule) ∷ []) at (Part tail ∷ []) end
+abbrev pub IsReadSoFar : Source → Rule → Phrase → ℕ → program.Term → ℕ → Type 0
+IsReadSoFar source rule tail at term end =
+    IsReadTo source (Part (phrase_of rule) ∷ []) (Part tail ∷ []) (Derives (seen source) rule at end term) at end
 
 -- a term has this form, and stands from one token to just before another
 pub record IsNode (source : Source) (from to : ℕ) (form : Form) (term : program.Term) (end : ℕ) : Type 0 where

@@ -1,5 +1,5 @@
 use Rattle.std.specs.Prelude.{◌+◌, ◌*◌, ◌<◌, map}
-use Rattle.std.proofs.Common.{arith, rules, ◌∙◌}
+use Rattle.std.proofs.Common.{arith, rules, ap, ◌∙◌}
 use Rattle.gos_types.specs.Types.{type_of, Var}
 use Rattle.gos_model.specs.Sources.{import_of}
 use Rattle.gos_syntax.specs.Sizes.{size}
@@ -8,14 +8,12 @@ use Rattle.gos_check.specs.inner.Seen.{binders_of}
 use Rattle.gos_check.specs.inner.Walked.{tree}
 use Rattle.gos_check.specs.inner.Numbering.{one_form, two_form, seen, binder_result, one_result, two_result, choice_result, inner_next, numbered}
 use Rattle.gos_check.proofs.PartLemmas.{size_parts}
-use Rattle.gos_check.proofs.NumberedLemmas.{numbers_all, numbers_choice, room_there}
+use Rattle.gos_check.proofs.NumberedLemmas.{numbers_same, choice_merged, room_there}
 use Rattle.gos_check.proofs.numbering.+numbering.Goals as goal
 
 pub number_one-returns-clause-seen : goal.number_one-returns-clause-seen
 number_one-returns-clause-seen t c =
-    numbers_all c.with_one.result (one_result (one_form c.args.rule) (seen c.in_ok-part.part)) _
-    (λ i. one_result (one_form c.args.rule) (c.in_ok-part.ensures.seen i))
-    c.with_one.ensures.node c.with_one.ensures.names c.with_one.ensures.next c.with_one.ensures.err
+    numbers_same c.with_one.result _ _ (ap (one_result (one_form c.args.rule)) c.in_ok-part.ensures.seen) c.with_one.ensures.seen
 
 pub number_one-returns-clause-room : goal.number_one-returns-clause-room
 number_one-returns-clause-room t c =
@@ -23,10 +21,9 @@ number_one-returns-clause-room t c =
 
 pub number_two-returns-clause-seen : goal.number_two-returns-clause-seen
 number_two-returns-clause-seen t c =
-    numbers_all c.with_two.result (two_result (two_form c.args.rule) (seen c.in_ok-left.left) (seen c.in_ok-right.right)) _
-    (λ i. two_result (two_form c.args.rule) (c.in_ok-left.ensures.seen i)
-    ((c.in_ok-right.ensures.seen ∙ (λ k. numbered (map import_of c.args.imports.now) (binders_of c.args.scope.now) (c.in_ok-left.ensures.seen k).next (tree c.args.n.now))) i))
-    c.with_two.ensures.node c.with_two.ensures.names c.with_two.ensures.next c.with_two.ensures.err
+    let right =
+    c.in_ok-right.ensures.seen ∙ (λ k. numbered (map import_of c.args.imports.now) (binders_of c.args.scope.now) (c.in_ok-left.ensures.seen k).next (tree c.args.n.now)) in
+    numbers_same c.with_two.result _ _ (λ i. two_result (two_form c.args.rule) (c.in_ok-left.ensures.seen i) (right i)) c.with_two.ensures.seen
 
 pub number_two-returns-clause-room : goal.number_two-returns-clause-room
 number_two-returns-clause-room t c =
@@ -36,9 +33,9 @@ number_two-returns-clause-room t c =
 
 pub number_function-returns-clause-seen : goal.number_function-returns-clause-seen
 number_function-returns-clause-seen t c =
-    numbers_all c.below_function.result (binder_result OfFun c.args.name.now (type_of c.args.ty.now) (seen c.in_ok-body.body)) _
-    (λ i. binder_result OfFun c.args.name.now (type_of c.args.ty.now) (c.in_ok-body.ensures.seen i))
-    c.below_function.ensures.node c.below_function.ensures.names c.below_function.ensures.next c.below_function.ensures.err
+    numbers_same c.below_function.result _ _
+    (ap (binder_result OfFun c.args.name.now (type_of c.args.ty.now)) c.in_ok-body.ensures.seen)
+    c.below_function.ensures.seen
 
 pub number_function-returns-clause-room : goal.number_function-returns-clause-room
 number_function-returns-clause-room t c =
@@ -46,9 +43,9 @@ number_function-returns-clause-room t c =
 
 pub number_block-returns-clause-seen : goal.number_block-returns-clause-seen
 number_block-returns-clause-seen t c =
-    numbers_all c.below_block.result (binder_result (OfNew c.args.width) c.args.name.now (Var c.args.width) (seen c.in_ok-body.body)) _
-    (λ i. binder_result (OfNew c.args.width) c.args.name.now (Var c.args.width) (c.in_ok-body.ensures.seen i))
-    c.below_block.ensures.node c.below_block.ensures.names c.below_block.ensures.next c.below_block.ensures.err
+    numbers_same c.below_block.result _ _
+    (ap (binder_result (OfNew c.args.width) c.args.name.now (Var c.args.width)) c.in_ok-body.ensures.seen)
+    c.below_block.ensures.seen
 
 pub number_block-returns-clause-room : goal.number_block-returns-clause-room
 number_block-returns-clause-room t c =
@@ -62,10 +59,10 @@ number_choice-returns-clause-seen t c =
     c.in_ok-no.ensures.seen
     ∙ (λ k. numbered (map import_of c.args.imports.now) (binders_of c.args.scope.now) (c.in_ok-inner.ensures.next k) (tree c.args.p.now))
     ∙ (λ k. numbered (map import_of c.args.imports.now) (binders_of c.args.scope.now) (inner_next (c.in_ok-test.ensures.seen k) (yes k)) (tree c.args.p.now)) in
-    numbers_choice c.with_three.result (seen c.in_ok-test.test) (seen c.in_ok-yes.yes) (seen c.in_ok-no.no) _
-    c.in_ok-inner.inner.names.items c.in_ok-inner.inner.splits.items c.in_ok-inner.ensures.names c.in_ok-inner.ensures.splits
-    (λ i. choice_result (c.in_ok-test.ensures.seen i) (yes i) (no i))
-    c.with_three.ensures.node c.with_three.ensures.names c.with_three.ensures.next c.with_three.ensures.err
+    numbers_same c.with_three.result _ _
+    (choice_merged (seen c.in_ok-test.test) (seen c.in_ok-yes.yes) (seen c.in_ok-no.no) _ _ c.in_ok-inner.ensures.splits c.in_ok-inner.ensures.names
+    ∙ (λ i. choice_result (c.in_ok-test.ensures.seen i) (yes i) (no i)))
+    c.with_three.ensures.seen
 
 pub number_choice-returns-clause-room : goal.number_choice-returns-clause-room
 number_choice-returns-clause-room t c =

@@ -17,36 +17,32 @@ returns-in_err-imports-clause-refused c =
 pub returns-in_err-body_at-clause-refused : goal.returns-in_err-body_at-clause-refused
 returns-in_err-body_at-clause-refused c =
     let leads = leads_then c.in_ok-imports.ensures.read (export_rule (seen c.args.self.now) c.in_ok-imports.at c.in_ok-imports.ensures.last) in
-    module_refused (seen c.args.self.now) c.from_residual-in_err-body_at.result c.from_residual-in_err-body_at.ensures.1 (stops_after leads (stops_at c.in_err-body_at.ensures.refused))
+    module_refused (seen c.args.self.now) c.from_residual-in_err-body_at.result c.from_residual-in_err-body_at.ensures.1
+    (stops_after leads (stops_at c.in_err-body_at.ensures.refused))
 
 pub returns-in_err-body-clause-refused : goal.returns-in_err-body-clause-refused
 returns-in_err-body-clause-refused c =
-    let leads =
-    after_export (seen c.args.self.now) c.in_ok-imports.at c.in_ok-body_at.body_at c.in_ok-imports.ensures.read c.in_ok-imports.ensures.last
-    c.in_ok-body_at.ensures.word c.in_ok-body_at.ensures.next in
-    module_refused (seen c.args.self.now) c.from_residual-in_err-body.result c.from_residual-in_err-body.ensures.1 (stops_after leads (stops_at c.in_err-body.ensures.refused))
+    let leads = after_export c.in_ok-imports.ensures.read c.in_ok-imports.ensures.last c.in_ok-body_at.ensures.word c.in_ok-body_at.ensures.next in
+    module_refused (seen c.args.self.now) c.from_residual-in_err-body.result c.from_residual-in_err-body.ensures.1
+    (stops_after leads (stops_at c.in_err-body.ensures.refused))
 
 pub returns-in_err-result_at-clause-refused : goal.returns-in_err-result_at-clause-refused
 returns-in_err-result_at-clause-refused c =
-    let leads =
-    after_export (seen c.args.self.now) c.in_ok-imports.at c.in_ok-body_at.body_at c.in_ok-imports.ensures.read c.in_ok-imports.ensures.last
-    c.in_ok-body_at.ensures.word c.in_ok-body_at.ensures.next in
-    module_refused (seen c.args.self.now) c.from_residual-in_err-result_at.result c.from_residual-in_err-result_at.ensures.1 (stops_after (leads_then leads (leads_part c.in_ok-body.ensures.read.read)) (stops_at c.in_err-result_at.ensures.refused))
+    let leads = after_export c.in_ok-imports.ensures.read c.in_ok-imports.ensures.last c.in_ok-body_at.ensures.word c.in_ok-body_at.ensures.next in
+    module_refused (seen c.args.self.now) c.from_residual-in_err-result_at.result c.from_residual-in_err-result_at.ensures.1
+    (stops_after (leads_then leads (leads_part c.in_ok-body.ensures.read.read)) (stops_at c.in_err-result_at.ensures.refused))
 
 pub returns-in_err-result-clause-refused : goal.returns-in_err-result-clause-refused
 returns-in_err-result-clause-refused c =
-    let leads =
-    after_export (seen c.args.self.now) c.in_ok-imports.at c.in_ok-body_at.body_at c.in_ok-imports.ensures.read c.in_ok-imports.ensures.last
-    c.in_ok-body_at.ensures.word c.in_ok-body_at.ensures.next in
-    let ended = after_body (seen c.args.self.now) _ _ _ leads c.in_ok-body.ensures.read.read c.in_ok-result_at.ensures.sign c.in_ok-result_at.ensures.next in
-    module_refused (seen c.args.self.now) c.from_residual-in_err-result.result c.from_residual-in_err-result.ensures.1 (stops_after ended (stops_at c.in_err-result.ensures.refused))
+    let leads = after_export c.in_ok-imports.ensures.read c.in_ok-imports.ensures.last c.in_ok-body_at.ensures.word c.in_ok-body_at.ensures.next in
+    let ended = after_body leads c.in_ok-body.ensures.read.read c.in_ok-result_at.ensures.sign c.in_ok-result_at.ensures.next in
+    module_refused (seen c.args.self.now) c.from_residual-in_err-result.result c.from_residual-in_err-result.ensures.1
+    (stops_after ended (stops_at c.in_err-result.ensures.refused))
 
 pub returns-then-end-self-clause-refused : goal.returns-then-end-self-clause-refused
 returns-then-end-self-clause-refused c =
-    let leads =
-    after_export (seen c.args.self.now) c.in_ok-imports.at c.in_ok-body_at.body_at c.in_ok-imports.ensures.read c.in_ok-imports.ensures.last
-    c.in_ok-body_at.ensures.word c.in_ok-body_at.ensures.next in
-    let ended = after_body (seen c.args.self.now) _ _ _ leads c.in_ok-body.ensures.read.read c.in_ok-result_at.ensures.sign c.in_ok-result_at.ensures.next in
+    let leads = after_export c.in_ok-imports.ensures.read c.in_ok-imports.ensures.last c.in_ok-body_at.ensures.word c.in_ok-body_at.ensures.next in
+    let ended = after_body leads c.in_ok-body.ensures.read.read c.in_ok-result_at.ensures.sign c.in_ok-result_at.ensures.next in
     let below = subst (λ (n : ℕ). c.in_ok-result.end < n) (sym (length-map c.args.self.now.tokens.now (item_of c.args.self.now.text.now))) c.if-end-self.true in
     left_stops (seen c.args.self.now) c.in_ok-result.end below (leads_then ended c.in_ok-result.ensures.read.read)
 
