@@ -158,39 +158,21 @@ same_place (spots.Node k) (spots.Import l) = inl refl
 same_place (spots.Node k) spots.Result = inl refl
 same_place (spots.Node k) (spots.Number l) = inl refl
 
-place_upto : (p q : spot.Place) → place_once p q ≤ 1
-place_upto (spots.Part k) (spots.Part l) = number_cases l k (λ e b. rw b (omega arith)) (λ e b. rw b (omega arith))
-place_upto (spots.Import k) (spots.Import l) = number_cases l k (λ e b. rw b (omega arith)) (λ e b. rw b (omega arith))
-place_upto spots.Result spots.Result = omega arith
-place_upto (spots.Number k) (spots.Number l) = number_cases l k (λ e b. rw b (omega arith)) (λ e b. rw b (omega arith))
-place_upto (spots.Node k) (spots.Node l) = number_cases l k (λ e b. rw b (omega arith)) (λ e b. rw b (omega arith))
-place_upto (spots.Part k) (spots.Import l) = omega arith
-place_upto (spots.Part k) spots.Result = omega arith
-place_upto (spots.Part k) (spots.Number l) = omega arith
-place_upto (spots.Part k) (spots.Node l) = omega arith
-place_upto (spots.Import k) (spots.Part l) = omega arith
-place_upto (spots.Import k) spots.Result = omega arith
-place_upto (spots.Import k) (spots.Number l) = omega arith
-place_upto (spots.Import k) (spots.Node l) = omega arith
-place_upto spots.Result (spots.Part l) = omega arith
-place_upto spots.Result (spots.Import l) = omega arith
-place_upto spots.Result (spots.Number l) = omega arith
-place_upto spots.Result (spots.Node l) = omega arith
-place_upto (spots.Number k) (spots.Part l) = omega arith
-place_upto (spots.Number k) (spots.Import l) = omega arith
-place_upto (spots.Number k) spots.Result = omega arith
-place_upto (spots.Number k) (spots.Node l) = omega arith
-place_upto (spots.Node k) (spots.Part l) = omega arith
-place_upto (spots.Node k) (spots.Import l) = omega arith
-place_upto (spots.Node k) spots.Result = omega arith
-place_upto (spots.Node k) (spots.Number l) = omega arith
+once_itself : (p : spot.Place) → place_once p p ≤ 1
+once_itself (spots.Part k) = number_cases k k (λ e b. rw b (omega arith)) (λ e b. rw b (omega arith))
+once_itself (spots.Import k) = number_cases k k (λ e b. rw b (omega arith)) (λ e b. rw b (omega arith))
+once_itself spots.Result = omega arith
+once_itself (spots.Number k) = number_cases k k (λ e b. rw b (omega arith)) (λ e b. rw b (omega arith))
+once_itself (spots.Node k) = number_cases k k (λ e b. rw b (omega arith)) (λ e b. rw b (omega arith))
 
 pub once_cases : (q p : Point) → (once q p ≡ 0) ⊎ ((q ≡ p) × (once q p ≤ 1))
 once_cases q p =
     number_cases p.shake q.shake
     (λ e b. elim (same_place q.place p.place) [
       | inl none ↦ inl (rw b none)
-      | inr same ↦ (let few = place_upto q.place p.place in inr ((λ t. record { place = same t; shake = sym e t }), rw b few))
+      | inr same ↦
+          (let few : place_once q.place p.place ≤ 1 = subst (λ (r : spot.Place). place_once q.place r ≤ 1) same (once_itself q.place) in
+          inr ((λ t. record { place = same t; shake = sym e t }), rw b few))
     ])
     (λ e b. inl (rw b refl))
 

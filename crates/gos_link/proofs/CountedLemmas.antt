@@ -20,7 +20,7 @@ use Rattle.gos_link.specs.declared.build.Bind.{Bind}
 use Rattle.gos_link.specs.declared.build.Build.{Build}
 use Rattle.gos_link.specs.declared.services.Service.{Service}
 use Rattle.gos_link.specs.Services.{BindsOn}
-use Rattle.gos_link.specs.Linked.{AllKeepLimits, IsLinkable, KeepsLimits, plans_of, whole_of, wiring_of}
+use Rattle.gos_link.specs.Linked.{AllKeepLimits, IsLinkable, KeepsLimits, plans_of, wiring_of}
 use Rattle.gos_link.specs.Answers.{all_joints}
 use Rattle.gos_link.specs.inner.Counts.{all_imports, AreCounted, HasRoom, HaveRoom, IsCountable}
 use Rattle.gos_link.specs.inner.Wired.{AllRight, AreJoinable}

@@ -14,7 +14,7 @@ use Rattle.gos_ties.specs.declared.points.Place as spot
 use Rattle.gos_ties.specs.declared.points.Place.TheVariants as spots
 use Rattle.gos_ties.specs.declared.points.Point.{Point}
 use Rattle.gos_ties.specs.declared.points.Tie.{Tie}
-use Rattle.gos_ties.specs.Ties.{at, tie, Meet}
+use Rattle.gos_ties.specs.Ties.{at, Meet}
 use Rattle.gos_ties.specs.Ties as tied
 use Rattle.gos_ties.specs.Counted.{place_once, once, meetings}
 use Rattle.gos_link.specs.declared.services.Service.{Service}

@@ -4,7 +4,6 @@ mod NumberLemmas
 mod OwnLemmas
 mod TopLemmas
 mod BindLemmas
-mod EntryLemmas
 mod PortLemmas
 mod PlaceLemmas
 mod ServiceLemmas

@@ -1,5 +1,5 @@
 -- A text reads in one way: what a line says is one thing, and so is what lines say together, or the first wrong line.
-use Rattle.std.specs.Prelude.{◌≡◌, ◌≢◌, ◌<◌, ◌≤◌, ◌+◌, ℕ, List, [], ◌∷◌, ◌++◌, Option, Some, None, length}
+use Rattle.std.specs.Prelude.{◌≡◌, ◌≢◌, ◌≤◌, ◌+◌, ℕ, List, [], ◌∷◌, ◌++◌, Option, Some, None, length}
 use Rattle.std.proofs.Common.{refl, sym, ◌∙◌, ap, subst, arith, inl, inr, length-append}
 use Rattle.gos_lines.specs.Lines.{Word, Words, Statement, statements_of}
 use Rattle.gos_link.specs.declared.said.Role.{Role}
@@ -8,7 +8,7 @@ use Rattle.gos_link.specs.declared.said.Said.{Said}
 use Rattle.gos_link.specs.declared.said.Said.TheVariants as says
 use Rattle.gos_link.specs.declared.said.Item.{Item}
 use Rattle.gos_link.specs.declared.build.Build.{Build}
-use Rattle.gos_link.specs.BuildFile.{keyword, words_said, IsRightAfter, ReadsOn, Sum, nothing, sum_of, whole, with_said, IsBuildFile, IsWrongAt, IsFirstWrong}
+use Rattle.gos_link.specs.BuildFile.{keyword, words_said, ReadsOn, Sum, nothing, sum_of, whole, with_said}
 use Rattle.gos_link.specs.Answers.{IsOneBuild, HasOneWrongLine, BuildHasNoWrongLine}
 
 -- the first byte of the first word tells the sort of a line

@@ -18,35 +18,21 @@ use Rattle.gos_netlist.proofs.NumberLemmas.{number_code}
 use Rattle.gos_netlist.proofs.NetsLemmas.{nets_code}
 use Rattle.gos_netlist.proofs.WordLemmas.{gate_code}
 
-word_is : (f : Function) → word_of f ≡ gate_text (word_for f)
-word_is Input = refl
-word_is (Const k) = refl
-word_is (Not a) = refl
-word_is (And a b) = refl
-word_is (Or a b) = refl
-word_is (Xor a b) = refl
-word_is (Mux s a b) = refl
-word_is (Add a b) = refl
-word_is (Sub a b) = refl
-word_is (Eq a b) = refl
-word_is (Less a b) = refl
-word_is (Gate s a) = refl
-word_is (Reg a) = refl
-
-width_ends : (f : Function) → end_before (operands f) ≡ width_end (word_for f)
-width_ends Input = refl
-width_ends (Const k) = refl
-width_ends (Not a) = refl
-width_ends (And a b) = refl
-width_ends (Or a b) = refl
-width_ends (Xor a b) = refl
-width_ends (Mux s a b) = refl
-width_ends (Add a b) = refl
-width_ends (Sub a b) = refl
-width_ends (Eq a b) = refl
-width_ends (Less a b) = refl
-width_ends (Gate s a) = refl
-width_ends (Reg a) = refl
+-- the text of a function's word, and the byte behind the width
+by_word : (f : Function) → (word_of f ≡ gate_text (word_for f)) × (end_before (operands f) ≡ width_end (word_for f))
+by_word Input = (refl, refl)
+by_word (Const k) = (refl, refl)
+by_word (Not a) = (refl, refl)
+by_word (And a b) = (refl, refl)
+by_word (Or a b) = (refl, refl)
+by_word (Xor a b) = (refl, refl)
+by_word (Mux s a b) = (refl, refl)
+by_word (Add a b) = (refl, refl)
+by_word (Sub a b) = (refl, refl)
+by_word (Eq a b) = (refl, refl)
+by_word (Less a b) = (refl, refl)
+by_word (Gate s a) = (refl, refl)
+by_word (Reg a) = (refl, refl)
 
 -- numbers behind spaces, as a line ends with them
 pub spaced_line : (n : ℕ) (ns : List ℕ) → spaced (n ∷ ns) ++ 10 ∷ [] ≡ 32 ∷ numbers_text (n ∷ ns)
@@ -59,8 +45,8 @@ spaced_line n (m ∷ ns) =
 pub cell_parts : (w : ℕ) (f : Function) → cell_text (record { width = w; gate = f }) ≡ ended 32 (gate_text (word_for f)) ++ (ended (width_end (word_for f)) (decimal w) ++ numbers_text (operands f))
 cell_parts w f =
     append_assoc (word_of f) (spaced (w ∷ operands f)) (10 ∷ [])
-    ∙ ((λ i. word_is f i ++ spaced_line w (operands f) i)
-    ∙ (ap (λ (c : ℕ). gate_text (word_for f) ++ 32 ∷ (ended c (decimal w) ++ numbers_text (operands f))) (width_ends f)
+    ∙ ((λ i. (by_word f).0 i ++ spaced_line w (operands f) i)
+    ∙ (ap (λ (c : ℕ). gate_text (word_for f) ++ 32 ∷ (ended c (decimal w) ++ numbers_text (operands f))) (by_word f).1
     ∙ sym (append_assoc (gate_text (word_for f)) (32 ∷ []) (ended (width_end (word_for f)) (decimal w) ++ numbers_text (operands f)))))
 
 -- the function with this word and these operands

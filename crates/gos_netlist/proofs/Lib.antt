@@ -17,5 +17,6 @@ pub mod PortLemmas
 pub mod BreakLemmas
 pub mod SectionLemmas
 pub mod WholeLemmas
+pub mod StageLemmas
 pub mod LawLemmas
 pub mod LengthLemmas

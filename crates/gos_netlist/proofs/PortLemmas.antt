@@ -108,7 +108,7 @@ pub no_tail_here : (old mid last : TextAt) (side : Side) (name : List ℕ) (plac
     → Misses IsTailText last.text last.at place → Misses IsPortText old.text old.at place
 no_tail_here old mid last side name place is first second misses =
     after_side old mid side place first
-    (then_rest (List ℕ) IsNameOrWord (ended 32) (λ name. IsTailText) mid.text mid.at last.at place name name_code is second.after second.within second.is
+    (then_rest (List ℕ) IsNameOrWord (ended 32) (λ name. IsTailText) mid.text mid.at last.at place name (name_code 32 refl) is second.after second.within second.is
     (subst (λ (text : List ℕ). Misses IsTailText text last.at place) second.text misses))
 
 -- the items of a port's line, passed one behind the other
@@ -126,7 +126,7 @@ port_code p q x y is_p is_q same =
     let side = side_code p.side q.side ((ended 32 p.name ++ tail_text p.ty p.nets) ++ x) ((ended 32 q.name ++ tail_text q.ty q.nets) ++ y) tt tt
     (sym (append_assoc (ended 32 (side_word p.side)) (ended 32 p.name ++ tail_text p.ty p.nets) x) ∙ (ap (λ part. part ++ x) (sym one)
     ∙ (same ∙ (ap (λ part. part ++ y) other ∙ append_assoc (ended 32 (side_word q.side)) (ended 32 q.name ++ tail_text q.ty q.nets) y)))) in
-    let name = name_code p.name q.name (tail_text p.ty p.nets ++ x) (tail_text q.ty q.nets ++ y) is_p.name is_q.name
+    let name = name_code 32 refl p.name q.name (tail_text p.ty p.nets ++ x) (tail_text q.ty q.nets ++ y) is_p.name is_q.name
     (sym (append_assoc (ended 32 p.name) (tail_text p.ty p.nets) x) ∙ (side.1 ∙ append_assoc (ended 32 q.name) (tail_text q.ty q.nets) y)) in
     let tail = tail_code p.ty q.ty p.nets q.nets x y is_p.ty is_q.ty (is_p.many, is_p.nets) (is_q.many, is_q.nets) name.1 in
     ((λ i. port_of (side.0 i) (name.0 i) (tail.0 i) (tail.1 i)), tail.2)

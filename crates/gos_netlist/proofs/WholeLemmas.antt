@@ -1,20 +1,18 @@
 -- The whole text: its head, its cells, a word, its ports and its end. Where one of them breaks off, no netlist is read,
 -- and no count is above its limit unless it is named.
-use Rattle.std.proofs.Common.{◌≡◌, ◌≢◌, inl, inr, ℕ, ◌+◌, ◌-◌, ◌<◌, ◌≤◌, List, [], ◌∷◌, ◌++◌, length, take, refl, sym, ◌∙◌, ap, subst, arith, append_assoc, append-nil, length-append}
+use Rattle.std.proofs.Common.{◌≡◌, inl, inr, ℕ, ◌+◌, ◌-◌, ◌≤◌, List, [], ◌∷◌, ◌++◌, length, take, refl, sym, ◌∙◌, ap, subst, arith, append_assoc, append-nil, length-append}
 use Rattle.std.specs.Prelude.{codes}
 use Rattle.std.specs.Fmt.{decimal}
 use Rattle.std.specs.List.{flat_map, slice_range}
 use Rattle.std.proofs.lemmas.List.{append_cancel_left}
 use Rattle.gos_lex.specs.Items.{TextAt, Misses}
 use Rattle.gos_lex.proofs.PlaceLemmas.{length_slice, rest_whole, slice_split}
-use Rattle.gos_netlist.specs.declared.fault.NetTextFault.{NetTextFault}
-use Rattle.gos_netlist.specs.declared.fault.NetTextFault.TheVariants as faults
 use Rattle.gos_netlist.specs.Nets.{Cell, NetPort, Netlist}
 use Rattle.gos_netlist.specs.NetText.{line, count_line, cell_text, port_text, text_of}
 use Rattle.gos_netlist.specs.Writable.{IsWritable, IsWritableCell, IsWritablePort}
-use Rattle.gos_netlist.specs.NetFaults.{IsNetText, IsAbove, before_ports, IsAboveLimit, HasFault}
+use Rattle.gos_netlist.specs.NetFaults.{IsNetText, IsAbove, before_ports, IsAboveLimit}
 use Rattle.gos_netlist.specs.NetItems.{IsFixed, Passed, ended}
-use Rattle.gos_netlist.specs.inner.NetLines.{BreaksOff, AreCounted, section_text, IsSectionText, SectionFault}
+use Rattle.gos_netlist.specs.inner.NetLines.{AreCounted, section_text}
 use Rattle.gos_netlist.proofs.SequenceLemmas.{Then, IsCode, no_item, misses_as, then_first, then_rest, same_fronts}
 use Rattle.gos_netlist.proofs.CellLemmas.{cell_code}
 use Rattle.gos_netlist.proofs.PortLemmas.{port_code}
@@ -112,10 +110,10 @@ slice_take text n = let e : n - 0 ≡ n = omega arith in ap (λ (k : ℕ). take 
 abbrev Foot : List ℕ → Type 0
 Foot = IsFixed foot
 
-abbrev Ports : List ℕ → Type 0
+abbrev pub Ports : List ℕ → Type 0
 Ports = Then (List NetPort) ArePorts ports_text (λ _. IsFixed foot)
 
-abbrev Middle : List ℕ → Type 0
+abbrev pub Middle : List ℕ → Type 0
 Middle = Then (Unit {0}) (λ _. Unit {0}) (λ _. middle) (λ _. Ports)
 
 abbrev Cells : List ℕ → Type 0
@@ -150,33 +148,33 @@ cut bytes (net, is, text) = (
 fixed_code : (bytes : List ℕ) → IsCode (Unit {0}) (λ _. Unit {0}) (λ _. bytes)
 fixed_code bytes v w x y is_v is_w same = (refl, append_cancel_left bytes x y same)
 
-some_ports : (rest : List ℕ) × Ports rest
+pub some_ports : (rest : List ℕ) × Ports rest
 some_ports = (ports_text [] ++ foot, ([], foot, (omega arith, tt), (tt, tt, refl), refl))
 
-some_middle : (rest : List ℕ) × Middle rest
+pub some_middle : (rest : List ℕ) × Middle rest
 some_middle = (middle ++ some_ports.0, (tt, some_ports.0, tt, some_ports.1, refl))
 
 some_cells : (rest : List ℕ) × Cells rest
 some_cells = (cells_text [] ++ some_middle.0, ([], some_middle.0, (omega arith, tt), some_middle.1, refl))
 
-no_head : (text : List ℕ) (place : ℕ) → Misses (IsFixed head) text 0 place → Misses IsNetText text 0 place
+pub no_head : (text : List ℕ) (place : ℕ) → Misses (IsFixed head) text 0 place → Misses IsNetText text 0 place
 no_head text place misses =
     misses_as Whole IsNetText text 0 place joined cut (then_first (Unit {0}) (λ _. Unit {0}) (λ _. head) (λ _. Cells) text 0 place (λ v is. some_cells) misses)
 
-behind_head : (text : List ℕ) (a place : ℕ) → Spans text 0 a head → Misses Cells text a place → Misses IsNetText text 0 place
+pub behind_head : (text : List ℕ) (a place : ℕ) → Spans text 0 a head → Misses Cells text a place → Misses IsNetText text 0 place
 behind_head text a place spans misses =
     misses_as Whole IsNetText text 0 place joined cut (then_rest (Unit {0}) (λ _. Unit {0}) (λ _. head) (λ _. Cells) text 0 a place tt (fixed_code head) tt spans.after spans.within spans.is misses)
 
-behind_cells : (text : List ℕ) (a b place : ℕ) (cells : List Cell) → Spans text 0 a head → AreCells cells → Spans text a b (cells_text cells) → Misses Middle text b place → Misses IsNetText text 0 place
+pub behind_cells : (text : List ℕ) (a b place : ℕ) (cells : List Cell) → Spans text 0 a head → AreCells cells → Spans text a b (cells_text cells) → Misses Middle text b place → Misses IsNetText text 0 place
 behind_cells text a b place cells first are spans misses =
     behind_head text a place first
     (then_rest (List Cell) AreCells cells_text (λ _. Middle) text a b place cells (section_code Cell IsWritableCell cell_text cell_code) are spans.after spans.within spans.is misses)
 
-behind_middle : (text : List ℕ) (a b d place : ℕ) (cells : List Cell) → Spans text 0 a head → AreCells cells → Spans text a b (cells_text cells) → Spans text b d middle → Misses Ports text d place → Misses IsNetText text 0 place
+pub behind_middle : (text : List ℕ) (a b d place : ℕ) (cells : List Cell) → Spans text 0 a head → AreCells cells → Spans text a b (cells_text cells) → Spans text b d middle → Misses Ports text d place → Misses IsNetText text 0 place
 behind_middle text a b d place cells first are second spans misses =
     behind_cells text a b place cells first are second (then_rest (Unit {0}) (λ _. Unit {0}) (λ _. middle) (λ _. Ports) text b d place tt (fixed_code middle) tt spans.after spans.within spans.is misses)
 
-behind_ports : (text : List ℕ) (a b d e place : ℕ) (cells : List Cell) (ports : List NetPort) → Spans text 0 a head → AreCells cells → Spans text a b (cells_text cells) → Spans text b d middle
+pub behind_ports : (text : List ℕ) (a b d e place : ℕ) (cells : List Cell) (ports : List NetPort) → Spans text 0 a head → AreCells cells → Spans text a b (cells_text cells) → Spans text b d middle
     → ArePorts ports → Spans text d e (ports_text ports) → Misses (IsFixed foot) text e place → Misses IsNetText text 0 place
 behind_ports text a b d e place cells ports first are second third are_ports spans misses =
     behind_middle text a b d place cells first are second third
@@ -190,7 +188,7 @@ pub above_within : (limit : ℕ) (text : List ℕ) (at : ℕ) → IsAbove limit 
 above_within limit text at above = omega (arith, above.passes.after, above.passes.within)
 
 -- without the head there is none
-no_limit_head : (text : List ℕ) (p : ℕ) → Misses (IsFixed head) text 0 p → NoLimit text
+pub no_limit_head : (text : List ℕ) (p : ℕ) → Misses (IsFixed head) text 0 p → NoLimit text
 no_limit_head text p misses place (inl (front, above)) =
     no_item (Unit {0}) (λ _. Unit {0}) (λ _. head) text 0 p place tt [] misses tt (omega arith) (above_within 5000000 text place above) (slice_take text place ∙ front)
 no_limit_head text p misses place (inr (cells, all, few, (front, above))) =
@@ -202,7 +200,7 @@ PortsAbove text a =
     (place : ℕ) (cells : List Cell) → AreCells cells → a ≤ place → place ≤ length text → slice_range text a place ≡ cells_text cells ++ middle → IsAbove 65536 text place → ⊥
 
 -- behind the head only these two counts can be
-no_limit_by : (text : List ℕ) (a : ℕ) → Spans text 0 a head → (IsAbove 5000000 text a → ⊥) → PortsAbove text a → NoLimit text
+pub no_limit_by : (text : List ℕ) (a : ℕ) → Spans text 0 a head → (IsAbove 5000000 text a → ⊥) → PortsAbove text a → NoLimit text
 no_limit_by text a spans under none place (inl (front, above)) =
     let within = above_within 5000000 text place above in
     let here : place ≡ a =
@@ -236,41 +234,6 @@ word_behind text a b place cells other are are_other spans after within is =
     let size : length (slice_range text b place) ≡ length middle = omega (arith, length_slice text b place within, here, six) in
     (order, (same_fronts (slice_range text b place) (slice_range text place end) middle (slice_range text place end) (sym (slice_split text b place end order within) ∙ known.1) size).0)
 
--- a place at which the text breaks off, where no count is above its limit
-form_fault : (text : List ℕ) (place : ℕ) → length text ≤ 268435456 → NoLimit text → Misses IsNetText text 0 place → HasFault text (faults.Form place)
-form_fault text place short none misses = (
-  short,
-  none,
-  misses.stops,
-  λ is. misses.none (length text) (omega arith) (omega arith) (subst IsNetText (sym (slice_whole text)) is),
-)
-
-pub fault_head : (text : List ℕ) (fault : NetTextFault) → length text ≤ 268435456 → BreaksOff (IsFixed head) text 0 fault → HasFault text fault
-fault_head text (faults.Form place) short misses = form_fault text place short (no_limit_head text place misses) (no_head text place misses)
-fault_head text (faults.Limit place) short none = absurd none
-fault_head text faults.NoMemory short any = tt
-
-pub fault_cells : (text : List ℕ) (a : ℕ) (fault : NetTextFault) → length text ≤ 268435456 → Spans text 0 a head
-    → SectionFault (IsSectionText Cell IsWritableCell cell_text) 5000000 text a fault → HasFault text fault
-fault_cells text a (faults.Form place) short spans (misses, under) =
-    form_fault text place short
-    (no_limit_by text a spans under (λ at cells are after within is above. no_item (List Cell) AreCells cells_text text a place at cells middle misses are after within is))
-    (behind_head text a place spans (then_first (List Cell) AreCells cells_text (λ _. Middle) text a place (λ v is. some_middle) misses))
-fault_cells text a (faults.Limit place) short spans (here, above) =
-    inr (short, inl (ap (λ (n : ℕ). take n text) here ∙ (sym (slice_take text a) ∙ spans.is), subst (λ (n : ℕ). IsAbove 5000000 text n) (sym here) above))
-fault_cells text a faults.NoMemory short spans any = tt
-
-pub fault_middle : (text : List ℕ) (a b : ℕ) (cells : List Cell) (fault : NetTextFault) → length text ≤ 268435456 → Spans text 0 a head → AreCells cells → (IsAbove 5000000 text a → ⊥)
-    → Spans text a b (cells_text cells) → BreaksOff (IsFixed middle) text b fault → HasFault text fault
-fault_middle text a b cells (faults.Form place) short first are under second misses =
-    form_fault text place short
-    (no_limit_by text a first under (λ at other are_other after within is above.
-    let word = word_behind text a b at cells other are are_other second after within is in
-    no_item (Unit {0}) (λ _. Unit {0}) (λ _. middle) text b place at tt [] misses tt word.0 within word.1))
-    (behind_cells text a b place cells first are second (then_first (Unit {0}) (λ _. Unit {0}) (λ _. middle) (λ _. Ports) text b place (λ v is. some_ports) misses))
-fault_middle text a b cells (faults.Limit place) short first are under second none = absurd none
-fault_middle text a b cells faults.NoMemory short first are under second any = tt
-
 -- no count is above its limit where both are read
 pub no_limit_counts : (text : List ℕ) (a b d : ℕ) (cells : List Cell) → Spans text 0 a head → AreCells cells → (IsAbove 5000000 text a → ⊥) → Spans text a b (cells_text cells) → Spans text b d middle
     → (IsAbove 65536 text d → ⊥) → NoLimit text
@@ -279,73 +242,3 @@ no_limit_counts text a b d cells first are under second third under_ports =
     let word = word_behind text a b at cells other are are_other second after within is in
     let here : at ≡ d = omega (arith, length_slice text b at within, length_slice text b d third.within, ap length (word.1 ∙ sym third.is), word.0, third.after) in
     under_ports (subst (λ (n : ℕ). IsAbove 65536 text n) here above))
-
-pub fault_ports : (text : List ℕ) (a b d : ℕ) (cells : List Cell) (fault : NetTextFault) → length text ≤ 268435456 → Spans text 0 a head → AreCells cells → length cells ≤ 5000000 → (IsAbove 5000000 text a → ⊥)
-    → Spans text a b (cells_text cells) → Spans text b d middle → SectionFault (IsSectionText NetPort IsWritablePort port_text) 65536 text d fault → HasFault text fault
-fault_ports text a b d cells (faults.Form place) short first are few under second third (misses, under_ports) =
-    form_fault text place short (no_limit_counts text a b d cells first are under second third under_ports)
-    (behind_middle text a b d place cells first are second third (then_first (List NetPort) ArePorts ports_text (λ _. IsFixed foot) text d place (λ v is. (foot, (tt, tt, refl))) misses))
-fault_ports text a b d cells (faults.Limit place) short first are few under second third (here, above) =
-    let front : slice_range text 0 d ≡ head ++ (cells_text cells ++ middle) =
-    slice_split text 0 b d (omega arith) third.after
-    ∙ ((λ i. (slice_split text 0 a b (omega arith) second.after ∙ (λ j. first.is j ++ second.is j)) i ++ third.is i) ∙ append_assoc head (cells_text cells) middle) in
-    inr (short, inr (cells, are.1, few, (ap (λ (n : ℕ). take n text) here ∙ (sym (slice_take text d) ∙ (front ∙ sym (ports_front cells))), subst (λ (n : ℕ). IsAbove 65536 text n) (sym here) above)))
-fault_ports text a b d cells faults.NoMemory short first are few under second third any = tt
-
-pub fault_foot : (text : List ℕ) (a b d e : ℕ) (cells : List Cell) (ports : List NetPort) (fault : NetTextFault) → length text ≤ 268435456 → Spans text 0 a head → AreCells cells → (IsAbove 5000000 text a → ⊥)
-    → Spans text a b (cells_text cells) → Spans text b d middle → ArePorts ports → (IsAbove 65536 text d → ⊥) → Spans text d e (ports_text ports) → BreaksOff (IsFixed foot) text e fault → HasFault text fault
-fault_foot text a b d e cells ports (faults.Form place) short first are under second third are_ports under_ports fourth misses =
-    form_fault text place short (no_limit_counts text a b d cells first are under second third under_ports) (behind_ports text a b d e place cells ports first are second third are_ports fourth misses)
-fault_foot text a b d e cells ports (faults.Limit place) short first are under second third are_ports under_ports fourth none = absurd none
-fault_foot text a b d e cells ports faults.NoMemory short first are under second third are_ports under_ports fourth any = tt
-
--- the text up to its end is that of the netlist
-pub net_spans : (text : List ℕ) (a b d e f : ℕ) (cells : List Cell) (ports : List NetPort) → Spans text 0 a head → Spans text a b (cells_text cells) → Spans text b d middle → Spans text d e (ports_text ports) → Spans text e f foot
-    → slice_range text 0 f ≡ text_of (record { cells = cells; ports = ports })
-net_spans text a b d e f cells ports first second third fourth fifth =
-    let at_e : slice_range text d f ≡ ports_text ports ++ foot = slice_split text d e f fourth.after fifth.after ∙ (λ i. fourth.is i ++ fifth.is i) in
-    let at_d : slice_range text b f ≡ middle ++ (ports_text ports ++ foot) = slice_split text b d f third.after (omega (arith, fourth.after, fifth.after)) ∙ (λ i. third.is i ++ at_e i) in
-    let at_b : slice_range text a f ≡ cells_text cells ++ (middle ++ (ports_text ports ++ foot)) = slice_split text a b f second.after (omega (arith, third.after, fourth.after, fifth.after)) ∙ (λ i. second.is i ++ at_d i) in
-    slice_split text 0 a f (omega arith) (omega (arith, second.after, third.after, fourth.after, fifth.after)) ∙ ((λ i. first.is i ++ at_b i) ∙ sym (text_parts (record { cells = cells; ports = ports })))
-
--- something stands behind the end
-pub fault_behind : (text : List ℕ) (a b d f : ℕ) (net : Netlist) → length text ≤ 268435456 → Spans text 0 a head → AreCells net.cells → (IsAbove 5000000 text a → ⊥)
-    → Spans text a b (cells_text net.cells) → Spans text b d middle → (IsAbove 65536 text d → ⊥) → f ≤ length text → f ≢ length text → IsWritable net → slice_range text 0 f ≡ text_of net → HasFault text (faults.Form f)
-fault_behind text a b d f net short first are under second third under_ports within more is whole = (
-  short,
-  no_limit_counts text a b d net.cells first are under second third under_ports,
-  record {
-    after = omega arith;
-    within = within;
-    before = ([], (net, is, append-nil (slice_range text 0 f) ∙ whole));
-    stops = λ some longer. longer_no some longer.0 longer.1.0 longer.1.1 longer.1.2;
-  },
-  λ all. not_whole all.0 all.1 all.2,
-)
-  where
-    inside : f < length text
-    inside = omega (arith, within, more)
-
-    longer_no : f < length text → (rest : List ℕ) (other : Netlist) → IsWritable other → slice_range text 0 (f + 1) ++ rest ≡ text_of other → ⊥
-    longer_no some rest other is_other same =
-        let parts : slice_range text 0 (f + 1) ≡ text_of net ++ slice_range text f (f + 1) =
-        slice_split text 0 f (f + 1) (omega arith) (omega arith) ∙ ap (λ part. part ++ slice_range text f (f + 1)) whole in
-        let both : text_of net ++ (slice_range text f (f + 1) ++ rest) ≡ text_of other ++ [] =
-        sym (append_assoc (text_of net) (slice_range text f (f + 1)) rest) ∙ (ap (λ part. part ++ rest) (sym parts) ∙ (same ∙ sym (append-nil (text_of other)))) in
-        let known = net_code net other (slice_range text f (f + 1) ++ rest) [] is is_other both in
-        omega (arith, ap length known.1, length-append (slice_range text f (f + 1)) rest, length_slice text f (f + 1) (omega (arith, some)))
-
-    not_whole : (other : Netlist) → IsWritable other → text ≡ text_of other → ⊥
-    not_whole other is_other same =
-        let parts : text ≡ text_of net ++ slice_range text f (length text) =
-        sym (slice_whole text) ∙ (slice_split text 0 f (length text) (omega arith) within ∙ ap (λ part. part ++ slice_range text f (length text)) whole) in
-        let known = net_code net other (slice_range text f (length text)) [] is is_other (sym parts ∙ (same ∙ sym (append-nil (text_of other)))) in
-        omega (arith, ap length known.1, length_slice text f (length text) (omega arith), inside)
-
--- a cursor's text is the same after it has passed something
-pub next_text : (text : List ℕ) (old new : TextAt) (bytes : List ℕ) → old.text ≡ text → Passed old new bytes → new.text ≡ text
-next_text text old new bytes same passed = passed.text ∙ same
-
--- what is passed from the beginning on
-pub first_spans : (text : List ℕ) (old new : TextAt) (bytes : List ℕ) → old.text ≡ text → old.at ≡ 0 → Passed old new bytes → Spans text 0 new.at bytes
-first_spans text old new bytes same start passed = subst (λ (a : ℕ). Spans text a new.at bytes) start (spans_of text old new bytes same passed)

@@ -10,7 +10,6 @@ use Rattle.gos_check.specs.Nodes.{Numbered, Closed, Use, Under, One, Two, If, Me
 use Rattle.gos_check.specs.Linearity.{times, made, import_at}
 use Rattle.gos_check.specs.Checked.{program_in}
 use Rattle.gos_check.proofs.TimesLemmas.{number_cases, times_same, times_other, times-append, one_other, listed_times}
-use Rattle.gos_compile.specs.Wiring.{all_types}
 use Rattle.gos_compile.specs.Typed.{CheckedIsTyped}
 use Rattle.gos_leaves.proofs.CountLemmas.{behind}
 use Rattle.gos_leaves.proofs.LostLemmas.{is_loc, UsesStand, uses_stand, lost_in, lost, kept}

@@ -70,6 +70,13 @@ apart_unsplit types ns t (s ∷ ss) f m n env is names none apart =
     unmade k small =
         let none = two_away types ns t (s ∷ ss) f m n is k small in let two = times-append k (made m) (made n) in (omega (arith, none, two), omega (arith, none, two))
 
+-- where three lists one after another are none, each is
+three_none : (xs ys zs : List Split) → xs ++ (ys ++ zs) ≡ [] → (xs ≡ []) × (ys ≡ []) × (zs ≡ [])
+three_none xs ys zs none =
+    let (first, both) = two_none xs (ys ++ zs) none in
+    let (second, third) = two_none ys zs both in
+    (first, second, third)
+
 -- of the forms whose parts have nothing in common
 abbrev ApartUnsplit : Row
 ApartUnsplit OfApp ss = ss ≡ []
@@ -99,65 +106,57 @@ unsplit types ns (One t ss OfNot m) i g env u is names typed none =
     unsplit types ns m i g (inside ss env) _ (part_is_kept types ns t ss OfNot m is).1.kept
     (inside_names ss env names) typed.2 (two_none (lost_in env ss) (lost (inside ss env) m) none).1
 unsplit types ns (Two t ss OfApp m n) i g env u is names typed none =
-    let (row, both) = two_none (lost_in env ss) (lost (inside ss env) m ++ lost (inside ss env) n) none in
-    let (one, other) = two_none (lost (inside ss env) m) (lost (inside ss env) n) both in
+    let (row, one, other) = three_none (lost_in env ss) (lost (inside ss env) m) (lost (inside ss env) n) none in
     let (first, second, rest) = both_are_kept types ns t ss OfApp m n is in (
       apart_unsplit types ns t ss OfApp m n env is names row typed.3,
       unsplit types (first_numbers ss ns (used n)) m i g (inside ss env) _ first.kept (inside_names ss env names) typed.1 one,
       unsplit types (own_numbers ss ns n) n i g (inside ss env) _ second.kept (inside_names ss env names) typed.2 other,
     )
 unsplit types ns (Two t ss OfBoth m n) i g env u is names typed none =
-    let (row, both) = two_none (lost_in env ss) (lost (inside ss env) m ++ lost (inside ss env) n) none in
-    let (one, other) = two_none (lost (inside ss env) m) (lost (inside ss env) n) both in
+    let (row, one, other) = three_none (lost_in env ss) (lost (inside ss env) m) (lost (inside ss env) n) none in
     let (first, second, rest) = both_are_kept types ns t ss OfBoth m n is in (
       tt,
       unsplit types (first_numbers ss ns (used n)) m i g (inside ss env) _ first.kept (inside_names ss env names) typed.3 one,
       unsplit types (own_numbers ss ns n) n i g (inside ss env) _ second.kept (inside_names ss env names) typed.4 other,
     )
 unsplit types ns (Two t ss OfSeq m n) i g env u is names typed none =
-    let (row, both) = two_none (lost_in env ss) (lost (inside ss env) m ++ lost (inside ss env) n) none in
-    let (one, other) = two_none (lost (inside ss env) m) (lost (inside ss env) n) both in
+    let (row, one, other) = three_none (lost_in env ss) (lost (inside ss env) m) (lost (inside ss env) n) none in
     let (first, second, rest) = both_are_kept types ns t ss OfSeq m n is in (
       tt,
       unsplit types (first_numbers ss ns (used n)) m i g (inside ss env) _ first.kept (inside_names ss env names) typed.1 one,
       unsplit types (own_numbers ss ns n) n i g (inside ss env) _ second.kept (inside_names ss env names) typed.2 other,
     )
 unsplit types ns (Two t ss OfPar m n) i g env u is names typed none =
-    let (row, both) = two_none (lost_in env ss) (lost (inside ss env) m ++ lost (inside ss env) n) none in
-    let (one, other) = two_none (lost (inside ss env) m) (lost (inside ss env) n) both in
+    let (row, one, other) = three_none (lost_in env ss) (lost (inside ss env) m) (lost (inside ss env) n) none in
     let (first, second, rest) = both_are_kept types ns t ss OfPar m n is in (
       apart_unsplit types ns t ss OfPar m n env is names row typed.3,
       unsplit types (first_numbers ss ns (used n)) m i g (inside ss env) _ first.kept (inside_names ss env names) typed.1 one,
       unsplit types (own_numbers ss ns n) n i g (inside ss env) _ second.kept (inside_names ss env names) typed.2 other,
     )
 unsplit types ns (Two t ss OfWhile m n) i g env u is names typed none =
-    let (row, both) = two_none (lost_in env ss) (lost (inside ss env) m ++ lost (inside ss env) n) none in
-    let (one, other) = two_none (lost (inside ss env) m) (lost (inside ss env) n) both in
+    let (row, one, other) = three_none (lost_in env ss) (lost (inside ss env) m) (lost (inside ss env) n) none in
     let (first, second, rest) = both_are_kept types ns t ss OfWhile m n is in (
       tt,
       unsplit types (first_numbers ss ns (used n)) m i g (inside ss env) _ first.kept (inside_names ss env names) typed.1 one,
       unsplit types (own_numbers ss ns n) n i g (inside ss env) _ second.kept (inside_names ss env names) typed.2 other,
     )
 unsplit types ns (Two t ss OfAssign m n) i g env u is names typed none =
-    let (row, both) = two_none (lost_in env ss) (lost (inside ss env) m ++ lost (inside ss env) n) none in
-    let (one, other) = two_none (lost (inside ss env) m) (lost (inside ss env) n) both in
+    let (row, one, other) = three_none (lost_in env ss) (lost (inside ss env) m) (lost (inside ss env) n) none in
     let (first, second, rest) = both_are_kept types ns t ss OfAssign m n is in (
       tt,
       unsplit types (first_numbers ss ns (used n)) m i g (inside ss env) _ first.kept (inside_names ss env names) typed.2 one,
       unsplit types (own_numbers ss ns n) n i g (inside ss env) _ second.kept (inside_names ss env names) typed.3 other,
     )
 unsplit types ns (Two t ss (OfBin op) m n) i g env u is names typed none =
-    let (row, both) = two_none (lost_in env ss) (lost (inside ss env) m ++ lost (inside ss env) n) none in
-    let (one, other) = two_none (lost (inside ss env) m) (lost (inside ss env) n) both in
+    let (row, one, other) = three_none (lost_in env ss) (lost (inside ss env) m) (lost (inside ss env) n) none in
     let (first, second, rest) = both_are_kept types ns t ss (OfBin op) m n is in (
       tt,
       unsplit types (first_numbers ss ns (used n)) m i g (inside ss env) _ first.kept (inside_names ss env names) typed.2 one,
       unsplit types (own_numbers ss ns n) n i g (inside ss env) _ second.kept (inside_names ss env names) typed.3 other,
     )
 unsplit types ns (If t ss m n p) i g env u is names typed none =
-    let (row, three) = two_none (lost_in env ss) (lost (inside ss env) m ++ (lost (inside ss env) n ++ lost (inside ss env) p)) none in
-    let (one, both) = two_none (lost (inside ss env) m) (lost (inside ss env) n ++ lost (inside ss env) p) three in
-    let (other, last) = two_none (lost (inside ss env) n) (lost (inside ss env) p) both in
+    let three = (two_none (lost_in env ss) (lost (inside ss env) m ++ (lost (inside ss env) n ++ lost (inside ss env) p)) none).1 in
+    let (one, other, last) = three_none (lost (inside ss env) m) (lost (inside ss env) n) (lost (inside ss env) p) three in
     let (first, second, third, rest) = three_are_kept types ns t ss m n p is in (
       unsplit types (first_numbers ss ns (used n ++ used p)) m i g (inside ss env) _ first.kept (inside_names ss env names) typed.1 one,
       unsplit types (own_numbers ss ns n) n i g (inside ss env) _ second.kept (inside_names ss env names) typed.2 other,

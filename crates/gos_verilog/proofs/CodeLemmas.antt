@@ -3,13 +3,12 @@ use Rattle.std.proofs.Common.{◌≡◌, inl, inr, ℕ, ◌-◌, ◌^◌, ◌<�
 use Rattle.std.specs.Char.{is_ascii_digit}
 use Rattle.std.specs.Fmt.{decimal}
 use Rattle.std.specs.List.{list_all}
-use Rattle.std.proofs.lemmas.Bool.{and_parts}
 use Rattle.std.proofs.lemmas.Fmt.{decimal_injective, decimal_nonempty}
-use Rattle.std.proofs.lemmas.List.Folds.{list_all-append}
 use Rattle.gos_lex.specs.Bytes.{continues_name}
 use Rattle.gos_lex.specs.Items.{Begins}
 use Rattle.gos_lex.specs.Decimals.{IsDecimalIn}
 use Rattle.gos_lex.proofs.DecimalLemmas.{digit_within}
+use Rattle.gos_netlist.proofs.NameLemmas.{none_inside}
 use Rattle.gos_netlist.proofs.SequenceLemmas.{fronts}
 pub use Rattle.gos_verilog.specs.inner.Stages.{AreNameBytes}
 
@@ -49,11 +48,7 @@ digit_first n c x y small other same = by (decimal n) refl same
     by (d ∷ digits) is same = let byte : d ≡ c = cc same in digits_lack n c [] digits small other (is ∙ ap (λ e. e ∷ digits) byte)
 
 pub name_lacks : (c : ℕ) (front more name : List ℕ) → AreNameBytes name → continues_name c ≡ false → name ≡ front ++ c ∷ more → ⊥
-name_lacks c front more name bytes other is =
-    let whole : list_all continues_name (front ++ c ∷ more) ≡ true = ap (list_all continues_name) (sym is) ∙ bytes in
-    let parts = and_parts (list_all continues_name front) (list_all continues_name (c ∷ more)) (sym (list_all-append continues_name front (c ∷ more)) ∙ whole) in
-    let byte = and_parts (continues_name c) (list_all continues_name more) parts.1 in
-    absurd (let both : true ≡ false = sym byte.0 ∙ other in cc both)
+name_lacks c front more name bytes other is = none_inside c other front more (ap (list_all continues_name) (sym is) ∙ bytes)
 
 -- names before bytes that no name has
 pub name_code : (a b : List ℕ) (c d : ℕ) (x y : List ℕ) → AreNameBytes a → AreNameBytes b → continues_name c ≡ false → continues_name d ≡ false

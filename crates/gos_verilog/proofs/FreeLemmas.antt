@@ -18,7 +18,7 @@ use Rattle.gos_verilog.specs.declared.port_net.Role.TheVariants.{Run, Done, Ask,
 use Rattle.gos_verilog.specs.PortNets.{suffix}
 use Rattle.gos_verilog.specs.inner.Left.{is_first}
 use Rattle.gos_verilog.specs.inner.Faces.{Face', first_text, IsFree, IsFreeFace, IsFirstName, IsOther, AreKnown, Grows, IsNoEnd, IsNoName, IsNameBefore}
-use Rattle.gos_verilog.proofs.StartLemmas.{front_spelled}
+use Rattle.gos_netlist.proofs.NameLemmas.{front_spelled}
 
 pub contrary : {t : Bool} → t ≡ true → t ≡ false → ⊥
 contrary is not = let both : true ≡ false = sym is ∙ not in cc both

@@ -54,12 +54,14 @@ not_made i w ns fit =
     let is : ns ≡ i ∷ two.1 ∷ [] = two.4 ∙ (λ j. at_i j ∷ two.1 ∷ []) in
     subst (IsMade kinds.Not i w) (sym is) (record { kind_is = (refl, (two.3.1, tt)); text = not_text i w two.1 })
 
--- the numbers of a line with a sign
-binary_fit : (i : ℕ) (word ns : List ℕ) → FitSlots (binary_slots i word) ns → (a b : ℕ) × (a ≤ 4294967295) × (b ≤ 4294967295) × (ns ≡ i ∷ a ∷ b ∷ [])
-binary_fit i word ns fit =
+-- the numbers of a line with a sign make a function of two nets
+binary_made : (kind : Kind) (i w : ℕ) (word ns : List ℕ) → FitSlots (binary_slots i word) ns
+    → ((a b : ℕ) → a ≤ 4294967295 → b ≤ 4294967295 → IsMade kind i w (i ∷ a ∷ b ∷ [])) → IsMade kind i w ns
+binary_made kind i w word ns fit makes =
     let three = fit_three (target_slot i) (net_behind (codes "= n") 32) (net_behind word 59) ns fit in
     let at_i = same_number i three.0 three.3 in
-    (three.1, three.2, three.4.1, three.5.1, three.6 ∙ (λ j. at_i j ∷ three.1 ∷ three.2 ∷ []))
+    let is : ns ≡ i ∷ three.1 ∷ three.2 ∷ [] = three.6 ∙ (λ j. at_i j ∷ three.1 ∷ three.2 ∷ []) in
+    subst (IsMade kind i w) (sym is) (makes three.1 three.2 three.4.1 three.5.1)
 
 mux_made : (i w : ℕ) (ns : List ℕ) → FitSlots (kind_slots kinds.Mux i w) ns → IsMade kinds.Mux i w ns
 mux_made i w ns fit =
@@ -92,26 +94,19 @@ is_made kinds.Mux i w ns fit = mux_made i w ns fit
 is_made kinds.Gate i w ns fit = gate_made i w ns fit
 is_made kinds.Reg i w ns fit = reg_made i w ns fit
 is_made kinds.And i w ns fit =
-    let two = binary_fit i (codes "&" ++ codes " n") ns fit in
-    subst (IsMade kinds.And i w) (sym two.4) (record { kind_is = (refl, (two.2, (two.3, tt))); text = binary_text i two.0 two.1 (codes "&") })
+    binary_made kinds.And i w (codes "&" ++ codes " n") ns fit (λ a b is_a is_b. record { kind_is = (refl, (is_a, (is_b, tt))); text = binary_text i a b (codes "&") })
 is_made kinds.Or i w ns fit =
-    let two = binary_fit i (codes "|" ++ codes " n") ns fit in
-    subst (IsMade kinds.Or i w) (sym two.4) (record { kind_is = (refl, (two.2, (two.3, tt))); text = binary_text i two.0 two.1 (codes "|") })
+    binary_made kinds.Or i w (codes "|" ++ codes " n") ns fit (λ a b is_a is_b. record { kind_is = (refl, (is_a, (is_b, tt))); text = binary_text i a b (codes "|") })
 is_made kinds.Xor i w ns fit =
-    let two = binary_fit i (codes "^" ++ codes " n") ns fit in
-    subst (IsMade kinds.Xor i w) (sym two.4) (record { kind_is = (refl, (two.2, (two.3, tt))); text = binary_text i two.0 two.1 (codes "^") })
+    binary_made kinds.Xor i w (codes "^" ++ codes " n") ns fit (λ a b is_a is_b. record { kind_is = (refl, (is_a, (is_b, tt))); text = binary_text i a b (codes "^") })
 is_made kinds.Add i w ns fit =
-    let two = binary_fit i (codes "+" ++ codes " n") ns fit in
-    subst (IsMade kinds.Add i w) (sym two.4) (record { kind_is = (refl, (two.2, (two.3, tt))); text = binary_text i two.0 two.1 (codes "+") })
+    binary_made kinds.Add i w (codes "+" ++ codes " n") ns fit (λ a b is_a is_b. record { kind_is = (refl, (is_a, (is_b, tt))); text = binary_text i a b (codes "+") })
 is_made kinds.Sub i w ns fit =
-    let two = binary_fit i (codes "-" ++ codes " n") ns fit in
-    subst (IsMade kinds.Sub i w) (sym two.4) (record { kind_is = (refl, (two.2, (two.3, tt))); text = binary_text i two.0 two.1 (codes "-") })
+    binary_made kinds.Sub i w (codes "-" ++ codes " n") ns fit (λ a b is_a is_b. record { kind_is = (refl, (is_a, (is_b, tt))); text = binary_text i a b (codes "-") })
 is_made kinds.Eq i w ns fit =
-    let two = binary_fit i (codes "==" ++ codes " n") ns fit in
-    subst (IsMade kinds.Eq i w) (sym two.4) (record { kind_is = (refl, (two.2, (two.3, tt))); text = binary_text i two.0 two.1 (codes "==") })
+    binary_made kinds.Eq i w (codes "==" ++ codes " n") ns fit (λ a b is_a is_b. record { kind_is = (refl, (is_a, (is_b, tt))); text = binary_text i a b (codes "==") })
 is_made kinds.Less i w ns fit =
-    let two = binary_fit i (codes "<" ++ codes " n") ns fit in
-    subst (IsMade kinds.Less i w) (sym two.4) (record { kind_is = (refl, (two.2, (two.3, tt))); text = binary_text i two.0 two.1 (codes "<") })
+    binary_made kinds.Less i w (codes "<" ++ codes " n") ns fit (λ a b is_a is_b. record { kind_is = (refl, (is_a, (is_b, tt))); text = binary_text i a b (codes "<") })
 
 -- a line of this kind, by its slots
 pub record IsUnmade (kind : Kind) (i w : ℕ) (f : Function) : Type 0 where

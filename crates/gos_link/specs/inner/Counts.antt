@@ -1,5 +1,5 @@
 -- How much there is in plans together: so little that 32 bits count it.
-use Rattle.std.specs.Prelude.{ℕ, ◌+◌, ◌*◌, ◌<◌, ◌≤◌, ◌^◌, List, [], ◌∷◌, length}
+use Rattle.std.specs.Prelude.{ℕ, ◌+◌, ◌<◌, ◌≤◌, ◌^◌, List, [], ◌∷◌, length}
 use Rattle.gos_plan.specs.Plans.{End, PartEnd, ImportEnd, ResultEnd, Joint, Plan}
 use Rattle.gos_plan.specs.Joining.{all_parts, all_weight}
 use Rattle.gos_link.specs.declared.services.Service.{Service}

@@ -1,4 +1,4 @@
-use Rattle.std.proofs.Common.{◌≡◌, ◌∙◌, ◌<◌, ◌≤◌, ℕ, List, arith, Option, Some, ap, length, map, refl, subst, sym}
+use Rattle.std.proofs.Common.{◌≡◌, ◌∙◌, ◌<◌, ◌≤◌, List, arith, Option, Some, ap, length, map, refl, subst, sym}
 use Rattle.std.specs.Prelude.{◌↔◌, slice_get, option_map}
 use Rattle.std.proofs.lemmas.Option.{slice_get_read, slice_get-map}
 use Rattle.std.proofs.lemmas.List.{length-map}
@@ -17,7 +17,6 @@ use Rattle.gos_ties.specs.Ties.{Connects, Has, joint}
 use Rattle.gos_link.specs.declared.opens.Open.{Open}
 use Rattle.gos_link.specs.Linked.{outcome_of, whole_of}
 use Rattle.gos_link.specs.inner.Opens.{open_seen}
-use Rattle.gos_link.specs.inner.Wired.{ties_from}
 use Rattle.gos_link.proofs.ServiceLemmas.{opens_left}
 use Rattle.gos_link.proofs.PlaceLemmas.{within}
 use Rattle.gos_link.proofs.CountLemmas.{thin}

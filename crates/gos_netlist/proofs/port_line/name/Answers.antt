@@ -1,4 +1,4 @@
-use Rattle.std.proofs.Common.{◌≡◌, ◌∷◌, [], ◌∙◌, ℕ, List, sym, subst}
+use Rattle.std.proofs.Common.{◌≡◌, ◌∷◌, [], ◌∙◌, ℕ, List, sym, subst, refl}
 use Rattle.std.specs.List.{slice_range}
 use Rattle.gos_lex.specs.Items.{IsJust, Misses}
 use Rattle.gos_lex.specs.Names.{IsSpelled}
@@ -7,7 +7,7 @@ use Rattle.gos_netlist.proofs.PassedLemmas.{passed_both, passed_item}
 use Rattle.gos_netlist.proofs.port_line.name.Goals as goal
 
 pub returns-in-Err-clause-wrong : goal.returns-in-Err-clause-wrong
-returns-in-Err-clause-wrong c = no_name c.args.cursor.now.text c.args.cursor.now.at c.in-Err.at c.in-Err.ensures.wrong c.in-Err.ensures.none
+returns-in-Err-clause-wrong c = no_name 32 refl c.args.cursor.now.text c.args.cursor.now.at c.in-Err.at c.in-Err.ensures.wrong c.in-Err.ensures.none
 
 pub returns-in-Ok-new-clause-passed : goal.returns-in-Ok-new-clause-passed
 returns-in-Ok-new-clause-passed c =
@@ -26,4 +26,4 @@ returns-in-Err-word-clause-wrong c =
     let old = c.args.cursor.now in
     let mid = c.name.new.self in
     let missed = subst (λ (text : List ℕ). Misses (IsJust (32 ∷ [])) text mid.at c.in-Err-word.at) c.in-Ok.ensures.text c.in-Err-word.ensures.wrong in
-    name_not_ended old.text old.at mid.at c.in-Err-word.at c.in-Ok.ensures.passes c.in-Ok.ensures.name missed
+    name_not_ended 32 refl old.text old.at mid.at c.in-Err-word.at c.in-Ok.ensures.passes c.in-Ok.ensures.name missed

@@ -2,31 +2,32 @@ use Rattle.std.proofs.Common.{◌∷◌, [], ℕ, List, refl, subst}
 use Rattle.std.specs.List.{slice_range}
 use Rattle.gos_lex.specs.Items.{IsJust, Misses}
 use Rattle.gos_lex.specs.Names.{IsSpelled}
+use Rattle.gos_netlist.proofs.NameLemmas.{no_name, name_not_ended}
 use Rattle.gos_netlist.proofs.PassedLemmas.{passed_both, passed_item}
-use Rattle.gos_verilog.proofs.StartLemmas.{no_name, name_not_ended, name_rest, name_stands}
+use Rattle.gos_verilog.proofs.StartLemmas.{name_rest, name_stands}
 use Rattle.gos_verilog.proofs.head.module_name.Goals as goal
 
 pub returns-in-Err-clause-wrong : goal.returns-in-Err-clause-wrong
-returns-in-Err-clause-wrong c = no_name c.args.cursor.now.text c.args.cursor.now.at c.in-Err.at c.in-Err.ensures.wrong c.in-Err.ensures.none
+returns-in-Err-clause-wrong c = no_name 40 refl c.args.cursor.now.text c.args.cursor.now.at c.in-Err.at c.in-Err.ensures.wrong c.in-Err.ensures.none
 
 pub returns-in-Err-clause-stands : goal.returns-in-Err-clause-stands
 returns-in-Err-clause-stands c name x is left =
     let old = c.args.cursor.now in
-    name_stands old.text old.at c.in-Err.at name x (no_name old.text old.at c.in-Err.at c.in-Err.ensures.wrong c.in-Err.ensures.none) is left
+    name_stands old.text old.at c.in-Err.at name x (no_name 40 refl old.text old.at c.in-Err.at c.in-Err.ensures.wrong c.in-Err.ensures.none) is left
 
 pub returns-in-Err-pass-clause-wrong : goal.returns-in-Err-pass-clause-wrong
 returns-in-Err-pass-clause-wrong c =
     let old = c.args.cursor.now in
     let mid = c.name.new.self in
     let missed = subst (λ (text : List ℕ). Misses (IsJust (40 ∷ [])) text mid.at c.in-Err-pass.at) c.in-Ok.ensures.text c.in-Err-pass.ensures.wrong in
-    name_not_ended old.text old.at mid.at c.in-Err-pass.at c.in-Ok.ensures.passes c.in-Ok.ensures.name missed
+    name_not_ended 40 refl old.text old.at mid.at c.in-Err-pass.at c.in-Ok.ensures.passes c.in-Ok.ensures.name missed
 
 pub returns-in-Err-pass-clause-stands : goal.returns-in-Err-pass-clause-stands
 returns-in-Err-pass-clause-stands c name x is left =
     let old = c.args.cursor.now in
     let mid = c.name.new.self in
     let missed = subst (λ (text : List ℕ). Misses (IsJust (40 ∷ [])) text mid.at c.in-Err-pass.at) c.in-Ok.ensures.text c.in-Err-pass.ensures.wrong in
-    name_stands old.text old.at c.in-Err-pass.at name x (name_not_ended old.text old.at mid.at c.in-Err-pass.at c.in-Ok.ensures.passes c.in-Ok.ensures.name missed) is left
+    name_stands old.text old.at c.in-Err-pass.at name x (name_not_ended 40 refl old.text old.at mid.at c.in-Err-pass.at c.in-Ok.ensures.passes c.in-Ok.ensures.name missed) is left
 
 pub returns-in-Ok-pass-clause-passed : goal.returns-in-Ok-pass-clause-passed
 returns-in-Ok-pass-clause-passed c =

@@ -1,4 +1,4 @@
-use Rattle.gos_link.proofs.EntryLemmas.{lookup_added}
+use Rattle.gos_lex.proofs.EntryLemmas.{lookup_added}
 use Rattle.gos_link.proofs.whole.Numbers.add.Goals as goal
 
 pub returns : goal.returns

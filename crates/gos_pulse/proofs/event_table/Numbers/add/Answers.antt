@@ -1,4 +1,4 @@
-use Rattle.gos_pulse.proofs.TableLemmas.{lookup_added}
+use Rattle.gos_lex.proofs.EntryLemmas.{lookup_added}
 use Rattle.gos_pulse.proofs.event_table.Numbers.add.Goals as goal
 
 pub returns : goal.returns

@@ -1,4 +1,4 @@
-use Rattle.gos_verilog.proofs.PlacedLemmas.{lookup_added}
+use Rattle.gos_lex.proofs.EntryLemmas.{lookup_added}
 use Rattle.gos_verilog.proofs.inputs.Places.add.Goals as goal
 
 pub returns : goal.returns
