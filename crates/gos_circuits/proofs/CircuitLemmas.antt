@@ -1,5 +1,5 @@
 -- The netlist that a plan is laid out as is a circuit of the plan.
-use Rattle.std.proofs.Common.{◌≡◌, ◌≤◌, ℕ, List, map, length, ap, sym, subst, ◌∙◌}
+use Rattle.std.proofs.Common.{◌≤◌, map, length, ap, sym, subst, ◌∙◌}
 use Rattle.gos_lines.specs.Lines.{Word}
 use Rattle.gos_netlist.specs.Nets.{Netlist}
 use Rattle.gos_netlist.specs.Cycles.{HasCycle}

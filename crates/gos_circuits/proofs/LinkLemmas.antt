@@ -1,5 +1,5 @@
 -- From the parts of the command `link` to what the whole leaves.
-use Rattle.std.proofs.Common.{◌≡◌, ◌≢◌, ◌≤◌, ◌<◌, ◌⊎◌, ◌∙◌, inl, inr, ℕ, zero, suc, List, [], ◌∷◌, Option, Some, None, length, refl, ap, sym, subst, arith}
+use Rattle.std.proofs.Common.{◌≡◌, ◌≢◌, ◌≤◌, ◌<◌, ◌⊎◌, ◌∙◌, inl, inr, ℕ, zero, suc, List, [], ◌∷◌, Option, Some, None, length, ap, sym, subst, arith}
 use Rattle.std.specs.Prelude.{IfSome}
 use Rattle.gos_outside.specs.Files.{Files, bytes_at, with_file, SameBut}
 use Rattle.gos_outside.specs.OtherFiles.{OthersSame}
@@ -11,7 +11,7 @@ use Rattle.gos_netlist.specs.NetText.{text_of}
 use Rattle.gos_plan.specs.Plans.{Plan}
 use Rattle.gos_plan.specs.Seen.{SeenPlan}
 use Rattle.gos_link.specs.BuildFile.{IsBuildFile, IsFirstWrong}
-use Rattle.gos_link.specs.Linked.{IsLinked, IsUnlinked}
+use Rattle.gos_link.specs.Linked.{IsUnlinked}
 use Rattle.gos_link.specs.declared.build.Build.{Build}
 use Rattle.gos_link.specs.declared.build.Instance.{Instance}
 use Rattle.gos_link.specs.declared.fault.LinkFault.{LinkFault}
@@ -27,7 +27,7 @@ use Rattle.gos_command.specs.declared.status.Fault.{Fault}
 use Rattle.gos_command.proofs.EndLemmas.{of_some, of_some_both}
 use Rattle.gos_circuits.specs.Circuit.{IsCircuitOf}
 use Rattle.gos_circuits.specs.Paced.{LinkedCircuitsKeepPace}
-use Rattle.gos_circuits.specs.Objects.{HoldPlans, RejectsObject}
+use Rattle.gos_circuits.specs.Objects.{HoldPlans}
 use Rattle.gos_circuits.specs.Plans.{with_net, IsWritten, IsPlansDone, IsPlansCause, IsBuildFault, IsWriteCall, IsPlansCall, IsWriteCutShort, IsPlansCutShort}
 use Rattle.gos_circuits.specs.Linked.{SaysBuild, IsLinkDone, IsFormCause, RejectsWhole, RejectsLink, IsWholeCall, IsWholeCutShort}
 use Rattle.gos_circuits.specs.inner.Wholes.{IsWholeDone}

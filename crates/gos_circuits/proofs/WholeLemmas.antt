@@ -1,11 +1,10 @@
 -- A linked plan can be laid out as a circuit.
-use Rattle.std.proofs.Common.{◌≡◌, ◌<◌, ◌∙◌, ℕ, zero, suc, List, [], ◌∷◌, Some, None, map, length, All, slice_get, refl, ap, sym, subst, arith}
+use Rattle.std.proofs.Common.{◌≡◌, ◌<◌, ◌∙◌, ℕ, zero, suc, List, [], ◌∷◌, Some, map, length, All, slice_get, refl, ap, sym, subst, arith}
 use Rattle.gos_types.specs.Types.{Type', Com, Exp, Var, Pair, Fun, IsGround, IsDone, type_of}
 use Rattle.gos_lines.specs.Lines.{Word}
 use Rattle.gos_model.specs.Typing.{Imported}
 use Rattle.gos_plan.specs.declared.plan.PlanImport.{PlanImport}
 use Rattle.gos_plan.specs.Joining.{LeftImport, all_left}
-use Rattle.gos_plan.specs.Plans.{IsRight}
 use Rattle.gos_plan.specs.Ranges.{AreInRange}
 use Rattle.gos_plan.specs.Seen.{SeenPlan, plan_of, import_of}
 use Rattle.gos_realises.specs.Realises.{AllGround}

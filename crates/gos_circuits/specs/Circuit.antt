@@ -2,7 +2,7 @@
 --
 -- Read first: Accepted of gos_netcheck; Laid and Choices of gos_expand (how a plan is laid out); Pace of gos_model; Matched of
 -- gos_realises (what it means that a plan realises a program).
-use Rattle.std.specs.Prelude.{◌≡◌, ℕ, ◌≤◌, List, ◌∷◌, map, length}
+use Rattle.std.specs.Prelude.{◌≡◌, ◌≤◌, List, ◌∷◌, map, length}
 use Rattle.gos_types.specs.Types.{Type'}
 use Rattle.gos_lines.specs.Lines.{Word}
 use Rattle.gos_netlist.specs.Nets.{Side, Give, Take, NetPort, Netlist}

@@ -6,7 +6,7 @@ use Rattle.std.specs.Prelude.{◌≡◌, ◌≢◌, ℕ, ◌+◌, ◌≤◌, ◌
 use Rattle.std.proofs.Common.{refl, ap, sym, ◌∙◌, subst, arith, inl, inr, true≢false}
 use Rattle.gos_types.specs.Types.{Type'}
 use Rattle.gos_model.specs.Terms as terms
-use Rattle.gos_model.specs.Terms.{Name, Term}
+use Rattle.gos_model.specs.Terms.{Term}
 use Rattle.gos_model.specs.Typing.{Imports}
 use Rattle.gos_model.specs.Weight.{node_type}
 use Rattle.gos_check.proofs.TimesLemmas.{number_cases, eq_true, eq_false, times_none, times-append}

@@ -11,7 +11,7 @@ use Rattle.gos_model.specs.Terms as terms
 use Rattle.gos_model.specs.Terms.{Name, Term}
 use Rattle.gos_model.specs.Typing.{Imports, Imported}
 use Rattle.gos_model.specs.Weight as weights
-use Rattle.gos_model.specs.Weight.{node_type, nodes_weight, weight, or_com}
+use Rattle.gos_model.specs.Weight.{node_type, weight}
 use Rattle.gos_model.specs.Sources.{import_of}
 use Rattle.gos_check.proofs.NameLemmas.{same_true, other_false}
 use Rattle.gos_check.proofs.TimesLemmas.{times-append}

@@ -38,6 +38,7 @@ pub(crate) fn wire(
     ensures spent { OnOk result (spent wires.new ≤ spent wires.old + loaded types.now node.now) }
 {
     wires.shares(alloc, types, &node.splits)?;
+    let ty = &node.ty;
     match &node.form {
         NodeForm::Skip => wires.own(Kind::Skip, out, 0),
         NodeForm::Lit { value, width } => wires.own(
@@ -49,85 +50,27 @@ pub(crate) fn wire(
             0,
         ),
         NodeForm::Use(number) => wires.use_number(*number, out),
-        NodeForm::Fun { number, body } => {
-            wire_function(alloc, types, &node.ty, *number, body, out, wires)
-        }
+        NodeForm::Fun { number, body } => wire_function(
+            alloc, types, ty, *number, body, out, wires,
+        ),
         NodeForm::New {
             number,
             width,
             body,
-        } => wire_block(alloc, types, &node.ty, *number, *width, body, out, wires),
-        NodeForm::App(m, n) => {
-            wire_two(
-                alloc,
-                types,
-                TwoRule::Application,
-                &node.ty,
-                m,
-                n,
-                out,
-                wires,
-            )
-        }
-        NodeForm::Pair(m, n) => wire_two(
-            alloc,
-            types,
-            TwoRule::Product,
-            &node.ty,
-            m,
-            n,
-            out,
-            wires,
-        ),
-        NodeForm::Fst(m) => wire_one(alloc, types, OneRule::First, &node.ty, m, out, wires),
-        NodeForm::Snd(m) => wire_one(alloc, types, OneRule::Second, &node.ty, m, out, wires),
-        NodeForm::Seq(m, n) => wire_two(
-            alloc,
-            types,
-            TwoRule::Sequence,
-            &node.ty,
-            m,
-            n,
-            out,
-            wires,
-        ),
-        NodeForm::Par(m, n) => wire_two(
-            alloc,
-            types,
-            TwoRule::Parallel,
-            &node.ty,
-            m,
-            n,
-            out,
-            wires,
-        ),
-        NodeForm::If(m, n, p) => wire_choice(alloc, types, &node.ty, m, n, p, out, wires),
-        NodeForm::While(m, n) => wire_two(alloc, types, TwoRule::Loop, &node.ty, m, n, out, wires),
-        NodeForm::Assign(m, n) => {
-            wire_two(
-                alloc,
-                types,
-                TwoRule::Assignment,
-                &node.ty,
-                m,
-                n,
-                out,
-                wires,
-            )
-        }
-        NodeForm::Deref(m) => wire_one(alloc, types, OneRule::Reading, &node.ty, m, out, wires),
-        NodeForm::Not(m) => wire_one(alloc, types, OneRule::Negation, &node.ty, m, out, wires),
+        } => wire_block(alloc, types, ty, *number, *width, body, out, wires),
+        NodeForm::App(m, n) => wire_two(alloc, types, TwoRule::Application, ty, m, n, out, wires),
+        NodeForm::Pair(m, n) => wire_two(alloc, types, TwoRule::Product, ty, m, n, out, wires),
+        NodeForm::Fst(m) => wire_one(alloc, types, OneRule::First, ty, m, out, wires),
+        NodeForm::Snd(m) => wire_one(alloc, types, OneRule::Second, ty, m, out, wires),
+        NodeForm::Seq(m, n) => wire_two(alloc, types, TwoRule::Sequence, ty, m, n, out, wires),
+        NodeForm::Par(m, n) => wire_two(alloc, types, TwoRule::Parallel, ty, m, n, out, wires),
+        NodeForm::If(m, n, p) => wire_choice(alloc, types, ty, m, n, p, out, wires),
+        NodeForm::While(m, n) => wire_two(alloc, types, TwoRule::Loop, ty, m, n, out, wires),
+        NodeForm::Assign(m, n) => wire_two(alloc, types, TwoRule::Assignment, ty, m, n, out, wires),
+        NodeForm::Deref(m) => wire_one(alloc, types, OneRule::Reading, ty, m, out, wires),
+        NodeForm::Not(m) => wire_one(alloc, types, OneRule::Negation, ty, m, out, wires),
         NodeForm::Bin(op, m, n) => {
-            wire_two(
-                alloc,
-                types,
-                TwoRule::Operation(*op),
-                &node.ty,
-                m,
-                n,
-                out,
-                wires,
-            )
+            wire_two(alloc, types, TwoRule::Operation(*op), ty, m, n, out, wires)
         }
     }
 }

@@ -7,12 +7,13 @@ use Rattle.gos_plan.specs.Contacts.{held_contact}
 use Rattle.gos_plan.specs.Plans.{End, PartEnd, ImportEnd, ResultEnd, Joint, Plan, Fits, IsRight, contact_at, same_end}
 use Rattle.gos_plan.specs.Seen.{end_of}
 use Rattle.gos_expand.specs.Blocks.{Nets, nets_from, total}
-use Rattle.gos_expand.specs.Starts.{Keep, bits_taken, way_size, joint_size, loose_size, joints_start, joint_start, loose_ends_start, loose_ends, parts_start, laid_size, start_among}
+use Rattle.gos_expand.specs.Starts.{Keep, bits_taken, way_size, joint_size, loose_size, joints_start, joint_start, loose_ends_start, loose_ends, parts_start, start_among}
 use Rattle.gos_expand.specs.inner.Arrivals.{held_end, arrival_if, or_else, some_if, by_way, start_by_joints, start_by_ends, joined_start, start_at, nets_by, nets_of}
 use Rattle.gos_expand.specs.declared.arrivals.Origin.{Origin}
 use Rattle.gos_expand.specs.declared.arrivals.Origin.TheVariants.{Cells, Other}
 use Rattle.gos_expand.specs.declared.arrivals.Arrival.{Arrival}
 use Rattle.gos_expand.specs.Laid.{Seat, seat_among, seat_of, way_start, leaves, arrives_by, arrives}
+use Rattle.gos_expand.specs.inner.Numbering.{laid_size}
 use Rattle.gos_expand.proofs.BlockLemmas.{total_suc}
 use Rattle.gos_expand.proofs.CountLemmas.{asking_there, serving_there}
 use Rattle.gos_expand.proofs.SeatLemmas.{joint_fits}
@@ -180,6 +181,14 @@ pub entry_told : (s : Option Origin) (o : Option Contact) (a : Arrival) → Some
     → (c : Contact) × (o ≡ Some c) × (a ≡ record { contact = held_contact c; origin = s })
 entry_told s None a is = absurd (cc is)
 entry_told s (Some c) a is = (c, refl, cc is)
+
+-- the handshake of an entry is the one at its end
+pub entry_holds : (s : Option Origin) (o : Option Contact) (a : Arrival) (d : Contact) → Some a ≡ arrival_if s o → o ≡ Some d → a.contact ≡ held_contact d
+entry_holds s o a d is there =
+    let told = entry_told s o a is in
+    let both : Some told.0 ≡ Some d = sym told.1 ∙ there in
+    let same : told.0 ≡ d = cc both in
+    ap (λ (b : Arrival). b.contact) told.2 ∙ ap held_contact same
 
 -- the parts begin within the cells
 pub parts_within : (keep : Keep) (p : Plan) → parts_start keep p ≤ laid_size keep p

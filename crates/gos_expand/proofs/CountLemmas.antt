@@ -1,6 +1,7 @@
 -- What the blocks of ports, of joints and of loose ends are of, as the tables of the program tell it.
 use Rattle.std.specs.Prelude.{Option, None, Some, IsSome}
-use Rattle.std.proofs.Common.{◌≡◌, ℕ, zero, suc, ◌<◌, List, [], ◌∷◌, ◌++◌, length, map, slice_index_or, refl, ap, subst, arith, ◌∙◌, slice_get}
+use Rattle.std.proofs.Common.{◌≡◌, ℕ, zero, suc, ◌+◌, ◌<◌, List, [], ◌∷◌, ◌++◌, length, map, slice_index_or, refl, ap, subst, arith, ◌∙◌, slice_get}
+use Rattle.std.proofs.lemmas.List.{length-append}
 use Rattle.gos_netlist.specs.Nets.{Cell, Side}
 use Rattle.gos_netlist.specs.Events.{Request, Answer}
 use Rattle.gos_plan.specs.Kinds.{Contact, turned_contact}
@@ -12,7 +13,7 @@ use Rattle.gos_expand.specs.declared.arrivals.Arrival.{Arrival}
 use Rattle.gos_expand.specs.declared.places.Place.{Place}
 use Rattle.gos_expand.specs.declared.places.Place.TheVariants as places
 use Rattle.gos_expand.specs.Blocks.{Nets, blocks}
-use Rattle.gos_expand.specs.Starts.{Outer, Keep, bits_if}
+use Rattle.gos_expand.specs.Starts.{Outer, Keep, bits_if, ports_of, taken_ports}
 use Rattle.gos_expand.specs.inner.Arrivals.{arrival_if, start_at}
 use Rattle.gos_expand.specs.inner.Numbering.{end_at}
 use Rattle.gos_expand.specs.Laid.{arrives, side_cells, shake_cells, port_cells}
@@ -59,6 +60,14 @@ outer_import p i x there = rw there refl
 pub ports_alike : (keep : Keep) (p : Plan) (m n : ℕ) (os : List Outer) → blocks (port_cells keep p) m os ≡ blocks (port_cells keep p) n os
 ports_alike keep p m n [] = refl
 ports_alike keep p m n (o ∷ os) = ap (λ (cs : List Cell). port_cells keep p 0 o ++ cs) (ports_alike keep p (suc m) (suc n) os)
+
+-- how many cells the ports have: those of the result, and those of the imports
+pub ports_length : (keep : Keep) (p : Plan) → length (blocks (port_cells keep p) 0 (ports_of p))
+    ≡ length (port_cells keep p 0 (outer_at p places.OfResult)) + length (blocks (port_cells keep p) 0 (taken_ports 0 p.imports))
+ports_length keep p =
+    let own : List Cell = port_cells keep p 0 (outer_at p places.OfResult) in
+    length-append own (blocks (port_cells keep p) 1 (taken_ports 0 p.imports))
+    ∙ ap (λ (cs : List Cell). length own + length cs) (ports_alike keep p 1 0 (taken_ports 0 p.imports))
 
 -- the bits of a joint's tokens, by the entry of the end that asks
 pub entry_bits : (s : Option Origin) (o : Option Contact) (a : Arrival) → Some a ≡ arrival_if s o

@@ -14,8 +14,8 @@ use Rattle.gos_plan.specs.Seen.{part_of, import_of}
 use Rattle.gos_expand.specs.Gates.{outs_of, part_size}
 use Rattle.gos_expand.specs.Laid.{nets_out, outs_if, request_start, answer_nets, leaves, laid_port, taken}
 use Rattle.gos_expand.specs.Blocks.{nets_from, token_size, total}
-use Rattle.gos_expand.specs.Starts.{Keep, bits_if, ports_of, port_size, port_start, part_start, parts_start, laid_size}
-use Rattle.gos_expand.specs.inner.Numbering.{starts}
+use Rattle.gos_expand.specs.Starts.{Keep, bits_if, ports_of, port_size, port_start, part_start, parts_start}
+use Rattle.gos_expand.specs.inner.Numbering.{starts, laid_size}
 use Rattle.gos_expand.proofs.BlockLemmas.{start_of, total_within, take_one}
 use Rattle.gos_expand.proofs.PortLemmas.{taken_port, port_there}
 use Rattle.gos_expand.proofs.PlaceLemmas.{length_first}

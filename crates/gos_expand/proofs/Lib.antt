@@ -8,6 +8,7 @@ pub mod LeafLemmas
 pub mod PlacingLemmas
 pub mod CountLemmas
 pub mod EndLemmas
+pub mod HereLemmas
 pub mod WireLemmas
 pub mod WholeLemmas
 pub mod ShareLemmas

@@ -115,7 +115,3 @@ parts_start keep p = loose_ends_start keep p + total (loose_size p) 0 (loose_end
 
 abbrev pub part_start : Keep → Plan → ℕ → ℕ
 part_start keep p i = parts_start keep p + total (λ _ k. part_size k) 0 (take i p.parts)
-
--- how many cells there are
-abbrev pub laid_size : Keep → Plan → ℕ
-laid_size keep p = parts_start keep p + total (λ _ k. part_size k) 0 p.parts

@@ -22,7 +22,6 @@ ghost use Rattle.gos_expand.specs.Starts.{
   loose_ends_start,
   loose_size,
   parts_start,
-  laid_size,
   bits_if,
   bits_taken,
 };

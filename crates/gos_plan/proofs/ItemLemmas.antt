@@ -40,7 +40,7 @@ lawful_number low high c range fits is_end =
 
 -- a name of one letter
 pub lawful_name : Lawful any_name
-lawful_name = lawful_plain (List ℕ) IsNameOrWord (ended 32) name_code (97 ∷ []) record { spelled = refl; short = omega arith }
+lawful_name = lawful_plain (List ℕ) IsNameOrWord (ended 32) (name_code 32 refl) (97 ∷ []) record { spelled = refl; short = omega arith }
 
 stops_of : (low high : ℕ) (text : List ℕ) (at place : ℕ) → StopsAt (IsDecimalIn low high) text at place → StopsAt (IsTextOf ℕ (IsInRange low high) decimal) text at place
 stops_of low high text at place stops =

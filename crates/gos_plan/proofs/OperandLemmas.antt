@@ -5,8 +5,8 @@ use Rattle.gos_plan.specs.declared.fault.ObjectFault.{ObjectFault}
 use Rattle.gos_plan.specs.declared.word.TypeWord.{TypeWord}
 use Rattle.gos_plan.specs.declared.word.TypeWord.TheVariants as types
 use Rattle.gos_types.specs.Widths.{HasWidths}
-use Rattle.gos_plan.specs.TextItems.{Item, Fails, exactly}
-use Rattle.gos_plan.specs.ObjectItems.{shakes, word_of_type, forks, sized_by, type_operands_text, type_operands}
+use Rattle.gos_plan.specs.TextItems.{Item, Fails, both, exactly}
+use Rattle.gos_plan.specs.ObjectItems.{shakes, word_of_type, typed, forks, sized_by, type_operands_text, type_operands}
 use Rattle.gos_plan.proofs.TextLemmas.{Via, via_fails}
 use Rattle.gos_plan.proofs.TypeLemmas.{shakes_pair, shakes_fun, shakes_some}
 
@@ -94,6 +94,13 @@ var_via end before =
       over = λ source at place over. absurd over;
       over_back = λ source at place over. no_over end source at place over;
     }
+
+-- the second of two types, behind the first, and both
+abbrev pub second_type : ℕ → ℕ → Type' → Item
+second_type end before a = typed end (before + shakes a)
+
+abbrev pub both_types : ℕ → ℕ → Item
+both_types end before = both (typed 32 (before + 1)) (second_type end before)
 
 fork_keeps : (before : ℕ) (a b : Type') → before + (shakes a + shakes b) ≤ 64 → (before + 1 + shakes a ≤ 64) × (before + shakes a + shakes b ≤ 64)
 fork_keeps before a b keeps = (omega (arith, keeps, shakes_some b), omega (arith, keeps))

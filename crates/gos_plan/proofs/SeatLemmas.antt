@@ -5,7 +5,8 @@ use Rattle.gos_plan.specs.declared.seats.Seat.{Seat}
 use Rattle.gos_types.specs.Types.{Type'}
 use Rattle.gos_types.specs.Handshakes.{Shake, handshakes_of}
 use Rattle.gos_plan.specs.Kinds.{Contact, contact, contacts_of, other_side}
-use Rattle.gos_plan.specs.Contacts.{held_contact, as_seen, contact_for}
+use Rattle.gos_plan.specs.Contacts.{held_contact}
+use Rattle.gos_plan.specs.inner.Turned.{as_seen, contact_for}
 use Rattle.gos_plan.specs.inner.Seats.{free_seat, free_held, contact_of, seat_in, seat_at, taken_if, TakesEnd, Stands}
 use Rattle.gos_plan.specs.declared.seats.Seats.{Seats}
 use Rattle.gos_plan.specs.Plans.{Joint, Plan, contact_at, same_end, is_free}

@@ -1,8 +1,8 @@
 -- Items one behind the other: where the first fails, or the second behind it, both do.
-use Rattle.std.proofs.Common.{◌≡◌, inl, inr, ◌⊎◌, ℕ, zero, suc, ◌+◌, ◌≤◌, List, [], ◌∷◌, ◌++◌, length, refl, sym, ◌∙◌, ap, subst, arith, append_assoc, append-nil, length-append}
+use Rattle.std.proofs.Common.{◌≡◌, inl, inr, ◌⊎◌, ℕ, zero, suc, ◌+◌, ◌-◌, ◌<◌, ◌≤◌, List, [], ◌∷◌, ◌++◌, length, map, refl, sym, ◌∙◌, ap, subst, arith, append_assoc, append-nil, length-append}
 use Rattle.std.specs.List.{AllByRecursion, flat_map, slice_range}
 use Rattle.std.proofs.lemmas.Grind.{flat_map-append}
-use Rattle.std.proofs.lemmas.List.{append_cancel_left}
+use Rattle.std.proofs.lemmas.List.{append_cancel_left, map-append}
 use Rattle.gos_lex.specs.Items.{TextAt}
 use Rattle.gos_lex.proofs.PlaceLemmas.{length_slice, slice_nothing, slice_split}
 use Rattle.gos_netlist.proofs.SequenceLemmas.{Then, IsCode, misses_as, then_first, then_rest, slice_front, same_fronts}
@@ -297,7 +297,7 @@ all_more : (V : Type 0) (Is : V → Type 0) (vs : List V) (v : V) → AllByRecur
 all_more V Is [] v all is = (is, tt)
 all_more V Is (u ∷ vs) v all is = (all.0, all_more V Is vs v all.1 is)
 
-pub one_more : (A : Item) → Lawful A → (count : ℕ) (old mid new : TextAt) (vs : List A.Value) (before left : ℕ) (v : A.Value) → before ≡ suc left
+one_more : (A : Item) → Lawful A → (count : ℕ) (old mid new : TextAt) (vs : List A.Value) (before left : ℕ) (v : A.Value) → before ≡ suc left
     → SoFar A count old mid vs before → Reads A mid new v → SoFar A count old new (vs ++ v ∷ []) left
 one_more A law count old mid new vs before left v fewer far reads =
     let spans : Spans old.text mid.at new.at (A.text v) = subst (λ (source : List ℕ). Spans source mid.at new.at (A.text v)) far.same reads.spans in
@@ -315,10 +315,20 @@ one_more A law count old mid new vs before left v fewer far reads =
           (rest_here A (λ v. lines A left) law old.text mid.at new.at v reads.is reads.keeps spans fault fails)));
     }
 
+-- one more is read into a list, of whose elements f tells what they are
+pub pushed_more : {V : Type 0} (A : Item) (f : V → A.Value) → Lawful A → (count : ℕ) (old mid new : TextAt) (vs longer : List V) (before : ℕ) (v : V) → 0 < before → longer ≡ vs ++ v ∷ []
+    → SoFar A count old mid (map f vs) before → Reads A mid new (f v) → SoFar A count old new (map f longer) (before - 1)
+pushed_more {V} A f law count old mid new vs longer before v some pushed far reads =
+    let fewer : before ≡ suc (before - 1) = omega (arith, some) in
+    let is : map f longer ≡ map f vs ++ f v ∷ [] = ap (map f) pushed ∙ map-append f vs (v ∷ []) in
+    subst (λ (ws : List A.Value). SoFar A count old new ws (before - 1)) (sym is) (one_more A law count old mid new (map f vs) before (before - 1) (f v) fewer far reads)
+
 -- where an item fails, they all do
-pub no_more : (A : Item) → Lawful A → (count : ℕ) (old mid : TextAt) (vs : List A.Value) (before left : ℕ) → before ≡ suc left
+pub no_more : (A : Item) → Lawful A → (count : ℕ) (old mid : TextAt) (vs : List A.Value) (before : ℕ) → 0 < before
     → SoFar A count old mid vs before → (fault : ObjectFault) → Fails A mid.text mid.at fault → Fails (lines A count) old.text old.at fault
-no_more A law count old mid vs before left fewer far fault fails =
+no_more A law count old mid vs before some far fault fails =
+    let left : ℕ = before - 1 in
+    let fewer : before ≡ suc left = omega (arith, some) in
     far.fails fault (subst (λ (k : ℕ). Fails (lines A k) old.text mid.at fault) (sym fewer)
     (via_fails (lines A (suc left)) (both A (λ v. lines A left)) (lines_via A law left) old.text mid.at fault
     (first_fails A (λ v. lines A left) (λ v is. let some = lawful_lines A law left in (some.some, some.some_is)) old.text mid.at fault (subst (λ (source : List ℕ). Fails A source mid.at fault) far.same fails))))

@@ -1,6 +1,7 @@
 -- What stands between this crate's own functions and lemmas, and no public clause cites. In reading order: a file uses only
 -- files above it.
 pub mod Engaged
+pub mod Turned
 pub mod Seats
 pub mod Inside
 pub mod Values

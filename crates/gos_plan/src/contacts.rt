@@ -4,7 +4,8 @@ ghost use Rattle.gos_types.specs.Types.{type_of};
 ghost use Rattle.gos_plan.specs.Kinds.{contacts_of, other_side, part_contacts, asks, serves};
 ghost use Rattle.gos_model.specs.Terms.{result_width};
 ghost use Rattle.gos_plan.specs.Seen.{part_of, operation_of};
-ghost use Rattle.gos_plan.specs.Contacts.{held_contact, as_seen, contact_for};
+ghost use Rattle.gos_plan.specs.Contacts.{held_contact};
+ghost use Rattle.gos_plan.specs.inner.Turned.{as_seen, contact_for};
 
 use crate::kinds::{Kind, Op2};
 use gos_types::{Handshake, NoMemory, Role, Ty, handshakes};

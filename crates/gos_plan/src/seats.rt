@@ -5,7 +5,7 @@ ghost use Rattle.gos_types.specs.Types.{type_of};
 ghost use Rattle.gos_plan.specs.Kinds.{contacts_of, part_contacts};
 ghost use Rattle.gos_plan.specs.Seen.{part_of, end_of, joint_of};
 ghost use Rattle.gos_plan.specs.Plans.{Plan as APlan, Joint as AJoint, IsRightAfter};
-ghost use Rattle.gos_plan.specs.Contacts.{as_seen};
+ghost use Rattle.gos_plan.specs.inner.Turned.{as_seen};
 ghost use Rattle.gos_plan.specs.inner.Seats.{free_seat, free_held, seat_in, seat_at, taken_if, TakesEnd, Meet, Stands, AreSeats, import_seats};
 
 use crate::contacts::{Contact, part_contacts, seen_contacts};

@@ -4,7 +4,8 @@ use Rattle.std.proofs.Common.{refl, sym, ◌∙◌}
 use Rattle.gos_plan.specs.Plans.{End, PartEnd, ImportEnd, ResultEnd, contact_at}
 use Rattle.gos_plan.specs.Seen.{SeenPlan, joint_of, plan_of}
 use Rattle.gos_ties.specs.declared.points.Tie.{Tie}
-use Rattle.gos_ties.specs.Ties.{Connects, Has, bare, joint}
+use Rattle.gos_ties.specs.Ties.{Connects, Has, joint}
+use Rattle.gos_ties.specs.inner.Found.{bare}
 
 same_contact : (s : SeenPlan) (e : End) → contact_at (bare s.imports s.outcome s.parts) e ≡ contact_at (plan_of s) e
 same_contact s (PartEnd i h) = refl

@@ -3,10 +3,6 @@
 -- Read first: Plans of gos_plan. A point is an end of a plan, or lies inside, where two ties may meet. There is a joint for
 -- each two ends that a path of ties connects. `Place`, `Point` and `Tie` are those of points.rt.
 use Rattle.std.specs.Prelude.{◌≡◌, ℕ, List, [], ◌∷◌, ◌⊎◌, Option, Some, None}
-use Rattle.gos_types.specs.declared.types.Ty.{Ty}
-use Rattle.gos_plan.specs.declared.kinds.Kind.{Kind}
-use Rattle.gos_plan.specs.declared.plan.PlanImport.{PlanImport}
-use Rattle.gos_plan.specs.Seen.{plan_of}
 use Rattle.gos_plan.specs.Kinds.{asks, serves}
 use Rattle.gos_plan.specs.Plans.{End, PartEnd, ImportEnd, ResultEnd, Joint, Plan, contact_at}
 use Rattle.gos_ties.specs.declared.points.Place.{Place}
@@ -61,7 +57,3 @@ joint a b = record { asking = a; serving = b }
 abbrev pub Has : List Joint → Joint → Type 0
 Has [] j = ⊥
 Has (k ∷ ks) j = (k ≡ j) ⊎ Has ks j
-
--- a plan with no joints yet
-abbrev pub bare : List PlanImport → Ty → List Kind → Plan
-bare imports outcome parts = plan_of (record { weight = 0; imports = imports; outcome = outcome; parts = parts; joints = [] })

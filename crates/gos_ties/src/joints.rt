@@ -10,8 +10,7 @@ ghost use Rattle.gos_ties.specs.Ties.{joint, Has, Connects};
 ghost use Rattle.gos_plan.specs.Seen.{joint_of, plan_of};
 ghost use Rattle.gos_ties.specs.inner.Contacts.{asked};
 ghost use Rattle.gos_ties.specs.Counted.{IsThin};
-ghost use Rattle.gos_ties.specs.Ties.{bare};
-ghost use Rattle.gos_ties.specs.inner.Found.{AreTables, do_fit, far_by, found, all_found, joints_seen};
+ghost use Rattle.gos_ties.specs.inner.Found.{bare, AreTables, do_fit, far_by, found, all_found, joints_seen};
 
 use crate::contacts::contact_at;
 use crate::joining::far_ends;

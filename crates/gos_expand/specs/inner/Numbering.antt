@@ -8,8 +8,9 @@ use Rattle.gos_plan.specs.Plans.{End, PartEnd, ImportEnd, ResultEnd, Plan}
 use Rattle.gos_expand.specs.declared.places.Place.{Place}
 use Rattle.gos_expand.specs.declared.places.Place.TheVariants as places
 use Rattle.gos_expand.specs.declared.numbering.Numbering.{Numbering}
+use Rattle.gos_expand.specs.Blocks.{total}
 use Rattle.gos_expand.specs.Gates.{part_size}
-use Rattle.gos_expand.specs.Starts.{Keep, chosen, port_size, ports_of, loose_ends, parts_start, laid_size}
+use Rattle.gos_expand.specs.Starts.{Keep, chosen, port_size, ports_of, loose_ends, parts_start}
 use Rattle.gos_expand.specs.inner.Arrivals.{AreAt, start_at}
 
 -- where each of these blocks begins, of which the first begins at net n
@@ -27,6 +28,10 @@ end_at places.OfResult h = ResultEnd h
 abbrev pub ends_from : (ℕ → End) → ℕ → ℕ → List End
 ends_from end h zero = []
 ends_from end h (suc n) = end h ∷ ends_from end (suc h) n
+
+-- how many cells there are
+abbrev pub laid_size : Keep → Plan → ℕ
+laid_size keep p = parts_start keep p + total (λ _ k. part_size k) 0 p.parts
 
 -- which directions of joints keep their registers
 abbrev pub keep_in : Numbering → Keep

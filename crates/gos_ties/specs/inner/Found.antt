@@ -5,9 +5,12 @@ use Rattle.std.specs.Prelude.{◌≡◌, ℕ, ◌≤◌, ◌⊎◌, Bool, true, 
 use Rattle.std.specs.List.{position_or_len}
 use Rattle.gos_types.specs.declared.shakes.Role.{Role}
 use Rattle.gos_types.specs.declared.shakes.Role.TheVariants.{Serve, Ask}
+use Rattle.gos_types.specs.declared.types.Ty.{Ty}
+use Rattle.gos_plan.specs.declared.kinds.Kind.{Kind}
+use Rattle.gos_plan.specs.declared.plan.PlanImport.{PlanImport}
 use Rattle.gos_plan.specs.declared.plan.End as declared_end
 use Rattle.gos_plan.specs.declared.plan.Joint as declared_joint
-use Rattle.gos_plan.specs.Seen.{end_of, joint_of}
+use Rattle.gos_plan.specs.Seen.{end_of, joint_of, plan_of}
 use Rattle.gos_plan.specs.Kinds.{Contact}
 use Rattle.gos_plan.specs.Plans.{End, Joint, Plan, contact_at}
 use Rattle.gos_ties.specs.declared.points.Point.{Point}
@@ -17,6 +20,10 @@ use Rattle.gos_ties.specs.declared.joining.Bond.{Bond}
 use Rattle.gos_ties.specs.declared.joints.Tables.{Tables}
 use Rattle.gos_ties.specs.Ties.{joint, end_at}
 use Rattle.gos_ties.specs.inner.Joined.{bond, far_at, touches, AreFar}
+
+-- a plan with no joints yet
+abbrev pub bare : List PlanImport → Ty → List Kind → Plan
+bare imports outcome parts = plan_of (record { weight = 0; imports = imports; outcome = outcome; parts = parts; joints = [] })
 
 -- the number of a point: its place among those that have one
 abbrev pub code : List Point → Point → ℕ

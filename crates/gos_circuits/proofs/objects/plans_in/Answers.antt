@@ -1,4 +1,4 @@
-use Rattle.std.proofs.Common.{◌≡◌, ◌+◌, ◌∙◌, ◌∷◌, [], ℕ, List, drop, length, ap, sym, subst, arith}
+use Rattle.std.proofs.Common.{◌≡◌, ◌+◌, ◌∙◌, ◌∷◌, [], List, drop, length, ap, sym, subst, arith}
 use Rattle.std.specs.Prelude.{IfSome}
 use Rattle.std.proofs.lemmas.List.{drop_all, length-append}
 use Rattle.std.proofs.lemmas.Result.{err_from_is_err_and}
@@ -6,7 +6,7 @@ use Rattle.gos_plan.specs.Seen.{SeenPlan}
 use Rattle.gos_link.specs.declared.build.Instance.{Instance}
 use Rattle.gos_link.proofs.CountedLemmas.{limits_more}
 use Rattle.gos_command.proofs.EndLemmas.{of_stopped}
-use Rattle.gos_circuits.specs.Objects.{IsObjectFault, RejectsObject}
+use Rattle.gos_circuits.specs.Objects.{RejectsObject}
 use Rattle.gos_circuits.specs.inner.Reading.{AreReadBefore}
 use Rattle.gos_circuits.proofs.ObjectLemmas.{next_instance, one_read, next_rejected, all_read, same_read, same_rejected}
 use Rattle.gos_circuits.proofs.objects.plans_in.Goals as goal

@@ -1,8 +1,7 @@
-use Rattle.std.proofs.Common.{◌≡◌, ◌∙◌, ◌∷◌, [], ℕ, List, Err, refl, ap, sym, subst}
+use Rattle.std.proofs.Common.{◌≡◌, ◌∙◌, ℕ, List, Err, refl, ap, sym, subst}
 use Rattle.std.proofs.lemmas.Result.{err_from_is_err_and}
 use Rattle.gos_outside.specs.Files.{with_file, SameBut}
 use Rattle.gos_outside.specs.Faults.{WriteFault}
-use Rattle.gos_outside.specs.OtherFiles.{OthersSame}
 use Rattle.gos_lines.specs.Lines.{Word}
 use Rattle.gos_netlist.specs.NetText.{text_of}
 use Rattle.gos_plan.specs.Seen.{plan_of}

@@ -1,5 +1,5 @@
 use Rattle.std.proofs.Common.{◌≡◌, ◌++◌, take, map}
-use Rattle.gos_plan.specs.Contacts.{contact_for}
+use Rattle.gos_plan.specs.inner.Turned.{contact_for}
 use Rattle.gos_plan.proofs.contacts.add_contacts.Given as goal
 
 -- the handshakes so far

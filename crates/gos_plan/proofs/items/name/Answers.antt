@@ -1,4 +1,4 @@
-use Rattle.std.proofs.Common.{◌≡◌, ◌∷◌, [], ◌∙◌, ℕ, List, sym, subst}
+use Rattle.std.proofs.Common.{◌≡◌, ◌∷◌, [], ◌∙◌, ℕ, List, refl, sym, subst}
 use Rattle.std.specs.List.{slice_range}
 use Rattle.gos_lex.specs.Items.{IsJust, Misses}
 use Rattle.gos_lex.specs.Names.{IsSpelled, IsNameOrWord}
@@ -9,7 +9,7 @@ use Rattle.gos_plan.proofs.items.name.Goals as goal
 pub returns-in-Err-clause-wrong : goal.returns-in-Err-clause-wrong
 returns-in-Err-clause-wrong c =
     let old = c.args.cursor.now in
-    name_misses old.text old.at c.in-Err.at (no_name old.text old.at c.in-Err.at c.in-Err.ensures.wrong c.in-Err.ensures.none)
+    name_misses old.text old.at c.in-Err.at (no_name 32 refl old.text old.at c.in-Err.at c.in-Err.ensures.wrong c.in-Err.ensures.none)
 
 pub returns-in-Ok-new-clause-read : goal.returns-in-Ok-new-clause-read
 returns-in-Ok-new-clause-read c =
@@ -32,4 +32,4 @@ returns-in-Err-word-clause-wrong c =
     let old = c.args.cursor.now in
     let mid = c.name.new.self in
     let missed = subst (λ (text : List ℕ). Misses (IsJust (32 ∷ [])) text mid.at c.in-Err-word.at) c.in-Ok.ensures.text c.in-Err-word.ensures.wrong in
-    name_misses old.text old.at c.in-Err-word.at (name_not_ended old.text old.at mid.at c.in-Err-word.at c.in-Ok.ensures.passes c.in-Ok.ensures.name missed)
+    name_misses old.text old.at c.in-Err-word.at (name_not_ended 32 refl old.text old.at mid.at c.in-Err-word.at c.in-Ok.ensures.passes c.in-Ok.ensures.name missed)

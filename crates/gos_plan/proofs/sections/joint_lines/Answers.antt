@@ -1,27 +1,18 @@
-use Rattle.std.proofs.Common.{◌≡◌, ◌-◌, ◌∷◌, ◌++◌, [], ℕ, suc, List, map, ap, subst, sym, ◌∙◌, arith}
-use Rattle.std.proofs.lemmas.List.{map-append}
+use Rattle.std.proofs.Common.{map, arith}
 use Rattle.std.proofs.lemmas.Result.{err_from_is_err_and}
-use Rattle.gos_plan.specs.Plans.{Joint}
 use Rattle.gos_plan.specs.Seen.{joint_of}
 use Rattle.gos_plan.specs.ObjectItems.{joint_line}
-use Rattle.gos_plan.proofs.TextLemmas.{SoFar, one_more, no_more, all_read}
+use Rattle.gos_plan.proofs.TextLemmas.{pushed_more, no_more, all_read}
 use Rattle.gos_plan.proofs.LineLemmas.{lawful_joint}
 use Rattle.gos_plan.proofs.sections.joint_lines.Goals as goal
 
 pub loop-left-preserved : goal.loop-left-preserved
 loop-left-preserved c =
-    let left : ℕ = c.loop-left.left - 1 in
-    let fewer : c.loop-left.left ≡ suc left = omega (arith, c.loop-left-test.true) in
-    let known = one_more joint_line lawful_joint c.args.count c.args.cursor.now c.loop-left.cursor c.joint.new.cursor (map joint_of c.loop-left.joints.items) c.loop-left.left left (joint_of c.in_ok-joint.field-0) fewer c.loop-left.invariant c.in_ok-joint.ensures.read in
-    let longer : map joint_of c.push.new.self.items ≡ map joint_of c.loop-left.joints.items ++ joint_of c.in_ok-joint.field-0 ∷ [] =
-    ap (map joint_of) c.in_ok-push.ensures.items ∙ map-append joint_of c.loop-left.joints.items (c.in_ok-joint.field-0 ∷ []) in
-    subst (λ (vs : List Joint). SoFar joint_line c.args.count c.args.cursor.now c.joint.new.cursor vs left) (sym longer) known
+    pushed_more joint_line joint_of lawful_joint c.args.count c.args.cursor.now c.loop-left.cursor c.joint.new.cursor c.loop-left.joints.items c.push.new.self.items c.loop-left.left c.in_ok-joint.field-0 (omega (arith, c.loop-left-test.true)) c.in_ok-push.ensures.items c.loop-left.invariant c.in_ok-joint.ensures.read
 
 pub returns-in_err-joint-clause-wrong : goal.returns-in_err-joint-clause-wrong
 returns-in_err-joint-clause-wrong c =
-    let left : ℕ = c.loop-left.left - 1 in
-    let fewer : c.loop-left.left ≡ suc left = omega (arith, c.loop-left-test.true) in
-    let known = no_more joint_line lawful_joint c.args.count c.args.cursor.now c.loop-left.cursor (map joint_of c.loop-left.joints.items) c.loop-left.left left fewer c.loop-left.invariant c.in_err-joint.field-0.0 c.in_err-joint.ensures.wrong in
+    let known = no_more joint_line lawful_joint c.args.count c.args.cursor.now c.loop-left.cursor (map joint_of c.loop-left.joints.items) c.loop-left.left (omega (arith, c.loop-left-test.true)) c.loop-left.invariant c.in_err-joint.field-0.0 c.in_err-joint.ensures.wrong in
     let p = err_from_is_err_and c.from_residual.result c.from_residual.ensures.1 in
     rw (p.1, p.2) known
 

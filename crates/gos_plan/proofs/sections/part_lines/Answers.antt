@@ -1,31 +1,22 @@
-use Rattle.std.proofs.Common.{◌≡◌, ◌-◌, ◌∷◌, ◌++◌, [], ℕ, suc, List, All, map, ap, subst, sym, ◌∙◌, arith}
-use Rattle.std.proofs.lemmas.List.{map-append}
+use Rattle.std.proofs.Common.{All, map, subst, sym, arith}
 use Rattle.std.proofs.lemmas.Result.{err_from_is_err_and}
 use Rattle.std.proofs.lemmas.List.Elements.{All-push}
 use Rattle.gos_plan.specs.Ranges.{IsInRange}
-use Rattle.gos_plan.specs.Kinds.{Part}
 use Rattle.gos_plan.specs.Seen.{part_of}
 use Rattle.gos_plan.specs.ObjectItems.{part_line}
-use Rattle.gos_plan.proofs.TextLemmas.{SoFar, one_more, no_more, all_read}
+use Rattle.gos_plan.proofs.TextLemmas.{pushed_more, no_more, all_read}
 use Rattle.gos_plan.proofs.PartLemmas.{lawful_part}
 use Rattle.gos_plan.proofs.sections.part_lines.Goals as goal
 
 pub loop-left-preserved : goal.loop-left-preserved
-loop-left-preserved c =
-    let left : ℕ = c.loop-left.left - 1 in
-    let fewer : c.loop-left.left ≡ suc left = omega (arith, c.loop-left-test.true) in
-    let known = one_more part_line lawful_part c.args.count c.args.cursor.now c.loop-left.cursor c.part.new.cursor (map part_of c.loop-left.parts.items) c.loop-left.left left (part_of c.in_ok-part.field-0) fewer c.loop-left.invariant.0 c.in_ok-part.ensures.read in
-    let longer : map part_of c.push.new.self.items ≡ map part_of c.loop-left.parts.items ++ part_of c.in_ok-part.field-0 ∷ [] =
-    ap (map part_of) c.in_ok-push.ensures.items ∙ map-append part_of c.loop-left.parts.items (c.in_ok-part.field-0 ∷ []) in (
-      subst (λ (vs : List Part). SoFar part_line c.args.count c.args.cursor.now c.part.new.cursor vs left) (sym longer) known,
-      subst (All IsInRange) (sym c.in_ok-push.ensures.items) (All-push IsInRange c.loop-left.parts.items c.in_ok-part.field-0 c.loop-left.invariant.1 c.in_ok-part.ensures.in_range),
-    )
+loop-left-preserved c = (
+  pushed_more part_line part_of lawful_part c.args.count c.args.cursor.now c.loop-left.cursor c.part.new.cursor c.loop-left.parts.items c.push.new.self.items c.loop-left.left c.in_ok-part.field-0 (omega (arith, c.loop-left-test.true)) c.in_ok-push.ensures.items c.loop-left.invariant.0 c.in_ok-part.ensures.read,
+  subst (All IsInRange) (sym c.in_ok-push.ensures.items) (All-push IsInRange c.loop-left.parts.items c.in_ok-part.field-0 c.loop-left.invariant.1 c.in_ok-part.ensures.in_range),
+)
 
 pub returns-in_err-part-clause-wrong : goal.returns-in_err-part-clause-wrong
 returns-in_err-part-clause-wrong c =
-    let left : ℕ = c.loop-left.left - 1 in
-    let fewer : c.loop-left.left ≡ suc left = omega (arith, c.loop-left-test.true) in
-    let known = no_more part_line lawful_part c.args.count c.args.cursor.now c.loop-left.cursor (map part_of c.loop-left.parts.items) c.loop-left.left left fewer c.loop-left.invariant.0 c.in_err-part.field-0.0 c.in_err-part.ensures.wrong in
+    let known = no_more part_line lawful_part c.args.count c.args.cursor.now c.loop-left.cursor (map part_of c.loop-left.parts.items) c.loop-left.left (omega (arith, c.loop-left-test.true)) c.loop-left.invariant.0 c.in_err-part.field-0.0 c.in_err-part.ensures.wrong in
     let p = err_from_is_err_and c.from_residual.result c.from_residual.ensures.1 in
     rw (p.1, p.2) known
 

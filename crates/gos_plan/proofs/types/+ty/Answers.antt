@@ -3,17 +3,17 @@ use Rattle.std.proofs.lemmas.Result.{IfErr-weaker, IfOk-weaker, err_from_is_err_
 use Rattle.gos_types.specs.Types.{type_of, Com}
 use Rattle.gos_plan.specs.declared.word.TypeWord.{TypeWord}
 use Rattle.gos_plan.specs.declared.word.TypeWord.TheVariants as types
-use Rattle.gos_plan.specs.TextItems.{Fails, Reads, both, exactly}
-use Rattle.gos_plan.specs.ObjectItems.{shakes, word_of_type, space, typed, forks, sized_by, type_word, type_operands}
+use Rattle.gos_plan.specs.TextItems.{Fails, Reads, exactly}
+use Rattle.gos_plan.specs.ObjectItems.{word_of_type, space, typed, forks, sized_by, type_word, type_operands}
 use Rattle.gos_plan.proofs.TextLemmas.{first_fails, rest_fails, both_read, lawful_exactly, via_fails, reads_as}
 use Rattle.gos_plan.proofs.TypeLemmas.{lawful_word, lawful_typed, by_word, typed_via, text_parts}
-use Rattle.gos_plan.proofs.OperandLemmas.{com_via, exp_via, var_via, pair_via, fun_via, some_operands, operands_fail}
+use Rattle.gos_plan.proofs.OperandLemmas.{both_types, second_type, com_via, exp_via, var_via, pair_via, fun_via, some_operands, operands_fail}
 use Rattle.gos_plan.proofs.types.+ty.Goals as goal
 
 pub fork-returns-in_err-exact-clause-wrong : goal.fork-returns-in_err-exact-clause-wrong
 fork-returns-in_err-exact-clause-wrong t c =
     let old = c.args.cursor.now in
-    let known = first_fails space (λ u. both (typed 32 (c.args.before + 1)) (λ a. typed c.args.end (c.args.before + shakes a))) (λ u is. ((Com, Com), (tt, tt))) old.text old.at c.in_err-exact.field-0.0 c.in_err-exact.ensures.wrong in
+    let known = first_fails space (λ u. both_types c.args.end c.args.before) (λ u is. ((Com, Com), (tt, tt))) old.text old.at c.in_err-exact.field-0.0 c.in_err-exact.ensures.wrong in
     let p = err_from_is_err_and c.from_residual.result c.from_residual.ensures.1 in
     rw (p.1, p.2) known
 
@@ -21,8 +21,8 @@ pub fork-returns-in_err-a-clause-wrong : goal.fork-returns-in_err-a-clause-wrong
 fork-returns-in_err-a-clause-wrong t c =
     let mid = c.exact.new.cursor in
     let fault = c.in_err-a.field-0.0 in
-    let first = first_fails (typed 32 (c.args.before + 1)) (λ a. typed c.args.end (c.args.before + shakes a)) (λ a is. (Com, tt)) mid.text mid.at fault c.in_err-a.ensures.wrong in
-    let known = rest_fails space (λ u. both (typed 32 (c.args.before + 1)) (λ a. typed c.args.end (c.args.before + shakes a))) (lawful_exactly (32 ∷ [])) c.args.cursor.now mid tt c.in_ok-exact.ensures.read fault first in
+    let first = first_fails (typed 32 (c.args.before + 1)) (second_type c.args.end c.args.before) (λ a is. (Com, tt)) mid.text mid.at fault c.in_err-a.ensures.wrong in
+    let known = rest_fails space (λ u. both_types c.args.end c.args.before) (lawful_exactly (32 ∷ [])) c.args.cursor.now mid tt c.in_ok-exact.ensures.read fault first in
     let p = err_from_is_err_and c.from_residual-in_err-a.result c.from_residual-in_err-a.ensures.1 in
     rw (p.1, p.2) known
 
@@ -33,8 +33,8 @@ fork-returns-in_err-b-clause-wrong t c =
     let last = c.ty.new.cursor in
     let fault = c.in_err-b.field-0.0 in
     let here = subst (λ (n : ℕ). Fails (typed c.args.end n) last.text last.at fault) c.behind.ensures.is c.in_err-b.ensures.wrong in
-    let second = rest_fails (typed 32 (c.args.before + 1)) (λ a. typed c.args.end (c.args.before + shakes a)) (lawful_typed 32 (c.args.before + 1) refl) mid last (type_of c.in_ok-a.a) c.in_ok-a.ensures.read fault here in
-    let known = rest_fails space (λ u. both (typed 32 (c.args.before + 1)) (λ a. typed c.args.end (c.args.before + shakes a))) (lawful_exactly (32 ∷ [])) old mid tt c.in_ok-exact.ensures.read fault second in
+    let second = rest_fails (typed 32 (c.args.before + 1)) (second_type c.args.end c.args.before) (lawful_typed 32 (c.args.before + 1) refl) mid last (type_of c.in_ok-a.a) c.in_ok-a.ensures.read fault here in
+    let known = rest_fails space (λ u. both_types c.args.end c.args.before) (lawful_exactly (32 ∷ [])) old mid tt c.in_ok-exact.ensures.read fault second in
     let p = err_from_is_err_and c.from_residual-in_err-b.result c.from_residual-in_err-b.ensures.1 in
     rw (p.1, p.2) known
 
@@ -47,46 +47,41 @@ fork-returns-clause-read t c =
     let a = type_of c.in_ok-a.a in
     let b = type_of c.in_ok-b.b in
     let second = subst (λ (n : ℕ). Reads (typed c.args.end n) last new b) c.behind.ensures.is c.in_ok-b.ensures.read in
-    both_read space (λ u. both (typed 32 (c.args.before + 1)) (λ a. typed c.args.end (c.args.before + shakes a))) old mid new tt (a, b) c.in_ok-exact.ensures.read
-    (both_read (typed 32 (c.args.before + 1)) (λ a. typed c.args.end (c.args.before + shakes a)) mid last new a b c.in_ok-a.ensures.read second)
+    both_read space (λ u. both_types c.args.end c.args.before) old mid new tt (a, b) c.in_ok-exact.ensures.read
+    (both_read (typed 32 (c.args.before + 1)) (second_type c.args.end c.args.before) mid last new a b c.in_ok-a.ensures.read second)
 
 pub operands-returns-in_err-exact-in-Com-clause-wrong :
     goal.operands-returns-in_err-exact-in-Com-clause-wrong
 operands-returns-in_err-exact-in-Com-clause-wrong t c =
-    let old = c.args.cursor.now in
-    let known = operands_fail c.args.end c.args.before _ types.Com c.in-Com.is (exactly (c.args.end ∷ [])) (com_via c.args.end c.args.before) old.text old.at c.in_err-exact-in-Com.field-0.0 c.in_err-exact-in-Com.ensures.wrong in
+    let known = operands_fail c.args.end c.args.before _ types.Com c.in-Com.is (exactly (c.args.end ∷ [])) (com_via c.args.end c.args.before) c.args.cursor.now.text c.args.cursor.now.at c.in_err-exact-in-Com.field-0.0 c.in_err-exact-in-Com.ensures.wrong in
     let p = err_from_is_err_and c.from_residual.result c.from_residual.ensures.1 in
     rw (p.1, p.2) known
 
 pub operands-returns-in_err-w-in-Exp-clause-wrong :
     goal.operands-returns-in_err-w-in-Exp-clause-wrong
 operands-returns-in_err-w-in-Exp-clause-wrong t c =
-    let old = c.args.cursor.now in
-    let known = operands_fail c.args.end c.args.before _ types.Exp c.in-Exp.is (sized_by c.args.end) (exp_via c.args.end c.args.before) old.text old.at c.in_err-w-in-Exp.field-0.0 c.in_err-w-in-Exp.ensures.wrong in
+    let known = operands_fail c.args.end c.args.before _ types.Exp c.in-Exp.is (sized_by c.args.end) (exp_via c.args.end c.args.before) c.args.cursor.now.text c.args.cursor.now.at c.in_err-w-in-Exp.field-0.0 c.in_err-w-in-Exp.ensures.wrong in
     let p = err_from_is_err_and c.from_residual-in_err-w-in-Exp.result c.from_residual-in_err-w-in-Exp.ensures.1 in
     rw (p.1, p.2) known
 
 pub operands-returns-in_err-w-in-Var-clause-wrong :
     goal.operands-returns-in_err-w-in-Var-clause-wrong
 operands-returns-in_err-w-in-Var-clause-wrong t c =
-    let old = c.args.cursor.now in
-    let known = operands_fail c.args.end c.args.before _ types.Var c.in-Var.is (sized_by c.args.end) (var_via c.args.end c.args.before) old.text old.at c.in_err-w-in-Var.field-0.0 c.in_err-w-in-Var.ensures.wrong in
+    let known = operands_fail c.args.end c.args.before _ types.Var c.in-Var.is (sized_by c.args.end) (var_via c.args.end c.args.before) c.args.cursor.now.text c.args.cursor.now.at c.in_err-w-in-Var.field-0.0 c.in_err-w-in-Var.ensures.wrong in
     let p = err_from_is_err_and c.from_residual-in_err-w-in-Var.result c.from_residual-in_err-w-in-Var.ensures.1 in
     rw (p.1, p.2) known
 
 pub operands-returns-in_err-a-in-Pair-clause-wrong :
     goal.operands-returns-in_err-a-in-Pair-clause-wrong
 operands-returns-in_err-a-in-Pair-clause-wrong t c =
-    let old = c.args.cursor.now in
-    let known = operands_fail c.args.end c.args.before _ types.Pair c.in-Pair.is (forks c.args.end c.args.before) (pair_via c.args.end c.args.before) old.text old.at c.in_err-a-in-Pair.field-0.0 c.in_err-a-in-Pair.ensures.wrong in
+    let known = operands_fail c.args.end c.args.before _ types.Pair c.in-Pair.is (forks c.args.end c.args.before) (pair_via c.args.end c.args.before) c.args.cursor.now.text c.args.cursor.now.at c.in_err-a-in-Pair.field-0.0 c.in_err-a-in-Pair.ensures.wrong in
     let p = err_from_is_err_and c.from_residual-in_err-a-in-Pair.result c.from_residual-in_err-a-in-Pair.ensures.1 in
     rw (p.1, p.2) known
 
 pub operands-returns-in_err-a-in-Fun-clause-wrong :
     goal.operands-returns-in_err-a-in-Fun-clause-wrong
 operands-returns-in_err-a-in-Fun-clause-wrong t c =
-    let old = c.args.cursor.now in
-    let known = operands_fail c.args.end c.args.before _ types.Fun c.in-Fun.is (forks c.args.end c.args.before) (fun_via c.args.end c.args.before) old.text old.at c.in_err-a-in-Fun.field-0.0 c.in_err-a-in-Fun.ensures.wrong in
+    let known = operands_fail c.args.end c.args.before _ types.Fun c.in-Fun.is (forks c.args.end c.args.before) (fun_via c.args.end c.args.before) c.args.cursor.now.text c.args.cursor.now.at c.in_err-a-in-Fun.field-0.0 c.in_err-a-in-Fun.ensures.wrong in
     let p = err_from_is_err_and c.from_residual-in_err-a-in-Fun.result c.from_residual-in_err-a-in-Fun.ensures.1 in
     rw (p.1, p.2) known
 

@@ -1,7 +1,6 @@
 use Rattle.std.proofs.Common.{◌≡◌, ◌++◌, map, drop}
 use Rattle.gos_plan.specs.Seen.{joint_of}
-use Rattle.gos_ties.specs.Ties.{bare}
-use Rattle.gos_ties.specs.inner.Found.{far_by, all_found}
+use Rattle.gos_ties.specs.inner.Found.{bare, far_by, all_found}
 use Rattle.gos_ties.proofs.joints.joints_of.Given as goal
 
 -- with the joints at the ties that are left they are all of them

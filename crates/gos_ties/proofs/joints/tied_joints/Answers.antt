@@ -1,6 +1,7 @@
 use Rattle.std.proofs.Common.{List, sym, subst}
 use Rattle.gos_plan.specs.Plans.{Joint}
-use Rattle.gos_ties.specs.Ties.{Has, joint, bare}
+use Rattle.gos_ties.specs.Ties.{Has, joint}
+use Rattle.gos_ties.specs.inner.Found.{bare}
 use Rattle.gos_ties.proofs.JointLemmas.{joints_found}
 use Rattle.gos_ties.proofs.RightLemmas.{right_joints}
 use Rattle.gos_ties.proofs.joints.tied_joints.Goals as goal

@@ -4,7 +4,8 @@ use Rattle.gos_plan.specs.declared.kinds.Kind.{Kind}
 use Rattle.gos_plan.specs.declared.plan.PlanImport.{PlanImport}
 use Rattle.gos_plan.specs.Plans.{End, IsRight}
 use Rattle.gos_plan.specs.Seen.{SeenPlan, joint_of, plan_of}
-use Rattle.gos_ties.specs.Ties.{Connects, Has, bare, joint}
+use Rattle.gos_ties.specs.Ties.{Connects, Has, joint}
+use Rattle.gos_ties.specs.inner.Found.{bare}
 use Rattle.gos_ties.proofs.FaultLemmas.{no_fault}
 use Rattle.gos_ties.proofs.PlanLemmas.{of_plan}
 use Rattle.gos_ties.proofs.plans.tied_plan.Goals as goal
