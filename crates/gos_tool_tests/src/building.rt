@@ -1,17 +1,10 @@
-// Worked builds, and files that are refused; the other commands once each; and a store and a sink that fail.
+// Worked builds, and files that are refused; and a store and a sink that fail.
 use crate::running::{Left, events, held, ran, words_of};
+use crate::texts::{ONE, SKIP_OBJECT, TWO};
 use gos_outside::{MemorySink, MemoryStore, SureSink, SureStore};
 use gos_tool::run;
 use std::alloc::{AllocError, Global};
 use std::test::Fail;
-
-/// A build of one instance.
-const ONE: &[u8] =
-    b"gosbuild 1\ninst main main.gos main.obj\nroot main\nnet out.net\nverilog out.v\npulses in.pls\ntrace out.trc\n";
-
-/// A build of two instances, of which the second serves the import `e` of the first.
-const TWO: &[u8] =
-    b"gosbuild 1\ninst main main.gos main.obj\ninst k k.gos k.obj\nbind main e k\nroot main\nnet out.net\nverilog out.v\npulses in.pls\ntrace out.trc\n";
 
 /// A build of two instances, of which the second serves the import `f` of the first.
 const CALLED: &[u8] =
@@ -33,18 +26,6 @@ const PULSES: &[u8] = b"cycles 2000\nnext 0 main.run\nnext 0 c.done\nnext 0 d.do
 const EVENTS: &[u8] = b"main.run\nc.run\nc.done\nd.run\nd.done\nmain.done\ncycles 2000\n";
 
 const RUN: &[u8] = b"cycles 2000\nnext 0 main.run\n";
-
-/// The object file of `export skip : com`.
-const SKIP_OBJECT: &[u8] =
-    b"gosobj 1\nweight 5\nimports 0\nresult com\nparts 1\nskip\njoints 1\nr.0 p0.0\nend\n";
-
-const TWO_REGISTERS: &[u8] =
-    b"gosnet 1\ncells 4\ninput 1\nor 1 0 2\nreg 1 1\nreg 1 1\nports 1\ngive main com 0 3\nend\n";
-
-const RING: &[u8] =
-    b"gosnet 1\ncells 4\ninput 1\nor 1 0 2\nand 1 1 0\nreg 1 1\nports 1\ngive main com 0 3\nend\n";
-
-const SHORT_TRACE: &[u8] = b"0 main.run\n1 main.done\n2 main.done\ncycles 3\n";
 
 const BUILD: [&str; 2] = ["build", "b.txt"];
 
@@ -273,61 +254,6 @@ fn build_file_is_told_by_its_line(rt: HostRuntime) -> Result<(), Fail> {
     let files: [(&[u8], &[u8]); 2] = [(b"b.txt", b""), (b"in.pls", RUN)];
     let empty = ran(rt.alloc(), &BUILD, &files)?;
     assert!(rt; empty.ended(2, b"b.txt: B1 line 1\n"));
-    Ok(())
-}
-
-// Runs `sim` over this netlist.
-fn simulated(alloc: Global, net: &[u8]) -> Result<Left, AllocError> {
-    let files: [(&[u8], &[u8]); 2] = [(b"a.net", net), (b"in.pls", b"cycles 3\nnext 0 main.run\n")];
-    ran(alloc, &["sim", "a.net", "in.pls", "out.trc"], &files)
-}
-
-#[test]
-fn netlist_is_simulated(rt: HostRuntime) -> Result<(), Fail> {
-    let left = simulated(rt.alloc(), TWO_REGISTERS)?;
-    assert!(rt; left.ended(0, b"ok cycles 3 pulses 3 unused 0\n"));
-    assert!(rt; left.holds(b"out.trc", SHORT_TRACE));
-    Ok(())
-}
-
-#[test]
-fn ring_of_gates_is_refused(rt: HostRuntime) -> Result<(), Fail> {
-    let left = simulated(rt.alloc(), RING)?;
-    assert!(rt; left.ended(2, b"a.net: K1 cycle 1 2\n") && !left.has(b"out.trc"));
-    Ok(())
-}
-
-// Sources, and what `check main.gos` prints for each.
-const CHECKED: [(&[u8], &[u8]); 6] = [
-    (SOURCE, b"ok weight 17\n"),
-    (
-        b"import c : com export c || c : com",
-        b"main.gos: C5 c at 22..23 and 27..28\n",
-    ),
-    (
-        b"export 32:5 : exp 5",
-        b"main.gos: C6 at 7..11 width 5 value 32\n",
-    ),
-    (
-        b"export skip : exp 5",
-        b"main.gos: C2 at 7..11 want exp 5 got com\n",
-    ),
-    (b"", b"main.gos: S1 at 0\n"),
-    (b"?", b"main.gos: L2 byte at 0\n"),
-];
-
-// Whether `check main.gos` prints this for a source.
-fn is_checked(alloc: Global, source: &[u8], printed: &[u8]) -> Result<bool, AllocError> {
-    let files: [(&[u8], &[u8]); 3] = [(b"b.txt", ONE), (b"main.gos", source), (b"in.pls", PULSES)];
-    let left = ran(alloc, &["check", "main.gos"], &files)?;
-    Ok(left.printed(printed))
-}
-
-#[test]
-fn sources_are_checked(rt: HostRuntime) -> Result<(), Fail> {
-    for (source, printed) in CHECKED.iter() {
-        assert!(rt; is_checked(rt.alloc(), source, printed)?);
-    }
     Ok(())
 }
 

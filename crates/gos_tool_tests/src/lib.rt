@@ -15,3 +15,5 @@ mod linking;
 mod rows;
 #[cfg(test)]
 mod running;
+#[cfg(test)]
+mod texts;

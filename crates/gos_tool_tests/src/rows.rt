@@ -1,5 +1,6 @@
 // Worked rows of the commands `check`, `compile`, `link` and `sim`: files, and what is printed.
 use crate::running::{Left, ran};
+use crate::texts::{ONE, SKIP_OBJECT};
 use std::alloc::{AllocError, Global};
 use std::test::Fail;
 
@@ -16,14 +17,6 @@ const TRACE: &[u8] = b"0 main.run\n1 main.done\n2 main.done\ncycles 3\n";
 /// The trace under a second run in the second cycle.
 const TRACE_OF_TWO: &[u8] = b"0 main.run\n1 main.done\n1 main.run\n2 main.done\ncycles 3\n";
 
-/// A build file of one instance.
-const BUILD: &[u8] =
-    b"gosbuild 1\ninst main main.gos main.obj\nroot main\nnet out.net\nverilog out.v\npulses in.pls\ntrace out.trc\n";
-
-/// The object file of `export skip : com`.
-const SKIP_OBJECT: &[u8] =
-    b"gosobj 1\nweight 5\nimports 0\nresult com\nparts 1\nskip\njoints 1\nr.0 p0.0\nend\n";
-
 // Runs `check` over this source.
 fn checked(alloc: Global, source: &[u8]) -> Result<Left, AllocError> {
     let files: [(&[u8], &[u8]); 1] = [(b"main.gos", source)];
@@ -37,7 +30,11 @@ fn simulated(alloc: Global, net: &[u8], pulses: &[u8]) -> Result<Left, AllocErro
 }
 
 // Sources, and the line that each is told.
-const WEIGHTS: [(&str, &str); 6] = [
+const WEIGHTS: [(&str, &str); 9] = [
+    (
+        "import c : com import d : com export c ; d : com\n",
+        "ok weight 17\n",
+    ),
     (
         "import c : com import d : com export c ; d ; c : com",
         "ok weight 27\n",
@@ -59,6 +56,14 @@ const WEIGHTS: [(&str, &str); 6] = [
         "import v : var 8 export v := !v + 1:8 : com",
         "ok weight 34\n",
     ),
+    (
+        "import rep : exp 8 -> com -> com import tick : com import phase_a : com import phase_b : com import size : exp 8 export rep size (phase_a ; phase_b ; tick) : com",
+        "ok weight 55\n",
+    ),
+    (
+        "export fun n : exp 8 . fun b : com . new i : 8 in (i := n ; while not (!i = 0:8) do (b ; i := !i - 1:8)) : exp 8 -> com -> com",
+        "ok weight 112\n",
+    ),
 ];
 
 #[test]
@@ -71,7 +76,7 @@ fn sources_have_these_weights(rt: HostRuntime) -> Result<(), Fail> {
 }
 
 // Sources that are rejected, and the line that each is told.
-const REJECTED: [(&str, &str); 5] = [
+const REJECTED: [(&str, &str); 7] = [
     (
         "import c : com export c || c : com",
         "main.gos: C5 c at 22..23 and 27..28\n",
@@ -84,6 +89,11 @@ const REJECTED: [(&str, &str); 5] = [
         "export 32:5 : exp 5",
         "main.gos: C6 at 7..11 width 5 value 32\n",
     ),
+    (
+        "export skip : exp 5",
+        "main.gos: C2 at 7..11 want exp 5 got com\n",
+    ),
+    ("?", "main.gos: L2 byte at 0\n"),
     ("", "main.gos: S1 at 0\n"),
     ("import f : com ->", "main.gos: S1 at 17\n"),
 ];
@@ -94,6 +104,20 @@ fn sources_are_rejected(rt: HostRuntime) -> Result<(), Fail> {
         let left = checked(rt.alloc(), source.as_bytes())?;
         assert!(rt; left.ended(2, line.as_bytes()));
     }
+    Ok(())
+}
+
+// `export`, and behind it more opening brackets than the parser takes.
+fn nested(alloc: Global) -> Result<Vec<u8>, AllocError> {
+    let mut source = b"export ".to_vec(alloc)?;
+    source.resize(1107, b'(')?;
+    Ok(source)
+}
+
+#[test]
+fn source_that_is_too_deep_is_rejected(rt: HostRuntime) -> Result<(), Fail> {
+    let deep = checked(rt.alloc(), &nested(rt.alloc())?)?;
+    assert!(rt; deep.ended(2, b"main.gos: S2 depth at 1031\n"));
     Ok(())
 }
 
@@ -120,7 +144,7 @@ fn rejected_source_is_not_compiled(rt: HostRuntime) -> Result<(), Fail> {
 
 // Runs `link` over a build file of one instance with this object.
 fn linked(alloc: Global, object: &[u8]) -> Result<Left, AllocError> {
-    let files: [(&[u8], &[u8]); 2] = [(b"b.txt", BUILD), (b"main.obj", object)];
+    let files: [(&[u8], &[u8]); 2] = [(b"b.txt", ONE), (b"main.obj", object)];
     ran(alloc, &["link", "b.txt"], &files)
 }
 

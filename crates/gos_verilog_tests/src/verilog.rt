@@ -1,10 +1,10 @@
 // The texts of two circuits, written by hand.
 ghost use Rattle.std.specs.Prelude.{◌≡◌, ◌≤◌, ◌<◌, ◌^◌, IfOk, length};
 
-use crate::circuits::{bit, latch, port};
 use gos_lex::LexFault;
 use gos_netcheck::accept;
 use gos_netlist::{Cell, Gate, Ground, NetId, Netlist, Port, Side};
+use gos_samples::{bit, latch, port};
 use gos_verilog::{VFault, read_verilog, write_verilog};
 use std::alloc::{AllocError, Global};
 use std::test::Fail;

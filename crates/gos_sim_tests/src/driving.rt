@@ -2,11 +2,11 @@
 
 ghost use Rattle.std.specs.Prelude.{◌≡◌, ◌<◌, ◌^◌, IfOk, length};
 
-use crate::circuits::{bit, latch, main_port, port};
 use gos_lex::LexFault;
 use gos_netcheck::accept;
 use gos_netlist::{Cell, Gate, Ground, NetId, Netlist, Side};
 use gos_pulse::{PulseFault, drive, print_trace, read_pulses};
+use gos_samples::{bit, latch, main_port, port};
 use gos_sim::Sim;
 use std::alloc::{AllocError, Global};
 use std::test::Fail;

@@ -1,10 +1,10 @@
 // The simulator beside a plain evaluator, which goes through the cells one by one, on netlists that are drawn from seeds.
 ghost use Rattle.std.specs.Prelude.{◌≤◌, ◌<◌, ◌^◌, IfSome, length};
 
-use crate::circuits::port;
 use gos_lex::LexFault;
 use gos_netcheck::accept;
 use gos_netlist::{Cell, Gate, Ground, NetId, Netlist, Side};
+use gos_samples::{bit, port};
 use gos_sim::{Pulse, Sim};
 use std::alloc::Global;
 use std::mem::swap;
@@ -73,51 +73,30 @@ fn word_gate(draw: &mut Draw, net: u32) -> Gate
     }
 }
 
+// A cell of four bits.
+fn word(gate: Gate) -> Cell {
+    Cell { width: 4, gate }
+}
+
 // A netlist of so many drawn pairs of a bit and a word. It gives an expression, whose answer and value are of the last two.
 fn drawn(alloc: Global, seed: u64, pairs: u32) -> Result<Netlist, LexFault>
     requires { pairs ≤ 1000 }
 {
     let mut draw = Draw { state: seed };
     let mut cells = vec![in alloc;
-        Cell {
-            width: 1,
-            gate: Gate::Input
-        },
-        Cell {
-            width: 4,
-            gate: Gate::Const(5)
-        },
-        Cell {
-            width: 1,
-            gate: Gate::Const(1)
-        },
-        Cell {
-            width: 4,
-            gate: Gate::Const(11)
-        },
+        bit(Gate::Input),
+        word(Gate::Const(5)),
+        bit(Gate::Const(1)),
+        word(Gate::Const(11)),
     ]?;
     for pair in 0..pairs {
         let net = GIVEN + 2 * pair;
-        let bit = bit_gate(&mut draw, net);
-        cells.push(Cell {
-            width: 1,
-            gate: bit,
-        })?;
-        let word = word_gate(&mut draw, net);
-        cells.push(Cell {
-            width: 4,
-            gate: word,
-        })?;
+        cells.push(bit(bit_gate(&mut draw, net)))?;
+        cells.push(word(word_gate(&mut draw, net)))?;
     }
     let end = GIVEN + 2 * pairs;
-    cells.push(Cell {
-        width: 1,
-        gate: Gate::Reg(NetId(end - 2)),
-    })?;
-    cells.push(Cell {
-        width: 4,
-        gate: Gate::Reg(NetId(end - 1)),
-    })?;
+    cells.push(bit(Gate::Reg(NetId(end - 2))))?;
+    cells.push(word(Gate::Reg(NetId(end - 1))))?;
     let nets = [NetId(0), NetId(end), NetId(end + 1)];
     let ports = vec![in alloc; port(alloc, b"main", Side::Give, Ground::Exp(4), &nets)?]?;
     Ok(Netlist { cells, ports })

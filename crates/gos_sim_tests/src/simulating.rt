@@ -1,7 +1,7 @@
 // The latch, cycle by cycle: it shows `done` from the cycle after `run` on. And how many levels its cycles visit, and after
 // which cycles it repeats.
-use crate::circuits::latch;
 use gos_netcheck::{accept, cell_levels};
+use gos_samples::latch;
 use gos_sim::{Pulse, Sim, repeats, runs, visits_counted};
 use std::test::Fail;
 

@@ -1,4 +1,6 @@
-// Small circuits that the tests share.
+// Small circuits, and the parts that they are made of, which tests of several crates share.
+#![tactic(auto)]
+
 ghost use Rattle.std.specs.Prelude.{◌≡◌, ◌≤◌, All, IfOk, length};
 ghost use Rattle.gos_lex.specs.Names.{IsNameOrWord};
 
