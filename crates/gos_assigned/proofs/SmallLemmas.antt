@@ -4,10 +4,10 @@ use Rattle.std.proofs.Common.{arith, refl, sym, ap, subst, inl, inr}
 use Rattle.std.proofs.lemmas.Option.{none-some, same_Some}
 use Rattle.gos_types.specs.Types.{Type', Exp}
 use Rattle.gos_plan.specs.Kinds.{Part, Lit, Assign}
-use Rattle.gos_plan.specs.Plans.{End, PartEnd, ImportEnd, ResultEnd, Joint, contact_at, IsRight}
-use Rattle.gos_plan.specs.Tokens.{IsPortEnd}
+use Rattle.gos_plan.specs.Plans.{End, PartEnd, ImportEnd, ResultEnd, Joint, IsRight}
 use Rattle.gos_webs.specs.Webs.{joint}
-use Rattle.gos_webs.specs.Cutting.{lies_at, IsInside, StandsIn, IsCut}
+use Rattle.gos_webs.specs.Cutting.{IsCut}
+use Rattle.gos_webs.proofs.LoneCutLemmas.{AreOutside, lone_is_cut}
 use Rattle.gos_webs.proofs.SmallWebLemmas.{one_port}
 use Rattle.gos_assigned.specs.Writes.{IsJointOf}
 use Rattle.gos_assigned.specs.SmallWrites.{write_plan, one_plan, one_number, one_inner, one_out, OneIsWritten, LitDoesNotWrite, SevenBitsDoNotFit, UnjoinedDoesNotWrite}
@@ -18,59 +18,40 @@ whole_is_right = (((0, 0, refl, refl), refl, refl), (((0, 8, refl, refl), refl, 
 one_is_right : IsRight one_plan
 one_is_right = (((0, 8, refl, refl), refl, refl), tt)
 
-one_parts : (i : ℕ) (k : Part) → slice_get one_plan.parts i ≡ Some k → (slice_get write_plan.parts 1 ≡ Some k) × (Some 0 ≡ Some i)
-one_parts zero k is = (is, refl)
-one_parts (suc i) k is = absurd (none-some k is)
-
-one_numbers : (i j : ℕ) → one_number i ≡ Some j → (1 ≡ i) × ((k : Part) × (slice_get one_plan.parts j ≡ Some k))
+one_numbers : (i j : ℕ) → one_number i ≡ Some j → (1 ≡ i) × (0 ≡ j)
 one_numbers zero j is = absurd (none-some j is)
-one_numbers (suc zero) j is = (refl, (Lit 8 1, ap (λ n. slice_get one_plan.parts n) (sym (same_Some 0 j is))))
+one_numbers (suc zero) j is = (refl, same_Some 0 j is)
 one_numbers (suc (suc i)) j is = absurd (none-some j is)
 
-one_inners : (b e : End) → one_inner b ≡ Some e → IsPortEnd e × StandsIn one_plan e × (PartEnd 0 0 ≡ b)
-one_inners (PartEnd zero zero) e is =
-    subst (λ (x : End). IsPortEnd x × StandsIn one_plan x × (PartEnd 0 0 ≡ PartEnd 0 0)) (same_Some (ResultEnd 0) e is)
-    (tt, (joint (ResultEnd 0) (PartEnd 0 0), (0, omega arith, refl), refl), refl)
-one_inners (PartEnd zero (suc h)) e is = absurd (none-some e is)
-one_inners (PartEnd (suc i) h) e is = absurd (none-some e is)
-one_inners (ImportEnd i h) e is = absurd (none-some e is)
-one_inners (ResultEnd h) e is = absurd (none-some e is)
+one_ports : (b e : End) → one_inner b ≡ Some e → (PartEnd 0 0 ≡ b) × (ResultEnd 0 ≡ e)
+one_ports (PartEnd zero zero) e is = (refl, same_Some (ResultEnd 0) e is)
+one_ports (PartEnd zero (suc h)) e is = absurd (none-some e is)
+one_ports (PartEnd (suc i) h) e is = absurd (none-some e is)
+one_ports (ImportEnd i h) e is = absurd (none-some e is)
+one_ports (ResultEnd h) e is = absurd (none-some e is)
 
-one_joints : (a b : End) → Contains one_plan.joints (joint a b) → Contains write_plan.joints (joint (lies_at one_out a) (lies_at one_out b))
-one_joints a b (zero, l, e) = (1, omega arith, ap (λ (j : Joint). joint (lies_at one_out j.asking) (lies_at one_out j.serving)) e)
-one_joints a b (suc n, l, e) = absurd (omega (arith, l))
-
-abbrev Inside : Joint → Type 0
-Inside j = IsInside one_out j.asking ⊎ IsInside one_out j.serving
-
-run_outside : Inside (joint (ResultEnd 0) (PartEnd 0 2)) → ⊥
-run_outside (inl h) = h
-run_outside (inr (j, h)) = none-some j h
-
-write_outside : Inside (joint (PartEnd 0 1) (ImportEnd 0 1)) → ⊥
-write_outside (inl (j, h)) = none-some j h
-write_outside (inr h) = h
-
-all_one_joints : (a b : End) → Contains write_plan.joints (joint a b) → IsInside one_out a ⊎ IsInside one_out b → IsJointOf one_out one_plan a b
-all_one_joints a b (zero, l, e) inside = absurd (run_outside (subst (λ (j : Joint). Inside j) (sym e) inside))
-all_one_joints a b (suc zero, l, e) inside =
-    (ResultEnd 0, PartEnd 0 0, (0, omega arith, refl), ap (λ (j : Joint). j.asking) e, ap (λ (j : Joint). j.serving) e)
-all_one_joints a b (suc (suc zero), l, e) inside = absurd (write_outside (subst (λ (j : Joint). Inside j) (sym e) inside))
-all_one_joints a b (suc (suc (suc n)), l, e) inside = absurd (omega (arith, l))
+one_joints : (j : Joint) → Contains write_plan.joints j → (joint (PartEnd 0 0) (PartEnd 1 0) ≡ j) ⊎ AreOutside one_out j
+one_joints j (zero, l, e) = inr (subst (AreOutside one_out) e (tt, refl))
+one_joints j (suc zero, l, e) = inl e
+one_joints j (suc (suc zero), l, e) = inr (subst (AreOutside one_out) e (refl, tt))
+one_joints j (suc (suc (suc n)), l, e) = absurd (omega (arith, l))
 
 one_is_cut : IsCut one_out write_plan one_plan
 one_is_cut =
-    record {
+    lone_is_cut 9 (Exp 8) (Lit 8 1) 1 (PartEnd 0 0) one_number one_inner write_plan
+    (record {
       whole_right = whole_is_right;
       right = one_is_right;
-      parts = one_parts;
-      numbers = one_numbers;
-      ports = λ e port stands. (refl, ap Some (one_port e port stands));
-      inners = one_inners;
-      contacts = λ e port stands. ap (contact_at one_plan) (one_port e port stands);
+      part = refl;
+      own_number = refl;
+      one_number = one_numbers;
+      outside = refl;
+      own_port = refl;
+      one_port = one_ports;
+      contact = refl;
+      asked = (1, omega arith, refl);
       joints = one_joints;
-      all = all_one_joints;
-    }
+    })
 
 no_import : (i h : ℕ) → ResultEnd 0 ≡ ImportEnd i h → ⊥
 no_import i h e = cc e

@@ -21,7 +21,7 @@ use Rattle.gos_parallel.proofs.StepLemmas.{Local, fires, puts_out, takes_in}
 use Rattle.gos_parallel.proofs.OpenLemmas.{opened_so, comes_of}
 use Rattle.gos_blocks.specs.Block.{Block, IsBlock}
 use Rattle.gos_blocks.proofs.RegionLemmas as region
-use Rattle.gos_blocks.proofs.RegionLemmas.{Held, result_held}
+use Rattle.gos_blocks.proofs.RegionLemmas.{Held}
 
 -- the body's handshakes are open in the whole where they are in the body
 abbrev pub OpenAgree : Cut → Plan → Open → Open → Type 0

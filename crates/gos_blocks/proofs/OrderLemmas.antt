@@ -8,7 +8,7 @@ use Rattle.std.proofs.lemmas.Option.{none-some, same_Some}
 use Rattle.gos_types.specs.declared.shakes.Role.TheVariants.{Serve, Ask}
 use Rattle.gos_netlist.specs.Events.{Direction, Request, Answer}
 use Rattle.gos_plan.specs.Kinds as kinds
-use Rattle.gos_plan.specs.Kinds.{Part, Contact, asks, serves, part_contacts, contacts_of}
+use Rattle.gos_plan.specs.Kinds.{Part, Contact, asks, serves, part_contacts}
 use Rattle.gos_plan.specs.Firing.{Phase, Rest, Active, State, Slot, Req, Ans, Row, at, row_for, rows}
 use Rattle.gos_plan.specs.Plans.{End, PartEnd, ImportEnd, ResultEnd, Plan, contact_at, contacts_of_part, same_end}
 use Rattle.gos_plan.specs.Tokens.{Tokens, Element, Fire, Out, In, places_of, held_at, token_at, with_token, with_state, end_of, shake_of, way_of, way_taken, way_put, firing_of, Passes, Does, IsIdle}
@@ -31,7 +31,7 @@ use Rattle.gos_parallel.proofs.OpenLemmas.{opened_so, not_same, comes_by}
 use Rattle.gos_blocks.specs.Block.{Block, IsBlock}
 use Rattle.gos_blocks.proofs.DriverLemmas.{begin_row, read_row, write_row, end_row}
 use Rattle.gos_blocks.proofs.RegionLemmas as region
-use Rattle.gos_blocks.proofs.RegionLemmas.{Held, result_held}
+use Rattle.gos_blocks.proofs.RegionLemmas.{result_held}
 use Rattle.gos_blocks.proofs.StepLemmas.{Step, of_body, asked, told, starts, read, write, ended, lost, Served, IsSeen, Differ, gate_at_result, gate_at_part, gate_apart, asked_there, own_state}
 use Rattle.gos_blocks.proofs.LinkedLemmas.{runs_body, Driven, when_starting, when_working, past_itself, seen, way_asked, way_told, variable_contact, asked_turn}
 use Rattle.gos_blocks.proofs.OpenLemmas.{OpenAgree, IsApart, put_agrees, taken_agrees, put_well, firing_same, Lies, in_part, at_import, at_driver, lies, side_step}

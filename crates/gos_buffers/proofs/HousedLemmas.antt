@@ -1,6 +1,6 @@
 -- A plan is a joining where each place of the plans has an end of it: what a joint or a link joins has one handshake there.
 use Rattle.std.specs.Prelude.{◌≢◌, ◌⊎◌, ◌+◌, None, slice_get, map}
-use Rattle.std.proofs.Common.{◌≡◌, ℕ, zero, suc, true, [], Option, Some, Contains, inl, inr, refl, sym, ◌∙◌, ap, subst}
+use Rattle.std.proofs.Common.{◌≡◌, ℕ, true, [], Option, Some, Contains, inl, inr, refl, sym, ◌∙◌, ap, subst}
 use Rattle.gos_types.specs.declared.shakes.Role.TheVariants.{Serve, Ask}
 use Rattle.gos_plan.specs.Kinds.{Contact, asks, serves, contacts_of, turned_contact}
 use Rattle.gos_plan.specs.Plans.{End, Joint, Plan, contact_at, IsRight}
@@ -11,7 +11,8 @@ use Rattle.gos_plan.proofs.JointLemmas.{IsIn, found, fits, one_joint, contained}
 use Rattle.gos_webs.specs.Webs.{joint}
 use Rattle.gos_webs.proofs.MovedLemmas.{listed}
 use Rattle.gos_webs.proofs.WebLemmas.{asks_there}
-use Rattle.gos_sharing.proofs.SeenTokenLemmas.{either_end, place_asking}
+use Rattle.gos_sharing.proofs.SeenTokenLemmas.{either_end, place_asking, place_serving}
+use Rattle.gos_buffers.proofs.KeptLemmas.{path_keeps}
 
 -- where each place stands in the joining
 pub record IsHoused (w : Wiring) (r : Plan) (home : Place → End) : Type 0 where
@@ -20,10 +21,9 @@ pub record IsHoused (w : Wiring) (r : Plan) (home : Place → End) : Type 0 wher
   pub origins : (e : End) (c : Contact) → contact_at r e ≡ Some c → home (origin w e) ≡ e
   pub paths : (a b : End) → Contains r.joints (joint a b) → (n : ℕ) × Path w n (origin w a) (origin w b)
 
-path_named : (w : Wiring) (r : Plan) (home : Place → End) → IsHoused w r home → (n : ℕ) (a b : Place) → Path w n a b → handshake_at r (home a) ≡ handshake_at r (home b)
-path_named w r home housed zero a b e = ap (λ x. handshake_at r (home x)) e
-path_named w r home housed (suc n) a b (x, inl here, path) = housed.within a x here ∙ path_named w r home housed n x b path
-path_named w r home housed (suc n) a b (x, inr here, path) = housed.linked a x here ∙ path_named w r home housed n x b path
+-- a joint gives its ends one handshake
+pub one_handshake : (r : Plan) (a b : End) → IsRight r → IsIn (joint a b) r.joints → handshake_at r a ≡ handshake_at r b
+one_handshake r a b right here = ap (λ f. named_by f a) (place_asking r a b right here) ∙ sym (ap (λ f. named_by f b) (place_serving r a b right here))
 
 -- two ends of one handshake are those of a joint
 abbrev pub Together : Plan → End → End → Type 0
@@ -79,6 +79,21 @@ is_contact r e c d h k = let both : Some c ≡ Some d = sym h ∙ k in cc both
 pub not_both : (q a x y : ℕ) → asks q a ≡ serves x y → ⊥
 not_both q a x y e = let roles : Ask ≡ Serve = ap (λ (c : Contact). c.role) e in cc roles
 
+-- an end that serves in another one's handshake stands in a joint behind that one
+pub joint_to : (r : Plan) (a b : End) (q v : ℕ) → IsRight r → a ≢ b → contact_at r b ≡ Some (serves q v) → handshake_at r a ≡ handshake_at r b
+    → IsIn (joint a b) r.joints
+joint_to r a b q v right apart there same = of_two (together r a b right apart same)
+  where
+    of_two : Together r a b → IsIn (joint a b) r.joints
+    of_two (inl here) = here
+    of_two (inr here) =
+        let fit = fits r [] r.joints (joint b a) right here in
+        absurd (not_both fit.0 fit.1 q v (is_contact r b (asks fit.0 fit.1) (serves q v) fit.2 there))
+
+-- one that asks is no other that serves
+pub asker_apart : (r : Plan) (a b : End) (q v : ℕ) → contact_at r a ≡ Some (asks q v) → contact_at r b ≡ Some (serves q v) → a ≢ b
+asker_apart r a b q v there also e = not_both q v q v (is_contact r a (asks q v) (serves q v) there (ap (contact_at r) e ∙ also))
+
 pub housed_joining : (w : Wiring) (r : Plan) (home : Place → End) → IsRight r → IsHoused w r home
     → r.parts ≡ all_parts w.plans → r.imports ≡ map (λ l. l.import) (all_left w) → r.outcome ≡ w.outcome → r.weight ≡ all_weight w.plans
     → ((h : ℕ) (c : Contact) → slice_get (contacts_of w.outcome) h ≡ Some c → slice_get (contacts_of_result (slice_get w.plans w.giver)) (w.skipped + h) ≡ Some c)
@@ -97,7 +112,9 @@ housed_joining w r home right housed parts imports outcome weight result =
   where
     one_name : (a b : End) (c d : Contact) (n : ℕ) → contact_at r a ≡ Some c → contact_at r b ≡ Some d → Path w n (origin w a) (origin w b) → handshake_at r a ≡ handshake_at r b
     one_name a b c d n there also path =
-        ap (handshake_at r) (sym (housed.origins a c there)) ∙ (path_named w r home housed n (origin w a) (origin w b) path ∙ ap (handshake_at r) (housed.origins b d also))
+        ap (handshake_at r) (sym (housed.origins a c there))
+        ∙ (path_keeps End (λ x. handshake_at r (home x)) w housed.within housed.linked n (origin w a) (origin w b) path
+        ∙ ap (handshake_at r) (housed.origins b d also))
 
     turned_by : (a b : End) (c d : Contact) → contact_at r a ≡ Some c → contact_at r b ≡ Some d → Together r a b → d ≡ turned_contact c
     turned_by a b c d there also (inl here) =
@@ -114,13 +131,5 @@ housed_joining w r home right housed parts imports outcome weight result =
         (fit.0, fit.1, path.0, fit.2, fit.3, path.1)
 
     joined : (a b : End) → Connects w r a b → Contains r.joints (joint a b)
-    joined a b (q, v, n, there, also, path) = by_joint (together r a b right apart (one_name a b (asks q v) (serves q v) n there also path))
-      where
-        apart : a ≢ b
-        apart e = not_both q v q v (is_contact r a (asks q v) (serves q v) there (ap (contact_at r) e ∙ also))
-
-        by_joint : Together r a b → Contains r.joints (joint a b)
-        by_joint (inl here) = listed r.joints (joint a b) here
-        by_joint (inr here) =
-            let fit = fits r [] r.joints (joint b a) right here in
-            absurd (not_both q v fit.0 fit.1 (is_contact r a (asks q v) (serves fit.0 fit.1) there fit.3))
+    joined a b (q, v, n, there, also, path) =
+        listed r.joints (joint a b) (joint_to r a b q v right (asker_apart r a b q v there also) also (one_name a b (asks q v) (serves q v) n there also path))

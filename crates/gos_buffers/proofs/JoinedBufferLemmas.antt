@@ -1,29 +1,29 @@
 -- The plan behind a Share is the joining of that plan with the Share.
-use Rattle.std.specs.Prelude.{◌⊎◌, ◌+◌, ◌*◌, ◌<◌, ◌≤◌, ◌||◌, ◌&&◌, ◌-◌, None, IsTrue, slice_get, length, map, nat_eq, nat_lt}
+use Rattle.std.specs.Prelude.{◌⊎◌, ◌+◌, ◌*◌, ◌<◌, ◌≤◌, ◌||◌, ◌&&◌, None, IsTrue, slice_get, length, nat_eq, nat_lt}
 use Rattle.std.proofs.Common.{◌≡◌, ℕ, zero, suc, Bool, true, false, List, [], ◌∷◌, ◌++◌, Option, Some, Contains, inl, inr, refl, sym, ◌∙◌, ap, subst, arith}
 use Rattle.std.proofs.lemmas.Bool.Decides.{nat_tests}
 use Rattle.std.proofs.lemmas.List.{length-append}
-use Rattle.std.proofs.lemmas.Option.{slice_get_within, slice_get_past}
+use Rattle.std.proofs.lemmas.Option.{slice_get_past}
 use Rattle.gos_types.specs.Types.{Type', IsGround}
 use Rattle.gos_model.specs.Typing.{Imported}
 use Rattle.gos_plan.specs.Kinds.{Contact, asks, serves, Part, Share, contacts_of, turned_contact}
 use Rattle.gos_plan.specs.Plans.{End, PartEnd, ImportEnd, ResultEnd, Joint, Plan, contact_at, contacts_of_part, contacts_of_import, turned_if, stands_in, is_free, IsRight}
-use Rattle.gos_plan.specs.Joining.{Place, place, Link, Wiring, all_left, left_place, is_joined, origin, JoinedWithin, Linked, Path, IsJoining}
-use Rattle.gos_plan.specs.Orderly.{named_by, handshake_at}
+use Rattle.gos_plan.specs.Joining.{Place, place, Link, Wiring, is_joined, origin, JoinedWithin, Linked, Path, IsJoining}
+use Rattle.gos_plan.specs.Orderly.{handshake_at}
 use Rattle.gos_plan.proofs.JointLemmas.{IsIn, fits, contained}
 use Rattle.gos_plan.proofs.AskingLemmas.{source_at}
 use Rattle.gos_realises.specs.Regular.{count}
 use Rattle.gos_realises.specs.Links.{LinkFits, StandsIn, LinksFit}
 use Rattle.gos_realises.specs.Wirings.{link}
-use Rattle.gos_realises.proofs.LeftLemmas.{left_list, left_all, imports_left, left_at}
 use Rattle.gos_webs.specs.Webs.{joint}
 use Rattle.gos_webs.proofs.MovedLemmas.{listed}
 use Rattle.gos_sharing.specs.Sharing.{source_end, caller_end, IsOfPart}
-use Rattle.gos_sharing.proofs.SeenTokenLemmas.{place_asking, place_serving}
 use Rattle.gos_buffers.specs.Buffering.{end_behind, buffered, lone_share, sources_linked, buffering, BufferedIsJoined}
 use Rattle.gos_buffers.proofs.GroundLemmas.{ground_serves}
 use Rattle.gos_buffers.proofs.BufferedLemmas.{no_some, neither, differ, shake_of, later, free_of, in_callers, callers_in, known_part, result_within, server_outside, Behind, OfCallers, of_whole, behind_in, caller_in, whole_right}
-use Rattle.gos_buffers.proofs.HousedLemmas.{housed_joining}
+use Rattle.gos_buffers.proofs.KeptLemmas.{joint_keeps, link_keeps}
+use Rattle.gos_buffers.proofs.HousedLemmas.{one_handshake, housed_joining}
+use Rattle.gos_buffers.proofs.AttachedLemmas.{Attached, plan_imports, part_first, part_later, at_import, at_result, plain_origin, one_step}
 
 -- the links
 link_at : (n m k : ℕ) (l : Link) → slice_get (sources_linked n m) k ≡ Some l → (k < m) × (l ≡ link 0 (ResultEnd (n + k)) 1 (source_end 0 (n + k)))
@@ -97,35 +97,38 @@ module _ (c : ℕ) (p : Plan) (two : c < 2) (right : IsRight p) (ground : IsGrou
   abbrev wiring : Wiring
   wiring = buffering p.outcome c p
 
+  abbrev base : Attached
+  base =
+      record {
+        plan = p;
+        others = share ∷ [];
+        links = sources_linked 0 (count p.outcome);
+        outcome = p.outcome;
+        free = no_import 0 (count p.outcome) 0;
+        alone = refl;
+      }
+
   is_right : IsRight whole
   is_right = whole_right c p two right ground
 
-  -- a joint gives its two ends one handshake
-  one_handshake : (a b : End) → Contains whole.joints (joint a b) → handshake_at whole a ≡ handshake_at whole b
-  one_handshake a b has =
-      let here = contained whole.joints (joint a b) has in
-      ap (λ f. named_by f a) (place_asking whole a b is_right here) ∙ sym (ap (λ f. named_by f b) (place_serving whole a b is_right here))
+  given : (a b : End) → Contains whole.joints (joint a b) → handshake_at whole a ≡ handshake_at whole b
+  given a b has = one_handshake whole a b is_right (contained whole.joints (joint a b) has)
 
   of_plan : (k : ℕ) (q : Plan) → slice_get wiring.plans k ≡ Some q → (j : Joint) → Contains q.joints j
       → handshake_at whole (home_in number k j.asking) ≡ handshake_at whole (home_in number k j.serving)
   of_plan zero q is j has =
       let same : p ≡ q = cc is in
-      one_handshake (end_behind number j.asking) (end_behind number j.serving)
+      given (end_behind number j.asking) (end_behind number j.serving)
       (behind_in c p two right ground j.asking j.serving (contained p.joints j (subst (λ (x : Plan). Contains x.joints j) (sym same) has)))
   of_plan (suc zero) q is j has =
       let same : share ≡ q = cc is in
       let (h, lt, le, e) = in_callers 0 p.outcome c 0 (count p.outcome) j (contained share.joints j (subst (λ (x : Plan). Contains x.joints j) (sym same) has)) in
       subst (λ (x : Joint). handshake_at whole (home_in number 1 x.asking) ≡ handshake_at whole (home_in number 1 x.serving)) (sym e)
-      (one_handshake (ResultEnd h) (caller_end number p.outcome c h) (caller_in c p two right ground h (omega (arith, lt))))
+      (given (ResultEnd h) (caller_end number p.outcome c h) (caller_in c p two right ground h (omega (arith, lt))))
   of_plan (suc (suc k)) q is j has = absurd (no_some q is)
 
   within : (a b : Place) → JoinedWithin wiring a b → handshake_at whole (home_at number a) ≡ handshake_at whole (home_at number b)
-  within a b (q, j, same, is, has, inl (at_a, at_b)) =
-      ap (λ e. handshake_at whole (home_in number a.plan e)) at_a
-      ∙ (of_plan a.plan q is j has ∙ (ap (λ e. handshake_at whole (home_in number a.plan e)) (sym at_b) ∙ ap (λ k. handshake_at whole (home_in number k b.end)) same))
-  within a b (q, j, same, is, has, inr (at_a, at_b)) =
-      ap (λ e. handshake_at whole (home_in number a.plan e)) at_a
-      ∙ (sym (of_plan a.plan q is j has) ∙ (ap (λ e. handshake_at whole (home_in number a.plan e)) (sym at_b) ∙ ap (λ k. handshake_at whole (home_in number k b.end)) same))
+  within = joint_keeps End (λ k e. handshake_at whole (home_in number k e)) wiring of_plan
 
   -- a link's two places have one end
   one_home : (l : Link) → Contains wiring.links l → home_at number l.one ≡ home_at number l.other
@@ -134,37 +137,17 @@ module _ (c : ℕ) (p : Plan) (two : c < 2) (right : IsRight p) (ground : IsGrou
       subst (λ (x : Link). home_at number x.one ≡ home_at number x.other) (sym at.1) refl
 
   linked : (a b : Place) → Linked wiring a b → handshake_at whole (home_at number a) ≡ handshake_at whole (home_at number b)
-  linked a b (l, has, inl (at_a, at_b)) =
-      ap (λ x. handshake_at whole (home_at number x)) at_a ∙ (ap (handshake_at whole) (one_home l has) ∙ ap (λ x. handshake_at whole (home_at number x)) (sym at_b))
-  linked a b (l, has, inr (at_a, at_b)) =
-      ap (λ x. handshake_at whole (home_at number x)) at_a ∙ (ap (handshake_at whole) (sym (one_home l has)) ∙ ap (λ x. handshake_at whole (home_at number x)) (sym at_b))
+  linked = link_keeps End (λ x. handshake_at whole (home_at number x)) wiring (λ l has. ap (handshake_at whole) (one_home l has))
 
   -- where the ends of the whole stand
-  part_first : (i h : ℕ) → i < number → origin wiring (PartEnd i h) ≡ place 0 (PartEnd i h)
-  part_first i h lt = let t : nat_lt i number ≡ true = grind (arith, nat_tests, lt) in rw t refl
-
   part_last : (h : ℕ) → origin wiring (PartEnd number h) ≡ place 1 (PartEnd 0 h)
-  part_last h =
-      let t : nat_lt number number ≡ false = grind (arith, nat_tests) in
-      let e : number - number ≡ 0 = omega arith in
-      rw (t, e) refl
-
-  left_imports : all_left wiring ≡ left_list 0 0 p.imports ++ []
-  left_imports = ap (λ l. l ++ []) (left_all (sources_linked 0 (count p.outcome)) 0 (no_import 0 (count p.outcome) 0) 0 p.imports)
-
-  at_import : (i h : ℕ) (x : Imported) → slice_get p.imports i ≡ Some x → origin wiring (ImportEnd i h) ≡ place 0 (ImportEnd i h)
-  at_import i h x is =
-      let e : 0 + i ≡ i = omega arith in
-      ap (λ ls. left_place (slice_get ls i) h) left_imports ∙ (ap (λ o. left_place o h) (left_at 0 0 p.imports i x is) ∙ ap (λ k. place 0 (ImportEnd k h)) e)
-
-  at_result : (h : ℕ) → origin wiring (ResultEnd h) ≡ place 1 (ResultEnd h)
-  at_result h = let e : 0 + h ≡ h = omega arith in ap (λ k. place 1 (ResultEnd k)) e
+  part_last h = let e : number ≡ number + 0 = omega arith in part_later base number 0 h e
 
   origins : (e : End) (k : Contact) → contact_at whole e ≡ Some k → home_at number (origin wiring e) ≡ e
   origins (PartEnd i h) k there = by_order (nat_lt i number) refl (nat_eq i number) refl
     where
       by_order : (a : Bool) → nat_lt i number ≡ a → (b : Bool) → nat_eq i number ≡ b → home_at number (origin wiring (PartEnd i h)) ≡ PartEnd i h
-      by_order true t b u = ap (home_at number) (part_first i h (grind (arith, nat_tests, t)))
+      by_order true t b u = ap (home_at number) (part_first base i h (grind (arith, nat_tests, t)))
       by_order false t true u =
           let same : i ≡ number = grind (arith, u) in
           ap (λ j. home_at number (origin wiring (PartEnd j h))) same ∙ (ap (home_at number) (part_last h) ∙ ap (λ j. PartEnd j h) (sym same))
@@ -176,28 +159,17 @@ module _ (c : ℕ) (p : Plan) (two : c < 2) (right : IsRight p) (ground : IsGrou
     where
       by_import : (o : Option Imported) → slice_get p.imports i ≡ o → home_at number (origin wiring (ImportEnd i h)) ≡ ImportEnd i h
       by_import None e = absurd (no_some k (sym (ap (λ x. slice_get (contacts_of_import x) h) e) ∙ there))
-      by_import (Some x) e = ap (home_at number) (at_import i h x e)
-  origins (ResultEnd h) k there = ap (home_at number) (at_result h)
+      by_import (Some x) e = ap (home_at number) (at_import base i h x e)
+  origins (ResultEnd h) k there = ap (home_at number) (at_result base h)
 
   -- an end of the plan that isn't its result's
   origin_behind : (e : End) (k : Contact) → contact_at p e ≡ Some k → (IsOfPart number (end_behind number e) → ⊥) → origin wiring (end_behind number e) ≡ place 0 e
-  origin_behind (PartEnd i h) k there apart = by_part (slice_get p.parts i) refl
-    where
-      by_part : (o : Option Part) → slice_get p.parts i ≡ o → origin wiring (PartEnd i h) ≡ place 0 (PartEnd i h)
-      by_part None e = absurd (no_some k (sym (ap (λ x. slice_get (contacts_of_part x) h) e) ∙ there))
-      by_part (Some x) e = part_first i h (slice_get_within p.parts i x e)
-  origin_behind (ImportEnd i h) k there apart = by_import (slice_get p.imports i) refl
-    where
-      by_import : (o : Option Imported) → slice_get p.imports i ≡ o → origin wiring (ImportEnd i h) ≡ place 0 (ImportEnd i h)
-      by_import None e = absurd (no_some k (sym (ap (λ x. slice_get (contacts_of_import x) h) e) ∙ there))
-      by_import (Some x) e = at_import i h x e
+  origin_behind (PartEnd i h) k there apart = plain_origin base (PartEnd i h) k there tt
+  origin_behind (ImportEnd i h) k there apart = plain_origin base (ImportEnd i h) k there tt
   origin_behind (ResultEnd h) k there apart = absurd (apart refl)
 
   abbrev Walk : Place → Place → Type 0
   Walk a b = (n : ℕ) × Path wiring n a b
-
-  one_step : (d e : End) → IsIn (joint d e) p.joints → JoinedWithin wiring (place 0 d) (place 0 e)
-  one_step d e here = (p, joint d e, refl, refl, listed p.joints (joint d e) here, inl (refl, refl))
 
   -- from a joint of the plan
   walk_behind : (d e : End) → IsIn (joint d e) p.joints → Walk (origin wiring (end_behind number d)) (origin wiring (end_behind number e))
@@ -215,7 +187,7 @@ module _ (c : ℕ) (p : Plan) (two : c < 2) (right : IsRight p) (ground : IsGrou
         1,
         (
           place 0 e,
-          inl (subst (λ (x : Place). JoinedWithin wiring x (place 0 e)) (sym (origin_behind d k there apart)) (one_step d e here)),
+          inl (subst (λ (x : Place). JoinedWithin wiring x (place 0 e)) (sym (origin_behind d k there apart)) (one_step base d e here)),
           sym (server d here),
         ),
       )
@@ -237,7 +209,7 @@ module _ (c : ℕ) (p : Plan) (two : c < 2) (right : IsRight p) (ground : IsGrou
                 at_link 0 (count p.outcome) h (omega arith) (omega (arith, lt)),
                 inr (part_last h, refl),
               ),
-              (place 0 e, inl (one_step (ResultEnd h) e here), sym (server (ResultEnd h) here)),
+              (place 0 e, inl (one_step base (ResultEnd h) e here), sym (server (ResultEnd h) here)),
             ),
           )
 
@@ -253,7 +225,7 @@ module _ (c : ℕ) (p : Plan) (two : c < 2) (right : IsRight p) (ground : IsGrou
             1,
             (
               place 1 (caller_end 0 p.outcome c h),
-              inl (subst (λ (x : Place). JoinedWithin wiring x (place 1 (caller_end 0 p.outcome c h))) (sym (at_result h))
+              inl (subst (λ (x : Place). JoinedWithin wiring x (place 1 (caller_end 0 p.outcome c h))) (sym (at_result base h))
                   (share, joint (ResultEnd h) (caller_end 0 p.outcome c h), refl, refl, listed share.joints (joint (ResultEnd h) (caller_end 0 p.outcome c h)) (callers_in 0 p.outcome c 0 (count p.outcome) h (omega arith) (omega (arith, lt))), inl (refl, refl))),
               sym (part_last (count p.outcome + c * count p.outcome + h)),
             ),
@@ -263,7 +235,7 @@ module _ (c : ℕ) (p : Plan) (two : c < 2) (right : IsRight p) (ground : IsGrou
   is_joining =
       housed_joining wiring whole (home_at number) is_right
       (record { within = within; linked = linked; origins = origins; paths = paths }) refl
-      (sym (ap (map (λ l. l.import)) left_imports ∙ imports_left 0 0 p.imports)) refl (omega arith)
+      (sym (plan_imports base)) refl (omega arith)
       (λ h k there. let e : 0 + h ≡ h = omega arith in ap (slice_get (contacts_of p.outcome)) e ∙ there)
 
 -- the Share alone is right: it is what stands behind a plan of nothing

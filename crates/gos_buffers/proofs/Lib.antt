@@ -6,10 +6,12 @@ pub mod RegularLemmas
 pub mod MatchedLemmas
 pub mod LoosePartLemmas
 pub mod BufferedLemmas
+pub mod KeptLemmas
 pub mod HousedLemmas
+pub mod DrivenLemmas
+pub mod AttachedLemmas
 pub mod JoinedBufferLemmas
 mod SmallBufferLemmas
-pub mod DrivenLemmas
 pub mod LooseDrivenLemmas
 pub mod ReadingLemmas
 pub mod WritingLemmas

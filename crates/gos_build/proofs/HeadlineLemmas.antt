@@ -1,6 +1,6 @@
 -- The headline, from what `build` leaves: the texts stand in their files since these have different names, and each bind line
 -- names what its service binds.
-use Rattle.std.specs.Prelude.{◌≡◌, ◌≢◌, ◌∷◌, [], ℕ, zero, suc, List, Option, Some, None, map, length, slice_get, Bool, true, cond, unwrap_or}
+use Rattle.std.specs.Prelude.{◌≡◌, ◌≢◌, ◌∷◌, [], ℕ, List, Option, Some, None, map, length, slice_get, Bool, cond, unwrap_or}
 use Rattle.std.proofs.Common.{refl, sym, ◌∙◌, ap, subst, arith}
 use Rattle.std.specs.Str.{bytes_eq}
 use Rattle.std.specs.FinMap.{get, insert, get-insert}
@@ -19,11 +19,9 @@ use Rattle.gos_link.specs.declared.build.Instance.{Instance}
 use Rattle.gos_link.specs.declared.build.Bind as lines
 use Rattle.gos_link.specs.declared.services.Service.{Service}
 use Rattle.gos_link.specs.Services.{BindsOn}
-use Rattle.gos_command.specs.declared.report.Report.{Report}
 use Rattle.gos_build.specs.Objects.{BeginWith, HavePlans}
 use Rattle.gos_build.specs.Programs.{imports_if, bind_in}
-use Rattle.gos_build.specs.Headline.{SayModules, SayBinds, Headline}
-use Rattle.gos_build.specs.Built.{IsBuilt}
+use Rattle.gos_build.specs.Headline.{SayModules, SayBinds}
 use Rattle.std.specs.Prelude.{option_map, ◌++◌}
 use Rattle.std.proofs.lemmas.Option.{slice_get-map, get_or_from_slice_get}
 use Rattle.std.specs.Prelude.{get_or}
@@ -32,7 +30,7 @@ use Rattle.gos_model.specs.Typing.{Imported, Imports}
 use Rattle.gos_plan.specs.Plans.{Plan}
 use Rattle.gos_plan.specs.declared.plan.PlanImport.{PlanImport}
 use Rattle.gos_link.specs.Linked.{imports_of, plans_of}
-use Rattle.gos_link.specs.Services.{instance_named, import_named, Means}
+use Rattle.gos_link.specs.Services.{import_named, Means}
 use Rattle.gos_linked.specs.Linked.{name_if}
 use Rattle.gos_model.specs.Pace.{KeepsPaceAlways}
 use Rattle.gos_netlist.specs.Nets.{Give}

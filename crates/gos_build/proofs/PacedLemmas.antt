@@ -1,6 +1,6 @@
 -- The circuits of modules keep pace with their programs, since their plans realise these, and linked plans the substituted one.
 -- They are small, since the plans are slim.
-use Rattle.std.specs.Prelude.{◌≡◌, ℕ, ◌+◌, ◌*◌, ◌≤◌, zero, suc, List, [], ◌∷◌, map, length, slice_get}
+use Rattle.std.specs.Prelude.{◌≡◌, ℕ, zero, suc, List, [], ◌∷◌, map, length, slice_get}
 use Rattle.std.proofs.Common.{refl, sym, ◌∙◌, ap, subst, arith}
 use Rattle.gos_outside.specs.Files.{Files}
 use Rattle.gos_types.specs.Types.{IsDone}

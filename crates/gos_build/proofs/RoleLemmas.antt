@@ -6,7 +6,7 @@ use Rattle.std.specs.Str.{bytes_eq}
 use Rattle.std.proofs.lemmas.Slice.Eq.{bytes_eq-Decides}
 use Rattle.std.proofs.lemmas.List.{append-nil, append_assoc}
 use Rattle.gos_lines.specs.Lines.{Word, Statement, statements_of}
-use Rattle.gos_link.specs.BuildFile.{Sum, nothing, sum_of, with_said, with_file, has_source, has_no_source, is_no_source, is_new, ReadsOn, IsBuildFile}
+use Rattle.gos_link.specs.BuildFile.{Sum, nothing, sum_of, with_said, with_file, has_no_source, is_no_source, is_new, ReadsOn, IsBuildFile}
 use Rattle.gos_link.specs.declared.build.Build.{Build}
 use Rattle.gos_link.specs.declared.said.Role.{Role}
 use Rattle.gos_link.specs.declared.said.Role.TheVariants as roles

@@ -42,7 +42,7 @@ use Rattle.gos_uses.proofs.ChildLemmas.{dot_tie, child_ties, own_ties, node_ties
 use Rattle.gos_uses.proofs.SideLemmas.{its_part, its_import}
 use Rattle.gos_uses.proofs.PermuteLemmas.{front, behind}
 use Rattle.gos_uses.proofs.ApplyWebLemmas.{below, not_below, in_links, of_links}
-use Rattle.gos_grounds.proofs.WhoseLemmas.{before}
+use Rattle.gos_frames.proofs.NamedLemmas.{before}
 use Rattle.gos_calls.specs.Bodies.{with_supply, AppliedIsBody}
 
 -- rows of the result's points

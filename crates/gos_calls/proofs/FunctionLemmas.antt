@@ -29,8 +29,8 @@ use Rattle.gos_compile.specs.Wiring.{Types}
 use Rattle.gos_wired.specs.Wired.{Supplies}
 use Rattle.gos_wired.specs.Regular.{IsRegularOf, AreRegular, RegularWired}
 use Rattle.gos_numbers.specs.Kept.{IsKept}
-use Rattle.gos_grounds.proofs.WhoseLemmas.{before}
-use Rattle.gos_grounds.proofs.FreshLemmas.{fresh_name, is_fresh}
+use Rattle.gos_frames.proofs.NamedLemmas.{before}
+use Rattle.gos_frames.proofs.FreshLemmas.{fresh_name, is_fresh}
 use Rattle.gos_calls.specs.Bodies.{with_supply, AppliedIsBody}
 use Rattle.gos_calls.specs.Functions.{FunctionNodeIsRegular}
 use Rattle.gos_calls.proofs.NamedLemmas.{named_is_body}

@@ -28,7 +28,7 @@ use Rattle.gos_compile.specs.Wiring.{Types}
 use Rattle.gos_wired.specs.Wired.{Supplies, Placing, IsWired, AreRealised, terms_of}
 use Rattle.gos_numbers.specs.Kept.{IsKept}
 use Rattle.gos_numbers.specs.Inherited.{BodyIsKept}
-use Rattle.gos_grounds.proofs.WhoseLemmas.{before}
+use Rattle.gos_frames.proofs.NamedLemmas.{before}
 use Rattle.gos_grounds.proofs.WiredLemmas.{imports_are_ground}
 use Rattle.gos_grounds.proofs.AgreeLemmas.{AgreeAt, below_agrees, meaning_agrees}
 use Rattle.gos_grounds.specs.Cases.{RealisesWired}

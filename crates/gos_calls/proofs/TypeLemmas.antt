@@ -21,7 +21,7 @@ use Rattle.gos_meanings.proofs.StillLemmas.{shift_still}
 use Rattle.gos_wired.specs.Wired.{Supplies, Placing, IsWired, AreRealised, terms_of}
 use Rattle.gos_stages.specs.Inside.{numbers_inside, AreSplit}
 use Rattle.gos_numbers.specs.Kept.{InScope}
-use Rattle.gos_grounds.proofs.WhoseLemmas.{in_list, before}
+use Rattle.gos_frames.proofs.NamedLemmas.{in_list, before}
 
 -- a number stands for a bound variable of its type, or for a closed term of its type
 abbrev Stands : Imports → List Type' → Type' → Term → Type 0

@@ -1,10 +1,10 @@
--- The names of a term are known in all that it becomes, and then it has no move under more imports but its own.
+-- Under more imports a term has its type. Its names are known in all that it becomes, and then it has no move there but its own.
 use Rattle.std.specs.Prelude.{◌≡◌, ℕ, zero, suc, Bool, true, false, List, [], ◌∷◌, Option, Some, None, nat_eq, if◌then◌else◌}
 use Rattle.std.proofs.Common.{refl, sym, subst, inl, inr, ◌∙◌}
 use Rattle.gos_types.specs.Types.{Type', Com, Exp, Var, Pair, Fun}
 use Rattle.gos_model.specs.Terms.{Name, Term, Skip, Lit, Bound, Import, Lam, App, Both, Fst, Snd, Seq, Par, If, While, Assign, Deref, New, Not, Bin, Loc, Scope, Wait, Held, Put}
 use Rattle.gos_model.specs.Substitution.{put_at}
-use Rattle.gos_model.specs.Typing.{Imports, import_type}
+use Rattle.gos_model.specs.Typing.{Imports, Typed, import_type}
 use Rattle.gos_model.specs.Stores.{Store}
 use Rattle.gos_model.specs.Reach.{Rel, Reached, Rewrites, Under, Aside}
 use Rattle.gos_model.specs.Steps.{Computes}
@@ -15,6 +15,32 @@ use Rattle.gos_contexts.specs.Widening.{AreAmong, Knows, SourcesAreKnown, RunsAr
 use Rattle.gos_contexts.proofs.BackwardLemmas.{OneHead, OneLabel}
 use Rattle.gos_contexts.proofs.PluggedLemmas.{acts_of, reached_plugged, stays_running, inner_rest}
 use Rattle.gos_contexts.proofs.ReachedLemmas.{reached_lifted}
+
+-- what is typed is so under more imports
+pub typed_more : (i j : Imports) → AreAmong i j → (g : List Type') (m : Term) (t : Type') → Typed i g m t → Typed j g m t
+typed_more i j all g Skip t h = h
+typed_more i j all g (Lit k w) t h = h
+typed_more i j all g (Bound n) t h = h
+typed_more i j all g (Import x) t h = all x t h
+typed_more i j all g (Lam a m) t (b, e, h) = (b, e, typed_more i j all (a ∷ g) m b h)
+typed_more i j all g (App m n) t (a, h, k, apart) = (a, typed_more i j all g m _ h, typed_more i j all g n a k, apart)
+typed_more i j all g (Both m n) t (a, b, e, h, k) = (a, b, e, typed_more i j all g m a h, typed_more i j all g n b k)
+typed_more i j all g (Fst m) t (b, h) = (b, typed_more i j all g m _ h)
+typed_more i j all g (Snd m) t (a, h) = (a, typed_more i j all g m _ h)
+typed_more i j all g (Seq m n) t (d, h, k) = (d, typed_more i j all g m Com h, typed_more i j all g n t k)
+typed_more i j all g (Par m n) t (e, h, k, apart) = (e, typed_more i j all g m Com h, typed_more i j all g n Com k, apart)
+typed_more i j all g (If m n p) t (d, h, k, l) = (d, typed_more i j all g m (Exp 1) h, typed_more i j all g n t k, typed_more i j all g p t l)
+typed_more i j all g (While m n) t (e, h, k) = (e, typed_more i j all g m (Exp 1) h, typed_more i j all g n Com k)
+typed_more i j all g (Assign m n) t (w, e, h, k) = (w, e, typed_more i j all g m (Var w) h, typed_more i j all g n (Exp w) k)
+typed_more i j all g (Deref m) t (w, e, h) = (w, e, typed_more i j all g m (Var w) h)
+typed_more i j all g (New w m) t (d, width, h) = (d, width, typed_more i j all (Var w ∷ g) m t h)
+typed_more i j all g (Not m) t (w, e, h) = (w, e, typed_more i j all g m (Exp w) h)
+typed_more i j all g (Bin op m n) t (w, e, h, k) = (w, e, typed_more i j all g m (Exp w) h, typed_more i j all g n (Exp w) k)
+typed_more i j all g (Loc l) t h = h
+typed_more i j all g (Scope l m) t h = h
+typed_more i j all g (Wait x s) t h = h
+typed_more i j all g (Held k op n) t h = h
+typed_more i j all g (Put m k) t h = h
 
 pub sources_known : SourcesAreKnown
 sources_known i g Skip t h = tt

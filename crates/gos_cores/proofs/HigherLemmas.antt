@@ -1,9 +1,8 @@
 -- A plan realises what its core realises, at each type.
-use Rattle.std.specs.Prelude.{ℕ, zero, suc, List, [], ◌∷◌, ◌++◌, All}
-use Rattle.std.proofs.Common.{◌≡◌, refl, sym, ◌∙◌, ap, subst, arith}
+use Rattle.std.specs.Prelude.{ℕ, zero, suc, List, [], ◌∷◌, All}
+use Rattle.std.proofs.Common.{◌≡◌, sym, ◌∙◌, subst, arith}
 use Rattle.gos_types.specs.Types.{Type', Com, Exp, Var, Pair, Fun, IsDone}
 use Rattle.gos_model.specs.Terms.{Term, Lit, App, Fst, Snd, Assign, Deref}
-use Rattle.gos_model.specs.Typing.{Imports}
 use Rattle.gos_plan.specs.Kinds as kinds
 use Rattle.gos_plan.specs.Plans.{PartEnd, ResultEnd, Plan}
 use Rattle.gos_plan.specs.Joining.{Link, all_parts}
@@ -12,13 +11,14 @@ use Rattle.gos_realises.specs.Regular.{count}
 use Rattle.gos_realises.specs.Matched.{RealisesDone}
 use Rattle.gos_realises.specs.Links.{IsJoined}
 use Rattle.gos_realises.specs.Wirings.{lone, link, results_linked}
-use Rattle.gos_realises.specs.Realises.{AllGround, NamesDiffer, HaveOtherNames, Suits, Means}
+use Rattle.gos_realises.specs.Realises.{HaveOtherNames, Suits, Means}
 use Rattle.gos_realises.proofs.LiteralLemmas.{no_literals, reading_literals, writing_literals, literals_append, literals_joined}
-use Rattle.gos_realises.proofs.PlaceLemmas.{place_of, contains_at, differ_both}
+use Rattle.gos_realises.proofs.PlaceLemmas.{place_of, contains_at}
 use Rattle.gos_contexts.proofs.WideningLemmas.{sources_known}
 use Rattle.gos_joined.proofs.WholeLemmas.{applied_is_joined, sides_are_joined, variables_are_joined}
-use Rattle.gos_loose.proofs.ImportLemmas.{AllAmong, among, typed_more, ground_both}
+use Rattle.gos_loose.proofs.ImportLemmas.{AllAmong, among, typed_more}
 use Rattle.gos_loose.proofs.LeftLemmas.{all_imports}
+use Rattle.gos_loose.proofs.HigherLemmas.{Fine, no_others, more_fine, append_none}
 use Rattle.gos_cores.specs.Core.{Core, IsCore, IsStill}
 use Rattle.gos_cores.specs.Cores.{CoreIsRealised}
 use Rattle.gos_cores.specs.Joined.{wiring, IsOuter, AllOuter, carried}
@@ -39,20 +39,6 @@ pub writing_outer : AllOuter (link 0 (ResultEnd 1) 1 (PartEnd 0 1) ∷ link 1 (P
 writing_outer l (zero, small, is) = subst (λ (k : Link). IsOuter k.one.plan k.one.end × IsOuter k.other.plan k.other.end) is (tt, zero_not 0)
 writing_outer l (suc zero, small, is) = subst (λ (k : Link). IsOuter k.one.plan k.one.end × IsOuter k.other.plan k.other.end) is (zero_not 0, tt)
 writing_outer l (suc (suc k), small, is) = absurd (omega (arith, small))
-
--- imports that may stand for a plan's
-abbrev Fine : Imports → Type 0
-Fine is = AllGround is × NamesDiffer is
-
-no_others : (is : Imports) → HaveOtherNames is []
-no_others is i j has (k, small, e) = absurd (omega (arith, small))
-
-more_fine : (is js : Imports) → Fine is → Fine js → HaveOtherNames is js → Fine (is ++ js)
-more_fine is js one other apart = (ground_both is js one.0 other.0, differ_both is js one.1 other.1 apart)
-
-append_none : (is : Imports) → is ++ [] ≡ is
-append_none [] = refl
-append_none (i ∷ is) = ap (λ (js : Imports). i ∷ js) (append_none is)
 
 own_imports : (f : Core) (r c : Plan) → IsCore f r c → AllAmong c.imports r.imports
 own_imports f r c is i has = let (n, at) = place_of c.imports i has in contains_at r.imports (f.import n) i (is.imports n i at).0

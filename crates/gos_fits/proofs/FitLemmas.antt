@@ -1,7 +1,7 @@
 -- The joining of slim plans is slim, and a slim plan within the limit on weight is small.
 --
 -- Parts, handshakes and weights add up, the imports that stay are among all, and the joints are no more than those of the plans.
-use Rattle.std.specs.Prelude.{◌≡◌, ◌≤◌, ℕ, suc, ◌+◌, ◌*◌, Bool, true, false, List, [], ◌∷◌, ◌++◌, length, map, Some, None}
+use Rattle.std.specs.Prelude.{◌≡◌, ◌≤◌, ℕ, ◌+◌, ◌*◌, List, [], ◌∷◌, ◌++◌, length, map, Some, None}
 use Rattle.std.proofs.Common.{refl, ◌∙◌, ap, arith, inl, inr, length-append}
 use Rattle.std.proofs.lemmas.List.{length-map}
 use Rattle.gos_model.specs.Typing.{Imported}
@@ -9,7 +9,7 @@ use Rattle.gos_plan.specs.Kinds.{Part}
 use Rattle.gos_plan.specs.Plans.{Plan}
 use Rattle.gos_plan.specs.Seen.{SeenPlan}
 use Rattle.gos_plan.specs.Size.{shakes_of, plan_size}
-use Rattle.gos_plan.specs.Joining.{Link, is_joined, left_in, left_among, all_parts, all_weight, IsJoining}
+use Rattle.gos_plan.specs.Joining.{Link, left_among, all_parts, all_weight, IsJoining}
 use Rattle.gos_realises.specs.Slim.{all_shakes, IsSlim}
 use Rattle.gos_link.specs.declared.build.Bind.{Bind}
 use Rattle.gos_link.specs.declared.build.Build.{Build}

@@ -1,13 +1,12 @@
 -- A branch of a fork is a child of the node.
-use Rattle.std.specs.Prelude.{◌≢◌, ◌+◌, ◌-◌, ◌<◌, ◌≤◌, ◌⊎◌, ◌||◌, ◌&&◌, not, length, nat_lt, None, Contains}
-use Rattle.std.proofs.Common.{◌≡◌, ℕ, suc, Bool, true, false, List, ◌∷◌, ◌++◌, Some, inl, inr, refl, sym, ◌∙◌, ap, subst, arith, if◌then◌else◌}
-use Rattle.std.proofs.lemmas.Bool.Decides.{nat_tests}
+use Rattle.std.specs.Prelude.{◌≢◌, ◌+◌, ◌<◌, ◌≤◌, ◌⊎◌, length, None, Contains}
+use Rattle.std.proofs.Common.{◌≡◌, ℕ, suc, Bool, false, List, ◌∷◌, ◌++◌, Some, inl, inr, refl, sym, ◌∙◌, ap, subst, arith, if◌then◌else◌}
 use Rattle.std.proofs.lemmas.List.{length-append}
 use Rattle.std.proofs.lemmas.List.Elements.{Contains-append_left, Contains-append_right, Contains-append_cases}
 use Rattle.gos_check.specs.declared.linear.Split.{Split}
 use Rattle.gos_check.specs.Nodes.{Numbered, type_of_node}
-use Rattle.gos_check.specs.Linearity.{times, made}
-use Rattle.gos_check.proofs.TimesLemmas.{eq_true, eq_false}
+use Rattle.gos_check.specs.Linearity.{times}
+use Rattle.gos_check.proofs.TimesLemmas.{eq_false}
 use Rattle.gos_plan.specs.Kinds.{Part}
 use Rattle.gos_plan.specs.Plans.{PartEnd, ResultEnd}
 use Rattle.gos_realises.specs.Regular.{count}
@@ -21,26 +20,16 @@ use Rattle.gos_unions.specs.Unions.{within}
 use Rattle.gos_compile.specs.Wiring.{Types, row, led, parts_of, nodes, ties_of, shares_ties}
 use Rattle.gos_wired.specs.Wired.{Supplies, dot_of_place, dot_ties, all_supply_ties, wired_ties}
 use Rattle.gos_wired.specs.NodeFitting.{AreOfTypes}
-use Rattle.gos_stages.specs.Lodging.{spot_if, AreTidy}
-use Rattle.gos_stages.specs.Folding.{AtOwn, Child, is_used, lodge, child_out, in_range, spot_dot, asks_child, is_number, child_back, shared_ties, own_ties, IsForeign, IsChild}
-use Rattle.gos_stages.proofs.LodgingLemmas.{lifted, led_listed, numbers_are_held}
-use Rattle.gos_stages.proofs.HousingLemmas.{far_is_nothing}
+use Rattle.gos_stages.specs.Lodging.{AreTidy}
+use Rattle.gos_stages.specs.Folding.{AtOwn, Child, is_used, child_out, in_range, child_back, shared_ties, own_ties, IsForeign, IsChild}
+use Rattle.gos_stages.proofs.LodgingLemmas.{lifted, led_listed}
 use Rattle.gos_stages.proofs.ChildTieLemmas.{tie_of, tie_in}
-use Rattle.gos_stages.proofs.ChildBackLemmas.{one_lead, range_below}
+use Rattle.gos_stages.proofs.NothingLemmas.{part_nothing, own_back, node_nothing, number_nothing}
+use Rattle.gos_stages.proofs.ChildBackLemmas.{one_lead, range_below, range_past}
 use Rattle.gos_numbers.specs.Inherited.{IsPart}
 use Rattle.gos_forks.specs.Forks.{Branch, branch_parts, branch_nodes, branch_made, branch_uses, branch_ties, IsFork, AreBranches, branch_child, BranchIsChild}
 use Rattle.gos_forks.proofs.BranchLemmas.{in_branches, of_branches, Knows, IsAside, ties_aside}
 use Rattle.gos_forks.proofs.NumberLemmas.{all_made, all_uses, IsOthers, others_so}
-
-high : (a b : ℕ) → b ≤ a → nat_lt a b ≡ false
-high a b h = grind (arith, nat_tests)
-
-range_past : (a n k : ℕ) → a + n ≤ k → in_range a n k ≡ false
-range_past a n k le = ap (λ (t : Bool). not (nat_lt k a) && t) (high k (a + n) le) ∙ never (not (nat_lt k a))
-  where
-    never : (t : Bool) → (t && false) ≡ false
-    never true = refl
-    never false = refl
 
 pub amid : (before after : List Branch) (b : Branch) → Contains (before ++ b ∷ after) b
 amid before after b = Contains-append_right before (b ∷ after) b (0, omega arith, refl)
@@ -55,47 +44,15 @@ module _ (types : Types) (i j : ℕ) (ss : List Split) (env : Supplies) (ns : Li
 
   -- its own part, at another handshake
   own_nothing : (h : ℕ) → h ≢ length before → IsNothing (Of (PartEnd (i + length ss) h))
-  own_nothing h far =
-      ap (λ (t : Bool). if t then asks_child child h
-      else if in_range (child.first + child.off) (length (parts_of types b.term)) (i + length ss) then Some (Within 0 (Of (PartEnd (i + length ss) h)))
-      else spot_dot ((lodge child).home (Within 0 (Of (PartEnd (i + length ss) h))))) (eq_true (i + length ss) (i + length ss) refl)
-      ∙ ap (λ (t : Bool). if t then Some (Within 0 (Of (ResultEnd 0))) else None) (eq_false h (length before) far)
+  own_nothing h far = own_back child h ∙ ap (λ (t : Bool). if t then Some (Within 0 (Of (ResultEnd 0))) else None) (eq_false h (length before) far)
 
   -- a part behind it that isn't the branch's
   behind_nothing : (k h : ℕ) → i + length ss < k → in_range (child.first + child.off) (length (parts_of types b.term)) k ≡ false
       → IsNothing (Of (PartEnd k h))
-  behind_nothing k h lt out =
-      ap (λ (t : Bool). if t then asks_child child h
-      else if in_range (child.first + child.off) (length (parts_of types b.term)) k then Some (Within 0 (Of (PartEnd k h)))
-      else spot_dot ((lodge child).home (Within 0 (Of (PartEnd k h)))))
-      (eq_false k (i + length ss) (λ e. let same : k ≡ i + length ss = e in omega (arith, same, lt)))
-      ∙ (ap (λ (t : Bool). if t then Some (Within 0 (Of (PartEnd k h))) else spot_dot ((lodge child).home (Within 0 (Of (PartEnd k h))))) out
-      ∙ ap spot_dot nowhere)
-    where
-      nowhere : (lodge child).home (Within 0 (Of (PartEnd k h))) ≡ None
-      nowhere =
-          let same : i + (k - i) ≡ k = omega (arith, lt) in
-          subst (λ (n : ℕ). (lodge child).home (Within 0 (Of (PartEnd n h))) ≡ None) same
-          (far_is_nothing types i (is_used child) ss env (k - i) h (omega (arith, lt)))
+  behind_nothing k h lt out = part_nothing child k h (omega (arith, lt)) (λ e. let same : k ≡ i + length ss = e in omega (arith, same, lt)) out
 
   result_nothing : (h : ℕ) → IsNothing (Of (ResultEnd h))
   result_nothing h = refl
-
-  node_nothing : (k h : ℕ) → in_range (suc j + branch_nodes before) (nodes b.term) k ≡ false → IsNothing (Node k h)
-  node_nothing k h out = ap (λ (t : Bool). if t then Some (Within 0 (Node k h)) else None) out
-
-  number_nothing : (k h : ℕ) → AreTidy (is_used child) ss ns → IsOthers ss b k → IsNothing (Number k h)
-  number_nothing k h tidy others =
-      ap (λ (t : Bool). if t then Some (Within 0 (Number k h)) else spot_dot ((lodge child).home (Within 0 (Number k h)))) foreign
-      ∙ ap spot_dot (numbers_are_held types i (is_used child) ss env ns k h tidy others.unsplit ∙ ap (λ (t : Bool). spot_if t k (ResultEnd h)) unused)
-    where
-      unused : is_used child k ≡ false
-      unused = let none = others.unused in high 0 (times k b.uses) (omega (arith, none))
-
-      foreign : is_number child k ≡ false
-      foreign =
-          let none = others.unmade in
-          ap (λ (t : Bool). t || nat_lt 0 (times k (made b.term))) unused ∙ high 0 (times k (made b.term)) (omega (arith, none))
 
   -- Branches that it is none of: they are asked from handshake c on, and have parts from number x on, and nodes from y on.
   record AreApart (c x y : ℕ) (bs : List Branch) : Type 0 where
@@ -113,8 +70,9 @@ module _ (types : Types) (i j : ℕ) (ss : List Split) (env : Supplies) (ns : Li
     aside_nothing (places.Part k) h (inr (le, lt)) = let (far, out) = apart.parts k le lt in behind_nothing k h far out
     aside_nothing (places.Import k) h aside = absurd aside
     aside_nothing places.Result h aside = absurd aside
-    aside_nothing (places.Number k) h aside = number_nothing k h tidy (apart.numbers k aside)
-    aside_nothing (places.Node k) h (le, lt) = node_nothing k h (apart.inner k le lt)
+    aside_nothing (places.Number k) h aside =
+        let others = apart.numbers k aside in number_nothing child k h tidy others.unused others.unmade others.unsplit
+    aside_nothing (places.Node k) h (le, lt) = node_nothing child k h (apart.inner k le lt)
 
     foreign_ties : ((a : Branch) → Contains bs a → Knows a) → (u : point_ties.Tie) → Contains (branch_ties types (i + length ss) c x y bs) u
         → IsForeign child (lifted u)

@@ -1,7 +1,6 @@
 -- The sides of a pair are children of its node.
-use Rattle.std.specs.Prelude.{◌≢◌, ◌+◌, ◌-◌, ◌<◌, ◌≤◌, ◌⊎◌, ◌||◌, ◌&&◌, not, length, map, take, drop, nat_lt, slice_get, None, Contains}
-use Rattle.std.proofs.Common.{◌≡◌, ℕ, zero, suc, Bool, true, false, List, [], ◌∷◌, ◌++◌, Option, Some, inl, inr, refl, sym, ◌∙◌, ap, subst, arith, if◌then◌else◌}
-use Rattle.std.proofs.lemmas.Bool.Decides.{nat_tests}
+use Rattle.std.specs.Prelude.{◌≢◌, ◌+◌, ◌<◌, ◌≤◌, ◌⊎◌, length, map, take, drop, slice_get, None, Contains}
+use Rattle.std.proofs.Common.{◌≡◌, ℕ, zero, suc, Bool, false, List, [], ◌∷◌, ◌++◌, Option, Some, inl, inr, refl, sym, ◌∙◌, ap, subst, arith, if◌then◌else◌}
 use Rattle.std.proofs.lemmas.List.{length-append}
 use Rattle.std.proofs.lemmas.List.Elements.{Contains-append_left, Contains-append_right, Contains-append_cases}
 use Rattle.gos_types.specs.Types.{Type', Pair}
@@ -10,7 +9,7 @@ use Rattle.gos_check.specs.Nodes.{Numbered, type_of_node}
 use Rattle.gos_check.specs.Linearity.{times, used, made}
 use Rattle.gos_check.proofs.TimesLemmas.{eq_false, times-append, some_times}
 use Rattle.gos_plan.specs.Kinds.{Contact, contacts_of}
-use Rattle.gos_plan.specs.Plans.{PartEnd, ResultEnd, turned_if}
+use Rattle.gos_plan.specs.Plans.{ResultEnd, turned_if}
 use Rattle.gos_plan.proofs.SideLemmas.{pairs_join}
 use Rattle.gos_realises.specs.Regular.{count}
 use Rattle.gos_ties.specs.declared.points.Place.{Place}
@@ -28,37 +27,22 @@ use Rattle.gos_wired.specs.Wired.{Supplies, dot_of_place, dot_ties, all_supply_t
 use Rattle.gos_wired.specs.NodeFitting.{AreOfTypes}
 use Rattle.gos_stages.specs.Leading.{or_point, leading}
 use Rattle.gos_stages.specs.Ranges.{IsWithin}
-use Rattle.gos_stages.specs.Lodging.{spot_if, AreTidy}
-use Rattle.gos_stages.specs.Folding.{Lead, AtResult, lead_point, of_own, of_result, Child, is_used, lodge, child_out, in_range, spot_dot, asks_child, is_number, child_back, own_ties, IsForeign, IsChild, AreDistinct}
+use Rattle.gos_stages.specs.Lodging.{AreTidy}
+use Rattle.gos_stages.specs.Folding.{Lead, AtResult, lead_point, of_own, of_result, Child, is_used, child_out, in_range, child_back, own_ties, IsForeign, IsChild, AreDistinct}
 use Rattle.gos_stages.specs.Folded.{Sees}
 use Rattle.gos_stages.specs.Regions.{HasParts}
 use Rattle.gos_stages.proofs.FollowLemmas.{result_leads as led_elsewhere}
 use Rattle.gos_stages.proofs.RangeLemmas.{ties_stay_within}
-use Rattle.gos_stages.proofs.LodgingLemmas.{lifted, numbers_are_held}
-use Rattle.gos_stages.proofs.HousingLemmas.{far_is_nothing}
+use Rattle.gos_stages.proofs.LodgingLemmas.{lifted}
 use Rattle.gos_stages.proofs.ChildTieLemmas.{tie_of, tie_in}
+use Rattle.gos_stages.proofs.NothingLemmas.{part_nothing, node_nothing, number_nothing}
+use Rattle.gos_stages.proofs.ChildBackLemmas.{range_below, range_past}
 use Rattle.gos_stages.proofs.ChildPartLemmas.{no_more_than}
 use Rattle.gos_stages.proofs.ContactLemmas.{shares_length}
 use Rattle.gos_numbers.specs.Inherited.{IsPart}
 use Rattle.gos_forks.specs.Forks.{Branch, branch_made, branch_uses, AreBranches}
 use Rattle.gos_forks.specs.Pairs.{result_leads, pairing, pair_side, parts_end, left_side, right_side, SidesAreChildren, SidesHaveParts}
 use Rattle.gos_forks.proofs.NumberLemmas.{IsOthers, others_so}
-
-high : (a b : ℕ) → b ≤ a → nat_lt a b ≡ false
-high a b h = grind (arith, nat_tests)
-
-low : (a b : ℕ) → a < b → nat_lt a b ≡ true
-low a b h = grind (arith, nat_tests)
-
-range_past : (a n k : ℕ) → a + n ≤ k → in_range a n k ≡ false
-range_past a n k le = ap (λ (t : Bool). not (nat_lt k a) && t) (high k (a + n) le) ∙ never (not (nat_lt k a))
-  where
-    never : (t : Bool) → (t && false) ≡ false
-    never true = refl
-    never false = refl
-
-range_before : (a n k : ℕ) → k < a → in_range a n k ≡ false
-range_before a n k lt = rw (low k a lt) refl
 
 -- rows
 row_length : (p : Place) (c n : ℕ) → length (row p c n) ≡ n
@@ -168,33 +152,6 @@ module _ (types : Types) (i : ℕ) (ss : List Split) (env : Supplies) (ns : List
   abbrev IsNothing : Dot → Type 0
   IsNothing d = child_back me (Within 0 d) ≡ None
 
-  part_nothing : (k h : ℕ) → i + length ss ≤ k → k ≢ i + own → in_range (i + off) (length (parts_of types b.term)) k ≡ false → IsNothing (Of (PartEnd k h))
-  part_nothing k h le far out =
-      ap (λ (t : Bool). if t then asks_child me h
-      else if in_range (i + off) (length (parts_of types b.term)) k then Some (Within 0 (Of (PartEnd k h)))
-      else spot_dot ((lodge me).home (Within 0 (Of (PartEnd k h))))) (eq_false k (i + own) far)
-      ∙ (ap (λ (t : Bool). if t then Some (Within 0 (Of (PartEnd k h))) else spot_dot ((lodge me).home (Within 0 (Of (PartEnd k h))))) out
-      ∙ ap spot_dot nowhere)
-    where
-      nowhere : (lodge me).home (Within 0 (Of (PartEnd k h))) ≡ None
-      nowhere =
-          let same : i + (k - i) ≡ k = omega (arith, le) in
-          subst (λ (n : ℕ). (lodge me).home (Within 0 (Of (PartEnd n h))) ≡ None) same
-          (far_is_nothing types i (is_used me) ss env (k - i) h (omega (arith, le)))
-
-  number_nothing : (k h : ℕ) → AreTidy (is_used me) ss ns → IsOthers ss b k → IsNothing (Number k h)
-  number_nothing k h tidy others =
-      ap (λ (t : Bool). if t then Some (Within 0 (Number k h)) else spot_dot ((lodge me).home (Within 0 (Number k h)))) foreign
-      ∙ ap spot_dot (numbers_are_held types i (is_used me) ss env ns k h tidy others.unsplit ∙ ap (λ (t : Bool). spot_if t k (ResultEnd h)) unused)
-    where
-      unused : is_used me k ≡ false
-      unused = let none = others.unused in high 0 (times k b.uses) (omega (arith, none))
-
-      foreign : is_number me k ≡ false
-      foreign =
-          let none = others.unmade in
-          ap (λ (t : Bool). t || nat_lt 0 (times k (made b.term))) unused ∙ high 0 (times k (made b.term)) (omega (arith, none))
-
   -- the other side, which has nothing in common with it
   record AreApart (x y d : ℕ) (o : Branch) : Type 0 where
     pub parts :
@@ -206,12 +163,12 @@ module _ (types : Types) (i : ℕ) (ss : List Split) (env : Supplies) (ns : List
 
   module _ (tidy : AreTidy (is_used me) ss ns) (x y d : ℕ) (o : Branch) (apart : AreApart x y d o) where
     aside_nothing : (p : Place) (h : ℕ) → IsAside types x y d o p h → IsNothing (dot_of_place p h)
-    aside_nothing (places.Part k) h (le, lt) = let (from, far, out) = apart.parts k le lt in part_nothing k h from far out
+    aside_nothing (places.Part k) h (le, lt) = let (from, far, out) = apart.parts k le lt in part_nothing me k h from far out
     aside_nothing (places.Import k) h aside = absurd aside
     aside_nothing places.Result h (le, lt) = result_none c (count (type_of_node b.term)) 0 h (apart.shakes h le lt)
-    aside_nothing (places.Number k) h aside = number_nothing k h tidy (apart.numbers k aside)
-    aside_nothing (places.Node k) h (le, lt) =
-        ap (λ (t : Bool). if t then Some (Within 0 (Node k h)) else None) (apart.inner k le lt)
+    aside_nothing (places.Number k) h aside =
+        let others = apart.numbers k aside in number_nothing me k h tidy others.unused others.unmade others.unsplit
+    aside_nothing (places.Node k) h (le, lt) = node_nothing me k h (apart.inner k le lt)
 
     foreign_ties : (u : point_ties.Tie) → Contains (ties_of types x y o.term (row places.Result d (count (type_of_node o.term)))) u → IsForeign me (lifted u)
     foreign_ties u has =
@@ -377,10 +334,10 @@ module _ (types : Types) (i j : ℕ) (a b : Type') (ss : List Split) (m n : Bran
               λ k le lt. (
                 le,
                 (λ e. let same : k ≡ i + (length ss + (lm + ln)) = e in omega (arith, same, lt)),
-                range_before (i + (length ss + lm)) ln k (omega (arith, lt)),
+                range_below (i + (length ss + lm)) ln k (omega (arith, lt)),
               );
           shakes = λ h le lt. inl (omega (arith, lt));
-          inner = λ k le lt. range_before (suc j + nodes m.term) (nodes n.term) k lt;
+          inner = λ k le lt. range_below (suc j + nodes m.term) (nodes n.term) k lt;
           numbers = right_numbers;
         }
 

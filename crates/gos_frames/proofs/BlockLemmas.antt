@@ -10,7 +10,7 @@ use Rattle.gos_sessions.specs.Sessions.{bits}
 use Rattle.gos_check.specs.Nodes.{Numbered, Under, OfNew, type_of_node}
 use Rattle.gos_check.proofs.TimesLemmas.{eq_true, true_eq}
 use Rattle.gos_plan.specs.Kinds as kinds
-use Rattle.gos_plan.specs.Kinds.{Part, Contact, asks, serves, contacts_of, part_contacts}
+use Rattle.gos_plan.specs.Kinds.{Part, Contact, asks, contacts_of, part_contacts}
 use Rattle.gos_plan.specs.Plans.{End, PartEnd, ImportEnd, ResultEnd, Joint, Plan, contacts_of_part, contacts_of_import, turned_if, contact_at}
 use Rattle.gos_plan.specs.Tokens.{IsPortEnd}
 use Rattle.gos_plan.proofs.JointLemmas.{one_joint, contained}
@@ -37,7 +37,7 @@ use Rattle.gos_wired.proofs.TieLemmas.{of_results}
 use Rattle.gos_frames.specs.Blocks.{with_name, IsBound, HasBody, BlockIsWired}
 use Rattle.gos_frames.proofs.NumberingLemmas.{origin, got_below, import_there, import_is}
 use Rattle.gos_frames.proofs.FrameLemmas as frames
-use Rattle.gos_frames.proofs.FrameLemmas.{size, in_range_true, out_of_range, itself_true, own_part, back, laid, laid_end, supply_each}
+use Rattle.gos_frames.proofs.FrameLemmas.{size, in_range_true, out_of_range, itself_true, own_part, back, laid, laid_end}
 use Rattle.gos_frames.proofs.ChildLemmas.{Sitting, child_parts, child_placing, child_plan, number_of, number_if, port_of, its_cut, its_outer, its_inner, its_fold, its_web, whole_web, IsPort, IsSitting, HasPorts}
 use Rattle.gos_frames.proofs.ChildLemmas as children
 use Rattle.gos_frames.proofs.FoldLemmas.{HasPlan, has_plan}

@@ -10,7 +10,7 @@ use Rattle.gos_check.specs.Nodes.{Numbered, Under, OfNew}
 use Rattle.gos_check.specs.Linearity.{times, made}
 use Rattle.gos_check.proofs.TimesLemmas.{eq_true, eq_false, false_ne, times-append, times_same, some_times}
 use Rattle.gos_plan.specs.Kinds as kinds
-use Rattle.gos_plan.specs.Kinds.{Part, Contact, asks, serves, contacts_of, part_contacts}
+use Rattle.gos_plan.specs.Kinds.{Part, Contact, asks, contacts_of, part_contacts}
 use Rattle.gos_plan.specs.Plans.{End, PartEnd, ImportEnd, ResultEnd, turned_if}
 use Rattle.gos_realises.specs.Regular.{count}
 use Rattle.gos_realises.specs.Modules.{Supply}
@@ -30,7 +30,7 @@ use Rattle.gos_wired.proofs.TieLemmas.{result_tie, in_results, in_supplies}
 use Rattle.gos_frames.specs.Blocks.{with_name, IsBound}
 use Rattle.gos_frames.proofs.NumberingLemmas.{numbering}
 use Rattle.gos_frames.proofs.FrameLemmas as frames
-use Rattle.gos_frames.proofs.FrameLemmas.{Frame, kept, known, size, out_of_range, kept_true, own_part, back, laid, laid_end, Comes, its_ties_there}
+use Rattle.gos_frames.proofs.FrameLemmas.{Frame, kept, known, kept_true, own_part, back}
 use Rattle.gos_frames.proofs.FoldLemmas.{follows_none}
 use Rattle.gos_frames.proofs.ChildLemmas.{Sitting, child_placing, its_web, IsSitting}
 

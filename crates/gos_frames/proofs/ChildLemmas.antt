@@ -18,7 +18,7 @@ use Rattle.gos_webs.proofs.CutLemmas.{part_at}
 use Rattle.gos_folds.specs.Folds.{Fold, Follows, IsFolded}
 use Rattle.gos_compile.specs.Wiring.{row, parts_of, type_of_node, ties_of}
 use Rattle.gos_wired.specs.Wired as origins
-use Rattle.gos_wired.specs.Wired.{Supplies, Source, Own, Supplied, Placing, IsFrom, placed, source_dot, dot_ties, supply_ties, all_supply_ties, wired_web, IsWired}
+use Rattle.gos_wired.specs.Wired.{Supplies, Source, Own, Supplied, Placing, IsFrom, placed, source_dot, dot_ties, supply_ties, wired_web, IsWired}
 use Rattle.gos_frames.proofs.SpanLemmas.{EachPoint}
 use Rattle.gos_frames.proofs.NumberingLemmas.{origin, got_below, all_parts, all_imports, numbering, part_there, part_is, import_is}
 use Rattle.gos_frames.proofs.FrameLemmas.{Frame, kept, known, size, in_range, in_range_true, in_range_is, itself_true, kept_true, kept_is, part_held, back, laid, laid_end, Comes, its_ties_there}

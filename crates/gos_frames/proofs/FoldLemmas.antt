@@ -13,7 +13,7 @@ use Rattle.gos_realises.specs.Modules.{Supply}
 use Rattle.gos_realises.proofs.ToldLemmas.{there_is}
 use Rattle.gos_ties.specs.declared.points.Place.TheVariants as places
 use Rattle.gos_webs.specs.Webs as webs
-use Rattle.gos_webs.specs.Webs.{Dot, Of, Number, Within, Tie, tie, Web, Way, here, along, joint, IsOfWeb}
+use Rattle.gos_webs.specs.Webs.{Dot, Of, Number, Within, Tie, tie, Web, Way, here, along}
 use Rattle.gos_webs.specs.Cutting.{IsOutside}
 use Rattle.gos_webs.proofs.CutLemmas.{part_at}
 use Rattle.gos_unions.specs.Unions.{within}
@@ -22,12 +22,12 @@ use Rattle.gos_windows.specs.Regions.{IsOther, IsRegion}
 use Rattle.gos_folds.specs.Folds.{Follows, IsFold, joined_cut, with_joints}
 use Rattle.gos_folds.proofs.PlanLemmas.{fold_has_plan}
 use Rattle.gos_compile.specs.Wiring.{row, parts_of, type_of_node, ties_of}
-use Rattle.gos_wired.specs.Wired.{Supplies, Source, Own, Supplied, IsFrom, placed, source_dot, dot_ties, supply_ties, all_supply_ties, IsWired}
+use Rattle.gos_wired.specs.Wired.{Source, Own, Supplied, IsFrom, placed, source_dot, dot_ties, supply_ties, all_supply_ties, IsWired}
 use Rattle.gos_wired.specs.Wired as origins
 use Rattle.gos_wired.proofs.TieLemmas.{in_supplies, of_supplies}
 use Rattle.gos_frames.proofs.NumberingLemmas.{part_there, part_is, import_there, import_is}
 use Rattle.gos_frames.proofs.FrameLemmas.{Frame, kept, known, size, in_range, in_range_true, in_range_is, itself_is, itself_true, itself_false, kept_is, known_of, other_part, own_part, back, laid, Held, its_ties, its_ties_there, led, leads, lead_tie, supply_each}
-use Rattle.gos_frames.proofs.ChildLemmas.{Sitting, child_parts, child_placing, child_plan, its_outer, its_inner, its_cut, its_fold, its_web, whole_web, whole_ties, number_of, number_if, port_of, IsPort, IsSitting, HasPorts}
+use Rattle.gos_frames.proofs.ChildLemmas.{Sitting, child_parts, child_placing, child_plan, its_outer, its_cut, its_fold, its_web, whole_web, whole_ties, number_of, number_if, port_of, IsSitting, HasPorts}
 use Rattle.gos_frames.proofs.ChildLemmas as children
 
 -- one tie is a way

@@ -10,4 +10,6 @@ pub mod RegionLemmas
 pub mod ParallelLemmas
 pub mod BodyLemmas
 pub mod BlockLemmas
+pub mod FreshLemmas
+pub mod NamedLemmas
 mod SmallFrameLemmas

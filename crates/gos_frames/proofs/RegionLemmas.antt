@@ -6,7 +6,7 @@ use Rattle.gos_model.specs.Typing.{Imported}
 use Rattle.gos_check.specs.Nodes.{Numbered}
 use Rattle.gos_plan.specs.Kinds.{Part, asks, part_contacts}
 use Rattle.gos_plan.specs.Plans as plans
-use Rattle.gos_plan.specs.Plans.{End, PartEnd, ImportEnd, ResultEnd, Plan, contacts_of_part, turned_if, contact_at, stands_in}
+use Rattle.gos_plan.specs.Plans.{End, PartEnd, ImportEnd, ResultEnd, Plan}
 use Rattle.gos_realises.specs.Realises.{NamesDiffer}
 use Rattle.gos_realises.proofs.PlaceLemmas.{contains_at, place_of}
 use Rattle.gos_realises.proofs.ToldLemmas.{there_is}

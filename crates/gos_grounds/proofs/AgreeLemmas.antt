@@ -6,7 +6,7 @@ use Rattle.gos_check.specs.declared.linear.Split.{Split}
 use Rattle.gos_check.specs.Nodes.{Numbered, Closed, Use, Under, One, Two, If, Meaning, shifted, below, inside_one, inside, meaning, binder_term, one_term, two_term}
 use Rattle.gos_stages.specs.Inside.{AreSplit, numbers_inside}
 use Rattle.gos_numbers.specs.Kept.{InScope}
-use Rattle.gos_grounds.proofs.WhoseLemmas.{in_list, before}
+use Rattle.gos_frames.proofs.NamedLemmas.{in_list, before}
 
 -- two meanings are one at these numbers
 abbrev pub AgreeAt : List ℕ → Meaning → Meaning → Type 0

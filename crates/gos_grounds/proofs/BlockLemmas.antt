@@ -1,8 +1,7 @@
 -- A block: its body realises its term where a name that no import has stands for the variable.
-use Rattle.std.specs.Prelude.{◌≡◌, ◌≢◌, ℕ, zero, suc, ◌+◌, ◌<◌, Bool, true, false, List, [], ◌∷◌, ◌++◌, ◌⊎◌, Some, All, Contains, slice_get, nat_eq, nat_lt, if◌then◌else◌}
+use Rattle.std.specs.Prelude.{◌≡◌, ◌≢◌, ℕ, suc, ◌+◌, ◌<◌, Bool, true, false, List, [], ◌∷◌, ◌++◌, Some, All, Contains, slice_get, nat_eq, nat_lt, if◌then◌else◌}
 use Rattle.std.specs.Str.{bytes_eq}
-use Rattle.std.proofs.Common.{refl, sym, ◌∙◌, ap, subst, arith, inl, inr}
-use Rattle.std.proofs.lemmas.Option.{none-some, same_Some}
+use Rattle.std.proofs.Common.{refl, sym, ◌∙◌, ap, subst, arith}
 use Rattle.std.proofs.lemmas.Bool.Decides.{nat_tests}
 use Rattle.std.proofs.lemmas.Slice.Eq.{bytes_eq-Decides}
 use Rattle.std.proofs.lemmas.List.Elements.{Contains-append_left, Contains-append_right}
@@ -18,43 +17,31 @@ use Rattle.gos_plan.specs.Plans.{Plan}
 use Rattle.gos_plan.specs.TokenBits.{LiteralFits}
 use Rattle.gos_realises.specs.Modules.{Supply}
 use Rattle.gos_realises.specs.Realises.{NamesDiffer, Realises}
-use Rattle.gos_realises.proofs.PlaceLemmas.{contains_at, place_of, differ_at, at_differ}
+use Rattle.gos_realises.proofs.PlaceLemmas.{contains_at, place_of}
 use Rattle.gos_renumbered.proofs.ImportLemmas.{name_is, type_has}
 use Rattle.gos_typing.proofs.WhenceLemmas.{named}
 use Rattle.gos_typing.proofs.NameLemmas.{typed_under_fewer}
 use Rattle.gos_names.specs.Names.{name_plan, imported, NameIsRealised}
 use Rattle.gos_blocks.specs.Block.{BlockRealises}
 use Rattle.gos_compile.specs.Wiring.{Types}
-use Rattle.gos_wired.specs.Wired.{Supplies, Placing, Origin, IsWired, AreRealised, terms_of}
+use Rattle.gos_wired.specs.Wired.{Supplies, Placing, IsWired, AreRealised, terms_of}
 use Rattle.gos_meanings.specs.Meanings.{HasLeaves, standing, BodyIsInstantiated}
 use Rattle.gos_frames.specs.Blocks.{with_name, IsBound, HasBody, BlockIsWired}
+use Rattle.gos_frames.proofs.FreshLemmas.{fresh_name, is_fresh}
+use Rattle.gos_frames.proofs.NamedLemmas as named
+use Rattle.gos_frames.proofs.NamedLemmas.{before, name_supply, inner_here, inner_there}
 use Rattle.gos_numbers.specs.Kept.{InScope}
 use Rattle.gos_grounds.specs.Cases.{RealisesWired, BlockCase}
-use Rattle.gos_grounds.proofs.WhoseLemmas.{before, below_whose, whose}
+use Rattle.gos_grounds.proofs.WhoseLemmas.{below_whose, whose}
 use Rattle.gos_grounds.proofs.WiredLemmas.{imports_are_ground, literals_within}
 use Rattle.gos_grounds.proofs.AgreeLemmas.{AgreeAt, below_agrees, meaning_agrees}
-use Rattle.gos_grounds.proofs.FreshLemmas.{fresh_name, is_fresh}
 use Rattle.gos_grounds.proofs.PutLemmas.{IsWithout, name_apart, put_typed}
-
--- its one import is the name
-only_import : (x : Name) (w q : ℕ) (y : Imported) → slice_get (name_plan x (Var w)).imports q ≡ Some y → (q ≡ 0) × (y.name ≡ x)
-only_import x w zero y e = (refl, ap (λ (z : Imported). z.name) (sym (same_Some (imported x (Var w)) y e)))
-only_import x w (suc q) y e = absurd (none-some y e)
 
 module _
     (types : Types) (ns : List ℕ) (w n : ℕ) (m : Numbered) (type_n : types n ≡ Var w) (bound : IsBound n m ns)
     (env : Supplies) (supplies : AreRealised types env ns) (x : Name) where
-  abbrev name_supply : Supply
-  name_supply = record { plan = name_plan x (Var w); term = Import x }
-
   abbrev inner : Supplies
   inner = with_name n x (Var w) env
-
-  inner_here : (k : ℕ) → nat_eq k n ≡ true → inner k ≡ name_supply
-  inner_here k is = ap (λ (b : Bool). if b then name_supply else env k) is
-
-  inner_there : (k : ℕ) → nat_eq k n ≡ false → inner k ≡ env k
-  inner_there k is = ap (λ (b : Bool). if b then name_supply else env k) is
 
   -- the bound number is none of those outside
   other : (k : ℕ) → Contains ns k → nat_eq k n ≡ false
@@ -79,54 +66,16 @@ module _
       by_test : (b : Bool) → nat_eq k n ≡ b → Stands k (inner k)
       by_test true is =
           let type_k : types k ≡ Var w = ap types (true_eq k n is) ∙ type_n in
-          subst (Stands k) (sym (inner_here k is)) (subst (λ (u : Type'). Realises u (name_plan x (Var w)) (Import x)) (sym type_k) (law x (Var w) tt wide))
-      by_test false is = subst (Stands k) (sym (inner_there k is)) (supplies k (before ns n k is has))
+          subst (Stands k) (sym (inner_here n x w env k is))
+          (subst (λ (u : Type'). Realises u (name_plan x (Var w)) (Import x)) (sym type_k) (law x (Var w) tt wide))
+      by_test false is = subst (Stands k) (sym (inner_there n x w env k is)) (supplies k (before ns n k is has))
 
   module _
       (t : Type') (i j a b : ℕ) (pl pc : Placing) (r body : Plan) (wired : IsWired types i j (Under t [] (OfNew w) n m) ns env pl r)
       (v : IsWired types a b m (ns ++ n ∷ []) inner pc body) (differ : NamesDiffer r.imports)
       (fresh : (y : Imported) → Contains r.imports y → y.name ≢ x) where
-    -- an import of the body's plan is the name, or an import of the whole
-    abbrev IsOf : ℕ → Imported → Type 0
-    IsOf k y =
-        ((k ≡ pc.import n 0) × (y.name ≡ x))
-        ⊎ ((q : ℕ) × (slice_get r.imports q ≡ Some y) × (k ≡ pc.import (pl.origin q).number (pl.origin q).import))
-
-    is_of : (k : ℕ) (y : Imported) → slice_get body.imports k ≡ Some y → IsOf k y
-    is_of k y at = let (has, there, home) = v.no_import k y at in by_test has there home (nat_eq (pc.origin k).number n) refl
-      where
-        by_test : Contains (ns ++ n ∷ []) (pc.origin k).number
-            → slice_get (inner (pc.origin k).number).plan.imports (pc.origin k).import ≡ Some y
-            → pc.import (pc.origin k).number (pc.origin k).import ≡ k
-            → (c : Bool) → nat_eq (pc.origin k).number n ≡ c → IsOf k y
-        by_test has there home true is =
-            let number : (pc.origin k).number ≡ n = true_eq (pc.origin k).number n is in
-            let (first, name) =
-            only_import x w (pc.origin k).import y
-            (ap (λ (s : Supply). slice_get s.plan.imports (pc.origin k).import) (sym (inner_here (pc.origin k).number is)) ∙ there) in
-            inl (sym home ∙ (λ c. pc.import (number c) (first c)), name)
-        by_test has there home false is =
-            let (at_r, from) =
-            wired.imports (pc.origin k).number (pc.origin k).import y (before ns n (pc.origin k).number is has)
-            (ap (λ (s : Supply). slice_get s.plan.imports (pc.origin k).import) (sym (inner_there (pc.origin k).number is)) ∙ there) in
-            inr (
-              pl.import (pc.origin k).number (pc.origin k).import,
-              at_r,
-              sym home ∙ ap (λ (o : Origin). pc.import o.number o.import) (sym from),
-            )
-
     body_differ : NamesDiffer body.imports
-    body_differ = at_differ body.imports (λ k l y z at_k at_l e. by_sort k l y z e (is_of k y at_k) (is_of l z at_l))
-      where
-        by_sort : (k l : ℕ) (y z : Imported) → y.name ≡ z.name → IsOf k y → IsOf l z → k ≡ l
-        by_sort k l y z e (inl (at_k, name_y)) (inl (at_l, name_z)) = at_k ∙ sym at_l
-        by_sort k l y z e (inl (at_k, name_y)) (inr (q, at_q, at_l)) =
-            absurd (fresh z (contains_at r.imports q z at_q) (sym e ∙ name_y))
-        by_sort k l y z e (inr (p, at_p, at_k)) (inl (at_l, name_z)) =
-            absurd (fresh y (contains_at r.imports p y at_p) (e ∙ name_z))
-        by_sort k l y z e (inr (p, at_p, at_k)) (inr (q, at_q, at_l)) =
-            let same = differ_at r.imports differ p q y z at_p at_q e in
-            at_k ∙ (ap (λ (c : ℕ). pc.import (pl.origin c).number (pl.origin c).import) same ∙ sym at_l)
+    body_differ = named.body_differ types ns w n m env x t i j a b pl pc r body wired v differ fresh
 
     -- a name of what stands for a number is that of an import of its plan, of the whole's and of the body's
     record IsImported (k : ℕ) (y : Name) : Type 0 where
@@ -144,7 +93,7 @@ module _
         let there = wired.imports k q name.import has at in
         let here =
         v.imports k q name.import (Contains-append_left ns (n ∷ []) k has)
-        (ap (λ (s : Supply). slice_get s.plan.imports q) (inner_there k (other k has)) ∙ at) in
+        (ap (λ (s : Supply). slice_get s.plan.imports q) (inner_there n x w env k (other k has)) ∙ at) in
         record {
           import = name.import;
           own = name.has;
@@ -172,7 +121,7 @@ module _
         type_has body.imports body_differ x (imported x (Var w))
         (contains_at body.imports (pc.import n 0) (imported x (Var w))
         (v.imports n 0 (imported x (Var w)) (Contains-append_right ns (n ∷ []) n (0, omega arith, refl))
-        (ap (λ (s : Supply). slice_get s.plan.imports 0) (inner_here n (eq_true n n refl)))).0)
+        (ap (λ (s : Supply). slice_get s.plan.imports 0) (inner_here n x w env n (eq_true n n refl)))).0)
         ((bytes_eq-Decides x x).1 refl)
 
     -- the body with the name in it is what it means with the name's supply
@@ -197,7 +146,7 @@ module _
     standing_is : AgreeAt (ns ++ n ∷ []) (standing n (Import x) total) (terms_of inner)
     standing_is k has = by_test (nat_eq k n) refl
       where
-        by_test : (c : Bool) → nat_eq k n ≡ c → (if c then Import x else total k) ≡ (if c then name_supply else env k).term
+        by_test : (c : Bool) → nat_eq k n ≡ c → (if c then Import x else total k) ≡ (if c then name_supply x w else env k).term
         by_test true is = refl
         by_test false is = sym (total_is k (before ns n k is has))
 

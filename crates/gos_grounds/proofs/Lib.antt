@@ -4,6 +4,5 @@ pub mod ChildLemmas
 pub mod LeafLemmas
 pub mod ParallelLemmas
 pub mod AgreeLemmas
-pub mod FreshLemmas
 pub mod PutLemmas
 pub mod BlockLemmas

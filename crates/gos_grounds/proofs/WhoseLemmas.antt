@@ -1,6 +1,6 @@
 -- The names of a term are those of what its numbers stand for.
 use Rattle.std.specs.Prelude.{◌≡◌, ℕ, zero, suc, ◌-◌, Bool, true, false, List, [], ◌∷◌, ◌++◌, ◌||◌, Contains, nat_eq, nat_lt, if◌then◌else◌}
-use Rattle.std.proofs.Common.{refl, sym, ◌∙◌, subst, arith, inl, inr}
+use Rattle.std.proofs.Common.{refl, subst, arith, inl, inr}
 use Rattle.std.proofs.lemmas.List.Elements.{Contains-append_cases}
 use Rattle.gos_types.specs.Types.{Type'}
 use Rattle.gos_model.specs.Terms as terms
@@ -11,6 +11,7 @@ use Rattle.gos_check.specs.Nodes.{Numbered, Closed, Use, Under, One, Two, If, Bi
 use Rattle.gos_stages.specs.Inside.{AreSplit, numbers_inside}
 use Rattle.gos_meanings.specs.Meanings.{IsLeaf, HasLeaves}
 use Rattle.gos_numbers.specs.Kept.{InScope}
+use Rattle.gos_frames.proofs.NamedLemmas.{in_list, before}
 
 pub none : (X : Type 0) (x : X) → Contains [] x → ⊥
 none X x (k, small, at) = omega (arith, small)
@@ -53,17 +54,6 @@ shifted_names f (terms.Put m k) x h = h
 -- a number of these has a name
 abbrev pub Whose : List ℕ → Meaning → Name → Type 0
 Whose ns e x = (k : ℕ) × (f : ℕ) × Contains ns k × Contains (things f (e k)) (Named x)
-
-pub in_list : (ns : List ℕ) (k n : ℕ) → nat_eq k n ≡ false → Contains (n ∷ ns) k → Contains ns k
-in_list ns k n apart (zero, small, e) = let no : nat_eq k n ≡ true = grind (arith, e) in absurd (cc (sym no ∙ apart))
-in_list ns k n apart (suc j, small, e) = (j, omega (arith, small), e)
-
-pub before : (ns : List ℕ) (n k : ℕ) → nat_eq k n ≡ false → Contains (ns ++ n ∷ []) k → Contains ns k
-before ns n k apart has =
-    elim (Contains-append_cases ns (n ∷ []) k has) [
-      | inl h ↦ h
-      | inr h ↦ absurd (none ℕ k (in_list [] k n apart h))
-    ]
 
 inside_whose : (ss : List Split) (ns : List ℕ) (e : Meaning) (k f : ℕ) (x : Name)
     → AreSplit ss ns → Contains (numbers_inside ss ns) k → Contains (things f (inside ss e k)) (Named x) → Whose ns e x

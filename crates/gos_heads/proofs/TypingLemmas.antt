@@ -2,37 +2,17 @@
 use Rattle.std.specs.Prelude.{◌≡◌, suc, Bool, true, false, List, [], ◌∷◌, ◌++◌, Some, if◌then◌else◌}
 use Rattle.std.specs.Str.{bytes_eq}
 use Rattle.std.proofs.Common.{refl, sym, ◌∙◌, arith}
-use Rattle.gos_types.specs.Types.{Type', Com, Exp, Var, Pair, Fun}
-use Rattle.gos_model.specs.Terms.{Name, Term, Skip, Lit, Bound, Import, Lam, App, Both, Fst, Snd, Seq, Par, If, While, Assign, Deref, New, Not, Bin}
+use Rattle.gos_types.specs.Types.{Type'}
+use Rattle.gos_model.specs.Terms.{Term}
 use Rattle.gos_model.specs.Typing.{Imports, import_type, Named, Apart, Typed}
 use Rattle.gos_realises.specs.Realises.{HaveOtherNames}
 use Rattle.gos_renumbered.proofs.ImportLemmas.{has_type, name_is}
+use Rattle.gos_contexts.specs.Widening.{AreAmong}
+use Rattle.gos_contexts.proofs.WideningLemmas as widening
 use Rattle.gos_typing.proofs.WhenceLemmas.{named}
 
--- the first imports have their types among the second
-abbrev AreAmong : Imports → Imports → Type 0
-AreAmong i j = (x : Name) (t : Type') → import_type i x ≡ Some t → import_type j x ≡ Some t
-
 pub typed_more : (i j : Imports) → AreAmong i j → (m : Term) (g : List Type') (t : Type') → Typed i g m t → Typed j g m t
-typed_more i j f Skip g t h = h
-typed_more i j f (Lit k w) g t h = h
-typed_more i j f (Bound n) g t h = h
-typed_more i j f (Import x) g t h = f x t h
-typed_more i j f (Lam a m) g t (b, e, h) = (b, e, typed_more i j f m (a ∷ g) b h)
-typed_more i j f (App m n) g t (a, h, k, apart) = (a, typed_more i j f m g (Fun a t) h, typed_more i j f n g a k, apart)
-typed_more i j f (Both m n) g t (a, b, e, h, k) = (a, b, e, typed_more i j f m g a h, typed_more i j f n g b k)
-typed_more i j f (Fst m) g t (b, h) = (b, typed_more i j f m g (Pair t b) h)
-typed_more i j f (Snd m) g t (a, h) = (a, typed_more i j f m g (Pair a t) h)
-typed_more i j f (Seq m n) g t (d, h, k) = (d, typed_more i j f m g Com h, typed_more i j f n g t k)
-typed_more i j f (Par m n) g t (e, h, k, apart) = (e, typed_more i j f m g Com h, typed_more i j f n g Com k, apart)
-typed_more i j f (If m n p) g t (d, h, k, l) = (d, typed_more i j f m g (Exp 1) h, typed_more i j f n g t k, typed_more i j f p g t l)
-typed_more i j f (While m n) g t (e, h, k) = (e, typed_more i j f m g (Exp 1) h, typed_more i j f n g Com k)
-typed_more i j f (Assign m n) g t (w, e, h, k) = (w, e, typed_more i j f m g (Var w) h, typed_more i j f n g (Exp w) k)
-typed_more i j f (Deref m) g t (w, e, h) = (w, e, typed_more i j f m g (Var w) h)
-typed_more i j f (New w m) g t (d, k, h) = (d, k, typed_more i j f m (Var w ∷ g) t h)
-typed_more i j f (Not m) g t (w, e, h) = (w, e, typed_more i j f m g (Exp w) h)
-typed_more i j f (Bin op m n) g t (w, e, h, k) = (w, e, typed_more i j f m g (Exp w) h, typed_more i j f n g (Exp w) k)
-typed_more i j f m g t h = absurd h
+typed_more i j all m g t h = widening.typed_more i j all g m t h
 
 -- imports are among those that have others before or behind
 pub among_first : (is js : Imports) → AreAmong is (is ++ js)

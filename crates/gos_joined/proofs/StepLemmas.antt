@@ -9,7 +9,7 @@ use Rattle.gos_types.specs.Handshakes.{turned}
 use Rattle.gos_plan.specs.Kinds.{Contact, asks, serves}
 use Rattle.gos_plan.specs.Plans.{End, PartEnd, ImportEnd, ResultEnd, Joint, Plan, contact_at, same_end, stands_in, Fits, IsRight}
 use Rattle.gos_plan.specs.Joining.{Place, Link, Wiring, JoinedWithin, Linked, Path}
-use Rattle.gos_plan.proofs.JointLemmas.{IsIn, same_itself, one_joint, contained, free_later}
+use Rattle.gos_plan.proofs.JointLemmas.{same_itself, one_joint, contained, free_later}
 use Rattle.gos_plan.proofs.JointLemmas as joints
 use Rattle.gos_realises.specs.Links.{contact_of, contact_in, IsUnjoined, EndsFit, LinkFits, StandsIn, LinksFit}
 use Rattle.gos_realises.proofs.PlaceLemmas.{place_of}

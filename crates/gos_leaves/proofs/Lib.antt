@@ -3,6 +3,7 @@ pub mod SupplyLemmas
 pub mod LeafLemmas
 pub mod UseLemmas
 pub mod ClosedLemmas
+pub mod ReadLemmas
 pub mod CountLemmas
 pub mod SplitLemmas
 pub mod LostLemmas

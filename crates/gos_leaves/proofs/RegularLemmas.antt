@@ -1,15 +1,15 @@
 -- Leaves are regular and rest.
-use Rattle.std.specs.Prelude.{◌≡◌, ℕ, Bool, true, false, []}
+use Rattle.std.specs.Prelude.{◌≡◌, ℕ, Bool, true, false, [], ◌∷◌}
 use Rattle.std.proofs.Common.{refl, sym, ◌∙◌}
-use Rattle.gos_types.specs.Types.{Com, Exp}
+use Rattle.gos_types.specs.Types.{Com, Exp, Var}
 use Rattle.gos_model.specs.Terms as terms
-use Rattle.gos_check.specs.Nodes.{Closed, Use}
+use Rattle.gos_check.specs.Nodes.{Closed, Use, One, OfDeref}
 use Rattle.gos_plan.specs.Kinds as kinds
 use Rattle.gos_plan.specs.Plans.{End, ResultEnd}
 use Rattle.gos_plan.specs.SmallPlans.{skip_plan}
 use Rattle.gos_plan.specs.Tokens.{Tokens, IsIdle}
 use Rattle.gos_realises.specs.Regular.{IsRegular}
-use Rattle.gos_realises.specs.Wirings.{lone}
+use Rattle.gos_realises.specs.Wirings.{lone, reading}
 use Rattle.gos_realises.proofs.OneJointLemmas.{is_idle}
 use Rattle.gos_realises.proofs.RingLemmas.{circle_is_regular}
 use Rattle.gos_realises.proofs.SkipLemmas as skipping
@@ -24,6 +24,11 @@ use Rattle.gos_turns.specs.Rests.{Rests}
 use Rattle.gos_turns.proofs.CircleRestLemmas.{circle_rests}
 use Rattle.gos_webs.specs.Webs.{own_web}
 use Rattle.gos_leaves.specs.RegularLeaves.{UseIsRegular, SkipIsRegular, LiteralIsRegular}
+use Rattle.gos_leaves.specs.Readings.{ReadIsRegular}
+use Rattle.gos_leaves.proofs.ReaderLemmas.{reading_is_regular}
+use Rattle.gos_leaves.proofs.ReadLemmas.{read_leaf}
+use Rattle.gos_joined.proofs.WholeLemmas.{variables_are_joined}
+use Rattle.gos_unions.specs.Unions.{union}
 use Rattle.gos_leaves.proofs.LeafLemmas.{leaf_regular}
 use Rattle.gos_leaves.proofs.UseLemmas.{use_leaf}
 use Rattle.gos_leaves.proofs.ClosedLemmas.{closed_leaf}
@@ -79,3 +84,12 @@ pub literal_is_regular : LiteralIsRegular
 literal_is_regular types ns w k i j env pl r is are names literals =
     leaf_regular types i j (Closed (Exp w) [] (terms.Lit k w)) ns env (lone (kinds.Lit w k) 0 (Exp w)) (own_web (lone (kinds.Lit w k) 0 (Exp w)))
     (closed_leaf types i j (Exp w) (terms.Lit k w) ns env (kinds.Lit w k) refl refl (((0, w, refl, refl), refl, refl), tt)) pl r is (number_regular w k) (number_rests w k)
+
+pub read_is_regular : ReadIsRegular
+read_is_regular types ns n w has same i j env pl r is are names literals =
+    let one = are n has in
+    let outcome = one.outcome ∙ same in
+    let (s, joined) = (variables_are_joined w 0 (env n).plan one.right outcome).0 in
+    let both = reading_is_regular w (env n).plan s outcome one.literals one.regular one.rests joined in
+    leaf_regular types i j (One (Exp w) [] OfDeref (Use (Var w) [] n)) ns env s (union (reading w (env n).plan) (own_web (env n).plan ∷ own_web (lone (kinds.Deref w) 1 (Exp w)) ∷ []))
+    (read_leaf types i j w n ns env has same one.right s joined) pl r is both.0 both.1

@@ -1,12 +1,12 @@
--- A wired node without children realises its term: a number that is used, `skip`, and a number.
+-- A wired node without parts of its own, or with a leaf alone below it, realises its term.
 --
 -- Read first: Wired of gos_wired; Loose of gos_loose. Of the supplies only that of the number that is used is joined to the
 -- result. The others stand beside, without a joint to it, but their literals fit as well.
 use Rattle.std.specs.Prelude.{◌≡◌, ◌<◌, ◌^◌, ℕ, [], List, All, Contains}
-use Rattle.gos_types.specs.Types.{Type', Com, Exp}
+use Rattle.gos_types.specs.Types.{Type', Com, Exp, Var}
 use Rattle.gos_types.specs.Widths.{IsWidth}
-use Rattle.gos_model.specs.Terms.{Skip, Lit}
-use Rattle.gos_check.specs.Nodes.{Closed, Use}
+use Rattle.gos_model.specs.Terms.{Skip, Lit, Deref}
+use Rattle.gos_check.specs.Nodes.{Closed, Use, One, OfDeref}
 use Rattle.gos_plan.specs.Plans.{Plan}
 use Rattle.gos_plan.specs.TokenBits.{LiteralFits}
 use Rattle.gos_realises.specs.Realises.{AllGround, NamesDiffer, Realises}
@@ -32,3 +32,11 @@ LiteralIsRealised =
     (types : Types) (i j w k : ℕ) (ns : List ℕ) (env : Supplies) (pl : Placing) (r : Plan)
     → IsWired types i j (Closed (Exp w) [] (Lit k w)) ns env pl r → IsWidth w → k < 2 ^ w → All LiteralFits r.parts
     → AllGround r.imports → NamesDiffer r.imports → Realises (Exp w) r (Lit k w)
+
+-- A variable that is read: the plan of its supply joined to the Deref, with the other supplies beside it.
+abbrev pub ReadIsRealised : Type 0
+ReadIsRealised =
+    (types : Types) (i j w n : ℕ) (ns : List ℕ) (env : Supplies) (pl : Placing) (r : Plan)
+    → IsWired types i j (One (Exp w) [] OfDeref (Use (Var w) [] n)) ns env pl r → Contains ns n → types n ≡ Var w
+    → All LiteralFits r.parts → AllGround r.imports → NamesDiffer r.imports
+    → Realises (Var w) (env n).plan (env n).term → Realises (Exp w) r (Deref (env n).term)

@@ -1,7 +1,7 @@
 // Leaves realise their terms. Each theorem is the contract of a function that does nothing.
-ghost use Rattle.gos_leaves.specs.Leaves.{LiteralIsRealised, SkipIsRealised, UseIsRealised};
+ghost use Rattle.gos_leaves.specs.Leaves.{LiteralIsRealised, ReadIsRealised, SkipIsRealised, UseIsRealised};
 ghost use Rattle.gos_leaves.specs.RegularLeaves.{LiteralIsRegular, SkipIsRegular, UseIsRegular};
-ghost use Rattle.gos_leaves.specs.Readings.{ReadingIsRegular};
+ghost use Rattle.gos_leaves.specs.Readings.{ReadIsRegular, ReadingIsRegular};
 ghost use Rattle.gos_leaves.specs.Splits.{LeavesHaveNoSplits, StandingIsSplitAtForks};
 ghost use Rattle.gos_leaves.specs.SmallLeaves.{LooseIsWired, LooseRealisesSkip, OtherIsNotWired};
 ghost use Rattle.gos_leaves.specs.SmallSplits.{OwnSideIsNoFork, OwnSideIsNotWithin, OwnSideStands, TwiceIsSplit};
@@ -17,6 +17,11 @@ pub fn closed_is_realised()
     ensures literal { LiteralIsRealised }
 {}
 
+/// A variable that is read is its supply's plan joined to a Deref, with the other supplies beside it.
+pub fn read_is_realised()
+    ensures { ReadIsRealised }
+{}
+
 /// With imports of any types a leaf is regular, and rests.
 pub fn leaves_are_regular()
     ensures used { UseIsRegular }
@@ -24,9 +29,10 @@ pub fn leaves_are_regular()
     ensures literal { LiteralIsRegular }
 {}
 
-/// The plan of a variable that is regular and rests is such when it is joined to a Deref.
+/// So is a variable that is read, and the plan of any variable, joined to a Deref.
 pub fn readings_are_regular()
-    ensures { ReadingIsRegular }
+    ensures joined { ReadingIsRegular }
+    ensures read { ReadIsRegular }
 {}
 
 /// The plan of `skip` beside another Skip is a use of the one, wired to both, and realises `skip`; with the other joined it is not.

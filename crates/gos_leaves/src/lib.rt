@@ -6,6 +6,6 @@
 mod laws;
 
 pub use laws::{
-    closed_is_realised, leaves_are_regular, no_splits, readings_are_regular, small_leaves,
-    small_splits, use_is_realised,
+    closed_is_realised, leaves_are_regular, no_splits, read_is_realised, readings_are_regular,
+    small_leaves, small_splits, use_is_realised,
 };

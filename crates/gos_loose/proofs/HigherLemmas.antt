@@ -36,16 +36,16 @@ writing_plain : ArePlain (link 0 (ResultEnd 1) 1 (PartEnd 0 1) ∷ link 1 (PartE
 writing_plain = (tt, omega arith, (omega arith, tt, tt))
 
 -- imports that may stand for a plan's
-abbrev Fine : Imports → Type 0
+abbrev pub Fine : Imports → Type 0
 Fine is = AllGround is × NamesDiffer is
 
-no_others : (is : Imports) → HaveOtherNames is []
+pub no_others : (is : Imports) → HaveOtherNames is []
 no_others is i j has (k, small, e) = absurd (omega (arith, small))
 
-more_fine : (is js : Imports) → Fine is → Fine js → HaveOtherNames is js → Fine (is ++ js)
+pub more_fine : (is js : Imports) → Fine is → Fine js → HaveOtherNames is js → Fine (is ++ js)
 more_fine is js one other apart = (ground_both is js one.0 other.0, differ_both is js one.1 other.1 apart)
 
-append_none : (is : Imports) → is ++ [] ≡ is
+pub append_none : (is : Imports) → is ++ [] ≡ is
 append_none [] = refl
 append_none (i ∷ is) = ap (λ (js : Imports). i ∷ js) (append_none is)
 

@@ -3,11 +3,11 @@ use Rattle.std.specs.Prelude.{◌≡◌, zero, suc, Bool, true, false, List, [],
 use Rattle.std.specs.Str.{bytes_eq}
 use Rattle.std.proofs.Common.{refl, ◌∙◌, ap, arith}
 use Rattle.std.proofs.lemmas.Slice.Eq.{bytes_eq-Decides}
-use Rattle.gos_types.specs.Types.{Type', Com, Exp, Var}
-use Rattle.gos_model.specs.Terms.{Term, Skip, Lit, Bound, Import, Lam, App, Both, Fst, Snd, Seq, Par, If, While, Assign, Deref, New, Not, Bin, Loc, Scope, Wait, Held, Put}
-use Rattle.gos_model.specs.Typing.{Imported, Imports, import_type, Typed}
+use Rattle.gos_types.specs.Types.{Type'}
+use Rattle.gos_model.specs.Typing.{Imported, Imports, import_type}
 use Rattle.gos_realises.specs.Realises.{AllGround, NamesDiffer}
 use Rattle.gos_contexts.specs.Widening.{AreAmong}
+pub use Rattle.gos_contexts.proofs.WideningLemmas.{typed_more}
 use Rattle.gos_renumbered.proofs.ImportLemmas.{has_type, type_has}
 
 -- all of these are among those
@@ -30,31 +30,6 @@ named_type (j ∷ is) i (suc k, small, e) = by_test (bytes_eq j.name i.name) (na
     by_test : (b : Bool) → (t : Type') × (import_type is i.name ≡ Some t) → (t : Type') × ((if b then Some j.ty else import_type is i.name) ≡ Some t)
     by_test true rest = (j.ty, refl)
     by_test false rest = rest
-
-pub typed_more : (i j : Imports) → AreAmong i j → (g : List Type') (m : Term) (t : Type') → Typed i g m t → Typed j g m t
-typed_more i j all g Skip t h = h
-typed_more i j all g (Lit k w) t h = h
-typed_more i j all g (Bound n) t h = h
-typed_more i j all g (Import x) t h = all x t h
-typed_more i j all g (Lam a m) t (b, e, h) = (b, e, typed_more i j all (a ∷ g) m b h)
-typed_more i j all g (App m n) t (a, h, k, apart) = (a, typed_more i j all g m _ h, typed_more i j all g n a k, apart)
-typed_more i j all g (Both m n) t (a, b, e, h, k) = (a, b, e, typed_more i j all g m a h, typed_more i j all g n b k)
-typed_more i j all g (Fst m) t (b, h) = (b, typed_more i j all g m _ h)
-typed_more i j all g (Snd m) t (a, h) = (a, typed_more i j all g m _ h)
-typed_more i j all g (Seq m n) t (d, h, k) = (d, typed_more i j all g m Com h, typed_more i j all g n t k)
-typed_more i j all g (Par m n) t (e, h, k, apart) = (e, typed_more i j all g m Com h, typed_more i j all g n Com k, apart)
-typed_more i j all g (If m n p) t (d, h, k, l) = (d, typed_more i j all g m (Exp 1) h, typed_more i j all g n t k, typed_more i j all g p t l)
-typed_more i j all g (While m n) t (e, h, k) = (e, typed_more i j all g m (Exp 1) h, typed_more i j all g n Com k)
-typed_more i j all g (Assign m n) t (w, e, h, k) = (w, e, typed_more i j all g m (Var w) h, typed_more i j all g n (Exp w) k)
-typed_more i j all g (Deref m) t (w, e, h) = (w, e, typed_more i j all g m (Var w) h)
-typed_more i j all g (New w m) t (d, width, h) = (d, width, typed_more i j all (Var w ∷ g) m t h)
-typed_more i j all g (Not m) t (w, e, h) = (w, e, typed_more i j all g m (Exp w) h)
-typed_more i j all g (Bin op m n) t (w, e, h, k) = (w, e, typed_more i j all g m (Exp w) h, typed_more i j all g n (Exp w) k)
-typed_more i j all g (Loc l) t h = h
-typed_more i j all g (Scope l m) t h = h
-typed_more i j all g (Wait x s) t h = h
-typed_more i j all g (Held k op n) t h = h
-typed_more i j all g (Put m k) t h = h
 
 -- imports one after another
 pub ground_both : (is js : List Imported) → AllGround is → AllGround js → AllGround (is ++ js)

@@ -3,7 +3,7 @@ use Rattle.std.specs.Prelude.{◌≡◌, ℕ, suc, Bool, true, false, List, [], 
 use Rattle.std.proofs.Common.{◌∙◌, ap}
 use Rattle.gos_types.specs.Types.{Type'}
 use Rattle.gos_model.specs.Terms as terms
-use Rattle.gos_model.specs.Terms.{Term, Op}
+use Rattle.gos_model.specs.Terms.{Term}
 use Rattle.gos_check.specs.declared.linear.Split.{Split}
 use Rattle.gos_check.specs.Nodes.{Numbered, Closed, Use, Under, One, Two, If, Binding, OneForm, TwoForm, Meaning, shifted, below, inside_one, inside, meaning, binder_term, one_term, two_term}
 use Rattle.gos_meanings.specs.Meanings.{IsLeaf, HasLeaves}

@@ -1,5 +1,5 @@
 -- What is joined to plans with a wide Share and with a narrow one stands so as well.
-use Rattle.std.specs.Prelude.{◌≡◌, ◌≢◌, ℕ, zero, suc, ◌-◌, ◌<◌, ◌≤◌, Bool, true, false, List, [], ◌∷◌, ◌++◌, length, map, Option, Some, None, slice_get, nat_eq, nat_lt, Contains, if◌then◌else◌}
+use Rattle.std.specs.Prelude.{◌≡◌, ◌≢◌, ℕ, zero, suc, ◌-◌, ◌<◌, ◌≤◌, Bool, true, false, List, [], ◌++◌, length, map, Some, slice_get, nat_eq, nat_lt, Contains, if◌then◌else◌}
 use Rattle.std.proofs.Common.{refl, sym, ◌∙◌, ap, subst, arith, inl, inr}
 use Rattle.std.proofs.lemmas.Bool.Decides.{nat_tests}
 use Rattle.std.proofs.lemmas.Option.{slice_get_within, same_Some}
@@ -7,18 +7,16 @@ use Rattle.gos_types.specs.Types.{Type'}
 use Rattle.gos_plan.specs.Kinds.{Part, Share, Contact, asks, serves}
 use Rattle.gos_plan.specs.Plans.{End, PartEnd, ImportEnd, ResultEnd, Joint, Plan, contact_at, contacts_of_part, contacts_of_import, turned_if}
 use Rattle.gos_plan.specs.Tokens.{IsPortEnd}
-use Rattle.gos_plan.specs.Joining.{Place, place, Link, Wiring, LeftImport, all_parts, all_left, left_in, left_among, left_place, part_place, origin, JoinedWithin, Linked, Path, Connects, IsJoining}
+use Rattle.gos_plan.specs.Joining.{Place, Link, Wiring, all_parts, all_left, left_in, left_among, left_place, part_place, origin, Path, Connects, IsJoining}
 use Rattle.gos_plan.proofs.JointLemmas.{fits, contained}
-use Rattle.gos_joined.proofs.OriginLemmas.{front_at, behind_at}
-use Rattle.gos_joined.proofs.ReachLemmas.{place_is, Step, Paths}
+use Rattle.gos_joined.proofs.ReachLemmas.{place_is}
 use Rattle.gos_webs.specs.Webs.{joint}
 use Rattle.gos_webs.specs.Cutting.{StandsIn}
 use Rattle.gos_webs.proofs.CutLemmas.{which_end, stands_by, part_at}
-use Rattle.gos_unions.proofs.PathLemmas.{path_walk, walks_paths}
-use Rattle.gos_unions.proofs.WalkLemmas.{goes, mapped_walk}
 use Rattle.gos_split.specs.Joined.{wiring, IsPortPlace, AllPortPlaces}
 use Rattle.gos_split.proofs.JoinedLemmas.{part_is, stands_low, low_origin}
-use Rattle.gos_split.proofs.CarriedLemmas.{later_plan}
+use Rattle.gos_split.proofs.MappedLemmas as mapped
+use Rattle.gos_split.proofs.MappedLemmas.{later_port, left_port, first_part, other_part, other_origin, end_at, place_at, IsCarried, path_goes}
 use Rattle.gos_narrow.specs.Narrow.{Narrowing, shake_at, widened, IsNarrow}
 use Rattle.gos_narrow.specs.Joined.{JoinedIsNarrow}
 use Rattle.gos_narrow.proofs.MovedLemmas.{narrowed, end_there, contact_so, not_share}
@@ -73,56 +71,18 @@ module _ (f : Narrowing) (z u : Plan) (is : IsNarrow f z u) (ps : List Plan) (ls
     sizes = same_length f z u is
 
     -- places
-    abbrev end_at : ℕ → End → End
-    end_at zero e = widened f e
-    end_at (suc k) e = e
-
-    abbrev back_at : ℕ → End → End
-    back_at zero e = narrowed f e
-    back_at (suc k) e = e
-
     abbrev there : Place → Place
-    there a = place a.plan (end_at a.plan a.end)
+    there = place_at (widened f)
 
     abbrev here : Place → Place
-    here a = place a.plan (back_at a.plan a.end)
+    here = place_at (narrowed f)
 
-    ends_back : (k : ℕ) (e : End) → back_at k (end_at k e) ≡ e
+    ends_back : (k : ℕ) (e : End) → end_at (narrowed f) k (end_at (widened f) k e) ≡ e
     ends_back zero e = end_there f z u is.frame e
     ends_back (suc k) e = refl
 
     place_back : (a : Place) → here (there a) ≡ a
     place_back a = place_is (here (there a)) a refl (ends_back a.plan a.end)
-
-    port_at : (k : ℕ) (e : End) → (k ≡ 0 → IsPortEnd e) → end_at k e ≡ e
-    port_at zero e port = port_stays f e (port refl)
-    port_at (suc k) e port = refl
-
-    port_here : (k : ℕ) (e : End) → (k ≡ 0 → IsPortEnd e) → back_at k e ≡ e
-    port_here zero e port = back_stays f e (port refl)
-    port_here (suc k) e port = refl
-
-    kept_there : (a : Place) → IsPortPlace a → there a ≡ a
-    kept_there a port = place_is (there a) a refl (port_at a.plan a.end port)
-
-    kept_here : (a : Place) → IsPortPlace a → here a ≡ a
-    kept_here a port = place_is (here a) a refl (port_here a.plan a.end port)
-
-    later_kept : (m : ℕ) (i h : ℕ) → IsPortPlace (part_place (suc m) ps i h)
-    later_kept m i h none = let (n, is_n) = later_plan m ps i h in absurd (omega (arith, none, is_n))
-
-    -- steps there
-    abbrev PlanThere : ℕ → Plan → Type 0
-    PlanThere k p = (q : Plan) × (slice_get (z ∷ ps) k ≡ Some q) × ((d e : End) → Contains p.joints (joint d e) → Contains q.joints (joint (end_at k d) (end_at k e)))
-
-    plan_there : (k : ℕ) (p : Plan) → slice_get (u ∷ ps) k ≡ Some p → PlanThere k p
-    plan_there zero p at_p =
-        let same : u ≡ p = cc at_p in
-        subst (λ (y : Plan). PlanThere 0 y) same (z, refl, λ d e has. is.joints d e has)
-    plan_there (suc k) p at_p = (p, at_p, λ d e has. has)
-
-    abbrev PlanHere : ℕ → Plan → Type 0
-    PlanHere k q = (p : Plan) × (slice_get (u ∷ ps) k ≡ Some p) × ((d e : End) → Contains q.joints (joint d e) → Contains p.joints (joint (back_at k d) (back_at k e)))
 
     joint_back : (a b : End) → Contains z.joints (joint a b) → Contains u.joints (joint (narrowed f a) (narrowed f b))
     joint_back a b has =
@@ -131,78 +91,18 @@ module _ (f : Narrowing) (z u : Plan) (is : IsNarrow f z u) (ps : List Plan) (ls
         let back_e : e ≡ narrowed f b = sym (end_there f z u is.frame e) ∙ ap (narrowed f) at_e in
         subst (λ (y : Joint). Contains u.joints y) (λ l. joint (back_d l) (back_e l)) here_u
 
-    plan_here : (k : ℕ) (q : Plan) → slice_get (z ∷ ps) k ≡ Some q → PlanHere k q
-    plan_here zero q at_q = let same : z ≡ q = cc at_q in subst (λ (y : Plan). PlanHere 0 y) same (u, refl, joint_back)
-    plan_here (suc k) q at_q = (q, at_q, λ d e has. has)
+    onto_z : IsCarried (widened f) u z
+    onto_z = record { ports = port_stays f; joints = is.joints }
 
-    joint_there : (a b : Place) → JoinedWithin w a b → JoinedWithin v (there a) (there b)
-    joint_there a b (p, j, same, at_p, has, ways) =
-        let (q, at_q, onto) = plan_there a.plan p at_p in
-        let b_end : end_at b.plan b.end ≡ end_at a.plan b.end = ap (λ (k : ℕ). end_at k b.end) (sym same) in (
-          q,
-          joint (end_at a.plan j.asking) (end_at a.plan j.serving),
-          same,
-          at_q,
-          onto j.asking j.serving has,
-          elim ways [
-            | inl (e, s) ↦ inl (ap (end_at a.plan) e, b_end ∙ ap (end_at a.plan) s)
-            | inr (e, s) ↦ inr (ap (end_at a.plan) e, b_end ∙ ap (end_at a.plan) s)
-          ],
-        )
+    onto_u : IsCarried (narrowed f) z u
+    onto_u = record { ports = back_stays f; joints = joint_back }
 
-    joint_here : (a b : Place) → JoinedWithin v a b → JoinedWithin w (here a) (here b)
-    joint_here a b (q, j, same, at_q, has, ways) =
-        let (p, at_p, onto) = plan_here a.plan q at_q in
-        let b_end : back_at b.plan b.end ≡ back_at a.plan b.end = ap (λ (k : ℕ). back_at k b.end) (sym same) in (
-          p,
-          joint (back_at a.plan j.asking) (back_at a.plan j.serving),
-          same,
-          at_p,
-          onto j.asking j.serving has,
-          elim ways [
-            | inl (e, s) ↦ inl (ap (back_at a.plan) e, b_end ∙ ap (back_at a.plan) s)
-            | inr (e, s) ↦ inr (ap (back_at a.plan) e, b_end ∙ ap (back_at a.plan) s)
-          ],
-        )
-
-    link_there : (a b : Place) → Linked w a b → Linked v (there a) (there b)
-    link_there a b (l, has, inl (e, s)) = let both = kept l has in (l, has, inl (ap there e ∙ kept_there l.one both.0, ap there s ∙ kept_there l.other both.1))
-    link_there a b (l, has, inr (e, s)) = let both = kept l has in (l, has, inr (ap there e ∙ kept_there l.other both.1, ap there s ∙ kept_there l.one both.0))
-
-    link_here : (a b : Place) → Linked v a b → Linked w (here a) (here b)
-    link_here a b (l, has, inl (e, s)) = let both = kept l has in (l, has, inl (ap here e ∙ kept_here l.one both.0, ap here s ∙ kept_here l.other both.1))
-    link_here a b (l, has, inr (e, s)) = let both = kept l has in (l, has, inr (ap here e ∙ kept_here l.other both.1, ap here s ∙ kept_here l.one both.0))
-
-    step_there : (a b : Place) → Step w a b → Step v (there a) (there b)
-    step_there a b (inl s) = inl (joint_there a b s)
-    step_there a b (inr s) = inr (link_there a b s)
-
-    step_here : (a b : Place) → Step v a b → Step w (here a) (here b)
-    step_here a b (inl s) = inl (joint_here a b s)
-    step_here a b (inr s) = inr (link_here a b s)
-
-    path_there : (n : ℕ) (a b : Place) → Path w n a b → Paths v (there a) (there b)
-    path_there n a b path =
-        walks_paths v (there a) (there b)
-        (mapped_walk Place Place (Step w) (Step v) there (λ y q s. goes Place (Step v) (there y) (there q) (step_there y q s)) n a b (path_walk w n a b path))
-
-    path_here : (n : ℕ) (a b : Place) → Path v n a b → Paths w (here a) (here b)
-    path_here n a b path =
-        walks_paths w (here a) (here b)
-        (mapped_walk Place Place (Step v) (Step w) here (λ y q s. goes Place (Step w) (here y) (here q) (step_here y q s)) n a b (path_walk v n a b path))
+    kept_there : (a : Place) → IsPortPlace a → there a ≡ a
+    kept_there = mapped.port_stays (widened f) u z onto_z
 
     -- where the ends stand
     left_same : all_left w ≡ all_left v
     left_same = ap (λ js. left_in ls 0 0 js ++ left_among ls 1 ps) is.frame.imports
-
-    left_kept : (o : Option LeftImport) (h : ℕ) → IsPortPlace (left_place o h)
-    left_kept None h same = tt
-    left_kept (Some l) h same = tt
-
-    high_origin : (p : Plan) (n h : ℕ) → length p.parts ≤ n → origin (wiring p ps ls giver skipped ty) (PartEnd n h) ≡ part_place 1 ps (n - length p.parts) h
-    high_origin p n h high =
-        let test : nat_lt n (length p.parts) ≡ false = grind (arith, nat_tests, high) in
-        ap (λ (b : Bool). if b then place 0 (PartEnd n h) else part_place 1 ps (n - length p.parts) h) test
 
     high_end : (n h : ℕ) → length u.parts ≤ n → widened f (PartEnd n h) ≡ PartEnd n h
     high_end n h high = by_test (nat_eq n f.share) refl
@@ -226,37 +126,32 @@ module _ (f : Narrowing) (z u : Plan) (is : IsNarrow f z u) (ps : List Plan) (ls
             let high : length u.parts ≤ n = grind (arith, nat_tests, test) in
             let size = sizes in
             let high_z : length z.parts ≤ n = omega (arith, high, size) in
-            ap there (high_origin u n h high)
-            ∙ (kept_there (part_place 1 ps (n - length u.parts) h) (later_kept 0 (n - length u.parts) h)
+            ap there (other_origin u ps ls giver skipped ty n h high)
+            ∙ (kept_there (part_place 1 ps (n - length u.parts) h) (later_port 0 ps (n - length u.parts) h)
             ∙ (ap (λ (m : ℕ). part_place 1 ps (n - m) h) (sym sizes)
-            ∙ (sym (high_origin z n h high_z) ∙ ap (origin v) (sym (high_end n h high)))))
+            ∙ (sym (other_origin z ps ls giver skipped ty n h high_z) ∙ ap (origin v) (sym (high_end n h high)))))
 
     goes_end : (e : End) → there (origin w e) ≡ origin v (widened f e)
     goes_end (PartEnd n h) = goes_part n h
     goes_end (ImportEnd n h) =
-        kept_there (origin w (ImportEnd n h)) (left_kept (slice_get (all_left w) n) h) ∙ ap (λ l. left_place (slice_get l n) h) left_same
+        kept_there (origin w (ImportEnd n h)) (left_port (slice_get (all_left w) n) h) ∙ ap (λ l. left_place (slice_get l n) h) left_same
     goes_end (ResultEnd h) = kept_there (origin w (ResultEnd h)) (λ same. tt)
 
     comes_end : (e : End) → here (origin v (widened f e)) ≡ origin w e
     comes_end e = ap here (sym (goes_end e)) ∙ place_back (origin w e)
 
     -- handshakes
-    low_part : (p P : Plan) → P.parts ≡ p.parts ++ all_parts ps → (n : ℕ) → n < length p.parts → slice_get P.parts n ≡ slice_get p.parts n
-    low_part p P parts n low = ap (λ ks. slice_get ks n) parts ∙ front_at p.parts (all_parts ps) n low
-
-    high_part : (p P : Plan) → P.parts ≡ p.parts ++ all_parts ps → (n : ℕ) → length p.parts ≤ n → slice_get P.parts n ≡ slice_get (all_parts ps) (n - length p.parts)
-    high_part p P parts n high = ap (λ ks. slice_get ks n) parts ∙ behind_at p.parts (all_parts ps) n high
-
     same_high : (n : ℕ) → length u.parts ≤ n → slice_get Z.parts n ≡ slice_get U.parts n
     same_high n high =
         let size = sizes in
-        high_part z Z of_z.parts n (omega (arith, high, size)) ∙ (ap (λ (m : ℕ). slice_get (all_parts ps) (n - m)) sizes ∙ sym (high_part u U of_u.parts n high))
+        other_part z Z (all_parts ps) of_z.parts n (omega (arith, high, size))
+        ∙ (ap (λ (m : ℕ). slice_get (all_parts ps) (n - m)) sizes ∙ sym (other_part u U (all_parts ps) of_u.parts n high))
 
     low_z : (n : ℕ) → n < length u.parts → slice_get Z.parts n ≡ slice_get z.parts n
-    low_z n low = let size = sizes in low_part z Z of_z.parts n (omega (arith, low, size))
+    low_z n low = let size = sizes in first_part z Z (all_parts ps) of_z.parts n (omega (arith, low, size))
 
     low_u : (n : ℕ) → n < length u.parts → slice_get U.parts n ≡ slice_get u.parts n
-    low_u n low = low_part u U of_u.parts n low
+    low_u = first_part u U (all_parts ps) of_u.parts
 
     imports_same : U.imports ≡ Z.imports
     imports_same = of_u.imports ∙ (ap (map (λ l. l.import)) left_same ∙ sym of_z.imports)
@@ -284,7 +179,7 @@ module _ (f : Narrowing) (z u : Plan) (is : IsNarrow f z u) (ps : List Plan) (ls
       where
         of_connects : Connects w U d e → Contains Z.joints (joint (widened f d) (widened f e))
         of_connects (q, b, n, at_d, at_e, path) =
-            let (m, on) = path_there n (origin w d) (origin w e) path in
+            let (m, on) = path_goes (widened f) u z onto_z ps ls giver skipped ty kept n (origin w d) (origin w e) path in
             (of_z.joints (widened f d) (widened f e)).1 (
               q,
               b,
@@ -339,7 +234,7 @@ module _ (f : Narrowing) (z u : Plan) (is : IsNarrow f z u) (ps : List Plan) (ls
         of_connects (q, c, n, at_a, at_b, path) =
             let one = from_end a (joint a b, has, stands_by a (joint a b) (inl refl)) (asks q c) at_a in
             let other = from_end b (joint a b, has, stands_by b (joint a b) (inr refl)) (serves q c) at_b in
-            let (m, on) = path_here n (origin v a) (origin v b) path in
+            let (m, on) = path_goes (narrowed f) z u onto_u ps ls giver skipped ty kept n (origin v a) (origin v b) path in
             let from_a : here (origin v a) ≡ origin w one.from = ap (λ (y : End). here (origin v y)) (sym one.named) ∙ comes_end one.from in
             let from_b : here (origin v b) ≡ origin w other.from = ap (λ (y : End). here (origin v y)) (sym other.named) ∙ comes_end other.from in
             let same_a : one.has.0 ≡ asks q c = same_Some one.has.0 (asks q c) (sym (contact_there one.from one.has.0 one.has.1) ∙ (ap (contact_at Z) one.named ∙ at_a)) in

@@ -2,7 +2,7 @@
 use Rattle.std.specs.Prelude.{◌≡◌, ◌≢◌, ℕ, Bool, true, false, ◌&&◌, List, [], ◌∷◌, ◌⊎◌, map, Option, Some, None, option_map, nat_eq, slice_get, if◌then◌else◌}
 use Rattle.std.proofs.Common.{refl, sym, ◌∙◌, ap, subst, arith, inl, inr}
 use Rattle.gos_netlist.specs.Events.{Direction, Request, Answer}
-use Rattle.gos_plan.specs.Kinds.{Contact, asks, serves, Share, part_contacts}
+use Rattle.gos_plan.specs.Kinds.{Contact, asks, serves}
 use Rattle.gos_plan.specs.Firing.{State, Slot, Req, Ans, Token, Row}
 use Rattle.gos_plan.specs.Plans.{End, PartEnd, ImportEnd, ResultEnd, Joint, Plan, contact_at, contacts_of_part, contacts_of_import, turned_if, same_end, stands_in}
 use Rattle.gos_plan.specs.Tokens.{Tokens, places_of, same_way, with_state, held_at, with_held, token_at, with_token, with_puts, end_of, way_of, shake_of, firing_of, fired}

@@ -5,7 +5,7 @@ use Rattle.std.proofs.lemmas.Option.{same_Some}
 use Rattle.gos_netlist.specs.Events.{Direction}
 use Rattle.gos_plan.specs.Kinds.{Contact}
 use Rattle.gos_plan.specs.Firing.{Slot, Req, Ans, Token, Row}
-use Rattle.gos_plan.specs.Plans.{End, PartEnd, ImportEnd, ResultEnd, Joint, Plan, contact_at}
+use Rattle.gos_plan.specs.Plans.{End, PartEnd, ImportEnd, ResultEnd, Plan, contact_at}
 use Rattle.gos_plan.specs.Tokens.{Tokens, Element, Fire, Out, In, IsPortEnd, Passes, places_of, token_at, with_token, end_of, way_of, shake_of, way_taken, way_put, firing_of, fired, Does, Runs, IsIdle, IsQuiet}
 use Rattle.gos_plan.specs.Orderly.{Open, after_taken, after_put, after_puts, ComesWell, AllComeWell, ComesInOrder, AllWelcome, OrderlyFrom}
 use Rattle.gos_plan.proofs.JointLemmas.{joined}

@@ -8,7 +8,7 @@ use Rattle.gos_plan.specs.Tokens.{Tokens, Element, Fire, places_of, with_held, e
 use Rattle.gos_plan.specs.Orderly.{named_by, handshake_at, Open, OrderlyFrom}
 use Rattle.gos_plan.specs.Cycles.{PartFiring, fires_of, Made}
 use Rattle.gos_plan.proofs.DecidedLemmas.{one_state}
-use Rattle.gos_plan.proofs.HeldLemmas.{AllFit, takes_of, nothing_there}
+use Rattle.gos_plan.proofs.HeldLemmas.{AllFit}
 use Rattle.gos_plan.proofs.HeldLemmas as held
 use Rattle.gos_realises.specs.Matched.{asks_on}
 use Rattle.gos_pace.specs.Quiet.{NoneGoesOn, FiresOnly, all_fires}

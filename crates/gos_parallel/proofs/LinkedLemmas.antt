@@ -495,6 +495,17 @@ module _
         let up : is_open past (ImportEnd j k) ≡ true = subst (λ w. ComesInTurn past (ImportEnd j k) w) way turn in
         let clash : true ≡ false = sym up ∙ linked.others j k not_left not_right in cc clash
 
+    -- a step of the part that asks, or at the result
+    of_own : (x : Element) (s t : Tokens) (z : Step d f g r p q x s t) (past lefts rights : List Pass) → Link past lefts rights s → Comes r past x
+        → ImportsAgree f p (after r x past) (past_all p (left_seen x s t z) lefts) → ImportsAgree g q (after r x past) (past_all q (right_seen x s t z) rights)
+        → OthersClosed f g (after r x past) → InTurn p lefts (left_seen x s t z) → InTurn q rights (right_seen x s t z) → Led past lefts rights x s t z
+    of_own x s t z past lefts rights linked comes left right others left_turn right_turn =
+        record {
+          linked = record { driven = driven_step x s t z past lefts rights linked.driven comes; left_imports = left; right_imports = right; others = others };
+          left_turn = left_turn;
+          right_turn = right_turn;
+        }
+
     pub linked_step : (x : Element) (s t : Tokens) (z : Step d f g r p q x s t) (past lefts rights : List Pass) → Link past lefts rights s → Comes r past x
         → Led past lefts rights x s t z
     linked_step x s t (of_left x' y s' t' local sees unseen same) past lefts rights linked comes =
@@ -502,91 +513,21 @@ module _
     linked_step x s t (of_right x' y s' t' local sees unseen same) past lefts rights linked comes =
         let (led, turn) = local_right x' y s' t' past lefts rights local same linked comes in record { linked = led; left_turn = tt; right_turn = turn }
     linked_step x s t (asked v s' t' small left right state ask ans) past lefts rights linked comes =
-        record {
-          linked =
-              record {
-                driven = driven_step x s' t' (asked v s' t' small left right state ask ans) past lefts rights linked.driven comes;
-                left_imports = linked.left_imports;
-                right_imports = linked.right_imports;
-                others = linked.others;
-              };
-          left_turn = tt;
-          right_turn = tt;
-        }
+        of_own x s' t' (asked v s' t' small left right state ask ans) past lefts rights linked comes linked.left_imports linked.right_imports linked.others tt tt
     linked_step x s t (told v s' t' left right state ans none ask) past lefts rights linked comes =
-        record {
-          linked =
-              record {
-                driven = driven_step x s' t' (told v s' t' left right state ans none ask) past lefts rights linked.driven comes;
-                left_imports = linked.left_imports;
-                right_imports = linked.right_imports;
-                others = linked.others;
-              };
-          left_turn = tt;
-          right_turn = tt;
-        }
+        of_own x s' t' (told v s' t' left right state ans none ask) past lefts rights linked comes linked.left_imports linked.right_imports linked.others tt tt
     linked_step x s t (starts v s' t' left right rest ask both none ans) past lefts rights linked comes =
-        record {
-          linked =
-              record {
-                driven = driven_step x s' t' (starts v s' t' left right rest ask both none ans) past lefts rights linked.driven comes;
-                left_imports = linked.left_imports;
-                right_imports = linked.right_imports;
-                others = linked.others;
-              };
-          left_turn =
-              (subst (λ w. ComesInTurn lefts (ResultEnd 0) w) (sym (way_asked p is.left.outcome)) (linked.driven.left_result ∙ ap left_runs rest), tt);
-          right_turn =
-              (subst (λ w. ComesInTurn rights (ResultEnd 0) w) (sym (way_asked q is.right.outcome)) (linked.driven.right_result ∙ ap right_runs rest), tt);
-        }
+        of_own x s' t' (starts v s' t' left right rest ask both none ans) past lefts rights linked comes linked.left_imports linked.right_imports linked.others
+        (subst (λ w. ComesInTurn lefts (ResultEnd 0) w) (sym (way_asked p is.left.outcome)) (linked.driven.left_result ∙ ap left_runs rest), tt)
+        (subst (λ w. ComesInTurn rights (ResultEnd 0) w) (sym (way_asked q is.right.outcome)) (linked.driven.right_result ∙ ap right_runs rest), tt)
     linked_step x s t (left_ends v s' t' left right both next gates) past lefts rights linked comes =
-        record {
-          linked =
-              record {
-                driven = driven_step x s' t' (left_ends v s' t' left right both next gates) past lefts rights linked.driven comes;
-                left_imports = linked.left_imports;
-                right_imports = linked.right_imports;
-                others = linked.others;
-              };
-          left_turn = tt;
-          right_turn = tt;
-        }
+        of_own x s' t' (left_ends v s' t' left right both next gates) past lefts rights linked comes linked.left_imports linked.right_imports linked.others tt tt
     linked_step x s t (right_ends v s' t' right left both next gates) past lefts rights linked comes =
-        record {
-          linked =
-              record {
-                driven = driven_step x s' t' (right_ends v s' t' right left both next gates) past lefts rights linked.driven comes;
-                left_imports = linked.left_imports;
-                right_imports = linked.right_imports;
-                others = linked.others;
-              };
-          left_turn = tt;
-          right_turn = tt;
-        }
+        of_own x s' t' (right_ends v s' t' right left both next gates) past lefts rights linked comes linked.left_imports linked.right_imports linked.others tt tt
     linked_step x s t (left_ends_all v s' t' left right phase rest ask ans) past lefts rights linked comes =
-        record {
-          linked =
-              record {
-                driven = driven_step x s' t' (left_ends_all v s' t' left right phase rest ask ans) past lefts rights linked.driven comes;
-                left_imports = linked.left_imports;
-                right_imports = linked.right_imports;
-                others = linked.others;
-              };
-          left_turn = tt;
-          right_turn = tt;
-        }
+        of_own x s' t' (left_ends_all v s' t' left right phase rest ask ans) past lefts rights linked comes linked.left_imports linked.right_imports linked.others tt tt
     linked_step x s t (right_ends_all v s' t' right left phase rest ask ans) past lefts rights linked comes =
-        record {
-          linked =
-              record {
-                driven = driven_step x s' t' (right_ends_all v s' t' right left phase rest ask ans) past lefts rights linked.driven comes;
-                left_imports = linked.left_imports;
-                right_imports = linked.right_imports;
-                others = linked.others;
-              };
-          left_turn = tt;
-          right_turn = tt;
-        }
+        of_own x s' t' (right_ends_all v s' t' right left phase rest ask ans) past lefts rights linked comes linked.left_imports linked.right_imports linked.others tt tt
     linked_step x s t (lost j k v s' t' c there not_left not_right left right same) past lefts rights linked comes =
         absurd (not_lost j k c past lefts rights s' there not_left not_right linked comes)
 

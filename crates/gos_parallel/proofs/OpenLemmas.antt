@@ -20,7 +20,7 @@ use Rattle.gos_webs.proofs.CutLemmas.{state_put}
 use Rattle.gos_windows.proofs.ClosingLemmas.{asks_itself}
 use Rattle.gos_parallel.specs.Parallel.{IsSide}
 use Rattle.gos_parallel.proofs.RegionLemmas as region
-use Rattle.gos_parallel.proofs.RegionLemmas.{Held, result_held}
+use Rattle.gos_parallel.proofs.RegionLemmas.{Held}
 use Rattle.gos_parallel.proofs.StepLemmas.{Local, fires, puts_out, takes_in}
 
 -- a region's handshakes are open in the whole where they are in the region

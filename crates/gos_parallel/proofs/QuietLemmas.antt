@@ -18,7 +18,7 @@ use Rattle.gos_webs.proofs.CutLemmas.{asker_asks, asks_one, asks_there, part_the
 use Rattle.gos_realises.proofs.InputLemmas.{result_asks}
 use Rattle.gos_parallel.specs.Parallel.{IsSide, IsJointOf, IsPartOf, IsParallel}
 use Rattle.gos_parallel.proofs.RegionLemmas as region
-use Rattle.gos_parallel.proofs.RegionLemmas.{Held, result_held}
+use Rattle.gos_parallel.proofs.RegionLemmas.{result_held}
 use Rattle.gos_parallel.proofs.StepLemmas.{gate, passes_out, passes_in}
 use Rattle.gos_parallel.proofs.OpenLemmas.{firing_same}
 

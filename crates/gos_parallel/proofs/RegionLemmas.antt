@@ -7,7 +7,7 @@ use Rattle.std.proofs.Common.{arith, refl, sym, ap, subst, inl, inr, ◌∙◌}
 use Rattle.gos_types.specs.Types.{Type', IsDone}
 use Rattle.gos_netlist.specs.Events.{Direction, Request, Answer}
 use Rattle.gos_plan.specs.Kinds as kinds
-use Rattle.gos_plan.specs.Kinds.{Part, Contact, asks, contacts_of}
+use Rattle.gos_plan.specs.Kinds.{Contact, asks, contacts_of}
 use Rattle.gos_plan.specs.Firing.{State, Token, Row, Slot}
 use Rattle.gos_plan.specs.Plans.{End, PartEnd, ImportEnd, ResultEnd, Plan, contact_at, same_end, turned_if}
 use Rattle.gos_plan.specs.Tokens.{Tokens, Out, In, IsPortEnd, places_of, held_at, with_held, token_at, with_token, with_state, with_puts, end_of, shake_of, way_of, fired, Passes, Does}

@@ -17,6 +17,7 @@ use Rattle.gos_plan.specs.SmallCycles.{call_plan}
 use Rattle.gos_webs.specs.Webs.{joint}
 use Rattle.gos_webs.specs.Cutting.{lies_at, IsInside, IsOutside, StandsIn, IsCut}
 use Rattle.gos_webs.proofs.CutLemmas.{which_end}
+use Rattle.gos_webs.proofs.LoneCutLemmas.{AreOutside, lone_is_cut}
 use Rattle.gos_webs.proofs.SmallWebLemmas.{skip_is_right, one_port}
 use Rattle.gos_realises.proofs.SkipLemmas.{skip_is_realised}
 use Rattle.gos_realises.proofs.NameLemmas.{name_is_realised}
@@ -91,61 +92,41 @@ call_is_cut =
     }
 
 -- the region of `skip`
-skip_parts : (i : ℕ) (k : Part) → slice_get skip_plan.parts i ≡ Some k → (slice_get call_and_skip.parts 1 ≡ Some k) × (Some 0 ≡ Some i)
-skip_parts zero k is = (is, refl)
-skip_parts (suc i) k is = absurd (none-some k is)
-
-skip_numbers : (i j : ℕ) → skip_number i ≡ Some j → (1 ≡ i) × ((k : Part) × (slice_get skip_plan.parts j ≡ Some k))
+skip_numbers : (i j : ℕ) → skip_number i ≡ Some j → (1 ≡ i) × (0 ≡ j)
 skip_numbers zero j is = absurd (none-some j is)
-skip_numbers (suc zero) j is = (refl, (Skip, ap (λ n. slice_get skip_plan.parts n) (sym (same_Some 0 j is))))
+skip_numbers (suc zero) j is = (refl, same_Some 0 j is)
 skip_numbers (suc (suc i)) j is = absurd (none-some j is)
 
-skip_inners : (b e : End) → skip_inner b ≡ Some e → IsPortEnd e × StandsIn skip_plan e × (PartEnd 0 1 ≡ b)
-skip_inners (PartEnd zero zero) e is = absurd (none-some e is)
-skip_inners (PartEnd zero (suc zero)) e is =
-    subst (λ x. IsPortEnd x × StandsIn skip_plan x × (PartEnd 0 1 ≡ PartEnd 0 1)) (same_Some (ResultEnd 0) e is)
-    (tt, (joint (ResultEnd 0) (PartEnd 0 0), (0, omega arith, refl), refl), refl)
-skip_inners (PartEnd zero (suc (suc h))) e is = absurd (none-some e is)
-skip_inners (PartEnd (suc i) h) e is = absurd (none-some e is)
-skip_inners (ImportEnd i h) e is = absurd (none-some e is)
-skip_inners (ResultEnd h) e is = absurd (none-some e is)
+skip_ports : (b e : End) → skip_inner b ≡ Some e → (PartEnd 0 1 ≡ b) × (ResultEnd 0 ≡ e)
+skip_ports (PartEnd zero zero) e is = absurd (none-some e is)
+skip_ports (PartEnd zero (suc zero)) e is = (refl, same_Some (ResultEnd 0) e is)
+skip_ports (PartEnd zero (suc (suc h))) e is = absurd (none-some e is)
+skip_ports (PartEnd (suc i) h) e is = absurd (none-some e is)
+skip_ports (ImportEnd i h) e is = absurd (none-some e is)
+skip_ports (ResultEnd h) e is = absurd (none-some e is)
 
-skip_joints : (a b : End) → Contains skip_plan.joints (joint a b) → Contains call_and_skip.joints (joint (lies_at skip_out a) (lies_at skip_out b))
-skip_joints a b (zero, l, e) = (2, omega arith, ap (λ (j : Joint). joint (lies_at skip_out j.asking) (lies_at skip_out j.serving)) e)
-skip_joints a b (suc n, l, e) = absurd (omega (arith, l))
-
-abbrev Inside : Joint → Type 0
-Inside j = IsInside skip_out j.asking ⊎ IsInside skip_out j.serving
-
-run_outside : Inside (joint (ResultEnd 0) (PartEnd 0 2)) → ⊥
-run_outside (inl h) = h
-run_outside (inr (j, h)) = none-some j h
-
-call_outside : Inside (joint (PartEnd 0 0) (ImportEnd 0 0)) → ⊥
-call_outside (inl (j, h)) = none-some j h
-call_outside (inr h) = h
-
-all_skip_joints : (a b : End) → Contains call_and_skip.joints (joint a b) → IsInside skip_out a ⊎ IsInside skip_out b
-    → (d e : End) × Contains skip_plan.joints (joint d e) × (lies_at skip_out d ≡ a) × (lies_at skip_out e ≡ b)
-all_skip_joints a b (zero, l, e) inside = absurd (run_outside (subst (λ (j : Joint). Inside j) (sym e) inside))
-all_skip_joints a b (suc zero, l, e) inside = absurd (call_outside (subst (λ (j : Joint). Inside j) (sym e) inside))
-all_skip_joints a b (suc (suc zero), l, e) inside =
-    (ResultEnd 0, PartEnd 0 0, (0, omega arith, refl), ap (λ (j : Joint). j.asking) e, ap (λ (j : Joint). j.serving) e)
-all_skip_joints a b (suc (suc (suc n)), l, e) inside = absurd (omega (arith, l))
+skip_joints : (j : Joint) → Contains call_and_skip.joints j → (joint (PartEnd 0 1) (PartEnd 1 0) ≡ j) ⊎ AreOutside skip_out j
+skip_joints j (zero, l, e) = inr (subst (AreOutside skip_out) e (tt, refl))
+skip_joints j (suc zero, l, e) = inr (subst (AreOutside skip_out) e (refl, tt))
+skip_joints j (suc (suc zero), l, e) = inl e
+skip_joints j (suc (suc (suc n)), l, e) = absurd (omega (arith, l))
 
 skip_is_cut : IsCut skip_out call_and_skip skip_plan
 skip_is_cut =
-    record {
+    lone_is_cut 5 Com Skip 1 (PartEnd 0 1) skip_number skip_inner call_and_skip
+    (record {
       whole_right = whole_is_right;
       right = skip_is_right;
-      parts = skip_parts;
-      numbers = skip_numbers;
-      ports = λ e port stands. (refl, ap Some (one_port e port stands));
-      inners = skip_inners;
-      contacts = λ e port stands. ap (contact_at skip_plan) (one_port e port stands);
+      part = refl;
+      own_number = refl;
+      one_number = skip_numbers;
+      outside = refl;
+      own_port = refl;
+      one_port = skip_ports;
+      contact = refl;
+      asked = (2, omega arith, refl);
       joints = skip_joints;
-      all = all_skip_joints;
-    }
+    })
 
 -- the whole
 call_side : IsSide 0 0 call_out call_and_skip call_plan

@@ -15,7 +15,7 @@ use Rattle.gos_plan.specs.Plans.{End, PartEnd, ImportEnd, ResultEnd, Joint, Plan
 use Rattle.gos_plan.specs.Tokens.{places_of}
 use Rattle.gos_plan.specs.Joining.{Place, place, Wiring, JoinedWithin, Linked, Path, Connects, all_left, left_place, origin, IsJoining}
 use Rattle.gos_plan.proofs.JointLemmas as joints
-use Rattle.gos_plan.proofs.JointLemmas.{IsIn, same_itself, one_joint, contained, stands_there, found, Found, listed}
+use Rattle.gos_plan.proofs.JointLemmas.{same_itself, one_joint, contained, stands_there, found, listed}
 use Rattle.gos_realises.specs.Wirings.{side}
 use Rattle.gos_realises.specs.Renumbered.{moved, moved_if, IsRenumbered}
 use Rattle.gos_realises.specs.Alone.{AloneIsItself, OrderIsFree}

@@ -3,7 +3,9 @@ pub mod CountLemmas
 pub mod LiteralLemmas
 pub mod RingLemmas
 pub mod OneJointLemmas
+pub mod AnswerLemmas
 pub mod SkipLemmas
+pub mod RelayLemmas
 pub mod NameLemmas
 mod TraceLemmas
 mod SmallLinkLemmas

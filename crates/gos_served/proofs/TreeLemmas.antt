@@ -1,5 +1,5 @@
 -- The plans of a tree of instances, joined, realise what its terms make of the supplies: one serving after another.
-use Rattle.std.specs.Prelude.{◌≡◌, ℕ, zero, suc, ◌+◌, Bool, true, false, List, [], ◌∷◌, ◌++◌, length, Option, Some, None, Contains, slice_get, if◌then◌else◌}
+use Rattle.std.specs.Prelude.{◌≡◌, ℕ, zero, suc, ◌+◌, List, [], ◌∷◌, ◌++◌, length, Option, Some, None, slice_get, if◌then◌else◌}
 use Rattle.std.specs.Str.{bytes_eq}
 use Rattle.std.proofs.Common.{refl, sym, ◌∙◌, ap, subst, arith, inl, inr}
 use Rattle.gos_types.specs.Types.{Type'}
@@ -38,7 +38,7 @@ open_by p m realised ss r are of_r names =
     subst (λ (n : Term). Realises p.outcome r n) (λ i. supplied (λ x. among_same p.imports ss x i) m) (realised ss r are of_r names)
 
 -- a plan alone
-alone_joined : (p : Plan) → IsRight p → IsJoined (side 0 p.outcome p) p
+pub alone_joined : (p : Plan) → IsRight p → IsJoined (side 0 p.outcome p) p
 alone_joined p right =
     record {
       fits =
@@ -78,16 +78,27 @@ serving_bare k x p q vs l a has stands = by_link (of_bound k 0 (count x.ty) l ha
         let at : a.end ≡ ResultEnd h = ap (λ (b : Place). b.end) (e ∙ ap (λ (m : Link). m.other) same) in
         subst (λ (b : End). IsBare (slice_get vs a.plan) b) (sym at) (result_bare (slice_get vs a.plan) h)
 
--- the joining of a tree
-record Holds (t : Tree) : Type 0 where
-  plan : Plan
-  joined : IsJoined (wired t) plan
-  imports : plan.imports ≡ left_of t
-  outcome : plan.outcome ≡ type_of t
-  by : RealisesBy plan (meaning t)
+-- a joining of a tree
+pub record JoinedTree (t : Tree) : Type 0 where
+  pub plan : Plan
+  pub joined : IsJoined (wired t) plan
+  pub imports : plan.imports ≡ left_of t
+  pub outcome : plan.outcome ≡ type_of t
 
-serve_holds : (is js : List Imported) (x : Imported) (t u : Tree) → Holds t → Holds u → left_of t ≡ is ++ (x ∷ js) → type_of u ≡ x.ty → Holds (Serve is js x t u)
-serve_holds is js x t u of_t of_u lefts types =
+abbrev pub alone_tree : (p : Plan) (m : Term) → IsRight p → JoinedTree (Alone p m)
+alone_tree p m right = record { plan = p; joined = alone_joined p right; imports = refl; outcome = refl }
+
+-- one of a tree that serves an import of another, by joinings of both
+pub record ServedTree (is js : List Imported) (x : Imported) (t u : Tree) (p q : Plan) : Type 0 where
+  pub imports : p.imports ≡ is ++ (x ∷ js)
+  pub served : slice_get p.imports (length is) ≡ Some x
+  pub fitting : q.outcome ≡ x.ty
+  pub tree : JoinedTree (Serve is js x t u)
+  pub serves : IsJoined (serving (length is) x.ty p q) tree.plan
+
+pub serve_tree : (is js : List Imported) (x : Imported) (t u : Tree) (of_t : JoinedTree t) (of_u : JoinedTree u)
+    → left_of t ≡ is ++ (x ∷ js) → type_of u ≡ x.ty → ServedTree is js x t u of_t.plan of_u.plan
+serve_tree is js x t u of_t of_u lefts types =
     let p : Plan = of_t.plan in
     let q : Plan = of_u.plan in
     let imports : p.imports ≡ is ++ (x ∷ js) = of_t.imports ∙ lefts in
@@ -102,25 +113,46 @@ serve_holds is js x t u of_t of_u lefts types =
     (serving_bare (length is) x p q (wired t ∷ wired u ∷ [])) of_s
     in
     record {
-      plan = s;
-      joined = subst (λ (o : Type'). IsJoined (flat (bound (length is) x o) (wired t ∷ wired u ∷ [])) s) of_t.outcome flat_joined;
-      imports = served_leaves is js x p q s imports of_s ∙ ap (λ (l : List Imported). (is ++ js) ++ l) of_u.imports;
-      outcome = of_s.joining.outcome ∙ of_t.outcome;
-      by = served_is_by is js x p q s (meaning t) (meaning u) imports type_q of_s of_t.by of_u.by;
+      imports = imports;
+      served = at_k;
+      fitting = type_q;
+      tree =
+          record {
+            plan = s;
+            joined = subst (λ (o : Type'). IsJoined (flat (bound (length is) x o) (wired t ∷ wired u ∷ [])) s) of_t.outcome flat_joined;
+            imports = served_leaves is js x p q s imports of_s ∙ ap (λ (l : List Imported). (is ++ js) ++ l) of_u.imports;
+            outcome = of_s.joining.outcome ∙ of_t.outcome;
+          };
+      serves = of_s;
+    }
+
+-- one that does what the tree means
+record Holds (t : Tree) : Type 0 where
+  tree : JoinedTree t
+  by : RealisesBy tree.plan (meaning t)
+
+serve_holds : (is js : List Imported) (x : Imported) (t u : Tree) → Holds t → Holds u → left_of t ≡ is ++ (x ∷ js) → type_of u ≡ x.ty → Holds (Serve is js x t u)
+serve_holds is js x t u of_t of_u lefts types =
+    let whole = serve_tree is js x t u of_t.tree of_u.tree lefts types in
+    record {
+      tree = whole.tree;
+      by =
+          served_is_by is js x of_t.tree.plan of_u.tree.plan whole.tree.plan (meaning t) (meaning u) whole.imports whole.fitting
+          whole.serves of_t.by of_u.by;
     }
 
 tree_holds : (t : Tree) → IsTree t → Holds t
-tree_holds (Alone p m) (right, realised) =
-    record { plan = p; joined = alone_joined p right; imports = refl; outcome = refl; by = open_by p m realised }
+tree_holds (Alone p m) (right, realised) = record { tree = alone_tree p m right; by = open_by p m realised }
 tree_holds (Serve is js x t u) (of_t, of_u, lefts, types) = serve_holds is js x t u (tree_holds t of_t) (tree_holds u of_u) lefts types
 
 pub tree_is_joined : TreeIsJoined
-tree_is_joined t is = let there = tree_holds t is in (there.plan, there.joined)
+tree_is_joined t is = let there = (tree_holds t is).tree in (there.plan, there.joined)
 
 pub tree_is_realised : TreeIsRealised
 tree_is_realised t r is joining =
     let there = tree_holds t is in
-    same_by r there.plan (joinings_same (wired t) r there.plan joining there.joined.joining) joining.right there.joined.joining.right (meaning t) there.by
+    let whole = there.tree in
+    same_by r whole.plan (joinings_same (wired t) r whole.plan joining whole.joined.joining) joining.right whole.joined.joining.right (meaning t) there.by
 
 pub tree_imports : (t : Tree) (r : Plan) → IsTree t → IsJoining (wired t) r → r.imports ≡ left_of t
-tree_imports t r is joining = let there = tree_holds t is in joining.imports ∙ (sym there.joined.joining.imports ∙ there.imports)
+tree_imports t r is joining = let there = (tree_holds t is).tree in joining.imports ∙ (sym there.joined.joining.imports ∙ there.imports)

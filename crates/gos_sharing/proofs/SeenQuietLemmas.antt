@@ -8,7 +8,7 @@ use Rattle.gos_netlist.specs.Events.{Direction, Request, Answer}
 use Rattle.gos_plan.specs.Kinds.{Contact, Part, asks, serves}
 use Rattle.gos_plan.specs.Plans.{End, PartEnd, Plan, contact_at}
 use Rattle.gos_plan.specs.Firing.{at, Rest, Slot, Req, Ans}
-use Rattle.gos_plan.specs.Tokens.{Tokens, Element, Fire, Out, In, places_of, held_at, token_at, end_of, way_of, way_taken, firing_of, fired, with_token, Passes, Does, IsQuiet, IsIdle}
+use Rattle.gos_plan.specs.Tokens.{Tokens, Element, Fire, Out, places_of, held_at, token_at, end_of, way_of, way_taken, firing_of, fired, with_token, Passes, Does, IsQuiet}
 use Rattle.gos_plan.specs.Orderly.{Open, none_open, AllWelcome, OrderlyFrom}
 use Rattle.gos_plan.proofs.JointLemmas.{IsIn, Found, found, fits}
 use Rattle.gos_plan.proofs.AskingLemmas.{row_roles}

@@ -1,6 +1,6 @@
 -- Files that are right for `sim` have no fault: a text has one answer, and so has a netlist, and a run.
 use Rattle.std.proofs.Common.{◌≡◌, ◌∙◌, inl, inr, ℕ, List, [], sym, subst}
-use Rattle.gos_outside.specs.Files.{Files, bytes_at}
+use Rattle.gos_outside.specs.Files.{bytes_at}
 use Rattle.gos_netlist.specs.Nets.{Netlist}
 use Rattle.gos_netlist.specs.NetText.{text_of}
 use Rattle.gos_netlist.specs.NetFaults.{IsOneNetlist, ReadHasNoFault}

@@ -6,11 +6,10 @@ use Rattle.gos_types.specs.Types.{Type', Fun}
 use Rattle.gos_netlist.specs.Events.{Direction, Answer}
 use Rattle.gos_plan.specs.Kinds.{Contact, contacts_of}
 use Rattle.gos_plan.specs.Firing.{Rest, State, Slot, Req, Ans, Token, Row}
-use Rattle.gos_plan.specs.Plans.{End, PartEnd, ImportEnd, ResultEnd, Plan, contact_at, contacts_of_part, contacts_of_import, turned_if}
-use Rattle.gos_plan.specs.Tokens.{Tokens, Element, Fire, Out, In, IsPortEnd, Passes, places_of, with_place, held_at, with_held, token_at, with_token, with_state, with_puts, end_of, way_of, shake_of, way_taken, way_put, bits_of, firing_of, fired, Does, Runs}
+use Rattle.gos_plan.specs.Plans.{End, PartEnd, ImportEnd, ResultEnd, Plan, contact_at, contacts_of_import, turned_if}
+use Rattle.gos_plan.specs.Tokens.{Tokens, Element, Fire, Out, In, IsPortEnd, Passes, places_of, with_place, with_held, token_at, with_token, with_state, with_puts, end_of, way_of, shake_of, way_taken, way_put, bits_of, firing_of, Does, Runs}
 use Rattle.gos_plan.specs.Orderly.{Open, after_taken, after_put, after_puts, ComesWell, AllComeWell, ComesInOrder, AllWelcome}
 use Rattle.gos_plan.proofs.HeldLemmas as held
-use Rattle.gos_plan.proofs.HeldLemmas.{takes_of, nothing_there}
 use Rattle.gos_realises.specs.Regular.{count, Pass, pass, way_in, way_out, is_open, KeepsTurns, KeepsTurnsOf, ComesInTurn, InputsKeepTurns, whole_type, whole_end}
 use Rattle.gos_realises.specs.Matched.{shows, label_at, port_if, event_number, GoesOn}
 use Rattle.gos_model.specs.Moves.{Act}

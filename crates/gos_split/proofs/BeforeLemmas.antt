@@ -7,7 +7,7 @@ use Rattle.gos_model.specs.Typing.{Imported}
 use Rattle.gos_plan.specs.Kinds.{Share, Contact, asks, serves}
 use Rattle.gos_plan.specs.Plans.{End, PartEnd, ImportEnd, ResultEnd, Joint, Plan, contact_at, contacts_of_part, contacts_of_import}
 use Rattle.gos_plan.specs.Tokens.{IsPortEnd}
-use Rattle.gos_plan.specs.Joining.{Place, place, Link, Wiring, LeftImport, is_joined, left_in, left_among, all_left, all_parts, left_place, origin, IsJoining}
+use Rattle.gos_plan.specs.Joining.{Place, place, Link, Wiring, LeftImport, is_joined, left_among, all_left, all_parts, left_place, origin, IsJoining}
 use Rattle.gos_plan.proofs.JointLemmas.{fits, contained, one_joint}
 use Rattle.gos_realises.specs.Regular.{count}
 use Rattle.gos_realises.proofs.LeftLemmas.{left_list, left_all}

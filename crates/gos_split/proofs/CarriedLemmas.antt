@@ -1,34 +1,22 @@
 -- Of joinings of split plans each joint of the one is one of the other.
-use Rattle.std.specs.Prelude.{◌≡◌, ◌≢◌, ℕ, zero, suc, ◌+◌, ◌-◌, ◌*◌, ◌<◌, ◌≤◌, Bool, true, false, List, [], ◌∷◌, ◌++◌, length, map, Option, Some, None, slice_get, nat_eq, nat_lt, Contains, if◌then◌else◌}
+use Rattle.std.specs.Prelude.{◌≡◌, ◌≢◌, ℕ, ◌+◌, ◌-◌, ◌*◌, ◌<◌, ◌≤◌, Bool, true, false, List, [], ◌++◌, length, map, Some, slice_get, nat_eq, nat_lt, Contains, if◌then◌else◌}
 use Rattle.std.proofs.Common.{refl, sym, ◌∙◌, ap, subst, arith, inl, inr}
 use Rattle.std.proofs.lemmas.Bool.Decides.{nat_tests}
 use Rattle.std.proofs.lemmas.Option.{slice_get_within, same_Some}
 use Rattle.gos_types.specs.Types.{Type', Fun}
-use Rattle.gos_plan.specs.Kinds.{Part, Share, Contact, asks, serves}
+use Rattle.gos_plan.specs.Kinds.{Contact, asks, serves}
 use Rattle.gos_plan.specs.Plans.{End, PartEnd, ImportEnd, ResultEnd, Joint, Plan, contact_at, contacts_of_part, contacts_of_import, turned_if}
 use Rattle.gos_plan.specs.Tokens.{IsPortEnd}
-use Rattle.gos_plan.specs.Joining.{Place, place, Link, Wiring, LeftImport, all_parts, all_left, left_in, left_among, left_place, part_place, origin, JoinedWithin, Linked, Path, Connects, IsJoining}
+use Rattle.gos_plan.specs.Joining.{Place, place, Link, Wiring, all_parts, all_left, left_in, left_among, left_place, part_place, origin, Path, Connects, IsJoining}
 use Rattle.gos_plan.proofs.JointLemmas.{fits, contained}
 use Rattle.gos_realises.specs.Regular.{count}
-use Rattle.gos_joined.proofs.OriginLemmas.{front_at, behind_at}
-use Rattle.gos_joined.proofs.ReachLemmas.{place_is, Step, Paths}
 use Rattle.gos_webs.specs.Webs.{joint}
 use Rattle.gos_webs.specs.Cutting.{StandsIn}
 use Rattle.gos_webs.proofs.CutLemmas.{which_end, stands_by, part_at}
-use Rattle.gos_unions.proofs.PathLemmas.{path_walk, walks_paths}
-use Rattle.gos_unions.proofs.WalkLemmas.{goes, mapped_walk}
 use Rattle.gos_split.specs.Joined.{wiring, IsPortPlace, AllPortPlaces, JoinedIsSplit}
 use Rattle.gos_split.specs.Split.{Splitting, IsUsed, IsSplit}
+use Rattle.gos_split.proofs.MappedLemmas.{later_port, left_port, first_part, other_part, other_origin, place_at, IsCarried, port_stays, path_goes}
 use Rattle.gos_split.proofs.JoinedLemmas.{stands_low, low_origin, contact_moved, lands, part_low, back_low, argument_low, outcome_low, wide_low, joined_end, joined_back, joined_split}
-
-pub later_plan : (m : ℕ) (ps : List Plan) (i h : ℕ) → (n : ℕ) × ((part_place (suc m) ps i h).plan ≡ suc n)
-later_plan m [] i h = (m, refl)
-later_plan m (p ∷ ps) i h = by_test (nat_lt i (length p.parts)) refl (later_plan (suc m) ps (i - length p.parts) h)
-  where
-    by_test : (b : Bool) → nat_lt i (length p.parts) ≡ b → (n : ℕ) × ((part_place (suc (suc m)) ps (i - length p.parts) h).plan ≡ suc n)
-        → (n : ℕ) × ((if b then place (suc m) (PartEnd i h) else part_place (suc (suc m)) ps (i - length p.parts) h).plan ≡ suc n)
-    by_test true test rest = (m, refl)
-    by_test false test rest = rest
 
 module _ (f : Splitting) (x u : Plan) (is : IsSplit f x u) (ps : List Plan) (ls : List Link) (giver skipped : ℕ) (ty : Type') (kept : AllPortPlaces ls) (X U : Plan)
     (of_x : IsJoining (wiring x ps ls giver skipped ty) X) (of_u : IsJoining (wiring u ps ls giver skipped ty) U)
@@ -43,19 +31,11 @@ module _ (f : Splitting) (x u : Plan) (is : IsSplit f x u) (ps : List Plan) (ls 
     g = joined_split f x u is
 
     -- places
-    abbrev end_at : ℕ → End → End
-    end_at zero e = f.end e
-    end_at (suc k) e = e
-
-    abbrev back_at : ℕ → End → End
-    back_at zero e = f.end_back e
-    back_at (suc k) e = e
-
     abbrev there : Place → Place
-    there a = place a.plan (end_at a.plan a.end)
+    there = place_at f.end
 
     abbrev here : Place → Place
-    here a = place a.plan (back_at a.plan a.end)
+    here = place_at f.end_back
 
     port_used : (e : End) → IsPortEnd e → IsUsed f e
     port_used (PartEnd n h) port = absurd port
@@ -64,36 +44,6 @@ module _ (f : Splitting) (x u : Plan) (is : IsSplit f x u) (ps : List Plan) (ls 
 
     port_back : (e : End) → IsPortEnd e → f.end_back e ≡ e
     port_back e port = ap f.end_back (sym (is.ports e port)) ∙ is.returns e (port_used e port)
-
-    port_at : (k : ℕ) (e : End) → (k ≡ 0 → IsPortEnd e) → end_at k e ≡ e
-    port_at zero e port = is.ports e (port refl)
-    port_at (suc k) e port = refl
-
-    port_here : (k : ℕ) (e : End) → (k ≡ 0 → IsPortEnd e) → back_at k e ≡ e
-    port_here zero e port = port_back e (port refl)
-    port_here (suc k) e port = refl
-
-    kept_there : (a : Place) → IsPortPlace a → there a ≡ a
-    kept_there a port = place_is (there a) a refl (port_at a.plan a.end port)
-
-    kept_here : (a : Place) → IsPortPlace a → here a ≡ a
-    kept_here a port = place_is (here a) a refl (port_here a.plan a.end port)
-
-    later_kept : (m : ℕ) (i h : ℕ) → IsPortPlace (part_place (suc m) ps i h)
-    later_kept m i h none = let (n, is_n) = later_plan m ps i h in absurd (omega (arith, none, is_n))
-
-    -- steps there
-    abbrev PlanThere : ℕ → Plan → Type 0
-    PlanThere k p = (q : Plan) × (slice_get (u ∷ ps) k ≡ Some q) × ((d e : End) → Contains p.joints (joint d e) → Contains q.joints (joint (end_at k d) (end_at k e)))
-
-    plan_there : (k : ℕ) (p : Plan) → slice_get (x ∷ ps) k ≡ Some p → PlanThere k p
-    plan_there zero p at_p =
-        let same : x ≡ p = cc at_p in
-        subst (λ (y : Plan). PlanThere 0 y) same (u, refl, λ d e has. is.joints d e has)
-    plan_there (suc k) p at_p = (p, at_p, λ d e has. has)
-
-    abbrev PlanHere : ℕ → Plan → Type 0
-    PlanHere k q = (p : Plan) × (slice_get (x ∷ ps) k ≡ Some p) × ((d e : End) → Contains q.joints (joint d e) → Contains p.joints (joint (back_at k d) (back_at k e)))
 
     joint_back : (a b : End) → Contains u.joints (joint a b) → Contains x.joints (joint (f.end_back a) (f.end_back b))
     joint_back a b has =
@@ -104,78 +54,21 @@ module _ (f : Splitting) (x u : Plan) (is : IsSplit f x u) (ps : List Plan) (ls 
         let back_e : e ≡ f.end_back b = sym (is.returns e used_e) ∙ ap f.end_back at_e in
         subst (λ (y : Joint). Contains x.joints y) (λ l. joint (back_d l) (back_e l)) here_x
 
-    plan_here : (k : ℕ) (q : Plan) → slice_get (u ∷ ps) k ≡ Some q → PlanHere k q
-    plan_here zero q at_q = let same : u ≡ q = cc at_q in subst (λ (y : Plan). PlanHere 0 y) same (x, refl, joint_back)
-    plan_here (suc k) q at_q = (q, at_q, λ d e has. has)
+    onto_u : IsCarried f.end x u
+    onto_u = record { ports = is.ports; joints = is.joints }
 
-    joint_there : (a b : Place) → JoinedWithin w a b → JoinedWithin v (there a) (there b)
-    joint_there a b (p, j, same, at_p, has, ways) =
-        let (q, at_q, onto) = plan_there a.plan p at_p in
-        let b_end : end_at b.plan b.end ≡ end_at a.plan b.end = ap (λ (k : ℕ). end_at k b.end) (sym same) in (
-          q,
-          joint (end_at a.plan j.asking) (end_at a.plan j.serving),
-          same,
-          at_q,
-          onto j.asking j.serving has,
-          elim ways [
-            | inl (e, s) ↦ inl (ap (end_at a.plan) e, b_end ∙ ap (end_at a.plan) s)
-            | inr (e, s) ↦ inr (ap (end_at a.plan) e, b_end ∙ ap (end_at a.plan) s)
-          ],
-        )
+    onto_x : IsCarried f.end_back u x
+    onto_x = record { ports = port_back; joints = joint_back }
 
-    joint_here : (a b : Place) → JoinedWithin v a b → JoinedWithin w (here a) (here b)
-    joint_here a b (q, j, same, at_q, has, ways) =
-        let (p, at_p, onto) = plan_here a.plan q at_q in
-        let b_end : back_at b.plan b.end ≡ back_at a.plan b.end = ap (λ (k : ℕ). back_at k b.end) (sym same) in (
-          p,
-          joint (back_at a.plan j.asking) (back_at a.plan j.serving),
-          same,
-          at_p,
-          onto j.asking j.serving has,
-          elim ways [
-            | inl (e, s) ↦ inl (ap (back_at a.plan) e, b_end ∙ ap (back_at a.plan) s)
-            | inr (e, s) ↦ inr (ap (back_at a.plan) e, b_end ∙ ap (back_at a.plan) s)
-          ],
-        )
+    kept_there : (a : Place) → IsPortPlace a → there a ≡ a
+    kept_there = port_stays f.end x u onto_u
 
-    link_there : (a b : Place) → Linked w a b → Linked v (there a) (there b)
-    link_there a b (l, has, inl (e, s)) = let both = kept l has in (l, has, inl (ap there e ∙ kept_there l.one both.0, ap there s ∙ kept_there l.other both.1))
-    link_there a b (l, has, inr (e, s)) = let both = kept l has in (l, has, inr (ap there e ∙ kept_there l.other both.1, ap there s ∙ kept_there l.one both.0))
-
-    link_here : (a b : Place) → Linked v a b → Linked w (here a) (here b)
-    link_here a b (l, has, inl (e, s)) = let both = kept l has in (l, has, inl (ap here e ∙ kept_here l.one both.0, ap here s ∙ kept_here l.other both.1))
-    link_here a b (l, has, inr (e, s)) = let both = kept l has in (l, has, inr (ap here e ∙ kept_here l.other both.1, ap here s ∙ kept_here l.one both.0))
-
-    step_there : (a b : Place) → Step w a b → Step v (there a) (there b)
-    step_there a b (inl s) = inl (joint_there a b s)
-    step_there a b (inr s) = inr (link_there a b s)
-
-    step_here : (a b : Place) → Step v a b → Step w (here a) (here b)
-    step_here a b (inl s) = inl (joint_here a b s)
-    step_here a b (inr s) = inr (link_here a b s)
-
-    path_there : (n : ℕ) (a b : Place) → Path w n a b → Paths v (there a) (there b)
-    path_there n a b path =
-        walks_paths v (there a) (there b)
-        (mapped_walk Place Place (Step w) (Step v) there (λ y z s. goes Place (Step v) (there y) (there z) (step_there y z s)) n a b (path_walk w n a b path))
-
-    path_here : (n : ℕ) (a b : Place) → Path v n a b → Paths w (here a) (here b)
-    path_here n a b path =
-        walks_paths w (here a) (here b)
-        (mapped_walk Place Place (Step v) (Step w) here (λ y z s. goes Place (Step w) (here y) (here z) (step_here y z s)) n a b (path_walk v n a b path))
+    kept_here : (a : Place) → IsPortPlace a → here a ≡ a
+    kept_here = port_stays f.end_back u x onto_x
 
     -- where the ends stand
     left_same : all_left v ≡ all_left w
     left_same = ap (λ js. left_in ls 0 0 js ++ left_among ls 1 ps) is.imports
-
-    left_kept : (o : Option LeftImport) (h : ℕ) → IsPortPlace (left_place o h)
-    left_kept None h same = tt
-    left_kept (Some l) h same = tt
-
-    high_origin : (p : Plan) (n h : ℕ) → length p.parts ≤ n → origin (wiring p ps ls giver skipped ty) (PartEnd n h) ≡ part_place 1 ps (n - length p.parts) h
-    high_origin p n h high =
-        let test : nat_lt n (length p.parts) ≡ false = grind (arith, nat_tests, high) in
-        ap (λ (b : Bool). if b then place 0 (PartEnd n h) else part_place 1 ps (n - length p.parts) h) test
 
     abbrev Goes : End → Type 0
     Goes e = (there (origin w e) ≡ origin v (joined_end f x u is e)) × (here (origin v (joined_end f x u is e)) ≡ origin w e)
@@ -204,41 +97,36 @@ module _ (f : Splitting) (x u : Plan) (is : IsSplit f x u) (ps : List Plan) (ls 
             (ap there first ∙ sym onto, ap here onto ∙ (ap (place 0) (is.returns (PartEnd n h) own) ∙ sym first))
         by_test false test =
             let high : length x.parts ≤ n = grind (arith, nat_tests, test) in
-            let first = high_origin x n h high in
+            let first = other_origin x ps ls giver skipped ty n h high in
             let sum : n - length x.parts + length u.parts - length u.parts ≡ n - length x.parts = omega arith in
             let onto : origin v (joined_end f x u is (PartEnd n h)) ≡ part_place 1 ps (n - length x.parts) h =
-            ap (origin v) (high_end n h high) ∙ (high_origin u (n - length x.parts + length u.parts) h (omega arith) ∙ ap (λ (m : ℕ). part_place 1 ps m h) sum)
+            ap (origin v) (high_end n h high)
+            ∙ (other_origin u ps ls giver skipped ty (n - length x.parts + length u.parts) h (omega arith) ∙ ap (λ (m : ℕ). part_place 1 ps m h) sum)
             in (
-              ap there first ∙ (kept_there (part_place 1 ps (n - length x.parts) h) (later_kept 0 (n - length x.parts) h) ∙ sym onto),
-              ap here onto ∙ (kept_here (part_place 1 ps (n - length x.parts) h) (later_kept 0 (n - length x.parts) h) ∙ sym first),
+              ap there first ∙ (kept_there (part_place 1 ps (n - length x.parts) h) (later_port 0 ps (n - length x.parts) h) ∙ sym onto),
+              ap here onto ∙ (kept_here (part_place 1 ps (n - length x.parts) h) (later_port 0 ps (n - length x.parts) h) ∙ sym first),
             )
 
     goes_end : (e : End) → IsUsed f e → Goes e
     goes_end (PartEnd n h) own = goes_part n h own
     goes_end (ImportEnd n h) own =
         let same : origin v (ImportEnd n h) ≡ origin w (ImportEnd n h) = ap (λ l. left_place (slice_get l n) h) left_same in
-        let port = left_kept (slice_get (all_left w) n) h in
+        let port = left_port (slice_get (all_left w) n) h in
         (kept_there (origin w (ImportEnd n h)) port ∙ sym same, ap here same ∙ kept_here (origin w (ImportEnd n h)) port)
     goes_end (ResultEnd h) own = (kept_there (origin w (ResultEnd h)) (λ same. tt), kept_here (origin w (ResultEnd h)) (λ same. tt))
 
     -- handshakes
-    parts_x : X.parts ≡ x.parts ++ all_parts ps
-    parts_x = of_x.parts
-
-    parts_u : U.parts ≡ u.parts ++ all_parts ps
-    parts_u = of_u.parts
-
     low_x : (n : ℕ) → n < length x.parts → slice_get X.parts n ≡ slice_get x.parts n
-    low_x n low = ap (λ ks. slice_get ks n) parts_x ∙ front_at x.parts (all_parts ps) n low
+    low_x = first_part x X (all_parts ps) of_x.parts
 
     low_u : (n : ℕ) → n < length u.parts → slice_get U.parts n ≡ slice_get u.parts n
-    low_u n low = ap (λ ks. slice_get ks n) parts_u ∙ front_at u.parts (all_parts ps) n low
+    low_u = first_part u U (all_parts ps) of_u.parts
 
     high_x : (n : ℕ) → length x.parts ≤ n → slice_get X.parts n ≡ slice_get (all_parts ps) (n - length x.parts)
-    high_x n high = ap (λ ks. slice_get ks n) parts_x ∙ behind_at x.parts (all_parts ps) n high
+    high_x = other_part x X (all_parts ps) of_x.parts
 
     high_u : (n : ℕ) → length u.parts ≤ n → slice_get U.parts n ≡ slice_get (all_parts ps) (n - length u.parts)
-    high_u n high = ap (λ ks. slice_get ks n) parts_u ∙ behind_at u.parts (all_parts ps) n high
+    high_u = other_part u U (all_parts ps) of_u.parts
 
     imports_same : U.imports ≡ X.imports
     imports_same = of_u.imports ∙ (ap (map (λ l. l.import)) left_same ∙ sym of_x.imports)
@@ -289,7 +177,7 @@ module _ (f : Splitting) (x u : Plan) (is : IsSplit f x u) (ps : List Plan) (ls 
 
         of_connects : Connects w X d e → Contains U.joints (joint (joined_end f x u is d) (joined_end f x u is e))
         of_connects (q, b, n, at_d, at_e, path) =
-            let (m, on) = path_there n (origin w d) (origin w e) path in
+            let (m, on) = path_goes f.end x u onto_u ps ls giver skipped ty kept n (origin w d) (origin w e) path in
             (of_u.joints (joined_end f x u is d) (joined_end f x u is e)).1 (
               q,
               b,
@@ -360,7 +248,7 @@ module _ (f : Splitting) (x u : Plan) (is : IsSplit f x u) (ps : List Plan) (ls 
         of_connects (q, c, n, at_a, at_b, path) =
             let one = from_end a (joint a b, has, stands_by a (joint a b) (inl refl)) (asks q c) at_a in
             let other = from_end b (joint a b, has, stands_by b (joint a b) (inr refl)) (serves q c) at_b in
-            let (m, on) = path_here n (origin v a) (origin v b) path in
+            let (m, on) = path_goes f.end_back u x onto_x ps ls giver skipped ty kept n (origin v a) (origin v b) path in
             let from_a : here (origin v a) ≡ origin w one.from = ap (λ (y : End). here (origin v y)) (sym one.named) ∙ (goes_end one.from one.is_used).1 in
             let from_b : here (origin v b) ≡ origin w other.from = ap (λ (y : End). here (origin v y)) (sym other.named) ∙ (goes_end other.from other.is_used).1 in
             let same_a : one.has.0 ≡ asks q c = same_Some one.has.0 (asks q c) (sym (contact_there one.from one.is_used one.has.0 one.has.1) ∙ (ap (contact_at U) one.named ∙ at_a)) in

@@ -7,7 +7,7 @@ use Rattle.gos_model.specs.Moves.{Program, Config, Idle}
 use Rattle.gos_model.specs.Protocol.{KeepsProtocol}
 use Rattle.gos_plan.specs.Kinds.{Part, Contact, asks, serves, part_contacts}
 use Rattle.gos_plan.specs.Firing.{Rest, State, at, Slot, firing}
-use Rattle.gos_plan.specs.Plans.{End, PartEnd, ImportEnd, ResultEnd, Plan, contact_at, contacts_of_part, stands_in}
+use Rattle.gos_plan.specs.Plans.{End, PartEnd, ImportEnd, ResultEnd, Plan, contact_at, contacts_of_part}
 use Rattle.gos_plan.specs.Tokens.{Tokens, Element, Fire, Out, In, IsPortEnd, Passes, places_of, token_at, with_token, end_of, way_of, shake_of, way_taken, firing_of, fired, Does, Runs, IsIdle, IsQuiet}
 use Rattle.gos_plan.specs.Orderly.{Open, none_open}
 use Rattle.gos_plan.proofs.JointLemmas.{found, fits, contained}

@@ -7,7 +7,7 @@ use Rattle.gos_types.specs.Types.{Type', Fun}
 use Rattle.gos_types.specs.declared.shakes.Role.TheVariants.{Serve, Ask}
 use Rattle.gos_plan.specs.Kinds.{Part, Share, Contact, asks, serves, contacts_of, turned_contact, part_contacts}
 use Rattle.gos_plan.specs.Plans.{End, PartEnd, ImportEnd, ResultEnd, Plan, contact_at, contacts_of_part, contacts_of_import, turned_if}
-use Rattle.gos_plan.specs.Joining.{Place, place, Link, Wiring, LeftImport, all_parts, all_left, left_in, left_among, left_place, part_place, origin, JoinedWithin, Linked, Path, IsJoining}
+use Rattle.gos_plan.specs.Joining.{Place, place, Link, Wiring, part_place, origin, Path, IsJoining}
 use Rattle.gos_plan.proofs.AskingLemmas.{source_at, first_caller_at, second_caller_at}
 use Rattle.gos_realises.specs.Regular.{count}
 use Rattle.gos_realises.proofs.GroundTurnLemmas.{count_fun}

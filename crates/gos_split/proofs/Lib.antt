@@ -5,6 +5,7 @@ pub mod SwapLemmas
 pub mod FollowLemmas
 pub mod SmallLemmas
 pub mod JoinedLemmas
+pub mod MappedLemmas
 pub mod CarriedLemmas
 pub mod BeforeLemmas
 pub mod MeansLemmas

@@ -7,7 +7,7 @@ use Rattle.gos_types.specs.Types.{Type'}
 use Rattle.gos_model.specs.Typing.{Imported}
 use Rattle.gos_plan.specs.Kinds.{Part, Contact, contacts_of}
 use Rattle.gos_plan.specs.Plans.{End, PartEnd, ImportEnd, ResultEnd, Plan, contact_at, contacts_of_part, contacts_of_import, turned_if}
-use Rattle.gos_plan.specs.Joining.{Place, place, Link, Wiring, LeftImport, is_joined, left_in, left_among, all_left, left_place, origin, JoinedWithin, Linked, IsJoining}
+use Rattle.gos_plan.specs.Joining.{place, Link, Wiring, LeftImport, is_joined, all_left, left_place, origin, IsJoining}
 use Rattle.gos_realises.specs.Regular.{count}
 use Rattle.gos_realises.specs.Wirings.{link, results_linked, applying}
 use Rattle.gos_realises.proofs.LeftLemmas.{left_list, left_all}

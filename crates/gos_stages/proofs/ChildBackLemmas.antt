@@ -1,5 +1,5 @@
 -- What a tie of the node's web connects stands for nothing of the child, or for what its own web connects.
-use Rattle.std.specs.Prelude.{◌+◌, ◌<◌, ◌≤◌, ◌⊎◌, ◌||◌, length, map, nat_eq, nat_lt, slice_get, None, Contains}
+use Rattle.std.specs.Prelude.{◌+◌, ◌<◌, ◌≤◌, ◌⊎◌, ◌||◌, ◌&&◌, not, length, map, nat_eq, nat_lt, slice_get, None, Contains}
 use Rattle.std.proofs.Common.{◌≡◌, ℕ, zero, suc, Bool, true, false, List, [], ◌∷◌, ◌++◌, Option, Some, inl, inr, refl, sym, ◌∙◌, ap, subst, arith, if◌then◌else◌}
 use Rattle.std.proofs.lemmas.Bool.Decides.{nat_tests}
 use Rattle.std.proofs.lemmas.List.Elements.{Contains-append_left, Contains-append_right, Contains-append_cases}
@@ -49,6 +49,13 @@ range_in a n k le lt = rw (high k a le, low k (a + n) lt) refl
 
 pub range_below : (a n k : ℕ) → k < a → in_range a n k ≡ false
 range_below a n k lt = rw (low k a lt) refl
+
+pub range_past : (a n k : ℕ) → a + n ≤ k → in_range a n k ≡ false
+range_past a n k le = ap (λ (t : Bool). not (nat_lt k a) && t) (high k (a + n) le) ∙ never (not (nat_lt k a))
+  where
+    never : (t : Bool) → (t && false) ≡ false
+    never true = refl
+    never false = refl
 
 -- what a tie connects, from what it stands for
 pub follows_by : (ts : List Tie) (a b : Option Dot) (x y : Dot) → a ≡ Some x → b ≡ Some y → Way ts x y → Follows ts a b

@@ -11,7 +11,6 @@ use Rattle.gos_ties.specs.declared.points.Point.{Point}
 use Rattle.gos_ties.specs.declared.points.Tie.{Tie}
 use Rattle.gos_ties.specs.Ties.{point, tie}
 use Rattle.gos_webs.specs.Webs as webs
-use Rattle.gos_webs.specs.Webs.{Dot}
 use Rattle.gos_compile.specs.Wiring.{Types, row, led, share_ties, shares_ties, ties_of, parts_of, type_of_node, nodes, binder_part, binder_ties, binder_out, one_part, one_ties, one_out, two_part, two_ties, first_out, second_out}
 use Rattle.gos_wired.specs.Wired.{dot_of_place, dot_of, dot_ties}
 use Rattle.gos_stages.specs.Leading.{led_by, LeavesInner, TiesFollow, or_point, at_place, leading, dot_leading, ResultLeads, DotsLead}

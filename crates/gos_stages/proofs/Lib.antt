@@ -14,6 +14,7 @@ pub mod LiveLemmas
 pub mod HousingLemmas
 pub mod ChildTieLemmas
 pub mod ChildBackLemmas
+pub mod NothingLemmas
 pub mod ServedLemmas
 pub mod SpareLemmas
 pub mod ChildPartLemmas

@@ -1,8 +1,8 @@
 -- Where the handshakes of a small child lead.
-use Rattle.std.specs.Prelude.{◌≡◌, ℕ, zero, suc, [], ◌∷◌, Some, slice_get}
+use Rattle.std.specs.Prelude.{◌≡◌, zero, suc}
 use Rattle.std.proofs.Common.{refl, sym, ◌∙◌, arith}
 use Rattle.gos_stages.specs.Folding.{Lead, AtOwn, AtResult}
-use Rattle.gos_stages.specs.SmallLeads.{two_leads, LeadsStand, TwoAreDistinct, TwiceIsNotDistinct}
+use Rattle.gos_stages.specs.SmallLeads.{LeadsStand, TwoAreDistinct, TwiceIsNotDistinct}
 
 pub leads_stand : LeadsStand
 leads_stand = (refl, refl, refl)

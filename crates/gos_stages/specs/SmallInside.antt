@@ -2,7 +2,7 @@
 --
 -- Read first: Inside; SmallBuffers of gos_buffers. They show that these definitions can be met and can be missed.
 use Rattle.std.specs.Prelude.{◌≡◌, List, [], ◌∷◌}
-use Rattle.gos_types.specs.Types.{Com, Pair, Fun}
+use Rattle.gos_types.specs.Types.{Com}
 use Rattle.gos_model.specs.Terms as terms
 use Rattle.gos_check.specs.declared.linear.Split.{Split}
 use Rattle.gos_compile.specs.Wiring.{Types}

@@ -1,34 +1,31 @@
 -- The two sides of a wired assignment are children of the node, in its web with the other point.
-use Rattle.std.specs.Prelude.{◌+◌, ◌-◌, ◌<◌, ◌≤◌, ◌⊎◌, ◌||◌, ◌&&◌, not, length, nat_lt, slice_get, None, Contains}
-use Rattle.std.proofs.Common.{◌≡◌, ℕ, zero, suc, Bool, true, false, List, [], ◌∷◌, ◌++◌, Option, Some, inl, inr, refl, sym, ◌∙◌, ap, subst, arith, if◌then◌else◌}
-use Rattle.std.proofs.lemmas.Bool.Decides.{nat_tests}
+use Rattle.std.specs.Prelude.{◌+◌, ◌<◌, ◌≤◌, ◌⊎◌, length, slice_get, None, Contains}
+use Rattle.std.proofs.Common.{◌≡◌, ℕ, zero, suc, false, List, [], ◌∷◌, ◌++◌, Option, Some, inl, inr, refl, sym, ◌∙◌, ap, subst, arith}
 use Rattle.std.proofs.lemmas.List.Elements.{Contains-append_left, Contains-append_right, Contains-append_cases}
 use Rattle.gos_types.specs.Types.{Type', Com, Var, Exp}
 use Rattle.gos_check.specs.declared.linear.Split.{Split}
 use Rattle.gos_check.specs.Nodes.{Numbered, Two, OfAssign, type_of_node}
 use Rattle.gos_check.specs.Linearity.{times, used, made}
-use Rattle.gos_check.proofs.TimesLemmas.{eq_true, eq_false}
 use Rattle.gos_plan.specs.Kinds.{Contact, Part, Assign, contacts_of}
-use Rattle.gos_plan.specs.Plans.{PartEnd, ResultEnd, contacts_of_part, turned_if}
+use Rattle.gos_plan.specs.Plans.{contacts_of_part, turned_if}
 use Rattle.gos_realises.specs.Regular.{count}
 use Rattle.gos_ties.specs.declared.points.Place.{Place}
 use Rattle.gos_ties.specs.declared.points.Place.TheVariants as places
 use Rattle.gos_ties.specs.declared.points.Point.{Point}
-use Rattle.gos_webs.specs.Webs.{Dot, Of, Number, Node, Within, Tie}
+use Rattle.gos_webs.specs.Webs.{Dot, Number, Node, Tie}
 use Rattle.gos_unions.specs.Unions.{within}
 use Rattle.gos_unions.proofs.LeftLemmas.{front, behind}
 use Rattle.gos_compile.specs.Wiring.{Types, answer_bits, shares, shares_ties, parts_of, nodes}
 use Rattle.gos_wired.specs.Wired.{Supplies, dot_ties, all_supply_ties}
 use Rattle.gos_wired.specs.NodeFitting.{AreOfTypes}
 use Rattle.gos_stages.specs.Ranges.{IsWithin}
-use Rattle.gos_stages.specs.Lodging.{spot_if, AreTidy}
+use Rattle.gos_stages.specs.Lodging.{AreTidy}
 use Rattle.gos_stages.specs.Housing.{HasShares}
-use Rattle.gos_stages.specs.Folding.{Lead, AtOwn, AtResult, Child, AreDistinct, is_used, lodge, child_out, in_range, asks_child, is_number, spot_dot, child_back, shared_ties, own_ties, IsForeign, IsChild}
+use Rattle.gos_stages.specs.Folding.{Lead, AtOwn, AtResult, Child, AreDistinct, is_used, child_out, in_range, child_back, shared_ties, own_ties, IsForeign, IsChild}
 use Rattle.gos_stages.specs.Folded.{Sees}
 use Rattle.gos_stages.specs.Regions.{HasParts}
-use Rattle.gos_stages.proofs.LodgingLemmas.{numbers_are_held}
-use Rattle.gos_stages.proofs.HousingLemmas.{far_is_nothing}
-use Rattle.gos_stages.proofs.ChildBackLemmas.{range_below}
+use Rattle.gos_stages.proofs.NothingLemmas.{part_nothing, own_back, node_nothing, number_nothing}
+use Rattle.gos_stages.proofs.ChildBackLemmas.{range_below, range_past}
 use Rattle.gos_stages.proofs.ChildPartLemmas.{no_more_than}
 use Rattle.gos_stages.proofs.ContactLemmas.{shares_length}
 use Rattle.gos_numbers.specs.Kept.{IsKept}
@@ -39,56 +36,10 @@ use Rattle.gos_targets.proofs.WebLemmas.{variable_child, number_child, open_ties
 use Rattle.gos_targets.proofs.OtherLemmas.{IsOthers, variable_part, number_part, not_variables, not_numbers}
 use Rattle.gos_targets.proofs.FoldLemmas.{HasTarget}
 
-range_past : (a n k : ℕ) → a + n ≤ k → in_range a n k ≡ false
-range_past a n k le = ap (λ (t : Bool). not (nat_lt k a) && t) (high k (a + n) le) ∙ never (not (nat_lt k a))
-  where
-    high : (a b : ℕ) → b ≤ a → nat_lt a b ≡ false
-    high a b h = grind (arith, nat_tests)
-
-    never : (t : Bool) → (t && false) ≡ false
-    never true = refl
-    never false = refl
-
 -- What stands for nothing of a child.
 module _ (f : Child) where
   abbrev IsNothing : Dot → Type 0
   IsNothing d = child_back f d ≡ None
-
-  part_nothing : (q h : ℕ) → f.first + f.own < q → f.first + length f.splits ≤ q → in_range (f.first + f.off) (length (parts_of f.types f.term)) q ≡ false
-      → IsNothing (Within 0 (Of (PartEnd q h)))
-  part_nothing q h far le out =
-      ap (λ (t : Bool). if t then asks_child f h
-      else if in_range (f.first + f.off) (length (parts_of f.types f.term)) q then Some (Within 0 (Of (PartEnd q h)))
-      else spot_dot ((lodge f).home (Within 0 (Of (PartEnd q h)))))
-      (eq_false q (f.first + f.own) (λ e. let same : q ≡ f.first + f.own = e in omega (arith, same, far)))
-      ∙ (ap (λ (t : Bool). if t then Some (Within 0 (Of (PartEnd q h))) else spot_dot ((lodge f).home (Within 0 (Of (PartEnd q h))))) out
-      ∙ ap spot_dot nowhere)
-    where
-      nowhere : (lodge f).home (Within 0 (Of (PartEnd q h))) ≡ None
-      nowhere =
-          let same : f.first + (q - f.first) ≡ q = omega (arith, le) in
-          subst (λ (n : ℕ). (lodge f).home (Within 0 (Of (PartEnd n h))) ≡ None) same
-          (far_is_nothing f.types f.first (is_used f) f.splits f.env (q - f.first) h (omega (arith, le)))
-
-  own_back : (h : ℕ) → child_back f (Within 0 (Of (PartEnd (f.first + f.own) h))) ≡ asks_child f h
-  own_back h =
-      ap (λ (t : Bool). if t then asks_child f h
-      else if in_range (f.first + f.off) (length (parts_of f.types f.term)) (f.first + f.own) then Some (Within 0 (Of (PartEnd (f.first + f.own) h)))
-      else spot_dot ((lodge f).home (Within 0 (Of (PartEnd (f.first + f.own) h))))) (eq_true (f.first + f.own) (f.first + f.own) refl)
-
-  node_nothing : (k h : ℕ) → in_range f.node (nodes f.term) k ≡ false → IsNothing (Within 0 (Node k h))
-  node_nothing k h out = ap (λ (t : Bool). if t then Some (Within 0 (Node k h)) else None) out
-
-  number_nothing : (k h : ℕ) → AreTidy (is_used f) f.splits f.numbers → IsOthers f.splits f.uses f.term k → IsNothing (Within 0 (Number k h))
-  number_nothing k h tidy others =
-      ap (λ (t : Bool). if t then Some (Within 0 (Number k h)) else spot_dot ((lodge f).home (Within 0 (Number k h)))) foreign
-      ∙ ap spot_dot (numbers_are_held f.types f.first (is_used f) f.splits f.env f.numbers k h tidy others.unsplit ∙ ap (λ (t : Bool). spot_if t k (ResultEnd h)) unused)
-    where
-      unused : is_used f k ≡ false
-      unused = ap (nat_lt 0) others.unused
-
-      foreign : is_number f k ≡ false
-      foreign = ap (λ (t : Bool). t || nat_lt 0 (times k (made f.term))) unused ∙ ap (nat_lt 0) others.unmade
 
   -- the ties of a term that is none of its
   module _ (a b : ℕ) (m : Numbered) (out : List Point) (tidy : AreTidy (is_used f) f.splits f.numbers)
@@ -98,11 +49,11 @@ module _ (f : Child) where
       (numbers : (q : ℕ) → 0 < times q (used m) + times q (made m) → IsOthers f.splits f.uses f.term q)
       (results : (h : ℕ) → h < length out → IsNothing (lying f.types a b m out places.Result h)) where
     place_nothing : (p : Place) (h : ℕ) → IsWithin f.types a b m (length out) p h → IsNothing (lying f.types a b m out p h)
-    place_nothing (places.Part q) h (le, lt) = let (far, low, none) = parts q le lt in part_nothing q h far low none
+    place_nothing (places.Part q) h (le, lt) = let (far, low, none) = parts q le lt in part_nothing f q h low (λ e. let same : q ≡ f.first + f.own = e in omega (arith, same, far)) none
     place_nothing (places.Import q) h it = absurd it
     place_nothing places.Result h it = results h it
-    place_nothing (places.Number q) h it = number_nothing q h tidy (numbers q it)
-    place_nothing (places.Node q) h (le, lt) = node_nothing q h (inner q le lt)
+    place_nothing (places.Number q) h it = let others = numbers q it in number_nothing f q h tidy others.unused others.unmade others.unsplit
+    place_nothing (places.Node q) h (le, lt) = node_nothing f q h (inner q le lt)
 
     foreign_ties : (t : Tie) → Contains (led_ties f.types a b m out) t → IsForeign f t
     foreign_ties t has =

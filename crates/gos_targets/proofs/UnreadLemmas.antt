@@ -20,7 +20,7 @@ use Rattle.gos_wired.specs.Wired.{Supplies, Source, Own, Supplied, Placing, sour
 use Rattle.gos_stages.proofs.ChildTieLemmas.{put_in, of_supplies, of_supply}
 use Rattle.gos_writes.specs.Written.{unread_joints, unread}
 use Rattle.gos_writes.proofs.JoinedLemmas.{was_in, unread_right}
-use Rattle.gos_writes.proofs.AskedLemmas.{ground_asks}
+use Rattle.gos_windows.proofs.AskedLemmas.{ground_asks}
 
 -- joints without those of handshake 0
 kept_in : (x : Joint) (js : List Joint) → same_end x.asking (ResultEnd 0) ≡ false → IsIn x js → IsIn x (unread_joints js)

@@ -1,5 +1,4 @@
 -- A typed node's leaves are `skip` and literals.
-use Rattle.std.specs.Prelude.{ℕ}
 use Rattle.gos_types.specs.Types.{Type'}
 use Rattle.gos_model.specs.Terms as terms
 use Rattle.gos_model.specs.Terms.{Term}

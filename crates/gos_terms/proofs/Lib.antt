@@ -1,3 +1,4 @@
+mod FormLemmas
 mod RegularLemmas
 mod LeafLemmas
 mod RealisedLemmas

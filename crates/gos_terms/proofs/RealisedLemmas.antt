@@ -1,10 +1,7 @@
 -- A wired node realises its term: induction on the node, by its form. A function and a pair have to be regular besides.
 use Rattle.std.specs.Prelude.{◌≡◌, ℕ, List, [], ◌∷◌, ◌++◌}
-use Rattle.std.proofs.Common.{refl, sym, subst}
-use Rattle.gos_types.specs.Types.{Type', Com, Exp, Pair}
-use Rattle.gos_model.specs.Terms as terms
-use Rattle.gos_model.specs.Terms.{Term}
-use Rattle.gos_check.specs.declared.linear.Split.{Split}
+use Rattle.std.proofs.Common.{refl}
+use Rattle.gos_types.specs.Types.{Com, Exp, Pair}
 use Rattle.gos_check.specs.Nodes.{Numbered, Closed, Use, Under, One, Two, If, OfFun, OfNew, OfFst, OfSnd, OfDeref, OfNot, OfApp, OfBoth, OfSeq, OfPar, OfWhile, OfAssign, OfBin, type_of_node}
 use Rattle.gos_check.specs.Linearity.{used}
 use Rattle.gos_compile.specs.Wiring.{Types}
@@ -18,6 +15,7 @@ use Rattle.gos_calls.specs.Functions.{FunctionCase}
 use Rattle.gos_paired.specs.Cases.{BothCase}
 use Rattle.gos_targets.specs.Cases.{AnyAssignCase}
 use Rattle.gos_opened.specs.Opened.{RealisedIsRegular, SteadyIsRealised}
+use Rattle.gos_terms.proofs.FormLemmas.{kept_so, same, closed, number_used}
 use Rattle.gos_terms.proofs.LeafLemmas.{has_leaves}
 use Rattle.gos_terms.specs.Terms.{TermIsRegular, TermIsRealised}
 
@@ -48,79 +46,59 @@ pub record RealisedLaws : Type 0 where
   pub parted : BothAreParted
   pub three : ThreeAreKept
 
-module _ (laws : RealisedLaws) (types : Types) (ns : List ℕ) where
-  -- it is so of another node that is the same
-  same : (m n : Numbered) → m ≡ n → RealisesWired types ns n → RealisesWired types ns m
-  same m n e regular = subst (λ (x : Numbered). RealisesWired types ns x) (sym e) regular
-
-  kept_so : (m n : Numbered) → m ≡ n → IsKept types ns m → IsKept types ns n
-  kept_so m n e kept = subst (λ (x : Numbered). IsKept types ns x) e kept
-
-  -- a node that is kept is regular with supplies that realise terms
-  steady_so : (m : Numbered) → IsKept types ns m → ParallelsAreUnsplit m → ApplicationsAreUnsplit m → RealisedIsRegular types ns m
-  steady_so m kept unsplit applied = laws.steady types ns m kept (laws.regular types ns m kept unsplit applied)
-
-  closed : (t : Type') (ss : List Split) (c : Term) → IsKept types ns (Closed t ss c) → RealisesWired types ns (Closed t ss c)
-  closed t ss terms.Skip kept =
-      same (Closed t ss terms.Skip) (Closed Com [] terms.Skip) (λ i. Closed (kept.typed.1 i) (kept.forks i) terms.Skip) (laws.skip types ns)
-  closed t ss (terms.Lit k w) kept =
-      same (Closed t ss (terms.Lit k w)) (Closed (Exp w) [] (terms.Lit k w)) (λ i. Closed (kept.typed.1 i) (kept.forks i) (terms.Lit k w))
-      (laws.literal types ns w k)
-  closed t ss c kept = absurd kept.typed.1
-
-  number_used : (t : Type') (ss : List Split) (n : ℕ) → IsKept types ns (Use t ss n) → RealisesWired types ns (Use t ss n)
-  number_used t ss n kept =
-      same (Use t ss n) (Use t [] n) (λ i. Use t (kept.forks i) n)
-      (laws.used types ns n t kept.scope kept.typed.1)
+-- a node that is kept is regular with supplies that realise terms
+steady_so : RealisedLaws → (types : Types) (ns : List ℕ) (m : Numbered) → IsKept types ns m → ParallelsAreUnsplit m → ApplicationsAreUnsplit m
+    → RealisedIsRegular types ns m
+steady_so laws types ns m kept unsplit applied = laws.steady types ns m kept (laws.regular types ns m kept unsplit applied)
 
 pub term_is_realised : RealisedLaws → TermIsRealised
-term_is_realised laws types ns (Closed t ss c) kept unsplit applied = closed laws types ns t ss c kept
-term_is_realised laws types ns (Use t ss n) kept unsplit applied = number_used laws types ns t ss n kept
+term_is_realised laws types ns (Closed t ss c) kept unsplit applied = closed RealisesWired types ns (laws.skip types ns) (laws.literal types ns) t ss c kept
+term_is_realised laws types ns (Use t ss n) kept unsplit applied = number_used RealisesWired types ns (laws.used types ns) t ss n kept
 term_is_realised laws types ns (Under t ss OfFun n m) kept unsplit applied =
     let (none, body, bound) = laws.body types ns t ss OfFun n m kept in
     let path : Under t ss OfFun n m ≡ Under t [] OfFun n m = λ i. Under t (none i) OfFun n m in
-    same laws types ns (Under t ss OfFun n m) (Under t [] OfFun n m) path
-    (laws.function types ns t n m (kept_so laws types ns (Under t ss OfFun n m) (Under t [] OfFun n m) path kept)
-    (steady_so laws types ns (Under t [] OfFun n m) (kept_so laws types ns (Under t ss OfFun n m) (Under t [] OfFun n m) path kept) unsplit applied)
+    same RealisesWired types ns (Under t ss OfFun n m) (Under t [] OfFun n m) path
+    (laws.function types ns t n m (kept_so types ns (Under t ss OfFun n m) (Under t [] OfFun n m) path kept)
+    (steady_so laws types ns (Under t [] OfFun n m) (kept_so types ns (Under t ss OfFun n m) (Under t [] OfFun n m) path kept) unsplit applied)
     (term_is_realised laws types (ns ++ n ∷ []) m body unsplit applied))
 term_is_realised laws types ns (Under t ss (OfNew w) n m) kept unsplit applied =
     let (none, body, bound) = laws.body types ns t ss (OfNew w) n m kept in
-    same laws types ns (Under t ss (OfNew w) n m) (Under t [] (OfNew w) n m) (λ i. Under t (none i) (OfNew w) n m)
+    same RealisesWired types ns (Under t ss (OfNew w) n m) (Under t [] (OfNew w) n m) (λ i. Under t (none i) (OfNew w) n m)
     (laws.block types ns t w n m kept.typed.1.0 kept.typed.1.2 kept.typed.1.1 bound (has_leaves types m body.typed) body.scope
     (term_is_realised laws types (ns ++ n ∷ []) m body unsplit applied))
 term_is_realised laws types ns (One t ss OfFst m) kept unsplit applied =
     let (none, part) = laws.one types ns t ss OfFst m kept in
     let path : One t ss OfFst m ≡ One t [] OfFst m = λ i. One t (none i) OfFst m in
-    same laws types ns (One t ss OfFst m) (One t [] OfFst m) path
-    (laws.first types ns t m (kept_so laws types ns (One t ss OfFst m) (One t [] OfFst m) path kept) (term_is_realised laws types ns m part.kept unsplit applied))
+    same RealisesWired types ns (One t ss OfFst m) (One t [] OfFst m) path
+    (laws.first types ns t m (kept_so types ns (One t ss OfFst m) (One t [] OfFst m) path kept) (term_is_realised laws types ns m part.kept unsplit applied))
 term_is_realised laws types ns (One t ss OfSnd m) kept unsplit applied =
     let (none, part) = laws.one types ns t ss OfSnd m kept in
     let path : One t ss OfSnd m ≡ One t [] OfSnd m = λ i. One t (none i) OfSnd m in
-    same laws types ns (One t ss OfSnd m) (One t [] OfSnd m) path
-    (laws.second types ns t m (kept_so laws types ns (One t ss OfSnd m) (One t [] OfSnd m) path kept) (term_is_realised laws types ns m part.kept unsplit applied))
+    same RealisesWired types ns (One t ss OfSnd m) (One t [] OfSnd m) path
+    (laws.second types ns t m (kept_so types ns (One t ss OfSnd m) (One t [] OfSnd m) path kept) (term_is_realised laws types ns m part.kept unsplit applied))
 term_is_realised laws types ns (One t ss OfDeref m) kept unsplit applied =
     let (w, is_exp, is_var) = kept.typed.1 in
     let (none, part) = laws.one types ns t ss OfDeref m kept in
     let path : One t ss OfDeref m ≡ One (Exp w) [] OfDeref m = λ i. One (is_exp i) (none i) OfDeref m in
-    same laws types ns (One t ss OfDeref m) (One (Exp w) [] OfDeref m) path
-    (laws.deref types ns w m (kept_so laws types ns (One t ss OfDeref m) (One (Exp w) [] OfDeref m) path kept)
+    same RealisesWired types ns (One t ss OfDeref m) (One (Exp w) [] OfDeref m) path
+    (laws.deref types ns w m (kept_so types ns (One t ss OfDeref m) (One (Exp w) [] OfDeref m) path kept)
     (term_is_realised laws types ns m part.kept unsplit applied))
 term_is_realised laws types ns (One t ss OfNot m) kept unsplit applied =
     let (none, part) = laws.one types ns t ss OfNot m kept in
     laws.complement types ns t ss m kept (has_leaves types m part.kept.typed) (term_is_realised laws types ns m part.kept unsplit applied)
 term_is_realised laws types ns (Two t ss OfApp m n) kept unsplit applied =
     let path : Two t ss OfApp m n ≡ Two t [] OfApp m n = λ i. Two t (applied.0 i) OfApp m n in
-    let plain : IsKept types ns (Two t [] OfApp m n) = kept_so laws types ns (Two t ss OfApp m n) (Two t [] OfApp m n) path kept in
+    let plain : IsKept types ns (Two t [] OfApp m n) = kept_so types ns (Two t ss OfApp m n) (Two t [] OfApp m n) path kept in
     let (first, second, all) = laws.both types ns t [] OfApp m n plain in
-    same laws types ns (Two t ss OfApp m n) (Two t [] OfApp m n) path
+    same RealisesWired types ns (Two t ss OfApp m n) (Two t [] OfApp m n) path
     (laws.application types ns t m n plain
     (term_is_realised laws types (first_numbers [] ns (used n)) m first.kept unsplit.1 applied.1)
     (term_is_realised laws types (own_numbers [] ns n) n second.kept unsplit.2 applied.2))
 term_is_realised laws types ns (Two t ss OfBoth m n) kept unsplit applied =
     let path : Two t ss OfBoth m n ≡ Two (Pair (type_of_node m) (type_of_node n)) ss OfBoth m n = λ i. Two (kept.typed.1 i) ss OfBoth m n in
-    let plain = kept_so laws types ns (Two t ss OfBoth m n) (Two (Pair (type_of_node m) (type_of_node n)) ss OfBoth m n) path kept in
+    let plain = kept_so types ns (Two t ss OfBoth m n) (Two (Pair (type_of_node m) (type_of_node n)) ss OfBoth m n) path kept in
     let (first, second, all) = laws.both types ns (Pair (type_of_node m) (type_of_node n)) ss OfBoth m n plain in
-    same laws types ns (Two t ss OfBoth m n) (Two (Pair (type_of_node m) (type_of_node n)) ss OfBoth m n) path
+    same RealisesWired types ns (Two t ss OfBoth m n) (Two (Pair (type_of_node m) (type_of_node n)) ss OfBoth m n) path
     (laws.pair types ns (type_of_node m) (type_of_node n) ss m n plain refl refl (has_leaves types m first.kept.typed) (has_leaves types n second.kept.typed)
     (steady_so laws types ns (Two (Pair (type_of_node m) (type_of_node n)) ss OfBoth m n) plain unsplit applied)
     (term_is_realised laws types (first_numbers ss ns (used n)) m first.kept unsplit.1 applied.1)
@@ -132,9 +110,9 @@ term_is_realised laws types ns (Two t ss OfSeq m n) kept unsplit applied =
     (term_is_realised laws types (own_numbers ss ns n) n second.kept unsplit.2 applied.2)
 term_is_realised laws types ns (Two t ss OfPar m n) kept unsplit applied =
     let path : Two t ss OfPar m n ≡ Two Com [] OfPar m n = λ i. Two (kept.typed.1.0 i) (unsplit.0 i) OfPar m n in
-    let plain : IsKept types ns (Two Com [] OfPar m n) = kept_so laws types ns (Two t ss OfPar m n) (Two Com [] OfPar m n) path kept in
+    let plain : IsKept types ns (Two Com [] OfPar m n) = kept_so types ns (Two t ss OfPar m n) (Two Com [] OfPar m n) path kept in
     let (first, second, all) = laws.both types ns Com [] OfPar m n plain in
-    same laws types ns (Two t ss OfPar m n) (Two Com [] OfPar m n) path
+    same RealisesWired types ns (Two t ss OfPar m n) (Two Com [] OfPar m n) path
     (laws.parallel types ns (first_numbers [] ns (used n)) (own_numbers [] ns n) m n (laws.parted types ns Com OfPar m n plain)
     kept.typed.1.1 kept.typed.1.2 (has_leaves types m first.kept.typed) (has_leaves types n second.kept.typed)
     first.kept.scope second.kept.scope
@@ -148,9 +126,9 @@ term_is_realised laws types ns (Two t ss OfWhile m n) kept unsplit applied =
 term_is_realised laws types ns (Two t ss OfAssign m n) kept unsplit applied =
     let (w, is_com, is_var, is_exp) = kept.typed.1 in
     let path : Two t ss OfAssign m n ≡ Two Com ss OfAssign m n = λ i. Two (is_com i) ss OfAssign m n in
-    let plain : IsKept types ns (Two Com ss OfAssign m n) = kept_so laws types ns (Two t ss OfAssign m n) (Two Com ss OfAssign m n) path kept in
+    let plain : IsKept types ns (Two Com ss OfAssign m n) = kept_so types ns (Two t ss OfAssign m n) (Two Com ss OfAssign m n) path kept in
     let (first, second, all) = laws.both types ns Com ss OfAssign m n plain in
-    same laws types ns (Two t ss OfAssign m n) (Two Com ss OfAssign m n) path
+    same RealisesWired types ns (Two t ss OfAssign m n) (Two Com ss OfAssign m n) path
     (laws.assignment types ns ss w m n plain is_var is_exp (has_leaves types m first.kept.typed) (has_leaves types n second.kept.typed)
     (term_is_realised laws types (first_numbers ss ns (used n)) m first.kept unsplit.1 applied.1)
     (term_is_realised laws types (own_numbers ss ns n) n second.kept unsplit.2 applied.2))

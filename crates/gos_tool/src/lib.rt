@@ -1,8 +1,8 @@
 // The tool: from the words of a command to its files, its line and its status.
 //
 // `run` is the top call. It knows the outside only as a store of files and a sink of bytes. What it promises is said in
-// specs/: Command (the words), Run (how each command ends). The commands are crates of their own: `check` and `compile`
-// gos_objects, `link` gos_circuits, `sim` gos_simulate, `build` gos_build, `demo` gos_demo.
+// specs/: Command (the words), Run (how each command ends), Complete (which files are right for it). The commands are crates of
+// their own: `check` and `compile` gos_objects, `link` gos_circuits, `sim` gos_simulate, `build` gos_build, `demo` gos_demo.
 #![tactic(auto)]
 
 ghost use Rattle.std.specs.Prelude.{◌≡◌, ◌≢◌, ◌⊎◌, Some, IfSome};

@@ -5,7 +5,7 @@ use Rattle.std.proofs.lemmas.List.Elements.{Contains-append_left, Contains-appen
 use Rattle.gos_plan.specs.Kinds.{Contact, asks, serves}
 use Rattle.gos_plan.specs.Plans.{End, Plan, contact_at}
 use Rattle.gos_plan.specs.Joining as joining
-use Rattle.gos_plan.specs.Joining.{Place, Link, Wiring, origin, IsJoining}
+use Rattle.gos_plan.specs.Joining.{Place, Link, Wiring, origin}
 use Rattle.gos_joined.proofs.ReachLemmas.{Paths}
 use Rattle.gos_webs.specs.Webs.{Dot, Within, Tie, tie, Web, Meet, Way, here, along, Connects, IsOfWeb}
 use Rattle.gos_webs.proofs.WayLemmas.{meet_back}

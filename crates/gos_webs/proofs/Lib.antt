@@ -3,5 +3,6 @@ pub mod IdleLemmas
 pub mod WebLemmas
 pub mod MovedLemmas
 pub mod CutLemmas
+pub mod LoneCutLemmas
 pub mod SmallWebLemmas
 mod CutListLemmas

@@ -1,19 +1,21 @@
 -- The plan of `skip ; skip`: unjoined, with its Skips swapped, and the first of them cut out.
-use Rattle.std.specs.Prelude.{◌≡◌, ℕ, zero, suc, true, false, [], ◌∷◌, ◌⊎◌, Some, Contains, slice_get}
-use Rattle.std.proofs.Common.{refl, sym, ap, subst, arith, inl, inr}
+use Rattle.std.specs.Prelude.{◌≡◌, ℕ, zero, suc, [], ◌∷◌, ◌⊎◌, Some, Contains, slice_get}
+use Rattle.std.proofs.Common.{refl, ap, subst, arith, inl, inr}
 use Rattle.std.proofs.lemmas.Option.{none-some, same_Some}
 use Rattle.gos_netlist.specs.Events.{Request}
-use Rattle.gos_plan.specs.Kinds.{Part, Skip}
+use Rattle.gos_types.specs.Types.{Com}
+use Rattle.gos_plan.specs.Kinds.{Skip}
 use Rattle.gos_plan.specs.Firing.{Rest, First, Second, Req, Ans, Row, row, at, put}
-use Rattle.gos_plan.specs.Plans.{End, PartEnd, ImportEnd, ResultEnd, Joint, contact_at, stands_in, IsRight}
+use Rattle.gos_plan.specs.Plans.{End, PartEnd, ImportEnd, ResultEnd, Joint, IsRight}
 use Rattle.gos_plan.specs.Tokens.{Tokens, Fire, Out, In, IsPortEnd, with_token, fired}
 use Rattle.gos_plan.specs.SmallPlans.{skip_plan, at_first, once}
 use Rattle.gos_plan.proofs.DecidedLemmas.{one_state}
 use Rattle.gos_webs.specs.Webs.{joint, Of, here, along}
 use Rattle.gos_webs.specs.Renumbering.{IsOneToOne, moved_end}
-use Rattle.gos_webs.specs.Cutting.{IsInside, StandsIn, lies_at, IsCutList}
+use Rattle.gos_webs.specs.Cutting.{StandsIn, IsCutList}
 use Rattle.gos_webs.specs.SmallWebs.{twice_plan, UnjoinedIsNot, swapped, swap, swapped_plan, SwapIsRenumbering, SwapIsSeen, number_of_first, port_of_first, first_out, FirstIsCut, WrongIsNoCut, FirstIsOnce}
 use Rattle.gos_webs.proofs.IdleLemmas.{there_and_back}
+use Rattle.gos_webs.proofs.LoneCutLemmas.{AreOutside, lone_port, lone_is_cut}
 
 none_in : (j : Joint) → Contains [] j → ⊥
 none_in j (n, within, e) = omega (arith, within)
@@ -100,72 +102,44 @@ skip_is_right = (((0, 0, refl, refl), refl, refl), tt)
 abbrev pub skip_joint : Joint
 skip_joint = joint (ResultEnd 0) (PartEnd 0 0)
 
-its_part : (i : ℕ) (k : Part) → slice_get skip_plan.parts i ≡ Some k → (slice_get twice_plan.parts 1 ≡ Some k) × (Some 0 ≡ Some i)
-its_part zero k is = (is, refl)
-its_part (suc i) k is = absurd (none-some k is)
-
-its_number : (i j : ℕ) → number_of_first i ≡ Some j → (1 ≡ i) × ((k : Part) × (slice_get skip_plan.parts j ≡ Some k))
-its_number zero j is = absurd (none-some j is)
-its_number (suc zero) j is = (refl, (Skip, ap (λ n. slice_get skip_plan.parts n) (sym (same_Some 0 j is))))
-its_number (suc (suc i)) j is = absurd (none-some j is)
-
 -- its one port
 pub one_port : (e : End) → IsPortEnd e → StandsIn skip_plan e → ResultEnd 0 ≡ e
-one_port (PartEnd i h) port stands = absurd port
-one_port (ImportEnd i h) port (j, (zero, l, is), stands) =
-    let no : false ≡ true = subst (λ (x : Joint). stands_in (ImportEnd i h) x ≡ true) (sym is) stands in cc no
-one_port (ImportEnd i h) port (j, (suc n, l, is), stands) = absurd (omega (arith, l))
-one_port (ResultEnd zero) port stands = refl
-one_port (ResultEnd (suc h)) port (j, (zero, l, is), stands) =
-    let there : stands_in (ResultEnd (suc h)) skip_joint ≡ true = subst (λ (x : Joint). stands_in (ResultEnd (suc h)) x ≡ true) (sym is) stands in
-    absurd (grind (arith, there))
-one_port (ResultEnd (suc h)) port (j, (suc n, l, is), stands) = absurd (omega (arith, l))
+one_port = lone_port 5 Com Skip
 
-its_inner : (b e : End) → port_of_first b ≡ Some e → IsPortEnd e × StandsIn skip_plan e × (PartEnd 0 0 ≡ b)
-its_inner (PartEnd zero zero) e is =
-    subst (λ x. IsPortEnd x × StandsIn skip_plan x × (PartEnd 0 0 ≡ PartEnd 0 0)) (same_Some (ResultEnd 0) e is)
-    (tt, (skip_joint, (0, omega arith, refl), refl), refl)
-its_inner (PartEnd zero (suc h)) e is = absurd (none-some e is)
-its_inner (PartEnd (suc i) h) e is = absurd (none-some e is)
-its_inner (ImportEnd i h) e is = absurd (none-some e is)
-its_inner (ResultEnd h) e is = absurd (none-some e is)
+its_number : (i j : ℕ) → number_of_first i ≡ Some j → (1 ≡ i) × (0 ≡ j)
+its_number zero j is = absurd (none-some j is)
+its_number (suc zero) j is = (refl, same_Some 0 j is)
+its_number (suc (suc i)) j is = absurd (none-some j is)
 
-its_joint : (a b : End) → Contains skip_plan.joints (joint a b) → Contains twice_plan.joints (joint (lies_at first_out a) (lies_at first_out b))
-its_joint a b (zero, l, e) = (1, omega arith, ap (λ (j : Joint). joint (lies_at first_out j.asking) (lies_at first_out j.serving)) e)
-its_joint a b (suc n, l, e) = absurd (omega (arith, l))
+its_port : (b e : End) → port_of_first b ≡ Some e → (PartEnd 0 0 ≡ b) × (ResultEnd 0 ≡ e)
+its_port (PartEnd zero zero) e is = (refl, same_Some (ResultEnd 0) e is)
+its_port (PartEnd zero (suc h)) e is = absurd (none-some e is)
+its_port (PartEnd (suc i) h) e is = absurd (none-some e is)
+its_port (ImportEnd i h) e is = absurd (none-some e is)
+its_port (ResultEnd h) e is = absurd (none-some e is)
 
-abbrev Inside : Joint → Type 0
-Inside j = IsInside first_out j.asking ⊎ IsInside first_out j.serving
-
-outside_first : Inside (joint (ResultEnd 0) (PartEnd 0 2)) → ⊥
-outside_first (inl h) = h
-outside_first (inr (j, h)) = none-some j h
-
-outside_second : Inside (joint (PartEnd 0 1) (PartEnd 2 0)) → ⊥
-outside_second (inl (j, h)) = none-some j h
-outside_second (inr (j, h)) = none-some j h
-
-all_its_joints : (a b : End) → Contains twice_plan.joints (joint a b) → IsInside first_out a ⊎ IsInside first_out b
-    → (d e : End) × Contains skip_plan.joints (joint d e) × (lies_at first_out d ≡ a) × (lies_at first_out e ≡ b)
-all_its_joints a b (zero, l, e) inside = absurd (outside_first (subst (λ (j : Joint). Inside j) (sym e) inside))
-all_its_joints a b (suc zero, l, e) inside =
-    (ResultEnd 0, PartEnd 0 0, (0, omega arith, refl), ap (λ (j : Joint). j.asking) e, ap (λ (j : Joint). j.serving) e)
-all_its_joints a b (suc (suc zero), l, e) inside = absurd (outside_second (subst (λ (j : Joint). Inside j) (sym e) inside))
-all_its_joints a b (suc (suc (suc n)), l, e) inside = absurd (omega (arith, l))
+its_joint : (j : Joint) → Contains twice_plan.joints j → (joint (PartEnd 0 0) (PartEnd 1 0) ≡ j) ⊎ AreOutside first_out j
+its_joint j (zero, l, e) = inr (subst (AreOutside first_out) e (tt, refl))
+its_joint j (suc zero, l, e) = inl e
+its_joint j (suc (suc zero), l, e) = inr (subst (AreOutside first_out) e (refl, refl))
+its_joint j (suc (suc (suc n)), l, e) = absurd (omega (arith, l))
 
 pub first_is_cut : FirstIsCut
 first_is_cut =
-    record {
+    lone_is_cut 5 Com Skip 1 (PartEnd 0 0) number_of_first port_of_first twice_plan
+    (record {
       whole_right = twice_is_right;
       right = skip_is_right;
-      parts = its_part;
-      numbers = its_number;
-      ports = λ e port stands. (refl, ap Some (one_port e port stands));
-      inners = its_inner;
-      contacts = λ e port stands. ap (contact_at skip_plan) (one_port e port stands);
+      part = refl;
+      own_number = refl;
+      one_number = its_number;
+      outside = refl;
+      own_port = refl;
+      one_port = its_port;
+      contact = refl;
+      asked = (1, omega arith, refl);
       joints = its_joint;
-      all = all_its_joints;
-    }
+    })
 
 not_first : Contains twice_plan.joints (joint (PartEnd 0 1) (PartEnd 1 0)) → ⊥
 not_first (zero, l, e) = let asks : ResultEnd 0 ≡ PartEnd 0 1 = ap (λ (j : Joint). j.asking) e in cc asks

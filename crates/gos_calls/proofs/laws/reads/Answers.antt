@@ -20,4 +20,4 @@ returns-clause-regular c =
       plain = c.wired_nodes.ensures.plain;
     })
     c.derefs_are_readings.ensures c.renumberings.ensures.regular c.rests.ensures.renumbered
-    c.readings_are_regular.ensures
+    c.readings_are_regular.ensures.joined
