@@ -65,6 +65,8 @@ impl<'a, R: Files> Store for FileStore<'a, R> {
 
     ghost contents = { λ _. None };
 
+    ghost asked = { λ _. 0 };
+
     fn read_up_to(&mut self, alloc: Global, name: &[u8], n: usize) -> Result<Vec<u8>, StoreFault> {
         match read_file(self.rt, alloc, name, n) {
             Ok(bytes) => Ok(bytes),

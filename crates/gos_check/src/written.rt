@@ -9,17 +9,10 @@ ghost use Rattle.gos_check.specs.Written.{is_width, first_of, bad_width, small, 
 
 use crate::fault::CheckFault;
 use gos_lex::Span;
-use gos_types::{Ty, count};
+use gos_types::{Ty, count, is_width};
 
 // How many handshakes a type may have.
 const MAX_HANDSHAKES: u64 = 64;
-
-// Whether a number is a width.
-fn is_width(width: u32) -> bool
-    ensures { result ≡ is_width width }
-{
-    0 < width && width < 33
-}
 
 // A number, where it is no width.
 fn wrong(width: u32) -> Option<u32>

@@ -1,6 +1,6 @@
 // The files of a command, and how they are read and written.
 
-ghost use Rattle.std.specs.Prelude.{◌≡◌, ◌+◌, ◌≤◌, ◌<◌, ◌^◌, take, length, IfOk, IfErr, IfSome, OnOk, IsErrOf, Err};
+ghost use Rattle.std.specs.Prelude.{◌≡◌, ◌+◌, ◌≤◌, ◌<◌, ◌^◌, max, take, length, IfOk, IfErr, IfSome, OnOk, IsErrOf, Err};
 ghost use Rattle.gos_outside.specs.FileName.{IsFileName};
 ghost use Rattle.gos_outside.specs.Files.{Files, bytes_at, with_file, SameBut};
 ghost use Rattle.gos_outside.specs.Faults.{LastFault, ReadFault, WriteFault, Rose};
@@ -23,6 +23,7 @@ pub fn read_file<S: Store>(
     requires limit { limit < 2 ^ 32 }
     ensures read { IfOk result (λ bytes. IfSome (S.contents store.old) (λ files. IsReadWhole limit bytes.items (bytes_at files name.now))) }
     ensures one_more { IfOk result (λ bytes. length bytes.items ≤ limit + 1) }
+    ensures asked { S.asked store.new ≤ max (S.asked store.old) (limit + 1) }
     ensures rejects_nothing { IfErr result (λ stop. IfStopped stop (λ fault line. ⊥)) }
     ensures failed_only { IsErrOf result Stop.StoreFailed → Rose (S.faults store.old) (S.faults store.new) }
     ensures failed_call { IsErrOf result Stop.StoreFailed → S.last_fault store.new ≡ ReadFault name.now }
@@ -44,6 +45,7 @@ pub fn read_start<S: Store>(
     requires count { count ≤ 2 ^ 32 }
     ensures read { IfOk result (λ bytes. IfSome (S.contents store.old) (λ files. bytes.items ≡ take count (bytes_at files name.now))) }
     ensures limit { IfOk result (λ bytes. length bytes.items ≤ count) }
+    ensures asked { S.asked store.new ≤ max (S.asked store.old) count }
     ensures rejects_nothing { IfErr result (λ stop. IfStopped stop (λ fault line. ⊥)) }
     ensures failed_only { IsErrOf result Stop.StoreFailed → Rose (S.faults store.old) (S.faults store.new) }
     ensures failed_call { IsErrOf result Stop.StoreFailed → S.last_fault store.new ≡ ReadFault name.now }

@@ -9,4 +9,4 @@ pub mod ItemLemmas
 pub mod NameLemmas
 pub mod DecimalLemmas
 pub mod SignLemmas
-pub mod EntryLemmas
+mod EntryLemmas

@@ -10,4 +10,5 @@ pub mod Tokens
 pub mod OneReading
 pub mod Items
 pub mod Decimals
+pub mod NameTables
 pub mod inner

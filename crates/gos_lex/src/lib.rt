@@ -12,6 +12,7 @@ pub use law::{one_place, one_reading};
 pub use name::{Name, is_name, is_name_or_word};
 pub use scanner::scan;
 pub use sign::Sign;
+pub use table::NameTable;
 pub use token::{Span, Token, TokenKind};
 pub use word::Word;
 
@@ -25,5 +26,6 @@ mod name;
 mod numeral;
 mod scanner;
 mod sign;
+mod table;
 mod token;
 mod word;

@@ -1,7 +1,6 @@
 mod SaidLemmas
 mod ItemLemmas
 mod NumberLemmas
-mod OwnLemmas
 mod TopLemmas
 mod BindLemmas
 mod PortLemmas

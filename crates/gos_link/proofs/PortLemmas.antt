@@ -10,13 +10,14 @@ use Rattle.gos_plan.specs.Joining.{LeftImport}
 use Rattle.gos_lines.specs.Lines.{Word}
 use Rattle.gos_link.specs.declared.opens.Open.{Open}
 use Rattle.gos_link.specs.declared.build.Instance.{Instance}
-use Rattle.gos_link.specs.declared.whole.Numbers.{Numbers}
+use Rattle.gos_lex.specs.declared.table.NameTable.{NameTable}
 use Rattle.gos_link.specs.declared.whole.Port as declared_port
 use Rattle.gos_link.specs.declared.fault.LinkFault.{LinkFault}
 use Rattle.gos_link.specs.declared.fault.LinkFault.TheVariants as faults
 use Rattle.gos_link.specs.Linked.{Port, AreDifferent, AreGround, IsSecond, name_of, port_of}
 use Rattle.gos_link.specs.inner.Opens.{open_seen}
-use Rattle.gos_link.specs.inner.Ports.{number_at, added, port_seen, AllDiffer, IsOpenTwice, IsTable}
+use Rattle.gos_lex.specs.NameTables.{number_at, added}
+use Rattle.gos_link.specs.inner.Ports.{port_seen, AllDiffer, IsOpenTwice, IsTable}
 use Rattle.gos_link.proofs.NumberLemmas.{number_cases}
 
 -- the element at a place is one
@@ -34,14 +35,14 @@ pub seen_at : (opens : List Open) (n : ℕ) (o : Open) → slice_get opens n ≡
 seen_at opens n o e = slice_get-map open_seen opens n ∙ ap (option_map open_seen) e
 
 -- the table of no port, and of one more
-pub table_begins : (ports : List Port) (numbers : Numbers) → ((name : Word) → number_at numbers name ≡ None) → IsTable ports 0 numbers
+pub table_begins : (ports : List Port) (numbers : NameTable) → ((name : Word) → number_at numbers name ≡ None) → IsTable ports 0 numbers
 table_begins ports numbers none =
     record {
       sound = λ name i has. let wrong : None ≡ Some i = sym (none name) ∙ has in absurd (cc wrong);
       complete = λ i p low at gone. absurd (omega (arith, low));
     }
 
-pub table_grows : (ports : List Port) (n : ℕ) (q : Port) (old new : Numbers) → IsTable ports n old → slice_get ports n ≡ Some q
+pub table_grows : (ports : List Port) (n : ℕ) (q : Port) (old new : NameTable) → IsTable ports n old → slice_get ports n ≡ Some q
     → ((other : Word) → number_at new other ≡ added q.name n (number_at old other) other) → IsTable ports (n + 1) new
 table_grows ports n q old new table at adds = record { sound = sound; complete = complete }
   where
@@ -71,7 +72,7 @@ table_grows ports n q old new table at adds = record { sound = sound; complete =
     complete i p low there gone = complete_by (bytes_eq p.name q.name) i p refl low there (sym (adds p.name) ∙ gone)
 
 -- a port whose name the table hasn't is another
-pub different_more : (ports : List Port) (n : ℕ) (q : Port) (numbers : Numbers) → AreDifferent n ports → IsTable ports n numbers → slice_get ports n ≡ Some q
+pub different_more : (ports : List Port) (n : ℕ) (q : Port) (numbers : NameTable) → AreDifferent n ports → IsTable ports n numbers → slice_get ports n ≡ Some q
     → number_at numbers q.name ≡ None → AreDifferent (n + 1) ports
 different_more ports n q numbers before table at gone = λ i j p r less low at_i at_j.
     number_cases j n

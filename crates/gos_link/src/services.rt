@@ -176,7 +176,7 @@ fn top_at(tops: &[usize], instance: usize) -> usize
 }
 
 // Each of n instances as its own top.
-#[tactic(auto, using(crate::proofs::OwnLemmas::one_alone))]
+#[tactic(auto, using(gos_ties::proofs::FarLemmas::one_alone))]
 fn own_tops(alloc: Global, n: usize) -> Result<Vec<usize>, NoMemory>
     ensures { IfOk result (λ tops. AreTops n [] tops.items) }
 {

@@ -6,16 +6,15 @@ ghost use Rattle.gos_plan.specs.Seen.{SeenPlan};
 ghost use Rattle.gos_plan.specs.Joining.{LeftImport};
 ghost use Rattle.gos_link.specs.Linked.{AreDifferent, AreGround, IsDone, IsFirstHigher, IsPlaced, IsSecond, IsWrongWhole, first_unplaced, is_placed, port_of};
 ghost use Rattle.gos_link.specs.inner.Opens.{open_seen};
-ghost use Rattle.gos_link.specs.inner.Ports.{added, number_at, port_seen, AllDiffer, IsOpenTwice};
+ghost use Rattle.gos_link.specs.inner.Ports.{port_seen, AllDiffer, IsOpenTwice};
 
 use crate::build::{Build, Instance};
 use crate::fault::LinkFault;
 use crate::opens::Open;
 use crate::services::{Service, copy_name, first_used, instance_named, no_instance};
-use gos_lex::Name;
+use gos_lex::{Name, NameTable};
 use gos_plan::PlanImport;
 use gos_types::{NoMemory, Ty, is_ground};
-use indexmap::IndexMap;
 use std::alloc::Global;
 
 /// The greatest weight of a linked plan.
@@ -98,29 +97,6 @@ fn ports_of<'a>(
     Ok(ports)
 }
 
-// The numbers of ports by their names.
-#[derive(Drop)]
-struct Numbers {
-    by_name: IndexMap<Vec<u8>, usize>,
-}
-
-impl Numbers {
-    // The number of the port of this name.
-    fn get(&self, name: &[u8]) -> Option<usize>
-        ensures { result ≡ number_at self.now name.now }
-    {
-        self.by_name.get(name).copied()
-    }
-
-    // Adds a name with its number.
-    fn add(&mut self, name: Vec<u8>, number: usize) -> Result<(), NoMemory>
-        ensures { OnOk result ((other : List ℕ) → number_at self.new other ≡ added name.items number (number_at self.old other) other) }
-    {
-        self.by_name.insert(name, number)?;
-        Ok(())
-    }
-}
-
 // A port whose name one before it has, and that one.
 #[derive(Clone, Copy)]
 struct Clash<'a> {
@@ -133,9 +109,7 @@ fn clash_of<'a>(alloc: Global, ports: &[Port<'a>]) -> Result<Option<Clash<'a>>, 
     ensures { IfOk result (λ clash. MatchOption clash (AreDifferent (length ports.now) (map port_seen ports.now))
         (λ c. IsSecond (map port_seen ports.now) (port_seen c.one) (port_seen c.other))) }
 {
-    let mut numbers = Numbers {
-        by_name: IndexMap::new(alloc),
-    };
+    let mut numbers = NameTable::new(alloc);
     for (number, port) in ports.iter().enumerate() {
         let bytes = port.name.bytes();
         if let Some(first) = numbers.get(bytes) {

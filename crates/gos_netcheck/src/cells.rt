@@ -16,6 +16,7 @@ ghost use Rattle.gos_netcheck.specs.inner.CellFaults.{IsCellFault};
 
 use crate::fault::NetFault;
 use gos_netlist::{Cell, Gate, NetId};
+use gos_types::is_width;
 
 // The first fault of a cell. Only where there is one it is looked which.
 pub(crate) fn first_wrong_cell(cells: &[Cell]) -> Option<NetFault>
@@ -55,7 +56,7 @@ fn is_right(cells: &[Cell], cell: &Cell) -> bool
     ensures widths { IsTrue result → HasRightWidths (widths_of (map cell_of cells.now)) (cell_of cell.now) }
 {
     let width = cell.width;
-    if width < 1 || 32 < width {
+    if !is_width(width) {
         return false;
     }
     match cell.gate {
@@ -142,7 +143,7 @@ fn first_of_wrong_width(cells: &[Cell]) -> Option<usize>
 fn has_right_widths(cells: &[Cell], cell: &Cell) -> bool
     ensures { IsTrue result ↔ HasRightWidths (widths_of (map cell_of cells.now)) (cell_of cell.now) }
 {
-    1 <= cell.width && cell.width <= 32 && operands_fit(cells, cell.width, cell.gate)
+    is_width(cell.width) && operands_fit(cells, cell.width, cell.gate)
 }
 
 // Whether the operands fit a cell of so many bits.

@@ -1,7 +1,8 @@
 // Netlists as values.
-ghost use Rattle.std.specs.Prelude.{◌≡◌, map};
+ghost use Rattle.std.specs.Prelude.{◌≡◌, ◌≤◌, map};
 ghost use Rattle.gos_netlist.specs.Nets.{pins};
-ghost use Rattle.gos_netlist.specs.Seen.{function_of, number_of};
+ghost use Rattle.gos_netlist.specs.Events.{net_count};
+ghost use Rattle.gos_netlist.specs.Seen.{function_of, ground_type, number_of};
 
 use gos_lex::Name;
 use smallvec::SmallVec;
@@ -103,6 +104,20 @@ pub enum Ground {
     Exp(u32),
     /// A variable of so many bits, with the nets read, ans and its value, write and its value, done.
     Var(u32),
+}
+
+impl Ground {
+    /// How many nets a port of this type has: 2, 3 or 6.
+    pub fn net_count(&self) -> usize
+        ensures count { result ≡ net_count (ground_type self.now) }
+        ensures few { result ≤ 6 }
+    {
+        match self {
+            Ground::Com => 2,
+            Ground::Exp(_) => 3,
+            Ground::Var(_) => 6,
+        }
+    }
 }
 
 /// A port.

@@ -1,5 +1,5 @@
 // The line of a port: its side, its name, its type and its nets.
-ghost use Rattle.std.specs.Prelude.{◌≡◌, ◌≤◌, IfOk, IfErr, map};
+ghost use Rattle.std.specs.Prelude.{◌≡◌, IfOk, IfErr, map};
 ghost use Rattle.gos_types.specs.TypeText.{type_text};
 ghost use Rattle.gos_lex.specs.Items.{Misses};
 ghost use Rattle.gos_lex.specs.Names.{IsNameOrWord};
@@ -69,7 +69,7 @@ fn type_and_nets(alloc: Global, cursor: &mut Cursor) -> Result<(Ground, Vec<NetI
         Ok(ty) => ty,
         Err(at) => return Err(NetTextFault::Form { at }),
     };
-    let nets = match so_many_nets(alloc, cursor, net_count(ty)) {
+    let nets = match so_many_nets(alloc, cursor, ty.net_count()) {
         Ok(nets) => nets,
         Err(at) => return Err(NetTextFault::Form { at }),
     };
@@ -93,17 +93,5 @@ fn port_type(cursor: &mut Cursor) -> Result<Ground, usize>
         TypeWord::Com => Ok(Ground::Com),
         TypeWord::Exp => Ok(Ground::Exp(number(cursor, 1, 32, b' ')? as u32)),
         TypeWord::Var => Ok(Ground::Var(number(cursor, 1, 32, b' ')? as u32)),
-    }
-}
-
-// How many nets a port of this type has.
-fn net_count(ty: Ground) -> usize
-    ensures count { result ≡ net_count (ground_type ty) }
-    ensures few { result ≤ 6 }
-{
-    match ty {
-        Ground::Com => 2,
-        Ground::Exp(_) => 3,
-        Ground::Var(_) => 6,
     }
 }

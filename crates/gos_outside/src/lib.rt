@@ -9,7 +9,7 @@
 // was: specs/OtherFiles and proofs/OtherFilesLemmas.
 #![tactic(auto)]
 
-ghost use Rattle.std.specs.Prelude.{◌≡◌, ℕ, ◌≤◌, List, take, length, Option};
+ghost use Rattle.std.specs.Prelude.{◌≡◌, ℕ, ◌≤◌, max, List, take, length, Option};
 ghost use Rattle.std.specs.Prelude.{IfOk, IfSome, OnOk, IsErrOf};
 ghost use Rattle.gos_outside.specs.FileName.{IsFileName};
 ghost use Rattle.gos_outside.specs.Files.{Files, bytes_at, with_file, SameBut};
@@ -58,7 +58,8 @@ pub enum SinkFault {
 }
 
 /// Files by their names. `faults` is how many calls have failed, up to the largest `u64`;
-/// `last_fault` is the last call that did; `contents` are the files, where the store tells them.
+/// `last_fault` is the last call that did; `contents` are the files, where the store tells them;
+/// `asked` is the most bytes that one read was asked for, or less where the store doesn't keep it.
 pub trait Store {
     ghost faults: { Self → ℕ };
 
@@ -66,12 +67,15 @@ pub trait Store {
 
     ghost contents: { Self → Option Files };
 
+    ghost asked: { Self → ℕ };
+
     /// The first `n` bytes of the file `name`, or all of it where it is shorter.
     fn read_up_to(&mut self, alloc: Global, name: &[u8], n: usize) -> Result<Vec<u8>, StoreFault>
         requires { IsFileName name.now }
         ensures bytes { IfOk result (λ bytes. IfSome (contents self.old) (λ files.
             bytes.items ≡ take n (bytes_at files name.now))) }
         ensures limit { IfOk result (λ bytes. length bytes.items ≤ n) }
+        ensures asked { asked self.new ≤ max (asked self.old) n }
 
         // A failed call is counted, and is the last fault from then on. Any other changes neither.
         ensures failed_only { IsErrOf result StoreFault.Failed →

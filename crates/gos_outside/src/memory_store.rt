@@ -96,6 +96,8 @@ impl Store for MemoryStore {
 
     ghost contents = { λ store. Some store.files };
 
+    ghost asked = { λ _. 0 };
+
     fn read_up_to(&mut self, alloc: Global, name: &[u8], n: usize) -> Result<Vec<u8>, StoreFault>
         requires { IsFileName name.now }
         ensures bytes { IfOk result (λ bytes.

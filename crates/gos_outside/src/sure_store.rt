@@ -54,6 +54,8 @@ impl Store for SureStore {
 
     ghost contents = { λ store. Some store };
 
+    ghost asked = { λ _. 0 };
+
     fn read_up_to(&mut self, alloc: Global, name: &[u8], n: usize) -> Result<Vec<u8>, StoreFault> {
         match self.files.get(name) {
             Some(bytes) => Ok(first_bytes(bytes, n).to_vec(alloc)?),

@@ -11,12 +11,13 @@ use Rattle.gos_netlist.specs.Nets.{Side, NetPort, Netlist}
 use Rattle.gos_netlist.specs.Events.{Event, Is, events, port_events, events_from, events_of}
 use Rattle.gos_lines.specs.Lines.{Word}
 use Rattle.gos_pulse.specs.EventNames.{name_of, IsInputOf}
-use Rattle.gos_pulse.specs.inner.EventTable.{number_at, added, HasPorts, IsTableOf}
-use Rattle.gos_pulse.specs.declared.event_table.Numbers.{Numbers}
+use Rattle.gos_lex.specs.NameTables.{number_at, added}
+use Rattle.gos_pulse.specs.inner.EventTable.{HasPorts, IsTableOf}
+use Rattle.gos_lex.specs.declared.table.NameTable.{NameTable}
 
 module _ (ports : List NetPort) (all : List seen.Event) where
   -- before the first event a table has no name
-  pub table_begins : (numbers : Numbers) → ((name : Word) → number_at numbers name ≡ None) → IsTableOf ports all 0 numbers
+  pub table_begins : (numbers : NameTable) → ((name : Word) → number_at numbers name ≡ None) → IsTableOf ports all 0 numbers
   table_begins numbers none =
       record {
         sound = λ name i has. let wrong : None ≡ Some i = sym (none name) ∙ has in absurd cc;
@@ -24,7 +25,7 @@ module _ (ports : List NetPort) (all : List seen.Event) where
       }
 
   -- an event that is no input adds nothing
-  pub table_passes : (numbers : Numbers) (n : ℕ) (event : seen.Event) → slice_get all n ≡ Some event → event.input ≡ false → IsTableOf ports all n numbers → IsTableOf ports all (n + 1) numbers
+  pub table_passes : (numbers : NameTable) (n : ℕ) (event : seen.Event) → slice_get all n ≡ Some event → event.input ≡ false → IsTableOf ports all n numbers → IsTableOf ports all (n + 1) numbers
   table_passes numbers n event there output table =
       record {
         sound = table.sound;
@@ -39,7 +40,7 @@ module _ (ports : List NetPort) (all : List seen.Event) where
       }
 
   -- an input adds its name
-  pub table_grows : (old new : Numbers) (n : ℕ) (event : seen.Event) (name : Word) → slice_get all n ≡ Some event → event.input ≡ true → name ≡ name_of ports event → ((other : Word) → number_at new other ≡ added name n (number_at old other) other) → IsTableOf ports all n old → IsTableOf ports all (n + 1) new
+  pub table_grows : (old new : NameTable) (n : ℕ) (event : seen.Event) (name : Word) → slice_get all n ≡ Some event → event.input ≡ true → name ≡ name_of ports event → ((other : Word) → number_at new other ≡ added name n (number_at old other) other) → IsTableOf ports all n old → IsTableOf ports all (n + 1) new
   table_grows old new n event name there input named adds table = record { sound = sound; complete = complete }
     where
       sound_by : (b : Bool) (other : Word) (i : ℕ) → bytes_eq other name ≡ b → cond b (Some n) (number_at old other) ≡ Some i → (found : seen.Event) × IsInputOf ports all i found other
@@ -70,7 +71,7 @@ module _ (ports : List NetPort) (all : List seen.Event) where
           (there_is.0, adds other ∙ there_is.1)
 
   -- what a whole table says of a name
-  pub none_named : (numbers : Numbers) (name : Word) → IsTableOf ports all (length all) numbers → None ≡ number_at numbers name → (i : ℕ) (event : seen.Event) → IsInputOf ports all i event name → ⊥
+  pub none_named : (numbers : NameTable) (name : Word) → IsTableOf ports all (length all) numbers → None ≡ number_at numbers name → (i : ℕ) (event : seen.Event) → IsInputOf ports all i event name → ⊥
   none_named numbers name table none i event input =
       let found = table.complete i event name (slice_get_within all i event input.there) input in
       let wrong : None ≡ Some found.0 = none ∙ found.1 in

@@ -1,27 +1,21 @@
 // A netlist's input events, by name.
 
-ghost use Rattle.std.specs.Prelude.{◌≡◌, ◌<◌, List, ℕ, Some, None, length, IfOk, OnOk, MatchOption};
+ghost use Rattle.std.specs.Prelude.{◌≡◌, ◌<◌, ℕ, length, IfOk, MatchOption};
 ghost use Rattle.gos_netlist.specs.declared.event.Event as seen;
 ghost use Rattle.gos_pulse.specs.EventNames.{IsInput};
-ghost use Rattle.gos_pulse.specs.inner.EventTable.{IsTable, IsTableOf, HasPorts, number_at, added};
+ghost use Rattle.gos_pulse.specs.inner.EventTable.{IsTable, IsTableOf, HasPorts};
 
 use crate::event_names::event_name;
+use gos_lex::NameTable;
 use gos_netlist::{Event, Netlist, Port, events};
 use gos_types::NoMemory;
-use indexmap::IndexMap;
 use std::alloc::Global;
-
-/// The numbers of input events by name.
-#[derive(Drop)]
-pub(crate) struct Numbers {
-    pub by_name: IndexMap<Vec<u8>, usize>,
-}
 
 /// The events of a netlist, and the numbers of its input events by name.
 #[derive(Drop)]
 pub(crate) struct EventTable {
     pub events: Vec<Event>,
-    pub numbers: Numbers,
+    pub numbers: NameTable,
 }
 
 impl EventTable {
@@ -47,31 +41,12 @@ impl EventTable {
     }
 }
 
-impl Numbers {
-    // The number of a name.
-    fn get(&self, name: &[u8]) -> Option<usize>
-        ensures { result ≡ number_at self.now name.now }
-    {
-        self.by_name.get(name).copied()
-    }
-
-    // Adds a name with its number.
-    fn add(&mut self, name: Vec<u8>, number: usize) -> Result<(), NoMemory>
-        ensures { OnOk result ((other : List ℕ) → number_at self.new other ≡ added name.items number (number_at self.old other) other) }
-    {
-        self.by_name.insert(name, number)?;
-        Ok(())
-    }
-}
-
 // The numbers of the input events among these.
-fn number_inputs(alloc: Global, ports: &[Port], events: &[Event]) -> Result<Numbers, NoMemory>
+fn number_inputs(alloc: Global, ports: &[Port], events: &[Event]) -> Result<NameTable, NoMemory>
     requires { HasPorts (length ports.now) events.now }
     ensures { IfOk result (IsTableOf ports.now events.now (length events.now)) }
 {
-    let mut numbers = Numbers {
-        by_name: IndexMap::new(alloc),
-    };
+    let mut numbers = NameTable::new(alloc);
     for (number, event) in events.iter().enumerate() {
         if event.input {
             let name = event_name(alloc, ports, *event)?;

@@ -1,5 +1,5 @@
 mod JoinLemmas
-mod FarLemmas
+pub mod FarLemmas
 mod CodeLemmas
 mod PointLemmas
 mod ContactLemmas

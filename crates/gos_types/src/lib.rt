@@ -17,4 +17,4 @@ pub use fault::NoMemory;
 pub use laws::{sides, turning_twice};
 pub use shakes::{Handshake, Role, Step, count, handshakes};
 pub use text::print_ty;
-pub use types::{Ty, copy, is_ground, same};
+pub use types::{Ty, copy, is_ground, is_width, same};

@@ -15,11 +15,11 @@ use Rattle.gos_netlist.specs.NetItems.{IsTextOf, IsFixed, Passed, ended}
 use Rattle.gos_netlist.specs.Writable.{IsNumber}
 use Rattle.gos_netlist.proofs.PassedLemmas.{passed_as, passed_both}
 use Rattle.gos_netlist.proofs.SequenceLemmas.{Then, Lacks, IsCode, ended_code, ended_misses, misses_as, then_first, then_rest}
-use Rattle.gos_verilog.specs.declared.inputs.Places.{Places}
+use Rattle.gos_lex.specs.declared.table.NameTable.{NameTable}
 use Rattle.gos_verilog.specs.declared.port_net.Role.{Role}
 use Rattle.gos_verilog.specs.declared.port_net.Role.TheVariants.{Run, Ask, Read}
 use Rattle.gos_verilog.specs.PortNets.{suffix}
-use Rattle.gos_verilog.specs.inner.Noted.{place_at, added}
+use Rattle.gos_lex.specs.NameTables.{number_at, added}
 use Rattle.gos_verilog.specs.inner.Stages.{AreNameBytes}
 use Rattle.gos_verilog.specs.inner.Breaks.{Left, Either, Among, AllMiss, Leads, LeadsOn, BreaksFrom}
 use Rattle.gos_verilog.specs.inner.Left.{is_first, LeftNets}
@@ -67,42 +67,42 @@ face_code v w x y is_v is_w same =
         ∙ ap (λ (b : List ℕ). codes ", " ++ b) (append_assoc (ended 44 (first_text u)) (behind_text u) z)
 
 -- a port of a free name, by its parts
-abbrev Tail : Places → List ℕ → Type 0
+abbrev Tail : NameTable → List ℕ → Type 0
 Tail places = Then Face' (IsFreeFace places) (λ v. ended 44 (first_text v)) (λ v. IsFixed (behind_text v))
 
-abbrev Parts : Places → List ℕ → Type 0
+abbrev Parts : NameTable → List ℕ → Type 0
 Parts places = Then (Unit {0}) (λ _. Unit {0}) (λ _. codes ", ") (λ _. Tail places)
 
-joined : (places : Places) (bytes : List ℕ) → Parts places bytes → IsFreePort places bytes
+joined : (places : NameTable) (bytes : List ℕ) → Parts places bytes → IsFreePort places bytes
 joined places bytes (u, rest, i, (v, last, free, (w, j, end), inner), whole) =
     (v, free, whole ∙ (ap (λ (b : List ℕ). codes ", " ++ b) (inner ∙ ap (λ (b : List ℕ). ended 44 (first_text v) ++ b) end) ∙ sym (port_rest v free.0)))
 
-cut : (places : Places) (bytes : List ℕ) → IsFreePort places bytes → Parts places bytes
+cut : (places : NameTable) (bytes : List ℕ) → IsFreePort places bytes → Parts places bytes
 cut places bytes (v, free, whole) = (tt, ended 44 (first_text v) ++ behind_text v, tt, (v, behind_text v, free, (tt, tt, refl), refl), whole ∙ port_rest v free.0)
 
-free_code : (places : Places) → IsCode Face' (IsFreeFace places) (λ v. ended 44 (first_text v))
+free_code : (places : NameTable) → IsCode Face' (IsFreeFace places) (λ v. ended 44 (first_text v))
 free_code places v w x y is_v is_w = first_code v w x y (is_v.0, is_v.1.0) (is_w.0, is_w.1.0)
 
-some_tail : (places : Places) → Begins (IsFirstName places) [] → (bytes : List ℕ) × Tail places bytes
+some_tail : (places : NameTable) → Begins (IsFirstName places) [] → (bytes : List ℕ) × Tail places bytes
 some_tail places (more, (v, free, is)) = (ended 44 (first_text v) ++ behind_text v, (v, behind_text v, free, (tt, tt, refl), refl))
 
 -- where its comma, its first net or the rest breaks off, it does
-pub no_comma : (places : Places) (text : List ℕ) (at place : ℕ) → Begins (IsFirstName places) [] → Misses (IsJust (codes ", ")) text at place → Misses (IsFreePort places) text at place
+pub no_comma : (places : NameTable) (text : List ℕ) (at place : ℕ) → Begins (IsFirstName places) [] → Misses (IsJust (codes ", ")) text at place → Misses (IsFreePort places) text at place
 no_comma places text at place some misses =
     misses_as (Parts places) (IsFreePort places) text at place (joined places) (cut places)
     (then_first (Unit {0}) (λ _. Unit {0}) (λ _. codes ", ") (λ _. Tail places) text at place (λ v is. some_tail places some) (no_word (codes ", ") text at place misses))
 
-behind_comma : (places : Places) (text : List ℕ) (at mid place : ℕ) → Passed (record { text = text; at = at }) (record { text = text; at = mid }) (codes ", ") → Misses (Tail places) text mid place → Misses (IsFreePort places) text at place
+behind_comma : (places : NameTable) (text : List ℕ) (at mid place : ℕ) → Passed (record { text = text; at = at }) (record { text = text; at = mid }) (codes ", ") → Misses (Tail places) text mid place → Misses (IsFreePort places) text at place
 behind_comma places text at mid place passed misses =
     misses_as (Parts places) (IsFreePort places) text at place (joined places) (cut places)
     (then_rest (Unit {0}) (λ _. Unit {0}) (λ _. codes ", ") (λ _. Tail places) text at mid place tt (fixed_code (codes ", ")) tt passed.after passed.within passed.is misses)
 
-pub no_first_net : (places : Places) (text : List ℕ) (at mid place : ℕ) → Passed (record { text = text; at = at }) (record { text = text; at = mid }) (codes ", ") → Misses (IsFirstNet places) text mid place → Misses (IsFreePort places) text at place
+pub no_first_net : (places : NameTable) (text : List ℕ) (at mid place : ℕ) → Passed (record { text = text; at = at }) (record { text = text; at = mid }) (codes ", ") → Misses (IsFirstNet places) text mid place → Misses (IsFreePort places) text at place
 no_first_net places text at mid place passed misses =
     behind_comma places text at mid place passed
     (then_first Face' (IsFreeFace places) (λ v. ended 44 (first_text v)) (λ v. IsFixed (behind_text v)) text mid place (λ v is. (behind_text v, (tt, tt, refl))) misses)
 
-pub no_behind : (places : Places) (v : Face') (text : List ℕ) (at mid last place : ℕ) → IsFreeFace places v → Passed (record { text = text; at = at }) (record { text = text; at = mid }) (codes ", ")
+pub no_behind : (places : NameTable) (v : Face') (text : List ℕ) (at mid last place : ℕ) → IsFreeFace places v → Passed (record { text = text; at = at }) (record { text = text; at = mid }) (codes ", ")
     → Passed (record { text = text; at = mid }) (record { text = text; at = last }) (ended 44 (first_text v)) → Misses (IsJust (behind_text v)) text last place → Misses (IsFreePort places) text at place
 no_behind places v text at mid last place free first second misses =
     behind_comma places text at mid place first
@@ -119,10 +119,10 @@ port_passed v text at mid last end first one two three =
     (passed_both start (record { text = text; at = mid }) (record { text = text; at = end }) (codes ", ") (ended 44 (first_text v) ++ behind_text v) one behind)
 
 -- a port whose name is free is one behind those that are known
-pub new_face : (places : Places) (before : List Face') (v : Face') → AreKnown before places → IsFreeFace places v → IsNewFace before v
+pub new_face : (places : NameTable) (before : List Face') (v : Face') → AreKnown before places → IsFreeFace places v → IsNewFace before v
 new_face places before v known free = (free.0, free.1.0, (known v.1).0 free.1.1)
 
-pub new_port_misses : (places : Places) (before : List Face') (text : List ℕ) (at place : ℕ) → AreKnown before places → Misses (IsFreePort places) text at place → Misses (IsNewPort before) text at place
+pub new_port_misses : (places : NameTable) (before : List Face') (text : List ℕ) (at place : ℕ) → AreKnown before places → Misses (IsFreePort places) text at place → Misses (IsNewPort before) text at place
 new_port_misses places before text at place known =
     misses_as (IsFreePort places) (IsNewPort before) text at place
     (λ bytes item. (item.0, new_face places before item.0 known item.1, item.2))
@@ -265,7 +265,7 @@ pub within_prefix : (text : List ℕ) (len : ℕ) → len ≡ prefix_len continu
 within_prefix text len is = omega (arith, is, prefix_within text)
 
 -- where no name stands before a comma, it breaks off where its bytes do
-pub no_first_name : (places : Places) (rest : List ℕ) (len place : ℕ) → len ≡ prefix_len continues_name rest → IsNoName places rest len → StopsAt (IsFirstName places) rest 0 place → Misses (IsFirstNet places) rest 0 place
+pub no_first_name : (places : NameTable) (rest : List ℕ) (len place : ℕ) → len ≡ prefix_len continues_name rest → IsNoName places rest len → StopsAt (IsFirstName places) rest 0 place → Misses (IsFirstNet places) rest 0 place
 no_first_name places rest len place is none stops =
     ended_misses Face' (IsFreeFace places) first_text 44 rest 0 place (λ front more item. first_lacks front more (item.0, (item.1.0, item.1.1.0), item.2)) not_whole stops
   where
@@ -330,7 +330,7 @@ pub all_lead : (text : List ℕ) (at end : ℕ) (v : Face') (more : List Face') 
 all_lead text at end v more new few passed = record { word = flat_map port_text more; passed = passed; leads = faces_lead (v ∷ []) more new few }
 
 -- no name is known, and one more
-pub known_none : (places : Places) → ((other : List ℕ) → place_at places other ≡ None) → AreKnown [] places
+pub known_none : (places : NameTable) → ((other : List ℕ) → number_at places other ≡ None) → AreKnown [] places
 known_none places none name = ((λ _. tt), (λ _. none name))
 
 other_snoc : (name : List ℕ) (faces : List Face') (v : Face') → (v.1 ≢ name) → IsOther name faces → IsOther name (faces ++ v ∷ [])
@@ -341,16 +341,16 @@ other_front : (name : List ℕ) (faces : List Face') (v : Face') → IsOther nam
 other_front name [] v all = (tt, all.0)
 other_front name (u ∷ faces) v all = let rest = other_front name faces v all.1 in ((all.0, rest.0), rest.1)
 
-pub known_more : (old new : Places) (faces longer : List Face') (v : Face') → longer ≡ faces ++ v ∷ [] → AreKnown faces old → ((other : List ℕ) → place_at new other ≡ added v.1 0 (place_at old other) other) → AreKnown longer new
-known_more old new faces longer v is known more name = subst (λ (list : List Face'). (place_at new name ≡ None) ↔ IsOther name list) (sym is) (by (bytes_eq name v.1) refl)
+pub known_more : (old new : NameTable) (faces longer : List Face') (v : Face') → longer ≡ faces ++ v ∷ [] → AreKnown faces old → ((other : List ℕ) → number_at new other ≡ added v.1 0 (number_at old other) other) → AreKnown longer new
+known_more old new faces longer v is known more name = subst (λ (list : List Face'). (number_at new name ≡ None) ↔ IsOther name list) (sym is) (by (bytes_eq name v.1) refl)
   where
-    by : (t : Bool) → bytes_eq name v.1 ≡ t → (place_at new name ≡ None) ↔ IsOther name (faces ++ v ∷ [])
+    by : (t : Bool) → bytes_eq name v.1 ≡ t → (number_at new name ≡ None) ↔ IsOther name (faces ++ v ∷ [])
     by true same = (
-      (λ none. let both : Some 0 ≡ None = ap (λ (b : Bool). if b then Some 0 else place_at old name) (sym same) ∙ (sym (more name) ∙ none) in absurd (cc both)),
+      (λ none. let both : Some 0 ≡ None = ap (λ (b : Bool). if b then Some 0 else number_at old name) (sym same) ∙ (sym (more name) ∙ none) in absurd (cc both)),
       (λ other. absurd ((other_front name faces v other).1 (sym ((bytes_eq-Decides name v.1).0 same)))),
     )
     by false other =
-        let kept : place_at new name ≡ place_at old name = more name ∙ ap (λ (b : Bool). if b then Some 0 else place_at old name) other in (
+        let kept : number_at new name ≡ number_at old name = more name ∙ ap (λ (b : Bool). if b then Some 0 else number_at old name) other in (
           (λ none.
               other_snoc name faces v (λ same. let both : true ≡ false = sym ((bytes_eq-Decides name v.1).1 (sym same)) ∙ other in cc both)
               ((known name).0 (sym kept ∙ none))),

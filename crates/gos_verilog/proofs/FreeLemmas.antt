@@ -12,7 +12,7 @@ use Rattle.gos_lex.specs.Items.{Begins, StopsAt}
 use Rattle.gos_netcheck.specs.Rules.{Kept}
 use Rattle.gos_netlist.proofs.SequenceLemmas.{fronts}
 use Rattle.std.proofs.Math.Seq.{take-append_seam}
-use Rattle.gos_verilog.specs.declared.inputs.Places.{Places}
+use Rattle.gos_lex.specs.declared.table.NameTable.{NameTable}
 use Rattle.gos_verilog.specs.declared.port_net.Role.{Role}
 use Rattle.gos_verilog.specs.declared.port_net.Role.TheVariants.{Run, Done, Ask, Ans, AnsValue, Read, Write, WriteValue}
 use Rattle.gos_verilog.specs.PortNets.{suffix}
@@ -40,51 +40,51 @@ first_role P Write first run ask read = absurd (cc first)
 first_role P WriteValue first run ask read = absurd (cc first)
 
 -- the bytes are no free name and a role's suffix
-abbrev pub IsNoFace : Places → List ℕ → Role → Type 0
+abbrev pub IsNoFace : NameTable → List ℕ → Role → Type 0
 IsNoFace places name role = (front : List ℕ) → IsFree places front → name ≡ front ++ suffix role → ⊥
 
-pub no_face : (places : Places) (name : List ℕ) → IsNoFace places name Run → IsNoFace places name Ask → IsNoFace places name Read → (v : Face') → IsFreeFace places v → name ≡ first_text v → ⊥
+pub no_face : (places : NameTable) (name : List ℕ) → IsNoFace places name Run → IsNoFace places name Ask → IsNoFace places name Read → (v : Face') → IsFreeFace places v → name ≡ first_text v → ⊥
 no_face places name run ask read v free is = first_role (IsNoFace places name) v.0 free.0 run ask read v.1 free.1 is
 
-pub face_found : (places : Places) (name front : List ℕ) (v : Face') (role : Role) → is_first role ≡ true → IsFree places front → name ≡ front ++ suffix role → v ≡ (role, front)
+pub face_found : (places : NameTable) (name front : List ℕ) (v : Face') (role : Role) → is_first role ≡ true → IsFree places front → name ≡ front ++ suffix role → v ≡ (role, front)
     → IsFreeFace places v × (name ≡ first_text v)
 face_found places name front v role first free is same = subst (λ (u : Face'). IsFreeFace places u × (name ≡ first_text u)) (sym same) ((first, free), is)
 
 -- a front of a role's suffix behind a free name
-abbrev pub EndsAs : Places → List ℕ → Role → Type 0
+abbrev pub EndsAs : NameTable → List ℕ → Role → Type 0
 EndsAs places bytes role = (front end more : List ℕ) × IsFree places front × (bytes ≡ front ++ end) × (suffix role ≡ end ++ more)
 
-pub ends_begins : (places : Places) (bytes : List ℕ) (role : Role) → is_first role ≡ true → EndsAs places bytes role → Begins (IsFirstName places) bytes
+pub ends_begins : (places : NameTable) (bytes : List ℕ) (role : Role) → is_first role ≡ true → EndsAs places bytes role → Begins (IsFirstName places) bytes
 ends_begins places bytes role first (front, end, more, free, is, parts) =
     (more, ((role, front), (first, free), ap (λ (b : List ℕ). b ++ more) is ∙ (append_assoc front end more ∙ ap (λ (b : List ℕ). front ++ b) (sym parts))))
 
-pub grows_begins : (places : Places) (bytes : List ℕ) → Begins (IsFree places) bytes → Begins (IsFirstName places) bytes
+pub grows_begins : (places : NameTable) (bytes : List ℕ) → Begins (IsFree places) bytes → Begins (IsFirstName places) bytes
 grows_begins places bytes (x, free) = (x ++ suffix Run, ((Run, bytes ++ x), (refl, free), sym (append_assoc bytes x (suffix Run))))
 
-pub begins_none : (places : Places) (bytes : List ℕ) → IsNoEnd places bytes Run → IsNoEnd places bytes Ask → IsNoEnd places bytes Read → (Begins (IsFree places) bytes → ⊥) → Begins (IsFirstName places) bytes → ⊥
+pub begins_none : (places : NameTable) (bytes : List ℕ) → IsNoEnd places bytes Run → IsNoEnd places bytes Ask → IsNoEnd places bytes Read → (Begins (IsFree places) bytes → ⊥) → Begins (IsFirstName places) bytes → ⊥
 begins_none places bytes run ask read none (more, (v, free, is)) =
     elim (fronts bytes more v.1 (suffix v.0) is) [
       | inl longer ↦ first_role (IsNoEnd places bytes) v.0 free.0 run ask read v.1 longer.0 more free.1 longer.1 (sym longer.2)
       | inr longer ↦ none (longer.0, subst (IsFree places) longer.1 free.1)
     ]
 
-pub either_begins : (places : Places) (bytes : List ℕ) → IsNoEnd places bytes Run × IsNoEnd places bytes Ask × IsNoEnd places bytes Read → (is : Bool) → IsTrue is ↔ Begins (IsFree places) bytes
+pub either_begins : (places : NameTable) (bytes : List ℕ) → IsNoEnd places bytes Run × IsNoEnd places bytes Ask × IsNoEnd places bytes Read → (is : Bool) → IsTrue is ↔ Begins (IsFree places) bytes
     → IsTrue is ↔ Begins (IsFirstName places) bytes
 either_begins places bytes ends true known = ((λ _. grows_begins places bytes (known.0 refl)), (λ _. refl))
 either_begins places bytes ends false known =
     ((λ yes. absurd (cc yes)), (λ begins. absurd (begins_none places bytes ends.0 ends.1 ends.2 (λ free. contrary (known.1 free) refl) begins)))
 
-pub one_begins : (places : Places) (bytes : List ℕ) → Grows places bytes → Begins (IsFree places) bytes
+pub one_begins : (places : NameTable) (bytes : List ℕ) → Grows places bytes → Begins (IsFree places) bytes
 one_begins places bytes (b, free) = (b ∷ [], free)
 
-pub none_begins : (places : Places) (bytes : List ℕ) → IsFree places bytes → Begins (IsFree places) bytes
+pub none_begins : (places : NameTable) (bytes : List ℕ) → IsFree places bytes → Begins (IsFree places) bytes
 none_begins places bytes free = ([], subst (IsFree places) (sym (append-nil bytes)) free)
 
-pub other_begins : (places : Places) (bytes name more : List ℕ) → name ≡ bytes ++ more → Grows places name → Begins (IsFree places) bytes
+pub other_begins : (places : NameTable) (bytes name more : List ℕ) → name ≡ bytes ++ more → Grows places name → Begins (IsFree places) bytes
 other_begins places bytes name more is (b, free) = (more ++ b ∷ [], subst (IsFree places) (ap (λ (n : List ℕ). n ++ b ∷ []) is ∙ append_assoc bytes more (b ∷ [])) free)
 
 -- a port's name that begins with the bytes and grows
-pub record Longer (places : Places) (faces : List Face') (bytes : List ℕ) : Type 0 where
+pub record Longer (places : NameTable) (faces : List Face') (bytes : List ℕ) : Type 0 where
   pub place : ℕ
   pub face : Face'
   pub at : slice_get faces place ≡ Some face
@@ -92,7 +92,7 @@ pub record Longer (places : Places) (faces : List Face') (bytes : List ℕ) : Ty
   pub is : face.1 ≡ bytes ++ more
   pub grows : Grows places face.1
 
-longer_part : (places : Places) (faces : List Face') (bytes : List ℕ) (b : ℕ) → Longer places faces (bytes ++ b ∷ []) → Longer places faces bytes
+longer_part : (places : NameTable) (faces : List Face') (bytes : List ℕ) (b : ℕ) → Longer places faces (bytes ++ b ∷ []) → Longer places faces bytes
 longer_part places faces bytes b longer =
     record { place = longer.place; face = longer.face; at = longer.at; more = b ∷ longer.more; is = longer.is ∙ append_assoc bytes (b ∷ []) longer.more; grows = longer.grows }
 
@@ -115,7 +115,7 @@ name_front bytes more some is =
     record { spelled = front_spelled bytes more some is.spelled; short = omega (arith, is.short, length-append bytes more) }
 
 -- a free name that begins with the bytes: they are it, or they grow, or a port's name behind them does
-pub walk : (places : Places) (faces : List Face') → AreKnown faces places → (x bytes : List ℕ) → IsFree places (bytes ++ x) → IsFree places bytes ⊎ (Grows places bytes ⊎ Longer places faces bytes)
+pub walk : (places : NameTable) (faces : List Face') → AreKnown faces places → (x bytes : List ℕ) → IsFree places (bytes ++ x) → IsFree places bytes ⊎ (Grows places bytes ⊎ Longer places faces bytes)
 walk places faces known [] bytes free = inl (subst (IsFree places) (append-nil bytes) free)
 walk places faces known (b ∷ x) bytes free =
     elim (walk places faces known x (bytes ++ b ∷ []) whole) [
@@ -132,10 +132,10 @@ walk places faces known (b ∷ x) bytes free =
     by grows (inl other) = inr (inl (b, (name_front (bytes ++ b ∷ []) x (omega (arith, length-append bytes (b ∷ []))) whole.0, (known (bytes ++ b ∷ [])).1 other)))
     by grows (inr (k, u, at, same)) = inr (inr (record { place = k; face = u; at = at; more = b ∷ []; is = same; grows = subst (Grows places) (sym same) grows }))
 
-abbrev pub IsShorter : Places → List ℕ → ℕ → Face' → Type 0
+abbrev pub IsShorter : NameTable → List ℕ → ℕ → Face' → Type 0
 IsShorter places bytes k v = (more : List ℕ) → v.1 ≡ bytes ++ more → Grows places v.1 → ⊥
 
-pub no_free : (places : Places) (faces : List Face') (bytes : List ℕ) → AreKnown faces places → (IsFree places bytes → ⊥) → (Grows places bytes → ⊥) → Kept (IsShorter places bytes) faces → Begins (IsFree places) bytes → ⊥
+pub no_free : (places : NameTable) (faces : List Face') (bytes : List ℕ) → AreKnown faces places → (IsFree places bytes → ⊥) → (Grows places bytes → ⊥) → Kept (IsShorter places bytes) faces → Begins (IsFree places) bytes → ⊥
 no_free places faces bytes known one grows shorter (x, free) =
     elim (walk places faces known x bytes free) [
       | inl is ↦ one is
@@ -154,14 +154,14 @@ last_byte (c ∷ bytes) b spelled =
     let parts = and_parts (list_all continues_name bytes) (continues_name b && true) (sym (list_all-append continues_name bytes (b ∷ [])) ∙ inner.1) in
     (and_parts (continues_name b) true parts.1).0
 
-pub no_growth : (places : Places) (bytes : List ℕ) → ((c : ℕ) → c < 128 → IsFree places (bytes ++ c ∷ []) → ⊥) → Grows places bytes → ⊥
+pub no_growth : (places : NameTable) (bytes : List ℕ) → ((c : ℕ) → c < 128 → IsFree places (bytes ++ c ∷ []) → ⊥) → Grows places bytes → ⊥
 no_growth places bytes none (b, free) = none b (low_byte b (last_byte bytes b free.0.spelled)) free
 
 -- such a name has 261 bytes at most
 suffix_size : (r : Role) → is_first r ≡ true → length (suffix r) ≤ 6
 suffix_size r first = first_role (λ q. length (suffix q) ≤ 6) r first (omega arith) (omega arith) (omega arith)
 
-pub begins_size : (places : Places) (bytes : List ℕ) → Begins (IsFirstName places) bytes → length bytes ≤ 261
+pub begins_size : (places : NameTable) (bytes : List ℕ) → Begins (IsFirstName places) bytes → length bytes ≤ 261
 begins_size places bytes (more, (v, free, is)) =
     omega (arith, ap length is, length-append bytes more, length-append v.1 (suffix v.0), free.1.0.short, suffix_size v.0 free.0)
 
@@ -253,7 +253,7 @@ pigeon (u ∷ used) (suc n) f room apart =
             )
 
 -- so some name is free
-pub nothing_begins : (places : Places) (faces : List Face') → AreKnown faces places → length faces < 4294967296 → Begins (IsFirstName places) []
+pub nothing_begins : (places : NameTable) (faces : List Face') → AreKnown faces places → length faces < 4294967296 → Begins (IsFirstName places) []
 nothing_begins places faces known few =
     let many : count 32 ≡ 4294967296 = refl in
     let found = pigeon faces (count 32) (bits 32) (omega (arith, few, many)) (λ i j. bits_code 32 i j) in
@@ -267,7 +267,7 @@ take_size (suc n) [] inside = absurd (omega (arith, inside))
 take_size (suc n) (c ∷ text) inside = ap suc (take_size n text (omega (arith, inside)))
 
 -- the place that the bytes reach
-pub reached : (places : Places) (rest : List ℕ) (n : ℕ) → n ≤ length rest → Begins (IsFirstName places) (take n rest) → (n < length rest → Begins (IsFirstName places) (take (n + 1) rest) → ⊥) → StopsAt (IsFirstName places) rest 0 n
+pub reached : (places : NameTable) (rest : List ℕ) (n : ℕ) → n ≤ length rest → Begins (IsFirstName places) (take n rest) → (n < length rest → Begins (IsFirstName places) (take (n + 1) rest) → ⊥) → StopsAt (IsFirstName places) rest 0 n
 reached places rest n within begins stops =
     record {
       after = omega arith;
@@ -280,7 +280,7 @@ reached places rest n within begins stops =
     part m = let e : m - 0 ≡ m = omega arith in λ i. take (e i) rest
 
 -- a name before its comma, where there is one
-pub comma_behind : (places : Places) (rest : List ℕ) (len : ℕ) → slice_get rest len ≡ Some 44 → (r : Option Face')
+pub comma_behind : (places : NameTable) (rest : List ℕ) (len : ℕ) → slice_get rest len ≡ Some 44 → (r : Option Face')
     → MatchOption r ((v : Face') → IsFreeFace places v → take len rest ≡ first_text v → ⊥) (λ v. IsFreeFace places v × (take len rest ≡ first_text v))
     → MatchOption r (IsNoName places rest len) (IsNameBefore places rest len)
 comma_behind places rest len comma None none = λ v is. none v is.0 is.1

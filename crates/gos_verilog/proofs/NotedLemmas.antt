@@ -9,12 +9,13 @@ use Rattle.gos_netlist.specs.Seen.{cell_of}
 use Rattle.gos_netlist.specs.Writable.{IsWritableCell}
 use Rattle.gos_verilog.specs.declared.declared.Shape.{Shape}
 use Rattle.gos_verilog.specs.declared.inputs.Inputs.{Inputs}
-use Rattle.gos_verilog.specs.declared.inputs.Places.{Places}
+use Rattle.gos_lex.specs.declared.table.NameTable.{NameTable}
 use Rattle.gos_verilog.specs.PortNets.{PortNet}
 use Rattle.gos_verilog.specs.Lines.{driver}
 use Rattle.gos_verilog.specs.VerilogText.{IsFed, AreDrivers, IsItsNet}
 use Rattle.gos_verilog.specs.inner.Stages.{IsNetName, declared_net, shape_of}
-use Rattle.gos_verilog.specs.inner.Noted.{place_at, HasPlaces, AreNoted, AreAllNoted, IsLineOf, IsKnown, IsNotedBy, AreRight, AreDriven}
+use Rattle.gos_lex.specs.NameTables.{number_at}
+use Rattle.gos_verilog.specs.inner.Noted.{HasPlaces, AreNoted, AreAllNoted, IsLineOf, IsKnown, IsNotedBy, AreRight, AreDriven}
 use Rattle.gos_verilog.proofs.LineLemmas.{is_input_or}
 use Rattle.gos_verilog.proofs.OneTextLemmas.{get_all}
 
@@ -106,14 +107,14 @@ next_line known all x text shapes nets old now i at cells shape is has long righ
           known_input = λ gate.
               let fed = are.2 gate in
               let inside : fed.0 < length known = slice_get_within known fed.0 fed.1 fed.2 in
-              let place : place_at old.places fed.1.name ≡ Some fed.0 = has fed.0 fed.1 inside fed.2 fed.3 in
+              let place : number_at old.places fed.1.name ≡ Some fed.0 = has fed.0 fed.1 inside fed.2 fed.3 in
               let cell_at : slice_get all i ≡ Some (record { width = fed.1.width; gate = Input }) = subst (λ (n : ℕ). slice_get all n ≡ Some (record { width = fed.1.width; gate = Input })) fed.4 (right.inputs fed.0 fed.1 fed.2 fed.3) in
               let found : Some (record { width = fed.1.width; gate = Input }) ≡ Some c = sym cell_at ∙ here in
               let same : record { width = fed.1.width; gate = Input } ≡ c = cc found in
               record {
                 place = fed.0;
                 net = declared_net fed.1;
-                known = ap (λ (p : Places). place_at p are.0) far.places ∙ (ap (place_at old.places) fed.5 ∙ place);
+                known = ap (λ (p : NameTable). number_at p are.0) far.places ∙ (ap (number_at old.places) fed.5 ∙ place);
                 there = subst (λ (ns : List PortNet). slice_get ns fed.0 ≡ Some (declared_net fed.1)) (sym is) (get_declared known fed.0 fed.1 fed.2);
                 bits = ap (λ (d : Cell). d.width) same ∙ sym width;
                 input = fed.3;
@@ -152,7 +153,7 @@ noted_more known all old now new i cell source has long right places count here 
     at_input gate =
         let it = fed gate in
         let inside : it.0 < length known = slice_get_within known it.0 it.1 it.2 in
-        let place : place_at now.places source ≡ Some it.0 = ap (λ (p : Places). place_at p source) places ∙ (ap (place_at old.places) it.5 ∙ has it.0 it.1 inside it.2 it.3) in
+        let place : number_at now.places source ≡ Some it.0 = ap (λ (p : NameTable). number_at p source) places ∙ (ap (number_at old.places) it.5 ∙ has it.0 it.1 inside it.2 it.3) in
         let is : new.cells.items ≡ set now.cells.items it.0 i = by_line.input gate it.0 place in
         elim (cases_eq k it.0) [
           | inl same ↦

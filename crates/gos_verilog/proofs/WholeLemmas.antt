@@ -7,7 +7,7 @@ use Rattle.gos_netlist.specs.Nets.{Input, Cell, NetPort, Netlist}
 use Rattle.gos_netlist.specs.Writable.{IsWritableCell, IsWritablePort}
 use Rattle.gos_verilog.specs.declared.fault.VFault.{VFault}
 use Rattle.gos_verilog.specs.declared.fault.VFault.TheVariants as faults
-use Rattle.gos_verilog.specs.declared.inputs.Places.{Places}
+use Rattle.gos_lex.specs.declared.table.NameTable.{NameTable}
 use Rattle.gos_verilog.specs.PortNets.{PortNet, port_nets}
 use Rattle.gos_verilog.specs.VerilogText.{first_name, declarations, outputs, IsFed, AreDrivers, IsItsNet, IsVerilogOf}
 use Rattle.gos_verilog.specs.Readable.{IsRead, IsReadable, IsRefused}
@@ -91,7 +91,7 @@ get_declared [] k net is = absurd (cc is)
 get_declared (n ∷ nets) zero net is = let same : n ≡ net = cc is in ap (λ (m : PortNet). Some (declared_net m)) same
 get_declared (n ∷ nets) (suc k) net is = get_declared nets k net is
 
-pub places_known : (nets seen : List PortNet) (places : Places) → seen ≡ map declared_net nets → HaveOwnNames nets → (HaveOwnNames seen → HasPlaces seen (length seen) places) → HasPlaces nets (length nets) places
+pub places_known : (nets seen : List PortNet) (places : NameTable) → seen ≡ map declared_net nets → HaveOwnNames nets → (HaveOwnNames seen → HasPlaces seen (length seen) places) → HasPlaces nets (length nets) places
 places_known nets seen places is own has k net inside at input =
     let known = has (subst HaveOwnNames (sym is) (own_declared nets own)) in
     let there : slice_get seen k ≡ Some (declared_net net) = subst (λ (ns : List PortNet). slice_get ns k ≡ Some (declared_net net)) (sym is) (get_declared nets k net at) in

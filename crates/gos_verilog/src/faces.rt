@@ -14,11 +14,10 @@ ghost use Rattle.gos_verilog.specs.inner.Faces.{behind_text, first_text, IsNoNam
 use crate::declared::further;
 use crate::fault::VFault;
 use crate::head::{is_at, name_length};
-use crate::inputs::Places;
 use crate::port_net::{Role, roles};
 use crate::ports_of::ends_with;
 use crate::slots::pass;
-use gos_lex::{Cursor, is_name_or_word};
+use gos_lex::{Cursor, NameTable, is_name_or_word};
 use gos_netlist::Ground;
 use gos_types::NoMemory;
 use std::alloc::Global;
@@ -69,7 +68,7 @@ pub fn free_port<'a>(
     alloc: Global,
     rest: &'a [u8],
     faces: &[Face],
-    places: &Places,
+    places: &NameTable,
 ) -> Result<(Face<'a>, usize), VFault>
     requires known { AreKnown faces.now places.now }
     requires few { length faces.now < 4294967296 }
@@ -113,7 +112,7 @@ fn first_net<'a>(
     alloc: Global,
     rest: &'a [u8],
     faces: &[Face],
-    places: &Places,
+    places: &NameTable,
 ) -> Result<(Face<'a>, usize), VFault>
     requires known { AreKnown faces.now places.now }
     requires few { length faces.now < 4294967296 }
@@ -132,7 +131,7 @@ fn first_net<'a>(
 }
 
 // The port whose first net has the first `len` bytes as its name, if its own name is free and a comma stands behind them.
-fn whole_name<'a>(rest: &'a [u8], len: usize, places: &Places) -> Option<Face<'a>>
+fn whole_name<'a>(rest: &'a [u8], len: usize, places: &NameTable) -> Option<Face<'a>>
     requires { len ≤ length rest.now }
     ensures { MatchOption result (IsNoName places.now rest.now len) (IsNameBefore places.now rest.now len) }
 {
@@ -144,7 +143,7 @@ fn whole_name<'a>(rest: &'a [u8], len: usize, places: &Places) -> Option<Face<'a
 }
 
 // The port whose first net has this name, if its own name is free.
-fn face_of<'a>(name: &'a [u8], places: &Places) -> Option<Face<'a>>
+fn face_of<'a>(name: &'a [u8], places: &NameTable) -> Option<Face<'a>>
     ensures { MatchOption result ((v : Face') → IsFreeFace places.now v → name.now ≡ first_text v → ⊥)
         (λ v. IsFreeFace places.now v × (name.now ≡ first_text v)) }
 {
@@ -170,7 +169,7 @@ fn face_in<'a>(name: &'a [u8], first: Role) -> Face<'a>
 }
 
 // Whether the bytes are a free name and these.
-fn free_before(bytes: &[u8], end: &[u8], places: &Places) -> bool
+fn free_before(bytes: &[u8], end: &[u8], places: &NameTable) -> bool
     ensures is { IsTrue result → (front : List ℕ) × IsFree places.now front × (bytes.now ≡ front ++ end.now) }
     ensures only { (front : List ℕ) → IsFree places.now front → bytes.now ≡ front ++ end.now → IsTrue result }
 {
@@ -178,14 +177,14 @@ fn free_before(bytes: &[u8], end: &[u8], places: &Places) -> bool
 }
 
 // Whether it is a name that no port has so far.
-fn is_free(name: &[u8], places: &Places) -> bool
+fn is_free(name: &[u8], places: &NameTable) -> bool
     ensures { IsTrue result ↔ IsFree places.now name.now }
 {
     is_name_or_word(name) && places.get(name).is_none()
 }
 
 // How many bytes can go on as the name of the first net of a port whose name is free.
-fn reach(alloc: Global, rest: &[u8], faces: &[Face], places: &Places) -> Result<usize, NoMemory>
+fn reach(alloc: Global, rest: &[u8], faces: &[Face], places: &NameTable) -> Result<usize, NoMemory>
     requires known { AreKnown faces.now places.now }
     requires few { length faces.now < 4294967296 }
     ensures { IfOk result (StopsAt (IsFirstName places.now) rest.now 0) }
@@ -209,7 +208,7 @@ fn most(rest: &[u8]) -> usize
 }
 
 // Whether the name of the first net of a port whose name is free may begin with these bytes.
-fn may_begin(alloc: Global, bytes: &[u8], faces: &[Face], places: &Places) -> Result<bool, NoMemory>
+fn may_begin(alloc: Global, bytes: &[u8], faces: &[Face], places: &NameTable) -> Result<bool, NoMemory>
     requires { AreKnown faces.now places.now }
     ensures { IfOk result (λ is. IsTrue is ↔ Begins (IsFirstName places.now) bytes.now) }
 {
@@ -220,7 +219,7 @@ fn may_begin(alloc: Global, bytes: &[u8], faces: &[Face], places: &Places) -> Re
 }
 
 // Whether the bytes are a free name and a front of the suffix of a first net.
-fn ends_in_role(bytes: &[u8], places: &Places) -> bool
+fn ends_in_role(bytes: &[u8], places: &NameTable) -> bool
     ensures is { IsTrue result → Begins (IsFirstName places.now) bytes.now }
     ensures none { result ≡ false → IsNoEnd places.now bytes.now Run × IsNoEnd places.now bytes.now Ask × IsNoEnd places.now bytes.now Read }
 {
@@ -234,7 +233,7 @@ fn ends_in_role(bytes: &[u8], places: &Places) -> bool
 }
 
 // Whether the bytes are a free name and a front of the role's suffix.
-fn ends_as(bytes: &[u8], role: Role, places: &Places) -> bool
+fn ends_as(bytes: &[u8], role: Role, places: &NameTable) -> bool
     ensures is { IsTrue result → (front end more : List ℕ) × IsFree places.now front × (bytes.now ≡ front ++ end) × (suffix_of role ≡ end ++ more) }
     ensures only { (front end more : List ℕ) → IsFree places.now front → bytes.now ≡ front ++ end → suffix_of role ≡ end ++ more → IsTrue result }
 {
@@ -248,7 +247,7 @@ fn ends_as(bytes: &[u8], role: Role, places: &Places) -> bool
 }
 
 // Whether a free name begins with these bytes.
-fn may_grow(alloc: Global, bytes: &[u8], faces: &[Face], places: &Places) -> Result<bool, NoMemory>
+fn may_grow(alloc: Global, bytes: &[u8], faces: &[Face], places: &NameTable) -> Result<bool, NoMemory>
     requires { AreKnown faces.now places.now }
     ensures { IfOk result (λ is. IsTrue is ↔ Begins (IsFree places.now) bytes.now) }
 {
@@ -267,7 +266,7 @@ fn may_grow(alloc: Global, bytes: &[u8], faces: &[Face], places: &Places) -> Res
 }
 
 // Whether the name begins with the bytes, and is a free one with one more byte.
-fn grows_behind(alloc: Global, bytes: &[u8], name: &[u8], places: &Places) -> Result<bool, NoMemory>
+fn grows_behind(alloc: Global, bytes: &[u8], name: &[u8], places: &NameTable) -> Result<bool, NoMemory>
     ensures is { IfOk result (λ is. IsTrue is → (more : List ℕ) × (name.now ≡ bytes.now ++ more) × Grows places.now name.now) }
     ensures none { IfOk result (λ is. is ≡ false → (more : List ℕ) → name.now ≡ bytes.now ++ more → Grows places.now name.now → ⊥) }
 {
@@ -279,7 +278,7 @@ fn grows_behind(alloc: Global, bytes: &[u8], name: &[u8], places: &Places) -> Re
 }
 
 // Whether these bytes and one more are a free name.
-fn grows(alloc: Global, bytes: &[u8], places: &Places) -> Result<bool, NoMemory>
+fn grows(alloc: Global, bytes: &[u8], places: &NameTable) -> Result<bool, NoMemory>
     ensures { IfOk result (λ is. IsTrue is ↔ Grows places.now bytes.now) }
 {
     for b in 0..128 {

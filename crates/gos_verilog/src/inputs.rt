@@ -3,61 +3,28 @@ ghost use Rattle.std.specs.Prelude.{◌≡◌, ◌<◌, ℕ, List, Some, None, t
 ghost use Rattle.std.specs.List.{AllByRecursion};
 ghost use Rattle.gos_verilog.specs.PortNets.{PortNet as Net};
 ghost use Rattle.gos_verilog.specs.inner.Stages.{HaveOwnNames};
-ghost use Rattle.gos_verilog.specs.inner.Noted.{place_at, added, HasPlaces};
+ghost use Rattle.gos_lex.specs.NameTables.{number_at, added};
+ghost use Rattle.gos_verilog.specs.inner.Noted.{HasPlaces};
 ghost use Rattle.gos_verilog.specs.inner.Left.{IsSource};
 
 use crate::port_net::PortNet;
+use gos_lex::NameTable;
 use gos_netlist::NetId;
 use gos_types::NoMemory;
-use indexmap::IndexMap;
 use std::alloc::Global;
-
-/// Places by name: those of inputs among the nets of ports, say.
-#[derive(Drop)]
-pub struct Places {
-    by_name: IndexMap<Vec<u8>, usize>,
-}
 
 /// The inputs of a module, and for each net of a port the last cell that was noted to read it, or else 0.
 #[derive(Drop)]
 pub struct Inputs {
-    places: Places,
+    places: NameTable,
     cells: Vec<u32>,
 }
 
-impl Places {
-    /// None, for no name.
-    pub fn new(alloc: Global) -> Places
-        ensures { (other : List ℕ) → place_at result other ≡ None }
-    {
-        Places {
-            by_name: IndexMap::new(alloc),
-        }
-    }
-
-    /// The place of this name.
-    pub fn get(&self, name: &[u8]) -> Option<usize>
-        ensures { result ≡ place_at self.now name.now }
-    {
-        self.by_name.get(name).copied()
-    }
-
-    /// Adds a name with its place.
-    pub fn add(&mut self, name: Vec<u8>, place: usize) -> Result<(), NoMemory>
-        ensures { OnOk result ((other : List ℕ) → place_at self.new other ≡ added name.items place (place_at self.old other) other) }
-    {
-        self.by_name.insert(name, place)?;
-        Ok(())
-    }
-}
-
 // The places of the inputs among these nets of ports.
-fn known_places(alloc: Global, nets: &[PortNet]) -> Result<Places, NoMemory>
+fn known_places(alloc: Global, nets: &[PortNet]) -> Result<NameTable, NoMemory>
     ensures { IfOk result (λ places. HaveOwnNames nets.now → HasPlaces nets.now (length nets.now) places) }
 {
-    let mut places = Places {
-        by_name: IndexMap::new(alloc),
-    };
+    let mut places = NameTable::new(alloc);
     for (k, net) in nets.iter().enumerate() {
         if net.input {
             places.add(net.name.to_vec(alloc)?, k)?;
@@ -83,7 +50,7 @@ impl Inputs {
         ensures places { self.new.places ≡ self.old.places }
         ensures count { length self.new.cells.items ≡ length self.old.cells.items }
         ensures source { IsTrue result → IsSource nets.now width name.now }
-        ensures noted { (k : ℕ) (net : Net) → place_at self.old.places name.now ≡ Some k → slice_get nets.now k ≡ Some net → net.width ≡ width
+        ensures noted { (k : ℕ) (net : Net) → number_at self.old.places name.now ≡ Some k → slice_get nets.now k ≡ Some net → net.width ≡ width
             → net.input ≡ true → name.now ≡ net.name → k < length self.old.cells.items
             → (result ≡ true) × (self.new.cells.items ≡ set self.old.cells.items k cell) }
     {

@@ -10,8 +10,7 @@ use crate::declared::further;
 use crate::faces::{Face, first_port, free_port, pass_at};
 use crate::fault::VFault;
 use crate::head::{name_at, start};
-use crate::inputs::Places;
-use gos_lex::Cursor;
+use gos_lex::{Cursor, NameTable};
 use gos_types::NoMemory;
 use std::alloc::Global;
 
@@ -60,7 +59,7 @@ fn further_ports<'a>(
     ensures more { IfOk result (λ found. HasMore first.entry text.now at found.0 found.1) }
     ensures only { IfErr result IsWant }
 {
-    let mut places = Places::new(alloc);
+    let mut places = NameTable::new(alloc);
     let mut faces = Vec::new(alloc);
     add(alloc, &mut faces, &mut places, first)?;
     let mut at = at;
@@ -81,7 +80,7 @@ fn further_ports<'a>(
 fn add<'a>(
     alloc: Global,
     faces: &mut Vec<Face<'a>>,
-    places: &mut Places,
+    places: &mut NameTable,
     face: Face<'a>,
 ) -> Result<(), NoMemory>
     ensures faces { OnOk result (faces.new.items ≡ faces.old.items ++ face.entry ∷ []) }

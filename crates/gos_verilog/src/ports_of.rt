@@ -12,7 +12,7 @@ ghost use Rattle.gos_verilog.specs.inner.Stages.{suffix_length};
 use crate::port_net::PortNet;
 use gos_lex::{Name, is_name_or_word};
 use gos_netlist::{Ground, NetId, Port, Side};
-use gos_types::NoMemory;
+use gos_types::{NoMemory, is_width};
 use std::alloc::Global;
 
 /// The ports whose nets these are, one behind the other; none where there are no such ports.
@@ -45,7 +45,7 @@ fn port_at(alloc: Global, nets: &[PortNet]) -> Result<Option<(Port, usize)>, NoM
 {
     match ground_of(nets) {
         Some(ground) => {
-            let count = count(ground);
+            let count = ground.net_count();
             match port(alloc, &nets[..count], ground)? {
                 Some(port) => Ok(Some((port, count))),
                 None => Ok(None),
@@ -78,17 +78,6 @@ fn ground_of(nets: &[PortNet]) -> Option<Ground>
         Some(Ground::Var(value.width))
     } else {
         None
-    }
-}
-
-// How many nets a port of this type has.
-fn count(ground: Ground) -> usize
-    ensures { result ≡ net_count (ground_type ground) }
-{
-    match ground {
-        Ground::Com => 2,
-        Ground::Exp(_) => 3,
-        Ground::Var(_) => 6,
     }
 }
 
@@ -170,6 +159,6 @@ fn is_port_type(ground: Ground) -> bool
 {
     match ground {
         Ground::Com => true,
-        Ground::Exp(w) | Ground::Var(w) => 1 <= w && w <= 32,
+        Ground::Exp(w) | Ground::Var(w) => is_width(w),
     }
 }

@@ -1,10 +1,9 @@
 -- Ports, and the table of their names, as the program keeps them.
-use Rattle.std.specs.Prelude.{◌≡◌, ◌<◌, ℕ, List, Option, Some, None, length, slice_get, if◌then◌else◌}
-use Rattle.std.specs.Str.{bytes_eq}
-use Rattle.indexmap.specs.IndexMap.{get_by}
+use Rattle.std.specs.Prelude.{◌≡◌, ◌<◌, ℕ, List, Some, None, length, slice_get}
 use Rattle.gos_lines.specs.Lines.{Word}
 use Rattle.gos_link.specs.declared.whole.Port as declared_port
-use Rattle.gos_link.specs.declared.whole.Numbers.{Numbers}
+use Rattle.gos_lex.specs.NameTables.{number_at}
+use Rattle.gos_lex.specs.declared.table.NameTable.{NameTable}
 use Rattle.gos_link.specs.declared.fault.LinkFault.{LinkFault}
 use Rattle.gos_link.specs.declared.fault.LinkFault.TheVariants as faults
 use Rattle.gos_link.specs.Linked.{Port, AreDifferent, IsSecond}
@@ -12,16 +11,8 @@ use Rattle.gos_link.specs.Linked.{Port, AreDifferent, IsSecond}
 abbrev pub port_seen : declared_port.Port → Port
 port_seen p = record { name = p.name.now; instance = p.instance.now }
 
--- the number that a table has for a name
-abbrev pub number_at : Numbers → Word → Option ℕ
-number_at numbers name = get_by (λ key. bytes_eq name key.items) numbers.by_name
-
--- what a table has for a name, once another is added with its number
-abbrev pub added : Word → ℕ → Option ℕ → Word → Option ℕ
-added name number before other = if bytes_eq other name then Some number else before
-
 -- a table has the names of the first n ports, and has only such
-pub record IsTable (ports : List Port) (n : ℕ) (numbers : Numbers) : Type 0 where
+pub record IsTable (ports : List Port) (n : ℕ) (numbers : NameTable) : Type 0 where
   pub sound : (name : Word) (i : ℕ) → number_at numbers name ≡ Some i → (p : Port) × (i < n) × (slice_get ports i ≡ Some p) × (p.name ≡ name)
   pub complete : (i : ℕ) (p : Port) → i < n → slice_get ports i ≡ Some p → number_at numbers p.name ≡ None → ⊥
 

@@ -8,11 +8,11 @@ use Rattle.gos_lex.specs.Names.{IsNameOrWord}
 use Rattle.gos_netlist.specs.Nets.{Give}
 use Rattle.gos_netlist.specs.NetItems.{IsTextOf, ended}
 use Rattle.gos_netlist.specs.Writable.{IsNumber}
-use Rattle.gos_verilog.specs.declared.inputs.Places.{Places}
+use Rattle.gos_lex.specs.declared.table.NameTable.{NameTable}
 use Rattle.gos_verilog.specs.declared.port_net.Role.{Role}
 use Rattle.gos_verilog.specs.declared.port_net.Role.TheVariants.{Run, Done, Ask, Ans, AnsValue, Read, Write, WriteValue}
 use Rattle.gos_verilog.specs.PortNets.{suffix}
-use Rattle.gos_verilog.specs.inner.Noted.{place_at}
+use Rattle.gos_lex.specs.NameTables.{number_at}
 use Rattle.gos_verilog.specs.inner.Breaks.{Left, Item, PassedIn}
 use Rattle.gos_verilog.specs.inner.Left.{is_first, LeftNets}
 
@@ -41,43 +41,43 @@ abbrev pub behind_text : Face' → List ℕ
 behind_text v = drop 1 (names_in v.1 (drop 1 (roles_from v.0)))
 
 -- a name that no port has so far
-abbrev pub IsFree : Places → List ℕ → Type 0
-IsFree places name = IsNameOrWord name × (place_at places name ≡ None)
+abbrev pub IsFree : NameTable → List ℕ → Type 0
+IsFree places name = IsNameOrWord name × (number_at places name ≡ None)
 
-abbrev pub IsFreeFace : Places → Face' → Type 0
+abbrev pub IsFreeFace : NameTable → Face' → Type 0
 IsFreeFace places v = (is_first v.0 ≡ true) × IsFree places v.1
 
 -- the name of the first net of a port whose name is free, that name and its comma, and the names of all nets of such a port
-abbrev pub IsFirstName : Places → List ℕ → Type 0
+abbrev pub IsFirstName : NameTable → List ℕ → Type 0
 IsFirstName places = IsTextOf Face' (IsFreeFace places) first_text
 
-abbrev pub IsFirstNet : Places → List ℕ → Type 0
+abbrev pub IsFirstNet : NameTable → List ℕ → Type 0
 IsFirstNet places = IsTextOf Face' (IsFreeFace places) (λ v. ended 44 (first_text v))
 
-abbrev pub IsFreePort : Places → List ℕ → Type 0
+abbrev pub IsFreePort : NameTable → List ℕ → Type 0
 IsFreePort places = IsTextOf Face' (IsFreeFace places) port_text
 
 -- the first bytes are the name of the first net of such a port, and a comma stands behind them
-abbrev pub IsNameBefore : Places → List ℕ → ℕ → Face' → Type 0
+abbrev pub IsNameBefore : NameTable → List ℕ → ℕ → Face' → Type 0
 IsNameBefore places text len v = IsFreeFace places v × (take len text ≡ first_text v) × (slice_get text len ≡ Some 44)
 
-abbrev pub IsNoName : Places → List ℕ → ℕ → Type 0
+abbrev pub IsNoName : NameTable → List ℕ → ℕ → Type 0
 IsNoName places text len = (v : Face') → IsNameBefore places text len v → ⊥
 
 -- one more byte makes a free name
-abbrev pub Grows : Places → List ℕ → Type 0
+abbrev pub Grows : NameTable → List ℕ → Type 0
 Grows places bytes = (b : ℕ) × IsFree places (bytes ++ b ∷ [])
 
 -- the bytes are no free name and a front of the role's suffix
-abbrev pub IsNoEnd : Places → List ℕ → Role → Type 0
+abbrev pub IsNoEnd : NameTable → List ℕ → Role → Type 0
 IsNoEnd places bytes role = (front end more : List ℕ) → IsFree places front → bytes ≡ front ++ end → suffix role ≡ end ++ more → ⊥
 
 -- the names that are not free are those of these ports
 abbrev pub IsOther : List ℕ → List Face' → Type 0
 IsOther name = AllByRecursion (λ u. u.1 ≢ name)
 
-abbrev pub AreKnown : List Face' → Places → Type 0
-AreKnown faces places = (name : List ℕ) → (place_at places name ≡ None) ↔ IsOther name faces
+abbrev pub AreKnown : List Face' → NameTable → Type 0
+AreKnown faces places = (name : List ℕ) → (number_at places name ≡ None) ↔ IsOther name faces
 
 -- a port behind others, and ports behind others
 abbrev pub IsNewFace : List Face' → Face' → Type 0

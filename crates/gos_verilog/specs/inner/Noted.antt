@@ -1,13 +1,12 @@
 -- The places of inputs by name, and the cells that were noted to read them.
 --
 -- Read first: Stages, VerilogText. Between the reader of the lines that drive cells' nets and its lemmas.
-use Rattle.std.specs.Prelude.{◌≡◌, ℕ, ◌<◌, true, List, ◌++◌, Option, Some, if◌then◌else◌, get_or, length, set, slice_get}
+use Rattle.std.specs.Prelude.{◌≡◌, ℕ, ◌<◌, true, List, ◌++◌, Some, get_or, length, set, slice_get}
 use Rattle.std.specs.List.{AllByRecursion}
-use Rattle.std.specs.Str.{bytes_eq}
-use Rattle.indexmap.specs.IndexMap.{get_by}
 use Rattle.gos_netlist.specs.Nets.{Function, Input, Cell}
 use Rattle.gos_netlist.specs.Writable.{OperandsFit, IsWritableCell}
-use Rattle.gos_verilog.specs.declared.inputs.Places.{Places}
+use Rattle.gos_lex.specs.NameTables.{number_at}
+use Rattle.gos_lex.specs.declared.table.NameTable.{NameTable}
 use Rattle.gos_verilog.specs.declared.inputs.Inputs.{Inputs}
 use Rattle.gos_verilog.specs.PortNets.{PortNet}
 use Rattle.gos_verilog.specs.Lines.{driver_of}
@@ -16,18 +15,10 @@ use Rattle.gos_verilog.specs.inner.Stages.{IsNetName, HaveOwnNames}
 use Rattle.gos_verilog.specs.inner.CellLines.{kind_of}
 use Rattle.gos_verilog.specs.declared.cell_line.Kind.{Kind}
 
--- the place that is known for a name
-abbrev pub place_at : Places → List ℕ → Option ℕ
-place_at places name = get_by (λ key. bytes_eq name key.items) places.by_name
-
--- what is known for a name, once another is added with its place
-abbrev pub added : List ℕ → ℕ → Option ℕ → List ℕ → Option ℕ
-added name place before other = if bytes_eq other name then Some place else before
-
 -- the places of the inputs among the first n nets are known
-abbrev pub HasPlaces : List PortNet → ℕ → Places → Type 0
+abbrev pub HasPlaces : List PortNet → ℕ → NameTable → Type 0
 HasPlaces nets n places =
-    (k : ℕ) (net : PortNet) → k < n → slice_get nets k ≡ Some net → net.input ≡ true → place_at places net.name ≡ Some k
+    (k : ℕ) (net : PortNet) → k < n → slice_get nets k ≡ Some net → net.input ≡ true → number_at places net.name ≡ Some k
 
 -- the inputs that are cells before cell i are noted to be these
 abbrev pub AreNoted : List PortNet → ℕ → List ℕ → Type 0
@@ -50,7 +41,7 @@ IsNoLine kind i w text = (f : Function) (source x : List ℕ) → kind_of f ≡ 
 pub record IsKnown (nets : List PortNet) (inputs : Inputs) (w : ℕ) (name : List ℕ) : Type 0 where
   pub place : ℕ
   pub net : PortNet
-  pub known : place_at inputs.places name ≡ Some place
+  pub known : number_at inputs.places name ≡ Some place
   pub there : slice_get nets place ≡ Some net
   pub bits : net.width ≡ w
   pub input : net.input ≡ true
@@ -61,7 +52,7 @@ pub record IsKnown (nets : List PortNet) (inputs : Inputs) (w : ℕ) (name : Lis
 pub record IsNotedBy (old new : Inputs) (i : ℕ) (f : Function) (source : List ℕ) : Type 0 where
   pub places : new.places ≡ old.places
   pub count : length new.cells.items ≡ length old.cells.items
-  pub input : f ≡ Input → (k : ℕ) → place_at old.places source ≡ Some k → new.cells.items ≡ set old.cells.items k i
+  pub input : f ≡ Input → (k : ℕ) → number_at old.places source ≡ Some k → new.cells.items ≡ set old.cells.items k i
   pub other : (f ≡ Input → ⊥) → new ≡ old
 
 -- nets of ports and cells of a netlist that is read

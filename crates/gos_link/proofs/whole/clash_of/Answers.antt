@@ -5,7 +5,8 @@ use Rattle.std.proofs.lemmas.List.{length-map}
 use Rattle.gos_lines.specs.Lines.{Word}
 use Rattle.gos_link.specs.Linked.{Port}
 use Rattle.gos_link.specs.declared.whole.Port as declared_port
-use Rattle.gos_link.specs.inner.Ports.{added, number_at, port_seen}
+use Rattle.gos_lex.specs.NameTables.{added, number_at}
+use Rattle.gos_link.specs.inner.Ports.{port_seen}
 use Rattle.gos_link.proofs.PortLemmas.{port_at, same_at, table_grows, different_more}
 use Rattle.gos_link.proofs.whole.clash_of.Goals as goal
 

@@ -4,7 +4,7 @@ use Rattle.gos_lex.specs.Items.{IsJust, Misses}
 use Rattle.gos_netlist.specs.NetItems.{Passed, ended}
 use Rattle.gos_lex.proofs.PlaceLemmas.{rest_whole}
 use Rattle.gos_verilog.specs.declared.fault.VFault.{VFault}
-use Rattle.gos_verilog.specs.declared.inputs.Places.{Places}
+use Rattle.gos_lex.specs.declared.table.NameTable.{NameTable}
 use Rattle.gos_verilog.specs.inner.Stages.{BreaksAt}
 use Rattle.gos_verilog.specs.inner.Faces.{Face', IsFreeFace, IsFreePort, IsFirstNet, first_text, behind_text}
 use Rattle.gos_verilog.proofs.WordLemmas.{shift_passed, shift_misses}
@@ -31,12 +31,12 @@ returns-in-Err-Form-clause-wrong c =
     (shift_misses (IsFirstNet places) text rest mid c.in-Err-Form.place (rest_whole text mid) (rest_size text mid c.in-Ok.ensures.within) wrong))
 
 -- the two parts of a port's names, and the rest
-record First (text : List ℕ) (mid len : ℕ) (places : Places) (v : Face') : Type 0 where
+record First (text : List ℕ) (mid len : ℕ) (places : NameTable) (v : Face') : Type 0 where
   free : IsFreeFace places v
   comma : Passed (record { text = text; at = 0 }) (record { text = text; at = mid }) (codes ", ")
   net : Passed (record { text = text; at = mid }) (record { text = text; at = mid + len }) (ended 44 (first_text v))
 
-first_of : (text : List ℕ) (mid len : ℕ) (places : Places) (v : Face') → mid ≤ length text → IsFreeFace places v → Passed (record { text = text; at = 0 }) (record { text = text; at = mid }) (codes ", ")
+first_of : (text : List ℕ) (mid len : ℕ) (places : NameTable) (v : Face') → mid ≤ length text → IsFreeFace places v → Passed (record { text = text; at = 0 }) (record { text = text; at = mid }) (codes ", ")
     → Passed (record { text = take (length text - mid) (drop mid text); at = 0 }) (record { text = take (length text - mid) (drop mid text); at = len }) (ended 44 (first_text v)) → First text mid len places v
 first_of text mid len places v within free comma net =
     record { free = free; comma = comma; net = shift_passed text (take (length text - mid) (drop mid text)) mid len (ended 44 (first_text v)) (rest_whole text mid) (rest_size text mid within) net }

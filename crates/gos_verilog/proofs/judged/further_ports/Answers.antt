@@ -4,7 +4,7 @@ use Rattle.gos_lex.specs.Items.{TextAt, Misses}
 use Rattle.gos_lex.proofs.PlaceLemmas.{rest_whole}
 use Rattle.gos_netlist.specs.NetItems.{Passed}
 use Rattle.gos_netlist.proofs.PassedLemmas.{passed_as, passed_both}
-use Rattle.gos_verilog.specs.declared.inputs.Places.{Places}
+use Rattle.gos_lex.specs.declared.table.NameTable.{NameTable}
 use Rattle.gos_verilog.specs.declared.fault.VFault.{VFault}
 use Rattle.gos_verilog.specs.inner.Stages.{BreaksAt}
 use Rattle.gos_verilog.specs.inner.Faces.{Face', AreKnown, AreNewFaces, IsFreeFace, IsFreePort, IsNewFace, HasMore, NoFace, port_text}
@@ -20,7 +20,7 @@ SoFar first faces text from at =
 rest_size : (text : List ℕ) (at : ℕ) → at ≤ length text → at + length (take (length text - at) (drop at text)) ≡ length text
 rest_size text at within = omega (arith, ap length (rest_whole text at) ∙ length-drop at text, within)
 
-one_more : (first v : Face') (faces longer : List Face') (places : Places) (text : List ℕ) (from at len : ℕ) → at ≤ length text → longer ≡ faces ++ v ∷ [] → AreKnown faces places → IsFreeFace places v
+one_more : (first v : Face') (faces longer : List Face') (places : NameTable) (text : List ℕ) (from at len : ℕ) → at ≤ length text → longer ≡ faces ++ v ∷ [] → AreKnown faces places → IsFreeFace places v
     → Passed (record { text = take (length text - at) (drop at text); at = 0 }) (record { text = take (length text - at) (drop at text); at = len }) (port_text v) → SoFar first faces text from at → SoFar first longer text from (at + len)
 one_more first v faces longer places text from at len within is known free passed (more, same, new, far) =
     let rest : List ℕ = take (length text - at) (drop at text) in
@@ -34,7 +34,7 @@ one_more first v faces longer places text from at len within is known free passe
       passed_as start last (flat_map port_text more ++ port_text v) (flat_map port_text (more ++ v ∷ [])) (sym (ports_snoc more v)) whole,
     )
 
-none_here : (faces : List Face') (places : Places) (text : List ℕ) (at place : ℕ) → at ≤ length text → AreKnown faces places → length faces < 4294967295
+none_here : (faces : List Face') (places : NameTable) (text : List ℕ) (at place : ℕ) → at ≤ length text → AreKnown faces places → length faces < 4294967295
     → Misses (IsFreePort places) (take (length text - at) (drop at text)) 0 place → NoFace faces text at (at + place)
 none_here faces places text at place within known room misses =
     inr (

@@ -1,5 +1,5 @@
 use Rattle.gos_lex.proofs.EntryLemmas.{lookup_added}
-use Rattle.gos_pulse.proofs.event_table.Numbers.add.Goals as goal
+use Rattle.gos_lex.proofs.table.NameTable.add.Goals as goal
 
 pub returns : goal.returns
 returns c = λ other.
