@@ -2,6 +2,7 @@
 //
 // It tells no contents. What a file of the system holds, and what another process does to it, is not ours to say.
 ghost use Rattle.std.specs.Prelude.{◌≡◌, ◌≤◌, length, take, IfOk, IfSome};
+ghost use Rattle.std.specs.Io.KnownBytes.{Consumes};
 ghost use Rattle.gos_outside.specs.FileName.{IsFileName};
 ghost use Rattle.gos_outside.specs.Faults.{NoFault};
 
@@ -127,11 +128,12 @@ fn read_file<R: Files>(rt: &R, alloc: Global, name: &[u8], n: usize) -> Result<V
     read_first(&mut file, alloc, n)
 }
 
-/// The first `n` bytes that a reader gives, in however many pieces, or all where they are fewer.
+/// The first `n` bytes that a reader gives, in however many pieces, or all where they are fewer. It takes no others.
 fn read_first<F: Read>(file: &mut F, alloc: Global, n: usize) -> Result<Vec<u8>, Trouble>
     ensures limit { IfOk result (λ bytes. length bytes.items ≤ n) }
     // Of a reader whose bytes are known.
     ensures bytes { IfOk result (λ bytes. IfSome (F.remaining file.old) (λ all. bytes.items ≡ take n all)) }
+    ensures no_others { IfOk result (λ bytes. Consumes (F.remaining file.old) (F.remaining file.new) bytes.items) }
 {
     let mut bytes = Vec::new(alloc);
     let mut chunk = [0; CHUNK];
