@@ -1,4 +1,4 @@
-use Rattle.std.proofs.Common.{◌<◌, ◌+◌, arith, length, subst, sym}
+use Rattle.std.proofs.Common.{◌≡◌, ◌<◌, ◌+◌, arith, length, subst, sym}
 use Rattle.std.proofs.lemmas.Option.{slice_get-get_or}
 use Rattle.gos_pulse.specs.inner.EventTable.{IsTableOf}
 use Rattle.gos_lex.specs.declared.table.NameTable.{NameTable}
@@ -19,3 +19,8 @@ loop-number-preserved c =
           (table_passes c.args.ports.now c.args.events.now c.loop-number.numbers c.loop-number.number _
           (slice_get-get_or c.args.events.now c.loop-number.number _ within) w.if-event.false c.loop-number.invariant)
     ]
+
+pub returns : goal.returns
+returns c =
+    let end : c.loop-number.number ≡ length c.args.events.now = omega (arith, c.loop-number.auto.number-end, c.loop-number-test.false) in
+    subst (λ n. IsTableOf c.args.ports.now c.args.events.now n c.loop-number.numbers) end c.loop-number.invariant
