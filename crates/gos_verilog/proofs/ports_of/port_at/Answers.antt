@@ -16,13 +16,13 @@ first_nets p nets behind count is same many =
 pub returns-in-Some-2-clause-stands : goal.returns-in-Some-2-clause-stands
 returns-in-Some-2-clause-stands c p behind is same =
     let ty = c.in-Some.ensures.stands p behind is same in
-    let many : c.count-count.result ≡ net_count p.ty = c.count-count.ensures ∙ ap net_count ty in
-    let known = c.in_ok-port-in-Some.ensures.stands p is (first_nets p c.args.nets.now behind c.count-count.result is same many) ty in
+    let many : c.net_count-count.result ≡ net_count p.ty = c.net_count-count.ensures.count ∙ ap net_count ty in
+    let known = c.in_ok-port-in-Some.ensures.stands p is (first_nets p c.args.nets.now behind c.net_count-count.result is same many) ty in
     (rw c.in-Some-2.is at known, many)
 
 pub returns-in-None-2-clause-stands : goal.returns-in-None-2-clause-stands
 returns-in-None-2-clause-stands c p behind is same =
     let ty = c.in-Some.ensures.stands p behind is same in
-    let many : c.count-count.result ≡ net_count p.ty = c.count-count.ensures ∙ ap net_count ty in
-    let known = c.in_ok-port-in-Some.ensures.stands p is (first_nets p c.args.nets.now behind c.count-count.result is same many) ty in
+    let many : c.net_count-count.result ≡ net_count p.ty = c.net_count-count.ensures.count ∙ ap net_count ty in
+    let known = c.in_ok-port-in-Some.ensures.stands p is (first_nets p c.args.nets.now behind c.net_count-count.result is same many) ty in
     rw c.in-None-2.is at known
