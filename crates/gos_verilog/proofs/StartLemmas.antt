@@ -1,5 +1,5 @@
 -- How a text of the form of a netlist's begins: with the name of its module, the clock and the reset.
-use Rattle.std.proofs.Common.{◌≡◌, ℕ, ◌+◌, List, ◌++◌, drop, refl, sym, ◌∙◌, ap, subst, arith, append_assoc, codes}
+use Rattle.std.proofs.Common.{◌≡◌, ℕ, List, ◌++◌, drop, refl, sym, ◌∙◌, ap, subst, arith, append_assoc, codes}
 use Rattle.gos_lex.specs.Names.{IsNameOrWord}
 use Rattle.gos_lex.specs.Items.{TextAt, IsJust, Misses}
 use Rattle.gos_netlist.specs.NetItems.{IsFixed, Passed, ended}
