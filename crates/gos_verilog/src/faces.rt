@@ -208,7 +208,12 @@ fn most(rest: &[u8]) -> usize
 }
 
 // Whether the name of the first net of a port whose name is free may begin with these bytes.
-fn may_begin(alloc: Global, bytes: &[u8], faces: &[Face], places: &NameTable) -> Result<bool, NoMemory>
+fn may_begin(
+    alloc: Global,
+    bytes: &[u8],
+    faces: &[Face],
+    places: &NameTable,
+) -> Result<bool, NoMemory>
     requires { AreKnown faces.now places.now }
     ensures { IfOk result (λ is. IsTrue is ↔ Begins (IsFirstName places.now) bytes.now) }
 {
@@ -247,7 +252,12 @@ fn ends_as(bytes: &[u8], role: Role, places: &NameTable) -> bool
 }
 
 // Whether a free name begins with these bytes.
-fn may_grow(alloc: Global, bytes: &[u8], faces: &[Face], places: &NameTable) -> Result<bool, NoMemory>
+fn may_grow(
+    alloc: Global,
+    bytes: &[u8],
+    faces: &[Face],
+    places: &NameTable,
+) -> Result<bool, NoMemory>
     requires { AreKnown faces.now places.now }
     ensures { IfOk result (λ is. IsTrue is ↔ Begins (IsFree places.now) bytes.now) }
 {
@@ -266,7 +276,12 @@ fn may_grow(alloc: Global, bytes: &[u8], faces: &[Face], places: &NameTable) -> 
 }
 
 // Whether the name begins with the bytes, and is a free one with one more byte.
-fn grows_behind(alloc: Global, bytes: &[u8], name: &[u8], places: &NameTable) -> Result<bool, NoMemory>
+fn grows_behind(
+    alloc: Global,
+    bytes: &[u8],
+    name: &[u8],
+    places: &NameTable,
+) -> Result<bool, NoMemory>
     ensures is { IfOk result (λ is. IsTrue is → (more : List ℕ) × (name.now ≡ bytes.now ++ more) × Grows places.now name.now) }
     ensures none { IfOk result (λ is. is ≡ false → (more : List ℕ) → name.now ≡ bytes.now ++ more → Grows places.now name.now → ⊥) }
 {
