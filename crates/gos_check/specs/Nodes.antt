@@ -10,6 +10,10 @@ use Rattle.gos_model.specs.Terms.{Op, Term}
 use Rattle.gos_model.specs.Typing.{Imports}
 use Rattle.gos_model.specs.Weight.{node_type}
 use Rattle.gos_model.specs.Sources.{op_of}
+use Rattle.gos_check.specs.declared.forms.OnePart.{OnePart}
+use Rattle.gos_check.specs.declared.forms.OnePart.TheVariants as one
+use Rattle.gos_check.specs.declared.forms.TwoParts.{TwoParts}
+use Rattle.gos_check.specs.declared.forms.TwoParts.TheVariants as two
 use Rattle.gos_check.specs.declared.linear.Split.{Split}
 use Rattle.gos_check.specs.declared.linear.Node.{Node}
 use Rattle.gos_check.specs.declared.linear.NodeForm.{NodeForm}
@@ -28,6 +32,22 @@ pub data OneForm : Type 0 where
 pub data TwoForm : Type 0 where
   OfApp OfBoth OfSeq OfPar OfWhile OfAssign : TwoForm
   OfBin : (op : Op) → TwoForm
+
+-- the forms as the program tells them apart
+abbrev pub one_form : OnePart → OneForm
+one_form one.First = OfFst
+one_form one.Second = OfSnd
+one_form one.Reading = OfDeref
+one_form one.Negation = OfNot
+
+abbrev pub two_form : TwoParts → TwoForm
+two_form two.Application = OfApp
+two_form two.Product = OfBoth
+two_form two.Sequence = OfSeq
+two_form two.Parallel = OfPar
+two_form two.Loop = OfWhile
+two_form two.Assignment = OfAssign
+two_form (two.Operation op) = OfBin (op_of op)
 
 -- a node with its type and its splits: `skip` or a literal, a number that is used, a binder with its number, a form of one
 -- part, a form of two parts, and a choice

@@ -13,24 +13,35 @@ use gos_syntax::Op;
 use gos_types::{Ty, copy};
 use std::alloc::Global;
 
-// A form of one part.
-#[derive(Clone, Copy)]
-pub(crate) enum OnePart {
+/// A form of one part, of terms and of nodes. Which it is among those of `Numbered` says `one_form`, in `specs/Nodes.antt`.
+#[derive(Debug, Clone, Copy)]
+pub enum OnePart {
+    /// `fst pair`
     First,
+    /// `snd pair`
     Second,
+    /// `! variable`
     Reading,
+    /// `not operand`
     Negation,
 }
 
-// A form of two parts.
-#[derive(Clone, Copy)]
-pub(crate) enum TwoParts {
+/// A form of two parts, of terms and of nodes; `two_form` says the same of these.
+#[derive(Debug, Clone, Copy)]
+pub enum TwoParts {
+    /// A function, and its argument.
     Application,
+    /// `( first , second )`
     Product,
+    /// `first ; second`
     Sequence,
+    /// `left || right`
     Parallel,
+    /// `while test do body`
     Loop,
+    /// `variable := value`
     Assignment,
+    /// An operator between its operands.
     Operation(Op),
 }
 
@@ -45,7 +56,7 @@ pub(crate) fn function_type(alloc: Global, argument: &Ty, outcome: Ty) -> Result
 
 impl OnePart {
     // The type of the form.
-    pub fn outcome(self, s: Span, a: Ty) -> Result<Ty, CheckFault>
+    pub(crate) fn outcome(self, s: Span, a: Ty) -> Result<Ty, CheckFault>
         ensures ok { IfOk result (λ ty. rule_of_one self s (type_of a) ≡ Ok (type_of ty)) }
         ensures err { IfErr result (λ e. Refuses (rule_of_one self s (type_of a)) e) }
     {
@@ -60,7 +71,7 @@ impl OnePart {
 
 impl TwoParts {
     // Whether the parts share no name, where they may not.
-    pub fn separate(
+    pub(crate) fn separate(
         self,
         alloc: Global,
         left: &[Occurrence],
@@ -76,7 +87,14 @@ impl TwoParts {
     }
 
     // The type of the form, where nothing is demanded of the names.
-    pub fn outcome(self, alloc: Global, s: Span, a: Ty, t: Span, b: Ty) -> Result<Ty, CheckFault>
+    pub(crate) fn outcome(
+        self,
+        alloc: Global,
+        s: Span,
+        a: Ty,
+        t: Span,
+        b: Ty,
+    ) -> Result<Ty, CheckFault>
         ensures ok { IfOk result (λ ty. rule_of_two self s (type_of a) t (type_of b) ≡ Ok (type_of ty)) }
         ensures err { IfErr result (λ e. Refuses (rule_of_two self s (type_of a) t (type_of b)) e) }
     {

@@ -8,6 +8,7 @@
 
 pub use checker::check;
 pub use fault::{CheckFault, Want};
+pub use forms::{OnePart, TwoParts};
 pub use laws::{found_exactly, parsed_is_countable};
 pub use linear::{Linear, Node, NodeForm, Split};
 

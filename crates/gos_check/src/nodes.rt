@@ -6,8 +6,8 @@ ghost use Rattle.std.specs.Prelude.{◌≡◌, [], IfOk, IfErr};
 ghost use Rattle.gos_types.specs.Types.{type_of, Pair};
 ghost use Rattle.gos_model.specs.Weight.{after_fun, left_of, right_of, read_of, op_type};
 ghost use Rattle.gos_model.specs.Sources.{op_of};
-ghost use Rattle.gos_check.specs.Nodes.{One, Two, node_seen, type_of_node};
-ghost use Rattle.gos_check.specs.inner.Numbering.{one_form, two_form, one_type, two_type};
+ghost use Rattle.gos_check.specs.Nodes.{One, Two, one_form, two_form, node_seen, type_of_node};
+ghost use Rattle.gos_check.specs.inner.Numbering.{one_type, two_type};
 
 use crate::demands::result_width;
 use crate::fault::CheckFault;
@@ -20,7 +20,7 @@ use std::alloc::Global;
 impl OnePart {
     // The node of this form.
     #[tactic(auto, using(crate::proofs::NodeTypeLemmas::type_seen))]
-    pub fn node(self, alloc: Global, m: Box<Node>) -> Result<Box<Node>, CheckFault>
+    pub(crate) fn node(self, alloc: Global, m: Box<Node>) -> Result<Box<Node>, CheckFault>
         ensures ok { IfOk result (λ node. node_seen node.value ≡ One (one_type (one_form self) (type_of_node (node_seen m.value))) []
             (one_form self) (node_seen m.value)) }
         ensures err { IfErr result (λ e. e ≡ CheckFault.NoMemory) }
@@ -52,7 +52,7 @@ impl OnePart {
 impl TwoParts {
     // The node of this form, with splits.
     #[tactic(auto, using(crate::proofs::NodeTypeLemmas::type_seen))]
-    pub fn node(
+    pub(crate) fn node(
         self,
         alloc: Global,
         splits: Vec<Split>,

@@ -12,10 +12,8 @@ ghost use Rattle.gos_syntax.specs.Sizes.{size};
 ghost use Rattle.gos_check.specs.Scopes.{type_at};
 ghost use Rattle.gos_check.specs.inner.Seen.{binders_of};
 ghost use Rattle.gos_check.specs.inner.Walked.{tree, parts_size};
-ghost use Rattle.gos_check.specs.Nodes.{OfFun, OfNew, numbered_of, node_seen};
+ghost use Rattle.gos_check.specs.Nodes.{OfFun, OfNew, one_form, two_form, numbered_of, node_seen};
 ghost use Rattle.gos_check.specs.inner.Numbering.{
-  one_form,
-  two_form,
   use_result,
   binder_result,
   one_result,

@@ -13,11 +13,11 @@ ghost use Rattle.gos_compile.specs.inner.Tables.{types_at};
 ghost use Rattle.gos_compile.specs.inner.Walked.{seen, wired, with_binder, with_one, with_two, with_choice};
 ghost use Rattle.gos_compile.specs.inner.Loads.{loaded, part_loaded, most, spent};
 
-use crate::forms::{OneRule, TwoRule, choice, front, one_point, rest};
+use crate::forms::{choice, front, one_out, one_own, one_point, rest, two_outs, two_own};
 use crate::points::{answer_bits, shakes};
 use crate::types::argument;
 use crate::wires::Wires;
-use gos_check::{Node, NodeForm};
+use gos_check::{Node, NodeForm, OnePart, TwoParts};
 use gos_plan::Kind;
 use gos_ties::{Place, Point};
 use gos_types::{NoMemory, Ty};
@@ -58,19 +58,21 @@ pub(crate) fn wire(
             width,
             body,
         } => wire_block(alloc, types, ty, *number, *width, body, out, wires),
-        NodeForm::App(m, n) => wire_two(alloc, types, TwoRule::Application, ty, m, n, out, wires),
-        NodeForm::Pair(m, n) => wire_two(alloc, types, TwoRule::Product, ty, m, n, out, wires),
-        NodeForm::Fst(m) => wire_one(alloc, types, OneRule::First, ty, m, out, wires),
-        NodeForm::Snd(m) => wire_one(alloc, types, OneRule::Second, ty, m, out, wires),
-        NodeForm::Seq(m, n) => wire_two(alloc, types, TwoRule::Sequence, ty, m, n, out, wires),
-        NodeForm::Par(m, n) => wire_two(alloc, types, TwoRule::Parallel, ty, m, n, out, wires),
+        NodeForm::App(m, n) => wire_two(alloc, types, TwoParts::Application, ty, m, n, out, wires),
+        NodeForm::Pair(m, n) => wire_two(alloc, types, TwoParts::Product, ty, m, n, out, wires),
+        NodeForm::Fst(m) => wire_one(alloc, types, OnePart::First, ty, m, out, wires),
+        NodeForm::Snd(m) => wire_one(alloc, types, OnePart::Second, ty, m, out, wires),
+        NodeForm::Seq(m, n) => wire_two(alloc, types, TwoParts::Sequence, ty, m, n, out, wires),
+        NodeForm::Par(m, n) => wire_two(alloc, types, TwoParts::Parallel, ty, m, n, out, wires),
         NodeForm::If(m, n, p) => wire_choice(alloc, types, ty, m, n, p, out, wires),
-        NodeForm::While(m, n) => wire_two(alloc, types, TwoRule::Loop, ty, m, n, out, wires),
-        NodeForm::Assign(m, n) => wire_two(alloc, types, TwoRule::Assignment, ty, m, n, out, wires),
-        NodeForm::Deref(m) => wire_one(alloc, types, OneRule::Reading, ty, m, out, wires),
-        NodeForm::Not(m) => wire_one(alloc, types, OneRule::Negation, ty, m, out, wires),
+        NodeForm::While(m, n) => wire_two(alloc, types, TwoParts::Loop, ty, m, n, out, wires),
+        NodeForm::Assign(m, n) => {
+            wire_two(alloc, types, TwoParts::Assignment, ty, m, n, out, wires)
+        }
+        NodeForm::Deref(m) => wire_one(alloc, types, OnePart::Reading, ty, m, out, wires),
+        NodeForm::Not(m) => wire_one(alloc, types, OnePart::Negation, ty, m, out, wires),
         NodeForm::Bin(op, m, n) => {
-            wire_two(alloc, types, TwoRule::Operation(*op), ty, m, n, out, wires)
+            wire_two(alloc, types, TwoParts::Operation(*op), ty, m, n, out, wires)
         }
     }
 }
@@ -125,19 +127,19 @@ fn wire_block(
 fn wire_one(
     alloc: Global,
     types: &[Ty],
-    rule: OneRule,
+    form: OnePart,
     ty: &Ty,
     m: &Node,
     out: &[Point],
     wires: &mut Wires,
 ) -> Result<(), NoMemory>
     requires { spent wires.old + length out.now + (5 + count (type_of ty.now) + part_loaded types.now m.now) ≤ most }
-    ensures wired { OnOk result (seen wires.new ≡ with_one types.now rule ty.now m.now out.now (seen wires.old)) }
+    ensures wired { OnOk result (seen wires.new ≡ with_one types.now form ty.now m.now out.now (seen wires.old)) }
     ensures spent { OnOk result (spent wires.new ≤ spent wires.old + (5 + loaded types.now m.now)) }
 {
     let i = wires.next();
-    let inner = rule.out(alloc, ty, &m.ty, i, wires.nodes, out)?;
-    rule.own(ty, out, wires)?;
+    let inner = one_out(form, alloc, ty, &m.ty, i, wires.nodes, out)?;
+    one_own(form, ty, out, wires)?;
     wire(alloc, types, m, &inner, wires)
 }
 
@@ -147,7 +149,7 @@ fn wire_one(
 fn wire_two(
     alloc: Global,
     types: &[Ty],
-    rule: TwoRule,
+    form: TwoParts,
     ty: &Ty,
     m: &Node,
     n: &Node,
@@ -155,13 +157,12 @@ fn wire_two(
     wires: &mut Wires,
 ) -> Result<(), NoMemory>
     requires { spent wires.old + length out.now + (5 + (part_loaded types.now m.now + part_loaded types.now n.now)) ≤ most }
-    ensures wired { OnOk result (seen wires.new ≡ with_two types.now rule ty.now m.now n.now out.now (seen wires.old)) }
+    ensures wired { OnOk result (seen wires.new ≡ with_two types.now form ty.now m.now n.now out.now (seen wires.old)) }
     ensures spent { OnOk result (spent wires.new ≤ spent wires.old + (5 + (loaded types.now m.now + loaded types.now n.now))) }
 {
     let i = wires.next();
-    let first = rule.first_out(alloc, &m.ty, &n.ty, i, wires.nodes, out)?;
-    let second = rule.second_out(alloc, &m.ty, &n.ty, i, wires.nodes, out)?;
-    rule.own(ty, &n.ty, out, wires)?;
+    let (first, second) = two_outs(form, alloc, &m.ty, &n.ty, i, wires.nodes, out)?;
+    two_own(form, ty, &n.ty, out, wires)?;
     wire(alloc, types, m, &first, wires)?;
     wire(alloc, types, n, &second, wires)
 }

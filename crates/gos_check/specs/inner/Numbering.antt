@@ -15,32 +15,12 @@ use Rattle.gos_model.specs.Weight.{or_com, after_fun, left_of, right_of, read_of
 use Rattle.gos_model.specs.Sources.{op_of}
 use Rattle.gos_check.specs.declared.fault.CheckFault.{CheckFault}
 use Rattle.gos_check.specs.declared.fault.CheckFault.TheVariants as faults
-use Rattle.gos_check.specs.declared.forms.OnePart.{OnePart}
-use Rattle.gos_check.specs.declared.forms.OnePart.TheVariants as one
-use Rattle.gos_check.specs.declared.forms.TwoParts.{TwoParts}
-use Rattle.gos_check.specs.declared.forms.TwoParts.TheVariants as two
 use Rattle.gos_check.specs.declared.linear.Split.{Split}
 use Rattle.gos_check.specs.declared.numbering.NumberedTerm.{NumberedTerm}
 use Rattle.gos_check.specs.declared.opens.Open.{Open}
 use Rattle.gos_check.specs.Scopes.{Binders, type_at}
 use Rattle.gos_check.specs.Nodes.{Binding, OfFun, OfNew, OneForm, OfFst, OfSnd, OfDeref, OfNot, TwoForm, OfApp, OfBoth, OfSeq, OfPar, OfWhile, OfAssign, OfBin, Numbered, Closed, Use, Under, One, Two, If, node_seen, type_of_node}
 use Rattle.gos_check.specs.inner.Opens.{number_in, others, merged_splits, merged_names, merged_next, binder_number, binder_next}
-
--- the forms that the walk tells apart
-abbrev pub one_form : OnePart → OneForm
-one_form one.First = OfFst
-one_form one.Second = OfSnd
-one_form one.Reading = OfDeref
-one_form one.Negation = OfNot
-
-abbrev pub two_form : TwoParts → TwoForm
-two_form two.Application = OfApp
-two_form two.Product = OfBoth
-two_form two.Sequence = OfSeq
-two_form two.Parallel = OfPar
-two_form two.Loop = OfWhile
-two_form two.Assignment = OfAssign
-two_form (two.Operation op) = OfBin (op_of op)
 
 -- the types of the forms, from those of their parts
 abbrev pub one_type : OneForm → Type' → Type'

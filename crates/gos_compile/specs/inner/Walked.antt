@@ -6,10 +6,11 @@ use Rattle.std.specs.Prelude.{ℕ, suc, Bool, true, not, nat_eq, List, [], ◌�
 use Rattle.std.specs.List.{list_all}
 use Rattle.gos_types.specs.declared.types.Ty.{Ty}
 use Rattle.gos_types.specs.Types.{Type', type_of}
-use Rattle.gos_model.specs.Sources.{op_of}
+use Rattle.gos_check.specs.declared.forms.OnePart.{OnePart}
+use Rattle.gos_check.specs.declared.forms.TwoParts.{TwoParts}
 use Rattle.gos_check.specs.declared.linear.Split.{Split}
 use Rattle.gos_check.specs.declared.linear.Node.{Node}
-use Rattle.gos_check.specs.Nodes.{node_seen, Numbered, Closed, Use, Under, One, Two, If, Binding, OneForm, OfFst, OfSnd, OfDeref, OfNot, TwoForm, OfApp, OfBoth, OfSeq, OfPar, OfWhile, OfAssign, OfBin}
+use Rattle.gos_check.specs.Nodes.{node_seen, Numbered, Closed, Use, Under, One, Two, If, Binding, OneForm, TwoForm, one_form, two_form}
 use Rattle.gos_plan.specs.Kinds as kinds
 use Rattle.gos_plan.specs.Kinds.{Part}
 use Rattle.gos_plan.specs.declared.kinds.Kind.{Kind}
@@ -19,10 +20,6 @@ use Rattle.gos_ties.specs.declared.points.Place.TheVariants as places
 use Rattle.gos_ties.specs.declared.points.Point.{Point}
 use Rattle.gos_ties.specs.declared.points.Tie.{Tie}
 use Rattle.gos_compile.specs.declared.wires.Wires.{Wires}
-use Rattle.gos_compile.specs.declared.forms.OneRule.{OneRule}
-use Rattle.gos_compile.specs.declared.forms.OneRule.TheVariants as one
-use Rattle.gos_compile.specs.declared.forms.TwoRule.{TwoRule}
-use Rattle.gos_compile.specs.declared.forms.TwoRule.TheVariants as two
 use Rattle.gos_realises.specs.Regular.{count}
 use Rattle.gos_compile.specs.inner.Tables.{types_at}
 use Rattle.gos_ties.specs.Ties.{point}
@@ -44,22 +41,6 @@ is_plain k = true
 abbrev pub seen : Wires → Wired
 seen w =
     record { parts = map part_of w.parts.items; ties = w.ties.items; nodes = w.nodes; plain = list_all is_plain w.parts.items }
-
--- the forms of the program
-abbrev pub one_form : OneRule → OneForm
-one_form one.First = OfFst
-one_form one.Second = OfSnd
-one_form one.Reading = OfDeref
-one_form one.Negation = OfNot
-
-abbrev pub two_form : TwoRule → TwoForm
-two_form two.Application = OfApp
-two_form two.Product = OfBoth
-two_form two.Sequence = OfSeq
-two_form two.Parallel = OfPar
-two_form two.Loop = OfWhile
-two_form two.Assignment = OfAssign
-two_form (two.Operation op) = OfBin (op_of op)
 
 -- the number that the next part has
 abbrev pub next_part : Wired → ℕ
@@ -117,12 +98,12 @@ with_binder types b t n m out w =
     wired (types_at types) (node_seen m) (binder_out b (type_of t) (next_part w) out)
     (with_own (binder_part b (type_of t)) (binder_ties b (type_of t) (next_part w) n out) w)
 
-abbrev pub with_one : List Ty → OneRule → Ty → Node → List Point → Wired → Wired
+abbrev pub with_one : List Ty → OnePart → Ty → Node → List Point → Wired → Wired
 with_one types f t m out w =
     wired (types_at types) (node_seen m) (one_out (one_form f) (type_of t) (type_of_node (node_seen m)) (next_part w) w.nodes out)
     (with_one_own (one_form f) (type_of t) out w)
 
-abbrev pub with_two : List Ty → TwoRule → Ty → Node → Node → List Point → Wired → Wired
+abbrev pub with_two : List Ty → TwoParts → Ty → Node → Node → List Point → Wired → Wired
 with_two types f t m n out w =
     wired (types_at types) (node_seen n)
     (second_out (two_form f) (type_of_node (node_seen m)) (type_of_node (node_seen n)) (next_part w) w.nodes out)
