@@ -103,17 +103,11 @@ one_end p d e a c b right there also role n m =
 abbrev TellsRoles : (Role → Direction) → Type 0
 TellsRoles way = (r q : Role) → same_way (way r) (way q) ≡ true → r ≡ q
 
-taken_tells : TellsRoles way_taken
-taken_tells Serve Serve e = refl
-taken_tells Ask Ask e = refl
-taken_tells Serve Ask e = absurd cc
-taken_tells Ask Serve e = absurd cc
-
-put_tells : TellsRoles way_put
-put_tells Serve Serve e = refl
-put_tells Ask Ask e = refl
-put_tells Serve Ask e = absurd cc
-put_tells Ask Serve e = absurd cc
+tells_roles : (way : Role → Direction) → same_way (way Serve) (way Ask) ≡ false → same_way (way Ask) (way Serve) ≡ false → TellsRoles way
+tells_roles way serves asks Serve Serve e = refl
+tells_roles way serves asks Ask Ask e = refl
+tells_roles way serves asks Serve Ask e = let no : true ≡ false = sym e ∙ serves in absurd (cc no)
+tells_roles way serves asks Ask Serve e = let no : true ≡ false = sym e ∙ asks in absurd (cc no)
 
 places_apart : (p : Plan) (way : Role → Direction) (d e : End) (c b : Contact) → TellsRoles way → IsRight p → contact_at p d ≡ Some c
     → contact_at p e ≡ Some b → same_end d e ≡ false → AreApart (way c.role) (places_of p d) (way b.role) (places_of p e)
@@ -132,6 +126,17 @@ places_apart p way d e c b tells right there also differ = by_places (places_of 
             let no : false ≡ true = sym differ ∙ (ap (same_end d) (sym same) ∙ same_itself d) in
             cc no
 
+-- what passes at an end passes at a handshake there
+at_contact : (p : Plan) (x : Element) (o : Option Contact) (s t : Tokens) → Passes p x o s t
+    → (c : Contact) × (o ≡ Some c) × Passes p x (Some c) s t
+at_contact p x None s t passes = absurd passes
+at_contact p x (Some c) s t passes = (c, refl, passes)
+
+-- one place changed and then another that is apart from it: the other first leads to the same state
+other_first : (way other : Direction) (n o : Option End) (h k : Option ℕ) (s t u : Tokens) → AreApart way n other o
+    → t ≡ with_held way n h s → u ≡ with_held other o k t → u ≡ with_held way n h (with_held other o k s)
+other_first way other n o h k s t u apart one two = two ∙ (ap (with_held other o k) one ∙ commute way other n o h k s apart)
+
 -- pulses of this sort that pass different ends may come in either order
 abbrev Swap : Plan → (Label → Element) → Type 0
 Swap p f =
@@ -139,61 +144,36 @@ Swap p f =
     → (w : Tokens) × Does p (f k) s w × Does p (f l) w u
 
 outputs_swap : (p : Plan) → IsRight p → Swap p (out_of p)
-outputs_swap p right l k s t u differ one two = by_contacts (contact_at p d) (contact_at p e) refl refl
-  where
-    d : End
-    d = end_of_label p l
-
-    e : End
-    e = end_of_label p k
-
-    by_contacts : (n m : Option Contact) → contact_at p d ≡ n → contact_at p e ≡ m
-        → (w : Tokens) × Does p (Out e k.value) s w × Does p (Out d l.value) w u
-    by_contacts None m f g = absurd (subst (λ (o : Option Contact). Passes p (Out d l.value) o s t) f one.1)
-    by_contacts (Some c) None f g = absurd (subst (λ (o : Option Contact). Passes p (Out e k.value) o t u) g two.1)
-    by_contacts (Some c) (Some b) f g =
-        let first = subst (λ (o : Option Contact). Passes p (Out d l.value) o s t) f one.1 in
-        let second = subst (λ (o : Option Contact). Passes p (Out e k.value) o t u) g two.1 in
-        let apart = places_apart p way_taken d e c b taken_tells right f g differ in
-        let w : Tokens = with_token p e (way_taken b.role) None s in
-        let kept = stays (way_taken c.role) (way_taken b.role) (places_of p d) (places_of p e) None s apart in
-        let lies : token_at p s e (way_taken b.role) ≡ Some k.value =
-        sym kept.0 ∙ (ap (λ (z : Tokens). token_at p z e (way_taken b.role)) (sym first.1) ∙ second.0) in
-        let last : u ≡ with_token p d (way_taken c.role) None w =
-        second.1
-        ∙ (ap (with_token p e (way_taken b.role) None) first.1
-        ∙ commute (way_taken c.role) (way_taken b.role) (places_of p d) (places_of p e) None None s apart) in (
-          w,
-          (two.0, subst (λ (o : Option Contact). Passes p (Out e k.value) o s w) (sym g) (lies, refl)),
-          (one.0, subst (λ (o : Option Contact). Passes p (Out d l.value) o w u) (sym f) (kept.1 ∙ first.0, last)),
-        )
+outputs_swap p right l k s t u differ one two =
+    let d : End = end_of_label p l in
+    let e : End = end_of_label p k in
+    let (c, there, first) = at_contact p (Out d l.value) (contact_at p d) s t one.1 in
+    let (b, also, second) = at_contact p (Out e k.value) (contact_at p e) t u two.1 in
+    let apart = places_apart p way_taken d e c b (tells_roles way_taken refl refl) right there also differ in
+    let w : Tokens = with_token p e (way_taken b.role) None s in
+    let kept = stays (way_taken c.role) (way_taken b.role) (places_of p d) (places_of p e) None s apart in
+    let lies : token_at p s e (way_taken b.role) ≡ Some k.value =
+    sym kept.0 ∙ (ap (λ (z : Tokens). token_at p z e (way_taken b.role)) (sym first.1) ∙ second.0) in
+    let last = other_first (way_taken c.role) (way_taken b.role) (places_of p d) (places_of p e) None None s t u apart first.1 second.1 in (
+      w,
+      (two.0, subst (λ (o : Option Contact). Passes p (Out e k.value) o s w) (sym also) (lies, refl)),
+      (one.0, subst (λ (o : Option Contact). Passes p (Out d l.value) o w u) (sym there) (kept.1 ∙ first.0, last)),
+    )
 
 inputs_swap : (p : Plan) → IsRight p → Swap p (in_of p)
-inputs_swap p right l k s t u differ one two = by_contacts (contact_at p d) (contact_at p e) refl refl
-  where
-    d : End
-    d = end_of_label p l
-
-    e : End
-    e = end_of_label p k
-
-    by_contacts : (n m : Option Contact) → contact_at p d ≡ n → contact_at p e ≡ m
-        → (w : Tokens) × Does p (In e k.value) s w × Does p (In d l.value) w u
-    by_contacts None m f g = absurd (subst (λ (o : Option Contact). Passes p (In d l.value) o s t) f one.1)
-    by_contacts (Some c) None f g = absurd (subst (λ (o : Option Contact). Passes p (In e k.value) o t u) g two.1)
-    by_contacts (Some c) (Some b) f g =
-        let first = subst (λ (o : Option Contact). Passes p (In d l.value) o s t) f one.1 in
-        let second = subst (λ (o : Option Contact). Passes p (In e k.value) o t u) g two.1 in
-        let apart = places_apart p way_put d e c b put_tells right f g differ in
-        let w : Tokens = with_token p e (way_put b.role) (Some k.value) s in
-        let last : u ≡ with_token p d (way_put c.role) (Some l.value) w =
-        second.1
-        ∙ (ap (with_token p e (way_put b.role) (Some k.value)) first.1
-        ∙ commute (way_put c.role) (way_put b.role) (places_of p d) (places_of p e) (Some l.value) (Some k.value) s apart) in (
-          w,
-          (two.0, subst (λ (o : Option Contact). Passes p (In e k.value) o s w) (sym g) (second.0, refl)),
-          (one.0, subst (λ (o : Option Contact). Passes p (In d l.value) o w u) (sym f) (first.0, last)),
-        )
+inputs_swap p right l k s t u differ one two =
+    let d : End = end_of_label p l in
+    let e : End = end_of_label p k in
+    let (c, there, first) = at_contact p (In d l.value) (contact_at p d) s t one.1 in
+    let (b, also, second) = at_contact p (In e k.value) (contact_at p e) t u two.1 in
+    let apart = places_apart p way_put d e c b (tells_roles way_put refl refl) right there also differ in
+    let w : Tokens = with_token p e (way_put b.role) (Some k.value) s in
+    let last =
+    other_first (way_put c.role) (way_put b.role) (places_of p d) (places_of p e) (Some l.value) (Some k.value) s t u apart first.1 second.1 in (
+      w,
+      (two.0, subst (λ (o : Option Contact). Passes p (In e k.value) o s w) (sym also) (second.0, refl)),
+      (one.0, subst (λ (o : Option Contact). Passes p (In d l.value) o w u) (sym there) (first.0, last)),
+    )
 
 -- a pulse sinks behind others that pass other ends
 sink : (p : Plan) (f : Label → Element) → Swap p f → (l : Label) (before after : List Label) (rest : List Element) (s u : Tokens)
