@@ -38,7 +38,8 @@ use Rattle.gos_expand.proofs.StandingLemmas.{pending_if, pending_at, pending_num
 use Rattle.gos_expand.proofs.DueLemmas.{nothing_taken, nothing_put, nothing_pending_there, value_shape, pulse_shape, Due, bare, nothing_at_port, put_at_port}
 use Rattle.gos_expand.proofs.ScheduleLemmas.{Choice, is_early, below_rank, early_below, early_made, firings_pulsed, early_times, exactly_inside, times_pulsed, chosen_once}
 use Rattle.gos_expand.proofs.PossibleLemmas.{there_is, listing, firings_listed, slot_taken}
-use Rattle.gos_expand.proofs.EventLemmas.{flag, number_if, ins_listed, flag_is, number_is}
+use Rattle.gos_expand.proofs.EventLemmas.{ins_listed, flag_is, number_is}
+use Rattle.gos_expand.proofs.PulseLemmas.{flag, number_if}
 
 -- what comes in at a handshake is a pulse or none, and its value has at most its bits
 pub record ComesIn (p : Plan) (n : Places) (v : Numbers) (i h : ℕ) (c : Contact) : Type 0 where

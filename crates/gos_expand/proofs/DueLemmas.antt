@@ -20,38 +20,27 @@ use Rattle.gos_plan.specs.Accounts.{count, number, ins_at, ins_sum, outs_at, out
 use Rattle.gos_expand.proofs.TallyLemmas.{no_value}
 use Rattle.gos_expand.proofs.StandingLemmas.{pending_if, pending_at, pending_numbers, shown_at, shown_numbers, held_pulse, Lies, Led, Now, filled, values, values_if, Taking, taking, small_count, one_token, lies_at, incoming_at_handshake}
 
-pub no_outs : (e : End) (xs : List Element) → outs_at e xs ≡ 0 → outs_sum e xs ≡ 0
-no_outs e [] h = refl
-no_outs e (Fire i t ∷ xs) h = no_outs e xs h
-no_outs e (In d v ∷ xs) h = no_outs e xs h
-no_outs e (Out d v ∷ xs) h = by_test (same_end d e) h (no_outs e xs)
-  where
-    by_test : (b : Bool) → (if b then suc (outs_at e xs) else outs_at e xs) ≡ 0 → (outs_at e xs ≡ 0 → outs_sum e xs ≡ 0)
-        → (if b then v + outs_sum e xs else outs_sum e xs) ≡ 0
-    by_test true h go = absurd (omega (arith, h))
-    by_test false h go = go h
+none_more : (b : Bool) (v n m : ℕ) → (n ≡ 0 → m ≡ 0) → (if b then suc n else n) ≡ 0 → (if b then v + m else m) ≡ 0
+none_more true v n m go h = absurd (omega (arith, h))
+none_more false v n m go h = go h
 
-pub no_ins : (e : End) (xs : List Element) → ins_at e xs ≡ 0 → ins_sum e xs ≡ 0
-no_ins e [] h = refl
-no_ins e (Fire i t ∷ xs) h = no_ins e xs h
-no_ins e (Out d v ∷ xs) h = no_ins e xs h
-no_ins e (In d v ∷ xs) h = by_test (same_end d e) h (no_ins e xs)
-  where
-    by_test : (b : Bool) → (if b then suc (ins_at e xs) else ins_at e xs) ≡ 0 → (ins_at e xs ≡ 0 → ins_sum e xs ≡ 0)
-        → (if b then v + ins_sum e xs else ins_sum e xs) ≡ 0
-    by_test true h go = absurd (omega (arith, h))
-    by_test false h go = go h
+-- where no outputs come at an end, their numbers add up to 0; and so of inputs
+none_add : (e : End) (xs : List Element) → (outs_at e xs ≡ 0 → outs_sum e xs ≡ 0) × (ins_at e xs ≡ 0 → ins_sum e xs ≡ 0)
+none_add e [] = (λ h. refl, λ h. refl)
+none_add e (Fire i t ∷ xs) = none_add e xs
+none_add e (Out d v ∷ xs) = (none_more (same_end d e) v (outs_at e xs) (outs_sum e xs) (none_add e xs).0, (none_add e xs).1)
+none_add e (In d v ∷ xs) = ((none_add e xs).0, none_more (same_end d e) v (ins_at e xs) (ins_sum e xs) (none_add e xs).1)
 
 -- where nothing is taken or put, no number is
 pub nothing_taken : (x : ℕ → ℕ → ℕ) (xs : List Element) (way : Direction) (e : End) → taken_at way e xs ≡ 0 → sum_taken x way e xs ≡ 0
 nothing_taken x xs way (PartEnd i h) none = ap (λ (m : ℕ). m * x i h) none ∙ grind arith
-nothing_taken x xs way (ImportEnd i h) none = no_outs (ImportEnd i h) xs none
-nothing_taken x xs way (ResultEnd h) none = no_outs (ResultEnd h) xs none
+nothing_taken x xs way (ImportEnd i h) none = (none_add (ImportEnd i h) xs).0 none
+nothing_taken x xs way (ResultEnd h) none = (none_add (ResultEnd h) xs).0 none
 
 pub nothing_put : (puts : ℕ → List Token) (xs : List Element) (e : End) → put_at puts e xs ≡ 0 → sum_put puts e xs ≡ 0
 nothing_put puts xs (PartEnd i h) none = no_value h (puts i) none
-nothing_put puts xs (ImportEnd i h) none = no_ins (ImportEnd i h) xs none
-nothing_put puts xs (ResultEnd h) none = no_ins (ResultEnd h) xs none
+nothing_put puts xs (ImportEnd i h) none = (none_add (ImportEnd i h) xs).1 none
+nothing_put puts xs (ResultEnd h) none = (none_add (ResultEnd h) xs).1 none
 
 pub nothing_pending_there : (p : Plan) (n : Places) (regs : Numbers) (e : End) → pending_at p n regs e ≡ 0 → pending_numbers p n regs e ≡ 0
 nothing_pending_there p n regs (PartEnd i h) none = no_value h (pending_if (slice_get p.parts i) (n.start i) regs) none

@@ -1,7 +1,7 @@
 -- The outputs and the inputs of a plan's netlist, as elements at the ends of its ports; and inputs are silent without
 -- a pulse.
 use Rattle.std.specs.Prelude.{Option}
-use Rattle.std.proofs.Common.{◌≡◌, ℕ, zero, suc, ◌+◌, ◌<◌, ◌≤◌, Bool, true, false, not, List, [], ◌∷◌, ◌++◌, map, filter, Some, slice_get, refl, sym, ◌∙◌, ap, subst, arith, nat_eq, if◌then◌else◌}
+use Rattle.std.proofs.Common.{◌≡◌, ℕ, zero, suc, ◌+◌, ◌*◌, ◌<◌, ◌≤◌, Bool, true, false, not, List, [], ◌∷◌, ◌++◌, map, filter, Some, slice_get, refl, sym, ◌∙◌, ap, subst, arith, nat_eq, if◌then◌else◌}
 use Rattle.std.proofs.lemmas.List.{map-append}
 use Rattle.std.proofs.lemmas.List.Elements.{filter-append}
 use Rattle.gos_types.specs.declared.shakes.Role.TheVariants.{Serve}
@@ -27,9 +27,7 @@ use Rattle.gos_expand.specs.Laid.{leaves, request_nets, answer_nets, laid_port, 
 use Rattle.gos_expand.specs.Acceptance.{AreDifferent}
 use Rattle.gos_expand.specs.Facts.{bits_put, bits_out_at, bits_in_at, elements, occurs}
 use Rattle.gos_expand.proofs.FlowLemmas.{IsSound, ground_serves, done_ground}
-use Rattle.gos_expand.proofs.PulseLemmas.{elements-append}
-use Rattle.gos_expand.proofs.PossibleLemmas.{no_out_before}
-use Rattle.gos_expand.proofs.EventLemmas.{flag, outs_once, ins_as_outs}
+use Rattle.gos_expand.proofs.PulseLemmas.{pulse_of, count_of, elements-append, shown_alone}
 use Rattle.gos_expand.proofs.RegisterLemmas.{shows, turned_back}
 use Rattle.gos_expand.proofs.LabelLemmas.{answers, requests}
 use Rattle.gos_expand.proofs.OnceLemmas.{each_once, all_listed, number_is, import_there}
@@ -150,39 +148,37 @@ ins_counted p e (l ∷ ls) = λ i. if same_end (end_of_label p l) e then suc (in
 ins_differ : (p : Plan) (ls : List Label) → ((e : End) → ins_at e (ins_of p ls) ≤ 1) → EndsDiffer p ls
 ins_differ p ls few = outs_differ p ls (λ e. subst (λ (n : ℕ). n ≤ 1) (ins_counted p e ls) (few e))
 
-flag_small : (v : Numbers) (nets : Nets) → flag v nets ≤ 1
-flag_small v nets = by_test (nat_eq (at v nets.pulse) 1)
+-- what nets show at the ends of ports comes once at most at each
+few_shown : (out : Bool) (p : Plan) (v : Numbers) (bits : End → ℕ) (nets : End → Nets) (e : End)
+    → count_of out e (elements (pulse_of out) v bits nets (port_ends (ports_of p))) ≤ 1
+few_shown out p v bits nets e =
+    by_pulse (nat_eq (at v (nets e).pulse) 1) (by_count (occurs e (port_ends (ports_of p))) refl) (shown_alone out e v bits nets (port_ends (ports_of p)))
   where
-    by_test : (b : Bool) → (if b then 1 else 0) ≤ 1
-    by_test true = omega arith
-    by_test false = omega arith
-
-few_outs : (p : Plan) (v : Numbers) (bits : End → ℕ) (nets : End → Nets) (e : End) → outs_at e (elements Out v bits nets (port_ends (ports_of p))) ≤ 1
-few_outs p v bits nets e = by_count (occurs e (port_ends (ports_of p))) refl
-  where
-    by_count : (m : ℕ) → occurs e (port_ends (ports_of p)) ≡ m → outs_at e (elements Out v bits nets (port_ends (ports_of p))) ≤ 1
-    by_count zero h = let none = no_out_before e v bits nets (port_ends (ports_of p)) h in omega (arith, none)
+    by_count : (m : ℕ) → occurs e (port_ends (ports_of p)) ≡ m → m ≤ 1
+    by_count zero h = omega arith
     by_count (suc m) h =
         let listed = all_listed p e (omega (arith, h)) in
-        let once = (outs_once e v bits nets (port_ends (ports_of p)) (each_once p e listed.1.0 listed.0 listed.1.1)).0 in
-        let small = flag_small v (nets e) in
-        omega (arith, once, small)
+        let once = each_once p e listed.1.0 listed.0 listed.1.1 in
+        omega (arith, h, once)
 
-few_ins : (p : Plan) (v : Numbers) (bits : End → ℕ) (nets : End → Nets) (e : End) → ins_at e (elements In v bits nets (port_ends (ports_of p))) ≤ 1
-few_ins p v bits nets e =
-    subst (λ (n : ℕ). n ≤ 1) (sym (ins_as_outs e v bits nets (port_ends (ports_of p))).0) (few_outs p v bits nets e)
+    shown : ℕ
+    shown = count_of out e (elements (pulse_of out) v bits nets (port_ends (ports_of p)))
+
+    by_pulse : (b : Bool) → occurs e (port_ends (ports_of p)) ≤ 1 → shown ≡ occurs e (port_ends (ports_of p)) * (if b then 1 else 0) → shown ≤ 1
+    by_pulse true once is = omega (arith, once, is)
+    by_pulse false once is = omega (arith, is)
 
 pub outs_are_apart : (keep : Keep) (p : Plan) (root : List ℕ) (v : Numbers) → IsSound p → AreDifferent (root ∷ map (λ (x : Imported). x.name) p.imports)
     → EndsDiffer p (outputs (laid keep p root) v)
 outs_are_apart keep p root v sound differ =
     outs_differ p (outputs (laid keep p root) v)
-    (λ e. subst (λ (l : List Element). outs_at e l ≤ 1) (sym (outs_are keep p root v sound differ)) (few_outs p v (bits_out_at p) (shows p) e))
+    (λ e. subst (λ (l : List Element). outs_at e l ≤ 1) (sym (outs_are keep p root v sound differ)) (few_shown true p v (bits_out_at p) (shows p) e))
 
 pub ins_are_apart : (keep : Keep) (p : Plan) (root : List ℕ) (v : Numbers) → IsSound p → AreDifferent (root ∷ map (λ (x : Imported). x.name) p.imports)
     → EndsDiffer p (inputs (laid keep p root) v)
 ins_are_apart keep p root v sound differ =
     ins_differ p (inputs (laid keep p root) v)
-    (λ e. subst (λ (l : List Element). ins_at e l ≤ 1) (sym (ins_are keep p root v sound differ)) (few_ins p v (bits_in_at p) (leaves keep p) e))
+    (λ e. subst (λ (l : List Element). ins_at e l ≤ 1) (sym (ins_are keep p root v sound differ)) (few_shown false p v (bits_in_at p) (leaves keep p) e))
 
 -- an answer at an import has no number without its pulse
 quiet_answer : (name : List ℕ) (s h : ℕ) (t : Type') (c : Contact) (ins : Numbers) → IsGround t → HasWidths t

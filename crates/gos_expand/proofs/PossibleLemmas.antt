@@ -1,7 +1,7 @@
 -- The outputs of a cycle are possible and orderly, its inputs are possible, and so are firings by tokens that lie there: these
 -- are orderly to their end, or an initial part of them is possible and out of order.
 use Rattle.std.specs.Prelude.{Option, None, ◌&&◌}
-use Rattle.std.proofs.Common.{◌≡◌, inl, inr, ◌⊎◌, ℕ, zero, suc, ◌+◌, ◌^◌, ◌≤◌, ◌<◌, Bool, true, false, List, [], ◌∷◌, ◌++◌, Some, slice_get, length, refl, sym, ◌∙◌, ap, subst, arith, nat_eq, append_assoc, if◌then◌else◌}
+use Rattle.std.proofs.Common.{◌≡◌, inl, inr, ◌⊎◌, ℕ, zero, suc, ◌+◌, ◌*◌, ◌^◌, ◌≤◌, ◌<◌, Bool, true, false, List, [], ◌∷◌, ◌++◌, Some, slice_get, length, refl, sym, ◌∙◌, ap, subst, arith, nat_eq, append_assoc, if◌then◌else◌}
 use Rattle.gos_types.specs.declared.shakes.Role.{Role}
 use Rattle.gos_types.specs.declared.shakes.Role.TheVariants.{Serve, Ask}
 use Rattle.gos_netlist.specs.Nets.{Netlist}
@@ -22,12 +22,12 @@ use Rattle.gos_expand.specs.Blocks.{Nets}
 use Rattle.gos_expand.specs.Starts.{Keep, ports_of, port_ends, bits_taken}
 use Rattle.gos_expand.specs.Facts.{Places, number_by, target, elements, bits_put, bits_out_at, bits_in_at, shown_elements, given_elements, occurs, PlanFacts}
 use Rattle.gos_plan.specs.Accounts.{number, outs_at, taken_at, slot_at}
-use Rattle.gos_expand.proofs.TallyLemmas.{times-append, firings-append, itself}
+use Rattle.gos_expand.proofs.TallyLemmas.{times-append, itself}
 use Rattle.gos_expand.proofs.ChainLemmas.{orderly-append, never_whole, runs-append, welcome_after, takes-append}
 use Rattle.gos_expand.proofs.StandingLemmas.{Led, Now, values, lies_at}
 use Rattle.gos_expand.proofs.DueLemmas.{still_there, Due, due_at_port}
 use Rattle.gos_expand.proofs.ScheduleLemmas.{fires-append, firings_joined, EachFiring}
-use Rattle.gos_expand.proofs.PulseLemmas.{elements-append, occurs-append, no_firings_out, no_firings_in, no_values_out}
+use Rattle.gos_expand.proofs.PulseLemmas.{elements-append, occurs-append, each_element, no_values, flag, shown_alone}
 
 -- a token less leaves none that waits in vain
 fewer_at : (p : Plan) (t : Tokens) (way : Direction) (f : Option End) → AllWelcome p t → AllWelcome p (with_held way f None t)
@@ -50,16 +50,8 @@ taken_port xs way (PartEnd i h) port = absurd port
 taken_port xs way (ImportEnd i h) port = refl
 taken_port xs way (ResultEnd h) port = refl
 
-pub no_out_before : (e : End) (v : Numbers) (bits : End → ℕ) (nets : End → Nets) (ds : List End) → occurs e ds ≡ 0 → outs_at e (elements Out v bits nets ds) ≡ 0
-no_out_before e v bits nets [] h = refl
-no_out_before e v bits nets (d ∷ ds) h = by_tests (nat_eq (at v (nets d).pulse) 1) (same_end d e) refl h (no_out_before e v bits nets ds)
-  where
-    by_tests : (b x : Bool) → same_end d e ≡ x → (if x then suc (occurs e ds) else occurs e ds) ≡ 0
-        → (occurs e ds ≡ 0 → outs_at e (elements Out v bits nets ds) ≡ 0)
-        → outs_at e (if b then Out d (number_by v (bits d) (nets d)) ∷ elements Out v bits nets ds else elements Out v bits nets ds) ≡ 0
-    by_tests b true t h go = absurd (omega (arith, h))
-    by_tests true false t h go = rw t (go h)
-    by_tests false false t h go = go h
+none_shown : (e : End) (v : Numbers) (bits : End → ℕ) (nets : End → Nets) (es : List End) → occurs e es ≡ 0 → outs_at e (elements Out v bits nets es) ≡ 0
+none_shown e v bits nets es none = shown_alone true e v bits nets es ∙ (ap (λ (m : ℕ). m * flag v (nets e)) none ∙ grind arith)
 
 -- an output that is shown, after the outputs of other ends
 out_step : (keep : Keep) (p : Plan) (net : Netlist) (n : Places) (v regs after : Numbers) (o u : Open) (s t : Tokens) (xs : List Element) (e : End) (c : Contact)
@@ -129,8 +121,8 @@ outs_go keep p net n v regs after o u s t before (e ∷ es) now all list =
     by_test true h go =
         let pulse : at v (n.shows e).pulse ≡ 1 = grind (arith, h) in
         let step =
-        out_step keep p net n v regs after o u s t (shown_of p n v before) e is.contact now list (λ i. no_values_out p i (values p n v i) v (bits_out_at p) n.shows before s)
-        is.port is.there pulse (no_out_before e v (bits_out_at p) n.shows before is.new) in
+        out_step keep p net n v regs after o u s t (shown_of p n v before) e is.contact now list (λ i. no_values true p i (values p n v i) v (bits_out_at p) n.shows before s)
+        is.port is.there pulse (none_shown e v (bits_out_at p) n.shows before is.new) in
         let rest = go step.0 step.1 (more step.0 step.1 (rw h step.2)) in (
           rest.0,
           rest.1,
@@ -190,10 +182,10 @@ listing-append p n v fs gs =
 
 pub firings_listed : (p : Plan) (n : Places) (v : Numbers) (i : ℕ) (fs : List PartFiring) → firings_of i (listing p n v fs) ≡ firings_of i (fires_of fs)
 firings_listed p n v i fs =
-    firings-append i (shown_elements p n v) (given_elements p n v ++ fires_of fs)
-    ∙ (ap (λ (l : List Slot). l ++ firings_of i (given_elements p n v ++ fires_of fs)) (no_firings_out i v (bits_out_at p) n.shows (port_ends (ports_of p)))
-    ∙ (firings-append i (given_elements p n v) (fires_of fs)
-    ∙ ap (λ (l : List Slot). l ++ firings_of i (fires_of fs)) (no_firings_in i v (bits_in_at p) n.leaves (port_ends (ports_of p)))))
+    each_element (λ (xs : List Element). firings_of i (xs ++ (given_elements p n v ++ fires_of fs)) ≡ firings_of i (fires_of fs))
+    Out v (bits_out_at p) n.shows (port_ends (ports_of p))
+    (each_element (λ (xs : List Element). firings_of i (xs ++ fires_of fs) ≡ firings_of i (fires_of fs))
+    In v (bits_in_at p) n.leaves (port_ends (ports_of p)) refl (λ d x xs h. h)) (λ d x xs h. h)
 
 pub slot_taken : (role : Role) (h : ℕ) → slot_at (way_taken role) h ≡ slot_in role h
 slot_taken Serve h = refl

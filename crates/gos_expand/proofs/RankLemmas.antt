@@ -3,7 +3,8 @@
 --
 -- Read first: CauseLemmas. By induction over the ranks: all that passes on to an end has lower ranks.
 use Rattle.std.specs.Prelude.{◌&&◌, nat_lt}
-use Rattle.std.proofs.Common.{◌≡◌, inl, inr, ◌⊎◌, ℕ, zero, suc, ◌≤◌, ◌<◌, Bool, true, false, not, List, [], ◌∷◌, ◌++◌, Some, slice_get, length, refl, sym, ◌∙◌, ap, subst, arith, nat_eq, if◌then◌else◌}
+use Rattle.std.proofs.Common.{◌≡◌, inl, inr, ◌⊎◌, ℕ, zero, suc, ◌≤◌, ◌<◌, Bool, true, false, not, List, [], ◌++◌, Some, slice_get, length, refl, sym, ◌∙◌, ap, subst, arith, nat_eq, if◌then◌else◌}
+use Rattle.std.proofs.lemmas.List.{append-nil}
 use Rattle.std.proofs.lemmas.Option.{slice_get_within}
 use Rattle.gos_netlist.specs.Nets.{Netlist}
 use Rattle.gos_netlist.specs.Settling.{Numbers, at}
@@ -24,7 +25,7 @@ use Rattle.gos_expand.proofs.ChainLemmas.{orderly-append, never_whole, runs-appe
 use Rattle.gos_expand.proofs.StandingLemmas.{led_on, Now, values}
 use Rattle.gos_expand.proofs.DueLemmas.{pulse_shape}
 use Rattle.gos_expand.proofs.ScheduleLemmas.{Choice, chosen_from, is_early, at_rank, below_rank, are_late, early_below, top, with_pulse, early_made, made_firings, firings_chosen, firings_pulsed, with_pulse-append, below_top, pulsed_once, EachFiring, each_chosen, each_with_pulse}
-use Rattle.gos_expand.proofs.PulseLemmas.{no_values_out, no_values_in}
+use Rattle.gos_expand.proofs.PulseLemmas.{no_values}
 use Rattle.gos_expand.proofs.PossibleLemmas.{outs_go, ins_go, listing, listing-append, Ready, Went, Failed, firings_end}
 use Rattle.gos_expand.proofs.CauseLemmas.{ComesIn, AllComeIn, own_contact, end_contact, Below, Arrived, arrival}
 
@@ -220,12 +221,8 @@ no_rank keep p net n rank v regs after o s now = by_inputs (lists_are_decided p 
     ins : (w : Tokens) × Runs p (given_elements p n v) outs.1 w
     ins = ins_go keep p net n v regs after o s outs.1 [] (port_ends (ports_of p)) now refl
 
-    nil_right : (xs : List Element) → xs ++ [] ≡ xs
-    nil_right [] = refl
-    nil_right (x ∷ xs) = ap (λ (l : List Element). x ∷ l) (nil_right xs)
-
     without : listing p n v [] ≡ shown_elements p n v ++ given_elements p n v
-    without = ap (λ (l : List Element). shown_elements p n v ++ l) (nil_right (given_elements p n v))
+    without = ap (λ (l : List Element). shown_elements p n v ++ l) (append-nil (given_elements p n v))
 
     none_below : (x : Bool) (m : ℕ) → (x && nat_lt m 0) ≡ true → ⊥
     none_below true m e = grind (arith, e)
@@ -245,9 +242,9 @@ no_rank keep p net n rank v regs after o s now = by_inputs (lists_are_decided p 
           takes = λ i.
               subst (λ (l : List Element). TakesValues p i (values p n v i) l s) (sym without)
               (takes-append p i (values p n v i) (shown_elements p n v) (given_elements p n v) s outs.1
-              (no_values_out p i (values p n v i) v (bits_out_at p) n.shows (port_ends (ports_of p)) s)
+              (no_values true p i (values p n v i) v (bits_out_at p) n.shows (port_ends (ports_of p)) s)
               (orderly_is_possible p (shown_elements p n v) o outs.0 s outs.1 outs.2)
-              (no_values_in p i (values p n v i) v (bits_in_at p) n.leaves (port_ends (ports_of p)) outs.1));
+              (no_values false p i (values p n v i) v (bits_in_at p) n.leaves (port_ends (ports_of p)) outs.1));
           comes = λ i h k c is there chosen. absurd (none_below (is_early k h) (rank (PartEnd i h)) chosen);
         })
     by_inputs (inr fails) =

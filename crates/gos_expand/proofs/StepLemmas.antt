@@ -26,7 +26,8 @@ pub use Rattle.gos_expand.proofs.StandingLemmas.{Ends, ends_of}
 use Rattle.gos_expand.proofs.DueLemmas.{value_shape, pulse_shape, nothing_at_port, sum_taken_port, shown_port}
 use Rattle.gos_expand.proofs.ScheduleLemmas.{made_firings, slot_count}
 use Rattle.gos_expand.proofs.PossibleLemmas.{listing, firings_listed, taken_port, slot_taken}
-use Rattle.gos_expand.proofs.EventLemmas.{flag, number_if, outs_listed, flag_is, number_is}
+use Rattle.gos_expand.proofs.EventLemmas.{outs_listed, flag_is, number_is}
+use Rattle.gos_expand.proofs.PulseLemmas.{flag, number_if}
 use Rattle.gos_expand.proofs.CauseLemmas.{own_contact, part_there, pulses_small, leaving_shows, Shown, shown_by_port}
 use Rattle.gos_expand.proofs.MadeLemmas.{PartStep, part_step}
 use Rattle.gos_expand.proofs.RankLemmas.{Whole}
