@@ -22,9 +22,10 @@ use Rattle.gos_realises.specs.Realises.{AllGround}
 use Rattle.gos_realises.proofs.RingLemmas.{after}
 use Rattle.gos_realises.proofs.ToldLemmas.{there_is}
 use Rattle.gos_realises.proofs.InputLemmas.{import_serves, one_ground}
-use Rattle.gos_parallel.proofs.ProtocolLemmas.{InTurn}
+use Rattle.gos_windows.proofs.KeepingLemmas.{InTurn}
 use Rattle.gos_parallel.proofs.StepLemmas.{gate, Same, Local, fires, puts_out, takes_in}
 use Rattle.gos_parallel.proofs.LinkedLemmas.{Comes, first_comes, past_all}
+use Rattle.gos_windows.proofs.AskedLemmas.{done_contact}
 use Rattle.gos_blocks.specs.Block.{Block, IsBlock}
 use Rattle.gos_blocks.proofs.RegionLemmas as region
 use Rattle.gos_blocks.proofs.StepLemmas.{Step, of_body, asked, told, starts, read, write, ended, lost, step}
@@ -136,10 +137,10 @@ module _ (r : Plan) (b : Block) (is : IsBlock r b) (literals : All LiteralFits r
 
   -- the ways of the results, and of the variable
   pub way_asked : way_in (contact_at r (ResultEnd 0)) ≡ Request
-  way_asked = ap way_in (region.done_contact r.outcome is.done)
+  way_asked = ap way_in (done_contact r.outcome is.done)
 
   pub way_told : way_out (contact_at r (ResultEnd 0)) ≡ Answer
-  way_told = ap way_out (region.done_contact r.outcome is.done)
+  way_told = ap way_out (done_contact r.outcome is.done)
 
   pub body_asked : way_in (contact_at b.body (ResultEnd 0)) ≡ Request
   body_asked = ap way_in (region.result_there r b is)

@@ -25,11 +25,12 @@ use Rattle.gos_contexts.specs.Plugged.{AreInner}
 use Rattle.gos_contexts.specs.Widening.{Knows}
 use Rattle.gos_contexts.proofs.PlacedLemmas.{same_true}
 use Rattle.gos_contexts.proofs.WideningLemmas.{sources_known, runs_known}
-use Rattle.gos_parallel.proofs.ProtocolLemmas.{InTurn}
+use Rattle.gos_windows.proofs.KeepingLemmas.{InTurn}
 use Rattle.gos_parallel.proofs.StepLemmas.{gate, Same, Local, fires, puts_out, takes_in}
 use Rattle.gos_parallel.proofs.LinkedLemmas.{Comes, first_comes, past_all}
 use Rattle.gos_parallel.proofs.QuietLemmas.{Neat, neat_step}
 use Rattle.gos_parallel.proofs.MoveLemmas.{AllTaken, inner_from, request_begins, answer_ends}
+use Rattle.gos_windows.proofs.AskedLemmas.{done_contact}
 use Rattle.gos_blocks.specs.Block.{Block, IsBlock}
 use Rattle.gos_blocks.proofs.DriverLemmas.{begin_row, end_row}
 use Rattle.gos_blocks.proofs.RegionLemmas as region
@@ -92,7 +93,7 @@ module _
       (s.state b.own).number inner c i (knows i.term i.store (subst (Came on_body) i.own_is came))
       (agrees.0 (body_quiet r b is literals s quiet active))
   whole_waits s inner c (is_done v last x rest none some inner_is is_last answers) quiet agrees came =
-      let contact : contact_at r (ResultEnd 0) ≡ Some (asks 0 (bits r.outcome)) = region.done_contact r.outcome is.done in
+      let contact : contact_at r (ResultEnd 0) ≡ Some (asks 0 (bits r.outcome)) = done_contact r.outcome is.done in
       let next = with_token r (ResultEnd 0) Answer None s in
       absurd (quiet.1 (ResultEnd 0) v next (
         tt,

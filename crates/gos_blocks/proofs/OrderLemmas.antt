@@ -11,12 +11,11 @@ use Rattle.gos_plan.specs.Kinds as kinds
 use Rattle.gos_plan.specs.Kinds.{Part, Contact, asks, serves, part_contacts}
 use Rattle.gos_plan.specs.Firing.{Phase, Rest, Active, State, Slot, Req, Ans, Row, at, row_for, rows}
 use Rattle.gos_plan.specs.Plans.{End, PartEnd, ImportEnd, ResultEnd, Plan, contact_at, contacts_of_part, same_end}
-use Rattle.gos_plan.specs.Tokens.{Tokens, Element, Fire, Out, In, places_of, held_at, token_at, with_token, with_state, end_of, shake_of, way_of, way_taken, way_put, firing_of, Passes, Does, IsIdle}
+use Rattle.gos_plan.specs.Tokens.{Tokens, Element, Fire, Out, In, held_at, token_at, with_token, with_state, end_of, shake_of, way_of, way_taken, way_put, firing_of, Passes, Does, IsIdle}
 use Rattle.gos_plan.specs.Orderly.{Open, named_by, handshake_at, none_open, with_open, after_taken, after_put, ComesWell, ComesInOrder, AllWelcome, OrderlyFrom}
 use Rattle.gos_plan.specs.TokenBits.{LiteralFits}
 use Rattle.gos_plan.proofs.JointLemmas.{same_itself}
 use Rattle.gos_plan.proofs.HeldLemmas as held
-use Rattle.gos_plan.proofs.HeldLemmas.{nothing_there}
 use Rattle.gos_plan.proofs.DecidedLemmas.{one_state}
 use Rattle.gos_plan.proofs.ProjectionLemmas.{named}
 use Rattle.gos_sessions.specs.Sessions as sessions
@@ -28,6 +27,8 @@ use Rattle.gos_windows.proofs.TurnLemmas.{import_result}
 use Rattle.gos_parallel.proofs.StepLemmas.{gate, Same, Local, fires, puts_out, takes_in, Sees, Unseen}
 use Rattle.gos_parallel.proofs.LinkedLemmas.{Comes}
 use Rattle.gos_parallel.proofs.OpenLemmas.{opened_so, not_same, comes_by}
+use Rattle.gos_parallel.proofs.OrderLemmas.{lies_open}
+use Rattle.gos_windows.proofs.AskedLemmas.{done_contact}
 use Rattle.gos_blocks.specs.Block.{Block, IsBlock}
 use Rattle.gos_blocks.proofs.DriverLemmas.{begin_row, read_row, write_row, end_row}
 use Rattle.gos_blocks.proofs.RegionLemmas as region
@@ -72,21 +73,6 @@ module _ (r : Plan) (b : Block) (is : IsBlock r b) (literals : All LiteralFits r
 
   run_name : handshake_at r (PartEnd b.own 3) ≡ ResultEnd 0
   run_name = ap (λ o. named_by o (PartEnd b.own 3)) (gate_at_part r b is)
-
-  -- a token that lies at an end under its own name
-  lies_open : (e : End) (o : Open) (s : Tokens) (v : ℕ) → handshake_at r e ≡ e → held.AllFit o s → token_at r s e Answer ≡ Some v → o e ≡ true
-  lies_open e o s v name fit lies = by_place (places_of r e) refl
-    where
-      fits_open : (t : Bool) (a : Option ℕ) → held.Fits t a (Some v) → t ≡ true
-      fits_open true a h = refl
-      fits_open false a h = let bad : Some v ≡ None = h.1 in absurd (cc bad)
-
-      by_place : (x : Option End) → places_of r e ≡ x → o e ≡ true
-      by_place None none = absurd (nothing_there r e Answer v s lies none)
-      by_place (Some a) at =
-          let same : a ≡ e = ap (λ x. named_by x e) (sym at) ∙ name in
-          let here : s.in_place Answer e ≡ Some v = ap (s.in_place Answer) (sym same) ∙ (sym (ap (held_at s Answer) at) ∙ lies) in
-          fits_open (o e) (s.in_place Request e) (subst (λ (x : Option ℕ). held.Fits (o e) (s.in_place Request e) x) here (fit e))
 
   -- the rows of the part
   pub local_firing : (slot : Slot) (row : Row) (ph : Phase) (s : Tokens) → (s.state b.own).phase ≡ ph
@@ -150,7 +136,7 @@ module _ (r : Plan) (b : Block) (is : IsBlock r b) (literals : All LiteralFits r
       (begin_row, local_firing (Req 3) begin_row Rest s rest refl)
   welcome_part s o past own driven ready waits fit (Req (suc (suc (suc (suc n))))) c v there way lies = absurd (none-some c there)
   welcome_part s o past own driven ready waits fit (Ans zero) c v there way lies =
-      let active = is_active (s.state b.own).phase (sym waits ∙ lies_open (PartEnd b.own 0) o s v own_name fit lies) in
+      let active = is_active (s.state b.own).phase (sym waits ∙ lies_open r (PartEnd b.own 0) o s v own_name fit lies) in
       (end_row (s.state b.own).number, local_firing (Ans 0) (end_row (s.state b.own).number) Active s active refl)
   welcome_part s o past own driven ready waits fit (Ans (suc zero)) c v there way lies =
       let bad : Request ≡ Answer = ap (λ (x : Contact). way_taken x.role) (same_Some (serves 0 b.width) c there) ∙ way in absurd (cc bad)
@@ -394,7 +380,7 @@ module _ (r : Plan) (b : Block) (is : IsBlock r b) (literals : All LiteralFits r
     order_step x s w (asked v s' t' small unseen state ask ans) seen_so does driven comes opened welcome list =
         at_result (In (ResultEnd 0) v) s' t' true does unseen state opened welcome list (sym (ap is_request (way_asked r b is literals)))
         (λ c there.
-        let same : asks 0 (sessions.bits r.outcome) ≡ c = same_Some (asks 0 (sessions.bits r.outcome)) c (sym (region.done_contact r.outcome is.done) ∙ there) in
+        let same : asks 0 (sessions.bits r.outcome) ≡ c = same_Some (asks 0 (sessions.bits r.outcome)) c (sym (done_contact r.outcome is.done) ∙ there) in
         subst (λ (y : Contact). ComesWell r (ResultEnd 0) (way_put y.role) o s' × (with_open (ResultEnd 0) true o ≡ after_put r (ResultEnd 0) (way_put y.role) o)) same (
           ap o result_name ∙ (opened.result ∙ asked_turn r b is literals past comes),
           ap (λ (n : End). with_open n true o) (sym result_name),
@@ -402,7 +388,7 @@ module _ (r : Plan) (b : Block) (is : IsBlock r b) (literals : All LiteralFits r
     order_step x s w (told v s' t' unseen state ans none ask) seen_so does driven comes opened welcome list =
         at_result (Out (ResultEnd 0) v) s' t' false does unseen state opened welcome list (sym (ap is_request (way_told r b is literals)))
         (λ c there.
-        let same : asks 0 (sessions.bits r.outcome) ≡ c = same_Some (asks 0 (sessions.bits r.outcome)) c (sym (region.done_contact r.outcome is.done) ∙ there) in
+        let same : asks 0 (sessions.bits r.outcome) ≡ c = same_Some (asks 0 (sessions.bits r.outcome)) c (sym (done_contact r.outcome is.done) ∙ there) in
         subst (λ (y : Contact). with_open (ResultEnd 0) false o ≡ after_taken r (ResultEnd 0) (way_taken y.role) o) same
         (ap (λ (n : End). with_open n false o) (sym result_name)))
     order_step x s w (starts v s' t' sees rest ask active none ans) seen_so does driven comes opened welcome list =
@@ -418,17 +404,6 @@ module _ (r : Plan) (b : Block) (is : IsBlock r b) (literals : All LiteralFits r
         finishes v s' t' does sees active rest driven opened list
     order_step x s w (lost j k v s' t' c there none unseen same) seen_so does driven comes opened welcome list =
         absurd seen_so
-
-  idle_token : (a : Plan) (s : Tokens) (e : End) (way : Direction) (v : ℕ) → IsIdle a s → token_at a s e way ≡ Some v → ⊥
-  idle_token a s e way v rests lies = by_place (places_of a e) refl
-    where
-      by_place : (o : Option End) → places_of a e ≡ o → ⊥
-      by_place None none = nothing_there a e way v s lies none
-      by_place (Some n) at =
-          let clash : None ≡ Some v = sym (rests.0 way n) ∙ (sym (ap (held_at s way) at) ∙ lies) in cc clash
-
-  pub idle_welcome : (a : Plan) (s : Tokens) → IsIdle a s → AllWelcome a s
-  idle_welcome a s rests i t c v there way lies = absurd (idle_token a s (end_of i t) (way_of t) v rests lies)
 
   pub opened_first : (s : Tokens) → IsIdle r s → Opened [] none_open none_open s
   opened_first s rests =

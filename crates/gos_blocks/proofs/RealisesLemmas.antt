@@ -17,7 +17,7 @@ use Rattle.gos_realises.specs.Regular.{IsRegular}
 use Rattle.gos_realises.specs.Matched.{all_shown, IsMatched, program_of, RealisesDone}
 use Rattle.gos_realises.specs.Realises.{AllGround, NamesDiffer, Suits, Means}
 use Rattle.gos_realises.proofs.InputLemmas.{protocol_keeps_turns, matching_suffices}
-use Rattle.gos_parallel.proofs.ProtocolLemmas.{turns_in_turn, in_turn_keeps}
+use Rattle.gos_windows.proofs.KeepingLemmas.{turns_in_turn, in_turn_keeps}
 use Rattle.gos_parallel.proofs.QuietLemmas.{neat_first}
 use Rattle.gos_blocks.specs.Block.{Block, IsBlock, BlockRealises}
 use Rattle.gos_blocks.proofs.RegionLemmas.{body_done}

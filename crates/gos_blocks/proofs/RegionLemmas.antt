@@ -5,7 +5,7 @@
 use Rattle.std.specs.Prelude.{◌≡◌, ◌≢◌, ◌⊎◌, ℕ, zero, suc, Bool, true, false, Option, Some, None, nat_eq, slice_get}
 use Rattle.std.proofs.Common.{arith, refl, sym, ap, subst, inl, inr, ◌∙◌}
 use Rattle.std.proofs.lemmas.Option.{none-some}
-use Rattle.gos_types.specs.Types.{Type', Com, Exp, Var, Pair, Fun, IsDone}
+use Rattle.gos_types.specs.Types.{Type', IsDone}
 use Rattle.gos_netlist.specs.Events.{Direction, Request, Answer}
 use Rattle.gos_model.specs.Typing.{Imported}
 use Rattle.gos_plan.specs.Kinds as kinds
@@ -22,6 +22,7 @@ use Rattle.gos_webs.proofs.CutLemmas.{name_by, Owns, port_own, port_lies, one_en
 use Rattle.gos_realises.proofs.InputLemmas.{result_asks}
 use Rattle.gos_webs.specs.Webs.{joint}
 use Rattle.gos_parallel.specs.Parallel.{IsJointOf}
+use Rattle.gos_windows.proofs.AskedLemmas.{done_contact}
 use Rattle.gos_blocks.specs.Block.{Block, IsBlock}
 
 -- the end of the body at which the part asks, and those at which it serves
@@ -47,14 +48,6 @@ which b i = by_test (nat_eq i b.place) refl
     by_test : (t : Bool) → nat_eq i b.place ≡ t → Which b i
     by_test true e = variable (grind (arith, e))
     by_test false e = other (λ same. let clash : true ≡ false = grind (arith, e, same) in cc clash)
-
--- the handshake of a command or an expression
-pub done_contact : (t : Type') → IsDone t → turned_if (slice_get (contacts_of t) 0) ≡ Some (asks 0 (bits t))
-done_contact Com done = refl
-done_contact (Exp w) done = refl
-done_contact (Var w) done = absurd done
-done_contact (Pair a c) done = absurd done
-done_contact (Fun a c) done = absurd done
 
 module _ (r : Plan) (b : Block) (is : IsBlock r b) where
   pub body_done : IsDone b.body.outcome

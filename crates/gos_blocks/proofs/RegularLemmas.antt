@@ -16,12 +16,12 @@ use Rattle.gos_plan.proofs.TokenBitsLemmas.{idle_fits}
 use Rattle.gos_webs.specs.Cutting.{cut_tokens}
 use Rattle.gos_webs.proofs.IdleLemmas.{idle_is_cut}
 use Rattle.gos_realises.specs.Regular.{Pass, pass, way_in, is_open, ComesInTurn, KeepsTurns, InputsKeepTurns, OutputsKeepTurns, IsRegular}
-use Rattle.gos_realises.proofs.InputLemmas.{passed}
+use Rattle.gos_realises.proofs.InputLemmas.{passed, InputTurns, first_turn, later_turns}
+use Rattle.gos_realises.proofs.IdleLemmas.{idle_welcome}
 use Rattle.gos_realises.proofs.RingLemmas.{after, OutputTurns}
 use Rattle.gos_windows.specs.Nodes.{IsRestful}
 use Rattle.gos_windows.proofs.RestLemmas.{closed_rests}
 use Rattle.gos_windows.proofs.OpenLemmas.{ground_heard}
-use Rattle.gos_windows.proofs.NodeLemmas.{InTurn, first_turn, turns_after}
 use Rattle.gos_windows.proofs.ClosingLemmas.{Ports, ports_after}
 use Rattle.gos_windows.proofs.MeetLemmas.{Meets, IsUnjoined, HasPorts, heard_meets}
 use Rattle.gos_windows.proofs.TurnLemmas.{Turned, closed_turned, open_before}
@@ -37,7 +37,7 @@ use Rattle.gos_blocks.proofs.StepLemmas.{Step, of_body, asked, told, starts, rea
 use Rattle.gos_blocks.proofs.LinkedLemmas.{runs_body, Stage, when_told, Driven, seen, seen_runs, fits_on, driven_step, driven_first}
 use Rattle.gos_blocks.proofs.SharedLemmas.{body_ports, Shared, shared_first, shared_pass, whole_turned, shared_step, body_input, seen_inputs}
 use Rattle.gos_blocks.proofs.OutputLemmas.{output_turn}
-use Rattle.gos_blocks.proofs.OrderLemmas.{Opened, welcome_all, peel, Next, order_step, idle_welcome, opened_first}
+use Rattle.gos_blocks.proofs.OrderLemmas.{Opened, welcome_all, peel, Next, order_step, opened_first}
 use Rattle.gos_blocks.proofs.QuietLemmas.{whole_idle}
 use Rattle.gos_blocks.proofs.LooseLemmas.{opened_loose}
 
@@ -116,7 +116,7 @@ module _
             grow b.body regular (Inside first) (Inside w) u (hs ++ ys) (Out e v ∷ []) own_now body_idle history (u, one, refl) tt in
             further.outputs
 
-    seen_step : (z : Step r b x s w) → IsSeen r b x s w z → InTurn r past x → After x s w past o
+    seen_step : (z : Step r b x s w) → IsSeen r b x s w z → InputTurns r past x → After x s w past o
     seen_step z seen_so turn =
         finish ys next (driven_step r b is literals x s w z past own holds.driven comes_in) (shared_step r b is ports literals x s w z seen_so past own holds.shared) one.open_now
         one.own_now one.comes one.opened one.rest.0 one.welcome
@@ -227,7 +227,7 @@ module _
         let (i, meets, leads) = holds.shared.only k m up in
         by_which m which i meets leads
 
-  next_of : (x : Element) (s w : Tokens) (past : List Pass) (hs : List Element) (o lo : Open) → Holds s past hs o lo → Does r x s w → InTurn r past x → Step r b x s w
+  next_of : (x : Element) (s w : Tokens) (past : List Pass) (hs : List Element) (o lo : Open) → Holds s past hs o lo → Does r x s w → InputTurns r past x → Step r b x s w
       → After x s w past o
   next_of x s w past hs o lo holds does turn (lost j k v s' w' c there none unseen same) = lost_step j k v s' w' past hs o lo holds does turn c there none unseen same
   next_of x s w past hs o lo holds does turn (of_body x' y s' w' local sees same) = seen_step x' s' w' past hs o lo holds does (of_body x' y s' w' local sees same) tt turn
@@ -249,7 +249,7 @@ module _
   along [] s t past hs o lo holds runs turns = ((o, s, (refl, refl)), tt)
   along (x ∷ xs) s t past hs o lo holds (w, does, runs) turns =
       let one = next_of x s w past hs o lo holds does (first_turn r past x xs turns) (step r b is literals x s w holds.fit does) in
-      let ((u, z, rest), outputs) = along xs w t (after r x past) one.hs one.now one.lo one.holds runs (turns_after r past x xs turns) in
+      let ((u, z, rest), outputs) = along xs w t (after r x past) one.hs one.now one.lo one.holds runs (later_turns r past x xs turns) in
       ((u, z, (one.now, w, does, one.comes, one.welcome, rest)), outputs_before r past x xs one.output outputs)
 
   holds_first : Holds first [] [] none_open none_open
@@ -258,7 +258,7 @@ module _
         driven = driven_first r b is literals first rests;
         shared = shared_first r b is ports;
         body =
-            at_first b.body (Inside first) (closed_turned b.body (body_done r b is) [] (λ k h. refl)) (idle_welcome r b is literals b.body (Inside first) body_idle);
+            at_first b.body (Inside first) (closed_turned b.body (body_done r b is) [] (λ k h. refl)) (idle_welcome b.body (Inside first) body_idle);
         opened = opened_first r b is literals first rests;
         fit = idle_fits r first rests;
         open_ports = λ e port up. absurd (cc up);
@@ -290,7 +290,7 @@ module _
       }
   reach (y ∷ ys) x s t past hs o lo holds neat (w, does, runs) turns =
       let one = next_of y s w past hs o lo holds does (first_turn r past y (ys ++ x ∷ []) turns) (step r b is literals y s w holds.fit does) in
-      reach ys x w t (after r y past) one.hs one.now one.lo one.holds (neat_step r y s w does neat) runs (turns_after r past y (ys ++ x ∷ []) turns)
+      reach ys x w t (after r y past) one.hs one.now one.lo one.holds (neat_step r y s w does neat) runs (later_turns r past y (ys ++ x ∷ []) turns)
 
   -- the answer leads to rest
   local_apart : (x y : Element) (v : ℕ) → Local b.cut r b.body x y → x ≡ Out (ResultEnd 0) v → ⊥

@@ -18,7 +18,7 @@ use Rattle.gos_realises.proofs.RingLemmas.{after}
 use Rattle.gos_windows.specs.OpenNodes.{IsHeard}
 use Rattle.gos_windows.proofs.PortLemmas.{stands_place, place_stands}
 use Rattle.gos_windows.proofs.MeetLemmas.{Meets, met_joined, HasPorts, AreFollowed, met_at, met_contact, met_contacts, met_import, followed_pass, alike}
-use Rattle.gos_windows.proofs.NodeLemmas.{InTurn}
+use Rattle.gos_realises.proofs.InputLemmas.{InputTurns}
 use Rattle.gos_windows.proofs.TurnLemmas.{Turned, closed_turned, import_kept, imports_turned, open_before, comes_so, import_result, region_turned}
 use Rattle.gos_parallel.proofs.StepLemmas.{gate, Local, fires, puts_out, takes_in}
 use Rattle.gos_parallel.proofs.LinkedLemmas.{past_all}
@@ -215,13 +215,13 @@ module _ (r : Plan) (b : Block) (is : IsBlock r b) (ports : HasPorts r b.cut b.b
         same_shared past (pass (ResultEnd 0) (way_out (contact_at b.body (ResultEnd 0))) ∷ own) past own shared (λ k h. refl) (λ k h. refl)
     shared_step x s t (lost j k v s' t' c there none unseen same) seen_so past own shared = absurd seen_so
 
-    local_inputs : (x y : Element) (past own : List Pass) → Local b.cut r b.body x y → Shared past own → Turned b.body own → InTurn r past x → InputsKeepTurns b.body own (y ∷ [])
+    local_inputs : (x y : Element) (past own : List Pass) → Local b.cut r b.body x y → Shared past own → Turned b.body own → InputTurns r past x → InputsKeepTurns b.body own (y ∷ [])
     local_inputs x y past own (fires i j k number) shared kept turn = tt
     local_inputs x y past own (puts_out i j k v stands leads slices) shared kept turn = tt
     local_inputs x y past own (takes_in i j k v stands leads slices) shared kept turn =
         (body_input past own shared kept i k j (met_joined r b.cut b.body i k j stands leads) leads turn, tt)
 
-    pub seen_inputs : (x : Element) (s t : Tokens) (z : Step r b x s t) (past own : List Pass) → Driven b past own s → Shared past own → Turned b.body own → InTurn r past x
+    pub seen_inputs : (x : Element) (s t : Tokens) (z : Step r b x s t) (past own : List Pass) → Driven b past own s → Shared past own → Turned b.body own → InputTurns r past x
         → InputsKeepTurns b.body own (seen r b is literals x s t z)
     seen_inputs x s t (of_body x' y s' t' local sees same) past own driven shared kept turn = local_inputs x' y past own local shared kept turn
     seen_inputs x s t (asked v s' t' small unseen state ask ans) past own driven shared kept turn = tt

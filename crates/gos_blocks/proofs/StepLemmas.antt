@@ -2,15 +2,15 @@
 --
 -- The last result is `step`: each element that is possible is of one of eight sorts (`Step`), and of each it is said what the body
 -- and the part make of it.
-use Rattle.std.specs.Prelude.{◌≡◌, ◌⊎◌, ◌&&◌, ◌<◌, ℕ, suc, Bool, true, false, List, [], ◌∷◌, ◌++◌, Option, Some, None, All, nat_eq, slice_get, if◌then◌else◌}
+use Rattle.std.specs.Prelude.{◌≡◌, ◌⊎◌, ◌<◌, ℕ, suc, Bool, true, false, List, [], ◌∷◌, ◌++◌, Option, Some, None, All, nat_eq, slice_get, if◌then◌else◌}
 use Rattle.std.proofs.Common.{arith, refl, sym, ap, subst, inl, inr, ◌∙◌}
 use Rattle.gos_netlist.specs.Events.{Direction, Request, Answer}
 use Rattle.gos_plan.specs.Kinds.{Part, Contact, asks}
 use Rattle.gos_plan.specs.Firing.{Phase, Rest, Active, State, Slot, Req, Ans, Token, Row, at}
-use Rattle.gos_plan.specs.Plans.{End, PartEnd, ImportEnd, ResultEnd, Joint, Plan, contact_at, same_end, stands_in}
-use Rattle.gos_plan.specs.Tokens.{Tokens, Element, Fire, Out, In, places_of, same_way, held_at, with_held, token_at, with_token, with_state, with_puts, end_of, way_of, firing_of, fired, way_taken, Passes, Does, Runs}
+use Rattle.gos_plan.specs.Plans.{End, PartEnd, ImportEnd, ResultEnd, Plan, contact_at}
+use Rattle.gos_plan.specs.Tokens.{Tokens, Element, Fire, Out, In, places_of, held_at, with_held, token_at, with_token, with_state, with_puts, end_of, way_of, firing_of, fired, way_taken, Passes, Does, Runs}
 use Rattle.gos_plan.specs.TokenBits.{LiteralFits, AllFit}
-use Rattle.gos_plan.proofs.JointLemmas.{contained, found, one_joint, same_is, stands_there}
+use Rattle.gos_plan.proofs.JointLemmas.{contained, found}
 use Rattle.gos_plan.proofs.HeldLemmas.{nothing_there}
 use Rattle.gos_plan.proofs.TurnLemmas.{token_state, fired_state, nat_eq_self}
 use Rattle.gos_sessions.specs.Sessions.{bits}
@@ -20,7 +20,8 @@ use Rattle.gos_webs.proofs.MovedLemmas.{listed}
 use Rattle.gos_webs.proofs.CutLemmas.{Owns, token_lost, part_there, fire_cut, stands_own, which_end, first_stands, last_stands, element_is_cut}
 use Rattle.gos_realises.proofs.InputLemmas.{result_asks}
 use Rattle.gos_parallel.specs.Parallel.{IsJointOf, IsPartOf}
-use Rattle.gos_parallel.proofs.StepLemmas.{gate, Local, fires, puts_out, takes_in, passes_out, passes_in, Unseen, Sees, Same}
+use Rattle.gos_parallel.proofs.StepLemmas.{gate, result_gate, part_gate, gate_elsewhere, Local, fires, puts_out, takes_in, passes_out, passes_in, Unseen, Sees, Same}
+use Rattle.gos_windows.proofs.AskedLemmas.{done_contact}
 use Rattle.gos_blocks.specs.Block.{Block, IsBlock}
 use Rattle.gos_blocks.proofs.DriverLemmas.{begin_row, read_row, write_row, end_row, LocalRow, begins, reads, writes, ends, local_row}
 use Rattle.gos_blocks.proofs.RegionLemmas as region
@@ -68,41 +69,16 @@ abbrev pub Differ : ℕ → ℕ → Type 0
 Differ k n = k ≡ n → ⊥
 
 module _ (r : Plan) (b : Block) (is : IsBlock r b) where
-  -- the joint of the result
-  abbrev pub run_joint : Joint
-  run_joint = joint (ResultEnd 0) (PartEnd b.own 3)
-
+  -- what lies at the result's gate
   pub gate_at_result : places_of r (ResultEnd 0) ≡ Some (ResultEnd 0)
-  gate_at_result = stands_there r run_joint (ResultEnd 0) is.cut.whole_right (contained r.joints run_joint is.run) (first_stands run_joint)
+  gate_at_result = result_gate r b.own 3 is.cut.whole_right is.run
 
   pub gate_at_part : places_of r (PartEnd b.own 3) ≡ Some (ResultEnd 0)
-  gate_at_part = stands_there r run_joint (PartEnd b.own 3) is.cut.whole_right (contained r.joints run_joint is.run) (last_stands run_joint)
-
-  place_apart : (w t : Bool) (held old : Option ℕ) → t ≡ false → (if w && t then held else old) ≡ old
-  place_apart true t held old e = ap (λ (b : Bool). if b then held else old) e
-  place_apart false t held old e = refl
+  gate_at_part = part_gate r b.own 3 is.cut.whole_right is.run
 
   pub gate_kept : (e : End) → (e ≡ ResultEnd 0 → ⊥) → (e ≡ PartEnd b.own 3 → ⊥) → (w : Direction) (held : Option ℕ) (s : Tokens) (way : Direction)
       → gate (with_token r e w held s) way ≡ gate s way
-  gate_kept e not_result not_part w held s way = there (places_of r e) refl
-    where
-      never : (a : End) → places_of r e ≡ Some a → ResultEnd 0 ≡ a → ⊥
-      never a named at =
-          let there = found r.joints e a named in
-          let asks_there : stands_in (ResultEnd 0) there.joint ≡ true =
-          subst (λ (x : End). stands_in x there.joint ≡ true) (there.named ∙ sym at) (first_stands there.joint) in
-          let one : there.joint ≡ run_joint =
-          one_joint r [] r.joints there.joint run_joint (ResultEnd 0) is.cut.whole_right there.is_in (contained r.joints run_joint is.run) asks_there
-          (first_stands run_joint) in
-          elim (which_end e run_joint (subst (λ (j : Joint). stands_in e j ≡ true) one there.stands)) [ inl at_result ↦ not_result at_result | inr at_part ↦ not_part at_part ]
-
-      differs : (a : End) → places_of r e ≡ Some a → (t : Bool) → same_end (ResultEnd 0) a ≡ t → t ≡ false
-      differs a named true t = absurd (never a named (same_is (ResultEnd 0) a t))
-      differs a named false t = refl
-
-      there : (o : Option End) → places_of r e ≡ o → gate (with_held w o held s) way ≡ gate s way
-      there None named = refl
-      there (Some a) named = place_apart (same_way way w) (same_end (ResultEnd 0) a) held (gate s way) (differs a named (same_end (ResultEnd 0) a) refl)
+  gate_kept = gate_elsewhere r b.own 3 is.cut.whole_right is.run
 
   pub gate_apart : (k : ℕ) → (k ≡ 3 → ⊥) → (w : Direction) (held : Option ℕ) (s : Tokens) (way : Direction)
       → gate (with_token r (PartEnd b.own k) w held s) way ≡ gate s way
@@ -271,7 +247,7 @@ module _ (r : Plan) (b : Block) (is : IsBlock r b) where
 
   -- what passes the result
   result_contact : contact_at r (ResultEnd 0) ≡ Some (asks 0 (bits r.outcome))
-  result_contact = region.done_contact r.outcome is.done
+  result_contact = done_contact r.outcome is.done
 
   there_contact : (x : Element) (o : Option Contact) (s t : Tokens) → Passes r x o s t → (c : Contact) × (o ≡ Some c)
   there_contact x None s t h = absurd h

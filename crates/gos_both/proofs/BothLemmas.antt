@@ -6,7 +6,7 @@ use Rattle.gos_plan.specs.Plans.{End, PartEnd, ImportEnd, ResultEnd, Joint, Plan
 use Rattle.gos_plan.specs.Tokens.{Tokens, Element, Fire, Out, In, Does, Runs, IsIdle}
 use Rattle.gos_plan.specs.Orderly.{Open, none_open, ComesInOrder, AllWelcome, OrderlyFrom}
 use Rattle.gos_realises.specs.Regular.{Pass, is_open, count, InputsKeepTurns, OutputsKeepTurns, IsRegular}
-use Rattle.gos_realises.proofs.InputLemmas.{passed}
+use Rattle.gos_realises.proofs.InputLemmas.{passed, InputTurns, first_turn, later_turns}
 use Rattle.gos_realises.proofs.RingLemmas.{after}
 use Rattle.gos_webs.specs.Webs.{joint}
 use Rattle.gos_webs.specs.Cutting.{lies_at, StandsIn}
@@ -14,7 +14,6 @@ use Rattle.gos_webs.proofs.CutLemmas.{which_end, first_stands, last_stands}
 use Rattle.gos_turns.specs.Rests.{Rests}
 use Rattle.gos_turns.proofs.RestLemmas.{passes_are}
 use Rattle.gos_windows.proofs.ClosingLemmas.{Ports, ports_after}
-use Rattle.gos_windows.proofs.NodeLemmas.{InTurn, first_turn, turns_after}
 use Rattle.gos_windows.proofs.PortLemmas.{stands_contact}
 use Rattle.gos_both.specs.Both.{Side, IsSide, IsOfSide, IsBoth, BothIsRegular}
 use Rattle.gos_both.proofs.PlaceLemmas.{IsPartOf, IsLaid, result_low}
@@ -49,7 +48,7 @@ of_side r n g is m j stands (p, q, in_joints, first, last) =
 -- From one side to another, where that one doesn't go on itself.
 cross : (r : Plan) (n m : ℕ) (g e : Side) (is : IsLaid r n g) (also : IsLaid r m e) → Rests g.plan
     → ((k : ℕ) → k < count r.outcome → ((h : ℕ) → h < count g.plan.outcome → n + h ≡ k → ⊥) → ((h : ℕ) → h < count e.plan.outcome → m + h ≡ k → ⊥) → ⊥)
-    → (s t : Tokens) (past : List Pass) (o : Open) (x : Element) → Going r n g is s past o → Ports r is.side.region.whole_right o past → Does r x s t → InTurn r past x
+    → (s t : Tokens) (past : List Pass) (o : Open) (x : Element) → Going r n g is s past o → Ports r is.side.region.whole_right o past → Does r x s t → InputTurns r past x
     → Next r n g is s t past o x ⊎ Next r m e also s t past o x
 cross r n m g e is also side_rests cover s t past o x going ports does turn = of_step (step r n g is s past o going ports t x does turn)
   where
@@ -60,7 +59,7 @@ cross r n m g e is also side_rests cover s t past o x going ports does turn = of
         rest : IsIdle r s × ((e : End) → is_open past e ≡ false) × ((y : End) → o y ≡ false)
         rest =
             all_rests r n g is s past o going ports side_rests
-            (beside_closed r n g is s past o going ports b beside (subst (λ (y : Element). InTurn r past y) same turn))
+            (beside_closed r n g is s past o going ports b beside (subst (λ (y : Element). InputTurns r past y) same turn))
 
         begun : Going r m e also s past o
         begun = begins r m e also s past o rest.0 rest.1 rest.2
@@ -158,7 +157,7 @@ module _ (a b : Type') (r : Plan) (g e : Side) (both : IsBoth a b r g e) (first_
   second_next : (s t : Tokens) (past : List Pass) (o : Open) (x : Element) → Next r (count a) e laid_second s t past o x → After s t past o x
   second_next s t past o x next = record { now = next.now; comes = next.comes; welcome = next.welcome; out = next.out; runs = inr next.going }
 
-  one_step : (s t : Tokens) (past : List Pass) (o : Open) (x : Element) → Runs' s past o → Ports r (right a b r g e both) o past → Does r x s t → InTurn r past x → After s t past o x
+  one_step : (s t : Tokens) (past : List Pass) (o : Open) (x : Element) → Runs' s past o → Ports r (right a b r g e both) o past → Does r x s t → InputTurns r past x → After s t past o x
   one_step s t past o x (inl going) ports does turn =
       elim (cross r 0 (count a) g e laid_first laid_second first_rests (cover a b r g e both) s t past o x going ports does turn) [
         | inl next ↦ first_next s t past o x next
@@ -184,7 +183,7 @@ module _ (a b : Type') (r : Plan) (g e : Side) (both : IsBoth a b r g e) (first_
   along (x ∷ xs) s t past o runs ports (w, does, more) turns =
       let next = one_step s w past o x runs ports does (first_turn r past x xs turns) in
       let rest =
-      along xs w t (after r x past) next.now next.runs (ports_after r (right a b r g e both) x o next.now s w past does next.comes ports) more (turns_after r past x xs turns) in
+      along xs w t (after r x past) next.now next.runs (ports_after r (right a b r g e both) x o next.now s w past does next.comes ports) more (later_turns r past x xs turns) in
       record {
         end = rest.end;
         orderly = (next.now, w, does, next.comes, next.welcome, rest.orderly);

@@ -15,7 +15,7 @@ use Rattle.gos_plan.proofs.JointLemmas.{one_joint, contained}
 use Rattle.gos_realises.specs.Regular.{Pass, count, InputsKeepTurns}
 use Rattle.gos_realises.specs.Wirings.{side}
 use Rattle.gos_realises.specs.Realises.{NamesDiffer}
-use Rattle.gos_realises.proofs.InputLemmas.{passed}
+use Rattle.gos_realises.proofs.InputLemmas.{passed, InputTurns, first_turn, later_turns}
 use Rattle.gos_realises.proofs.RingLemmas.{after}
 use Rattle.gos_webs.specs.Webs.{joint}
 use Rattle.gos_webs.specs.Cutting.{Cut, lies_at, IsInside, IsOutside, StandsIn, asks_in}
@@ -23,7 +23,6 @@ use Rattle.gos_webs.proofs.MovedLemmas.{listed}
 use Rattle.gos_webs.proofs.CutLemmas.{Owns, which_end, stands_by, stands_own, first_stands, last_stands, Asked, asks_one}
 use Rattle.gos_windows.specs.Regions.{IsOther, IsRegion}
 use Rattle.gos_windows.proofs.ClosingLemmas.{Ports, ports_after}
-use Rattle.gos_windows.proofs.NodeLemmas.{InTurn, first_turn, turns_after}
 use Rattle.gos_windows.proofs.PortLemmas.{stands_contact, one_place}
 use Rattle.gos_turns.proofs.TypeLemmas.{told_same}
 use Rattle.gos_cores.specs.Core.{Core, core_end, IsCore, IsStill}
@@ -254,7 +253,7 @@ module _ (r : Plan) (g : Side) (is : IsLaid r 0 g) (whole : r.outcome ≡ g.plan
     going : Going r 0 g is t past now
 
   one_step : (s t : Tokens) (past : List Pass) (o : Open) (x : Element) → Going r 0 g is s past o → Ports r is.side.region.whole_right o past → Does r x s t
-      → InTurn r past x → Next r 0 g is s t past o x
+      → InputTurns r past x → Next r 0 g is s t past o x
   one_step s t past o x going ports does turn = of_step (step r 0 g is s past o going ports t x does turn)
     where
       of_step : Next r 0 g is s t past o x ⊎ AsksBeside r 0 g is s past o going ports x → Next r 0 g is s t past o x
@@ -267,7 +266,7 @@ module _ (r : Plan) (g : Side) (is : IsLaid r 0 g) (whole : r.outcome ≡ g.plan
   along (x ∷ xs) s t past o going ports (w, does, more) turns =
       let next = one_step s w past o x going ports does (first_turn r past x xs turns) in
       along xs w t (after r x past) next.now next.going
-      (ports_after r is.side.region.whole_right x o next.now s w past does next.comes ports) more (turns_after r past x xs turns)
+      (ports_after r is.side.region.whole_right x o next.now s w past does next.comes ports) more (later_turns r past x xs turns)
 
   stays : (s t : Tokens) (xs : List Element) → IsIdle r s → Runs r xs s t → InputsKeepTurns r [] xs → InSide r 0 g is t
   stays s t xs idle runs turns =

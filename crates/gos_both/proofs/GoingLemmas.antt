@@ -8,14 +8,13 @@ use Rattle.gos_plan.specs.Tokens.{Tokens, Element, Fire, Out, In, IsPortEnd, way
 use Rattle.gos_plan.specs.Orderly.{Open, none_open, ComesInOrder, AllWelcome, OrderlyFrom, IsOrderly}
 use Rattle.gos_plan.proofs.JointLemmas.{same_itself}
 use Rattle.gos_realises.specs.Regular.{Pass, pass, way_in, way_out, is_open, count, ComesInTurn, KeepsTurns, InputsKeepTurns}
-use Rattle.gos_realises.proofs.InputLemmas.{passed, passed_then, inputs_then, outputs_last, runs_then}
+use Rattle.gos_realises.proofs.InputLemmas.{passed, InputTurns, last_order, passed_then, inputs_then, outputs_last, runs_then}
 use Rattle.gos_realises.proofs.RingLemmas.{after}
 use Rattle.gos_pace.proofs.HoldLemmas.{orderly_append}
 use Rattle.gos_renumbered.proofs.TurnLemmas.{of_result}
 use Rattle.gos_webs.specs.Cutting.{lies_at, StandsIn}
 use Rattle.gos_turns.proofs.RestLemmas.{passes_are}
 use Rattle.gos_windows.proofs.ClosingLemmas.{Ports, open_idle_is_closed, ports_along}
-use Rattle.gos_windows.proofs.NodeLemmas.{InTurn}
 use Rattle.gos_windows.proofs.TurnLemmas.{Turned}
 use Rattle.gos_turns.specs.Rests.{Rests}
 use Rattle.gos_both.specs.Both.{Side}
@@ -23,7 +22,6 @@ use Rattle.gos_both.proofs.PlaceLemmas.{IsLaid, at, at_port, Port, same_contact,
 use Rattle.gos_both.proofs.StirLemmas.{seen, InSide, Ran, fires_in, Puts, out_in, Takes, in_in, idle_whole, idle_seen}
 use Rattle.gos_both.proofs.TurnLemmas.{Follows, each_of, none_turned, result_port, follows_pass, follows_none, side_turned, whole_turned, comes_as, goes_as, all_shut, IsBeside, where_in}
 use Rattle.gos_windows.proofs.OpensLemmas.{IsThere}
-use Rattle.gos_windows.proofs.OrderLemmas.{last_order}
 use Rattle.gos_both.proofs.OrderLemmas.{Never, placed, Stands, Opens, side_order, side_welcome}
 
 -- an output of the element keeps turns
@@ -218,7 +216,7 @@ module _ (r : Plan) (n : ℕ) (g : Side) (is : IsLaid r n g) where
     abbrev pub AsksBeside : Element → Type 0
     AsksBeside x = (b : End) × (v : ℕ) × (x ≡ In b v) × IsBeside r n g is own_past past going.follows b
 
-    pub step : (t : Tokens) (x : Element) → Does r x s t → InTurn r past x → Next s t past o x ⊎ AsksBeside x
+    pub step : (t : Tokens) (x : Element) → Does r x s t → InputTurns r past x → Next s t past o x ⊎ AsksBeside x
     step t (Fire i slot) does turn = inl (fires t i slot does)
     step t (Out b v) does turn = inl (puts t b v does)
     step t (In b v) does turn =

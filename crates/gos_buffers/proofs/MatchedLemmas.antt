@@ -42,7 +42,8 @@ use Rattle.gos_sharing.proofs.SeenQuietLemmas.{quiet_here}
 use Rattle.gos_buffers.specs.Buffers.{IsBuffer, BufferedRealises}
 use Rattle.gos_buffers.proofs.BranchLemmas.{Branch, one_of_two, contact_of, caller_shake, source_shake, stands, for_one, share_leaves, fire_leaves, out_leaves, in_leaves, branch_step, works_for_one}
 use Rattle.gos_buffers.proofs.GroundLemmas.{OfCaller, ground_serves}
-use Rattle.gos_buffers.proofs.RegularLemmas.{same_number, outside_share, same_state, same_row, beside_first, idle_welcomes, orderly_from_idle}
+use Rattle.gos_buffers.proofs.RegularLemmas.{same_number, outside_share, same_state, same_row, beside_first, orderly_from_idle}
+use Rattle.gos_realises.proofs.IdleLemmas.{idle_welcome}
 
 -- nothing lies where there is no joint
 abbrev pub Nowhere : Plan → Tokens → Type 0
@@ -406,7 +407,7 @@ carried_first i t c r q s idle =
       branch = beside.branch;
       rests = beside.rests;
       nowhere = λ way e out. idle.0 way e;
-      welcome = idle_welcomes r s idle;
+      welcome = idle_welcome r s idle;
     }
 
 pub buffered_realises : BufferedRealises

@@ -14,11 +14,11 @@ use Rattle.gos_plan.proofs.HeldLemmas.{takes_of}
 use Rattle.gos_plan.proofs.RowLemmas.{role_taking}
 use Rattle.gos_plan.proofs.AskingLemmas.{RoleIs, RowInRole, row_roles}
 use Rattle.gos_plan.proofs.DecidedLemmas.{one_state, one_open}
+use Rattle.gos_realises.proofs.IdleLemmas.{idle_welcome}
 use Rattle.gos_realises.specs.Regular.{Pass, pass, way_in, way_out, is_open, KeepsTurnsOf, whole_type, whole_end, ComesInTurn, KeepsTurns, InputsKeepTurns, OutputsKeepTurns}
 use Rattle.gos_sharing.specs.Sharing.{IsSeenThrough, seen_tokens, without}
 use Rattle.gos_sharing.proofs.SeenIdleLemmas.{idle_is_seen}
 use Rattle.gos_sharing.proofs.SeenFireLemmas.{contact_seen, port_outside, state_filled}
-use Rattle.gos_sharing.proofs.SeenKeptLemmas.{not_both_so}
 use Rattle.gos_sharing.proofs.SeenElementLemmas.{takes_so, one_contact}
 use Rattle.gos_sharing.proofs.SeenRunLemmas.{nothing_held, runs_are_seen}
 use Rattle.gos_buffers.specs.Buffers.{IsBuffer, BufferedIsRegular}
@@ -323,16 +323,12 @@ beside_first i t c r q s idle =
       asking = λ e up. absurd (cc up);
     }
 
-pub idle_welcomes : (q : Plan) (s : Tokens) → IsIdle q s → AllWelcome q s
-idle_welcomes q s idle k slot d v there way lies =
-    absurd (not_both_so v (token_at q s (end_of k slot) (way_of slot)) (nothing_held s (way_of slot) (places_of q (end_of k slot)) (λ a. idle.0 (way_of slot) a)) lies)
-
 -- from an idle state
 pub orderly_from_idle : (i : ℕ) (t : Type') (c : ℕ) (r q : Plan) → IsBuffer i t c r q → (xs : List Element) (may : List Element → Type 0) (s w : Tokens)
     → MayBegin may → Orders q may none_open (seen_tokens i t c r q s) → IsIdle r s → Runs r xs s w → may (without i xs) → IsOrderly r xs s
 orderly_from_idle i t c r q is xs may s w begins orders idle runs comes =
     orderly_too i t c r q is xs may none_open none_open s w begins orders (beside_first i t c r q s idle)
-    (idle_welcomes q (seen_tokens i t c r q s) (idle_is_seen i t c r q s idle)) runs comes
+    (idle_welcome q (seen_tokens i t c r q s) (idle_is_seen i t c r q s idle)) runs comes
 
 -- turns
 turns_begin : (q : Plan) (past : List Pass) (xs ys : List Element) → InputsKeepTurns q past (xs ++ ys) → InputsKeepTurns q past xs

@@ -23,10 +23,12 @@ use Rattle.gos_uses.specs.Realised.{ApplicationIsRealised}
 use Rattle.gos_frames.specs.Frames as frames
 use Rattle.gos_numbers.specs.Kept.{IsKept}
 use Rattle.gos_numbers.specs.Inherited.{own_numbers, first_numbers, BothAreKept, BothAreParted}
-use Rattle.gos_grounds.proofs.WiredLemmas.{names_differ, typed_there}
+use Rattle.gos_frames.proofs.PartedLemmas.{first_among, second_among}
+use Rattle.gos_wired.proofs.NameLemmas.{names_differ}
+use Rattle.gos_grounds.proofs.WiredLemmas.{typed_there}
 use Rattle.gos_calls.specs.Cases.{ApplicationCase, ApplicationIsRegular}
 use Rattle.gos_calls.proofs.TypeLemmas.{has_leaves, type_is}
-use Rattle.gos_calls.proofs.KeptLemmas.{can_be_wired, regular_of, first_among, second_among, are_parted, are_apart, literals_renumbered, literals_front, literals_behind}
+use Rattle.gos_calls.proofs.KeptLemmas.{can_be_wired, regular_of, are_parted, are_apart, literals_renumbered, literals_front, literals_behind}
 
 -- what is said of children, and of joining them
 pub record Laws : Type 0 where

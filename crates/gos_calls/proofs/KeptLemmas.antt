@@ -17,6 +17,7 @@ use Rattle.gos_wired.specs.NodeFitting.{IsLinear, AreOfTypes, WiredNodeFits, Fit
 use Rattle.gos_uses.specs.Uses.{CanBeWired, Stands, AreParted, AreApart}
 use Rattle.gos_uses.proofs.PermuteLemmas.{front, behind}
 use Rattle.gos_frames.specs.Frames as frames
+use Rattle.gos_frames.proofs.PartedLemmas.{first_among, second_among}
 use Rattle.gos_numbers.specs.Kept.{IsKept}
 use Rattle.gos_wired.specs.Regular.{AreRegular}
 
@@ -42,12 +43,6 @@ regular_of types env ns are n has = ((are n has).right, (are n has).outcome)
 
 -- the numbers of a node of two parts are each of one part alone
 module _ (m n : Numbered) (ns ms ks : List ℕ) (is : frames.AreParted m n ns ms ks) where
-  pub first_among : (k : ℕ) → Contains ms k → Contains ns k
-  first_among k has = let some = some_times k ms has in let sum = is.split k in listed_times k ns (omega (arith, some, sum))
-
-  pub second_among : (k : ℕ) → Contains ks k → Contains ns k
-  second_among k has = let some = some_times k ks has in let sum = is.split k in listed_times k ns (omega (arith, some, sum))
-
   of_either : (k : ℕ) → (0 < times k ms) ⊎ (0 < times k ks) → Contains ms k ⊎ Contains ks k
   of_either k (inl h) = inl (listed_times k ms h)
   of_either k (inr h) = inr (listed_times k ks h)
@@ -56,8 +51,8 @@ module _ (m n : Numbered) (ns ms ks : List ℕ) (is : frames.AreParted m n ns ms
   are_parted =
       record {
         either = λ k has. of_either k (either (times k ms) (times k ks) (let some = some_times k ns has in let sum = is.split k in omega (arith, some, sum)));
-        first = first_among;
-        second = second_among;
+        first = first_among m n ns ms ks is;
+        second = second_among m n ns ms ks is;
         apart = λ k one other. (
             let a = some_times k ms one in let b = some_times k ks other in let sum = is.split k in let once = is.once k in omega (arith, a, b, sum, once));
       }

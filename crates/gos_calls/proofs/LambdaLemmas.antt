@@ -1,16 +1,14 @@
 -- A function's node realises its term: with an argument its plan is the body's, and its use unfolds to the body with the argument in it.
-use Rattle.std.specs.Prelude.{◌≡◌, ◌≢◌, ℕ, suc, ◌<◌, Bool, true, false, List, [], ◌∷◌, ◌++◌, All, Contains, nat_eq, nat_lt, if◌then◌else◌}
-use Rattle.std.proofs.Common.{refl, sym, ◌∙◌, ap, subst, arith, inl}
-use Rattle.std.proofs.lemmas.Bool.Decides.{nat_tests}
+use Rattle.std.specs.Prelude.{◌≡◌, ◌≢◌, ℕ, suc, Bool, true, false, List, [], ◌∷◌, ◌++◌, All, Contains, nat_eq, if◌then◌else◌}
+use Rattle.std.proofs.Common.{refl, sym, ap, subst, arith, inl}
 use Rattle.std.proofs.lemmas.List.Elements.{Contains-append_left, Contains-append_right}
-use Rattle.gos_types.specs.Types.{Type', Com, Fun}
-use Rattle.gos_model.specs.Terms.{Term, Lam, App, Skip}
+use Rattle.gos_types.specs.Types.{Type', Fun}
+use Rattle.gos_model.specs.Terms.{Term, Lam, App}
 use Rattle.gos_model.specs.Typing.{Imports, Thing, Named, things, Apart, Typed}
 use Rattle.gos_model.specs.Laws.{OneType}
-use Rattle.gos_model.specs.Substitution.{put_at, instantiate}
-use Rattle.gos_check.specs.Nodes.{Numbered, Under, OfFun, Meaning, below, meaning, type_of_node}
-use Rattle.gos_check.specs.Linearity.{times}
-use Rattle.gos_check.proofs.TimesLemmas.{some_times, listed_times, eq_true, true_eq}
+use Rattle.gos_model.specs.Substitution.{instantiate}
+use Rattle.gos_check.specs.Nodes.{Numbered, Under, OfFun, below, meaning, type_of_node}
+use Rattle.gos_check.proofs.TimesLemmas.{eq_true, true_eq}
 use Rattle.gos_plan.specs.Plans.{Plan}
 use Rattle.gos_plan.specs.TokenBits.{LiteralFits}
 use Rattle.gos_realises.specs.Regular.{IsRegular}
@@ -23,14 +21,13 @@ use Rattle.gos_applied.proofs.TogetherLemmas.{imports_of}
 use Rattle.gos_typing.proofs.WhenceLemmas.{named}
 use Rattle.gos_heads.proofs.HeadLemmas.{use_typed, head_is_realised}
 use Rattle.gos_heads.proofs.TypingLemmas.{typed_more, among_first}
-use Rattle.gos_meanings.specs.Meanings.{standing, BodyIsInstantiated}
+use Rattle.gos_meanings.specs.Meanings.{BodyIsInstantiated}
 use Rattle.gos_compile.specs.Wiring.{Types}
 use Rattle.gos_wired.specs.Wired.{Supplies, Placing, IsWired, AreRealised, terms_of}
 use Rattle.gos_numbers.specs.Kept.{IsKept}
 use Rattle.gos_numbers.specs.Inherited.{BodyIsKept}
-use Rattle.gos_frames.proofs.NamedLemmas.{before}
 use Rattle.gos_grounds.proofs.WiredLemmas.{imports_are_ground}
-use Rattle.gos_grounds.proofs.AgreeLemmas.{AgreeAt, below_agrees, meaning_agrees}
+use Rattle.gos_grounds.proofs.InstantiatedLemmas.{body_instantiated}
 use Rattle.gos_grounds.specs.Cases.{RealisesWired}
 use Rattle.gos_calls.specs.Bodies.{with_supply, AppliedIsBody}
 use Rattle.gos_calls.specs.Functions.{FunctionCase}
@@ -108,40 +105,14 @@ module _
         by_test false is = is
 
     -- the body with the argument in it is what it means with the argument's supply
-    total : Meaning
-    total k = if nat_lt 0 (times k ns) then (env k).term else Skip
-
-    total_is : AgreeAt ns (terms_of env) total
-    unfolding total
-    total_is k has =
-        let some = some_times k ns has in
-        let test : nat_lt 0 (times k ns) ≡ true = grind (arith, nat_tests, some) in
-        sym (ap (λ (c : Bool). if c then (env k).term else Skip) test)
-
-    total_typed : (k : ℕ) → (u : Type') × Typed q.imports [] (total k) u
-    unfolding total
-    total_typed k = by_test (nat_lt 0 (times k ns)) refl
-      where
-        by_test : (c : Bool) → nat_lt 0 (times k ns) ≡ c → (u : Type') × Typed q.imports [] (if c then (env k).term else Skip) u
-        by_test true is =
-            let some : 0 < times k ns = grind (arith, nat_tests, is) in
-            let has = listed_times k ns some in
-            (types k, subst (λ (z : Supply). Typed q.imports [] z.term (types k)) (inner_there k (not_it k has)) (typed_at k (Contains-append_left ns (n ∷ []) k has)))
-        by_test false is = (Com, refl)
-
-    standing_is : AgreeAt numbers (standing n s.term total) (terms_of inner)
-    standing_is k has = by_test (nat_eq k n) refl
-      where
-        by_test : (c : Bool) → nat_eq k n ≡ c → (if c then s.term else total k) ≡ (if c then s else env k).term
-        by_test true is = refl
-        by_test false is = sym (total_is k (before ns n k is has))
+    outer_typed : (k : ℕ) → Contains ns k → Typed q.imports [] (env k).term (types k)
+    outer_typed k has =
+        subst (λ (z : Supply). Typed q.imports [] z.term (types k)) (inner_there k (not_it k has)) (typed_at k (Contains-append_left ns (n ∷ []) k has))
 
     instantiated : instantiate body_term s.term ≡ meaning (terms_of inner) m
     instantiated =
-        ap (put_at 0 s.term)
-        (meaning_agrees m numbers (below n (terms_of env)) (below n total) kept_body.scope (below_agrees n ns (terms_of env) total total_is))
-        ∙ (laws.instantiated q.imports total n m s.term a (has_leaves types m kept_body.typed) argument_typed total_typed
-        ∙ meaning_agrees m numbers (standing n s.term total) (terms_of inner) kept_body.scope standing_is)
+        body_instantiated types ns n env inner s inner_here inner_there q.imports outer_typed laws.instantiated m a (has_leaves types m kept_body.typed)
+        kept_body.scope argument_typed
 
     -- and it has its type
     nothing_shared : Apart body_term s.term

@@ -30,22 +30,13 @@ use Rattle.gos_applied.proofs.SeamLemmas.{listed, listed_at, listed_length, appl
 use Rattle.gos_applied.proofs.TogetherLemmas.{imports_of}
 use Rattle.gos_turns.specs.Names.{IsNamePlan}
 use Rattle.gos_turns.proofs.TypeLemmas.{sides}
-use Rattle.gos_turns.proofs.TrailLemmas.{turned_twice}
+use Rattle.gos_turns.proofs.OpenedLemmas.{twice_turned, turned_side}
 use Rattle.gos_turns.proofs.NameLemmas.{unturned}
 use Rattle.gos_woven.proofs.CrossingLemmas.{still}
 use Rattle.gos_uses.proofs.SupplyLemmas.{inside, tied_at}
 use Rattle.gos_uses.proofs.SideLemmas.{its_part, its_import}
 use Rattle.gos_uses.proofs.PermuteLemmas.{front, behind}
 use Rattle.gos_uses.proofs.ApplyWebLemmas.{below, not_below, in_links, of_links}
-
-twice_turned : (o : Option Contact) → turned_if (turned_if o) ≡ o
-twice_turned None = refl
-twice_turned (Some c) = ap Some (turned_twice c)
-
-turned_side : (cs : List Contact) (h : ℕ) → slice_get (other_side cs) h ≡ turned_if (slice_get cs h)
-turned_side [] h = refl
-turned_side (c ∷ cs) zero = refl
-turned_side (c ∷ cs) (suc h) = turned_side cs h
 
 none_there : (X : Type 0) (x : X) → Contains [] x → ⊥
 none_there X x (k, small, e) = omega (arith, small)

@@ -24,7 +24,8 @@ use Rattle.gos_uses.specs.Realised.{FirstIsRealised, SecondIsRealised, DerefIsRe
 use Rattle.gos_leaves.specs.Readings.{ReadingIsRegular}
 use Rattle.gos_numbers.specs.Kept.{IsKept}
 use Rattle.gos_numbers.specs.Inherited.{PartIsKept}
-use Rattle.gos_grounds.proofs.WiredLemmas.{names_differ, typed_there}
+use Rattle.gos_wired.proofs.NameLemmas.{names_differ}
+use Rattle.gos_grounds.proofs.WiredLemmas.{typed_there}
 use Rattle.gos_grounds.specs.Cases.{RealisesWired}
 use Rattle.gos_calls.specs.Cases.{FirstCase, SecondCase, DerefCase, FirstIsRegular, SecondIsRegular, DerefIsRegular}
 use Rattle.gos_calls.proofs.TypeLemmas.{has_leaves, type_is}

@@ -2,9 +2,9 @@
 use Rattle.std.specs.Prelude.{List, [], ◌∷◌, ◌++◌}
 use Rattle.std.proofs.Common.{◌≡◌, refl, sym, ◌∙◌, ap, subst}
 use Rattle.gos_plan.specs.Plans.{Plan}
-use Rattle.gos_plan.specs.Tokens.{Tokens, Element, Fire, Out, In, Does, Runs, IsIdle}
+use Rattle.gos_plan.specs.Tokens.{Tokens, Element, Does, Runs, IsIdle}
 use Rattle.gos_realises.specs.Regular.{Pass, InputsKeepTurns}
-use Rattle.gos_realises.proofs.InputLemmas.{passed, passed_then, inputs_then, runs_then}
+use Rattle.gos_realises.proofs.InputLemmas.{passed, passed_then, inputs_then, first_turns, later_turns, runs_then}
 use Rattle.gos_realises.proofs.RingLemmas.{after}
 use Rattle.gos_cores.specs.Clear.{AllAlong}
 
@@ -16,16 +16,6 @@ pub along_map : (p : Plan) (Q R : Tokens → Type 0) → ((s : Tokens) → Q s �
 along_map p Q R f [] s along = f s along
 along_map p Q R f (x ∷ xs) s along = (f s along.0, λ w does. along_map p Q R f xs w (along.1 w does))
 
-pub first_input : (p : Plan) (past : List Pass) (x : Element) (xs : List Element) → InputsKeepTurns p past (x ∷ xs) → InputsKeepTurns p past (x ∷ [])
-first_input p past (Fire i t) xs keeps = tt
-first_input p past (Out e v) xs keeps = tt
-first_input p past (In e v) xs keeps = (keeps.0, tt)
-
-pub later_inputs : (p : Plan) (past : List Pass) (x : Element) (xs : List Element) → InputsKeepTurns p past (x ∷ xs) → InputsKeepTurns p (after p x past) xs
-later_inputs p past (Fire i t) xs keeps = keeps
-later_inputs p past (Out e v) xs keeps = keeps
-later_inputs p past (In e v) xs keeps = keeps.1
-
 module _ (p : Plan) (Q : Tokens → Type 0) (always : Always p Q) where
   along_from : (xs done : List Element) (past : List Pass) (first s : Tokens) → IsIdle p first → Runs p done first s → InputsKeepTurns p [] done
       → passed p [] done ≡ past → InputsKeepTurns p past xs → AllAlong p Q xs s
@@ -34,8 +24,8 @@ module _ (p : Plan) (Q : Tokens → Type 0) (always : Always p Q) where
     always first s done idle runs turns,
     λ w does.
         along_from xs (done ++ x ∷ []) (after p x past) first w idle (runs_then p done x first s w runs does)
-        (inputs_then p [] done (x ∷ []) turns (subst (λ (b : List Pass). InputsKeepTurns p b (x ∷ [])) (sym is_past) (first_input p past x xs keeps)))
-        (passed_then p [] done x ∙ ap (after p x) is_past) (later_inputs p past x xs keeps),
+        (inputs_then p [] done (x ∷ []) turns (subst (λ (b : List Pass). InputsKeepTurns p b (x ∷ [])) (sym is_past) (first_turns p past x xs keeps)))
+        (passed_then p [] done x ∙ ap (after p x) is_past) (later_turns p past x xs keeps),
   )
 
   pub all_along : (xs : List Element) (s : Tokens) → IsIdle p s → InputsKeepTurns p [] xs → AllAlong p Q xs s
@@ -63,10 +53,10 @@ module _ (p : Plan) (Q : Tokens → Type 0) (first_so : (s : Tokens) → IsIdle 
   steps [] done past first s t idle before turns is_past keeps along runs = subst Q (sym runs) (along_last p Q done first s along before)
   steps (x ∷ xs) done past first s t idle before turns is_past keeps along (w, does, runs) =
       let more =
-      inputs_then p [] done (x ∷ []) turns (subst (λ (b : List Pass). InputsKeepTurns p b (x ∷ [])) (sym is_past) (first_input p past x xs keeps))
+      inputs_then p [] done (x ∷ []) turns (subst (λ (b : List Pass). InputsKeepTurns p b (x ∷ [])) (sym is_past) (first_turns p past x xs keeps))
       in
       steps xs (done ++ x ∷ []) (after p x past) first w t idle (runs_then p done x first s w before does) more
-      (passed_then p [] done x ∙ ap (after p x) is_past) (later_inputs p past x xs keeps)
+      (passed_then p [] done x ∙ ap (after p x) is_past) (later_turns p past x xs keeps)
       (along_then p Q done x first along (λ y u ran next. step first y u done x idle ran more along next)) runs
 
   pub always_by_step : Always p Q

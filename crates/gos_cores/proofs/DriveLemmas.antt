@@ -15,7 +15,7 @@ use Rattle.gos_plan.specs.Orderly.{Open, none_open}
 use Rattle.gos_plan.proofs.JointLemmas.{same_itself}
 use Rattle.gos_plan.proofs.TokenBitsLemmas.{all_stay_fit, idle_fits}
 use Rattle.gos_realises.specs.Regular.{Pass, pass, way_in, way_out, is_request, is_open, KeepsTurnsOf, ComesInTurn, KeepsTurns, InputsKeepTurns, IsRegular}
-use Rattle.gos_realises.proofs.InputLemmas.{in_there, out_there, runs_then}
+use Rattle.gos_realises.proofs.InputLemmas.{first_turns, later_turns, in_there, out_there, runs_then}
 use Rattle.gos_realises.proofs.RingLemmas.{after}
 use Rattle.gos_buffers.proofs.DrivenLemmas.{IsDriven}
 use Rattle.gos_turns.proofs.StandLemmas.{same_apart}
@@ -23,7 +23,6 @@ use Rattle.gos_turns.proofs.RunLemmas.{Reached, at_first, next}
 use Rattle.gos_turns.proofs.GoesLemmas.{IsTurned, turn_same}
 use Rattle.gos_turns.proofs.WholeLemmas.{first_turned}
 use Rattle.gos_turns.proofs.TurnedLemmas.{imp, res, to_each, in_import, in_result}
-use Rattle.gos_cores.proofs.AlongLemmas.{first_input, later_inputs}
 use Rattle.gos_cores.proofs.DriverLemmas.{IsOther, Agree, and_false, held_state, puts_state, fire_inner, out_import, in_import_too, import_contact, result_agrees, state_other, other_agrees, driver_agrees, driver_token}
 
 -- where one handshake of a variable alone is open turns are kept
@@ -361,8 +360,8 @@ module _ (v f : ℕ) (ds : List Part) (Own : ℕ → End → End → Type 0) (p 
     along [] done first t t' past so idle before runs keeps = (past, subst (Goes past) (sym runs) so)
     along (y ∷ ys) done first t t' past so idle before (z, does, runs) keeps =
         let bits = (all_stay_fit x done first t driven.right literals (idle_fits x first idle) before).0 in
-        along ys (done ++ y ∷ []) first z t' (after x y past) (step past t z y so bits does (first_input x past y ys keeps)) idle
-        (runs_then x done y first t z before does) runs (later_inputs x past y ys keeps)
+        along ys (done ++ y ∷ []) first z t' (after x y past) (step past t z y so bits does (first_turns x past y ys keeps)) idle
+        (runs_then x done y first t z before does) runs (later_turns x past y ys keeps)
 
     pub goes_along : (s t : Tokens) (ys : List Element) → IsIdle x s → Runs x ys s t → InputsKeepTurns x [] ys → (past : List Pass) × Goes past t
     goes_along s t ys idle runs keeps = along ys [] s s t [] (first_goes s idle) idle refl runs keeps

@@ -1,15 +1,14 @@
 -- Each end and each part of a wired fork is a branch's, but for those at which it is run.
 use Rattle.std.specs.Prelude.{◌≢◌, ◌+◌, ◌-◌, ◌<◌, ◌≤◌, ◌⊎◌, length, nat_lt, slice_get, None, Option, Contains}
-use Rattle.std.proofs.Common.{◌≡◌, ℕ, suc, Bool, true, false, List, [], ◌∷◌, ◌++◌, Some, inl, inr, refl, sym, ◌∙◌, ap, subst, arith, if◌then◌else◌}
+use Rattle.std.proofs.Common.{◌≡◌, ℕ, suc, Bool, true, false, List, [], ◌∷◌, Some, inl, inr, refl, sym, ◌∙◌, ap, subst, arith, if◌then◌else◌}
 use Rattle.std.proofs.lemmas.Bool.Decides.{nat_tests}
-use Rattle.std.proofs.lemmas.List.{length-append, length-map}
 use Rattle.std.proofs.lemmas.Option.{slice_get_within}
 use Rattle.gos_types.specs.Types.{Type', Com, Exp, Var, Pair, Fun, IsDone}
 use Rattle.gos_check.specs.declared.linear.Split.{Split}
 use Rattle.gos_check.specs.Nodes.{Numbered}
 use Rattle.gos_check.specs.Linearity.{times}
 use Rattle.gos_check.proofs.TimesLemmas.{some_times}
-use Rattle.gos_plan.specs.Kinds.{Contact, Part, Share, contacts_of, other_side, part_contacts}
+use Rattle.gos_plan.specs.Kinds.{Contact, Part, Share, contacts_of, part_contacts}
 use Rattle.gos_plan.specs.Plans.{End, PartEnd, ImportEnd, ResultEnd, Plan, contacts_of_part, contact_at}
 use Rattle.gos_realises.specs.Regular.{count}
 use Rattle.gos_realises.proofs.CountLemmas.{some_shake}
@@ -26,8 +25,9 @@ use Rattle.gos_stages.specs.Folding.{Child, is_used, lodge, spot_dot, child_back
 use Rattle.gos_stages.specs.Nodes.{Cared, AreCovering}
 use Rattle.gos_stages.proofs.HousingLemmas.{homes_are_there}
 use Rattle.gos_stages.proofs.ServedLemmas.{servings_serve}
-use Rattle.gos_stages.proofs.ChildPartLemmas.{low, no_more_than, plain_source, own_source_back}
-use Rattle.gos_stages.proofs.ContactLemmas.{turned_some, part_there, import_there, shares_length}
+use Rattle.gos_stages.proofs.StepLemmas.{low}
+use Rattle.gos_stages.proofs.ChildPartLemmas.{no_more_than, plain_source, own_source_back}
+use Rattle.gos_stages.proofs.ContactLemmas.{turned_some, part_there, import_there, shares_length, share_contacts}
 use Rattle.gos_stages.proofs.CoverLemmas.{live_is_covered, own_is_covered}
 use Rattle.gos_stages.proofs.SideLemmas.{served_side, AreUsed, AreOld, all_live, all_serve}
 use Rattle.gos_forks.specs.Forks.{Branch, IsFork, AreBranches, BranchIsChild, branch_parts, branch_child}
@@ -44,13 +44,6 @@ one_contact (Exp w) done = refl
 one_contact (Var w) done = absurd done
 one_contact (Pair a b) done = absurd done
 one_contact (Fun a b) done = absurd done
-
-share_contacts : (t : Type') → length (part_contacts (Share t)) ≡ count t + (count t + count t)
-share_contacts t =
-    let all = length-append (other_side (contacts_of t)) (contacts_of t ++ contacts_of t) in
-    let two = length-append (contacts_of t) (contacts_of t) in
-    let turned : length (other_side (contacts_of t)) ≡ length (contacts_of t) = simp length-map refl in
-    omega (arith, all, two, turned)
 
 module _ (f : Form) (types : Types) (i j : ℕ) (m : Numbered) (ss : List Split) (bs : List Branch) (ns : List ℕ) (env : Supplies) (pl : Placing) (r : Plan)
     (es : List Cared) (children : BranchIsChild) (fork : IsFork types m ss (own_part f) bs) (are : AreBranches types ss ns bs)

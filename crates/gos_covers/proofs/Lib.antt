@@ -3,4 +3,5 @@ pub mod EndLemmas
 pub mod PartedLemmas
 pub mod CaredLemmas
 pub mod OwnLemmas
+pub mod SessionLemmas
 mod SmallLemmas

@@ -2,10 +2,10 @@
 use Rattle.std.specs.Prelude.{◌≡◌, ℕ, zero, suc, ◌+◌, List, ◌∷◌, ◌++◌, Option, Some, Contains, length, slice_get}
 use Rattle.std.proofs.Common.{refl, sym, ◌∙◌, ap, subst, arith, inl}
 use Rattle.std.proofs.lemmas.List.Elements.{Contains-append_left, Contains-append_right}
-use Rattle.gos_types.specs.Types.{Type', Com, Exp, Var, Pair, Fun, IsDone}
+use Rattle.gos_types.specs.Types.{Type', IsDone}
 use Rattle.gos_check.specs.declared.linear.Split.{Split}
 use Rattle.gos_check.specs.Nodes.{Numbered, type_of_node}
-use Rattle.gos_plan.specs.Kinds.{asks, serves, Part, contacts_of, part_contacts}
+use Rattle.gos_plan.specs.Kinds.{serves, Part, contacts_of, part_contacts}
 use Rattle.gos_plan.specs.Plans.{PartEnd, ResultEnd, Plan, contacts_of_part, turned_if}
 use Rattle.gos_realises.specs.Regular.{count}
 use Rattle.gos_realises.proofs.CountLemmas.{done_count}
@@ -18,20 +18,14 @@ use Rattle.gos_webs.specs.Webs.{Dot, Of, Within, Tie, tie, Way, here, along, joi
 use Rattle.gos_unions.specs.Unions.{within}
 use Rattle.gos_unions.proofs.UnionLemmas.{in_image}
 use Rattle.gos_unions.proofs.LeftLemmas.{behind}
+use Rattle.gos_windows.proofs.AskedLemmas.{done_contact}
 use Rattle.gos_sessions.specs.Sessions.{Form, Sequence, Choice, Loop, Binary, Complement, bits, own_part, own_type, run_shake}
 use Rattle.gos_compile.specs.Wiring.{Types, row, led, shares, shares_ties, parts_of, ties_of}
 use Rattle.gos_wired.specs.Wired.{Supplies, Source, Own, Placing, IsWired, source_dot, dot_of, dot_ties, all_supply_ties, wired_ties}
 use Rattle.gos_stages.proofs.ContactLemmas.{shares_length}
 use Rattle.gos_forks.specs.Forks.{Branch, IsFork, branch_parts, branch_ties}
 
--- a command or an expression has one handshake, and the own part of a form serves its last
-done_contact : (t : Type') → IsDone t → turned_if (slice_get (contacts_of t) 0) ≡ Some (asks 0 (bits t))
-done_contact Com done = refl
-done_contact (Exp w) done = refl
-done_contact (Var w) done = absurd done
-done_contact (Pair a b) done = absurd done
-done_contact (Fun a b) done = absurd done
-
+-- the own part of a form serves its last handshake
 run_contact : (f : Form) → slice_get (part_contacts (own_part f)) (run_shake (own_part f)) ≡ Some (serves 0 (bits (own_type f)))
 run_contact (Sequence t m n) = refl
 run_contact (Choice t m n p) = refl

@@ -41,6 +41,13 @@ of_three P a b c pa pb pc x (suc zero, small, at) = subst P at pb
 of_three P a b c pa pb pc x (suc (suc zero), small, at) = subst P at pc
 of_three P a b c pa pb pc x (suc (suc (suc k)), small, at) = absurd (omega (arith, small))
 
+-- a part that comes before others, which have their numbers too, and one that has those that are left
+abbrev pub first_branch : List Split → List ℕ → List ℕ → Numbered → Branch
+first_branch ss ns others m = branch m (first_numbers ss ns others)
+
+abbrev pub own_branch : List Split → List ℕ → Numbered → Branch
+own_branch ss ns m = branch m (own_numbers ss ns m)
+
 -- the branches of a node of one, two and three parts
 pub one_branch : (types : Types) (ns : List ℕ) (t : Type') (m : Numbered) → IsPart types [] ns ns m → IsKept types ns (One t [] OfNot m)
     → AreBranches types [] ns (branch m ns ∷ [])
@@ -53,7 +60,7 @@ one_branch types ns t m part is =
 
 module _ (types : Types) (ns : List ℕ) (t : Type') (ss : List Split) where
   pub two_branches : BothAreKept → (f : TwoForm) (m n : Numbered) → IsKept types ns (Two t ss f m n)
-      → AreBranches types ss ns (branch m (first_numbers ss ns (used n)) ∷ branch n (own_numbers ss ns n) ∷ [])
+      → AreBranches types ss ns (first_branch ss ns (used n) m ∷ own_branch ss ns n ∷ [])
   two_branches kept f m n is =
       let (first, second, all) = kept types ns t ss f m n is in
       record {
@@ -76,8 +83,7 @@ module _ (types : Types) (ns : List ℕ) (t : Type') (ss : List Split) where
       ks = own_numbers ss ns n
 
   pub three_branches : ThreeAreKept → (m n p : Numbered) → IsKept types ns (If t ss m n p)
-      → AreBranches types ss ns
-      (branch m (first_numbers ss ns (used n ++ used p)) ∷ branch n (own_numbers ss ns n) ∷ branch p (own_numbers ss ns p) ∷ [])
+      → AreBranches types ss ns (first_branch ss ns (used n ++ used p) m ∷ own_branch ss ns n ∷ own_branch ss ns p ∷ [])
   three_branches kept m n p is =
       let (first, second, third, all) = kept types ns t ss m n p is in
       record {

@@ -1,32 +1,20 @@
 -- What lies where, and which ways follow which.
 use Rattle.std.specs.Prelude.{None, slice_get, Contains}
-use Rattle.std.proofs.Common.{◌≡◌, ℕ, Bool, true, false, List, ◌⊎◌, Option, Some, inl, inr, refl, sym, ◌∙◌, ap, subst}
+use Rattle.std.proofs.Common.{◌≡◌, ℕ, List, ◌⊎◌, Option, Some, inl, inr, refl, sym, ◌∙◌, ap, subst}
 use Rattle.std.proofs.lemmas.Option.{none-some, same_Some}
-use Rattle.gos_types.specs.declared.shakes.Role.{Role}
-use Rattle.gos_types.specs.declared.shakes.Role.TheVariants.{Serve, Ask}
 use Rattle.gos_plan.specs.Kinds.{Part, Contact, asks, serves}
 use Rattle.gos_plan.specs.Plans.{End, PartEnd, ImportEnd, ResultEnd, Plan, contacts_of_part, contact_at}
 use Rattle.gos_webs.specs.Webs.{Dot, Tie, tie, Web, Meet, Way, here, along, Connects, joint}
 use Rattle.gos_webs.specs.Cutting.{lies_at, IsOutside}
 use Rattle.gos_webs.proofs.CutLemmas.{name_by, name_of, outside_name, part_at, port_lies}
+use Rattle.gos_webs.proofs.WebLemmas.{serves_not_asks}
 use Rattle.gos_webs.proofs.WayLemmas.{way_then, way_back, mapped_way}
 use Rattle.gos_windows.specs.Regions.{Serving}
 use Rattle.gos_folds.specs.Folds.{Fold, Follows, IsFolded, IsSpare, IsFold}
 
-abbrev by_role : Role → Bool
-by_role Serve = false
-by_role Ask = true
-
-abbrev is_asked : Option Contact → Bool
-is_asked None = false
-is_asked (Some c) = by_role c.role
-
-clash : (q v k w : ℕ) → Some (serves q v) ≡ Some (asks k w) → ⊥
-clash q v k w e = let h : false ≡ true = ap is_asked e in cc h
-
 -- one end doesn't both ask and serve
 pub connects_two : (v : Web) (c : Plan) (a b : End) → Connects v c a b → a ≡ b → ⊥
-connects_two v c a b (q, m, asked, served, way) same = clash q m q m (sym served ∙ (ap (contact_at c) (sym same) ∙ asked))
+connects_two v c a b (q, m, asked, served, way) same = serves_not_asks q m q m (sym served ∙ (ap (contact_at c) (sym same) ∙ asked))
 
 -- A dot stands for one, to which a way leads.
 pub record Leads (ts : List Tie) (x : Dot) (o : Option Dot) : Type 0 where

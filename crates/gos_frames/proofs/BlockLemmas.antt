@@ -45,7 +45,7 @@ use Rattle.gos_frames.proofs.CutLemmas.{region_is_cut}
 use Rattle.gos_frames.proofs.RegionLemmas.{lies_joined, IsIn, in_number, in_back, keeps_imports}
 use Rattle.gos_frames.proofs.BodyLemmas as bodies
 use Rattle.gos_frames.proofs.BodyLemmas.{block_port, block_port_end, done_contact, done_only, variable_contact}
-use Rattle.gos_frames.proofs.ParallelLemmas.{serves_not}
+use Rattle.gos_webs.proofs.WebLemmas.{serves_not_asks}
 
 pub same_bits : (t : Type') → IsDone t → answer_bits t ≡ bits t
 same_bits Com done = refl
@@ -296,9 +296,9 @@ module _
 
   own_asker : (h q c : ℕ) → slice_get (part_contacts local_part) h ≡ Some (asks q c) → Asker (PartEnd (pl.own 0) h)
   own_asker zero q c e = inl (Within 0 (Of (ResultEnd 0)), ap (back s.frame) (own_dot 0) ∙ own_part s.frame 0)
-  own_asker (suc zero) q c e = absurd (serves_not 0 w q c e)
-  own_asker (suc (suc zero)) q c e = absurd (serves_not w 0 q c e)
-  own_asker (suc (suc (suc zero))) q c e = absurd (serves_not 0 v q c e)
+  own_asker (suc zero) q c e = absurd (serves_not_asks 0 w q c e)
+  own_asker (suc (suc zero)) q c e = absurd (serves_not_asks w 0 q c e)
+  own_asker (suc (suc (suc zero))) q c e = absurd (serves_not_asks 0 v q c e)
   own_asker (suc (suc (suc (suc h)))) q c e = absurd (none-some (asks q c) e)
 
   part_asker : (a h q c : ℕ) → contact_at r (PartEnd a h) ≡ Some (asks q c) → placed pl (pl.source a) ≡ a → Whose (pl.source a) → Asker (PartEnd a h)

@@ -1,9 +1,11 @@
--- A region without Shares is cut.
-use Rattle.std.specs.Prelude.{[], ◌⊎◌, Contains}
+-- A region without Shares is cut, and the literals of its parts fit where those of the whole do.
+use Rattle.std.specs.Prelude.{[], ◌⊎◌, All, Contains}
 use Rattle.std.proofs.Common.{◌≡◌, inl, inr, arith}
-use Rattle.gos_plan.specs.Plans.{End}
+use Rattle.gos_plan.specs.Plans.{End, Plan}
+use Rattle.gos_plan.specs.TokenBits.{LiteralFits}
+use Rattle.gos_realises.proofs.LiteralLemmas.{literals_among}
 use Rattle.gos_webs.specs.Webs.{joint}
-use Rattle.gos_webs.specs.Cutting.{lies_at, IsInside}
+use Rattle.gos_webs.specs.Cutting.{Cut, IsCut, lies_at, IsInside}
 use Rattle.gos_windows.specs.Regions.{IsOther}
 use Rattle.gos_frames.specs.Frames.{RegionIsCut}
 
@@ -35,3 +37,6 @@ region_is_cut f r c is =
         → (d e : End) × Contains c.joints (joint d e) × (lies_at f d ≡ a) × (lies_at f e ≡ b)
     joined_one a b inside (inl found) = found
     joined_one a b inside (inr others) = absurd (none_inside a b inside others)
+
+pub literals_within : (f : Cut) (r c : Plan) → IsCut f r c → All LiteralFits r.parts → All LiteralFits c.parts
+literals_within f r c cut fit = literals_among f.part c.parts r.parts (λ k x at. (cut.parts k x at).0) fit

@@ -1,4 +1,5 @@
 -- In reading order: a file uses only files above it.
+pub mod PartedLemmas
 pub mod SpanLemmas
 pub mod NumberingLemmas
 pub mod FrameLemmas

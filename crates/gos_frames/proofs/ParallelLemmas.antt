@@ -1,16 +1,14 @@
 -- A node `m || n` that is wired to supplies is made of its sides, wired to theirs.
 use Rattle.std.specs.Prelude.{◌≡◌, ℕ, zero, suc, ◌+◌, ◌<◌, ◌≤◌, ◌⊎◌, Bool, true, false, List, [], ◌∷◌, ◌++◌, length, Option, Some, slice_get, nat_lt, Contains}
 use Rattle.std.proofs.Common.{refl, sym, ◌∙◌, ap, subst, arith, inl, inr, length-append}
-use Rattle.std.proofs.lemmas.Option.{none-some, same_Some}
+use Rattle.std.proofs.lemmas.Option.{none-some}
 use Rattle.std.proofs.lemmas.List.Elements.{Contains-append_left, Contains-append_right, Contains-append_cases}
 use Rattle.gos_types.specs.Types.{Type', Com}
-use Rattle.gos_types.specs.declared.shakes.Role.{Role}
-use Rattle.gos_types.specs.declared.shakes.Role.TheVariants.{Serve, Ask}
 use Rattle.gos_check.specs.Nodes.{Numbered, Two, OfPar}
 use Rattle.gos_check.specs.Linearity.{times}
 use Rattle.gos_check.proofs.TimesLemmas.{some_times, listed_times}
 use Rattle.gos_plan.specs.Kinds as kinds
-use Rattle.gos_plan.specs.Kinds.{Part, Contact, asks, serves, contacts_of, part_contacts}
+use Rattle.gos_plan.specs.Kinds.{Part, asks, contacts_of, part_contacts}
 use Rattle.gos_plan.specs.Plans.{End, PartEnd, ImportEnd, ResultEnd, Joint, Plan, contacts_of_part, turned_if, contact_at}
 use Rattle.gos_plan.proofs.JointLemmas.{one_joint, contained}
 use Rattle.gos_realises.specs.Regular.{count}
@@ -25,7 +23,7 @@ use Rattle.gos_ties.specs.Ties.{point}
 use Rattle.gos_webs.specs.Webs.{Dot, Of, Within, Tie, tie, Way, here, along, joint}
 use Rattle.gos_webs.specs.Cutting.{Cut}
 use Rattle.gos_webs.proofs.CutLemmas.{part_at}
-use Rattle.gos_webs.proofs.WebLemmas.{asks_there}
+use Rattle.gos_webs.proofs.WebLemmas.{serves_not_asks, asks_there}
 use Rattle.gos_unions.proofs.UnionLemmas.{of_image, in_image}
 use Rattle.gos_unions.proofs.LeftLemmas.{front, behind}
 use Rattle.gos_unions.specs.Unions.{within}
@@ -41,18 +39,6 @@ use Rattle.gos_frames.proofs.ChildLemmas.{Sitting, IsSitting, HasPorts, child_pl
 use Rattle.gos_frames.proofs.FoldLemmas.{HasPlan}
 use Rattle.gos_frames.proofs.SideLemmas.{side_frame, side_sitting, IsSideOf, is_sitting, has_ports}
 use Rattle.gos_frames.proofs.RegionLemmas.{IsIn, in_number, number_in, in_back, side_plan, import_in, is_side, joint_of, keeps_imports}
-
-abbrev by_role : Role → Bool
-by_role Serve = false
-by_role Ask = true
-
-pub serves_not : (q v c d : ℕ) → Some (serves q v) ≡ Some (asks c d) → ⊥
-serves_not q v c d e =
-    let one : serves q v ≡ asks c d = same_Some (serves q v) (asks c d) e in
-    clash (ap (λ (x : Contact). by_role x.role) one)
-  where
-    clash : by_role (serves q v).role ≡ by_role (asks c d).role → ⊥
-    clash e = let bad : false ≡ true = e in cc bad
 
 module _
     (types : Types) (i j : ℕ) (m n : Numbered) (ns ms ks : List ℕ) (env : Supplies) (pl : Placing) (r : Plan)
@@ -309,7 +295,7 @@ module _
   own_asker : (h q v : ℕ) → slice_get (part_contacts kinds.Par) h ≡ Some (asks q v) → Asker (PartEnd (pl.own 0) h)
   own_asker zero q v e = inl (inl (Within 0 (Of (ResultEnd 0)), ap (back fl) (own_dot 0) ∙ own_part fl 0))
   own_asker (suc zero) q v e = inl (inr (Within 0 (Of (ResultEnd 0)), ap (back fr) (own_dot 1) ∙ own_part fr 1))
-  own_asker (suc (suc zero)) q v e = absurd (serves_not 0 0 q v e)
+  own_asker (suc (suc zero)) q v e = absurd (serves_not_asks 0 0 q v e)
   own_asker (suc (suc (suc h))) q v e = absurd (none-some (asks q v) e)
 
   part_asker : (a h q v : ℕ) → contact_at r (PartEnd a h) ≡ Some (asks q v) → (pl.source a ≡ Own 0 → placed pl (pl.source a) ≡ a)

@@ -1,18 +1,17 @@
 -- A block: its body realises its term where a name that no import has stands for the variable.
-use Rattle.std.specs.Prelude.{◌≡◌, ◌≢◌, ℕ, suc, ◌+◌, ◌<◌, Bool, true, false, List, [], ◌∷◌, ◌++◌, Some, All, Contains, slice_get, nat_eq, nat_lt, if◌then◌else◌}
+use Rattle.std.specs.Prelude.{◌≡◌, ◌≢◌, ℕ, suc, ◌+◌, Bool, true, false, List, [], ◌∷◌, ◌++◌, Some, All, Contains, slice_get, nat_eq}
 use Rattle.std.specs.Str.{bytes_eq}
 use Rattle.std.proofs.Common.{refl, sym, ◌∙◌, ap, subst, arith}
-use Rattle.std.proofs.lemmas.Bool.Decides.{nat_tests}
 use Rattle.std.proofs.lemmas.Slice.Eq.{bytes_eq-Decides}
 use Rattle.std.proofs.lemmas.List.Elements.{Contains-append_left, Contains-append_right}
-use Rattle.gos_types.specs.Types.{Type', Com, Var}
+use Rattle.gos_types.specs.Types.{Type', Var}
 use Rattle.gos_types.specs.Widths.{IsWidth}
-use Rattle.gos_model.specs.Terms.{Term, Name, Import, New, Skip}
+use Rattle.gos_model.specs.Terms.{Term, Name, Import, New}
 use Rattle.gos_model.specs.Typing.{Imported, import_type, Named, things, Typed}
-use Rattle.gos_model.specs.Substitution.{put_at, instantiate}
-use Rattle.gos_check.specs.Nodes.{Numbered, Under, OfNew, Meaning, below, meaning, type_of_node}
+use Rattle.gos_model.specs.Substitution.{instantiate}
+use Rattle.gos_check.specs.Nodes.{Numbered, Under, OfNew, below, meaning, type_of_node}
 use Rattle.gos_check.specs.Linearity.{times}
-use Rattle.gos_check.proofs.TimesLemmas.{eq_true, true_eq, times-append, times_same, some_times, listed_times}
+use Rattle.gos_check.proofs.TimesLemmas.{eq_true, true_eq, times-append, times_same, some_times}
 use Rattle.gos_plan.specs.Plans.{Plan}
 use Rattle.gos_plan.specs.TokenBits.{LiteralFits}
 use Rattle.gos_realises.specs.Modules.{Supply}
@@ -25,7 +24,7 @@ use Rattle.gos_names.specs.Names.{name_plan, imported, NameIsRealised}
 use Rattle.gos_blocks.specs.Block.{BlockRealises}
 use Rattle.gos_compile.specs.Wiring.{Types}
 use Rattle.gos_wired.specs.Wired.{Supplies, Placing, IsWired, AreRealised, terms_of}
-use Rattle.gos_meanings.specs.Meanings.{HasLeaves, standing, BodyIsInstantiated}
+use Rattle.gos_meanings.specs.Meanings.{HasLeaves, BodyIsInstantiated}
 use Rattle.gos_frames.specs.Blocks.{with_name, IsBound, HasBody, BlockIsWired}
 use Rattle.gos_frames.proofs.FreshLemmas.{fresh_name, is_fresh}
 use Rattle.gos_frames.proofs.NamedLemmas as named
@@ -33,8 +32,9 @@ use Rattle.gos_frames.proofs.NamedLemmas.{before, name_supply, inner_here, inner
 use Rattle.gos_numbers.specs.Kept.{InScope}
 use Rattle.gos_grounds.specs.Cases.{RealisesWired, BlockCase}
 use Rattle.gos_grounds.proofs.WhoseLemmas.{below_whose, whose}
-use Rattle.gos_grounds.proofs.WiredLemmas.{imports_are_ground, literals_within}
-use Rattle.gos_grounds.proofs.AgreeLemmas.{AgreeAt, below_agrees, meaning_agrees}
+use Rattle.gos_frames.proofs.CutLemmas.{literals_within}
+use Rattle.gos_grounds.proofs.WiredLemmas.{imports_are_ground}
+use Rattle.gos_grounds.proofs.InstantiatedLemmas.{body_instantiated}
 use Rattle.gos_grounds.proofs.PutLemmas.{IsWithout, name_apart, put_typed}
 
 module _
@@ -124,42 +124,14 @@ module _
         (ap (λ (s : Supply). slice_get s.plan.imports 0) (inner_here n x w env n (eq_true n n refl)))).0)
         ((bytes_eq-Decides x x).1 refl)
 
-    -- the body with the name in it is what it means with the name's supply
-    total : Meaning
-    total k = if nat_lt 0 (times k ns) then (env k).term else Skip
-
-    total_is : AgreeAt ns (terms_of env) total
-    unfolding total
-    total_is k has =
-        let some = some_times k ns has in
-        let test : nat_lt 0 (times k ns) ≡ true = grind (arith, nat_tests, some) in
-        sym (ap (λ (c : Bool). if c then (env k).term else Skip) test)
-
-    total_typed : (k : ℕ) → (u : Type') × Typed body.imports [] (total k) u
-    unfolding total
-    total_typed k = by_test (nat_lt 0 (times k ns)) refl
-      where
-        by_test : (c : Bool) → nat_lt 0 (times k ns) ≡ c → (u : Type') × Typed body.imports [] (if c then (env k).term else Skip) u
-        by_test true is = let some : 0 < times k ns = grind (arith, nat_tests, is) in (types k, supply_typed k (listed_times k ns some))
-        by_test false is = (Com, refl)
-
-    standing_is : AgreeAt (ns ++ n ∷ []) (standing n (Import x) total) (terms_of inner)
-    standing_is k has = by_test (nat_eq k n) refl
-      where
-        by_test : (c : Bool) → nat_eq k n ≡ c → (if c then Import x else total k) ≡ (if c then name_supply x w else env k).term
-        by_test true is = refl
-        by_test false is = sym (total_is k (before ns n k is has))
-
     abbrev body_term : Term
     body_term = meaning (below n (terms_of env)) m
 
     module _ (leaves : HasLeaves m) (scope : InScope (ns ++ n ∷ []) m) where
       instantiated : BodyIsInstantiated → instantiate body_term (Import x) ≡ meaning (terms_of inner) m
       instantiated law =
-          ap (put_at 0 (Import x))
-          (meaning_agrees m (ns ++ n ∷ []) (below n (terms_of env)) (below n total) scope (below_agrees n ns (terms_of env) total total_is))
-          ∙ (law body.imports total n m (Import x) (Var w) leaves name_typed total_typed
-          ∙ meaning_agrees m (ns ++ n ∷ []) (standing n (Import x) total) (terms_of inner) scope standing_is)
+          body_instantiated types ns n env inner (name_supply x w) (inner_here n x w env) (inner_there n x w env) body.imports supply_typed law m (Var w)
+          leaves scope name_typed
 
       body_name : (y : Name) → Contains (things 0 body_term) (Named y) → (k : ℕ) × IsImported k y
       body_name y has =

@@ -4,5 +4,6 @@ pub mod ChildLemmas
 pub mod LeafLemmas
 pub mod ParallelLemmas
 pub mod AgreeLemmas
+pub mod InstantiatedLemmas
 pub mod PutLemmas
 pub mod BlockLemmas

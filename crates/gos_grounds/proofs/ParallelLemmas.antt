@@ -1,30 +1,19 @@
 -- Both sides of `||`.
-use Rattle.std.specs.Prelude.{ℕ, suc, ◌+◌, List, [], Contains, length}
-use Rattle.std.proofs.Common.{sym, subst, arith}
+use Rattle.std.specs.Prelude.{suc, ◌+◌, [], length}
+use Rattle.std.proofs.Common.{sym, subst}
 use Rattle.gos_types.specs.Types.{Type', Com}
 use Rattle.gos_model.specs.Typing.{Typed}
-use Rattle.gos_check.specs.Nodes.{Numbered, Two, OfPar, meaning, type_of_node}
-use Rattle.gos_check.proofs.TimesLemmas.{some_times, listed_times}
+use Rattle.gos_check.specs.Nodes.{Two, OfPar, meaning, type_of_node}
 use Rattle.gos_realises.specs.Realises.{Realises}
-use Rattle.gos_compile.specs.Wiring.{Types, parts_of, nodes}
+use Rattle.gos_compile.specs.Wiring.{parts_of, nodes}
 use Rattle.gos_parallel.specs.Parallel.{ParallelRealises}
 use Rattle.gos_wired.specs.Wired.{terms_of}
-use Rattle.gos_frames.specs.Frames.{AreParted, AreSides, ParallelIsWired}
+use Rattle.gos_frames.specs.Frames.{AreSides, ParallelIsWired}
+use Rattle.gos_wired.proofs.NameLemmas.{names_differ}
+use Rattle.gos_frames.proofs.PartedLemmas.{first_among, second_among}
+use Rattle.gos_frames.proofs.CutLemmas.{literals_within}
 use Rattle.gos_grounds.specs.Cases.{ParallelCase}
-use Rattle.gos_grounds.proofs.WiredLemmas.{imports_are_ground, names_differ, typed_there, literals_within, fewer}
-
-module _ (types : Types) (ns ms ks : List ℕ) (m n : Numbered) (parted : AreParted m n ns ms ks) where
-  left_among : (k : ℕ) → Contains ms k → Contains ns k
-  left_among k has =
-      let there = some_times k ms has in
-      let sum = parted.split k in
-      listed_times k ns (omega (arith, there, sum))
-
-  right_among : (k : ℕ) → Contains ks k → Contains ns k
-  right_among k has =
-      let there = some_times k ks has in
-      let sum = parted.split k in
-      listed_times k ns (omega (arith, there, sum))
+use Rattle.gos_grounds.proofs.WiredLemmas.{imports_are_ground, typed_there, fewer}
 
 pub parallel_case : ParallelIsWired → ParallelRealises → ParallelCase
 parallel_case wiring law types ns ms ks m n parted em en leaves_m leaves_n scope_m scope_n rm rn i j env pl r w supplies differ fit (e, typed_m, typed_n, apart) =
@@ -38,21 +27,21 @@ parallel_case wiring law types ns ms ks m n parted em en leaves_m leaves_n scope
 
     left : Realises (type_of_node m) sides.left (meaning (terms_of env) m)
     left =
-        rm (i + 1) (suc j) env sides.left_placing sides.left sides.left_wired (fewer types env ns ms (left_among types ns ms ks m n parted) supplies)
+        rm (i + 1) (suc j) env sides.left_placing sides.left sides.left_wired (fewer types env ns ms (first_among m n ns ms ks parted) supplies)
         (names_differ types i j (Two Com [] OfPar m n) ns env pl r w (i + 1) (suc j) m ms sides.left_placing sides.left sides.left_wired
-        (left_among types ns ms ks m n parted) differ)
+        (first_among m n ns ms ks parted) differ)
         (literals_within sides.left_cut r sides.left sides.parallel.left.cut fit)
         (typed_there types i j (Two Com [] OfPar m n) ns env pl r w (i + 1) (suc j) m ms sides.left_placing sides.left sides.left_wired
-        (left_among types ns ms ks m n parted) (type_of_node m) supplies differ leaves_m scope_m
+        (first_among m n ns ms ks parted) (type_of_node m) supplies differ leaves_m scope_m
         (subst (λ (t : Type'). Typed r.imports [] (meaning (terms_of env) m) t) (sym em) typed_m))
 
     right : Realises (type_of_node n) sides.right (meaning (terms_of env) n)
     right =
         rn (i + 1 + length (parts_of types m)) (suc j + nodes m) env sides.right_placing sides.right sides.right_wired
-        (fewer types env ns ks (right_among types ns ms ks m n parted) supplies)
+        (fewer types env ns ks (second_among m n ns ms ks parted) supplies)
         (names_differ types i j (Two Com [] OfPar m n) ns env pl r w (i + 1 + length (parts_of types m)) (suc j + nodes m) n ks sides.right_placing sides.right
-        sides.right_wired (right_among types ns ms ks m n parted) differ)
+        sides.right_wired (second_among m n ns ms ks parted) differ)
         (literals_within sides.right_cut r sides.right sides.parallel.right.cut fit)
         (typed_there types i j (Two Com [] OfPar m n) ns env pl r w (i + 1 + length (parts_of types m)) (suc j + nodes m) n ks sides.right_placing sides.right
-        sides.right_wired (right_among types ns ms ks m n parted) (type_of_node n) supplies differ leaves_n scope_n
+        sides.right_wired (second_among m n ns ms ks parted) (type_of_node n) supplies differ leaves_n scope_n
         (subst (λ (t : Type'). Typed r.imports [] (meaning (terms_of env) n) t) (sym en) typed_n))

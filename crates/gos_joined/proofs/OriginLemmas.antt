@@ -39,6 +39,52 @@ before [] k = 0
 before (p ∷ ps) zero = 0
 before (p ∷ ps) (suc k) = length p.parts + before ps k
 
+pub next_place : (a : Place) (n k : ℕ) (e : End) → a ≡ place (suc n + k) e → a ≡ place (n + suc k) e
+next_place a n k e is = let sum : suc n + k ≡ n + suc k = omega arith in is ∙ ap (λ (m : ℕ). place m e) sum
+
+-- a part of all, which have plans from number n on, is a part of one
+pub record PartOf (n : ℕ) (ps : List Plan) (i : ℕ) (x : Part) : Type 0 where
+  pub plan : ℕ
+  pub part : ℕ
+  pub of : Plan
+  pub number : i ≡ before ps plan + part
+  pub stands : (h : ℕ) → part_place n ps i h ≡ place (n + plan) (PartEnd part h)
+  pub is : slice_get ps plan ≡ Some of
+  pub has : slice_get of.parts part ≡ Some x
+
+pub part_of : (n : ℕ) (ps : List Plan) (i : ℕ) (x : Part) → slice_get (all_parts ps) i ≡ Some x → PartOf n ps i x
+part_of n [] i x e = absurd (cc e)
+part_of n (p ∷ ps) i x e = by_test (nat_lt i (length p.parts)) refl (part_of (suc n) ps (i - length p.parts) x)
+  where
+    by_test : (b : Bool) → nat_lt i (length p.parts) ≡ b
+        → (slice_get (all_parts ps) (i - length p.parts) ≡ Some x → PartOf (suc n) ps (i - length p.parts) x) → PartOf n (p ∷ ps) i x
+    by_test true t rest =
+        let small : i < length p.parts = grind (arith, t) in
+        let sum : n ≡ n + 0 = omega arith in
+        record {
+          plan = 0;
+          part = i;
+          of = p;
+          number = omega arith;
+          stands = λ h. rw t (ap (λ (k : ℕ). place k (PartEnd i h)) sum);
+          is = refl;
+          has = sym (front_at p.parts (all_parts ps) i small) ∙ e;
+        }
+    by_test false t rest =
+        let large : length p.parts ≤ i = grind (arith, t) in
+        let there = rest (sym (behind_at p.parts (all_parts ps) i large) ∙ e) in
+        let number = there.number in
+        record {
+          plan = suc there.plan;
+          part = there.part;
+          of = there.of;
+          number = omega (arith, number, large);
+          stands = λ h. rw t (next_place (part_place (suc n) ps (i - length p.parts) h) n there.plan (PartEnd there.part h) (there.stands h));
+          is = there.is;
+          has = there.has;
+        }
+
+-- and so is a part at one of its handshakes
 pub record PartAt (n : ℕ) (ps : List Plan) (i h : ℕ) (c : Contact) : Type 0 where
   pub plan : ℕ
   pub part : ℕ
@@ -48,40 +94,22 @@ pub record PartAt (n : ℕ) (ps : List Plan) (i h : ℕ) (c : Contact) : Type 0 
   pub is : slice_get ps plan ≡ Some of
   pub has : slice_get (contacts_of_part (slice_get of.parts part)) h ≡ Some c
 
-pub next_place : (a : Place) (n k : ℕ) (e : End) → a ≡ place (suc n + k) e → a ≡ place (n + suc k) e
-next_place a n k e is = let sum : suc n + k ≡ n + suc k = omega arith in is ∙ ap (λ (m : ℕ). place m e) sum
-
 pub part_at : (n : ℕ) (ps : List Plan) (i h : ℕ) (c : Contact) → slice_get (contacts_of_part (slice_get (all_parts ps) i)) h ≡ Some c → PartAt n ps i h c
-part_at n [] i h c e = absurd (cc e)
-part_at n (p ∷ ps) i h c e = by_test (nat_lt i (length p.parts)) refl (part_at (suc n) ps (i - length p.parts) h c)
+part_at n ps i h c e = by_part (slice_get (all_parts ps) i) refl
   where
-    by_test : (b : Bool) → nat_lt i (length p.parts) ≡ b
-        → (slice_get (contacts_of_part (slice_get (all_parts ps) (i - length p.parts))) h ≡ Some c → PartAt (suc n) ps (i - length p.parts) h c)
-        → PartAt n (p ∷ ps) i h c
-    by_test true t rest =
-        let small : i < length p.parts = grind (arith, t) in
-        let sum : n ≡ n + 0 = omega arith in
+    by_part : (o : Option Part) → slice_get (all_parts ps) i ≡ o → PartAt n ps i h c
+    by_part None at =
+        let none : slice_get (contacts_of_part None) h ≡ Some c = sym (ap (λ (o : Option Part). slice_get (contacts_of_part o) h) at) ∙ e in absurd (cc none)
+    by_part (Some x) at =
+        let there = part_of n ps i x at in
         record {
-          plan = 0;
-          part = i;
-          of = p;
-          number = omega arith;
-          stands = rw t (ap (λ (k : ℕ). place k (PartEnd i h)) sum);
-          is = refl;
-          has = ap (λ (o : Option Part). slice_get (contacts_of_part o) h) (sym (front_at p.parts (all_parts ps) i small)) ∙ e;
-        }
-    by_test false t rest =
-        let large : length p.parts ≤ i = grind (arith, t) in
-        let there = rest (ap (λ (o : Option Part). slice_get (contacts_of_part o) h) (sym (behind_at p.parts (all_parts ps) i large)) ∙ e) in
-        let number = there.number in
-        record {
-          plan = suc there.plan;
+          plan = there.plan;
           part = there.part;
           of = there.of;
-          number = omega (arith, number, large);
-          stands = rw t (next_place (part_place (suc n) ps (i - length p.parts) h) n there.plan (PartEnd there.part h) there.stands);
+          number = there.number;
+          stands = there.stands h;
           is = there.is;
-          has = there.has;
+          has = ap (λ (o : Option Part). slice_get (contacts_of_part o) h) (there.has ∙ sym at) ∙ e;
         }
 
 -- imports that stay

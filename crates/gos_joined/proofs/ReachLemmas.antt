@@ -91,16 +91,18 @@ then_path w (suc n) a b c (d, s, p) q = let (m, path) = then_path w n d b c p q 
 pub paths_then : (w : Wiring) (a b c : Place) → Paths w a b → Paths w b c → Paths w a c
 paths_then w a b c (n, p) q = then_path w n a b c p q
 
+pub joined_back : (w : Wiring) (a b : Place) → JoinedWithin w a b → JoinedWithin w b a
+joined_back w a b (p, j, same, is, has, ways) = (
+  p,
+  j,
+  sym same,
+  subst (λ (k : ℕ). slice_get w.plans k ≡ Some p) same is,
+  has,
+  elim ways [ inl (e, f) ↦ inr (f, e) | inr (e, f) ↦ inl (f, e) ],
+)
+
 pub step_back : (w : Wiring) (a b : Place) → Step w a b → Step w b a
-step_back w a b (inl (p, j, same, is, has, ways)) =
-    inl (
-      p,
-      j,
-      sym same,
-      subst (λ (k : ℕ). slice_get w.plans k ≡ Some p) same is,
-      has,
-      elim ways [ inl (e, f) ↦ inr (f, e) | inr (e, f) ↦ inl (f, e) ],
-    )
+step_back w a b (inl joined) = inl (joined_back w a b joined)
 step_back w a b (inr (l, has, ways)) = inr (l, has, elim ways [ inl (e, f) ↦ inr (f, e) | inr (e, f) ↦ inl (f, e) ])
 
 path_back : (w : Wiring) (n : ℕ) (a b : Place) → Path w n a b → Paths w b a

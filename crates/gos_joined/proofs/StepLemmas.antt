@@ -13,7 +13,7 @@ use Rattle.gos_plan.proofs.JointLemmas.{same_itself, one_joint, contained, free_
 use Rattle.gos_plan.proofs.JointLemmas as joints
 use Rattle.gos_realises.specs.Links.{contact_of, contact_in, IsUnjoined, EndsFit, LinkFits, StandsIn, LinksFit}
 use Rattle.gos_realises.proofs.PlaceLemmas.{place_of}
-use Rattle.gos_joined.proofs.ReachLemmas.{place_is, Step, Paths}
+use Rattle.gos_joined.proofs.ReachLemmas.{joined_back, place_is, Step, Paths}
 use Rattle.gos_joined.proofs.ChainLemmas.{Chains, Walk, IsOnly, one_end}
 
 pub role_twice : (r : Role) → turned (turned r) ≡ r
@@ -88,16 +88,6 @@ joined_one w fit a b c (p, j, same, is, has, ways) (q, k, same_too, is_too, has_
     place_is b c (sym same ∙ same_too)
     (other_end p j (joints.fits p [] p.joints j right (contained p.joints j has)) a.end b.end c.end ways (subst (λ (x : Joint). Ends x a.end c.end) (sym j_is) ways_too))
 
-joined_back : (w : Wiring) (a b : Place) → JoinedWithin w a b → JoinedWithin w b a
-joined_back w a b (p, j, same, is, has, ways) = (
-  p,
-  j,
-  sym same,
-  subst (λ (k : ℕ). slice_get w.plans k ≡ Some p) same is,
-  has,
-  elim ways [ inl (e, f) ↦ inr (f, e) | inr (e, f) ↦ inl (f, e) ],
-)
-
 abbrev Opposite : Option Role → Option Role → Type 0
 Opposite o u = (r : Role) × (o ≡ Some r) × (u ≡ Some (turned r))
 
@@ -131,7 +121,7 @@ other_place l apart a b c (inl (at, is)) (inr (at_too, is_too)) = absurd (apart 
 other_place l apart a b c (inr (at, is)) (inl (at_too, is_too)) = absurd (apart (ap (λ (x : Place). x.plan) (sym at_too ∙ at)))
 other_place l apart a b c (inr (at, is)) (inr (at_too, is_too)) = is ∙ sym is_too
 
-linked_one : (w : Wiring) → LinksFit w → (a b c : Place) → Linked w a b → Linked w a c → b ≡ c
+pub linked_one : (w : Wiring) → LinksFit w → (a b c : Place) → Linked w a b → Linked w a c → b ≡ c
 linked_one w fit a b c (l, has, ways) (m, has_too, ways_too) =
     let (j, at_j) = place_of w.links l has in
     let (k, at_k) = place_of w.links m has_too in

@@ -19,7 +19,7 @@ use Rattle.gos_realises.specs.Regular.{count}
 use Rattle.gos_realises.specs.Wirings.{lone, link, reading}
 use Rattle.gos_realises.specs.Links.{IsJoined}
 use Rattle.gos_realises.proofs.LeftLemmas.{left_list, left_all, imports_left, left_at}
-use Rattle.gos_joined.proofs.OriginLemmas.{before}
+use Rattle.gos_joined.proofs.OriginLemmas.{before, PartOf, part_of}
 use Rattle.gos_joined.proofs.WholeLemmas.{variables_are_joined}
 use Rattle.gos_webs.specs.Webs.{Dot, Of, Number, Node, Within, Tie, tie, Web, Way, here, along, IsOfWeb, own_web}
 use Rattle.gos_webs.proofs.WebLemmas.{right_is_of_its_web}
@@ -30,7 +30,7 @@ use Rattle.gos_unions.proofs.DeepLemmas.{place_of_part}
 use Rattle.gos_unions.proofs.FlatFitLemmas.{links_stand}
 use Rattle.gos_compile.specs.Wiring.{Types, row, ties_of}
 use Rattle.gos_wired.specs.Wired.{dot_of, Supplies, Source, Own, Supplied, Origin, IsFrom, source_dot, wired_ties}
-use Rattle.gos_wired.proofs.NumberLemmas.{PartOf, part_of, part_there}
+use Rattle.gos_wired.proofs.NumberLemmas.{part_there}
 use Rattle.gos_loose.specs.Homes.{AreHome}
 use Rattle.gos_leaves.specs.Leaves.{ReadIsRealised}
 use Rattle.gos_leaves.proofs.TieLemmas.{if_number, same_number, other_number, own_tie, inner_tie, outer_tie, by_tie}

@@ -1,7 +1,7 @@
 -- A wired node's plan is that of the node whose own points have numbers one less: they are points within, and no ends.
 --
 -- As in RenamedLemmas of gos_uses, here for the points of nodes.
-use Rattle.std.specs.Prelude.{◌≡◌, ℕ, zero, suc, ◌+◌, ◌-◌, List, [], ◌∷◌, ◌++◌, ◌⊎◌, length, map, take, drop, Contains}
+use Rattle.std.specs.Prelude.{◌≡◌, ℕ, zero, suc, ◌+◌, ◌-◌, List, [], ◌∷◌, ◌++◌, ◌⊎◌, length, map, take, Contains}
 use Rattle.std.proofs.Common.{refl, sym, ◌∙◌, ap, subst, arith, inl, inr}
 use Rattle.std.proofs.lemmas.List.Elements.{Contains-append_left, Contains-append_right, Contains-append_cases}
 use Rattle.gos_types.specs.Types.{Type'}
@@ -20,7 +20,7 @@ use Rattle.gos_webs.proofs.WebLemmas.{same_ways}
 use Rattle.gos_webs.proofs.WayLemmas.{mapped_way, one_way}
 use Rattle.gos_unions.specs.Unions.{within}
 use Rattle.gos_unions.proofs.UnionLemmas.{of_image, in_image}
-use Rattle.gos_uses.proofs.RenamedLemmas.{map_two}
+use Rattle.gos_uses.proofs.RenamedLemmas.{map_two, map_take, map_drop}
 use Rattle.gos_compile.specs.Wiring.{Types, row, led, share_ties, shares_ties, binder_part, one_part, two_part, parts_of, nodes, one_out, first_out, second_out, one_ties, two_ties, binder_ties, binder_out, ties_of}
 use Rattle.gos_wired.specs.Wired.{Supplies, Placing, Source, Own, Supplied, source_dot, dot_at, dot_of, dot_of_place, dot_ties, result_ties, all_supply_ties, wired_ties, wired_web, IsWired}
 use Rattle.gos_wired.proofs.TieLemmas.{inside, of_results, OfSupplies, of_supplies}
@@ -38,18 +38,6 @@ slid q = slid_at q.place q.shake
 
 abbrev slid_tie : point_ties.Tie → point_ties.Tie
 slid_tie t = paths.tie (slid t.one) (slid t.other)
-
-map_take : (f : Point → Point) (n : ℕ) (ps : List Point) → map f (take n ps) ≡ take n (map f ps)
-map_take f zero [] = refl
-map_take f zero (p ∷ ps) = refl
-map_take f (suc n) [] = refl
-map_take f (suc n) (p ∷ ps) = ap (λ (zs : List Point). f p ∷ zs) (map_take f n ps)
-
-map_drop : (f : Point → Point) (n : ℕ) (ps : List Point) → map f (drop n ps) ≡ drop n (map f ps)
-map_drop f zero [] = refl
-map_drop f zero (p ∷ ps) = refl
-map_drop f (suc n) [] = refl
-map_drop f (suc n) (p ∷ ps) = map_drop f n ps
 
 -- a place whose points are those of another
 abbrev Goes : Place → Place → Type 0

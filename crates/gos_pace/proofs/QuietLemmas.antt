@@ -7,13 +7,14 @@ use Rattle.std.proofs.Common.{◌≡◌, inl, inr, ◌⊎◌, ℕ, zero, suc, �
 use Rattle.gos_netlist.specs.Events.{Request, Answer}
 use Rattle.gos_plan.specs.Firing.{Slot, Req, Ans, Token}
 use Rattle.gos_plan.specs.Plans.{End, PartEnd, Joint, Plan, IsRight, same_end}
-use Rattle.gos_plan.specs.Tokens.{Tokens, Element, Fire, Out, In, places_of, end_of, way_of, IsIdle, IsQuiet}
+use Rattle.gos_plan.specs.Tokens.{Tokens, Element, Fire, Out, In, places_of, end_of, way_of, IsQuiet}
 use Rattle.gos_plan.specs.Orderly.{handshake_at, Open, none_open, with_open, after_puts, after_put, AllWelcome, OrderlyFrom}
 use Rattle.gos_plan.specs.Cycles.{PartFiring, Made, state_after}
 use Rattle.gos_plan.proofs.JointLemmas.{IsIn, same_itself, found}
 use Rattle.gos_plan.proofs.HeldLemmas.{Fits, AllFit, all_fit}
 use Rattle.gos_realises.specs.Matched.{asks_on}
 use Rattle.gos_realises.specs.Slim.{IsSlim}
+use Rattle.gos_realises.proofs.IdleLemmas.{idle_welcome}
 use Rattle.gos_pace.specs.Quiet.{all_fires, FiresSoon, IsFiredSoon, GrowsQuiet}
 use Rattle.gos_pace.specs.Ranks.{Ranks, no_ranks, Stepped, Steps, HasRank, RanksHold}
 use Rattle.gos_pace.proofs.StepLemmas.{AtLeast, Cycles, cycles_of, steps_append, steps_fit, step_fits, orderly_apart}
@@ -262,13 +263,6 @@ rounds p first start (suc n) k past o f s (a ∷ b ∷ c ∷ d ∷ ms) right lad
     (steps_append p past (in_four a b c d) first o four.0 no_ranks f four.1 start s d.after steps four.2)
     (steps_fit p (in_four a b c d) o four.0 f four.1 s d.after four.2 fit) (steps_welcome p (in_four a b c d) o four.0 f four.1 s d.after four.2 welcome)
     (low_next p o four.0 f four.1 s a b c d ms k right welcome soon four.2 low) four.3 (soon_after_four p s a b c d ms soon) (omega (arith, many)))
-
--- no token lies in an idle state, so none is unwelcome
-idle_welcome : (p : Plan) (s : Tokens) → IsIdle p s → AllWelcome p s
-idle_welcome p s idle i t c v there way lies =
-    let at = taken_at p (end_of i t) (way_of t) v s lies in
-    let never : None ≡ Some v = sym (idle.0 (way_of t) at.joint.asking) ∙ at.lies in
-    absurd (cc never)
 
 orderly_welcome : (p : Plan) (xs : List Element) (o u : Open) (s t : Tokens) → OrderlyFrom p xs o s u t → AllWelcome p s → AllWelcome p t
 orderly_welcome p [] o u s t list welcome = subst (λ (y : Tokens). AllWelcome p y) (sym list.1) welcome

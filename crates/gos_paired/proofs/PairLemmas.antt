@@ -2,7 +2,7 @@
 use Rattle.std.specs.Prelude.{◌+◌, ◌-◌, ◌<◌, ◌≤◌, ◌⊎◌, length, nat_lt, slice_get, None, Contains}
 use Rattle.std.proofs.Common.{◌≡◌, ℕ, zero, suc, Bool, true, false, List, [], ◌∷◌, ◌++◌, Option, Some, inl, inr, refl, sym, ◌∙◌, ap, subst, arith}
 use Rattle.std.proofs.lemmas.Bool.Decides.{nat_tests}
-use Rattle.std.proofs.lemmas.List.{length-append, length-map}
+use Rattle.std.proofs.lemmas.List.{length-append}
 use Rattle.std.proofs.lemmas.Option.{slice_get_within}
 use Rattle.gos_types.specs.Types.{Type', Pair}
 use Rattle.gos_check.specs.declared.linear.Split.{Split}
@@ -10,7 +10,7 @@ use Rattle.gos_check.specs.Nodes.{Numbered, Two, OfBoth, type_of_node}
 use Rattle.gos_check.specs.Linearity.{times, split_in, made}
 use Rattle.gos_check.proofs.TimesLemmas.{some_times, times-append}
 use Rattle.gos_model.proofs.NumberLemmas.{either}
-use Rattle.gos_plan.specs.Kinds.{Contact, Part, Share, contacts_of, other_side, part_contacts}
+use Rattle.gos_plan.specs.Kinds.{Contact, Part, Share, contacts_of, part_contacts}
 use Rattle.gos_plan.specs.Plans.{End, PartEnd, ImportEnd, ResultEnd, Plan, contact_at, contacts_of_part}
 use Rattle.gos_plan.proofs.JointLemmas.{fits, contained}
 use Rattle.gos_realises.specs.Regular.{count, IsRegular}
@@ -26,10 +26,11 @@ use Rattle.gos_stages.specs.Lodging.{Spot, live, AreInOrder}
 use Rattle.gos_stages.specs.Folding.{AtResult, Child, is_used, lodge, spot_dot, child_back, IsChild, IsLaid}
 use Rattle.gos_stages.specs.Regions.{HasParts, IsStaged}
 use Rattle.gos_stages.proofs.ServedLemmas.{servings_serve}
-use Rattle.gos_stages.proofs.ChildPartLemmas.{low, no_more_than, plain_source}
+use Rattle.gos_stages.proofs.StepLemmas.{low}
+use Rattle.gos_stages.proofs.ChildPartLemmas.{no_more_than, plain_source}
 use Rattle.gos_stages.proofs.ChildBackLemmas.{lead_stands}
 use Rattle.gos_stages.proofs.ChildStageLemmas.{child_is_staged}
-use Rattle.gos_stages.proofs.ContactLemmas.{turned_some, part_there, import_there, shares_length}
+use Rattle.gos_stages.proofs.ContactLemmas.{turned_some, part_there, import_there, shares_length, share_contacts}
 use Rattle.gos_stages.proofs.CoverLemmas.{live_is_covered, own_is_covered}
 use Rattle.gos_stages.proofs.SideLemmas.{served_side, AreUsed, AreOld, all_live, all_serve}
 use Rattle.gos_numbers.specs.Inherited.{IsPart}
@@ -43,13 +44,6 @@ use Rattle.gos_paired.proofs.SideLemmas.{leads_at, side_of, joint_of, child_is_s
 of_spot : (a : Option Spot) (x : Dot) → spot_dot a ≡ Some x → (z : Spot) × (a ≡ Some z)
 of_spot None x e = absurd (no_more_than x e)
 of_spot (Some z) x e = (z, refl)
-
-share_contacts : (t : Type') → length (part_contacts (Share t)) ≡ count t + (count t + count t)
-share_contacts t =
-    let all = length-append (other_side (contacts_of t)) (contacts_of t ++ contacts_of t) in
-    let two = length-append (contacts_of t) (contacts_of t) in
-    let turned : length (other_side (contacts_of t)) ≡ length (contacts_of t) = simp length-map refl in
-    omega (arith, all, two, turned)
 
 -- a part of a pair is a Share, or one of a half's
 abbrev IsOfPair : Types → List Split → List Part → List Part → Part → ℕ → Type 0

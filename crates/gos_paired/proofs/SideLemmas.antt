@@ -20,6 +20,7 @@ use Rattle.gos_stages.specs.Regions.{HasParts, IsStaged}
 use Rattle.gos_stages.proofs.ContactLemmas.{turned_some}
 use Rattle.gos_stages.proofs.LoyalLemmas.{servings_are_loyal}
 use Rattle.gos_stages.proofs.StageLemmas.{web_of}
+use Rattle.gos_stages.proofs.ChildNameLemmas as named
 use Rattle.gos_stages.proofs.ChildImportLemmas as hearing
 use Rattle.gos_both.specs.Both.{Side, IsSide, IsOfSide}
 use Rattle.gos_forks.specs.Pairs.{result_leads}
@@ -68,15 +69,15 @@ module _ (f : Child) (own : List Part) (ts : List Tie) (pl plc : Placing) (r c :
         imports =
             λ x has.
             let (q, at) = place_of c.imports x has in
-            let it = hearing.of_import f own ts pl plc r c is parts laid staged web q x at in
-            contains_at r.imports (pl.import (hearing.root f own ts pl plc r c is parts laid staged web (plc.origin q).number) (plc.origin q).import) x
+            let it = named.of_import f own ts pl plc r c is laid staged.wired q x at in
+            contains_at r.imports (pl.import (named.root f own ts pl plc r c is laid staged.wired (plc.origin q).number) (plc.origin q).import) x
             (it.outside_at ∙ (sym it.within ∙ at));
-        names = hearing.names_below f own ts pl plc r c is parts laid staged web differ;
+        names = named.names_below f own ts pl plc r c is laid staged.wired differ;
         ports =
             λ i h stands.
-            let it = hearing.in_node f own ts pl plc r c is parts laid staged web i h stands in
-            (pl.import (hearing.root f own ts pl plc r c is parts laid staged web (plc.origin i).number) (plc.origin i).import, refl, it.outside_at ∙ sym it.within);
-        heard = hearing.child_is_heard f own ts pl plc r c is parts laid staged web (hearing.names_below f own ts pl plc r c is parts laid staged web differ);
+            let it = named.in_node f own ts pl plc r c is laid staged.wired c staged.region.right refl i h stands in
+            (pl.import (named.root f own ts pl plc r c is laid staged.wired (plc.origin i).number) (plc.origin i).import, refl, it.outside_at ∙ sym it.within);
+        heard = hearing.child_is_heard f own ts pl plc r c is parts laid staged web (named.names_below f own ts pl plc r c is laid staged.wired differ);
       }
     where
       result : (h : ℕ) → StandsIn c (ResultEnd h) → led_end (pl.own f.own) (slice_get f.out h) h ≡ ResultEnd (start + h)

@@ -1,7 +1,6 @@
 pub mod RegionLemmas
 pub mod DriverLemmas
 pub mod StepLemmas
-pub mod ProtocolLemmas
 pub mod LinkedLemmas
 pub mod HistoryLemmas
 pub mod SharedLemmas

@@ -22,7 +22,7 @@ use Rattle.gos_realises.proofs.RingLemmas.{after}
 use Rattle.gos_realises.proofs.ToldLemmas.{there_is}
 use Rattle.gos_realises.proofs.InputLemmas.{import_serves, one_ground}
 use Rattle.gos_parallel.specs.Parallel.{IsSide, IsParallel}
-use Rattle.gos_parallel.proofs.ProtocolLemmas.{InTurn}
+use Rattle.gos_windows.proofs.KeepingLemmas.{InTurn}
 use Rattle.gos_parallel.proofs.RegionLemmas as region
 use Rattle.gos_parallel.proofs.StepLemmas.{gate, Same, Local, fires, puts_out, takes_in, Step, of_left, of_right, asked, told, starts, left_ends, right_ends, left_ends_all, right_ends_all, lost, step, free_left, free_right, not_both_inner}
 

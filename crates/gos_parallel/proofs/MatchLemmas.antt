@@ -31,7 +31,7 @@ use Rattle.gos_results.proofs.ResultLemmas.{results_are_typed}
 use Rattle.gos_contexts.proofs.EndedLemmas.{right_waits_for_ended, left_waits_for_ended}
 use Rattle.gos_parallel.specs.Parallel.{IsSide, IsParallel}
 use Rattle.gos_parallel.proofs.DriverLemmas.{begin_row, end_row}
-use Rattle.gos_parallel.proofs.ProtocolLemmas.{InTurn}
+use Rattle.gos_windows.proofs.KeepingLemmas.{InTurn}
 use Rattle.gos_parallel.proofs.RegionLemmas as region
 use Rattle.gos_parallel.proofs.StepLemmas.{gate, Same, Local, fires, puts_out, takes_in, Step, of_left, of_right, asked, told, starts, left_ends, right_ends, left_ends_all, right_ends_all, lost, step, free_left, free_right, gate_at_result, gate_at_part}
 use Rattle.gos_parallel.proofs.LinkedLemmas.{Linked, Comes, first_comes, past_all, left_seen, right_seen, left_list, right_list, linked_step, fits_on, when_asking, ways_left, ways_right, way_asked, way_told, not_lost, asked_turn}

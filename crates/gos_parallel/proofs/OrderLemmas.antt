@@ -31,6 +31,21 @@ use Rattle.gos_parallel.proofs.StepLemmas.{gate, Same, Local, fires, puts_out, t
 use Rattle.gos_parallel.proofs.LinkedLemmas.{left_runs, right_runs, Stage, Driven, Comes, left_seen, right_seen, when_starting, when_working, way_asked, way_told, asked_turn}
 use Rattle.gos_parallel.proofs.OpenLemmas.{OpenAgree, IsApart, opened_so, put_agrees, taken_agrees, Lies, in_part, at_import, at_driver, lies, not_same, comes_by, firing_same, side_step}
 
+-- a token that lies at an end under its own name
+pub lies_open : (r : Plan) (e : End) (o : Open) (s : Tokens) (v : ℕ) → handshake_at r e ≡ e → held.AllFit o s → token_at r s e Answer ≡ Some v → o e ≡ true
+lies_open r e o s v name fit lies = by_place (places_of r e) refl
+  where
+    fits_open : (b : Bool) (a : Option ℕ) → held.Fits b a (Some v) → b ≡ true
+    fits_open true a h = refl
+    fits_open false a h = let bad : Some v ≡ None = h.1 in absurd (cc bad)
+
+    by_place : (x : Option End) → places_of r e ≡ x → o e ≡ true
+    by_place None none = absurd (nothing_there r e Answer v s lies none)
+    by_place (Some a) at =
+        let same : a ≡ e = ap (λ x. named_by x e) (sym at) ∙ name in
+        let here : s.in_place Answer e ≡ Some v = ap (s.in_place Answer) (sym same) ∙ (sym (ap (held_at s Answer) at) ∙ lies) in
+        fits_open (o e) (s.in_place Request e) (subst (λ (x : Option ℕ). held.Fits (o e) (s.in_place Request e) x) here (fit e))
+
 module _
     (d : ℕ) (f g : Cut) (r p q : Plan) (is : IsParallel d f g r p q) (literals : All LiteralFits r.parts) where
   -- no end is of both regions, and the result's is of none
@@ -112,21 +127,6 @@ module _
   run_name : handshake_at r (PartEnd d 2) ≡ ResultEnd 0
   run_name = ap (λ o. named_by o (PartEnd d 2)) (gate_at_part d f g r p q is)
 
-  -- a token that lies at an end under its own name
-  lies_open : (e : End) (o : Open) (s : Tokens) (v : ℕ) → handshake_at r e ≡ e → held.AllFit o s → token_at r s e Answer ≡ Some v → o e ≡ true
-  lies_open e o s v name fit lies = by_place (places_of r e) refl
-    where
-      fits_open : (b : Bool) (a : Option ℕ) → held.Fits b a (Some v) → b ≡ true
-      fits_open true a h = refl
-      fits_open false a h = let bad : Some v ≡ None = h.1 in absurd (cc bad)
-
-      by_place : (x : Option End) → places_of r e ≡ x → o e ≡ true
-      by_place None none = absurd (nothing_there r e Answer v s lies none)
-      by_place (Some a) at =
-          let same : a ≡ e = ap (λ x. named_by x e) (sym at) ∙ name in
-          let here : s.in_place Answer e ≡ Some v = ap (s.in_place Answer) (sym same) ∙ (sym (ap (held_at s Answer) at) ∙ lies) in
-          fits_open (o e) (s.in_place Request e) (subst (λ (x : Option ℕ). held.Fits (o e) (s.in_place Request e) x) here (fit e))
-
   -- the rows of the part
   pub par_firing : (slot : Slot) (row : Row) (ph : Phase) (s : Tokens) → (s.state d).phase ≡ ph → row_for slot (rows kinds.Par ph (s.state d).number) ≡ Some row
       → firing_of (slice_get r.parts d) (s.state d) slot ≡ Some row
@@ -149,7 +149,7 @@ module _
       (begin_row (s.state d).number, par_firing (Req 2) (begin_row (s.state d).number) Rest s rest refl)
   welcome_part s o up stage left_waits right_waits fit (Req (suc (suc (suc n)))) c v there way lies = absurd (none-some c there)
   welcome_part s o up stage left_waits right_waits fit (Ans zero) c v there way lies =
-      by_phase (s.state d).phase refl (sym left_waits ∙ lies_open (PartEnd d 0) o s v left_name fit lies)
+      by_phase (s.state d).phase refl (sym left_waits ∙ lies_open r (PartEnd d 0) o s v left_name fit lies)
     where
       by_phase : (ph : Phase) → (s.state d).phase ≡ ph → left_runs (s.state d).phase ≡ true
           → (row : Row) × (firing_of (slice_get r.parts d) (s.state d) (Ans 0) ≡ Some row)
@@ -158,7 +158,7 @@ module _
       by_phase LeftOnly e runs = (end_row 0 (s.state d).number, par_firing (Ans 0) (end_row 0 (s.state d).number) LeftOnly s e refl)
       by_phase ph e runs = let bad : true ≡ false = sym runs ∙ ap left_runs e in absurd (cc bad)
   welcome_part s o up stage left_waits right_waits fit (Ans (suc zero)) c v there way lies =
-      by_phase (s.state d).phase refl (sym right_waits ∙ lies_open (PartEnd d 1) o s v right_name fit lies)
+      by_phase (s.state d).phase refl (sym right_waits ∙ lies_open r (PartEnd d 1) o s v right_name fit lies)
     where
       by_phase : (ph : Phase) → (s.state d).phase ≡ ph → right_runs (s.state d).phase ≡ true
           → (row : Row) × (firing_of (slice_get r.parts d) (s.state d) (Ans 1) ≡ Some row)
@@ -559,17 +559,6 @@ module _
         )))
     order_step x s w (lost j k v s' t' c there not_left not_right left right same) seen does driven comes opened left_welcome right_welcome left_list right_list =
         absurd seen
-
-  idle_token : (a : Plan) (s : Tokens) (e : End) (way : Direction) (v : ℕ) → IsIdle a s → token_at a s e way ≡ Some v → ⊥
-  idle_token a s e way v rests lies = by_place (places_of a e) refl
-    where
-      by_place : (o : Option End) → places_of a e ≡ o → ⊥
-      by_place None none = nothing_there a e way v s lies none
-      by_place (Some n) at =
-          let clash : None ≡ Some v = sym (rests.0 way n) ∙ (sym (ap (held_at s way) at) ∙ lies) in cc clash
-
-  pub idle_welcome : (a : Plan) (s : Tokens) → IsIdle a s → AllWelcome a s
-  idle_welcome a s rests i t c v there way lies = absurd (idle_token a s (end_of i t) (way_of t) v rests lies)
 
   pub opened_first : (s : Tokens) → IsIdle r s → Opened [] none_open none_open none_open s
   opened_first s rests =

@@ -16,7 +16,7 @@ use Rattle.gos_realises.specs.Matched.{all_shown, IsMatched, program_of, Realise
 use Rattle.gos_realises.specs.Realises.{AllGround, NamesDiffer, Suits}
 use Rattle.gos_realises.proofs.InputLemmas.{protocol_keeps_turns, matching_suffices}
 use Rattle.gos_parallel.specs.Parallel.{IsParallel, ParallelRealises}
-use Rattle.gos_parallel.proofs.ProtocolLemmas.{turns_in_turn, in_turn_keeps}
+use Rattle.gos_windows.proofs.KeepingLemmas.{turns_in_turn, in_turn_keeps}
 use Rattle.gos_parallel.proofs.LinkedLemmas.{left_list, right_list, left_runs_on, right_runs_on, lists_in_turn, linked_first}
 use Rattle.gos_parallel.proofs.RegularLemmas.{parallel_is_regular}
 use Rattle.gos_parallel.proofs.QuietLemmas.{neat_first}

@@ -17,12 +17,12 @@ use Rattle.gos_plan.proofs.TokenBitsLemmas.{idle_fits}
 use Rattle.gos_webs.specs.Cutting.{Cut, StandsIn, cut_tokens}
 use Rattle.gos_webs.proofs.IdleLemmas.{idle_is_cut}
 use Rattle.gos_realises.specs.Regular.{Pass, pass, way_in, is_open, ComesInTurn, KeepsTurns, InputsKeepTurns, OutputsKeepTurns, IsRegular}
-use Rattle.gos_realises.proofs.InputLemmas.{passed}
+use Rattle.gos_realises.proofs.InputLemmas.{passed, InputTurns, first_turn, later_turns}
+use Rattle.gos_realises.proofs.IdleLemmas.{idle_welcome}
 use Rattle.gos_realises.proofs.RingLemmas.{after, OutputTurns}
 use Rattle.gos_windows.specs.Nodes.{IsRestful}
 use Rattle.gos_windows.proofs.RestLemmas.{closed_rests}
 use Rattle.gos_windows.proofs.OpenLemmas.{ground_heard}
-use Rattle.gos_windows.proofs.NodeLemmas.{InTurn, first_turn, turns_after}
 use Rattle.gos_windows.proofs.ClosingLemmas.{Ports, ports_after}
 use Rattle.gos_windows.proofs.MeetLemmas.{Meets, IsUnjoined, HasPorts, heard_meets}
 use Rattle.gos_windows.proofs.TurnLemmas.{Turned, closed_turned, open_before}
@@ -32,11 +32,11 @@ use Rattle.gos_parallel.proofs.LinkedLemmas.{left_runs, right_runs, Stage, when_
 use Rattle.gos_parallel.proofs.SharedLemmas.{side_ports, left_done, right_done, Owner, on_left, on_right, Shared, shared_first, left_pass, right_pass, whole_turned, shared_step, left_input, right_input, seen_inputs}
 use Rattle.gos_parallel.proofs.HistoryLemmas.{nil_end, passed_append, History, Grown, grow, grown, at_first}
 use Rattle.gos_parallel.proofs.OutputLemmas.{output_turn}
-use Rattle.gos_parallel.proofs.OrderLemmas.{Opened, welcome_all, peel, Next, order_step, idle_welcome, opened_first}
+use Rattle.gos_parallel.proofs.OrderLemmas.{Opened, welcome_all, peel, Next, order_step, opened_first}
 use Rattle.gos_parallel.proofs.QuietLemmas.{Neat, neat_step, neat_first, whole_idle}
 use Rattle.gos_parallel.proofs.LooseLemmas.{loose_comes, loose_contact, loose_does, own_now, opened_left, opened_right}
 
-pub comes_of_turn : (r : Plan) (past : List Pass) (x : Element) → InTurn r past x → Comes r past x
+pub comes_of_turn : (r : Plan) (past : List Pass) (x : Element) → InputTurns r past x → Comes r past x
 comes_of_turn r past (Fire i t) turn = tt
 comes_of_turn r past (Out e v) turn = tt
 comes_of_turn r past (In e v) turn = turn.0
@@ -140,7 +140,7 @@ module _
     right_idle : IsIdle q (Rights first)
     right_idle = idle_is_cut g r q first rests
 
-    seen_step : (z : Step d f g r p q x s w) → IsSeen d f g r p q x s w z → InTurn r past x → After x s w past o
+    seen_step : (z : Step d f g r p q x s w) → IsSeen d f g r p q x s w z → InputTurns r past x → After x s w past o
     seen_step z seen turn =
         finish ys zs left right (driven_step d f g r p q is literals x s w z past lefts rights holds.driven comes_in)
         (shared_step d f g r p q is left_ports right_ports literals x s w z seen past lefts rights holds.shared) one.open_now one.left_now one.right_now one.comes one.opened
@@ -336,7 +336,7 @@ module _
     lost_step =
         let (m, up, which) = open_before r past k n c there turn in by_owner m which (holds.shared.only k m up)
 
-  next : (x : Element) (s w : Tokens) (past : List Pass) (hs ks : List Element) (o lo ro : Open) → Holds s past hs ks o lo ro → Does r x s w → InTurn r past x
+  next : (x : Element) (s w : Tokens) (past : List Pass) (hs ks : List Element) (o lo ro : Open) → Holds s past hs ks o lo ro → Does r x s w → InputTurns r past x
       → Step d f g r p q x s w → After x s w past o
   next x s w past hs ks o lo ro holds does turn (lost k n v s' w' c there not_left not_right left right same) =
       lost_step k n v s' w' past hs ks o lo ro holds does turn c there not_left not_right left right same
@@ -365,7 +365,7 @@ module _
   along (x ∷ xs) s t past hs ks o lo ro holds (w, does, runs) turns =
       let one =
       next x s w past hs ks o lo ro holds does (first_turn r past x xs turns) (step d f g r p q is literals x s w holds.fit does) in
-      let ((u, z, rest), outputs) = along xs w t (after r x past) one.hs one.ks one.now one.lo one.ro one.holds runs (turns_after r past x xs turns) in
+      let ((u, z, rest), outputs) = along xs w t (after r x past) one.hs one.ks one.now one.lo one.ro one.holds runs (later_turns r past x xs turns) in
       ((u, z, (one.now, w, does, one.comes, one.welcome, rest)), outputs_before r past x xs one.output outputs)
 
   holds_first : Holds first [] [] [] none_open none_open none_open
@@ -375,10 +375,10 @@ module _
         shared = shared_first d f g r p q is left_ports right_ports;
         left =
             at_first p (Lefts first) (closed_turned p (left_done d f g r p q is left_ports right_ports) [] (λ k h. refl))
-            (idle_welcome d f g r p q is literals p (Lefts first) (idle_is_cut f r p first rests));
+            (idle_welcome p (Lefts first) (idle_is_cut f r p first rests));
         right =
             at_first q (Rights first) (closed_turned q (right_done d f g r p q is left_ports right_ports) [] (λ k h. refl))
-            (idle_welcome d f g r p q is literals q (Rights first) (idle_is_cut g r q first rests));
+            (idle_welcome q (Rights first) (idle_is_cut g r q first rests));
         opened = opened_first d f g r p q is literals first rests;
         fit = idle_fits r first rests;
         ports = λ e port up. absurd (cc up);
@@ -415,7 +415,7 @@ module _
   reach (y ∷ ys) x s t past hs ks o lo ro holds neat (w, does, runs) turns =
       let one =
       next y s w past hs ks o lo ro holds does (first_turn r past y (ys ++ x ∷ []) turns) (step d f g r p q is literals y s w holds.fit does) in
-      reach ys x w t (after r y past) one.hs one.ks one.now one.lo one.ro one.holds (neat_step r y s w does neat) runs (turns_after r past y (ys ++ x ∷ []) turns)
+      reach ys x w t (after r y past) one.hs one.ks one.now one.lo one.ro one.holds (neat_step r y s w does neat) runs (later_turns r past y (ys ++ x ∷ []) turns)
 
   -- the answer leads to rest
   local_apart : (c : Cut) (a : Plan) (x y : Element) (v : ℕ) → Local c r a x y → x ≡ Out (ResultEnd 0) v → ⊥

@@ -20,7 +20,7 @@ use Rattle.gos_realises.proofs.ToldLemmas.{contains_at}
 use Rattle.gos_windows.specs.OpenNodes.{IsHeard}
 use Rattle.gos_windows.proofs.PortLemmas.{stands_place, place_stands}
 use Rattle.gos_windows.proofs.MeetLemmas.{Meets, met_joined, HasPorts, AreFollowed, met_contact, met_contacts, met_import, own_import, followed_pass, alike}
-use Rattle.gos_windows.proofs.NodeLemmas.{InTurn}
+use Rattle.gos_realises.proofs.InputLemmas.{InputTurns}
 use Rattle.gos_windows.proofs.TurnLemmas.{Turned, closed_turned, import_kept, imports_turned, open_before, comes_so, import_result, region_turned}
 use Rattle.gos_parallel.specs.Parallel.{IsSide, IsParallel}
 use Rattle.gos_parallel.proofs.StepLemmas.{gate, Local, fires, puts_out, takes_in, Step, of_left, of_right, asked, told, starts, left_ends, right_ends, left_ends_all, right_ends_all, lost, IsSeen}
@@ -316,14 +316,14 @@ module _
         subst (λ w. KeepsTurns q rights (pass (ResultEnd 0) w)) (sym (way_asked d f g r p q is literals q is.right.outcome))
         (shut, closed_turned q right_done (pass (ResultEnd 0) Request ∷ rights) (λ i h. right_closed past lefts rights shared kept shut i h))
 
-    local_left_inputs : (x y : Element) (past lefts rights : List Pass) → Local f r p x y → Shared past lefts rights → Turned p lefts → InTurn r past x
+    local_left_inputs : (x y : Element) (past lefts rights : List Pass) → Local f r p x y → Shared past lefts rights → Turned p lefts → InputTurns r past x
         → InputsKeepTurns p lefts (y ∷ [])
     local_left_inputs x y past lefts rights (fires i j k number) shared kept turn = tt
     local_left_inputs x y past lefts rights (puts_out i j k v stands leads slices) shared kept turn = tt
     local_left_inputs x y past lefts rights (takes_in i j k v stands leads slices) shared kept turn =
         (left_input past lefts rights shared kept i k j (met_joined r f p i k j stands leads) leads turn, tt)
 
-    local_right_inputs : (x y : Element) (past lefts rights : List Pass) → Local g r q x y → Shared past lefts rights → Turned q rights → InTurn r past x
+    local_right_inputs : (x y : Element) (past lefts rights : List Pass) → Local g r q x y → Shared past lefts rights → Turned q rights → InputTurns r past x
         → InputsKeepTurns q rights (y ∷ [])
     local_right_inputs x y past lefts rights (fires i j k number) shared kept turn = tt
     local_right_inputs x y past lefts rights (puts_out i j k v stands leads slices) shared kept turn = tt
@@ -331,7 +331,7 @@ module _
         (right_input past lefts rights shared kept i k j (met_joined r g q i k j stands leads) leads turn, tt)
 
     pub seen_inputs : (x : Element) (s t : Tokens) (z : Step d f g r p q x s t) → (past lefts rights : List Pass) → Driven d past lefts rights s → Shared past lefts rights
-        → Turned p lefts → Turned q rights → InTurn r past x
+        → Turned p lefts → Turned q rights → InputTurns r past x
         → InputsKeepTurns p lefts (left_seen d f g r p q is literals x s t z) × InputsKeepTurns q rights (right_seen d f g r p q is literals x s t z)
     seen_inputs x s t (of_left x' y s' t' local sees unseen same) past lefts rights driven shared left_kept right_kept turn =
         (local_left_inputs x' y past lefts rights local shared left_kept turn, tt)

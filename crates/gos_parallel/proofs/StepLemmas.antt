@@ -9,7 +9,7 @@ use Rattle.gos_netlist.specs.Events.{Direction, Request, Answer}
 use Rattle.gos_model.specs.Typing.{Imported}
 use Rattle.gos_plan.specs.Kinds.{Part, Contact, asks, contacts_of}
 use Rattle.gos_plan.specs.Firing.{Rest, Both, LeftOnly, RightOnly, State, Slot, Req, Ans, Token, Row, at, quiet_row}
-use Rattle.gos_plan.specs.Plans.{End, PartEnd, ImportEnd, ResultEnd, Joint, Plan, contact_at, same_end, stands_in, turned_if}
+use Rattle.gos_plan.specs.Plans.{End, PartEnd, ImportEnd, ResultEnd, Joint, Plan, IsRight, contact_at, same_end, stands_in, turned_if}
 use Rattle.gos_plan.specs.Tokens.{Tokens, Element, Fire, Out, In, places_of, same_way, held_at, with_held, token_at, with_token, with_state, with_puts, end_of, way_of, firing_of, fired, way_taken, Passes, Does, Runs}
 use Rattle.gos_plan.specs.TokenBits.{LiteralFits, AllFit}
 use Rattle.gos_plan.proofs.JointLemmas.{contained, found, has_place, joined, one_joint, same_is, stands_there}
@@ -176,6 +176,43 @@ one_not_two e = omega (arith, e)
 two_not_one : Differ 2 1
 two_not_one e = omega (arith, e)
 
+-- A result that is joined to a part's end alone: a token lies at its gate from either end, and none from another.
+module _ (r : Plan) (d run : ℕ) (right : IsRight r) (has : Contains r.joints (joint (ResultEnd 0) (PartEnd d run))) where
+  abbrev run_joint : Joint
+  run_joint = joint (ResultEnd 0) (PartEnd d run)
+
+  pub result_gate : places_of r (ResultEnd 0) ≡ Some (ResultEnd 0)
+  result_gate = stands_there r run_joint (ResultEnd 0) right (contained r.joints run_joint has) (first_stands run_joint)
+
+  pub part_gate : places_of r (PartEnd d run) ≡ Some (ResultEnd 0)
+  part_gate = stands_there r run_joint (PartEnd d run) right (contained r.joints run_joint has) (last_stands run_joint)
+
+  place_apart : (w t : Bool) (held old : Option ℕ) → t ≡ false → (if w && t then held else old) ≡ old
+  place_apart true t held old e = ap (λ (b : Bool). if b then held else old) e
+  place_apart false t held old e = refl
+
+  pub gate_elsewhere : (e : End) → (e ≡ ResultEnd 0 → ⊥) → (e ≡ PartEnd d run → ⊥) → (w : Direction) (held : Option ℕ) (s : Tokens) (way : Direction)
+      → gate (with_token r e w held s) way ≡ gate s way
+  gate_elsewhere e not_result not_part w held s way = there (places_of r e) refl
+    where
+      never : (a : End) → places_of r e ≡ Some a → ResultEnd 0 ≡ a → ⊥
+      never a named at =
+          let there = found r.joints e a named in
+          let asks_there : stands_in (ResultEnd 0) there.joint ≡ true =
+          subst (λ (x : End). stands_in x there.joint ≡ true) (there.named ∙ sym at) (first_stands there.joint) in
+          let one : there.joint ≡ run_joint =
+          one_joint r [] r.joints there.joint run_joint (ResultEnd 0) right there.is_in (contained r.joints run_joint has) asks_there
+          (first_stands run_joint) in
+          elim (which_end e run_joint (subst (λ (j : Joint). stands_in e j ≡ true) one there.stands)) [ inl at_result ↦ not_result at_result | inr at_part ↦ not_part at_part ]
+
+      differs : (a : End) → places_of r e ≡ Some a → (t : Bool) → same_end (ResultEnd 0) a ≡ t → t ≡ false
+      differs a named true t = absurd (never a named (same_is (ResultEnd 0) a t))
+      differs a named false t = refl
+
+      there : (o : Option End) → places_of r e ≡ o → gate (with_held w o held s) way ≡ gate s way
+      there None named = refl
+      there (Some a) named = place_apart (same_way way w) (same_end (ResultEnd 0) a) held (gate s way) (differs a named (same_end (ResultEnd 0) a) refl)
+
 module _ (d : ℕ) (f g : Cut) (r p q : Plan) (is : IsParallel d f g r p q) where
   left_joints : (a b : End) → Contains r.joints (joint a b) → IsJointOf f p a b ⊎ ((PartEnd d 0 ≡ a → ⊥) × (PartEnd d 0 ≡ b → ⊥))
   left_joints a b has =
@@ -197,41 +234,16 @@ module _ (d : ℕ) (f g : Cut) (r p q : Plan) (is : IsParallel d f g r p q) wher
   pub free_right : places_of q (ResultEnd 0) ≡ None → places_of r (PartEnd d 1) ≡ None
   free_right = free_side d 1 g r q is.right right_joints
 
-  -- the joint of the result
-  abbrev pub run_joint : Joint
-  run_joint = joint (ResultEnd 0) (PartEnd d 2)
-
+  -- what lies at the result's gate
   pub gate_at_result : places_of r (ResultEnd 0) ≡ Some (ResultEnd 0)
-  gate_at_result = stands_there r run_joint (ResultEnd 0) is.left.cut.whole_right (contained r.joints run_joint is.run) (first_stands run_joint)
+  gate_at_result = result_gate r d 2 is.left.cut.whole_right is.run
 
   pub gate_at_part : places_of r (PartEnd d 2) ≡ Some (ResultEnd 0)
-  gate_at_part = stands_there r run_joint (PartEnd d 2) is.left.cut.whole_right (contained r.joints run_joint is.run) (last_stands run_joint)
+  gate_at_part = part_gate r d 2 is.left.cut.whole_right is.run
 
-  place_apart : (w t : Bool) (held old : Option ℕ) → t ≡ false → (if w && t then held else old) ≡ old
-  place_apart true t held old e = ap (λ (b : Bool). if b then held else old) e
-  place_apart false t held old e = refl
-
-  pub gate_kept : (e : End) → (e ≡ ResultEnd 0 → ⊥) → (e ≡ PartEnd d 2 → ⊥) → (w : Direction) (held : Option ℕ) (s : Tokens) (way : Direction)
+  gate_kept : (e : End) → (e ≡ ResultEnd 0 → ⊥) → (e ≡ PartEnd d 2 → ⊥) → (w : Direction) (held : Option ℕ) (s : Tokens) (way : Direction)
       → gate (with_token r e w held s) way ≡ gate s way
-  gate_kept e not_result not_part w held s way = there (places_of r e) refl
-    where
-      never : (a : End) → places_of r e ≡ Some a → ResultEnd 0 ≡ a → ⊥
-      never a named at =
-          let there = found r.joints e a named in
-          let asks_there : stands_in (ResultEnd 0) there.joint ≡ true =
-          subst (λ (x : End). stands_in x there.joint ≡ true) (there.named ∙ sym at) (first_stands there.joint) in
-          let one : there.joint ≡ run_joint =
-          one_joint r [] r.joints there.joint run_joint (ResultEnd 0) is.left.cut.whole_right there.is_in (contained r.joints run_joint is.run) asks_there
-          (first_stands run_joint) in
-          elim (which_end e run_joint (subst (λ (j : Joint). stands_in e j ≡ true) one there.stands)) [ inl at_result ↦ not_result at_result | inr at_part ↦ not_part at_part ]
-
-      differs : (a : End) → places_of r e ≡ Some a → (t : Bool) → same_end (ResultEnd 0) a ≡ t → t ≡ false
-      differs a named true t = absurd (never a named (same_is (ResultEnd 0) a t))
-      differs a named false t = refl
-
-      there : (o : Option End) → places_of r e ≡ o → gate (with_held w o held s) way ≡ gate s way
-      there None named = refl
-      there (Some a) named = place_apart (same_way way w) (same_end (ResultEnd 0) a) held (gate s way) (differs a named (same_end (ResultEnd 0) a) refl)
+  gate_kept = gate_elsewhere r d 2 is.left.cut.whole_right is.run
 
   no_left : (k : ℕ) → (k ≡ 0 → ⊥) → PartEnd d k ≡ PartEnd d 0 → ⊥
   no_left k other e = let same : k ≡ 0 = cc e in other same

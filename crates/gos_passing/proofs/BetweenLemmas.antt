@@ -3,7 +3,7 @@
 -- What is open behind a Share lags: requests reach it late, and its own are late outside. So of the handshakes that are served those that are
 -- open behind it are open outside, and of those that are asked the other way round. Where anything is open a handshake that
 -- is served is (`positive`).
-use Rattle.std.specs.Prelude.{◌≡◌, ℕ, zero, suc, ◌+◌, ◌-◌, ◌<◌, Bool, true, false, ◌&&◌, ◌||◌, IsTrue, IsFalse, List, ◌⊎◌, length, Some, slice_get, nat_lt, option_map}
+use Rattle.std.specs.Prelude.{◌≡◌, ℕ, zero, suc, ◌+◌, ◌-◌, ◌<◌, Bool, true, false, ◌&&◌, IsTrue, IsFalse, List, ◌⊎◌, length, Some, slice_get, nat_lt, option_map}
 use Rattle.std.proofs.Common.{refl, sym, ◌∙◌, ap, subst, arith, inl, inr, length-append}
 use Rattle.std.proofs.lemmas.Bool.Decides.{nat_tests}
 use Rattle.std.proofs.lemmas.Option.{slice_get_within, slice_get-map}
@@ -18,7 +18,7 @@ use Rattle.gos_plan.specs.Plans.{End}
 use Rattle.gos_plan.proofs.AskingLemmas.{front, behind}
 use Rattle.gos_plan.proofs.SideLemmas.{pairs_join, functions_join}
 use Rattle.gos_realises.specs.Regular.{count, some_open, beyond, KeepsTurnsOf}
-use Rattle.gos_realises.proofs.GroundTurnLemmas.{some_there, there_some, count_fun}
+use Rattle.gos_realises.proofs.GroundTurnLemmas.{first_open, some_there, there_some, count_fun}
 use Rattle.gos_renumbered.proofs.TurnLemmas.{of_import, of_result, ImportKeeps, EachKeeps}
 
 -- what is open in f is open in g, where the handshake is served; where it is asked the other way round
@@ -82,13 +82,6 @@ served_some t f (j, k, at, role, up) = there_some (count t) f j (slice_get_withi
 
 one_served : (t : Type') (f : ℕ → Bool) (k : Contact) (j : ℕ) → slice_get (contacts_of t) j ≡ Some k → k.role ≡ Serve → f j ≡ true → ServedOpen t f
 one_served t f k j at role up = (j, k, at, role, up)
-
-first_open : (f : ℕ → Bool) → some_open 1 f ≡ true → f 0 ≡ true
-first_open f h = by_test (f 0) refl h
-  where
-    by_test : (b : Bool) → f 0 ≡ b → b || false ≡ true → f 0 ≡ true
-    by_test true t g = t
-    by_test false t g = absurd (cc g)
 
 -- of two sides together
 side_open : (n m l : ℕ) (f : ℕ → Bool) → l ≡ n + m → some_open l f ≡ true → (some_open n f ≡ true) ⊎ (some_open m (beyond n f) ≡ true)

@@ -20,14 +20,14 @@ use Rattle.gos_plan.proofs.TokenBitsLemmas.{all_stay_fit}
 use Rattle.gos_plan.proofs.HeldLemmas as held
 use Rattle.gos_realises.specs.Regular.{Pass, pass, way_in, way_out, is_request, is_open, KeepsTurns}
 use Rattle.gos_realises.proofs.RingLemmas.{after, OutputTurns}
-use Rattle.gos_realises.proofs.InputLemmas.{in_there, out_there}
+use Rattle.gos_realises.proofs.InputLemmas.{InputTurns, in_there, out_there}
 use Rattle.gos_renumbered.proofs.TurnLemmas.{EachKeeps}
 use Rattle.gos_webs.proofs.CutLemmas.{fire_cut}
 use Rattle.gos_passing.specs.Behind.{IsBehind}
 use Rattle.gos_passing.proofs.BetweenLemmas.{RoleBelow}
 use Rattle.gos_passing.proofs.LyingLemmas.{lying, is_cut, within}
 use Rattle.gos_passing.proofs.SeenLemmas.{seen, token_so, put_so, Opens, Untouched, InOrder, fire_order, out_order, in_order}
-use Rattle.gos_passing.proofs.StepLemmas.{RegularFrom, InputTurns, Stepped, stepped}
+use Rattle.gos_passing.proofs.StepLemmas.{RegularFrom, Stepped, stepped}
 use Rattle.gos_passing.proofs.LagLemmas.{TurnAt, turn_at, at_turn, open_this, open_other, told_end, ports_moved, put_below, taken_below, both_ways, ports_of_turns, turns_of_ports}
 use Rattle.gos_passing.proofs.HeldLemmas.{Held, held_below, lines_untouched, line_kept, not_result}
 

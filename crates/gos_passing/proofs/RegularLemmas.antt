@@ -13,20 +13,20 @@ use Rattle.gos_plan.specs.TokenBits.{LiteralFits}
 use Rattle.gos_plan.specs.Orderly.{Open, none_open, AllWelcome}
 use Rattle.gos_plan.proofs.TokenBitsLemmas.{idle_fits}
 use Rattle.gos_realises.specs.Regular.{count, Pass, is_open, InputsKeepTurns, OutputsKeepTurns, IsRegular}
-use Rattle.gos_realises.proofs.InputLemmas.{passed}
+use Rattle.gos_realises.proofs.InputLemmas.{passed, InputTurns, first_turn, later_turns}
 use Rattle.gos_realises.proofs.RingLemmas.{after}
 use Rattle.gos_renumbered.proofs.TurnLemmas.{EachKeeps}
 use Rattle.gos_webs.proofs.CutLemmas.{part_at, part_there}
 use Rattle.gos_webs.proofs.IdleLemmas.{idle_is_cut}
 use Rattle.gos_sharing.specs.Sharing.{caller_end}
 use Rattle.gos_buffers.proofs.BranchLemmas.{none_fits}
-use Rattle.gos_buffers.proofs.RegularLemmas.{idle_welcomes}
+use Rattle.gos_realises.proofs.IdleLemmas.{idle_welcome}
 use Rattle.gos_passing.specs.Behind.{IsBehind, BehindIsRegular}
 use Rattle.gos_passing.proofs.BetweenLemmas.{none_keeps, none_open_of}
 use Rattle.gos_passing.proofs.EndLemmas.{asker, share, own_part, source_contact, caller_contact}
 use Rattle.gos_passing.proofs.LyingLemmas.{lying}
 use Rattle.gos_passing.proofs.SeenLemmas.{seen, token_so, part_state}
-use Rattle.gos_passing.proofs.StepLemmas.{Ordered, InputTurns, first_turn, later_turns, out_joined, from_idle}
+use Rattle.gos_passing.proofs.StepLemmas.{Ordered, out_joined, from_idle}
 use Rattle.gos_passing.proofs.LagLemmas.{both_lead}
 use Rattle.gos_passing.proofs.HandingLemmas.{slot_of, caller_number, Where, at_source, at_caller, lies_where, TakesAt, takes_inward, takes_outward, share_takes}
 use Rattle.gos_passing.proofs.HeldLemmas.{Held}
@@ -155,7 +155,7 @@ module _ (i : ℕ) (t : Type') (c : ℕ) (r p : Plan) (is : IsBehind i t c r p) 
   held_first s regular idle =
       record {
         going = from_idle p (seen i t c r p is s) regular own_idle;
-        welcome = idle_welcomes p (seen i t c r p is s) own_idle;
+        welcome = idle_welcome p (seen i t c r p is s) own_idle;
         opens = λ e here. refl;
         fit = none_fits r s idle;
         small = idle_fits r s idle;

@@ -15,13 +15,12 @@ use Rattle.gos_plan.specs.Orderly.{Open, after_taken, after_put, ComesWell, Come
 use Rattle.gos_plan.proofs.TurnLemmas.{token_state}
 use Rattle.gos_plan.proofs.HeldLemmas as held
 use Rattle.gos_realises.specs.Regular.{Pass, pass, way_in, way_out, is_request, is_open, KeepsTurns}
-use Rattle.gos_realises.proofs.InputLemmas.{in_there, out_there}
+use Rattle.gos_realises.proofs.InputLemmas.{InputTurns, in_there, out_there}
 use Rattle.gos_renumbered.proofs.TurnLemmas.{EachKeeps}
 use Rattle.gos_passing.specs.Behind.{IsBehind}
 use Rattle.gos_passing.proofs.EndLemmas.{asker, result_contact, result_is}
 use Rattle.gos_passing.proofs.LyingLemmas.{result_place}
 use Rattle.gos_passing.proofs.SeenLemmas.{seen, outer_put, asker_one}
-use Rattle.gos_passing.proofs.StepLemmas.{InputTurns}
 use Rattle.gos_passing.proofs.LagLemmas.{lead, follow, TurnAt, turn_at, at_turn, line_put, line_taken, both_lead, put_outside, outside_finds, taken_outside, open_this, open_other, ports_of_turns, turns_of_ports}
 use Rattle.gos_passing.proofs.HeldLemmas.{LineAt, Held, outside_moves, lines_moved, result_apart, not_import}
 use Rattle.gos_passing.proofs.JointLemmas.{put_other, taken_other, put_this, taken_this, place_other, lies_in, emptied, joint_well, put_outer, taken_outer}

@@ -22,7 +22,7 @@ use Rattle.gos_plan.proofs.TurnLemmas.{fired_state, token_state, way_to_take}
 use Rattle.gos_realises.specs.Regular.{count, Pass, pass, way_in, way_out, is_open, is_request, KeepsTurnsOf, KeepsTurns, InputsKeepTurns, IsRegular}
 use Rattle.gos_realises.specs.Realises.{AllGround}
 use Rattle.gos_realises.proofs.RingLemmas.{after}
-use Rattle.gos_realises.proofs.InputLemmas.{in_there, out_there, import_serves}
+use Rattle.gos_realises.proofs.InputLemmas.{InputTurns, first_turn, later_turns, in_there, out_there, import_serves}
 use Rattle.gos_realises.proofs.GroundTurnLemmas.{some_there, there_some}
 use Rattle.gos_renumbered.proofs.TurnLemmas.{EachKeeps, of_import, of_result}
 use Rattle.gos_webs.specs.Cutting.{Cut, StandsIn, cut_tokens, out_if}
@@ -36,7 +36,7 @@ use Rattle.gos_passing.specs.Source.{IsBefore, HasItsImports, SourcesAreLoyal, G
 use Rattle.gos_passing.proofs.BetweenLemmas.{ServedOpen, positive}
 use Rattle.gos_passing.proofs.EndLemmas.{Owned, asker, server, share, not_share}
 use Rattle.gos_passing.proofs.LyingLemmas.{lying, share_outside, is_cut, From, of_inner, of_asker, of_server, from_joint}
-use Rattle.gos_passing.proofs.StepLemmas.{RegularFrom, InputTurns, first_turn, later_turns, stepped, from_idle}
+use Rattle.gos_passing.proofs.StepLemmas.{RegularFrom, stepped, from_idle}
 use Rattle.gos_passing.proofs.LagLemmas.{open_this, open_other, told_end, ports_of_turns, served_there}
 
 -- where a Share takes a token: at its source, or at a caller

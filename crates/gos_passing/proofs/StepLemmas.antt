@@ -1,12 +1,12 @@
 -- A regular plan, step by step: from where a list led, each element that comes in turn comes in order, and keeps turns.
 use Rattle.std.specs.Prelude.{◌≡◌, List, [], ◌∷◌, ◌++◌}
 use Rattle.std.proofs.Common.{refl, sym, ◌∙◌, ap, subst}
-use Rattle.gos_plan.specs.Plans.{Plan, contact_at}
+use Rattle.gos_plan.specs.Plans.{Plan}
 use Rattle.gos_plan.specs.Tokens.{Tokens, Element, Fire, Out, In, Does, Runs, IsIdle}
 use Rattle.gos_plan.specs.Orderly.{Open, none_open, ComesInOrder, AllWelcome, OrderlyFrom}
 use Rattle.gos_plan.proofs.DecidedLemmas.{one_state, one_open}
-use Rattle.gos_realises.specs.Regular.{Pass, pass, way_in, KeepsTurns, InputsKeepTurns, OutputsKeepTurns, IsRegular}
-use Rattle.gos_realises.proofs.InputLemmas.{passed, passed_then, inputs_then, runs_then}
+use Rattle.gos_realises.specs.Regular.{Pass, InputsKeepTurns, OutputsKeepTurns, IsRegular}
+use Rattle.gos_realises.proofs.InputLemmas.{passed, passed_then, inputs_then, InputTurns, runs_then}
 use Rattle.gos_realises.proofs.RingLemmas.{after, OutputTurns}
 
 abbrev pub Ordered : Plan → List Element → Open → Tokens → Type 0
@@ -27,27 +27,12 @@ RegularFrom p past o s =
     Came p past s
     × ((zs : List Element) (w : Tokens) → Runs p zs s w → InputsKeepTurns p past zs → Ordered p zs o s × OutputsKeepTurns p past zs)
 
--- an input keeps turns
-abbrev pub InputTurns : Plan → List Pass → Element → Type 0
-InputTurns p past (Fire i t) = Unit {0}
-InputTurns p past (Out e v) = Unit {0}
-InputTurns p past (In e v) = KeepsTurns p past (pass e (way_in (contact_at p e)))
-
+-- a list with one element more in front, whose inputs keep turns
 pub with_turn : (p : Plan) (past : List Pass) (x : Element) (zs : List Element) → InputTurns p past x → InputsKeepTurns p (after p x past) zs
     → InputsKeepTurns p past (x ∷ zs)
 with_turn p past (Fire i t) zs one more = more
 with_turn p past (Out e v) zs one more = more
 with_turn p past (In e v) zs one more = (one, more)
-
-pub first_turn : (p : Plan) (past : List Pass) (x : Element) (zs : List Element) → InputsKeepTurns p past (x ∷ zs) → InputTurns p past x
-first_turn p past (Fire i t) zs turns = tt
-first_turn p past (Out e v) zs turns = tt
-first_turn p past (In e v) zs turns = turns.0
-
-pub later_turns : (p : Plan) (past : List Pass) (x : Element) (zs : List Element) → InputsKeepTurns p past (x ∷ zs) → InputsKeepTurns p (after p x past) zs
-later_turns p past (Fire i t) zs turns = turns
-later_turns p past (Out e v) zs turns = turns
-later_turns p past (In e v) zs turns = turns.1
 
 out_first : (p : Plan) (past : List Pass) (x : Element) (zs : List Element) → OutputsKeepTurns p past (x ∷ zs) → OutputTurns p past x
 out_first p past (Fire i t) zs turns = tt

@@ -49,7 +49,7 @@ width_small (i ∷ is) t d =
     let rest = width_small is t d in
     let sum = count_fun i.ty (whole_type is t) in omega (arith, rest, sum)
 
-first_open : (f : ℕ → Bool) → some_open 1 f ≡ true → f 0 ≡ true
+pub first_open : (f : ℕ → Bool) → some_open 1 f ≡ true → f 0 ≡ true
 first_open f h = by_test (f 0) refl h
   where
     by_test : (b : Bool) → f 0 ≡ b → b || false ≡ true → f 0 ≡ true

@@ -15,7 +15,9 @@ use Rattle.gos_model.specs.Protocol.{Allowed, KeepsAfter}
 use Rattle.gos_plan.specs.Kinds.{Contact, contacts_of}
 use Rattle.gos_plan.specs.Plans.{End, PartEnd, ImportEnd, ResultEnd, Plan, contact_at, contacts_of_import, turned_if, same_end}
 use Rattle.gos_plan.specs.Tokens.{Tokens, Element, Fire, Out, In, IsPortEnd, Passes, way_put, Does, Runs, IsIdle}
-use Rattle.gos_realises.specs.Regular.{Pass, pass, way_in, way_out, is_request, is_open, KeepsTurnsOf, whole_type, whole_end, ComesInTurn, InputsKeepTurns, OutputsKeepTurns, IsRegular}
+use Rattle.gos_plan.specs.Orderly.{Open, ComesInOrder, AllWelcome, OrderlyFrom}
+use Rattle.gos_plan.proofs.DecidedLemmas.{one_state, one_open}
+use Rattle.gos_realises.specs.Regular.{Pass, pass, way_in, way_out, is_request, is_open, KeepsTurnsOf, whole_type, whole_end, ComesInTurn, KeepsTurns, InputsKeepTurns, OutputsKeepTurns, IsRegular}
 use Rattle.gos_realises.specs.Matched.{port_if, event_number, label_at, all_shown}
 use Rattle.gos_realises.specs.Realises.{AllGround, NamesDiffer}
 use Rattle.gos_realises.specs.Inputs.{ProtocolKeepsTurns, MatchingSuffices}
@@ -44,6 +46,42 @@ outputs_last p past [] zs whole = whole
 outputs_last p past (Fire i t ∷ ys) zs whole = outputs_last p past ys zs whole
 outputs_last p past (Out e v ∷ ys) zs whole = outputs_last p (after p (Out e v) past) ys zs whole.1
 outputs_last p past (In e v ∷ ys) zs whole = outputs_last p (after p (In e v) past) ys zs whole
+
+-- the last element of an orderly list
+pub last_order : (p : Plan) (hs : List Element) (y : Element) (o u q : Open) (s t w z : Tokens) → OrderlyFrom p (hs ++ y ∷ []) o s u t
+    → OrderlyFrom p hs o s q w → Does p y w z → (m : Open) × ComesInOrder p y w q m × AllWelcome p z
+last_order p [] y o u q s t w z (m, v, does, comes, welcome, rest) is also = (
+  m,
+  subst (λ (a : Tokens). ComesInOrder p y a q m) (sym is.1) (subst (λ (b : Open). ComesInOrder p y s b m) (sym is.0) comes),
+  subst (AllWelcome p) (one_state p y w v z (subst (λ (a : Tokens). Does p y a v) (sym is.1) does) also) welcome,
+)
+last_order p (x ∷ hs) y o u q s t w z (m, v, does, comes, welcome, rest) (n, a, doing, coming, well, more) also =
+    let tokens = one_state p x s v a does doing in
+    let open_so = one_open p x o m n s v does comes coming in
+    last_order p hs y n u q a t w z
+    (subst (λ (b : Open). OrderlyFrom p (hs ++ y ∷ []) b a u t) open_so (subst (λ (b : Tokens). OrderlyFrom p (hs ++ y ∷ []) m b u t) tokens rest)) more also
+
+-- an input keeps turns
+abbrev pub InputTurns : Plan → List Pass → Element → Type 0
+InputTurns p past (Fire i t) = Unit {0}
+InputTurns p past (Out e v) = Unit {0}
+InputTurns p past (In e v) = KeepsTurns p past (pass e (way_in (contact_at p e)))
+
+-- turns of a list: those of its first element, and those of the rest
+pub first_turn : (p : Plan) (past : List Pass) (x : Element) (xs : List Element) → InputsKeepTurns p past (x ∷ xs) → InputTurns p past x
+first_turn p past (Fire i t) xs turns = tt
+first_turn p past (Out e v) xs turns = tt
+first_turn p past (In e v) xs turns = turns.0
+
+pub first_turns : (p : Plan) (past : List Pass) (x : Element) (xs : List Element) → InputsKeepTurns p past (x ∷ xs) → InputsKeepTurns p past (x ∷ [])
+first_turns p past (Fire i t) xs turns = tt
+first_turns p past (Out e v) xs turns = tt
+first_turns p past (In e v) xs turns = (turns.0, tt)
+
+pub later_turns : (p : Plan) (past : List Pass) (x : Element) (xs : List Element) → InputsKeepTurns p past (x ∷ xs) → InputsKeepTurns p (after p x past) xs
+later_turns p past (Fire i t) xs turns = turns
+later_turns p past (Out e v) xs turns = turns
+later_turns p past (In e v) xs turns = turns.1
 
 pub runs_then : (p : Plan) (ys : List Element) (x : Element) (s u w : Tokens) → Runs p ys s u → Does p x u w → Runs p (ys ++ x ∷ []) s w
 runs_then p [] x s u w is does = (w, subst (λ a. Does p x a w) is does, refl)
@@ -90,6 +128,21 @@ one_ground [] ground i x is = absurd (none-some x is)
 one_ground (j ∷ js) ground zero x is = subst (λ (y : Imported). IsGround y.ty) (same_Some j x is) ground.0
 one_ground (j ∷ js) ground (suc i) x is = one_ground js ground.1 i x is
 
+-- what labels leave open is what passed leaves open
+abbrev pub OpenAlike : Plan → List Label → List Pass → Type 0
+OpenAlike p ls past = (e : End) (k : Contact) → contact_at p e ≡ Some k → IsPortEnd e → told_open p ls e ≡ is_open past e
+
+pub alike_first : (p : Plan) → OpenAlike p [] []
+alike_first p (PartEnd i h) k there port = absurd port
+alike_first p (ImportEnd i h) k there port = refl
+alike_first p (ResultEnd h) k there port = refl
+
+pub alike_after : (p : Plan) → NamesDiffer p.imports → (d : End) (way : Direction) (v : ℕ) (ls : List Label) (past : List Pass) (c : Contact)
+    → contact_at p d ≡ Some c → IsPortEnd d → OpenAlike p ls past → OpenAlike p (label_at p d way v ∷ ls) (pass d way ∷ past)
+alike_after p differ d way v ls past c at_d port_d alike e k at_e port_e =
+    told_step p differ d e way v ls c k at_d at_e port_d port_e
+    ∙ (λ l. if same_end d e then is_request way else alike e k at_e port_e l)
+
 module _
     (p : Plan) (regular : IsRegular p) (ground : AllGround p.imports) (differ : NamesDiffer p.imports) (done : IsDone p.outcome)
     (first : Tokens) (idle : IsIdle p first) where
@@ -98,15 +151,6 @@ module _
 
   abbrev Turned : List Pass → Type 0
   Turned past = KeepsTurnsOf (whole_type p.imports p.outcome) (λ h. is_open past (whole_end 0 p.imports h))
-
-  abbrev Agree : List Label → List Pass → Type 0
-  Agree ls past = (e : End) (k : Contact) → contact_at p e ≡ Some k → IsPortEnd e → told_open p ls e ≡ is_open past e
-
-  agree_step : (d : End) (way : Direction) (v : ℕ) (ls : List Label) (past : List Pass) (c : Contact) → contact_at p d ≡ Some c → IsPortEnd d
-      → Agree ls past → Agree (label_at p d way v ∷ ls) (pass d way ∷ past)
-  agree_step d way v ls past c at_d port_d agree e k at_e port_e =
-      told_step p differ d e way v ls c k at_d at_e port_d port_e
-      ∙ (λ l. if same_end d e then is_request way else agree e k at_e port_e l)
 
   -- what an input may be, and what it does to turns
   abbrev MayPass : List Label → List Pass → End → ℕ → Direction → Type 0
@@ -141,13 +185,13 @@ module _
       more up =
           ap (is_open (pass (ImportEnd i g) Answer ∷ past)) (result_end 0 p.imports) ∙ (sym (ap (is_open past) (result_end 0 p.imports)) ∙ up)
 
-  at_result : (v : ℕ) (ls : List Label) (past : List Pass) (c : Contact) → contact_at p (ResultEnd 0) ≡ Some c → Agree ls past → Turned past
+  at_result : (v : ℕ) (ls : List Label) (past : List Pass) (c : Contact) → contact_at p (ResultEnd 0) ≡ Some c → OpenAlike p ls past → Turned past
       → Permitted ls (ResultEnd 0) v Request → MayPass ls past (ResultEnd 0) v Request
   at_result v ls past c there agree turned permitted =
       let (event, value, shut) = permitted refl in
       (sym (agree (ResultEnd 0) c there tt) ∙ shut, result_opens past turned)
 
-  at_import : (i h v : ℕ) (ls : List Label) (past : List Pass) (c : Contact) → contact_at p (ImportEnd i h) ≡ Some c → Agree ls past → Turned past
+  at_import : (i h v : ℕ) (ls : List Label) (past : List Pass) (c : Contact) → contact_at p (ImportEnd i h) ≡ Some c → OpenAlike p ls past → Turned past
       → Permitted ls (ImportEnd i h) v Answer → MayPass ls past (ImportEnd i h) v Answer
   at_import i h v ls past c there agree turned permitted =
       let (x, is) = there_is p.imports i h c there in
@@ -161,7 +205,7 @@ module _
       (sym (agree (ImportEnd i h) c there tt) ∙ told, import_closes i h past turned)
 
   -- the way of an input is told by its end
-  at_end : (e : End) (v : ℕ) (ls : List Label) (past : List Pass) (c : Contact) → contact_at p e ≡ Some c → IsPortEnd e → Agree ls past → Turned past
+  at_end : (e : End) (v : ℕ) (ls : List Label) (past : List Pass) (c : Contact) → contact_at p e ≡ Some c → IsPortEnd e → OpenAlike p ls past → Turned past
       → Permitted ls e v (way_put c.role) → MayPass ls past e v (way_put c.role)
   at_end (PartEnd i h) v ls past c there port agree turned permitted = absurd port
   at_end (ImportEnd i h) v ls past c there port agree turned permitted =
@@ -176,7 +220,7 @@ module _
       (at_result v ls past c (ap (λ k. contact_at p (ResultEnd k)) (sym none) ∙ there) agree turned
       (subst (λ r. Permitted ls (ResultEnd 0) v (way_put r)) (sym role) (subst (λ k. Permitted ls (ResultEnd k) v (way_put c.role)) none permitted))))
 
-  input_turns : (e : End) (v : ℕ) (ls : List Label) (past : List Pass) (c : Contact) → contact_at p e ≡ Some c → IsPortEnd e → Agree ls past → Turned past
+  input_turns : (e : End) (v : ℕ) (ls : List Label) (past : List Pass) (c : Contact) → contact_at p e ≡ Some c → IsPortEnd e → OpenAlike p ls past → Turned past
       → Permitted ls e v (way_in (contact_at p e)) → MayPass ls past e v (way_in (contact_at p e))
   input_turns e v ls past c there port agree turned permitted =
       subst (λ o. MayPass ls past e v (way_in o)) (sym there)
@@ -184,7 +228,7 @@ module _
 
   -- along the list
   along : (xs ys : List Element) (u t : Tokens) (ls : List Label) (past : List Pass) → passed p [] ys ≡ past → Runs p ys first u
-      → InputsKeepTurns p [] ys → Agree ls past → Turned past → Runs p xs u t → KeepsAfter p.imports ls (all_shown p xs) → InputsKeepTurns p past xs
+      → InputsKeepTurns p [] ys → OpenAlike p ls past → Turned past → Runs p xs u t → KeepsAfter p.imports ls (all_shown p xs) → InputsKeepTurns p past xs
   along [] ys u t ls past at ran kept agree turned runs keeps = tt
   along (Fire i k ∷ xs) ys u t ls past at ran kept agree turned (w, does, runs) keeps =
       along xs (ys ++ Fire i k ∷ []) w t ls past (passed_then p [] ys (Fire i k) ∙ at) (runs_then p ys (Fire i k) first u w ran does)
@@ -197,7 +241,7 @@ module _
       let last =
       subst (λ past. OutputsKeepTurns p past (Out e v ∷ [])) at (outputs_last p [] ys (Out e v ∷ []) (regular first w (ys ++ Out e v ∷ []) idle ran_on kept_on).1) in
       along xs (ys ++ Out e v ∷ []) w t (label_at p e way v ∷ ls) (pass e way ∷ past) (passed_then p [] ys (Out e v) ∙ ap (after p (Out e v)) at) ran_on
-      kept_on (agree_step e way v ls past c there does.0 agree) last.0.1 runs keeps.1
+      kept_on (alike_after p differ e way v ls past c there does.0 agree) last.0.1 runs keeps.1
   along (In e v ∷ xs) ys u t ls past at ran kept agree turned (w, does, runs) keeps =
       let (c, there) = in_there p e v u w does in
       let way = way_in (contact_at p e) in
@@ -206,17 +250,12 @@ module _
       let kept_on = inputs_then p [] ys (In e v ∷ []) kept (subst (λ past. InputsKeepTurns p past (In e v ∷ [])) (sym at) (may, tt)) in (
         may,
         along xs (ys ++ In e v ∷ []) w t (label_at p e way v ∷ ls) (pass e way ∷ past) (passed_then p [] ys (In e v) ∙ ap (after p (In e v)) at) ran_on kept_on
-            (agree_step e way v ls past c there does.0 agree) may.1 runs keeps.1,
+            (alike_after p differ e way v ls past c there does.0 agree) may.1 runs keeps.1,
       )
-
-  none_told : Agree [] []
-  none_told (PartEnd i h) k there port = absurd port
-  none_told (ImportEnd i h) k there port = refl
-  none_told (ResultEnd h) k there port = refl
 
 pub protocol_keeps_turns : ProtocolKeepsTurns
 protocol_keeps_turns p xs s t regular ground differ done idle runs keeps =
-    along p regular ground differ done s idle xs [] s t [] [] refl refl tt (none_told p regular ground differ done s idle)
+    along p regular ground differ done s idle xs [] s t [] [] refl refl tt (alike_first p)
     (all_closed p.imports p.outcome ground done (λ h. false) (λ h. refl)) runs keeps
 
 pub matching_suffices : MatchingSuffices

@@ -25,5 +25,6 @@ mod HeadLemmas
 mod SameLemmas
 mod SameTurnLemmas
 pub mod GroundTurnLemmas
+pub mod IdleLemmas
 pub mod ToldLemmas
 pub mod InputLemmas

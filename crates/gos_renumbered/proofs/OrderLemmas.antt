@@ -172,10 +172,10 @@ module _ (f : Renumber) (p q : Plan) (is : IsRenumbered f p q) where
   all_shown_same (x ∷ xs) = λ i. shows_same x i ++ all_shown_same xs i
 
   -- turns
-  out_pass : (e : End) → pass (moved_end f e) (way_out (contact_at q (moved_end f e))) ≡ moved_pass f (pass e (way_out (contact_at p e)))
+  pub out_pass : (e : End) → pass (moved_end f e) (way_out (contact_at q (moved_end f e))) ≡ moved_pass f (pass e (way_out (contact_at p e)))
   out_pass e = ap (λ (c : Option Contact). pass (moved_end f e) (way_out c)) (contact_moved f p q is e)
 
-  in_pass : (e : End) → pass (moved_end f e) (way_in (contact_at q (moved_end f e))) ≡ moved_pass f (pass e (way_in (contact_at p e)))
+  pub in_pass : (e : End) → pass (moved_end f e) (way_in (contact_at q (moved_end f e))) ≡ moved_pass f (pass e (way_in (contact_at p e)))
   in_pass e = ap (λ (c : Option Contact). pass (moved_end f e) (way_in c)) (contact_moved f p q is e)
 
   abbrev InThen : List Pass → List Element → Pass → Type 0
@@ -184,7 +184,7 @@ module _ (f : Renumber) (p q : Plan) (is : IsRenumbered f p q) where
   abbrev OutThen : List Pass → List Element → Pass → Type 0
   OutThen past xs x = KeepsTurns q past x × OutputsKeepTurns q (x ∷ past) xs
 
-  inputs_moved : (xs : List Element) (past : List Pass) → InputsKeepTurns p past xs → InputsKeepTurns q (moved_passes f past) (moved_list f xs)
+  pub inputs_moved : (xs : List Element) (past : List Pass) → InputsKeepTurns p past xs → InputsKeepTurns q (moved_passes f past) (moved_list f xs)
   inputs_moved [] past keeps = tt
   inputs_moved (Fire i k ∷ xs) past keeps = inputs_moved xs past keeps
   inputs_moved (Out e v ∷ xs) past keeps =

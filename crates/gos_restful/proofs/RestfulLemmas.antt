@@ -6,14 +6,14 @@ use Rattle.gos_types.specs.Types.{IsDone}
 use Rattle.gos_netlist.specs.Events.{Direction, Request, Answer}
 use Rattle.gos_plan.specs.Kinds.{Contact}
 use Rattle.gos_plan.specs.Plans.{End, ResultEnd, Plan, contact_at}
-use Rattle.gos_plan.specs.Tokens.{Tokens, Element, Fire, Out, In, Passes, token_at, end_of, way_of, way_taken, way_put, Does, Runs, IsIdle}
+use Rattle.gos_plan.specs.Tokens.{Tokens, Element, Fire, Out, In, Passes, end_of, way_of, way_taken, way_put, Does, Runs, IsIdle}
 use Rattle.gos_realises.specs.Regular.{Pass, pass, way_in, way_out, is_open, is_request, count, some_open, KeepsTurns, InputsKeepTurns, OutputsKeepTurns, IsRegular}
 use Rattle.gos_realises.proofs.GroundTurnLemmas.{done_open}
-use Rattle.gos_realises.proofs.InputLemmas.{passed, passed_then, inputs_then, runs_then, in_there, out_there, result_asks}
+use Rattle.gos_realises.proofs.InputLemmas.{passed, passed_then, inputs_then, InputTurns, first_turn, later_turns, runs_then, in_there, out_there, result_asks}
+use Rattle.gos_realises.proofs.IdleLemmas.{idle_token}
 use Rattle.gos_realises.proofs.RingLemmas.{after}
 use Rattle.gos_turns.specs.Rests.{Rests}
 use Rattle.gos_turns.proofs.RestLemmas.{passes_are, IsPortThere, shut_ports, all_shut}
-use Rattle.gos_turns.proofs.StandLemmas.{lies_in, not_empty}
 use Rattle.gos_turns.proofs.GoesLemmas.{IsTurned}
 use Rattle.gos_turns.proofs.TurnedLemmas.{res}
 use Rattle.gos_turns.proofs.WholeLemmas.{first_turned}
@@ -33,26 +33,6 @@ turned_after p [] past turned ins outs = turned
 turned_after p (Fire i k ∷ xs) past turned ins outs = turned_after p xs past turned ins outs
 turned_after p (Out e v ∷ xs) past turned ins outs = turned_after p xs (after p (Out e v) past) outs.0.1 ins outs.1
 turned_after p (In e v ∷ xs) past turned ins outs = turned_after p xs (after p (In e v) past) ins.0.1 ins.1 outs
-
--- an input keeps turns
-abbrev InputTurns : Plan → List Pass → Element → Type 0
-InputTurns p past (Fire i k) = Unit {0}
-InputTurns p past (Out e v) = Unit {0}
-InputTurns p past (In e v) = KeepsTurns p past (pass e (way_in (contact_at p e)))
-
-first_turn : (p : Plan) (past : List Pass) (x : Element) (xs : List Element) → InputsKeepTurns p past (x ∷ xs) → InputTurns p past x
-first_turn p past (Fire i k) xs turns = tt
-first_turn p past (Out e v) xs turns = tt
-first_turn p past (In e v) xs turns = turns.0
-
-later_turns : (p : Plan) (past : List Pass) (x : Element) (xs : List Element) → InputsKeepTurns p past (x ∷ xs) → InputsKeepTurns p (after p x past) xs
-later_turns p past (Fire i k) xs turns = turns
-later_turns p past (Out e v) xs turns = turns
-later_turns p past (In e v) xs turns = turns.1
-
--- in an idle state nothing lies
-none_lies : (p : Plan) (s : Tokens) → IsIdle p s → (e : End) (way : Direction) (v : ℕ) → token_at p s e way ≡ Some v → ⊥
-none_lies p s idle e way v lies = let (a, named, held) = lies_in p e way v s lies in not_empty v (s.in_place way a) held (idle.0 way a)
 
 module _ (p : Plan) (done : IsDone p.outcome) (regular : IsRegular p) where
   abbrev result : List Pass → Bool
@@ -120,11 +100,11 @@ module _ (p : Plan) (done : IsDone p.outcome) (regular : IsRegular p) where
 
       was_shut : (ys : List Element) (u w : Tokens) (x : Element) → Still ys u → Does p x u w → InputTurns p (passed p [] ys) x
           → result (passed p [] ys) ≡ false → result (after p x (passed p [] ys)) ≡ false → IsIdle p w
-      was_shut ys u w (Fire i k) so does turn shut down = absurd (none_lies p u (so.still shut) (end_of i k) (way_of k) does.0 does.2)
+      was_shut ys u w (Fire i k) so does turn shut down = absurd (idle_token p u (so.still shut) (end_of i k) (way_of k) does.0 does.2)
       was_shut ys u w (Out e v) so does turn shut down =
           let (c, there) = out_there p e v u w does in
           let moves = subst (λ (o : Option Contact). Passes p (Out e v) o u w) there does.1 in
-          absurd (none_lies p u (so.still shut) e (way_taken c.role) v moves.0)
+          absurd (idle_token p u (so.still shut) e (way_taken c.role) v moves.0)
       was_shut ys u w (In e v) so does turn shut down = absurd (by_way (way_in (contact_at p e)) refl turn)
         where
           past : List Pass

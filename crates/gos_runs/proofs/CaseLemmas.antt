@@ -21,11 +21,11 @@ use Rattle.gos_numbers.specs.Kept.{InScope, IsKept}
 use Rattle.gos_numbers.specs.Inherited.{own_numbers, first_numbers, PartIsKept, BothAreKept, ThreeAreKept}
 use Rattle.gos_forks.specs.Forks.{Branch, IsFork}
 use Rattle.gos_forks.specs.Forms.{branch, SequenceIsFork, ChoiceIsFork, LoopIsFork, OperatorIsFork, ComplementIsFork}
-use Rattle.gos_covers.proofs.PartedLemmas.{same_bits, no_empty, of_one, of_two, of_three, one_branch, two_branches, three_branches}
+use Rattle.gos_covers.proofs.PartedLemmas.{same_bits, no_empty, of_one, of_two, of_three, first_branch, own_branch, one_branch, two_branches, three_branches}
+use Rattle.gos_covers.proofs.SessionLemmas.{of_sequence, of_choice, of_loop, of_operator, of_complement}
 use Rattle.gos_runs.specs.Runs.{ForkRealises}
 use Rattle.gos_runs.specs.Cases.{SequenceCase, ChoiceCase, LoopCase, OperatorCase, ComplementCase}
 use Rattle.gos_runs.proofs.TypeLemmas.{known, inside_types, type_is, supplies_have}
-use Rattle.gos_runs.proofs.SessionLemmas.{of_sequence, of_choice, of_loop, of_operator, of_complement}
 
 module _ (types : Types) (ns : List ℕ) (t : Type') (ss : List Split) where
   -- the type of a part's term is the part's
@@ -39,13 +39,6 @@ module _ (types : Types) (ns : List ℕ) (t : Type') (ss : List Split) where
       ∙ type_is r.imports types m [] (numbers_inside ss ns) (inside ss (terms_of env)) nodes scope
       (inside_types r.imports types [] ss ns (terms_of env) agree split (supplies_have types i j n ns env pl r w realised differ)))
       typed
-
--- the numbers of the parts
-abbrev first_branch : List Split → List ℕ → List ℕ → Numbered → Branch
-first_branch ss ns others m = branch m (first_numbers ss ns others)
-
-abbrev own_branch : List Split → List ℕ → Numbered → Branch
-own_branch ss ns m = branch m (own_numbers ss ns m)
 
 -- a part's term has this type
 abbrev HasType : List Split → Supplies → Plan → Numbered → Type' → Type 0
@@ -70,7 +63,7 @@ sequence_case fork kept law types ns t ss m n is leaves_m leaves_n rm rn i j env
     (subst (λ (v : ℕ). IsFork types (Two t ss OfSeq m n) ss (kinds.Seq v) (a ∷ b ∷ [])) (same_bits t) (fork types t ss m n a.uses b.uses done em en))
     (two_branches types ns t ss kept OfSeq m n is) (no_empty a (b ∷ [])) refl w supplies differ fit
     (record {
-      session = of_sequence (inside ss (terms_of env)) m n n a.uses b.uses b.uses t em en;
+      session = of_sequence (meaning (inside ss (terms_of env))) m n n a.uses b.uses b.uses t em en;
       typed = of_two (HasItsType ss env r) a b (its_type ss env r m Com em typed_m) (its_type ss env r n t en typed_n);
     })
     (of_two Leaved a b leaves_m leaves_n) (of_two (Real types) a b rm rn)
@@ -96,7 +89,7 @@ choice_case fork kept law types ns t ss m n p is leaves_m leaves_n leaves_p rm r
     (fork types t ss m n p a.uses b.uses c.uses done em en ep))
     (three_branches types ns t ss kept m n p is) (no_empty a (b ∷ c ∷ [])) refl w supplies differ fit
     (record {
-      session = of_choice (inside ss (terms_of env)) m n p a.uses b.uses c.uses t em en ep;
+      session = of_choice (meaning (inside ss (terms_of env))) m n p a.uses b.uses c.uses t em en ep;
       typed =
           of_three (HasItsType ss env r) a b c (its_type ss env r m (Exp 1) em typed_m) (its_type ss env r n t en typed_n)
           (its_type ss env r p t ep typed_p);
@@ -128,7 +121,7 @@ module _ (fork : LoopIsFork) (kept : BothAreKept) (law : ForkRealises) (types : 
       law (Loop (meaning (inside ss (terms_of env)) m) (meaning (inside ss (terms_of env)) n)) types i j (Two Com ss OfWhile m n) ss (a ∷ b ∷ []) ns env pl r
       (fork types ss m n a.uses b.uses em en) (two_branches types ns Com ss kept OfWhile m n is) (no_empty a (b ∷ [])) refl w supplies differ fit
       (record {
-        session = of_loop (inside ss (terms_of env)) m n n a.uses b.uses b.uses em en;
+        session = of_loop (meaning (inside ss (terms_of env))) m n n a.uses b.uses b.uses em en;
         typed = of_two (HasItsType ss env r) a b (its_type ss env r m (Exp 1) em typed_m) (its_type ss env r n Com en typed_n);
       })
       (of_two Leaved a b leaves_m leaves_n) (of_two (Real types) a b rm rn)
@@ -163,7 +156,7 @@ module _ (fork : OperatorIsFork) (kept : BothAreKept) (law : ForkRealises) (type
       (fork types op w ss m n a.uses b.uses em en) (two_branches types ns (Exp (result_width op w)) ss kept (OfBin op) m n is) (no_empty a (b ∷ [])) refl wired
       supplies differ fit
       (record {
-        session = of_operator (inside ss (terms_of env)) m n n a.uses b.uses b.uses op w em en;
+        session = of_operator (meaning (inside ss (terms_of env))) m n n a.uses b.uses b.uses op w em en;
         typed =
             of_two (HasItsType ss env r) a b
             (retyped types ns (Exp (result_width op w)) ss i j m operation (Exp v) env pl r is.typed.0 is.scope.0 is.typed.2 is.scope.1 wired
@@ -192,7 +185,7 @@ module _ (fork : ComplementIsFork) (kept : PartIsKept) (law : ForkRealises) (typ
       law (Complement w (meaning (terms_of env) m)) types i j (One (Exp w) [] OfNot m) [] (branch m ns ∷ []) ns env pl r (fork types w [] m ns em)
       (one_branch types ns (Exp w) m (kept types ns (Exp w) [] OfNot m is).1 is) (no_empty (branch m ns) []) refl wired supplies differ fit
       (record {
-        session = of_complement (terms_of env) m ns w em;
+        session = of_complement (meaning (terms_of env)) m ns w em;
         typed = of_one (HasItsType [] env r) (branch m ns) (its_type [] env r m (Exp v) (em ∙ e) typed);
       })
       (of_one Leaved (branch m ns) leaves) (of_one (Real types) (branch m ns) real)

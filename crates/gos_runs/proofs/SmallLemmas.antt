@@ -12,13 +12,13 @@ use Rattle.gos_forks.specs.Forks.{Branch}
 use Rattle.gos_forks.specs.Forms.{branch}
 use Rattle.gos_forks.specs.SmallForks.{skip}
 use Rattle.gos_runs.specs.SmallRuns.{BothHaveBranches, SecondHasNone}
-use Rattle.gos_runs.proofs.SessionLemmas.{of_sequence}
 use Rattle.gos_covers.proofs.PartedLemmas.{of_two}
+use Rattle.gos_covers.proofs.SessionLemmas.{of_sequence}
 
 pub both_have_branches : BothHaveBranches
 both_have_branches env r =
     record {
-      session = of_sequence (terms_of env) skip skip skip [] [] [] Com refl refl;
+      session = of_sequence (meaning (terms_of env)) skip skip skip [] [] [] Com refl refl;
       typed = of_two (λ b. Typed r.imports [] (meaning (inside [] (terms_of env)) b.term) (type_of_node b.term)) (branch skip []) (branch skip []) refl refl;
     }
 

@@ -44,22 +44,22 @@ joinings_same w r p of_r of_p =
       joints = λ j. (has_joint w r p of_r of_p j, has_joint w p r of_p of_r j);
     }
 
-module _ (r p : Plan) (same : IsSameButOrder r p) (right_r : IsRight r) (right_p : IsRight p) where
-  -- the plans are one, without numbers being changed
-  order_free : IsRenumbered unchanged r p
-  order_free =
-      record {
-        one_to_one = unchanged_one;
-        parts = λ i. ap (λ (ks : List Part). slice_get ks i) (sym same.parts);
-        imports = λ i. ap (λ (is : List Imported). slice_get is i) (sym same.imports);
-        outcome = sym same.outcome;
-        joints = λ a b.
-            subst (λ (y : End). Contains r.joints (joint a b) ↔ Contains p.joints (joint (moved_end unchanged a) y)) (sym (unchanged_end b))
-            (subst (λ (y : End). Contains r.joints (joint a b) ↔ Contains p.joints (joint y b)) (sym (unchanged_end a)) (same.joints (joint a b)));
-        right = right_r;
-        also_right = right_p;
-      }
+-- such plans are one, without numbers being changed
+pub order_free : (r p : Plan) → IsSameButOrder r p → IsRight r → IsRight p → IsRenumbered unchanged r p
+order_free r p same right_r right_p =
+    record {
+      one_to_one = unchanged_one;
+      parts = λ i. ap (λ (ks : List Part). slice_get ks i) (sym same.parts);
+      imports = λ i. ap (λ (is : List Imported). slice_get is i) (sym same.imports);
+      outcome = sym same.outcome;
+      joints = λ a b.
+          subst (λ (y : End). Contains r.joints (joint a b) ↔ Contains p.joints (joint (moved_end unchanged a) y)) (sym (unchanged_end b))
+          (subst (λ (y : End). Contains r.joints (joint a b) ↔ Contains p.joints (joint y b)) (sym (unchanged_end a)) (same.joints (joint a b)));
+      right = right_r;
+      also_right = right_p;
+    }
 
+module _ (r p : Plan) (same : IsSameButOrder r p) (right_r : IsRight r) (right_p : IsRight p) where
   abbrev moves : Place → Place
   moves = rewired (λ n. n) (λ n. unchanged)
 
@@ -80,7 +80,7 @@ module _ (r p : Plan) (same : IsSameButOrder r p) (right_r : IsRight r) (right_p
 
     plans : (n : ℕ) (u : Plan) → slice_get (r ∷ plans_of ss) n ≡ Some u
         → (v : Plan) × (slice_get (p ∷ plans_of ss) n ≡ Some v) × IsRenumbered unchanged u v
-    plans zero u at = let is : r ≡ u = cc at in (p, refl, subst (λ (v : Plan). IsRenumbered unchanged v p) is order_free)
+    plans zero u at = let is : r ≡ u = cc at in (p, refl, subst (λ (v : Plan). IsRenumbered unchanged v p) is (order_free r p same right_r right_p))
     plans (suc n) u at = (u, at, is_itself u (supply_right p.imports ss n u are at))
 
     no_more : (n : ℕ) (u : Plan) → slice_get (p ∷ plans_of ss) n ≡ Some u → (v : Plan) × (slice_get (r ∷ plans_of ss) n ≡ Some v)

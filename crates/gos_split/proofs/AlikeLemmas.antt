@@ -14,11 +14,11 @@ use Rattle.gos_realises.specs.Regular.{count, Pass, pass, way_in, way_out, is_op
 use Rattle.gos_realises.specs.Matched.{shows, label_at, port_if, event_number, GoesOn}
 use Rattle.gos_model.specs.Moves.{Act}
 use Rattle.gos_realises.proofs.RingLemmas.{after, OutputTurns}
-use Rattle.gos_realises.proofs.InputLemmas.{in_there, out_there}
+use Rattle.gos_realises.proofs.InputLemmas.{InputTurns, in_there, out_there}
 use Rattle.gos_webs.specs.Cutting.{asks_in}
 use Rattle.gos_webs.proofs.CutLemmas.{asker_asks}
 use Rattle.gos_buffers.proofs.BranchLemmas.{Leaves, fire_leaves, out_leaves, in_leaves}
-use Rattle.gos_passing.proofs.StepLemmas.{RegularFrom, InputTurns, with_turn, Stepped, stepped}
+use Rattle.gos_passing.proofs.StepLemmas.{RegularFrom, with_turn, Stepped, stepped}
 use Rattle.gos_split.specs.Split.{Splitting, IsUsed, IsSplit}
 use Rattle.gos_split.proofs.MovedLemmas.{split, token_so, put_so, part_state, state_put, Opens, put_opens, taken_opens, comes_well}
 

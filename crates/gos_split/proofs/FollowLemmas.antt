@@ -2,7 +2,7 @@
 use Rattle.std.specs.Prelude.{◌≡◌, ◌≢◌, ℕ, Bool, true, false, List, [], ◌∷◌, ◌++◌, ◌⊎◌, Option, Some, None, slice_get, nat_eq, if◌then◌else◌}
 use Rattle.std.proofs.Common.{refl, sym, ◌∙◌, ap, subst, arith, inl, inr}
 use Rattle.gos_types.specs.Types.{Fun}
-use Rattle.gos_netlist.specs.Events.{Direction, Request, Answer}
+use Rattle.gos_netlist.specs.Events.{Direction}
 use Rattle.gos_model.specs.Moves.{Program, Config, Idle}
 use Rattle.gos_model.specs.Protocol.{KeepsProtocol}
 use Rattle.gos_plan.specs.Kinds.{Part, Contact, asks, serves, part_contacts}
@@ -19,28 +19,20 @@ use Rattle.gos_plan.proofs.TurnLemmas.{way_to_take}
 use Rattle.gos_realises.specs.Regular.{Pass, InputsKeepTurns, OutputsKeepTurns, IsRegular}
 use Rattle.gos_realises.specs.Matched.{all_shown, Agrees, IsMatched, program_of}
 use Rattle.gos_realises.proofs.RingLemmas.{after}
-use Rattle.gos_realises.proofs.InputLemmas.{protocol_keeps_turns}
+use Rattle.gos_realises.proofs.InputLemmas.{InputTurns, first_turn, later_turns, protocol_keeps_turns}
 use Rattle.gos_webs.specs.Webs.{joint}
 use Rattle.gos_webs.specs.Cutting.{asks_in}
 use Rattle.gos_webs.proofs.CutLemmas.{part_there, which_end, stands_by, asks_one, asks_there}
 use Rattle.gos_webs.proofs.MovedLemmas.{listed}
 use Rattle.gos_buffers.specs.Buffers.{IsLoyal}
 use Rattle.gos_buffers.proofs.BranchLemmas.{none_fits}
-use Rattle.gos_buffers.proofs.RegularLemmas.{idle_welcomes}
-use Rattle.gos_passing.proofs.StepLemmas.{Ordered, InputTurns, first_turn, later_turns, out_joined, from_idle}
+use Rattle.gos_realises.proofs.IdleLemmas.{idle_welcome}
+use Rattle.gos_passing.proofs.StepLemmas.{Ordered, out_joined, from_idle}
 use Rattle.gos_passing.proofs.HandingLemmas.{slot_of}
 use Rattle.gos_split.specs.Split.{Splitting, IsUsed, IsSplit, SplitIsRegular, SplitIsDone}
 use Rattle.gos_split.proofs.MovedLemmas.{token_so, part_state}
 use Rattle.gos_split.proofs.AlikeLemmas.{seen, Alike, Next, part_fires, port_out, port_in}
-use Rattle.gos_split.proofs.SwapLemmas.{share_fires, welcome}
-
-end_so : (k : ℕ) (way : Direction) (h : ℕ) → end_of k (slot_of way h) ≡ PartEnd k h
-end_so k Request h = refl
-end_so k Answer h = refl
-
-way_so : (way : Direction) (h : ℕ) → way_of (slot_of way h) ≡ way
-way_so Request h = refl
-way_so Answer h = refl
+use Rattle.gos_split.proofs.SwapLemmas.{end_so, way_so, share_fires, welcome}
 
 either_part : (n m : ℕ) → (n ≡ m) ⊎ (n ≢ m)
 either_part n m = by_test (nat_eq n m) refl
@@ -250,7 +242,7 @@ module _ (f : Splitting) (x u : Plan) (is : IsSplit f x u) where
   alike_first s loyal regular idle =
       record {
         going = from_idle u (before s) regular (idle_too s idle);
-        welcome = idle_welcomes u (before s) (idle_too s idle);
+        welcome = idle_welcome u (before s) (idle_too s idle);
         loyal = λ zs z v slot runs keeps small fires. loyal zs slot s z v idle runs keeps small fires;
         opens = λ e here. refl;
         fit = none_fits x s idle;

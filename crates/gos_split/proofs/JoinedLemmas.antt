@@ -4,7 +4,6 @@ use Rattle.std.proofs.Common.{refl, sym, ◌∙◌, ap, subst, arith, inl, inr}
 use Rattle.std.proofs.lemmas.Bool.Decides.{nat_tests}
 use Rattle.std.proofs.lemmas.Option.{slice_get_within, same_Some}
 use Rattle.gos_types.specs.Types.{Type', Fun}
-use Rattle.gos_types.specs.declared.shakes.Role.TheVariants.{Serve, Ask}
 use Rattle.gos_plan.specs.Kinds.{Part, Share, Contact, asks, serves, contacts_of, turned_contact, part_contacts}
 use Rattle.gos_plan.specs.Plans.{End, PartEnd, ImportEnd, ResultEnd, Plan, contact_at, contacts_of_part, contacts_of_import, turned_if}
 use Rattle.gos_plan.specs.Joining.{Place, place, Link, Wiring, part_place, origin, Path, IsJoining}
@@ -18,6 +17,7 @@ use Rattle.gos_webs.proofs.CutLemmas.{which_end, stands_by}
 use Rattle.gos_unions.proofs.PlaceLemmas.{fields_of, stands_alone}
 use Rattle.gos_sharing.specs.Sharing.{source_end, caller_end}
 use Rattle.gos_passing.proofs.BetweenLemmas.{first_of_fun, second_of_fun}
+use Rattle.gos_buffers.proofs.HousedLemmas.{not_both}
 use Rattle.gos_split.specs.Joined.{wiring, IsPortPlace, AllPortPlaces}
 use Rattle.gos_split.specs.Split.{Splitting, IsUsed, IsSplit}
 
@@ -48,9 +48,6 @@ part_is (x ∷ xs) (suc h) low = part_is xs h (omega (arith, low))
 
 twice_turned : (d : Contact) → turned_contact (turned_contact d) ≡ d
 twice_turned d = λ n. record { role = role_twice d.role n; ask_bits = d.ask_bits; answer_bits = d.answer_bits }
-
-not_asks_serves : (q a x y : ℕ) → asks q a ≡ serves x y → ⊥
-not_asks_serves q a x y e = let roles : Ask ≡ Serve = ap (λ (c : Contact). c.role) e in cc roles
 
 -- a part's end of the first plan that stands in a joint stands in one of its plan
 module _ (x : Plan) (ps : List Plan) (ls : List Link) (giver skipped : ℕ) (ty : Type') (whole : Plan) (kept : AllPortPlaces ls) (joins : IsJoining (wiring x ps ls giver skipped ty) whole) where
@@ -85,12 +82,12 @@ module _ (x : Plan) (ps : List Plan) (ls : List Link) (giver skipped : ℕ) (ty 
       of_connects (q, v, k, at_a, at_s, path) = elim (which_end (PartEnd n h) j stood) [
         | inl one ↦
             of_path n h low k j.serving
-            (λ e. not_asks_serves q v q v (same_Some (asks q v) (serves q v) (sym at_a ∙ (ap (contact_at whole) (sym one ∙ e) ∙ at_s)))) (asks q v) (serves q v)
+            (λ e. not_both q v q v (same_Some (asks q v) (serves q v) (sym at_a ∙ (ap (contact_at whole) (sym one ∙ e) ∙ at_s)))) (asks q v) (serves q v)
             (ap (contact_at whole) one ∙ at_a) at_s (subst (λ (y : End). Path w k (origin w y) (origin w j.serving)) (sym one) path)
         | inr one ↦
             (let (n_back, back) = paths_back w (origin w j.asking) (origin w j.serving) (k, path) in
             of_path n h low n_back j.asking
-            (λ e. not_asks_serves q v q v (same_Some (asks q v) (serves q v) (sym at_a ∙ (ap (contact_at whole) (sym e ∙ one) ∙ at_s)))) (serves q v) (asks q v)
+            (λ e. not_both q v q v (same_Some (asks q v) (serves q v) (sym at_a ∙ (ap (contact_at whole) (sym e ∙ one) ∙ at_s)))) (serves q v) (asks q v)
             (ap (contact_at whole) one ∙ at_s) at_a (subst (λ (y : End). Path w n_back (origin w y) (origin w j.asking)) (sym one) back))
       ]
 

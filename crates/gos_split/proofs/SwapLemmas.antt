@@ -54,11 +54,11 @@ answers_only : (t : Type') (q : State) (h v : ℕ) (r : Row) → firing (Share t
 answers_only t q h v r fires =
     let found = row_with NoAsking (Ans h) (rows (Share t) q.phase q.number) r (all_rows t q.phase q.number) fires in found.1 h found.0 v
 
-end_so : (k : ℕ) (way : Direction) (h : ℕ) → end_of k (slot_of way h) ≡ PartEnd k h
+pub end_so : (k : ℕ) (way : Direction) (h : ℕ) → end_of k (slot_of way h) ≡ PartEnd k h
 end_so k Request h = refl
 end_so k Answer h = refl
 
-way_so : (way : Direction) (h : ℕ) → way_of (slot_of way h) ≡ way
+pub way_so : (way : Direction) (h : ℕ) → way_of (slot_of way h) ≡ way
 way_so Request h = refl
 way_so Answer h = refl
 

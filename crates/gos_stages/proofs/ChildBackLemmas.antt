@@ -1,7 +1,6 @@
 -- What a tie of the node's web connects stands for nothing of the child, or for what its own web connects.
 use Rattle.std.specs.Prelude.{◌+◌, ◌<◌, ◌≤◌, ◌⊎◌, ◌||◌, ◌&&◌, not, length, map, nat_eq, nat_lt, slice_get, None, Contains}
 use Rattle.std.proofs.Common.{◌≡◌, ℕ, zero, suc, Bool, true, false, List, [], ◌∷◌, ◌++◌, Option, Some, inl, inr, refl, sym, ◌∙◌, ap, subst, arith, if◌then◌else◌}
-use Rattle.std.proofs.lemmas.Bool.Decides.{nat_tests}
 use Rattle.std.proofs.lemmas.List.Elements.{Contains-append_left, Contains-append_right, Contains-append_cases}
 use Rattle.gos_types.specs.Types.{Type'}
 use Rattle.gos_check.specs.declared.linear.Split.{Split}
@@ -29,20 +28,12 @@ use Rattle.gos_stages.specs.Ranges.{IsWithin}
 use Rattle.gos_stages.specs.Lodging.{spot, spot_if, Spot, Near}
 use Rattle.gos_stages.specs.Folding.{Lead, AtOwn, AtResult, lead_point, of_own, of_result, AreDistinct, Child, is_used, lodge, child_out, child_web, in_range, spot_dot, asks_child, is_number, child_back, shared_ties, own_ties, IsChild, ChildStays}
 use Rattle.gos_stages.proofs.RangeLemmas.{ties_stay_within}
+use Rattle.gos_stages.proofs.StepLemmas.{low, high, told_low}
 use Rattle.gos_stages.proofs.LodgingLemmas.{lifted, led_listed, homes_are_kept, numbers_are_held}
 use Rattle.gos_stages.proofs.LiveLemmas.{spots_are_live}
 use Rattle.gos_stages.proofs.WayLemmas.{by_tie}
 use Rattle.gos_stages.proofs.HomeLemmas.{way_mapped}
 use Rattle.gos_stages.proofs.ChildTieLemmas.{dot_tie, put_in, of_supplies, in_supplies, ResultTie, in_results, of_supply, led_of}
-
-low : (a b : ℕ) → a < b → nat_lt a b ≡ true
-low a b h = grind (arith, nat_tests)
-
-high : (a b : ℕ) → b ≤ a → nat_lt a b ≡ false
-high a b h = grind (arith, nat_tests)
-
-told_low : (a b : ℕ) → nat_lt a b ≡ true → a < b
-told_low a b h = grind (arith, nat_tests)
 
 pub range_in : (a n k : ℕ) → a ≤ k → k < a + n → in_range a n k ≡ true
 range_in a n k le lt = rw (high k a le, low k (a + n) lt) refl

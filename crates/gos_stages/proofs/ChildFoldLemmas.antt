@@ -37,7 +37,8 @@ use Rattle.gos_stages.proofs.SpareLemmas.{spares_are_others}
 use Rattle.gos_stages.proofs.ChildTieLemmas.{put_in, of_supplies, of_supply, child_ways}
 use Rattle.gos_stages.proofs.ChildBackLemmas.{lead_back, at_lead, told_lead, lead_lies, lead_stands, used_so, spot_used, child_stays}
 use Rattle.gos_stages.proofs.ContactLemmas.{turned_some, part_there, import_there, shares_length, other_unserved}
-use Rattle.gos_stages.proofs.ChildPartLemmas.{low, there_at, no_more_than, plain_source, supplied_back, own_source_back, source_from, part_lies, number_so, child_is_part}
+use Rattle.gos_stages.proofs.StepLemmas.{low}
+use Rattle.gos_stages.proofs.ChildPartLemmas.{there_at, no_more_than, plain_source, supplied_back, own_source_back, source_from, part_lies, number_so, child_is_part}
 
 module _ (f : Child) (own : List Part) (ts : List Tie) (pl plc : Placing) (r c : Plan) (is : IsChild f ts) (has : HasChild f own r.outcome c)
     (laid : IsLaid own f.numbers f.env pl r) (laidc : IsLaid (parts_of f.types f.term) f.uses (lodge f).env plc c) where

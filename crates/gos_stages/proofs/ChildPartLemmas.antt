@@ -14,15 +14,10 @@ use Rattle.gos_stages.specs.Lodging.{Spot, spot_if}
 use Rattle.gos_stages.specs.Housing.{IsOutsider, IsThere}
 use Rattle.gos_stages.specs.Folding.{Lead, AtOwn, AtResult, of_own, Child, is_used, lodge, in_range, spot_dot, asks_child, child_back, child_source, part_of_dot, IsChild, IsLaid}
 use Rattle.gos_stages.specs.Folded.{HasChild, ChildIsPart}
+use Rattle.gos_stages.proofs.StepLemmas.{low, told_low}
 use Rattle.gos_stages.proofs.PartHomeLemmas.{numbers_are_at_home}
 use Rattle.gos_stages.proofs.HousingLemmas.{parts_are_from, parts_are_outsiders, homes_are_there, far_is_nothing, first_is_kept}
 use Rattle.gos_stages.proofs.ChildBackLemmas.{own_back, plain_share, spot_used, used_so}
-
-pub low : (a b : ℕ) → a < b → nat_lt a b ≡ true
-low a b h = grind (arith, nat_tests)
-
-told : (a b : ℕ) → nat_lt a b ≡ true → a < b
-told a b h = grind (arith, nat_tests)
 
 pub told_range : (a n k : ℕ) → in_range a n k ≡ true → (a ≤ k) × (k < a + n)
 told_range a n k h = (grind (arith, nat_tests, h), grind (arith, nat_tests, h))
@@ -176,7 +171,7 @@ module _ (f : Child) (ts : List Tie) (pl plc : Placing) (is : IsChild f ts) wher
             → (if b then part_of_dot f plc (child_back f (source_dot f.first (pl.source i) 0)) else None) ≡ Some j → Told i j
         by_size false t e = absurd (no_more_than j e)
         by_size true t e =
-            let (y, listed) = there_at r.parts i (told i (length r.parts) t) in
+            let (y, listed) = there_at r.parts i (told_low i (length r.parts) t) in
             let (from, same) = laid.no_more i y listed in
             by_source (pl.source i) y i j from same e
 

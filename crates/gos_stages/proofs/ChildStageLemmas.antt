@@ -18,15 +18,10 @@ use Rattle.gos_stages.specs.Inside.{inside_supplies}
 use Rattle.gos_stages.specs.Folding.{is_used, lodge, child_web, child_fold, child_servings, IsLaid}
 use Rattle.gos_stages.specs.Folded.{HasChild}
 use Rattle.gos_stages.specs.Regions.{ChildIsStaged}
+use Rattle.gos_stages.proofs.StepLemmas.{low, high}
 use Rattle.gos_stages.proofs.LodgingLemmas.{lodged_are_inside}
 use Rattle.gos_stages.proofs.ChildFoldLemmas.{child_is_folded}
 use Rattle.gos_stages.proofs.LayoutLemmas.{Found, in_front, in_back, all, place, find, placed_there, placed_found, is_found}
-
-low : (a b : ℕ) → a < b → nat_lt a b ≡ true
-low a b h = grind (arith, nat_tests)
-
-high : (a b : ℕ) → b ≤ a → nat_lt a b ≡ false
-high a b h = grind (arith, nat_tests)
 
 module _ (own : List Part) (ns : List ℕ) (env : Supplies) (once : (k : ℕ) → times k ns ≤ 1) where
   abbrev pub parts_for : ℕ → List Part

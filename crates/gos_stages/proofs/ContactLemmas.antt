@@ -1,10 +1,13 @@
 -- Handshakes that there are, and the types of Shares.
-use Rattle.std.specs.Prelude.{◌+◌, ◌-◌, ◌*◌, ◌<◌, length, slice_get, None}
+use Rattle.std.specs.Prelude.{◌+◌, ◌-◌, ◌*◌, ◌<◌, ◌++◌, length, slice_get, None}
 use Rattle.std.proofs.Common.{◌≡◌, ℕ, zero, suc, false, List, [], ◌∷◌, Option, Some, refl, ap, arith}
+use Rattle.std.proofs.lemmas.List.{length-append, length-map}
 use Rattle.gos_model.specs.Typing.{Imported}
 use Rattle.gos_check.specs.declared.linear.Split.{Split}
-use Rattle.gos_plan.specs.Kinds.{Contact, Part}
+use Rattle.gos_types.specs.Types.{Type'}
+use Rattle.gos_plan.specs.Kinds.{Contact, Part, Share, contacts_of, part_contacts, other_side}
 use Rattle.gos_plan.specs.Plans.{contacts_of_part, contacts_of_import, turned_if}
+use Rattle.gos_realises.specs.Regular.{count}
 use Rattle.gos_compile.specs.Wiring.{Types, shares}
 use Rattle.gos_stages.specs.Lodging.{serves_side}
 use Rattle.gos_stages.proofs.StepLemmas.{serves_first_alone, serves_second_alone}
@@ -31,3 +34,11 @@ pub other_unserved : (m c j : ℕ) → c < 2 → j < m → serves_side m c (m + 
 other_unserved m zero j two lt = serves_first_alone m j
 other_unserved m (suc zero) j two lt = serves_second_alone m j lt
 other_unserved m (suc (suc c)) j two lt = absurd (omega (arith, two))
+
+-- a Share has the handshakes of its type three times
+pub share_contacts : (t : Type') → length (part_contacts (Share t)) ≡ count t + (count t + count t)
+share_contacts t =
+    let all = length-append (other_side (contacts_of t)) (contacts_of t ++ contacts_of t) in
+    let two = length-append (contacts_of t) (contacts_of t) in
+    let turned : length (other_side (contacts_of t)) ≡ length (contacts_of t) = simp length-map refl in
+    omega (arith, all, two, turned)

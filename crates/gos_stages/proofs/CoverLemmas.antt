@@ -54,18 +54,19 @@ served_is_covered f ts pl s is listed =
         let size = shares_length f.types f.splits in
         omega (arith, lt, size)
 
+-- with the parts numbered as they are
+abbrev pub plainly : Placing
+plainly =
+    record {
+      own = λ k. k;
+      supplied = λ n k. k;
+      import = λ n k. k;
+      source = λ j. Own j;
+      origin = λ j. record { number = 0; import = j };
+    }
+
 pub own_is_covered : OwnIsCovered
 own_is_covered f ts is = (
-  (λ k h lt. (source_dot (f.first + f.off) (Own k) h, own_source_back f ts none none is k h lt)),
-  (λ h s at. (Within 0 (Of (ResultEnd h)), lead_stands f ts none is h (AtOwn s) at)),
+  (λ k h lt. (source_dot (f.first + f.off) (Own k) h, own_source_back f ts plainly plainly is k h lt)),
+  (λ h s at. (Within 0 (Of (ResultEnd h)), lead_stands f ts plainly is h (AtOwn s) at)),
 )
-  where
-    none : Placing
-    none =
-        record {
-          own = λ k. k;
-          supplied = λ n k. k;
-          import = λ n k. k;
-          source = λ j. Own j;
-          origin = λ j. record { number = 0; import = j };
-        }

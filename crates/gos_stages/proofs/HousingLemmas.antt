@@ -116,6 +116,19 @@ module _ (types : Types) (q x : ℕ) (s : Split) (ss : List Split) (once : (k : 
   abbrev Comes : Source → ℕ → Option Spot → Option Spot → Type 0
   Comes from h old new = (z : Spot) → new ≡ Some z → IsIn next from h z × IsOld ss (Some z)
 
+  -- what is of neither side stays
+  stay : (from : Source) (h : ℕ) (y : Spot) → IsIn l from h y × IsOld (s ∷ ss) (Some y) → IsIn next from h y × IsOld ss (Some y)
+  stay from h y (it, old) =
+      let (left, right, rest) = neither_side s ss y.number old in (
+        record {
+          part = it.part;
+          end = it.end;
+          from = other_part y.number it.part left right ∙ it.from;
+          within = subst (λ (e : Supply). it.part < length e.plan.parts) (sym (one_stays types s l.env y.number left right)) it.within;
+        },
+        rest,
+      )
+
   moved_in : (from : Source) (h : ℕ) (b : Option ℕ) → IsCaller b → (old : Option Spot) → ((z : Spot) → old ≡ Some z → IsIn l from h z × IsOld (s ∷ ss) (Some z))
       → (z : Spot) → moved s b place old ≡ Some z → IsIn next from h z × IsOld ss (Some z)
   moved_in from h b two None was z e = absurd (none_moved b e)
@@ -123,27 +136,15 @@ module _ (types : Types) (q x : ℕ) (s : Split) (ss : List Split) (once : (k : 
       none_moved : (b : Option ℕ) → moved s b place None ≡ Some z → ⊥
       none_moved None e = no_number z e
       none_moved (Some c) e = no_number z e
-  moved_in from h None two (Some y) was z e = subst (λ (w : Spot). IsIn next from h w × IsOld ss (Some w)) same (stay y (was y refl))
+  moved_in from h None two (Some y) was z e = subst (λ (w : Spot). IsIn next from h w × IsOld ss (Some w)) same (stay from h y (was y refl))
     where
       same : y ≡ z
       same = cc e
-
-      stay : (y : Spot) → IsIn l from h y × IsOld (s ∷ ss) (Some y) → IsIn next from h y × IsOld ss (Some y)
-      stay y (it, old) =
-          let (left, right, rest) = neither_side s ss y.number old in (
-            record {
-              part = it.part;
-              end = it.end;
-              from = other_part y.number it.part left right ∙ it.from;
-              within = subst (λ (e : Supply). it.part < length e.plan.parts) (sym (one_stays types s l.env y.number left right)) it.within;
-            },
-            rest,
-          )
   moved_in from h (Some c) two (Some y) was z e =
       subst (λ (w : Spot). IsIn next from h w × IsOld ss (Some w)) same
       (number_cases y.number s.of
       (λ e t. subst (λ (b : Bool). IsIn next from h (moved_spot b (side_number s c) place y) × IsOld ss (Some (moved_spot b (side_number s c) place y))) (sym t) (goes (was y refl) e))
-      (λ e t. subst (λ (b : Bool). IsIn next from h (moved_spot b (side_number s c) place y) × IsOld ss (Some (moved_spot b (side_number s c) place y))) (sym t) (stay (was y refl))))
+      (λ e t. subst (λ (b : Bool). IsIn next from h (moved_spot b (side_number s c) place y) × IsOld ss (Some (moved_spot b (side_number s c) place y))) (sym t) (stay from h y (was y refl))))
     where
       same : moved_spot (nat_eq y.number s.of) (side_number s c) place y ≡ z
       same = cc e
@@ -162,18 +163,6 @@ module _ (types : Types) (q x : ℕ) (s : Split) (ss : List Split) (once : (k : 
               within = omega (arith, here, size);
             },
             side_gone types s ss once c,
-          )
-
-      stay : IsIn l from h y × IsOld (s ∷ ss) (Some y) → IsIn next from h y × IsOld ss (Some y)
-      stay (it, old) =
-          let (left, right, rest) = neither_side s ss y.number old in (
-            record {
-              part = it.part;
-              end = it.end;
-              from = other_part y.number it.part left right ∙ it.from;
-              within = subst (λ (e : Supply). it.part < length e.plan.parts) (sym (one_stays types s l.env y.number left right)) it.within;
-            },
-            rest,
           )
 
   share_in : (h : ℕ) (b : Option ℕ) → IsCaller b → (z : Spot) → share_spot (count (types s.of)) place s b h ≡ Some z → IsIn next (Own x) h z × IsOld ss (Some z)

@@ -5,12 +5,7 @@ use Rattle.std.proofs.lemmas.Bool.Decides.{nat_tests}
 use Rattle.gos_check.specs.Linearity.{times}
 use Rattle.gos_check.proofs.TimesLemmas.{number_cases, eq_true, eq_false, times_same, some_times}
 use Rattle.gos_unions.proofs.LeftLemmas.{front, behind}
-
-low : (a b : ℕ) → a < b → nat_lt a b ≡ true
-low a b h = grind (arith, nat_tests)
-
-high : (a b : ℕ) → b ≤ a → nat_lt a b ≡ false
-high a b h = grind (arith, nat_tests)
+use Rattle.gos_stages.proofs.StepLemmas.{low, high}
 
 -- the number whose list has element j, and which of its elements it is
 pub record Found : Type 0 where

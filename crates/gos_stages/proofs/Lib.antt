@@ -29,4 +29,5 @@ pub mod StageLemmas
 pub mod NodeLemmas
 pub mod CoverLemmas
 pub mod SideLemmas
+pub mod ChildNameLemmas
 pub mod ChildImportLemmas

@@ -23,7 +23,8 @@ use Rattle.gos_wired.specs.Wired.{Supplies, Source, Own, Supplied, Origin, Placi
 use Rattle.gos_loyal.specs.Seats.{Seat, seat_end, IsNoResult, IsSeated}
 use Rattle.gos_stages.specs.Seated.{supplied_part, supplied_import, supply_seat, SuppliesAreSeated}
 use Rattle.gos_stages.proofs.ContactLemmas.{import_there}
-use Rattle.gos_stages.proofs.ChildPartLemmas.{low, there_at, no_more_than}
+use Rattle.gos_stages.proofs.StepLemmas.{low}
+use Rattle.gos_stages.proofs.ChildPartLemmas.{there_at, no_more_than}
 use Rattle.gos_stages.proofs.WayLemmas.{by_tie}
 use Rattle.gos_stages.proofs.ChildTieLemmas.{joint_tie, put_in, of_supplies, in_supplies, of_supply}
 

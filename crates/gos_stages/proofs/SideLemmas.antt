@@ -1,7 +1,6 @@
 -- Each number that is there outside splits is live for somebody, and each Share serves somebody from either side.
-use Rattle.std.specs.Prelude.{◌≢◌, ◌+◌, ◌*◌, ◌<◌, ◌≤◌, ◌||◌, nat_eq, nat_lt, slice_get, Option, Contains}
+use Rattle.std.specs.Prelude.{◌≢◌, ◌+◌, ◌*◌, ◌<◌, ◌||◌, nat_eq, nat_lt, slice_get, Option, Contains}
 use Rattle.std.proofs.Common.{◌≡◌, ℕ, zero, suc, Bool, true, false, List, [], ◌∷◌, Some, refl, sym, ◌∙◌, ap, subst, arith, if◌then◌else◌}
-use Rattle.std.proofs.lemmas.Bool.Decides.{nat_tests}
 use Rattle.std.proofs.lemmas.List.Elements.{Contains-append_left, Contains-append_right}
 use Rattle.gos_types.specs.Types.{Type'}
 use Rattle.gos_check.specs.declared.linear.Split.{Split}
@@ -14,6 +13,7 @@ use Rattle.gos_wired.specs.Wired.{Placing}
 use Rattle.gos_stages.specs.Inside.{numbers_inside}
 use Rattle.gos_stages.specs.Lodging.{live, seen_from, serves_side, AreInOrder, AreApart}
 use Rattle.gos_stages.specs.Folding.{serving_if, servings}
+use Rattle.gos_stages.proofs.StepLemmas.{low, high, told_low, told_high}
 use Rattle.gos_stages.proofs.LodgingLemmas.{seen_first, seen_second}
 use Rattle.gos_stages.proofs.ChildPartLemmas.{no_more_than}
 
@@ -21,18 +21,6 @@ use Rattle.gos_stages.proofs.ChildPartLemmas.{no_more_than}
 pub served_side : (n h : ℕ) → h < n + (n + n) → (c : ℕ) × (c < 2) × (serves_side n c h ≡ true)
 served_side n h lt = by_tests (nat_lt h n) (nat_lt h (n + n)) refl refl
   where
-    low : (a b : ℕ) → a < b → nat_lt a b ≡ true
-    low a b h = grind (arith, nat_tests)
-
-    high : (a b : ℕ) → b ≤ a → nat_lt a b ≡ false
-    high a b h = grind (arith, nat_tests)
-
-    told_low : (a b : ℕ) → nat_lt a b ≡ true → a < b
-    told_low a b h = grind (arith, nat_tests)
-
-    told_high : (a b : ℕ) → nat_lt a b ≡ false → b ≤ a
-    told_high a b h = grind (arith, nat_tests)
-
     by_tests : (a b : Bool) → nat_lt h n ≡ a → nat_lt h (n + n) ≡ b → (c : ℕ) × (c < 2) × (serves_side n c h ≡ true)
     by_tests true b one both = (0, omega arith, rw one refl)
     by_tests false true one both =

@@ -17,13 +17,20 @@ use Rattle.gos_stages.specs.Lodging.{Spot, Lodging, seen_from, side_number, is_s
 use Rattle.gos_stages.proofs.InsideLemmas.{one_stays}
 use Rattle.gos_stages.proofs.HomeLemmas.{way_behind, Untouched, IsOld, neither_side, left_side, right_side, untouched_later, plainly}
 
--- the handshakes of a Share
-low : (a b : ℕ) → a < b → nat_lt a b ≡ true
+-- what the test of numbers tells
+pub low : (a b : ℕ) → a < b → nat_lt a b ≡ true
 low a b h = grind (arith, nat_tests)
 
-high : (a b : ℕ) → b ≤ a → nat_lt a b ≡ false
+pub high : (a b : ℕ) → b ≤ a → nat_lt a b ≡ false
 high a b h = grind (arith, nat_tests)
 
+pub told_low : (a b : ℕ) → nat_lt a b ≡ true → a < b
+told_low a b h = grind (arith, nat_tests)
+
+pub told_high : (a b : ℕ) → nat_lt a b ≡ false → b ≤ a
+told_high a b h = grind (arith, nat_tests)
+
+-- the handshakes of a Share
 pub serves_source : (m c h : ℕ) → h < m → serves_side m c h ≡ true
 serves_source m c h lt = rw (low h m lt) refl
 

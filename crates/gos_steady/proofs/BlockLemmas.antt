@@ -32,7 +32,7 @@ use Rattle.gos_frames.proofs.NamedLemmas.{before, inner_here, inner_there, body_
 use Rattle.gos_steady.specs.Cases.{BlockIsSteady}
 use Rattle.gos_steady.proofs.RestLemmas.{rests_after_answers, rests_where_restful}
 use Rattle.gos_steady.proofs.HeardLemmas.{body_heard}
-use Rattle.gos_steady.proofs.WiredLemmas.{literals_within}
+use Rattle.gos_frames.proofs.CutLemmas.{literals_within}
 
 -- the plan of a variable's name
 is_name : (x : Name) (w : ℕ) → IsNamePlan (imported x (Var w)) (name_plan x (Var w))

@@ -16,6 +16,7 @@ use Rattle.gos_stages.specs.Regions.{HasParts, IsStaged}
 use Rattle.gos_stages.specs.Stages.{stage_of}
 use Rattle.gos_stages.proofs.LoyalLemmas.{servings_are_loyal}
 use Rattle.gos_stages.proofs.StageLemmas.{child_is_stage}
+use Rattle.gos_stages.proofs.ChildNameLemmas.{names_below}
 use Rattle.gos_stages.proofs.ChildImportLemmas as hearing
 use Rattle.gos_steady.proofs.RestLemmas.{rests_after_answers}
 
@@ -29,7 +30,7 @@ module _ (f : Child) (own : List Part) (ts : List Tie) (pl plc : Placing) (r c :
       → NamesDiffer r.imports → All LiteralFits r.parts → IsOpenStage r (pl.own f.own) (stage_of f pl plc r c)
   child_is_open_stage h leads done steady all differ fit =
       let (regular, rests) = hearing.child_is_steady f own ts pl plc r c is parts laid staged web steady all differ fit in
-      let names = hearing.names_below f own ts pl plc r c is parts laid staged web differ in
+      let names = names_below f own ts pl plc r c is laid staged.wired differ in
       record {
         stage =
             child_is_stage f own ts pl plc r c h is leads parts laid staged done regular (rests_after_answers c done regular rests) names

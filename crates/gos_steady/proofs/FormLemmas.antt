@@ -1,118 +1,41 @@
 -- The five forms: their branches, and that each session of theirs runs one.
-use Rattle.std.specs.Prelude.{◌≡◌, ℕ, Bool, true, false, List, [], ◌∷◌, ◌++◌, Option, Some, None, length, nat_eq, if◌then◌else◌}
-use Rattle.std.proofs.Common.{refl, sym, ◌∙◌, ap, subst}
+use Rattle.std.specs.Prelude.{◌≡◌, ℕ, List, [], ◌∷◌, ◌++◌, Some}
+use Rattle.std.proofs.Common.{refl, sym, subst}
 use Rattle.gos_types.specs.Types.{Type', Com, Exp}
 use Rattle.gos_model.specs.Terms as terms
 use Rattle.gos_model.specs.Terms.{Op, Term, result_width}
 use Rattle.gos_check.specs.declared.linear.Split.{Split}
 use Rattle.gos_check.specs.Nodes.{Numbered, One, Two, If, OfNot, OfSeq, OfWhile, OfBin, type_of_node}
 use Rattle.gos_check.specs.Linearity.{used}
-use Rattle.gos_plan.specs.Firing.{First, Second, Test, Branch as Branched, Body, Left, Right, Waiting}
+use Rattle.gos_plan.specs.Firing.{Phase}
 use Rattle.gos_plan.specs.Kinds as kinds
-use Rattle.gos_sessions.specs.Sessions.{Sequence, Choice, Loop, Binary, Complement, Session, session}
+use Rattle.gos_sessions.specs.Sessions.{Form, Sequence, Choice, Loop, Binary, Complement, Session, session_of}
 use Rattle.gos_compile.specs.Wiring.{Types}
 use Rattle.gos_wired.specs.Regular.{RegularWired}
 use Rattle.gos_numbers.specs.Kept.{IsKept}
 use Rattle.gos_numbers.specs.Inherited.{own_numbers, first_numbers, PartIsKept, BothAreKept, ThreeAreKept}
 use Rattle.gos_forks.specs.Forks.{Branch, IsFork}
 use Rattle.gos_forks.specs.Forms.{branch, SequenceIsFork, ChoiceIsFork, LoopIsFork, OperatorIsFork, ComplementIsFork}
-use Rattle.gos_covers.proofs.PartedLemmas.{same_bits, no_empty, of_one, of_two, of_three, one_branch, two_branches, three_branches}
+use Rattle.gos_covers.proofs.PartedLemmas.{same_bits, no_empty, of_one, of_two, of_three, first_branch, own_branch, one_branch, two_branches, three_branches}
+use Rattle.gos_covers.proofs.SessionLemmas.{RunsOne, of_sequence, of_choice, of_loop, of_operator, of_complement}
 use Rattle.gos_steady.specs.Forks.{AreRun, ForkIsSteady, SequenceIsSteady, ChoiceIsSteady, LoopIsSteady, OperatorIsSteady, ComplementIsSteady}
 
-none_given : (s : Session) → None ≡ Some s → ⊥
-none_given s e = cc e
+-- whatever terms the parts have
+abbrev pub skips : Numbered → Term
+skips m = terms.Skip
 
-abbrev session_or : Session → Option Session → Session
-session_or d None = d
-session_or d (Some s) = s
-
-given : (d s : Session) → Some d ≡ Some s → d ≡ s
-given d s e = ap (session_or d) e
-
--- the session runs the branch that stands behind so many
-abbrev RunsOne : List Branch → Session → Type 0
-RunsOne bs s =
-    (before : List Branch) × (after : List Branch) × (b : Branch) × (bs ≡ before ++ b ∷ after) × (s.asked_at ≡ length before)
-    × (s.ty ≡ type_of_node b.term)
-
-runs_one : (before after : List Branch) (b : Branch) (s : Session) (t : Type') (frame : Term → Term)
-    → t ≡ type_of_node b.term → session (length before) terms.Skip t frame ≡ s → RunsOne (before ++ b ∷ after) s
-runs_one before after b s t frame ty same = (
-  before,
-  after,
-  b,
-  refl,
-  sym (ap (λ (x : Session). x.asked_at) same),
-  sym (ap (λ (x : Session). x.ty) same) ∙ ty,
-)
-
-module _ (m n p : Numbered) (ms ks ls : List ℕ) where
-  abbrev two : List Branch
-  two = branch m ms ∷ branch n ks ∷ []
-
-  abbrev three : List Branch
-  three = branch m ms ∷ branch n ks ∷ branch p ls ∷ []
-
-  pub of_sequence : (t : Type') → type_of_node m ≡ Com → type_of_node n ≡ t → AreRun (Sequence t terms.Skip terms.Skip) two
-  of_sequence t em en First k s h =
-      let frame : Term → Term = (λ x. terms.Seq x terms.Skip) in
-      runs_one [] (branch n ks ∷ []) (branch m ms) s Com frame (sym em) (given (session 0 terms.Skip Com frame) s h)
-  of_sequence t em en Second k s h =
-      runs_one (branch m ms ∷ []) [] (branch n ks) s t (λ x. x) (sym en) (given (session 1 terms.Skip t (λ x. x)) s h)
-  of_sequence t em en q k s h = absurd (none_given s h)
-
-  of_choice : (t : Type') → type_of_node m ≡ Exp 1 → type_of_node n ≡ t → type_of_node p ≡ t → AreRun (Choice t terms.Skip terms.Skip terms.Skip) three
-  of_choice t em en ep Test k s h =
-      let frame : Term → Term = (λ x. terms.If x terms.Skip terms.Skip) in
-      runs_one [] (branch n ks ∷ branch p ls ∷ []) (branch m ms) s (Exp 1) frame (sym em) (given (session 0 terms.Skip (Exp 1) frame) s h)
-  of_choice t em en ep Branched k s h = by_test (nat_eq k 1) h
-    where
-      by_test : (b : Bool) → Some (session (if b then 1 else 2) (if b then terms.Skip else terms.Skip) t (λ x. x)) ≡ Some s → RunsOne three s
-      by_test true h =
-          runs_one (branch m ms ∷ []) (branch p ls ∷ []) (branch n ks) s t (λ x. x) (sym en) (given (session 1 terms.Skip t (λ x. x)) s h)
-      by_test false h =
-          runs_one (branch m ms ∷ branch n ks ∷ []) [] (branch p ls) s t (λ x. x) (sym ep) (given (session 2 terms.Skip t (λ x. x)) s h)
-  of_choice t em en ep q k s h = absurd (none_given s h)
-
-  of_loop : type_of_node m ≡ Exp 1 → type_of_node n ≡ Com → AreRun (Loop terms.Skip terms.Skip) two
-  of_loop em en Test k s h =
-      let frame : Term → Term = (λ x. terms.If x (terms.Seq terms.Skip (terms.While terms.Skip terms.Skip)) terms.Skip) in
-      runs_one [] (branch n ks ∷ []) (branch m ms) s (Exp 1) frame (sym em) (given (session 0 terms.Skip (Exp 1) frame) s h)
-  of_loop em en Body k s h =
-      let frame : Term → Term = (λ x. terms.Seq x (terms.While terms.Skip terms.Skip)) in
-      runs_one (branch m ms ∷ []) [] (branch n ks) s Com frame (sym en) (given (session 1 terms.Skip Com frame) s h)
-  of_loop em en q k s h = absurd (none_given s h)
-
-  of_operator : (op : Op) (w : ℕ) → type_of_node m ≡ Exp w → type_of_node n ≡ Exp w → AreRun (Binary op w terms.Skip terms.Skip) two
-  of_operator op w em en Left k s h =
-      let frame : Term → Term = (λ x. terms.Bin op x terms.Skip) in
-      runs_one [] (branch n ks ∷ []) (branch m ms) s (Exp w) frame (sym em) (given (session 0 terms.Skip (Exp w) frame) s h)
-  of_operator op w em en Right k s h =
-      let frame : Term → Term = (λ x. terms.Held k op x) in
-      runs_one (branch m ms ∷ []) [] (branch n ks) s (Exp w) frame (sym en) (given (session 1 terms.Skip (Exp w) frame) s h)
-  of_operator op w em en q k s h = absurd (none_given s h)
-
-of_complement : (m : Numbered) (ms : List ℕ) (w : ℕ) → type_of_node m ≡ Exp w → AreRun (Complement w terms.Skip) (branch m ms ∷ [])
-of_complement m ms w em Waiting k s h =
-    let frame : Term → Term = (λ x. terms.Not x) in
-    runs_one [] [] (branch m ms) s (Exp w) frame (sym em) (given (session 0 terms.Skip (Exp w) frame) s h)
-of_complement m ms w em q k s h = absurd (none_given s h)
+pub are_run : (f : Form) (bs : List Branch) → ((p : Phase) (n : ℕ) (s : Session) → session_of f p n ≡ Some s → RunsOne skips bs s) → AreRun f bs
+are_run f bs runs p n s given = let (before, after, b, is, asked, term, ty) = runs p n s given in (before, after, b, is, asked, ty)
 
 abbrev Steady : Types → Branch → Type 0
 Steady types b = RegularWired types b.uses b.term
-
--- the numbers of the parts
-abbrev first_branch : List Split → List ℕ → List ℕ → Numbered → Branch
-first_branch ss ns others m = branch m (first_numbers ss ns others)
-
-abbrev own_branch : List Split → List ℕ → Numbered → Branch
-own_branch ss ns m = branch m (own_numbers ss ns m)
 
 pub sequence_is_steady : SequenceIsFork → BothAreKept → ForkIsSteady → SequenceIsSteady
 sequence_is_steady fork kept law types ns t ss m n is done rm rn =
     law (Sequence t terms.Skip terms.Skip) types (Two t ss OfSeq m n) ss (a ∷ b ∷ []) ns
     (subst (λ (v : ℕ). IsFork types (Two t ss OfSeq m n) ss (kinds.Seq v) (a ∷ b ∷ [])) (same_bits t) (fork types t ss m n a.uses b.uses done is.typed.1.1 is.typed.1.2))
-    (two_branches types ns t ss kept OfSeq m n is) (no_empty a (b ∷ [])) refl (of_sequence m n n a.uses b.uses b.uses t is.typed.1.1 is.typed.1.2)
+    (two_branches types ns t ss kept OfSeq m n is) (no_empty a (b ∷ [])) refl
+    (are_run (Sequence t terms.Skip terms.Skip) (a ∷ b ∷ []) (of_sequence skips m n n a.uses b.uses b.uses t is.typed.1.1 is.typed.1.2))
     (of_two (Steady types) a b rm rn)
   where
     a : Branch
@@ -127,7 +50,8 @@ choice_is_steady fork kept law types ns t ss m n p is done rm rn rp =
     (subst (λ (v : ℕ). IsFork types (If t ss m n p) ss (kinds.If v) (a ∷ b ∷ c ∷ [])) (same_bits t)
     (fork types t ss m n p a.uses b.uses c.uses done is.typed.1.1 is.typed.1.2 is.typed.1.3))
     (three_branches types ns t ss kept m n p is) (no_empty a (b ∷ c ∷ [])) refl
-    (of_choice m n p a.uses b.uses c.uses t is.typed.1.1 is.typed.1.2 is.typed.1.3) (of_three (Steady types) a b c rm rn rp)
+    (are_run (Choice t terms.Skip terms.Skip terms.Skip) (a ∷ b ∷ c ∷ [])
+    (of_choice skips m n p a.uses b.uses c.uses t is.typed.1.1 is.typed.1.2 is.typed.1.3)) (of_three (Steady types) a b c rm rn rp)
   where
     a : Branch
     a = first_branch ss ns (used n ++ used p) m
@@ -143,7 +67,8 @@ module _ (fork : LoopIsFork) (kept : BothAreKept) (law : ForkIsSteady) (types : 
       → RegularWired types (own_numbers ss ns n) n → RegularWired types ns (Two Com ss OfWhile m n)
   plain_loop is rm rn =
       law (Loop terms.Skip terms.Skip) types (Two Com ss OfWhile m n) ss (a ∷ b ∷ []) ns (fork types ss m n a.uses b.uses is.typed.1.1 is.typed.1.2)
-      (two_branches types ns Com ss kept OfWhile m n is) (no_empty a (b ∷ [])) refl (of_loop m n n a.uses b.uses b.uses is.typed.1.1 is.typed.1.2)
+      (two_branches types ns Com ss kept OfWhile m n is) (no_empty a (b ∷ [])) refl
+      (are_run (Loop terms.Skip terms.Skip) (a ∷ b ∷ []) (of_loop skips m n n a.uses b.uses b.uses is.typed.1.1 is.typed.1.2))
       (of_two (Steady types) a b rm rn)
     where
       a : Branch
@@ -166,7 +91,8 @@ module _ (fork : OperatorIsFork) (kept : BothAreKept) (law : ForkIsSteady) (type
       → RegularWired types (own_numbers ss ns n) n → RegularWired types ns operation
   plain_operator em en is rm rn =
       law (Binary op w terms.Skip terms.Skip) types operation ss (a ∷ b ∷ []) ns (fork types op w ss m n a.uses b.uses em en)
-      (two_branches types ns (Exp (result_width op w)) ss kept (OfBin op) m n is) (no_empty a (b ∷ [])) refl (of_operator m n n a.uses b.uses b.uses op w em en)
+      (two_branches types ns (Exp (result_width op w)) ss kept (OfBin op) m n is) (no_empty a (b ∷ [])) refl
+      (are_run (Binary op w terms.Skip terms.Skip) (a ∷ b ∷ []) (of_operator skips m n n a.uses b.uses b.uses op w em en))
       (of_two (Steady types) a b rm rn)
     where
       a : Branch
@@ -186,7 +112,8 @@ module _ (fork : ComplementIsFork) (kept : PartIsKept) (law : ForkIsSteady) (typ
       → RegularWired types ns (One (Exp w) [] OfNot m)
   plain_complement w em is steady =
       law (Complement w terms.Skip) types (One (Exp w) [] OfNot m) [] (branch m ns ∷ []) ns (fork types w [] m ns em)
-      (one_branch types ns (Exp w) m (kept types ns (Exp w) [] OfNot m is).1 is) (no_empty (branch m ns) []) refl (of_complement m ns w em)
+      (one_branch types ns (Exp w) m (kept types ns (Exp w) [] OfNot m is).1 is) (no_empty (branch m ns) []) refl
+      (are_run (Complement w terms.Skip) (branch m ns ∷ []) (of_complement skips m ns w em))
       (of_one (Steady types) (branch m ns) steady)
 
   unsplit_complement : (t : Type') → IsKept types ns (One t [] OfNot m) → RegularWired types ns m → RegularWired types ns (One t [] OfNot m)

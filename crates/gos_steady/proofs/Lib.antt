@@ -1,7 +1,6 @@
 pub mod RestLemmas
 pub mod SideLemmas
 pub mod AssignmentLemmas
-pub mod WiredLemmas
 pub mod HeardLemmas
 pub mod ParallelLemmas
 pub mod BlockLemmas

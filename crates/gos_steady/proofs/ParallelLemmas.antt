@@ -1,9 +1,8 @@
 -- Both sides of `||`.
-use Rattle.std.specs.Prelude.{suc, ◌+◌, length, Contains}
-use Rattle.std.proofs.Common.{◌≡◌, ℕ, List, [], ◌⊎◌, inl, inr, sym, subst, arith}
+use Rattle.std.specs.Prelude.{suc, ◌+◌, length}
+use Rattle.std.proofs.Common.{◌≡◌, [], ◌⊎◌, inl, inr, sym, subst}
 use Rattle.gos_types.specs.Types.{Com, IsDone}
-use Rattle.gos_check.specs.Nodes.{Numbered, Two, OfPar}
-use Rattle.gos_check.proofs.TimesLemmas.{some_times, listed_times}
+use Rattle.gos_check.specs.Nodes.{Two, OfPar}
 use Rattle.gos_plan.specs.Plans.{End, PartEnd, ResultEnd, Plan}
 use Rattle.gos_realises.specs.Regular.{IsRegular}
 use Rattle.gos_realises.specs.Realises.{NamesDiffer, HaveOtherNames}
@@ -12,29 +11,18 @@ use Rattle.gos_windows.specs.OpenNodes.{IsHeard}
 use Rattle.gos_turns.specs.Rests.{Rests}
 use Rattle.gos_parallel.specs.Parallel.{IsJointOf, IsParallel}
 use Rattle.gos_parallel.proofs.RegularLemmas.{open_parallel_is_regular, open_parallel_is_restful}
-use Rattle.gos_compile.specs.Wiring.{Types, parts_of, nodes}
-use Rattle.gos_frames.specs.Frames.{AreParted, AreSides}
+use Rattle.gos_compile.specs.Wiring.{parts_of, nodes}
+use Rattle.gos_frames.specs.Frames.{AreSides}
+use Rattle.gos_wired.proofs.NameLemmas.{names_differ}
+use Rattle.gos_frames.proofs.PartedLemmas.{first_among, second_among}
+use Rattle.gos_frames.proofs.CutLemmas.{literals_within}
 use Rattle.gos_frames.proofs.ParallelLemmas.{parallel_is_wired}
 use Rattle.gos_steady.specs.Cases.{ParallelIsSteady}
 use Rattle.gos_steady.proofs.RestLemmas.{rests_after_answers, rests_where_restful}
 use Rattle.gos_steady.proofs.HeardLemmas.{side_heard}
-use Rattle.gos_steady.proofs.WiredLemmas.{fewer, names_differ, literals_within}
 
 other_way : (p q : Plan) → HaveOtherNames p.imports q.imports → HaveOtherNames q.imports p.imports
 other_way p q apart i j has also same = apart j i also has (sym same)
-
-module _ (types : Types) (ns ms ks : List ℕ) (m n : Numbered) (parted : AreParted m n ns ms ks) where
-  left_among : (k : ℕ) → Contains ms k → Contains ns k
-  left_among k has =
-      let there = some_times k ms has in
-      let sum = parted.split k in
-      listed_times k ns (omega (arith, there, sum))
-
-  right_among : (k : ℕ) → Contains ks k → Contains ns k
-  right_among k has =
-      let there = some_times k ks has in
-      let sum = parted.split k in
-      listed_times k ns (omega (arith, there, sum))
 
 pub parallel_is_steady : ParallelIsSteady
 parallel_is_steady types ns ms ks m n parted em en rm rn i j env pl r w supplies differ fit = (regular, rests_where_restful r done regular restful)
@@ -48,22 +36,22 @@ parallel_is_steady types ns ms ks m n parted em en rm rn i j env pl r w supplies
     left_names : NamesDiffer sides.left.imports
     left_names =
         names_differ types i j (Two Com [] OfPar m n) ns env pl r w (i + 1) (suc j) m ms sides.left_placing sides.left sides.left_wired
-        (left_among types ns ms ks m n parted) differ
+        (first_among m n ns ms ks parted) differ
 
     right_names : NamesDiffer sides.right.imports
     right_names =
         names_differ types i j (Two Com [] OfPar m n) ns env pl r w (i + 1 + length (parts_of types m)) (suc j + nodes m) n ks sides.right_placing sides.right
-        sides.right_wired (right_among types ns ms ks m n parted) differ
+        sides.right_wired (second_among m n ns ms ks parted) differ
 
     left : IsRegular sides.left × Rests sides.left
     left =
-        rm (i + 1) (suc j) env sides.left_placing sides.left sides.left_wired (fewer types env ns ms (left_among types ns ms ks m n parted) supplies) left_names
+        rm (i + 1) (suc j) env sides.left_placing sides.left sides.left_wired (λ k has. supplies k (first_among m n ns ms ks parted k has)) left_names
         (literals_within sides.left_cut r sides.left of.left.cut fit)
 
     right : IsRegular sides.right × Rests sides.right
     right =
         rn (i + 1 + length (parts_of types m)) (suc j + nodes m) env sides.right_placing sides.right sides.right_wired
-        (fewer types env ns ks (right_among types ns ms ks m n parted) supplies) right_names (literals_within sides.right_cut r sides.right of.right.cut fit)
+        (λ k has. supplies k (second_among m n ns ms ks parted k has)) right_names (literals_within sides.right_cut r sides.right of.right.cut fit)
 
     left_restful : IsRestful sides.left
     left_restful = rests_after_answers sides.left (subst IsDone (sym of.left.outcome) tt) left.0 left.1

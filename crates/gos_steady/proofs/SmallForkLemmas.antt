@@ -5,11 +5,12 @@ use Rattle.gos_plan.specs.Firing.{Second}
 use Rattle.gos_types.specs.Types.{Com}
 use Rattle.gos_forks.specs.Forks.{Branch}
 use Rattle.gos_forks.specs.Forms.{branch}
-use Rattle.gos_steady.specs.SmallForks.{skip_node, BothAreRun, SecondIsNotRun}
-use Rattle.gos_steady.proofs.FormLemmas.{of_sequence}
+use Rattle.gos_steady.specs.SmallForks.{skip_node, skip_twice, BothAreRun, SecondIsNotRun}
+use Rattle.gos_covers.proofs.SessionLemmas.{of_sequence}
+use Rattle.gos_steady.proofs.FormLemmas.{skips, are_run}
 
 pub both_are_run : BothAreRun
-both_are_run = of_sequence skip_node skip_node skip_node [] [] [] Com refl refl
+both_are_run = are_run skip_twice (branch skip_node [] ∷ branch skip_node [] ∷ []) (of_sequence skips skip_node skip_node skip_node [] [] [] Com refl refl)
 
 short : (before after : List Branch) (b : Branch) → branch skip_node [] ∷ [] ≡ before ++ b ∷ after → 1 ≡ length before → ⊥
 short [] after b same one = omega (arith, one)

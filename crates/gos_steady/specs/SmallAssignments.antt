@@ -1,9 +1,9 @@
 -- The plan of `x := 8:1`, with an import x of a variable, as an assignment of two sides; and what is none.
 --
--- Read first: Assignments; SmallWrites of gos_writes.
+-- Read first: Assignments and SmallWrites of gos_writes.
 use Rattle.gos_assigned.specs.SmallWrites.{write_plan}
+use Rattle.gos_writes.specs.Assignments.{IsOpenAssignment}
 use Rattle.gos_writes.specs.SmallWrites.{x_plan, number_stage, variable_stage}
-use Rattle.gos_steady.specs.Assignments.{IsOpenAssignment}
 
 abbrev pub OneIsOpen : Type 0
 OneIsOpen = IsOpenAssignment write_plan 0 8 number_stage variable_stage x_plan

@@ -1,7 +1,6 @@
 -- What asks in the plan of a wired assignment is its result, or stands for something of one of the two sides.
-use Rattle.std.specs.Prelude.{◌≢◌, ◌+◌, ◌-◌, ◌<◌, ◌≤◌, ◌⊎◌, length, nat_lt, slice_get, None, Contains}
+use Rattle.std.specs.Prelude.{◌≢◌, ◌+◌, ◌-◌, ◌<◌, ◌⊎◌, length, nat_lt, slice_get, None, Contains}
 use Rattle.std.proofs.Common.{◌≡◌, ℕ, zero, suc, Bool, true, false, List, [], ◌∷◌, ◌++◌, Option, Some, inl, inr, refl, sym, ◌∙◌, ap, subst, arith}
-use Rattle.std.proofs.lemmas.Bool.Decides.{nat_tests}
 use Rattle.std.proofs.lemmas.Option.{slice_get_within}
 use Rattle.gos_types.specs.declared.shakes.Role.{Role}
 use Rattle.gos_types.specs.declared.shakes.Role.TheVariants.{Serve, Ask}
@@ -20,8 +19,9 @@ use Rattle.gos_wired.specs.NodeFitting.{AreOfTypes}
 use Rattle.gos_stages.specs.Lodging.{serves_side, AreApart}
 use Rattle.gos_stages.specs.Folding.{Child, is_used, child_back, IsChild, IsLaid}
 use Rattle.gos_stages.proofs.SpareLemmas.{has_size}
-use Rattle.gos_stages.proofs.ChildPartLemmas.{low, no_more_than}
-use Rattle.gos_stages.proofs.CoverLemmas.{live_is_covered, served_is_covered, own_is_covered}
+use Rattle.gos_stages.proofs.StepLemmas.{low, told_low, told_high}
+use Rattle.gos_stages.proofs.ChildPartLemmas.{no_more_than}
+use Rattle.gos_stages.proofs.CoverLemmas.{live_is_covered, served_is_covered, plainly, own_is_covered}
 use Rattle.gos_stages.proofs.SideLemmas.{served_side, AreUsed, AreOld, Lives, Serves, all_live, all_serve}
 use Rattle.gos_stages.proofs.ContactLemmas.{part_there, import_there, shares_length}
 use Rattle.gos_stages.proofs.LayoutLemmas.{in_front, in_back}
@@ -44,17 +44,6 @@ share_is : (types : Types) (ss : List Split) (k : ℕ) (y : Part) → slice_get 
 share_is types [] k y at = absurd (no_more_than y at)
 share_is types (s ∷ ss) zero y at = let same : Share (types s.of) ≡ y = cc at in (types s.of, sym same)
 share_is types (s ∷ ss) (suc k) y at = share_is types ss k y at
-
--- with the parts numbered as they are
-abbrev plainly : Placing
-plainly =
-    record {
-      own = λ k. k;
-      supplied = λ n k. k;
-      import = λ n k. k;
-      source = λ j. Own j;
-      origin = λ j. record { number = 0; import = j };
-    }
 
 module _ (types : Types) (i j : ℕ) (ss : List Split) (w : ℕ) (m n : Numbered) (ns : List ℕ) (env : Supplies) (kept : IsKept types ns (Two Com ss OfAssign m n))
     (var : type_of_node m ≡ Var w) (num : type_of_node n ≡ Exp w) (supplies : AreOfTypes types env ns) where
@@ -149,12 +138,6 @@ module _ (types : Types) (i j : ℕ) (ss : List Split) (w : ℕ) (m n : Numbered
     where
       size : length (shares ss types) ≡ length ss
       size = shares_length types ss
-
-      told_low : (a b : ℕ) → nat_lt a b ≡ true → a < b
-      told_low a b t = grind (arith, nat_tests, t)
-
-      told_high : (a b : ℕ) → nat_lt a b ≡ false → b ≤ a
-      told_high a b t = grind (arith, nat_tests, t)
 
       at_variable : (x : ℕ) → length ss + 1 + x ≡ k → x < length (parts_of types m) → Covered (source_dot i (Own k) h)
       at_variable x same lt =

@@ -1,6 +1,6 @@
 -- The plan of a wired variable without the joint by which it is read is that of its web, where what reads stands apart.
 use Rattle.std.specs.Prelude.{◌≢◌, ◌+◌, Some, Contains}
-use Rattle.std.proofs.Common.{◌≡◌, ℕ, zero, suc, Bool, true, false, List, [], ◌∷◌, inl, inr, refl, sym, ◌∙◌, ap, subst, if◌then◌else◌}
+use Rattle.std.proofs.Common.{◌≡◌, ℕ, zero, suc, Bool, true, false, List, [], inl, inr, refl, sym, ◌∙◌, ap, subst}
 use Rattle.std.proofs.lemmas.List.Elements.{Contains-append_cases}
 use Rattle.gos_types.specs.declared.shakes.Role.TheVariants.{Serve, Ask}
 use Rattle.gos_types.specs.Types.{IsGround}
@@ -19,20 +19,8 @@ use Rattle.gos_compile.specs.Wiring.{Types, row, ties_of}
 use Rattle.gos_wired.specs.Wired.{Supplies, Source, Own, Supplied, Placing, source_dot, dot_at, dot_ties, all_supply_ties, wired_ties, wired_web}
 use Rattle.gos_stages.proofs.ChildTieLemmas.{put_in, of_supplies, of_supply}
 use Rattle.gos_writes.specs.Written.{unread_joints, unread}
-use Rattle.gos_writes.proofs.JoinedLemmas.{was_in, unread_right}
+use Rattle.gos_writes.proofs.JoinedLemmas.{kept_in, was_in, unread_right}
 use Rattle.gos_windows.proofs.AskedLemmas.{ground_asks}
-
--- joints without those of handshake 0
-kept_in : (x : Joint) (js : List Joint) → same_end x.asking (ResultEnd 0) ≡ false → IsIn x js → IsIn x (unread_joints js)
-kept_in x [] apart none = absurd none
-kept_in x (j ∷ js) apart (inl is) =
-    let test : same_end j.asking (ResultEnd 0) ≡ false = ap (λ (y : Joint). same_end y.asking (ResultEnd 0)) (sym is) ∙ apart in
-    subst (λ (b : Bool). IsIn x (if b then unread_joints js else j ∷ unread_joints js)) (sym test) (inl is)
-kept_in x (j ∷ js) apart (inr later) = by_test (same_end j.asking (ResultEnd 0)) (kept_in x js apart later)
-  where
-    by_test : (b : Bool) → IsIn x (unread_joints js) → IsIn x (if b then unread_joints js else j ∷ unread_joints js)
-    by_test true there = there
-    by_test false there = inr there
 
 -- no result serves
 no_result : (p : Plan) → IsRight p → IsGround p.outcome → (h : ℕ) (x : Joint) → IsIn x p.joints → x.serving ≡ ResultEnd h → ⊥

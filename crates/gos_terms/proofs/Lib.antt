@@ -1,6 +1,5 @@
 mod FormLemmas
 mod RegularLemmas
-mod LeafLemmas
 mod RealisedLemmas
 mod ImportLemmas
 mod LiteralLemmas

@@ -16,7 +16,7 @@ use Rattle.gos_paired.specs.Cases.{BothCase}
 use Rattle.gos_targets.specs.Cases.{AnyAssignCase}
 use Rattle.gos_opened.specs.Opened.{RealisedIsRegular, SteadyIsRealised}
 use Rattle.gos_terms.proofs.FormLemmas.{kept_so, same, closed, number_used}
-use Rattle.gos_terms.proofs.LeafLemmas.{has_leaves}
+use Rattle.gos_calls.proofs.TypeLemmas.{has_leaves}
 use Rattle.gos_terms.specs.Terms.{TermIsRegular, TermIsRealised}
 
 -- the laws of the forms, and of what their parts inherit

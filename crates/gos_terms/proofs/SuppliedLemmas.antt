@@ -29,7 +29,7 @@ use Rattle.gos_wired.specs.Fitting.{CheckedFits, CheckedIsWired}
 use Rattle.gos_wired.specs.NodeFitting.{CheckedStarts}
 use Rattle.gos_numbers.specs.Kept.{CheckedIsKept}
 use Rattle.gos_grounds.specs.Cases.{RealisesWired}
-use Rattle.gos_terms.proofs.LeafLemmas.{has_leaves}
+use Rattle.gos_calls.proofs.TypeLemmas.{has_leaves}
 use Rattle.gos_terms.proofs.LiteralLemmas.{literals_fit, joined_fit}
 use Rattle.gos_terms.proofs.ImportLemmas.{names_differ, import_there, term_there}
 

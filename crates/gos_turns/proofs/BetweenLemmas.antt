@@ -2,9 +2,8 @@
 --
 -- Where the holder serves, one follows the other, and where it asks the other follows the one. So it is with a name: its import
 -- follows its result in some handshakes, and its result the import in the others.
-use Rattle.std.specs.Prelude.{ℕ, zero, suc, ◌+◌, ◌-◌, ◌<◌, Bool, true, false, ◌&&◌, List, Some, slice_get, nat_lt}
+use Rattle.std.specs.Prelude.{ℕ, zero, suc, ◌+◌, ◌<◌, Bool, true, false, ◌&&◌, List, Some, slice_get}
 use Rattle.std.proofs.Common.{◌≡◌, [], ◌∷◌, ◌⊎◌, inl, inr, refl, sym, ◌∙◌, ap, arith}
-use Rattle.std.proofs.lemmas.Bool.Decides.{nat_tests}
 use Rattle.gos_types.specs.declared.shakes.Role.TheVariants.{Serve, Ask}
 use Rattle.gos_types.specs.Types.{Type', Com, Exp, Var, Pair, Fun}
 use Rattle.gos_types.specs.Handshakes.{turned}
@@ -16,6 +15,7 @@ use Rattle.gos_realises.proofs.GroundTurnLemmas.{some_there, there_some, count_f
 use Rattle.gos_realises.proofs.CountLemmas.{count_pair}
 use Rattle.gos_turns.proofs.TypeLemmas.{sides}
 use Rattle.gos_turns.proofs.TurnedLemmas.{fun_busy}
+use Rattle.gos_turns.proofs.SideLemmas.{pair_busy}
 
 -- where something is open a handshake is by which the holder serves
 abbrev Served : Type' → (ℕ → Bool) → Type 0
@@ -42,19 +42,6 @@ fun_second a b h c there =
     let long = sides a b in
     ap (λ (cs : List Contact). slice_get cs (count a + h)) (functions_join a b).joined
     ∙ (behind (other_side (contacts_of a)) (contacts_of b) h (count a + h) (omega (arith, long)) ∙ there)
-
-pair_busy : (a b : Type') (f : ℕ → Bool) → some_open (count (Pair a b)) f ≡ true → (some_open (count a) f ≡ true) ⊎ (some_open (count b) (beyond (count a) f) ≡ true)
-pair_busy a b f busy = of_open (some_there (count (Pair a b)) f busy)
-  where
-    of_open : (k : ℕ) × (k < count (Pair a b)) × (f k ≡ true) → (some_open (count a) f ≡ true) ⊎ (some_open (count b) (beyond (count a) f) ≡ true)
-    of_open (k, low, up) = by_test (nat_lt k (count a)) refl
-      where
-        by_test : (t : Bool) → nat_lt k (count a) ≡ t → (some_open (count a) f ≡ true) ⊎ (some_open (count b) (beyond (count a) f) ≡ true)
-        by_test true test = inl (there_some (count a) f k (grind (arith, nat_tests, test)) up)
-        by_test false test =
-            let high : count a + (k - count a) ≡ k = grind (arith, nat_tests, test) in
-            let sum = count_pair a b in
-            inr (there_some (count b) (beyond (count a) f) (k - count a) (omega (arith, low, sum, high)) (ap f high ∙ up))
 
 pub served : (t : Type') (f : ℕ → Bool) → KeepsTurnsOf t f → some_open (count t) f ≡ true → Served t f
 served Com f keeps busy = let (k, low, up) = some_there 1 f busy in (0, _, omega arith, refl, refl, let e : k ≡ 0 = omega (arith, low) in ap f (sym e) ∙ up)

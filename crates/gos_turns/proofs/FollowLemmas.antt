@@ -3,7 +3,7 @@
 -- What is open at an asking end of the whole is so where it stands in its plan; a token of the whole lies on some joint of the
 -- trail; each open joint of a plan has a trail that leads to it; linked ports are open together. So where the last joint of a
 -- trail is open the first one is, and those between are empty.
-use Rattle.std.specs.Prelude.{ℕ, zero, suc, ◌+◌, ◌-◌, ◌≤◌, ◌<◌, Bool, true, false, List, Option, Some, None, Contains, slice_get, nat_lt, length}
+use Rattle.std.specs.Prelude.{ℕ, zero, suc, ◌+◌, Bool, true, false, List, Option, Some, None, Contains, slice_get}
 use Rattle.std.proofs.Common.{◌≡◌, [], ◌∷◌, ◌⊎◌, inl, inr, refl, sym, ◌∙◌, ap, arith}
 use Rattle.gos_types.specs.declared.shakes.Role.TheVariants.{Serve, Ask}
 use Rattle.gos_types.specs.Handshakes.{turned}
@@ -12,7 +12,7 @@ use Rattle.gos_plan.specs.Kinds.{Part, Contact, asks, serves, turned_contact}
 use Rattle.gos_plan.specs.Plans.{End, PartEnd, ImportEnd, ResultEnd, Joint, Plan, contact_at, contacts_of_part}
 use Rattle.gos_plan.specs.Tokens.{Tokens, IsPortEnd, places_of}
 use Rattle.gos_plan.specs.Orderly.{Open}
-use Rattle.gos_plan.specs.Joining.{Place, place, Wiring, JoinedWithin, Linked, all_parts, part_place, origin, IsJoining}
+use Rattle.gos_plan.specs.Joining.{Place, place, Wiring, JoinedWithin, Linked, origin, IsJoining}
 use Rattle.gos_plan.proofs.JointLemmas.{IsIn, stands_there, contained}
 use Rattle.gos_realises.specs.Regular.{Pass, is_open}
 use Rattle.gos_realises.specs.Links.{contact_of, LinksFit}
@@ -20,7 +20,7 @@ use Rattle.gos_webs.specs.Webs.{joint}
 use Rattle.gos_plan.proofs.DecidedLemmas.{Told}
 use Rattle.gos_joined.proofs.ReachLemmas.{Paths, paths_then, place_is, told_number, told_end}
 use Rattle.gos_joined.proofs.StepLemmas.{IsOutside, IsPart}
-use Rattle.gos_joined.proofs.OriginLemmas.{at_origin, sort, sort_of, before, front_at, behind_at, next_place}
+use Rattle.gos_joined.proofs.OriginLemmas.{at_origin, sort, sort_of, before, part_of}
 use Rattle.gos_unions.specs.Unions.{HasFieldsOf}
 use Rattle.gos_unions.proofs.PlaceLemmas.{fields_of, same_contact, stands_at, stands_alone}
 use Rattle.gos_turns.proofs.StandLemmas.{serves_itself, Stands}
@@ -91,47 +91,6 @@ pub record Seat (w : Wiring) (i : ℕ) (f : Part) : Type 0 where
   pub number : i ≡ before w.plans plan + part
   pub stands : (h : ℕ) → origin w (PartEnd i h) ≡ place plan (PartEnd part h)
 
-record SeatIn (n : ℕ) (ps : List Plan) (i : ℕ) (f : Part) : Type 0 where
-  plan : ℕ
-  part : ℕ
-  of : Plan
-  is : slice_get ps plan ≡ Some of
-  has : slice_get of.parts part ≡ Some f
-  number : i ≡ before ps plan + part
-  stands : (h : ℕ) → part_place n ps i h ≡ place (n + plan) (PartEnd part h)
-
-seat_in : (n : ℕ) (ps : List Plan) (i : ℕ) (f : Part) → slice_get (all_parts ps) i ≡ Some f → SeatIn n ps i f
-seat_in n [] i f e = absurd (cc e)
-seat_in n (p ∷ ps) i f e = by_test (nat_lt i (length p.parts)) refl (seat_in (suc n) ps (i - length p.parts) f)
-  where
-    by_test : (b : Bool) → nat_lt i (length p.parts) ≡ b → (slice_get (all_parts ps) (i - length p.parts) ≡ Some f → SeatIn (suc n) ps (i - length p.parts) f)
-        → SeatIn n (p ∷ ps) i f
-    by_test true t rest =
-        let small : i < length p.parts = grind (arith, t) in
-        let sum : n ≡ n + 0 = omega arith in
-        record {
-          plan = 0;
-          part = i;
-          of = p;
-          is = refl;
-          has = sym (front_at p.parts (all_parts ps) i small) ∙ e;
-          number = omega arith;
-          stands = λ h. rw t (ap (λ (k : ℕ). place k (PartEnd i h)) sum);
-        }
-    by_test false t rest =
-        let large : length p.parts ≤ i = grind (arith, t) in
-        let there = rest (sym (behind_at p.parts (all_parts ps) i large) ∙ e) in
-        let number = there.number in
-        record {
-          plan = suc there.plan;
-          part = there.part;
-          of = there.of;
-          is = there.is;
-          has = there.has;
-          number = omega (arith, number, large);
-          stands = λ h. rw t (next_place (part_place (suc n) ps (i - length p.parts) h) n there.plan (PartEnd there.part h) (there.stands h));
-        }
-
 port_by_sort : (d e : End) → sort d ≡ sort e → IsPortEnd e → IsPortEnd d
 port_by_sort (PartEnd i h) (PartEnd j g) same port = port
 port_by_sort (PartEnd i h) (ImportEnd j g) same port = absurd (omega (arith, same))
@@ -175,7 +134,7 @@ module _ (w : Wiring) (r : Plan) (fit : LinksFit w) (ported : LinksArePorts w) (
   -- the parts of the whole
   pub seat : (i : ℕ) (f : Part) → slice_get r.parts i ≡ Some f → Seat w i f
   seat i f is =
-      let there = seat_in 0 w.plans i f (ap (λ (fs : List Part). slice_get fs i) (sym has.parts) ∙ is) in
+      let there = part_of 0 w.plans i f (ap (λ (fs : List Part). slice_get fs i) (sym has.parts) ∙ is) in
       let sum : 0 + there.plan ≡ there.plan = omega arith in
       record {
         plan = there.plan;

@@ -1,42 +1,25 @@
 -- A plan rests where a renumbered one does.
-use Rattle.std.specs.Prelude.{List, [], ◌∷◌, Option}
+use Rattle.std.specs.Prelude.{List, [], ◌∷◌}
 use Rattle.std.proofs.Common.{◌≡◌, refl, sym, ◌∙◌, ap, subst}
-use Rattle.gos_plan.specs.Kinds.{Contact}
-use Rattle.gos_plan.specs.Plans.{End, Plan, contact_at}
+use Rattle.gos_plan.specs.Plans.{Plan, contact_at}
 use Rattle.gos_plan.specs.Tokens.{Element, Fire, Out, In, IsIdle}
-use Rattle.gos_realises.specs.Regular.{Pass, pass, way_in, way_out, is_open, KeepsTurns, InputsKeepTurns}
+use Rattle.gos_realises.specs.Regular.{Pass, pass, way_in, way_out, is_open}
 use Rattle.gos_webs.specs.Renumbering.{Renumber, IsRenumbered, back, moved_end, moved_list, moved_tokens}
 use Rattle.gos_webs.proofs.IdleLemmas.{there_and_back}
-use Rattle.gos_webs.proofs.MovedLemmas.{contact_moved, tokens_round, runs_is_moved}
-use Rattle.gos_renumbered.proofs.OrderLemmas.{idle_moved}
-use Rattle.gos_renumbered.proofs.TurnLemmas.{moved_pass, moved_passes, open_moved, turns_forth}
+use Rattle.gos_webs.proofs.MovedLemmas.{tokens_round, runs_is_moved}
+use Rattle.gos_renumbered.proofs.OrderLemmas.{idle_moved, out_pass, in_pass, inputs_moved}
+use Rattle.gos_renumbered.proofs.TurnLemmas.{moved_passes, open_moved}
 use Rattle.gos_turns.specs.Rests.{passes, AllShut}
 use Rattle.gos_turns.specs.Resting.{RenumberedRests}
 
 module _ (f : Renumber) (p q : Plan) (is : IsRenumbered f p q) where
-  out_pass : (e : End) → pass (moved_end f e) (way_out (contact_at q (moved_end f e))) ≡ moved_pass f (pass e (way_out (contact_at p e)))
-  out_pass e = ap (λ (c : Option Contact). pass (moved_end f e) (way_out c)) (contact_moved f p q is e)
-
-  in_pass : (e : End) → pass (moved_end f e) (way_in (contact_at q (moved_end f e))) ≡ moved_pass f (pass e (way_in (contact_at p e)))
-  in_pass e = ap (λ (c : Option Contact). pass (moved_end f e) (way_in c)) (contact_moved f p q is e)
-
-  inputs_moved : (xs : List Element) (past : List Pass) → InputsKeepTurns p past xs → InputsKeepTurns q (moved_passes f past) (moved_list f xs)
-  inputs_moved [] past keeps = tt
-  inputs_moved (Fire i k ∷ xs) past keeps = inputs_moved xs past keeps
-  inputs_moved (Out e v ∷ xs) past keeps =
-      subst (λ (x : Pass). InputsKeepTurns q (x ∷ moved_passes f past) (moved_list f xs)) (sym (out_pass e))
-      (inputs_moved xs (pass e (way_out (contact_at p e)) ∷ past) keeps)
-  inputs_moved (In e v ∷ xs) past keeps =
-      subst (λ (x : Pass). KeepsTurns q (moved_passes f past) x × InputsKeepTurns q (x ∷ moved_passes f past) (moved_list f xs)) (sym (in_pass e))
-      (turns_forth f p q is past (pass e (way_in (contact_at p e))) keeps.0, inputs_moved xs (pass e (way_in (contact_at p e)) ∷ past) keeps.1)
-
   passes_moved : (xs : List Element) (past : List Pass) → passes q (moved_passes f past) (moved_list f xs) ≡ moved_passes f (passes p past xs)
   passes_moved [] past = refl
   passes_moved (Fire i k ∷ xs) past = passes_moved xs past
   passes_moved (Out e v ∷ xs) past =
-      ap (λ (x : Pass). passes q (x ∷ moved_passes f past) (moved_list f xs)) (out_pass e) ∙ passes_moved xs (pass e (way_out (contact_at p e)) ∷ past)
+      ap (λ (x : Pass). passes q (x ∷ moved_passes f past) (moved_list f xs)) (out_pass f p q is e) ∙ passes_moved xs (pass e (way_out (contact_at p e)) ∷ past)
   passes_moved (In e v ∷ xs) past =
-      ap (λ (x : Pass). passes q (x ∷ moved_passes f past) (moved_list f xs)) (in_pass e) ∙ passes_moved xs (pass e (way_in (contact_at p e)) ∷ past)
+      ap (λ (x : Pass). passes q (x ∷ moved_passes f past) (moved_list f xs)) (in_pass f p q is e) ∙ passes_moved xs (pass e (way_in (contact_at p e)) ∷ past)
 
   shut_moved : (past : List Pass) → AllShut past → AllShut (moved_passes f past)
   shut_moved past shut e =

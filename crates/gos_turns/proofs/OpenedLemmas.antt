@@ -130,11 +130,11 @@ one_end i k (y ∷ is) x h sum = by_test (nat_lt h (count y.ty)) refl (one_end (
         ∙ (rest
         ∙ sym (ap (λ (b : Bool). forth k (count x.ty) (if b then ImportEnd i h else whole_end (suc i) is (h - count y.ty))) t))
 
-twice_turned : (o : Option Contact) → turned_if (turned_if o) ≡ o
+pub twice_turned : (o : Option Contact) → turned_if (turned_if o) ≡ o
 twice_turned None = refl
 twice_turned (Some c) = ap Some (turned_twice c)
 
-turned_side : (cs : List Contact) (h : ℕ) → slice_get (other_side cs) h ≡ turned_if (slice_get cs h)
+pub turned_side : (cs : List Contact) (h : ℕ) → slice_get (other_side cs) h ≡ turned_if (slice_get cs h)
 turned_side [] h = refl
 turned_side (c ∷ cs) zero = refl
 turned_side (c ∷ cs) (suc h) = turned_side cs h

@@ -6,9 +6,8 @@ use Rattle.gos_plan.specs.Kinds.{Contact}
 use Rattle.gos_plan.specs.Plans.{End, Plan, contact_at}
 use Rattle.gos_plan.specs.Tokens.{Tokens, Element, Out, In, IsPortEnd, end_of, way_of, bits_of, way_taken, way_put, token_at, with_token, Passes, Does, Runs, IsIdle}
 use Rattle.gos_plan.specs.Orderly.{Open, none_open, after_taken, after_put, ComesWell, ComesInOrder, AllWelcome, OrderlyFrom}
-use Rattle.gos_plan.proofs.DecidedLemmas.{one_state, one_open}
 use Rattle.gos_realises.specs.Regular.{Pass, pass, way_in, way_out, KeepsTurns, InputsKeepTurns, OutputsKeepTurns, IsRegular}
-use Rattle.gos_realises.proofs.InputLemmas.{passed, passed_then, inputs_then, outputs_last, runs_then}
+use Rattle.gos_realises.proofs.InputLemmas.{passed, passed_then, inputs_then, outputs_last, last_order, runs_then}
 use Rattle.gos_realises.proofs.RingLemmas.{after}
 use Rattle.gos_turns.proofs.StandLemmas.{lies_in, not_empty}
 
@@ -19,20 +18,6 @@ order_then p [] ys o m u s w t h k =
     subst (λ (y : Open). OrderlyFrom p ys y s u t) h.0 (subst (λ (y : Tokens). OrderlyFrom p ys m y u t) h.1 k)
 order_then p (x ∷ xs) ys o m u s w t (n, z, does, comes, welcome, rest) k =
     (n, z, does, comes, welcome, order_then p xs ys n m u z w t rest k)
-
--- the last element of an orderly list
-last_order : (p : Plan) (hs : List Element) (y : Element) (o u q : Open) (s t w z : Tokens) → OrderlyFrom p (hs ++ y ∷ []) o s u t
-    → OrderlyFrom p hs o s q w → Does p y w z → (m : Open) × ComesInOrder p y w q m × AllWelcome p z
-last_order p [] y o u q s t w z (m, v, does, comes, welcome, rest) is also = (
-  m,
-  subst (λ (a : Tokens). ComesInOrder p y a q m) (sym is.1) (subst (λ (b : Open). ComesInOrder p y s b m) (sym is.0) comes),
-  subst (AllWelcome p) (one_state p y w v z (subst (λ (a : Tokens). Does p y a v) (sym is.1) does) also) welcome,
-)
-last_order p (x ∷ hs) y o u q s t w z (m, v, does, comes, welcome, rest) (n, a, doing, coming, well, more) also =
-    let tokens = one_state p x s v a does doing in
-    let open_so = one_open p x o m n s v does comes coming in
-    last_order p hs y n u q a t w z
-    (subst (λ (b : Open). OrderlyFrom p (hs ++ y ∷ []) b a u t) open_so (subst (λ (b : Tokens). OrderlyFrom p (hs ++ y ∷ []) m b u t) tokens rest)) more also
 
 -- A list so far, from an idle state, whose inputs keep turns: what it leaves open, what passed, and the tokens.
 pub record Reached (p : Plan) (o : Open) (past : List Pass) (s : Tokens) : Type 0 where

@@ -47,7 +47,7 @@ false_and : (b c : Bool) → b ≡ false → (b && c) ≡ false
 false_and b c shut = ap (λ (x : Bool). x && c) shut
 
 -- a product of which one side is closed is busy where the other is
-pair_busy : (a b : Type') (f : ℕ → Bool) → some_open (count (Pair a b)) f ≡ true → (some_open (count a) f ≡ true) ⊎ (some_open (count b) (beyond (count a) f) ≡ true)
+pub pair_busy : (a b : Type') (f : ℕ → Bool) → some_open (count (Pair a b)) f ≡ true → (some_open (count a) f ≡ true) ⊎ (some_open (count b) (beyond (count a) f) ≡ true)
 pair_busy a b f busy = of_open (some_there (count (Pair a b)) f busy)
   where
     of_open : (k : ℕ) × (k < count (Pair a b)) × (f k ≡ true) → (some_open (count a) f ≡ true) ⊎ (some_open (count b) (beyond (count a) f) ≡ true)

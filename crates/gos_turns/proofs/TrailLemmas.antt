@@ -15,7 +15,7 @@ use Rattle.gos_realises.specs.Links.{contact_in, contact_of, EndsFit, LinkFits, 
 use Rattle.gos_webs.specs.Webs.{joint}
 use Rattle.gos_joined.proofs.ReachLemmas.{place_is}
 use Rattle.gos_realises.proofs.PlaceLemmas.{place_of}
-use Rattle.gos_joined.proofs.StepLemmas.{role_twice, stands_link}
+use Rattle.gos_joined.proofs.StepLemmas.{role_twice, linked_one}
 use Rattle.gos_turns.proofs.StandLemmas.{ask_not_serve, asks_itself, serves_itself}
 
 -- every link joins two ports
@@ -69,12 +69,6 @@ plan_at w a c there = by_plan (slice_get w.plans a.plan) refl there
 abbrev Between : Link → Place → Place → Type 0
 Between l a b = ((a ≡ l.one) × (b ≡ l.other)) ⊎ ((a ≡ l.other) × (b ≡ l.one))
 
-other_place : (l : Link) → (l.one.plan ≡ l.other.plan → ⊥) → (a b c : Place) → Between l a b → Between l a c → b ≡ c
-other_place l apart a b c (inl (at, is)) (inl (at_too, is_too)) = is ∙ sym is_too
-other_place l apart a b c (inl (at, is)) (inr (at_too, is_too)) = absurd (apart (ap (λ (x : Place). x.plan) (sym at ∙ at_too)))
-other_place l apart a b c (inr (at, is)) (inl (at_too, is_too)) = absurd (apart (ap (λ (x : Place). x.plan) (sym at_too ∙ at)))
-other_place l apart a b c (inr (at, is)) (inr (at_too, is_too)) = is ∙ sym is_too
-
 pub link_back : (w : Wiring) (a b : Place) → Linked w a b → Linked w b a
 link_back w a b (l, has, ways) = (l, has, elim ways [ inl (e, f) ↦ inr (f, e) | inr (e, f) ↦ inl (f, e) ])
 
@@ -83,13 +77,7 @@ module _ (w : Wiring) (fit : LinksFit w) (ported : LinksArePorts w) where
   link_fits l has = let (k, at) = place_of w.links l has in fit.each k l at
 
   pub link_one : (a b c : Place) → Linked w a b → Linked w a c → b ≡ c
-  link_one a b c (l, has, ways) (m, has_too, ways_too) =
-      let (j, at_j) = place_of w.links l has in
-      let (k, at_k) = place_of w.links m has_too in
-      let same : j ≡ k = fit.once j k l m a at_j at_k (stands_link l a b ways) (stands_link m a c ways_too) in
-      let there : Some l ≡ Some m = sym at_j ∙ (ap (slice_get w.links) same ∙ at_k) in
-      let l_is : l ≡ m = cc there in
-      other_place l (fit.each j l at_j).0 a b c ways (subst (λ (x : Link). Between x a c) (sym l_is) ways_too)
+  link_one = linked_one w fit
 
   -- a link leads to another plan, and its ends see each other from the other side
   pub link_ports : (a b : Place) → Linked w a b → IsPortEnd a.end × IsPortEnd b.end

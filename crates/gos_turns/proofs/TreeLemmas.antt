@@ -1,21 +1,16 @@
 -- The joining of a tree of instances is regular: one serving after another.
-use Rattle.std.specs.Prelude.{◌↔◌, List, All, Contains, slice_get, length}
-use Rattle.std.proofs.Common.{◌≡◌, [], ◌∷◌, ◌++◌, sym, ap, subst}
+use Rattle.std.specs.Prelude.{List, All, length}
+use Rattle.std.proofs.Common.{◌≡◌, [], ◌∷◌, ◌++◌}
 use Rattle.gos_model.specs.Typing.{Imported}
-use Rattle.gos_plan.specs.Kinds.{Part}
-use Rattle.gos_plan.specs.Plans.{End, Plan, IsRight}
+use Rattle.gos_plan.specs.Plans.{Plan}
 use Rattle.gos_plan.specs.TokenBits.{LiteralFits}
-use Rattle.gos_plan.specs.Joining.{IsSameButOrder}
 use Rattle.gos_realises.specs.Regular.{IsRegular}
 use Rattle.gos_realises.proofs.LiteralLemmas.{no_literals, literals_append, literals_joined}
-use Rattle.gos_webs.specs.Webs.{joint}
-use Rattle.gos_webs.specs.Renumbering.{IsRenumbered, moved_end}
 use Rattle.gos_renumbered.specs.SmallRewirings.{unchanged}
-use Rattle.gos_renumbered.proofs.HigherLemmas.{unchanged_end, unchanged_one}
 use Rattle.gos_renumbered.proofs.OrderLemmas.{regular_back}
 use Rattle.gos_renumbered.proofs.RewireLemmas.{rewired_is_renumbered}
 use Rattle.gos_served.specs.Trees.{Tree, Alone, Serve, left_of, type_of, wired, IsTree}
-use Rattle.gos_served.proofs.SameLemmas.{joinings_same}
+use Rattle.gos_served.proofs.SameLemmas.{joinings_same, order_free}
 use Rattle.gos_served.proofs.TreeLemmas.{JoinedTree, alone_tree, serve_tree}
 use Rattle.gos_turns.specs.Trees.{AreRegular, TreeIsRegular, RewiredTreeIsRegular}
 use Rattle.gos_turns.proofs.ServeLemmas.{serving_is_regular}
@@ -43,21 +38,6 @@ tree_holds : (t : Tree) → IsTree t → AreRegular t → Holds t
 tree_holds (Alone p m) (right, realised) (literals, regular) = record { tree = alone_tree p m right; literals = literals; regular = regular }
 tree_holds (Serve is js x t u) (of_t, of_u, lefts, types) (one, other) =
     serve_holds is js x t u (tree_holds t of_t one) (tree_holds u of_u other) lefts types
-
--- joinings of one wiring are one without new numbers
-order_free : (r p : Plan) → IsSameButOrder r p → IsRight r → IsRight p → IsRenumbered unchanged r p
-order_free r p same right_r right_p =
-    record {
-      one_to_one = unchanged_one;
-      parts = λ i. ap (λ (ks : List Part). slice_get ks i) (sym same.parts);
-      imports = λ i. ap (λ (is : List Imported). slice_get is i) (sym same.imports);
-      outcome = sym same.outcome;
-      joints = λ a b.
-          subst (λ (y : End). Contains r.joints (joint a b) ↔ Contains p.joints (joint (moved_end unchanged a) y)) (sym (unchanged_end b))
-          (subst (λ (y : End). Contains r.joints (joint a b) ↔ Contains p.joints (joint y b)) (sym (unchanged_end a)) (same.joints (joint a b)));
-      right = right_r;
-      also_right = right_p;
-    }
 
 pub tree_is_regular : TreeIsRegular
 tree_is_regular t r is are joining =

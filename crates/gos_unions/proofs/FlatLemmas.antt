@@ -196,6 +196,14 @@ module _ (w : Wiring) (vs : List Wiring) (are : AreJoinings vs w.plans) (all_sta
         (subst (λ (x : Place). Paths (flat w vs) x (deeper vs (origin w b))) (origin_deep w vs are all_stand stand r has a c at_a)
         (subst (λ (x : Place). Paths (flat w vs) (origin (flat w vs) a) x) (origin_deep w vs are all_stand stand r has b d at_b) path))
 
+    connects_in_flat : (a b : End) → Connects w r a b → Connects (flat w vs) r a b
+    connects_in_flat a b (q, v, n, asked, served, path) =
+        let there = ends_to_flat a b (asks q v) (serves q v) asked served (n, path) in (q, v, there.0, asked, served, there.1)
+
+    connects_as_flat : (a b : End) → Connects (flat w vs) r a b → Connects w r a b
+    connects_as_flat a b (q, v, n, asked, served, path) =
+        let there = ends_from_flat a b (asks q v) (serves q v) asked served (n, path) in (q, v, there.0, asked, served, there.1)
+
 pub joinings_join : JoiningsJoin
 joinings_join w vs r are all_stand stand is =
     record {
@@ -209,8 +217,8 @@ joinings_join w vs r are all_stand stand is =
           (let back = ends_from_flat w vs are all_stand stand r has a b c d at_a at_b (n, path) in
           is.fits a b c d back.0 at_a at_b apart back.1);
       joints = λ a b. (
-        λ in_r. to a b ((is.joints a b).0 in_r),
-        λ connects. (is.joints a b).1 (from a b connects),
+        λ in_r. connects_in_flat w vs are all_stand stand r has a b ((is.joints a b).0 in_r),
+        λ connects. (is.joints a b).1 (connects_as_flat w vs are all_stand stand r has a b connects),
       );
     }
   where
@@ -219,16 +227,6 @@ joinings_join w vs r are all_stand stand is =
 
     flat_fields : HasFieldsOf (flat w vs) r
     flat_fields = fields_flat w vs are all_stand stand r has
-
-    to : (a b : End) → Connects w r a b → Connects (flat w vs) r a b
-    to a b (q, v, n, asked, served, path) =
-        let there = ends_to_flat w vs are all_stand stand r has a b (asks q v) (serves q v) asked served (n, path) in
-        (q, v, there.0, asked, served, there.1)
-
-    from : (a b : End) → Connects (flat w vs) r a b → Connects w r a b
-    from a b (q, v, n, asked, served, path) =
-        let there = ends_from_flat w vs are all_stand stand r has a b (asks q v) (serves q v) asked served (n, path) in
-        (q, v, there.0, asked, served, there.1)
 
 pub flat_joins : FlatJoins
 flat_joins w vs r are all_stand stand results is =
@@ -243,20 +241,10 @@ flat_joins w vs r are all_stand stand results is =
           (let there = ends_to_flat w vs are all_stand stand r has a b c d at_a at_b (n, path) in
           is.fits a b c d there.0 at_a at_b apart there.1);
       joints = λ a b. (
-        λ in_r. from a b ((is.joints a b).0 in_r),
-        λ connects. (is.joints a b).1 (to a b connects),
+        λ in_r. connects_as_flat w vs are all_stand stand r has a b ((is.joints a b).0 in_r),
+        λ connects. (is.joints a b).1 (connects_in_flat w vs are all_stand stand r has a b connects),
       );
     }
   where
     has : HasFieldsOf w r
     has = fields_back w vs are all_stand stand r results (fields_of (flat w vs) r is)
-
-    to : (a b : End) → Connects w r a b → Connects (flat w vs) r a b
-    to a b (q, v, n, asked, served, path) =
-        let there = ends_to_flat w vs are all_stand stand r has a b (asks q v) (serves q v) asked served (n, path) in
-        (q, v, there.0, asked, served, there.1)
-
-    from : (a b : End) → Connects (flat w vs) r a b → Connects w r a b
-    from a b (q, v, n, asked, served, path) =
-        let there = ends_from_flat w vs are all_stand stand r has a b (asks q v) (serves q v) asked served (n, path) in
-        (q, v, there.0, asked, served, there.1)

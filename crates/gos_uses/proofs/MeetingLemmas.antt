@@ -1,12 +1,9 @@
 -- How often a dot stands in the ties of a node and of its supplies.
-use Rattle.std.specs.Prelude.{◌≡◌, ◌≢◌, ℕ, ◌+◌, ◌≤◌, Bool, true, false, ◌&&◌, IsTrue, List, [], ◌∷◌, ◌++◌, map, length, Option, Some, None, if◌then◌else◌}
+use Rattle.std.specs.Prelude.{◌≡◌, ◌≢◌, ℕ, ◌+◌, ◌≤◌, Bool, true, false, ◌&&◌, IsTrue, List, [], ◌∷◌, ◌++◌, map, length, if◌then◌else◌}
 use Rattle.std.proofs.Common.{refl, sym, ◌∙◌, ap, subst, arith, inl, inr}
 use Rattle.gos_check.specs.Nodes.{Numbered}
 use Rattle.gos_check.specs.Linearity.{times, used, made}
 use Rattle.gos_check.proofs.TimesLemmas.{eq_true, eq_false}
-use Rattle.gos_types.specs.declared.shakes.Role.{Role}
-use Rattle.gos_types.specs.declared.shakes.Role.TheVariants.{Serve, Ask}
-use Rattle.gos_plan.specs.Kinds.{Contact}
 use Rattle.gos_plan.specs.Plans.{End, PartEnd, ImportEnd, ResultEnd, Joint, Plan, contact_at, same_end, stands_in, is_free, Fits, AreRight, IsRight}
 use Rattle.gos_plan.proofs.JointLemmas.{IsIn, same_is}
 use Rattle.gos_ties.specs.declared.points.Place.{Place}
@@ -16,6 +13,7 @@ use Rattle.gos_ties.specs.declared.points.Tie as point_ties
 use Rattle.gos_ties.specs.Ties.{point}
 use Rattle.gos_ties.specs.Counted as points
 use Rattle.gos_webs.specs.Webs.{Dot, Of, Number, Node, Within, Tie, tie, own_web}
+use Rattle.gos_webs.proofs.WebLemmas.{serves_not_asks}
 use Rattle.gos_unions.specs.Unions.{within}
 use Rattle.gos_compile.specs.Wiring.{Types, row, parts_of, nodes, ties_of}
 use Rattle.gos_compile.proofs.TallyLemmas.{row_once, tallied}
@@ -165,17 +163,8 @@ none_later p before (x ∷ xs) e j right is_in stands =
     let rest = none_later p (x ∷ before) xs e j right.1 (inr is_in) stands in
     omega (arith, one, other, rest)
 
-abbrev by_role : Role → Bool
-by_role Serve = false
-by_role Ask = true
-
-abbrev is_asked : Option Contact → Bool
-is_asked None = false
-is_asked (Some c) = by_role c.role
-
 differ : (p : Plan) (x : Joint) → Fits p x → x.asking ≡ x.serving → ⊥
-differ p x (q, v, asked, served) same =
-    let h : true ≡ false = ap is_asked (sym asked ∙ (ap (contact_at p) same ∙ served)) in cc h
+differ p x (q, v, asked, served) same = serves_not_asks q v q v (sym served ∙ (ap (contact_at p) (sym same) ∙ asked))
 
 joints_most : (p : Plan) (before js : List Joint) (e : End) → AreRight p before js → meetings (Of e) (map joint_tie js) ≤ 1
 joints_most p before [] e right = omega arith

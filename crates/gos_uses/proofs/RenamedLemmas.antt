@@ -30,13 +30,13 @@ pub map_two : {A B : Type 0} (f : A → B) (xs ys : List A) → map f (xs ++ ys)
 map_two f [] ys = refl
 map_two f (x ∷ xs) ys = ap (λ zs. f x ∷ zs) (map_two f xs ys)
 
-map_take : (f : Point → Point) (n : ℕ) (ps : List Point) → map f (take n ps) ≡ take n (map f ps)
+pub map_take : (f : Point → Point) (n : ℕ) (ps : List Point) → map f (take n ps) ≡ take n (map f ps)
 map_take f zero [] = refl
 map_take f zero (p ∷ ps) = refl
 map_take f (suc n) [] = refl
 map_take f (suc n) (p ∷ ps) = ap (λ (zs : List Point). f p ∷ zs) (map_take f n ps)
 
-map_drop : (f : Point → Point) (n : ℕ) (ps : List Point) → map f (drop n ps) ≡ drop n (map f ps)
+pub map_drop : (f : Point → Point) (n : ℕ) (ps : List Point) → map f (drop n ps) ≡ drop n (map f ps)
 map_drop f zero [] = refl
 map_drop f zero (p ∷ ps) = refl
 map_drop f (suc n) [] = refl

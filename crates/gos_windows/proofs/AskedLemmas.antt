@@ -130,6 +130,14 @@ not_turned : (o : Option Contact) (c : Contact) → turned_if o ≡ Some c → (
 not_turned None c is = absurd (none-some c is)
 not_turned (Some k) c is = (k, refl)
 
+-- the handshake of a command or an expression
+pub done_contact : (t : Type') → IsDone t → turned_if (slice_get (contacts_of t) 0) ≡ Some (asks 0 (bits t))
+done_contact Com done = refl
+done_contact (Exp w) done = refl
+done_contact (Var w) done = absurd done
+done_contact (Pair a b) done = absurd done
+done_contact (Fun a b) done = absurd done
+
 -- A plan whose result is asked at handshake h, with these bits: its turns are kept where no other handshake of the result is open.
 pub record IsAskedAt (p : Plan) (h asking answering : ℕ) : Type 0 where
   pub contact : contact_at p (ResultEnd h) ≡ Some (asks asking answering)
@@ -145,13 +153,6 @@ done_asked p done =
       keeps = λ f only. done_kept p.outcome done f;
     }
   where
-    done_contact : (t : Type') → IsDone t → turned_if (slice_get (contacts_of t) 0) ≡ Some (asks 0 (bits t))
-    done_contact Com done = refl
-    done_contact (Exp w) done = refl
-    done_contact (Var w) done = absurd done
-    done_contact (Pair a b) done = absurd done
-    done_contact (Fun a b) done = absurd done
-
     done_ground : (t : Type') → IsDone t → IsGround t
     done_ground Com done = tt
     done_ground (Exp w) done = tt

@@ -1,4 +1,5 @@
--- Inputs that keep turns keep the protocol: what labels leave open is what passed leaves open.
+-- Inputs that come in turn, each at its own handshake, keep the protocol, where the imports are ground and have different names: what
+-- labels leave open is what passed leaves open. So do inputs that keep turns.
 use Rattle.std.specs.Prelude.{◌^◌, ◌<◌, nat_eq, slice_get}
 use Rattle.std.proofs.Common.{◌≡◌, ℕ, zero, suc, Bool, true, false, List, [], ◌∷◌, Option, Some, inl, inr, refl, sym, ◌∙◌, ap, subst, arith, if◌then◌else◌}
 use Rattle.std.proofs.lemmas.Option.{none-some, same_Some}
@@ -8,19 +9,32 @@ use Rattle.gos_netlist.specs.Events.{Direction, Request, Answer}
 use Rattle.gos_model.specs.Typing.{Imported, Imports, import_type}
 use Rattle.gos_model.specs.Labels.{Taken, Label, is_output, is_output_at}
 use Rattle.gos_model.specs.Protocol as protocol
-use Rattle.gos_model.specs.Protocol.{event_of, FitsAnswer, Allowed, KeepsAfter}
+use Rattle.gos_model.specs.Protocol.{event_of, FitsAnswer, Allowed, KeepsAfter, KeepsProtocol}
 use Rattle.gos_plan.specs.Kinds.{Contact, contacts_of}
-use Rattle.gos_plan.specs.Plans.{End, PartEnd, ImportEnd, ResultEnd, Plan, contact_at, contacts_of_import, same_end}
+use Rattle.gos_plan.specs.Plans.{End, ImportEnd, ResultEnd, Plan, contact_at, contacts_of_import}
 use Rattle.gos_plan.specs.Tokens.{Tokens, Element, Fire, Out, In, IsPortEnd, Passes, way_taken, way_put, bits_of, Runs}
-use Rattle.gos_realises.specs.Regular.{Pass, pass, way_in, way_out, is_request, is_open, ComesInTurn, InputsKeepTurns}
+use Rattle.gos_realises.specs.Regular.{Pass, pass, way_in, way_out, ComesInTurn, InputsKeepTurns}
 use Rattle.gos_realises.specs.Matched.{port_if, event_number, label_at, all_shown}
 use Rattle.gos_realises.specs.Realises.{AllGround, NamesDiffer}
-use Rattle.gos_realises.proofs.InputLemmas.{in_there, out_there, one_ground}
-use Rattle.gos_realises.proofs.RingLemmas.{told_open}
-use Rattle.gos_realises.proofs.ToldLemmas.{one_name, shake_event, asks_event, there_is, told_step}
+use Rattle.gos_realises.proofs.InputLemmas.{in_there, out_there, one_ground, OpenAlike, alike_first, alike_after}
+use Rattle.gos_realises.proofs.ToldLemmas.{one_name, shake_event, asks_event, there_is}
 use Rattle.gos_windows.specs.Keeping.{TurnsKeepProtocol}
 use Rattle.gos_windows.proofs.PortLemmas.{port_role}
 use Rattle.gos_windows.proofs.WholeLemmas.{no_bits, zero_only}
+
+-- each input comes in turn at its own handshake
+abbrev pub InTurn : Plan → List Pass → List Element → Type 0
+InTurn p past [] = Unit {0}
+InTurn p past (Fire i t ∷ xs) = InTurn p past xs
+InTurn p past (Out e v ∷ xs) = InTurn p (pass e (way_out (contact_at p e)) ∷ past) xs
+InTurn p past (In e v ∷ xs) =
+    ComesInTurn past e (way_in (contact_at p e)) × InTurn p (pass e (way_in (contact_at p e)) ∷ past) xs
+
+pub turns_in_turn : (p : Plan) (past : List Pass) (xs : List Element) → InputsKeepTurns p past xs → InTurn p past xs
+turns_in_turn p past [] keeps = tt
+turns_in_turn p past (Fire i t ∷ xs) keeps = turns_in_turn p past xs keeps
+turns_in_turn p past (Out e v ∷ xs) keeps = turns_in_turn p (pass e (way_out (contact_at p e)) ∷ past) xs keeps
+turns_in_turn p past (In e v ∷ xs) keeps = (keeps.0.0, turns_in_turn p (pass e (way_in (contact_at p e)) ∷ past) xs keeps.1)
 
 import_named : (is : Imports) → NamesDiffer is → (i : ℕ) (x : Imported) → slice_get is i ≡ Some x → import_type is x.name ≡ Some x.ty
 import_named [] differ i x is = absurd (none-some x is)
@@ -48,15 +62,6 @@ true_not_false : (b : Bool) → b ≡ true → b ≡ false → ⊥
 true_not_false b up down = let both : true ≡ false = sym up ∙ down in cc both
 
 module _ (p : Plan) (ground : AllGround p.imports) (differ : NamesDiffer p.imports) (done : IsDone p.outcome) where
-  abbrev Agree : List Label → List Pass → Type 0
-  Agree ls past = (e : End) (k : Contact) → contact_at p e ≡ Some k → IsPortEnd e → told_open p ls e ≡ is_open past e
-
-  agree_step : (d : End) (way : Direction) (v : ℕ) (ls : List Label) (past : List Pass) (c : Contact) → contact_at p d ≡ Some c → IsPortEnd d
-      → Agree ls past → Agree (label_at p d way v ∷ ls) (pass d way ∷ past)
-  agree_step d way v ls past c at_d port_d agree e k at_e port_e =
-      told_step p differ d e way v ls c k at_d at_e port_d port_e
-      ∙ (λ l. if same_end d e then is_request way else agree e k at_e port_e l)
-
   -- an output shows an output
   shows_output : (e : End) (v : ℕ) (c : Contact) → IsPortEnd e → contact_at p e ≡ Some c → is_output (label_at p e (way_taken c.role) v) ≡ true
   shows_output e v c port there =
@@ -74,12 +79,12 @@ module _ (p : Plan) (ground : AllGround p.imports) (differ : NamesDiffer p.impor
   abbrev Permitted : List Label → End → ℕ → Direction → Type 0
   Permitted ls e v way = Allowed p.imports ls (label_at p e way v).port (label_at p e way v).event (label_at p e way v).value
 
-  at_result : (v : ℕ) (ls : List Label) (past : List Pass) (c : Contact) → contact_at p (ResultEnd 0) ≡ Some c → Agree ls past → ComesInTurn past (ResultEnd 0) Request
+  at_result : (v : ℕ) (ls : List Label) (past : List Pass) (c : Contact) → contact_at p (ResultEnd 0) ≡ Some c → OpenAlike p ls past → ComesInTurn past (ResultEnd 0) Request
       → v < 2 ^ bits_of c Request → Permitted ls (ResultEnd 0) v Request
   at_result v ls past c there agree comes small =
       (refl, zero_only v (subst (λ (n : ℕ). v < 2 ^ n) (no_bits p.outcome done c there) small), agree (ResultEnd 0) c there tt ∙ comes)
 
-  at_import : (i h v : ℕ) (ls : List Label) (past : List Pass) (c : Contact) → contact_at p (ImportEnd i h) ≡ Some c → Agree ls past → ComesInTurn past (ImportEnd i h) Answer
+  at_import : (i h v : ℕ) (ls : List Label) (past : List Pass) (c : Contact) → contact_at p (ImportEnd i h) ≡ Some c → OpenAlike p ls past → ComesInTurn past (ImportEnd i h) Answer
       → v < 2 ^ bits_of c Answer → Permitted ls (ImportEnd i h) v Answer
   at_import i h v ls past c there agree comes small =
       subst (λ q. Allowed p.imports ls q (event_number Answer h) v) (sym (ap port_if x.1)) (
@@ -93,7 +98,7 @@ module _ (p : Plan) (ground : AllGround p.imports) (differ : NamesDiffer p.impor
       x : (x : Imported) × (slice_get p.imports i ≡ Some x)
       x = there_is p.imports i h c there
 
-  input_allowed : (e : End) (v : ℕ) (ls : List Label) (past : List Pass) (c : Contact) → contact_at p e ≡ Some c → IsPortEnd e → Agree ls past
+  input_allowed : (e : End) (v : ℕ) (ls : List Label) (past : List Pass) (c : Contact) → contact_at p e ≡ Some c → IsPortEnd e → OpenAlike p ls past
       → ComesInTurn past e (way_put c.role) → v < 2 ^ bits_of c (way_put c.role) → Permitted ls e v (way_put c.role)
   input_allowed e v ls past c there port agree comes small =
       elim (port_role p ground done e c port there) [
@@ -117,7 +122,7 @@ module _ (p : Plan) (ground : AllGround p.imports) (differ : NamesDiffer p.impor
           let less = subst (λ (w : Direction). v < 2 ^ bits_of c w) (sym way) small in
           subst (λ (w : Direction). Permitted ls e v w) way (subst (λ (x : End). Permitted ls x v Answer) is (at_import i h v ls past c at agree turn less))
 
-  keeps : (xs : List Element) (u t : Tokens) (ls : List Label) (past : List Pass) → Agree ls past → Runs p xs u t → InputsKeepTurns p past xs
+  keeps : (xs : List Element) (u t : Tokens) (ls : List Label) (past : List Pass) → OpenAlike p ls past → Runs p xs u t → InTurn p past xs
       → KeepsAfter p.imports ls (all_shown p xs)
   keeps [] u t ls past agree runs turns = tt
   keeps (Fire i slot ∷ xs) u t ls past agree (w, does, runs) turns = keeps xs w t ls past agree runs turns
@@ -127,23 +132,20 @@ module _ (p : Plan) (ground : AllGround p.imports) (differ : NamesDiffer p.impor
       let shown : is_output (label_at p e (way_out (contact_at p e)) v) ≡ true = ap (λ (d : Direction). is_output (label_at p e d v)) way ∙ shows_output e v c does.0 there in (
         (λ no. absurd (true_not_false (is_output (label_at p e (way_out (contact_at p e)) v)) shown no)),
         keeps xs w t (label_at p e (way_out (contact_at p e)) v ∷ ls) (pass e (way_out (contact_at p e)) ∷ past)
-            (agree_step e (way_out (contact_at p e)) v ls past c there does.0 agree) runs turns,
+            (alike_after p differ e (way_out (contact_at p e)) v ls past c there does.0 agree) runs turns,
       )
   keeps (In e v ∷ xs) u t ls past agree (w, does, runs) turns =
       let (c, there) = in_there p e v u w does in
       let way = ap way_in there in
       let passes = subst (λ (o : Option Contact). Passes p (In e v) o u w) there does.1 in
-      let allowed = input_allowed e v ls past c there does.0 agree (subst (ComesInTurn past e) way turns.0.0) passes.0 in (
+      let allowed = input_allowed e v ls past c there does.0 agree (subst (ComesInTurn past e) way turns.0) passes.0 in (
         (λ input. subst (λ (d : Direction). Permitted ls e v d) (sym way) allowed),
         keeps xs w t (label_at p e (way_in (contact_at p e)) v ∷ ls) (pass e (way_in (contact_at p e)) ∷ past)
-            (agree_step e (way_in (contact_at p e)) v ls past c there does.0 agree) runs turns.1,
+            (alike_after p differ e (way_in (contact_at p e)) v ls past c there does.0 agree) runs turns.1,
       )
 
-  none_told : Agree [] []
-  none_told (PartEnd i h) k there port = absurd port
-  none_told (ImportEnd i h) k there port = refl
-  none_told (ResultEnd h) k there port = refl
+  pub in_turn_keeps : (xs : List Element) (s t : Tokens) → Runs p xs s t → InTurn p [] xs → KeepsProtocol p.imports (all_shown p xs)
+  in_turn_keeps xs s t runs turn = keeps xs s t [] [] (alike_first p) runs turn
 
 pub turns_keep_protocol : TurnsKeepProtocol
-turns_keep_protocol p xs s t ground differ done runs turns =
-    keeps p ground differ done xs s t [] [] (none_told p ground differ done) runs turns
+turns_keep_protocol p xs s t ground differ done runs turns = in_turn_keeps p ground differ done xs s t runs (turns_in_turn p [] xs turns)

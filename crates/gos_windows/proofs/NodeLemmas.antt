@@ -9,7 +9,8 @@ use Rattle.gos_plan.specs.Tokens.{Tokens, Element, Fire, Out, In, IsPortEnd, pla
 use Rattle.gos_plan.proofs.HeldLemmas.{takes_of}
 use Rattle.gos_plan.proofs.TurnLemmas.{token_state, fired_state}
 use Rattle.gos_realises.specs.Regular.{Pass, pass, way_in, way_out, is_request, is_open, KeepsTurns, InputsKeepTurns}
-use Rattle.gos_realises.proofs.InputLemmas.{passed, out_there}
+use Rattle.gos_realises.proofs.InputLemmas.{passed, InputTurns, out_there}
+use Rattle.gos_realises.proofs.IdleLemmas.{idle_token}
 use Rattle.gos_realises.proofs.RingLemmas.{after}
 use Rattle.gos_windows.specs.Nodes.{Stage}
 use Rattle.gos_windows.specs.OneSession.{EndsWell}
@@ -17,7 +18,7 @@ use Rattle.gos_windows.specs.Windows.{Runner, seen, HoldsOnly, Resting, Asked, W
 use Rattle.gos_windows.proofs.PortLemmas.{port_end}
 use Rattle.gos_windows.proofs.StageLemmas.{Emptied}
 use Rattle.gos_windows.proofs.TurnLemmas.{result_in, result_out, OnlyResult, NoneOpen}
-use Rattle.gos_windows.proofs.WholeLemmas.{done, result_place, own_place, at_own_joint, in_turn_at, put_only, taken_empty, only_there, held_beside, idle_token, nat_eq_same, Going, Led, own_leads}
+use Rattle.gos_windows.proofs.WholeLemmas.{done, result_place, own_place, at_own_joint, in_turn_at, put_only, taken_empty, only_there, held_beside, nat_eq_same, Going, Led, own_leads}
 use Rattle.gos_windows.proofs.RunnerLemmas.{LeadsOn, RunsStages}
 
 -- where the whole is
@@ -26,22 +27,6 @@ pub data Place (gs : List Stage) : Type 0 where
   AtAsked : Place gs
   AtStage : (g : Stage) (has : Contains gs g) (hs : List Element) (before : Tokens) → Place gs
   AtAnswer : (v : ℕ) → Place gs
-
--- an input of the element keeps turns
-abbrev pub InTurn : Plan → List Pass → Element → Type 0
-InTurn p past (Fire i t) = Unit {0}
-InTurn p past (Out e v) = Unit {0}
-InTurn p past (In e v) = KeepsTurns p past (pass e (way_in (contact_at p e)))
-
-pub first_turn : (p : Plan) (past : List Pass) (x : Element) (xs : List Element) → InputsKeepTurns p past (x ∷ xs) → InTurn p past x
-first_turn p past (Fire i t) xs turns = tt
-first_turn p past (Out e v) xs turns = tt
-first_turn p past (In e v) xs turns = turns.0
-
-pub turns_after : (p : Plan) (past : List Pass) (x : Element) (xs : List Element) → InputsKeepTurns p past (x ∷ xs) → InputsKeepTurns p (after p x past) xs
-turns_after p past (Fire i t) xs turns = turns
-turns_after p past (Out e v) xs turns = turns
-turns_after p past (In e v) xs turns = turns.1
 
 true_is_not_false : (b : Bool) → b ≡ true → b ≡ false → ⊥
 true_is_not_false b up down = let both : true ≡ false = sym up ∙ down in cc both
@@ -70,7 +55,7 @@ module _ (r : Plan) (d : ℕ) (runner : Runner) (gs : List Stage) (node : RunsSt
   Result (AtAnswer v) xs s = Staged r d runner gs (Answered v) xs s
 
   -- at rest the request alone can come
-  pub rest_step : (x : Element) (s t : Tokens) (past : List Pass) → IsIdle r s → NoneOpen past → Does r x s t → InTurn r past x
+  pub rest_step : (x : Element) (s t : Tokens) (past : List Pass) → IsIdle r s → NoneOpen past → Does r x s t → InputTurns r past x
       → (x ≡ In (ResultEnd 0) 0) × HoldsOnly r (PartEnd d runner.run) Request 0 t × OnlyResult (after r x past)
   rest_step (Fire i slot) s t past idle closed (v, row, held, by, leads) turn = absurd (idle_token r s idle (end_of i slot) (way_of slot) v held)
   rest_step (Out b v) s t past idle closed does turn =
@@ -168,7 +153,7 @@ module _ (r : Plan) (d : ℕ) (runner : Runner) (gs : List Stage) (node : RunsSt
     pub leads : t ≡ fired r d row 0 s
     pub led : Led r d runner gs node row 0 t past
 
-  pub asked_step : (x : Element) (s t : Tokens) (past : List Pass) → HoldsOnly r (PartEnd d runner.run) Request 0 s → OnlyResult past → Does r x s t → InTurn r past x
+  pub asked_step : (x : Element) (s t : Tokens) (past : List Pass) → HoldsOnly r (PartEnd d runner.run) Request 0 s → OnlyResult past → Does r x s t → InputTurns r past x
       → AskedStep x s t (after r x past)
   asked_step (In b v) s t past holding only does turn = absurd (no_input b v s t past only does turn)
   asked_step (Out b v) s t past holding only does turn =
@@ -225,7 +210,7 @@ module _ (r : Plan) (d : ℕ) (runner : Runner) (gs : List Stage) (node : RunsSt
           (subst (λ (n : ℕ). LeadsOn runner gs (row.next n) (row.puts n)) (sym there.2) (node.table.begins (s.state d).number row at_rest))
 
   -- answered: the answer alone can go out
-  pub answer_step : (k : ℕ) (x : Element) (s t : Tokens) (past : List Pass) → HoldsOnly r (ResultEnd 0) Answer k s → OnlyResult past → Does r x s t → InTurn r past x
+  pub answer_step : (k : ℕ) (x : Element) (s t : Tokens) (past : List Pass) → HoldsOnly r (ResultEnd 0) Answer k s → OnlyResult past → Does r x s t → InputTurns r past x
       → (x ≡ Out (ResultEnd 0) k) × IsIdle r t × NoneOpen (after r x past)
   answer_step k (In b v) s t past holding only does turn = absurd (no_input b v s t past only does turn)
   answer_step k (Fire i slot) s t past holding only (v, row, held, by, leads) turn =

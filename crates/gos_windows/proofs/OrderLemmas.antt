@@ -12,12 +12,12 @@ use Rattle.gos_plan.specs.Tokens.{Tokens, Element, Fire, Out, In, IsPortEnd, pla
 use Rattle.gos_plan.specs.TokenBits.{AllFit}
 use Rattle.gos_plan.specs.Turns.{IsEmptyAt}
 use Rattle.gos_plan.specs.Orderly.{named_by, handshake_at, Open, none_open, with_open, after_taken, after_put, after_puts, ComesWell, AllComeWell, ComesInOrder, AllWelcome, OrderlyFrom, IsOrderly}
-use Rattle.gos_plan.proofs.DecidedLemmas.{one_state, one_open}
 use Rattle.gos_plan.proofs.JointLemmas.{IsIn, same_is, same_itself, fits, serving_role, contained}
 use Rattle.gos_plan.proofs.TokenBitsLemmas.{idle_fits}
 use Rattle.gos_plan.proofs.HeldLemmas.{takes_of}
 use Rattle.gos_realises.specs.Regular.{Pass, pass, way_in, is_open, ComesInTurn, InputsKeepTurns, IsRegular}
-use Rattle.gos_realises.proofs.InputLemmas.{passed, passed_then, inputs_then, runs_then, in_there, out_there, result_asks}
+use Rattle.gos_realises.proofs.InputLemmas.{passed, passed_then, inputs_then, InputTurns, first_turn, later_turns, last_order, runs_then, in_there, out_there, result_asks}
+use Rattle.gos_realises.proofs.IdleLemmas.{idle_token}
 use Rattle.gos_realises.proofs.RingLemmas.{after}
 use Rattle.gos_pace.proofs.HoldLemmas.{orderly_append}
 use Rattle.gos_webs.specs.Webs.{joint}
@@ -32,8 +32,8 @@ use Rattle.gos_windows.proofs.PortLemmas.{port_end, stands_contact}
 use Rattle.gos_windows.proofs.StageLemmas.{Emptied, stage, own_stands}
 use Rattle.gos_windows.proofs.TurnLemmas.{OnlyResult, NoneOpen}
 use Rattle.gos_windows.proofs.WholeLemmas as whole
-use Rattle.gos_windows.proofs.WholeLemmas.{only_there, idle_token, other_state, done, result_place, own_place, run_stands, Going, Led}
-use Rattle.gos_windows.proofs.NodeLemmas.{InTurn, first_turn, turns_after, request_slot, Place, AtRest, AtAsked, AtStage, AtAnswer, Holds, rest_step, asked_step, answer_step, own_slot}
+use Rattle.gos_windows.proofs.WholeLemmas.{only_there, other_state, done, result_place, own_place, run_stands, Going, Led}
+use Rattle.gos_windows.proofs.NodeLemmas.{request_slot, Place, AtRest, AtAsked, AtStage, AtAnswer, Holds, rest_step, asked_step, answer_step, own_slot}
 use Rattle.gos_windows.proofs.OneSessionLemmas.{open_is_one, ended_is_one}
 use Rattle.gos_windows.proofs.WindowLemmas.{StageStep, OwnStep, stage_step, fit_after}
 use Rattle.gos_windows.proofs.OutputLemmas.{outputs_in_turn, is_restful}
@@ -41,19 +41,6 @@ use Rattle.gos_windows.proofs.MatchLemmas.{Opens, Beside, stage_order, stage_wel
 use Rattle.gos_windows.proofs.OpensLemmas.{IsThere}
 use Rattle.gos_windows.proofs.ClosingLemmas.{Ports, open_idle_is_closed, asks_itself, ports_after, ports_along}
 use Rattle.gos_windows.proofs.FollowLemmas.{imports_shut}
-
--- the last element of an orderly list
-pub last_order : (p : Plan) (hs : List Element) (y : Element) (o u q : Open) (s t w z : Tokens) → OrderlyFrom p (hs ++ y ∷ []) o s u t → OrderlyFrom p hs o s q w → Does p y w z
-    → (m : Open) × ComesInOrder p y w q m × AllWelcome p z
-last_order p [] y o u q s t w z (m, v, does, comes, welcome, rest) is also = (
-  m,
-  subst (λ (a : Tokens). ComesInOrder p y a q m) (sym is.1) (subst (λ (b : Open). ComesInOrder p y s b m) (sym is.0) comes),
-  subst (AllWelcome p) (one_state p y w v z (subst (λ (a : Tokens). Does p y a v) (sym is.1) does) also) welcome,
-)
-last_order p (x ∷ hs) y o u q s t w z (m, v, does, comes, welcome, rest) (n, a, doing, coming, well, more) also =
-    let tokens = one_state p x s v a does doing in
-    let open_so = one_open p x o m n s v does comes coming in
-    last_order p hs y n u q a t w z (subst (λ (b : Open). OrderlyFrom p (hs ++ y ∷ []) b a u t) open_so (subst (λ (b : Tokens). OrderlyFrom p (hs ++ y ∷ []) m b u t) tokens rest)) more also
 
 not_both : (b : Bool) → b ≡ true → b ≡ false → ⊥
 not_both b up down = let both : true ≡ false = sym up ∙ down in cc both
@@ -297,7 +284,7 @@ module _ (r : Plan) (d : ℕ) (runner : Runner) (gs : List Stage) (node : RunsSt
       subst (λ (x : Slot). Emptied d (with_token r (end_of d x) (way_of x) None s)) (sym (takes_of (slice_get r.parts d) (s.state d) slot row by)) empty
 
   -- from rest
-  rest_next : (x : Element) (s t : Tokens) (past : List Pass) (o : Open) → IsIdle r s × NoneOpen past → ((y : End) → o y ≡ false) → Does r x s t → InTurn r past x
+  rest_next : (x : Element) (s t : Tokens) (past : List Pass) (o : Open) → IsIdle r s × NoneOpen past → ((y : End) → o y ≡ false) → Does r x s t → InputTurns r past x
       → OrderNext x s t (after r x past) o
   rest_next x s t past o (idle, closed) shut does turn =
       record {
@@ -323,7 +310,7 @@ module _ (r : Plan) (d : ℕ) (runner : Runner) (gs : List Stage) (node : RunsSt
       by_test y false t up = absurd (not_both (o y) up (shut y))
 
   -- asked
-  asked_next : (x : Element) (s t : Tokens) (past : List Pass) (o : Open) → HoldsOnly r (PartEnd d run) Request 0 s × OnlyResult past → OnlyOpen o → Does r x s t → InTurn r past x
+  asked_next : (x : Element) (s t : Tokens) (past : List Pass) (o : Open) → HoldsOnly r (PartEnd d run) Request 0 s × OnlyResult past → OnlyOpen o → Does r x s t → InputTurns r past x
       → OrderNext x s t (after r x past) o
   asked_next x s t past o (holding, only_result) only does turn =
       let step = asked_step r d runner gs node x s t past holding only_result does turn in
@@ -332,7 +319,7 @@ module _ (r : Plan) (d : ℕ) (runner : Runner) (gs : List Stage) (node : RunsSt
 
   -- answered
   answer_next : (k : ℕ) (x : Element) (s t : Tokens) (past : List Pass) (o : Open) → HoldsOnly r (ResultEnd 0) Answer k s × OnlyResult past → OnlyOpen o → Does r x s t
-      → InTurn r past x → OrderNext x s t (after r x past) o
+      → InputTurns r past x → OrderNext x s t (after r x past) o
   answer_next k x s t past o (holding, only_result) only does turn =
       record {
         place = AtRest;
@@ -360,13 +347,13 @@ module _ (r : Plan) (d : ℕ) (runner : Runner) (gs : List Stage) (node : RunsSt
   module _
       (g : Stage) (has : Contains gs g) (hs : List Element) (before s t : Tokens) (past : List Pass) (o : Open) (x : Element)
       (going : Going r d runner gs node g has hs before s past) (order : Orders g has hs before s o) (ports : Ports r node.base.right o past)
-      (does : Does r x s t) (turn : InTurn r past x) where
+      (does : Does r x s t) (turn : InputTurns r past x) where
     -- a port where an input comes was closed
     shut : (k n v : ℕ) → x ≡ In (ImportEnd k n) v → o (ImportEnd k n) ≡ false
     shut k n v is = by_test (o (ImportEnd k n)) refl
       where
         comes : ComesInTurn past (ImportEnd k n) (way_in (contact_at r (ImportEnd k n)))
-        comes = (subst (InTurn r past) is turn).0
+        comes = (subst (InputTurns r past) is turn).0
 
         by_test : (b : Bool) → o (ImportEnd k n) ≡ b → b ≡ false
         by_test false t' = refl
@@ -505,7 +492,7 @@ module _ (r : Plan) (d : ℕ) (runner : Runner) (gs : List Stage) (node : RunsSt
             by_end y up (inr (inr loose)) = port_now y loose.0 up
 
   order_next : (pl : Place gs) (x : Element) (s t : Tokens) (past : List Pass) (o : Open) → AllFit r s → Holds r d runner gs node pl s past → OrderHolds pl o s
-      → Ports r node.base.right o past → Does r x s t → InTurn r past x → OrderNext x s t (after r x past) o
+      → Ports r node.base.right o past → Does r x s t → InputTurns r past x → OrderNext x s t (after r x past) o
   order_next AtRest x s t past o fit holding order ports does turn = rest_next x s t past o holding order does turn
   order_next AtAsked x s t past o fit holding order ports does turn = asked_next x s t past o holding order does turn
   order_next (AtAnswer k) x s t past o fit holding order ports does turn = answer_next k x s t past o holding order does turn
@@ -522,7 +509,7 @@ module _ (r : Plan) (d : ℕ) (runner : Runner) (gs : List Stage) (node : RunsSt
       let next = order_next pl x s w past o fit holding order ports does (first_turn r past x xs turns) in
       let (u, z, rest) =
       ordered xs next.place w t (after r x past) next.now (fit_after r d runner gs node restful x s w fit does) next.holds next.order
-      (ports_after r node.base.right x o next.now s w past does next.comes ports) runs (turns_after r past x xs turns) in
+      (ports_after r node.base.right x o next.now s w past does next.comes ports) runs (later_turns r past x xs turns) in
       (u, z, (next.now, w, does, next.comes, next.welcome, rest))
 
   pub node_orderly : (s t : Tokens) (xs : List Element) → IsIdle r s → Runs r xs s t → InputsKeepTurns r [] xs → IsOrderly r xs s

@@ -8,13 +8,13 @@ use Rattle.gos_plan.specs.Tokens.{Tokens, Element, Fire, Out, In, Does, Runs, Is
 use Rattle.gos_plan.specs.TokenBits.{AllFit}
 use Rattle.gos_plan.proofs.TokenBitsLemmas.{idle_fits}
 use Rattle.gos_realises.specs.Regular.{Pass, pass, way_out, ComesInTurn, KeepsTurns, InputsKeepTurns, OutputsKeepTurns}
-use Rattle.gos_realises.proofs.InputLemmas.{passed}
+use Rattle.gos_realises.proofs.InputLemmas.{passed, InputTurns, first_turn, later_turns}
 use Rattle.gos_realises.proofs.RingLemmas.{after}
 use Rattle.gos_webs.specs.Cutting.{StandsIn}
 use Rattle.gos_windows.specs.Nodes.{Stage, IsRestful, OutputsInTurn}
 use Rattle.gos_windows.specs.Windows.{Runner, seen}
 use Rattle.gos_windows.proofs.TurnLemmas.{result_out, OnlyResult, closed_turned}
-use Rattle.gos_windows.proofs.NodeLemmas.{InTurn, first_turn, turns_after, Place, AtRest, AtAsked, AtStage, AtAnswer, Holds, rest_step, asked_step, answer_step}
+use Rattle.gos_windows.proofs.NodeLemmas.{Place, AtRest, AtAsked, AtStage, AtAnswer, Holds, rest_step, asked_step, answer_step}
 use Rattle.gos_windows.proofs.RunnerLemmas.{RunsStages, AreRestful}
 use Rattle.gos_windows.proofs.OneSessionLemmas.{then_one}
 use Rattle.gos_windows.proofs.StageLemmas.{stage, InStage, out_in}
@@ -45,7 +45,7 @@ module _ (r : Plan) (d : ℕ) (runner : Runner) (gs : List Stage) (node : RunsSt
   after_led row v t past (asks g has n before fits going does puts) = record { place = AtStage g has (In (ResultEnd (runner.asked g)) n ∷ []) before; holds = going }
   after_led row v t past (whole.replies k holding only puts) = record { place = AtAnswer k; holds = (holding, only) }
 
-  pub next : (pl : Place gs) (x : Element) (s t : Tokens) (past : List Pass) → AllFit r s → Holds r d runner gs node pl s past → Does r x s t → InTurn r past x
+  pub next : (pl : Place gs) (x : Element) (s t : Tokens) (past : List Pass) → AllFit r s → Holds r d runner gs node pl s past → Does r x s t → InputTurns r past x
       → Next t (after r x past)
   next AtRest x s t past fit (idle, closed) does turn =
       let (is, holding, only) = rest_step r d runner gs node x s t past idle closed does turn in record { place = AtAsked; holds = (holding, only) }
@@ -61,12 +61,12 @@ module _ (r : Plan) (d : ℕ) (runner : Runner) (gs : List Stage) (node : RunsSt
 
   pub reached : (xs : List Element) (x : Element) (pl : Place gs) (s t : Tokens) (past : List Pass) → AllFit r s → Holds r d runner gs node pl s past → Runs r (xs ++ x ∷ []) s t
       → InputsKeepTurns r past (xs ++ x ∷ [])
-      → (w : Tokens) × (now : Place gs) × (gone : List Pass) × AllFit r w × Holds r d runner gs node now w gone × Does r x w t × InTurn r gone x
+      → (w : Tokens) × (now : Place gs) × (gone : List Pass) × AllFit r w × Holds r d runner gs node now w gone × Does r x w t × InputTurns r gone x
   reached [] x pl s t past fit holding (w, does, is) turns =
       (s, pl, past, fit, holding, subst (λ (y : Tokens). Does r x s y) (sym is) does, first_turn r past x [] turns)
   reached (y ∷ ys) x pl s t past fit holding (w, does, runs) turns =
       let now = next pl y s w past fit holding does (first_turn r past y (ys ++ x ∷ []) turns) in
-      reached ys x now.place w t (after r y past) (fit_after r d runner gs node restful y s w fit does) now.holds runs (turns_after r past y (ys ++ x ∷ []) turns)
+      reached ys x now.place w t (after r y past) (fit_after r d runner gs node restful y s w fit does) now.holds runs (later_turns r past y (ys ++ x ∷ []) turns)
 
   -- the answer leads to rest
   rests_after : (v : ℕ) (pl : Place gs) (s t : Tokens) (past : List Pass) → AllFit r s → Holds r d runner gs node pl s past → Does r (Out (ResultEnd 0) v) s t → IsIdle r t
@@ -115,7 +115,7 @@ module _ (r : Plan) (d : ℕ) (runner : Runner) (gs : List Stage) (node : RunsSt
       subst (λ (way : Direction). KeepsTurns r past (pass (ResultEnd 0) way)) (sym (result_out r (done r d runner gs node)))
       (only.0, closed_turned r (done r d runner gs node) (pass (ResultEnd 0) Answer ∷ past) only.1)
 
-  out_turn : (pl : Place gs) (x : Element) (s t : Tokens) (past : List Pass) → AllFit r s → Holds r d runner gs node pl s past → Does r x s t → InTurn r past x → OutTurn r past x
+  out_turn : (pl : Place gs) (x : Element) (s t : Tokens) (past : List Pass) → AllFit r s → Holds r d runner gs node pl s past → Does r x s t → InputTurns r past x → OutTurn r past x
   out_turn pl (Fire i slot) s t past fit holding does turn = tt
   out_turn pl (In b v) s t past fit holding does turn = tt
   out_turn AtRest (Out b v) s t past fit (idle, closed) does turn =
@@ -143,7 +143,7 @@ module _ (r : Plan) (d : ℕ) (runner : Runner) (gs : List Stage) (node : RunsSt
       let turn = first_turn r past x xs turns in
       let now = next pl x s w past fit holding does turn in
       outputs_before r past x xs (out_turn pl x s w past fit holding does turn)
-      (outputs xs now.place w t (after r x past) (fit_after r d runner gs node restful x s w fit does) now.holds runs (turns_after r past x xs turns))
+      (outputs xs now.place w t (after r x past) (fit_after r d runner gs node restful x s w fit does) now.holds runs (later_turns r past x xs turns))
 
   pub outputs_in_turn : OutputsInTurn r
   outputs_in_turn s t xs idle runs turns = outputs xs AtRest s t [] (idle_fits r s idle) (idle, (refl, λ k h. refl)) runs turns

@@ -10,11 +10,11 @@ use Rattle.gos_plan.specs.Tokens.{Tokens, Element, Fire, Out, In, token_at, end_
 use Rattle.gos_plan.specs.Orderly.{IsOrderly}
 use Rattle.gos_realises.specs.Regular.{Pass, pass, way_in, way_out, is_request, is_open, ComesInTurn, KeepsTurns, InputsKeepTurns, OutputsKeepTurns, IsRegular}
 use Rattle.gos_realises.proofs.InputLemmas.{passed, passed_then, inputs_then, outputs_last, runs_then, in_there, out_there}
+use Rattle.gos_realises.proofs.IdleLemmas.{idle_token}
 use Rattle.gos_realises.proofs.RingLemmas.{after}
 use Rattle.gos_windows.specs.Nodes.{IsRestful}
 use Rattle.gos_windows.proofs.PortLemmas.{port_end}
 use Rattle.gos_windows.proofs.TurnLemmas.{Turned, closed_turned, import_result, asked_beside, result_in}
-use Rattle.gos_windows.proofs.WholeLemmas.{idle_token}
 
 up_and_shut : (b : Bool) → b ≡ true → b ≡ false → ⊥
 up_and_shut b up shut = let clash : true ≡ false = sym up ∙ shut in cc clash

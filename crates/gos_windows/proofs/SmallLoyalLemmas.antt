@@ -10,9 +10,9 @@ use Rattle.gos_plan.specs.Plans.{PartEnd, ImportEnd, ResultEnd}
 use Rattle.gos_plan.specs.Tokens.{Tokens, Element, Fire, Out, In, shake_of, fired, Does, Runs, IsIdle}
 use Rattle.gos_plan.proofs.TurnLemmas.{fired_state}
 use Rattle.gos_realises.specs.Regular.{Pass, is_open, InputsKeepTurns}
+use Rattle.gos_realises.proofs.InputLemmas.{InputTurns, first_turn, later_turns}
 use Rattle.gos_realises.proofs.RingLemmas.{after}
 use Rattle.gos_windows.specs.SmallNodes.{call_plan, CallIsLoyal}
-use Rattle.gos_windows.proofs.NodeLemmas.{InTurn, first_turn, turns_after}
 
 -- the rows of the Share
 data TakenBy (b : ℕ) : Slot → Row → Type 0 where
@@ -52,7 +52,7 @@ after_fire s t past v slot r back kept does leads =
     ap (λ (x : Tokens). (x.state 0).number) leads
     ∙ (ap (λ (q : State). q.number) (fired_state call_plan 0 r v s 0) ∙ kept.answered does.0 does.2)
 
-step : (x : Element) (s t : Tokens) (past : List Pass) → Kept past s → Does call_plan x s t → InTurn call_plan past x → Kept (after call_plan x past) t
+step : (x : Element) (s t : Tokens) (past : List Pass) → Kept past s → Does call_plan x s t → InputTurns call_plan past x → Kept (after call_plan x past) t
 step (Fire zero slot) s t past kept (v, r, lies, fires, leads) turn =
     always past t (after_fire s t past v slot r (by_phase (s.state 0).phase (s.state 0).number slot r fires) kept (v, r, lies, fires, leads) leads)
 step (Fire (suc i) slot) s t past kept (v, r, lies, fires, leads) turn = no_row r fires
@@ -76,7 +76,7 @@ step (In (ResultEnd (suc h)) v) s t past kept does turn = absurd does.1
 along : (xs : List Element) (s t : Tokens) (past : List Pass) → Kept past s → Runs call_plan xs s t → InputsKeepTurns call_plan past xs → (gone : List Pass) × Kept gone t
 along [] s t past kept is turns = (past, subst (Kept past) (sym is) kept)
 along (x ∷ xs) s t past kept (w, does, runs) turns =
-    along xs w t (after call_plan x past) (step x s w past kept does (first_turn call_plan past x xs turns)) runs (turns_after call_plan past x xs turns)
+    along xs w t (after call_plan x past) (step x s w past kept does (first_turn call_plan past x xs turns)) runs (later_turns call_plan past x xs turns)
 
 at_first : (s : Tokens) → IsIdle call_plan s → Kept [] s
 at_first s idle =

@@ -9,7 +9,7 @@ use Rattle.gos_netlist.specs.Events.{Direction, Request, Answer}
 use Rattle.gos_plan.specs.Kinds.{Contact, contacts_of}
 use Rattle.gos_plan.specs.Firing.{Rest, State, Req, Ans, Token, Row, at, put}
 use Rattle.gos_plan.specs.Plans.{End, PartEnd, ImportEnd, ResultEnd, Joint, Plan, contact_at, stands_in, same_end, turned_if}
-use Rattle.gos_plan.specs.Tokens.{Tokens, Element, In, places_of, same_way, held_at, with_held, with_token, with_state, token_at, with_puts, end_of, way_of, way_put, bits_of, Passes, Does, IsIdle}
+use Rattle.gos_plan.specs.Tokens.{Tokens, Element, In, places_of, same_way, held_at, with_held, with_token, with_state, token_at, with_puts, end_of, way_of, way_put, bits_of, Passes, Does}
 use Rattle.gos_plan.proofs.JointLemmas.{IsIn, Found, found, one_joint, stands_there, contained, same_is, same_itself}
 use Rattle.gos_plan.proofs.HeldLemmas.{nothing_there}
 use Rattle.gos_plan.proofs.TurnLemmas.{token_state, nat_eq_self}
@@ -121,14 +121,6 @@ held_beside r e b way v s same holds =
       held = ap (held_at s way) (sym same) ∙ holds.held;
       alone = λ w y k is. let (way_same, there) = holds.alone w y k is in (way_same, sym same ∙ there);
     }
-
-pub idle_token : (r : Plan) (s : Tokens) → IsIdle r s → (e : End) (way : Direction) (v : ℕ) → token_at r s e way ≡ Some v → ⊥
-idle_token r s idle e way v held = by_place (places_of r e) refl
-  where
-    by_place : (o : Option End) → places_of r e ≡ o → ⊥
-    by_place None none = nothing_there r e way v s held none
-    by_place (Some x) named =
-        let clash : None ≡ Some v = sym (idle.0 way x) ∙ (sym (ap (held_at s way) named) ∙ held) in cc clash
 
 module _ (r : Plan) (d : ℕ) (runner : Runner) (gs : List Stage) (node : RunsStages r d runner gs) where
   abbrev pub own_end : End

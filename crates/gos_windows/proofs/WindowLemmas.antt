@@ -11,7 +11,7 @@ use Rattle.gos_plan.specs.TokenBits.{AllFit}
 use Rattle.gos_plan.proofs.TurnLemmas.{token_state, fired_state}
 use Rattle.gos_plan.proofs.TokenBitsLemmas.{all_stay_fit}
 use Rattle.gos_realises.specs.Regular.{Pass, pass, way_in, way_out, is_open, ComesInTurn, KeepsTurns, InputsKeepTurns}
-use Rattle.gos_realises.proofs.InputLemmas.{passed, passed_then, inputs_then, outputs_last, runs_then, in_there, out_there}
+use Rattle.gos_realises.proofs.InputLemmas.{passed, passed_then, inputs_then, InputTurns, first_turn, later_turns, outputs_last, runs_then, in_there, out_there}
 use Rattle.gos_realises.proofs.RingLemmas.{after}
 use Rattle.gos_webs.specs.Cutting.{StandsIn}
 use Rattle.gos_windows.specs.Regions.{whole_element}
@@ -20,7 +20,7 @@ use Rattle.gos_windows.specs.Windows.{Runner, seen, HoldsOnly, Where, Resting, A
 use Rattle.gos_windows.proofs.MeetLemmas.{Meets, met_contact, met_contacts}
 use Rattle.gos_windows.proofs.TurnLemmas.{Turned, turns_before, OnlyResult, NoneOpen}
 use Rattle.gos_windows.proofs.WholeLemmas.{other_state, in_turn_at, Going, Led, asks, own_leads}
-use Rattle.gos_windows.proofs.NodeLemmas.{InTurn, first_turn, turns_after, Place, AtRest, AtAsked, AtStage, AtAnswer, Holds, Result, rest_step, asked_step, answer_step, own_fired, own_firing}
+use Rattle.gos_windows.proofs.NodeLemmas.{Place, AtRest, AtAsked, AtStage, AtAnswer, Holds, Result, rest_step, asked_step, answer_step, own_fired, own_firing}
 use Rattle.gos_windows.specs.OneSession.{IsAsked, Stays, IsOneSession}
 use Rattle.gos_windows.proofs.OneSessionLemmas.{open_then, then_one, ended_is_one, well_before}
 use Rattle.gos_windows.proofs.RunnerLemmas.{RunsStages, AreRestful}
@@ -332,7 +332,7 @@ module _ (r : Plan) (d : ℕ) (runner : Runner) (gs : List Stage) (node : RunsSt
       → InputsKeepTurns r past (x ∷ xs) → Staged r d runner gs Resting (x ∷ xs) s
   rest_case x xs rest s t past fit (idle, closed) (w, does, runs) turns =
       let (is, holding, only) = rest_step r d runner gs node x s w past idle closed does (first_turn r past x xs turns) in
-      let later = rest AtAsked w t (after r x past) (fit_after x s w fit does) (holding, only) runs (turns_after r past x xs turns) in
+      let later = rest AtAsked w t (after r x past) (fit_after x s w fit does) (holding, only) runs (later_turns r past x xs turns) in
       subst (λ (y : Element). Staged r d runner gs Resting (y ∷ xs) s) (sym is) (is_asked s w xs idle (subst (λ (y : Element). Does r y s w) is does) later)
 
   asked_case : (x : Element) (xs : List Element) → Rest' xs → (s t : Tokens) (past : List Pass) → AllFit r s
@@ -340,7 +340,7 @@ module _ (r : Plan) (d : ℕ) (runner : Runner) (gs : List Stage) (node : RunsSt
       → Staged r d runner gs Asked (x ∷ xs) s
   asked_case x xs rest s t past fit (holding, only) (w, does, runs) turns =
       let step = asked_step r d runner gs node x s w past holding only does (first_turn r past x xs turns) in
-      let (there, leads, staged) = led_on xs rest step.row 0 w t (after r x past) (fit_after x s w fit does) step.led runs (turns_after r past x xs turns) in
+      let (there, leads, staged) = led_on xs rest step.row 0 w t (after r x past) (fit_after x s w fit does) step.led runs (later_turns r past x xs turns) in
       subst (λ (y : Element). Staged r d runner gs Asked (y ∷ xs) s) (sym step.is)
       (begins s w xs step.row there holding step.fires (subst (λ (y : Element). Does r y s w) step.is does) step.state leads staged)
 
@@ -348,14 +348,14 @@ module _ (r : Plan) (d : ℕ) (runner : Runner) (gs : List Stage) (node : RunsSt
       → HoldsOnly r (ResultEnd 0) Answer k s × OnlyResult past → Runs r (x ∷ xs) s t → InputsKeepTurns r past (x ∷ xs) → Staged r d runner gs (Answered k) (x ∷ xs) s
   answer_case k x xs rest s t past fit (holding, only) (w, does, runs) turns =
       let (is, idle, closed) = answer_step r d runner gs node k x s w past holding only does (first_turn r past x xs turns) in
-      let later = rest AtRest w t (after r x past) (fit_after x s w fit does) (idle, closed) runs (turns_after r past x xs turns) in
+      let later = rest AtRest w t (after r x past) (fit_after x s w fit does) (idle, closed) runs (later_turns r past x xs turns) in
       subst (λ (y : Element). Staged r d runner gs (Answered k) (y ∷ xs) s) (sym is)
       (windows.replies s w xs k holding (subst (λ (y : Element). Does r y s w) is does) later)
 
   module _
       (g : Stage) (has : Contains gs g) (hs : List Element) (before s w : Tokens) (past : List Pass) (going : Going r d runner gs node g has hs before s past)
       (fit : AllFit r s) where
-    pub stage_step : (x : Element) → Does r x s w → InTurn r past x
+    pub stage_step : (x : Element) → Does r x s w → InputTurns r past x
         → StageStep g has hs before s w (after r x past) x ⊎ OwnStep g has hs before s w (after r x past) x
     stage_step (Out b v) does turn = inl (out_step g has hs before s w past going fit b v does)
     stage_step (In b v) does turn = inl (in_step g has hs before s w past going fit b v does turn)
@@ -374,7 +374,7 @@ module _ (r : Plan) (d : ℕ) (runner : Runner) (gs : List Stage) (node : RunsSt
             → Result r d runner gs node (AtStage g has hs before) (x ∷ xs) s
         by_step (inl step) =
             let (ys, end, staged, ran, kept, well) =
-            rest (AtStage g has (hs ++ step.y ∷ []) before) w t (after r x past) (fit_after x s w fit does) step.going runs (turns_after r past x xs turns) in (
+            rest (AtStage g has (hs ++ step.y ∷ []) before) w t (after r x past) (fit_after x s w fit does) step.going runs (later_turns r past x xs turns) in (
               step.y ∷ ys,
               end,
               subst (λ (z : Element). Staged r d runner gs (Within g (step.y ∷ ys)) (z ∷ xs) s) step.is
@@ -384,7 +384,7 @@ module _ (r : Plan) (d : ℕ) (runner : Runner) (gs : List Stage) (node : RunsSt
               well_before (runner.asked g) g.plan step.y ys step.stays well,
             )
         by_step (inr step) =
-            let (there, leads, staged) = led_on xs rest step.row step.v w t (after r x past) (fit_after x s w fit does) step.led runs (turns_after r past x xs turns) in (
+            let (there, leads, staged) = led_on xs rest step.row step.v w t (after r x past) (fit_after x s w fit does) step.led runs (later_turns r past x xs turns) in (
               Out (ResultEnd (runner.asked g)) step.v ∷ [],
               step.end,
               subst (λ (z : Element). Staged r d runner gs (Within g (Out (ResultEnd (runner.asked g)) step.v ∷ [])) (z ∷ xs) s) (sym step.is)

@@ -2,6 +2,7 @@ pub mod NumberLemmas
 pub mod WayLemmas
 pub mod AwayLemmas
 pub mod PlacingLemmas
+pub mod NameLemmas
 pub mod TieLemmas
 pub mod TypeLemmas
 pub mod ModuleLemmas

@@ -28,7 +28,8 @@ use Rattle.gos_renumbered.proofs.SupplyLemmas.{supply_link, of_imports, in_impor
 use Rattle.gos_compile.specs.Wiring.{Types, row, ties_of, import_ties, all_types, all_ties, all_parts, IsPlanOf}
 use Rattle.gos_wired.specs.Wired.{dot_of, dot_ties, Supplies, result_ties, all_supply_ties, Source, source_dot, wired_web}
 use Rattle.gos_wired.specs.Modules.{supply_at, numbers_from, PathsFit, MakesNoImport, SuppliedIsWired}
-use Rattle.gos_wired.proofs.NumberLemmas.{part_of, import_in}
+use Rattle.gos_joined.proofs.OriginLemmas.{part_of}
+use Rattle.gos_wired.proofs.NumberLemmas.{import_in}
 use Rattle.gos_wired.proofs.WayLemmas.{way_path, path_way}
 use Rattle.gos_wired.proofs.AwayLemmas.{for_import, stays_away, row_away, ties_away, tie_away}
 use Rattle.gos_wired.proofs.PlacingLemmas.{left_is, from_plan, source_of, one_less, origin_of, placing, import_numbered, numbered_import, supply_there, number_there, parts_there, no_more_parts, imports_there, left_at_number, no_more_imports}

@@ -1,56 +1,14 @@
 -- The parts and the imports of several plans, by their numbers among all.
-use Rattle.std.specs.Prelude.{◌≡◌, ℕ, zero, suc, ◌+◌, ◌-◌, ◌<◌, ◌≤◌, Bool, true, false, List, [], ◌∷◌, ◌++◌, length, Some, slice_get, nat_lt}
+use Rattle.std.specs.Prelude.{◌≡◌, ℕ, zero, suc, ◌+◌, List, [], ◌∷◌, ◌++◌, length, Some, slice_get}
 use Rattle.std.proofs.Common.{refl, sym, ◌∙◌, ap, arith, inl, inr}
 use Rattle.gos_model.specs.Typing.{Imported}
 use Rattle.gos_plan.specs.Kinds.{Part}
-use Rattle.gos_plan.specs.Plans.{PartEnd, Plan}
-use Rattle.gos_plan.specs.Joining.{place, LeftImport, all_parts, part_place}
+use Rattle.gos_plan.specs.Plans.{Plan}
+use Rattle.gos_plan.specs.Joining.{LeftImport, all_parts}
 use Rattle.gos_realises.proofs.LeftLemmas.{left_list}
-use Rattle.gos_joined.proofs.OriginLemmas.{before, front_at, behind_at, next_place}
+use Rattle.gos_joined.proofs.OriginLemmas.{before}
 use Rattle.gos_unions.proofs.LeftLemmas.{front, behind}
 use Rattle.gos_unions.proofs.FlatFitLemmas.{InTwo, in_two}
-
--- a part of all, which have plans from number n on, is a part of one
-pub record PartOf (n : ℕ) (ps : List Plan) (i : ℕ) (x : Part) : Type 0 where
-  pub plan : ℕ
-  pub part : ℕ
-  pub of : Plan
-  pub number : i ≡ before ps plan + part
-  pub stands : (h : ℕ) → part_place n ps i h ≡ place (n + plan) (PartEnd part h)
-  pub is : slice_get ps plan ≡ Some of
-  pub has : slice_get of.parts part ≡ Some x
-
-pub part_of : (n : ℕ) (ps : List Plan) (i : ℕ) (x : Part) → slice_get (all_parts ps) i ≡ Some x → PartOf n ps i x
-part_of n [] i x e = absurd (cc e)
-part_of n (p ∷ ps) i x e = by_test (nat_lt i (length p.parts)) refl (part_of (suc n) ps (i - length p.parts) x)
-  where
-    by_test : (b : Bool) → nat_lt i (length p.parts) ≡ b
-        → (slice_get (all_parts ps) (i - length p.parts) ≡ Some x → PartOf (suc n) ps (i - length p.parts) x) → PartOf n (p ∷ ps) i x
-    by_test true t rest =
-        let small : i < length p.parts = grind (arith, t) in
-        let sum : n ≡ n + 0 = omega arith in
-        record {
-          plan = 0;
-          part = i;
-          of = p;
-          number = omega arith;
-          stands = λ h. rw t (ap (λ (k : ℕ). place k (PartEnd i h)) sum);
-          is = refl;
-          has = sym (front_at p.parts (all_parts ps) i small) ∙ e;
-        }
-    by_test false t rest =
-        let large : length p.parts ≤ i = grind (arith, t) in
-        let there = rest (sym (behind_at p.parts (all_parts ps) i large) ∙ e) in
-        let number = there.number in
-        record {
-          plan = suc there.plan;
-          part = there.part;
-          of = there.of;
-          number = omega (arith, number, large);
-          stands = λ h. rw t (next_place (part_place (suc n) ps (i - length p.parts) h) n there.plan (PartEnd there.part h) (there.stands h));
-          is = there.is;
-          has = there.has;
-        }
 
 pub part_there : (ps : List Plan) (n j : ℕ) (q : Plan) (x : Part) → slice_get ps n ≡ Some q → slice_get q.parts j ≡ Some x
     → slice_get (all_parts ps) (before ps n + j) ≡ Some x

@@ -8,13 +8,13 @@ use Rattle.gos_plan.specs.Plans.{End, PartEnd, ImportEnd, ResultEnd, Plan}
 use Rattle.gos_plan.specs.Joining.{Place, Link, LeftImport, is_joined, left_among, all_left, all_parts, part_place, IsJoining}
 use Rattle.gos_realises.specs.Modules.{Supply, plans_of, AreSupplied, imports_linked, supplying}
 use Rattle.gos_realises.proofs.LeftLemmas.{left_all, left_joined}
-use Rattle.gos_joined.proofs.OriginLemmas.{before, import_of}
+use Rattle.gos_joined.proofs.OriginLemmas.{before, PartOf, part_of, import_of}
 use Rattle.gos_unions.proofs.DeepLemmas.{place_of_part}
 use Rattle.gos_renumbered.proofs.SupplyLemmas as supplies
 use Rattle.gos_renumbered.proofs.SupplyLemmas.{supply_of, import_for, plan_at, first_joined, supply_free}
 use Rattle.gos_wired.specs.Wired.{Supplies, Source, Own, Supplied, Origin, Placing, IsFrom, placed}
 use Rattle.gos_wired.specs.Modules.{supply_at, numbers_from}
-use Rattle.gos_wired.proofs.NumberLemmas.{PartOf, part_of, part_there, imports_before, all_imports, import_in, import_there}
+use Rattle.gos_wired.proofs.NumberLemmas.{part_there, imports_before, all_imports, import_in, import_there}
 
 -- The imports that stay: none of the plan's own, and all of the supplies'.
 among_free : (ls : List Link) (n : ℕ) (qs : List Plan) → ((k j : ℕ) → is_joined ls (suc k) j ≡ false) → left_among ls (suc n) qs ≡ all_imports (suc n) qs

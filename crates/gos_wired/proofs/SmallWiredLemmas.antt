@@ -1,13 +1,12 @@
 -- `import c : com; c` with the plan of `skip` for c, wired, and with its joint left out.
-use Rattle.std.specs.Prelude.{◌≡◌, ◌≢◌, ◌⊎◌, ℕ, zero, suc, Bool, true, false, List, [], ◌∷◌, Option, Some, None, Contains, slice_get}
+use Rattle.std.specs.Prelude.{◌≡◌, ◌≢◌, ◌⊎◌, ℕ, zero, suc, List, [], ◌∷◌, Some, Contains, slice_get}
 use Rattle.std.proofs.Common.{refl, sym, ◌∙◌, ap, subst, arith, inl, inr}
-use Rattle.gos_types.specs.declared.shakes.Role.{Role}
-use Rattle.gos_types.specs.declared.shakes.Role.TheVariants.{Serve, Ask}
 use Rattle.gos_plan.specs.Kinds.{Part, Contact, asks, serves, turned_contact}
 use Rattle.gos_plan.specs.Plans.{End, PartEnd, ImportEnd, ResultEnd, Joint, contact_at}
 use Rattle.gos_plan.specs.SmallPlans.{skip_plan}
 use Rattle.gos_ties.specs.Ties as paths
 use Rattle.gos_webs.specs.Webs.{Of, Number, Within, Tie, Way, here, along, Connects, joint}
+use Rattle.gos_webs.proofs.WebLemmas.{serves_not_asks}
 use Rattle.gos_webs.proofs.SmallWebLemmas.{skip_is_right}
 use Rattle.gos_wired.specs.Wired.{Source, Own, Supplied, IsFrom, placed, wired_ties, wired_web}
 use Rattle.gos_wired.specs.SmallWired.{commands, skips, one_use, from_first, UseIsWired, UnjoinedIsNotWired, SkipFits, SeqDoesNotFit}
@@ -51,19 +50,8 @@ parts : (x : Part) (s : Source) → IsFrom [] (0 ∷ []) skips x s
 parts x (Own k) has = absurd (cc has)
 parts x (Supplied n k) (among, has) = (has, ap (λ (i : ℕ). Supplied i k) (one_number n among))
 
-abbrev by_role : Role → Bool
-by_role Serve = false
-by_role Ask = true
-
-abbrev is_asked : Option Contact → Bool
-is_asked None = false
-is_asked (Some c) = by_role c.role
-
-clash : (q v k w : ℕ) → Some (serves q v) ≡ Some (asks k w) → ⊥
-clash q v k w e = let h : false ≡ true = ap is_asked e in cc h
-
 asked : (a : End) (q v : ℕ) → contact_at skip_plan a ≡ Some (asks q v) → ResultEnd 0 ≡ a
-asked (PartEnd zero zero) q v e = absurd (clash 0 0 q v e)
+asked (PartEnd zero zero) q v e = absurd (serves_not_asks 0 0 q v e)
 asked (PartEnd zero (suc h)) q v e = absurd (cc e)
 asked (PartEnd (suc i) h) q v e = absurd (cc e)
 asked (ImportEnd i h) q v e = absurd (cc e)
@@ -75,7 +63,7 @@ served (PartEnd zero zero) q v e = refl
 served (PartEnd zero (suc h)) q v e = absurd (cc e)
 served (PartEnd (suc i) h) q v e = absurd (cc e)
 served (ImportEnd i h) q v e = absurd (cc e)
-served (ResultEnd zero) q v e = absurd (clash q v 0 0 (sym e))
+served (ResultEnd zero) q v e = absurd (serves_not_asks q v 0 0 (sym e))
 served (ResultEnd (suc h)) q v e = absurd (cc e)
 
 connects : Connects (wired_web commands 0 0 one_use (0 ∷ []) skips from_first) skip_plan (ResultEnd 0) (PartEnd 0 0)
@@ -116,7 +104,7 @@ skip_fits a b c d at_a at_b differ path = fits a b c d at_a at_b differ
 
 pub seq_does_not_fit : SeqDoesNotFit
 seq_does_not_fit fit =
-    clash 0 0 0 0
+    serves_not_asks 0 0 0 0
     (ap (λ (k : Contact). Some k)
     (sym (fit (ResultEnd 0) (PartEnd 0 0) (asks 0 0) (asks 0 0) refl refl (λ e. cc e)
     (paths.along (paths.at (ResultEnd 0)) (paths.at (PartEnd 0 0)) (paths.at (PartEnd 0 0)) (inl refl) (paths.here (paths.at (PartEnd 0 0)))))))

@@ -8,6 +8,7 @@ use Rattle.gos_plan.specs.Kinds.{Contact, asks, serves, turned_contact}
 use Rattle.gos_plan.specs.Plans.{End, PartEnd, ImportEnd, ResultEnd, Joint, Plan, contact_at, stands_in, is_free, Fits, AreRight}
 use Rattle.gos_plan.proofs.JointLemmas.{IsIn, contained}
 use Rattle.gos_webs.specs.Webs.{Web, Way, Connects, WaysFit, joint, IsOfWeb}
+use Rattle.gos_webs.proofs.WebLemmas.{serves_not_asks}
 use Rattle.gos_webs.proofs.MovedLemmas.{listed}
 use Rattle.gos_webs.proofs.CutLemmas.{which_end}
 use Rattle.gos_webs.proofs.WayLemmas.{way_back}
@@ -16,23 +17,11 @@ use Rattle.gos_woven.proofs.DotLemmas.{Decided, one_end}
 use Rattle.gos_woven.proofs.CrossingLemmas.{decided_way}
 use Rattle.gos_woven.proofs.EndLemmas.{ends_of, there, pairs, pair}
 
--- who asks doesn't serve
-abbrev by_role : Role → Bool
-by_role Serve = false
-by_role Ask = true
-
-abbrev is_asked : Option Contact → Bool
-is_asked None = false
-is_asked (Some c) = by_role c.role
-
-clash : (A : Type 0) (o : Option Contact) (q v m n : ℕ) → o ≡ Some (asks q v) → o ≡ Some (serves m n) → A
-clash A o q v m n asked served = let h : true ≡ false = ap is_asked (sym asked ∙ served) in absurd (cc h)
-
 asking : (k : Contact) → k.role ≡ Ask → k ≡ asks k.ask_bits k.answer_bits
 asking k is = ap (λ (r : Role). record { role = r; ask_bits = k.ask_bits; answer_bits = k.answer_bits }) is
 
 serving : (k : Contact) (q v : ℕ) → k.role ≡ Serve → k ≡ asks q v → ⊥
-serving k q v is asked = let h : false ≡ true = ap by_role (sym is ∙ ap (λ (c : Contact). c.role) asked) in cc h
+serving k q v is asked = let h : Serve ≡ Ask = sym is ∙ ap (λ (c : Contact). c.role) asked in cc h
 
 -- an end that stands in a joint of these stands in one of them
 record Held (js : List Joint) (e : End) : Type 0 where
@@ -57,7 +46,7 @@ module _
   when_way : (a b : End) (k l : Contact)
       → contact_at c a ≡ Some k → k.role ≡ Ask → contact_at c b ≡ Some l → Decided (a ≡ b) → Decided (Way v.ties (v.at a) (v.at b)) → Decided (Connects v c a b)
   when_way a b k l at_a asked at_b (inl same) way =
-      inr (λ (con : Connects v c a b). clash ⊥ (contact_at c b) con.0 con.1 con.0 con.1 (ap (contact_at c) (sym same) ∙ con.2) con.3)
+      inr (λ (con : Connects v c a b). serves_not_asks con.0 con.1 con.0 con.1 (sym con.3 ∙ (ap (contact_at c) (sym same) ∙ con.2)))
   when_way a b k l at_a asked at_b (inr differ) (inr never) = inr (λ (con : Connects v c a b). never con.4)
   when_way a b k l at_a asked at_b (inr differ) (inl way) =
       let is = asking k asked in
@@ -85,7 +74,7 @@ module _
   Connected j = Connects v c j.asking j.serving
 
   differ : (a b : End) (q w m n : ℕ) → contact_at c a ≡ Some (asks q w) → contact_at c b ≡ Some (serves m n) → a ≡ b → ⊥
-  differ a b q w m n asked served same = clash ⊥ (contact_at c b) q w m n (ap (contact_at c) (sym same) ∙ asked) served
+  differ a b q w m n asked served same = serves_not_asks m n q w (sym served ∙ (ap (contact_at c) (sym same) ∙ asked))
 
   same_asking : (j k : Joint) → Connected j → Connected k → j.asking ≡ k.asking → j ≡ k
   same_asking j k one other same =

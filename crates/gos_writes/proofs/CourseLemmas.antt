@@ -15,7 +15,7 @@ use Rattle.gos_plan.specs.TokenBits.{AllFit}
 use Rattle.gos_plan.proofs.TokenBitsLemmas.{all_stay_fit}
 use Rattle.gos_realises.specs.Regular.{Pass, pass, way_in, way_out, is_open, KeepsTurns, InputsKeepTurns, IsRegular}
 use Rattle.gos_realises.specs.Matched.{shows, GoesOn, Agrees, IsMatched}
-use Rattle.gos_realises.proofs.InputLemmas.{passed, passed_then, inputs_then, outputs_last, runs_then, in_there}
+use Rattle.gos_realises.proofs.InputLemmas.{passed, passed_then, inputs_then, first_turns, later_turns, outputs_last, runs_then, in_there}
 use Rattle.gos_realises.proofs.RingLemmas.{after}
 use Rattle.gos_webs.specs.Cutting.{Cut, StandsIn}
 use Rattle.gos_nodes.proofs.SilentLemmas.{inner_stays}
@@ -23,7 +23,7 @@ use Rattle.gos_windows.specs.Regions.{whole_element}
 use Rattle.gos_windows.specs.Nodes.{Stage}
 use Rattle.gos_windows.specs.Windows.{seen, StirsOnly}
 use Rattle.gos_windows.proofs.GroundLemmas.{answer_turned}
-use Rattle.gos_windows.proofs.TurnLemmas.{Turned, way_in_of}
+use Rattle.gos_windows.proofs.TurnLemmas.{Turned, turns_before, way_in_of}
 use Rattle.gos_windows.specs.OneSession.{Stays, AllStay}
 use Rattle.gos_writes.specs.Writes.{waits_at, IsWriteStage, HasStages}
 use Rattle.gos_windows.proofs.RunnerLemmas as runners
@@ -258,28 +258,12 @@ module _
         → IsSessionMatched p G tp (seen g s) (Running b st)
 
   -- turns of a list, element by element
-  first_turns : (past : List Pass) (y : Element) (ys : List Element) → InputsKeepTurns p past (y ∷ ys) → InputsKeepTurns p past (y ∷ [])
-  first_turns past (Fire i t) ys turns = tt
-  first_turns past (Out e v) ys turns = tt
-  first_turns past (In e v) ys turns = (turns.0, tt)
-
-  later_turns : (hs : List Element) (y : Element) (ys : List Element) → InputsKeepTurns p (passed p [] hs) (y ∷ ys) → InputsKeepTurns p (passed p [] (hs ++ y ∷ [])) ys
-  later_turns hs y ys turns = subst (λ (x : List Pass). InputsKeepTurns p x ys) (sym (passed_then p [] hs y)) (by_element y turns)
-    where
-      by_element : (z : Element) → InputsKeepTurns p (passed p [] hs) (z ∷ ys) → InputsKeepTurns p (after p z (passed p [] hs)) ys
-      by_element (Fire i t) all = all
-      by_element (Out e v) all = all
-      by_element (In e v) all = all.1
+  turns_on : (hs : List Element) (y : Element) (ys : List Element) → InputsKeepTurns p (passed p [] hs) (y ∷ ys) → InputsKeepTurns p (passed p [] (hs ++ y ∷ [])) ys
+  turns_on hs y ys turns = subst (λ (x : List Pass). InputsKeepTurns p x ys) (sym (passed_then p [] hs y)) (later_turns p (passed p [] hs) y ys turns)
 
   turns_joined : (ks : List Element) (y : Element) (zs : List Element) → InputsKeepTurns q (passed q [] ks) (y ∷ []) → InputsKeepTurns q (passed q [] (ks ++ y ∷ [])) zs
       → InputsKeepTurns q (passed q [] ks) (y ∷ zs)
-  turns_joined ks y zs one others = by_element y one (subst (λ (x : List Pass). InputsKeepTurns q x zs) (passed_then q [] ks y) others)
-    where
-      by_element : (x : Element) → InputsKeepTurns q (passed q [] ks) (x ∷ []) → InputsKeepTurns q (after q x (passed q [] ks)) zs
-          → InputsKeepTurns q (passed q [] ks) (x ∷ zs)
-      by_element (Fire i t) one rest = rest
-      by_element (Out e v) one rest = rest
-      by_element (In e v) one rest = (one.0, rest)
+  turns_joined ks y zs one others = turns_before q (passed q [] ks) y zs one (subst (λ (x : List Pass). InputsKeepTurns q x zs) (passed_then q [] ks y) others)
 
   module _ (G : Program) (tp tq : List Element) (tails : Tails G tp tq) where
     -- the lone write has the list
@@ -288,10 +272,10 @@ module _
         → (t : Tokens) × Runs q (map (whole_element f) zs ++ tq) s t × InputsKeepTurns q (passed q [] ks) (map (whole_element f) zs ++ tq)
     runs_up [] all hs ks s u at runs turns = tails.runs hs ks s u at runs
     runs_up (y ∷ zs) (one, all) hs ks s u at (v, does, runs) turns =
-        let step = up hs ks y s v at one (first_turns (passed p [] hs) y (zs ++ tp) turns) does in
+        let step = up hs ks y s v at one (first_turns p (passed p [] hs) y (zs ++ tp) turns) does in
         let (t, later, kept) =
         runs_up zs all (hs ++ y ∷ []) (ks ++ whole_element f y ∷ []) step.to u step.at (subst (λ (x : Tokens). Runs p (zs ++ tp) x u) (sym step.same) runs)
-        (later_turns hs y (zs ++ tp) turns) in
+        (turns_on hs y (zs ++ tp) turns) in
         (t, (step.to, step.does, later), turns_joined ks (whole_element f y) (map (whole_element f) zs ++ tq) step.turn kept)
 
     -- and where it is matched, so is the session
@@ -302,7 +286,7 @@ module _
     matched_down (y ∷ zs) (one, all) hs ks s b st at turns (agrees, next) = (
       agrees_down G hs ks s b st at agrees,
       λ u does.
-          let step = up hs ks y s u at one (first_turns (passed p [] hs) y (zs ++ tp) turns) does in
+          let step = up hs ks y s u at one (first_turns p (passed p [] hs) y (zs ++ tp) turns) does in
           let n = next step.to step.does in
           let shown = n.3 ∙ shown_down y one in
           let goes = goes_so y s u n.0 does n.4 in
@@ -310,7 +294,7 @@ module _
           let stir : Stirred q g y s n.0 = stirred q d w g ground there y s (seen g step.to) step.to n.0 own one step.does shown goes in
           let stays = inner_stays G n.0 b st n.1 stir.inner n.2 in
           let rest =
-          matched_down zs all (hs ++ y ∷ []) (ks ++ whole_element f y ∷ []) step.to stays.0 stays.1 step.at (later_turns hs y (zs ++ tp) turns)
+          matched_down zs all (hs ++ y ∷ []) (ks ++ whole_element f y ∷ []) step.to stays.0 stays.1 step.at (turns_on hs y (zs ++ tp) turns)
           (subst (λ (x : Config). IsMatched q G (map (whole_element f) zs ++ tq) step.to x) stays.2 n.5) in (
             n.0,
             n.1,

@@ -33,7 +33,7 @@ use Rattle.gos_windows.proofs.AskedLemmas.{ground_asks, ground_heard}
 use Rattle.gos_writes.proofs.AskedLemmas.{asked_by}
 
 -- joints without those of handshake 0
-kept_in : (x : Joint) (js : List Joint) → same_end x.asking (ResultEnd 0) ≡ false → IsIn x js → IsIn x (unread_joints js)
+pub kept_in : (x : Joint) (js : List Joint) → same_end x.asking (ResultEnd 0) ≡ false → IsIn x js → IsIn x (unread_joints js)
 kept_in x [] apart none = absurd none
 kept_in x (j ∷ js) apart (inl is) =
     let test : same_end j.asking (ResultEnd 0) ≡ false = ap (λ (y : Joint). same_end y.asking (ResultEnd 0)) (sym is) ∙ apart in

@@ -11,5 +11,6 @@ pub mod SessionsRestLemmas
 pub mod JoinedLemmas
 pub mod UnreadLemmas
 pub mod WrittenLemmas
+pub mod SideLemmas
 pub mod AssignmentLemmas
 pub mod SmallLemmas

@@ -19,8 +19,7 @@ use Rattle.gos_plan.proofs.HeldLemmas.{nothing_there, takes_of}
 use Rattle.gos_plan.proofs.JointLemmas.{found, fits, stands_there, same_is}
 use Rattle.gos_plan.proofs.ProjectionLemmas.{named}
 use Rattle.gos_realises.specs.Regular.{Pass, InputsKeepTurns, IsRegular}
-use Rattle.gos_realises.proofs.InputLemmas.{passed, passed_then, inputs_then, runs_then, in_there, out_there}
-use Rattle.gos_realises.proofs.RingLemmas.{after}
+use Rattle.gos_realises.proofs.InputLemmas.{passed, passed_then, inputs_then, first_turns, later_turns, last_order, runs_then, in_there, out_there}
 use Rattle.gos_pace.proofs.HoldLemmas.{orderly_append}
 use Rattle.gos_webs.specs.Cutting.{StandsIn}
 use Rattle.gos_webs.proofs.CutLemmas.{which_end, part_there}
@@ -32,7 +31,6 @@ use Rattle.gos_windows.proofs.OneSessionLemmas.{open_is_one}
 use Rattle.gos_windows.proofs.AskedLemmas.{ground_asks}
 use Rattle.gos_windows.proofs.ClosingLemmas.{asks_itself}
 use Rattle.gos_writes.proofs.JoinedLemmas.{was_in, unread_right}
-use Rattle.gos_windows.proofs.OrderLemmas.{last_order}
 
 -- the places of an end of another joint
 asking_same : (js : List Joint) (e : End) → (asking_in js e ≡ Some (ResultEnd 0) → ⊥) → asking_in (unread_joints js) e ≡ asking_in js e
@@ -396,18 +394,8 @@ module _ (p : Plan) (w : ℕ) (right : IsRight p) (outcome : p.outcome ≡ Var w
           by_role Ask role = put_shut role (ap (same_end (ResultEnd 0)) is)
 
   -- turns, element by element
-  first_turns : (past : List Pass) (y : Element) (ys : List Element) → InputsKeepTurns p past (y ∷ ys) → InputsKeepTurns p past (y ∷ [])
-  first_turns past (Fire i t) ys turns = tt
-  first_turns past (Out e v) ys turns = tt
-  first_turns past (In e v) ys turns = (turns.0, tt)
-
-  later_turns : (hs : List Element) (y : Element) (ys : List Element) → InputsKeepTurns p (passed p [] hs) (y ∷ ys) → InputsKeepTurns p (passed p [] (hs ++ y ∷ [])) ys
-  later_turns hs y ys turns = subst (λ (x : List Pass). InputsKeepTurns p x ys) (sym (passed_then p [] hs y)) (by_element y turns)
-    where
-      by_element : (z : Element) → InputsKeepTurns p (passed p [] hs) (z ∷ ys) → InputsKeepTurns p (after p z (passed p [] hs)) ys
-      by_element (Fire i t) all = all
-      by_element (Out e v) all = all
-      by_element (In e v) all = all.1
+  turns_on : (hs : List Element) (y : Element) (ys : List Element) → InputsKeepTurns p (passed p [] hs) (y ∷ ys) → InputsKeepTurns p (passed p [] (hs ++ y ∷ [])) ys
+  turns_on hs y ys turns = subst (λ (x : List Pass). InputsKeepTurns p x ys) (sym (passed_then p [] hs y)) (later_turns p (passed p [] hs) y ys turns)
 
   next : (first : Tokens) (hs : List Element) (y : Element) (s t : Tokens) (o : Open) → At first hs s o → InputsKeepTurns p (passed p [] hs) (y ∷ []) → AllCome c (y ∷ [])
       → Does c y s t → Next first hs y s t o
@@ -425,8 +413,8 @@ module _ (p : Plan) (w : ℕ) (right : IsRight p) (outcome : p.outcome ≡ Var w
   along [] hs first s t o so turns come runs = (runs, (o, s, (refl, refl)))
   along (y ∷ ys) hs first s t o so turns come (z, does, runs) =
       let both = first_come y ys come in
-      let step = next first hs y s z o so (first_turns (passed p [] hs) y ys turns) both.0 does in
-      let rest = along ys (hs ++ y ∷ []) first z t step.now step.at (later_turns hs y ys turns) both.1 runs in
+      let step = next first hs y s z o so (first_turns p (passed p [] hs) y ys turns) both.0 does in
+      let rest = along ys (hs ++ y ∷ []) first z t step.now step.at (turns_on hs y ys turns) both.1 runs in
       ((z, step.does, rest.0), (rest.1.0, rest.1.1, (step.now, z, does, step.comes, step.welcome, rest.1.2)))
 
   first_at : (s : Tokens) → IsIdle p s → At s [] s none_open
@@ -447,8 +435,8 @@ module _ (p : Plan) (w : ℕ) (right : IsRight p) (outcome : p.outcome ≡ Var w
   reach [] hs first s t o so turns come is = (hs, o, subst (λ (x : Tokens). At first hs x o) (sym is) so)
   reach (y ∷ ys) hs first s t o so turns come (z, does, runs) =
       let both = first_come y ys come in
-      let step = next first hs y s z o so (first_turns (passed p [] hs) y ys turns) both.0 does in
-      reach ys (hs ++ y ∷ []) first z t step.now step.at (later_turns hs y ys turns) both.1 runs
+      let step = next first hs y s z o so (first_turns p (passed p [] hs) y ys turns) both.0 does in
+      reach ys (hs ++ y ∷ []) first z t step.now step.at (turns_on hs y ys turns) both.1 runs
 
   pub unread_loyal : (i : ℕ) (t : Type') (side : ℕ) → IsLoyal i t side p → IsLoyalAt 1 i t side c
   unread_loyal i t side loyal s v u xs slot tidy idle begun runs turns does low =

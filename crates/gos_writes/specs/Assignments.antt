@@ -13,6 +13,7 @@ use Rattle.gos_webs.specs.Webs.{joint}
 use Rattle.gos_webs.specs.Cutting.{StandsIn}
 use Rattle.gos_windows.specs.Regions.{Serving, IsRegion, IsLoyal}
 use Rattle.gos_windows.specs.Nodes.{Stage, IsRestful, IsOfStage}
+use Rattle.gos_windows.specs.OpenNodes.{IsHeard}
 use Rattle.gos_writes.specs.Written.{unread}
 
 -- How a stage lies in the whole r, whose part d asks it: its Shares are loyal in the plan p.
@@ -41,6 +42,27 @@ pub record IsAssignment (r : Plan) (d w : ℕ) (number variable : Stage) (p : Pl
   pub own_literals : All LiteralFits p.parts
   pub laid_number : IsLaid r d number number.plan
   pub laid_variable : IsLaid r d variable p
+  pub result : Contains r.joints (joint (ResultEnd 0) (PartEnd d 2))
+  pub joints :
+      (a b : End) → Contains r.joints (joint a b)
+      → ((a ≡ ResultEnd 0) × (b ≡ PartEnd d 2)) ⊎ IsOfStage (number ∷ variable ∷ []) a b
+
+-- The same with imports of any types: the stages are asked where their imports ask.
+pub record IsOpenAssignment (r : Plan) (d w : ℕ) (number variable : Stage) (p : Plan) : Type 0 where
+  pub right : IsRight r
+  pub own : slice_get r.parts d ≡ Some (kinds.Assign w)
+  pub outcome : r.outcome ≡ Com
+  pub literals : All LiteralFits r.parts
+  pub names : NamesDiffer r.imports
+  pub asked : number.asked_at ≡ 0
+  pub written : variable.asked_at ≡ 1
+  pub plan : variable.plan ≡ unread p
+  pub laid_number : IsLaid r d number number.plan
+  pub laid_variable : IsLaid r d variable p
+  pub number_names : NamesDiffer number.plan.imports
+  pub variable_names : NamesDiffer variable.plan.imports
+  pub number_heard : IsHeard number.cut r number.plan
+  pub variable_heard : IsHeard variable.cut r variable.plan
   pub result : Contains r.joints (joint (ResultEnd 0) (PartEnd d 2))
   pub joints :
       (a b : End) → Contains r.joints (joint a b)
