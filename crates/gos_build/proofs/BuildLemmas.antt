@@ -1,25 +1,18 @@
 -- From the objects and the circuit of the plans to what `build` leaves.
-use Rattle.std.proofs.Common.{◌≡◌, ◌≢◌, inl, inr, ℕ, List, [], ◌∷◌, Option, Some, None, subst}
+use Rattle.std.proofs.Common.{◌≡◌, inl, inr, ℕ, List, [], ◌∷◌, Option, Some, None, subst}
 use Rattle.std.specs.Prelude.{IfSome}
 use Rattle.gos_outside.specs.Files.{Files, bytes_at}
 use Rattle.gos_outside.specs.OtherFiles.{OthersSame}
-use Rattle.gos_outside.specs.Faults.{LastFault, ReadFault}
+use Rattle.gos_outside.specs.Faults.{LastFault}
 use Rattle.gos_outside.proofs.OtherFilesLemmas.{then_later, more_names, apart_front, apart_back}
 use Rattle.gos_lines.specs.Lines.{Word}
 use Rattle.gos_plan.specs.Seen.{SeenPlan}
-use Rattle.gos_link.specs.BuildFile.{IsFirstWrong}
 use Rattle.gos_link.specs.declared.build.Build.{Build}
-use Rattle.gos_link.specs.declared.fault.LinkFault.{LinkFault}
-use Rattle.gos_link.specs.declared.fault.LinkFault.TheVariants as faults
-use Rattle.gos_command.specs.Files.{IsReadWhole}
-use Rattle.gos_command.specs.Ends.{IsRealCause}
-use Rattle.gos_command.specs.Lines.{fault_line}
 use Rattle.gos_command.specs.declared.report.Report.{Report}
-use Rattle.gos_command.specs.declared.status.Cause.TheVariants.{Link}
 use Rattle.gos_command.specs.declared.status.Fault.{Fault}
 use Rattle.gos_command.proofs.EndLemmas.{of_some, of_some_both}
-use Rattle.gos_circuits.specs.Linked.{SaysBuild}
-use Rattle.gos_circuits.proofs.LinkLemmas.{form_fault}
+use Rattle.gos_circuits.specs.Plans.{IsBuildFault}
+use Rattle.gos_circuits.specs.Linked.{SaysBuild, IsFormCause}
 use Rattle.gos_build.specs.Objects.{objects_of, AllWritten}
 use Rattle.gos_build.specs.Built.{IsPlansBuilt, IsBuilt, RejectsPlans, RejectsInstances, RejectsBuild, IsPlansBuildCall, IsInstancesCall, IsBuildCall, IsPlansBuildCutShort, IsInstancesCutShort, IsBuildCutShort, written_by}
 use Rattle.gos_build.specs.Paced.{BuildKeepsPace, BuildHasImports, BuildIsTyped, BuildHasWeight, BuildIsSmall}
@@ -102,19 +95,8 @@ instances_cut_short old mid new own b same says short =
     of_some_both (λ files. SaysBuild files own b) (λ files. IsInstancesCutShort files new b) (λ files. IsBuildCutShort files new own) old
     (λ files said h. inr (b, said, h)) says (subst (λ (told : Option Files). IfSome told (λ files. IsInstancesCutShort files new b)) same short)
 
--- before that: the read failed, memory ran out, or the build file is rejected for its form
-pub read_call : (old new : Option Files) (own : Word) (fault : LastFault) → fault ≡ ReadFault own → new ≡ old → IfSome old (λ files. IsBuildCall files new own fault)
-read_call None new own fault is kept = tt
-read_call (Some files) new own fault is kept = inl (is, kept)
-
-pub nothing_written : (old new : Option Files) (own : Word) → new ≡ old → IfSome old (λ files. IsBuildCutShort files new own)
-nothing_written None new own kept = tt
-nothing_written (Some files) new own kept = inl kept
-
-pub form_rejected : (old new : Option Files) (own : Word) (read : List ℕ) (why : LinkFault) (fault : Fault) (line : List ℕ) → new ≡ old
-    → IfSome old (λ files. IsReadWhole 65536 read (bytes_at files own))
-    → (why ≢ faults.NoMemory → (n : ℕ) × (why ≡ faults.Form n) × IsFirstWrong read own n) → IsRealCause (Link why)
-    → fault ≡ record { file = own; cause = Link why } → line ≡ fault_line None fault → IfSome old (λ files. RejectsBuild files new own fault line)
-form_rejected None new own read why fault line kept whole first real is says = tt
-form_rejected (Some files) new own read why fault line kept whole first real is says =
-    inl (form_fault own read (bytes_at files own) why fault line whole first real is says, kept)
+-- before that: the build file is rejected for its form
+pub form_rejected : (old new : Option Files) (own : Word) (fault : Fault) (line : List ℕ) → new ≡ old
+    → IfSome old (λ files. IsBuildFault own (IsFormCause (bytes_at files own) own) fault line) → IfSome old (λ files. RejectsBuild files new own fault line)
+form_rejected None new own fault line kept wrong = tt
+form_rejected (Some files) new own fault line kept wrong = inl (wrong, kept)

@@ -15,16 +15,13 @@ ghost use Rattle.gos_build.specs.inner.Instances.{AreInstancesBuilt};
 
 use crate::compiling::compile_all;
 use crate::laws::paced_modules;
-use gos_circuits::link_plans;
-use gos_command::{Cause, Report, Stop, read_file, reject};
-use gos_link::{Build, read_build};
+use gos_circuits::{build_in, link_plans};
+use gos_command::{Report, Stop};
+use gos_link::Build;
 use gos_outside::Store;
 use gos_plan::Plan;
 use gos_simulate::simulate;
 use std::alloc::Global;
-
-/// The longest build file, in bytes.
-const BUILD_LIMIT: usize = 65_536;
 
 /// Builds what the build file `own` says: compiles the source of each instance and writes its object, links the plans, writes
 /// the netlist of a circuit of the whole and its Verilog text, and runs it under the pulse file and writes the trace.
@@ -50,11 +47,8 @@ pub fn build<S: Store>(alloc: Global, own: &[u8], store: &mut S) -> Result<Repor
     ensures others { KeepsUnnamed own.now (S.contents store.old) (S.contents store.new) }
 {
     paced_modules();
-    let text = read_file(alloc, store, own, BUILD_LIMIT)?;
-    match read_build(alloc, text.as_slice(), own) {
-        Ok(build) => build_instances(alloc, own, &build, store),
-        Err(fault) => Err(reject(alloc, own, Cause::Link(fault), None)),
-    }
+    let build = build_in(alloc, own, store)?;
+    build_instances(alloc, own, &build, store)
 }
 
 // Compiles the sources of the instances and writes their objects, and builds the circuit of their plans.

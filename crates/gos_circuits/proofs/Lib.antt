@@ -1,3 +1,4 @@
+pub mod ExitLemmas
 mod PortLemmas
 mod CircuitLemmas
 mod ObjectLemmas

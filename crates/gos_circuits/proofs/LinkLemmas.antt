@@ -1,5 +1,5 @@
 -- From the parts of the command `link` to what the whole leaves.
-use Rattle.std.proofs.Common.{◌≡◌, ◌≢◌, ◌≤◌, ◌<◌, ◌⊎◌, ◌∙◌, inl, inr, ℕ, zero, suc, List, [], ◌∷◌, Option, Some, None, length, ap, sym, subst, arith}
+use Rattle.std.proofs.Common.{◌≡◌, ◌≤◌, ◌∙◌, inl, inr, ℕ, List, [], ◌∷◌, Option, Some, None, length, ap, sym, subst}
 use Rattle.std.specs.Prelude.{IfSome}
 use Rattle.gos_outside.specs.Files.{Files, bytes_at, with_file, SameBut}
 use Rattle.gos_outside.specs.OtherFiles.{OthersSame}
@@ -10,47 +10,21 @@ use Rattle.gos_netlist.specs.Nets.{Netlist}
 use Rattle.gos_netlist.specs.NetText.{text_of}
 use Rattle.gos_plan.specs.Plans.{Plan}
 use Rattle.gos_plan.specs.Seen.{SeenPlan}
-use Rattle.gos_link.specs.BuildFile.{IsBuildFile, IsFirstWrong}
-use Rattle.gos_link.specs.Linked.{IsUnlinked}
+use Rattle.gos_link.specs.BuildFile.{IsBuildFile}
+use Rattle.gos_link.specs.Linked.{AllKeepLimits, IsLinkable, plans_of}
 use Rattle.gos_link.specs.declared.build.Build.{Build}
 use Rattle.gos_link.specs.declared.build.Instance.{Instance}
-use Rattle.gos_link.specs.declared.fault.LinkFault.{LinkFault}
-use Rattle.gos_link.specs.declared.fault.LinkFault.TheVariants as faults
 use Rattle.gos_verilog.specs.VerilogText.{IsVerilogOf}
 use Rattle.gos_command.specs.Files.{IsReadWhole}
-use Rattle.gos_command.specs.Ends.{IsRealCause}
-use Rattle.gos_command.specs.Lines.{fault_line}
 use Rattle.gos_command.specs.declared.report.Report.{Report}
-use Rattle.gos_command.specs.declared.status.Cause.{Cause}
-use Rattle.gos_command.specs.declared.status.Cause.TheVariants.{Link}
 use Rattle.gos_command.specs.declared.status.Fault.{Fault}
 use Rattle.gos_command.proofs.EndLemmas.{of_some, of_some_both}
 use Rattle.gos_circuits.specs.Circuit.{IsCircuitOf}
 use Rattle.gos_circuits.specs.Paced.{LinkedCircuitsKeepPace}
 use Rattle.gos_circuits.specs.Objects.{HoldPlans}
 use Rattle.gos_circuits.specs.Plans.{with_net, IsWritten, IsPlansDone, IsPlansCause, IsBuildFault, IsWriteCall, IsPlansCall, IsWriteCutShort, IsPlansCutShort}
-use Rattle.gos_circuits.specs.Linked.{SaysBuild, IsLinkDone, IsFormCause, RejectsWhole, RejectsLink, IsWholeCall, IsWholeCutShort}
+use Rattle.gos_circuits.specs.Linked.{SaysBuild, IsLinkDone, RejectsWhole, RejectsLink, IsWholeCall, IsWholeCutShort}
 use Rattle.gos_circuits.specs.inner.Wholes.{IsWholeDone}
-
--- a number is at most another one, or above it
-at_most_or_above : (n m : ℕ) → (n ≤ m) ⊎ (m < n)
-at_most_or_above zero m = inl (omega arith)
-at_most_or_above (suc n) zero = inr (omega arith)
-at_most_or_above (suc n) (suc m) = step (at_most_or_above n m)
-  where
-    step : ((n ≤ m) ⊎ (m < n)) → (suc n ≤ suc m) ⊎ (suc m < suc n)
-    step (inl h) = inl (omega (arith, h))
-    step (inr h) = inr (omega (arith, h))
-
--- the first wrong line of the bytes that were read is that of the file
-pub wrong_file : (own : Word) (read file : List ℕ) (line : ℕ) → IsReadWhole 65536 read file → IsFirstWrong read own line → IsFirstWrong file own line
-wrong_file own read file line whole (inl long) = by (at_most_or_above (length file) 65536)
-  where
-    by : ((length file ≤ 65536) ⊎ (65536 < length file)) → IsFirstWrong file own line
-    by (inl short) = let same = whole.short short in subst (λ (text : List ℕ). IsFirstWrong text own line) same (inl long)
-    by (inr above) = inl (above, long.1)
-wrong_file own read file line whole (inr (inl wrong)) = subst (λ (text : List ℕ). IsFirstWrong text own line) (whole.whole wrong.0) (inr (inl wrong))
-wrong_file own read file line whole (inr (inr missing)) = subst (λ (text : List ℕ). IsFirstWrong text own line) (whole.whole missing.0) (inr (inr missing))
 
 -- the build file says what was read
 pub says_build : (told : Option Files) (own : Word) (read : List ℕ) (b : Build) → IfSome told (λ files. IsReadWhole 65536 read (bytes_at files own))
@@ -59,28 +33,6 @@ says_build told own read b whole is =
     of_some (λ files. IsReadWhole 65536 read (bytes_at files own)) (λ files. SaysBuild files own b) told
     (λ files h. subst (λ (text : List ℕ). IsBuildFile text own b) (h.whole is.short) is) whole
 
--- the build file is rejected for its form
-pub form_fault : (own : Word) (read file : List ℕ) (why : LinkFault) (fault : Fault) (line : List ℕ) → IsReadWhole 65536 read file
-    → (why ≢ faults.NoMemory → (n : ℕ) × (why ≡ faults.Form n) × IsFirstWrong read own n) → IsRealCause (Link why)
-    → fault ≡ record { file = own; cause = Link why } → line ≡ fault_line None fault → IsBuildFault own (IsFormCause file own) fault line
-form_fault own read file why fault line whole first real is says =
-    record {
-      file = ap (λ (f : Fault). f.file) is;
-      cause =
-          let one = first real in
-          let cause : fault.cause ≡ Link (faults.Form one.0) = ap (λ (f : Fault). f.cause) is ∙ ap Link one.1 in
-          subst (λ (c : Cause). IsFormCause file own c) (sym cause) (wrong_file own read file one.0 whole one.2);
-      says = says;
-    }
-
-pub wrong_form : (told : Option Files) (own : Word) (read : List ℕ) (why : LinkFault) (fault : Fault) (line : List ℕ)
-    → IfSome told (λ files. IsReadWhole 65536 read (bytes_at files own))
-    → (why ≢ faults.NoMemory → (n : ℕ) × (why ≡ faults.Form n) × IsFirstWrong read own n) → IsRealCause (Link why)
-    → fault ≡ record { file = own; cause = Link why } → line ≡ fault_line None fault → IfSome told (λ files. RejectsLink files own fault line)
-wrong_form told own read why fault line whole first real is says =
-    of_some (λ files. IsReadWhole 65536 read (bytes_at files own)) (λ files. RejectsLink files own fault line) told
-    (λ files h. inl (form_fault own read (bytes_at files own) why fault line h first real is says)) whole
-
 -- a rejection once the build file is read
 pub rejected_later : (old mid : Option Files) (own : Word) (b : Build) (fault : Fault) (line : List ℕ) → mid ≡ old → IfSome old (λ files. SaysBuild files own b)
     → IfSome mid (λ files. RejectsWhole files own b fault line) → IfSome old (λ files. RejectsLink files own fault line)
@@ -88,18 +40,7 @@ rejected_later old mid own b fault line same says wrong =
     of_some_both (λ files. SaysBuild files own b) (λ files. RejectsWhole files own b fault line) (λ files. RejectsLink files own fault line) old
     (λ files said h. inr (b, said, h)) says (subst (λ (told : Option Files). IfSome told (λ files. RejectsWhole files own b fault line)) same wrong)
 
--- plans that can't be linked
-pub unlinked : (own : Word) (b : Build) (plans : List SeenPlan) (why : LinkFault) (fault : Fault) (line : List ℕ)
-    → (why ≢ faults.NoMemory → IsUnlinked b plans why) → IsRealCause (Link why)
-    → fault ≡ record { file = own; cause = Link why } → line ≡ fault_line None fault → IsBuildFault own (IsPlansCause b plans) fault line
-unlinked own b plans why fault line first real is says =
-    record {
-      file = ap (λ (f : Fault). f.file) is;
-      cause = subst (IsPlansCause b plans) (sym (ap (λ (f : Fault). f.cause) is)) (real, first real);
-      says = says;
-    }
-
--- and those that the object files hold
+-- plans that the object files hold can't be linked
 pub rejected_plans : (old : Option Files) (own : Word) (b : Build) (plans : List SeenPlan) (fault : Fault) (line : List ℕ)
     → IfSome old (λ files. HoldPlans files b.instances.items plans) → IsBuildFault own (IsPlansCause b plans) fault line
     → IfSome old (λ files. RejectsWhole files own b fault line)
@@ -113,6 +54,17 @@ pub held_as : (old : Option Files) (is js : List Instance) (ps plans : List Seen
 held_as old is js ps plans same linked held =
     subst (λ (qs : List SeenPlan). IfSome old (λ files. HoldPlans files js qs)) (sym linked)
     (subst (λ (ks : List Instance). IfSome old (λ files. HoldPlans files ks ps)) same held)
+
+-- plans that were made one for each instance can be linked
+pub linkable : (b : Build) (is : List Instance) (ps plans : List SeenPlan) → is ≡ b.instances.items → plans ≡ ps → length ps ≡ length is
+    → AllKeepLimits (plans_of ps) → length b.instances.items ≤ 65536 → length b.binds.items ≤ 65536 → IsLinkable b plans
+linkable b is ps plans same linked each limits few_instances few_binds =
+    record {
+      each = ap (λ (qs : List SeenPlan). length qs) linked ∙ (each ∙ ap (λ (js : List Instance). length js) same);
+      limits = subst (λ (qs : List SeenPlan). AllKeepLimits (plans_of qs)) (sym linked) limits;
+      few_instances = few_instances;
+      few_binds = few_binds;
+    }
 
 -- the whole was written
 pub whole_done : LinkedCircuitsKeepPace → (old mid new : Option Files) (b : Build) (plans : List SeenPlan) (weight : ℕ) (net : Netlist) (report : Report)
@@ -156,37 +108,42 @@ link_done old mid new own b report same says done =
       tells = here.tells;
     }
 
--- the files with the netlist of a circuit written
-written_net : (old mid : Option Files) (b : Build) (net : Netlist) (text : List ℕ) → text ≡ text_of net → mid ≡ with_file b.net text old → mid ≡ with_net old b net
-written_net old mid b net text printed written = written ∙ ap (λ (t : List ℕ). with_file b.net t old) printed
+-- the netlist of a circuit was written, in these words
+pub net_written : (old mid : Option Files) (b : Build) (net given : Netlist) (name : Word) (text printed : List ℕ)
+    → given ≡ net → printed ≡ text_of given → text ≡ printed → name ≡ b.net → mid ≡ with_file name text old → mid ≡ with_net old b net
+net_written old mid b net given name text printed same is read named written =
+    let all : text ≡ text_of net = read ∙ is ∙ ap text_of same in written ∙ (λ i. with_file (named i) (all i) old)
 
-pub is_written : (old mid new : Option Files) (b : Build) (whole : Plan) (net : Netlist) (text verilog : List ℕ)
-    → IsCircuitOf b.root whole net → text ≡ text_of net → mid ≡ with_file b.net text old → IsVerilogOf net verilog → new ≡ with_file b.verilog verilog mid
+-- and then its Verilog text, or this write failed, or memory ran out
+pub is_written : (old mid new : Option Files) (b : Build) (whole : Plan) (net : Netlist) (name : Word) (text verilog : List ℕ)
+    → IsCircuitOf b.root whole net → mid ≡ with_net old b net → IsVerilogOf net verilog → text ≡ verilog → name ≡ b.verilog → new ≡ with_file name text mid
     → IsWritten old new b whole net
-is_written old mid new b whole net text verilog circuit printed written is wrote =
-    record {
-      verilog = verilog;
-      circuit = circuit;
-      text = is;
-      wrote = wrote ∙ ap (λ (told : Option Files). with_file b.verilog verilog told) (written_net old mid b net text printed written);
-    }
+is_written old mid new b whole net name text verilog circuit written is read named wrote =
+    record { verilog = verilog; circuit = circuit; text = is; wrote = wrote ∙ (λ i. with_file (named i) (read i) (written i)) }
 
--- the netlist was written, and then the write of its Verilog text failed, or memory ran out
-pub verilog_call : (old mid new : Option Files) (b : Build) (whole : Plan) (net : Netlist) (text : List ℕ) (fault : LastFault)
-    → IsCircuitOf b.root whole net → text ≡ text_of net → mid ≡ with_file b.net text old → fault ≡ WriteFault b.verilog → SameBut b.verilog mid new
+pub verilog_call : (old mid new : Option Files) (b : Build) (whole : Plan) (net : Netlist) (name : Word) (fault : LastFault)
+    → IsCircuitOf b.root whole net → mid ≡ with_net old b net → name ≡ b.verilog → fault ≡ WriteFault name → SameBut name mid new
     → IsWriteCall old new b whole fault
-verilog_call old mid new b whole net text fault circuit printed written is same =
-    inr (net, circuit, is, subst (λ (told : Option Files). SameBut b.verilog told new) (written_net old mid b net text printed written) same)
+verilog_call old mid new b whole net name fault circuit written named is same =
+    inr (
+      net,
+      circuit,
+      subst (λ (n : Word). fault ≡ WriteFault n) named is,
+      subst (λ (told : Option Files). SameBut b.verilog told new) written (subst (λ (n : Word). SameBut n mid new) named same),
+    )
 
-pub has_net : (old mid new : Option Files) (b : Build) (whole : Plan) (net : Netlist) (text : List ℕ)
-    → IsCircuitOf b.root whole net → text ≡ text_of net → mid ≡ with_file b.net text old → new ≡ mid → IsWriteCutShort old new b whole
-has_net old mid new b whole net text circuit printed written kept = inr (net, circuit, kept ∙ written_net old mid b net text printed written)
+pub has_net : (old mid new : Option Files) (b : Build) (whole : Plan) (net : Netlist)
+    → IsCircuitOf b.root whole net → mid ≡ with_net old b net → new ≡ mid → IsWriteCutShort old new b whole
+has_net old mid new b whole net circuit written kept = inr (net, circuit, kept ∙ written)
 
 -- what the writes leave as it was: that of the netlist, and then that of its Verilog text
-pub net_file : (net verilog : Word) (old mid : Option Files) → SameBut net old mid → OthersSame (net ∷ verilog ∷ []) old mid
-net_file net verilog old mid first =
-    one_more net (net ∷ verilog ∷ []) old old mid (λ other apart. apart.0) (none_yet (net ∷ verilog ∷ []) old) first
+pub net_file : (b : Build) (name : Word) (old mid : Option Files) → name ≡ b.net → SameBut name old mid → OthersSame (b.net ∷ b.verilog ∷ []) old mid
+net_file b name old mid named first =
+    one_more b.net (b.net ∷ b.verilog ∷ []) old old mid (λ other apart. apart.0) (none_yet (b.net ∷ b.verilog ∷ []) old)
+    (subst (λ (n : Word). SameBut n old mid) named first)
 
-pub circuit_files : (net verilog : Word) (old mid new : Option Files) → SameBut net old mid → SameBut verilog mid new → OthersSame (net ∷ verilog ∷ []) old new
-circuit_files net verilog old mid new first second =
-    one_more verilog (net ∷ verilog ∷ []) old mid new (λ other apart. apart.1.0) (net_file net verilog old mid first) second
+pub circuit_files : (b : Build) (name other : Word) (old mid new : Option Files) → name ≡ b.net → other ≡ b.verilog → SameBut name old mid → SameBut other mid new
+    → OthersSame (b.net ∷ b.verilog ∷ []) old new
+circuit_files b name other old mid new named called first second =
+    one_more b.verilog (b.net ∷ b.verilog ∷ []) old mid new (λ other apart. apart.1.0) (net_file b name old mid named first)
+    (subst (λ (n : Word). SameBut n mid new) called second)

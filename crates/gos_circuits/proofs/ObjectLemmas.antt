@@ -4,14 +4,13 @@ use Rattle.std.specs.Prelude.{IfSome}
 use Rattle.std.proofs.lemmas.List.{append-nil, append_assoc}
 use Rattle.std.proofs.Math.Seq.{drop-cons}
 use Rattle.gos_outside.specs.Files.{Files, bytes_at}
-use Rattle.gos_outside.specs.Faults.{LastFault, ReadFault}
 use Rattle.gos_lines.specs.Lines.{Word}
 use Rattle.gos_plan.specs.Seen.{SeenPlan, plan_of}
 use Rattle.gos_plan.specs.ObjectFaults.{IsRead}
 use Rattle.gos_link.specs.declared.build.Instance.{Instance}
 use Rattle.gos_command.specs.declared.status.Fault.{Fault}
 use Rattle.gos_command.proofs.EndLemmas.{of_some, of_some_both}
-use Rattle.gos_circuits.specs.Objects.{HoldsPlan, HoldPlans, IsObjectFault, RejectsObject, IsObjectCall}
+use Rattle.gos_circuits.specs.Objects.{HoldsPlan, HoldPlans, IsObjectFault, RejectsObject}
 use Rattle.gos_circuits.specs.inner.Reading.{AreReadBefore}
 
 -- the next instance
@@ -33,10 +32,6 @@ same_rejected old mid i name fault line same is wrong =
     subst (λ (n : Word). IfSome old (λ files. IsObjectFault files n fault line)) is
     (subst (λ (told : Option Files). IfSome told (λ files. IsObjectFault files name fault line)) same wrong)
 
--- before the first
-pub none_read : (old : Option Files) (all : List Instance) → AreReadBefore old all all []
-none_read old all = record { held = λ more h. h; rejected = λ fault line h. h; call = λ fault h. h }
-
 -- one more
 pub one_read : (old : Option Files) (all rest : List Instance) (i : Instance) (plans : List SeenPlan) (p : SeenPlan)
     → AreReadBefore old all (i ∷ rest) plans → IfSome old (λ files. HoldsPlan files i p) → AreReadBefore old all rest (plans ++ p ∷ [])
@@ -52,16 +47,12 @@ one_read old all rest i plans p before holds =
       call = λ fault h. before.call fault (inr (p, holds, h));
     }
 
--- the next is rejected, or its read fails
+-- the next is rejected
 pub next_rejected : (old : Option Files) (all rest : List Instance) (i : Instance) (plans : List SeenPlan) (fault : Fault) (line : List ℕ)
     → AreReadBefore old all (i ∷ rest) plans → IfSome old (λ files. IsObjectFault files i.object fault line) → IfSome old (λ files. RejectsObject files all fault line)
 next_rejected old all rest i plans fault line before wrong =
     before.rejected fault line
     (of_some (λ files. IsObjectFault files i.object fault line) (λ files. RejectsObject files (i ∷ rest) fault line) old (λ files h. inl h) wrong)
-
-pub next_call : (old : Option Files) (all rest : List Instance) (i : Instance) (plans : List SeenPlan) (fault : LastFault)
-    → AreReadBefore old all (i ∷ rest) plans → fault ≡ ReadFault i.object → IsObjectCall old all fault
-next_call old all rest i plans fault before is = before.call fault (inl is)
 
 -- all
 pub all_read : (old : Option Files) (all : List Instance) (plans : List SeenPlan) → AreReadBefore old all [] plans → IfSome old (λ files. HoldPlans files all plans)

@@ -9,16 +9,14 @@ ghost use Rattle.gos_circuits.specs.Linked.{IsLinkDone, RejectsWhole, RejectsLin
 ghost use Rattle.gos_circuits.specs.Linked.{IsWholeCall, IsLinkCall, IsWholeCutShort, IsLinkCutShort, KeepsUnnamed};
 ghost use Rattle.gos_circuits.specs.inner.Wholes.{IsWholeDone};
 
+use crate::build_file::build_in;
 use crate::laws::paced_circuits;
 use crate::objects::plans_in;
 use crate::plans::link_plans;
-use gos_command::{Cause, Report, Stop, read_file, reject};
-use gos_link::{Build, read_build};
+use gos_command::{Report, Stop};
+use gos_link::Build;
 use gos_outside::Store;
 use std::alloc::Global;
-
-/// The longest build file, in bytes.
-const BUILD_LIMIT: usize = 65_536;
 
 /// Reads the build file `own` and the object files of its instances, links their plans, and writes the netlist of a circuit
 /// of the whole and its Verilog text.
@@ -42,11 +40,8 @@ pub fn link_build<S: Store>(alloc: Global, own: &[u8], store: &mut S) -> Result<
     ensures never_falls { S.faults store.old ≤ S.faults store.new }
     ensures others { KeepsUnnamed own.now (S.contents store.old) (S.contents store.new) }
 {
-    let text = read_file(alloc, store, own, BUILD_LIMIT)?;
-    match read_build(alloc, text.as_slice(), own) {
-        Ok(build) => link_objects(alloc, own, &build, store),
-        Err(fault) => Err(reject(alloc, own, Cause::Link(fault), None)),
-    }
+    let build = build_in(alloc, own, store)?;
+    link_objects(alloc, own, &build, store)
 }
 
 // Reads the object files, links their plans, and writes the circuit of the whole.

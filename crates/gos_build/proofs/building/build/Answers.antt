@@ -1,67 +1,63 @@
-use Rattle.std.proofs.Common.{ℕ, List, Option, inr, sym, subst}
+use Rattle.std.proofs.Common.{Option, inr, subst}
 use Rattle.std.specs.Prelude.{IfSome}
-use Rattle.gos_outside.specs.Files.{Files, bytes_at}
+use Rattle.gos_outside.specs.Files.{Files}
 use Rattle.gos_outside.specs.OtherFiles.{OthersSame}
-use Rattle.gos_command.specs.Files.{IsReadWhole}
 use Rattle.gos_command.specs.declared.report.Report.{Report}
-use Rattle.gos_command.proofs.EndLemmas.{of_some, of_result, of_stop}
-use Rattle.gos_circuits.specs.Linked.{SaysBuild}
-use Rattle.gos_circuits.proofs.LinkLemmas.{says_build}
+use Rattle.gos_command.proofs.EndLemmas.{of_result, of_stop, of_stopped}
+use Rattle.gos_circuits.proofs.ExitLemmas.{err_is}
 use Rattle.gos_build.specs.Built.{IsBuilt, RejectsInstances, RejectsBuild, written_by}
 use Rattle.gos_build.specs.inner.Instances.{AreInstancesBuilt}
 use Rattle.gos_build.proofs.ApartLemmas.{sources_apart}
-use Rattle.gos_build.proofs.BuildLemmas.{built, instances_rejected, instances_call, instances_cut_short}
-use Rattle.gos_build.proofs.building.build.Given.{Over}
+use Rattle.gos_build.proofs.BuildLemmas.{built, instances_rejected, instances_call, instances_cut_short, form_rejected}
 use Rattle.gos_build.proofs.building.build.Goals as goal
 
--- the build file says what was read
-said_by : (g : Over) (c : goal.After-drop-text g) → IfSome (g.S.Store.contents c.args.store.now) (λ files. SaysBuild files c.args.own.now c.in-Ok.build)
-said_by g c =
+pub returns-in_err-build-clause-rejected : goal.returns-in_err-build-clause-rejected
+returns-in_err-build-clause-rejected g c =
     let old = g.S.Store.contents c.args.store.now in
+    let new = g.S.Store.contents c.build_in.new.store in
     let own = c.args.own.now in
-    says_build old own c.as_slice.result.now c.in-Ok.build
-    (of_some (λ files. IsReadWhole 65536 c.in_ok-text.text.items (bytes_at files own)) (λ files. IsReadWhole 65536 c.as_slice.result.now (bytes_at files own)) old
-    (λ files h. subst (λ (text : List ℕ). IsReadWhole 65536 text (bytes_at files own)) (sym c.as_slice.ensures.value) h) c.in_ok-text.ensures.read)
-    c.in-Ok.ensures.read
+    rw (err_is _ c.from_residual.ensures.1)
+    (of_stopped _ (λ fault line. IfSome old (λ files. RejectsBuild files new own fault line)) c.in_err-build.field-0.0
+    (λ fault line h. form_rejected old new own fault line c.in_err-build.ensures.same_files h) c.in_err-build.ensures.rejected)
 
-pub returns-in-Ok-clause-done : goal.returns-in-Ok-clause-done
-returns-in-Ok-clause-done g c =
+pub returns-clause-done : goal.returns-clause-done
+returns-clause-done g c =
     let old = g.S.Store.contents c.args.store.now in
-    let mid = g.S.Store.contents c.read_file.new.store in
+    let mid = g.S.Store.contents c.build_in.new.store in
     let new = g.S.Store.contents c.build_instances.new.store in
     let own = c.args.own.now in
-    let b = c.in-Ok.build in
+    let b = c.in_ok-build.build in
     of_result (λ (report : Report). IfSome mid (λ files. AreInstancesBuilt files new b report)) (λ (report : Report). IfSome old (λ files. IsBuilt files new own report))
     c.build_instances.result
     (λ report h. built c.paced_modules.ensures.linked c.paced_modules.ensures.imports c.paced_modules.ensures.typed c.paced_modules.ensures.weight c.paced_modules.ensures.small
-    old mid new own b report c.in_ok-text.ensures.same_files (said_by g c) h) c.build_instances.ensures.done
+    old mid new own b report c.in_ok-build.ensures.same_files c.in_ok-build.ensures.says h) c.build_instances.ensures.done
 
-pub returns-in-Ok-clause-rejected : goal.returns-in-Ok-clause-rejected
-returns-in-Ok-clause-rejected g c =
+pub returns-clause-rejected : goal.returns-clause-rejected
+returns-clause-rejected g c =
     let old = g.S.Store.contents c.args.store.now in
-    let mid = g.S.Store.contents c.read_file.new.store in
+    let mid = g.S.Store.contents c.build_in.new.store in
     let new = g.S.Store.contents c.build_instances.new.store in
     let own = c.args.own.now in
-    let b = c.in-Ok.build in
+    let b = c.in_ok-build.build in
     of_stop (λ fault line. IfSome mid (λ files. RejectsInstances files new own b fault line)) (λ fault line. IfSome old (λ files. RejectsBuild files new own fault line))
     c.build_instances.result
-    (λ fault line h. instances_rejected old mid new own b fault line c.in_ok-text.ensures.same_files (said_by g c) h) c.build_instances.ensures.rejected
+    (λ fault line h. instances_rejected old mid new own b fault line c.in_ok-build.ensures.same_files c.in_ok-build.ensures.says h) c.build_instances.ensures.rejected
 
-pub returns-in-Ok-clause-failed_call : goal.returns-in-Ok-clause-failed_call
-returns-in-Ok-clause-failed_call g c = λ failed.
-    instances_call (g.S.Store.contents c.args.store.now) (g.S.Store.contents c.read_file.new.store) (g.S.Store.contents c.build_instances.new.store) c.args.own.now
-    c.in-Ok.build (g.S.Store.last_fault c.build_instances.new.store) c.in_ok-text.ensures.same_files (said_by g c) (c.build_instances.ensures.failed_call failed)
+pub returns-clause-failed_call : goal.returns-clause-failed_call
+returns-clause-failed_call g c = λ failed.
+    instances_call (g.S.Store.contents c.args.store.now) (g.S.Store.contents c.build_in.new.store) (g.S.Store.contents c.build_instances.new.store) c.args.own.now
+    c.in_ok-build.build (g.S.Store.last_fault c.build_instances.new.store) c.in_ok-build.ensures.same_files c.in_ok-build.ensures.says (c.build_instances.ensures.failed_call failed)
 
-pub returns-in-Ok-clause-memory_files : goal.returns-in-Ok-clause-memory_files
-returns-in-Ok-clause-memory_files g c = λ failed.
-    instances_cut_short (g.S.Store.contents c.args.store.now) (g.S.Store.contents c.read_file.new.store) (g.S.Store.contents c.build_instances.new.store) c.args.own.now
-    c.in-Ok.build c.in_ok-text.ensures.same_files (said_by g c) (c.build_instances.ensures.memory_files failed)
+pub returns-clause-memory_files : goal.returns-clause-memory_files
+returns-clause-memory_files g c = λ failed.
+    instances_cut_short (g.S.Store.contents c.args.store.now) (g.S.Store.contents c.build_in.new.store) (g.S.Store.contents c.build_instances.new.store) c.args.own.now
+    c.in_ok-build.build c.in_ok-build.ensures.same_files c.in_ok-build.ensures.says (c.build_instances.ensures.memory_files failed)
 
-pub returns-in-Ok-clause-others : goal.returns-in-Ok-clause-others
-returns-in-Ok-clause-others g c =
+pub returns-clause-others : goal.returns-clause-others
+returns-clause-others g c =
     let new = g.S.Store.contents c.build_instances.new.store in
-    let b = c.in-Ok.build in
-    inr (b, said_by g c, subst (λ (told : Option Files). OthersSame (written_by b) told new) c.in_ok-text.ensures.same_files c.build_instances.ensures.others)
+    let b = c.in_ok-build.build in
+    inr (b, c.in_ok-build.ensures.says, subst (λ (told : Option Files). OthersSame (written_by b) told new) c.in_ok-build.ensures.same_files c.build_instances.ensures.others)
 
 pub build_instances-requires-clause-apart : goal.build_instances-requires-clause-apart
-build_instances-requires-clause-apart g c = sources_apart _ _ _ c.in-Ok.ensures.read
+build_instances-requires-clause-apart g c = sources_apart _ _ _ c.in_ok-build.ensures.read.1

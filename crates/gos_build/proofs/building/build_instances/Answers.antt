@@ -1,13 +1,12 @@
-use Rattle.std.proofs.Common.{◌≡◌, ◌∙◌, List, Err, inl, length, ap, sym, subst}
+use Rattle.std.proofs.Common.{List, inl, sym, subst}
 use Rattle.std.specs.Prelude.{IfSome}
-use Rattle.std.proofs.lemmas.Result.{err_from_is_err_and}
 use Rattle.gos_outside.specs.OtherFiles.{OthersSame}
 use Rattle.gos_plan.specs.Seen.{SeenPlan}
 use Rattle.gos_link.specs.declared.build.Instance.{Instance}
-use Rattle.gos_link.specs.Linked.{AllKeepLimits, plans_of}
 use Rattle.gos_command.specs.declared.report.Report.{Report}
-use Rattle.gos_command.specs.declared.stop.Stop.TheVariants.{StoreFailed, NoMemory}
 use Rattle.gos_command.proofs.EndLemmas.{of_some, of_result, of_stop, of_stopped}
+use Rattle.gos_circuits.proofs.ExitLemmas.{err_is, failed_as}
+use Rattle.gos_circuits.proofs.LinkLemmas.{linkable}
 use Rattle.gos_build.specs.Objects.{AllWritten, SomeWritten, RejectsModule, IsModuleCall, objects_of}
 use Rattle.gos_build.specs.Built.{IsPlansBuilt, RejectsPlans, RejectsInstances, IsInstancesCall, IsInstancesCutShort}
 use Rattle.gos_build.specs.inner.Compiling.{AreApart}
@@ -71,35 +70,28 @@ returns-in_err-plans-clause-rejected g c =
     let new = g.S.Store.contents c.compile_all.new.store in
     let own = c.args.own.now in
     let b = c.args.build.now in
-    let p = err_from_is_err_and c.from_residual.result c.from_residual.ensures.1 in
-    rw (p.1, p.2)
+    rw (err_is _ c.from_residual.ensures.1)
     (of_stopped _ (λ fault line. IfSome old (λ files. RejectsInstances files new own b fault line)) c.in_err-plans.field-0.0
     (λ fault line h. of_some (λ files. RejectsModule files new b.instances.items fault line) (λ files. RejectsInstances files new own b fault line) old (λ files wrong. inl wrong)
     (subst (λ (is : List Instance). IfSome old (λ files. RejectsModule files new is fault line)) c.as_slice.ensures.value h))
     c.in_err-plans.ensures.rejected)
 
 pub returns-in_err-plans-clause-failed_call : goal.returns-in_err-plans-clause-failed_call
-returns-in_err-plans-clause-failed_call g c =
+returns-in_err-plans-clause-failed_call g c = λ failed.
     let old = g.S.Store.contents c.args.store.now in
     let new = g.S.Store.contents c.compile_all.new.store in
     let b = c.args.build.now in
     let fault = g.S.Store.last_fault c.compile_all.new.store in
-    let p = err_from_is_err_and c.from_residual.result c.from_residual.ensures.1 in
-    rw (p.1, p.2)
-    (λ failed. let at : c.in_err-plans.field-0.0 ≡ StoreFailed = cc in
     of_some (λ files. IsModuleCall files new b.instances.items fault) (λ files. IsInstancesCall files new b fault) old (λ files call. inl call)
-    (subst (λ (is : List Instance). IfSome old (λ files. IsModuleCall files new is fault)) c.as_slice.ensures.value (c.in_err-plans.ensures.failed_call (ap Err at))))
+    (subst (λ (is : List Instance). IfSome old (λ files. IsModuleCall files new is fault)) c.as_slice.ensures.value (c.in_err-plans.ensures.failed_call (failed_as _ c.from_residual.ensures.1 failed)))
 
 pub returns-in_err-plans-clause-memory_files : goal.returns-in_err-plans-clause-memory_files
-returns-in_err-plans-clause-memory_files g c =
+returns-in_err-plans-clause-memory_files g c = λ failed.
     let old = g.S.Store.contents c.args.store.now in
     let new = g.S.Store.contents c.compile_all.new.store in
     let b = c.args.build.now in
-    let p = err_from_is_err_and c.from_residual.result c.from_residual.ensures.1 in
-    rw (p.1, p.2)
-    (λ failed. let at : c.in_err-plans.field-0.0 ≡ NoMemory = cc in
     of_some (λ files. SomeWritten files new b.instances.items) (λ files. IsInstancesCutShort files new b) old (λ files some. inl some)
-    (subst (λ (is : List Instance). IfSome old (λ files. SomeWritten files new is)) c.as_slice.ensures.value (c.in_err-plans.ensures.memory_files (ap Err at))))
+    (subst (λ (is : List Instance). IfSome old (λ files. SomeWritten files new is)) c.as_slice.ensures.value (c.in_err-plans.ensures.memory_files (failed_as _ c.from_residual.ensures.1 failed)))
 
 pub returns-in_err-plans-clause-others : goal.returns-in_err-plans-clause-others
 returns-in_err-plans-clause-others g c =
@@ -113,10 +105,5 @@ compile_all-requires g c = subst AreApart (sym c.as_slice.ensures.value) c.requi
 
 pub build_plans-requires-clause-plans : goal.build_plans-requires-clause-plans
 build_plans-requires-clause-plans g c =
-    let plans : c.as_slice-2.result.now ≡ c.in_ok-plans.plans.items = c.as_slice-2.ensures.value in
-    record {
-      each = ap (λ (ps : List SeenPlan). length ps) plans ∙ (c.in_ok-plans.ensures.each ∙ ap (λ (is : List Instance). length is) c.as_slice.ensures.value);
-      limits = subst (λ (ps : List SeenPlan). AllKeepLimits (plans_of ps)) (sym plans) c.in_ok-plans.ensures.limits;
-      few_instances = c.requires.few_instances;
-      few_binds = c.requires.few_binds;
-    }
+    linkable c.args.build.now _ _ _ c.as_slice.ensures.value c.as_slice-2.ensures.value c.in_ok-plans.ensures.each c.in_ok-plans.ensures.limits
+    c.requires.few_instances c.requires.few_binds

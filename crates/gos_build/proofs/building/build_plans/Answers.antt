@@ -1,7 +1,6 @@
-use Rattle.std.proofs.Common.{◌≡◌, Err, inl, refl, ap}
-use Rattle.std.proofs.lemmas.Result.{err_from_is_err_and}
-use Rattle.gos_command.specs.declared.stop.Stop.TheVariants.{StoreFailed, NoMemory}
+use Rattle.std.proofs.Common.{inl, refl}
 use Rattle.gos_command.proofs.EndLemmas.{of_stopped_both}
+use Rattle.gos_circuits.proofs.ExitLemmas.{err_is, failed_as}
 use Rattle.gos_build.specs.Built.{RejectsPlans}
 use Rattle.gos_build.proofs.PlansLemmas.{plans_built, rejects_pulses, simulation_call, has_circuit, no_trace, with_trace}
 use Rattle.gos_build.proofs.building.build_plans.Goals as goal
@@ -16,20 +15,15 @@ pub returns-in_err-linked-clause-rejected : goal.returns-in_err-linked-clause-re
 returns-in_err-linked-clause-rejected g c =
     let old = g.S.Store.contents c.args.store.now in
     let new = g.S.Store.contents c.link_plans.new.store in
-    let p = err_from_is_err_and c.from_residual.result c.from_residual.ensures.1 in
-    rw (p.1, p.2)
+    rw (err_is _ c.from_residual.ensures.1)
     (of_stopped_both _ _ (RejectsPlans old new c.args.own.now c.args.build.now c.args.plans.now) c.in_err-linked.field-0.0
     (λ fault line why kept. inl (why, kept)) c.in_err-linked.ensures.rejected c.in_err-linked.ensures.rejected_files)
 
 pub returns-in_err-linked-clause-failed_call : goal.returns-in_err-linked-clause-failed_call
-returns-in_err-linked-clause-failed_call g c =
-    let p = err_from_is_err_and c.from_residual.result c.from_residual.ensures.1 in
-    rw (p.1, p.2) (λ failed. let at : c.in_err-linked.field-0.0 ≡ StoreFailed = cc in inl (c.in_err-linked.ensures.failed_call (ap Err at)))
+returns-in_err-linked-clause-failed_call g c = λ failed. inl (c.in_err-linked.ensures.failed_call (failed_as _ c.from_residual.ensures.1 failed))
 
 pub returns-in_err-linked-clause-memory_files : goal.returns-in_err-linked-clause-memory_files
-returns-in_err-linked-clause-memory_files g c =
-    let p = err_from_is_err_and c.from_residual.result c.from_residual.ensures.1 in
-    rw (p.1, p.2) (λ failed. let at : c.in_err-linked.field-0.0 ≡ NoMemory = cc in inl (c.in_err-linked.ensures.memory_files (ap Err at)))
+returns-in_err-linked-clause-memory_files g c = λ failed. inl (c.in_err-linked.ensures.memory_files (failed_as _ c.from_residual.ensures.1 failed))
 
 pub returns-in_err-linked-clause-others : goal.returns-in_err-linked-clause-others
 returns-in_err-linked-clause-others g c =
@@ -42,31 +36,24 @@ returns-in_err-counts-clause-rejected g c =
     let mid = g.S.Store.contents c.link_plans.new.store in
     let new = g.S.Store.contents c.simulate.new.store in
     let linked = c.in_ok-linked.linked in
-    let p = err_from_is_err_and c.from_residual-in_err-counts.result c.from_residual-in_err-counts.ensures.1 in
-    rw (p.1, p.2)
+    rw (err_is _ c.from_residual-in_err-counts.ensures.1)
     (of_stopped_both _ _ (RejectsPlans old new c.args.own.now c.args.build.now c.args.plans.now) c.in_err-counts.field-0.0
     (λ fault line why kept. rejects_pulses old mid new c.args.own.now c.args.build.now c.args.plans.now linked.weight linked.net c.bytes.result.now fault line
     c.bytes.ensures.bytes c.in_ok-linked.ensures.done kept why)
     c.in_err-counts.ensures.rejected c.in_err-counts.ensures.rejected_files)
 
 pub returns-in_err-counts-clause-failed_call : goal.returns-in_err-counts-clause-failed_call
-returns-in_err-counts-clause-failed_call g c =
+returns-in_err-counts-clause-failed_call g c = λ failed.
     let linked = c.in_ok-linked.linked in
-    let p = err_from_is_err_and c.from_residual-in_err-counts.result c.from_residual-in_err-counts.ensures.1 in
-    rw (p.1, p.2)
-    (λ failed. let at : c.in_err-counts.field-0.0 ≡ StoreFailed = cc in
     simulation_call (g.S.Store.contents c.args.store.now) (g.S.Store.contents c.link_plans.new.store) (g.S.Store.contents c.simulate.new.store) c.args.build.now
     c.args.plans.now linked.weight linked.net c.bytes.result.now c.bytes-2.result.now (g.S.Store.last_fault c.simulate.new.store)
-    c.bytes.ensures.bytes c.bytes-2.ensures.bytes c.in_ok-linked.ensures.done (c.in_err-counts.ensures.failed_call (ap Err at)))
+    c.bytes.ensures.bytes c.bytes-2.ensures.bytes c.in_ok-linked.ensures.done (c.in_err-counts.ensures.failed_call (failed_as _ c.from_residual-in_err-counts.ensures.1 failed))
 
 pub returns-in_err-counts-clause-memory_files : goal.returns-in_err-counts-clause-memory_files
-returns-in_err-counts-clause-memory_files g c =
+returns-in_err-counts-clause-memory_files g c = λ failed.
     let linked = c.in_ok-linked.linked in
-    let p = err_from_is_err_and c.from_residual-in_err-counts.result c.from_residual-in_err-counts.ensures.1 in
-    rw (p.1, p.2)
-    (λ failed. let at : c.in_err-counts.field-0.0 ≡ NoMemory = cc in
     has_circuit (g.S.Store.contents c.args.store.now) (g.S.Store.contents c.link_plans.new.store) (g.S.Store.contents c.simulate.new.store) c.args.build.now
-    c.args.plans.now linked.weight linked.net c.in_ok-linked.ensures.done (c.in_err-counts.ensures.memory_files (ap Err at)))
+    c.args.plans.now linked.weight linked.net c.in_ok-linked.ensures.done (c.in_err-counts.ensures.memory_files (failed_as _ c.from_residual-in_err-counts.ensures.1 failed))
 
 pub returns-in_err-counts-clause-others : goal.returns-in_err-counts-clause-others
 returns-in_err-counts-clause-others g c =

@@ -1,13 +1,13 @@
 use Rattle.std.proofs.Common.{◌≡◌, ◌+◌, ◌∙◌, ◌∷◌, [], List, drop, length, ap, sym, subst, arith}
 use Rattle.std.specs.Prelude.{IfSome}
 use Rattle.std.proofs.lemmas.List.{drop_all, length-append}
-use Rattle.std.proofs.lemmas.Result.{err_from_is_err_and}
 use Rattle.gos_plan.specs.Seen.{SeenPlan}
 use Rattle.gos_link.specs.declared.build.Instance.{Instance}
 use Rattle.gos_link.proofs.CountedLemmas.{limits_more}
 use Rattle.gos_command.proofs.EndLemmas.{of_stopped}
 use Rattle.gos_circuits.specs.Objects.{RejectsObject}
 use Rattle.gos_circuits.specs.inner.Reading.{AreReadBefore}
+use Rattle.gos_circuits.proofs.ExitLemmas.{err_is}
 use Rattle.gos_circuits.proofs.ObjectLemmas.{next_instance, one_read, next_rejected, all_read, same_read, same_rejected}
 use Rattle.gos_circuits.proofs.objects.plans_in.Goals as goal
 
@@ -38,8 +38,7 @@ returns-in_err-plan-clause-rejected g c =
     let i = c.instance-item.result in
     let plans = c.loop-instance.plans.items in
     let before = subst (λ (rest : List Instance). AreReadBefore old all rest plans) (next_instance all k i c.loop-instance-test.true c.instance-item.is) c.loop-instance.invariant.0 in
-    let p = err_from_is_err_and c.from_residual.result c.from_residual.ensures.1 in
-    rw (p.1, p.2)
+    rw (err_is _ c.from_residual.ensures.1)
     (of_stopped _ (λ fault line. IfSome old (λ files. RejectsObject files all fault line)) c.in_err-plan.field-0.0
     (λ fault line h. next_rejected old all (drop (k + 1) all) i plans fault line before
     (same_rejected old (g.S.Store.contents c.loop-instance.store) i c.bytes.result.now fault line c.loop-instance.invariant.2 c.bytes.ensures.bytes h))
