@@ -1,6 +1,6 @@
 -- The objects of instances are written one after another.
 --
--- `so_far` adds one instance to those before it; `rejects` and `calls` say what is so where the next one is rejected or a call for it
+-- `so_far` adds the next instance to those before it; `rejects` and `calls` say what is so where it is rejected or a call for it
 -- fails. What is known of a source from the files in between holds of the files before, since it is no object (`moved`).
 use Rattle.std.proofs.Common.{◌≡◌, ◌≢◌, ◌<◌, ◌∙◌, inl, inr, ℕ, zero, suc, List, [], ◌∷◌, ◌++◌, Option, Some, None, length, take, slice_get, slice_index_or, unwrap_or, refl, ap, sym, subst, arith}
 use Rattle.std.specs.Prelude.{IfSome}
@@ -25,7 +25,7 @@ use Rattle.gos_build.specs.Objects.{BeginWith, HavePlans, objects_of, with_objec
 use Rattle.gos_build.specs.inner.Compiling.{EachApart, AreApart, IsCompiledAs, AreSoFar}
 
 -- an instance at its place
-pub instance_at : (is : List Instance) (k : ℕ) (i : Instance) → k < length is → i ≡ slice_index_or is k i → slice_get is k ≡ Some i
+instance_at : (is : List Instance) (k : ℕ) (i : Instance) → k < length is → i ≡ slice_index_or is k i → slice_get is k ≡ Some i
 instance_at [] k i less e = absurd (omega (arith, less))
 instance_at (j ∷ is) zero i less e = ap (λ (x : Instance). Some x) (sym e)
 instance_at (j ∷ is) (suc k) i less e = instance_at is k i (omega (arith, less)) e
@@ -46,11 +46,6 @@ object_at : (is : List Instance) (k : ℕ) (i : Instance) (other : Word) → sli
 object_at [] k i other at apart = absurd (none_at k i at)
 object_at (j ∷ is) zero i other at apart = subst (λ (x : Instance). other ≢ x.object) (first_at j is i at) apart.0
 object_at (j ∷ is) (suc k) i other at apart = object_at is k i other at apart.1
-
--- after the write of an instance's object all files but the objects are as they were
-pub objects_same : (is : List Instance) (k : ℕ) (i : Instance) (old mid new : Option Files) → slice_get is k ≡ Some i
-    → OthersSame (objects_of is) old mid → SameBut i.object mid new → OthersSame (objects_of is) old new
-objects_same is k i old mid new at before same = one_more i.object (objects_of is) old mid new (λ other apart. object_at is k i other at apart) before same
 
 -- what is so of a source in the files in between is so in those before
 moved : (P : Files → Type 0) (source : Word) (names : List Word) (old mid : Option Files)
@@ -93,11 +88,6 @@ objects_more old [] ps i p at = absurd (none_at (length ps) i at)
 objects_more old (j ∷ is) [] i p at = ap (λ (x : Instance). with_file x.object (text_of (plan_of p)) old) (first_at j is i at)
 objects_more old (j ∷ is) (q ∷ ps) i p at = objects_more (with_file j.object (text_of (plan_of q)) old) is ps i p at
 
--- before the first
-pub none_so_far : (old : Option Files) (is : List Instance) → IfSome old (λ files. AreSoFar files old is [])
-none_so_far None is = tt
-none_so_far (Some files) is = record { modules = []; written = record { say = tt; plans = tt; wrote = refl } }
-
 -- one more
 more_written : (files : Files) (mid new : Option Files) (is : List Instance) (plans : List SeenPlan) (i : Instance) (p : SeenPlan)
     → slice_get is (length plans) ≡ Some i → new ≡ with_file i.object (text_of (plan_of p)) mid → AreSoFar files mid is plans
@@ -115,27 +105,20 @@ more_written files mid new is plans i p at wrote before one =
       };
     }
 
-pub so_far : (old mid new : Option Files) (is : List Instance) (plans : List SeenPlan) (i : Instance) (p : SeenPlan)
-    → AreApart is → OthersSame (objects_of is) old mid → slice_get is (length plans) ≡ Some i → new ≡ with_file i.object (text_of (plan_of p)) mid
-    → IfSome old (λ files. AreSoFar files mid is plans) → IfSome mid (λ files. IsCompiledAs (bytes_at files i.source) (plan_of p))
-    → IfSome old (λ files. AreSoFar files new is (plans ++ p ∷ []))
-so_far old mid new is plans i p apart same at wrote before one =
-    let here = moved (λ files. IsCompiledAs (bytes_at files i.source) (plan_of p)) i.source (objects_of is) old mid
-    (λ now files e h. subst (λ (t : List ℕ). IsCompiledAs t (plan_of p)) e h) (apart_at is (objects_of is) (length plans) i at apart) same one in
-    of_some_both (λ files. AreSoFar files mid is plans) (λ files. IsCompiledAs (bytes_at files i.source) (plan_of p)) (λ files. AreSoFar files new is (plans ++ p ∷ [])) old
-    (λ files far h. more_written files mid new is plans i p at wrote far h) before here
-
 -- the first instances, where no call after them changed a file
-pub some_written : (old mid new : Option Files) (is : List Instance) (plans : List SeenPlan) → new ≡ mid → IfSome old (λ files. AreSoFar files mid is plans)
-    → IfSome old (λ files. SomeWritten files new is)
-some_written old mid new is plans kept before =
-    of_some (λ files. AreSoFar files mid is plans) (λ files. SomeWritten files new is) old
-    (λ files far. record {
+abbrev some_of : (files : Files) (mid new : Option Files) (is : List Instance) (plans : List SeenPlan) → new ≡ mid → AreSoFar files mid is plans
+    → SomeWritten files new is
+some_of files mid new is plans kept far =
+    record {
       modules = far.modules;
       plans = plans;
       written = record { say = far.written.say; plans = far.written.plans; wrote = kept ∙ far.written.wrote };
-    })
-    before
+    }
+
+pub some_written : (old mid new : Option Files) (is : List Instance) (plans : List SeenPlan) → new ≡ mid → IfSome old (λ files. AreSoFar files mid is plans)
+    → IfSome old (λ files. SomeWritten files new is)
+some_written old mid new is plans kept before =
+    of_some (λ files. AreSoFar files mid is plans) (λ files. SomeWritten files new is) old (λ files far. some_of files mid new is plans kept far) before
 
 -- the source of an instance is compiled, and the write of its object fails
 pub compiled_as : (told : Option Files) (name source : Word) → name ≡ source → (linear : SeenLinear) (plan : Plan)
@@ -163,61 +146,58 @@ instance_call old mid new i name object linear fault same_source same_object kep
           (λ files h. (h.made, h.says)) typed),
     )
 
--- the next is rejected
-pub rejects : (old mid new : Option Files) (is : List Instance) (plans : List SeenPlan) (i : Instance) (fault : Fault) (line : List ℕ)
-    → AreApart is → OthersSame (objects_of is) old mid → slice_get is (length plans) ≡ Some i → IfSome old (λ files. AreSoFar files mid is plans)
-    → new ≡ mid → IfSome mid (λ files. IsSourceFault files i.source fault line) → IfSome old (λ files. RejectsModule files new is fault line)
-rejects old mid new is plans i fault line apart same at before kept wrong =
-    let here = moved (λ files. IsSourceFault files i.source fault line) i.source (objects_of is) old mid
-    (fault_moved i.source fault line) (apart_at is (objects_of is) (length plans) i at apart) same wrong in
-    of_some_both (λ files. AreSoFar files mid is plans) (λ files. IsSourceFault files i.source fault line) (λ files. RejectsModule files new is fault line) old
-    (λ files far why. record {
-      before = record {
-        modules = far.modules;
-        plans = plans;
-        written = record { say = far.written.say; plans = far.written.plans; wrote = kept ∙ far.written.wrote };
-      };
-      instance = i;
-      at = at;
-      why = why;
-    })
-    before here
+-- The next instance, once the objects of those before it were written. No source is an object.
+pub record IsNext (old mid : Option Files) (is : List Instance) (plans : List SeenPlan) (i : Instance) : Type 0 where
+  pub apart : AreApart is
+  pub before : IfSome old (λ files. AreSoFar files mid is plans)
+  pub same : OthersSame (objects_of is) old mid
+  pub at : slice_get is (length plans) ≡ Some i
 
--- a call for the next fails
-pub calls : (old mid new : Option Files) (is : List Instance) (plans : List SeenPlan) (i : Instance) (fault : LastFault)
-    → AreApart is → OthersSame (objects_of is) old mid → slice_get is (length plans) ≡ Some i → IfSome old (λ files. AreSoFar files mid is plans)
-    → IsInstanceCall mid new i (IfSome mid (λ files. (m : SeenModule) × SaysModule (bytes_at files i.source) m)) fault
-    → IfSome old (λ files. IsModuleCall files new is fault)
-calls old mid new is plans i fault apart same at before call =
-    of_some_both (λ files. AreSoFar files mid is plans)
-    (λ files. IsInstanceCall mid new i ((m : SeenModule) × SaysModule (bytes_at files i.source) m) fault)
-    (λ files. IsModuleCall files new is fault) old
-    (λ files far here. record {
-      between = mid;
-      before = record { modules = far.modules; plans = plans; written = far.written };
-      instance = i;
-      at = at;
-      call = here;
-    })
-    before (here old same call)
-  where
-    accepted : (files : Files) → IfSome mid (λ files. (m : SeenModule) × SaysModule (bytes_at files i.source) m) → OthersSame (objects_of is) (Some files) mid
-        → (m : SeenModule) × SaysModule (bytes_at files i.source) m
-    accepted files h others =
-        moved (λ files. (m : SeenModule) × SaysModule (bytes_at files i.source) m) i.source (objects_of is) (Some files) mid
-        (λ now files e h. (h.0, subst (λ (t : List ℕ). SaysModule t h.0) e h.1)) (apart_at is (objects_of is) (length plans) i at apart) others h
+pub is_next : {old mid : Option Files} {is : List Instance} {plans : List SeenPlan} {k : ℕ} {i : Instance} → AreApart is
+    → IfSome old (λ files. AreSoFar files mid is plans) → length plans ≡ k → OthersSame (objects_of is) old mid
+    → k < length is → i ≡ slice_index_or is k i → IsNext old mid is plans i
+is_next {is = is} {k = k} {i = i} apart before count same less e =
+    record { apart = apart; before = before; same = same; at = subst (λ (n : ℕ). slice_get is n ≡ Some i) (sym count) (instance_at is k i less e) }
 
-    there : (files : Files) → OthersSame (objects_of is) (Some files) mid
-        → IsInstanceCall mid new i (IfSome mid (λ files. (m : SeenModule) × SaysModule (bytes_at files i.source) m)) fault
-        → IsInstanceCall mid new i ((m : SeenModule) × SaysModule (bytes_at files i.source) m) fault
-    there files others (inl read) = inl read
-    there files others (inr (failed, kept, h)) = inr (failed, kept, accepted files h others)
+module _ {old mid : Option Files} {is : List Instance} {plans : List SeenPlan} {i : Instance} (next : IsNext old mid is plans i) where
+  -- what is so of its source is so in the files before
+  source_was : (P : Files → Type 0) → ((now files : Files) → bytes_at now i.source ≡ bytes_at files i.source → P now → P files) → IfSome mid P → IfSome old P
+  source_was P step h = moved P i.source (objects_of is) old mid step (apart_at is (objects_of is) (length plans) i next.at next.apart) next.same h
 
-    here : (told : Option Files) → OthersSame (objects_of is) told mid
-        → IsInstanceCall mid new i (IfSome mid (λ files. (m : SeenModule) × SaysModule (bytes_at files i.source) m)) fault
-        → IfSome told (λ files. IsInstanceCall mid new i ((m : SeenModule) × SaysModule (bytes_at files i.source) m) fault)
-    here None others h = tt
-    here (Some files) others h = there files others h
+  -- its object is written
+  pub so_far : (new : Option Files) (p : SeenPlan) → new ≡ with_file i.object (text_of (plan_of p)) mid → IfSome mid (λ files. IsCompiledAs (bytes_at files i.source) (plan_of p))
+      → IfSome old (λ files. AreSoFar files new is (plans ++ p ∷ []))
+  so_far new p wrote one =
+      of_some_both (λ files. AreSoFar files mid is plans) (λ files. IsCompiledAs (bytes_at files i.source) (plan_of p)) (λ files. AreSoFar files new is (plans ++ p ∷ [])) old
+      (λ files far h. more_written files mid new is plans i p next.at wrote far h) next.before
+      (source_was (λ files. IsCompiledAs (bytes_at files i.source) (plan_of p)) (λ now files e h. subst (λ (t : List ℕ). IsCompiledAs t (plan_of p)) e h) one)
+
+  -- all files but the objects are as they were
+  pub objects_same : (new : Option Files) → SameBut i.object mid new → OthersSame (objects_of is) old new
+  objects_same new same = one_more i.object (objects_of is) old mid new (λ other apart. object_at is (length plans) i other next.at apart) next.same same
+
+  -- it is rejected
+  pub rejects : (new : Option Files) (fault : Fault) (line : List ℕ) → new ≡ mid → IfSome mid (λ files. IsSourceFault files i.source fault line)
+      → IfSome old (λ files. RejectsModule files new is fault line)
+  rejects new fault line kept wrong =
+      of_some_both (λ files. AreSoFar files mid is plans) (λ files. IsSourceFault files i.source fault line) (λ files. RejectsModule files new is fault line) old
+      (λ files far why. record { before = some_of files mid new is plans kept far; instance = i; at = next.at; why = why }) next.before
+      (source_was (λ files. IsSourceFault files i.source fault line) (fault_moved i.source fault line) wrong)
+
+  -- a call for it fails
+  call_for : (files : Files) (new : Option Files) (fault : LastFault) → AreSoFar files mid is plans
+      → IsInstanceCall mid new i ((m : SeenModule) × SaysModule (bytes_at files i.source) m) fault → IsModuleCall files new is fault
+  call_for files new fault far call =
+      record { between = mid; before = some_of files mid mid is plans refl far; instance = i; at = next.at; call = call }
+
+  pub calls : (new : Option Files) (fault : LastFault) → IsInstanceCall mid new i (IfSome mid (λ files. (m : SeenModule) × SaysModule (bytes_at files i.source) m)) fault
+      → IfSome old (λ files. IsModuleCall files new is fault)
+  calls new fault (inl read) =
+      of_some (λ files. AreSoFar files mid is plans) (λ files. IsModuleCall files new is fault) old (λ files far. call_for files new fault far (inl read)) next.before
+  calls new fault (inr (failed, others, says)) =
+      of_some_both (λ files. AreSoFar files mid is plans) (λ files. (m : SeenModule) × SaysModule (bytes_at files i.source) m) (λ files. IsModuleCall files new is fault) old
+      (λ files far h. call_for files new fault far (inr (failed, others, h))) next.before
+      (source_was (λ files. (m : SeenModule) × SaysModule (bytes_at files i.source) m) (λ now files e h. (h.0, subst (λ (t : List ℕ). SaysModule t h.0) e h.1)) says)
 
 -- all
 pub all_written : (old new : Option Files) (is : List Instance) (plans : List SeenPlan) → length plans ≡ length is → IfSome old (λ files. AreSoFar files new is plans)
