@@ -20,7 +20,7 @@ use Rattle.gos_build.specs.Built as building
 use Rattle.gos_build.specs.Built.{IsBuilt, RejectsBuild, IsBuildCall, IsBuildCutShort, KeepsUnnamed}
 use Rattle.gos_build.specs.Complete.{BuildIsNotRejected}
 use Rattle.gos_demo.specs.DemoFiles.{IsLevelCount, build_file, demo_files}
-use Rattle.gos_demo.specs.Demo.{with_files, with_demo, IsFront, IsWriting, HoldsEach, IsDemoDone, IsDemoCall, IsDemoCutShort, names_of, built_by, written_by}
+use Rattle.gos_demo.specs.Demo.{with_files, with_demo, HoldsEach, IsDemoDone, IsDemoCall, IsDemoCutShort, names_of, built_by, written_by}
 use Rattle.gos_demo.proofs.BuildFileLemmas.{demo_written}
 use Rattle.gos_demo.proofs.RightLemmas.{demo_is_right}
 use Rattle.gos_demo.proofs.HoldLemmas.{put, demo_held, demo_hold}
@@ -101,15 +101,6 @@ pub demo_cut_short : (levels : ℕ) (old mid new : Option Files) → IsBetween l
     → IfSome mid (λ files. IsBuildCutShort files new (build_file levels).name) → IfSome old (λ files. IsDemoCutShort files new levels)
 demo_cut_short levels old mid new between short =
     lifted (λ files. IsBuildCutShort files new (build_file levels).name) (λ files. IsDemoCutShort files new levels) levels old mid between (λ files c. inr c) short
-
--- a file of the demo that could not be written, and want of memory while they are written
-pub writing_call : (levels : ℕ) (old new : Option Files) (fault : LastFault) → IsWriting (demo_files levels) old new fault → IfSome old (λ files. IsDemoCall files new levels fault)
-writing_call levels None new fault w = tt
-writing_call levels (Some files) new fault w = inl w
-
-pub writing_cut_short : (levels : ℕ) (old new : Option Files) → IsFront (demo_files levels) old new → IfSome old (λ files. IsDemoCutShort files new levels)
-writing_cut_short levels None new w = tt
-writing_cut_short levels (Some files) new w = inl w
 
 -- all other files are as they were
 pub names_alone : (levels : ℕ) (old mid : Option Files) → OthersSame (names_of (demo_files levels)) old mid → OthersSame (written_by levels) old mid

@@ -1,7 +1,9 @@
 -- The modules that the demo's sources are, and that the grammar derives them. Where a box of theirs lies counts for nothing.
-use Rattle.std.proofs.Common.{◌+◌, ℕ, List, [], ◌∷◌, ◌++◌, refl}
+use Rattle.std.proofs.Common.{◌≡◌, ◌+◌, ℕ, List, [], ◌∷◌, ◌++◌, None, refl, arith}
 use denote.RawPtr.{null_ptr}
 use Rattle.std.specs.Global.{Box}
+use Rattle.gos_lex.specs.declared.word.Word.TheVariants as words
+use Rattle.gos_lex.specs.declared.sign.Sign.TheVariants as signs
 use Rattle.gos_lex.specs.Tokens.{Reading}
 use Rattle.gos_types.specs.declared.types.Ty.{Ty}
 use Rattle.gos_types.specs.declared.types.Ty.TheVariants as tys
@@ -9,16 +11,16 @@ use Rattle.gos_types.specs.Types as types
 use Rattle.gos_syntax.specs.declared.terms.Term as program
 use Rattle.gos_syntax.specs.declared.terms.Form.{Form}
 use Rattle.gos_syntax.specs.declared.terms.Form.TheVariants as forms
-use Rattle.gos_syntax.specs.Items.{Item, span_of}
+use Rattle.gos_syntax.specs.Items.{Item, reading_at, span_of}
 use Rattle.gos_syntax.specs.Trees as trees
 use Rattle.gos_syntax.specs.Trees.{Tree}
 use Rattle.gos_syntax.specs.Modules.{SeenImport, SeenModule}
 use Rattle.gos_syntax.specs.ModuleTrees.{import_tree, module_tree}
 use Rattle.gos_syntax.specs.Grammar as grammar
-use Rattle.gos_syntax.specs.Grammar.{IsTerm}
+use Rattle.gos_syntax.specs.Grammar.{HasWord, HasSign, IsTerm}
 use Rattle.gos_syntax.specs.ParsedModules.{IsImport, IsModule}
 use Rattle.gos_demo.proofs.ScanLemmas.{AreRead}
-use Rattle.gos_demo.proofs.SourceTexts.{import_f, main_rest, twice_rest, pass_rest, pair_rest, main_read, twice_read, pass_read, pair_read, id_read}
+use Rattle.gos_demo.proofs.SourceTexts.{import_f, fun_a, main_rest, twice_rest, pass_rest, pair_rest, main_read, twice_read, pass_read, pair_read, id_read}
 use Rattle.gos_demo.proofs.RuleLemmas.{command, function, named, app, par, term, call, called}
 
 abbrev a : List ℕ
@@ -80,22 +82,27 @@ twice_body items =
 abbrev pub twice_module : List Item → SeenModule
 twice_module items = fun_module items (f_import items ∷ []) 7 17 (twice_body items)
 
+abbrev pass_body : List Item → program.Term
+pass_body items = record { span = span_of items 12 14; form = call_of items 12 13 14 f a }
+
 abbrev pub pass_module : List Item → SeenModule
-pass_module items = fun_module items (f_import items ∷ []) 7 14 (record { span = span_of items 12 14; form = call_of items 12 13 14 f a })
+pass_module items = fun_module items (f_import items ∷ []) 7 14 (pass_body items)
 
 -- `(a, skip)`
 abbrev pair_of : List Item → Form
 pair_of items = forms.Pair' here (span_of items 16 17) (forms.Name a) here (span_of items 18 19) forms.Skip
 
-abbrev pub pair_module : List Item → SeenModule
-pair_module items =
-    fun_module items (f_import items ∷ []) 7 21
-    (record {
+abbrev pair_body : List Item → program.Term
+pair_body items =
+    record {
       span = span_of items 12 21;
       form =
           forms.App' here (span_of items 12 13) (forms.Name f) here (span_of items 14 20)
           (forms.Fst' here (span_of items 15 20) (pair_of items));
-    })
+    }
+
+abbrev pub pair_module : List Item → SeenModule
+pair_module items = fun_module items (f_import items ∷ []) 7 21 (pair_body items)
 
 abbrev pub id_module : List Item → SeenModule
 id_module items = fun_module items [] 1 7 (record { span = span_of items 6 7; form = forms.Name a })
@@ -134,63 +141,54 @@ main_derived items is =
       no_more = is 15;
     }
 
-pub twice_derived : (items : List Item) → AreRead items twice_read → IsModule items (module_tree (twice_module items))
-twice_derived items is =
+-- A function that imports `f`, where its body stands before the colon of this number, and `com -> com` after it at the end.
+fun_derived : (items : List Item) (rest : List Reading) (colon : ℕ) (body : program.Term) → AreRead items (import_f ++ (fun_a ++ rest))
+    → IsTerm items grammar.Term 12 colon (trees.tree_of body.form body.span) → HasSign items colon signs.Colon
+    → HasWord items (colon + 1) words.Com → HasSign items (colon + 2) signs.Arrow → HasWord items (colon + 3) words.Com
+    → reading_at items (colon + 4) ≡ None → IsModule items (module_tree (fun_module items (f_import items ∷ []) 7 colon body))
+fun_derived items rest colon body is derived sign from arrow to no_more =
     record {
-      end = 21;
+      end = colon + 4;
       whole =
           record {
             exported = 6;
             imports = (
               6,
-              f_imported items twice_rest is,
+              f_imported items (fun_a ++ rest) is,
               refl,
             );
             word = is 6;
-            colon = 17;
+            colon = colon;
             body =
-                grammar.a_lambda 7 11 17 a types.Com (trees.Seq (span_of items 12 17) (call items 12 13 14 f a) (call items 15 16 17 f a))
-                (is 7) (is 8) (is 9) (command items 10 11 refl (is 10)) (is 11)
-                (grammar.a_sequence 12 14 17 (call items 12 13 14 f a) (call items 15 16 17 f a)
-                (par items 12 14 (call items 12 13 14 f a) (called items 12 13 14 f a refl refl (is 12) (is 13))) (is 14)
-                (term items 15 17 (call items 15 16 17 f a) (called items 15 16 17 f a refl refl (is 15) (is 16))));
-            sign = is 17;
-            result = function items 18 19 20 21 refl refl refl (is 18) (is 19) (is 20);
+                grammar.a_lambda 7 11 colon a types.Com (trees.tree_of body.form body.span) (is 7) (is 8) (is 9)
+                (command items 10 11 refl (is 10)) (is 11) derived;
+            sign = sign;
+            result =
+                function items (colon + 1) (colon + 2) (colon + 3) (colon + 4) (omega arith) (omega arith) (omega arith) from arrow to;
             result_span = refl;
           };
-      no_more = is 21;
+      no_more = no_more;
     }
+
+pub twice_derived : (items : List Item) → AreRead items twice_read → IsModule items (module_tree (twice_module items))
+twice_derived items is =
+    fun_derived items twice_rest 17 (twice_body items) is
+    (grammar.a_sequence 12 14 17 (call items 12 13 14 f a) (call items 15 16 17 f a)
+    (par items 12 14 (call items 12 13 14 f a) (called items 12 13 14 f a refl refl (is 12) (is 13))) (is 14)
+    (term items 15 17 (call items 15 16 17 f a) (called items 15 16 17 f a refl refl (is 15) (is 16))))
+    (is 17) (is 18) (is 19) (is 20) (is 21)
 
 pub pass_derived : (items : List Item) → AreRead items pass_read → IsModule items (module_tree (pass_module items))
 pass_derived items is =
-    record {
-      end = 18;
-      whole =
-          record {
-            exported = 6;
-            imports = (
-              6,
-              f_imported items pass_rest is,
-              refl,
-            );
-            word = is 6;
-            colon = 14;
-            body =
-                grammar.a_lambda 7 11 14 a types.Com (call items 12 13 14 f a) (is 7) (is 8) (is 9) (command items 10 11 refl (is 10)) (is 11)
-                (term items 12 14 (call items 12 13 14 f a) (called items 12 13 14 f a refl refl (is 12) (is 13)));
-            sign = is 14;
-            result = function items 15 16 17 18 refl refl refl (is 15) (is 16) (is 17);
-            result_span = refl;
-          };
-      no_more = is 18;
-    }
+    fun_derived items pass_rest 14 (pass_body items) is
+    (term items 12 14 (call items 12 13 14 f a) (called items 12 13 14 f a refl refl (is 12) (is 13))) (is 14) (is 15) (is 16) (is 17) (is 18)
 
 -- `f (fst (a, skip))`
 abbrev both : List Item → Tree
 both items = trees.Both (span_of items 15 20) (trees.Use (span_of items 16 17) a) (trees.Skip (span_of items 18 19))
 
-abbrev pair_body : List Item → Tree
-pair_body items = trees.App (span_of items 12 21) (trees.Use (span_of items 12 13) f) (trees.Fst (span_of items 14 20) (both items))
+abbrev pair_tree : List Item → Tree
+pair_tree items = trees.App (span_of items 12 21) (trees.Use (span_of items 12 13) f) (trees.Fst (span_of items 14 20) (both items))
 
 first_derived : (items : List Item) → AreRead items pair_read → IsTerm items grammar.App 14 20 (trees.Fst (span_of items 14 20) (both items))
 first_derived items is =
@@ -202,8 +200,8 @@ first_derived items is =
     (term items 16 17 (trees.Use (span_of items 16 17) a) (app items 16 17 (trees.Use (span_of items 16 17) a) (named items 16 17 a refl (is 16)))) (is 17)
     (term items 18 19 skip (app items 18 19 skip (grammar.skipping 18 (is 18)))) (is 19))))
 
-pair_body_derived : (items : List Item) → AreRead items pair_read → IsTerm items grammar.App 12 21 (pair_body items)
-pair_body_derived items is =
+pair_tree_derived : (items : List Item) → AreRead items pair_read → IsTerm items grammar.App 12 21 (pair_tree items)
+pair_tree_derived items is =
     let first : Tree = trees.Fst (span_of items 14 20) (both items) in
     grammar.one_more_operand 12 13 21 (trees.Use (span_of items 12 13) f) first
     (app items 12 13 (trees.Use (span_of items 12 13) f) (named items 12 13 f refl (is 12)))
@@ -211,27 +209,8 @@ pair_body_derived items is =
 
 pub pair_derived : (items : List Item) → AreRead items pair_read → IsModule items (module_tree (pair_module items))
 pair_derived items is =
-    record {
-      end = 25;
-      whole =
-          record {
-            exported = 6;
-            imports = (
-              6,
-              f_imported items pair_rest is,
-              refl,
-            );
-            word = is 6;
-            colon = 21;
-            body =
-                grammar.a_lambda 7 11 21 a types.Com (pair_body items) (is 7) (is 8) (is 9) (command items 10 11 refl (is 10)) (is 11)
-                (term items 12 21 (pair_body items) (pair_body_derived items is));
-            sign = is 21;
-            result = function items 22 23 24 25 refl refl refl (is 22) (is 23) (is 24);
-            result_span = refl;
-          };
-      no_more = is 25;
-    }
+    fun_derived items pair_rest 21 (pair_body items) is (term items 12 21 (pair_tree items) (pair_tree_derived items is))
+    (is 21) (is 22) (is 23) (is 24) (is 25)
 
 pub id_derived : (items : List Item) → AreRead items id_read → IsModule items (module_tree (id_module items))
 id_derived items is =

@@ -38,29 +38,29 @@ f_a = AName (102 ∷ []) ∷ AName (97 ∷ []) ∷ []
 abbrev pub main_rest : List Reading
 main_rest = import_c ++ (AWord words.Export ∷ AName (102 ∷ []) ∷ AName (99 ∷ []) ∷ ASign signs.Colon ∷ AWord words.Com ∷ [])
 
+-- behind that and `export fun a : com .`
 abbrev pub twice_rest : List Reading
-twice_rest = fun_a ++ (f_a ++ (ASign signs.Semicolon ∷ f_a ++ to_com))
+twice_rest = f_a ++ (ASign signs.Semicolon ∷ f_a ++ to_com)
 
 abbrev pub pass_rest : List Reading
-pass_rest = fun_a ++ (f_a ++ to_com)
+pass_rest = f_a ++ to_com
 
 abbrev pub pair_rest : List Reading
 pair_rest =
-    fun_a
-    ++ (AName (102 ∷ []) ∷ ASign signs.Open ∷ AWord words.Fst ∷ ASign signs.Open ∷ AName (97 ∷ []) ∷ ASign signs.Comma ∷ AWord words.Skip
-    ∷ ASign signs.Close ∷ ASign signs.Close ∷ to_com)
+    AName (102 ∷ []) ∷ ASign signs.Open ∷ AWord words.Fst ∷ ASign signs.Open ∷ AName (97 ∷ []) ∷ ASign signs.Comma ∷ AWord words.Skip
+    ∷ ASign signs.Close ∷ ASign signs.Close ∷ to_com
 
 abbrev pub main_read : List Reading
 main_read = import_f ++ main_rest
 
 abbrev pub twice_read : List Reading
-twice_read = import_f ++ twice_rest
+twice_read = import_f ++ (fun_a ++ twice_rest)
 
 abbrev pub pass_read : List Reading
-pass_read = import_f ++ pass_rest
+pass_read = import_f ++ (fun_a ++ pass_rest)
 
 abbrev pub pair_read : List Reading
-pair_read = import_f ++ pair_rest
+pair_read = import_f ++ (fun_a ++ pair_rest)
 
 abbrev pub id_read : List Reading
 id_read = fun_a ++ (AName (97 ∷ []) ∷ to_com)
