@@ -1,6 +1,7 @@
 // Pulse files from their text to the text of the trace, for three small circuits.
 
 ghost use Rattle.std.specs.Prelude.{◌≡◌, ◌<◌, ◌^◌, IfOk, length};
+ghost use Rattle.gos_sim.specs.Cycle.{at_reset};
 
 use gos_lex::LexFault;
 use gos_netcheck::accept;
@@ -19,15 +20,10 @@ enum Outcome {
     Failed,
 }
 
-fn run_file(alloc: Global, net: Netlist, text: &[u8]) -> Outcome
-    requires { length net.cells < 2 ^ 32 }
+// How a pulse file for a simulator at reset ends.
+fn run_on(alloc: Global, mut sim: Sim, text: &[u8]) -> Outcome
+    requires { sim ≡ at_reset sim.net }
 {
-    let Ok(net) = accept(alloc, net) else {
-        return Outcome::Failed;
-    };
-    let Ok(mut sim) = Sim::new(alloc, net) else {
-        return Outcome::Failed;
-    };
     let Ok(pulses) = read_pulses(alloc, text, sim.netlist()) else {
         return Outcome::Failed;
     };
@@ -40,6 +36,18 @@ fn run_file(alloc: Global, net: Netlist, text: &[u8]) -> Outcome
             Err(_) => Outcome::Failed,
         },
         Err(PulseFault::Broken { cycle, event }) => Outcome::Broken { cycle, event },
+        Err(_) => Outcome::Failed,
+    }
+}
+
+fn run_file(alloc: Global, net: Netlist, text: &[u8]) -> Outcome
+    requires { length net.cells < 2 ^ 32 }
+{
+    let Ok(net) = accept(alloc, net) else {
+        return Outcome::Failed;
+    };
+    match Sim::new(alloc, net) {
+        Ok(sim) => run_on(alloc, sim, text),
         Err(_) => Outcome::Failed,
     }
 }

@@ -4,6 +4,10 @@
 #![tactic(auto)]
 
 #[cfg(test)]
+mod bench;
+#[cfg(test)]
+mod drawn;
+#[cfg(test)]
 mod driving;
 #[cfg(test)]
 mod plain;
