@@ -34,52 +34,59 @@ fn objects_are_linked(rt: HostRuntime) -> Result<(), Fail> {
     Ok(())
 }
 
+// Whether this line is told of a build with this object, and no netlist is written.
+fn is_refused(alloc: Global, build: &[u8], object: &[u8], line: &[u8]) -> Result<bool, AllocError> {
+    let files = with_build(alloc, build, &[(b"main.obj".as_slice(), object)])?;
+    let mut store = SureStore::new(files);
+    let ended = link_build(alloc, b"b.txt", &mut store);
+    Ok(told_line(alloc, ended).as_slice() == line && store.get(b"out.net").is_none())
+}
+
+// Build files and objects that are refused, and the line that each is told.
+const FAULTS: [(&[u8], &[u8], &[u8]); 5] = [
+    (b"gosbuild 2\n", SKIP_OBJECT, b"b.txt: B1 line 1\n"),
+    (ONE, b"", b"main.obj: O1 at 0\n"),
+    (
+        ONE,
+        b"gosobj 1\nweight 5\nimports 0\nresult com\nparts 1\nskip\njoints 1\np0.0 r.0\nend\n",
+        b"main.obj: O2 joint 0\n",
+    ),
+    (
+        ONE,
+        b"gosobj 1\nweight 5\nimports 65\n",
+        b"main.obj: O3 limit at 26\n",
+    ),
+    (
+        ONE,
+        b"gosobj 1\nweight 11\nimports 0\nresult fun com com\nparts 0\njoints 1\nr.1 r.0\nend\n",
+        b"b.txt: B10 main\n",
+    ),
+];
+
 #[test]
 fn faults_are_told_in_their_order(rt: HostRuntime) -> Result<(), Fail> {
-    let alloc = rt.alloc();
-    let rows: [(&[u8], &[u8], &[u8]); 5] = [
-        (b"gosbuild 2\n", SKIP_OBJECT, b"b.txt: B1 line 1\n"),
-        (ONE, b"", b"main.obj: O1 at 0\n"),
-        (
-            ONE,
-            b"gosobj 1\nweight 5\nimports 0\nresult com\nparts 1\nskip\njoints 1\np0.0 r.0\nend\n",
-            b"main.obj: O2 joint 0\n",
-        ),
-        (
-            ONE,
-            b"gosobj 1\nweight 5\nimports 65\n",
-            b"main.obj: O3 limit at 26\n",
-        ),
-        (
-            ONE,
-            b"gosobj 1\nweight 11\nimports 0\nresult fun com com\nparts 0\njoints 1\nr.1 r.0\nend\n",
-            b"b.txt: B10 main\n",
-        ),
-    ];
-    for (build, object, line) in rows.iter() {
-        let mut store = SureStore::new(with_build(
-            alloc,
-            build,
-            &[(b"main.obj".as_slice(), *object)],
-        )?);
-        let ended = link_build(alloc, b"b.txt", &mut store);
-        assert!(rt; told_line(alloc, ended).as_slice() == *line);
-        assert!(rt; store.get(b"out.net").is_none());
+    for (build, object, line) in FAULTS.iter() {
+        assert!(rt; is_refused(rt.alloc(), build, object, line)?);
     }
     Ok(())
 }
 
+// Whether linking, of whose calls of the store this one fails, ends and leaves what it should.
+fn fails_at(alloc: Global, call: u64) -> Result<bool, AllocError> {
+    let files = with_build(alloc, ONE, &[(b"main.obj".as_slice(), SKIP_OBJECT)])?;
+    let mut store = MemoryStore::new(files, vec![in alloc; call]?);
+    let failed = matches!(
+        link_build(alloc, b"b.txt", &mut store),
+        Err(Stop::StoreFailed)
+    );
+    let written = call == 3 || store.get(b"out.net").is_some() == (call > 3);
+    Ok(failed && written)
+}
+
 #[test]
 fn failing_calls_end_the_command(rt: HostRuntime) -> Result<(), Fail> {
-    let alloc = rt.alloc();
     for call in 1..5u64 {
-        let files = with_build(alloc, ONE, &[(b"main.obj".as_slice(), SKIP_OBJECT)])?;
-        let mut store = MemoryStore::new(files, vec![in alloc; call]?);
-        let ended = link_build(alloc, b"b.txt", &mut store);
-        assert!(rt; matches!(ended, Err(Stop::StoreFailed)));
-        if call != 3 {
-            assert!(rt; store.get(b"out.net").is_some() == (call > 3));
-        }
+        assert!(rt; fails_at(rt.alloc(), call)?);
     }
     Ok(())
 }
